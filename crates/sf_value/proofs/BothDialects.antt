@@ -1,0 +1,93 @@
+-- What a text spells in the dialect of RFC 8941 it spells in that of RFC 9651.
+use Rattle.std.proofs.Common.{◌≡◌, ℕ, false, true, List, [], ◌∷◌, inl, inr}
+use Rattle.sf_value.specs.declared.value.Member.TheVariants as member
+use Rattle.sf_value.specs.declared.value.Field.TheVariants as field
+use Rattle.sf_value.specs.declared.value.Kind.TheVariants as kind
+use Rattle.sf_value.specs.Grammar.Pairs.{Pairs}
+use Rattle.sf_value.specs.Grammar.BareItems.{SpellsBare}
+use Rattle.sf_value.specs.Grammar.Parameters.{SpellsValue, SpellsRaw, SpellsParams}
+use Rattle.sf_value.specs.Grammar.Items.{SpellsItem}
+use Rattle.sf_value.specs.Grammar.InnerLists.{SpellsItems, SpellsMember}
+use Rattle.sf_value.specs.Grammar.Series.{SpellsCommas, SpellsWhole}
+use Rattle.sf_value.specs.Grammar.Fields.{SpellsEntry, SpellsField}
+use Rattle.sf_value.specs.declared.dialect.Dialect.TheVariants.{Rfc8941, Rfc9651}
+use Rattle.sf_value.specs.declared.value.Bare.{Bare}
+use Rattle.sf_value.specs.declared.value.Bare.TheVariants.{Integer, Decimal, Text, Token}
+use Rattle.sf_value.specs.declared.value.Bare.TheVariants.{Blob, Boolean, Date, Shown}
+use Rattle.sf_value.specs.declared.value.Item.{Item}
+use Rattle.sf_value.specs.declared.value.Member.{Member}
+use Rattle.sf_value.specs.declared.value.Field.{Field}
+use Rattle.sf_value.specs.declared.value.Kind.{Kind}
+
+bare_both : (t : List ℕ) (x : Bare) → SpellsBare Rfc8941 t x → SpellsBare Rfc9651 t x
+bare_both t (Integer n) h = h
+bare_both t (Decimal m) h = h
+bare_both t (Text s) h = h
+bare_both t (Token s) h = h
+bare_both t (Blob s) h = h
+bare_both t (Boolean b) h = h
+bare_both t (Date n) (on, h) = absurd (no on)
+  where
+    no : false ≡ true → ⊥
+    no e = cc
+bare_both t (Shown s) (on, h) = absurd (no on)
+  where
+    no : false ≡ true → ⊥
+    no e = cc
+
+value_both : (t : List ℕ) (x : Bare) → SpellsValue Rfc8941 t x → SpellsValue Rfc9651 t x
+value_both t x (inl h) = inl h
+value_both t x (inr (back, e, h)) = inr (back, e, bare_both back x h)
+
+raw_both : (t : List ℕ) (ps : Pairs Bare) → SpellsRaw Rfc8941 t ps → SpellsRaw Rfc9651 t ps
+raw_both t [] h = h
+raw_both t (p ∷ ps) (front, back, e, (gap, value, e1, f, k, h), r) =
+    (front, back, e, (gap, value, e1, f, k, value_both value p.1 h), raw_both back ps r)
+
+params_both : (t : List ℕ) (ps : Pairs Bare) → SpellsParams Rfc8941 t ps → SpellsParams Rfc9651 t ps
+params_both t ps (raw, e, h) = (raw, e, raw_both t raw h)
+
+item_both : (t : List ℕ) (i : Item) → SpellsItem Rfc8941 t i → SpellsItem Rfc9651 t i
+item_both t i (front, back, e, h, k) =
+    (front, back, e, bare_both front i.bare h, params_both back i.params k)
+
+items_both : (least : ℕ) (t : List ℕ) (is : List Item) → SpellsItems Rfc8941 least t is
+    → SpellsItems Rfc9651 least t is
+items_both least t [] h = h
+items_both least t (i ∷ is) (gap, front, back, e, f, l, h, r) =
+    (gap, front, back, e, f, l, item_both front i h, items_both 1 back is r)
+
+member_both : (t : List ℕ) (m : Member) → SpellsMember Rfc8941 t m → SpellsMember Rfc9651 t m
+member_both t (member.Item i) h = item_both t i h
+member_both t (member.Inner l) (body, back, e, h, k) =
+    (body, back, e, items_both 0 body l.items h, params_both back l.params k)
+
+entry_both : (t : List ℕ) (p : List ℕ × Member) → SpellsEntry Rfc8941 t p → SpellsEntry Rfc9651 t p
+entry_both t p (back, k, inl (e, h)) = (back, k, inl (e, member_both back p.1 h))
+entry_both t p (back, k, inr (ps, i, e, h)) = (back, k, inr (ps, i, e, params_both back ps h))
+
+module _ {X : Type 0} (P Q : List ℕ → X → Type 0) (both : (t : List ℕ) (x : X) → P t x → Q t x) where
+  commas_both : (t : List ℕ) (xs : List X) → SpellsCommas P t xs → SpellsCommas Q t xs
+  commas_both t [] h = h
+  commas_both t (x ∷ xs) (before, behind, front, back, e, f, g, h, r) =
+      (before, behind, front, back, e, f, g, both front x h, commas_both back xs r)
+
+  whole_both : (t : List ℕ) (xs : List X) → SpellsWhole P t xs → SpellsWhole Q t xs
+  whole_both t [] h = h
+  whole_both t (x ∷ xs) (gap, body, tail, e, f, (front, back, e1, h, r), g) =
+      (gap, body, tail, e, f, (front, back, e1, both front x h, commas_both back xs r), g)
+
+pub field_both : (k : Kind) (t : List ℕ) (v : Field) → SpellsField Rfc8941 k t v
+    → SpellsField Rfc9651 k t v
+field_both kind.Item t (field.Item i) (gap, body, tail, e, f, h, g) =
+    (gap, body, tail, e, f, item_both body i h, g)
+field_both kind.Item t (field.List l) h = elim h [ ]
+field_both kind.Item t (field.Dict m) h = elim h [ ]
+field_both kind.List t (field.Item i) h = elim h [ ]
+field_both kind.List t (field.List l) h =
+    whole_both (SpellsMember Rfc8941) (SpellsMember Rfc9651) member_both t l.members h
+field_both kind.List t (field.Dict m) h = elim h [ ]
+field_both kind.Dict t (field.Item i) h = elim h [ ]
+field_both kind.Dict t (field.List l) h = elim h [ ]
+field_both kind.Dict t (field.Dict m) (raw, e, h) =
+    (raw, e, whole_both (SpellsEntry Rfc8941) (SpellsEntry Rfc9651) entry_both t raw h)

@@ -1,0 +1,8 @@
+pub mod Words
+pub mod EntryMaps
+pub mod Settling
+pub mod Utf8Table
+pub mod CanonicalTexts
+pub mod Validity
+pub mod LengthBound
+pub mod BothDialects

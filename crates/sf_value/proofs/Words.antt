@@ -1,0 +1,52 @@
+-- What the search for a bad byte tells of the whole text, and texts one byte longer.
+use Rattle.std.proofs.Common.{◌≡◌, ℕ, suc, ◌+◌, ◌≤◌, Bool, true, false, not, cond, List, [], ◌∷◌, ◌++◌}
+use Rattle.std.proofs.Common.{Option, None, Some, refl, ◌≢◌, length, arith}
+use Rattle.std.proofs.lemmas.Bool.Decides.{nat_tests}
+use Rattle.std.specs.List.{position, position_or_len}
+use Rattle.std.specs.Option.{option_map}
+use Rattle.sf_value.specs.Grammar.Words.{Every, IsWord}
+use Rattle.sf_value.specs.Faults.{bad_place, bad_word_place}
+
+-- a search that stops nowhere before the end
+every_from_length : (p : ℕ → Bool) (bs : List ℕ) → length bs ≤ position_or_len (λ b. not (p b)) bs
+    → Every p bs
+every_from_length p [] h = tt
+every_from_length p (b ∷ bs) h = by (p b) refl (every_from_length p bs)
+  where
+    by : (r : Bool) → p b ≡ r
+        → (length bs ≤ position_or_len (λ c. not (p c)) bs → Every p bs)
+        → Every p (b ∷ bs)
+    by true e rest =
+        let more : suc (length bs) ≤ 1 + position_or_len (λ c. not (p c)) bs = rw e at h in
+        (e, rest (omega arith))
+    by false e rest =
+        let more : suc (length bs) ≤ 0 = rw e at h in
+        absurd (omega arith)
+
+pub every_from_place : (p : ℕ → Bool) (bs : List ℕ) → bad_place p bs ≡ None → Every p bs
+every_from_place p bs h = every_from_length p bs (grind (arith, nat_tests))
+
+pub word_from_place : (p q : ℕ → Bool) (bs : List ℕ) → bad_word_place p q bs ≡ None
+    → length bs ≢ 0 → IsWord p q bs
+word_from_place p q [] h e = absurd (e refl)
+word_from_place p q (b ∷ bs) h e = by (p b) refl (bad_place q bs) refl
+  where
+    by : (r : Bool) → p b ≡ r → (o : Option ℕ) → bad_place q bs ≡ o → IsWord p q (b ∷ bs)
+    by true s None f = (s, every_from_place q bs f)
+    by true s (Some i) f =
+        let found : Some (suc i) ≡ None = rw (s, f) at h in
+        absurd cc
+    by false s o f =
+        let found : Some 0 ≡ None = rw s at h in
+        absurd cc
+
+pub every_push : (p : ℕ → Bool) (bs : List ℕ) (b : ℕ) → Every p bs → p b ≡ true
+    → Every p (bs ++ b ∷ [])
+every_push p [] b h e = (e, tt)
+every_push p (c ∷ bs) b h e = (h.0, every_push p bs b h.1 e)
+
+pub word_push : (p q : ℕ → Bool) (bs : List ℕ) (b : ℕ) → IsWord p q bs → q b ≡ true
+    → IsWord p q (bs ++ b ∷ [])
+word_push p q [] b h e = absurd h
+word_push p q (c ∷ bs) b h e = (h.0, every_push q bs b h.1 e)
+

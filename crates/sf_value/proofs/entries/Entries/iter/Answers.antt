@@ -1,0 +1,9 @@
+use Rattle.std.proofs.Common.{ap, length}
+use Rattle.std.proofs.iter.runs.Sources.{from_front}
+use Rattle.std.specs.Map.Iter.{TakesFirst}
+use Rattle.sf_value.specs.Entries.{deref_entry}
+use Rattle.sf_value.proofs.entries.Entries.iter.Goals as goal
+
+pub returns-clause-runs : goal.returns-clause-runs
+returns-clause-runs g c =
+    from_front (TakesFirst deref_entry) deref_entry (λ s. s) (λ s t h. ap length h.0) (λ s x t h. h)

@@ -1,0 +1,78 @@
+-- What contracts see of a source and of a sink.
+use Rattle.std.specs.Prelude.{◌≡◌, ℕ, ◌+◌, ◌-◌, ◌^◌, ◌<◌, ◌≤◌, min, List, length, take, ⊤}
+use Rattle.std.specs.Prelude.{Option, None, Some, Result, Ok, Err}
+use Rattle.std.specs.Io.KnownBytes.{Consumes, Appends, Keeps, IsAtEnd}
+
+-- a count, which stays at 2^64 - 1 once it is there
+abbrev pub capped : ℕ → ℕ
+capped n = min n (2 ^ 64 - 1)
+
+-- what a source shows: the bytes still to come, or that it doesn't tell them; how many bytes it
+-- gave; how many calls failed
+pub record SourceState : Type 0 where
+  pub to_come : Option (List ℕ)
+  pub given : ℕ
+  pub failures : ℕ
+
+-- what a sink shows: the bytes taken, or that it doesn't tell them, and how many calls failed
+pub record SinkState : Type 0 where
+  pub taken : Option (List ℕ)
+  pub failures : ℕ
+
+-- known bytes stay as they were, or are no longer told
+abbrev pub KeepsOrHides : Option (List ℕ) → Option (List ℕ) → Type 0
+KeepsOrHides None new = ⊤
+KeepsOrHides (Some xs) None = ⊤
+KeepsOrHides (Some xs) (Some ys) = ys ≡ xs
+
+-- a count rose by n, if it isn't at its end
+abbrev pub Counts : ℕ → ℕ → ℕ → Type 0
+Counts old new n = new < 2 ^ 64 - 1 → new ≡ old + n
+
+-- one call gave these bytes
+pub record GivesOnce (old new : SourceState) (bytes : List ℕ) : Type 0 where
+  pub consumed : Consumes old.to_come new.to_come bytes
+  pub given : new.given ≡ capped (old.given + length bytes)
+  pub failures : new.failures ≡ old.failures
+
+-- one call failed, and gave nothing
+pub record FailsOnce (old new : SourceState) : Type 0 where
+  pub kept : KeepsOrHides old.to_come new.to_come
+  pub given : new.given ≡ old.given
+  pub failures : new.failures ≡ capped (old.failures + 1)
+
+-- pull answered r and left block
+abbrev pub Pulls : {E : Type 0} → SourceState → SourceState → Result ℕ E → List ℕ → Type 0
+Pulls old new (Ok n) block =
+    (n ≤ length block)
+    × GivesOnce old new (take n block)
+    × (n ≡ 0 → 0 < length block → IsAtEnd new.to_come)
+Pulls old new (Err _) block = FailsOnce old new
+
+-- one call took these bytes
+pub record TakesOnce (old new : SinkState) (bytes : List ℕ) : Type 0 where
+  pub taken : Appends old.taken new.taken bytes
+  pub failures : new.failures ≡ old.failures
+
+-- one call failed, and took nothing
+pub record RefusesOnce (old new : SinkState) : Type 0 where
+  pub kept : Keeps old.taken new.taken
+  pub failures : new.failures ≡ capped (old.failures + 1)
+
+-- send was handed bytes and answered r
+abbrev pub Sends : {E : Type 0} → SinkState → SinkState → Result ℕ E → List ℕ → Type 0
+Sends old new (Ok n) bytes =
+    (n ≤ length bytes) × (0 < length bytes → 0 < n) × TakesOnce old new (take n bytes)
+Sends old new (Err _) bytes = RefusesOnce old new
+
+-- calls gave these bytes, and none failed
+pub record Gave (old new : SourceState) (bytes : List ℕ) : Type 0 where
+  pub consumed : Consumes old.to_come new.to_come bytes
+  pub given : Counts old.given new.given (length bytes)
+  pub failures : new.failures ≡ old.failures
+
+-- calls gave these bytes, and then one failed
+pub record GaveAndFailed (old new : SourceState) (bytes : List ℕ) : Type 0 where
+  pub mid : SourceState
+  pub gave : Gave old mid bytes
+  pub failed : FailsOnce mid new

@@ -1,0 +1,38 @@
+-- What each refusal of bytes says of them.
+use Rattle.std.specs.Prelude.{◌≡◌, ℕ, suc, Bool, not, List, [], ◌∷◌, Option, Some, None}
+use Rattle.std.specs.Prelude.{if◌then◌else◌}
+use Rattle.std.specs.List.{position}
+use Rattle.std.specs.Option.{option_map}
+use Rattle.sf_value.specs.declared.fault.TextFault.{TextFault}
+use Rattle.sf_value.specs.declared.fault.TextFault.TheVariants.{Empty, BadByte, OutOfMemory}
+use Rattle.sf_value.specs.Grammar.Words.{Every, IsWord}
+use Rattle.sf_value.specs.Grammar.Classes.{is_key_start, is_key_rest, is_token_start, is_token_rest}
+use Rattle.sf_value.specs.Grammar.Classes.{is_visible}
+
+-- the least place whose byte fails the test
+abbrev pub bad_place : (ℕ → Bool) → List ℕ → Option ℕ
+bad_place p bs = position (λ b. not (p b)) bs
+
+-- the least place whose byte a word does not have there
+abbrev pub bad_word_place : (ℕ → Bool) → (ℕ → Bool) → List ℕ → Option ℕ
+bad_word_place p q [] = None
+bad_word_place p q (b ∷ bs) =
+    if p b then option_map (λ i. suc i) (bad_place q bs) else Some 0
+
+-- why bytes are no word: none, one at the least bad place, or a word and no memory for it
+abbrev pub IsWordFault : (ℕ → Bool) → (ℕ → Bool) → List ℕ → TextFault → Type 0
+IsWordFault p q bs Empty = bs ≡ []
+IsWordFault p q bs (BadByte place) = bad_word_place p q bs ≡ Some place
+IsWordFault p q bs OutOfMemory = IsWord p q bs
+
+abbrev pub IsKeyFault : List ℕ → TextFault → Type 0
+IsKeyFault = IsWordFault is_key_start is_key_rest
+
+abbrev pub IsTokenFault : List ℕ → TextFault → Type 0
+IsTokenFault = IsWordFault is_token_start is_token_rest
+
+-- why bytes are no String: a String may be empty
+abbrev pub IsStringFault : List ℕ → TextFault → Type 0
+IsStringFault bs Empty = ⊥
+IsStringFault bs (BadByte place) = bad_place is_visible bs ≡ Some place
+IsStringFault bs OutOfMemory = Every is_visible bs

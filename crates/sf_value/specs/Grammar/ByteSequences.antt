@@ -1,0 +1,55 @@
+-- The texts of Byte Sequences: base64 (RFC 4648 section 4).
+use Rattle.std.specs.Prelude.{◌≡◌, ℕ, ◌+◌, ◌*◌, ◌/◌, ◌%◌, ◌<◌, ◌≤◌, List, [], ◌∷◌, ◌++◌}
+use Rattle.std.specs.Prelude.{replicate, codes, slice_index}
+use Rattle.sf_value.specs.Grammar.Words.{Every}
+use Rattle.sf_value.specs.Grammar.Classes.{is_byte}
+
+-- the 64 characters, in the order of their values (RFC 4648, table 1)
+abbrev pub alphabet : List ℕ
+alphabet = codes "ABCDEFGHIJKLMNOPQRSTUVWXYZabcdefghijklmnopqrstuvwxyz0123456789+/"
+
+-- the character of a value below 64: the one at that place
+unfoldable pub letter : ℕ → ℕ
+letter x = slice_index alphabet x
+
+-- base64 without padding: three bytes are four characters of six bits, the highest bits first;
+-- low stands in the bits of a last character that no byte fills
+abbrev pub unpadded : ℕ → List ℕ → List ℕ
+unpadded low [] = []
+unpadded low (a ∷ []) = letter (a / 4) ∷ letter (a % 4 * 16 + low) ∷ []
+unpadded low (a ∷ b ∷ []) =
+    letter (a / 4) ∷ letter (a % 4 * 16 + b / 16) ∷ letter (b % 16 * 4 + low) ∷ []
+unpadded low (a ∷ b ∷ c ∷ s) =
+    letter (a / 4) ∷ letter (a % 4 * 16 + b / 16) ∷ letter (b % 16 * 4 + c / 64) ∷ letter (c % 64)
+    ∷ unpadded low s
+
+-- how many numbers the bits can hold that no byte fills
+abbrev pub spare : List ℕ → ℕ
+spare [] = 1
+spare (a ∷ []) = 16
+spare (a ∷ b ∷ []) = 4
+spare (a ∷ b ∷ c ∷ s) = spare s
+
+-- how many = make the last group whole
+abbrev pub needed : List ℕ → ℕ
+needed [] = 0
+needed (a ∷ []) = 2
+needed (a ∷ b ∷ []) = 1
+needed (a ∷ b ∷ c ∷ s) = needed s
+
+-- at most so many =, and the colon
+abbrev pub Pads : ℕ → List ℕ → Type 0
+Pads n t = (m : ℕ) × (m ≤ n) × (t ≡ replicate m 61 ++ 58 ∷ [])
+
+-- base64 of s with any pad bits and any number of = up to what is needed, then the colon
+abbrev pub Sextets : List ℕ → List ℕ → Type 0
+Sextets t s =
+    (low : ℕ) × (back : List ℕ)
+    × (low < spare s)
+    × (t ≡ unpadded low s ++ back)
+    × Every is_byte s
+    × Pads (needed s) back
+
+-- a Byte Sequence (3.3.5, 4.2.7): a colon, base64, a colon
+abbrev pub SpellsByteSequence : List ℕ → List ℕ → Type 0
+SpellsByteSequence t s = (back : List ℕ) × (t ≡ 58 ∷ back) × Sextets back s

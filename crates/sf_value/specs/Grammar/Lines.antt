@@ -1,0 +1,38 @@
+-- Field lines, and what may still come after the front of a text.
+use Rattle.std.specs.Prelude.{ℕ, ◌<◌, ◌≤◌, List, [], ◌∷◌, ◌++◌, length, take}
+use Rattle.sf_value.specs.declared.dialect.Dialect.{Dialect}
+use Rattle.sf_value.specs.declared.value.Field.{Field}
+use Rattle.sf_value.specs.declared.value.Kind.{Kind}
+use Rattle.sf_value.specs.Grammar.Fields.{SpellsField}
+
+-- the lines in order with a comma and a space between two (4.2; RFC 9110 section 5.3)
+abbrev pub join : List (List ℕ) → List ℕ
+join [] = []
+join (l ∷ []) = l
+join (l ∷ m ∷ ls) = l ++ 44 ∷ 32 ∷ join (m ∷ ls)
+
+-- the lines are accepted: their joined text spells some value
+abbrev pub Accepted : Dialect → Kind → List (List ℕ) → Type 0
+Accepted d kind lines = (v : Field) × SpellsField d kind (join lines) v
+
+-- some continuation, an empty one included, makes this front a text of L
+abbrev pub Continues : {V : Type 0} → (List ℕ → V → Type 0) → List ℕ → Type 0
+Continues {V = V} L p = (u : List ℕ) × (v : V) × L (p ++ u) v
+
+-- n is the length of the longest front of t that continues to a text of L
+pub record IsLongest (V : Type 0) (L : List ℕ → V → Type 0) (t : List ℕ) (n : ℕ) : Type 0 where
+  pub within : n ≤ length t
+  pub viable : Continues L (take n t)
+  pub longest : (m : ℕ) → m ≤ length t → Continues L (take m t) → m ≤ n
+
+-- some text of the kind begins so
+abbrev pub Viable : Dialect → Kind → List ℕ → Type 0
+Viable d kind = Continues (SpellsField d kind)
+
+-- the place of a refusal: how long the longest viable front of t is
+abbrev pub IsPlace : Dialect → Kind → List ℕ → ℕ → Type 0
+IsPlace d kind = IsLongest Field (SpellsField d kind)
+
+-- a byte that may come next; none above 127 stands in a text
+abbrev pub Next : Dialect → Kind → List ℕ → ℕ → Type 0
+Next d kind p b = (b < 128) × Viable d kind (p ++ b ∷ [])

@@ -1,0 +1,48 @@
+-- Well-formed UTF-8 by its table (RFC 3629 section 4).
+use Rattle.std.specs.Prelude.{◌≡◌, ℕ, zero, suc, Bool, nat_le, ◌&&◌, List, [], ◌∷◌, Option, Some}
+use Rattle.std.specs.Prelude.{None}
+use Rattle.sf_value.specs.Grammar.Words.{allow, otherwise}
+
+-- between two characters, or within one: so many bytes after the next, and where the next lies
+pub data Utf8 : Type 0 where
+  Start : Utf8
+  Wants : (more low high : ℕ) → Utf8
+
+-- behind a byte of a character that so many bytes complete
+abbrev pub wants : ℕ → Utf8
+wants zero = Start
+wants (suc n) = Wants n 128 191
+
+-- from low to high
+abbrev pub within : ℕ → ℕ → ℕ → Bool
+within low high b = nat_le low b && nat_le b high
+
+-- the well-formed first bytes: from, to, and what is wanted then
+abbrev pub rows : List (ℕ × ℕ × Utf8)
+rows =
+    (0, 127, Start)
+    ∷ (194, 223, Wants 0 128 191)
+    ∷ (224, 224, Wants 1 160 191)
+    ∷ (225, 236, Wants 1 128 191)
+    ∷ (237, 237, Wants 1 128 159)
+    ∷ (238, 239, Wants 1 128 191)
+    ∷ (240, 240, Wants 2 144 191)
+    ∷ (241, 243, Wants 2 128 191)
+    ∷ (244, 244, Wants 2 128 143)
+    ∷ []
+
+-- what the first row with the byte says
+abbrev pub look_up : List (ℕ × ℕ × Utf8) → ℕ → Option Utf8
+look_up [] b = None
+look_up (r ∷ rs) b = otherwise (allow (within r.0 r.1 b) r.2) (look_up rs b)
+
+-- UTF-8 a byte at a time
+abbrev pub utf8_step : Utf8 → ℕ → Option Utf8
+utf8_step Start b = look_up rows b
+utf8_step (Wants n low high) b = allow (within low high b) (wants n)
+
+-- the bytes complete the character, and are whole characters then
+abbrev pub WellFormed : Utf8 → List ℕ → Type 0
+WellFormed Start [] = Unit {0}
+WellFormed (Wants n low high) [] = ⊥
+WellFormed x (b ∷ s) = (y : Utf8) × (utf8_step x b ≡ Some y) × WellFormed y s

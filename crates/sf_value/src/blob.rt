@@ -1,0 +1,64 @@
+//! Byte sequences (RFC 9651 section 3.3.5).
+ghost use Rattle.std.specs.Prelude.{◌≡◌, ℕ, List, [], ◌∷◌, ◌++◌, IfOk, MatchResult};
+
+use crate::fault::OutOfMemory;
+use std::alloc::Global;
+use std::marker::Model;
+
+/// A byte sequence: any bytes. A field line is handed in as one, too.
+#[derive(Debug, Drop)]
+pub struct Blob {
+    bytes: Vec<u8>,
+}
+
+impl Model for Blob {
+    ghost Value = { List ℕ };
+
+    ghost view = { λ b. b.bytes.items };
+}
+
+impl Blob {
+    /// The byte sequence of these bytes.
+    pub fn new(alloc: Global, bytes: &[u8]) -> Result<Blob, OutOfMemory>
+        ensures { IfOk result (λ blob. blob ≡ bytes.now) }
+    {
+        match Vec::from_slice(alloc, bytes) {
+            Ok(bytes) => Ok(Blob { bytes }),
+            Err(_) => Err(OutOfMemory),
+        }
+    }
+
+    /// The byte sequence with no bytes, to which others are added. It takes no memory.
+    pub fn empty(alloc: Global) -> Blob
+        ensures { result ≡ [] }
+    {
+        Blob {
+            bytes: Vec::new(alloc),
+        }
+    }
+
+    /// Adds bytes at the end. For want of memory the byte sequence stays as it was.
+    pub fn extend(&mut self, bytes: &[u8]) -> Result<(), OutOfMemory>
+        ensures { MatchResult result (λ _. self.new ≡ self.old ++ bytes.now) (λ _. self.new ≡ self.old) }
+    {
+        self.bytes.extend_from_slice(bytes)?;
+        Ok(())
+    }
+
+    /// Another byte sequence, equal to this one.
+    pub fn copy(&self, alloc: Global) -> Result<Blob, OutOfMemory>
+        ensures { IfOk result (λ copy. copy ≡ self.now) }
+    {
+        match Vec::from_slice(alloc, self.bytes.as_slice()) {
+            Ok(bytes) => Ok(Blob { bytes }),
+            Err(_) => Err(OutOfMemory),
+        }
+    }
+
+    /// The bytes that it was made of.
+    pub fn as_bytes(&self) -> &[u8]
+        ensures { result.now ≡ self.now }
+    {
+        self.bytes.as_slice()
+    }
+}

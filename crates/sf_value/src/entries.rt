@@ -1,0 +1,206 @@
+//! Entries in order, by key.
+ghost use Rattle.std.specs.Prelude.{◌≡◌, ℕ, List, [], ◌∷◌, ◌++◌, None, length, slice_get, IfOk, IfErr};
+ghost use Rattle.std.specs.Option.{option_map, option_copied};
+ghost use Rattle.sf_value.specs.Grammar.Pairs.{settle, value_at};
+ghost use Rattle.sf_value.specs.Entries.{deref_entry, AreEntries};
+ghost use Rattle.std.specs.Iterator.{at_most};
+ghost use Rattle.std.specs.Map.Iter.{TakesFirst, ShowsInOrder};
+
+use crate::fault::OutOfMemory;
+use crate::part::Part;
+use crate::key::Key;
+use indexmap::{IndexMap, map};
+use std::alloc::Global;
+use std::hash::RandomState;
+use std::marker::Model;
+
+/// Values by key, in the order in which the keys came first.
+#[derive(Debug, Drop)]
+pub struct Entries<V> {
+    map: IndexMap<Vec<u8>, V, RandomState>,
+}
+
+impl<V> Model for Entries<V> {
+    ghost use Rattle.std.specs.Prelude.{List, ℕ};
+    ghost use Rattle.sf_value.specs.Entries.{AreEntries, pairs};
+
+    ghost Value = { List (List ℕ × V) };
+
+    ghost view = { λ e. pairs e.map.entries };
+
+    ghost invariant = { λ e. AreEntries (pairs e.map.entries) };
+}
+
+impl<V> Entries<V> {
+    /// No entries.
+    pub fn new(alloc: Global, seed: &RandomState) -> Entries<V>
+        ensures { result ≡ [] }
+    {
+        Entries {
+            map: IndexMap::with_hasher(alloc, *seed),
+        }
+    }
+
+    pub fn len(&self) -> usize
+        ensures len { result ≡ length self.now }
+        ensures entries { AreEntries self.now }
+    {
+        self.map.len()
+    }
+
+    /// The value of a key.
+    pub fn get(&self, key: &[u8]) -> Option<&V>
+        ensures { option_copied result ≡ value_at key.now self.now }
+    {
+        self.map.get(key)
+    }
+
+    /// The entry at a place.
+    pub fn at(&self, index: usize) -> Option<(&[u8], &V)>
+        ensures { option_map deref_entry result ≡ slice_get self.now index }
+    {
+        let (key, value) = self.map.get_index(index)?;
+        Some((key.as_slice(), value))
+    }
+
+    /// The entries in order.
+    pub fn iter(&self) -> Iter<'_, V>
+        ensures rest { result ≡ self.now }
+        ensures runs { ShowsInOrder (deref_entry {V = V}) }
+    {
+        Iter {
+            inner: self.map.iter(),
+        }
+    }
+
+    /// Puts a value at a key. A new key goes last; the value of one that is there is replaced, and answered.
+    pub fn put(&mut self, key: Key, value: V) -> Result<Option<V>, (Key, V)>
+        ensures new { IfOk result (λ _. self.new ≡ settle (self.old ++ (key, value) ∷ [])) }
+        ensures old { IfOk result (λ old. old ≡ value_at key self.old) }
+        ensures same { IfErr result (λ _. self.new ≡ self.old) }
+        ensures back { IfErr result (λ pair. pair ≡ (key, value)) }
+        ensures absent { IfErr result (λ _. value_at key self.old ≡ None) }
+    {
+        let refused = match self.map.insert(key.bytes, value) {
+            Ok(old) => return Ok(old),
+            Err(refused) => refused,
+        };
+        let (bytes, value) = refused.value;
+        Err((Key { bytes }, value))
+    }
+}
+
+/// The entries that are left, each as its key's bytes and its value.
+#[derive(Drop)]
+pub struct Iter<'a, V> {
+    inner: map::Iter<'a, Vec<u8>, V>,
+}
+
+impl<'a, V> Model for Iter<'a, V> {
+    ghost use Rattle.std.specs.Prelude.{List, ℕ};
+    ghost use Rattle.sf_value.specs.Entries.{pairs};
+
+    ghost Value = { List (List ℕ × V) };
+
+    ghost view = { λ a. pairs a.inner };
+}
+
+impl<'a, V> Iterator for Iter<'a, V> {
+    type Item = (&'a [u8], &'a V);
+
+    ghost next_gives = { TakesFirst deref_entry };
+
+    ghost remaining = { λ s. at_most (length s) };
+
+    fn next(&mut self) -> Option<(&'a [u8], &'a V)> {
+        let (key, value) = self.inner.next()?;
+        Some((key.as_slice(), value))
+    }
+}
+
+impl<'a, V> IntoIterator for &'a Entries<V> {
+    type Item = (&'a [u8], &'a V);
+
+    type IntoIter = Iter<'a, V>;
+
+    ghost into_iter_gives = { λ e r. (r ≡ e.now) × ShowsInOrder (deref_entry {V = V}) };
+
+    fn into_iter(self) -> Iter<'a, V> {
+        self.iter()
+    }
+}
+
+/// The entries that are left, by value.
+#[derive(Drop)]
+pub struct IntoIter<V> {
+    inner: map::IntoIter<Vec<u8>, V>,
+}
+
+impl<V> Model for IntoIter<V> {
+    ghost use Rattle.std.specs.Prelude.{List, ℕ};
+    ghost use Rattle.std.specs.Map.{keys_of};
+    ghost use Rattle.sf_value.specs.Grammar.Words.{Each};
+    ghost use Rattle.sf_value.specs.Grammar.Tokens.{IsKey};
+    ghost use Rattle.sf_value.specs.Entries.{pairs};
+
+    ghost Value = { List (List ℕ × V) };
+
+    ghost view = { λ a. pairs a.inner };
+
+    ghost invariant = { λ a. Each IsKey (keys_of (pairs a.inner)) };
+}
+
+impl<V: Drop> Iterator for IntoIter<V> {
+    type Item = (Key, V);
+
+    ghost next_gives = { TakesFirst (λ p. p) };
+
+    ghost remaining = { λ s. at_most (length s) };
+
+    fn next(&mut self) -> Option<(Key, V)> {
+        let (bytes, value) = self.inner.next()?;
+        Some((Key { bytes }, value))
+    }
+}
+
+impl<V: Drop> IntoIterator for Entries<V> {
+    type Item = (Key, V);
+
+    type IntoIter = IntoIter<V>;
+
+    ghost into_iter_gives = { λ e r. r ≡ e };
+
+    fn into_iter(self) -> IntoIter<V> {
+        let Entries { map } = self;
+        IntoIter {
+            inner: map.into_iter(),
+        }
+    }
+}
+
+impl<V: Part> Part for Entries<V> {
+    fn same(&self, other: &Entries<V>) -> bool {
+        if self.map.len() != other.map.len() {
+            return false;
+        }
+        for i in 0..self.map.len() {
+            let (Some(x), Some(y)) = (self.at(i), other.at(i)) else {
+                return false;
+            };
+            if x.0 != y.0 || !x.1.same(y.1) {
+                return false;
+            }
+        }
+        true
+    }
+
+    fn copy(&self, alloc: Global, seed: &RandomState) -> Result<Entries<V>, OutOfMemory> {
+        let mut map = IndexMap::with_hasher(alloc, *seed);
+        for (key, value) in &self.map {
+            let key = Vec::from_slice(alloc, key.as_slice())?;
+            let value = value.copy(alloc, seed)?;
+            map.insert(key, value)?;
+        }
+        Ok(Entries { map })
+    }
+}

@@ -1,0 +1,103 @@
+//! Keys of parameters and of dictionary members (RFC 9651 section 3.1.2).
+ghost use Rattle.std.specs.Prelude.{◌≡◌, ℕ, List, [], ◌∷◌, ◌++◌, true, IfOk, MatchResult};
+ghost use Rattle.sf_value.specs.Grammar.Classes.{is_key_start, is_key_rest};
+ghost use Rattle.sf_value.specs.Grammar.Tokens.{IsKey};
+ghost use Rattle.sf_value.specs.Faults.{bad_place, bad_word_place, IsKeyFault};
+
+use crate::fault::{OutOfMemory, TextFault};
+use std::alloc::Global;
+use std::marker::Model;
+
+/// Whether a key may begin with this byte: `a` to `z` and `*`.
+pub fn can_start_key(byte: u8) -> bool
+    ensures { result ≡ is_key_start byte }
+{
+    matches!(byte, b'a'..=b'z' | b'*')
+}
+
+/// Whether a key may go on with this byte: `a` to `z`, `0` to `9`, `_`, `-`, `.` and `*`.
+pub fn can_be_in_key(byte: u8) -> bool
+    ensures { result ≡ is_key_rest byte }
+{
+    matches!(byte, b'a'..=b'z' | b'0'..=b'9' | b'_' | b'-' | b'.' | b'*')
+}
+
+fn bad_byte_after_first(bytes: &[u8]) -> Option<usize>
+    ensures { result ≡ bad_place is_key_rest bytes.now }
+{
+    bytes.iter().position(|b| !can_be_in_key(*b))
+}
+
+fn bad_byte(bytes: &[u8]) -> Option<usize>
+    ensures { result ≡ bad_word_place is_key_start is_key_rest bytes.now }
+{
+    let (first, rest) = bytes.split_first()?;
+    if !can_start_key(*first) {
+        return Some(0);
+    }
+    let place = bad_byte_after_first(rest)?;
+    Some(place + 1)
+}
+
+/// The key of a parameter or of a member of a dictionary: a byte that may start one, then bytes that
+/// may be in one.
+#[derive(Debug, Drop)]
+pub struct Key {
+    pub(crate) bytes: Vec<u8>,
+}
+
+impl Model for Key {
+    ghost Value = { List ℕ };
+
+    ghost view = { λ k. k.bytes.items };
+
+    ghost invariant = { λ k. IsKey k.bytes.items };
+}
+
+impl Key {
+    /// The key of these bytes.
+    #[tactic(auto, using(crate::proofs::Words::word_from_place))]
+    pub fn new(alloc: Global, bytes: &[u8]) -> Result<Key, TextFault>
+        ensures exact { MatchResult result (λ key. key ≡ bytes.now) (IsKeyFault bytes.now) }
+        ensures key { IfOk result (λ key. IsKey key) }
+    {
+        if bytes.is_empty() {
+            return Err(TextFault::Empty);
+        }
+        if let Some(place) = bad_byte(bytes) {
+            return Err(TextFault::BadByte { place });
+        }
+        match Vec::from_slice(alloc, bytes) {
+            Ok(bytes) => Ok(Key { bytes }),
+            Err(_) => Err(TextFault::OutOfMemory),
+        }
+    }
+
+    /// The key of one byte, to which others are added: what a parser starts with.
+    pub fn first(alloc: Global, byte: u8) -> Result<Key, OutOfMemory>
+        requires { is_key_start byte ≡ true }
+        ensures { IfOk result (λ key. key ≡ byte ∷ []) }
+    {
+        let mut bytes = Vec::new(alloc);
+        bytes.push(byte)?;
+        Ok(Key { bytes })
+    }
+
+    /// Adds a byte at the end. For want of memory the key stays as it was.
+    #[tactic(auto, using(crate::proofs::Words::word_push))]
+    pub fn push(&mut self, byte: u8) -> Result<(), OutOfMemory>
+        requires { is_key_rest byte ≡ true }
+        ensures { MatchResult result (λ _. self.new ≡ self.old ++ byte ∷ []) (λ _. self.new ≡ self.old) }
+    {
+        self.bytes.push(byte)?;
+        Ok(())
+    }
+
+    /// The bytes that it was made of.
+    pub fn as_bytes(&self) -> &[u8]
+        ensures bytes { result.now ≡ self.now }
+        ensures key { IsKey self.now }
+    {
+        self.bytes.as_slice()
+    }
+}

@@ -1,0 +1,38 @@
+//! Laws of the definitions, each as the contract of a function that does nothing.
+ghost use Rattle.sf_value.specs.Laws.{SettlesInParts, CanonSpells, SpelledIsValid, CanonIsShort, SpellsInBoth, TableIsUtf8};
+
+/// Pairs with repeated keys may be settled before others follow them.
+pub fn settles_in_parts<V>()
+    ensures { SettlesInParts V }
+{
+}
+
+/// The canonical text of a valid value spells that value.
+pub fn canon_spells()
+    ensures { CanonSpells }
+{
+}
+
+/// What a text spells is valid.
+pub fn spelled_is_valid()
+    ensures { SpelledIsValid }
+{
+}
+
+/// The canonical text is at most eight fifths as long as any text of its value.
+pub fn canon_is_short()
+    ensures { CanonIsShort }
+{
+}
+
+/// A text that spells a value in the dialect of RFC 8941 spells the same in that of RFC 9651.
+pub fn spells_in_both()
+    ensures { SpellsInBoth }
+{
+}
+
+/// The table of RFC 3629 and the UTF-8 of the standard library are one.
+pub fn table_is_utf8()
+    ensures { TableIsUtf8 }
+{
+}

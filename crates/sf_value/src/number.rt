@@ -1,0 +1,85 @@
+//! Numbers of at most 15 digits (RFC 9651 sections 3.3.1, 3.3.2 and 3.3.7).
+ghost use Rattle.std.specs.Prelude.{◌≡◌, ℤ, ◌^◌, ◌<◌, ◌↔◌, IsOk, IfOk, nat_abs};
+
+use crate::fault::OutOfRange;
+use std::marker::Model;
+
+/// The largest number that a field can hold.
+const LARGEST: i64 = 999_999_999_999_999;
+
+/// A whole number of at most 15 digits, from -999,999,999,999,999 to 999,999,999,999,999: the value
+/// of an Integer, and of a Date in seconds from 1970-01-01 on.
+#[derive(Clone, Copy, Debug, PartialEq, Eq)]
+pub struct Int {
+    value: i64,
+}
+
+impl Model for Int {
+    ghost Value = { ℤ };
+
+    ghost view = { λ n. n.value };
+
+    ghost invariant = { λ n. nat_abs n.value < 10 ^ 15 };
+
+    ghost inverse = { λ n. record { value = n } };
+}
+
+impl Int {
+    /// The number, where it has at most 15 digits.
+    pub fn new(value: i64) -> Result<Int, OutOfRange>
+        ensures short { IsOk result ↔ (nat_abs value < 10 ^ 15) }
+        ensures value { IfOk result (λ n. n ≡ value) }
+    {
+        if -LARGEST <= value && value <= LARGEST {
+            Ok(Int { value })
+        } else {
+            Err(OutOfRange)
+        }
+    }
+
+    /// The number that it was made of.
+    pub fn get(&self) -> i64
+        ensures value { result ≡ self.now }
+        ensures short { nat_abs self.now < 10 ^ 15 }
+    {
+        self.value
+    }
+}
+
+/// A whole number of thousandths, of at most 15 digits: the value of a Decimal.
+#[derive(Clone, Copy, Debug, PartialEq, Eq)]
+pub struct Thousandths {
+    value: i64,
+}
+
+impl Model for Thousandths {
+    ghost Value = { ℤ };
+
+    ghost view = { λ n. n.value };
+
+    ghost invariant = { λ n. nat_abs n.value < 10 ^ 15 };
+
+    ghost inverse = { λ n. record { value = n } };
+}
+
+impl Thousandths {
+    /// The number of thousandths, where it has at most 15 digits.
+    pub fn new(value: i64) -> Result<Thousandths, OutOfRange>
+        ensures short { IsOk result ↔ (nat_abs value < 10 ^ 15) }
+        ensures value { IfOk result (λ n. n ≡ value) }
+    {
+        if -LARGEST <= value && value <= LARGEST {
+            Ok(Thousandths { value })
+        } else {
+            Err(OutOfRange)
+        }
+    }
+
+    /// The number of thousandths that it was made of.
+    pub fn get(&self) -> i64
+        ensures value { result ≡ self.now }
+        ensures short { nat_abs self.now < 10 ^ 15 }
+    {
+        self.value
+    }
+}

@@ -1,0 +1,155 @@
+//! Parts of values, which are compared and copied.
+ghost use Rattle.std.specs.Prelude.{◌≡◌, ◌↔◌, IsTrue, IfOk};
+
+use crate::fault::OutOfMemory;
+use crate::entries::Entries;
+use crate::sequence::Sequence;
+use crate::value::{Bare, Dict, Field, Inner, Item, List, Member};
+use std::alloc::Global;
+use std::hash::RandomState;
+
+/// A part of a value.
+pub trait Part: Drop {
+    /// Whether the two are equal.
+    fn same(&self, other: &Self) -> bool
+        ensures { IsTrue result ↔ (self.now ≡ other.now) };
+
+    /// Another value, equal to this one.
+    fn copy(&self, alloc: Global, seed: &RandomState) -> Result<Self, OutOfMemory>
+        ensures { IfOk result (λ copy. copy ≡ self.now) };
+}
+
+impl Part for Bare {
+    fn same(&self, other: &Bare) -> bool {
+        match self {
+            Bare::Integer(x) => match other {
+                Bare::Integer(y) => x.get() == y.get(),
+                _ => false,
+            },
+            Bare::Decimal(x) => match other {
+                Bare::Decimal(y) => x.get() == y.get(),
+                _ => false,
+            },
+            Bare::Text(x) => match other {
+                Bare::Text(y) => x.as_bytes() == y.as_bytes(),
+                _ => false,
+            },
+            Bare::Token(x) => match other {
+                Bare::Token(y) => x.as_bytes() == y.as_bytes(),
+                _ => false,
+            },
+            Bare::Blob(x) => match other {
+                Bare::Blob(y) => x.as_bytes() == y.as_bytes(),
+                _ => false,
+            },
+            Bare::Boolean(x) => match other {
+                Bare::Boolean(y) => x == y,
+                _ => false,
+            },
+            Bare::Date(x) => match other {
+                Bare::Date(y) => x.get() == y.get(),
+                _ => false,
+            },
+            Bare::Shown(x) => match other {
+                Bare::Shown(y) => x.as_bytes() == y.as_bytes(),
+                _ => false,
+            },
+        }
+    }
+
+    fn copy(&self, alloc: Global, _seed: &RandomState) -> Result<Bare, OutOfMemory> {
+        match self {
+            Bare::Integer(n) => Ok(Bare::Integer(*n)),
+            Bare::Decimal(n) => Ok(Bare::Decimal(*n)),
+            Bare::Text(text) => Ok(Bare::Text(text.copy(alloc)?)),
+            Bare::Token(token) => Ok(Bare::Token(token.copy(alloc)?)),
+            Bare::Blob(blob) => Ok(Bare::Blob(blob.copy(alloc)?)),
+            Bare::Boolean(b) => Ok(Bare::Boolean(*b)),
+            Bare::Date(n) => Ok(Bare::Date(*n)),
+            Bare::Shown(shown) => Ok(Bare::Shown(shown.copy(alloc)?)),
+        }
+    }
+}
+
+impl Part for Item {
+    fn same(&self, other: &Item) -> bool {
+        self.bare.same(&other.bare) && self.params.same(&other.params)
+    }
+
+    fn copy(&self, alloc: Global, seed: &RandomState) -> Result<Item, OutOfMemory> {
+        Ok(Item {
+            bare: self.bare.copy(alloc, seed)?,
+            params: self.params.copy(alloc, seed)?,
+        })
+    }
+}
+
+impl Part for Inner {
+    fn same(&self, other: &Inner) -> bool {
+        self.items.same(&other.items) && self.params.same(&other.params)
+    }
+
+    fn copy(&self, alloc: Global, seed: &RandomState) -> Result<Inner, OutOfMemory> {
+        Ok(Inner {
+            items: self.items.copy(alloc, seed)?,
+            params: self.params.copy(alloc, seed)?,
+        })
+    }
+}
+
+impl Part for Member {
+    fn same(&self, other: &Member) -> bool {
+        match self {
+            Member::Item(x) => match other {
+                Member::Item(y) => x.same(y),
+                Member::Inner(_) => false,
+            },
+            Member::Inner(x) => match other {
+                Member::Item(_) => false,
+                Member::Inner(y) => x.same(y),
+            },
+        }
+    }
+
+    fn copy(&self, alloc: Global, seed: &RandomState) -> Result<Member, OutOfMemory> {
+        match self {
+            Member::Item(item) => Ok(Member::Item(item.copy(alloc, seed)?)),
+            Member::Inner(inner) => Ok(Member::Inner(inner.copy(alloc, seed)?)),
+        }
+    }
+}
+
+/// Whether two values are equal. The order of members, items and parameters counts.
+pub fn same(a: &Field, b: &Field) -> bool
+    ensures { IsTrue result ↔ (a.now ≡ b.now) }
+{
+    match a {
+        Field::Item(x) => match b {
+            Field::Item(y) => x.same(y),
+            _ => false,
+        },
+        Field::List(x) => match b {
+            Field::List(y) => x.members.same(&y.members),
+            _ => false,
+        },
+        Field::Dict(x) => match b {
+            Field::Dict(y) => x.members.same(&y.members),
+            _ => false,
+        },
+    }
+}
+
+/// Another value, equal to its source.
+pub fn copy(alloc: Global, seed: &RandomState, field: &Field) -> Result<Field, OutOfMemory>
+    ensures { IfOk result (λ copy. copy ≡ field.now) }
+{
+    match field {
+        Field::Item(item) => Ok(Field::Item(item.copy(alloc, seed)?)),
+        Field::List(list) => Ok(Field::List(List {
+            members: list.members.copy(alloc, seed)?,
+        })),
+        Field::Dict(dict) => Ok(Field::Dict(Dict {
+            members: dict.members.copy(alloc, seed)?,
+        })),
+    }
+}

@@ -1,0 +1,90 @@
+//! Strings (RFC 9651 section 3.3.3).
+ghost use Rattle.std.specs.Prelude.{◌≡◌, ℕ, List, [], ◌∷◌, ◌++◌, true, IfOk, MatchResult};
+ghost use Rattle.sf_value.specs.Grammar.Words.{Every};
+ghost use Rattle.sf_value.specs.Grammar.Classes.{is_visible as is_visible_byte};
+ghost use Rattle.sf_value.specs.Faults.{bad_place, IsStringFault};
+
+use crate::fault::{OutOfMemory, TextFault};
+use std::alloc::Global;
+use std::marker::Model;
+
+/// Whether a string may hold this byte: 0x20 to 0x7E.
+pub fn is_visible(byte: u8) -> bool
+    ensures { result ≡ is_visible_byte byte }
+{
+    matches!(byte, b' '..=b'~')
+}
+
+fn bad_byte(bytes: &[u8]) -> Option<usize>
+    ensures { result ≡ bad_place is_visible_byte bytes.now }
+{
+    bytes.iter().position(|b| !is_visible(*b))
+}
+
+/// A string: bytes from 0x20 to 0x7E, as they are, with no escapes.
+#[derive(Debug, Drop)]
+pub struct Text {
+    bytes: Vec<u8>,
+}
+
+impl Model for Text {
+    ghost Value = { List ℕ };
+
+    ghost view = { λ t. t.bytes.items };
+
+    ghost invariant = { λ t. Every is_visible_byte t.bytes.items };
+}
+
+impl Text {
+    /// The string of these bytes.
+    #[tactic(auto, using(crate::proofs::Words::every_from_place))]
+    pub fn new(alloc: Global, bytes: &[u8]) -> Result<Text, TextFault>
+        ensures exact { MatchResult result (λ text. text ≡ bytes.now) (IsStringFault bytes.now) }
+        ensures text { IfOk result (λ text. Every is_visible_byte text) }
+    {
+        if let Some(place) = bad_byte(bytes) {
+            return Err(TextFault::BadByte { place });
+        }
+        match Vec::from_slice(alloc, bytes) {
+            Ok(bytes) => Ok(Text { bytes }),
+            Err(_) => Err(TextFault::OutOfMemory),
+        }
+    }
+
+    /// The string with no bytes, to which others are added. It takes no memory.
+    pub fn empty(alloc: Global) -> Text
+        ensures { result ≡ [] }
+    {
+        Text {
+            bytes: Vec::new(alloc),
+        }
+    }
+
+    /// Adds a byte at the end. For want of memory the string stays as it was.
+    #[tactic(auto, using(crate::proofs::Words::every_push))]
+    pub fn push(&mut self, byte: u8) -> Result<(), OutOfMemory>
+        requires { is_visible_byte byte ≡ true }
+        ensures { MatchResult result (λ _. self.new ≡ self.old ++ byte ∷ []) (λ _. self.new ≡ self.old) }
+    {
+        self.bytes.push(byte)?;
+        Ok(())
+    }
+
+    /// Another string, equal to this one.
+    pub fn copy(&self, alloc: Global) -> Result<Text, OutOfMemory>
+        ensures { IfOk result (λ copy. copy ≡ self.now) }
+    {
+        match Vec::from_slice(alloc, self.bytes.as_slice()) {
+            Ok(bytes) => Ok(Text { bytes }),
+            Err(_) => Err(OutOfMemory),
+        }
+    }
+
+    /// The bytes that it was made of.
+    pub fn as_bytes(&self) -> &[u8]
+        ensures bytes { result.now ≡ self.now }
+        ensures text { Every is_visible_byte self.now }
+    {
+        self.bytes.as_slice()
+    }
+}

@@ -1,0 +1,117 @@
+//! Tokens (RFC 9651 section 3.3.4).
+ghost use Rattle.std.specs.Prelude.{◌≡◌, ℕ, List, [], ◌∷◌, ◌++◌, true, IfOk, MatchResult};
+ghost use Rattle.sf_value.specs.Grammar.Classes.{is_token_start, is_token_rest};
+ghost use Rattle.sf_value.specs.Grammar.Tokens.{IsToken};
+ghost use Rattle.sf_value.specs.Faults.{bad_place, bad_word_place, IsTokenFault};
+
+use crate::fault::{OutOfMemory, TextFault};
+use std::alloc::Global;
+use std::marker::Model;
+
+/// Whether a token may begin with this byte: a letter or `*`.
+pub fn can_start_token(byte: u8) -> bool
+    ensures { result ≡ is_token_start byte }
+{
+    matches!(byte, b'a'..=b'z' | b'A'..=b'Z' | b'*')
+}
+
+/// Whether a token may go on with this byte: a letter, a digit, `:`, `/` or one of
+/// ``!#$%&'*+-.^_`|~``.
+pub fn can_be_in_token(byte: u8) -> bool
+    ensures { result ≡ is_token_rest byte }
+{
+    matches!(
+        byte,
+        b'a'..=b'z' | b'A'..=b'Z' | b'0'..=b'9' | b'!' | b'#'..=b'\'' | b'*' | b'+' | b'-'..=b':'
+            | b'^'..=b'`' | b'|' | b'~'
+    )
+}
+
+fn bad_byte_after_first(bytes: &[u8]) -> Option<usize>
+    ensures { result ≡ bad_place is_token_rest bytes.now }
+{
+    bytes.iter().position(|b| !can_be_in_token(*b))
+}
+
+fn bad_byte(bytes: &[u8]) -> Option<usize>
+    ensures { result ≡ bad_word_place is_token_start is_token_rest bytes.now }
+{
+    let (first, rest) = bytes.split_first()?;
+    if !can_start_token(*first) {
+        return Some(0);
+    }
+    let place = bad_byte_after_first(rest)?;
+    Some(place + 1)
+}
+
+/// A token: a byte that may start one, then bytes that may be in one.
+#[derive(Debug, Drop)]
+pub struct Token {
+    pub(crate) bytes: Vec<u8>,
+}
+
+impl Model for Token {
+    ghost Value = { List ℕ };
+
+    ghost view = { λ t. t.bytes.items };
+
+    ghost invariant = { λ t. IsToken t.bytes.items };
+}
+
+impl Token {
+    /// The token of these bytes.
+    #[tactic(auto, using(crate::proofs::Words::word_from_place))]
+    pub fn new(alloc: Global, bytes: &[u8]) -> Result<Token, TextFault>
+        ensures exact { MatchResult result (λ token. token ≡ bytes.now) (IsTokenFault bytes.now) }
+        ensures token { IfOk result (λ token. IsToken token) }
+    {
+        if bytes.is_empty() {
+            return Err(TextFault::Empty);
+        }
+        if let Some(place) = bad_byte(bytes) {
+            return Err(TextFault::BadByte { place });
+        }
+        match Vec::from_slice(alloc, bytes) {
+            Ok(bytes) => Ok(Token { bytes }),
+            Err(_) => Err(TextFault::OutOfMemory),
+        }
+    }
+
+    /// The token of one byte, to which others are added: what a parser starts with.
+    pub fn first(alloc: Global, byte: u8) -> Result<Token, OutOfMemory>
+        requires { is_token_start byte ≡ true }
+        ensures { IfOk result (λ token. token ≡ byte ∷ []) }
+    {
+        let mut bytes = Vec::new(alloc);
+        bytes.push(byte)?;
+        Ok(Token { bytes })
+    }
+
+    /// Adds a byte at the end. For want of memory the token stays as it was.
+    #[tactic(auto, using(crate::proofs::Words::word_push))]
+    pub fn push(&mut self, byte: u8) -> Result<(), OutOfMemory>
+        requires { is_token_rest byte ≡ true }
+        ensures { MatchResult result (λ _. self.new ≡ self.old ++ byte ∷ []) (λ _. self.new ≡ self.old) }
+    {
+        self.bytes.push(byte)?;
+        Ok(())
+    }
+
+    /// Another token, equal to this one.
+    pub fn copy(&self, alloc: Global) -> Result<Token, OutOfMemory>
+        ensures { IfOk result (λ copy. copy ≡ self.now) }
+    {
+        match Vec::from_slice(alloc, self.bytes.as_slice()) {
+            Ok(bytes) => Ok(Token { bytes }),
+            Err(_) => Err(OutOfMemory),
+        }
+    }
+
+    /// The bytes that it was made of.
+    pub fn as_bytes(&self) -> &[u8]
+        ensures bytes { result.now ≡ self.now }
+        ensures token { IsToken self.now }
+    {
+        self.bytes.as_slice()
+    }
+}
