@@ -1,0 +1,11 @@
+use Rattle.sf_parse.proofs.Theorems.{is_read, is_rest, any_pieces}
+use Rattle.sf_parse.proofs.laws.machine_reads.Goals as goal
+
+pub returns-clause-read : goal.returns-clause-read
+returns-clause-read c = is_read
+
+pub returns-clause-rest : goal.returns-clause-rest
+returns-clause-rest c = is_rest
+
+pub returns-clause-pieces : goal.returns-clause-pieces
+returns-clause-pieces c = any_pieces

@@ -1,0 +1,10 @@
+-- What the parser promises, and the machine by which it is proved.
+pub mod Laws
+pub mod Taking
+pub mod Takes
+pub mod Machine
+pub mod Views
+pub mod ParamsView
+pub mod InnerView
+pub mod ListView
+pub mod DictView

@@ -1,0 +1,17 @@
+-- The machine that reads the grammar a byte at a time. These are not definitions that a reader has
+-- to believe: the grammar is that of `sf_value`, and the laws of `Laws`, `Taking` and `Takes` say
+-- that the machine reads it exactly. Each level has its states, a step, a finish, and the rest of a
+-- state: the texts that complete it, in the words of the grammar.
+pub mod Language
+pub mod Numbers
+pub mod Texts
+pub mod Blobs
+pub mod Showns
+pub mod Bares
+pub mod Params
+pub mod Items
+pub mod Inners
+pub mod Members
+pub mod Series
+pub mod Fields
+pub mod Takes

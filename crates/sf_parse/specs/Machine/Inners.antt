@@ -1,0 +1,55 @@
+-- The machine that reads Inner Lists.
+use Rattle.std.specs.Prelude.{◌≡◌, ℕ, ◌==◌, List, [], ◌∷◌, ◌++◌, Option, None}
+use Rattle.sf_value.specs.Grammar.Words.{allow, otherwise}
+use Rattle.sf_value.specs.Grammar.Classes.{is_sp}
+use Rattle.sf_value.specs.Grammar.Pairs.{Pairs, Pairs}
+use Rattle.sf_value.specs.Grammar.Parameters.{SpellsParams}
+use Rattle.sf_value.specs.Grammar.InnerLists.{inner, SpellsItems}
+use Rattle.sf_value.specs.declared.dialect.Dialect.{Dialect}
+use Rattle.sf_value.specs.declared.value.Bare.{Bare}
+use Rattle.sf_value.specs.declared.value.Item.{Item}
+use Rattle.sf_value.specs.declared.value.Inner.{Inner}
+use Rattle.sf_parse.specs.Machine.Language.{Then, Seen, onward, seen}
+use Rattle.sf_parse.specs.Machine.Params.{ParamsState, Between, RestParams, GoodParams, params_step}
+use Rattle.sf_parse.specs.Machine.Params.{params_finish}
+use Rattle.sf_parse.specs.declared.item.ItemState.{ItemState}
+use Rattle.sf_parse.specs.Machine.Items.{RestItem, GoodItem, item_start, item_step, item_finish}
+
+pub data InnerState : Type 0 where
+  -- behind the bracket or spaces
+  Room : (items : List Item) → InnerState
+  InItem : (items : List Item) (state : ItemState) → InnerState
+  -- behind the closing bracket
+  Closing : (items : List Item) (state : ParamsState) → InnerState
+
+-- further items, a bracket and parameters
+abbrev pub MoreItems : Dialect → ℕ → List Item → List ℕ → Inner → Type 0
+MoreItems d least is u v = (more : List Item) × (ps : Pairs Bare) × (body back : List ℕ)
+    × (u ≡ body ++ 41 ∷ back) × SpellsItems d least body more × SpellsParams d back ps
+    × (v ≡ inner (is ++ more) ps)
+
+abbrev pub RestInner : Dialect → InnerState → List ℕ → Inner → Type 0
+RestInner d (Room is) = MoreItems d 0 is
+RestInner d (InItem is s) = Then (RestItem d s) (λ i. MoreItems d 1 (is ++ i ∷ []))
+RestInner d (Closing is s) = Seen (inner is) (RestParams d s)
+
+abbrev pub GoodInner : InnerState → Type 0
+GoodInner (Room is) = Unit {0}
+GoodInner (InItem is s) = GoodItem s
+GoodInner (Closing is s) = GoodParams s
+
+abbrev pub behind_step : List Item → ℕ → Option InnerState
+behind_step is b = otherwise (allow (b == 32) (Room is)) (allow (b == 41) (Closing is (Between [])))
+
+abbrev pub inner_step : Dialect → InnerState → ℕ → Option InnerState
+inner_step d (Room is) b = otherwise (allow (is_sp b) (Room is))
+    (otherwise (allow (b == 41) (Closing is (Between []))) (seen (InItem is) (item_start d b)))
+inner_step d (InItem is s) b = onward (InItem is) (item_step d s b) (item_finish s)
+    (λ i. behind_step (is
+    ++ i ∷ []) b)
+inner_step d (Closing is s) b = seen (Closing is) (params_step d s b)
+
+abbrev pub inner_finish : InnerState → Option Inner
+inner_finish (Room is) = None
+inner_finish (InItem is s) = None
+inner_finish (Closing is s) = seen (inner is) (params_finish s)

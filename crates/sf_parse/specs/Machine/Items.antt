@@ -1,0 +1,36 @@
+-- The machine that reads Items.
+use Rattle.std.specs.Prelude.{ℕ, List, [], Option, Some}
+use Rattle.sf_value.specs.Grammar.Items.{item}
+use Rattle.sf_value.specs.declared.dialect.Dialect.{Dialect}
+use Rattle.sf_value.specs.declared.value.Bare.{Bare}
+use Rattle.sf_value.specs.declared.value.Item.{Item}
+use Rattle.sf_parse.specs.Machine.Language.{Then, Seen, and_then, onward, seen}
+use Rattle.sf_parse.specs.Machine.Bares.{RestBare, GoodBare, bare_start, bare_step, bare_finish}
+use Rattle.sf_parse.specs.Machine.Params.{MoreParams, RestParams, GoodParams, between_step}
+use Rattle.sf_parse.specs.Machine.Params.{params_step, params_finish}
+use Rattle.sf_parse.specs.declared.item.ItemState.{ItemState}
+use Rattle.sf_parse.specs.declared.item.ItemState.TheVariants.{InBare, InParams}
+
+-- the item of a bare item and parameters behind it
+abbrev pub ItemOf : Dialect → Bare → List ℕ → Item → Type 0
+ItemOf d x = Seen (item x) (MoreParams d [])
+
+abbrev pub RestItem : Dialect → ItemState → List ℕ → Item → Type 0
+RestItem d (InBare s) = Then (RestBare s) (ItemOf d)
+RestItem d (InParams x s) = Seen (item x) (RestParams d s)
+
+abbrev pub GoodItem : ItemState → Type 0
+GoodItem (InBare s) = GoodBare s
+GoodItem (InParams x s) = GoodParams s
+
+abbrev pub item_start : Dialect → ℕ → Option ItemState
+item_start d b = seen InBare (bare_start d b)
+
+abbrev pub item_step : Dialect → ItemState → ℕ → Option ItemState
+item_step d (InBare s) b = onward InBare (bare_step s b) (bare_finish s)
+    (λ x. seen (InParams x) (between_step [] b))
+item_step d (InParams x s) b = seen (InParams x) (params_step d s b)
+
+abbrev pub item_finish : ItemState → Option Item
+item_finish (InBare s) = and_then (bare_finish s) (λ x. Some (item x []))
+item_finish (InParams x s) = seen (item x) (params_finish s)

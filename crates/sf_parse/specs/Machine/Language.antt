@@ -1,0 +1,94 @@
+-- Words on languages, and on machines that read them a byte at a time.
+use Rattle.std.specs.Prelude.{◌≡◌, ℕ, Bool, true, false, List, [], ◌∷◌, ◌++◌, Option, Some, None}
+use Rattle.std.specs.Prelude.{◌⊎◌}
+use Rattle.sf_value.specs.Grammar.Words.{Every}
+use Rattle.sf_value.specs.Grammar.Classes.{is_one_of}
+
+-- a front that gives x, and a back that gives v after x
+abbrev pub Then : {X V : Type 0} → (List ℕ → X → Type 0) → (X → List ℕ → V → Type 0) → List ℕ → V
+    → Type 0
+Then {X = X} A B t v = (x : X) × (front back : List ℕ) × (t ≡ front ++ back) × A front x
+    × B x back v
+
+-- the value of A, seen by f
+abbrev pub Seen : {X V : Type 0} → (X → V) → (List ℕ → X → Type 0) → List ℕ → V → Type 0
+Seen {X = X} f A t v = (x : X) × A t x × (v ≡ f x)
+
+-- goes on in the first part where that takes the byte, else in what follows its value
+abbrev pub onward : {S T X : Type 0} → (S → T) → Option S → Option X → (X → Option T) → Option T
+onward into (Some s) end after = Some (into s)
+onward into None (Some x) after = after x
+onward into None None after = None
+
+abbrev pub and_then : {X Y : Type 0} → Option X → (X → Option Y) → Option Y
+and_then None f = None
+and_then (Some x) f = f x
+
+abbrev pub seen : {X Y : Type 0} → (X → Y) → Option X → Option Y
+seen f None = None
+seen f (Some x) = Some (f x)
+
+-- The texts of L are read by next and end: a byte leads to a state whose rest is L's, and end is the empty text's value.
+pub record Reads (S V : Type 0) (Good : S → Type 0) (Rest : S → List ℕ → V → Type 0) (L : List ℕ → V
+    → Type 0) (next : ℕ → Option S) (end : Option V) : Type 0 where
+  pub taken : (b : ℕ) (u : List ℕ) (v : V) → L (b ∷ u) v → (s : S) × (next b ≡ Some s) × Rest s u v
+  pub gives : (b : ℕ) (u : List ℕ) (v : V) (s : S) → next b ≡ Some s → Rest s u v → L (b ∷ u) v
+  pub good : (b : ℕ) (s : S) → next b ≡ Some s → Good s
+  pub ends : (v : V) → L [] v → end ≡ Some v
+  pub ended : (v : V) → end ≡ Some v → L [] v
+
+-- either language
+abbrev pub Either : {V : Type 0} → (List ℕ → V → Type 0) → (List ℕ → V → Type 0) → List ℕ → V
+    → Type 0
+Either A B t v = A t v ⊎ B t v
+
+-- this byte, then A
+abbrev pub After : {V : Type 0} → ℕ → (List ℕ → V → Type 0) → List ℕ → V → Type 0
+After c A t v = (back : List ℕ) × (t ≡ c ∷ back) × A back v
+
+-- the empty text, with this value
+abbrev pub Nothing : {V : Type 0} → V → List ℕ → V → Type 0
+Nothing x t v = (t ≡ []) × (v ≡ x)
+
+-- any number of bytes that pass the test, then A
+abbrev pub Past : {V : Type 0} → (ℕ → Bool) → (List ℕ → V → Type 0) → List ℕ → V → Type 0
+Past p A t v = (front back : List ℕ) × (t ≡ front ++ back) × Every p front × A back v
+
+-- the texts of A where the test holds
+abbrev pub Where : {V : Type 0} → Bool → (List ℕ → V → Type 0) → List ℕ → V → Type 0
+Where c A t v = (c ≡ true) × A t v
+
+-- what there is where the test holds
+abbrev pub only : {S : Type 0} → Bool → Option S → Option S
+only true o = o
+only false o = None
+
+-- the state after a text
+abbrev pub run : {S : Type 0} → (S → ℕ → Option S) → S → List ℕ → Option S
+run step s [] = Some s
+run step s (b ∷ t) = and_then (step s b) (λ s'. run step s' t)
+
+-- some continuation completes the text
+pub record Live (V : Type 0) (L : List ℕ → V → Type 0) : Type 0 where
+  pub text : List ℕ
+  pub value : V
+  pub whole : L text value
+
+-- A machine that reads its own rests, and that no good state of which is stuck.
+pub record Machine (S V : Type 0) (Good : S → Type 0) (Rest : S → List ℕ → V → Type 0) (step : S → ℕ
+    → Option S) (finish : S → Option V) : Type 0 where
+  pub reads : (s : S) → Good s → Reads S V Good Rest (Rest s) (step s) (finish s)
+  pub lives : (s : S) → Good s → Live V (Rest s)
+
+-- what a step in place says: it took the byte, or can't and changed nothing
+abbrev pub Steps : {S : Type 0} → Bool → Option S → S → S → Type 0
+Steps true next old new = next ≡ Some new
+Steps false next old new = (next ≡ None) × (new ≡ old)
+
+-- what may stand behind a bare item
+abbrev pub is_follow : ℕ → Bool
+is_follow b = is_one_of (9 ∷ 32 ∷ 41 ∷ 44 ∷ 59 ∷ []) b
+
+-- what may stand behind an item
+abbrev pub is_after : ℕ → Bool
+is_after b = is_one_of (9 ∷ 32 ∷ 41 ∷ 44 ∷ []) b

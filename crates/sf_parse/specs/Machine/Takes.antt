@@ -1,0 +1,214 @@
+-- Which bytes a state takes and whether the text may end there, as tests that build no state.
+use Rattle.std.specs.Prelude.{ℕ, ◌+◌, ◌*◌, Bool, true, false, ◌==◌, nat_le, nat_lt, ◌&&◌, ◌||◌}
+use Rattle.std.specs.Prelude.{if◌then◌else◌, Option, Some, None, is_some}
+use Rattle.sf_value.specs.Grammar.Classes.{is_sp, is_ows, is_digit, is_key_start, is_key_rest}
+use Rattle.sf_value.specs.Grammar.Classes.{is_token_start, is_token_rest, is_visible}
+use Rattle.sf_value.specs.Grammar.Dialects.{is_rfc9651}
+use Rattle.sf_value.specs.Grammar.Strings.{is_escaped}
+use Rattle.sf_value.specs.Grammar.Utf8.{Utf8, Start, Wants, utf8_step}
+use Rattle.sf_value.specs.declared.dialect.Dialect.{Dialect}
+use Rattle.sf_parse.specs.Machine.Numbers.{NumberState, Whole, Fraction, DateState, Digits, Sign}
+use Rattle.sf_parse.specs.Machine.Texts.{TextState, Inside, Escaped, Closed}
+use Rattle.sf_parse.specs.declared.boolean.BooleanState.{BooleanState}
+use Rattle.sf_parse.specs.declared.boolean.BooleanState.TheVariants.{Asked, Told}
+use Rattle.sf_parse.specs.Machine.Blobs.{sextet, is_last, lacking, BlobState, Group, Padded, Ended}
+use Rattle.sf_parse.specs.Machine.Showns.{unhex, can_begin, ShownState, Quote, Plain, Percent, Hex}
+use Rattle.sf_parse.specs.Machine.Showns.{Done}
+use Rattle.sf_parse.specs.declared.bare.BareState.{BareState}
+use Rattle.sf_parse.specs.declared.bare.BareState.TheVariants.{InNumber, InText, InToken, InBoolean}
+use Rattle.sf_parse.specs.declared.bare.BareState.TheVariants.{InDate, InBlob, InShown}
+use Rattle.sf_parse.specs.Machine.Params.{ParamsState, Between, Opened, InParamKey, EqualsParam}
+use Rattle.sf_parse.specs.Machine.Params.{InValue}
+use Rattle.sf_parse.specs.declared.item.ItemState.{ItemState}
+use Rattle.sf_parse.specs.declared.item.ItemState.TheVariants.{InBare, InParams}
+use Rattle.sf_parse.specs.Machine.Inners.{InnerState, Room, InItem, Closing}
+use Rattle.sf_parse.specs.declared.member.MemberState.{MemberState}
+use Rattle.sf_parse.specs.declared.member.MemberState.TheVariants.{InOne, InMany}
+use Rattle.sf_parse.specs.Machine.Series.{SeriesState, Begin, InPiece, Gap, Comma}
+use Rattle.sf_parse.specs.declared.entry.EntryState.{EntryState}
+use Rattle.sf_parse.specs.declared.entry.EntryState.TheVariants.{InKey, Equals, InMember, InFlag}
+use Rattle.sf_parse.specs.declared.state.State.{State}
+use Rattle.sf_parse.specs.declared.state.State.TheVariants.{BeforeItem, InTop, AfterItem, InList}
+use Rattle.sf_parse.specs.declared.state.State.TheVariants.{InDict}
+
+abbrev pub number_takes : NumberState → ℕ → Bool
+number_takes (Whole neg count a) b = (is_digit b && nat_lt count 15) ||
+    (b == 46 && (nat_le 1 count && nat_le count 12))
+number_takes (Fraction neg whole count a) b = is_digit b && nat_lt count 3
+
+abbrev pub number_ends : NumberState → Bool
+number_ends (Whole neg count a) = nat_le 1 count
+number_ends (Fraction neg whole count a) = nat_le 1 count
+
+abbrev pub date_takes : DateState → ℕ → Bool
+date_takes (Digits neg count a) b = is_digit b && nat_lt count 15
+date_takes Sign b = b == 45 || (is_digit b && nat_lt 0 15)
+
+abbrev pub date_ends : DateState → Bool
+date_ends (Digits neg count a) = nat_le 1 count
+date_ends Sign = false
+
+abbrev pub text_takes : TextState → ℕ → Bool
+text_takes (Inside bytes) b = b == 34 || (b == 92 || is_visible b)
+text_takes (Escaped bytes) b = is_escaped b
+text_takes (Closed bytes) b = false
+
+abbrev pub text_ends : TextState → Bool
+text_ends (Inside bytes) = false
+text_ends (Escaped bytes) = false
+text_ends (Closed bytes) = true
+
+abbrev pub boolean_takes : BooleanState → ℕ → Bool
+boolean_takes Asked b = b == 48 || b == 49
+boolean_takes (Told c) b = false
+
+abbrev pub boolean_ends : BooleanState → Bool
+boolean_ends Asked = false
+boolean_ends (Told c) = true
+
+abbrev pub pad_takes : ℕ → ℕ → Bool
+pad_takes n b = b == 58 || (b == 61 && nat_lt 0 n)
+
+abbrev pub blob_takes : BlobState → ℕ → Bool
+blob_takes (Group bytes h) b = is_some (sextet b) || (is_last h && pad_takes (lacking h) b)
+blob_takes (Padded bytes n) b = pad_takes n b
+blob_takes (Ended bytes) b = false
+
+abbrev pub blob_ends : BlobState → Bool
+blob_ends (Group bytes h) = false
+blob_ends (Padded bytes n) = false
+blob_ends (Ended bytes) = true
+
+abbrev pub utf8_takes : Utf8 → ℕ → Bool
+utf8_takes x b = is_some (utf8_step x b)
+
+-- between two characters
+abbrev pub is_whole : Utf8 → Bool
+is_whole Start = true
+is_whole (Wants n low high) = false
+
+abbrev pub passes : (ℕ → Bool) → Option ℕ → Bool
+passes p None = false
+passes p (Some h) = p h
+
+abbrev pub shown_takes : ShownState → ℕ → Bool
+shown_takes Quote b = b == 34
+shown_takes (Plain bytes x) b = if b == 34 then is_whole x else
+    (if b == 37 then true else (if is_visible b then utf8_takes x b else false))
+shown_takes (Percent bytes x) b = passes (can_begin x) (unhex b)
+shown_takes (Hex bytes x h) b = passes (λ l. utf8_takes x (h * 16 + l)) (unhex b)
+shown_takes (Done bytes) b = false
+
+abbrev pub shown_ends : ShownState → Bool
+shown_ends Quote = false
+shown_ends (Plain bytes x) = false
+shown_ends (Percent bytes x) = false
+shown_ends (Hex bytes x h) = false
+shown_ends (Done bytes) = true
+
+-- the first bytes of bare items
+abbrev pub bare_begins : Dialect → ℕ → Bool
+bare_begins d b = (b == 45 || number_takes (Whole false 0 0) b) ||
+    (b == 34 ||
+        (is_token_start b ||
+            (b == 63 || ((is_rfc9651 d && b == 64) || (b == 58 || (is_rfc9651 d && b == 37))))))
+
+abbrev pub bare_takes : BareState → ℕ → Bool
+bare_takes (InNumber s) b = number_takes s b
+bare_takes (InText s) b = text_takes s b
+bare_takes (InToken bytes) b = is_token_rest b
+bare_takes (InBoolean s) b = boolean_takes s b
+bare_takes (InDate s) b = date_takes s b
+bare_takes (InBlob s) b = blob_takes s b
+bare_takes (InShown s) b = shown_takes s b
+
+abbrev pub bare_ends : BareState → Bool
+bare_ends (InNumber s) = number_ends s
+bare_ends (InText s) = text_ends s
+bare_ends (InToken bytes) = true
+bare_ends (InBoolean s) = boolean_ends s
+bare_ends (InDate s) = date_ends s
+bare_ends (InBlob s) = blob_ends s
+bare_ends (InShown s) = shown_ends s
+
+abbrev pub params_takes : Dialect → ParamsState → ℕ → Bool
+params_takes d (Between ps) b = b == 59
+params_takes d (Opened ps) b = is_sp b || is_key_start b
+params_takes d (InParamKey ps k) b = is_key_rest b || (b == 61 || b == 59)
+params_takes d (EqualsParam ps k) b = bare_begins d b
+params_takes d (InValue ps k s) b = bare_takes s b || (bare_ends s && b == 59)
+
+abbrev pub params_ends : ParamsState → Bool
+params_ends (Between ps) = true
+params_ends (Opened ps) = false
+params_ends (InParamKey ps k) = true
+params_ends (EqualsParam ps k) = false
+params_ends (InValue ps k s) = bare_ends s
+
+abbrev pub item_takes : Dialect → ItemState → ℕ → Bool
+item_takes d (InBare s) b = bare_takes s b || (bare_ends s && b == 59)
+item_takes d (InParams x s) b = params_takes d s b
+
+abbrev pub item_ends : ItemState → Bool
+item_ends (InBare s) = bare_ends s
+item_ends (InParams x s) = params_ends s
+
+abbrev pub inner_takes : Dialect → InnerState → ℕ → Bool
+inner_takes d (Room is) b = is_sp b || (b == 41 || bare_begins d b)
+inner_takes d (InItem is s) b = item_takes d s b || (item_ends s && (b == 32 || b == 41))
+inner_takes d (Closing is s) b = params_takes d s b
+
+abbrev pub inner_ends : InnerState → Bool
+inner_ends (Room is) = false
+inner_ends (InItem is s) = false
+inner_ends (Closing is s) = params_ends s
+
+abbrev pub member_begins : Dialect → ℕ → Bool
+member_begins d b = bare_begins d b || b == 40
+
+abbrev pub member_takes : Dialect → MemberState → ℕ → Bool
+member_takes d (InOne s) b = item_takes d s b
+member_takes d (InMany s) b = inner_takes d s b
+
+abbrev pub member_ends : MemberState → Bool
+member_ends (InOne s) = item_ends s
+member_ends (InMany s) = inner_ends s
+
+abbrev pub entry_takes : Dialect → EntryState → ℕ → Bool
+entry_takes d (InKey k) b = is_key_rest b || (b == 61 || b == 59)
+entry_takes d (Equals k) b = member_begins d b
+entry_takes d (InMember k s) b = member_takes d s b
+entry_takes d (InFlag k s) b = params_takes d s b
+
+abbrev pub entry_ends : EntryState → Bool
+entry_ends (InKey k) = true
+entry_ends (Equals k) = false
+entry_ends (InMember k s) = member_ends s
+entry_ends (InFlag k s) = params_ends s
+
+abbrev pub series_takes : {S V : Type 0} → (ℕ → Bool) → (S → ℕ → Bool) → (S → Bool)
+    → SeriesState S V → ℕ → Bool
+series_takes begins more ends Begin b = is_sp b || begins b
+series_takes begins more ends (InPiece given s) b = more s b || (ends s && (is_ows b || b == 44))
+series_takes begins more ends (Gap given) b = is_ows b || b == 44
+series_takes begins more ends (Comma given) b = is_ows b || begins b
+
+abbrev pub series_ends : {S V : Type 0} → (S → Bool) → SeriesState S V → Bool
+series_ends ends Begin = true
+series_ends ends (InPiece given s) = ends s
+series_ends ends (Gap given) = true
+series_ends ends (Comma given) = false
+
+abbrev pub takes : Dialect → State → ℕ → Bool
+takes d BeforeItem b = is_sp b || bare_begins d b
+takes d (InTop s) b = item_takes d s b || (item_ends s && is_sp b)
+takes d (AfterItem i) b = is_sp b
+takes d (InList s) b = series_takes (member_begins d) (member_takes d) member_ends s b
+takes d (InDict s) b = series_takes is_key_start (entry_takes d) entry_ends s b
+
+abbrev pub may_end : State → Bool
+may_end BeforeItem = false
+may_end (InTop s) = item_ends s
+may_end (AfterItem i) = true
+may_end (InList s) = series_ends member_ends s
+may_end (InDict s) = series_ends entry_ends s

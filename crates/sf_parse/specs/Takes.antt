@@ -1,0 +1,35 @@
+-- The tests on states, and what they tell of texts.
+use Rattle.std.specs.Prelude.{◌≡◌, ℕ, ◌<◌, ◌↔◌, true, List, [], ◌∷◌, ◌++◌, is_some}
+use Rattle.sf_value.specs.Grammar.Fields.{SpellsField}
+use Rattle.sf_value.specs.Grammar.Lines.{Viable, Next}
+use Rattle.sf_value.specs.declared.dialect.Dialect.{Dialect}
+use Rattle.sf_value.specs.declared.value.Field.{Field}
+use Rattle.sf_value.specs.declared.value.Kind.{Kind}
+use Rattle.sf_parse.specs.declared.state.State.{State}
+use Rattle.sf_parse.specs.Machine.Fields.{step, finish}
+use Rattle.sf_parse.specs.Machine.Takes.{takes, may_end}
+use Rattle.sf_parse.specs.Taking.{Took}
+
+-- the test tells whether the step takes the byte
+abbrev pub TakesStep : Type 0
+TakesStep = (d : Dialect) (s : State) (b : ℕ) → is_some (step d s b) ≡ takes d s b
+
+abbrev pub MayEnd : Type 0
+MayEnd = (s : State) → is_some (finish s) ≡ may_end s
+
+-- and so whether the byte may come, and whether the text may end
+abbrev pub TakesNext : Type 0
+TakesNext = (d : Dialect) (kind : Kind) (s : State) (p : List ℕ) (b : ℕ) → Took d kind s p
+    → Viable d kind (p ++ b ∷ []) ↔ (takes d s b ≡ true)
+
+abbrev pub EndsText : Type 0
+EndsText = (d : Dialect) (kind : Kind) (s : State) (p : List ℕ) → Took d kind s p → ((v : Field)
+    × SpellsField d kind p v) ↔ (may_end s ≡ true)
+
+-- a byte that may come is below 128, and after what was taken some byte may come
+abbrev pub NextBelow : Type 0
+NextBelow = (d : Dialect) (kind : Kind) (p : List ℕ) (b : ℕ) → Viable d kind (p ++ b ∷ []) → b < 128
+
+abbrev pub SomeNext : Type 0
+SomeNext = (d : Dialect) (kind : Kind) (s : State) (p : List ℕ) → Took d kind s p → (b : ℕ)
+    × Next d kind p b

@@ -1,0 +1,80 @@
+-- What is read of a leaf, as a state of the machine: by the phase and the buffers that the code
+-- keeps.
+use Rattle.std.specs.Prelude.{◌≡◌, ℕ, ◌^◌, ◌<◌, ◌≤◌, Bool, true, false, List, Option, Some, None}
+use Rattle.sf_value.specs.Grammar.Utf8.{Utf8, Start, Wants}
+use Rattle.sf_parse.specs.Machine.Numbers.{NumberState, Whole, Fraction, DateState, Digits, Sign}
+use Rattle.sf_parse.specs.Machine.Numbers.{Counted}
+use Rattle.sf_parse.specs.Machine.Texts.{TextState, Inside, Escaped, Closed}
+use Rattle.sf_parse.specs.Machine.Blobs.{BlobState, Group, Padded, Ended}
+use Rattle.sf_parse.specs.Machine.Blobs as machine
+use Rattle.sf_parse.specs.Machine.Showns.{ShownState, Quote, Plain, Percent, Hex, Done}
+use Rattle.sf_parse.specs.declared.text.TextPhase.{TextPhase}
+use Rattle.sf_parse.specs.declared.text.TextPhase.TheVariants as text_phase
+use Rattle.sf_parse.specs.declared.blob.Held.{Held}
+use Rattle.sf_parse.specs.declared.blob.Held.TheVariants as held
+use Rattle.sf_parse.specs.declared.blob.BlobPhase.{BlobPhase}
+use Rattle.sf_parse.specs.declared.blob.BlobPhase.TheVariants as blob_phase
+use Rattle.sf_parse.specs.declared.shown.Utf8State.{Utf8State}
+use Rattle.sf_parse.specs.declared.shown.Utf8State.TheVariants as utf8
+use Rattle.sf_parse.specs.declared.shown.ShownPhase.{ShownPhase}
+use Rattle.sf_parse.specs.declared.shown.ShownPhase.TheVariants as shown_phase
+
+abbrev pub number_of : Bool → Option ℕ → ℕ → ℕ → NumberState
+number_of negative None digits value = Whole negative digits value
+number_of negative (Some whole) digits value = Fraction negative whole digits value
+
+-- so many digits have this value
+abbrev pub FitsNumber : Option ℕ → ℕ → ℕ → Type 0
+FitsNumber None digits value = Counted 15 digits value
+FitsNumber (Some whole) digits value = Counted 3 digits value × (whole < 10 ^ 12)
+
+abbrev pub date_of : Bool → Bool → ℕ → ℕ → DateState
+date_of false negative digits value = Sign
+date_of true negative digits value = Digits negative digits value
+
+abbrev pub FitsDigits : ℕ → ℕ → Type 0
+FitsDigits digits value = Counted 15 digits value
+
+abbrev pub text_of : TextPhase → List ℕ → TextState
+text_of text_phase.Inside bytes = Inside bytes
+text_of text_phase.Escaped bytes = Escaped bytes
+text_of text_phase.Closed bytes = Closed bytes
+
+abbrev pub held_of : Held → machine.Held
+held_of held.H0 = machine.H0
+held_of (held.H1 x) = machine.H1 x
+held_of (held.H2 x y) = machine.H2 x y
+held_of (held.H3 x y z) = machine.H3 x y z
+
+abbrev pub blob_of : BlobPhase → List ℕ → BlobState
+blob_of (blob_phase.Group h) bytes = Group bytes (held_of h)
+blob_of (blob_phase.Padded more) bytes = Padded bytes more
+blob_of blob_phase.Ended bytes = Ended bytes
+
+-- the values of characters are below 64
+abbrev pub FitsHeld : Held → Type 0
+FitsHeld held.H0 = Unit {0}
+FitsHeld (held.H1 x) = x < 64
+FitsHeld (held.H2 x y) = (x < 64) × (y < 64)
+FitsHeld (held.H3 x y z) = (x < 64) × (y < 64) × (z < 64)
+
+abbrev pub FitsBlob : BlobPhase → Type 0
+FitsBlob (blob_phase.Group h) = FitsHeld h
+FitsBlob (blob_phase.Padded more) = Unit {0}
+FitsBlob blob_phase.Ended = Unit {0}
+
+abbrev pub utf8_of : Utf8State → Utf8
+utf8_of utf8.Start = Start
+utf8_of (utf8.Wants more low high) = Wants more low high
+
+abbrev pub shown_of : ShownPhase → List ℕ → Utf8State → ShownState
+shown_of shown_phase.Quote bytes chars = Quote
+shown_of shown_phase.Plain bytes chars = Plain bytes (utf8_of chars)
+shown_of shown_phase.Percent bytes chars = Percent bytes (utf8_of chars)
+shown_of (shown_phase.Hex high) bytes chars = Hex bytes (utf8_of chars) high
+shown_of shown_phase.Done bytes chars = Done bytes
+
+-- the digits of an escape are below 16
+abbrev pub FitsShown : ShownPhase → List ℕ → Utf8State → Type 0
+FitsShown (shown_phase.Hex high) bytes chars = high < 16
+FitsShown phase bytes chars = Unit {0}

@@ -1,0 +1,65 @@
+//! The laws of the grammar that follow from its machine, each as the contract of a function that
+//! does nothing. They hold in both dialects.
+ghost use Rattle.sf_parse.specs.Laws.{OneValue, IsRead, IsRest, IsViable, IsNext, IsEnd, StopsAt, CanonOne, AnyPieces, OnlyNew, LinesOne};
+ghost use Rattle.sf_parse.specs.Taking.{TookNothing, TakesMore, TookViable, TookNext, TookEnd, TookStops, TookAll};
+ghost use Rattle.sf_parse.specs.Takes.{TakesStep, MayEnd, TakesNext, EndsText, NextBelow, SomeNext};
+
+/// A text spells at most one value of a kind; valid values with one canonical text are one; lines
+/// that are accepted have one value, and its canonical text as the only line is accepted as that
+/// value.
+pub fn one_value()
+    ensures one { OneValue }
+    ensures canon { CanonOne }
+    ensures lines { LinesOne }
+{
+}
+
+/// The machine reads the grammar: its value is the one that the text spells; what completes a state
+/// completes the bytes that led to it; the outcome hangs on the joined pieces alone.
+pub fn machine_reads()
+    ensures read { IsRead }
+    ensures rest { IsRest }
+    ensures pieces { AnyPieces }
+{
+}
+
+/// A front of a text is viable exactly if the machine is not stuck on it; the bytes that may come
+/// next are those that the step takes; where it takes no further one, there the refusal stands.
+pub fn refusals_are_exact()
+    ensures viable { IsViable }
+    ensures next { IsNext }
+    ensures end { IsEnd }
+    ensures place { StopsAt }
+{
+}
+
+/// A text that spells a value in RFC 9651 and none in RFC 8941 has `@` or `%` at its place in
+/// RFC 8941.
+pub fn only_new_types_differ()
+    ensures { OnlyNew }
+{
+}
+
+/// What a state says of the bytes that a parser took, however it came about.
+pub fn what_was_taken()
+    ensures nothing { TookNothing }
+    ensures more { TakesMore }
+    ensures viable { TookViable }
+    ensures next { TookNext }
+    ensures end { TookEnd }
+    ensures stops { TookStops }
+    ensures all { TookAll }
+{
+}
+
+/// The tests on a state tell which bytes may come next and whether the text may end; those bytes
+/// are below 128, and there is always one.
+pub fn what_may_follow()
+    ensures step { TakesStep }
+    ensures finish { MayEnd }
+    ensures next { TakesNext }
+    ensures end { EndsText }
+    ensures below { NextBelow }
+    ensures some { SomeNext }
+{
+}
