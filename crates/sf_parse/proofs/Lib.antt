@@ -1,4 +1,6 @@
 pub mod Letters
+pub mod Numerals
+pub mod Leading
 pub mod Language
 pub mod Classes
 pub mod Machines

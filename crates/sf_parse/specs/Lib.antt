@@ -4,6 +4,7 @@ pub mod Taking
 pub mod Takes
 pub mod Machine
 pub mod Views
+pub mod Plain
 pub mod ParamsView
 pub mod InnerView
 pub mod ListView

@@ -1,9 +1,10 @@
 -- What is read of a leaf, as a state of the machine: by the phase and the buffers that the code
 -- keeps.
-use Rattle.std.specs.Prelude.{◌≡◌, ℕ, ◌^◌, ◌<◌, ◌≤◌, Bool, true, false, List, Option, Some, None}
-use Rattle.sf_value.specs.Grammar.Utf8.{Utf8, Start, Wants}
+use Rattle.std.specs.Prelude.{◌≡◌, ℕ, ◌^◌, ◌<◌, ◌≤◌, Bool, true, false, List, [], Option}
+use Rattle.std.specs.Prelude.{Some, None}
+use Rattle.sf_value.specs.Grammar.Utf8.{Utf8, Start, Wants, utf8_step}
+use Rattle.sf_parse.specs.Machine.Language.{run}
 use Rattle.sf_parse.specs.Machine.Numbers.{NumberState, Whole, Fraction, DateState, Digits, Sign}
-use Rattle.sf_parse.specs.Machine.Numbers.{Counted}
 use Rattle.sf_parse.specs.Machine.Texts.{TextState, Inside, Escaped, Closed}
 use Rattle.sf_parse.specs.Machine.Blobs.{BlobState, Group, Padded, Ended}
 use Rattle.sf_parse.specs.Machine.Blobs as machine
@@ -23,17 +24,27 @@ abbrev pub number_of : Bool → Option ℕ → ℕ → ℕ → NumberState
 number_of negative None digits value = Whole negative digits value
 number_of negative (Some whole) digits value = Fraction negative whole digits value
 
--- so many digits have this value
+-- a whole part before so many digits of a fraction
+abbrev pub FitsWhole : Option ℕ → ℕ → Type 0
+FitsWhole None digits = Unit {0}
+FitsWhole (Some whole) digits = (digits ≤ 3) × (whole < 10 ^ 12)
+
+-- so many digits bound the value
 abbrev pub FitsNumber : Option ℕ → ℕ → ℕ → Type 0
-FitsNumber None digits value = Counted 15 digits value
-FitsNumber (Some whole) digits value = Counted 3 digits value × (whole < 10 ^ 12)
+FitsNumber whole digits value = (digits ≤ 15) × (value < 10 ^ digits) × FitsWhole whole digits
 
 abbrev pub date_of : Bool → Bool → ℕ → ℕ → DateState
 date_of false negative digits value = Sign
 date_of true negative digits value = Digits negative digits value
 
-abbrev pub FitsDigits : ℕ → ℕ → Type 0
-FitsDigits digits value = Counted 15 digits value
+-- before the sign there is none, and no digit
+abbrev pub FitsSign : Bool → Bool → ℕ → Type 0
+FitsSign false negative digits = (negative ≡ false) × (digits ≡ 0)
+FitsSign true negative digits = Unit {0}
+
+abbrev pub FitsDate : Bool → Bool → ℕ → ℕ → Type 0
+FitsDate begun negative digits value =
+    (digits ≤ 15) × (value < 10 ^ digits) × FitsSign begun negative digits
 
 abbrev pub text_of : TextPhase → List ℕ → TextState
 text_of text_phase.Inside bytes = Inside bytes
@@ -74,7 +85,17 @@ shown_of shown_phase.Percent bytes chars = Percent bytes (utf8_of chars)
 shown_of (shown_phase.Hex high) bytes chars = Hex bytes (utf8_of chars) high
 shown_of shown_phase.Done bytes chars = Done bytes
 
--- the digits of an escape are below 16
+-- the bytes lead from the start to this place in a character
+abbrev pub Leads : List ℕ → Utf8 → Type 0
+Leads bytes x = run utf8_step Start bytes ≡ Some x
+
+-- nothing is read before the quote; a digit of an escape is below 16; whole characters at the end
+abbrev pub FitsPhase : ShownPhase → List ℕ → Utf8State → Type 0
+FitsPhase shown_phase.Quote bytes chars = (bytes ≡ []) × (chars ≡ utf8.Start)
+FitsPhase shown_phase.Plain bytes chars = Unit {0}
+FitsPhase shown_phase.Percent bytes chars = Unit {0}
+FitsPhase (shown_phase.Hex high) bytes chars = high < 16
+FitsPhase shown_phase.Done bytes chars = chars ≡ utf8.Start
+
 abbrev pub FitsShown : ShownPhase → List ℕ → Utf8State → Type 0
-FitsShown (shown_phase.Hex high) bytes chars = high < 16
-FitsShown phase bytes chars = Unit {0}
+FitsShown phase bytes chars = Leads bytes (utf8_of chars) × FitsPhase phase bytes chars

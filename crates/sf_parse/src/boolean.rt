@@ -1,4 +1,8 @@
 //! A Boolean that is being read (RFC 9651 section 4.2.8).
+ghost use Rattle.std.specs.Prelude.{◌≡◌};
+ghost use Rattle.sf_parse.specs.Machine.Language.{Steps};
+ghost use Rattle.sf_parse.specs.Machine.Texts.{boolean_step, boolean_finish};
+ghost use Rattle.sf_parse.specs.Machine.Takes.{boolean_takes, boolean_ends};
 
 /// What was read of a boolean.
 #[derive(Clone, Copy, Debug, PartialEq, Eq)]
@@ -7,4 +11,45 @@ pub enum BooleanState {
     Asked,
     /// Behind the digit.
     Told(bool),
+}
+
+impl BooleanState {
+    /// Takes one more byte, or tells that the boolean can't go on with it and stays as it is.
+    pub fn step(&mut self, byte: u8) -> bool
+        ensures { Steps result (boolean_step self.old byte) self.old self.new }
+    {
+        match (*self, byte) {
+            (BooleanState::Asked, b'0') => *self = BooleanState::Told(false),
+            (BooleanState::Asked, b'1') => *self = BooleanState::Told(true),
+            _ => return false,
+        }
+        true
+    }
+
+    /// Whether the boolean can go on with this byte.
+    pub fn takes(self, byte: u8) -> bool
+        ensures { result ≡ boolean_takes self byte }
+    {
+        match self {
+            BooleanState::Asked => byte == b'0' || byte == b'1',
+            BooleanState::Told(_) => false,
+        }
+    }
+
+    /// Whether it is a boolean already.
+    pub fn may_end(self) -> bool
+        ensures { result ≡ boolean_ends self }
+    {
+        matches!(self, BooleanState::Told(_))
+    }
+
+    /// The boolean, if it is whole.
+    pub fn finish(self) -> Option<bool>
+        ensures { result ≡ boolean_finish self }
+    {
+        match self {
+            BooleanState::Asked => None,
+            BooleanState::Told(holds) => Some(holds),
+        }
+    }
 }

@@ -1,5 +1,11 @@
 //! A Date that is being read (RFC 9651 section 4.2.9).
+ghost use Rattle.std.specs.Prelude.{◌≡◌};
+ghost use Rattle.sf_parse.specs.Machine.Language.{Steps};
+ghost use Rattle.sf_parse.specs.Machine.Numbers.{Sign, date_step, date_finish};
+ghost use Rattle.sf_parse.specs.Machine.Takes.{date_takes, date_ends};
 
+use crate::number::with_sign;
+use sf_value::Int;
 use std::marker::Model;
 
 /// What was read of a date behind its `@`: the sign, and the digits.
@@ -16,9 +22,67 @@ impl Model for DateReader {
 
     ghost Value = { DateState };
 
-    ghost use Rattle.sf_parse.specs.Views.{date_of, FitsDigits};
+    ghost use Rattle.sf_parse.specs.Views.{date_of, FitsDate};
 
     ghost view = { λ n. date_of n.begun n.negative n.digits n.value };
 
-    ghost invariant = { λ n. FitsDigits n.digits n.value };
+    ghost invariant = { λ n. FitsDate n.begun n.negative n.digits n.value };
+}
+
+impl DateReader {
+    /// Behind the `@`.
+    pub fn open() -> DateReader
+        ensures { result ≡ Sign }
+    {
+        DateReader {
+            begun: false,
+            negative: false,
+            digits: 0,
+            value: 0,
+        }
+    }
+
+    /// Takes one more byte, or tells that the date can't go on with it and stays as it is.
+    #[tactic(auto, using(crate::proofs::Numerals::room, crate::proofs::Numerals::next_digit))]
+    pub fn step(&mut self, byte: u8) -> bool
+        ensures { Steps result (date_step self.old byte) self.old self.new }
+    {
+        if !self.begun && byte == b'-' {
+            self.begun = true;
+            self.negative = true;
+            return true;
+        }
+        if !byte.is_ascii_digit() || self.digits >= 15 {
+            return false;
+        }
+        self.begun = true;
+        self.value = 10 * self.value + u64::from(byte - b'0');
+        self.digits += 1;
+        true
+    }
+
+    /// Whether the date can go on with this byte.
+    pub fn takes(&self, byte: u8) -> bool
+        ensures { result ≡ date_takes self.now byte }
+    {
+        !self.begun && byte == b'-' || byte.is_ascii_digit() && self.digits < 15
+    }
+
+    /// Whether it is a date already.
+    pub fn may_end(&self) -> bool
+        ensures { result ≡ date_ends self.now }
+    {
+        self.digits >= 1
+    }
+
+    /// The date, if it is one already.
+    #[tactic(auto, using(crate::proofs::Numerals::short))]
+    pub fn finish(&self) -> Option<Int>
+        ensures { result ≡ date_finish self.now }
+    {
+        if self.digits == 0 {
+            return None;
+        }
+        Int::new(with_sign(self.negative, self.value)).ok()
+    }
 }

@@ -5,6 +5,7 @@
 mod bare;
 mod blob;
 mod boolean;
+mod context;
 mod date;
 mod dict;
 mod entry;

@@ -1,5 +1,11 @@
 //! A number that is being read (RFC 9651 section 4.2.4).
+ghost use Rattle.std.specs.Prelude.{◌≡◌, ◌≤◌, ◌<◌, ◌^◌, nat_abs};
+ghost use Rattle.sf_value.specs.Grammar.Numbers.{signed};
+ghost use Rattle.sf_parse.specs.Machine.Language.{Steps};
+ghost use Rattle.sf_parse.specs.Machine.Numbers.{number_start, number_step, number_finish};
+ghost use Rattle.sf_parse.specs.Machine.Takes.{number_takes, number_ends};
 
+use sf_value::{Bare, Int, Thousandths};
 use std::marker::Model;
 
 /// What was read of a number: the digits of its whole part, or, once the point came, those of its
@@ -22,4 +28,117 @@ impl Model for NumberReader {
     ghost view = { λ n. number_of n.negative n.whole n.digits n.value };
 
     ghost invariant = { λ n. FitsNumber n.whole n.digits n.value };
+}
+
+/// The number with its sign.
+pub fn with_sign(negative: bool, value: u64) -> i64
+    requires { value ≤ 999999999999999 }
+    ensures value { result ≡ signed negative value }
+    ensures short { nat_abs result < 10 ^ 15 }
+{
+    if negative { -(value as i64) } else { value as i64 }
+}
+
+impl NumberReader {
+    /// The number that begins with this byte.
+    pub fn start(byte: u8) -> Option<NumberReader>
+        ensures { result ≡ number_start byte }
+    {
+        match byte {
+            b'-' => Some(NumberReader {
+                negative: true,
+                whole: None,
+                digits: 0,
+                value: 0,
+            }),
+            b'0'..=b'9' => Some(NumberReader {
+                negative: false,
+                whole: None,
+                digits: 1,
+                value: u64::from(byte - b'0'),
+            }),
+            _ => None,
+        }
+    }
+
+    /// Takes one more byte, or tells that the number can't go on with it and stays as it is.
+    #[tactic(auto, using(crate::proofs::Numerals::room, crate::proofs::Numerals::whole_fits, crate::proofs::Numerals::next_digit))]
+    pub fn step(&mut self, byte: u8) -> bool
+        ensures { Steps result (number_step self.old byte) self.old self.new }
+    {
+        match self.whole {
+            None => {
+                if byte.is_ascii_digit() {
+                    if self.digits >= 15 {
+                        return false;
+                    }
+                    self.value = 10 * self.value + u64::from(byte - b'0');
+                    self.digits += 1;
+                } else {
+                    if byte != b'.' || self.digits == 0 || self.digits > 12 {
+                        return false;
+                    }
+                    self.whole = Some(self.value);
+                    self.value = 0;
+                    self.digits = 0;
+                }
+            }
+            Some(_) => {
+                if !byte.is_ascii_digit() || self.digits >= 3 {
+                    return false;
+                }
+                self.value = 10 * self.value + u64::from(byte - b'0');
+                self.digits += 1;
+            }
+        }
+        true
+    }
+
+    /// Whether the number can go on with this byte.
+    pub fn takes(&self, byte: u8) -> bool
+        ensures { result ≡ number_takes self.now byte }
+    {
+        match self.whole {
+            None => {
+                byte.is_ascii_digit() && self.digits < 15
+                    || byte == b'.' && self.digits >= 1 && self.digits <= 12
+            }
+            Some(_) => byte.is_ascii_digit() && self.digits < 3,
+        }
+    }
+
+    /// Whether it is a number already.
+    pub fn may_end(&self) -> bool
+        ensures { result ≡ number_ends self.now }
+    {
+        self.digits >= 1
+    }
+
+    /// The number, if it is one already.
+    #[tactic(auto, using(crate::proofs::Numerals::short))]
+    pub fn finish(&self) -> Option<Bare>
+        ensures { result ≡ number_finish self.now }
+    {
+        if self.digits == 0 {
+            return None;
+        }
+        match self.whole {
+            None => match Int::new(with_sign(self.negative, self.value)) {
+                Ok(number) => Some(Bare::Integer(number)),
+                Err(_) => None,
+            },
+            Some(whole) => {
+                let scale = match self.digits {
+                    1 => 100,
+                    2 => 10,
+                    _ => 1,
+                };
+                let thousandths = whole * 1000 + self.value * scale;
+                match Thousandths::new(with_sign(self.negative, thousandths)) {
+                    Ok(number) => Some(Bare::Decimal(number)),
+                    Err(_) => None,
+                }
+            }
+        }
+    }
 }

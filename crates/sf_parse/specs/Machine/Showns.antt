@@ -51,6 +51,14 @@ GoodShown (Percent bytes x) = GoodUtf8 x
 GoodShown (Hex bytes x h) = GoodUtf8 x × (h < 16) × (can_begin x h ≡ true)
 GoodShown (Done bytes) = Unit {0}
 
+-- one more byte of the text
+abbrev pub pushed : ShownState → ℕ → Option ShownState
+pushed Quote b = None
+pushed (Plain bytes x) b = seen (Plain (bytes ++ b ∷ [])) (utf8_step x b)
+pushed (Percent bytes x) b = seen (Plain (bytes ++ b ∷ [])) (utf8_step x b)
+pushed (Hex bytes x h) b = seen (Plain (bytes ++ b ∷ [])) (utf8_step x b)
+pushed (Done bytes) b = None
+
 abbrev pub quote_step : List ℕ → Utf8 → Option ShownState
 quote_step bytes Start = Some (Done bytes)
 quote_step bytes (Wants n low high) = None

@@ -1,0 +1,25 @@
+-- The states of spaces and numbers, which take no memory.
+use Rattle.std.specs.Prelude.{◌≡◌, ℕ, Bool, ◌==◌, ◌||◌, ⊤}
+use Rattle.sf_value.specs.Grammar.Classes.{is_sp, is_digit}
+use Rattle.sf_parse.specs.declared.bare.BareState.{BareState}
+use Rattle.sf_parse.specs.declared.bare.BareState.TheVariants.{InNumber, InText, InToken, InBoolean}
+use Rattle.sf_parse.specs.declared.bare.BareState.TheVariants.{InDate, InBlob, InShown}
+use Rattle.sf_parse.specs.declared.item.ItemState.{ItemState}
+use Rattle.sf_parse.specs.declared.item.ItemState.TheVariants.{InBare, InParams}
+
+-- a space, a minus sign or a digit
+abbrev pub plain_byte : ℕ → Bool
+plain_byte b = is_sp b || b == 45 || is_digit b
+
+abbrev pub PlainBare : BareState → Type 0
+PlainBare (InNumber s) = ⊤
+PlainBare (InText s) = ⊥
+PlainBare (InToken s) = ⊥
+PlainBare (InBoolean s) = ⊥
+PlainBare (InDate s) = ⊥
+PlainBare (InBlob s) = ⊥
+PlainBare (InShown s) = ⊥
+
+abbrev pub PlainItem : ItemState → Type 0
+PlainItem (InBare s) = PlainBare s
+PlainItem (InParams x s) = ⊥
