@@ -63,19 +63,26 @@ one_digit n h = record { each = (digit_is n h, tt); value = omega arith; some = 
 more_digits : (n : ℕ) (w : List ℕ) → 10 ≤ n → Numeral (n / 10) w
     → Numeral n (w ++ ((48 + n % 10) ∷ []))
 more_digits n w h k = record {
-    each = every_push is_digit w (48 + n % 10) k.each (digit_is (n % 10) (omega arith));
-    value = value_push 0 w (48 + n % 10) ∙ ap (λ y. 10 * y + (48 + n % 10 - 48)) k.value
-        ∙ (let e : 10 * (n / 10) + (48 + n % 10 - 48) ≡ n = omega arith in e);
-    some = omega (arith, length-append w ((48 + n % 10) ∷ [])) }
+  each = every_push is_digit w (48 + n % 10) k.each (digit_is (n % 10) (omega arith));
+  value = value_push 0 w (48 + n % 10) ∙ ap (λ y. 10 * y + (48 + n % 10 - 48)) k.value
+      ∙ (let e : 10 * (n / 10) + (48 + n % 10 - 48) ≡ n = omega arith in e);
+  some = omega (arith, length-append w ((48 + n % 10) ∷ []));
+}
 
 numeral : (n : ℕ) → n < 2 ^ 64 → Numeral n (decimal n)
 numeral = decimal_by_steps Numeral one_digit more_digits
 
 digits : (n k : ℕ) → n < 10 ^ k → n < 2 ^ 64 → 1 ≤ k → AreDigits 1 k 0 (decimal n)
 digits n k h s l = let d = numeral n s in
-    record { each = d.each; enough = omega (arith,
-        d.some); fits = let e = length-decimal-le k n l h s in
-        omega arith }
+    record {
+      each = d.each;
+      enough = omega (
+        arith,
+        d.some,
+      );
+      fits = let e = length-decimal-le k n l h s in
+          omega arith;
+    }
 
 small : (n k : ℕ) → n < 10 ^ 15 → n < 2 ^ 64
 small n k h = omega arith
@@ -83,9 +90,13 @@ small n k h = omega arith
 canon_integer : (n : ℤ) → nat_abs n < 10 ^ 15 → SpellsInteger (signed_decimal n) n
 canon_integer (pos n) h = let s = small n 0 h in
     (false, decimal n, refl, digits n 15 h s (omega arith), ap pos (sym (numeral n s).value))
-canon_integer (negsuc n) h = let s = small (suc n) 0 h in
-    (true, decimal (suc n), refl, digits (suc n) 15 h s (omega arith),
-        ap (signed true) (sym (numeral (suc n) s).value))
+canon_integer (negsuc n) h = let s = small (suc n) 0 h in (
+  true,
+  decimal (suc n),
+  refl,
+  digits (suc n) 15 h s (omega arith),
+  ap (signed true) (sym (numeral (suc n) s).value),
+)
 
 -- the digits behind the point
 record Fraction (f : ℕ) (w : List ℕ) : Type 0 where
@@ -93,20 +104,53 @@ record Fraction (f : ℕ) (w : List ℕ) : Type 0 where
   value : value_from 0 w * 10 ^ (3 - length w) ≡ f
 
 one_place : (f : ℕ) → f < 1000 → f % 100 ≡ 0 → Fraction f ((48 + f / 100) ∷ [])
-one_place f h e = record { digits = record { each = (digit_is (f / 100) (omega arith),
-    tt); enough = omega arith; fits = omega arith }; value = omega arith }
+one_place f h e = record {
+  digits = record {
+    each = (
+      digit_is (f / 100) (omega arith),
+      tt,
+    );
+    enough = omega arith;
+    fits = omega arith;
+  };
+  value = omega arith;
+}
 
 two_places : (f : ℕ) → f < 1000 → f % 10 ≡ 0 → Fraction f ((48 + f / 100) ∷ (48 + f / 10 % 10) ∷ [])
-two_places f h e = record { digits = record { each = (digit_is (f / 100) (omega arith),
-    (digit_is (f / 10 % 10) (omega arith),
-        tt)); enough = omega arith; fits = omega arith }; value = omega arith }
+two_places f h e = record {
+  digits = record {
+    each = (
+      digit_is (f / 100) (omega arith),
+      (
+        digit_is (f / 10 % 10) (omega arith),
+        tt,
+      ),
+    );
+    enough = omega arith;
+    fits = omega arith;
+  };
+  value = omega arith;
+}
 
 three_places : (f : ℕ) → f < 1000
     → Fraction f ((48 + f / 100) ∷ (48 + f / 10 % 10) ∷ (48 + f % 10) ∷ [])
-three_places f h = record { digits = record { each = (digit_is (f / 100) (omega arith),
-    (digit_is (f / 10 % 10) (omega arith),
-        (digit_is (f % 10) (omega arith),
-            tt))); enough = omega arith; fits = omega arith }; value = omega arith }
+three_places f h = record {
+  digits = record {
+    each = (
+      digit_is (f / 100) (omega arith),
+      (
+        digit_is (f / 10 % 10) (omega arith),
+        (
+          digit_is (f % 10) (omega arith),
+          tt,
+        ),
+      ),
+    );
+    enough = omega arith;
+    fits = omega arith;
+  };
+  value = omega arith;
+}
 
 fraction_is : (f : ℕ) → f < 1000 → Fraction f (fraction f)
 fraction_is f h = go (f % 100 == 0) (f % 10 == 0) refl refl
@@ -122,16 +166,22 @@ sign_mag (negsuc n) = refl
 
 canon_dec : (m : ℤ) → nat_abs m < 10 ^ 15 → SpellsDecimal (canon_decimal m) m
 canon_dec m h =
-  let q = nat_abs m / 1000 in
-  let f = nat_abs m % 1000 in
-  let hq : q < 10 ^ 12 = omega arith in
-  let hs : q < 2 ^ 64 = omega arith in
-  let k = fraction_is f (omega arith) in
-  let n = numeral q hs in
-  let e : nat_abs m ≡ q * 1000 + f = omega arith in
-  (is_negative m, decimal q, fraction f, refl, digits q 12 hq hs (omega arith), k.digits,
-    sign_mag m
-        ∙ ap (signed (is_negative m)) (e ∙ ap₂ (λ x y. x * 1000 + y) (sym n.value) (sym k.value)))
+    let q = nat_abs m / 1000 in
+    let f = nat_abs m % 1000 in
+    let hq : q < 10 ^ 12 = omega arith in
+    let hs : q < 2 ^ 64 = omega arith in
+    let k = fraction_is f (omega arith) in
+    let n = numeral q hs in
+    let e : nat_abs m ≡ q * 1000 + f = omega arith in (
+      is_negative m,
+      decimal q,
+      fraction f,
+      refl,
+      digits q 12 hq hs (omega arith),
+      k.digits,
+      sign_mag m
+          ∙ ap (signed (is_negative m)) (e ∙ ap₂ (λ x y. x * 1000 + y) (sym n.value) (sym k.value)),
+    )
 
 shown_pieces : (s : List ℕ) → Every is_byte s → Pieces (canon_shown s) s
 shown_pieces [] h = refl
@@ -151,15 +201,30 @@ zero_spare (a ∷ b ∷ c ∷ s) = zero_spare s
 commas_canon : {X : Type 0} (P : List ℕ → X → Type 0) (f : X → List ℕ) (xs : List X)
     → Each (λ x. P (f x) x) xs → SpellsCommas P (canon_commas f xs) xs
 commas_canon P f [] h = refl
-commas_canon P f (x ∷ xs) h = ([], 32 ∷ [], f x, canon_commas f xs, refl, tt, (refl, tt), h.0,
-    commas_canon P f xs h.1)
+commas_canon P f (x ∷ xs) h = (
+  [],
+  32 ∷ [],
+  f x,
+  canon_commas f xs,
+  refl,
+  tt,
+  (refl, tt),
+  h.0,
+  commas_canon P f xs h.1,
+)
 
 whole_canon : {X : Type 0} (P : List ℕ → X → Type 0) (f : X → List ℕ) (xs : List X)
     → Each (λ x. P (f x) x) xs → SpellsWhole P (canon_series f xs) xs
 whole_canon P f [] h = tt
-whole_canon P f (x ∷ xs) h = ([], canon_series f (x ∷ xs), [],
-    sym (append-nil (canon_series f (x ∷ xs))), tt,
-    (f x, canon_commas f xs, refl, h.0, commas_canon P f xs h.1), tt)
+whole_canon P f (x ∷ xs) h = (
+  [],
+  canon_series f (x ∷ xs),
+  [],
+  sym (append-nil (canon_series f (x ∷ xs))),
+  tt,
+  (f x, canon_commas f xs, refl, h.0, commas_canon P f xs h.1),
+  tt,
+)
 
 each_map : {X : Type 0} (P Q : X → Type 0) → ((x : X) → P x → Q x) → (xs : List X) → Each P xs
     → Each Q xs
@@ -172,17 +237,29 @@ module _ (d : Dialect) where
   bare_canon (Decimal m) h = canon_dec m h
   bare_canon (Text s) h = (refl, h)
   bare_canon (Token s) h = (refl, h)
-  bare_canon (Blob s) h = (unpadded 0 s ++ (replicate (needed s) 61 ++ 58 ∷ []), refl,
-      (0, replicate (needed s) 61 ++ 58 ∷ [], zero_spare s, refl, h,
-          (needed s, le_refl (needed s), refl)))
+  bare_canon (Blob s) h = (
+    unpadded 0 s ++ (replicate (needed s) 61 ++ 58 ∷ []),
+    refl,
+    (
+      0,
+      replicate (needed s) 61 ++ 58 ∷ [],
+      zero_spare s,
+      refl,
+      h,
+      (needed s, le_refl (needed s), refl),
+    ),
+  )
   bare_canon (Boolean b) h = refl
   bare_canon (Date n) h = (h.0, (signed_decimal n, refl, canon_integer n h.1))
   bare_canon (Shown s) h = (h.0, (canon_shown s, refl, shown_pieces s h.2, h.1))
 
   value_canon : (x : Bare) → ValidBare d x → SpellsValue d (canon_value x) x
   value_canon (Boolean true) h = inl (refl, refl)
-  value_canon (Boolean false) h = inr (canon_bare (Boolean false), refl,
-      bare_canon (Boolean false) h)
+  value_canon (Boolean false) h = inr (
+    canon_bare (Boolean false),
+    refl,
+    bare_canon (Boolean false) h,
+  )
   value_canon (Integer n) h = inr (canon_bare (Integer n), refl, bare_canon (Integer n) h)
   value_canon (Decimal m) h = inr (canon_bare (Decimal m), refl, bare_canon (Decimal m) h)
   value_canon (Text s) h = inr (canon_bare (Text s), refl, bare_canon (Text s) h)
@@ -194,31 +271,61 @@ module _ (d : Dialect) where
   raw_canon : (ps : Pairs Bare) → Each (λ p. IsKey p.0 × ValidBare d p.1) ps
       → SpellsRaw d (canon_params ps) ps
   raw_canon [] h = refl
-  raw_canon (p ∷ ps) h = (59 ∷ (p.0 ++ canon_value p.1), canon_params ps,
-      ap (λ y. 59 ∷ y) (sym (append_assoc p.0 (canon_value p.1) (canon_params ps))),
-      ([], canon_value p.1, refl, tt, h.0.0, value_canon p.1 h.0.1), raw_canon ps h.1)
+  raw_canon (p ∷ ps) h = (
+    59 ∷ (p.0 ++ canon_value p.1),
+    canon_params ps,
+    ap (λ y. 59 ∷ y) (sym (append_assoc p.0 (canon_value p.1) (canon_params ps))),
+    ([], canon_value p.1, refl, tt, h.0.0, value_canon p.1 h.0.1),
+    raw_canon ps h.1,
+  )
 
   params_canon : (ps : Pairs Bare) → ValidParams d ps → SpellsParams d (canon_params ps) ps
   params_canon ps h = (ps, sym (settle-distinct ps h.1), raw_canon ps h.0)
 
   item_canon : (i : Item) → ValidItem d i → SpellsItem d (canon_item i) i
-  item_canon i h = (canon_bare i.bare, canon_params i.params, refl, bare_canon i.bare h.0,
-      params_canon i.params h.1)
+  item_canon i h = (
+    canon_bare i.bare,
+    canon_params i.params,
+    refl,
+    bare_canon i.bare h.0,
+    params_canon i.params h.1,
+  )
 
   more_canon : (is : List Item) → Each (ValidItem d) is → SpellsItems d 1 (canon_more is) is
   more_canon [] h = tt
-  more_canon (i ∷ is) h = (32 ∷ [], canon_item i, canon_more is, refl, (refl, tt), le_refl 1,
-      item_canon i h.0, more_canon is h.1)
+  more_canon (i ∷ is) h = (
+    32 ∷ [],
+    canon_item i,
+    canon_more is,
+    refl,
+    (refl, tt),
+    le_refl 1,
+    item_canon i h.0,
+    more_canon is h.1,
+  )
 
   items_canon : (is : List Item) → Each (ValidItem d) is → SpellsItems d 0 (canon_items is) is
   items_canon [] h = tt
-  items_canon (i ∷ is) h = ([], canon_item i, canon_more is, refl, tt, omega arith,
-      item_canon i h.0, more_canon is h.1)
+  items_canon (i ∷ is) h = (
+    [],
+    canon_item i,
+    canon_more is,
+    refl,
+    tt,
+    omega arith,
+    item_canon i h.0,
+    more_canon is h.1,
+  )
 
   inner_canon : (l : Inner) → Each (ValidItem d) l.items → ValidParams d l.params
       → SpellsInner d (canon_inner l) l
-  inner_canon l h k = (canon_items l.items, canon_params l.params, refl, items_canon l.items h,
-      params_canon l.params k)
+  inner_canon l h k = (
+    canon_items l.items,
+    canon_params l.params,
+    refl,
+    items_canon l.items h,
+    params_canon l.params k,
+  )
 
   pub member_canon : (m : Member) → ValidMember d m → SpellsMember d (canon_member m) m
   member_canon (member.Item i) h = item_canon i h
@@ -227,24 +334,51 @@ module _ (d : Dialect) where
   flag_canon : (k : List ℕ) (x : Bare) (ps : Pairs Bare) → IsKey k → ValidBare d x
       → ValidParams d ps
       → SpellsEntry d (k ++ canon_flag x ps) (k, member.Item (record { bare = x; params = ps }))
-  flag_canon k (Boolean true) ps w h g = (canon_params ps, w,
-      inr (ps, refl, refl, params_canon ps g))
-  flag_canon k (Boolean false) ps w h g = (canon_bare (Boolean false) ++ canon_params ps, w,
-      inl (refl, item_canon (record { bare = Boolean false; params = ps }) (h, g)))
-  flag_canon k (Integer n) ps w h g = (canon_bare (Integer n) ++ canon_params ps, w,
-      inl (refl, item_canon (record { bare = Integer n; params = ps }) (h, g)))
-  flag_canon k (Decimal n) ps w h g = (canon_bare (Decimal n) ++ canon_params ps, w,
-      inl (refl, item_canon (record { bare = Decimal n; params = ps }) (h, g)))
-  flag_canon k (Text s) ps w h g = (canon_bare (Text s) ++ canon_params ps, w,
-      inl (refl, item_canon (record { bare = Text s; params = ps }) (h, g)))
-  flag_canon k (Token s) ps w h g = (canon_bare (Token s) ++ canon_params ps, w,
-      inl (refl, item_canon (record { bare = Token s; params = ps }) (h, g)))
-  flag_canon k (Blob s) ps w h g = (canon_bare (Blob s) ++ canon_params ps, w,
-      inl (refl, item_canon (record { bare = Blob s; params = ps }) (h, g)))
-  flag_canon k (Date n) ps w h g = (canon_bare (Date n) ++ canon_params ps, w,
-      inl (refl, item_canon (record { bare = Date n; params = ps }) (h, g)))
-  flag_canon k (Shown s) ps w h g = (canon_bare (Shown s) ++ canon_params ps, w,
-      inl (refl, item_canon (record { bare = Shown s; params = ps }) (h, g)))
+  flag_canon k (Boolean true) ps w h g = (
+    canon_params ps,
+    w,
+    inr (ps, refl, refl, params_canon ps g),
+  )
+  flag_canon k (Boolean false) ps w h g = (
+    canon_bare (Boolean false) ++ canon_params ps,
+    w,
+    inl (refl, item_canon (record { bare = Boolean false; params = ps }) (h, g)),
+  )
+  flag_canon k (Integer n) ps w h g = (
+    canon_bare (Integer n) ++ canon_params ps,
+    w,
+    inl (refl, item_canon (record { bare = Integer n; params = ps }) (h, g)),
+  )
+  flag_canon k (Decimal n) ps w h g = (
+    canon_bare (Decimal n) ++ canon_params ps,
+    w,
+    inl (refl, item_canon (record { bare = Decimal n; params = ps }) (h, g)),
+  )
+  flag_canon k (Text s) ps w h g = (
+    canon_bare (Text s) ++ canon_params ps,
+    w,
+    inl (refl, item_canon (record { bare = Text s; params = ps }) (h, g)),
+  )
+  flag_canon k (Token s) ps w h g = (
+    canon_bare (Token s) ++ canon_params ps,
+    w,
+    inl (refl, item_canon (record { bare = Token s; params = ps }) (h, g)),
+  )
+  flag_canon k (Blob s) ps w h g = (
+    canon_bare (Blob s) ++ canon_params ps,
+    w,
+    inl (refl, item_canon (record { bare = Blob s; params = ps }) (h, g)),
+  )
+  flag_canon k (Date n) ps w h g = (
+    canon_bare (Date n) ++ canon_params ps,
+    w,
+    inl (refl, item_canon (record { bare = Date n; params = ps }) (h, g)),
+  )
+  flag_canon k (Shown s) ps w h g = (
+    canon_bare (Shown s) ++ canon_params ps,
+    w,
+    inl (refl, item_canon (record { bare = Shown s; params = ps }) (h, g)),
+  )
 
   entry_canon : (k : List ℕ) (m : Member) → IsKey k → ValidMember d m
       → SpellsEntry d (canon_entry (k, m)) (k, m)
@@ -260,13 +394,14 @@ module _ (d : Dialect) where
   canon_spells kind.List (field.Item i) h = elim h [ ]
   canon_spells kind.List (field.List l) h =
       whole_canon (SpellsMember d) canon_member l.members
-        (each_map (ValidMember d) (λ m. SpellsMember d (canon_member m) m) member_canon l.members h)
+      (each_map (ValidMember d) (λ m. SpellsMember d (canon_member m) m) member_canon l.members h)
   canon_spells kind.List (field.Dict m) h = elim h [ ]
   canon_spells kind.Dict (field.Item i) h = elim h [ ]
   canon_spells kind.Dict (field.List l) h = elim h [ ]
-  canon_spells kind.Dict (field.Dict m) h =
-      (m.members, sym (settle-distinct m.members h.1),
-        whole_canon (SpellsEntry d) canon_entry m.members
-          (each_map (λ p. IsKey p.0 × ValidMember d p.1) (λ p. SpellsEntry d (canon_entry p) p)
-            (λ p k. entry_canon p.0 p.1 k.0 k.1) m.members h.0))
-
+  canon_spells kind.Dict (field.Dict m) h = (
+    m.members,
+    sym (settle-distinct m.members h.1),
+    whole_canon (SpellsEntry d) canon_entry m.members
+        (each_map (λ p. IsKey p.0 × ValidMember d p.1) (λ p. SpellsEntry d (canon_entry p) p)
+        (λ p k. entry_canon p.0 p.1 k.0 k.1) m.members h.0),
+  )

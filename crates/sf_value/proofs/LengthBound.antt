@@ -52,12 +52,14 @@ module _ {V : Type 0} (weight : List ℕ × V → ℕ) where
     where
       go : (b : Bool) → bytes_eq k p.0 ≡ b
           → ((w : V) → weight (k, latest k w ps) + total (without k ps) ≤ weight (k, w) + total ps)
-          → weight (k, latest k v (p ∷ ps)) + total (without k (p ∷ ps)) ≤ weight (k,
-              v) + total (p ∷ ps)
+          → weight (k, latest k v (p ∷ ps)) + total (without k (p ∷ ps)) ≤ weight (
+            k,
+            v,
+          ) + total (p ∷ ps)
       go true e h =
-        let i = h p.1 in
-        let j : weight (k, p.1) ≡ weight p = ap (λ y. weight (y, p.1)) (key_is k p.0 e) in
-        rw e (omega arith)
+          let i = h p.1 in
+          let j : weight (k, p.1) ≡ weight p = ap (λ y. weight (y, p.1)) (key_is k p.0 e) in
+          rw e (omega arith)
       go false e h = let i = h v in rw e (omega arith)
 
 latest_true : {V : Type 0} (k : List ℕ) (v : V) (p : List ℕ × V) (ps : Pairs V)
@@ -75,37 +77,40 @@ latest_settle {V = V} k v (p ∷ ps) = go (bytes_eq k p.0) refl (latest_settle k
   where
     first : List ℕ × V
     first = (p.0, latest p.0 p.1 ps)
+
     go : (b : Bool) → bytes_eq k p.0 ≡ b → latest k v (settle ps) ≡ latest k v ps
         → latest k v (settle (p ∷ ps)) ≡ latest k v (p ∷ ps)
     go true e h =
-      latest_true k v first (without p.0 (settle ps)) e
-      ∙ ap (λ y. latest k (latest y p.1 ps) (without y (settle ps))) (sym (key_is k p.0 e))
-      ∙ latest_without k (latest k p.1 ps) (settle ps)
-      ∙ sym (latest_true k v p ps e)
+        latest_true k v first (without p.0 (settle ps)) e
+        ∙ ap (λ y. latest k (latest y p.1 ps) (without y (settle ps))) (sym (key_is k p.0 e))
+        ∙ latest_without k (latest k p.1 ps) (settle ps)
+        ∙ sym (latest_true k v p ps e)
     go false e h =
-      latest_false k v first (without p.0 (settle ps)) e
-      ∙ ap (λ y. latest k v y) (sym (append-nil (without p.0 (settle ps))))
-      ∙ latest_other p.0 k v (settle ps) [] (keys_apart k p.0 k e (same_key k))
-      ∙ ap (latest k v) (append-nil (settle ps)) ∙ h
-      ∙ sym (latest_false k v p ps e)
+        latest_false k v first (without p.0 (settle ps)) e
+        ∙ ap (λ y. latest k v y) (sym (append-nil (without p.0 (settle ps))))
+        ∙ latest_other p.0 k v (settle ps) [] (keys_apart k p.0 k e (same_key k))
+        ∙ ap (latest k v) (append-nil (settle ps)) ∙ h
+        ∙ sym (latest_false k v p ps e)
 
 settle_total : {V : Type 0} (weight : List ℕ × V → ℕ) (ps : Pairs V)
     → total weight (settle ps) ≤ total weight ps
 settle_total weight [] = omega arith
 settle_total weight (p ∷ ps) =
-  let h = settle_total weight ps in
-  let l = latest_total weight p.0 p.1 (settle ps) in
-  let e : weight (p.0, latest p.0 p.1 (settle ps)) ≡ weight (p.0,
-      latest p.0 p.1 ps) = ap (λ y. weight (p.0, y)) (latest_settle p.0 p.1 ps) in
-  omega arith
+    let h = settle_total weight ps in
+    let l = latest_total weight p.0 p.1 (settle ps) in
+    let e : weight (p.0, latest p.0 p.1 (settle ps)) ≡ weight (
+      p.0,
+      latest p.0 p.1 ps,
+    ) = ap (λ y. weight (p.0, y)) (latest_settle p.0 p.1 ps) in
+    omega arith
 
 -- numbers: no longer than the text
 decimal_short : (w : List ℕ) (high : ℕ) → high ≤ 15 → AreDigits 1 high 0 w
     → length (decimal (value_from 0 w)) ≤ length w
 decimal_short w high h d =
-  let b = digits_bound w (length w) d.each (le_refl (length w)) in
-  let c = digits_bound w 15 d.each (let f = d.fits in omega arith) in
-  length-decimal-le (length w) (value_from 0 w) (let f = d.enough in omega arith) b (omega arith)
+    let b = digits_bound w (length w) d.each (le_refl (length w)) in
+    let c = digits_bound w 15 d.each (let f = d.fits in omega arith) in
+    length-decimal-le (length w) (value_from 0 w) (let f = d.enough in omega arith) b (omega arith)
 
 signed_short : (neg : Bool) (n k : ℕ) → length (decimal n) ≤ k
     → length (signed_decimal (signed neg n)) ≤ length (sign neg) + k
@@ -116,13 +121,13 @@ signed_short true (suc n) k h = omega arith
 integer_short : (n : ℤ) (t : List ℕ) → SpellsInteger t n
     → (length (signed_decimal n) ≤ length t) × (1 ≤ length t)
 integer_short n t (neg, w, e, d, i) =
-  let s = signed_short neg (value_from 0 w) (length w) (decimal_short w 15 (le_refl 15) d) in
-  let l : length t ≡ length (sign neg) + length w = ap length e ∙ length-append (sign neg) w in
-  let j : length (signed_decimal n)
-      ≡ length (signed_decimal (signed neg (value_from 0 w))) = ap
-          (λ y. length (signed_decimal y)) i in
-  let m = d.enough in
-  (omega arith, omega arith)
+    let s = signed_short neg (value_from 0 w) (length w) (decimal_short w 15 (le_refl 15) d) in
+    let l : length t ≡ length (sign neg) + length w = ap length e ∙ length-append (sign neg) w in
+    let j : length (signed_decimal n)
+    ≡ length (signed_decimal (signed neg (value_from 0 w))) = ap
+    (λ y. length (signed_decimal y)) i in
+    let m = d.enough in
+    (omega arith, omega arith)
 
 abs_is : (neg : Bool) (n : ℕ) → nat_abs (signed neg n) ≡ n
 abs_is false n = refl
@@ -155,13 +160,13 @@ fraction_three f = go (f % 100 == 0) (f % 10 == 0) refl refl
 fraction_short : (v k : ℕ) → 1 ≤ k → k ≤ 3 → length (fraction (v * 10 ^ (3 - k))) ≤ k
 fraction_short v k l h = ⊎_elim
     (λ e. subst (λ k. length (fraction (v * 10 ^ (3 - k))) ≤ k) e
-        (fraction_one (v * 10 ^ (3 - 1)) (omega arith)))
+    (fraction_one (v * 10 ^ (3 - 1)) (omega arith)))
     (⊎_elim
-        (λ e. subst (λ k. length (fraction (v * 10 ^ (3 - k))) ≤ k) e
-            (fraction_two (v * 10 ^ (3 - 2)) (omega arith)))
     (λ e. subst (λ k. length (fraction (v * 10 ^ (3 - k))) ≤ k) e
-        (fraction_three (v * 10 ^ (3 - 3)))))
-        (three k l h)
+    (fraction_two (v * 10 ^ (3 - 2)) (omega arith)))
+    (λ e. subst (λ k. length (fraction (v * 10 ^ (3 - k))) ≤ k) e
+    (fraction_three (v * 10 ^ (3 - 3)))))
+    (three k l h)
   where
     three : (k : ℕ) → 1 ≤ k → k ≤ 3 → (1 ≡ k) ⊎ ((2 ≡ k) ⊎ (3 ≡ k))
     three k l h = grind arith
@@ -169,34 +174,34 @@ fraction_short v k l h = ⊎_elim
 decimal_text : (m : ℤ) (t : List ℕ) → SpellsDecimal t m
     → (length (canon_decimal m) ≤ length t) × (1 ≤ length t)
 decimal_text m t (neg, w, f, e, d, d', i) =
-  let whole = value_from 0 w in
-  let part = value_from 0 f * 10 ^ (3 - length f) in
-  let low = d'.enough in
-  let high = d'.fits in
-  let small = scaled_bound (value_from 0 f) (length f) (omega arith) (omega arith)
-      (digits_bound f (length f) d'.each (le_refl (length f))) in
-  let a : nat_abs m ≡ whole * 1000 + part = ap nat_abs i ∙ abs_is neg (whole * 1000 + part) in
-  let q : nat_abs m / 1000 ≡ whole = omega arith in
-  let r : nat_abs m % 1000 ≡ part = omega arith in
-  let s1 : length (sign (is_negative m)) ≤ length (sign neg) = subst
-      (λ y. length (sign (is_negative y)) ≤ length (sign neg)) (sym i)
-      (sign_short neg (whole * 1000 + part)) in
-  let s2 : length (decimal (nat_abs m / 1000)) ≤ length w = subst
-      (λ y. length (decimal y) ≤ length w) (sym q) (decimal_short w 12 (omega arith) d) in
-  let s3 : length (fraction (nat_abs m % 1000)) ≤ length f = subst
-      (λ y. length (fraction y) ≤ length f) (sym r)
-      (fraction_short (value_from 0 f) (length f) (omega arith) (omega arith)) in
-  parts (length t) (sign neg) w f (sign (is_negative m)) (decimal (nat_abs m / 1000))
-      (fraction (nat_abs m % 1000)) (ap length e) s1 s2 s3
+    let whole = value_from 0 w in
+    let part = value_from 0 f * 10 ^ (3 - length f) in
+    let low = d'.enough in
+    let high = d'.fits in
+    let small = scaled_bound (value_from 0 f) (length f) (omega arith) (omega arith)
+    (digits_bound f (length f) d'.each (le_refl (length f))) in
+    let a : nat_abs m ≡ whole * 1000 + part = ap nat_abs i ∙ abs_is neg (whole * 1000 + part) in
+    let q : nat_abs m / 1000 ≡ whole = omega arith in
+    let r : nat_abs m % 1000 ≡ part = omega arith in
+    let s1 : length (sign (is_negative m)) ≤ length (sign neg) = subst
+    (λ y. length (sign (is_negative y)) ≤ length (sign neg)) (sym i)
+    (sign_short neg (whole * 1000 + part)) in
+    let s2 : length (decimal (nat_abs m / 1000)) ≤ length w = subst
+    (λ y. length (decimal y) ≤ length w) (sym q) (decimal_short w 12 (omega arith) d) in
+    let s3 : length (fraction (nat_abs m % 1000)) ≤ length f = subst
+    (λ y. length (fraction y) ≤ length f) (sym r)
+    (fraction_short (value_from 0 f) (length f) (omega arith) (omega arith)) in
+    parts (length t) (sign neg) w f (sign (is_negative m)) (decimal (nat_abs m / 1000))
+    (fraction (nat_abs m % 1000)) (ap length e) s1 s2 s3
   where
     parts : (n : ℕ) (a b c x y z : List ℕ) → n ≡ length (a ++ (b ++ 46 ∷ c)) → length x ≤ length a
         → length y ≤ length b → length z ≤ length c → (length (x ++ (y ++ 46 ∷ z)) ≤ n) × (1 ≤ n)
     parts n a b c x y z e h k l =
-      let e1 = length-append a (b ++ 46 ∷ c) in
-      let e2 = length-append b (46 ∷ c) in
-      let e3 = length-append x (y ++ 46 ∷ z) in
-      let e4 = length-append y (46 ∷ z) in
-      (omega arith, omega arith)
+        let e1 = length-append a (b ++ 46 ∷ c) in
+        let e2 = length-append b (46 ∷ c) in
+        let e3 = length-append x (y ++ 46 ∷ z) in
+        let e4 = length-append y (46 ∷ z) in
+        (omega arith, omega arith)
 
 blob_count : (low : ℕ) (s : List ℕ) → 5 * needed s ≤ 3 * length (unpadded low s) + 4
 blob_count low [] = omega arith
@@ -221,18 +226,18 @@ pads_length n = length-append {A = ℕ} (replicate n 61) (58 ∷ [])
 
 blob_text : (n m low : ℕ) (s : List ℕ) → n ≡ needed s
     → 5 * length (58 ∷ (unpadded 0 s
-        ++ (replicate n 61 ++ 58 ∷ []))) + 2 ≤ 8 * length (58 ∷ (unpadded low s
-        ++ (replicate m 61 ++ 58 ∷ [])))
+    ++ (replicate n 61 ++ 58 ∷ []))) + 2 ≤ 8 * length (58 ∷ (unpadded low s
+    ++ (replicate m 61 ++ 58 ∷ [])))
 blob_text n m low s e =
-  let e0 = unpadded_length low s in
-  let e1 = length-append (unpadded 0 s) (replicate n 61 ++ 58 ∷ []) in
-  let e2 = pads_length n in
-  let e3 = length-append (unpadded low s) (replicate m 61 ++ 58 ∷ []) in
-  let e4 = pads_length m in
-  let e5 = length_replicate n 61 in
-  let e6 = length_replicate m 61 in
-  let h = blob_count low s in
-  omega arith
+    let e0 = unpadded_length low s in
+    let e1 = length-append (unpadded 0 s) (replicate n 61 ++ 58 ∷ []) in
+    let e2 = pads_length n in
+    let e3 = length-append (unpadded low s) (replicate m 61 ++ 58 ∷ []) in
+    let e4 = pads_length m in
+    let e5 = length_replicate n 61 in
+    let e6 = length_replicate m 61 in
+    let h = blob_count low s in
+    omega arith
 
 pieces_text : (s t : List ℕ) → Pieces t s → length (canon_shown s) ≤ length t
 pieces_text [] t p = let e = ap length p in omega arith
@@ -252,10 +257,10 @@ params_total : (ps : Pairs Bare) → length (canon_params ps) ≡ total param_we
 unfolding param_weight
 params_total [] = refl
 params_total (p ∷ ps) =
-  let h = params_total ps in
-  let e1 = length-append p.0 (canon_value p.1 ++ canon_params ps) in
-  let e2 = length-append (canon_value p.1) (canon_params ps) in
-  omega arith
+    let h = params_total ps in
+    let e1 = length-append p.0 (canon_value p.1 ++ canon_params ps) in
+    let e2 = length-append (canon_value p.1) (canon_params ps) in
+    omega arith
 
 behind_short : (m : Member) → length (canon_behind m) ≤ 1 + length (canon_member m)
 behind_short (member.Item i) = flag_short i.bare i.params
@@ -296,24 +301,24 @@ module _ {X : Type 0} (P : List ℕ → X → Type 0) (f : X → List ℕ) (boun
   commas_text : (xs : List X) (t : List ℕ) → SpellsCommas P t xs → 5 * sum_of xs ≤ 8 * length t
   commas_text [] t h = omega arith
   commas_text (x ∷ xs) t (before, behind, front, back, e, g, g2, s, c) =
-    let a = bound x front s in
-    let b = commas_text xs back c in
-    let l : length t ≡ length before + length (44 ∷ (behind ++ (front ++ back))) = ap length e
-        ∙ length-append before (44 ∷ (behind ++ (front ++ back))) in
-    let m = length-append behind (front ++ back) in
-    let n = length-append front back in
-    omega arith
+      let a = bound x front s in
+      let b = commas_text xs back c in
+      let l : length t ≡ length before + length (44 ∷ (behind ++ (front ++ back))) = ap length e
+      ∙ length-append before (44 ∷ (behind ++ (front ++ back))) in
+      let m = length-append behind (front ++ back) in
+      let n = length-append front back in
+      omega arith
 
   whole_text : (xs : List X) (t : List ℕ) → SpellsWhole P t xs → 5 * sum_of xs ≤ 8 * length t + 8
   whole_text [] t h = omega arith
   whole_text (x ∷ xs) t (gap, body, tail, e, g, (front, back, e1, s, c), w) =
-    let a = bound x front s in
-    let b = commas_text xs back c in
-    let l : length t ≡ length gap + length (body ++ tail) = ap length e
-        ∙ length-append gap (body ++ tail) in
-    let m = length-append body tail in
-    let n : length body ≡ length front + length back = ap length e1 ∙ length-append front back in
-    omega arith
+      let a = bound x front s in
+      let b = commas_text xs back c in
+      let l : length t ≡ length gap + length (body ++ tail) = ap length e
+      ∙ length-append gap (body ++ tail) in
+      let m = length-append body tail in
+      let n : length body ≡ length front + length back = ap length e1 ∙ length-append front back in
+      omega arith
 
   -- at most so many bytes
   series_text : (xs : List X) (t : List ℕ) → 5 * sum_of xs ≤ 8 * length t + 8
@@ -329,17 +334,19 @@ module _ (d : Dialect) where
       → 5 * length (canon_bare x) + 2 ≤ 8 * length t
   bare_text (Integer n) t h = let k = integer_short n t h in omega arith
   bare_text (Decimal m) t h = let k = decimal_text m t h in omega arith
-  bare_text (Text s) t (e,
-      v) = let k : length t ≡ length (34 ∷ (escaped s ++ 34 ∷ [])) = ap length e in
+  bare_text (Text s) t (
+    e,
+    v,
+  ) = let k : length t ≡ length (34 ∷ (escaped s ++ 34 ∷ [])) = ap length e in
       let l = length-append (escaped s) (34 ∷ []) in omega arith
   bare_text (Token []) t (e, w) = absurd w
   bare_text (Token (c ∷ s)) t (e, w) = let k = ap length e in omega arith
   bare_text (Blob s) t (back, e, (low, b2, lt, e2, f, (m, h, e3))) =
-    let full : t ≡ 58 ∷ (unpadded low s ++ (replicate m 61 ++ 58 ∷ [])) = e
-        ∙ ap (λ y. 58 ∷ y) (e2 ∙ ap (λ y. unpadded low s ++ y) e3) in
-    let b = blob_text (needed s) m low s refl in
-    let l = ap length full in
-    omega arith
+      let full : t ≡ 58 ∷ (unpadded low s ++ (replicate m 61 ++ 58 ∷ [])) = e
+      ∙ ap (λ y. 58 ∷ y) (e2 ∙ ap (λ y. unpadded low s ++ y) e3) in
+      let b = blob_text (needed s) m low s refl in
+      let l = ap length full in
+      omega arith
   bare_text (Boolean b) t e = let k = ap length e in omega arith
   bare_text (Date n) t (on, (back, e, h)) = let k = integer_short n back h in let l = ap length e in
       omega arith
@@ -348,13 +355,15 @@ module _ (d : Dialect) where
 
   value_text : (x : Bare) (t : List ℕ) → SpellsValue d t x
       → 5 * length (canon_value x) ≤ 8 * length t
-  value_text x t (inl (e,
-      n)) = subst (λ y. 5 * length (canon_value y) ≤ 8 * length t) (sym e) (omega arith)
+  value_text x t (inl (
+    e,
+    n,
+  )) = subst (λ y. 5 * length (canon_value y) ≤ 8 * length t) (sym e) (omega arith)
   value_text x t (inr (back, e, h)) =
-    let k = bare_text x back h in
-    let l = ap length e in
-    let v = at_most x in
-    omega arith
+      let k = bare_text x back h in
+      let l = ap length e in
+      let v = at_most x in
+      omega arith
     where
       at_most : (x : Bare) → length (canon_value x) ≤ 1 + length (canon_bare x)
       at_most (Boolean true) = omega arith
@@ -372,68 +381,68 @@ module _ (d : Dialect) where
   unfolding param_weight
   raw_text [] t h = omega arith
   raw_text (p ∷ ps) t (front, back, e, (gap, value, e1, f, i, s), r) =
-    let h = raw_text ps back r in
-    let v = value_text p.1 value s in
-    let l1 : length t ≡ length front + length back = ap length e ∙ length-append front back in
-    let l2 : length front ≡ 1 + length (gap ++ (p.0 ++ value)) = ap length e1
-        ∙ (let z : length (59 ∷ (gap ++ (p.0 ++ value))) ≡ 1 + length (gap
-            ++ (p.0 ++ value)) = omega arith in
-            z) in
-    let l3 = length-append gap (p.0 ++ value) in
-    let l4 = length-append p.0 value in
-    omega arith
+      let h = raw_text ps back r in
+      let v = value_text p.1 value s in
+      let l1 : length t ≡ length front + length back = ap length e ∙ length-append front back in
+      let l2 : length front ≡ 1 + length (gap ++ (p.0 ++ value)) = ap length e1
+      ∙ (let z : length (59 ∷ (gap ++ (p.0 ++ value))) ≡ 1 + length (gap
+      ++ (p.0 ++ value)) = omega arith in
+      z) in
+      let l3 = length-append gap (p.0 ++ value) in
+      let l4 = length-append p.0 value in
+      omega arith
 
   params_text : (ps : Pairs Bare) (t : List ℕ) → SpellsParams d t ps
       → 5 * length (canon_params ps) ≤ 8 * length t
   params_text ps t (raw, e, h) =
-    let a = raw_text raw t h in
-    let b = settle_total param_weight raw in
-    let c : length (canon_params ps) ≡ total param_weight (settle raw) = params_total ps
-        ∙ ap (total param_weight) e in
-    omega arith
+      let a = raw_text raw t h in
+      let b = settle_total param_weight raw in
+      let c : length (canon_params ps) ≡ total param_weight (settle raw) = params_total ps
+      ∙ ap (total param_weight) e in
+      omega arith
 
   item_text : (i : Item) (t : List ℕ) → SpellsItem d t i
       → 5 * length (canon_item i) + 2 ≤ 8 * length t
   item_text i t (front, back, e, h, k) =
-    let a = bare_text i.bare front h in
-    let b = params_text i.params back k in
-    let l : length t ≡ length front + length back = ap length e ∙ length-append front back in
-    let c = length-append (canon_bare i.bare) (canon_params i.params) in
-    omega arith
+      let a = bare_text i.bare front h in
+      let b = params_text i.params back k in
+      let l : length t ≡ length front + length back = ap length e ∙ length-append front back in
+      let c = length-append (canon_bare i.bare) (canon_params i.params) in
+      omega arith
 
   more_text : (is : List Item) (t : List ℕ) → SpellsItems d 1 t is
       → 5 * length (canon_more is) ≤ 8 * length t
   more_text [] t h = omega arith
   more_text (i ∷ is) t (gap, front, back, e, f, z, s, r) =
-    let a = item_text i front s in
-    let b = more_text is back r in
-    let l : length t ≡ length gap + length (front ++ back) = ap length e
-        ∙ length-append gap (front ++ back) in
-    let k = length-append front back in
-    let c = length-append (canon_item i) (canon_more is) in
-    omega arith
+      let a = item_text i front s in
+      let b = more_text is back r in
+      let l : length t ≡ length gap + length (front ++ back) = ap length e
+      ∙ length-append gap (front ++ back) in
+      let k = length-append front back in
+      let c = length-append (canon_item i) (canon_more is) in
+      omega arith
 
   items_text : (is : List Item) (t : List ℕ) → SpellsItems d 0 t is
       → 5 * length (canon_items is) ≤ 8 * length t
   items_text [] t h = omega arith
   items_text (i ∷ is) t (gap, front, back, e, f, z, s, r) =
-    let a = item_text i front s in
-    let b = more_text is back r in
-    let l : length t ≡ length gap + length (front ++ back) = ap length e
-        ∙ length-append gap (front ++ back) in
-    let k = length-append front back in
-    let c = length-append (canon_item i) (canon_more is) in
-    omega arith
+      let a = item_text i front s in
+      let b = more_text is back r in
+      let l : length t ≡ length gap + length (front ++ back) = ap length e
+      ∙ length-append gap (front ++ back) in
+      let k = length-append front back in
+      let c = length-append (canon_item i) (canon_more is) in
+      omega arith
 
   inner_text : (l : Inner) (t : List ℕ) → SpellsInner d t l
       → 5 * length (canon_inner l) + 2 ≤ 8 * length t
   inner_text l t (body, back, e, s, k) =
-    let a = items_text l.items body s in
-    let b = params_text l.params back k in
-    let n = ap length e in
-    let m = length-append body (41 ∷ back) in
-    let c = length-append (canon_items l.items) (41 ∷ canon_params l.params) in
-    omega arith
+      let a = items_text l.items body s in
+      let b = params_text l.params back k in
+      let n = ap length e in
+      let m = length-append body (41 ∷ back) in
+      let c = length-append (canon_items l.items) (41 ∷ canon_params l.params) in
+      omega arith
 
   member_text : (m : Member) (t : List ℕ) → SpellsMember d t m
       → 5 * length (canon_member m) + 2 ≤ 8 * length t
@@ -443,20 +452,20 @@ module _ (d : Dialect) where
   entry_text : (p : List ℕ × Member) (t : List ℕ) → SpellsEntry d t p
       → 5 * length (canon_entry p) + 2 ≤ 8 * length t
   entry_text p t (back, w, inl (e, s)) =
-    let a = member_text p.1 back s in
-    let b = behind_short p.1 in
-    let l : length t ≡ length p.0 + length (61 ∷ back) = ap length e
-        ∙ length-append p.0 (61 ∷ back) in
-    let c = length-append p.0 (canon_behind p.1) in
-    omega arith
+      let a = member_text p.1 back s in
+      let b = behind_short p.1 in
+      let l : length t ≡ length p.0 + length (61 ∷ back) = ap length e
+      ∙ length-append p.0 (61 ∷ back) in
+      let c = length-append p.0 (canon_behind p.1) in
+      omega arith
   entry_text p t (back, w, inr (ps, i, e, s)) =
-    let a = params_text ps back s in
-    let b : length (canon_behind p.1)
-        ≡ length (canon_params ps) = ap (λ m. length (canon_behind m)) i in
-    let l : length t ≡ length p.0 + length back = ap length e ∙ length-append p.0 back in
-    let c = length-append p.0 (canon_behind p.1) in
-    let some = key_some p.0 w in
-    omega arith
+      let a = params_text ps back s in
+      let b : length (canon_behind p.1)
+      ≡ length (canon_params ps) = ap (λ m. length (canon_behind m)) i in
+      let l : length t ≡ length p.0 + length back = ap length e ∙ length-append p.0 back in
+      let c = length-append p.0 (canon_behind p.1) in
+      let some = key_some p.0 w in
+      omega arith
 
   entries_total : (ps : Pairs Member)
       → sum_of (SpellsEntry d) canon_entry entry_text ps ≡ total entry_weight ps
@@ -468,26 +477,25 @@ module _ (d : Dialect) where
   pub canon_bound : (kind : Kind) (v : Field) (t : List ℕ) → SpellsField d kind t v
       → 5 * length (canon v) ≤ 8 * length t
   canon_bound kind.Item (field.Item i) t (gap, body, tail, e, f, s, w) =
-    let a = item_text i body s in
-    let l : length t ≡ length gap + length (body ++ tail) =
-        ap length e ∙ length-append gap (body ++ tail) in
-    let m = length-append body tail in
-    omega arith
+      let a = item_text i body s in
+      let l : length t ≡ length gap + length (body ++ tail) =
+      ap length e ∙ length-append gap (body ++ tail) in
+      let m = length-append body tail in
+      omega arith
   canon_bound kind.Item (field.List l) t h = elim h [ ]
   canon_bound kind.Item (field.Dict m) t h = elim h [ ]
   canon_bound kind.List (field.Item i) t h = elim h [ ]
   canon_bound kind.List (field.List l) t h =
       series_text (SpellsMember d) canon_member member_text l.members t
-        (whole_text (SpellsMember d) canon_member member_text l.members t h)
+      (whole_text (SpellsMember d) canon_member member_text l.members t h)
   canon_bound kind.List (field.Dict m) t h = elim h [ ]
   canon_bound kind.Dict (field.Item i) t h = elim h [ ]
   canon_bound kind.Dict (field.List l) t h = elim h [ ]
   canon_bound kind.Dict (field.Dict m) t (raw, e, h) =
-    let ps = m.members in
-    let a = whole_text (SpellsEntry d) canon_entry entry_text raw t h in
-    let b = settle_total entry_weight raw in
-    let c = entries_total raw in
-    let same : sum_of (SpellsEntry d) canon_entry entry_text ps ≡ total entry_weight (settle raw) =
-        entries_total ps ∙ ap (total entry_weight) e in
-    series_text (SpellsEntry d) canon_entry entry_text ps t (omega arith)
-
+      let ps = m.members in
+      let a = whole_text (SpellsEntry d) canon_entry entry_text raw t h in
+      let b = settle_total entry_weight raw in
+      let c = entries_total raw in
+      let same : sum_of (SpellsEntry d) canon_entry entry_text ps ≡ total entry_weight (settle raw) =
+      entries_total ps ∙ ap (total entry_weight) e in
+      series_text (SpellsEntry d) canon_entry entry_text ps t (omega arith)

@@ -1,4 +1,6 @@
 pub mod Words
+pub mod ByteLists
+mod Rows
 pub mod EntryMaps
 pub mod Settling
 pub mod Utf8Table

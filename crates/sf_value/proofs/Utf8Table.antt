@@ -3,19 +3,10 @@ use Rattle.std.proofs.Common.{◌≡◌, ℕ, zero, suc, ◌+◌, ◌-◌, ◌*�
 use Rattle.std.proofs.Common.{◌&&◌, List, [], ◌∷◌, ◌++◌, Some, refl, sym, ap, ap₂, ◌∙◌, subst, inl}
 use Rattle.std.proofs.Common.{inr, ⊎_elim, ◌⊎◌, arith, IsUtf8, length, length-append, le_refl}
 use lib.Utf8.{encode, encodes, scalar, scalars, next}
-use Rattle.sf_value.specs.Grammar.Words.{otherwise, allow}
+use Rattle.sf_value.specs.Grammar.Words.{allow}
 use Rattle.sf_value.specs.Grammar.Utf8.{Utf8, Start, Wants, wants, within, rows, look_up}
 use Rattle.sf_value.specs.Grammar.Utf8.{WellFormed}
-use Rattle.std.proofs.Common.{Option, None}
-
-pub allow_cases : {S : Type 0} (c : Bool) (s t : S) → allow c s ≡ Some t → (c ≡ true) × (t ≡ s)
-allow_cases true s t e = (refl, cc)
-allow_cases false s t e = absurd cc
-
-pub otherwise_cases : {S : Type 0} (a b : Option S) (s : S) → otherwise a b ≡ Some s
-    → (a ≡ Some s) ⊎ ((a ≡ None) × (b ≡ Some s))
-otherwise_cases (Some x) b s e = inl e
-otherwise_cases None b s e = inr (refl, e)
+use Rattle.sf_value.proofs.Words.{allow_cases, otherwise_cases}
 
 pub ranged : (low high b : ℕ) → within low high b ≡ true → (low ≤ b) × (b ≤ high)
 ranged low high b e = (grind arith, grind arith)
@@ -33,7 +24,7 @@ pub looked_up : (P : ℕ → Utf8 → Type 0) (rs : List (ℕ × ℕ × Utf8)) �
 looked_up P [] h b x e = absurd cc
 looked_up P (r ∷ rs) h b x e = ⊎_elim
     (λ k. let c = allow_cases (within r.0 r.1 b) r.2 x k in let l = ranged r.0 r.1 b c.0 in
-        subst (P b) (sym c.1) (h.0 b l.0 l.1))
+    subst (P b) (sym c.1) (h.0 b l.0 l.1))
     (λ k. looked_up P rs h.1 b x k.1)
     (otherwise_cases (allow (within r.0 r.1 b) r.2) (look_up rs b) x e)
 
@@ -90,15 +81,21 @@ wanted n low high b s l h w = (wants n, rw (in_range low high b l h) refl, w)
 
 first_of_three : (b low high c d : ℕ) (s : List ℕ) → look_up rows b ≡ Some (Wants 1 low high)
     → low ≤ c → c ≤ high → 128 ≤ d → d ≤ 191 → WellFormed Start s → WellFormed Start (b ∷ c ∷ d ∷ s)
-first_of_three b low high c d s e l h l' h' w = (Wants 1 low high, e,
-    wanted 1 low high c (d ∷ s) l h (wanted 0 128 191 d s l' h' w))
+first_of_three b low high c d s e l h l' h' w = (
+  Wants 1 low high,
+  e,
+  wanted 1 low high c (d ∷ s) l h (wanted 0 128 191 d s l' h' w),
+)
 
 first_of_four : (b low high c d f : ℕ) (s : List ℕ) → look_up rows b ≡ Some (Wants 2 low high)
     → low ≤ c → c ≤ high → 128 ≤ d → d ≤ 191 → 128 ≤ f → f ≤ 191 → WellFormed Start s
     → WellFormed Start (b ∷ c ∷ d ∷ f ∷ s)
-first_of_four b low high c d f s e l h l' h' l2 h2 w = (Wants 2 low high, e,
-    wanted 2 low high c (d ∷ f ∷ s) l h
-        (wanted 1 128 191 d (f ∷ s) l' h' (wanted 0 128 191 f s l2 h2 w)))
+first_of_four b low high c d f s e l h l' h' l2 h2 w = (
+  Wants 2 low high,
+  e,
+  wanted 2 low high c (d ∷ f ∷ s) l h
+      (wanted 1 128 191 d (f ∷ s) l' h' (wanted 0 128 191 f s l2 h2 w)),
+)
 
 next_low : (x : ℕ) → 128 ≤ next x
 next_low x = omega arith
@@ -138,19 +135,19 @@ three_from : (c : ℕ) (s : List ℕ) → 2048 ≤ c → c < 65536 → scalar c 
 unfolding Split3
 three_from c s l h e w = ⊎_elim
     (λ k. first_of_three (224 + c / 4096) 160 191 (next (c / 64)) (next c) s
-        (lead_is 224 (Wants 1 160 191) (224 + c / 4096) (omega arith) row_e0) (omega arith)
-        (omega arith) (next_low c) (next_high c) w)
+    (lead_is 224 (Wants 1 160 191) (224 + c / 4096) (omega arith) row_e0) (omega arith)
+    (omega arith) (next_low c) (next_high c) w)
     (⊎_elim
-        (λ k. first_of_three (224 + c / 4096) 128 191 (next (c / 64)) (next c) s
-            (row_low (224 + c / 4096) (omega arith) (omega arith)) (omega arith) (omega arith)
-            (next_low c) (next_high c) w)
-    (⊎_elim
-        (λ k. first_of_three (224 + c / 4096) 128 159 (next (c / 64)) (next c) s
-            (lead_is 237 (Wants 1 128 159) (224 + c / 4096) (omega arith) row_ed) (omega arith)
-            (omega arith) (next_low c) (next_high c) w)
     (λ k. first_of_three (224 + c / 4096) 128 191 (next (c / 64)) (next c) s
-        (row_high (224 + c / 4096) (omega arith) (omega arith)) (omega arith) (omega arith)
-        (next_low c) (next_high c) w)))
+    (row_low (224 + c / 4096) (omega arith) (omega arith)) (omega arith) (omega arith)
+    (next_low c) (next_high c) w)
+    (⊎_elim
+    (λ k. first_of_three (224 + c / 4096) 128 159 (next (c / 64)) (next c) s
+    (lead_is 237 (Wants 1 128 159) (224 + c / 4096) (omega arith) row_ed) (omega arith)
+    (omega arith) (next_low c) (next_high c) w)
+    (λ k. first_of_three (224 + c / 4096) 128 191 (next (c / 64)) (next c) s
+    (row_high (224 + c / 4096) (omega arith) (omega arith)) (omega arith) (omega arith)
+    (next_low c) (next_high c) w)))
     (split3 c e)
 
 four_from : (c : ℕ) (s : List ℕ) → 65536 ≤ c → scalar c ≡ true → WellFormed Start s
@@ -158,15 +155,15 @@ four_from : (c : ℕ) (s : List ℕ) → 65536 ≤ c → scalar c ≡ true → W
 unfolding Split4
 four_from c s l e w = ⊎_elim
     (λ k. first_of_four (240 + c / 262144) 144 191 (next (c / 4096)) (next (c / 64)) (next c) s
-        (lead_is 240 (Wants 2 144 191) (240 + c / 262144) (omega arith) row_f0) (omega arith)
-        (omega arith) (next_low (c / 64)) (next_high (c / 64)) (next_low c) (next_high c) w)
+    (lead_is 240 (Wants 2 144 191) (240 + c / 262144) (omega arith) row_f0) (omega arith)
+    (omega arith) (next_low (c / 64)) (next_high (c / 64)) (next_low c) (next_high c) w)
     (⊎_elim
-        (λ k. first_of_four (240 + c / 262144) 128 191 (next (c / 4096)) (next (c / 64)) (next c) s
-            (row_f1 (240 + c / 262144) (omega arith) (omega arith)) (omega arith) (omega arith)
-            (next_low (c / 64)) (next_high (c / 64)) (next_low c) (next_high c) w)
+    (λ k. first_of_four (240 + c / 262144) 128 191 (next (c / 4096)) (next (c / 64)) (next c) s
+    (row_f1 (240 + c / 262144) (omega arith) (omega arith)) (omega arith) (omega arith)
+    (next_low (c / 64)) (next_high (c / 64)) (next_low c) (next_high c) w)
     (λ k. first_of_four (240 + c / 262144) 128 143 (next (c / 4096)) (next (c / 64)) (next c) s
-        (lead_is 244 (Wants 2 128 143) (240 + c / 262144) (omega arith) row_f4) (omega arith)
-        (omega arith) (next_low (c / 64)) (next_high (c / 64)) (next_low c) (next_high c) w))
+    (lead_is 244 (Wants 2 128 143) (240 + c / 262144) (omega arith) row_f4) (omega arith)
+    (omega arith) (next_low (c / 64)) (next_high (c / 64)) (next_low c) (next_high c) w))
     (split4 c l e)
 
 char_from : (c : ℕ) (s : List ℕ) → scalar c ≡ true → WellFormed Start s
@@ -174,9 +171,11 @@ char_from : (c : ℕ) (s : List ℕ) → scalar c ≡ true → WellFormed Start 
 unfolding Split
 char_from c s e w = ⊎_elim
     (λ k. of (c ∷ []) (encode_one c k) (Start, row_one c (omega arith), w))
-    (⊎_elim (λ k. of _ (encode_two c k.0 k.1) (Wants 0 128 191,
-        row_two (192 + c / 64) (omega arith) (omega arith),
-        wanted 0 128 191 (next c) s (next_low c) (next_high c) w))
+    (⊎_elim (λ k. of _ (encode_two c k.0 k.1) (
+      Wants 0 128 191,
+      row_two (192 + c / 64) (omega arith) (omega arith),
+      wanted 0 128 191 (next c) s (next_low c) (next_high c) w,
+    ))
     (⊎_elim (λ k. of _ (encode_three c k.0 k.1) (three_from c s k.0 k.1 e w))
     (λ k. of _ (encode_four c k) (four_from c s k e w))))
     (split c)
@@ -201,32 +200,112 @@ from_utf8 s (cs, (e, i)) = subst (WellFormed Start) i (chars_from cs e)
 Shape : ℕ → Utf8 → Type 0
 Shape b y = ((b ≤ 127)
     × (y ≡ Start)) ⊎ (((194 ≤ b) × (b ≤ 223)
-        × (y ≡ Wants 0 128 191)) ⊎ (((low high : ℕ) × (y ≡ Wants 1 low high) × (224 ≤ b) × (b ≤ 239)
-            × (128 ≤ low) × (high ≤ 191) × (b ≡ 224 → 160 ≤ low)
-            × (b ≡ 237 → high ≤ 159)) ⊎ ((low high : ℕ) × (y ≡ Wants 2 low high) × (240 ≤ b)
-            × (b ≤ 244) × (128 ≤ low) × (high ≤ 191) × (b ≡ 240 → 144 ≤ low)
-            × (b ≡ 244 → high ≤ 143))))
+    × (y ≡ Wants 0 128 191)) ⊎ (((low high : ℕ) × (y ≡ Wants 1 low high) × (224 ≤ b) × (b ≤ 239)
+    × (128 ≤ low) × (high ≤ 191) × (b ≡ 224 → 160 ≤ low)
+    × (b ≡ 237 → high ≤ 159)) ⊎ ((low high : ℕ) × (y ≡ Wants 2 low high) × (240 ≤ b)
+    × (b ≤ 244) × (128 ≤ low) × (high ≤ 191) × (b ≡ 240 → 144 ≤ low)
+    × (b ≡ 244 → high ≤ 143))))
 
 shapes : EachRow Shape rows
 unfolding Shape
 shapes = (
-    (λ b l h. inl (h, refl)),
-    ((λ b l h. inr (inl (l, h, refl))),
-    ((λ b l h. inr (inr (inl (160, 191, refl, omega arith, omega arith, omega arith, omega arith,
-        (λ e. omega arith), λ e. omega arith)))),
-    ((λ b l h. inr (inr (inl (128, 191, refl, omega arith, omega arith, omega arith, omega arith,
-        (λ e. omega arith), λ e. omega arith)))),
-    ((λ b l h. inr (inr (inl (128, 159, refl, omega arith, omega arith, omega arith, omega arith,
-        (λ e. omega arith), λ e. omega arith)))),
-    ((λ b l h. inr (inr (inl (128, 191, refl, omega arith, omega arith, omega arith, omega arith,
-        (λ e. omega arith), λ e. omega arith)))),
-    ((λ b l h. inr (inr (inr (144, 191, refl, omega arith, omega arith, omega arith, omega arith,
-        (λ e. omega arith), λ e. omega arith)))),
-    ((λ b l h. inr (inr (inr (128, 191, refl, omega arith, omega arith, omega arith, omega arith,
-        (λ e. omega arith), λ e. omega arith)))),
-    ((λ b l h. inr (inr (inr (128, 143, refl, omega arith, omega arith, omega arith, omega arith,
-        (λ e. omega arith), λ e. omega arith)))),
-    tt)))))))))
+  (λ b l h. inl (h, refl)),
+  (
+    (λ b l h. inr (inl (l, h, refl))),
+    (
+      (λ b l h. inr (inr (inl (
+        160,
+        191,
+        refl,
+        omega arith,
+        omega arith,
+        omega arith,
+        omega arith,
+        (λ e. omega arith),
+        λ e. omega arith,
+      )))),
+      (
+        (λ b l h. inr (inr (inl (
+          128,
+          191,
+          refl,
+          omega arith,
+          omega arith,
+          omega arith,
+          omega arith,
+          (λ e. omega arith),
+          λ e. omega arith,
+        )))),
+        (
+          (λ b l h. inr (inr (inl (
+            128,
+            159,
+            refl,
+            omega arith,
+            omega arith,
+            omega arith,
+            omega arith,
+            (λ e. omega arith),
+            λ e. omega arith,
+          )))),
+          (
+            (λ b l h. inr (inr (inl (
+              128,
+              191,
+              refl,
+              omega arith,
+              omega arith,
+              omega arith,
+              omega arith,
+              (λ e. omega arith),
+              λ e. omega arith,
+            )))),
+            (
+              (λ b l h. inr (inr (inr (
+                144,
+                191,
+                refl,
+                omega arith,
+                omega arith,
+                omega arith,
+                omega arith,
+                (λ e. omega arith),
+                λ e. omega arith,
+              )))),
+              (
+                (λ b l h. inr (inr (inr (
+                  128,
+                  191,
+                  refl,
+                  omega arith,
+                  omega arith,
+                  omega arith,
+                  omega arith,
+                  (λ e. omega arith),
+                  λ e. omega arith,
+                )))),
+                (
+                  (λ b l h. inr (inr (inr (
+                    128,
+                    143,
+                    refl,
+                    omega arith,
+                    omega arith,
+                    omega arith,
+                    omega arith,
+                    (λ e. omega arith),
+                    λ e. omega arith,
+                  )))),
+                  tt,
+                ),
+              ),
+            ),
+          ),
+        ),
+      ),
+    ),
+  ),
+)
 
 more_chars : (c : ℕ) (t s : List ℕ) → scalar c ≡ true → encode c ≡ t → IsUtf8 s → IsUtf8 (t ++ s)
 more_chars c t s e i (cs, (k, j)) = (c ∷ cs, (rw e k, ap₂ (λ x y. x ++ y) i j))
@@ -241,42 +320,50 @@ large_scalar c l h = grind arith
 of_two : (b c : ℕ) → 194 ≤ b → b ≤ 223 → 128 ≤ c → c ≤ 191
     → (x : ℕ) × (scalar x ≡ true) × (encode x ≡ b ∷ c ∷ [])
 of_two b c l h l' h' =
-  let x = (b - 192) * 64 + (c - 128) in
-  let e1 : 192 + x / 64 ≡ b = omega arith in
-  let e2 : next x ≡ c = omega arith in
-  (x, small_scalar x (omega arith), encode_two x (omega arith) (omega arith)
-      ∙ ap₂ (λ p q. p ∷ q ∷ []) e1 e2)
+    let x = (b - 192) * 64 + (c - 128) in
+    let e1 : 192 + x / 64 ≡ b = omega arith in
+    let e2 : next x ≡ c = omega arith in (
+      x,
+      small_scalar x (omega arith),
+      encode_two x (omega arith) (omega arith)
+          ∙ ap₂ (λ p q. p ∷ q ∷ []) e1 e2,
+    )
 
 of_three : (b c d : ℕ) → 224 ≤ b → b ≤ 239 → 128 ≤ c → c ≤ 191 → 128 ≤ d → d ≤ 191
     → (b ≡ 224 → 160 ≤ c) → (b ≡ 237 → c ≤ 159)
     → (x : ℕ) × (scalar x ≡ true) × (encode x ≡ b ∷ c ∷ d ∷ [])
 of_three b c d l h l' h' l2 h2 low high =
-  let lo : (160 ≤ c) ⊎ (225 ≤ b) = grind arith in
-  let x = (b - 224) * 4096 + (c - 128) * 64 + (d - 128) in
-  let e1 : 224 + x / 4096 ≡ b = omega arith in
-  let e2 : next (x / 64) ≡ c = omega arith in
-  let e3 : next x ≡ d = omega arith in
-  let s : (x < 55296) ⊎ (57344 ≤ x) = grind arith in
-  let top : x < 65536 = omega arith in
-  (x, ⊎_elim (λ k. small_scalar x k) (λ k. large_scalar x k (omega arith)) s,
+    let lo : (160 ≤ c) ⊎ (225 ≤ b) = grind arith in
+    let x = (b - 224) * 4096 + (c - 128) * 64 + (d - 128) in
+    let e1 : 224 + x / 4096 ≡ b = omega arith in
+    let e2 : next (x / 64) ≡ c = omega arith in
+    let e3 : next x ≡ d = omega arith in
+    let s : (x < 55296) ⊎ (57344 ≤ x) = grind arith in
+    let top : x < 65536 = omega arith in (
+      x,
+      ⊎_elim (λ k. small_scalar x k) (λ k. large_scalar x k (omega arith)) s,
       encode_three x (omega arith) top
-      ∙ ap₂ (λ p q. p ∷ q) e1 (ap₂ (λ p q. p ∷ q ∷ []) e2 e3))
+          ∙ ap₂ (λ p q. p ∷ q) e1 (ap₂ (λ p q. p ∷ q ∷ []) e2 e3),
+    )
 
 of_four : (b c d f : ℕ) → 240 ≤ b → b ≤ 244 → 128 ≤ c → c ≤ 191 → 128 ≤ d → d ≤ 191 → 128 ≤ f
     → f ≤ 191 → (b ≡ 240 → 144 ≤ c) → (b ≡ 244 → c ≤ 143)
     → (x : ℕ) × (scalar x ≡ true) × (encode x ≡ b ∷ c ∷ d ∷ f ∷ [])
 of_four b c d f l h l' h' l2 h2 l3 h3 low high =
-  let lo : (144 ≤ c) ⊎ (241 ≤ b) = grind arith in
-  let hi : (c ≤ 143) ⊎ (b ≤ 243) = grind arith in
-  let x = (b - 240) * 262144 + (c - 128) * 4096 + (d - 128) * 64 + (f - 128) in
-  let e1 : 240 + x / 262144 ≡ b = omega arith in
-  let e2 : next (x / 4096) ≡ c = omega arith in
-  let e3 : next (x / 64) ≡ d = omega arith in
-  let e4 : next x ≡ f = omega arith in
-  let bottom : 65536 ≤ x = omega arith in
-  let top : x < 1114112 = omega arith in
-  (x, large_scalar x (omega arith) top, encode_four x bottom
-      ∙ ap₂ (λ p q. p ∷ q) e1 (ap₂ (λ p q. p ∷ q) e2 (ap₂ (λ p q. p ∷ q ∷ []) e3 e4)))
+    let lo : (144 ≤ c) ⊎ (241 ≤ b) = grind arith in
+    let hi : (c ≤ 143) ⊎ (b ≤ 243) = grind arith in
+    let x = (b - 240) * 262144 + (c - 128) * 4096 + (d - 128) * 64 + (f - 128) in
+    let e1 : 240 + x / 262144 ≡ b = omega arith in
+    let e2 : next (x / 4096) ≡ c = omega arith in
+    let e3 : next (x / 64) ≡ d = omega arith in
+    let e4 : next x ≡ f = omega arith in
+    let bottom : 65536 ≤ x = omega arith in
+    let top : x < 1114112 = omega arith in (
+      x,
+      large_scalar x (omega arith) top,
+      encode_four x bottom
+          ∙ ap₂ (λ p q. p ∷ q) e1 (ap₂ (λ p q. p ∷ q) e2 (ap₂ (λ p q. p ∷ q ∷ []) e3 e4)),
+    )
 
 shorter : (t s : List ℕ) (n : ℕ) → length (t ++ s) ≤ suc n → 1 ≤ length t → length s ≤ n
 shorter t s n h k = let e = length-append t s in omega arith
@@ -291,30 +378,36 @@ by_length : (n : ℕ) (s : List ℕ) → length s ≤ n → WellFormed Start s �
 unfolding Shape
 by_length n [] h w = ([], (refl, refl))
 by_length zero (b ∷ s) h w = absurd (omega arith)
-by_length (suc n) (b ∷ s) h (y, e,
-    w) = go s h w (λ t k v. by_length n t k v) (looked_up Shape rows shapes b y e)
+by_length (suc n) (b ∷ s) h (
+  y,
+  e,
+  w,
+) = go s h w (λ t k v. by_length n t k v) (looked_up Shape rows shapes b y e)
   where
     Rec : Type 0
     Rec = (t : List ℕ) → length t ≤ n → WellFormed Start t → IsUtf8 t
+
     two : (s : List ℕ) → length (b ∷ s) ≤ suc n → 194 ≤ b → b ≤ 223 → WellFormed (Wants 0 128 191) s
         → Rec → IsUtf8 (b ∷ s)
     two [] h l u w rec = absurd w
     two (c ∷ s) h l u w rec =
-      let k = after_one 128 191 c s 0 w in
-      let x = of_two b c l u k.0 k.1 in
-      more_chars x.0 (b ∷ c ∷ []) s x.1 x.2 (rec s (shorter (b ∷ c ∷ []) s n h (omega arith)) k.2)
+        let k = after_one 128 191 c s 0 w in
+        let x = of_two b c l u k.0 k.1 in
+        more_chars x.0 (b ∷ c ∷ []) s x.1 x.2 (rec s (shorter (b ∷ c ∷ []) s n h (omega arith)) k.2)
+
     three : (s : List ℕ) (low high : ℕ) → length (b ∷ s) ≤ suc n → 224 ≤ b → b ≤ 239 → 128 ≤ low
         → high ≤ 191 → (b ≡ 224 → 160 ≤ low) → (b ≡ 237 → high ≤ 159)
         → WellFormed (Wants 1 low high) s → Rec → IsUtf8 (b ∷ s)
     three [] low high h l u l' u' lo hi w rec = absurd w
     three (c ∷ []) low high h l u l' u' lo hi w rec = absurd ((after_one low high c [] 1 w).2)
     three (c ∷ d ∷ s) low high h l u l' u' lo hi w rec =
-      let k = after_one low high c (d ∷ s) 1 w in
-      let j = after_one 128 191 d s 0 k.2 in
-      let x = of_three b c d l u (omega arith) (omega arith) j.0 j.1 (λ e. let a = lo e in
-          omega arith) (λ e. let a = hi e in omega arith) in
-      more_chars x.0 (b ∷ c ∷ d ∷ []) s x.1 x.2
-          (rec s (shorter (b ∷ c ∷ d ∷ []) s n h (omega arith)) j.2)
+        let k = after_one low high c (d ∷ s) 1 w in
+        let j = after_one 128 191 d s 0 k.2 in
+        let x = of_three b c d l u (omega arith) (omega arith) j.0 j.1 (λ e. let a = lo e in
+        omega arith) (λ e. let a = hi e in omega arith) in
+        more_chars x.0 (b ∷ c ∷ d ∷ []) s x.1 x.2
+        (rec s (shorter (b ∷ c ∷ d ∷ []) s n h (omega arith)) j.2)
+
     four : (s : List ℕ) (low high : ℕ) → length (b ∷ s) ≤ suc n → 240 ≤ b → b ≤ 244 → 128 ≤ low
         → high ≤ 191 → (b ≡ 240 → 144 ≤ low) → (b ≡ 244 → high ≤ 143)
         → WellFormed (Wants 2 low high) s → Rec → IsUtf8 (b ∷ s)
@@ -323,20 +416,22 @@ by_length (suc n) (b ∷ s) h (y, e,
     four (c ∷ d ∷ []) low high h l u l' u' lo hi w rec = absurd
         ((after_one 128 191 d [] 1 (after_one low high c (d ∷ []) 2 w).2).2)
     four (c ∷ d ∷ f ∷ s) low high h l u l' u' lo hi w rec =
-      let k = after_one low high c (d ∷ f ∷ s) 2 w in
-      let j = after_one 128 191 d (f ∷ s) 1 k.2 in
-      let i = after_one 128 191 f s 0 j.2 in
-      let x = of_four b c d f l u (omega arith) (omega arith) j.0 j.1 i.0 i.1 (λ e. let a = lo e in
-          omega arith) (λ e. let a = hi e in omega arith) in
-      more_chars x.0 (b ∷ c ∷ d ∷ f ∷ []) s x.1 x.2
-          (rec s (shorter (b ∷ c ∷ d ∷ f ∷ []) s n h (omega arith)) i.2)
+        let k = after_one low high c (d ∷ f ∷ s) 2 w in
+        let j = after_one 128 191 d (f ∷ s) 1 k.2 in
+        let i = after_one 128 191 f s 0 j.2 in
+        let x =
+        of_four b c d f l u (omega arith) (omega arith) j.0 j.1 i.0 i.1 (λ e. let a = lo e in
+        omega arith) (λ e. let a = hi e in omega arith) in
+        more_chars x.0 (b ∷ c ∷ d ∷ f ∷ []) s x.1 x.2
+        (rec s (shorter (b ∷ c ∷ d ∷ f ∷ []) s n h (omega arith)) i.2)
+
     go : (s : List ℕ) → length (b ∷ s) ≤ suc n → WellFormed y s → Rec → Shape b y → IsUtf8 (b ∷ s)
     go s h w rec = ⊎_elim
         (λ k. more_chars b (b ∷ []) s (small_scalar b (omega arith)) (encode_one b (omega arith))
-            (rec s (shorter (b ∷ []) s n h (omega arith)) (subst (λ z. WellFormed z s) k.1 w)))
+        (rec s (shorter (b ∷ []) s n h (omega arith)) (subst (λ z. WellFormed z s) k.1 w)))
         (⊎_elim (λ k. two s h k.0 k.1 (subst (λ z. WellFormed z s) k.2 w) rec)
         (⊎_elim
-            (λ k. three s k.0 k.1 h k.3 k.4 k.5 k.6 k.7 k.8 (subst (λ z. WellFormed z s) k.2 w) rec)
+        (λ k. three s k.0 k.1 h k.3 k.4 k.5 k.6 k.7 k.8 (subst (λ z. WellFormed z s) k.2 w) rec)
         (λ k. four s k.0 k.1 h k.3 k.4 k.5 k.6 k.7 k.8 (subst (λ z. WellFormed z s) k.2 w) rec)))
 
 -- what is in the table is std's UTF-8

@@ -40,18 +40,18 @@ scaled v x a p h k = omega arith
 value_bound : (a : ℕ) (w : List ℕ) → Every is_digit w → value_from a w < (a + 1) * 10 ^ length w
 value_bound a [] h = omega arith
 value_bound a (d ∷ w) h =
-  let k = digit_small d h.0 in
-  let c : 10 * a + (d - 48) + 1 ≤ 10 * a + 10 = omega arith in
-  let e : 10 ^ suc (length w) ≡ 10 * 10 ^ length w = omega arith in
-  subst (λ y. value_from (10 * a + (d - 48)) w < (a + 1) * y) (sym e)
-      (scaled _ (10 * a + (d - 48)) a (10 ^ length w) (value_bound (10 * a + (d - 48)) w h.1)
-          (mul-le-mul_right (10 ^ length w) c))
+    let k = digit_small d h.0 in
+    let c : 10 * a + (d - 48) + 1 ≤ 10 * a + 10 = omega arith in
+    let e : 10 ^ suc (length w) ≡ 10 * 10 ^ length w = omega arith in
+    subst (λ y. value_from (10 * a + (d - 48)) w < (a + 1) * y) (sym e)
+    (scaled _ (10 * a + (d - 48)) a (10 ^ length w) (value_bound (10 * a + (d - 48)) w h.1)
+    (mul-le-mul_right (10 ^ length w) c))
 
 pub digits_bound : (w : List ℕ) (k : ℕ) → Every is_digit w → length w ≤ k → value_from 0 w < 10 ^ k
 digits_bound w k h l =
-  let b = value_bound 0 w h in
-  let p : 10 ^ length w ≤ 10 ^ k = pow-le-pow_right (omega arith) l in
-  omega arith
+    let b = value_bound 0 w h in
+    let p : 10 ^ length w ≤ 10 ^ k = pow-le-pow_right (omega arith) l in
+    omega arith
 
 signed_abs : (neg : Bool) (n : ℕ) → nat_abs (signed neg n) ≡ n
 signed_abs false n = refl
@@ -67,24 +67,26 @@ scaled_bound v k l h e = all k l h e
   where
     three : (k : ℕ) → 1 ≤ k → k ≤ 3 → (1 ≡ k) ⊎ ((2 ≡ k) ⊎ (3 ≡ k))
     three k l h = grind arith
+
     lit : (v : ℕ)
         → (v < 10 ^ 1 → v * 10 ^ (3 - 1) < 1000) × (v < 10 ^ 2 → v * 10 ^ (3 - 2) < 1000)
-            × (v < 10 ^ 3 → v * 10 ^ (3 - 3) < 1000)
+        × (v < 10 ^ 3 → v * 10 ^ (3 - 3) < 1000)
     lit v = (λ h. omega arith, λ h. omega arith, λ h. omega arith)
+
     all : (g : ℕ) → 1 ≤ g → g ≤ 3 → v < 10 ^ g → v * 10 ^ (3 - g) < 1000
     all g l h e = ⊎_elim (λ i. subst (λ y. v < 10 ^ y → v * 10 ^ (3 - y) < 1000) i (lit v).0 e)
-      (⊎_elim (λ i. subst (λ y. v < 10 ^ y → v * 10 ^ (3 - y) < 1000) i (lit v).1 e)
-      (λ i. subst (λ y. v < 10 ^ y → v * 10 ^ (3 - y) < 1000) i (lit v).2 e)) (three g l h)
+        (⊎_elim (λ i. subst (λ y. v < 10 ^ y → v * 10 ^ (3 - y) < 1000) i (lit v).1 e)
+        (λ i. subst (λ y. v < 10 ^ y → v * 10 ^ (3 - y) < 1000) i (lit v).2 e)) (three g l h)
 
 decimal_valid : (m : ℤ) (t : List ℕ) → SpellsDecimal t m → nat_abs m < 10 ^ 15
 decimal_valid m t (neg, w, f, e, d, d', i) =
-  let a = digits_bound w 12 d.each (let f = d.fits in omega arith) in
-  let b = digits_bound f (length f) d'.each (omega arith) in
-  let c = scaled_bound (value_from 0 f) (length f) (let g = d'.enough in
-      omega arith) (let g = d'.fits in omega arith) b in
-  subst (λ y. y < 10 ^ 15) (sym (ap nat_abs i
-      ∙ signed_abs neg (value_from 0 w * 1000 + value_from 0 f * 10 ^ (3 - length f))))
-          (omega arith)
+    let a = digits_bound w 12 d.each (let f = d.fits in omega arith) in
+    let b = digits_bound f (length f) d'.each (omega arith) in
+    let c = scaled_bound (value_from 0 f) (length f) (let g = d'.enough in
+    omega arith) (let g = d'.fits in omega arith) b in
+    subst (λ y. y < 10 ^ 15) (sym (ap nat_abs i
+    ∙ signed_abs neg (value_from 0 w * 1000 + value_from 0 f * 10 ^ (3 - length f))))
+    (omega arith)
 
 plain_byte : (c : ℕ) → is_plain c ≡ true → is_byte c ≡ true
 plain_byte c e = grind arith
@@ -118,22 +120,28 @@ module _ {V : Type 0} (P : List ℕ → Type 0) (Q : V → Type 0) where
 
   settle_valid : (ps : Pairs V) → Hold ps → Hold (settle ps)
   settle_valid [] h = tt
-  settle_valid (p ∷ ps) h = ((h.0.0, latest_valid p.0 p.1 ps h.0.1 h.1),
-      without_valid p.0 (settle ps) (settle_valid ps h.1))
+  settle_valid (p ∷ ps) h = (
+    (h.0.0, latest_valid p.0 p.1 ps h.0.1 h.1),
+    without_valid p.0 (settle ps) (settle_valid ps h.1),
+  )
 
 commas_valid : {X : Type 0} (P : List ℕ → X → Type 0) (Q : X → Type 0)
     → ((x : X) (t : List ℕ) → P t x → Q x) → (xs : List X) (t : List ℕ) → SpellsCommas P t xs
     → Each Q xs
 commas_valid P Q g [] t h = tt
-commas_valid P Q g (x ∷ xs) t (before, behind, front, back, e, f, f2, s, c) = (g x front s,
-    commas_valid P Q g xs back c)
+commas_valid P Q g (x ∷ xs) t (before, behind, front, back, e, f, f2, s, c) = (
+  g x front s,
+  commas_valid P Q g xs back c,
+)
 
 whole_valid : {X : Type 0} (P : List ℕ → X → Type 0) (Q : X → Type 0)
     → ((x : X) (t : List ℕ) → P t x → Q x) → (xs : List X) (t : List ℕ) → SpellsWhole P t xs
     → Each Q xs
 whole_valid P Q g [] t h = tt
-whole_valid P Q g (x ∷ xs) t (gap, body, tail, e, f, (front, back, e1, s, c), w) = (g x front s,
-    commas_valid P Q g xs back c)
+whole_valid P Q g (x ∷ xs) t (gap, body, tail, e, f, (front, back, e1, s, c), w) = (
+  g x front s,
+  commas_valid P Q g xs back c,
+)
 
 module _ (d : Dialect) where
   bare_valid : (x : Bare) (t : List ℕ) → SpellsBare d t x → ValidBare d x
@@ -153,13 +161,23 @@ module _ (d : Dialect) where
   raw_valid : (ps : Pairs Bare) (t : List ℕ) → SpellsRaw d t ps
       → Each (λ p. IsKey p.0 × ValidBare d p.1) ps
   raw_valid [] t h = tt
-  raw_valid (p ∷ ps) t (front, back, e, (gap, value, e1, f, i, s),
-      r) = ((i, value_valid p.1 value s), raw_valid ps back r)
+  raw_valid (p ∷ ps) t (
+    front,
+    back,
+    e,
+    (gap, value, e1, f, i, s),
+    r,
+  ) = ((i, value_valid p.1 value s), raw_valid ps back r)
 
   params_valid : (ps : Pairs Bare) (t : List ℕ) → SpellsParams d t ps → ValidParams d ps
-  params_valid ps t (raw, e,
-      h) = subst (ValidParams d) (sym e) (settle_valid IsKey (ValidBare d) raw (raw_valid raw t h),
-      distinct-settle raw)
+  params_valid ps t (
+    raw,
+    e,
+    h,
+  ) = subst (ValidParams d) (sym e) (
+    settle_valid IsKey (ValidBare d) raw (raw_valid raw t h),
+    distinct-settle raw,
+  )
 
   item_valid : (i : Item) (t : List ℕ) → SpellsItem d t i → ValidItem d i
   item_valid i t (front, back, e, h, k) = (bare_valid i.bare front h, params_valid i.params back k)
@@ -167,19 +185,25 @@ module _ (d : Dialect) where
   items_valid : (least : ℕ) (is : List Item) (t : List ℕ) → SpellsItems d least t is
       → Each (ValidItem d) is
   items_valid least [] t h = tt
-  items_valid least (i ∷ is) t (gap, front, back, e, f, z, s, r) = (item_valid i front s,
-      items_valid 1 is back r)
+  items_valid least (i ∷ is) t (gap, front, back, e, f, z, s, r) = (
+    item_valid i front s,
+    items_valid 1 is back r,
+  )
 
   member_valid : (m : Member) (t : List ℕ) → SpellsMember d t m → ValidMember d m
   member_valid (member.Item i) t h = item_valid i t h
-  member_valid (member.Inner l) t (body, back, e, s, k) = (items_valid 0 l.items body s,
-      params_valid l.params back k)
+  member_valid (member.Inner l) t (body, back, e, s, k) = (
+    items_valid 0 l.items body s,
+    params_valid l.params back k,
+  )
 
   entry_valid : (p : List ℕ × Member) (t : List ℕ) → SpellsEntry d t p
       → IsKey p.0 × ValidMember d p.1
   entry_valid p t (back, w, inl (e, s)) = (w, member_valid p.1 back s)
-  entry_valid p t (back, w, inr (ps, i, e, s)) = (w,
-      subst (ValidMember d) (sym i) (tt, params_valid ps back s))
+  entry_valid p t (back, w, inr (ps, i, e, s)) = (
+    w,
+    subst (ValidMember d) (sym i) (tt, params_valid ps back s),
+  )
 
   -- what a text spells is valid
   pub spelled_valid : (kind : Kind) (v : Field) (t : List ℕ) → SpellsField d kind t v
@@ -194,8 +218,8 @@ module _ (d : Dialect) where
   spelled_valid kind.Dict (field.Item i) t h = elim h [ ]
   spelled_valid kind.Dict (field.List l) t h = elim h [ ]
   spelled_valid kind.Dict (field.Dict m) t (raw, e, h) =
-      subst (ValidEntries d) (sym e)
-        (settle_valid IsKey (ValidMember d) raw
+      subst (ValidEntries d) (sym e) (
+        settle_valid IsKey (ValidMember d) raw
             (whole_valid (SpellsEntry d) (λ p. IsKey p.0 × ValidMember d p.1) entry_valid raw t h),
-          distinct-settle raw)
-
+        distinct-settle raw,
+      )

@@ -2,6 +2,8 @@
 use Rattle.std.specs.Prelude.{◌≡◌, ℕ, ◌+◌, ◌-◌, ◌^◌, ◌<◌, ◌≤◌, min, List, length, take, ⊤}
 use Rattle.std.specs.Prelude.{Option, None, Some, Result, Ok, Err}
 use Rattle.std.specs.Io.KnownBytes.{Consumes, Appends, Keeps, IsAtEnd}
+use Rattle.sf_value.specs.declared.device.Reading.{Reading}
+use Rattle.sf_value.specs.declared.device.Writing.{Writing}
 
 -- a count, which stays at 2^64 - 1 once it is there
 abbrev pub capped : ℕ → ℕ
@@ -18,6 +20,14 @@ pub record SourceState : Type 0 where
 pub record SinkState : Type 0 where
   pub taken : Option (List ℕ)
   pub failures : ℕ
+
+-- the reader that a Reading reads from
+abbrev pub reader_of : {R : Type 0} → Reading R → R
+reader_of r = r.reader
+
+-- the writer that a Writing writes to
+abbrev pub writer_of : {W : Type 0} → Writing W → W
+writer_of w = w.writer
 
 -- known bytes stay as they were, or are no longer told
 abbrev pub KeepsOrHides : Option (List ℕ) → Option (List ℕ) → Type 0

@@ -1,11 +1,14 @@
 //! Byte sequences (RFC 9651 section 3.3.5).
-ghost use Rattle.std.specs.Prelude.{◌≡◌, ℕ, List, [], ◌∷◌, ◌++◌, IfOk, MatchResult};
+ghost use Rattle.std.specs.Prelude.{◌≡◌, ℕ, List, [], ◌++◌, ◌↔◌, IsTrue, IfOk, MatchResult};
+ghost use Rattle.sf_value.specs.Grammar.Words.{Every};
+ghost use Rattle.sf_value.specs.Grammar.Classes.{is_byte};
 
 use crate::fault::OutOfMemory;
 use std::alloc::Global;
 use std::marker::Model;
 
-/// A byte sequence: any bytes. A field line is handed in as one, too.
+/// A byte sequence (RFC 9651 section 3.3.5): any number of any bytes, as they are, not in base64. A
+/// field line is handed in as one, too. Contracts see the list of its bytes.
 #[derive(Debug, Drop)]
 pub struct Blob {
     bytes: Vec<u8>,
@@ -18,7 +21,7 @@ impl Model for Blob {
 }
 
 impl Blob {
-    /// The byte sequence of these bytes.
+    /// The byte sequence of these bytes, which may be none.
     pub fn new(alloc: Global, bytes: &[u8]) -> Result<Blob, OutOfMemory>
         ensures { IfOk result (λ blob. blob ≡ bytes.now) }
     {
@@ -39,7 +42,8 @@ impl Blob {
 
     /// Adds bytes at the end. For want of memory the byte sequence stays as it was.
     pub fn extend(&mut self, bytes: &[u8]) -> Result<(), OutOfMemory>
-        ensures { MatchResult result (λ _. self.new ≡ self.old ++ bytes.now) (λ _. self.new ≡ self.old) }
+        ensures { MatchResult result (λ _. self.new ≡ self.old ++ bytes.now)
+            (λ _. self.new ≡ self.old) }
     {
         self.bytes.extend_from_slice(bytes)?;
         Ok(())
@@ -49,16 +53,26 @@ impl Blob {
     pub fn copy(&self, alloc: Global) -> Result<Blob, OutOfMemory>
         ensures { IfOk result (λ copy. copy ≡ self.now) }
     {
-        match Vec::from_slice(alloc, self.bytes.as_slice()) {
+        match Vec::from_slice(alloc, self.as_bytes()) {
             Ok(bytes) => Ok(Blob { bytes }),
             Err(_) => Err(OutOfMemory),
         }
     }
 
-    /// The bytes that it was made of.
+    /// Its bytes. It takes no memory.
     pub fn as_bytes(&self) -> &[u8]
-        ensures { result.now ≡ self.now }
+        ensures bytes { result.now ≡ self.now }
+        ensures byte { Every is_byte self.now }
     {
-        self.bytes.as_slice()
+        // Bound to a name, since the check knows of a named slice that its items are bytes.
+        let bytes = self.bytes.as_slice();
+        bytes
+    }
+
+    /// Whether it has no byte. It takes no memory.
+    pub fn is_empty(&self) -> bool
+        ensures { IsTrue result ↔ (self.now ≡ []) }
+    {
+        self.bytes.is_empty()
     }
 }

@@ -1,31 +1,58 @@
-// What a source gives and a sink takes.
+//! The devices that texts come from and go to. What reads a text asks for a [`Source`], what writes
+//! one for a [`Sink`]; [`Reading`] and [`Writing`] make them of any reader and writer.
 ghost use Rattle.std.specs.Prelude.{◌≡◌, ℕ, List, ◌+◌, ◌≤◌};
 ghost use Rattle.sf_value.specs.Devices.{SourceState, SinkState, Pulls, Sends};
+ghost use Rattle.sf_value.specs.Devices.{reader_of, writer_of};
 
+use std::error::Error;
+use std::fmt;
 use std::io::{Read, Write};
 
 /// A call that gave or took no byte, for whatever cause.
-#[derive(Debug, Drop)]
+#[derive(Clone, Copy, Debug, PartialEq, Eq)]
 pub struct Failed;
 
+impl fmt::Display for Failed {
+    fn fmt<W: fmt::Write>(&self, f: &mut fmt::Formatter<W>) -> fmt::Result {
+        write!(f, "a device failed")
+    }
+}
+
+impl Error for Failed {}
+
+/// What bytes come from.
+///
+/// A device of your own is seen by contracts through its `state`: the bytes still to come, or that
+/// it does not tell them; how many bytes it gave; how many calls failed. The two counts stay at
+/// 2^64 - 1 once they are there.
 pub trait Source {
-    // The bytes still to come, where it tells them, how many bytes it gave, and how many calls failed.
+    // The bytes still to come, where it tells them, how many bytes it gave, and how many calls
+    // failed.
     ghost state: { Self → SourceState };
 
+    /// Puts the next bytes at the front of the block, and answers how many. It answers 0 into a
+    /// block that is not empty only where no byte is still to come. After `Failed` no byte was
+    /// given, and the source may tell its bytes no longer.
     fn pull(&mut self, block: &mut [u8]) -> Result<usize, Failed>
         ensures { Pulls (state self.old) (state self.new) result block.new };
 }
 
+/// What bytes go to.
+///
+/// A device of your own is seen by contracts through its `state`: the bytes taken, or that it does
+/// not tell them; how many calls failed, a count that stays at 2^64 - 1 once it is there.
 pub trait Sink {
     // The bytes taken, where it tells them, and how many calls failed.
     ghost state: { Self → SinkState };
 
+    /// Takes bytes from the front of those handed in, and answers how many: at least one, where any
+    /// were handed in. After `Failed` no byte was taken.
     fn send(&mut self, bytes: &[u8]) -> Result<usize, Failed>
         ensures { Sends (state self.old) (state self.new) result bytes.now };
 }
 
-/// Any reader as a source.
-#[derive(Drop)]
+/// Any reader as a source. No call is repeated, whatever its error.
+#[derive(Debug, Drop)]
 pub struct Reading<R> {
     reader: R,
     given: u64,
@@ -33,8 +60,11 @@ pub struct Reading<R> {
 }
 
 impl<R: Read> Reading<R> {
+    /// The source of this reader's bytes, with both counts at 0. It takes no memory.
     pub fn new(reader: R) -> Reading<R>
-        ensures { ⟦<Reading<R> as Source>⟧.state result ≡ record { to_come = R.remaining reader; given = 0; failures = 0 } }
+        ensures state { ⟦<Reading<R> as Source>⟧.state result
+            ≡ record { to_come = R.remaining reader; given = 0; failures = 0 } }
+        ensures reader { reader_of result ≡ reader }
     {
         Reading {
             reader,
@@ -43,8 +73,24 @@ impl<R: Read> Reading<R> {
         }
     }
 
+    /// How many bytes it gave so far, up to 2^64 - 1. It takes no memory.
+    pub fn given(&self) -> u64
+        ensures { result ≡ (⟦<Reading<R> as Source>⟧.state self.now).given }
+    {
+        self.given
+    }
+
+    /// How many calls failed so far, up to 2^64 - 1. It takes no memory.
+    pub fn failures(&self) -> u64
+        ensures { result ≡ (⟦<Reading<R> as Source>⟧.state self.now).failures }
+    {
+        self.failures
+    }
+
+    /// The reader back, as the calls so far left it. It takes no memory.
     pub fn into_inner(self) -> R
-        ensures { R.remaining result ≡ (⟦<Reading<R> as Source>⟧.state self).to_come }
+        ensures to_come { R.remaining result ≡ (⟦<Reading<R> as Source>⟧.state self).to_come }
+        ensures reader { result ≡ reader_of self }
     {
         let Reading {
             reader,
@@ -56,7 +102,11 @@ impl<R: Read> Reading<R> {
 }
 
 impl<R: Read> Source for Reading<R> {
-    ghost state = { λ r. record { to_come = R.remaining r.reader; given = r.given; failures = r.failures } };
+    ghost state = { λ r. record {
+      to_come = R.remaining r.reader;
+      given = r.given;
+      failures = r.failures;
+    } };
 
     fn pull(&mut self, block: &mut [u8]) -> Result<usize, Failed> {
         match self.reader.read(block) {
@@ -72,16 +122,21 @@ impl<R: Read> Source for Reading<R> {
     }
 }
 
-/// Any writer as a sink.
-#[derive(Drop)]
+/// Any writer as a sink. No call is repeated, whatever its error, and a write that takes no byte is
+/// `Failed`. It does not flush.
+#[derive(Debug, Drop)]
 pub struct Writing<W> {
     writer: W,
     failures: u64,
 }
 
 impl<W: Write> Writing<W> {
+    /// The sink that hands its bytes to this writer, with the count of failed calls at 0. It takes
+    /// no memory.
     pub fn new(writer: W) -> Writing<W>
-        ensures { ⟦<Writing<W> as Sink>⟧.state result ≡ record { taken = W.contents writer; failures = 0 } }
+        ensures state { ⟦<Writing<W> as Sink>⟧.state result
+            ≡ record { taken = W.contents writer; failures = 0 } }
+        ensures writer { writer_of result ≡ writer }
     {
         Writing {
             writer,
@@ -89,8 +144,17 @@ impl<W: Write> Writing<W> {
         }
     }
 
+    /// How many calls failed so far, up to 2^64 - 1. It takes no memory.
+    pub fn failures(&self) -> u64
+        ensures { result ≡ (⟦<Writing<W> as Sink>⟧.state self.now).failures }
+    {
+        self.failures
+    }
+
+    /// The writer back, as the calls so far left it. It takes no memory.
     pub fn into_inner(self) -> W
-        ensures { W.contents result ≡ (⟦<Writing<W> as Sink>⟧.state self).taken }
+        ensures taken { W.contents result ≡ (⟦<Writing<W> as Sink>⟧.state self).taken }
+        ensures writer { result ≡ writer_of self }
     {
         let Writing {
             writer,

@@ -1,9 +1,9 @@
-//! The dialects of structured fields.
+//! The dialects of structured fields (RFC 9651 section 1.2 and appendix D).
 
-/// Which RFC a text is read by.
+/// Which RFC a text is read by. A text that RFC 8941 accepts has the same value by RFC 9651.
 #[derive(Clone, Copy, Debug, PartialEq, Eq)]
 pub enum Dialect {
-    /// RFC 8941, which has no Dates and no Display Strings.
+    /// RFC 8941, which has no Dates and no Display Strings: a text with one is refused.
     Rfc8941,
     /// RFC 9651, which has all eight bare items.
     Rfc9651,

@@ -1,5 +1,6 @@
-//! Entries in order, by key.
-ghost use Rattle.std.specs.Prelude.{◌≡◌, ℕ, List, [], ◌∷◌, ◌++◌, None, length, slice_get, IfOk, IfErr};
+//! Entries in order, by key (RFC 9651 sections 3.1.2 and 3.2).
+ghost use Rattle.std.specs.Prelude.{◌≡◌, ℕ, List, [], ◌∷◌, ◌++◌, None, length, slice_get, ◌↔◌};
+ghost use Rattle.std.specs.Prelude.{IsTrue, IsSome, IfOk, IfErr};
 ghost use Rattle.std.specs.Option.{option_map, option_copied};
 ghost use Rattle.sf_value.specs.Grammar.Pairs.{settle, value_at};
 ghost use Rattle.sf_value.specs.Entries.{deref_entry, AreEntries};
@@ -7,14 +8,16 @@ ghost use Rattle.std.specs.Iterator.{at_most};
 ghost use Rattle.std.specs.Map.Iter.{TakesFirst, ShowsInOrder};
 
 use crate::fault::OutOfMemory;
-use crate::part::Part;
 use crate::key::Key;
+use crate::part::Part;
 use indexmap::{IndexMap, map};
 use std::alloc::Global;
 use std::hash::RandomState;
 use std::marker::Model;
 
-/// Values by key, in the order in which the keys came first.
+/// Values by key, in the order in which the keys came first: the parameters of an Item or an Inner
+/// List (RFC 9651 section 3.1.2), and the members of a Dictionary (section 3.2). No key stands
+/// twice. Contracts see the list of the pairs of a key's bytes and its value.
 #[derive(Debug, Drop)]
 pub struct Entries<V> {
     map: IndexMap<Vec<u8>, V, RandomState>,
@@ -32,7 +35,8 @@ impl<V> Model for Entries<V> {
 }
 
 impl<V> Entries<V> {
-    /// No entries.
+    /// No entries. It takes no memory. The seed is that of the hashes that look keys up; take one
+    /// that strangers cannot guess, where they choose the keys.
     pub fn new(alloc: Global, seed: &RandomState) -> Entries<V>
         ensures { result ≡ [] }
     {
@@ -41,6 +45,7 @@ impl<V> Entries<V> {
         }
     }
 
+    /// How many entries there are. It takes no memory.
     pub fn len(&self) -> usize
         ensures len { result ≡ length self.now }
         ensures entries { AreEntries self.now }
@@ -48,14 +53,29 @@ impl<V> Entries<V> {
         self.map.len()
     }
 
-    /// The value of a key.
+    /// Whether there is no entry. It takes no memory.
+    pub fn is_empty(&self) -> bool
+        ensures { IsTrue result ↔ (self.now ≡ []) }
+    {
+        self.len() == 0
+    }
+
+    /// The value of the key of these bytes; `None` where it has none, also where the bytes are no
+    /// key. It takes no memory.
     pub fn get(&self, key: &[u8]) -> Option<&V>
         ensures { option_copied result ≡ value_at key.now self.now }
     {
         self.map.get(key)
     }
 
-    /// The entry at a place.
+    /// Whether the key of these bytes has a value. It takes no memory.
+    pub fn contains_key(&self, key: &[u8]) -> bool
+        ensures { IsTrue result ↔ IsSome (value_at key.now self.now) }
+    {
+        self.get(key).is_some()
+    }
+
+    /// The key and the value at a place, counted from 0; `None` past the end. It takes no memory.
     pub fn at(&self, index: usize) -> Option<(&[u8], &V)>
         ensures { option_map deref_entry result ≡ slice_get self.now index }
     {
@@ -63,7 +83,7 @@ impl<V> Entries<V> {
         Some((key.as_slice(), value))
     }
 
-    /// The entries in order.
+    /// The entries in order, each as its key's bytes and its value. It takes no memory.
     pub fn iter(&self) -> Iter<'_, V>
         ensures rest { result ≡ self.now }
         ensures runs { ShowsInOrder (deref_entry {V = V}) }
@@ -73,7 +93,9 @@ impl<V> Entries<V> {
         }
     }
 
-    /// Puts a value at a key. A new key goes last; the value of one that is there is replaced, and answered.
+    /// Puts a value at a key. A new key goes last, and the answer is `None`. The value of a key
+    /// that is there is replaced in its place, and the old one is the answer; this takes no memory.
+    /// For want of memory the entries stay as they were, and the key and the value come back.
     pub fn put(&mut self, key: Key, value: V) -> Result<Option<V>, (Key, V)>
         ensures new { IfOk result (λ _. self.new ≡ settle (self.old ++ (key, value) ∷ [])) }
         ensures old { IfOk result (λ old. old ≡ value_at key self.old) }
@@ -90,7 +112,7 @@ impl<V> Entries<V> {
     }
 }
 
-/// The entries that are left, each as its key's bytes and its value.
+/// The entries that an iteration by reference has left, each as its key's bytes and its value.
 #[derive(Drop)]
 pub struct Iter<'a, V> {
     inner: map::Iter<'a, Vec<u8>, V>,
@@ -130,7 +152,7 @@ impl<'a, V> IntoIterator for &'a Entries<V> {
     }
 }
 
-/// The entries that are left, by value.
+/// The entries that an iteration by value has left, each as its key and its value.
 #[derive(Drop)]
 pub struct IntoIter<V> {
     inner: map::IntoIter<Vec<u8>, V>,
@@ -180,10 +202,10 @@ impl<V: Drop> IntoIterator for Entries<V> {
 
 impl<V: Part> Part for Entries<V> {
     fn same(&self, other: &Entries<V>) -> bool {
-        if self.map.len() != other.map.len() {
+        if self.len() != other.len() {
             return false;
         }
-        for i in 0..self.map.len() {
+        for i in 0..self.len() {
             let (Some(x), Some(y)) = (self.at(i), other.at(i)) else {
                 return false;
             };

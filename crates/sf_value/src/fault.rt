@@ -1,6 +1,10 @@
 //! Why a value could not be made.
+ghost use Rattle.std.specs.Prelude.{◌≡◌};
+ghost use Rattle.sf_value.specs.declared.fault.TextFault.TheVariants as fault;
 
 use std::alloc::{AllocError, AllocFailed};
+use std::error::Error;
+use std::fmt;
 
 /// No memory was left for the answer.
 #[derive(Clone, Copy, Debug, PartialEq, Eq)]
@@ -10,16 +14,48 @@ pub struct OutOfMemory;
 #[derive(Clone, Copy, Debug, PartialEq, Eq)]
 pub struct OutOfRange;
 
-/// Why bytes are no key, token or string.
+/// Why bytes are no key, token or string. Where several causes hold, the one that stands first here
+/// is answered.
 #[derive(Clone, Copy, Debug, PartialEq, Eq)]
 pub enum TextFault {
-    /// There is no byte, and a key or a token has at least one.
+    /// There is no byte, and a key or a token has at least one. A string is never refused so.
     Empty,
     /// The byte at this place, counted from 0, is not allowed there; no earlier one is bad.
-    BadByte { place: usize },
+    BadByte {
+        /// The place of the first bad byte.
+        place: usize,
+    },
     /// The bytes are good, and no memory was left for them.
     OutOfMemory,
 }
+
+impl fmt::Display for OutOfMemory {
+    fn fmt<W: fmt::Write>(&self, f: &mut fmt::Formatter<W>) -> fmt::Result {
+        write!(f, "out of memory")
+    }
+}
+
+impl fmt::Display for OutOfRange {
+    fn fmt<W: fmt::Write>(&self, f: &mut fmt::Formatter<W>) -> fmt::Result {
+        write!(f, "a number of more than 15 digits")
+    }
+}
+
+impl fmt::Display for TextFault {
+    fn fmt<W: fmt::Write>(&self, f: &mut fmt::Formatter<W>) -> fmt::Result {
+        match self {
+            TextFault::Empty => write!(f, "no byte"),
+            TextFault::BadByte { place } => write!(f, "a bad byte at {place}"),
+            TextFault::OutOfMemory => write!(f, "out of memory"),
+        }
+    }
+}
+
+impl Error for OutOfMemory {}
+
+impl Error for OutOfRange {}
+
+impl Error for TextFault {}
 
 impl From<AllocError> for OutOfMemory {
     fn from(_error: AllocError) -> OutOfMemory {
@@ -30,5 +66,13 @@ impl From<AllocError> for OutOfMemory {
 impl<T: Drop> From<AllocFailed<T>> for OutOfMemory {
     fn from(_error: AllocFailed<T>) -> OutOfMemory {
         OutOfMemory
+    }
+}
+
+impl From<OutOfMemory> for TextFault {
+    ghost from_gives = { λ _ e. e ≡ fault.OutOfMemory };
+
+    fn from(_error: OutOfMemory) -> TextFault {
+        TextFault::OutOfMemory
     }
 }

@@ -8,14 +8,16 @@ use crate::fault::{OutOfMemory, TextFault};
 use std::alloc::Global;
 use std::marker::Model;
 
-/// Whether a key may begin with this byte: `a` to `z` and `*`.
+/// Whether a key may begin with this byte: `a` to `z` and `*` (RFC 9651 section 3.1.2). It takes no
+/// memory.
 pub fn can_start_key(byte: u8) -> bool
     ensures { result ≡ is_key_start byte }
 {
     matches!(byte, b'a'..=b'z' | b'*')
 }
 
-/// Whether a key may go on with this byte: `a` to `z`, `0` to `9`, `_`, `-`, `.` and `*`.
+/// Whether a key may go on with this byte: `a` to `z`, `0` to `9`, `_`, `-`, `.` and `*` (RFC 9651
+/// section 3.1.2). It takes no memory.
 pub fn can_be_in_key(byte: u8) -> bool
     ensures { result ≡ is_key_rest byte }
 {
@@ -39,8 +41,9 @@ fn bad_byte(bytes: &[u8]) -> Option<usize>
     Some(place + 1)
 }
 
-/// The key of a parameter or of a member of a dictionary: a byte that may start one, then bytes that
-/// may be in one.
+/// The key of a parameter or of a member of a dictionary (RFC 9651 section 3.1.2): a byte that may
+/// start one ([`can_start_key`]), then any number of bytes that may be in one ([`can_be_in_key`]).
+/// Upper case is never in one. Contracts see the list of its bytes.
 #[derive(Debug, Drop)]
 pub struct Key {
     pub(crate) bytes: Vec<u8>,
@@ -55,7 +58,8 @@ impl Model for Key {
 }
 
 impl Key {
-    /// The key of these bytes.
+    /// The key of these bytes. It is refused as `Empty` where there is no byte, else as `BadByte`
+    /// at the first byte that may not stand in its place, else as `OutOfMemory`.
     #[tactic(auto, using(crate::proofs::Words::word_from_place))]
     pub fn new(alloc: Global, bytes: &[u8]) -> Result<Key, TextFault>
         ensures exact { MatchResult result (λ key. key ≡ bytes.now) (IsKeyFault bytes.now) }
@@ -73,7 +77,8 @@ impl Key {
         }
     }
 
-    /// The key of one byte, to which others are added: what a parser starts with.
+    /// The key of one byte, one that [`can_start_key`] accepts. Others are added by `push`: a
+    /// parser builds a key so.
     pub fn first(alloc: Global, byte: u8) -> Result<Key, OutOfMemory>
         requires { is_key_start byte ≡ true }
         ensures { IfOk result (λ key. key ≡ byte ∷ []) }
@@ -83,17 +88,29 @@ impl Key {
         Ok(Key { bytes })
     }
 
-    /// Adds a byte at the end. For want of memory the key stays as it was.
+    /// Adds a byte at the end, one that [`can_be_in_key`] accepts. For want of memory the key stays
+    /// as it was.
     #[tactic(auto, using(crate::proofs::Words::word_push))]
     pub fn push(&mut self, byte: u8) -> Result<(), OutOfMemory>
         requires { is_key_rest byte ≡ true }
-        ensures { MatchResult result (λ _. self.new ≡ self.old ++ byte ∷ []) (λ _. self.new ≡ self.old) }
+        ensures { MatchResult result (λ _. self.new ≡ self.old ++ byte ∷ [])
+            (λ _. self.new ≡ self.old) }
     {
         self.bytes.push(byte)?;
         Ok(())
     }
 
-    /// The bytes that it was made of.
+    /// Another key, equal to this one.
+    pub fn copy(&self, alloc: Global) -> Result<Key, OutOfMemory>
+        ensures { IfOk result (λ copy. copy ≡ self.now) }
+    {
+        match Vec::from_slice(alloc, self.as_bytes()) {
+            Ok(bytes) => Ok(Key { bytes }),
+            Err(_) => Err(OutOfMemory),
+        }
+    }
+
+    /// Its bytes, at least one. It takes no memory.
     pub fn as_bytes(&self) -> &[u8]
         ensures bytes { result.now ≡ self.now }
         ensures key { IsKey self.now }

@@ -1,38 +1,35 @@
-//! Laws of the definitions, each as the contract of a function that does nothing.
-ghost use Rattle.sf_value.specs.Laws.{SettlesInParts, CanonSpells, SpelledIsValid, CanonIsShort, SpellsInBoth, TableIsUtf8};
+//! Laws of the definitions, each as the contract of a function that does nothing: a proof that
+//! needs a law calls its function.
+ghost use Rattle.sf_value.specs.Laws.{SettlesInParts, CanonSpells, SpelledIsValid, CanonIsShort};
+ghost use Rattle.sf_value.specs.Laws.{SpellsInBoth, TableIsUtf8};
 
-/// Pairs with repeated keys may be settled before others follow them.
+/// Pairs with repeated keys may be settled before others follow them (RFC 9651 sections 4.2.2 and
+/// 4.2.3.2): overwriting as one reads is overwriting at the end.
 pub fn settles_in_parts<V>()
     ensures { SettlesInParts V }
-{
-}
+{}
 
-/// The canonical text of a valid value spells that value.
+/// The canonical text (RFC 9651 section 4.1) of a valid value spells that value (section 4.2).
 pub fn canon_spells()
     ensures { CanonSpells }
-{
-}
+{}
 
-/// What a text spells is valid.
+/// What a text spells is valid: its numbers are in range, its alphabets kept, no key stands twice.
 pub fn spelled_is_valid()
     ensures { SpelledIsValid }
-{
-}
+{}
 
 /// The canonical text is at most eight fifths as long as any text of its value.
 pub fn canon_is_short()
     ensures { CanonIsShort }
-{
-}
+{}
 
-/// A text that spells a value in the dialect of RFC 8941 spells the same in that of RFC 9651.
+/// A text that spells a value in the dialect of RFC 8941 spells the same one in that of RFC 9651.
 pub fn spells_in_both()
     ensures { SpellsInBoth }
-{
-}
+{}
 
 /// The table of RFC 3629 and the UTF-8 of the standard library are one.
 pub fn table_is_utf8()
     ensures { TableIsUtf8 }
-{
-}
+{}

@@ -1,5 +1,33 @@
-//! Structured Field Values for HTTP (RFC 9651): the values, their equality and copies, the devices
-//! that texts come from and go to, and (in `specs/`) the definitions of the grammar.
+//! The values of Structured Fields for HTTP (RFC 9651): what a parser gives, what a writer writes,
+//! and what a user builds, reads and compares.
+//!
+//! A [`Field`] is an [`Item`], a [`List`] or a [`Dict`]. An `Item` is a [`Bare`] item, of one of
+//! eight types, with parameters. A member of a `List` or of a `Dict` is an `Item` or an [`Inner`]
+//! list of `Item`s. Parameters and the members of a `Dict` are [`Entries`], values by [`Key`] in
+//! the order of their first places; the members of a `List` and the `Item`s of an `Inner` are a
+//! [`Sequence`], a `Vec` in all but name. Each type keeps what the RFC asks of it, so any value can
+//! be written: an [`Int`] has at most 15 digits, a `Key` or a [`Token`] has its alphabet, no key
+//! stands twice.
+//!
+//! Nothing here knows of texts but in `specs/`: [`same`] compares fields as trees, in which order
+//! counts, and [`copy`] copies one. What allocates is passed the allocator first and returns a
+//! `Result`; what makes `Entries` is passed a seed next. A call that is refused leaves what it
+//! borrowed as it was. To build the Item `a;q=1`:
+//!
+//! ```text
+//! let seed = RandomState::new(&rt)?;
+//! let mut params = Entries::new(alloc, &seed);
+//! if params.put(Key::new(alloc, b"q")?, Bare::Integer(Int::new(1)?)).is_err() {
+//!     return Err(OutOfMemory.into());
+//! }
+//! let bare = Bare::Token(Token::new(alloc, b"a")?);
+//! let field = Field::Item(Item { bare, params });
+//! ```
+//!
+//! [`Source`] and [`Sink`] are the devices that texts come from and go to; [`Reading`] and
+//! [`Writing`] make them of any reader and writer. `specs/Grammar` says which text spells which
+//! value, and which text is the canonical one of a value, in the words of the RFC and apart from
+//! any code; [`laws`] are proved of these definitions.
 #![tactic(auto)]
 
 mod blob;

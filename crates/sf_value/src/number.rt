@@ -8,7 +8,8 @@ use std::marker::Model;
 const LARGEST: i64 = 999_999_999_999_999;
 
 /// A whole number of at most 15 digits, from -999,999,999,999,999 to 999,999,999,999,999: the value
-/// of an Integer, and of a Date in seconds from 1970-01-01 on.
+/// of an Integer (RFC 9651 section 3.3.1), and of a Date (section 3.3.7) in seconds from
+/// 1970-01-01T00:00:00Z on, leap seconds not counted. Contracts see the number.
 #[derive(Clone, Copy, Debug, PartialEq, Eq)]
 pub struct Int {
     value: i64,
@@ -25,7 +26,8 @@ impl Model for Int {
 }
 
 impl Int {
-    /// The number, where it has at most 15 digits.
+    /// The number, where it has at most 15 digits; `OutOfRange` exactly where it has more. It takes
+    /// no memory.
     pub fn new(value: i64) -> Result<Int, OutOfRange>
         ensures short { IsOk result ↔ (nat_abs value < 10 ^ 15) }
         ensures value { IfOk result (λ n. n ≡ value) }
@@ -37,7 +39,7 @@ impl Int {
         }
     }
 
-    /// The number that it was made of.
+    /// The number that it was made of. It takes no memory.
     pub fn get(&self) -> i64
         ensures value { result ≡ self.now }
         ensures short { nat_abs self.now < 10 ^ 15 }
@@ -46,40 +48,44 @@ impl Int {
     }
 }
 
-/// A whole number of thousandths, of at most 15 digits: the value of a Decimal.
+/// A whole number of thousandths, of at most 15 digits, from -999,999,999,999,999 to
+/// 999,999,999,999,999: the value of a Decimal (RFC 9651 section 3.3.2), which has at most 12
+/// digits before the point and 3 behind it. So 1500 stands for 1.5. Contracts see the number of
+/// thousandths.
 #[derive(Clone, Copy, Debug, PartialEq, Eq)]
 pub struct Thousandths {
-    value: i64,
+    thousandths: i64,
 }
 
 impl Model for Thousandths {
     ghost Value = { ℤ };
 
-    ghost view = { λ n. n.value };
+    ghost view = { λ n. n.thousandths };
 
-    ghost invariant = { λ n. nat_abs n.value < 10 ^ 15 };
+    ghost invariant = { λ n. nat_abs n.thousandths < 10 ^ 15 };
 
-    ghost inverse = { λ n. record { value = n } };
+    ghost inverse = { λ n. record { thousandths = n } };
 }
 
 impl Thousandths {
-    /// The number of thousandths, where it has at most 15 digits.
+    /// The Decimal of so many thousandths, where that number has at most 15 digits; `OutOfRange`
+    /// exactly where it has more. It takes no memory.
     pub fn new(value: i64) -> Result<Thousandths, OutOfRange>
         ensures short { IsOk result ↔ (nat_abs value < 10 ^ 15) }
         ensures value { IfOk result (λ n. n ≡ value) }
     {
         if -LARGEST <= value && value <= LARGEST {
-            Ok(Thousandths { value })
+            Ok(Thousandths { thousandths: value })
         } else {
             Err(OutOfRange)
         }
     }
 
-    /// The number of thousandths that it was made of.
+    /// The number of thousandths that it was made of. It takes no memory.
     pub fn get(&self) -> i64
         ensures value { result ≡ self.now }
         ensures short { nat_abs self.now < 10 ^ 15 }
     {
-        self.value
+        self.thousandths
     }
 }

@@ -1,20 +1,23 @@
-//! Parts of values, which are compared and copied.
+//! Parts of values, which are compared and copied: equality is that of trees, in which order
+//! counts.
 ghost use Rattle.std.specs.Prelude.{◌≡◌, ◌↔◌, IsTrue, IfOk};
 
-use crate::fault::OutOfMemory;
 use crate::entries::Entries;
+use crate::fault::OutOfMemory;
 use crate::sequence::Sequence;
 use crate::value::{Bare, Dict, Field, Inner, Item, List, Member};
 use std::alloc::Global;
 use std::hash::RandomState;
 
-/// A part of a value.
+/// A part of a value: a bare item, an Item, an Inner List, a member, and entries and sequences of
+/// such. Whole fields are compared and copied by [`same`] and [`copy`].
 pub trait Part: Drop {
-    /// Whether the two are equal.
+    /// Whether the two are equal: the same type, the same bytes or numbers, and the same parts in
+    /// the same order. It takes no memory.
     fn same(&self, other: &Self) -> bool
         ensures { IsTrue result ↔ (self.now ≡ other.now) };
 
-    /// Another value, equal to this one.
+    /// Another value, equal to this one. The seed is that of its entries.
     fn copy(&self, alloc: Global, seed: &RandomState) -> Result<Self, OutOfMemory>
         ensures { IfOk result (λ copy. copy ≡ self.now) };
 }
@@ -119,7 +122,8 @@ impl Part for Member {
     }
 }
 
-/// Whether two values are equal. The order of members, items and parameters counts.
+/// Whether two fields are equal. The order of members, items and parameters counts, and fields of
+/// two kinds are never equal, though their texts may be. It takes no memory.
 pub fn same(a: &Field, b: &Field) -> bool
     ensures { IsTrue result ↔ (a.now ≡ b.now) }
 {
@@ -139,7 +143,7 @@ pub fn same(a: &Field, b: &Field) -> bool
     }
 }
 
-/// Another value, equal to its source.
+/// Another field, equal to its source. The seed is that of its entries.
 pub fn copy(alloc: Global, seed: &RandomState, field: &Field) -> Result<Field, OutOfMemory>
     ensures { IfOk result (λ copy. copy ≡ field.now) }
 {

@@ -1,5 +1,6 @@
 //! Values in order.
-ghost use Rattle.std.specs.Prelude.{◌≡◌, List, [], ◌∷◌, ◌++◌, ◌↔◌, IsTrue, length, slice_get, IfOk, IfErr, OnErr};
+ghost use Rattle.std.specs.Prelude.{◌≡◌, List, [], ◌∷◌, ◌++◌, ◌↔◌, IsTrue, length, slice_get};
+ghost use Rattle.std.specs.Prelude.{IfOk, IfErr, OnErr};
 ghost use Rattle.std.specs.Slice.Iter.{iter_rest};
 ghost use Rattle.std.specs.Vec.Iter.{into_iter_items, into_iter_steps};
 ghost use Rattle.std.specs.Iterator.Runs.{EveryRun, ItemsAre};
@@ -14,7 +15,9 @@ use std::marker::Model;
 use std::ops::DerefSlice;
 use std::{slice, vec};
 
-/// Values in order, as the members of a list.
+/// Values in order, as the members of a List or the Items of an Inner List (RFC 9651 sections 3.1
+/// and 3.1.1). It is made from a `Vec` and gives it back without memory, and it is read as a slice.
+/// Contracts see the list of the values.
 #[derive(Debug, Drop)]
 pub struct Sequence<T> {
     items: Vec<T>,
@@ -29,7 +32,7 @@ impl<T> Model for Sequence<T> {
 }
 
 impl<T> Sequence<T> {
-    /// No values.
+    /// No values. It takes no memory.
     pub fn new(alloc: Global) -> Sequence<T>
         ensures { result ≡ [] }
     {
@@ -38,14 +41,14 @@ impl<T> Sequence<T> {
         }
     }
 
-    /// The values of a `Vec`.
+    /// The values of a `Vec`. It takes no memory.
     pub fn from_vec(items: Vec<T>) -> Sequence<T>
         ensures { result ≡ items.items }
     {
         Sequence { items }
     }
 
-    /// The values, as a `Vec`.
+    /// The values, as a `Vec`. It takes no memory.
     pub fn into_vec(self) -> Vec<T>
         ensures { result.items ≡ self }
     {
@@ -53,18 +56,28 @@ impl<T> Sequence<T> {
         items
     }
 
+    /// The values, as a slice. It takes no memory.
     pub fn as_slice(&self) -> &[T]
         ensures { result.now ≡ self.now }
     {
         self.items.as_slice()
     }
 
+    /// How many values there are. It takes no memory.
     pub fn len(&self) -> usize
         ensures { result ≡ length self.now }
     {
         self.items.len()
     }
 
+    /// Whether there is no value. It takes no memory.
+    pub fn is_empty(&self) -> bool
+        ensures { IsTrue result ↔ (self.now ≡ []) }
+    {
+        self.items.is_empty()
+    }
+
+    /// The values in order. It takes no memory.
     pub fn iter(&self) -> slice::Iter<'_, T>
         ensures rest { iter_rest result ≡ self.now }
         ensures runs { IterYieldsInOrder T }
@@ -72,7 +85,8 @@ impl<T> Sequence<T> {
         self.items.iter()
     }
 
-    /// Adds a value at the end. For want of memory it comes back.
+    /// Adds a value at the end. For want of memory the values stay as they were, and the one handed
+    /// in comes back.
     pub fn push(&mut self, item: T) -> Result<(), T>
         ensures added { IfOk result (λ _. self.new ≡ self.old ++ item ∷ []) }
         ensures same { OnErr result (self.new ≡ self.old) }
@@ -102,7 +116,10 @@ impl<T: Drop> IntoIterator for Sequence<T> {
 
     type IntoIter = vec::IntoIter<T>;
 
-    ghost into_iter_gives = { λ s r. (into_iter_items r ≡ s) × EveryRun (into_iter_steps {X = T} {Z = Global}) (λ p. ItemsAre p (into_iter_items p.from)) };
+    ghost into_iter_gives = { λ s r.
+        (into_iter_items r ≡ s)
+        × EveryRun (into_iter_steps {X = T} {Z = Global})
+        (λ p. ItemsAre p (into_iter_items p.from)) };
 
     fn into_iter(self) -> vec::IntoIter<T> {
         self.into_vec().into_iter()
@@ -133,14 +150,14 @@ impl<T> DerefSlice for Sequence<T> {
     fn deref(&self) -> &[T]
         ensures { result.now ≡ self.now }
     {
-        self.items.as_slice()
+        self.as_slice()
     }
 }
 
 impl<T: Part> Part for Sequence<T> {
     fn same(&self, other: &Sequence<T>) -> bool {
-        let xs = self.items.as_slice();
-        let ys = other.items.as_slice();
+        let xs = self.as_slice();
+        let ys = other.as_slice();
         if xs.len() != ys.len() {
             return false;
         }
@@ -154,7 +171,7 @@ impl<T: Part> Part for Sequence<T> {
 
     fn copy(&self, alloc: Global, seed: &RandomState) -> Result<Sequence<T>, OutOfMemory> {
         let mut items = Vec::new(alloc);
-        let sources = self.items.as_slice();
+        let sources = self.as_slice();
         for item in sources {
             let copy = item.copy(alloc, seed)?;
             items.push(copy)?;

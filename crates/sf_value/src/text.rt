@@ -1,5 +1,6 @@
 //! Strings (RFC 9651 section 3.3.3).
-ghost use Rattle.std.specs.Prelude.{◌≡◌, ℕ, List, [], ◌∷◌, ◌++◌, true, IfOk, MatchResult};
+ghost use Rattle.std.specs.Prelude.{◌≡◌, ℕ, List, [], ◌∷◌, ◌++◌, true, ◌↔◌};
+ghost use Rattle.std.specs.Prelude.{IsTrue, IfOk, MatchResult};
 ghost use Rattle.sf_value.specs.Grammar.Words.{Every};
 ghost use Rattle.sf_value.specs.Grammar.Classes.{is_visible as is_visible_byte};
 ghost use Rattle.sf_value.specs.Faults.{bad_place, IsStringFault};
@@ -8,7 +9,7 @@ use crate::fault::{OutOfMemory, TextFault};
 use std::alloc::Global;
 use std::marker::Model;
 
-/// Whether a string may hold this byte: 0x20 to 0x7E.
+/// Whether a string may hold this byte: 0x20 to 0x7E (RFC 9651 section 3.3.3). It takes no memory.
 pub fn is_visible(byte: u8) -> bool
     ensures { result ≡ is_visible_byte byte }
 {
@@ -21,7 +22,8 @@ fn bad_byte(bytes: &[u8]) -> Option<usize>
     bytes.iter().position(|b| !is_visible(*b))
 }
 
-/// A string: bytes from 0x20 to 0x7E, as they are, with no escapes.
+/// A string (RFC 9651 section 3.3.3): any number of bytes from 0x20 to 0x7E, as they are, with no
+/// quotes round them and no escapes. Contracts see the list of its bytes.
 #[derive(Debug, Drop)]
 pub struct Text {
     bytes: Vec<u8>,
@@ -36,7 +38,8 @@ impl Model for Text {
 }
 
 impl Text {
-    /// The string of these bytes.
+    /// The string of these bytes, which may be none. It is refused as `BadByte` at the first byte
+    /// that no string holds, else as `OutOfMemory`, and never as `Empty`.
     #[tactic(auto, using(crate::proofs::Words::every_from_place))]
     pub fn new(alloc: Global, bytes: &[u8]) -> Result<Text, TextFault>
         ensures exact { MatchResult result (λ text. text ≡ bytes.now) (IsStringFault bytes.now) }
@@ -60,11 +63,13 @@ impl Text {
         }
     }
 
-    /// Adds a byte at the end. For want of memory the string stays as it was.
+    /// Adds a byte at the end, one that [`is_visible`] accepts. For want of memory the string stays
+    /// as it was.
     #[tactic(auto, using(crate::proofs::Words::every_push))]
     pub fn push(&mut self, byte: u8) -> Result<(), OutOfMemory>
         requires { is_visible_byte byte ≡ true }
-        ensures { MatchResult result (λ _. self.new ≡ self.old ++ byte ∷ []) (λ _. self.new ≡ self.old) }
+        ensures { MatchResult result (λ _. self.new ≡ self.old ++ byte ∷ [])
+            (λ _. self.new ≡ self.old) }
     {
         self.bytes.push(byte)?;
         Ok(())
@@ -74,17 +79,24 @@ impl Text {
     pub fn copy(&self, alloc: Global) -> Result<Text, OutOfMemory>
         ensures { IfOk result (λ copy. copy ≡ self.now) }
     {
-        match Vec::from_slice(alloc, self.bytes.as_slice()) {
+        match Vec::from_slice(alloc, self.as_bytes()) {
             Ok(bytes) => Ok(Text { bytes }),
             Err(_) => Err(OutOfMemory),
         }
     }
 
-    /// The bytes that it was made of.
+    /// Its bytes, without quotes and escapes. It takes no memory.
     pub fn as_bytes(&self) -> &[u8]
         ensures bytes { result.now ≡ self.now }
         ensures text { Every is_visible_byte self.now }
     {
         self.bytes.as_slice()
+    }
+
+    /// Whether it has no byte. It takes no memory.
+    pub fn is_empty(&self) -> bool
+        ensures { IsTrue result ↔ (self.now ≡ []) }
+    {
+        self.bytes.is_empty()
     }
 }

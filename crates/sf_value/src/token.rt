@@ -8,7 +8,8 @@ use crate::fault::{OutOfMemory, TextFault};
 use std::alloc::Global;
 use std::marker::Model;
 
-/// Whether a token may begin with this byte: a letter or `*`.
+/// Whether a token may begin with this byte: a letter or `*` (RFC 9651 section 3.3.4). It takes no
+/// memory.
 pub fn can_start_token(byte: u8) -> bool
     ensures { result ≡ is_token_start byte }
 {
@@ -16,7 +17,7 @@ pub fn can_start_token(byte: u8) -> bool
 }
 
 /// Whether a token may go on with this byte: a letter, a digit, `:`, `/` or one of
-/// ``!#$%&'*+-.^_`|~``.
+/// ``!#$%&'*+-.^_`|~`` (RFC 9651 section 3.3.4). It takes no memory.
 pub fn can_be_in_token(byte: u8) -> bool
     ensures { result ≡ is_token_rest byte }
 {
@@ -44,7 +45,8 @@ fn bad_byte(bytes: &[u8]) -> Option<usize>
     Some(place + 1)
 }
 
-/// A token: a byte that may start one, then bytes that may be in one.
+/// A token (RFC 9651 section 3.3.4): a byte that may start one ([`can_start_token`]), then any
+/// number of bytes that may be in one ([`can_be_in_token`]). Contracts see the list of its bytes.
 #[derive(Debug, Drop)]
 pub struct Token {
     pub(crate) bytes: Vec<u8>,
@@ -59,7 +61,8 @@ impl Model for Token {
 }
 
 impl Token {
-    /// The token of these bytes.
+    /// The token of these bytes. It is refused as `Empty` where there is no byte, else as `BadByte`
+    /// at the first byte that may not stand in its place, else as `OutOfMemory`.
     #[tactic(auto, using(crate::proofs::Words::word_from_place))]
     pub fn new(alloc: Global, bytes: &[u8]) -> Result<Token, TextFault>
         ensures exact { MatchResult result (λ token. token ≡ bytes.now) (IsTokenFault bytes.now) }
@@ -77,7 +80,8 @@ impl Token {
         }
     }
 
-    /// The token of one byte, to which others are added: what a parser starts with.
+    /// The token of one byte, one that [`can_start_token`] accepts. Others are added by `push`: a
+    /// parser builds a token so.
     pub fn first(alloc: Global, byte: u8) -> Result<Token, OutOfMemory>
         requires { is_token_start byte ≡ true }
         ensures { IfOk result (λ token. token ≡ byte ∷ []) }
@@ -87,11 +91,13 @@ impl Token {
         Ok(Token { bytes })
     }
 
-    /// Adds a byte at the end. For want of memory the token stays as it was.
+    /// Adds a byte at the end, one that [`can_be_in_token`] accepts. For want of memory the token
+    /// stays as it was.
     #[tactic(auto, using(crate::proofs::Words::word_push))]
     pub fn push(&mut self, byte: u8) -> Result<(), OutOfMemory>
         requires { is_token_rest byte ≡ true }
-        ensures { MatchResult result (λ _. self.new ≡ self.old ++ byte ∷ []) (λ _. self.new ≡ self.old) }
+        ensures { MatchResult result (λ _. self.new ≡ self.old ++ byte ∷ [])
+            (λ _. self.new ≡ self.old) }
     {
         self.bytes.push(byte)?;
         Ok(())
@@ -101,13 +107,13 @@ impl Token {
     pub fn copy(&self, alloc: Global) -> Result<Token, OutOfMemory>
         ensures { IfOk result (λ copy. copy ≡ self.now) }
     {
-        match Vec::from_slice(alloc, self.bytes.as_slice()) {
+        match Vec::from_slice(alloc, self.as_bytes()) {
             Ok(bytes) => Ok(Token { bytes }),
             Err(_) => Err(OutOfMemory),
         }
     }
 
-    /// The bytes that it was made of.
+    /// Its bytes, at least one. It takes no memory.
     pub fn as_bytes(&self) -> &[u8]
         ensures bytes { result.now ≡ self.now }
         ensures token { IsToken self.now }

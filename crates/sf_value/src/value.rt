@@ -1,77 +1,102 @@
-//! The values of fields.
+//! The values of fields (RFC 9651 section 3).
 ghost use Rattle.std.specs.Prelude.{◌≡◌};
 ghost use Rattle.sf_value.specs.Grammar.Fields.{kind_of};
 
+use crate::blob::Blob;
 use crate::entries::Entries;
 use crate::number::{Int, Thousandths};
 use crate::sequence::Sequence;
-use crate::blob::Blob;
 use crate::shown::Shown;
 use crate::text::Text;
 use crate::token::Token;
 
-/// A value with no parameters.
+/// A bare item: a value with no parameters (RFC 9651 section 3.3). Bare items of different types
+/// differ, so the Integer 1, the Decimal 1.0 and the Date of second 1 are three values.
 #[derive(Debug, Drop)]
 pub enum Bare {
+    /// An Integer (section 3.3.1).
     Integer(Int),
+    /// A Decimal (section 3.3.2), in thousandths.
     Decimal(Thousandths),
+    /// A String (section 3.3.3).
     Text(Text),
+    /// A Token (section 3.3.4).
     Token(Token),
+    /// A Byte Sequence (section 3.3.5).
     Blob(Blob),
+    /// A Boolean (section 3.3.6).
     Boolean(bool),
-    /// In seconds from 1970 on.
+    /// A Date (section 3.3.7), in seconds from 1970-01-01T00:00:00Z on; RFC 8941 has none.
     Date(Int),
+    /// A Display String (section 3.3.8); RFC 8941 has none.
     Shown(Shown),
 }
 
-/// A value with parameters.
+/// An Item: a bare item with parameters (RFC 9651 section 3.3).
 #[derive(Debug, Drop)]
 pub struct Item {
+    /// The bare item.
     pub bare: Bare,
+    /// Its parameters (section 3.1.2), in order; mostly none.
     pub params: Entries<Bare>,
 }
 
-/// Items in parentheses, with parameters.
+/// An Inner List: Items in parentheses, with parameters (RFC 9651 section 3.1.1).
 #[derive(Debug, Drop)]
 pub struct Inner {
+    /// The Items in order, each with parameters of its own.
     pub items: Sequence<Item>,
+    /// The parameters of the Inner List as a whole.
     pub params: Entries<Bare>,
 }
 
-/// A member of a list or of a dictionary.
+/// A member of a List or of a Dictionary (RFC 9651 sections 3.1 and 3.2).
 #[derive(Debug, Drop)]
 pub enum Member {
+    /// An Item.
     Item(Item),
+    /// An Inner List.
     Inner(Inner),
 }
 
+/// A List (RFC 9651 section 3.1).
 #[derive(Debug, Drop)]
 pub struct List {
+    /// Its members in order; there may be none.
     pub members: Sequence<Member>,
 }
 
+/// A Dictionary (RFC 9651 section 3.2).
 #[derive(Debug, Drop)]
 pub struct Dict {
+    /// Its members by key, in order; there may be none.
     pub members: Entries<Member>,
 }
 
-/// The value of a field.
+/// The value of a field (RFC 9651 section 3).
 #[derive(Debug, Drop)]
 pub enum Field {
+    /// The field is an Item.
     Item(Item),
+    /// The field is a List.
     List(List),
+    /// The field is a Dictionary.
     Dict(Dict),
 }
 
-/// The kinds of fields.
+/// The kinds of fields. Each field's definition names its kind; a text alone does not tell it.
 #[derive(Clone, Copy, Debug, PartialEq, Eq)]
 pub enum Kind {
+    /// An Item.
     Item,
+    /// A List.
     List,
+    /// A Dictionary.
     Dict,
 }
 
 impl Field {
+    /// Which of the three kinds the field is of. It takes no memory.
     pub fn kind(&self) -> Kind
         ensures { result ≡ kind_of self.now }
     {

@@ -35,7 +35,7 @@ SpellsEntry d t p =
     (back : Seq ℕ)
     × IsKey p.0
     × (((t ≡ p.0 ++ 61 ∷ back) × SpellsMember d back p.1)
-        ⊎ ((ps : Pairs Bare) × (p.1 ≡ flag ps) × (t ≡ p.0 ++ back) × SpellsParams d back ps))
+    ⊎ ((ps : Pairs Bare) × (p.1 ≡ flag ps) × (t ≡ p.0 ++ back) × SpellsParams d back ps))
 
 -- a List by its members, as a field
 abbrev pub list_of : Seq Member → Field

@@ -4,4 +4,6 @@ use Rattle.sf_value.proofs.EntryMaps.{lookup-pairs}
 use Rattle.sf_value.proofs.entries.Entries.get.Goals as goal
 
 pub returns : goal.returns
-returns g c = c.get.ensures.value ∙ sym (lookup-pairs c.args.key.now c.self.inside.map.entries) ∙ ap (value_at c.args.key.now) c.self.view_is
+returns g c =
+    c.get.ensures.value ∙ sym (lookup-pairs c.args.key.now c.self.inside.map.entries)
+    ∙ ap (value_at c.args.key.now) c.self.view_is

@@ -15,4 +15,5 @@ loop-i-preserved g c =
     let tested : true ≡ bytes_eq x.0.now y.0.now = told _ c.if-ne.ensures in
     let key = same_text x.0.now y.0.now tested in
     let value = c.if-not-same.ensures.0 refl in
-    same-step c.args.self.now c.args.other.now c.loop-i.i _ _ c.loop-i.invariant (sym c.in-Some-Some.ensures) (sym c.in-Some-Some.ensures') (λ i. (key i, value i))
+    same-step c.args.self.now c.args.other.now c.loop-i.i _ _ c.loop-i.invariant
+    (sym c.in-Some-Some.ensures) (sym c.in-Some-Some.ensures') (λ i. (key i, value i))
