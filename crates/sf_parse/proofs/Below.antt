@@ -29,11 +29,11 @@ use Rattle.sf_parse.specs.Machine.Inners.{InnerState, Room, InItem, Closing}
 use Rattle.sf_parse.specs.declared.member.MemberState.{MemberState}
 use Rattle.sf_parse.specs.declared.member.MemberState.TheVariants.{InOne, InMany}
 use Rattle.sf_parse.specs.Machine.Series.{SeriesState, Begin, InPiece, Gap, Comma}
-use Rattle.sf_parse.specs.declared.entry.EntryState.{EntryState}
-use Rattle.sf_parse.specs.declared.entry.EntryState.TheVariants.{InKey, Equals, InMember, InFlag}
-use Rattle.sf_parse.specs.declared.state.State.{State}
-use Rattle.sf_parse.specs.declared.state.State.TheVariants.{BeforeItem, InTop, AfterItem, InList}
-use Rattle.sf_parse.specs.declared.state.State.TheVariants.{InDict}
+use Rattle.sf_parse.specs.Machine.Entries.{EntryState}
+use Rattle.sf_parse.specs.Machine.Entries.{InKey, Equals, InMember, InFlag}
+use Rattle.sf_parse.specs.Machine.States.{State}
+use Rattle.sf_parse.specs.Machine.States.{BeforeItem, InTop, AfterItem, InList}
+use Rattle.sf_parse.specs.Machine.States.{InDict}
 use Rattle.sf_parse.specs.Machine.Fields.{Rest, begin}
 use Rattle.sf_parse.specs.Machine.Takes.{number_takes, date_takes, text_takes, boolean_takes}
 use Rattle.sf_parse.specs.Machine.Takes.{pad_takes, blob_takes, utf8_takes, passes, shown_takes}

@@ -31,17 +31,18 @@ use Rattle.sf_parse.specs.declared.member.MemberState.{MemberState}
 use Rattle.sf_parse.specs.declared.member.MemberState.TheVariants.{InOne, InMany}
 use Rattle.sf_parse.specs.Machine.Series.{SeriesState, Begin, InPiece, Gap, Comma, gap_step}
 use Rattle.sf_parse.specs.Machine.Series.{series_step}
-use Rattle.sf_parse.specs.declared.entry.EntryState.{EntryState}
-use Rattle.sf_parse.specs.declared.entry.EntryState.TheVariants.{InKey, Equals, InMember, InFlag}
-use Rattle.sf_parse.specs.declared.state.State.{State}
-use Rattle.sf_parse.specs.declared.state.State.TheVariants.{BeforeItem, InTop, AfterItem, InList}
-use Rattle.sf_parse.specs.declared.state.State.TheVariants.{InDict}
-use Rattle.sf_parse.specs.Machine.Fields.{entry_step, entry_finish, list_series, dict_series, step}
+use Rattle.sf_parse.specs.Machine.Entries.{EntryState}
+use Rattle.sf_parse.specs.Machine.Entries.{InKey, Equals, InMember, InFlag}
+use Rattle.sf_parse.specs.Machine.States.{State}
+use Rattle.sf_parse.specs.Machine.States.{BeforeItem, InTop, AfterItem, InList}
+use Rattle.sf_parse.specs.Machine.States.{InDict}
+use Rattle.sf_parse.specs.Machine.Fields.{list_series, dict_series, step}
 use Rattle.sf_parse.specs.Machine.Fields.{finish, begin}
 use Rattle.sf_parse.specs.Laws.{At, OnlyNew}
 use Rattle.sf_parse.proofs.Language.{and_then_cases}
 use Rattle.sf_parse.proofs.Theorems.{is_read, stops_at}
 use Rattle.sf_parse.specs.Machine.Members.{member_start, member_step, member_finish}
+use Rattle.sf_parse.specs.Machine.Entries.{entry_step, entry_finish}
 
 -- @ or %
 abbrev Mark : ℕ → Type 0

@@ -25,13 +25,11 @@ use Rattle.sf_parse.specs.declared.item.ItemState.{ItemState}
 use Rattle.sf_parse.specs.Machine.Items.{item_start, item_step, item_finish}
 use Rattle.sf_parse.specs.declared.member.MemberState.{MemberState}
 use Rattle.sf_parse.specs.Machine.Series.{Begin}
-use Rattle.sf_parse.specs.declared.entry.EntryState.{EntryState}
-use Rattle.sf_parse.specs.declared.entry.EntryState.TheVariants.{InKey, Equals, InMember, InFlag}
-use Rattle.sf_parse.specs.declared.state.State.{State}
-use Rattle.sf_parse.specs.declared.state.State.TheVariants.{BeforeItem, InTop, AfterItem, InList}
-use Rattle.sf_parse.specs.declared.state.State.TheVariants.{InDict}
-use Rattle.sf_parse.specs.Machine.Fields.{with_key, flag_of, BehindKey, RestEntry, GoodEntry}
-use Rattle.sf_parse.specs.Machine.Fields.{entry_start, behind_key_step, entry_step, entry_finish}
+use Rattle.sf_parse.specs.Machine.Entries.{EntryState}
+use Rattle.sf_parse.specs.Machine.Entries.{InKey, Equals, InMember, InFlag}
+use Rattle.sf_parse.specs.Machine.States.{State}
+use Rattle.sf_parse.specs.Machine.States.{BeforeItem, InTop, AfterItem, InList}
+use Rattle.sf_parse.specs.Machine.States.{InDict}
 use Rattle.sf_parse.specs.Machine.Fields.{list_series, dict_series, Tail, Rest, Good, step, finish}
 use Rattle.sf_parse.specs.Machine.Fields.{begin}
 use Rattle.sf_parse.proofs.Language.{reads_iff, reads_seen, reads_then, reads_first, reads_either}
@@ -50,6 +48,8 @@ use Rattle.sf_parse.proofs.Inners.{member_apart}
 use Rattle.sf_parse.proofs.Series.{SeriesLaws, series_reads, series_lives, series_texts, sp_ows}
 use Rattle.sf_parse.proofs.Series.{ows_after}
 use Rattle.sf_parse.specs.Machine.Members.{member_start, member_step, member_finish}
+use Rattle.sf_parse.specs.Machine.Entries.{with_key, flag_of, BehindKey, RestEntry, GoodEntry}
+use Rattle.sf_parse.specs.Machine.Entries.{entry_start, behind_key_step, entry_step, entry_finish}
 
 key_apart : (k : List ℕ) (b : ℕ) (t : EntryState) → is_key_rest b ≡ true
     → behind_key_step k b ≡ Some t → ⊥

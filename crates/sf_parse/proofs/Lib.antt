@@ -1,6 +1,8 @@
 pub mod Letters
 pub mod Numerals
 pub mod Leading
+pub mod Given
+pub mod Marks
 pub mod Language
 pub mod Classes
 pub mod Machines

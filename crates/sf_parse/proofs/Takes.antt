@@ -41,12 +41,11 @@ use Rattle.sf_parse.specs.declared.member.MemberState.{MemberState}
 use Rattle.sf_parse.specs.declared.member.MemberState.TheVariants.{InOne, InMany}
 use Rattle.sf_parse.specs.Machine.Series.{SeriesState, Begin, InPiece, Gap, Comma, Series, gap_step}
 use Rattle.sf_parse.specs.Machine.Series.{series_step, series_finish}
-use Rattle.sf_parse.specs.declared.entry.EntryState.{EntryState}
-use Rattle.sf_parse.specs.declared.entry.EntryState.TheVariants.{InKey, Equals, InMember, InFlag}
-use Rattle.sf_parse.specs.declared.state.State.{State}
-use Rattle.sf_parse.specs.declared.state.State.TheVariants.{BeforeItem, InTop, AfterItem, InList}
-use Rattle.sf_parse.specs.declared.state.State.TheVariants.{InDict}
-use Rattle.sf_parse.specs.Machine.Fields.{behind_key_step, entry_start, entry_step, entry_finish}
+use Rattle.sf_parse.specs.Machine.Entries.{EntryState}
+use Rattle.sf_parse.specs.Machine.Entries.{InKey, Equals, InMember, InFlag}
+use Rattle.sf_parse.specs.Machine.States.{State}
+use Rattle.sf_parse.specs.Machine.States.{BeforeItem, InTop, AfterItem, InList}
+use Rattle.sf_parse.specs.Machine.States.{InDict}
 use Rattle.sf_parse.specs.Machine.Fields.{list_series, dict_series, step, finish}
 use Rattle.sf_parse.specs.Machine.Takes.{number_takes, number_ends, date_takes, date_ends}
 use Rattle.sf_parse.specs.Machine.Takes.{text_takes, text_ends, boolean_takes, boolean_ends}
@@ -59,6 +58,7 @@ use Rattle.sf_parse.specs.Machine.Takes.{series_takes, series_ends, takes, may_e
 use Rattle.sf_parse.specs.Takes.{TakesStep, MayEnd, TakesNext, EndsText}
 use Rattle.sf_parse.proofs.Taking.{took_next, took_end}
 use Rattle.sf_parse.specs.Machine.Members.{member_start, member_step, member_finish}
+use Rattle.sf_parse.specs.Machine.Entries.{behind_key_step, entry_start, entry_step, entry_finish}
 
 some_allow : {S : Type 0} (c : Bool) (s : S) → is_some (allow c s) ≡ c
 some_allow true s = refl
@@ -282,7 +282,7 @@ member_is : (d : Dialect) (s : MemberState) (b : ℕ)
 member_is d (InOne s) b = some_seen InOne (item_step d s b) ∙ item_is d s b
 member_is d (InMany s) b = some_seen InMany (inner_step d s b) ∙ inner_is d s b
 
-member_end : (s : MemberState) → is_some (member_finish s) ≡ member_ends s
+pub member_end : (s : MemberState) → is_some (member_finish s) ≡ member_ends s
 member_end (InOne s) = some_seen _ (item_finish s) ∙ item_end s
 member_end (InMany s) = some_seen _ (inner_finish s) ∙ inner_end s
 
@@ -294,7 +294,7 @@ entry_is d (Equals k) b = some_seen (InMember k) (member_start d b) ∙ member_s
 entry_is d (InMember k s) b = some_seen (InMember k) (member_step d s b) ∙ member_is d s b
 entry_is d (InFlag k s) b = some_seen (InFlag k) (params_step d s b) ∙ params_is d s b
 
-entry_end : (s : EntryState) → is_some (entry_finish s) ≡ entry_ends s
+pub entry_end : (s : EntryState) → is_some (entry_finish s) ≡ entry_ends s
 entry_end (InKey k) = refl
 entry_end (Equals k) = refl
 entry_end (InMember k s) = some_seen _ (member_finish s) ∙ member_end s

@@ -8,7 +8,7 @@ use Rattle.sf_value.specs.Grammar.Fields.{SpellsField}
 use Rattle.sf_value.specs.Grammar.Lines.{Continues}
 use Rattle.sf_value.specs.declared.dialect.Dialect.{Dialect}
 use Rattle.sf_value.specs.declared.value.Kind.{Kind}
-use Rattle.sf_parse.specs.declared.state.State.{State}
+use Rattle.sf_parse.specs.Machine.States.{State}
 use Rattle.sf_parse.specs.Machine.Fields.{Rest, step}
 use Rattle.sf_parse.specs.Taking.{Took, TookNothing, TakesMore, TookViable, TookNext, TookEnd}
 use Rattle.sf_parse.specs.Taking.{TookStops, TookAll}

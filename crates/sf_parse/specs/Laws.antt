@@ -9,7 +9,7 @@ use Rattle.sf_value.specs.Grammar.Fields.{SpellsField}
 use Rattle.sf_value.specs.Grammar.Valid.{Valid}
 use Rattle.sf_value.specs.Grammar.Canonical.{canon}
 use Rattle.sf_value.specs.Grammar.Lines.{join, Viable, IsPlace}
-use Rattle.sf_parse.specs.declared.state.State.{State}
+use Rattle.sf_parse.specs.Machine.States.{State}
 use Rattle.sf_parse.specs.Machine.Language.{and_then, run}
 use Rattle.sf_parse.specs.Machine.Fields.{Rest, step, finish, begin}
 

@@ -5,7 +5,11 @@ pub mod Takes
 pub mod Machine
 pub mod Views
 pub mod Plain
+pub mod PlainParsers
+pub mod Expected
 pub mod ParamsView
 pub mod InnerView
+pub mod EntryView
 pub mod ListView
 pub mod DictView
+pub mod StateView

@@ -12,6 +12,8 @@ pub mod Params
 pub mod Items
 pub mod Inners
 pub mod Members
+pub mod Entries
 pub mod Series
+pub mod States
 pub mod Fields
 pub mod Takes

@@ -5,7 +5,7 @@ use Rattle.sf_value.specs.Grammar.Lines.{Viable, Next}
 use Rattle.sf_value.specs.declared.dialect.Dialect.{Dialect}
 use Rattle.sf_value.specs.declared.value.Field.{Field}
 use Rattle.sf_value.specs.declared.value.Kind.{Kind}
-use Rattle.sf_parse.specs.declared.state.State.{State}
+use Rattle.sf_parse.specs.Machine.States.{State}
 use Rattle.sf_parse.specs.Machine.Fields.{step, finish}
 use Rattle.sf_parse.specs.Machine.Takes.{takes, may_end}
 use Rattle.sf_parse.specs.Taking.{Took}

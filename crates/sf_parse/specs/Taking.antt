@@ -6,7 +6,7 @@ use Rattle.sf_value.specs.declared.dialect.Dialect.{Dialect}
 use Rattle.sf_value.specs.declared.value.Field.{Field}
 use Rattle.sf_value.specs.declared.value.Kind.{Kind}
 use Rattle.sf_parse.specs.Machine.Language.{run}
-use Rattle.sf_parse.specs.declared.state.State.{State}
+use Rattle.sf_parse.specs.Machine.States.{State}
 use Rattle.sf_parse.specs.Machine.Fields.{Rest, Good, step, finish, begin}
 
 -- what completes the state completes the text

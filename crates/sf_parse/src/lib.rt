@@ -19,3 +19,4 @@ mod parameters;
 mod shown;
 mod state;
 mod text;
+mod top;

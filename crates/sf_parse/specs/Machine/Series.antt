@@ -14,6 +14,13 @@ pub data SeriesState (S V : Type 0) : Type 0 where
   -- behind a comma
   Comma : (given : V) → SeriesState S V
 
+-- what the whole pieces gave
+abbrev pub given_of : {S V : Type 0} → V → SeriesState S V → V
+given_of none Begin = none
+given_of none (InPiece given s) = given
+given_of none (Gap given) = given
+given_of none (Comma given) = given
+
 -- What differs between a list and a dictionary: the pieces, and how pieces are added to what was given.
 pub record Series (S X V : Type 0) : Type 1 where
   pub Spells : List ℕ → X → Type 0

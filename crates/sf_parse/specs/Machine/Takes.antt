@@ -1,6 +1,6 @@
 -- Which bytes a state takes and whether the text may end there, as tests that build no state.
 use Rattle.std.specs.Prelude.{ℕ, ◌+◌, ◌*◌, Bool, true, false, ◌==◌, nat_le, nat_lt, ◌&&◌, ◌||◌}
-use Rattle.std.specs.Prelude.{if◌then◌else◌, Option, Some, None, is_some}
+use Rattle.std.specs.Prelude.{if◌then◌else◌, List, Option, Some, None, is_some}
 use Rattle.sf_value.specs.Grammar.Classes.{is_sp, is_ows, is_digit, is_key_start, is_key_rest}
 use Rattle.sf_value.specs.Grammar.Classes.{is_token_start, is_token_rest, is_visible}
 use Rattle.sf_value.specs.Grammar.Dialects.{is_rfc9651}
@@ -25,11 +25,13 @@ use Rattle.sf_parse.specs.Machine.Inners.{InnerState, Room, InItem, Closing}
 use Rattle.sf_parse.specs.declared.member.MemberState.{MemberState}
 use Rattle.sf_parse.specs.declared.member.MemberState.TheVariants.{InOne, InMany}
 use Rattle.sf_parse.specs.Machine.Series.{SeriesState, Begin, InPiece, Gap, Comma}
-use Rattle.sf_parse.specs.declared.entry.EntryState.{EntryState}
-use Rattle.sf_parse.specs.declared.entry.EntryState.TheVariants.{InKey, Equals, InMember, InFlag}
-use Rattle.sf_parse.specs.declared.state.State.{State}
-use Rattle.sf_parse.specs.declared.state.State.TheVariants.{BeforeItem, InTop, AfterItem, InList}
-use Rattle.sf_parse.specs.declared.state.State.TheVariants.{InDict}
+use Rattle.sf_parse.specs.Machine.Entries.{EntryState}
+use Rattle.sf_parse.specs.Machine.Entries.{InKey, Equals, InMember, InFlag}
+use Rattle.sf_parse.specs.Machine.States.{State}
+use Rattle.sf_parse.specs.Machine.States.{BeforeItem, InTop, AfterItem, InList}
+use Rattle.sf_parse.specs.Machine.States.{InDict}
+use Rattle.sf_value.specs.declared.value.Member.{Member}
+use Rattle.sf_value.specs.Grammar.Pairs.{Pairs}
 
 abbrev pub number_takes : NumberState → ℕ → Bool
 number_takes (Whole neg count a) b = (is_digit b && nat_lt count 15) ||
@@ -199,16 +201,28 @@ series_ends ends (InPiece given s) = ends s
 series_ends ends (Gap given) = true
 series_ends ends (Comma given) = false
 
+abbrev pub list_takes : Dialect → SeriesState MemberState (List Member) → ℕ → Bool
+list_takes d s b = series_takes (member_begins d) (member_takes d) member_ends s b
+
+abbrev pub list_ends : SeriesState MemberState (List Member) → Bool
+list_ends s = series_ends member_ends s
+
+abbrev pub dict_takes : Dialect → SeriesState EntryState (Pairs Member) → ℕ → Bool
+dict_takes d s b = series_takes is_key_start (entry_takes d) entry_ends s b
+
+abbrev pub dict_ends : SeriesState EntryState (Pairs Member) → Bool
+dict_ends s = series_ends entry_ends s
+
 abbrev pub takes : Dialect → State → ℕ → Bool
 takes d BeforeItem b = is_sp b || bare_begins d b
 takes d (InTop s) b = item_takes d s b || (item_ends s && is_sp b)
 takes d (AfterItem i) b = is_sp b
-takes d (InList s) b = series_takes (member_begins d) (member_takes d) member_ends s b
-takes d (InDict s) b = series_takes is_key_start (entry_takes d) entry_ends s b
+takes d (InList s) b = list_takes d s b
+takes d (InDict s) b = dict_takes d s b
 
 abbrev pub may_end : State → Bool
 may_end BeforeItem = false
 may_end (InTop s) = item_ends s
 may_end (AfterItem i) = true
-may_end (InList s) = series_ends member_ends s
-may_end (InDict s) = series_ends entry_ends s
+may_end (InList s) = list_ends s
+may_end (InDict s) = dict_ends s

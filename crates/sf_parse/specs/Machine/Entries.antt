@@ -1,0 +1,66 @@
+-- The machine that reads members of Dictionaries.
+use Rattle.std.specs.Prelude.{ℕ, ◌==◌, List, [], Option, Some, None}
+use Rattle.sf_value.specs.declared.dialect.Dialect.{Dialect}
+use Rattle.sf_value.specs.declared.value.Bare.{Bare}
+use Rattle.sf_value.specs.declared.value.Member.{Member}
+use Rattle.sf_value.specs.Grammar.Words.{allow, otherwise}
+use Rattle.sf_value.specs.Grammar.Classes.{is_key_start, is_key_rest}
+use Rattle.sf_value.specs.Grammar.Pairs.{Pairs}
+use Rattle.sf_value.specs.Grammar.InnerLists.{SpellsMember}
+use Rattle.sf_value.specs.Grammar.Fields.{flag}
+use Rattle.sf_parse.specs.Machine.Language.{Then, Seen, Either, After, onward, seen}
+use Rattle.sf_parse.specs.Machine.Texts.{RestWord, word_start, word_step}
+use Rattle.sf_parse.specs.Machine.Params.{ParamsState, MoreParams, RestParams, GoodParams}
+use Rattle.sf_parse.specs.Machine.Params.{between_step, params_step, params_finish}
+use Rattle.sf_parse.specs.Machine.Members.{RestMember, GoodMember, member_start, member_step}
+use Rattle.sf_parse.specs.Machine.Members.{member_finish}
+use Rattle.sf_parse.specs.declared.member.MemberState.{MemberState}
+
+pub data EntryState : Type 0 where
+  InKey : (key : List ℕ) → EntryState
+  -- behind an equals sign
+  Equals : (key : List ℕ) → EntryState
+  InMember : (key : List ℕ) (state : MemberState) → EntryState
+  -- in the parameters of Boolean true
+  InFlag : (key : List ℕ) (state : ParamsState) → EntryState
+
+abbrev pub with_key : List ℕ → Member → List ℕ × Member
+with_key k m = (k, m)
+
+abbrev pub flag_of : List ℕ → Pairs Bare → List ℕ × Member
+flag_of k ps = (k, flag ps)
+
+abbrev pub BehindKey : Dialect → List ℕ → List ℕ → List ℕ × Member → Type 0
+BehindKey d k = Either (After 61 (Seen (with_key k) (SpellsMember d)))
+    (Seen (flag_of k) (MoreParams d []))
+
+abbrev pub RestEntry : Dialect → EntryState → List ℕ → List ℕ × Member → Type 0
+RestEntry d (InKey k) = Then (RestWord is_key_rest k) (BehindKey d)
+RestEntry d (Equals k) = Seen (with_key k) (SpellsMember d)
+RestEntry d (InMember k s) = Seen (with_key k) (RestMember d s)
+RestEntry d (InFlag k s) = Seen (flag_of k) (RestParams d s)
+
+abbrev pub GoodEntry : EntryState → Type 0
+GoodEntry (InKey k) = Unit {0}
+GoodEntry (Equals k) = Unit {0}
+GoodEntry (InMember k s) = GoodMember s
+GoodEntry (InFlag k s) = GoodParams s
+
+abbrev pub entry_start : ℕ → Option EntryState
+entry_start b = seen InKey (word_start is_key_start b)
+
+abbrev pub behind_key_step : List ℕ → ℕ → Option EntryState
+behind_key_step k b = otherwise (allow (b == 61) (Equals k)) (seen (InFlag k) (between_step [] b))
+
+abbrev pub entry_step : Dialect → EntryState → ℕ → Option EntryState
+entry_step d (InKey k) b = onward InKey (word_step is_key_rest k b) (Some k)
+    (λ k. behind_key_step k b)
+entry_step d (Equals k) b = seen (InMember k) (member_start d b)
+entry_step d (InMember k s) b = seen (InMember k) (member_step d s b)
+entry_step d (InFlag k s) b = seen (InFlag k) (params_step d s b)
+
+abbrev pub entry_finish : EntryState → Option (List ℕ × Member)
+entry_finish (InKey k) = Some (flag_of k [])
+entry_finish (Equals k) = None
+entry_finish (InMember k s) = seen (with_key k) (member_finish s)
+entry_finish (InFlag k s) = seen (flag_of k) (params_finish s)

@@ -1,0 +1,17 @@
+-- The states of whole fields.
+use Rattle.std.specs.Prelude.{List}
+use Rattle.sf_value.specs.declared.value.Item.{Item}
+use Rattle.sf_value.specs.declared.value.Member.{Member}
+use Rattle.sf_value.specs.Grammar.Pairs.{Pairs}
+use Rattle.sf_parse.specs.declared.item.ItemState.{ItemState}
+use Rattle.sf_parse.specs.declared.member.MemberState.{MemberState}
+use Rattle.sf_parse.specs.Machine.Entries.{EntryState}
+use Rattle.sf_parse.specs.Machine.Series.{SeriesState}
+
+pub data State : Type 0 where
+  BeforeItem : State
+  InTop : (state : ItemState) → State
+  -- behind a space after an Item
+  AfterItem : (whole : Item) → State
+  InList : (state : SeriesState MemberState (List Member)) → State
+  InDict : (state : SeriesState EntryState (Pairs Member)) → State
