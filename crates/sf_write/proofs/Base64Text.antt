@@ -1,0 +1,111 @@
+-- The base64 of an engine and that of the canonical texts.
+use Rattle.std.proofs.Common.{◌≡◌, ℕ, zero, suc, ◌+◌, ◌*◌, ◌/◌, ◌%◌, ◌<◌, ◌≤◌, min, Bool, true}
+use Rattle.std.proofs.Common.{Result, Ok}
+use Rattle.std.proofs.Common.{List, [], ◌∷◌, ◌++◌, length, take, drop, replicate, refl, sym, ap}
+use Rattle.std.proofs.Common.{◌∙◌, arith, append_assoc, length-append, add-zero, ⊎_elim}
+use Rattle.std.proofs.Math.Seq.{take-length, drop-length}
+use Rattle.std.proofs.lemmas.List.{length-replicate, take_at}
+use Rattle.std.proofs.lemmas.Bool.{cases_lt}
+use Rattle.base64.specs.GeneralPurpose.{IsEncodedOver, engine_symbols, engine_padding}
+use Rattle.base64.specs.GeneralPurpose.{engine_config, config_padding, encoded_size_of}
+use Rattle.base64.specs.declared.engine.general_purpose.GeneralPurpose.{GeneralPurpose}
+use Rattle.base64.specs.declared.encode.EncodeSliceError.{EncodeSliceError}
+use Rattle.base64.specs.Rfc4648.{encode, encoded_size, encode_symbols, padding_len}
+use Rattle.sf_value.specs.Grammar.ByteSequences.{alphabet, letter, unpadded, needed}
+use Rattle.sf_value.specs.Grammar.Canonical.{canon_base64}
+
+-- the characters, without padding
+symbols_are : (s : List ℕ) → encode_symbols alphabet s ≡ unpadded 0 s
+unfolding letter encode_symbols
+symbols_are [] = refl
+symbols_are (a ∷ []) = rw add-zero refl
+symbols_are (a ∷ b ∷ []) = rw add-zero refl
+symbols_are (a ∷ b ∷ c ∷ s) = let rest = symbols_are s in rw rest refl
+
+padding_is : (s : List ℕ) → padding_len (length s) ≡ needed s
+padding_is [] = refl
+padding_is (a ∷ []) = refl
+padding_is (a ∷ b ∷ []) = refl
+padding_is (a ∷ b ∷ c ∷ s) = let rest = padding_is s in omega arith
+
+-- base64 with its padding
+abbrev padded : List ℕ → List ℕ
+padded s = unpadded 0 s ++ replicate (needed s) 61
+
+encode_is : (s : List ℕ) → encode alphabet 61 true s ≡ padded s
+encode_is s = rw (symbols_are s, padding_is s)
+
+-- whole groups come first
+groups : (k : ℕ) (s : List ℕ) → 3 * k ≤ length s
+    → canon_base64 s ≡ padded (take (3 * k) s) ++ canon_base64 (drop (3 * k) s)
+groups zero s h = refl
+groups (suc k) [] h = absurd (omega arith)
+groups (suc k) (a ∷ []) h = absurd (omega arith)
+groups (suc k) (a ∷ b ∷ []) h = absurd (omega arith)
+groups (suc k) (a ∷ b ∷ c ∷ s) h =
+    let three : 3 * suc k ≡ suc (suc (suc (3 * k))) = omega arith in
+    let rest = groups k s (omega arith) in
+    rw three (ap (λ t. front ++ t) rest)
+  where
+    front : List ℕ
+    front = letter (a / 4) ∷ letter (a % 4 * 16 + b / 16) ∷ letter (b % 16 * 4 + c / 64)
+        ∷ letter (c % 64) ∷ []
+
+-- all that is left is one block
+last : (s : List ℕ) → canon_base64 s ≡ padded s ++ canon_base64 []
+last s = sym (append_assoc (unpadded 0 s) (replicate (needed s) 61) (58 ∷ []))
+
+-- a block of at most 48 bytes, and the rest
+block_front : (s : List ℕ) (n : ℕ) → n ≡ min (length s) 48
+    → canon_base64 s ≡ padded (take n s) ++ canon_base64 (drop n s)
+block_front s n e = ⊎_elim part whole (cases_lt (length s) 48)
+  where
+    whole : 48 ≤ length s → canon_base64 s ≡ padded (take n s) ++ canon_base64 (drop n s)
+    whole h = let size : n ≡ 48 = omega arith in rw size (groups 16 s h)
+
+    part : length s < 48 → canon_base64 s ≡ padded (take n s) ++ canon_base64 (drop n s)
+    part h = let size : n ≡ length s = omega arith in
+        rw (size, take-length s, drop-length s) (last s)
+
+length_unpadded : (s : List ℕ) → length (unpadded 0 s) ≡ (4 * length s + 2) / 3
+length_unpadded [] = refl
+length_unpadded (a ∷ []) = refl
+length_unpadded (a ∷ b ∷ []) = refl
+length_unpadded (a ∷ b ∷ c ∷ s) = let rest = length_unpadded s in omega arith
+
+length_padded : (s : List ℕ) → length (padded s) ≡ encoded_size (length s) true
+length_padded s =
+    length-append (unpadded 0 s) (replicate (needed s) 61)
+    ∙ rw (length_unpadded s, length-replicate, padding_is s)
+
+-- what an engine of this alphabet leaves of a block at the front of a buffer
+encoded_block : (table : List ℕ) (pad : ℕ) (padding : Bool) (block old new : List ℕ) (n : ℕ)
+    → table ≡ alphabet → pad ≡ 61 → padding ≡ true → n ≡ encoded_size (length block) padding
+    → new ≡ encode table pad padding block ++ drop (encoded_size (length block) padding) old
+    → take n new ≡ padded block
+encoded_block table pad padding block old new n t p q size w =
+    let text : new ≡ padded block ++ drop (encoded_size (length block) true) old =
+    w ∙ rw (t, p, q, encode_is block) in
+    let count : length (padded block) ≡ n = length_padded block ∙ rw (size, q) in
+    rw text (take_at (padded block) _ n count)
+
+-- a block of at most 48 bytes takes at most 64 characters
+block_size : (n : ℕ) (padding : Bool) → padding ≡ true → n ≤ 48 → encoded_size n padding ≤ 64
+block_size n padding q h = rw q (omega arith)
+
+abbrev answer : ℕ → Result ℕ EncodeSliceError
+answer n = Ok n
+
+-- what an engine sends of a block moves the rest on
+pub block_sent : (e : GeneralPurpose) (s block more old new : List ℕ) (n k : ℕ)
+    → engine_symbols e ≡ alphabet → engine_padding e ≡ 61
+    → config_padding (engine_config e) ≡ true → k ≡ min (length s) 48 → block ≡ take k s
+    → more ≡ drop k s → length block ≡ k
+    → (encoded_size_of e (length block) ≤ 64
+    → answer n ≡ answer (encoded_size_of e (length block)))
+    → IsEncodedOver e block old new → canon_base64 s ≡ take n new ++ canon_base64 more
+block_sent e s block more old new n k t p q size b m small fits w =
+    let few : length block ≤ 48 = omega arith in
+    let whole = fits (block_size (length block) (config_padding (engine_config e)) q few) in
+    let count : n ≡ encoded_size_of e (length block) = cc in
+    rw (encoded_block _ _ _ block old new n t p q count w, b, m) (block_front s k size)

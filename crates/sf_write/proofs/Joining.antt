@@ -1,0 +1,137 @@
+-- How what calls write joins to what a whole text writes.
+use Rattle.std.proofs.Common.{◌≡◌, ℕ, ◌+◌, ◌-◌, ◌^◌, ◌<◌, min, List, [], ◌++◌, length}
+use Rattle.std.proofs.Common.{Result, Ok, Err, refl, sym, ap, ◌∙◌, arith, length-append}
+use Rattle.std.proofs.Common.{append_assoc, zero-add}
+use Rattle.std.specs.Prelude.{IsErrAnd}
+use Rattle.std.proofs.lemmas.Result.{err_from_is_err_and}
+use Rattle.std.proofs.KnownBytes.{Appends-nil, Appends-trans, Appends-kept}
+use Rattle.std.proofs.Math.Seq.{take-append_seam}
+use Rattle.sf_value.specs.Devices.{SinkState, TakesOnce, RefusesOnce}
+use Rattle.sf_write.specs.Writing.{Wrote, WroteFront, Writes, WritesText}
+use Rattle.sf_write.specs.declared.send.WriteFault.{WriteFault}
+
+-- no text
+pub Wrote-nil : (s : SinkState) (n : ℕ) → n < 2 ^ 64 → Wrote s s n n []
+Wrote-nil s n h = record { taken = Appends-nil s.taken; failures = refl; count = omega arith }
+
+-- one call that took bytes
+pub sent_once : {a b : SinkState} {n m : ℕ} {t : List ℕ} → TakesOnce a b t
+    → m ≡ min (n + length t) (2 ^ 64 - 1) → Wrote a b n m t
+sent_once p e = record { taken = p.taken; failures = p.failures; count = e }
+
+-- one call that failed
+pub refused_once : {a b : SinkState} {n : ℕ} {t : List ℕ} → n < 2 ^ 64 → 0 < length t
+    → RefusesOnce a b → WroteFront a b n n t
+refused_once {a = a} {n = n} {t = t} h some p = record {
+  front = [];
+  back = t;
+  mid = a;
+  split = refl;
+  short = some;
+  wrote = Wrote-nil a n h;
+  failed = p;
+}
+
+-- one text after another
+pub Wrote-append : {a b c : SinkState} {n m k : ℕ} {t u : List ℕ} → Wrote a b n m t
+    → Wrote b c m k u → Wrote a c n k (t ++ u)
+Wrote-append {a = a} {b = b} {c = c} {t = t} {u = u} p q = record {
+  taken = Appends-trans a.taken b.taken c.taken t u p.taken q.taken;
+  failures = cc;
+  count = omega (arith, length-append t u);
+}
+
+-- a front of a text after another text
+pub WroteFront-append : {a b c : SinkState} {n m k : ℕ} {t u : List ℕ} → Wrote a b n m t
+    → WroteFront b c m k u → WroteFront a c n k (t ++ u)
+WroteFront-append {t = t} p q = record {
+  front = t ++ q.front;
+  back = q.back;
+  mid = q.mid;
+  split = ap (λ l. t ++ l) q.split ∙ sym (append_assoc t q.front q.back);
+  short = q.short;
+  wrote = Wrote-append p q.wrote;
+  failed = q.failed;
+}
+
+-- one text after another, however the second ended
+pub Writes-append : {a b : SinkState} {n m : ℕ} {t : List ℕ} (c : SinkState)
+    (r : Result ℕ WriteFault) (u : List ℕ) → Wrote a b n m t → Writes b c m r u
+    → Writes a c n r (t ++ u)
+Writes-append c (Ok k) u p q = Wrote-append p q
+Writes-append c (Err e) u p q = WroteFront-append p q
+
+-- a front of a text is one of a longer text
+pub WroteFront-longer : {a b : SinkState} {n m : ℕ} {t : List ℕ} (u : List ℕ) → WroteFront a b n m t
+    → WroteFront a b n m (t ++ u)
+WroteFront-longer u p = record {
+  front = p.front;
+  back = p.back ++ u;
+  mid = p.mid;
+  split = ap (λ l. l ++ u) p.split ∙ append_assoc p.front p.back u;
+  short = let s = p.short in omega (arith, length-append p.back u);
+  wrote = p.wrote;
+  failed = p.failed;
+}
+
+-- from here on, to write what is left is to write all
+pub record Leaves (start now : SinkState) (before written : ℕ) (all left : List ℕ) : Type 0 where
+  pub counted : written < 2 ^ 64
+  pub finish : (end : SinkState) (r : Result ℕ WriteFault) → Writes now end written r left
+      → Writes start end before r all
+
+-- nothing was written yet
+pub leaves_all : (s : SinkState) (n : ℕ) (all : List ℕ) → n < 2 ^ 64 → Leaves s s n n all all
+leaves_all s n all h = record { counted = h; finish = λ end r w. w }
+
+-- a piece went out
+pub leaves_less : {start now next : SinkState} {before written after : ℕ} {all left piece : List ℕ}
+    (more : List ℕ) → Leaves start now before written all left → left ≡ piece ++ more
+    → Wrote now next written after piece → Leaves start next before after all more
+leaves_less more l e w = record {
+  counted = let count = w.count in omega arith;
+  finish = λ end r h. l.finish end r (rw e (Writes-append end r more w h));
+}
+
+-- writing a piece failed, and its fault is the answer
+pub ends_early : {start now end : SinkState} {before written : ℕ} {fault : WriteFault}
+    {all left piece : List ℕ} (r : Result ℕ WriteFault) (more : List ℕ)
+    → Leaves start now before written all left → left ≡ piece ++ more
+    → WroteFront now end written fault.written piece → IsErrAnd r (λ e. e ≡ fault)
+    → Writes start end before r all
+ends_early {end = end} {fault = fault} r more l e w h =
+    let answer = err_from_is_err_and r h in
+    rw (answer.1, answer.2) (l.finish end (Err fault) (rw e (WroteFront-longer more w)))
+
+-- what is left goes out as the last piece
+pub ends_with : {start now : SinkState} {before written : ℕ} {all left piece : List ℕ}
+    (end : SinkState) (r : Result ℕ WriteFault) → Leaves start now before written all left
+    → left ≡ piece → Writes now end written r piece → Writes start end before r all
+ends_with end r l e w = l.finish end r (rw e w)
+
+-- nothing is left
+pub ends_done : {start now : SinkState} {before written : ℕ} {all left : List ℕ}
+    → Leaves start now before written all left → left ≡ [] → Wrote start now before written all
+ends_done {now = now} {written = written} l e =
+    l.finish now (Ok written) (rw e (Wrote-nil now written l.counted))
+
+-- a text from its beginning
+pub from_beginning : (a c : SinkState) (r : Result ℕ WriteFault) (text : List ℕ)
+    → Writes a c 0 r text → WritesText a c r text
+from_beginning a c (Ok n) text p = record {
+  taken = p.taken;
+  failures = p.failures;
+  count = rw (zero-add (length text)) at p.count;
+}
+from_beginning a c (Err e) text p =
+    let count = p.wrote.count in
+    let whole = length-append p.front p.back in
+    let short = p.short in
+    let sizes : length text ≡ length p.front + length p.back = ap length p.split ∙ whole in
+    record {
+      taken = λ h. let all : e.written ≡ length p.front = omega arith in
+          rw (all, p.split, take-append_seam p.front p.back)
+          (Appends-kept a.taken p.mid.taken c.taken p.front p.wrote.taken p.failed.kept);
+      short = omega arith;
+      failures = p.failed.failures ∙ ap (λ f. min (f + 1) (2 ^ 64 - 1)) p.wrote.failures;
+    }

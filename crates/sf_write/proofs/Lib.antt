@@ -1,0 +1,4 @@
+pub mod Joining
+pub mod Runs
+pub mod Base64Text
+pub mod CanonSteps

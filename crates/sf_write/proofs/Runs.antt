@@ -1,0 +1,112 @@
+-- Texts in which some bytes stand for themselves: a run of these goes out at once.
+use Rattle.std.proofs.Common.{◌≡◌, ℕ, suc, ◌+◌, Bool, true, false, not, List, [], ◌∷◌, ◌++◌}
+use Rattle.std.proofs.Common.{◌/◌, ◌%◌, length, take, drop, refl, ap, ◌∙◌, subst, arith}
+use Rattle.std.specs.List.{prefix_len}
+use Rattle.sf_value.specs.Grammar.Strings.{escaped, is_escaped}
+use Rattle.sf_value.specs.Grammar.DisplayStrings.{hex, is_plain}
+use Rattle.sf_value.specs.Grammar.Canonical.{canon_shown}
+
+module _ (plain : ℕ → Bool) where
+  -- behind a run stands a byte that doesn't belong to it
+  run_stops : (s : List ℕ) (b : ℕ) (more : List ℕ) → drop (prefix_len plain s) s ≡ b ∷ more
+      → plain b ≡ false
+  run_stops [] b more e = absurd cc
+  run_stops (c ∷ s) b more e = by (plain c) refl (run_stops s b more)
+    where
+      by : (r : Bool) → plain c ≡ r
+          → (drop (prefix_len plain s) s ≡ b ∷ more → plain b ≡ false)
+          → plain b ≡ false
+      by true h rest =
+          let next : 1 + prefix_len plain s ≡ suc (prefix_len plain s) = omega arith in
+          let behind : drop (prefix_len plain s) s ≡ b ∷ more = rw (h, next) at e in
+          rest behind
+      by false h rest =
+          let here : c ∷ s ≡ b ∷ more = rw h at e in
+          let same : c ≡ b = cc in
+          subst (λ x. plain x ≡ false) same h
+
+  module _ (text : List ℕ → List ℕ)
+      (itself : (b : ℕ) (s : List ℕ) → plain b ≡ true → text (b ∷ s) ≡ b ∷ text s) where
+    run_goes : (s : List ℕ)
+        → text s ≡ take (prefix_len plain s) s ++ text (drop (prefix_len plain s) s)
+    run_goes [] = refl
+    run_goes (b ∷ s) = by (plain b) refl (run_goes s)
+      where
+        by : (r : Bool) → plain b ≡ r
+            → text s ≡ take (prefix_len plain s) s ++ text (drop (prefix_len plain s) s)
+            → text (b ∷ s)
+            ≡ take (prefix_len plain (b ∷ s)) (b ∷ s)
+            ++ text (drop (prefix_len plain (b ∷ s)) (b ∷ s))
+        by true e rest =
+            let next : 1 + prefix_len plain s ≡ suc (prefix_len plain s) = omega arith in
+            itself b s e ∙ ap (λ t. b ∷ t) rest ∙ rw (e, next)
+        by false e rest = rw e
+
+    -- the run, and the text of what stands behind it
+    pub run_front : (s front behind : List ℕ) (n : ℕ) → n ≡ prefix_len plain s → front ≡ take n s
+        → behind ≡ drop n s → text s ≡ front ++ text behind
+    run_front s front behind n e f b = rw (f, b, e) (run_goes s)
+
+    -- a byte behind the run, by what it stands as
+    pub run_byte : (piece : ℕ → List ℕ)
+        → ((b : ℕ) (s : List ℕ) → plain b ≡ false → text (b ∷ s) ≡ piece b ++ text s)
+        → (s behind more : List ℕ) (n b : ℕ) → n ≡ prefix_len plain s → behind ≡ drop n s
+        → behind ≡ b ∷ more → text behind ≡ piece b ++ text more
+    run_byte piece other s behind more n b e d h =
+        ap text h ∙ other b more (run_stops s b more (rw (d, e) at h))
+
+-- in a String: the escaped bytes and the quote
+abbrev pub closed : List ℕ → List ℕ
+closed s = escaped s ++ 34 ∷ []
+
+no_backslash : (b : ℕ) (s : List ℕ) → not (is_escaped b) ≡ true → closed (b ∷ s) ≡ b ∷ closed s
+no_backslash b s e = by (is_escaped b) refl
+  where
+    by : (r : Bool) → is_escaped b ≡ r → closed (b ∷ s) ≡ b ∷ closed s
+    by true h = let never : false ≡ true = rw h at e in absurd cc
+    by false h = rw h
+
+backslash : (b : ℕ) (s : List ℕ) → not (is_escaped b) ≡ false
+    → closed (b ∷ s) ≡ (92 ∷ b ∷ []) ++ closed s
+backslash b s e = by (is_escaped b) refl
+  where
+    by : (r : Bool) → is_escaped b ≡ r → closed (b ∷ s) ≡ (92 ∷ b ∷ []) ++ closed s
+    by true h = rw h
+    by false h = let never : true ≡ false = rw h at e in absurd cc
+
+pub string_run : (s front behind : List ℕ) (n : ℕ) → n ≡ prefix_len (λ b. not (is_escaped b)) s
+    → front ≡ take n s → behind ≡ drop n s → closed s ≡ front ++ closed behind
+string_run = run_front (λ b. not (is_escaped b)) closed no_backslash
+
+pub string_escape : (s behind more : List ℕ) (n b : ℕ)
+    → n ≡ prefix_len (λ b. not (is_escaped b)) s → behind ≡ drop n s → behind ≡ b ∷ more
+    → closed behind ≡ (92 ∷ b ∷ []) ++ closed more
+string_escape =
+    run_byte (λ b. not (is_escaped b)) closed no_backslash (λ b. 92 ∷ b ∷ []) backslash
+
+-- in a Display String: its pieces and the quote
+as_itself : (b : ℕ) (s : List ℕ) → is_plain b ≡ true → canon_shown (b ∷ s) ≡ b ∷ canon_shown s
+as_itself b s e = rw e
+
+as_escape : (b : ℕ) (s : List ℕ) → is_plain b ≡ false
+    → canon_shown (b ∷ s) ≡ (37 ∷ hex (b / 16) ∷ hex (b % 16) ∷ []) ++ canon_shown s
+as_escape b s e = rw e
+
+pub shown_run : (s front behind : List ℕ) (n : ℕ) → n ≡ prefix_len is_plain s → front ≡ take n s
+    → behind ≡ drop n s → canon_shown s ≡ front ++ canon_shown behind
+shown_run = run_front is_plain canon_shown as_itself
+
+pub shown_escape : (s behind more : List ℕ) (n b : ℕ) → n ≡ prefix_len is_plain s
+    → behind ≡ drop n s → behind ≡ b ∷ more
+    → canon_shown behind ≡ (37 ∷ hex (b / 16) ∷ hex (b % 16) ∷ []) ++ canon_shown more
+shown_escape = run_byte is_plain canon_shown as_itself
+    (λ b. 37 ∷ hex (b / 16) ∷ hex (b % 16) ∷ []) as_escape
+
+-- no byte is left: the quote alone
+pub string_end : (s : List ℕ) → length s ≡ 0 → closed s ≡ 34 ∷ []
+string_end [] e = refl
+string_end (b ∷ s) e = absurd (omega arith)
+
+pub shown_end : (s : List ℕ) → length s ≡ 0 → canon_shown s ≡ 34 ∷ []
+shown_end [] e = refl
+shown_end (b ∷ s) e = absurd (omega arith)

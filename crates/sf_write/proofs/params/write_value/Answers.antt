@@ -1,0 +1,15 @@
+use Rattle.std.proofs.Common.{arith}
+use Rattle.sf_write.proofs.Joining.{leaves_all, leaves_less, ends_early}
+use Rattle.sf_write.proofs.CanonSteps.{value_written}
+use Rattle.sf_write.proofs.params.write_value.Goals as goal
+
+pub returns-in_err-written : goal.returns-in_err-written
+returns-in_err-written g c =
+    ends_early _ _ (leaves_all _ _ _ (omega arith)) (value_written _ c.if-is_true.ensures.1)
+    c.in_err-written.ensures c.from_residual.ensures.1
+
+pub returns : goal.returns
+returns g c =
+    let left = leaves_less _ (leaves_all _ _ _ (omega arith))
+    (value_written _ c.if-is_true.ensures.1) c.in_ok-written.ensures in
+    left.finish _ _ c.write_bare_from.ensures

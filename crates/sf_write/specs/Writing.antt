@@ -1,0 +1,44 @@
+-- What several calls of a sink write together.
+use Rattle.std.specs.Prelude.{◌≡◌, ℕ, ◌+◌, ◌-◌, ◌^◌, ◌<◌, List, ◌++◌, length, take, Result, Ok, Err}
+use Rattle.std.specs.Io.KnownBytes.{Appends}
+use Rattle.sf_value.specs.Devices.{SinkState, RefusesOnce, capped}
+use Rattle.sf_write.specs.declared.send.WriteFault.{WriteFault}
+
+-- calls took these bytes, and none failed; a count of bytes went on from before to after
+pub record Wrote (old new : SinkState) (before after : ℕ) (text : List ℕ) : Type 0 where
+  pub taken : Appends old.taken new.taken text
+  pub failures : new.failures ≡ old.failures
+  pub count : after ≡ capped (before + length text)
+
+-- calls took a front of the text, short of all of it, and then one failed
+pub record WroteFront (old new : SinkState) (before after : ℕ) (text : List ℕ) : Type 0 where
+  pub front : List ℕ
+  pub back : List ℕ
+  pub mid : SinkState
+  pub split : text ≡ front ++ back
+  pub short : 0 < length back
+  pub wrote : Wrote old mid before after front
+  pub failed : RefusesOnce mid new
+
+-- the text went out, or a front of it and then a call failed; a count of bytes went on from before
+abbrev pub Writes : SinkState → SinkState → ℕ → Result ℕ WriteFault → List ℕ → Type 0
+Writes old new before (Ok after) text = Wrote old new before after text
+Writes old new before (Err fault) text = WroteFront old new before fault.written text
+
+-- all of the text went out and no call failed; n is its length, or 2^64 - 1 where it is longer
+pub record WritesAll (old new : SinkState) (n : ℕ) (text : List ℕ) : Type 0 where
+  pub taken : Appends old.taken new.taken text
+  pub failures : new.failures ≡ old.failures
+  pub count : n ≡ capped (length text)
+
+-- one call failed, and exactly the first written bytes of the text went out, fewer than it has;
+-- where the count is at its end, which bytes went out is left open
+pub record WritesFirst (old new : SinkState) (written : ℕ) (text : List ℕ) : Type 0 where
+  pub taken : written < 2 ^ 64 - 1 → Appends old.taken new.taken (take written text)
+  pub short : written < length text
+  pub failures : new.failures ≡ capped (old.failures + 1)
+
+-- what writing a text from its beginning answers
+abbrev pub WritesText : SinkState → SinkState → Result ℕ WriteFault → List ℕ → Type 0
+WritesText old new (Ok n) text = WritesAll old new n text
+WritesText old new (Err fault) text = WritesFirst old new fault.written text

@@ -1,0 +1,58 @@
+//! Bare items (RFC 9651 section 4.1.3.1).
+ghost use Rattle.std.specs.Prelude.{◌≡◌, [], ◌∷◌, if◌then◌else◌, IfOk};
+ghost use Rattle.sf_value.specs.Grammar.Canonical.{canon_bare};
+ghost use Rattle.sf_write.specs.Writing.{Writes, WritesText};
+
+use crate::blobs::write_blob;
+use crate::numbers::{write_date, write_decimal, write_integer};
+use crate::send::{WriteFault, send_all};
+use crate::shown::write_display_string;
+use crate::strings::write_string;
+use sf_value::{Bare, OutOfMemory, Sink, Writing};
+use std::alloc::Global;
+
+/// A Boolean: `?1` or `?0` (section 4.1.9).
+fn write_boolean<W: Sink>(value: bool, before: u64, out: &mut W) -> Result<u64, WriteFault>
+    ensures { Writes (W.state out.old) (W.state out.new) before result
+        (63 ∷ (if value then 49 else 48) ∷ []) }
+{
+    let text = if value { b"?1" } else { b"?0" };
+    send_all(text, before, out)
+}
+
+/// Writes the canonical text of a bare item, as [`write_bare`] does, behind other bytes: the count
+/// of bytes goes on from `before`, and stays at 2^64 - 1. It takes no memory.
+pub fn write_bare_from<W: Sink>(bare: &Bare, before: u64, out: &mut W) -> Result<u64, WriteFault>
+    ensures { Writes (W.state out.old) (W.state out.new) before result (canon_bare bare.now) }
+{
+    match bare {
+        Bare::Integer(number) => write_integer(number, before, out),
+        Bare::Decimal(number) => write_decimal(number, before, out),
+        Bare::Text(text) => write_string(text.as_bytes(), before, out),
+        Bare::Token(token) => send_all(token.as_bytes(), before, out),
+        Bare::Blob(blob) => write_blob(blob.as_bytes(), before, out),
+        Bare::Boolean(value) => write_boolean(*value, before, out),
+        Bare::Date(seconds) => write_date(seconds, before, out),
+        Bare::Shown(shown) => write_display_string(shown.as_bytes(), before, out),
+    }
+}
+
+/// Writes the canonical text of a bare item (RFC 9651 section 4.1.3.1) into a sink, piece by piece.
+/// It takes no memory, and answers as `write_field` does.
+pub fn write_bare<W: Sink>(bare: &Bare, out: &mut W) -> Result<u64, WriteFault>
+    ensures { WritesText (W.state out.old) (W.state out.new) result (canon_bare bare.now) }
+{
+    write_bare_from(bare, 0, out)
+}
+
+/// The canonical text of a bare item (RFC 9651 section 4.1.3.1). The only refusal is for want of
+/// memory.
+pub fn bare_text(alloc: Global, bare: &Bare) -> Result<Vec<u8>, OutOfMemory>
+    ensures { IfOk result (λ text. text.items ≡ canon_bare bare.now) }
+{
+    let mut out = Writing::new(Vec::new(alloc));
+    match write_bare(bare, &mut out) {
+        Ok(_) => Ok(out.into_inner()),
+        Err(_) => Err(OutOfMemory),
+    }
+}

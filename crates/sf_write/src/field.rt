@@ -1,0 +1,61 @@
+//! Whole fields (RFC 9651 section 4.1).
+ghost use Rattle.std.specs.Prelude.{◌≡◌, IfOk};
+ghost use Rattle.sf_value.specs.Grammar.Canonical.{canon};
+ghost use Rattle.sf_write.specs.Writing.{Writes, WritesText};
+
+use crate::dicts::write_entries;
+use crate::items::write_item;
+use crate::lists::write_members;
+use crate::send::WriteFault;
+use sf_value::{Field, OutOfMemory, Sink, Writing};
+use std::alloc::Global;
+
+/// Writes the canonical text of a field, as [`write_field`] does, behind other bytes: the count of
+/// bytes goes on from `before`, and stays at 2^64 - 1. It takes no memory.
+///
+/// ```
+/// let count = write_field_from(&field, 0, &mut out)?;
+/// let count = send_all(b"\n", count, &mut out)?;
+/// ```
+pub fn write_field_from<W: Sink>(field: &Field, before: u64, out: &mut W) -> Result<u64, WriteFault>
+    ensures { Writes (W.state out.old) (W.state out.new) before result (canon field.now) }
+{
+    match field {
+        Field::Item(item) => write_item(item, before, out),
+        Field::List(list) => write_members(list.members.as_slice(), before, out),
+        Field::Dict(dict) => write_entries(&dict.members, before, out),
+    }
+}
+
+/// Writes the canonical text of a field (RFC 9651 section 4.1) into a sink, piece by piece. It
+/// takes no memory. An empty List or Dictionary has the empty text.
+///
+/// `Ok` tells the length of the text in bytes, all of which went out. A fault is answered only
+/// where a send failed or took no byte, and that send is not repeated: exactly the first `written`
+/// bytes of the text went out. Both numbers stay at 2^64 - 1, and there which bytes went out is
+/// left open.
+///
+/// ```
+/// let mut out = Writing::new(io::writer(&rt));
+/// let length = write_field(&field, &mut out)?;
+/// ```
+pub fn write_field<W: Sink>(field: &Field, out: &mut W) -> Result<u64, WriteFault>
+    ensures { WritesText (W.state out.old) (W.state out.new) result (canon field.now) }
+{
+    write_field_from(field, 0, out)
+}
+
+/// The canonical text of a field (RFC 9651 section 4.1). The only refusal is for want of memory.
+///
+/// ```
+/// let text = to_text(rt.alloc(), &field)?;
+/// ```
+pub fn to_text(alloc: Global, field: &Field) -> Result<Vec<u8>, OutOfMemory>
+    ensures { IfOk result (λ text. text.items ≡ canon field.now) }
+{
+    let mut out = Writing::new(Vec::new(alloc));
+    match write_field(field, &mut out) {
+        Ok(_) => Ok(out.into_inner()),
+        Err(_) => Err(OutOfMemory),
+    }
+}

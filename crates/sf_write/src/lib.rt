@@ -1,0 +1,26 @@
+//! Canonical texts of structured fields (RFC 9651 section 4.1): from a value straight into any
+//! sink, without memory, or as a text of its own.
+//!
+//! The pieces that go out are as long as they come: a key, a token, the bytes of a string between
+//! two escapes, 64 characters of base64. A sink may take any part of a piece at a time.
+//! `specs/Writing.antt` says what the calls of a sink write together; the texts themselves are
+//! defined in `sf_value`.
+#![tactic(auto)]
+
+mod bare;
+mod blobs;
+mod dicts;
+mod field;
+mod items;
+mod lists;
+mod numbers;
+mod params;
+mod send;
+mod shown;
+mod strings;
+#[cfg(test)]
+mod tests;
+
+pub use bare::{bare_text, write_bare, write_bare_from};
+pub use field::{to_text, write_field, write_field_from};
+pub use send::{WriteFault, send_all};

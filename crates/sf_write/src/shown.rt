@@ -1,0 +1,67 @@
+//! Display Strings (RFC 9651 section 4.1.11).
+ghost use Rattle.std.specs.Prelude.{◌≡◌, ◌/◌, ◌%◌, ◌<◌, ◌≤◌, [], ◌∷◌, length};
+ghost use Rattle.std.specs.List.{prefix_len};
+ghost use Rattle.sf_value.specs.Grammar.DisplayStrings.{hex, is_plain};
+ghost use Rattle.sf_value.specs.Grammar.Canonical.{canon_shown};
+ghost use Rattle.sf_write.specs.Writing.{Writes};
+
+use crate::send::{WriteFault, send_all};
+use sf_value::Sink;
+
+fn stands_for_itself(byte: u8) -> bool
+    ensures { result ≡ is_plain byte }
+{
+    matches!(byte, b' '..=b'~') && byte != b'"' && byte != b'%'
+}
+
+/// How many bytes at the front stand for themselves.
+fn plain_len(bytes: &[u8]) -> usize
+    ensures len { result ≡ prefix_len is_plain bytes.now }
+    ensures within { result ≤ length bytes.now }
+{
+    bytes.iter().take_while(|b| stands_for_itself(**b)).count()
+}
+
+/// The lower-case hexadecimal digit of a number below 16.
+fn hex_digit(number: u8) -> u8
+    requires { number < 16 }
+    ensures { result ≡ hex number }
+{
+    if number < 10 {
+        b'0' + number
+    } else {
+        b'a' + (number - 10)
+    }
+}
+
+/// `%` and the two digits of a byte.
+fn percent_escape(byte: u8) -> [u8; 3]
+    ensures { result ≡ 37 ∷ hex (byte / 16) ∷ hex (byte % 16) ∷ [] }
+{
+    [b'%', hex_digit(byte / 16), hex_digit(byte % 16)]
+}
+
+/// A Display String by its UTF-8 bytes: `%`, then between quotes each byte from 0x20 to 0x7E but
+/// `"` and `%` as itself, and every other one as `%` and two lower-case digits. Bytes that stand
+/// for themselves go out as one piece.
+pub(crate) fn write_display_string<W: Sink>(
+    text: &[u8],
+    before: u64,
+    out: &mut W,
+) -> Result<u64, WriteFault>
+    ensures { Writes (W.state out.old) (W.state out.new) before result
+        (37 ∷ 34 ∷ canon_shown text.now) }
+{
+    let mut written = send_all(b"%\"", before, out)?;
+    let mut rest = text;
+    loop {
+        let (plain, behind) = rest.split_at(plain_len(rest));
+        written = send_all(plain, written, out)?;
+        let Some((byte, more)) = behind.split_first() else {
+            return send_all(b"\"", written, out);
+        };
+        let escape = percent_escape(*byte);
+        written = send_all(&escape, written, out)?;
+        rest = more;
+    }
+}
