@@ -21,3 +21,5 @@ pub mod Taking
 pub mod Takes
 pub mod Below
 pub mod Dialects
+pub mod Pieces
+pub mod PlainSteps

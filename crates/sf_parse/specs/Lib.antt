@@ -5,6 +5,7 @@ pub mod Takes
 pub mod Machine
 pub mod Views
 pub mod Plain
+pub mod Parsers
 pub mod PlainParsers
 pub mod Expected
 pub mod ParamsView

@@ -16,7 +16,12 @@ mod list;
 mod member;
 mod number;
 mod parameters;
+mod parser;
+mod refusal;
 mod shown;
 mod state;
 mod text;
 mod top;
+
+pub use parser::Parser;
+pub use refusal::Refusal;

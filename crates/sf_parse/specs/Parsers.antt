@@ -1,0 +1,116 @@
+-- What a parser keeps, what it took, and what it refuses.
+use Rattle.std.specs.Prelude.{◌≡◌, ℕ, ◌+◌, ◌<◌, ◌≤◌, ◌↔◌, Bool, true, false, List, [], ◌∷◌, ◌++◌}
+use Rattle.std.specs.Prelude.{length, take, Option, Some, None, Result, Ok, Err, slice_get, ⊤}
+use Rattle.std.specs.Int.{bit_at}
+use Rattle.sf_value.specs.declared.dialect.Dialect.{Dialect}
+use Rattle.sf_value.specs.declared.value.Field.{Field}
+use Rattle.sf_value.specs.declared.value.Kind.{Kind}
+use Rattle.sf_value.specs.Grammar.Fields.{SpellsField}
+use Rattle.sf_value.specs.Grammar.Lines.{Viable, IsPlace}
+use Rattle.sf_parse.specs.declared.refusal.Refusal.{Refusal}
+use Rattle.sf_parse.specs.declared.refusal.Refusal.TheVariants.{OutOfMemory, Syntax, TooLong}
+use Rattle.sf_parse.specs.declared.refusal.Refusal.TheVariants.{ReadFault}
+use Rattle.sf_parse.specs.Machine.States.{State}
+use Rattle.sf_parse.specs.Machine.Fields.{Rest, Good}
+
+-- what contracts see of a parser
+pub record Progress : Type 0 where
+  pub dialect : Dialect
+  pub kind : Kind
+  pub max : ℕ
+  pub state : State
+  pub count : ℕ
+  pub refusal : Option Refusal
+
+-- it took the text s and refused nothing: its count is the length of s, and what completes its
+-- state completes s
+pub record Took (p : Progress) (s : List ℕ) : Type 0 where
+  pub count : p.count ≡ length s
+  pub rest : (u : List ℕ) (v : Field) → Rest p.dialect p.state u v
+      ↔ SpellsField p.dialect p.kind (s ++ u) v
+  pub unrefused : p.refusal ≡ None
+
+-- where a parser that refused stands
+abbrev pub StandsAt : Refusal → ℕ → ℕ → Type 0
+StandsAt OutOfMemory count max = ⊤
+StandsAt (Syntax place found expected may_end) count max = count ≡ place
+StandsAt (TooLong limit) count max = (limit ≡ max) × (count ≡ max)
+StandsAt (ReadFault place) count max = ⊥
+
+-- what every parser keeps
+abbrev pub Sound : Option Refusal → State → ℕ → ℕ → Type 0
+Sound None state count max = Good state × (count ≤ max)
+Sound (Some e) state count max = StandsAt e count max
+
+-- an exact refusal of the text t
+pub record IsSyntax (d : Dialect) (kind : Kind) (t : List ℕ) (place : ℕ) (found : Option ℕ)
+    (expected : ℕ) (may_end : Bool) : Type 0 where
+  -- no value is spelled
+  pub unspelled : (v : Field) → SpellsField d kind t v → ⊥
+  -- the place is the length of the longest viable front
+  pub is_place : IsPlace d kind t place
+  pub byte : found ≡ slice_get t place
+  -- bit b is set exactly if byte b may follow that front
+  pub next : (b : ℕ) → b < 128 → (bit_at expected b ≡ 1) ↔ Viable d kind (take place t ++ b ∷ [])
+  pub some : 0 < expected
+  -- whether that front is itself a text
+  pub ends : (may_end ≡ true) ↔ ((v : Field) × SpellsField d kind (take place t) v)
+
+-- the text spells this value, and no other
+pub record IsOnly (d : Dialect) (kind : Kind) (t : List ℕ) (v : Field) : Type 0 where
+  pub spelled : SpellsField d kind t v
+  pub only : (w : Field) → SpellsField d kind t w → w ≡ v
+
+-- why a text is refused before its end: at a byte below the limit, or at the limit
+abbrev pub RefusedFor : Dialect → Kind → ℕ → List ℕ → Refusal → Type 0
+RefusedFor d kind max t OutOfMemory = ⊤
+RefusedFor d kind max t (Syntax place None expected may_end) = ⊥
+RefusedFor d kind max t (Syntax place (Some b) expected may_end) =
+    (place < max) × IsSyntax d kind t place (Some b) expected may_end
+RefusedFor d kind max t (TooLong limit) =
+    (limit ≡ max) × (max < length t) × Viable d kind (take max t)
+RefusedFor d kind max t (ReadFault place) = ⊥
+
+-- the dialect, the kind and the limit stay
+pub record SameSettings (old new : Progress) : Type 0 where
+  pub dialect : new.dialect ≡ old.dialect
+  pub kind : new.kind ≡ old.kind
+  pub max : new.max ≡ old.max
+
+-- what became of the bytes x behind a text s that was taken
+abbrev pub FedAnswer : Progress → Progress → Result (Unit {0}) Refusal → List ℕ → Type 0
+FedAnswer old new (Ok u) x =
+    (new.refusal ≡ old.refusal)
+    × ((s : List ℕ) → Took old s
+        → (length (s ++ x) ≤ old.max) × Viable old.dialect old.kind (s ++ x) × Took new (s ++ x))
+FedAnswer old new (Err e) x =
+    (new.refusal ≡ Some e)
+    × ((s : List ℕ) → Took old s → (more : List ℕ)
+        → RefusedFor old.dialect old.kind old.max ((s ++ x) ++ more) e)
+
+-- the bytes x were fed; a refusal stands whatever comes behind them
+pub record Fed (old new : Progress) (result : Result (Unit {0}) Refusal) (x : List ℕ) : Type 0 where
+  pub settings : SameSettings old new
+  pub counted : new.count ≤ old.count + length x
+  pub answer : FedAnswer old new result x
+
+-- the text s is ended
+abbrev pub Finishes : Dialect → Kind → List ℕ → Result Field Refusal → Type 0
+Finishes d kind s (Ok v) = IsOnly d kind s v
+Finishes d kind s (Err OutOfMemory) = ⊤
+Finishes d kind s (Err (Syntax place None expected may_end)) =
+    (place ≡ length s) × (may_end ≡ false) × IsSyntax d kind s place None expected may_end
+Finishes d kind s (Err (Syntax place (Some b) expected may_end)) = ⊥
+Finishes d kind s (Err (TooLong limit)) = ⊥
+Finishes d kind s (Err (ReadFault place)) = ⊥
+
+-- the whole text t is parsed
+abbrev pub Parses : Dialect → Kind → List ℕ → Result Field Refusal → Type 0
+Parses d kind t (Ok v) = IsOnly d kind t v
+Parses d kind t (Err OutOfMemory) = ⊤
+Parses d kind t (Err (Syntax place None expected may_end)) =
+    (may_end ≡ false) × IsSyntax d kind t place None expected may_end
+Parses d kind t (Err (Syntax place (Some b) expected may_end)) =
+    IsSyntax d kind t place (Some b) expected may_end
+Parses d kind t (Err (TooLong limit)) = ⊥
+Parses d kind t (Err (ReadFault place)) = ⊥
