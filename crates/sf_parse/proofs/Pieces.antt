@@ -17,6 +17,7 @@ use Rattle.sf_value.specs.Grammar.Fields.{SpellsField}
 use Rattle.sf_value.specs.Grammar.Lines.{Viable, IsPlace, Continues}
 use Rattle.sf_parse.specs.declared.refusal.Refusal.{Refusal}
 use Rattle.sf_parse.specs.declared.refusal.Refusal.TheVariants.{OutOfMemory, Syntax, TooLong}
+use Rattle.sf_parse.specs.declared.refusal.Refusal.TheVariants.{ReadFault}
 use Rattle.sf_parse.specs.Machine.States.{State}
 use Rattle.sf_parse.specs.Machine.Language.{run, and_then}
 use Rattle.sf_parse.specs.Machine.Fields.{Rest, Good, step, finish, begin}
@@ -368,3 +369,34 @@ pub count_at_max : (r : Option Refusal) (s : State) (count max : ℕ) → Sound 
 count_at_max r s count max g n h =
     let w = (subst (λ y. Sound y s count max) n g).1 in
     omega arith
+
+-- a refusal of a piece that is fed first is one of the piece as a text
+pub refused_first : (p q : Progress) (e : Refusal) (t : List ℕ) → Took p []
+    → Fed p q (Err e) t → length t ≤ p.max → Parses p.dialect p.kind t (Err e)
+refused_first p q e t k f l = at e (subst (λ y. RefusedFor p.dialect p.kind p.max y e)
+    (append-nil t) (f.answer.1 [] k []))
+  where
+    at : (e : Refusal) → RefusedFor p.dialect p.kind p.max t e → Parses p.dialect p.kind t (Err e)
+    at OutOfMemory h = tt
+    at (Syntax place None expected may) h = absurd h
+    at (Syntax place (Some b) expected may) h = h.1
+    at (TooLong limit) h = absurd (let n : ⊥ = (let k = h.1 in omega arith) in n)
+    at (ReadFault place) h = absurd h
+
+-- the end of a text that was fed at once
+pub finished_first : (p q : Progress) (r : Result Field Refusal) (t : List ℕ) → Took p []
+    → Fed p q (Ok tt) t → ((s : List ℕ) → Took q s → Finishes q.dialect q.kind s r)
+    → Parses p.dialect p.kind t r
+finished_first p q r t k f h =
+    let took = (f.answer.1 [] k).2 in
+    let same = f.settings in
+    at r (subst (λ y. Finishes p.dialect y t r) same.kind
+      (subst (λ y. Finishes y q.kind t r) same.dialect (h t took)))
+  where
+    at : (r : Result Field Refusal) → Finishes p.dialect p.kind t r → Parses p.dialect p.kind t r
+    at (Ok v) h = h
+    at (Err OutOfMemory) h = tt
+    at (Err (Syntax place None expected may)) h = (h.1, h.2)
+    at (Err (Syntax place (Some b) expected may)) h = absurd h
+    at (Err (TooLong limit)) h = absurd h
+    at (Err (ReadFault place)) h = absurd h

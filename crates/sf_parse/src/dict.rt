@@ -29,7 +29,7 @@ pub enum DictPhase {
 }
 
 /// What was read of a dictionary: the whole members, and the one that is open.
-#[derive(Debug, Drop)]
+#[derive(Debug)]
 pub struct DictReader {
     members: Entries<Member>,
     phase: DictPhase,
@@ -61,6 +61,16 @@ fn put_member(
     match members.put(key, member) {
         Ok(_) => Ok(()),
         Err(_) => Err(OutOfMemory),
+    }
+}
+
+// Written out, so that it is one call wherever a reader is dropped.
+impl Drop for DictReader {
+    fn drop(self) {
+        let DictReader {
+            members: _,
+            phase: _,
+        } = self;
     }
 }
 

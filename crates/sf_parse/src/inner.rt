@@ -28,7 +28,7 @@ pub enum InnerPhase {
 }
 
 /// What was read of an inner list behind its opening bracket.
-#[derive(Debug, Drop)]
+#[derive(Debug)]
 pub struct InnerReader {
     items: Sequence<Item>,
     phase: InnerPhase,
@@ -42,6 +42,13 @@ impl Model for InnerReader {
     ghost use Rattle.sf_parse.specs.InnerView.{inner_of};
 
     ghost view = { λ l. inner_of l.phase l.items };
+}
+
+// Written out, so that it is one call wherever a reader is dropped.
+impl Drop for InnerReader {
+    fn drop(self) {
+        let InnerReader { items: _, phase: _ } = self;
+    }
 }
 
 impl InnerReader {

@@ -16,6 +16,7 @@ mod list;
 mod member;
 mod number;
 mod parameters;
+mod parse;
 mod parser;
 mod refusal;
 mod shown;
@@ -23,5 +24,6 @@ mod state;
 mod text;
 mod top;
 
+pub use parse::{parse_text, parse_text_in};
 pub use parser::Parser;
 pub use refusal::Refusal;

@@ -29,7 +29,7 @@ pub enum ListPhase {
 }
 
 /// What was read of a list: the whole members, and the one that is open.
-#[derive(Debug, Drop)]
+#[derive(Debug)]
 pub struct ListReader {
     members: Sequence<Member>,
     phase: ListPhase,
@@ -55,6 +55,16 @@ pub fn is_gap(byte: u8) -> bool
     ensures { result ≡ is_ows byte }
 {
     byte == b' ' || byte == b'\t'
+}
+
+// Written out, so that it is one call wherever a reader is dropped.
+impl Drop for ListReader {
+    fn drop(self) {
+        let ListReader {
+            members: _,
+            phase: _,
+        } = self;
+    }
 }
 
 impl ListReader {

@@ -27,7 +27,7 @@ pub enum ParamsPhase {
 }
 
 /// What was read of parameters: the whole ones, and the one that is open.
-#[derive(Debug, Drop)]
+#[derive(Debug)]
 pub struct ParamsReader {
     params: Entries<Bare>,
     phase: ParamsPhase,
@@ -50,6 +50,13 @@ fn put_param(params: &mut Entries<Bare>, key: Key, value: Bare) -> Result<(), Ou
     match params.put(key, value) {
         Ok(_) => Ok(()),
         Err(_) => Err(OutOfMemory),
+    }
+}
+
+// Written out, so that it is one call wherever a reader is dropped.
+impl Drop for ParamsReader {
+    fn drop(self) {
+        let ParamsReader { params: _, phase: _ } = self;
     }
 }
 

@@ -18,7 +18,6 @@ use std::marker::Model;
 
 /// What was taken of a text, and why it was refused. It keeps no text: beside the values built so
 /// far only the open construct.
-#[derive(Drop)]
 pub struct Parser {
     context: Context,
     kind: Kind,
@@ -37,6 +36,20 @@ impl Model for Parser {
     ghost view = { λ p. record { dialect = p.context.dialect; kind = p.kind; max = p.max; state = state_of p.state; count = p.count; refusal = p.refusal } };
 
     ghost invariant = { λ p. Sound p.refusal (state_of p.state) p.count p.max };
+}
+
+// Written out, so that it is one call wherever a parser is dropped.
+impl Drop for Parser {
+    fn drop(self) {
+        let Parser {
+            context: _,
+            kind: _,
+            max: _,
+            state: _,
+            count: _,
+            refusal: _,
+        } = self;
+    }
 }
 
 impl Parser {
