@@ -6,6 +6,7 @@ pub mod Machine
 pub mod Views
 pub mod Plain
 pub mod Parsers
+pub mod Reading
 pub mod PlainParsers
 pub mod Expected
 pub mod ParamsView

@@ -18,6 +18,7 @@ mod number;
 mod parameters;
 mod parse;
 mod parser;
+mod reader;
 mod refusal;
 mod shown;
 mod state;
@@ -26,4 +27,5 @@ mod top;
 
 pub use parse::{parse_text, parse_text_in};
 pub use parser::Parser;
+pub use reader::parse_reader;
 pub use refusal::Refusal;

@@ -1,0 +1,152 @@
+-- A reader's text, read and fed block by block.
+use Rattle.std.proofs.Common.{◌≡◌, ℕ, ◌+◌, ◌-◌, ◌^◌, ◌<◌, ◌≤◌, min, List, [], ◌∷◌, ◌++◌, length, take, Some, None}
+use Rattle.std.proofs.Common.{Result, Ok, Err, refl, sym, ap, ◌∙◌, subst, append-nil, append_assoc}
+use Rattle.std.proofs.Common.{length-append, arith}
+use Rattle.std.specs.Io.KnownBytes.{IsAtEnd}
+use Rattle.sf_value.specs.Devices.{SourceState, capped, Gave, GaveAndFailed, GivesOnce, FailsOnce}
+use Rattle.sf_value.specs.declared.dialect.Dialect.{Dialect}
+use Rattle.sf_value.specs.declared.dialect.Dialect.TheVariants.{Rfc9651}
+use Rattle.sf_value.specs.declared.value.Field.{Field}
+use Rattle.sf_value.specs.declared.value.Kind.{Kind}
+use Rattle.sf_value.specs.Grammar.Lines.{Viable}
+use Rattle.sf_parse.specs.declared.refusal.Refusal.{Refusal}
+use Rattle.sf_parse.specs.declared.refusal.Refusal.TheVariants.{OutOfMemory, Syntax, TooLong}
+use Rattle.sf_parse.specs.declared.refusal.Refusal.TheVariants.{ReadFault}
+use Rattle.sf_parse.specs.Machine.Fields.{begin}
+use Rattle.sf_parse.specs.Parsers.{Progress, Took, Fed, IsSyntax, RefusedFor, Finishes}
+use Rattle.sf_parse.specs.Reading.{IsWholeOrFull, ReadToEnd, ReadAndParsed}
+use Rattle.sf_parse.proofs.Taking.{took_nothing, took_viable}
+use Rattle.sf_parse.proofs.Gives.{gave_none, gave_more}
+
+-- what was given so far, and taken by the parser
+pub record Reads (old now : SourceState) (kind : Kind) (max given : ℕ) (p : Progress) : Type 0 where
+  pub text : List ℕ
+  pub gave : Gave old now text
+  pub took : Took p text
+  pub count : length text ≡ given
+  pub dialect : p.dialect ≡ Rfc9651
+  pub same_kind : p.kind ≡ kind
+  pub same_max : p.max ≡ max
+  pub within : given ≤ max
+  pub viable : Viable Rfc9651 kind text
+
+pub reads_start : (s : SourceState) (kind : Kind) (max : ℕ) (p : Progress) → Took p []
+    → p.dialect ≡ Rfc9651 → p.kind ≡ kind → p.max ≡ max → Reads s s kind max 0 p
+reads_start s kind max p t d k m = record {
+    text = [];
+    gave = gave_none s;
+    took = t;
+    count = refl;
+    dialect = d;
+    same_kind = k;
+    same_max = m;
+    within = omega arith;
+    viable = took_viable Rfc9651 kind (begin kind) [] (took_nothing Rfc9651 kind) }
+
+pub reads_more : (old a b : SourceState) (kind : Kind) (max given n : ℕ) (p q : Progress)
+    (ys : List ℕ) → Reads old a kind max given p → GivesOnce a b ys → length ys ≡ n
+    → Fed p q (Ok tt) ys → Reads old b kind max (given + n) q
+reads_more old a b kind max given n p q ys r g e f =
+    let fed = f.answer.1 r.text r.took in
+    let same = f.settings in
+    let count : length (r.text ++ ys) ≡ given + n =
+        let l = length-append r.text ys in let c = r.count in omega arith in
+    record {
+      text = r.text ++ ys;
+      gave = gave_more old a b r.text ys r.gave g;
+      took = fed.2;
+      count = count;
+      dialect = same.dialect ∙ r.dialect;
+      same_kind = same.kind ∙ r.same_kind;
+      same_max = same.max ∙ r.same_max;
+      within = let l = fed.0 in let m = r.same_max in omega arith;
+      viable =
+        subst (λ k. Viable Rfc9651 k (r.text ++ ys)) r.same_kind
+          (subst (λ d. Viable d p.kind (r.text ++ ys)) r.dialect fed.1) }
+
+at_most : (m n k given top : ℕ) → m ≡ given → k ≡ m + n → given + n ≤ top → k ≤ top
+at_most m n k given top c e l = omega arith
+
+pub reads_refused : (old a b : SourceState) (kind : Kind) (max given : ℕ) (p q : Progress)
+    (ys : List ℕ) (e : Refusal) → Reads old a kind max given p → GivesOnce a b ys
+    → given + length ys ≤ capped (max + 1) → Fed p q (Err e) ys
+    → ReadAndParsed Rfc9651 kind old b max (Err e)
+reads_refused old a b kind max given p q ys e r g l f = at e refused
+  where
+    text : List ℕ
+    text = r.text ++ ys
+    gave : Gave old b text
+    gave = gave_more old a b r.text ys r.gave g
+    bound : length text ≤ capped (max + 1)
+    bound = at_most (length r.text) (length ys) (length text) given (capped (max + 1)) r.count
+        (length-append r.text ys) l
+    refused : (more : List ℕ) → RefusedFor Rfc9651 kind max (text ++ more) e
+    refused more =
+        subst (λ d. RefusedFor d kind max (text ++ more) e) r.dialect
+          (subst (λ k. RefusedFor p.dialect k max (text ++ more) e) r.same_kind
+            (subst (λ m. RefusedFor p.dialect p.kind m (text ++ more) e) r.same_max
+              (f.answer.1 r.text r.took more)))
+    at : (e : Refusal) → ((more : List ℕ) → RefusedFor Rfc9651 kind max (text ++ more) e)
+        → ReadAndParsed Rfc9651 kind old b max (Err e)
+    at OutOfMemory h = (text, gave, bound)
+    at (Syntax place None expected may) h = absurd (h [])
+    at (Syntax place (Some c) expected may) h = (text, gave, bound, (h []).0, λ more. (h more).1)
+    at (TooLong limit) h =
+        let none = append-nil text in
+        let k = subst (λ y. RefusedFor Rfc9651 kind max y (TooLong limit)) none (h []) in
+        (text, gave, (let m = k.1 in let w = bound in omega arith), k.0, k.2)
+    at (ReadFault place) h = absurd (h [])
+
+pub reads_failed : (old a b : SourceState) (kind : Kind) (max given : ℕ) (p : Progress)
+    → Reads old a kind max given p → FailsOnce a b
+    → ReadAndParsed Rfc9651 kind old b max (Err (ReadFault given))
+reads_failed old a b kind max given p r f =
+    (r.text, record { mid = a; gave = r.gave; failed = f }, r.count, r.within, r.viable)
+
+ended : (old b : SourceState) (kind : Kind) (max : ℕ) (text : List ℕ) (r : Result Field Refusal)
+    → Gave old b text → length text ≤ max → max < 2 ^ 64 → IsWholeOrFull b text
+    → Finishes Rfc9651 kind text r → ReadAndParsed Rfc9651 kind old b max r
+ended old b kind max text (Ok v) g l m w f = (text, g, l, w, f)
+ended old b kind max text (Err OutOfMemory) g l m w f = (text, g, omega arith)
+ended old b kind max text (Err (Syntax place None expected may)) g l m w f = (text, g, l, w, f)
+ended old b kind max text (Err (Syntax place (Some c) expected may)) g l m w f = absurd f
+ended old b kind max text (Err (TooLong limit)) g l m w f = absurd f
+ended old b kind max text (Err (ReadFault place)) g l m w f = absurd f
+
+finished : (kind : Kind) (max given : ℕ) (old a : SourceState) (p : Progress)
+    (r : Result Field Refusal) (k : Reads old a kind max given p)
+    → ((s : List ℕ) → Took p s → Finishes p.dialect p.kind s r) → Finishes Rfc9651 kind k.text r
+finished kind max given old a p r k f =
+    subst (λ y. Finishes Rfc9651 y k.text r) k.same_kind
+      (subst (λ d. Finishes d p.kind k.text r) k.dialect (f k.text k.took))
+
+-- as many bytes were given as a count holds
+pub reads_full : (old a : SourceState) (kind : Kind) (max given limit : ℕ) (p : Progress)
+    (r : Result Field Refusal) → Reads old a kind max given p → max < 2 ^ 64
+    → limit ≡ capped (max + 1) → limit ≤ given
+    → ((s : List ℕ) → Took p s → Finishes p.dialect p.kind s r)
+    → ReadAndParsed Rfc9651 kind old a max r
+reads_full old a kind max given limit p r k m e l f =
+    let c = k.count in
+    let w = k.within in
+    ended old a kind max k.text r k.gave (omega arith) m (λ h. absurd (let n : ⊥ = omega arith in n))
+      (finished kind max given old a p r k f)
+
+-- the reader came to its end: it gave nothing into a block that isn't empty
+pub reads_ended : (old a b : SourceState) (kind : Kind) (max given n : ℕ) (block : List ℕ)
+    (p : Progress) (r : Result Field Refusal) → Reads old a kind max given p → max < 2 ^ 64
+    → n ≡ 0 → GivesOnce a b (take n block) → IsAtEnd b.to_come
+    → ((s : List ℕ) → Took p s → Finishes p.dialect p.kind s r)
+    → ReadAndParsed Rfc9651 kind old b max r
+reads_ended old a b kind max given n block p r k m z g e f =
+    let c = k.count in
+    let w = k.within in
+    let nothing : take n block ≡ [] = ap (λ i. take i block) z ∙ take_none block in
+    let joined = gave_more old a b k.text [] k.gave (subst (GivesOnce a b) nothing g) in
+    let gave = subst (Gave old b) (append-nil k.text) joined in
+    ended old b kind max k.text r gave (omega arith) m (λ h. e)
+      (finished kind max given old a p r k f)
+  where
+    take_none : (xs : List ℕ) → take 0 xs ≡ []
+    take_none [] = refl
+    take_none (x ∷ xs) = refl

@@ -1,0 +1,41 @@
+//! Texts that a reader gives.
+ghost use Rattle.sf_value.specs.declared.dialect.Dialect.TheVariants.{Rfc9651};
+ghost use Rattle.sf_parse.specs.Reading.{ReadAndParsed};
+
+use crate::parser::Parser;
+use crate::refusal::Refusal;
+use sf_value::{Field, Kind, Source};
+use std::alloc::Global;
+use std::hash::RandomState;
+
+/// The value that the reader's text spells, in the dialect of RFC 9651. It asks for at most
+/// `max` + 1 bytes, a block of 512 at a time, and repeats no read that failed. The answer is, in
+/// this order over the bytes given: Syntax with a found byte, where the first `max` of them are no
+/// good front; ReadFault, where a read failed; TooLong, where more than `max` came; else, at the
+/// reader's end, the value, or Syntax without a found byte.
+pub fn parse_reader<R: Source>(
+    alloc: Global,
+    seed: &RandomState,
+    kind: Kind,
+    max: u64,
+    reader: &mut R,
+) -> Result<Field, Refusal>
+    ensures { ReadAndParsed Rfc9651 kind (R.state reader.old) (R.state reader.new) max result }
+{
+    let limit = max.saturating_add(1);
+    let mut parser = Parser::new(alloc, seed, kind, max);
+    let mut block = [0u8; 512];
+    let mut given = 0u64;
+    while given < limit {
+        let room = (limit - given).min(512) as usize;
+        match reader.pull(&mut block[..room]) {
+            Ok(0) => break,
+            Ok(n) => {
+                parser.feed(&block[..n])?;
+                given += n as u64;
+            }
+            Err(_) => return Err(Refusal::ReadFault { place: given }),
+        }
+    }
+    parser.finish()
+}
