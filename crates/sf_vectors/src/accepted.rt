@@ -82,119 +82,122 @@ fn check_rows(
     Ok(())
 }
 
+static ITEMS: [Row; 41] = [
+    (Kind::Item, b" -0 ", b"0"),
+    (Kind::Item, b"@-0", b"@0"),
+    (Kind::Item, b"-0.0", b"0.0"),
+    (Kind::Item, b"-0.5", b"-0.5"),
+    (Kind::Item, b"007", b"7"),
+    (Kind::Item, b"a/b:c", b"a/b:c"),
+    (Kind::Item, b"01.500;q;q=?0;r=1", b"1.5;q=?0;r=1"),
+    (Kind::Item, b"999999999999999", b"999999999999999"),
+    (Kind::Item, b"-999999999999.999", b"-999999999999.999"),
+    (Kind::Item, b":YQ:", b":YQ==:"),
+    (Kind::Item, b":YQ=:", b":YQ==:"),
+    (Kind::Item, b":YQ==:", b":YQ==:"),
+    (Kind::Item, b"::", b"::"),
+    (Kind::Item, b":iZ:", b":iQ==:"),
+    (Kind::Item, b":iZ=:", b":iQ==:"),
+    (Kind::Item, b":iZ==:", b":iQ==:"),
+    (Kind::Item, b":iQ:", b":iQ==:"),
+    (Kind::Item, b":YWE:", b":YWE=:"),
+    (Kind::Item, b":YWF=:", b":YWE=:"),
+    (Kind::Item, b"%\"%41\\\"", b"%\"A\\\""),
+    (Kind::Item, b"%\"f%c3%bc\"", b"%\"f%c3%bc\""),
+    (Kind::Item, b"%\"%25%22%0a\"", b"%\"%25%22%0a\""),
+    (Kind::Item, b"%\"%7f%00\"", b"%\"%7f%00\""),
+    (Kind::Item, b"%\"%ef%bb%bfa\"", b"%\"%ef%bb%bfa\""),
+    (
+        Kind::Item,
+        b"%\"for %c3%bc users.\"",
+        b"%\"for %c3%bc users.\"",
+    ),
+    (Kind::Item, b"\"a\\\"b\\\\\"", b"\"a\\\"b\\\\\""),
+    (Kind::Item, b"a;  b;c=2;b=-01", b"a;b=-1;c=2"),
+    (Kind::Item, b"a;b=@1;b=1", b"a;b=1"),
+    (Kind::Item, b"@1659578233", b"@1659578233"),
+    (Kind::Item, b"?1", b"?1"),
+    (Kind::Item, b"?0;a", b"?0;a"),
+    (Kind::Item, b"*a", b"*a"),
+    (Kind::Item, b"a;*k=?1", b"a;*k"),
+    (Kind::Item, b"1.10", b"1.1"),
+    (Kind::Item, b"0.100", b"0.1"),
+    (Kind::Item, b"1.0;a=1.000", b"1.0;a=1.0"),
+    (Kind::Item, b"\"\"", b"\"\""),
+    (Kind::Item, b"%\"\"", b"%\"\""),
+    (Kind::Item, b"-0", b"0"),
+    (Kind::Item, b"a;a;a=?0;a", b"a;a"),
+    (Kind::Item, b"a;x=1;y=2;x=3", b"a;x=3;y=2"),
+];
+
+static LISTS: [Row; 15] = [
+    (Kind::List, b"a \t", b"a"),
+    (Kind::List, b"", b""),
+    (Kind::List, b"   ", b""),
+    (Kind::List, b"1,2", b"1, 2"),
+    (Kind::List, b"\"a, b\"", b"\"a, b\""),
+    (Kind::List, b"()", b"()"),
+    (Kind::List, b"( )", b"()"),
+    (Kind::List, b"(a;b c)", b"(a;b c)"),
+    (Kind::List, b"(a; b)", b"(a;b)"),
+    (Kind::List, b":YQ:,:YQ:", b":YQ==:, :YQ==:"),
+    (Kind::List, b"sugar, tea, rum", b"sugar, tea, rum"),
+    (
+        Kind::List,
+        b"(\"foo\" \"bar\"), (\"baz\"), (\"bat\" \"one\"), ()",
+        b"(\"foo\" \"bar\"), (\"baz\"), (\"bat\" \"one\"), ()",
+    ),
+    (
+        Kind::List,
+        b"abc;a=1;b=2; cde_456, (ghi;jk=4 l);q=\"9\";r=w",
+        b"abc;a=1;b=2;cde_456, (ghi;jk=4 l);q=\"9\";r=w",
+    ),
+    (Kind::List, b"a\t ,\t b", b"a, b"),
+    (Kind::List, b"( 1  2 );a, 3", b"(1 2);a, 3"),
+];
+
+static DICTIONARIES: [Row; 11] = [
+    (
+        Kind::Dict,
+        b"a=1,b;x, a=(1  2 );y=:YQ:",
+        b"a=(1 2);y=:YQ==:, b;x",
+    ),
+    (Kind::Dict, b"", b""),
+    (Kind::Dict, b"a=?1;b=?1", b"a;b"),
+    (Kind::Dict, b"a=%\"%c3%bc\"", b"a=%\"%c3%bc\""),
+    (
+        Kind::Dict,
+        b"en=\"Applepie\", da=:w4ZibGV0w6ZydGU=:",
+        b"en=\"Applepie\", da=:w4ZibGV0w6ZydGU=:",
+    ),
+    (Kind::Dict, b"a=?0, b, c; foo=bar", b"a=?0, b, c;foo=bar"),
+    (
+        Kind::Dict,
+        b"a=(1 2), b=3, c=4;aa=bb, d=(5 6);valid",
+        b"a=(1 2), b=3, c=4;aa=bb, d=(5 6);valid",
+    ),
+    (Kind::Dict, b"u=1, i", b"u=1, i"),
+    (Kind::Dict, b"a=1, b=2", b"a=1, b=2"),
+    (Kind::Dict, b"b=2, a=1", b"b=2, a=1"),
+    (Kind::Dict, b"a, b, a=2", b"a=2, b"),
+];
+
 #[test]
 fn items(rt: HostRuntime) -> Result<(), Fail> {
     let seed = RandomState::new(&rt)?;
-    let rows: [Row; 41] = [
-        (Kind::Item, b" -0 ", b"0"),
-        (Kind::Item, b"@-0", b"@0"),
-        (Kind::Item, b"-0.0", b"0.0"),
-        (Kind::Item, b"-0.5", b"-0.5"),
-        (Kind::Item, b"007", b"7"),
-        (Kind::Item, b"a/b:c", b"a/b:c"),
-        (Kind::Item, b"01.500;q;q=?0;r=1", b"1.5;q=?0;r=1"),
-        (Kind::Item, b"999999999999999", b"999999999999999"),
-        (Kind::Item, b"-999999999999.999", b"-999999999999.999"),
-        (Kind::Item, b":YQ:", b":YQ==:"),
-        (Kind::Item, b":YQ=:", b":YQ==:"),
-        (Kind::Item, b":YQ==:", b":YQ==:"),
-        (Kind::Item, b"::", b"::"),
-        (Kind::Item, b":iZ:", b":iQ==:"),
-        (Kind::Item, b":iZ=:", b":iQ==:"),
-        (Kind::Item, b":iZ==:", b":iQ==:"),
-        (Kind::Item, b":iQ:", b":iQ==:"),
-        (Kind::Item, b":YWE:", b":YWE=:"),
-        (Kind::Item, b":YWF=:", b":YWE=:"),
-        (Kind::Item, b"%\"%41\\\"", b"%\"A\\\""),
-        (Kind::Item, b"%\"f%c3%bc\"", b"%\"f%c3%bc\""),
-        (Kind::Item, b"%\"%25%22%0a\"", b"%\"%25%22%0a\""),
-        (Kind::Item, b"%\"%7f%00\"", b"%\"%7f%00\""),
-        (Kind::Item, b"%\"%ef%bb%bfa\"", b"%\"%ef%bb%bfa\""),
-        (
-            Kind::Item,
-            b"%\"for %c3%bc users.\"",
-            b"%\"for %c3%bc users.\"",
-        ),
-        (Kind::Item, b"\"a\\\"b\\\\\"", b"\"a\\\"b\\\\\""),
-        (Kind::Item, b"a;  b;c=2;b=-01", b"a;b=-1;c=2"),
-        (Kind::Item, b"a;b=@1;b=1", b"a;b=1"),
-        (Kind::Item, b"@1659578233", b"@1659578233"),
-        (Kind::Item, b"?1", b"?1"),
-        (Kind::Item, b"?0;a", b"?0;a"),
-        (Kind::Item, b"*a", b"*a"),
-        (Kind::Item, b"a;*k=?1", b"a;*k"),
-        (Kind::Item, b"1.10", b"1.1"),
-        (Kind::Item, b"0.100", b"0.1"),
-        (Kind::Item, b"1.0;a=1.000", b"1.0;a=1.0"),
-        (Kind::Item, b"\"\"", b"\"\""),
-        (Kind::Item, b"%\"\"", b"%\"\""),
-        (Kind::Item, b"-0", b"0"),
-        (Kind::Item, b"a;a;a=?0;a", b"a;a"),
-        (Kind::Item, b"a;x=1;y=2;x=3", b"a;x=3;y=2"),
-    ];
-    check_rows(&rt, rt.alloc(), &seed, &rows)
+    check_rows(&rt, rt.alloc(), &seed, &ITEMS)
 }
 
 #[test]
 fn lists(rt: HostRuntime) -> Result<(), Fail> {
     let seed = RandomState::new(&rt)?;
-    let rows: [Row; 15] = [
-        (Kind::List, b"a \t", b"a"),
-        (Kind::List, b"", b""),
-        (Kind::List, b"   ", b""),
-        (Kind::List, b"1,2", b"1, 2"),
-        (Kind::List, b"\"a, b\"", b"\"a, b\""),
-        (Kind::List, b"()", b"()"),
-        (Kind::List, b"( )", b"()"),
-        (Kind::List, b"(a;b c)", b"(a;b c)"),
-        (Kind::List, b"(a; b)", b"(a;b)"),
-        (Kind::List, b":YQ:,:YQ:", b":YQ==:, :YQ==:"),
-        (Kind::List, b"sugar, tea, rum", b"sugar, tea, rum"),
-        (
-            Kind::List,
-            b"(\"foo\" \"bar\"), (\"baz\"), (\"bat\" \"one\"), ()",
-            b"(\"foo\" \"bar\"), (\"baz\"), (\"bat\" \"one\"), ()",
-        ),
-        (
-            Kind::List,
-            b"abc;a=1;b=2; cde_456, (ghi;jk=4 l);q=\"9\";r=w",
-            b"abc;a=1;b=2;cde_456, (ghi;jk=4 l);q=\"9\";r=w",
-        ),
-        (Kind::List, b"a\t ,\t b", b"a, b"),
-        (Kind::List, b"( 1  2 );a, 3", b"(1 2);a, 3"),
-    ];
-    check_rows(&rt, rt.alloc(), &seed, &rows)
+    check_rows(&rt, rt.alloc(), &seed, &LISTS)
 }
 
 #[test]
 fn dictionaries(rt: HostRuntime) -> Result<(), Fail> {
     let seed = RandomState::new(&rt)?;
-    let rows: [Row; 11] = [
-        (
-            Kind::Dict,
-            b"a=1,b;x, a=(1  2 );y=:YQ:",
-            b"a=(1 2);y=:YQ==:, b;x",
-        ),
-        (Kind::Dict, b"", b""),
-        (Kind::Dict, b"a=?1;b=?1", b"a;b"),
-        (Kind::Dict, b"a=%\"%c3%bc\"", b"a=%\"%c3%bc\""),
-        (
-            Kind::Dict,
-            b"en=\"Applepie\", da=:w4ZibGV0w6ZydGU=:",
-            b"en=\"Applepie\", da=:w4ZibGV0w6ZydGU=:",
-        ),
-        (Kind::Dict, b"a=?0, b, c; foo=bar", b"a=?0, b, c;foo=bar"),
-        (
-            Kind::Dict,
-            b"a=(1 2), b=3, c=4;aa=bb, d=(5 6);valid",
-            b"a=(1 2), b=3, c=4;aa=bb, d=(5 6);valid",
-        ),
-        (Kind::Dict, b"u=1, i", b"u=1, i"),
-        (Kind::Dict, b"a=1, b=2", b"a=1, b=2"),
-        (Kind::Dict, b"b=2, a=1", b"b=2, a=1"),
-        (Kind::Dict, b"a, b, a=2", b"a=2, b"),
-    ];
-    check_rows(&rt, rt.alloc(), &seed, &rows)
+    check_rows(&rt, rt.alloc(), &seed, &DICTIONARIES)
 }
 
 #[test]

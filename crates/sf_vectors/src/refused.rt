@@ -126,135 +126,138 @@ fn check_rows(
     Ok(())
 }
 
+static ITEMS: [Row; 33] = [
+    (Kind::Item, b"a \t", 2, Some(0x09), "20 end"),
+    (Kind::Item, b"", 0, None, ITEM),
+    (Kind::Item, b"   ", 3, None, ITEM),
+    (Kind::Item, b"\t", 0, Some(0x09), ITEM),
+    (Kind::Item, b"9999999999999999", 15, Some(0x39), "20 3b end"),
+    (
+        Kind::Item,
+        b"1234567890123.1",
+        13,
+        Some(0x2e),
+        "20 30-39 3b end",
+    ),
+    (
+        Kind::Item,
+        b"123456789012.1234",
+        16,
+        Some(0x34),
+        "20 3b end",
+    ),
+    (Kind::Item, b"1.2345", 5, Some(0x35), "20 3b end"),
+    (Kind::Item, b"1.", 2, None, "30-39"),
+    (Kind::Item, b"-", 1, None, "30-39"),
+    (Kind::Item, b":YQ===:", 5, Some(0x3d), "3a"),
+    (Kind::Item, b":Y:", 2, Some(0x3a), "2b 2f-39 41-5a 61-7a"),
+    (Kind::Item, b":=:", 1, Some(0x3d), "2b 2f-3a 41-5a 61-7a"),
+    (
+        Kind::Item,
+        b":iZ$",
+        3,
+        Some(0x24),
+        "2b 2f-3a 3d 41-5a 61-7a",
+    ),
+    (Kind::Item, b":iZ===:", 5, Some(0x3d), "3a"),
+    (Kind::Item, b"%\"%C3\"", 3, Some(0x43), "30-37 63-66"),
+    (Kind::Item, b"%\"%c3%28\"", 6, Some(0x32), "38-39 61-62"),
+    (Kind::Item, b"%\"%ed%a0%80\"", 6, Some(0x61), "38-39"),
+    (Kind::Item, b"%\"%c3a\"", 5, Some(0x61), "25"),
+    (Kind::Item, b"%\"%c1\"", 4, Some(0x31), "32-39 61-66"),
+    (Kind::Item, b"%\"%e0%9f%80\"", 6, Some(0x39), "61-62"),
+    (Kind::Item, b"%\"%f4%90%80%80\"", 6, Some(0x39), "38"),
+    (Kind::Item, b"%\"%f5\"", 4, Some(0x35), "30-34"),
+    (Kind::Item, b"@1.5", 2, Some(0x2e), "20 30-39 3b end"),
+    (Kind::Item, b"?2", 1, Some(0x32), "30-31"),
+    (Kind::Item, b"1, 2", 1, Some(0x2c), "20 2e 30-39 3b end"),
+    (Kind::Item, b"1 2", 2, Some(0x32), "20 end"),
+    (Kind::Item, b"\"a\\b\"", 3, Some(0x62), "22 5c"),
+    (Kind::Item, b"\"\xc3\xa9\"", 1, Some(0xc3), "20-7e"),
+    (Kind::Item, b"\"a\x7f\"", 2, Some(0x7f), "20-7e"),
+    (Kind::Item, b"\"a\" ;b", 4, Some(0x3b), "20 end"),
+    (Kind::Item, b"a;B", 2, Some(0x42), "20 2a 61-7a"),
+    (Kind::Item, b"a;b=$;b=1", 4, Some(0x24), BARE),
+];
+
+static LISTS_AND_DICTIONARIES: [Row; 17] = [
+    (Kind::Item, b"a;b=", 4, None, BARE),
+    (
+        Kind::List,
+        b"\t",
+        0,
+        Some(0x09),
+        "20 22 25 28 2a 2d 30-3a 3f-5a 61-7a end",
+    ),
+    (Kind::Dict, b"\t", 0, Some(0x09), "20 2a 61-7a end"),
+    (Kind::List, b"a,", 2, None, MEMBER),
+    (Kind::List, b"a,,b", 2, Some(0x2c), MEMBER),
+    (Kind::List, b"a, ", 3, None, MEMBER),
+    (Kind::List, b"(\"x\"b)", 4, Some(0x62), "20 29 3b"),
+    (
+        Kind::List,
+        b"(a",
+        2,
+        None,
+        "20-21 23-27 29-2b 2d-3b 41-5a 5e-7a 7c 7e",
+    ),
+    (Kind::List, b"(a  )b", 5, Some(0x62), "09 20 2c 3b end"),
+    (
+        Kind::List,
+        b"((a))",
+        1,
+        Some(0x28),
+        "20 22 25 29-2a 2d 30-3a 3f-5a 61-7a",
+    ),
+    (
+        Kind::List,
+        b"(a\tb)",
+        2,
+        Some(0x09),
+        "20-21 23-27 29-2b 2d-3b 41-5a 5e-7a 7c 7e",
+    ),
+    (Kind::List, b"a;\tb", 2, Some(0x09), "20 2a 61-7a"),
+    (Kind::Dict, b"u=1, ", 5, None, "09 20 2a 61-7a"),
+    (Kind::Dict, b"a=1,A=2", 4, Some(0x41), "09 20 2a 61-7a"),
+    (Kind::Dict, b"a =1", 2, Some(0x3d), "09 20 2c end"),
+    (
+        Kind::Dict,
+        b"a=",
+        2,
+        None,
+        "22 25 28 2a 2d 30-3a 3f-5a 61-7a",
+    ),
+    (Kind::Item, b"\"\\n\"", 2, Some(0x6e), "22 5c"),
+];
+
+static OLD_DIALECT: [Row; 3] = [
+    (Kind::Item, b"@1", 0, Some(0x40), OLD_ITEM),
+    (Kind::Item, b"%\"a\"", 0, Some(0x25), OLD_ITEM),
+    (
+        Kind::Item,
+        b"a;b=@1;b=1",
+        4,
+        Some(0x40),
+        "22 2a 2d 30-3a 3f 41-5a 61-7a",
+    ),
+];
+
 #[test]
 fn items(rt: HostRuntime) -> Result<(), Fail> {
     let seed = RandomState::new(&rt)?;
-    let rows: [Row; 33] = [
-        (Kind::Item, b"a \t", 2, Some(0x09), "20 end"),
-        (Kind::Item, b"", 0, None, ITEM),
-        (Kind::Item, b"   ", 3, None, ITEM),
-        (Kind::Item, b"\t", 0, Some(0x09), ITEM),
-        (Kind::Item, b"9999999999999999", 15, Some(0x39), "20 3b end"),
-        (
-            Kind::Item,
-            b"1234567890123.1",
-            13,
-            Some(0x2e),
-            "20 30-39 3b end",
-        ),
-        (
-            Kind::Item,
-            b"123456789012.1234",
-            16,
-            Some(0x34),
-            "20 3b end",
-        ),
-        (Kind::Item, b"1.2345", 5, Some(0x35), "20 3b end"),
-        (Kind::Item, b"1.", 2, None, "30-39"),
-        (Kind::Item, b"-", 1, None, "30-39"),
-        (Kind::Item, b":YQ===:", 5, Some(0x3d), "3a"),
-        (Kind::Item, b":Y:", 2, Some(0x3a), "2b 2f-39 41-5a 61-7a"),
-        (Kind::Item, b":=:", 1, Some(0x3d), "2b 2f-3a 41-5a 61-7a"),
-        (
-            Kind::Item,
-            b":iZ$",
-            3,
-            Some(0x24),
-            "2b 2f-3a 3d 41-5a 61-7a",
-        ),
-        (Kind::Item, b":iZ===:", 5, Some(0x3d), "3a"),
-        (Kind::Item, b"%\"%C3\"", 3, Some(0x43), "30-37 63-66"),
-        (Kind::Item, b"%\"%c3%28\"", 6, Some(0x32), "38-39 61-62"),
-        (Kind::Item, b"%\"%ed%a0%80\"", 6, Some(0x61), "38-39"),
-        (Kind::Item, b"%\"%c3a\"", 5, Some(0x61), "25"),
-        (Kind::Item, b"%\"%c1\"", 4, Some(0x31), "32-39 61-66"),
-        (Kind::Item, b"%\"%e0%9f%80\"", 6, Some(0x39), "61-62"),
-        (Kind::Item, b"%\"%f4%90%80%80\"", 6, Some(0x39), "38"),
-        (Kind::Item, b"%\"%f5\"", 4, Some(0x35), "30-34"),
-        (Kind::Item, b"@1.5", 2, Some(0x2e), "20 30-39 3b end"),
-        (Kind::Item, b"?2", 1, Some(0x32), "30-31"),
-        (Kind::Item, b"1, 2", 1, Some(0x2c), "20 2e 30-39 3b end"),
-        (Kind::Item, b"1 2", 2, Some(0x32), "20 end"),
-        (Kind::Item, b"\"a\\b\"", 3, Some(0x62), "22 5c"),
-        (Kind::Item, b"\"\xc3\xa9\"", 1, Some(0xc3), "20-7e"),
-        (Kind::Item, b"\"a\x7f\"", 2, Some(0x7f), "20-7e"),
-        (Kind::Item, b"\"a\" ;b", 4, Some(0x3b), "20 end"),
-        (Kind::Item, b"a;B", 2, Some(0x42), "20 2a 61-7a"),
-        (Kind::Item, b"a;b=$;b=1", 4, Some(0x24), BARE),
-    ];
-    check_rows(&rt, rt.alloc(), &seed, &rows)
+    check_rows(&rt, rt.alloc(), &seed, &ITEMS)
 }
 
 #[test]
 fn lists_and_dictionaries(rt: HostRuntime) -> Result<(), Fail> {
     let seed = RandomState::new(&rt)?;
-    let rows: [Row; 17] = [
-        (Kind::Item, b"a;b=", 4, None, BARE),
-        (
-            Kind::List,
-            b"\t",
-            0,
-            Some(0x09),
-            "20 22 25 28 2a 2d 30-3a 3f-5a 61-7a end",
-        ),
-        (Kind::Dict, b"\t", 0, Some(0x09), "20 2a 61-7a end"),
-        (Kind::List, b"a,", 2, None, MEMBER),
-        (Kind::List, b"a,,b", 2, Some(0x2c), MEMBER),
-        (Kind::List, b"a, ", 3, None, MEMBER),
-        (Kind::List, b"(\"x\"b)", 4, Some(0x62), "20 29 3b"),
-        (
-            Kind::List,
-            b"(a",
-            2,
-            None,
-            "20-21 23-27 29-2b 2d-3b 41-5a 5e-7a 7c 7e",
-        ),
-        (Kind::List, b"(a  )b", 5, Some(0x62), "09 20 2c 3b end"),
-        (
-            Kind::List,
-            b"((a))",
-            1,
-            Some(0x28),
-            "20 22 25 29-2a 2d 30-3a 3f-5a 61-7a",
-        ),
-        (
-            Kind::List,
-            b"(a\tb)",
-            2,
-            Some(0x09),
-            "20-21 23-27 29-2b 2d-3b 41-5a 5e-7a 7c 7e",
-        ),
-        (Kind::List, b"a;\tb", 2, Some(0x09), "20 2a 61-7a"),
-        (Kind::Dict, b"u=1, ", 5, None, "09 20 2a 61-7a"),
-        (Kind::Dict, b"a=1,A=2", 4, Some(0x41), "09 20 2a 61-7a"),
-        (Kind::Dict, b"a =1", 2, Some(0x3d), "09 20 2c end"),
-        (
-            Kind::Dict,
-            b"a=",
-            2,
-            None,
-            "22 25 28 2a 2d 30-3a 3f-5a 61-7a",
-        ),
-        (Kind::Item, b"\"\\n\"", 2, Some(0x6e), "22 5c"),
-    ];
-    check_rows(&rt, rt.alloc(), &seed, &rows)
+    check_rows(&rt, rt.alloc(), &seed, &LISTS_AND_DICTIONARIES)
 }
 
 #[test]
 fn old_dialect(rt: HostRuntime) -> Result<(), Fail> {
     let seed = RandomState::new(&rt)?;
-    let rows: [Row; 3] = [
-        (Kind::Item, b"@1", 0, Some(0x40), OLD_ITEM),
-        (Kind::Item, b"%\"a\"", 0, Some(0x25), OLD_ITEM),
-        (
-            Kind::Item,
-            b"a;b=@1;b=1",
-            4,
-            Some(0x40),
-            "22 2a 2d 30-3a 3f 41-5a 61-7a",
-        ),
-    ];
-    for row in &rows {
+    for row in &OLD_DIALECT {
         match parse_text_in(rt.alloc(), &seed, Dialect::Rfc8941, row.0, row.1) {
             Ok(_) => return Err(Fail::from("accepted")),
             Err(refusal) => check_refusal(&rt, refusal, *row)?,
