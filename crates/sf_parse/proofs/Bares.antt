@@ -59,8 +59,15 @@ pub bare_lives : (s : BareState) → GoodBare s → Live Bare (RestBare s)
 bare_lives (InNumber s) g = number_lives s g
 bare_lives (InText s) g = let l = text_lives s in
     record { text = l.text; value = Text l.value; whole = (l.value, l.whole, refl) }
-bare_lives (InToken bytes) g = record { text = []; value = Token bytes; whole = (bytes,
-    (tt, sym (append-nil bytes)), refl) }
+bare_lives (InToken bytes) g = record {
+  text = [];
+  value = Token bytes;
+  whole = (
+    bytes,
+    (tt, sym (append-nil bytes)),
+    refl,
+  );
+}
 bare_lives (InBoolean s) g = let l = boolean_lives s in
     record { text = l.text; value = Boolean l.value; whole = (l.value, l.whole, refl) }
 bare_lives (InBlob s) g = let l = blob_lives s g in
@@ -88,14 +95,24 @@ bare_apart
 bare_apart (InText (Inside bytes)) x b t e n f = cc
 bare_apart (InText (Escaped bytes)) x b t e n f = cc
 bare_apart (InText (Closed bytes)) x b t e n f = cc
-bare_apart (InToken bytes) x b t e n f = not_follow is_token_rest (refl,
-    (refl,
-        (refl,
-            (refl,
-                (refl,
-                    tt))))) b (allow_cases (is_token_rest b) (bytes
-                        ++ b ∷ []) (seen_cases InToken (word_step is_token_rest bytes b) t n).0
-                            (seen_cases InToken (word_step is_token_rest bytes b) t n).1).0 f
+bare_apart (InToken bytes) x b t e n f = not_follow is_token_rest (
+  refl,
+  (
+    refl,
+    (
+      refl,
+      (
+        refl,
+        (
+          refl,
+          tt,
+        ),
+      ),
+    ),
+  ),
+) b (allow_cases (is_token_rest b) (bytes
+    ++ b ∷ []) (seen_cases InToken (word_step is_token_rest bytes b) t n).0
+    (seen_cases InToken (word_step is_token_rest bytes b) t n).1).0 f
 bare_apart (InBoolean Asked) x b t e n f = cc
 bare_apart (InBoolean (Told c)) x b t e n f = cc
 bare_apart (InDate (Digits neg count a)) x b t e n f = digits_apart neg count a b t n f
@@ -115,34 +132,46 @@ bare_apart (InShown (Done bytes)) x b t e n f = cc
 
 text_both : (t s : List ℕ) → After 34 (RestText (Inside [])) t s ↔ SpellsString t s
 text_both t s = (
-    λ h. let e : s ≡ h.2.0 = h.2.3 in (subst (λ y. t ≡ 34 ∷ (escaped y ++ 34 ∷ [])) (sym e) (h.1
-        ∙ ap (λ y. 34 ∷ y) h.2.1), subst (Every is_visible) (sym e) h.2.2),
-    λ h. (escaped s ++ 34 ∷ [], h.0, (s, refl, h.1, refl)))
+  λ h. let e : s ≡ h.2.0 = h.2.3 in (
+    subst (λ y. t ≡ 34 ∷ (escaped y ++ 34 ∷ [])) (sym e) (h.1
+        ∙ ap (λ y. 34 ∷ y) h.2.1),
+    subst (Every is_visible) (sym e) h.2.2,
+  ),
+  λ h. (escaped s ++ 34 ∷ [], h.0, (s, refl, h.1, refl)),
+)
 
 boolean_both : (t : List ℕ) (b : Bool) → After 63 (RestBoolean Asked) t b ↔ SpellsBoolean t b
 boolean_both t b = (λ h. h.1 ∙ ap (λ y. 63 ∷ y) h.2, λ h. ((if b then 49 else 48) ∷ [], h, refl))
 
 blob_both : (t s : List ℕ) → After 58 (RestBlob (Group [] H0)) t s ↔ SpellsByteSequence t s
-blob_both t s = (λ (back, e, (r, x, i)). (back, e, subst (λ y. Sextets back y) (sym i) x),
-    λ (back, e, x). (back, e, (s, x, refl)))
+blob_both t s = (
+  λ (back, e, (r, x, i)). (back, e, subst (λ y. Sextets back y) (sym i) x),
+  λ (back, e, x). (back, e, (s, x, refl)),
+)
 
 shown_both : (t s : List ℕ) → After 37 (RestShown Quote) t s ↔ SpellsDisplayString t s
 shown_both t s = (
-    λ (u, e, (back, e1, (r, p, w, i))). subst (λ y. SpellsDisplayString t y) (sym i) (back, e
-        ∙ ap (λ y. 37 ∷ y) e1, p, w),
-    λ (back, e, p, w). (34 ∷ back, e, (back, refl, (s, p, w, refl))))
+  λ (u, e, (back, e1, (r, p, w, i))). subst (λ y. SpellsDisplayString t y) (sym i) (
+    back,
+    e
+        ∙ ap (λ y. 37 ∷ y) e1,
+    p,
+    w,
+  ),
+  λ (back, e, p, w). (34 ∷ back, e, (back, refl, (s, p, w, refl))),
+)
 
 number_first : (b : ℕ) (s : NumberState) → number_start b ≡ Some s → (45 ≤ b) × (b ≤ 57)
 number_first b s e = grind arith
 
 others : (c : Bool) (b : ℕ) (t : BareState) → (45 ≤ b) × (b ≤ 57)
     → otherwise (seen InText (allow (b == 34) (Inside [])))
-        (otherwise (seen InToken (word_start is_token_start b))
-            (otherwise (seen InBoolean (allow (b == 63) Asked))
-                (otherwise (only c (seen InDate (allow (b == 64) Sign)))
-                    (otherwise (seen InBlob (allow (b == 58) (Group [] H0)))
-                        (only c (seen InShown (allow (b == 37) Quote)))))))
-        ≡ Some t
+    (otherwise (seen InToken (word_start is_token_start b))
+    (otherwise (seen InBoolean (allow (b == 63) Asked))
+    (otherwise (only c (seen InDate (allow (b == 64) Sign)))
+    (otherwise (seen InBlob (allow (b == 58) (Group [] H0)))
+    (only c (seen InShown (allow (b == 37) Quote)))))))
+    ≡ Some t
     → ⊥
 others true b t r n = grind arith
 others false b t r n = grind arith
@@ -157,8 +186,8 @@ blob_apart false b s t e n = grind arith
 date_apart : (c : Bool) (b : ℕ) (s t : BareState)
     → only c (seen InDate (allow (b == 64) Sign)) ≡ Some s
     → otherwise (seen InBlob (allow (b == 58) (Group [] H0)))
-        (only c (seen InShown (allow (b == 37) Quote)))
-        ≡ Some t
+    (only c (seen InShown (allow (b == 37) Quote)))
+    ≡ Some t
     → ⊥
 date_apart true b s t e n = grind arith
 date_apart false b s t e n = grind arith
@@ -166,9 +195,9 @@ date_apart false b s t e n = grind arith
 boolean_apart : (c : Bool) (b : ℕ) (s t : BareState)
     → seen InBoolean (allow (b == 63) Asked) ≡ Some s
     → otherwise (only c (seen InDate (allow (b == 64) Sign)))
-        (otherwise (seen InBlob (allow (b == 58) (Group [] H0)))
-            (only c (seen InShown (allow (b == 37) Quote))))
-        ≡ Some t
+    (otherwise (seen InBlob (allow (b == 58) (Group [] H0)))
+    (only c (seen InShown (allow (b == 37) Quote))))
+    ≡ Some t
     → ⊥
 boolean_apart true b s t e n = grind arith
 boolean_apart false b s t e n = grind arith
@@ -176,10 +205,10 @@ boolean_apart false b s t e n = grind arith
 token_apart : (c : Bool) (b : ℕ) (s t : BareState)
     → seen InToken (word_start is_token_start b) ≡ Some s
     → otherwise (seen InBoolean (allow (b == 63) Asked))
-        (otherwise (only c (seen InDate (allow (b == 64) Sign)))
-            (otherwise (seen InBlob (allow (b == 58) (Group [] H0)))
-                (only c (seen InShown (allow (b == 37) Quote)))))
-        ≡ Some t
+    (otherwise (only c (seen InDate (allow (b == 64) Sign)))
+    (otherwise (seen InBlob (allow (b == 58) (Group [] H0)))
+    (only c (seen InShown (allow (b == 37) Quote)))))
+    ≡ Some t
     → ⊥
 token_apart true b s t e n = grind arith
 token_apart false b s t e n = grind arith
@@ -187,23 +216,23 @@ token_apart false b s t e n = grind arith
 text_apart : (c : Bool) (b : ℕ) (s t : BareState)
     → seen InText (allow (b == 34) (Inside [])) ≡ Some s
     → otherwise (seen InToken (word_start is_token_start b))
-        (otherwise (seen InBoolean (allow (b == 63) Asked))
-            (otherwise (only c (seen InDate (allow (b == 64) Sign)))
-                (otherwise (seen InBlob (allow (b == 58) (Group [] H0)))
-                    (only c (seen InShown (allow (b == 37) Quote))))))
-        ≡ Some t
+    (otherwise (seen InBoolean (allow (b == 63) Asked))
+    (otherwise (only c (seen InDate (allow (b == 64) Sign)))
+    (otherwise (seen InBlob (allow (b == 58) (Group [] H0)))
+    (only c (seen InShown (allow (b == 37) Quote))))))
+    ≡ Some t
     → ⊥
 text_apart true b s t e n = grind arith
 text_apart false b s t e n = grind arith
 
 number_apart : (c : Bool) (b : ℕ) (s t : BareState) → seen InNumber (number_start b) ≡ Some s
     → otherwise (seen InText (allow (b == 34) (Inside [])))
-        (otherwise (seen InToken (word_start is_token_start b))
-            (otherwise (seen InBoolean (allow (b == 63) Asked))
-                (otherwise (only c (seen InDate (allow (b == 64) Sign)))
-                    (otherwise (seen InBlob (allow (b == 58) (Group [] H0)))
-                        (only c (seen InShown (allow (b == 37) Quote)))))))
-        ≡ Some t
+    (otherwise (seen InToken (word_start is_token_start b))
+    (otherwise (seen InBoolean (allow (b == 63) Asked))
+    (otherwise (only c (seen InDate (allow (b == 64) Sign)))
+    (otherwise (seen InBlob (allow (b == 58) (Group [] H0)))
+    (only c (seen InShown (allow (b == 37) Quote)))))))
+    ≡ Some t
     → ⊥
 number_apart c b s t e n = let k = seen_cases InNumber (number_start b) s e in
     others c b t (number_first b k.0 k.1) n
@@ -225,6 +254,7 @@ module _ (d : Dialect) where
     where
       at : (x : Bare) → v ≡ x → SpellsBare d t x → SpellsBare d t v
       at x e h = subst (SpellsBare d t) (sym e) h
+
       to : Starts (is_rfc9651 d) t v → SpellsBare d t v
       to = ⊎_elim
           (⊎_elim (λ h. at (Integer h.0) h.1 h.2) (λ h. at (Decimal h.0) h.1 h.2))
@@ -234,6 +264,7 @@ module _ (d : Dialect) where
           (⊎_elim (λ (on, (n, h, e)). at (Date n) e (on, h))
           (⊎_elim (λ h. at (Blob h.0) h.2 h.1)
           (λ (on, (s, h, e)). at (Shown s) e (on, h)))))))
+
       from : (v : Bare) → SpellsBare d t v → Starts (is_rfc9651 d) t v
       from (Integer n) h = inl (inl (n, refl, h))
       from (Decimal n) h = inl (inr (n, refl, h))
@@ -248,23 +279,23 @@ module _ (d : Dialect) where
   bare_starts = let c = is_rfc9651 d in reads_iff starts_both
       (reads_either (reads_into InNumber (λ s g. g) (λ s t v. same) number_starts)
       (reads_either
-          (reads_seen {GoodS = AnyState} InText Text (λ s g. tt) (λ s t v. same)
-              (reads_iff text_both (reads_after 34 (Inside []) tt)))
+      (reads_seen {GoodS = AnyState} InText Text (λ s g. tt) (λ s t v. same)
+      (reads_iff text_both (reads_after 34 (Inside []) tt)))
       (reads_either
-          (reads_seen InToken Token (λ s g. tt) (λ s t v. same)
-              (word_starts is_token_start is_token_rest))
+      (reads_seen InToken Token (λ s g. tt) (λ s t v. same)
+      (word_starts is_token_start is_token_rest))
       (reads_either
-          (reads_seen {GoodS = AnyState} InBoolean Boolean (λ s g. tt) (λ s t v. same)
-              (reads_iff boolean_both (reads_after 63 Asked tt)))
+      (reads_seen {GoodS = AnyState} InBoolean Boolean (λ s g. tt) (λ s t v. same)
+      (reads_iff boolean_both (reads_after 63 Asked tt)))
       (reads_either
-          (reads_where c
-              (reads_seen InDate Date (λ s g. g) (λ s t v. same) (reads_after 64 Sign tt)))
-      (reads_either
-          (reads_seen InBlob Blob (λ s g. g) (λ s t v. same)
-              (reads_iff blob_both (reads_after 58 (Group [] H0) tt)))
       (reads_where c
-          (reads_seen InShown Shown (λ s g. g) (λ s t v. same)
-              (reads_iff shown_both (reads_after 37 Quote tt))))
+      (reads_seen InDate Date (λ s g. g) (λ s t v. same) (reads_after 64 Sign tt)))
+      (reads_either
+      (reads_seen InBlob Blob (λ s g. g) (λ s t v. same)
+      (reads_iff blob_both (reads_after 58 (Group [] H0) tt)))
+      (reads_where c
+      (reads_seen InShown Shown (λ s g. g) (λ s t v. same)
+      (reads_iff shown_both (reads_after 37 Quote tt))))
       (blob_apart c) (λ v w. λ e. absurd cc))
       (date_apart c) (λ v w. λ e. absurd cc))
       (boolean_apart c) (λ v w. λ e. absurd cc))

@@ -83,19 +83,36 @@ module _ (b : ℕ) (h : 128 ≤ b) where
   not_tchar : is_tchar b ≡ false
   not_tchar = neither (is_alpha b || is_digit b)
       (is_one_of
-          (33 ∷ 35 ∷ 36 ∷ 37 ∷ 38 ∷ 39 ∷ 42 ∷ 43 ∷ 45 ∷ 46 ∷ 94 ∷ 95 ∷ 96 ∷ 124 ∷ 126 ∷ []) b)
+      (33 ∷ 35 ∷ 36 ∷ 37 ∷ 38 ∷ 39 ∷ 42 ∷ 43 ∷ 45 ∷ 46 ∷ 94 ∷ 95 ∷ 96 ∷ 124 ∷ 126 ∷ []) b)
       (neither (is_alpha b) (is_digit b) not_alpha not_digit)
-    (none_of (33 ∷ 35 ∷ 36 ∷ 37 ∷ 38 ∷ 39 ∷ 42 ∷ 43 ∷ 45 ∷ 46 ∷ 94 ∷ 95 ∷ 96 ∷ 124 ∷ 126 ∷ [])
-        (refl,
-        (refl,
-            (refl,
-                (refl,
-                    (refl,
-                        (refl,
-                            (refl,
-                                (refl,
-                                    (refl,
-                                        (refl, (refl, (refl, (refl, (refl, (refl, tt))))))))))))))))
+      (none_of (33 ∷ 35 ∷ 36 ∷ 37 ∷ 38 ∷ 39 ∷ 42 ∷ 43 ∷ 45 ∷ 46 ∷ 94 ∷ 95 ∷ 96 ∷ 124 ∷ 126 ∷ []) (
+        refl,
+        (
+          refl,
+          (
+            refl,
+            (
+              refl,
+              (
+                refl,
+                (
+                  refl,
+                  (
+                    refl,
+                    (
+                      refl,
+                      (
+                        refl,
+                        (refl, (refl, (refl, (refl, (refl, (refl, tt)))))),
+                      ),
+                    ),
+                  ),
+                ),
+              ),
+            ),
+          ),
+        ),
+      ))
 
   not_token_rest : is_token_rest b ≡ false
   not_token_rest = neither (is_tchar b || b == 58) (b == 47)
@@ -146,25 +163,25 @@ module _ (b : ℕ) (h : 128 ≤ b) where
 
   begins_below : (d : Dialect) → bare_begins d b ≡ false
   begins_below d =
-    neither (b == 45 || number_takes (Whole false 0 0) b)
-        (b == 34 ||
-            (is_token_start b ||
-                (b == 63 || ((is_rfc9651 d && b == 64) || (b == 58 || (is_rfc9651 d && b == 37))))))
-        (neither (b == 45) (number_takes (Whole false 0 0) b) (not_equal 45 (omega arith))
-            (number_below (Whole false 0 0)))
-    (neither (b == 34)
-        (is_token_start b ||
-            (b == 63 || ((is_rfc9651 d && b == 64) || (b == 58 || (is_rfc9651 d && b == 37)))))
-        (not_equal 34 (omega arith))
-    (neither (is_token_start b)
-        (b == 63 ||
-            ((is_rfc9651 d && b == 64) || (b == 58 || (is_rfc9651 d && b == 37)))) not_token_start
-    (neither (b == 63) ((is_rfc9651 d && b == 64) || (b == 58 || (is_rfc9651 d && b == 37)))
-        (not_equal 63 (omega arith))
-    (neither (is_rfc9651 d && b == 64) (b == 58 || (is_rfc9651 d && b == 37))
-        (not_both (is_rfc9651 d) (b == 64) (not_equal 64 (omega arith)))
-    (neither (b == 58) (is_rfc9651 d && b == 37) (not_equal 58 (omega arith))
-        (not_both (is_rfc9651 d) (b == 37) (not_equal 37 (omega arith))))))))
+      neither (b == 45 || number_takes (Whole false 0 0) b)
+      (b == 34 ||
+      (is_token_start b ||
+      (b == 63 || ((is_rfc9651 d && b == 64) || (b == 58 || (is_rfc9651 d && b == 37))))))
+      (neither (b == 45) (number_takes (Whole false 0 0) b) (not_equal 45 (omega arith))
+      (number_below (Whole false 0 0)))
+      (neither (b == 34)
+      (is_token_start b ||
+      (b == 63 || ((is_rfc9651 d && b == 64) || (b == 58 || (is_rfc9651 d && b == 37)))))
+      (not_equal 34 (omega arith))
+      (neither (is_token_start b)
+      (b == 63 ||
+      ((is_rfc9651 d && b == 64) || (b == 58 || (is_rfc9651 d && b == 37)))) not_token_start
+      (neither (b == 63) ((is_rfc9651 d && b == 64) || (b == 58 || (is_rfc9651 d && b == 37)))
+      (not_equal 63 (omega arith))
+      (neither (is_rfc9651 d && b == 64) (b == 58 || (is_rfc9651 d && b == 37))
+      (not_both (is_rfc9651 d) (b == 64) (not_equal 64 (omega arith)))
+      (neither (b == 58) (is_rfc9651 d && b == 37) (not_equal 58 (omega arith))
+      (not_both (is_rfc9651 d) (b == 37) (not_equal 37 (omega arith))))))))
 
   bare_below : (s : BareState) → bare_takes s b ≡ false
   bare_below (InNumber s) = number_below s
@@ -247,10 +264,10 @@ below d s b e = ⊎_elim (λ k. absurd (clash (takes d s b) (takes_below b k d s
 
 pub next_below : NextBelow
 next_below d kind p b h =
-  let a = (is_viable d kind p).0
-      (Machines.viable_front (machine d) (SpellsField d kind) p (b ∷ []) h) in
-  let k = takes_more d kind (begin kind) a.0 [] p (took_nothing d kind) a.1 in
-  below d a.0 b ((takes_next d kind a.0 p b k).0 h)
+    let a = (is_viable d kind p).0
+    (Machines.viable_front (machine d) (SpellsField d kind) p (b ∷ []) h) in
+    let k = takes_more d kind (begin kind) a.0 [] p (took_nothing d kind) a.1 in
+    below d a.0 b ((takes_next d kind a.0 p b k).0 h)
 
 -- where the text may end, a space may come
 or_true : (x y : Bool) → y ≡ true → (x || (y && true)) ≡ true
@@ -278,6 +295,7 @@ some_next d kind s p k = let l = (machine d).lives s k.good in go l.text l.value
   where
     found : (b : ℕ) → takes d s b ≡ true → (b : ℕ) × Next d kind p b
     found b e = (b, (below d s b e, (takes_next d kind s p b k).1 e))
+
     go : (u : List ℕ) (v : Field) → Rest d s u v → (b : ℕ) × Next d kind p b
     go [] v r = found 32 (space d s (sym (may_end_is s)
         ∙ ap is_some (((machine d).reads s k.good).ends v r)))

@@ -77,8 +77,11 @@ near_onward : {S T X : Type 0} {b : ℕ} {o n : Option S} (into : S → T) (end 
     → ((x : X) → Mark b → after x ≡ None) → Near b o n
     → Near b (onward into o end after) (onward into n end after)
 near_onward into end after h (inl e) = inl (ap (λ y. onward into y end after) e)
-near_onward {X = X} into end after h (inr (e, m)) = inr (ap (λ y. onward into y end after) e
-    ∙ go end, m)
+near_onward {X = X} into end after h (inr (e, m)) = inr (
+  ap (λ y. onward into y end after) e
+      ∙ go end,
+  m,
+)
   where
     go : (end : Option X) → onward into None end after ≡ None
     go (Some x) = h x m
@@ -86,19 +89,20 @@ near_onward {X = X} into end after h (inr (e, m)) = inr (ap (λ y. onward into y
 
 last_near : (b : ℕ)
     → Near b (seen InBlob (allow (b == 58) (Group [] H0)))
-        (otherwise (seen InDate (allow (b == 64) Sign))
-            (otherwise (seen InBlob (allow (b == 58) (Group [] H0)))
-                (seen InShown (allow (b == 37) Quote))))
+    (otherwise (seen InDate (allow (b == 64) Sign))
+    (otherwise (seen InBlob (allow (b == 58) (Group [] H0)))
+    (seen InShown (allow (b == 37) Quote))))
 last_near b = go (b == 64) (b == 37) refl refl
   where
     alone : (o : Option BareState) → o ≡ otherwise o None
     alone (Some s) = refl
     alone None = refl
+
     go : (x y : Bool) → (b == 64) ≡ x → (b == 37) ≡ y
         → Near b (seen InBlob (allow (b == 58) (Group [] H0)))
-            (otherwise (seen InDate (allow (b == 64) Sign))
-                (otherwise (seen InBlob (allow (b == 58) (Group [] H0)))
-                    (seen InShown (allow (b == 37) Quote))))
+        (otherwise (seen InDate (allow (b == 64) Sign))
+        (otherwise (seen InBlob (allow (b == 58) (Group [] H0)))
+        (seen InShown (allow (b == 37) Quote))))
     go true y e k = let m : Mark b = inl (eqb-true b 64 e) in
         inr (mark_none (λ b. seen InBlob (allow (b == 58) (Group [] H0))) refl refl b m, m)
     go false true e k = let m : Mark b = inr (eqb-true b 37 k) in
@@ -107,7 +111,7 @@ last_near b = go (b == 64) (b == 37) refl refl
 
 old_last : (b : ℕ)
     → otherwise (seen InBlob (allow (b == 58) (Group [] H0))) None
-        ≡ seen InBlob (allow (b == 58) (Group [] H0))
+    ≡ seen InBlob (allow (b == 58) (Group [] H0))
 old_last b = go (seen InBlob (allow (b == 58) (Group [] H0)))
   where
     go : (o : Option BareState) → otherwise o None ≡ o
@@ -116,15 +120,15 @@ old_last b = go (seen InBlob (allow (b == 58) (Group [] H0)))
 
 bare_near : (b : ℕ) → Near b (bare_start Rfc8941 b) (bare_start Rfc9651 b)
 bare_near b =
-  near_second (seen InNumber (number_start b))
-      (mark_none (λ b. seen InNumber (number_start b)) refl refl b)
-  (near_second (seen InText (allow (b == 34) (Inside [])))
-      (mark_none (λ b. seen InText (allow (b == 34) (Inside []))) refl refl b)
-  (near_second (seen InToken (word_start is_token_start b))
-      (mark_none (λ b. seen InToken (word_start is_token_start b)) refl refl b)
-  (near_second (seen InBoolean (allow (b == 63) Asked))
-      (mark_none (λ b. seen InBoolean (allow (b == 63) Asked)) refl refl b)
-  (⊎_elim (λ e. inl (old_last b ∙ e)) (λ e. inr (old_last b ∙ e.0, e.1)) (last_near b)))))
+    near_second (seen InNumber (number_start b))
+    (mark_none (λ b. seen InNumber (number_start b)) refl refl b)
+    (near_second (seen InText (allow (b == 34) (Inside [])))
+    (mark_none (λ b. seen InText (allow (b == 34) (Inside []))) refl refl b)
+    (near_second (seen InToken (word_start is_token_start b))
+    (mark_none (λ b. seen InToken (word_start is_token_start b)) refl refl b)
+    (near_second (seen InBoolean (allow (b == 63) Asked))
+    (mark_none (λ b. seen InBoolean (allow (b == 63) Asked)) refl refl b)
+    (⊎_elim (λ e. inl (old_last b ∙ e)) (λ e. inr (old_last b ∙ e.0, e.1)) (last_near b)))))
 
 params_near : (s : ParamsState) (b : ℕ) → Near b (params_step Rfc8941 s b) (params_step Rfc9651 s b)
 params_near (Between ps) b = inl refl
@@ -142,10 +146,10 @@ item_near (InParams x s) b = near_seen (InParams x) (params_near s b)
 
 inner_near : (s : InnerState) (b : ℕ) → Near b (inner_step Rfc8941 s b) (inner_step Rfc9651 s b)
 inner_near (Room is) b =
-  near_second (allow (is_sp b) (Room is)) (mark_none (λ b. allow (is_sp b) (Room is)) refl refl b)
-  (near_second (allow (b == 41) (Closing is (Between [])))
-      (mark_none (λ b. allow (b == 41) (Closing is (Between []))) refl refl b)
-  (near_seen (InItem is) (item_start_near b)))
+    near_second (allow (is_sp b) (Room is)) (mark_none (λ b. allow (is_sp b) (Room is)) refl refl b)
+    (near_second (allow (b == 41) (Closing is (Between [])))
+    (mark_none (λ b. allow (b == 41) (Closing is (Between []))) refl refl b)
+    (near_seen (InItem is) (item_start_near b)))
 inner_near (InItem is s) b = near_onward (InItem is) (item_finish s) (λ i. behind_step (is
     ++ i ∷ []) b) (λ i. mark_none (behind_step (is ++ i ∷ [])) refl refl b) (item_near s b)
 inner_near (Closing is s) b = near_seen (Closing is) (params_near s b)
@@ -173,7 +177,7 @@ list_near Begin b = near_second (allow (is_sp b) Begin)
 list_near (InPiece given s) b = near_onward (InPiece given) (member_finish s)
     (λ x. gap_step (list_series Rfc8941) (given
     ++ x ∷ []) b) (λ x. mark_none (gap_step (list_series Rfc8941) (given
-        ++ x ∷ [])) refl refl b) (member_near s b)
+    ++ x ∷ [])) refl refl b) (member_near s b)
 list_near (Gap given) b = inl refl
 list_near (Comma given) b = near_second (allow (is_ows b) (Comma given))
     (mark_none (λ b. allow (is_ows b) (Comma given)) refl refl b)
@@ -203,11 +207,12 @@ pub run_more : (s : State) (t : List ℕ) (r : State) → run (step Rfc8941) s t
     → run (step Rfc9651) s t ≡ Some r
 run_more s [] r e = e
 run_more s (b ∷ t) r e =
-  let c = and_then_cases (step Rfc8941 s b) (λ s. run (step Rfc8941) s t) r e in
-  go c.0 c.1 (step_near s b) (run_more c.0 t r c.2)
+    let c = and_then_cases (step Rfc8941 s b) (λ s. run (step Rfc8941) s t) r e in
+    go c.0 c.1 (step_near s b) (run_more c.0 t r c.2)
   where
     clash : (o : Option State) (x : State) → o ≡ None → o ≡ Some x → ⊥
     clash o x e k = cc
+
     go : (x : State) → step Rfc8941 s b ≡ Some x → Near b (step Rfc8941 s b) (step Rfc9651 s b)
         → run (step Rfc9651) x t ≡ Some r → run (step Rfc9651) s (b ∷ t) ≡ Some r
     go x k (inl i) h = rw (sym i ∙ k) h
@@ -222,16 +227,25 @@ pub run_near : (s : State) (t : List ℕ) (r : State) → run (step Rfc9651) s t
     → (run (step Rfc8941) s t ≡ Some r) ⊎ Stuck s t
 run_near s [] r e = inl e
 run_near s (b ∷ t) r e =
-  let c = and_then_cases (step Rfc9651 s b) (λ s. run (step Rfc9651) s t) r e in
-  go c.0 c.1 (step_near s b) (run_near c.0 t r c.2)
+    let c = and_then_cases (step Rfc9651 s b) (λ s. run (step Rfc9651) s t) r e in
+    go c.0 c.1 (step_near s b) (run_near c.0 t r c.2)
   where
     go : (x : State) → step Rfc9651 s b ≡ Some x → Near b (step Rfc8941 s b) (step Rfc9651 s b)
         → (run (step Rfc8941) x t ≡ Some r) ⊎ Stuck x t
         → (run (step Rfc8941) s (b ∷ t) ≡ Some r) ⊎ Stuck s (b ∷ t)
     go x k (inr (n, m)) h = inr ([], t, b, s, refl, refl, n, m)
     go x k (inl i) (inl h) = inl (rw (i ∙ k) h)
-    go x k (inl i) (inr (p, q, c, y, e, h, n, m)) = inr (b ∷ p, q, c, y, ap (λ y. b ∷ y) e, rw (i
-        ∙ k) h, n, m)
+    go x k (inl i) (inr (p, q, c, y, e, h, n, m)) = inr (
+      b ∷ p,
+      q,
+      c,
+      y,
+      ap (λ y. b ∷ y) e,
+      rw (i
+          ∙ k) h,
+      n,
+      m,
+    )
 
 place_one : (L : List ℕ → Field → Type 0) (t : List ℕ) (n m : ℕ) → IsLongest Field L t n
     → IsLongest Field L t m → n ≡ m
@@ -240,18 +254,22 @@ place_one L t n m a b = let x = a.longest m b.within b.viable in
 
 pub only_new : OnlyNew
 only_new kind t v h none n place =
-  let c = and_then_cases (run (step Rfc9651) (begin kind) t) finish v
-      ((is_read Rfc9651 kind t v).0 h) in
-  go c.0 c.2 (run_near (begin kind) t c.0 c.1)
+    let c = and_then_cases (run (step Rfc9651) (begin kind) t) finish v
+    ((is_read Rfc9651 kind t v).0 h) in
+    go c.0 c.2 (run_near (begin kind) t c.0 c.1)
   where
     go : (s : State) → finish s ≡ Some v
         → (run (step Rfc8941) (begin kind) t ≡ Some s) ⊎ Stuck (begin kind) t
         → At t n 64 ⊎ At t n 37
     go s f (inl r) = absurd (none v ((is_read Rfc8941 kind t v).1 (rw r f)))
     go s f (inr (p, q, b, r, e, k, stop, m)) =
-      let here = stops_at Rfc8941 kind p q b r k stop in
-      let same = place_one (SpellsField Rfc8941 kind) t (length p) n
-          (subst (λ y. IsLongest Field (SpellsField Rfc8941 kind) y (length p))
-              (sym e) here) place in
-      ⊎_elim (λ i. inl (p, q, subst (λ y. t ≡ p ++ y ∷ q) i e, same)) (λ i. inr (p, q,
-          subst (λ y. t ≡ p ++ y ∷ q) i e, same)) m
+        let here = stops_at Rfc8941 kind p q b r k stop in
+        let same = place_one (SpellsField Rfc8941 kind) t (length p) n
+        (subst (λ y. IsLongest Field (SpellsField Rfc8941 kind) y (length p))
+        (sym e) here) place in
+        ⊎_elim (λ i. inl (p, q, subst (λ y. t ≡ p ++ y ∷ q) i e, same)) (λ i. inr (
+          p,
+          q,
+          subst (λ y. t ≡ p ++ y ∷ q) i e,
+          same,
+        )) m

@@ -55,10 +55,10 @@ key_apart : (k : List ℕ) (b : ℕ) (t : EntryState) → is_key_rest b ≡ true
     → behind_key_step k b ≡ Some t → ⊥
 key_apart k b t e n = ⊎_elim
     (λ h. let x = eqb-true b 61 (allow_cases (b == 61) (Equals k) t h).0 in
-        let f : is_key_rest 61 ≡ true = rw x at e in cc)
+    let f : is_key_rest 61 ≡ true = rw x at e in cc)
     (λ h. let c = seen_cases (InFlag k) (between_step [] b) t h.1 in
-      let x = eqb-true b 59 (allow_cases (b == 59) _ c.0 c.1).0 in
-          let f : is_key_rest 59 ≡ true = rw x at e in cc)
+    let x = eqb-true b 59 (allow_cases (b == 59) _ c.0 c.1).0 in
+    let f : is_key_rest 59 ≡ true = rw x at e in cc)
     (otherwise_cases (allow (b == 61) (Equals k)) (seen (InFlag k) (between_step [] b)) t n)
 
 ows_cases : (b : ℕ) → is_ows b ≡ true → (b ≡ 32) ⊎ (b ≡ 9)
@@ -92,8 +92,8 @@ module _ (d : Dialect) where
       apart : (b : ℕ) (s t : EntryState) → allow (b == 61) (Equals k) ≡ Some s
           → seen (InFlag k) (between_step [] b) ≡ Some t → ⊥
       apart b s t e n =
-        let x = eqb-true b 61 (allow_cases (b == 61) (Equals k) s e).0 in
-        let n' : seen (InFlag k) (between_step [] 61) ≡ Some t = rw x at n in cc
+          let x = eqb-true b 61 (allow_cases (b == 61) (Equals k) s e).0 in
+          let n' : seen (InFlag k) (between_step [] 61) ≡ Some t = rw x at n in cc
 
   entry_reads : (s : EntryState) → GoodEntry s
       → ReadsEntry (RestEntry d s) (entry_step d s) (entry_finish s)
@@ -113,29 +113,68 @@ module _ (d : Dialect) where
   entry_to : (t : List ℕ) (p : List ℕ × Member)
       → Then (SpellsWord is_key_start is_key_rest) (BehindKey d) t p → SpellsEntry d t p
   entry_to t p (k, front, back, e, (a, w), inl (b2, e1, (m, s, c))) =
-    subst (λ y. SpellsEntry d t y) (sym c) (b2, w, inl ((let e' : t ≡ k ++ 61 ∷ b2 = cc in e'), s))
+      subst (λ y. SpellsEntry d t y) (sym c) (b2, w, inl ((let e' : t ≡ k ++ 61 ∷ b2 = cc in e'), s))
   entry_to t p (k, front, back, e, (a, w), inr (ps, s, c)) =
-    subst (λ y. SpellsEntry d t y) (sym c) (back, w, inr (ps, refl, (let e' : t ≡ k ++ back = cc in
-        e'), s))
+      subst (λ y. SpellsEntry d t y) (sym c) (
+        back,
+        w,
+        inr (
+          ps,
+          refl,
+          (let e' : t ≡ k ++ back = cc in
+              e'),
+          s,
+        ),
+      )
 
   entry_from : (t : List ℕ) (p : List ℕ × Member) → SpellsEntry d t p
       → Then (SpellsWord is_key_start is_key_rest) (BehindKey d) t p
-  entry_from t p (back, w, inl (e, s)) = (p.0, p.0, 61 ∷ back, e, (refl, w),
-      inl (back, refl, (p.1, s, refl)))
-  entry_from t p (back, w, inr (ps, i, e, s)) = (p.0, p.0, back, e, (refl, w),
-      inr (ps, s, ap (λ y. (p.0, y)) i))
+  entry_from t p (back, w, inl (e, s)) = (
+    p.0,
+    p.0,
+    61 ∷ back,
+    e,
+    (refl, w),
+    inl (back, refl, (p.1, s, refl)),
+  )
+  entry_from t p (back, w, inr (ps, i, e, s)) = (
+    p.0,
+    p.0,
+    back,
+    e,
+    (refl, w),
+    inr (ps, s, ap (λ y. (p.0, y)) i),
+  )
 
   entry_starts : ReadsEntry (SpellsEntry d) entry_start None
-  entry_starts = reads_iff (λ t p. (entry_to t p,
-      entry_from t p))
-          (reads_first InKey (λ k t. tt) (λ k t v. same) (word_starts is_key_start is_key_rest))
+  entry_starts = reads_iff (λ t p. (
+    entry_to t p,
+    entry_from t p,
+  ))
+      (reads_first InKey (λ k t. tt) (λ k t v. same) (word_starts is_key_start is_key_rest))
 
   entry_lives : (s : EntryState) → GoodEntry s → Live (List ℕ × Member) (RestEntry d s)
-  entry_lives (InKey k) g = record { text = []; value = flag_of k []; whole = (k, [], [], refl,
-      (tt, sym (append-nil k)), inr ([], no_raw d [] refl, refl)) }
-  entry_lives (Equals k) g = record { text = 63 ∷ 49 ∷ []; value = with_key k (flag []);
-      whole = (flag [],
-      (63 ∷ 49 ∷ [], [], refl, refl, ([], refl, refl)), refl) }
+  entry_lives (InKey k) g = record {
+    text = [];
+    value = flag_of k [];
+    whole = (
+      k,
+      [],
+      [],
+      refl,
+      (tt, sym (append-nil k)),
+      inr ([], no_raw d [] refl, refl),
+    );
+  }
+  entry_lives (Equals k) g = record {
+    text = 63 ∷ 49 ∷ [];
+    value = with_key k (flag []);
+    whole = (
+      flag [],
+      (63 ∷ 49 ∷ [], [], refl, refl, ([], refl, refl)),
+      refl,
+    );
+  }
   entry_lives (InMember k s) g = let l = member_lives d s g in
       record { text = l.text; value = with_key k l.value; whole = (l.value, l.whole, refl) }
   entry_lives (InFlag k s) g = let l = params_lives d s g in
@@ -146,49 +185,67 @@ module _ (d : Dialect) where
   entry_apart (InKey k) v b t e n f = ⊎_elim
       (λ o. not_key b (allow_cases (is_key_rest b) (k ++ b ∷ []) o.0 o.1).0 f)
       (λ o. ⊎_elim
-        (λ h. not_equals b (allow_cases (b == 61) (Equals o.0) t h).0 f)
-        (λ h. let c = seen_cases (InFlag o.0) (between_step [] b) t h.1 in
-            between_apart [] b c.0 c.1 f)
-        (otherwise_cases (allow (b == 61) (Equals o.0))
-            (seen (InFlag o.0) (between_step [] b)) t o.3))
+      (λ h. not_equals b (allow_cases (b == 61) (Equals o.0) t h).0 f)
+      (λ h. let c = seen_cases (InFlag o.0) (between_step [] b) t h.1 in
+      between_apart [] b c.0 c.1 f)
+      (otherwise_cases (allow (b == 61) (Equals o.0))
+      (seen (InFlag o.0) (between_step [] b)) t o.3))
       (onward_cases InKey (word_step is_key_rest k b) (Some k) (λ k. behind_key_step k b) t n)
   entry_apart (Equals k) v b t e n f = cc
   entry_apart (InMember k s) v b t e n f =
-    let c = seen_cases (with_key k) (member_finish s) v e in
-    let o = seen_cases (InMember k) (member_step d s b) t n in
-    member_apart d s c.0 b o.0 c.1 o.1 f
+      let c = seen_cases (with_key k) (member_finish s) v e in
+      let o = seen_cases (InMember k) (member_step d s b) t n in
+      member_apart d s c.0 b o.0 c.1 o.1 f
   entry_apart (InFlag k s) v b t e n f =
-    let c = seen_cases (flag_of k) (params_finish s) v e in
-    let o = seen_cases (InFlag k) (params_step d s b) t n in
-    params_apart d s c.0 b o.0 c.1 o.1 f
+      let c = seen_cases (flag_of k) (params_finish s) v e in
+      let o = seen_cases (InFlag k) (params_step d s b) t n in
+      params_apart d s c.0 b o.0 c.1 o.1 f
 
   list_laws : SeriesLaws MemberState Member (List Member) (list_series d)
   list_laws = record {
-      starts = member_starts d;
-      reads = member_reads d;
-      lives = member_lives d;
-      one = record { text = 63 ∷ 49 ∷ []; value = flag []; whole = (63 ∷ 49 ∷ [], [], refl, refl,
-          ([], refl, refl)) };
-      apart = member_apart d;
-      no_space = no_ows (member_start d) (no_member d).0 (no_member d).1;
-      settled_none = tt;
-      settled_add = λ ms m g. tt;
-      all_none = λ ms g. append-nil ms;
-      all_add = λ ms m more. append_assoc ms (m ∷ []) more }
+    starts = member_starts d;
+    reads = member_reads d;
+    lives = member_lives d;
+    one = record {
+      text = 63 ∷ 49 ∷ [];
+      value = flag [];
+      whole = (
+        63 ∷ 49 ∷ [],
+        [],
+        refl,
+        refl,
+        ([], refl, refl),
+      );
+    };
+    apart = member_apart d;
+    no_space = no_ows (member_start d) (no_member d).0 (no_member d).1;
+    settled_none = tt;
+    settled_add = λ ms m g. tt;
+    all_none = λ ms g. append-nil ms;
+    all_add = λ ms m more. append_assoc ms (m ∷ []) more;
+  }
 
   dict_laws : SeriesLaws EntryState (List ℕ × Member) (Pairs Member) (dict_series d)
   dict_laws = record {
-      starts = entry_starts;
-      reads = entry_reads;
-      lives = entry_lives;
-      one = record { text = 97 ∷ []; value = flag_of (97 ∷ []) []; whole = ([], (refl, tt),
-          inr ([], refl, refl, ([], refl, refl))) };
-      apart = entry_apart;
-      no_space = no_ows entry_start refl refl;
-      settled_none = refl;
-      settled_add = λ ps p g. put_settled ps p.0 p.1;
-      all_none = λ ps g. ap settle (append-nil ps) ∙ g;
-      all_add = λ ps p raw. put_more ps p.0 p.1 raw }
+    starts = entry_starts;
+    reads = entry_reads;
+    lives = entry_lives;
+    one = record {
+      text = 97 ∷ [];
+      value = flag_of (97 ∷ []) [];
+      whole = (
+        [],
+        (refl, tt),
+        inr ([], refl, refl, ([], refl, refl)),
+      );
+    };
+    apart = entry_apart;
+    no_space = no_ows entry_start refl refl;
+    settled_none = refl;
+    settled_add = λ ps p g. put_settled ps p.0 p.1;
+    all_none = λ ps g. ap settle (append-nil ps) ∙ g;
+    all_add = λ ps p raw. put_more ps p.0 p.1 raw;
+  }
 
   abbrev ReadsField : (List ℕ → Field → Type 0) → (ℕ → Option State) → Option Field → Type 0
   ReadsField = Reads State Field Good (Rest d)
@@ -197,7 +254,7 @@ module _ (d : Dialect) where
       → ReadsField (Tail i) (λ b. allow (is_sp b) (AfterItem i)) (Some (field.Item i))
   tail_reads i = reads_as (λ b. otherwise_none (allow (is_sp b) (AfterItem i)))
       (reads_past is_sp (AfterItem i) tt (λ u v. same) (λ b t e n. cc)
-          (reads_nothing (field.Item i)))
+      (reads_nothing (field.Item i)))
 
   reads : (s : State) → Good s → ReadsField (Rest d s) (step d s) (finish s)
   reads BeforeItem g = reads_past is_sp BeforeItem tt (λ u v. same) apart
@@ -220,16 +277,48 @@ module _ (d : Dialect) where
       (series_reads (dict_series d) dict_laws s g)
 
   lives : (s : State) → Good s → Live Field (Rest d s)
-  lives BeforeItem g = record { text = 63 ∷ 49 ∷ []; value = field.Item (item (Boolean true) []);
-      whole = ([],
-      63 ∷ 49 ∷ [], refl, tt,
-      (item (Boolean true) [], 63 ∷ 49 ∷ [], [], refl,
-          (63 ∷ 49 ∷ [], [], refl, refl, ([], refl, refl)), ([], [], refl, tt, (refl, refl)))) }
+  lives BeforeItem g = record {
+    text = 63 ∷ 49 ∷ [];
+    value = field.Item (item (Boolean true) []);
+    whole = (
+      [],
+      63 ∷ 49 ∷ [],
+      refl,
+      tt,
+      (
+        item (Boolean true) [],
+        63 ∷ 49 ∷ [],
+        [],
+        refl,
+        (63 ∷ 49 ∷ [], [], refl, refl, ([], refl, refl)),
+        ([], [], refl, tt, (refl, refl)),
+      ),
+    );
+  }
   lives (InTop s) g = let l = item_lives d s g in
-      record { text = l.text; value = field.Item l.value; whole = (l.value, l.text, [],
-          sym (append-nil l.text), l.whole, ([], [], refl, tt, (refl, refl))) }
-  lives (AfterItem i) g = record { text = []; value = field.Item i; whole = ([], [], refl, tt,
-      (refl, refl)) }
+      record {
+        text = l.text;
+        value = field.Item l.value;
+        whole = (
+          l.value,
+          l.text,
+          [],
+          sym (append-nil l.text),
+          l.whole,
+          ([], [], refl, tt, (refl, refl)),
+        );
+      }
+  lives (AfterItem i) g = record {
+    text = [];
+    value = field.Item i;
+    whole = (
+      [],
+      [],
+      refl,
+      tt,
+      (refl, refl),
+    );
+  }
   lives (InList s) g = let l = series_lives (list_series d) list_laws s g in
       record { text = l.text; value = list_of l.value; whole = (l.value, l.whole, refl) }
   lives (InDict s) g = let l = series_lives (dict_series d) dict_laws s g in
@@ -245,12 +334,25 @@ module _ (d : Dialect) where
     where
       to : (v : Field) → Rest d BeforeItem t v → SpellsField d kind.Item t v
       to v (gap, rest, e, f, (i, body, back, e1, s, (tail, last, e2, w, (e3, c)))) =
-        subst (λ y. SpellsField d kind.Item t y) (sym c) (gap, body, tail,
+          subst (λ y. SpellsField d kind.Item t y) (sym c) (
+            gap,
+            body,
+            tail,
             (let e4 : back ≡ tail = e2
-            ∙ ap (λ y. tail ++ y) e3 ∙ append-nil tail in cc), f, s, w)
+                ∙ ap (λ y. tail ++ y) e3 ∙ append-nil tail in cc),
+            f,
+            s,
+            w,
+          )
+
       from : (v : Field) → SpellsField d kind.Item t v → Rest d BeforeItem t v
-      from (field.Item i) (gap, body, tail, e, f, s, w) = (gap, body ++ tail, e, f,
-          (i, body, tail, refl, s, (tail, [], sym (append-nil tail), w, (refl, refl))))
+      from (field.Item i) (gap, body, tail, e, f, s, w) = (
+        gap,
+        body ++ tail,
+        e,
+        f,
+        (i, body, tail, refl, s, (tail, [], sym (append-nil tail), w, (refl, refl))),
+      )
       from (field.List l) h = elim h [ ]
       from (field.Dict m) h = elim h [ ]
   begins kind.List t v = (to v, from v)
@@ -258,21 +360,29 @@ module _ (d : Dialect) where
       at : (ms more : List Member) → ms ≡ more → SpellsWhole (SpellsMember d) t more
           → SpellsField d kind.List t (list_of ms)
       at ms more e w = subst (λ y. SpellsField d kind.List t (list_of y)) (sym e) w
+
       to : (v : Field) → Rest d (InList Begin) t v → SpellsField d kind.List t v
       to v (ms, h, c) = let k = (series_texts (list_series d) list_laws t ms).0 h in
           subst (λ y. SpellsField d kind.List t y) (sym c) (at ms k.0 k.1 k.2)
+
       from : (v : Field) → SpellsField d kind.List t v → Rest d (InList Begin) t v
       from (field.Item i) h = elim h [ ]
-      from (field.List l) h =
-          (l.members, (series_texts (list_series d) list_laws t l.members).1 (l.members, refl, h),
-            refl)
+      from (field.List l) h = (
+        l.members,
+        (series_texts (list_series d) list_laws t l.members).1 (l.members, refl, h),
+        refl,
+      )
       from (field.Dict m) h = elim h [ ]
   begins kind.Dict t v = (to v, from v)
     where
       to : (v : Field) → Rest d (InDict Begin) t v → SpellsField d kind.Dict t v
-      to v (ps, h,
-          c) = subst (λ y. SpellsField d kind.Dict t y) (sym c)
-              ((series_texts (dict_series d) dict_laws t ps).0 h)
+      to v (
+        ps,
+        h,
+        c,
+      ) = subst (λ y. SpellsField d kind.Dict t y) (sym c)
+          ((series_texts (dict_series d) dict_laws t ps).0 h)
+
       from : (v : Field) → SpellsField d kind.Dict t v → Rest d (InDict Begin) t v
       from (field.Item i) h = elim h [ ]
       from (field.List l) h = elim h [ ]

@@ -9,6 +9,7 @@ gave_none s = record { consumed = Consumes-nil s.to_come; given = λ _. omega ar
 pub gave_more : (a b c : SourceState) (xs ys : List ℕ) → Gave a b xs → GivesOnce b c ys
     → Gave a c (xs ++ ys)
 gave_more a b c xs ys p q = record {
-    consumed = Consumes-trans a.to_come b.to_come c.to_come xs ys p.consumed q.consumed;
-    given = λ h. omega (arith, length-append xs ys, p.given, q.given, h);
-    failures = cc }
+  consumed = Consumes-trans a.to_come b.to_come c.to_come xs ys p.consumed q.consumed;
+  given = λ h. omega (arith, length-append xs ys, p.given, q.given, h);
+  failures = cc;
+}

@@ -25,7 +25,7 @@ use Rattle.sf_parse.proofs.Params.{between_apart, after_follows, semicolon_follo
 -- no item begins with a space, a bracket or a tab
 pub no_item : (d : Dialect)
     → (item_start d 32 ≡ None) × (item_start d 41 ≡ None) × (item_start d 40 ≡ None)
-        × (item_start d 9 ≡ None)
+    × (item_start d 9 ≡ None)
 no_item Rfc8941 = (refl, refl, refl, refl)
 no_item Rfc9651 = (refl, refl, refl, refl)
 
@@ -50,25 +50,41 @@ module _ (d : Dialect) where
       apart : (x : Bare) (b : ℕ) (s' : BareState) (t : ItemState) → bare_finish s ≡ Some x
           → bare_step s b ≡ Some s' → seen (InParams x) (between_step [] b) ≡ Some t → ⊥
       apart x b s' t e n m =
-        let c = seen_cases (InParams x) (between_step [] b) t m in
-        bare_apart s x b s' e n (semicolon_follows b (allow_cases (b == 59) _ c.0 c.1).0)
+          let c = seen_cases (InParams x) (between_step [] b) t m in
+          bare_apart s x b s' e n (semicolon_follows b (allow_cases (b == 59) _ c.0 c.1).0)
   item_reads (InParams x s) g = reads_seen (InParams x) (item x) (λ s g. g) (λ s t v. same)
       (params_reads d s g)
 
   item_both : (t : List ℕ) (v : Item) → Then (SpellsBare d) (ItemOf d) t v ↔ SpellsItem d t v
   item_both t v = (
-      λ (x, front, back, e, h, (ps, k, i)). subst (λ y. SpellsItem d t y) (sym i) (front, back, e,
-          h, k),
-      λ (front, back, e, h, k). (v.bare, front, back, e, h, (v.params, k, refl)))
+    λ (x, front, back, e, h, (ps, k, i)). subst (λ y. SpellsItem d t y) (sym i) (
+      front,
+      back,
+      e,
+      h,
+      k,
+    ),
+    λ (front, back, e, h, k). (v.bare, front, back, e, h, (v.params, k, refl)),
+  )
 
   pub item_starts : ReadsItem (SpellsItem d) (item_start d) None
   item_starts = reads_iff item_both (reads_first InBare (λ s g. g) (λ s t v. same) (bare_starts d))
 
   pub item_lives : (s : ItemState) → GoodItem s → Live Item (RestItem d s)
   item_lives (InBare s) g =
-    let l = bare_lives s g in
-    record { text = l.text; value = item l.value []; whole = (l.value, l.text, [],
-        sym (append-nil l.text), l.whole, ([], no_raw d [] refl, refl)) }
+      let l = bare_lives s g in
+      record {
+        text = l.text;
+        value = item l.value [];
+        whole = (
+          l.value,
+          l.text,
+          [],
+          sym (append-nil l.text),
+          l.whole,
+          ([], no_raw d [] refl, refl),
+        );
+      }
   item_lives (InParams x s) g = let l = params_lives d s g in
       record { text = l.text; value = item x l.value; whole = (l.value, l.whole, refl) }
 
@@ -76,14 +92,14 @@ module _ (d : Dialect) where
   pub item_apart : (s : ItemState) (v : Item) (b : ℕ) (t : ItemState) → item_finish s ≡ Some v
       → item_step d s b ≡ Some t → is_after b ≡ true → ⊥
   item_apart (InBare s) v b t e n f =
-    let c = and_then_cases (bare_finish s) (λ x. Some (item x [])) v e in
-    ⊎_elim
+      let c = and_then_cases (bare_finish s) (λ x. Some (item x [])) v e in
+      ⊎_elim
       (λ o. bare_apart s c.0 b o.0 c.1 o.1 (after_follows b f))
       (λ o. let k = seen_cases (InParams o.0) (between_step [] b) t o.3 in
-          between_apart [] b k.0 k.1 f)
+      between_apart [] b k.0 k.1 f)
       (onward_cases InBare (bare_step s b) (bare_finish s)
-          (λ x. seen (InParams x) (between_step [] b)) t n)
+      (λ x. seen (InParams x) (between_step [] b)) t n)
   item_apart (InParams x s) v b t e n f =
-    let c = seen_cases (item x) (params_finish s) v e in
-    let k = seen_cases (InParams x) (params_step d s b) t n in
-    params_apart d s c.0 b k.0 c.1 k.1 f
+      let c = seen_cases (item x) (params_finish s) v e in
+      let k = seen_cases (InParams x) (params_step d s b) t n in
+      params_apart d s c.0 b k.0 c.1 k.1 f

@@ -17,7 +17,8 @@ reads_iff e r = record {
   gives = λ b u v s n h. (e (b ∷ u) v).0 (r.gives b u v s n h);
   good = r.good;
   ends = λ v m. r.ends v ((e [] v).1 m);
-  ended = λ v h. (e [] v).0 (r.ended v h) }
+  ended = λ v h. (e [] v).0 (r.ended v h);
+}
 
 -- how a step goes on
 abbrev pub Onward : {S T X : Type 0} → (S → T) → Option S → Option X → (X → Option T) → T → Type 0
@@ -27,7 +28,6 @@ Onward {S = S} {X = X} into a end after t = ((s : S) × (a ≡ Some s) × (t ≡
 pub onward_cases : {S T X : Type 0} (into : S → T) (a : Option S) (end : Option X) (after : X
     → Option T) (t : T)
     → onward into a end after ≡ Some t → Onward into a end after t
-
 onward_cases into (Some s) end after t e = inl (s, refl, cc)
 onward_cases into None (Some x) after t e = inr (x, refl, refl, e)
 onward_cases into None None after t e = absurd cc
@@ -61,44 +61,55 @@ module _ {S T X V : Type 0} {GoodS : S → Type 0} {GoodT : T → Type 0} {RestS
       → Reads S X GoodS RestS A nextA endA
       → ((x : X) → endA ≡ Some x → Reads T V GoodT RestT (B x) (nextB x) (endB x))
       → ((x : X) (b : ℕ) (s : S) (t : T) → endA ≡ Some x → nextA b ≡ Some s → nextB x b ≡ Some t
-          → ⊥)
+      → ⊥)
       → Reads T V GoodT RestT (Then A B) (λ b. onward into (nextA b) endA (λ x. nextB x b))
-          (and_then endA endB)
-
+      (and_then endA endB)
   reads_then good_into rest_into ra rb apart = record {
-      taken = λ b u v h. first b u v h.0 h.1 h.2 h.3 h.4 h.5;
-      gives = λ b u v t n h. given b u v t h
-          (onward_cases into (nextA b) endA (λ x. nextB x b) t n);
-      good = λ b t n. goods b t (onward_cases into (nextA b) endA (λ x. nextB x b) t n);
-      ends = λ v h. last v h.0 h.1 h.2 h.3 h.4 h.5;
-      ended = λ v e. let c = and_then_cases endA endB v e in
-          (c.0, [], [], refl, ra.ended c.0 c.1, (rb c.0 c.1).ended v c.2) }
+    taken = λ b u v h. first b u v h.0 h.1 h.2 h.3 h.4 h.5;
+    gives = λ b u v t n h. given b u v t h
+        (onward_cases into (nextA b) endA (λ x. nextB x b) t n);
+    good = λ b t n. goods b t (onward_cases into (nextA b) endA (λ x. nextB x b) t n);
+    ends = λ v h. last v h.0 h.1 h.2 h.3 h.4 h.5;
+    ended = λ v e. let c = and_then_cases endA endB v e in
+        (c.0, [], [], refl, ra.ended c.0 c.1, (rb c.0 c.1).ended v c.2);
+  }
     where
       first : (b : ℕ) (u : List ℕ) (v : V) (x : X) (front back : List ℕ) → b ∷ u ≡ front ++ back
           → A front x → B x back v
           → (t : T) × (onward into (nextA b) endA (λ x. nextB x b) ≡ Some t) × RestT t u v
       first b u v x [] back e a r =
-        let e' = ra.ends x a in
-        let r' = subst (λ y. B x y v) (sym e) r in
-        let k = (rb x e').taken b u v r' in
-        let no = is_none (nextA b) (λ s n. apart x b s k.0 e' n k.1) in
-        (k.0, onward_end into (nextA b) endA (λ x. nextB x b) x no e' ∙ k.1, k.2)
+          let e' = ra.ends x a in
+          let r' = subst (λ y. B x y v) (sym e) r in
+          let k = (rb x e').taken b u v r' in
+          let no = is_none (nextA b) (λ s n. apart x b s k.0 e' n k.1) in
+          (k.0, onward_end into (nextA b) endA (λ x. nextB x b) x no e' ∙ k.1, k.2)
       first b u v x (c ∷ front) back e a r =
-        let eb : b ≡ c = cc in
-        let eu : u ≡ front ++ back = cc in
-        let k = ra.taken b front x (subst (λ y. A (y ∷ front) x) (sym eb) a) in
-        (into k.0, onward_some into (nextA b) endA (λ x. nextB x b) k.0 k.1,
-            (rest_into k.0 u v).0 (x, front, back, eu, k.2, r))
+          let eb : b ≡ c = cc in
+          let eu : u ≡ front ++ back = cc in
+          let k = ra.taken b front x (subst (λ y. A (y ∷ front) x) (sym eb) a) in (
+            into k.0,
+            onward_some into (nextA b) endA (λ x. nextB x b) k.0 k.1,
+            (rest_into k.0 u v).0 (x, front, back, eu, k.2, r),
+          )
+
       given : (b : ℕ) (u : List ℕ) (v : V) (t : T) → RestT t u v
           → Onward into (nextA b) endA (λ x. nextB x b) t → Then A B (b ∷ u) v
       given b u v t h (inl o) =
-        let k = (rest_into o.0 u v).1 (subst (λ y. RestT y u v) o.2 h) in
-        (k.0, b ∷ k.1, k.2, ap (λ y. b ∷ y) k.3, ra.gives b k.1 k.0 o.0 o.1 k.4, k.5)
-      given b u v t h (inr o) = (o.0, [], b ∷ u, refl, ra.ended o.0 o.2,
-          (rb o.0 o.2).gives b u v t o.3 h)
+          let k = (rest_into o.0 u v).1 (subst (λ y. RestT y u v) o.2 h) in
+          (k.0, b ∷ k.1, k.2, ap (λ y. b ∷ y) k.3, ra.gives b k.1 k.0 o.0 o.1 k.4, k.5)
+      given b u v t h (inr o) = (
+        o.0,
+        [],
+        b ∷ u,
+        refl,
+        ra.ended o.0 o.2,
+        (rb o.0 o.2).gives b u v t o.3 h,
+      )
+
       goods : (b : ℕ) (t : T) → Onward into (nextA b) endA (λ x. nextB x b) t → GoodT t
       goods b t (inl o) = subst GoodT (sym o.2) (good_into o.0 (ra.good b o.0 o.1))
       goods b t (inr o) = (rb o.0 o.2).good b t o.3
+
       last : (v : V) (x : X) (front back : List ℕ) → [] ≡ front ++ back → A front x → B x back v
           → and_then endA endB ≡ Some v
       last v x [] back e a r = rw (ra.ends x a)
@@ -118,15 +129,16 @@ pub reads_seen : {S T X V : Type 0} {GoodS : S → Type 0} {GoodT : T → Type 0
     → Reads S X GoodS RestS A next end
     → Reads T V GoodT RestT (Seen f A) (λ b. seen into (next b)) (seen f end)
 reads_seen {GoodT = GoodT} {RestT = RestT} into f {A = A} {next = next} {end = end} good_into rest_into ra = record {
-    taken = λ b u v h. let k = ra.taken b u h.0 h.1 in
-        (into k.0, rw k.1 refl, (rest_into k.0 u v).0 (h.0, k.2, h.2));
-    gives = λ b u v t n h. let c = seen_cases into (next b) t n in
-        let k = (rest_into c.0 u v).1 (subst (λ y. RestT y u v) c.2 h) in
-        (k.0, ra.gives b u k.0 c.0 c.1 k.1, k.2);
-    good = λ b t n. let c = seen_cases into (next b) t n in
-        subst GoodT (sym c.2) (good_into c.0 (ra.good b c.0 c.1));
-    ends = λ v h. rw (ra.ends h.0 h.1) (ap Some (sym h.2));
-    ended = λ v e. let c = seen_cases f end v e in (c.0, ra.ended c.0 c.1, c.2) }
+  taken = λ b u v h. let k = ra.taken b u h.0 h.1 in
+      (into k.0, rw k.1 refl, (rest_into k.0 u v).0 (h.0, k.2, h.2));
+  gives = λ b u v t n h. let c = seen_cases into (next b) t n in
+      let k = (rest_into c.0 u v).1 (subst (λ y. RestT y u v) c.2 h) in
+      (k.0, ra.gives b u k.0 c.0 c.1 k.1, k.2);
+  good = λ b t n. let c = seen_cases into (next b) t n in
+      subst GoodT (sym c.2) (good_into c.0 (ra.good b c.0 c.1));
+  ends = λ v h. rw (ra.ends h.0 h.1) (ap Some (sym h.2));
+  ended = λ v e. let c = seen_cases f end v e in (c.0, ra.ended c.0 c.1, c.2);
+}
 
 pub reads_either : {S V : Type 0} {Good : S → Type 0} {Rest : S → List ℕ → V → Type 0} {A B : List ℕ
     → V → Type 0} {nextA nextB : ℕ → Option S} {endA endB : Option V}
@@ -135,19 +147,21 @@ pub reads_either : {S V : Type 0} {Good : S → Type 0} {Rest : S → List ℕ �
     → ((v w : V) → endA ≡ Some v → endB ≡ Some w → ⊥)
     → Reads S V Good Rest (Either A B) (λ b. otherwise (nextA b) (nextB b)) (otherwise endA endB)
 reads_either {S = S} {V = V} {Rest = Rest} {A = A} {B = B} {nextA = nextA} {nextB = nextB} {endA = endA} {endB = endB} ra rb apart apart_ends = record {
-    taken = λ b u v. ⊎_elim (left b u v) (right b u v);
-    gives = λ b u v s n h. ⊎_elim (λ e. inl (ra.gives b u v s e h))
-        (λ e. inr (rb.gives b u v s e.1 h)) (otherwise_cases (nextA b) (nextB b) s n);
-    good = λ b s n. ⊎_elim (λ e. ra.good b s e) (λ e. rb.good b s e.1)
-        (otherwise_cases (nextA b) (nextB b) s n);
-    ends = λ v. ⊎_elim (λ h. rw (ra.ends v h) refl) (λ h. let e = rb.ends v h in
-        rw (is_none endA (λ w k. apart_ends w v k e), e) refl);
-    ended = λ v e. ⊎_elim (λ k. inl (ra.ended v k)) (λ k. inr (rb.ended v k.1))
-        (otherwise_cases endA endB v e) }
+  taken = λ b u v. ⊎_elim (left b u v) (right b u v);
+  gives = λ b u v s n h. ⊎_elim (λ e. inl (ra.gives b u v s e h))
+      (λ e. inr (rb.gives b u v s e.1 h)) (otherwise_cases (nextA b) (nextB b) s n);
+  good = λ b s n. ⊎_elim (λ e. ra.good b s e) (λ e. rb.good b s e.1)
+      (otherwise_cases (nextA b) (nextB b) s n);
+  ends = λ v. ⊎_elim (λ h. rw (ra.ends v h) refl) (λ h. let e = rb.ends v h in
+      rw (is_none endA (λ w k. apart_ends w v k e), e) refl);
+  ended = λ v e. ⊎_elim (λ k. inl (ra.ended v k)) (λ k. inr (rb.ended v k.1))
+      (otherwise_cases endA endB v e);
+}
   where
     left : (b : ℕ) (u : List ℕ) (v : V) → A (b ∷ u) v
         → (s : S) × (otherwise (nextA b) (nextB b) ≡ Some s) × Rest s u v
     left b u v h = let k = ra.taken b u v h in (k.0, rw k.1 refl, k.2)
+
     right : (b : ℕ) (u : List ℕ) (v : V) → B (b ∷ u) v
         → (s : S) × (otherwise (nextA b) (nextB b) ≡ Some s) × Rest s u v
     right b u v h = let k = rb.taken b u v h in
@@ -157,22 +171,28 @@ pub reads_after : {S V : Type 0} {Good : S → Type 0} {Rest : S → List ℕ �
     → Type 0} (c : ℕ) (s : S)
     → Good s → Reads S V Good Rest (After c (Rest s)) (λ b. allow (b == c) s) None
 reads_after {Good = Good} {Rest = Rest} c s g = record {
-    taken = λ b u v h. (s, (let e : b ≡ c = cc (h.1) in
-        rw (eq-eqb b c e) refl), subst (λ y. Rest s y v) (let e : h.0 ≡ u = cc (h.1) in e) h.2);
-    gives = λ b u v t n h. let k = allow_cases (b == c) s t n in
-        (u, ap (λ y. y ∷ u) (eqb-true b c k.0), subst (λ y. Rest y u v) k.1 h);
-    good = λ b t n. let k = allow_cases (b == c) s t n in subst Good (sym k.1) g;
-    ends = λ v h. absurd (cc (h.1));
-    ended = λ v e. absurd cc }
+  taken = λ b u v h. (
+    s,
+    (let e : b ≡ c = cc (h.1) in
+        rw (eq-eqb b c e) refl),
+    subst (λ y. Rest s y v) (let e : h.0 ≡ u = cc (h.1) in e) h.2,
+  );
+  gives = λ b u v t n h. let k = allow_cases (b == c) s t n in
+      (u, ap (λ y. y ∷ u) (eqb-true b c k.0), subst (λ y. Rest y u v) k.1 h);
+  good = λ b t n. let k = allow_cases (b == c) s t n in subst Good (sym k.1) g;
+  ends = λ v h. absurd (cc (h.1));
+  ended = λ v e. absurd cc;
+}
 
 pub reads_nothing : {S V : Type 0} {Good : S → Type 0} {Rest : S → List ℕ → V → Type 0} (x : V)
     → Reads S V Good Rest (Nothing x) (λ b. None) (Some x)
 reads_nothing x = record {
-    taken = λ b u v h. absurd (cc (h.0));
-    gives = λ b u v t n h. absurd cc;
-    good = λ b t n. absurd cc;
-    ends = λ v h. ap Some (sym h.1);
-    ended = λ v e. (refl, cc) }
+  taken = λ b u v h. absurd (cc (h.0));
+  gives = λ b u v t n h. absurd cc;
+  good = λ b t n. absurd cc;
+  ends = λ v h. ap Some (sym h.1);
+  ended = λ v e. (refl, cc);
+}
 
 past_more : {V : Type 0} (p : ℕ → Bool) (A : List ℕ → V → Type 0) (b : ℕ) (u : List ℕ) (v : V)
     → p b ≡ true → Past p A u v → Past p A (b ∷ u) v
@@ -185,28 +205,32 @@ pub reads_past : {S V : Type 0} {Good : S → Type 0} {Rest : S → List ℕ →
     → ((b : ℕ) (t : S) → p b ≡ true → next b ≡ Some t → ⊥) → Reads S V Good Rest A next end
     → Reads S V Good Rest (Past p A) (λ b. otherwise (allow (p b) s) (next b)) end
 reads_past {S = S} {V = V} {Good = Good} {Rest = Rest} p s {A = A} {next = next} {end = end} g same apart ra = record {
-    taken = λ b u v h. first b u v h.0 h.1 h.2 h.3 h.4;
-    gives = λ b u v t n h. ⊎_elim
-        (λ e. let k = allow_cases (p b) s t e in
-            past_more p A b u v k.0 ((same u v).1 (subst (λ y. Rest y u v) k.1 h)))
-        (λ e. ([], b ∷ u, refl, tt, ra.gives b u v t e.1 h))
-        (otherwise_cases (allow (p b) s) (next b) t n);
-    good = λ b t n. ⊎_elim (λ e. subst Good (sym (allow_cases (p b) s t e).1) g)
-        (λ e. ra.good b t e.1) (otherwise_cases (allow (p b) s) (next b) t n);
-    ends = λ v h. last v h.0 h.1 h.2 h.3 h.4;
-    ended = λ v e. ([], [], refl, tt, ra.ended v e) }
+  taken = λ b u v h. first b u v h.0 h.1 h.2 h.3 h.4;
+  gives = λ b u v t n h. ⊎_elim
+      (λ e. let k = allow_cases (p b) s t e in
+      past_more p A b u v k.0 ((same u v).1 (subst (λ y. Rest y u v) k.1 h)))
+      (λ e. ([], b ∷ u, refl, tt, ra.gives b u v t e.1 h))
+      (otherwise_cases (allow (p b) s) (next b) t n);
+  good = λ b t n. ⊎_elim (λ e. subst Good (sym (allow_cases (p b) s t e).1) g)
+      (λ e. ra.good b t e.1) (otherwise_cases (allow (p b) s) (next b) t n);
+  ends = λ v h. last v h.0 h.1 h.2 h.3 h.4;
+  ended = λ v e. ([], [], refl, tt, ra.ended v e);
+}
   where
     first : (b : ℕ) (u : List ℕ) (v : V) (front back : List ℕ) → b ∷ u ≡ front ++ back
         → Every p front → A back v
         → (t : S) × (otherwise (allow (p b) s) (next b) ≡ Some t) × Rest t u v
     first b u v [] back e f a =
-      let k = ra.taken b u v (subst (λ y. A y v) (sym e) a) in
-      (k.0, rw (is_none (allow (p b) s) (λ t n. apart b k.0 (allow_cases (p b) s t n).0 k.1)) k.1,
-          k.2)
+        let k = ra.taken b u v (subst (λ y. A y v) (sym e) a) in (
+          k.0,
+          rw (is_none (allow (p b) s) (λ t n. apart b k.0 (allow_cases (p b) s t n).0 k.1)) k.1,
+          k.2,
+        )
     first b u v (c ∷ front) back e f a =
-      let eb : c ≡ b = cc in
-      let pb = ap p (sym eb) ∙ f.0 in
-      (s, rw pb refl, (same u v).0 (front, back, (let eu : u ≡ front ++ back = cc in eu), f.1, a))
+        let eb : c ≡ b = cc in
+        let pb = ap p (sym eb) ∙ f.0 in
+        (s, rw pb refl, (same u v).0 (front, back, (let eu : u ≡ front ++ back = cc in eu), f.1, a))
+
     last : (v : V) (front back : List ℕ) → [] ≡ front ++ back → Every p front → A back v
         → end ≡ Some v
     last v [] back e f a = ra.ends v (subst (λ y. A y v) (sym e) a)
@@ -220,14 +244,15 @@ pub reads_into : {S T V : Type 0} {GoodS : S → Type 0} {GoodT : T → Type 0} 
     → ((s : S) (t : List ℕ) (v : V) → RestS s t v ↔ RestT (into s) t v)
     → Reads S V GoodS RestS A next end → Reads T V GoodT RestT A (λ b. seen into (next b)) end
 reads_into {GoodT = GoodT} {RestT = RestT} into {next = next} good_into rest_into ra = record {
-    taken = λ b u v h. let k = ra.taken b u v h in
-        (into k.0, rw k.1 refl, (rest_into k.0 u v).0 k.2);
-    gives = λ b u v t n h. let c = seen_cases into (next b) t n in
-        ra.gives b u v c.0 c.1 ((rest_into c.0 u v).1 (subst (λ y. RestT y u v) c.2 h));
-    good = λ b t n. let c = seen_cases into (next b) t n in
-        subst GoodT (sym c.2) (good_into c.0 (ra.good b c.0 c.1));
-    ends = ra.ends;
-    ended = ra.ended }
+  taken = λ b u v h. let k = ra.taken b u v h in
+      (into k.0, rw k.1 refl, (rest_into k.0 u v).0 k.2);
+  gives = λ b u v t n h. let c = seen_cases into (next b) t n in
+      ra.gives b u v c.0 c.1 ((rest_into c.0 u v).1 (subst (λ y. RestT y u v) c.2 h));
+  good = λ b t n. let c = seen_cases into (next b) t n in
+      subst GoodT (sym c.2) (good_into c.0 (ra.good b c.0 c.1));
+  ends = ra.ends;
+  ended = ra.ended;
+}
 
 -- A front that isn't empty, and what B reads behind it.
 pub reads_first : {S T X V : Type 0} {GoodS : S → Type 0} {GoodT : T → Type 0} {RestS : S → List ℕ
@@ -238,14 +263,15 @@ pub reads_first : {S T X V : Type 0} {GoodS : S → Type 0} {GoodT : T → Type 
     → Reads S X GoodS RestS A next None
     → Reads T V GoodT RestT (Then A B) (λ b. seen into (next b)) None
 reads_first {T = T} {X = X} {V = V} {GoodT = GoodT} {RestT = RestT} into {A = A} {B = B} {next = next} good_into rest_into ra = record {
-    taken = λ b u v h. first b u v h.0 h.1 h.2 h.3 h.4 h.5;
-    gives = λ b u v t n h. let c = seen_cases into (next b) t n in
-        let k = (rest_into c.0 u v).1 (subst (λ y. RestT y u v) c.2 h) in
-        (k.0, b ∷ k.1, k.2, ap (λ y. b ∷ y) k.3, ra.gives b k.1 k.0 c.0 c.1 k.4, k.5);
-    good = λ b t n. let c = seen_cases into (next b) t n in
-        subst GoodT (sym c.2) (good_into c.0 (ra.good b c.0 c.1));
-    ends = λ v h. last v h.0 h.1 h.2 h.3 h.4;
-    ended = λ v e. absurd cc }
+  taken = λ b u v h. first b u v h.0 h.1 h.2 h.3 h.4 h.5;
+  gives = λ b u v t n h. let c = seen_cases into (next b) t n in
+      let k = (rest_into c.0 u v).1 (subst (λ y. RestT y u v) c.2 h) in
+      (k.0, b ∷ k.1, k.2, ap (λ y. b ∷ y) k.3, ra.gives b k.1 k.0 c.0 c.1 k.4, k.5);
+  good = λ b t n. let c = seen_cases into (next b) t n in
+      subst GoodT (sym c.2) (good_into c.0 (ra.good b c.0 c.1));
+  ends = λ v h. last v h.0 h.1 h.2 h.3 h.4;
+  ended = λ v e. absurd cc;
+}
   where
     first : (b : ℕ) (u : List ℕ) (v : V) (x : X) (front back : List ℕ) → b ∷ u ≡ front ++ back
         → A front x → B x back v → (t : T) × (seen into (next b) ≡ Some t) × RestT t u v
@@ -254,10 +280,11 @@ reads_first {T = T} {X = X} {V = V} {GoodT = GoodT} {RestT = RestT} into {A = A}
         no_end : None ≡ Some x → ⊥
         no_end e = cc
     first b u v x (c ∷ front) back e a r =
-      let eb : b ≡ c = cc in
-      let eu : u ≡ front ++ back = cc in
-      let k = ra.taken b front x (subst (λ y. A (y ∷ front) x) (sym eb) a) in
-      (into k.0, rw k.1 refl, (rest_into k.0 u v).0 (x, front, back, eu, k.2, r))
+        let eb : b ≡ c = cc in
+        let eu : u ≡ front ++ back = cc in
+        let k = ra.taken b front x (subst (λ y. A (y ∷ front) x) (sym eb) a) in
+        (into k.0, rw k.1 refl, (rest_into k.0 u v).0 (x, front, back, eu, k.2, r))
+
     last : (v : V) (x : X) (front back : List ℕ) → [] ≡ front ++ back → A front x → None ≡ Some v
     last v x [] back e a = absurd (let n : ⊥ = cc (ra.ends x a) in n)
     last v x (c ∷ front) back e a = absurd cc
@@ -268,11 +295,12 @@ pub reads_as : {S V : Type 0} {Good : S → Type 0} {Rest : S → List ℕ → V
     → ((b : ℕ) → next b ≡ other b) → Reads S V Good Rest L next end
     → Reads S V Good Rest L other end
 reads_as e r = record {
-    taken = λ b u v h. let k = r.taken b u v h in (k.0, sym (e b) ∙ k.1, k.2);
-    gives = λ b u v s n h. r.gives b u v s (e b ∙ n) h;
-    good = λ b s n. r.good b s (e b ∙ n);
-    ends = r.ends;
-    ended = r.ended }
+  taken = λ b u v h. let k = r.taken b u v h in (k.0, sym (e b) ∙ k.1, k.2);
+  gives = λ b u v s n h. r.gives b u v s (e b ∙ n) h;
+  good = λ b s n. r.good b s (e b ∙ n);
+  ends = r.ends;
+  ended = r.ended;
+}
 
 pub otherwise_none : {S : Type 0} (o : Option S) → otherwise o None ≡ o
 otherwise_none None = refl
@@ -291,14 +319,16 @@ pub reads_where : {S V : Type 0} {Good : S → Type 0} {Rest : S → List ℕ �
     → V → Type 0} {next : ℕ → Option S} (c : Bool)
     → Reads S V Good Rest A next None → Reads S V Good Rest (Where c A) (λ b. only c (next b)) None
 reads_where true r = record {
-    taken = λ b u v h. r.taken b u v h.1;
-    gives = λ b u v s n h. (refl, r.gives b u v s n h);
-    good = r.good;
-    ends = λ v h. r.ends v h.1;
-    ended = λ v e. absurd cc }
+  taken = λ b u v h. r.taken b u v h.1;
+  gives = λ b u v s n h. (refl, r.gives b u v s n h);
+  good = r.good;
+  ends = λ v h. r.ends v h.1;
+  ended = λ v e. absurd cc;
+}
 reads_where false r = record {
-    taken = λ b u v h. absurd (cc (h.0));
-    gives = λ b u v s n h. absurd cc;
-    good = λ b s n. absurd cc;
-    ends = λ v h. absurd (cc (h.0));
-    ended = λ v e. absurd cc }
+  taken = λ b u v h. absurd (cc (h.0));
+  gives = λ b u v s n h. absurd cc;
+  good = λ b s n. absurd cc;
+  ends = λ v h. absurd (cc (h.0));
+  ended = λ v e. absurd cc;
+}

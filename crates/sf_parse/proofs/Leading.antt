@@ -2,7 +2,7 @@
 use Rattle.std.proofs.Common.{◌≡◌, ℕ, ◌+◌, ◌*◌, ◌==◌, true, false, List, [], ◌∷◌, ◌++◌, Some}
 use Rattle.std.proofs.Common.{refl}
 use Rattle.sf_value.specs.Grammar.Utf8.{Utf8, Start, Wants, utf8_step, WellFormed}
-use Rattle.sf_parse.specs.Machine.Language.{run, and_then, seen}
+use Rattle.sf_parse.specs.Machine.Language.{run}
 use Rattle.sf_parse.specs.Machine.Showns.{Plain, Hex, unhex, pushed, shown_step}
 use Rattle.sf_value.specs.Grammar.Classes.{is_visible}
 use Rattle.sf_parse.proofs.Language.{and_then_cases}

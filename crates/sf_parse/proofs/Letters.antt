@@ -1,7 +1,7 @@
 -- The character of a value by its range, in place of its place in the alphabet.
-use Rattle.std.proofs.Common.{◌≡◌, ℕ, zero, suc, ◌+◌, ◌-◌, ◌<◌, ◌≤◌, Bool, true, false, ◌==◌, nat_lt}
-use Rattle.std.proofs.Common.{◌&&◌, if◌then◌else◌, refl, sym, ◌∙◌, subst, eqb-true, arith, ⊎_elim}
-use Rattle.std.proofs.Common.{◌⊎◌, inl, inr}
+use Rattle.std.proofs.Common.{◌≡◌, ℕ, zero, suc, ◌+◌, ◌-◌, ◌<◌, Bool, true, false, ◌==◌, nat_lt}
+use Rattle.std.proofs.Common.{◌&&◌, if◌then◌else◌, refl, sym, subst, eqb-true, arith, ⊎_elim}
+use Rattle.std.proofs.Common.{◌⊎◌}
 use Rattle.sf_value.specs.Grammar.ByteSequences.{letter}
 
 abbrev pub letter_formula : ℕ → ℕ
@@ -37,4 +37,4 @@ the_letters = refl
 pub letter_is : (x : ℕ) → x < 64 → letter x ≡ letter_formula x
 letter_is x h =
     eqb-true (letter x) (letter_formula x)
-      (each_below 64 (λ y. letter y == letter_formula y) the_letters x h)
+    (each_below 64 (λ y. letter y == letter_formula y) the_letters x h)

@@ -11,11 +11,11 @@ use Rattle.sf_parse.proofs.Language.{and_then_cases}
 pub take_past : (p q : List ℕ) (b m : ℕ) → length p < m
     → take m (p ++ b ∷ q) ≡ (p ++ b ∷ []) ++ take (m - suc (length p)) q
 take_past p q b m h =
-  let k = m - suc (length p) in
-  let e : m ≡ length p + suc k = omega arith in
-  ap (λ n. take n (p ++ b ∷ q)) e ∙ take-append-add p (b ∷ q) (suc k)
-      ∙ ap (λ y. p ++ y) (let e' : take (suc k) (b ∷ q) ≡ b ∷ take k q = refl in e')
-      ∙ sym (append_assoc p (b ∷ []) (take k q))
+    let k = m - suc (length p) in
+    let e : m ≡ length p + suc k = omega arith in
+    ap (λ n. take n (p ++ b ∷ q)) e ∙ take-append-add p (b ∷ q) (suc k)
+    ∙ ap (λ y. p ++ y) (let e' : take (suc k) (b ∷ q) ≡ b ∷ take k q = refl in e')
+    ∙ sym (append_assoc p (b ∷ []) (take k q))
 
 pub cases_le : (m n : ℕ) → (m ≤ n) ⊎ (n < m)
 cases_le m n = ⊎_elim inr inl (cases_lt n m)
@@ -27,9 +27,9 @@ module _ {S V : Type 0} {Good : S → Type 0} {Rest : S → List ℕ → V → T
       → (t : S) × (run step s p ≡ Some t) × Rest t u v
   runs s [] u v g h = (s, refl, h)
   runs s (b ∷ p) u v g h =
-    let k = (m.reads s g).taken b (p ++ u) v h in
-    let r = runs k.0 p u v ((m.reads s g).good b k.0 k.1) k.2 in
-    (r.0, rw k.1 r.1, r.2)
+      let k = (m.reads s g).taken b (p ++ u) v h in
+      let r = runs k.0 p u v ((m.reads s g).good b k.0 k.1) k.2 in
+      (r.0, rw k.1 r.1, r.2)
 
   pub run_good : (s t : S) (p : List ℕ) → Good s → run step s p ≡ Some t → Good t
   run_good s t [] g e = subst Good (let e' : s ≡ t = cc in e') g
@@ -40,25 +40,29 @@ module _ {S V : Type 0} {Good : S → Type 0} {Rest : S → List ℕ → V → T
       → Rest s (p ++ u) v
   run_gives s t [] u v g e h = subst (λ y. Rest y u v) (let e' : t ≡ s = cc in e') h
   run_gives s t (b ∷ p) u v g e h =
-    let c = and_then_cases (step s b) (λ s'. run step s' p) t e in
-    (m.reads s g).gives b (p
-        ++ u) v c.0 c.1 (run_gives c.0 t p u v ((m.reads s g).good b c.0 c.1) c.2 h)
+      let c = and_then_cases (step s b) (λ s'. run step s' p) t e in
+      (m.reads s g).gives b (p
+      ++ u) v c.0 c.1 (run_gives c.0 t p u v ((m.reads s g).good b c.0 c.1) c.2 h)
 
   -- what the bytes taken leave is the rest of the state
   pub took : (s t : S) (p : List ℕ) → Good s → run step s p ≡ Some t → (u : List ℕ) (v : V)
       → Rest t u v ↔ Rest s (p ++ u) v
-  took s t p g e u v = (run_gives s t p u v g e, λ h. let k = runs s p u v g h in
-      subst (λ y. Rest y u v) (let e' : k.0 ≡ t = cc (k.1) in e') k.2)
+  took s t p g e u v = (
+    run_gives s t p u v g e,
+    λ h. let k = runs s p u v g h in
+        subst (λ y. Rest y u v) (let e' : k.0 ≡ t = cc (k.1) in e') k.2,
+  )
 
   -- the accepted texts
   pub accepted : (s : S) (t : List ℕ) (v : V) → Good s
       → Rest s t v ↔ (and_then (run step s t) finish ≡ Some v)
   accepted s t v g = (
     λ h. let k = runs s t [] v g (subst (λ y. Rest s y v) (sym (append-nil t)) h) in
-      rw k.1 ((m.reads k.0 (run_good s k.0 t g k.1)).ends v k.2),
+        rw k.1 ((m.reads k.0 (run_good s k.0 t g k.1)).ends v k.2),
     λ e. let c = and_then_cases (run step s t) finish v e in
-      subst (λ y. Rest s y v) (append-nil t)
-          (run_gives s c.0 t [] v g c.1 ((m.reads c.0 (run_good s c.0 t g c.1)).ended v c.2)))
+        subst (λ y. Rest s y v) (append-nil t)
+        (run_gives s c.0 t [] v g c.1 ((m.reads c.0 (run_good s c.0 t g c.1)).ended v c.2)),
+  )
 
   pub unique : (s : S) (t : List ℕ) (v w : V) → Good s → Rest s t v → Rest s t w → v ≡ w
   unique s t v w g h k = let e = (accepted s t v g).0 h in let e' = (accepted s t w g).0 k in cc
@@ -69,7 +73,8 @@ module _ {S V : Type 0} {Good : S → Type 0} {Rest : S → List ℕ → V → T
   viable s p g = (
     λ h. let k = runs s p h.0 h.1 g h.2 in (k.0, k.1),
     λ k. let l = m.lives k.0 (run_good s k.0 p g k.1) in
-        (l.text, l.value, run_gives s k.0 p l.text l.value g k.1 l.whole))
+        (l.text, l.value, run_gives s k.0 p l.text l.value g k.1 l.whole),
+  )
 
   pub run_append : (s : S) (p q : List ℕ)
       → run step s (p ++ q) ≡ and_then (run step s p) (λ t. run step t q)
@@ -79,7 +84,7 @@ module _ {S V : Type 0} {Good : S → Type 0} {Rest : S → List ℕ → V → T
       go : (o : Option S)
           → ((t : S) → run step t (p ++ q) ≡ and_then (run step t p) (λ t. run step t q))
           → and_then o (λ t. run step t (p
-              ++ q)) ≡ and_then (and_then o (λ t. run step t p)) (λ t. run step t q)
+          ++ q)) ≡ and_then (and_then o (λ t. run step t p)) (λ t. run step t q)
       go None h = refl
       go (Some t) h = h t
 
@@ -88,10 +93,11 @@ module _ {S V : Type 0} {Good : S → Type 0} {Rest : S → List ℕ → V → T
       → Continues (Rest s) (p ++ b ∷ []) ↔ ((t' : S) × (step t b ≡ Some t'))
   next s t p b g e = (
     λ h. let k = (viable s (p ++ b ∷ []) g).0 h in
-      let r : and_then (step t b) (λ t. Some t) ≡ Some k.0 = rw e at (sym (run_append s p (b ∷ []))
-          ∙ k.1) in
-      let c = and_then_cases (step t b) (λ t. Some t) k.0 r in (c.0, c.1),
-    λ k. (viable s (p ++ b ∷ []) g).1 (k.0, run_append s p (b ∷ []) ∙ rw (e, k.1) refl))
+        let r : and_then (step t b) (λ t. Some t) ≡ Some k.0 = rw e at (sym (run_append s p (b ∷ []))
+        ∙ k.1) in
+        let c = and_then_cases (step t b) (λ t. Some t) k.0 r in (c.0, c.1),
+    λ k. (viable s (p ++ b ∷ []) g).1 (k.0, run_append s p (b ∷ []) ∙ rw (e, k.1) refl),
+  )
 
   -- the text may end just if the state has a value
   pub may_end : (s t : S) (p : List ℕ) (v : V) → Good s → run step s p ≡ Some t
@@ -105,25 +111,31 @@ module _ {S V : Type 0} {Good : S → Type 0} {Rest : S → List ℕ → V → T
   pub stops : (s t : S) (p q : List ℕ) (b : ℕ) → Good s → run step s p ≡ Some t → step t b ≡ None
       → IsLongest V (Rest s) (p ++ b ∷ q) (length p)
   stops s t p q b g e n = record {
-      within = omega (arith, length-append p (b ∷ q));
-      viable = subst (Continues (Rest s)) (sym (take-append_seam p (b ∷ q))) ((viable s p g).1 (t,
-          e));
-      longest = λ m within h. ⊎_elim (λ k. k) (λ k. absurd (beyond m k h)) (cases_le m (length p)) }
+    within = omega (arith, length-append p (b ∷ q));
+    viable = subst (Continues (Rest s)) (sym (take-append_seam p (b ∷ q))) ((viable s p g).1 (
+      t,
+      e,
+    ));
+    longest = λ m within h. ⊎_elim (λ k. k) (λ k. absurd (beyond m k h)) (cases_le m (length p));
+  }
     where
       beyond : (m : ℕ) → length p < m → Continues (Rest s) (take m (p ++ b ∷ q)) → ⊥
       beyond m k h =
-        let cut = take_past p q b m k in
-        let v = viable_front (Rest s) (p
-            ++ b ∷ []) (take (m - suc (length p)) q) (subst (Continues (Rest s)) cut h) in
-        let r = (next s t p b g e).0 v in
-        cc (r.1, n)
+          let cut = take_past p q b m k in
+          let v = viable_front (Rest s) (p
+          ++ b ∷ []) (take (m - suc (length p)) q) (subst (Continues (Rest s)) cut h) in
+          let r = (next s t p b g e).0 v in
+          cc (r.1, n)
 
   -- where the run takes all, all is the longest viable front
   pub ends_viable : (s t : S) (p : List ℕ) → Good s → run step s p ≡ Some t
       → IsLongest V (Rest s) p (length p)
   ends_viable s t p g e = record {
-      within = omega arith;
-      viable = subst (Continues (Rest s)) (sym (take_all (length p) p (omega arith)))
-          ((viable s p g).1 (t,
-          e));
-      longest = λ m within h. within }
+    within = omega arith;
+    viable = subst (Continues (Rest s)) (sym (take_all (length p) p (omega arith)))
+        ((viable s p g).1 (
+          t,
+          e,
+        ));
+    longest = λ m within h. within;
+  }

@@ -21,8 +21,11 @@ use Rattle.sf_value.proofs.Words.{allow_cases}
 fraction_taken : (neg : Bool) (whole count a b : ℕ) (u : List ℕ) (v : Bare)
     → RestNumber (Fraction neg whole count a) (b ∷ u) v
     → (s : NumberState) × (number_step (Fraction neg whole count a) b ≡ Some s) × RestNumber s u v
-fraction_taken neg whole count a b u v h = (Fraction neg whole (count + 1) (10 * a + (b - 48)),
-    grind arith, grind arith)
+fraction_taken neg whole count a b u v h = (
+  Fraction neg whole (count + 1) (10 * a + (b - 48)),
+  grind arith,
+  grind arith,
+)
 
 fraction_gives : (neg : Bool) (whole count a b : ℕ) (u : List ℕ) (v : Bare) (s : NumberState)
     → number_step (Fraction neg whole count a) b ≡ Some s → RestNumber s u v
@@ -72,17 +75,26 @@ not_nil (d ∷ w) f c e = cc
 integer_taken : (neg : Bool) (count a b : ℕ) (u : List ℕ) (v : Bare) (n : ℤ) → v ≡ Integer n
     → RestInteger neg count a (b ∷ u) n
     → (s : NumberState) × (number_step (Whole neg count a) b ≡ Some s) × RestNumber s u v
-integer_taken neg count a b u v n e h = (Whole neg (count + 1) (10 * a + (b - 48)), grind arith,
-    inl (n, e, grind arith))
+integer_taken neg count a b u v n e h = (
+  Whole neg (count + 1) (10 * a + (b - 48)),
+  grind arith,
+  inl (n, e, grind arith),
+)
 
 decimal_taken : (neg : Bool) (count a b : ℕ) (u : List ℕ) (v : Bare) (m : ℤ) (w f : List ℕ)
     → v ≡ Decimal m → b ∷ u ≡ w ++ 46 ∷ f → AreDigits 1 12 count w
     → RestFraction neg (value_from a w) 0 0 f m
     → (s : NumberState) × (number_step (Whole neg count a) b ≡ Some s) × RestNumber s u v
-decimal_taken neg count a b u v m [] f e t d h = (Fraction neg a 0 0, grind arith,
-    (m, e, grind arith))
-decimal_taken neg count a b u v m (c ∷ w) f e t d h = (Whole neg (count + 1) (10 * a + (b - 48)),
-    grind arith, inr (m, e, (w, f, grind arith, grind arith, grind arith)))
+decimal_taken neg count a b u v m [] f e t d h = (
+  Fraction neg a 0 0,
+  grind arith,
+  (m, e, grind arith),
+)
+decimal_taken neg count a b u v m (c ∷ w) f e t d h = (
+  Whole neg (count + 1) (10 * a + (b - 48)),
+  grind arith,
+  inr (m, e, (w, f, grind arith, grind arith, grind arith)),
+)
 
 integer_gives : (neg : Bool) (count a b : ℕ) (u : List ℕ) (n : ℤ) → is_digit b ≡ true
     → RestInteger neg (count + 1) (10 * a + (b - 48)) u n → RestInteger neg count a (b ∷ u) n
@@ -99,20 +111,26 @@ point_gives neg count a u m low high h = ([], u, refl, grind arith, h)
 whole_cases : (neg : Bool) (count a b : ℕ) (s : NumberState)
     → number_step (Whole neg count a) b ≡ Some s
     → ((is_digit b ≡ true) × ((is_digit b && nat_lt count 15) ≡ true)
-        × (s ≡ Whole neg (count + 1) (10 * a + (b - 48)))) ⊎ ((b ≡ 46) × (1 ≤ count) × (count ≤ 12)
-        × (s ≡ Fraction neg a 0 0))
+    × (s ≡ Whole neg (count + 1) (10 * a + (b - 48)))) ⊎ ((b ≡ 46) × (1 ≤ count) × (count ≤ 12)
+    × (s ≡ Fraction neg a 0 0))
 whole_cases neg count a b s n = grind arith
 
 whole_gives : (neg : Bool) (count a b : ℕ) (u : List ℕ) (v : Bare) (s : NumberState)
     → number_step (Whole neg count a) b ≡ Some s → RestNumber s u v
     → RestNumber (Whole neg count a) (b ∷ u) v
 whole_gives neg count a b u v s n h = ⊎_elim
-    (λ k. ⊎_elim (λ r. inl (r.0, r.1, integer_gives neg count a b u r.0 k.0 r.2)) (λ r. inr (r.0,
-        r.1, decimal_gives neg count a b u r.0 k.0 r.2)) (subst (λ y. RestNumber y u v) k.2 h))
+    (λ k. ⊎_elim (λ r. inl (r.0, r.1, integer_gives neg count a b u r.0 k.0 r.2)) (λ r. inr (
+      r.0,
+      r.1,
+      decimal_gives neg count a b u r.0 k.0 r.2,
+    )) (subst (λ y. RestNumber y u v) k.2 h))
     (λ k. let r = subst (λ y. RestNumber y u v) k.3 h in
-      inr (r.0, r.1,
-          subst (λ y. RestDecimal neg count a (y ∷ u) r.0) (sym k.0)
-              (point_gives neg count a u r.0 k.1 k.2 r.2)))
+    inr (
+      r.0,
+      r.1,
+      subst (λ y. RestDecimal neg count a (y ∷ u) r.0) (sym k.0)
+          (point_gives neg count a u r.0 k.1 k.2 r.2),
+    ))
     (whole_cases neg count a b s n)
 
 whole_good : (neg : Bool) (count a b : ℕ) (s : NumberState) → Counted 15 count a
@@ -138,36 +156,63 @@ whole_ended neg count a v g e = inl (signed neg a, grind arith, grind arith)
 pub number_reads : (s : NumberState) → GoodNumber s
     → Reads NumberState Bare GoodNumber RestNumber (RestNumber s) (number_step s) (number_finish s)
 number_reads (Whole neg count a) g = record {
-    taken = λ b u v. ⊎_elim (λ h. integer_taken neg count a b u v h.0 h.1 h.2)
-        (λ h. decimal_taken neg count a b u v h.0 h.2.0 h.2.1 h.1 h.2.2 h.2.3 h.2.4);
-    gives = whole_gives neg count a;
-    good = λ b s. whole_good neg count a b s g;
-    ends = whole_ends neg count a;
-    ended = λ v. whole_ended neg count a v g.0 }
+  taken = λ b u v. ⊎_elim (λ h. integer_taken neg count a b u v h.0 h.1 h.2)
+      (λ h. decimal_taken neg count a b u v h.0 h.2.0 h.2.1 h.1 h.2.2 h.2.3 h.2.4);
+  gives = whole_gives neg count a;
+  good = λ b s. whole_good neg count a b s g;
+  ends = whole_ends neg count a;
+  ended = λ v. whole_ended neg count a v g.0;
+}
 number_reads (Fraction neg whole count a) g = record {
-    taken = fraction_taken neg whole count a;
-    gives = fraction_gives neg whole count a;
-    good = λ b s. fraction_good neg whole count a b s g;
-    ends = fraction_ends neg whole count a;
-    ended = λ v. fraction_ended neg whole count a v g.0.0 }
+  taken = fraction_taken neg whole count a;
+  gives = fraction_gives neg whole count a;
+  good = λ b s. fraction_good neg whole count a b s g;
+  ends = fraction_ends neg whole count a;
+  ended = λ v. fraction_ended neg whole count a v g.0.0;
+}
 
 -- a digit completes a number, unless it may end
 pub number_lives : (s : NumberState) → GoodNumber s → Live Bare (RestNumber s)
 number_lives (Whole neg zero a) g = let h = g.0 in
-    record { text = 48 ∷ []; value = Integer (signed neg (10 * a + 0));
-        whole = inl (signed neg (10 * a + 0),
-        refl, (record { each = (refl, tt); enough = omega arith; fits = omega arith }, refl)) }
+    record {
+      text = 48 ∷ [];
+      value = Integer (signed neg (10 * a + 0));
+      whole = inl (
+        signed neg (10 * a + 0),
+        refl,
+        (record { each = (refl, tt); enough = omega arith; fits = omega arith }, refl),
+      );
+    }
 number_lives (Whole neg (suc count) a) g = let h = g.0 in
-    record { text = []; value = Integer (signed neg a); whole = inl (signed neg a, refl,
-        (record { each = tt; enough = omega arith; fits = omega arith }, refl)) }
+    record {
+      text = [];
+      value = Integer (signed neg a);
+      whole = inl (
+        signed neg a,
+        refl,
+        (record { each = tt; enough = omega arith; fits = omega arith }, refl),
+      );
+    }
 number_lives (Fraction neg whole zero a) g = let h = g.0.0 in
-    record { text = 48 ∷ []; value = Decimal (thousandths neg whole 1 (10 * a + 0));
-        whole = (thousandths neg whole 1 (10 * a + 0),
-        refl, (record { each = (refl, tt); enough = omega arith; fits = omega arith }, refl)) }
+    record {
+      text = 48 ∷ [];
+      value = Decimal (thousandths neg whole 1 (10 * a + 0));
+      whole = (
+        thousandths neg whole 1 (10 * a + 0),
+        refl,
+        (record { each = (refl, tt); enough = omega arith; fits = omega arith }, refl),
+      );
+    }
 number_lives (Fraction neg whole (suc count) a) g = let h = g.0.0 in
-    record { text = []; value = Decimal (thousandths neg whole (suc count + 0) a);
-        whole = (thousandths neg whole (suc count + 0) a,
-        refl, (record { each = tt; enough = omega arith; fits = omega arith }, refl)) }
+    record {
+      text = [];
+      value = Decimal (thousandths neg whole (suc count + 0) a);
+      whole = (
+        thousandths neg whole (suc count + 0) a,
+        refl,
+        (record { each = tt; enough = omega arith; fits = omega arith }, refl),
+      );
+    }
 
 -- the start of a number
 at_zero : (neg : Bool) (w f : List ℕ) (m : ℤ)
@@ -175,51 +220,86 @@ at_zero : (neg : Bool) (w f : List ℕ) (m : ℤ)
     → m ≡ thousandths neg (value_from 0 w) (0 + length f) (value_from 0 f)
 at_zero neg w f m i = i
     ∙ ap (λ n. thousandths neg (value_from 0 w) n (value_from 0 f)) (let e : length f
-        ≡ 0 + length f = omega arith in
-        e)
+    ≡ 0 + length f = omega arith in
+    e)
 
 of_zero : (neg : Bool) (w f : List ℕ) (m : ℤ)
     → m ≡ thousandths neg (value_from 0 w) (0 + length f) (value_from 0 f)
     → m ≡ thousandths neg (value_from 0 w) (length f) (value_from 0 f)
 of_zero neg w f m i = i
     ∙ ap (λ n. thousandths neg (value_from 0 w) n (value_from 0 f)) (let e : 0 + length f
-        ≡ length f = omega arith in
-        e)
+    ≡ length f = omega arith in
+    e)
 
 number_both : (t : List ℕ) (v : Bare)
     → Either (After 45 (RestNumber (Whole true 0 0)))
-        (RestNumber (Whole false 0 0)) t v ↔ SpellsNumber t v
-number_both t v = (⊎_elim
-    (λ h. ⊎_elim (λ k. inl (k.0, k.1, (true, h.0, h.1, k.2.0, k.2.1))) (λ k. inr (k.0, k.1,
-        negative h.0 h.1 k.0 k.2)) h.2)
-    (⊎_elim (λ k. inl (k.0, k.1, (false, t, refl, k.2.0, k.2.1))) (λ k. inr (k.0, k.1,
-        (false, k.2.0, k.2.1, k.2.2, k.2.3, k.2.4.0, of_zero false k.2.0 k.2.1 k.0 k.2.4.1)))),
-    ⊎_elim (λ h. an_integer t v h.0 h.1 h.2.0 h.2.1 h.2.2 h.2.3 h.2.4)
-        (λ h. a_decimal t v h.0 h.1 h.2.0 h.2.1 h.2.2 h.2.3 h.2.4 h.2.5 h.2.6))
+    (RestNumber (Whole false 0 0)) t v ↔ SpellsNumber t v
+number_both t v = (
+  ⊎_elim
+      (λ h. ⊎_elim (λ k. inl (k.0, k.1, (true, h.0, h.1, k.2.0, k.2.1))) (λ k. inr (
+        k.0,
+        k.1,
+        negative h.0 h.1 k.0 k.2,
+      )) h.2)
+      (⊎_elim (λ k. inl (k.0, k.1, (false, t, refl, k.2.0, k.2.1))) (λ k. inr (
+        k.0,
+        k.1,
+        (false, k.2.0, k.2.1, k.2.2, k.2.3, k.2.4.0, of_zero false k.2.0 k.2.1 k.0 k.2.4.1),
+      ))),
+  ⊎_elim (λ h. an_integer t v h.0 h.1 h.2.0 h.2.1 h.2.2 h.2.3 h.2.4)
+      (λ h. a_decimal t v h.0 h.1 h.2.0 h.2.1 h.2.2 h.2.3 h.2.4 h.2.5 h.2.6),
+)
   where
     negative : (back : List ℕ) → t ≡ 45 ∷ back → (m : ℤ) → RestDecimal true 0 0 back m
         → SpellsDecimal t m
-    negative back e m k = (true, k.0, k.1, e
-        ∙ ap (λ y. 45 ∷ y) k.2, k.3, k.4.0, of_zero true k.0 k.1 m k.4.1)
+    negative back e m k = (
+      true,
+      k.0,
+      k.1,
+      e
+          ∙ ap (λ y. 45 ∷ y) k.2,
+      k.3,
+      k.4.0,
+      of_zero true k.0 k.1 m k.4.1,
+    )
+
     an_integer : (t : List ℕ) (v : Bare) (n : ℤ) → v ≡ Integer n → (neg : Bool) (w : List ℕ)
         → t ≡ sign neg ++ w → AreDigits 1 15 0 w → n ≡ signed neg (value_from 0 w)
         → Either (After 45 (RestNumber (Whole true 0 0))) (RestNumber (Whole false 0 0)) t v
     an_integer t v n e true w k d i = inl (w, k, inl (n, e, (d, i)))
-    an_integer t v n e false w k d i = inr (inl (n, e, (subst (AreDigits 1 15 0) (sym k) d, i
-        ∙ ap (λ y. pos (value_from 0 y)) (sym k))))
+    an_integer t v n e false w k d i = inr (inl (
+      n,
+      e,
+      (
+        subst (AreDigits 1 15 0) (sym k) d,
+        i
+            ∙ ap (λ y. pos (value_from 0 y)) (sym k),
+      ),
+    ))
+
     a_decimal : (t : List ℕ) (v : Bare) (m : ℤ) → v ≡ Decimal m → (neg : Bool) (w f : List ℕ)
         → t ≡ sign neg ++ (w ++ 46 ∷ f) → AreDigits 1 12 0 w → AreDigits 1 3 0 f
         → m ≡ thousandths neg (value_from 0 w) (length f) (value_from 0 f)
         → Either (After 45 (RestNumber (Whole true 0 0))) (RestNumber (Whole false 0 0)) t v
-    a_decimal t v m e true w f k d d' i = inl (w ++ 46 ∷ f, k,
-        inr (m, e, (w, f, refl, d, (d', at_zero true w f m i))))
-    a_decimal t v m e false w f k d d' i = inr (inr (m, e,
-        (w, f, k, d, (d', at_zero false w f m i))))
+    a_decimal t v m e true w f k d d' i = inl (
+      w ++ 46 ∷ f,
+      k,
+      inr (m, e, (w, f, refl, d, (d', at_zero true w f m i))),
+    )
+    a_decimal t v m e false w f k d d' i = inr (inr (
+      m,
+      e,
+      (w, f, k, d, (d', at_zero false w f m i)),
+    ))
 
 pub number_starts : Reads NumberState Bare GoodNumber RestNumber SpellsNumber number_start None
-number_starts = reads_iff number_both (reads_either (reads_after 45 (Whole true 0 0) (omega arith,
-    omega arith)) (number_reads (Whole false 0 0) (omega arith,
-    omega arith)) apart (λ v w. λ e. absurd cc))
+number_starts = reads_iff number_both (reads_either (reads_after 45 (Whole true 0 0) (
+  omega arith,
+  omega arith,
+)) (number_reads (Whole false 0 0) (
+  omega arith,
+  omega arith,
+)) apart (λ v w. λ e. absurd cc))
   where
     apart : (b : ℕ) (s t : NumberState) → allow (b == 45) (Whole true 0 0) ≡ Some s
         → number_step (Whole false 0 0) b ≡ Some t → ⊥
@@ -229,8 +309,11 @@ number_starts = reads_iff number_both (reads_either (reads_after 45 (Whole true 
 digits_taken : (neg : Bool) (count a b : ℕ) (u : List ℕ) (n : ℤ)
     → RestDate (Digits neg count a) (b ∷ u) n
     → (s : DateState) × (digits_step neg count a b ≡ Some s) × RestDate s u n
-digits_taken neg count a b u n h = (Digits neg (count + 1) (10 * a + (b - 48)), grind arith,
-    grind arith)
+digits_taken neg count a b u n h = (
+  Digits neg (count + 1) (10 * a + (b - 48)),
+  grind arith,
+  grind arith,
+)
 
 digits_gives : (neg : Bool) (count a b : ℕ) (u : List ℕ) (n : ℤ) (s : DateState)
     → digits_step neg count a b ≡ Some s → RestDate s u n → RestDate (Digits neg count a) (b ∷ u) n
@@ -252,29 +335,37 @@ digits_ended neg count a n g e = grind arith
 
 digits_read : (neg : Bool) (count a : ℕ) → Counted 15 count a
     → Reads DateState ℤ GoodDate RestDate (RestInteger neg count a) (digits_step neg count a)
-        (allow (nat_le 1 count) (signed neg a))
+    (allow (nat_le 1 count) (signed neg a))
 digits_read neg count a g = record {
-    taken = digits_taken neg count a;
-    gives = digits_gives neg count a;
-    good = λ b s. digits_good neg count a b s g;
-    ends = digits_ends neg count a;
-    ended = λ v. digits_ended neg count a v g.0 }
+  taken = digits_taken neg count a;
+  gives = digits_gives neg count a;
+  good = λ b s. digits_good neg count a b s g;
+  ends = digits_ends neg count a;
+  ended = λ v. digits_ended neg count a v g.0;
+}
 
 integer_both : (t : List ℕ) (n : ℤ)
     → Either (After 45 (RestInteger true 0 0)) (RestInteger false 0 0) t n ↔ SpellsInteger t n
-integer_both t n = (⊎_elim (λ h. (true, h.0, h.1, h.2.0, h.2.1)) (λ h. (false, t, refl, h.0, h.1)),
-    λ h. other h.0 h.1 h.2 h.3 h.4)
+integer_both t n = (
+  ⊎_elim (λ h. (true, h.0, h.1, h.2.0, h.2.1)) (λ h. (false, t, refl, h.0, h.1)),
+  λ h. other h.0 h.1 h.2 h.3 h.4,
+)
   where
     other : (neg : Bool) (w : List ℕ) → t ≡ sign neg ++ w → AreDigits 1 15 0 w
         → n ≡ signed neg (value_from 0 w)
         → Either (After 45 (RestInteger true 0 0)) (RestInteger false 0 0) t n
     other true w k d i = inl (w, k, (d, i))
-    other false w k d i = inr (subst (AreDigits 1 15 0) (sym k) d, i
-        ∙ ap (λ y. pos (value_from 0 y)) (sym k))
+    other false w k d i = inr (
+      subst (AreDigits 1 15 0) (sym k) d,
+      i
+          ∙ ap (λ y. pos (value_from 0 y)) (sym k),
+    )
 
 sign_reads : Reads DateState ℤ GoodDate RestDate (RestDate Sign) (date_step Sign) None
-sign_reads = reads_iff integer_both (reads_either (reads_after 45 (Digits true 0 0) (omega arith,
-    omega arith)) (digits_read false 0 0 (omega arith, omega arith)) apart (λ v w. λ e. absurd cc))
+sign_reads = reads_iff integer_both (reads_either (reads_after 45 (Digits true 0 0) (
+  omega arith,
+  omega arith,
+)) (digits_read false 0 0 (omega arith, omega arith)) apart (λ v w. λ e. absurd cc))
   where
     apart : (b : ℕ) (s t : DateState) → allow (b == 45) (Digits true 0 0) ≡ Some s
         → digits_step false 0 0 b ≡ Some t → ⊥
@@ -287,12 +378,38 @@ date_reads Sign g = sign_reads
 
 pub date_lives : (s : DateState) → GoodDate s → Live ℤ (RestDate s)
 date_lives (Digits neg zero a) g = let h = g.0 in
-    record { text = 48 ∷ []; value = signed neg (10 * a + 0); whole = (record { each = (refl,
-        tt); enough = omega arith; fits = omega arith },
-        refl) }
+    record {
+      text = 48 ∷ [];
+      value = signed neg (10 * a + 0);
+      whole = (
+        record {
+          each = (
+            refl,
+            tt,
+          );
+          enough = omega arith;
+          fits = omega arith;
+        },
+        refl,
+      );
+    }
 date_lives (Digits neg (suc count) a) g = let h = g.0 in
-    record { text = []; value = signed neg a;
-        whole = (record { each = tt; enough = omega arith; fits = omega arith },
-        refl) }
-date_lives Sign g = record { text = 48 ∷ []; value = signed false 0; whole = (false, 48 ∷ [], refl,
-    record { each = (refl, tt); enough = omega arith; fits = omega arith }, refl) }
+    record {
+      text = [];
+      value = signed neg a;
+      whole = (
+        record { each = tt; enough = omega arith; fits = omega arith },
+        refl,
+      );
+    }
+date_lives Sign g = record {
+  text = 48 ∷ [];
+  value = signed false 0;
+  whole = (
+    false,
+    48 ∷ [],
+    refl,
+    record { each = (refl, tt); enough = omega arith; fits = omega arith },
+    refl,
+  );
+}

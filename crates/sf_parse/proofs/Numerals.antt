@@ -1,20 +1,20 @@
 -- Digits bound a number.
-use Rattle.std.proofs.Common.{◌≡◌, ℕ, zero, suc, ◌+◌, ◌*◌, ◌^◌, ◌<◌, ◌≤◌, subst, arith}
+use Rattle.std.proofs.Common.{◌≡◌, ℕ, suc, ◌+◌, ◌*◌, ◌^◌, ◌<◌, ◌≤◌, subst, arith}
 use Rattle.std.proofs.Math.Nat.{pow-le-pow_right}
 
 -- so many digits are below the power
 below : (count most value : ℕ) → value < 10 ^ count → count ≤ most → value < 10 ^ most
 below count most value h k =
-  let ten : 0 < 10 = omega arith in
-  let p : 10 ^ count ≤ 10 ^ most = pow-le-pow_right ten k in
-  omega arith
+    let ten : 0 < 10 = omega arith in
+    let p : 10 ^ count ≤ 10 ^ most = pow-le-pow_right ten k in
+    omega arith
 
 pub next_digit : (count value d : ℕ) → value < 10 ^ count → d < 10
     → 10 * value + d < 10 ^ (count + 1)
 next_digit count value d h k =
-  let e : 10 ^ suc count ≡ 10 * 10 ^ count = omega arith in
-  let i : suc count ≡ count + 1 = omega arith in
-  subst (λ y. 10 * value + d < 10 ^ y) i (omega arith)
+    let e : 10 ^ suc count ≡ 10 * 10 ^ count = omega arith in
+    let i : suc count ≡ count + 1 = omega arith in
+    subst (λ y. 10 * value + d < 10 ^ y) i (omega arith)
 
 pub room : (count value : ℕ) → value < 10 ^ count → count < 15 → value < 10 ^ 14
 room count value h k = below count 14 value h (omega arith)

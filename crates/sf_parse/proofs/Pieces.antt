@@ -1,7 +1,7 @@
 -- What a parser took, a byte longer, and where it stops.
-use Rattle.std.proofs.Common.{◌≡◌, ℕ, zero, suc, ◌+◌, ◌-◌, ◌<◌, ◌≤◌, ◌↔◌, Bool, true, false, List, []}
+use Rattle.std.proofs.Common.{◌≡◌, ℕ, zero, suc, ◌+◌, ◌<◌, ◌≤◌, ◌↔◌, Bool, true, false, List, []}
 use Rattle.std.proofs.Common.{◌∷◌, ◌++◌, length, take, drop, get_or, Option, Some, None, Result, Ok}
-use Rattle.std.proofs.Common.{Err, is_some, nat_lt, ◌&&◌, cond, refl, sym, ap, ◌∙◌, subst, ⊎_elim}
+use Rattle.std.proofs.Common.{Err, is_some, nat_lt, ◌&&◌, cond, refl, sym, ap, ◌∙◌, subst}
 use Rattle.std.proofs.Common.{append-nil, append_assoc, length-append, arith, take-append-drop}
 use Rattle.std.proofs.Common.{take_all, length-take}
 use Rattle.std.specs.List.{slice_get}
@@ -19,26 +19,27 @@ use Rattle.sf_parse.specs.declared.refusal.Refusal.{Refusal}
 use Rattle.sf_parse.specs.declared.refusal.Refusal.TheVariants.{OutOfMemory, Syntax, TooLong}
 use Rattle.sf_parse.specs.declared.refusal.Refusal.TheVariants.{ReadFault}
 use Rattle.sf_parse.specs.Machine.States.{State}
-use Rattle.sf_parse.specs.Machine.Language.{run, and_then}
-use Rattle.sf_parse.specs.Machine.Fields.{Rest, Good, step, finish, begin}
+use Rattle.sf_parse.specs.Machine.Language.{run}
+use Rattle.sf_parse.specs.Machine.Fields.{Rest, step, finish, begin}
 use Rattle.sf_parse.specs.Machine.Takes.{takes, may_end}
 use Rattle.sf_parse.specs.Taking as taking
 use Rattle.sf_parse.specs.Expected.{Marks}
-use Rattle.sf_parse.specs.Parsers.{Progress, Took, Sound, StandsAt, IsSyntax, IsOnly, RefusedFor}
+use Rattle.sf_parse.specs.Parsers.{Progress, Took, Sound, IsSyntax, RefusedFor}
 use Rattle.sf_parse.specs.Parsers.{SameSettings, Fed, FedAnswer, Finishes, Parses}
 use Rattle.sf_parse.proofs.Fields.{machine}
 use Rattle.sf_parse.proofs.Theorems.{one_value}
 use Rattle.sf_parse.proofs.Taking.{took_nothing, takes_more, took_viable, took_end, took_stops}
 use Rattle.sf_parse.proofs.Taking.{took_all}
-use Rattle.sf_parse.proofs.Takes.{takes_next, ends_text, may_end_is, takes_step}
+use Rattle.sf_parse.proofs.Takes.{takes_next, ends_text, may_end_is}
 use Rattle.sf_parse.proofs.Below.{some_next}
 
 -- what a sound parser took, as the machine's laws say it
 pub taken : (p : Progress) (s : List ℕ) → Sound p.refusal p.state p.count p.max → Took p s
     → taking.Took p.dialect p.kind p.state s
 taken p s g t = record {
-    good = (subst (λ r. Sound r p.state p.count p.max) t.unrefused g).0;
-    rest = t.rest }
+  good = (subst (λ r. Sound r p.state p.count p.max) t.unrefused g).0;
+  rest = t.rest;
+}
 
 within_max : (p : Progress) (s : List ℕ) → Sound p.refusal p.state p.count p.max → Took p s
     → p.count ≤ p.max
@@ -50,28 +51,30 @@ run_one d s t b e = rw e refl
 
 pub new_took : (p : Progress) → p.state ≡ begin p.kind → p.count ≡ 0 → p.refusal ≡ None → Took p []
 new_took p e c r = record {
-    count = c;
-    rest = λ u v.
+  count = c;
+  rest = λ u v.
       subst (λ s. Rest p.dialect s u v ↔ SpellsField p.dialect p.kind ([] ++ u) v) (sym e)
-        ((took_nothing p.dialect p.kind).rest u v);
-    unrefused = r }
+      ((took_nothing p.dialect p.kind).rest u v);
+  unrefused = r;
+}
 
 pub took_step : (p q : Progress) (s : List ℕ) (b : ℕ) → Sound p.refusal p.state p.count p.max
     → Took p s → step p.dialect p.state b ≡ Some q.state → SameSettings p q
     → q.count ≡ p.count + 1 → q.refusal ≡ None → Took q (s ++ b ∷ [])
 took_step p q s b g t e same c r =
     let more = takes_more p.dialect p.kind p.state q.state s (b ∷ []) (taken p s g t)
-        (run_one p.dialect p.state q.state b e) in
+    (run_one p.dialect p.state q.state b e) in
     record {
       count = c ∙ ap (λ n. n + 1) t.count
           ∙ (let l : length s + 1 ≡ length (s ++ b ∷ []) = omega (arith, length-append s (b ∷ [])) in
-            l);
+          l);
       rest = λ u v.
-        subst (λ d. Rest d q.state u v ↔ SpellsField d q.kind ((s ++ b ∷ []) ++ u) v)
+          subst (λ d. Rest d q.state u v ↔ SpellsField d q.kind ((s ++ b ∷ []) ++ u) v)
           (sym same.dialect)
           (subst (λ k. Rest p.dialect q.state u v ↔ SpellsField p.dialect k ((s ++ b ∷ []) ++ u) v)
-            (sym same.kind) (more.rest u v));
-      unrefused = r }
+          (sym same.kind) (more.rest u v));
+      unrefused = r;
+    }
 
 bit_is : (c : Bool) (n : ℕ) → n ≡ cond c 1 0 → (n ≡ 1) ↔ (c ≡ true)
 bit_is true n e = (λ h. refl, λ h. e)
@@ -91,7 +94,7 @@ marks_next : (d : Dialect) (kind : Kind) (state : State) (s : List ℕ) (bits b 
     → (bit_at bits b ≡ 1) ↔ Viable d kind (s ++ b ∷ [])
 marks_next d kind state s bits b k m h =
     let bit = bit_is (takes d state b) (bit_at bits b)
-        (m b ∙ ap (λ c. cond c 1 0) (below_bound b 128 (takes d state b) h)) in
+    (m b ∙ ap (λ c. cond c 1 0) (below_bound b 128 (takes d state b) h)) in
     let next = takes_next d kind state s b k in
     (λ i. next.1 (bit.0 i), λ i. bit.1 (next.0 i))
 
@@ -107,17 +110,18 @@ exact : (d : Dialect) (kind : Kind) (state : State) (s t : List ℕ) (place : �
     → ((v : Field) → SpellsField d kind t v → ⊥)
     → IsSyntax d kind t place found bits may
 exact d kind state s t place found bits may k m e front at f none = record {
-    unspelled = none;
-    is_place = at;
-    byte = f;
-    next = λ b h.
+  unspelled = none;
+  is_place = at;
+  byte = f;
+  next = λ b h.
       subst (λ y. (bit_at bits b ≡ 1) ↔ Viable d kind (y ++ b ∷ [])) (sym front)
-        (marks_next d kind state s bits b k m h);
-    some = marks_some d kind state s bits k m;
-    ends =
+      (marks_next d kind state s bits b k m h);
+  some = marks_some d kind state s bits k m;
+  ends =
       let ends = ends_text d kind state s k in
       subst (λ y. (may ≡ true) ↔ ((v : Field) × SpellsField d kind y v)) (sym front)
-        (λ i. ends.1 (sym e ∙ i), λ i. e ∙ ends.0 i) }
+      (λ i. ends.1 (sym e ∙ i), λ i. e ∙ ends.0 i);
+}
 
 slice_get_seam : (xs ys : List ℕ) (b : ℕ) → slice_get (xs ++ b ∷ ys) (length xs) ≡ Some b
 slice_get_seam [] ys b = refl
@@ -131,9 +135,12 @@ slice_get_end (x ∷ xs) = slice_get_end xs
 no_value : (d : Dialect) (kind : Kind) (t : List ℕ) (n : ℕ) → IsPlace d kind t n → n < length t
     → (v : Field) → SpellsField d kind t v → ⊥
 no_value d kind t n at h v k =
-    let whole : Continues (SpellsField d kind) (take (length t) t) =
-        ([], v, subst (λ y. SpellsField d kind y v)
-          (sym (append-nil (take (length t) t) ∙ take_all (length t) t (omega arith))) k) in
+    let whole : Continues (SpellsField d kind) (take (length t) t) = (
+      [],
+      v,
+      subst (λ y. SpellsField d kind y v)
+          (sym (append-nil (take (length t) t) ∙ take_all (length t) t (omega arith))) k,
+    ) in
     let l = at.longest (length t) (omega arith) whole in
     omega arith
 
@@ -146,11 +153,11 @@ stops_exact p s q b bits may g t n m e =
     let joined : (s ++ b ∷ []) ++ q ≡ s ++ b ∷ q = append_assoc s (b ∷ []) q in
     let at = took_stops p.dialect p.kind p.state s q b k n in
     subst (λ y. IsSyntax p.dialect p.kind y p.count (Some b) bits may) (sym joined)
-      (subst (λ c. IsSyntax p.dialect p.kind (s ++ b ∷ q) c (Some b) bits may) (sym t.count)
-        (exact p.dialect p.kind p.state s (s ++ b ∷ q) (length s) (Some b) bits may k m e
-          (take-append_seam s (b ∷ q)) at (sym (slice_get_seam s q b))
-          (no_value p.dialect p.kind (s ++ b ∷ q) (length s) at
-            (omega (arith, length-append s (b ∷ q))))))
+    (subst (λ c. IsSyntax p.dialect p.kind (s ++ b ∷ q) c (Some b) bits may) (sym t.count)
+    (exact p.dialect p.kind p.state s (s ++ b ∷ q) (length s) (Some b) bits may k m e
+    (take-append_seam s (b ∷ q)) at (sym (slice_get_seam s q b))
+    (no_value p.dialect p.kind (s ++ b ∷ q) (length s) at
+    (omega (arith, length-append s (b ∷ q))))))
 
 pub ends_exact : (p : Progress) (s : List ℕ) (bits : ℕ) → Sound p.refusal p.state p.count p.max
     → Took p s → Marks p.dialect bits p.state 128 → false ≡ may_end p.state
@@ -158,10 +165,10 @@ pub ends_exact : (p : Progress) (s : List ℕ) (bits : ℕ) → Sound p.refusal 
 ends_exact p s bits g t m e =
     let k = taken p s g t in
     subst (λ c. IsSyntax p.dialect p.kind s c None bits false) (sym t.count)
-      (exact p.dialect p.kind p.state s s (length s) None bits false k m e
-        (take_all (length s) s (omega arith)) (took_all p.dialect p.kind p.state s k)
-        (sym (slice_get_end s))
-        (λ v h. let i = (ends_text p.dialect p.kind p.state s k).0 (v, h) in clash i))
+    (exact p.dialect p.kind p.state s s (length s) None bits false k m e
+    (take_all (length s) s (omega arith)) (took_all p.dialect p.kind p.state s k)
+    (sym (slice_get_end s))
+    (λ v h. let i = (ends_text p.dialect p.kind p.state s k).0 (v, h) in clash i))
   where
     clash : may_end p.state ≡ true → ⊥
     clash i = let n : false ≡ true = e ∙ i in cc
@@ -189,15 +196,21 @@ pub fed_step : (p q : Progress) (b : ℕ) → Sound p.refusal p.state p.count p.
     → p.count < p.max → step p.dialect p.state b ≡ Some q.state → SameSettings p q
     → q.count ≡ p.count + 1 → q.refusal ≡ p.refusal → Fed p q (Ok tt) (b ∷ [])
 fed_step p q b g h e same c r = record {
-    settings = same;
-    counted = omega arith;
-    answer = (r, λ s t.
-      let t' = took_step p q s b g t e same c (r ∙ t.unrefused) in
-      let n : p.count ≡ length s = t.count in
-      let k = takes_more p.dialect p.kind p.state q.state s (b ∷ []) (taken p s g t)
-          (run_one p.dialect p.state q.state b e) in
-      (omega (arith, length-append s (b ∷ [])),
-        took_viable p.dialect p.kind q.state (s ++ b ∷ []) k, t')) }
+  settings = same;
+  counted = omega arith;
+  answer = (
+    r,
+    λ s t.
+        let t' = took_step p q s b g t e same c (r ∙ t.unrefused) in
+        let n : p.count ≡ length s = t.count in
+        let k = takes_more p.dialect p.kind p.state q.state s (b ∷ []) (taken p s g t)
+        (run_one p.dialect p.state q.state b e) in (
+          omega (arith, length-append s (b ∷ [])),
+          took_viable p.dialect p.kind q.state (s ++ b ∷ []) k,
+          t',
+        ),
+  );
+}
 
 -- a byte was refused
 pub fed_stop : (p q : Progress) (b bits : ℕ) (may : Bool) → Sound p.refusal p.state p.count p.max
@@ -206,36 +219,43 @@ pub fed_stop : (p q : Progress) (b bits : ℕ) (may : Bool) → Sound p.refusal 
     → q.refusal ≡ Some (Syntax p.count (Some b) bits may)
     → Fed p q (Err (Syntax p.count (Some b) bits may)) (b ∷ [])
 fed_stop p q b bits may g h n m e same c r = record {
-    settings = same;
-    counted = omega arith;
-    answer = (r, λ s t more. (h, stops_exact p s more b bits may g t n m e)) }
+  settings = same;
+  counted = omega arith;
+  answer = (r, λ s t more. (h, stops_exact p s more b bits may g t n m e));
+}
 
 -- a byte stands past the limit
 pub fed_past : (p q : Progress) (b : ℕ) → Sound p.refusal p.state p.count p.max
     → p.max ≤ p.count → SameSettings p q → q.count ≡ p.count → q.refusal ≡ Some (TooLong p.max)
     → Fed p q (Err (TooLong p.max)) (b ∷ [])
 fed_past p q b g h same c r = record {
-    settings = same;
-    counted = omega arith;
-    answer = (r, λ s t more.
-      let n : p.max ≡ length s =
-          let k : p.count ≡ length s = t.count in let w = within_max p s g t in omega arith in
-      let joined : (s ++ b ∷ []) ++ more ≡ s ++ b ∷ more = append_assoc s (b ∷ []) more in
-      let front : take p.max ((s ++ b ∷ []) ++ more) ≡ s =
-          ap (λ y. take y ((s ++ b ∷ []) ++ more)) n ∙ ap (take (length s)) joined
-          ∙ take-append_seam s (b ∷ more) in
-      (refl,
-        omega (arith, length-append (s ++ b ∷ []) more, length-append s (b ∷ [])),
-        subst (Viable p.dialect p.kind) (sym front)
-          (took_viable p.dialect p.kind p.state s (taken p s g t)))) }
+  settings = same;
+  counted = omega arith;
+  answer = (
+    r,
+    λ s t more.
+        let n : p.max ≡ length s =
+        let k : p.count ≡ length s = t.count in let w = within_max p s g t in omega arith in
+        let joined : (s ++ b ∷ []) ++ more ≡ s ++ b ∷ more = append_assoc s (b ∷ []) more in
+        let front : take p.max ((s ++ b ∷ []) ++ more) ≡ s =
+        ap (λ y. take y ((s ++ b ∷ []) ++ more)) n ∙ ap (take (length s)) joined
+        ∙ take-append_seam s (b ∷ more) in (
+          refl,
+          omega (arith, length-append (s ++ b ∷ []) more, length-append s (b ∷ [])),
+          subst (Viable p.dialect p.kind) (sym front)
+              (took_viable p.dialect p.kind p.state s (taken p s g t)),
+        ),
+  );
+}
 
 -- no memory was left
 pub fed_short : (p q : Progress) (b : ℕ) → SameSettings p q → q.count ≡ p.count
     → q.refusal ≡ Some OutOfMemory → Fed p q (Err OutOfMemory) (b ∷ [])
 fed_short p q b same c r = record {
-    settings = same;
-    counted = omega arith;
-    answer = (r, λ s t more. tt) }
+  settings = same;
+  counted = omega arith;
+  answer = (r, λ s t more. tt);
+}
 
 pub finish_stop : (p : Progress) (bits : ℕ) → Sound p.refusal p.state p.count p.max
     → Marks p.dialect bits p.state 128 → false ≡ may_end p.state
@@ -249,7 +269,8 @@ finish_with p v g e s t =
     let spelled = (took_end p.dialect p.kind p.state s v (taken p s g t)).1 e in
     record {
       spelled = spelled;
-      only = λ w k. one_value p.dialect p.kind s w v k spelled }
+      only = λ w k. one_value p.dialect p.kind s w v k spelled;
+    }
 
 -- a state that may end has a value
 pub finish_some : (s : State) → may_end s ≡ true → finish s ≡ None → ⊥
@@ -267,16 +288,21 @@ pub record FedFront (o p : Progress) (x : List ℕ) : Type 0 where
 
 pub fed_none : (p : Progress) → Sound p.refusal p.state p.count p.max → FedFront p p []
 fed_none p g = record {
-    settings = record { dialect = refl; kind = refl; max = refl };
-    counted = omega arith;
-    answer = (refl, λ s t.
-      let n : p.count ≡ length s = t.count in
-      let w = within_max p s g t in
-      let e = sym (append-nil s) in
-      (subst (λ y. length y ≤ p.max) e (omega arith),
-        subst (Viable p.dialect p.kind) e
-          (took_viable p.dialect p.kind p.state s (taken p s g t)),
-        subst (Took p) e t)) }
+  settings = record { dialect = refl; kind = refl; max = refl };
+  counted = omega arith;
+  answer = (
+    refl,
+    λ s t.
+        let n : p.count ≡ length s = t.count in
+        let w = within_max p s g t in
+        let e = sym (append-nil s) in (
+          subst (λ y. length y ≤ p.max) e (omega arith),
+          subst (Viable p.dialect p.kind) e
+              (took_viable p.dialect p.kind p.state s (taken p s g t)),
+          subst (Took p) e t,
+        ),
+  );
+}
 
 next_piece : (s piece : List ℕ) (i : ℕ) → i < length piece
     → (s ++ take i piece) ++ get_or piece i 0 ∷ [] ≡ s ++ take (i + 1) piece
@@ -286,9 +312,10 @@ next_piece s piece i h =
 
 joined_settings : (a b c : Progress) → SameSettings a b → SameSettings b c → SameSettings a c
 joined_settings a b c p q = record {
-    dialect = q.dialect ∙ p.dialect;
-    kind = q.kind ∙ p.kind;
-    max = q.max ∙ p.max }
+  dialect = q.dialect ∙ p.dialect;
+  kind = q.kind ∙ p.kind;
+  max = q.max ∙ p.max;
+}
 
 length-take_more : (piece : List ℕ) (i : ℕ) → i < length piece
     → length (take (i + 1) piece) ≡ length (take i piece) + 1
@@ -299,33 +326,38 @@ pub fed_more : (o p q : Progress) (piece : List ℕ) (i : ℕ) → i < length pi
     → FedFront o p (take i piece) → Fed p q (Ok tt) (get_or piece i 0 ∷ [])
     → FedFront o q (take (i + 1) piece)
 fed_more o p q piece i h a f = record {
-    settings = joined_settings o p q a.settings f.settings;
-    counted =
+  settings = joined_settings o p q a.settings f.settings;
+  counted =
       let x = a.counted in
       let y = f.counted in
       let l = length-take_more piece i h in
       let z : q.count ≤ p.count + 1 = y in
       omega arith;
-    answer = (f.answer.0 ∙ a.answer.0, λ s t.
-      let x = f.answer.1 (s ++ take i piece) (a.answer.1 s t).2 in
-      let e = next_piece s piece i h in
-      let k = a.settings in
-      (subst (λ y. length y ≤ o.max) e
-          (subst (λ y. length ((s ++ take i piece) ++ get_or piece i 0 ∷ []) ≤ y) k.max x.0),
-        subst (Viable o.dialect o.kind) e
-          (subst (λ y. Viable o.dialect y ((s ++ take i piece) ++ get_or piece i 0 ∷ [])) k.kind
-            (subst (λ y. Viable y p.kind ((s ++ take i piece) ++ get_or piece i 0 ∷ [])) k.dialect
+  answer = (
+    f.answer.0 ∙ a.answer.0,
+    λ s t.
+        let x = f.answer.1 (s ++ take i piece) (a.answer.1 s t).2 in
+        let e = next_piece s piece i h in
+        let k = a.settings in (
+          subst (λ y. length y ≤ o.max) e
+              (subst (λ y. length ((s ++ take i piece) ++ get_or piece i 0 ∷ []) ≤ y) k.max x.0),
+          subst (Viable o.dialect o.kind) e
+              (subst (λ y. Viable o.dialect y ((s ++ take i piece) ++ get_or piece i 0 ∷ [])) k.kind
+              (subst (λ y. Viable y p.kind ((s ++ take i piece) ++ get_or piece i 0 ∷ [])) k.dialect
               x.1)),
-        subst (Took q) e x.2)) }
+          subst (Took q) e x.2,
+        ),
+  );
+}
 
 whole_piece : (s piece more : List ℕ) (i : ℕ) → i < length piece
     → ((s ++ take i piece) ++ get_or piece i 0 ∷ []) ++ (drop (i + 1) piece ++ more)
-      ≡ (s ++ piece) ++ more
+    ≡ (s ++ piece) ++ more
 whole_piece s piece more i h =
     ap (λ y. y ++ (drop (i + 1) piece ++ more)) (next_piece s piece i h)
     ∙ append_assoc s (take (i + 1) piece) (drop (i + 1) piece ++ more)
     ∙ ap (λ y. s ++ y) (sym (append_assoc (take (i + 1) piece) (drop (i + 1) piece) more)
-      ∙ ap (λ y. y ++ more) (take-append-drop (i + 1) piece))
+    ∙ ap (λ y. y ++ more) (take-append-drop (i + 1) piece))
     ∙ sym (append_assoc s piece more)
 
 front_short : (piece : List ℕ) (i : ℕ) → i < length piece → length (take i piece) + 1 ≤ length piece
@@ -341,7 +373,8 @@ fed_whole o p piece i h a =
     record {
       settings = a.settings;
       counted = subst (λ y. p.count ≤ o.count + length y) e a.counted;
-      answer = subst (FedAnswer o p (Ok tt)) e a.answer }
+      answer = subst (FedAnswer o p (Ok tt)) e a.answer;
+    }
 
 pub stopped_in : (o p q : Progress) (piece : List ℕ) (i : ℕ) (e : Refusal) → i < length piece
     → FedFront o p (take i piece) → Fed p q (Err e) (get_or piece i 0 ∷ [])
@@ -351,18 +384,22 @@ stopped_in o p q piece i e h a f =
     record {
       settings = joined_settings o p q a.settings f.settings;
       counted =
-        let x = a.counted in
-        let y : q.count ≤ p.count + 1 = f.counted in
-        let l = front_short piece i h in
-        omega arith;
-      answer = (f.answer.0, λ s t more.
-        let x = f.answer.1 (s ++ take i piece) (a.answer.1 s t).2 (drop (i + 1) piece ++ more) in
-        let whole = whole_piece s piece more i h in
-        let here = ((s ++ take i piece) ++ get_or piece i 0 ∷ []) ++ (drop (i + 1) piece ++ more) in
-        subst (λ y. RefusedFor o.dialect o.kind o.max y e) whole
-          (subst (λ y. RefusedFor y o.kind o.max here e) k.dialect
+          let x = a.counted in
+          let y : q.count ≤ p.count + 1 = f.counted in
+          let l = front_short piece i h in
+          omega arith;
+      answer = (
+        f.answer.0,
+        λ s t more.
+            let x = f.answer.1 (s ++ take i piece) (a.answer.1 s t).2 (drop (i + 1) piece ++ more) in
+            let whole = whole_piece s piece more i h in
+            let here = ((s ++ take i piece) ++ get_or piece i 0 ∷ []) ++ (drop (i + 1) piece ++ more) in
+            subst (λ y. RefusedFor o.dialect o.kind o.max y e) whole
+            (subst (λ y. RefusedFor y o.kind o.max here e) k.dialect
             (subst (λ y. RefusedFor p.dialect y o.max here e) k.kind
-              (subst (λ y. RefusedFor p.dialect p.kind y here e) k.max x)))) }
+            (subst (λ y. RefusedFor p.dialect p.kind y here e) k.max x))),
+      );
+    }
 
 pub count_at_max : (r : Option Refusal) (s : State) (count max : ℕ) → Sound r s count max → r ≡ None
     → max ≤ count → count ≡ max
@@ -391,7 +428,7 @@ finished_first p q r t k f h =
     let took = (f.answer.1 [] k).2 in
     let same = f.settings in
     at r (subst (λ y. Finishes p.dialect y t r) same.kind
-      (subst (λ y. Finishes y q.kind t r) same.dialect (h t took)))
+    (subst (λ y. Finishes y q.kind t r) same.dialect (h t took)))
   where
     at : (r : Result Field Refusal) → Finishes p.dialect p.kind t r → Parses p.dialect p.kind t r
     at (Ok v) h = h

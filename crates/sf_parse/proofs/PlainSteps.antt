@@ -1,6 +1,6 @@
 -- Spaces and numbers stay such.
-use Rattle.std.proofs.Common.{◌≡◌, ℕ, zero, suc, ◌+◌, ◌<◌, Bool, true, false, ◌==◌, List, [], ◌∷◌}
-use Rattle.std.proofs.Common.{get_or, length, Option, Some, None, refl, sym, subst, ⊎_elim, eqb-true}
+use Rattle.std.proofs.Common.{◌≡◌, ℕ, zero, suc, ◌<◌, Bool, true, false, ◌==◌, List, [], ◌∷◌}
+use Rattle.std.proofs.Common.{get_or, length, Option, Some, None, refl, sym, subst, ⊎_elim}
 use Rattle.std.proofs.Common.{arith}
 use Rattle.sf_value.specs.declared.dialect.Dialect.{Dialect}
 use Rattle.sf_value.specs.Grammar.Words.{Every, allow, otherwise}
@@ -11,7 +11,7 @@ use Rattle.sf_parse.specs.declared.bare.BareState.{BareState}
 use Rattle.sf_parse.specs.declared.bare.BareState.TheVariants.{InNumber, InText, InToken, InBoolean}
 use Rattle.sf_parse.specs.declared.bare.BareState.TheVariants.{InDate, InBlob, InShown}
 use Rattle.sf_parse.specs.declared.item.ItemState.TheVariants.{InBare, InParams}
-use Rattle.sf_parse.specs.Machine.Language.{seen, onward, only}
+use Rattle.sf_parse.specs.Machine.Language.{seen, only}
 use Rattle.sf_parse.specs.Machine.Numbers.{number_start, number_step, number_finish, Sign}
 use Rattle.sf_parse.specs.Machine.Texts.{Inside, word_start}
 use Rattle.sf_parse.specs.declared.boolean.BooleanState.TheVariants.{Asked}
@@ -38,7 +38,7 @@ no_rest d b =
 
 no_bytes : (b : ℕ) → plain_byte b ≡ true
     → ((b == 34) ≡ false) × (is_token_start b ≡ false) × ((b == 63) ≡ false) × ((b == 64) ≡ false)
-      × ((b == 58) ≡ false) × ((b == 37) ≡ false)
+    × ((b == 58) ≡ false) × ((b == 37) ≡ false)
 no_bytes b p = (grind arith, grind arith, grind arith, grind arith, grind arith, grind arith)
 
 only_none : {S : Type 0} (c : Bool) → only {S = S} c None ≡ None
@@ -50,7 +50,7 @@ unfolding no_rest
 no_other d b t p e =
     let k = no_bytes b p in
     let none : no_rest d b ≡ None =
-        rw (k.0, k.1, k.2, k.3, k.4, k.5) (rw (only_none {S = BareState} (is_rfc9651 d)) refl) in
+    rw (k.0, k.1, k.2, k.3, k.4, k.5) (rw (only_none {S = BareState} (is_rfc9651 d)) refl) in
     absurd (clash (no_rest d b) none e)
   where
     clash : (o : Option BareState) → o ≡ None → o ≡ Some t → ⊥
@@ -72,20 +72,20 @@ pub plain_step : (d : Dialect) (s t : State) (b : ℕ) → PlainState s → plai
 plain_step d BeforeItem t b h p e = ⊎_elim
     (λ i. subst PlainState (sym (allow_cases (is_sp b) BeforeItem t i).1) tt)
     (λ i. let k = seen_cases InTop (item_start d b) t i.1 in
-      let j = seen_cases InBare (bare_start d b) k.0 k.1 in
-      subst PlainState (sym k.2) (subst PlainItem (sym j.2) (plain_start d b j.0 p j.1)))
+    let j = seen_cases InBare (bare_start d b) k.0 k.1 in
+    subst PlainState (sym k.2) (subst PlainItem (sym j.2) (plain_start d b j.0 p j.1)))
     (otherwise_cases (allow (is_sp b) BeforeItem) (seen InTop (item_start d b)) t e)
 plain_step d (InTop (InBare (InNumber n))) t b h p e = ⊎_elim
     (λ i. subst PlainState (sym i.2) (⊎_elim
-      (λ j. let k = seen_cases InNumber (number_step n b) j.0 j.1 in
-        subst PlainItem (sym j.2) (subst PlainBare (sym k.2) tt))
-      (λ j. let k = seen_cases (InParams j.0) (between_step [] b) i.0 j.3 in
-        absurd (no_semicolon b p (allow_cases (b == 59) _ k.0 k.1).0))
-      (onward_cases InBare (seen InNumber (number_step n b)) (number_finish n)
-        (λ x. seen (InParams x) (between_step [] b)) i.0 i.1)))
+    (λ j. let k = seen_cases InNumber (number_step n b) j.0 j.1 in
+    subst PlainItem (sym j.2) (subst PlainBare (sym k.2) tt))
+    (λ j. let k = seen_cases (InParams j.0) (between_step [] b) i.0 j.3 in
+    absurd (no_semicolon b p (allow_cases (b == 59) _ k.0 k.1).0))
+    (onward_cases InBare (seen InNumber (number_step n b)) (number_finish n)
+    (λ x. seen (InParams x) (between_step [] b)) i.0 i.1)))
     (λ i. subst PlainState (sym (allow_cases (is_sp b) (AfterItem i.0) t i.3).1) tt)
     (onward_cases InTop (item_step d (InBare (InNumber n)) b) (item_finish (InBare (InNumber n)))
-      (λ i. allow (is_sp b) (AfterItem i)) t e)
+    (λ i. allow (is_sp b) (AfterItem i)) t e)
 plain_step d (InTop (InBare (InText n))) t b h p e = absurd h
 plain_step d (InTop (InBare (InToken n))) t b h p e = absurd h
 plain_step d (InTop (InBare (InBoolean n))) t b h p e = absurd h

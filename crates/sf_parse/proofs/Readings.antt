@@ -1,10 +1,9 @@
 -- A reader's text, read and fed block by block.
-use Rattle.std.proofs.Common.{◌≡◌, ℕ, ◌+◌, ◌-◌, ◌^◌, ◌<◌, ◌≤◌, min, List, [], ◌∷◌, ◌++◌, length, take, Some, None}
-use Rattle.std.proofs.Common.{Result, Ok, Err, refl, sym, ap, ◌∙◌, subst, append-nil, append_assoc}
+use Rattle.std.proofs.Common.{◌≡◌, ℕ, ◌+◌, ◌^◌, ◌<◌, ◌≤◌, List, [], ◌∷◌, ◌++◌, length, take, Some, None}
+use Rattle.std.proofs.Common.{Result, Ok, Err, refl, ap, ◌∙◌, subst, append-nil}
 use Rattle.std.proofs.Common.{length-append, arith}
 use Rattle.std.specs.Io.KnownBytes.{IsAtEnd}
-use Rattle.sf_value.specs.Devices.{SourceState, capped, Gave, GaveAndFailed, GivesOnce, FailsOnce}
-use Rattle.sf_value.specs.declared.dialect.Dialect.{Dialect}
+use Rattle.sf_value.specs.Devices.{SourceState, capped, Gave, GivesOnce, FailsOnce}
 use Rattle.sf_value.specs.declared.dialect.Dialect.TheVariants.{Rfc9651}
 use Rattle.sf_value.specs.declared.value.Field.{Field}
 use Rattle.sf_value.specs.declared.value.Kind.{Kind}
@@ -13,8 +12,8 @@ use Rattle.sf_parse.specs.declared.refusal.Refusal.{Refusal}
 use Rattle.sf_parse.specs.declared.refusal.Refusal.TheVariants.{OutOfMemory, Syntax, TooLong}
 use Rattle.sf_parse.specs.declared.refusal.Refusal.TheVariants.{ReadFault}
 use Rattle.sf_parse.specs.Machine.Fields.{begin}
-use Rattle.sf_parse.specs.Parsers.{Progress, Took, Fed, IsSyntax, RefusedFor, Finishes}
-use Rattle.sf_parse.specs.Reading.{IsWholeOrFull, ReadToEnd, ReadAndParsed}
+use Rattle.sf_parse.specs.Parsers.{Progress, Took, Fed, RefusedFor, Finishes}
+use Rattle.sf_parse.specs.Reading.{IsWholeOrFull, ReadAndParsed}
 use Rattle.sf_parse.proofs.Taking.{took_nothing, took_viable}
 use Rattle.sf_parse.proofs.Gives.{gave_none, gave_more}
 
@@ -33,15 +32,16 @@ pub record Reads (old now : SourceState) (kind : Kind) (max given : ℕ) (p : Pr
 pub reads_start : (s : SourceState) (kind : Kind) (max : ℕ) (p : Progress) → Took p []
     → p.dialect ≡ Rfc9651 → p.kind ≡ kind → p.max ≡ max → Reads s s kind max 0 p
 reads_start s kind max p t d k m = record {
-    text = [];
-    gave = gave_none s;
-    took = t;
-    count = refl;
-    dialect = d;
-    same_kind = k;
-    same_max = m;
-    within = omega arith;
-    viable = took_viable Rfc9651 kind (begin kind) [] (took_nothing Rfc9651 kind) }
+  text = [];
+  gave = gave_none s;
+  took = t;
+  count = refl;
+  dialect = d;
+  same_kind = k;
+  same_max = m;
+  within = omega arith;
+  viable = took_viable Rfc9651 kind (begin kind) [] (took_nothing Rfc9651 kind);
+}
 
 pub reads_more : (old a b : SourceState) (kind : Kind) (max given n : ℕ) (p q : Progress)
     (ys : List ℕ) → Reads old a kind max given p → GivesOnce a b ys → length ys ≡ n
@@ -50,7 +50,7 @@ reads_more old a b kind max given n p q ys r g e f =
     let fed = f.answer.1 r.text r.took in
     let same = f.settings in
     let count : length (r.text ++ ys) ≡ given + n =
-        let l = length-append r.text ys in let c = r.count in omega arith in
+    let l = length-append r.text ys in let c = r.count in omega arith in
     record {
       text = r.text ++ ys;
       gave = gave_more old a b r.text ys r.gave g;
@@ -61,8 +61,9 @@ reads_more old a b kind max given n p q ys r g e f =
       same_max = same.max ∙ r.same_max;
       within = let l = fed.0 in let m = r.same_max in omega arith;
       viable =
-        subst (λ k. Viable Rfc9651 k (r.text ++ ys)) r.same_kind
-          (subst (λ d. Viable d p.kind (r.text ++ ys)) r.dialect fed.1) }
+          subst (λ k. Viable Rfc9651 k (r.text ++ ys)) r.same_kind
+          (subst (λ d. Viable d p.kind (r.text ++ ys)) r.dialect fed.1);
+    }
 
 at_most : (m n k given top : ℕ) → m ≡ given → k ≡ m + n → given + n ≤ top → k ≤ top
 at_most m n k given top c e l = omega arith
@@ -75,17 +76,21 @@ reads_refused old a b kind max given p q ys e r g l f = at e refused
   where
     text : List ℕ
     text = r.text ++ ys
+
     gave : Gave old b text
     gave = gave_more old a b r.text ys r.gave g
+
     bound : length text ≤ capped (max + 1)
     bound = at_most (length r.text) (length ys) (length text) given (capped (max + 1)) r.count
         (length-append r.text ys) l
+
     refused : (more : List ℕ) → RefusedFor Rfc9651 kind max (text ++ more) e
     refused more =
         subst (λ d. RefusedFor d kind max (text ++ more) e) r.dialect
-          (subst (λ k. RefusedFor p.dialect k max (text ++ more) e) r.same_kind
-            (subst (λ m. RefusedFor p.dialect p.kind m (text ++ more) e) r.same_max
-              (f.answer.1 r.text r.took more)))
+        (subst (λ k. RefusedFor p.dialect k max (text ++ more) e) r.same_kind
+        (subst (λ m. RefusedFor p.dialect p.kind m (text ++ more) e) r.same_max
+        (f.answer.1 r.text r.took more)))
+
     at : (e : Refusal) → ((more : List ℕ) → RefusedFor Rfc9651 kind max (text ++ more) e)
         → ReadAndParsed Rfc9651 kind old b max (Err e)
     at OutOfMemory h = (text, gave, bound)
@@ -118,7 +123,7 @@ finished : (kind : Kind) (max given : ℕ) (old a : SourceState) (p : Progress)
     → ((s : List ℕ) → Took p s → Finishes p.dialect p.kind s r) → Finishes Rfc9651 kind k.text r
 finished kind max given old a p r k f =
     subst (λ y. Finishes Rfc9651 y k.text r) k.same_kind
-      (subst (λ d. Finishes d p.kind k.text r) k.dialect (f k.text k.took))
+    (subst (λ d. Finishes d p.kind k.text r) k.dialect (f k.text k.took))
 
 -- as many bytes were given as a count holds
 pub reads_full : (old a : SourceState) (kind : Kind) (max given limit : ℕ) (p : Progress)
@@ -130,7 +135,7 @@ reads_full old a kind max given limit p r k m e l f =
     let c = k.count in
     let w = k.within in
     ended old a kind max k.text r k.gave (omega arith) m (λ h. absurd (let n : ⊥ = omega arith in n))
-      (finished kind max given old a p r k f)
+    (finished kind max given old a p r k f)
 
 -- the reader came to its end: it gave nothing into a block that isn't empty
 pub reads_ended : (old a b : SourceState) (kind : Kind) (max given n : ℕ) (block : List ℕ)
@@ -145,7 +150,7 @@ reads_ended old a b kind max given n block p r k m z g e f =
     let joined = gave_more old a b k.text [] k.gave (subst (GivesOnce a b) nothing g) in
     let gave = subst (Gave old b) (append-nil k.text) joined in
     ended old b kind max k.text r gave (omega arith) m (λ h. e)
-      (finished kind max given old a p r k f)
+    (finished kind max given old a p r k f)
   where
     take_none : (xs : List ℕ) → take 0 xs ≡ []
     take_none [] = refl

@@ -47,34 +47,90 @@ module _ {S X V : Type 0} (k : Series S X V) (law : SeriesLaws S X V k) where
 
   behind_to : (given : V) (u : List ℕ) (v : V) → k.Settled given → Behind given u v
       → MorePieces k given u v
-  behind_to given u v g (before, rest, e, f,
-      inl (t, e1, (behind, r2, e2, f2, (x, front, back, e3, s, (xs, body, tail, e4, c, w, i))))) =
-    let joined : before
-        ++ 44 ∷ (behind ++ (front ++ (body ++ tail))) ≡ (before ++ 44 ∷ (behind ++ (front ++ body)))
-        ++ tail = simp append_assoc in
-    (x ∷ xs, before ++ 44 ∷ (behind ++ (front ++ body)), tail,
+  behind_to given u v g (
+    before,
+    rest,
+    e,
+    f,
+    inl (t, e1, (behind, r2, e2, f2, (x, front, back, e3, s, (xs, body, tail, e4, c, w, i)))),
+  ) =
+      let joined : before
+      ++ 44 ∷ (behind ++ (front ++ (body ++ tail))) ≡ (before ++ 44 ∷ (behind ++ (front ++ body)))
+      ++ tail = simp append_assoc in (
+        x ∷ xs,
+        before ++ 44 ∷ (behind ++ (front ++ body)),
+        tail,
         (let e' : u ≡ before ++ 44 ∷ (behind ++ (front ++ (body ++ tail))) = cc in
-        e')
-        ∙ joined,
-      (before, behind, front, body, refl, f, f2, s, c), w, i ∙ law.all_add given x xs)
-  behind_to given u v g (before, rest, e, f, inr (e1, i)) =
-    ([], [], before, e ∙ ap (λ y. before ++ y) e1 ∙ append-nil before, refl, f, i
-        ∙ sym (law.all_none given g))
+            e')
+            ∙ joined,
+        (before, behind, front, body, refl, f, f2, s, c),
+        w,
+        i ∙ law.all_add given x xs,
+      )
+  behind_to given u v g (before, rest, e, f, inr (e1, i)) = (
+    [],
+    [],
+    before,
+    e ∙ ap (λ y. before ++ y) e1 ∙ append-nil before,
+    refl,
+    f,
+    i
+        ∙ sym (law.all_none given g),
+  )
 
   behind_from : (given : V) (u : List ℕ) (v : V) → k.Settled given → MorePieces k given u v
       → Behind given u v
-  behind_from given u v g ([], body, tail, e, c, w, i) =
-    (tail, [], e ∙ ap (λ y. y ++ tail) c
-        ∙ sym (append-nil tail), w, inr (refl, i ∙ law.all_none given g))
-  behind_from given u v g (x ∷ xs, body, tail, e, (before, behind, front, back, e1, f, f2, s, c), w,
-      i) =
-    let joined : (before ++ 44 ∷ (behind ++ (front ++ back))) ++ tail ≡ before
-        ++ 44 ∷ (behind ++ (front ++ (back ++ tail))) = simp append_assoc in
-    (before, 44 ∷ (behind ++ (front ++ (back ++ tail))), e ∙ ap (λ y. y ++ tail) e1 ∙ joined, f,
-      inl (behind ++ (front ++ (back ++ tail)), refl,
-          (behind, front ++ (back ++ tail), refl, f2,
-              (x, front, back ++ tail, refl, s, (xs, back, tail, refl, c, w, i
-          ∙ sym (law.all_add given x xs))))))
+  behind_from given u v g ([], body, tail, e, c, w, i) = (
+    tail,
+    [],
+    e ∙ ap (λ y. y ++ tail) c
+        ∙ sym (append-nil tail),
+    w,
+    inr (refl, i ∙ law.all_none given g),
+  )
+  behind_from given u v g (
+    x ∷ xs,
+    body,
+    tail,
+    e,
+    (before, behind, front, back, e1, f, f2, s, c),
+    w,
+    i,
+  ) =
+      let joined : (before ++ 44 ∷ (behind ++ (front ++ back))) ++ tail ≡ before
+      ++ 44 ∷ (behind ++ (front ++ (back ++ tail))) = simp append_assoc in (
+        before,
+        44 ∷ (behind ++ (front ++ (back ++ tail))),
+        e ∙ ap (λ y. y ++ tail) e1 ∙ joined,
+        f,
+        inl (
+          behind ++ (front ++ (back ++ tail)),
+          refl,
+          (
+            behind,
+            front ++ (back ++ tail),
+            refl,
+            f2,
+            (
+              x,
+              front,
+              back ++ tail,
+              refl,
+              s,
+              (
+                xs,
+                back,
+                tail,
+                refl,
+                c,
+                w,
+                i
+                    ∙ sym (law.all_add given x xs),
+              ),
+            ),
+          ),
+        ),
+      )
 
   behind_both : (given : V) → k.Settled given → (u : List ℕ) (v : V)
       → Behind given u v ↔ MorePieces k given u v
@@ -88,7 +144,7 @@ module _ {S X V : Type 0} (k : Series S X V) (law : SeriesLaws S X V k) where
   gap_reads given g = reads_iff (behind_both given g)
       (reads_past is_ows (Gap given) g (behind_both given g)
       (λ b t e n. not_comma b e (allow_cases (b == 44) (Comma given) t n).0)
-          (reads_maybe 44 (Comma given) given g))
+      (reads_maybe 44 (Comma given) given g))
 
   gap_after : (given : V) (b : ℕ) (t : SeriesState S V) → gap_step k given b ≡ Some t
       → is_after b ≡ true
@@ -111,10 +167,12 @@ module _ {S X V : Type 0} (k : Series S X V) (law : SeriesLaws S X V k) where
   series_reads Begin g = reads_past is_sp Begin tt (λ u v. same)
       (λ b t e n. no_space k.none b t (sp_ows b e) n)
       (reads_as (λ b. otherwise_none (seen (InPiece k.none) (k.start b)))
-          (reads_either (add_reads k.none law.settled_none) (reads_nothing k.none) (λ b s t e n. cc)
-              (λ v w e n. cc)))
-  series_reads (InPiece given s) g = reads_then (InPiece given) (λ s h. (g.0,
-      h)) (λ s t v. same) (law.reads s g.1)
+      (reads_either (add_reads k.none law.settled_none) (reads_nothing k.none) (λ b s t e n. cc)
+      (λ v w e n. cc)))
+  series_reads (InPiece given s) g = reads_then (InPiece given) (λ s h. (
+    g.0,
+    h,
+  )) (λ s t v. same) (law.reads s g.1)
       (λ x e. gap_reads (k.add given x) (law.settled_add given x g.0))
       (λ x b s' t e n m. law.apart s x b s' e n (gap_after (k.add given x) b t m))
   series_reads (Gap given) g = gap_reads given g
@@ -125,46 +183,121 @@ module _ {S X V : Type 0} (k : Series S X V) (law : SeriesLaws S X V k) where
   no_more given g = ([], [], [], refl, refl, tt, sym (law.all_none given g))
 
   pub series_lives : (s : SeriesState S V) → GoodSeries k.Good k.Settled s → Live V (RestSeries k s)
-  series_lives Begin g = record { text = []; value = k.none; whole = ([], [], refl, tt,
-      inr (refl, refl)) }
+  series_lives Begin g = record {
+    text = [];
+    value = k.none;
+    whole = (
+      [],
+      [],
+      refl,
+      tt,
+      inr (refl, refl),
+    );
+  }
   series_lives (InPiece given s) g =
-    let l = law.lives s g.1 in
-    record { text = l.text; value = k.add given l.value; whole = (l.value, l.text, [],
-        sym (append-nil l.text), l.whole,
-        no_more (k.add given l.value) (law.settled_add given l.value g.0)) }
+      let l = law.lives s g.1 in
+      record {
+        text = l.text;
+        value = k.add given l.value;
+        whole = (
+          l.value,
+          l.text,
+          [],
+          sym (append-nil l.text),
+          l.whole,
+          no_more (k.add given l.value) (law.settled_add given l.value g.0),
+        );
+      }
   series_lives (Gap given) g = record { text = []; value = given; whole = no_more given g }
   series_lives (Comma given) g =
-    let l = law.one in
-    record { text = l.text; value = k.add given l.value; whole = ([], l.text, refl, tt,
-        (l.value, l.text, [], sym (append-nil l.text), l.whole,
-            no_more (k.add given l.value) (law.settled_add given l.value g))) }
+      let l = law.one in
+      record {
+        text = l.text;
+        value = k.add given l.value;
+        whole = (
+          [],
+          l.text,
+          refl,
+          tt,
+          (
+            l.value,
+            l.text,
+            [],
+            sym (append-nil l.text),
+            l.whole,
+            no_more (k.add given l.value) (law.settled_add given l.value g),
+          ),
+        );
+      }
 
   -- the whole text
   whole_to : (u : List ℕ) (v : V) → RestSeries k Begin u v
       → (xs : List X) × (v ≡ k.all k.none xs) × SpellsWhole k.Spells u xs
   whole_to u v (gap, rest, e, f, inl (x, front, back, e1, s, (xs, body, tail, e2, c, w, i))) =
-    let joined : gap ++ (front ++ (body ++ tail)) ≡ gap
-        ++ ((front ++ body) ++ tail) = simp append_assoc in
-    (x ∷ xs, i
-        ∙ law.all_add k.none x xs,
-            (gap, front ++ body, tail, (let e' : u ≡ gap ++ (front ++ (body ++ tail)) = cc in
-            e')
-            ∙ joined, f, (front, body, refl, s, c), w))
-  whole_to u v (gap, rest, e, f, inr (e1, i)) =
-    ([], i
-        ∙ sym (law.all_none k.none law.settled_none), subst (Every is_sp) (sym (e
-            ∙ ap (λ y. gap ++ y) e1 ∙ append-nil gap)) f)
+      let joined : gap ++ (front ++ (body ++ tail)) ≡ gap
+      ++ ((front ++ body) ++ tail) = simp append_assoc in (
+        x ∷ xs,
+        i
+            ∙ law.all_add k.none x xs,
+        (
+          gap,
+          front ++ body,
+          tail,
+          (let e' : u ≡ gap ++ (front ++ (body ++ tail)) = cc in
+              e')
+              ∙ joined,
+          f,
+          (front, body, refl, s, c),
+          w,
+        ),
+      )
+  whole_to u v (gap, rest, e, f, inr (e1, i)) = (
+    [],
+    i
+        ∙ sym (law.all_none k.none law.settled_none),
+    subst (Every is_sp) (sym (e
+        ∙ ap (λ y. gap ++ y) e1 ∙ append-nil gap)) f,
+  )
 
   whole_from : (u : List ℕ) (v : V) (xs : List X) → v ≡ k.all k.none xs → SpellsWhole k.Spells u xs
       → RestSeries k Begin u v
-  whole_from u v [] i f = (u, [], sym (append-nil u), f, inr (refl, i
-      ∙ law.all_none k.none law.settled_none))
+  whole_from u v [] i f = (
+    u,
+    [],
+    sym (append-nil u),
+    f,
+    inr (
+      refl,
+      i
+          ∙ law.all_none k.none law.settled_none,
+    ),
+  )
   whole_from u v (x ∷ xs) i (gap, body, tail, e, f, (front, back, e1, s, c), w) =
-    let joined : gap ++ ((front ++ back) ++ tail) ≡ gap
-        ++ (front ++ (back ++ tail)) = simp append_assoc in
-    (gap, front ++ (back ++ tail), e ∙ ap (λ y. gap ++ (y ++ tail)) e1
-        ∙ joined, f, inl (x, front, back ++ tail, refl, s, (xs, back, tail, refl, c, w, i
-            ∙ sym (law.all_add k.none x xs))))
+      let joined : gap ++ ((front ++ back) ++ tail) ≡ gap
+      ++ (front ++ (back ++ tail)) = simp append_assoc in (
+        gap,
+        front ++ (back ++ tail),
+        e ∙ ap (λ y. gap ++ (y ++ tail)) e1
+            ∙ joined,
+        f,
+        inl (
+          x,
+          front,
+          back ++ tail,
+          refl,
+          s,
+          (
+            xs,
+            back,
+            tail,
+            refl,
+            c,
+            w,
+            i
+                ∙ sym (law.all_add k.none x xs),
+          ),
+        ),
+      )
 
   -- the texts of a series at its start
   pub series_texts : (u : List ℕ) (v : V)

@@ -140,9 +140,10 @@ blob_is (Group bytes h) b = go (sextet b)
   where
     ended : (l : Bool)
         → is_some (if l then pad_step (bytes
-            ++ last_bytes h) (lacking h) b else None) ≡ (l && pad_takes (lacking h) b)
+        ++ last_bytes h) (lacking h) b else None) ≡ (l && pad_takes (lacking h) b)
     ended true = pad_is (bytes ++ last_bytes h) (lacking h) b
     ended false = refl
+
     go : (o : Option ℕ)
         → is_some (grow_step bytes h o b) ≡ (is_some o || (is_last h && pad_takes (lacking h) b))
     go (Some w) = refl
@@ -162,13 +163,14 @@ shown_is (Plain bytes x) b = go (b == 34) (b == 37) (is_visible b)
     quoted : (x : Utf8) → is_some (quote_step bytes x) ≡ is_whole x
     quoted Start = refl
     quoted (Wants n low high) = refl
+
     go : (p q r : Bool)
         → is_some
-            (if p then quote_step bytes x else
-                (if q then Some (Percent bytes x) else (if r then seen (Plain (bytes
-            ++ b ∷ [])) (utf8_step x b) else None)))
-                ≡ (if p then is_whole x else
-                    (if q then true else (if r then utf8_takes x b else false)))
+        (if p then quote_step bytes x else
+        (if q then Some (Percent bytes x) else (if r then seen (Plain (bytes
+        ++ b ∷ [])) (utf8_step x b) else None)))
+        ≡ (if p then is_whole x else
+        (if q then true else (if r then utf8_takes x b else false)))
     go true q r = quoted x
     go false true r = refl
     go false false true = some_seen (Plain (bytes ++ b ∷ [])) (utf8_step x b)
@@ -183,8 +185,8 @@ shown_is (Hex bytes x h) b = go (unhex b)
   where
     go : (o : Option ℕ)
         → is_some (and_then o (λ l. seen (Plain (bytes
-            ++ (h * 16 + l) ∷ [])) (utf8_step x (h * 16 + l))))
-                ≡ passes (λ l. utf8_takes x (h * 16 + l)) o
+        ++ (h * 16 + l) ∷ [])) (utf8_step x (h * 16 + l))))
+        ≡ passes (λ l. utf8_takes x (h * 16 + l)) o
     go (Some l) = some_seen (Plain (bytes ++ (h * 16 + l) ∷ [])) (utf8_step x (h * 16 + l))
     go None = refl
 shown_is (Done bytes) b = refl
@@ -225,12 +227,18 @@ params_is : (d : Dialect) (s : ParamsState) (b : ℕ)
 params_is d (Between ps) b = simp (some_or, some_allow, some_seen)
 params_is d (Opened ps) b = simp (some_or, some_allow, some_seen)
 params_is d (InParamKey ps k) b = some_onward (InParamKey ps) (word_step is_key_rest k b) (Some k)
-    (λ k. key_step ps k b) (is_key_rest b) true (b == 61 || b == 59) (simp (some_or,
-    some_allow, some_seen)) refl (λ k. key_is ps k b)
+    (λ k. key_step ps k b) (is_key_rest b) true (b == 61 || b == 59) (simp (
+      some_or,
+      some_allow,
+      some_seen,
+    )) refl (λ k. key_is ps k b)
 params_is d (EqualsParam ps k) b = some_seen (InValue ps k) (bare_start d b) ∙ bare_start_is d b
 params_is d (InValue ps k s) b = some_onward (InValue ps k) (bare_step s b) (bare_finish s)
-    (λ x. between_step (put ps k x) b) _ _ (b == 59) (bare_is s b) (bare_end s) (λ x. simp (some_or,
-    some_allow, some_seen))
+    (λ x. between_step (put ps k x) b) _ _ (b == 59) (bare_is s b) (bare_end s) (λ x. simp (
+      some_or,
+      some_allow,
+      some_seen,
+    ))
 
 params_end : (s : ParamsState) → is_some (params_finish s) ≡ params_ends s
 params_end (Between ps) = refl
@@ -257,13 +265,16 @@ inner_is d (Room is) b = some_otherwise (allow (is_sp b) (Room is))
     (otherwise (allow (b == 41) (Closing is (Between []))) (seen (InItem is) (item_start d b)))
     (is_sp b) (b == 41 || bare_begins d b) (some_allow (is_sp b) (Room is))
     (some_otherwise (allow (b == 41) (Closing is (Between []))) (seen (InItem is) (item_start d b))
-        (b == 41) (bare_begins d b) (some_allow (b == 41) (Closing is (Between [])))
-        (some_seen (InItem is) (item_start d b)
+    (b == 41) (bare_begins d b) (some_allow (b == 41) (Closing is (Between [])))
+    (some_seen (InItem is) (item_start d b)
     ∙ item_start_is d b))
 inner_is d (InItem is s) b = some_onward (InItem is) (item_step d s b) (item_finish s)
     (λ i. behind_step (is
-    ++ i ∷ []) b) _ _ (b == 32 || b == 41) (item_is d s b) (item_end s) (λ i. simp (some_or,
-    some_allow, some_seen))
+    ++ i ∷ []) b) _ _ (b == 32 || b == 41) (item_is d s b) (item_end s) (λ i. simp (
+      some_or,
+      some_allow,
+      some_seen,
+    ))
 inner_is d (Closing is s) b = some_seen (Closing is) (params_step d s b) ∙ params_is d s b
 
 inner_end : (s : InnerState) → is_some (inner_finish s) ≡ inner_ends s
@@ -288,8 +299,11 @@ member_end (InMany s) = some_seen _ (inner_finish s) ∙ inner_end s
 
 entry_is : (d : Dialect) (s : EntryState) (b : ℕ) → is_some (entry_step d s b) ≡ entry_takes d s b
 entry_is d (InKey k) b = some_onward InKey (word_step is_key_rest k b) (Some k)
-    (λ k. behind_key_step k b) (is_key_rest b) true (b == 61 || b == 59) (simp (some_or,
-    some_allow, some_seen)) refl (λ k. simp (some_or, some_allow, some_seen))
+    (λ k. behind_key_step k b) (is_key_rest b) true (b == 61 || b == 59) (simp (
+      some_or,
+      some_allow,
+      some_seen,
+    )) refl (λ k. simp (some_or, some_allow, some_seen))
 entry_is d (Equals k) b = some_seen (InMember k) (member_start d b) ∙ member_start_is d b
 entry_is d (InMember k s) b = some_seen (InMember k) (member_step d s b) ∙ member_is d s b
 entry_is d (InFlag k s) b = some_seen (InFlag k) (params_step d s b) ∙ params_is d s b
@@ -337,25 +351,28 @@ takes_step d BeforeItem b = some_otherwise (allow (is_sp b) BeforeItem)
     ∙ item_start_is d b)
 takes_step d (InTop s) b = some_onward InTop (item_step d s b) (item_finish s)
     (λ i. allow (is_sp b) (AfterItem i)) _ _ (is_sp b) (item_is d s b) (item_end s)
-    (λ i. simp (some_or,
-    some_allow, some_seen))
+    (λ i. simp (
+      some_or,
+      some_allow,
+      some_seen,
+    ))
 takes_step d (AfterItem i) b = simp (some_or, some_allow, some_seen)
 takes_step d (InList s) b = some_seen InList (series_step (list_series d) s b)
     ∙ series_is (list_series d) (member_begins d) (member_takes d) member_ends (member_start_is d)
-        (member_is d) member_end s b
+    (member_is d) member_end s b
 takes_step d (InDict s) b = some_seen InDict (series_step (dict_series d) s b)
     ∙ series_is (dict_series d) is_key_start (entry_takes d) entry_ends entry_start_is
-        (entry_is d) entry_end s b
+    (entry_is d) entry_end s b
 
 list_end : (d : Dialect) (s : SeriesState MemberState (List Member))
     → is_some (series_finish (list_series d).finish (list_series d).none (list_series d).add s)
-        ≡ series_ends member_ends s
+    ≡ series_ends member_ends s
 list_end d s = series_end (list_series d) (member_begins d) (member_takes d) member_ends
     (member_start_is d) (member_is d) member_end s
 
 dict_end : (d : Dialect) (s : SeriesState EntryState (Pairs Member))
     → is_some (series_finish (dict_series d).finish (dict_series d).none (dict_series d).add s)
-        ≡ series_ends entry_ends s
+    ≡ series_ends entry_ends s
 dict_end d s = series_end (dict_series d) is_key_start (entry_takes d) entry_ends entry_start_is
     (entry_is d) entry_end s
 
@@ -375,15 +392,17 @@ some_is None c e = (λ k. absurd (cc (k.1)), λ k. absurd cc)
 
 pub takes_next : TakesNext
 takes_next d kind s p b k =
-  let a = took_next d kind s p b k in
-  let c = some_is (step d s b) (takes d s b) (takes_step d s b) in
-  (λ h. c.0 (a.0 h), λ h. a.1 (c.1 h))
+    let a = took_next d kind s p b k in
+    let c = some_is (step d s b) (takes d s b) (takes_step d s b) in
+    (λ h. c.0 (a.0 h), λ h. a.1 (c.1 h))
 
 pub ends_text : EndsText
 ends_text d kind s p k =
-  let c = some_is (finish s) (may_end s) (ends d s) in
-  (λ (v, h). c.0 (v, (took_end d kind s p v k).0 h), λ h. let f = c.1 h in
-      (f.0, (took_end d kind s p f.0 k).1 f.1))
+    let c = some_is (finish s) (may_end s) (ends d s) in (
+      λ (v, h). c.0 (v, (took_end d kind s p v k).0 h),
+      λ h. let f = c.1 h in
+          (f.0, (took_end d kind s p f.0 k).1 f.1),
+    )
 
 pub may_end_is : MayEnd
 may_end_is s = ends Rfc9651 s

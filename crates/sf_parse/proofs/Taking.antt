@@ -19,21 +19,30 @@ took_nothing d kind = record { good = begin_good kind; rest = begins d kind }
 
 pub takes_more : TakesMore
 takes_more d kind s t p x k e = record {
-    good = Machines.run_good (machine d) s t x k.good e;
-    rest = λ u v.
+  good = Machines.run_good (machine d) s t x k.good e;
+  rest = λ u v.
       let a = Machines.took (machine d) s t x k.good e u v in
       let b = k.rest (x ++ u) v in
-      let c = append_assoc p x u in
-      (λ h. subst (λ y. SpellsField d kind y v) (sym c) (b.0 (a.0 h)),
-          λ h. a.1 (b.1 (subst (λ y. SpellsField d kind y v) c h))) }
+      let c = append_assoc p x u in (
+        λ h. subst (λ y. SpellsField d kind y v) (sym c) (b.0 (a.0 h)),
+        λ h. a.1 (b.1 (subst (λ y. SpellsField d kind y v) c h)),
+      );
+}
 
 took_front : (d : Dialect) (kind : Kind) (s : State) (p x : List ℕ) → Took d kind s p
     → Continues (SpellsField d kind) (p ++ x) ↔ Continues (Rest d s) x
 took_front d kind s p x k = (
-    λ (u, v, h). (u, v,
-        (k.rest (x ++ u) v).1 (subst (λ y. SpellsField d kind y v) (append_assoc p x u) h)),
-    λ (u, v, h). (u, v,
-        subst (λ y. SpellsField d kind y v) (sym (append_assoc p x u)) ((k.rest (x ++ u) v).0 h)))
+  λ (u, v, h). (
+    u,
+    v,
+    (k.rest (x ++ u) v).1 (subst (λ y. SpellsField d kind y v) (append_assoc p x u) h),
+  ),
+  λ (u, v, h). (
+    u,
+    v,
+    subst (λ y. SpellsField d kind y v) (sym (append_assoc p x u)) ((k.rest (x ++ u) v).0 h),
+  ),
+)
 
 pub took_viable : TookViable
 took_viable d kind s p k = let l = (machine d).lives s k.good in
@@ -41,37 +50,41 @@ took_viable d kind s p k = let l = (machine d).lives s k.good in
 
 pub took_next : TookNext
 took_next d kind s p b k =
-  let a = Machines.next (machine d) s s [] b k.good refl in
-  let f = took_front d kind s p (b ∷ []) k in
-  (λ h. a.0 (f.0 h), λ h. f.1 (a.1 h))
+    let a = Machines.next (machine d) s s [] b k.good refl in
+    let f = took_front d kind s p (b ∷ []) k in
+    (λ h. a.0 (f.0 h), λ h. f.1 (a.1 h))
 
 pub took_end : TookEnd
 took_end d kind s p v k =
-  let r = (machine d).reads s k.good in
-  (λ h. r.ends v ((k.rest [] v).1 (subst (λ y. SpellsField d kind y v) (sym (append-nil p)) h)),
-   λ e. subst (λ y. SpellsField d kind y v) (append-nil p) ((k.rest [] v).0 (r.ended v e)))
+    let r = (machine d).reads s k.good in (
+      λ h. r.ends v ((k.rest [] v).1 (subst (λ y. SpellsField d kind y v) (sym (append-nil p)) h)),
+      λ e. subst (λ y. SpellsField d kind y v) (append-nil p) ((k.rest [] v).0 (r.ended v e)),
+    )
 
 pub took_stops : TookStops
 took_stops d kind s p q b k n = record {
-    within = omega (arith, length-append p (b ∷ q));
-    viable = subst (Continues (SpellsField d kind)) (sym (take-append_seam p (b ∷ q)))
-        (took_viable d kind s p k);
-    longest = λ m within h. ⊎_elim (λ l. l) (λ l. absurd (beyond m l h))
-        (Machines.cases_le m (length p)) }
+  within = omega (arith, length-append p (b ∷ q));
+  viable = subst (Continues (SpellsField d kind)) (sym (take-append_seam p (b ∷ q)))
+      (took_viable d kind s p k);
+  longest = λ m within h. ⊎_elim (λ l. l) (λ l. absurd (beyond m l h))
+      (Machines.cases_le m (length p));
+}
   where
     clash : (o : Option State) (t : State) → o ≡ None → o ≡ Some t → ⊥
     clash o t e f = cc
+
     beyond : (m : ℕ) → length p < m → Continues (SpellsField d kind) (take m (p ++ b ∷ q)) → ⊥
     beyond m l h =
-      let cut = Machines.take_past p q b m l in
-      let f = Machines.viable_front (machine d) (SpellsField d kind) (p
-          ++ b ∷ []) (take (m - suc (length p)) q) (subst (Continues (SpellsField d kind)) cut h) in
-      let r = (took_next d kind s p b k).0 f in
-      clash (step d s b) r.0 n r.1
+        let cut = Machines.take_past p q b m l in
+        let f = Machines.viable_front (machine d) (SpellsField d kind) (p
+        ++ b ∷ []) (take (m - suc (length p)) q) (subst (Continues (SpellsField d kind)) cut h) in
+        let r = (took_next d kind s p b k).0 f in
+        clash (step d s b) r.0 n r.1
 
 pub took_all : TookAll
 took_all d kind s p k = record {
-    within = omega arith;
-    viable = subst (Continues (SpellsField d kind)) (sym (take_all (length p) p (omega arith)))
-        (took_viable d kind s p k);
-    longest = λ m within h. within }
+  within = omega arith;
+  viable = subst (Continues (SpellsField d kind)) (sym (take_all (length p) p (omega arith)))
+      (took_viable d kind s p k);
+  longest = λ m within h. within;
+}

@@ -91,4 +91,4 @@ LinesOne =
     (d : Dialect) (kind : Kind) (lines : List (List ℕ)) (v : Field)
     → SpellsField d kind (join lines) v
     → ((w : Field) → SpellsField d kind (join lines) w → w ≡ v)
-        × SpellsField d kind (join (canon v ∷ [])) v
+    × SpellsField d kind (join (canon v ∷ [])) v

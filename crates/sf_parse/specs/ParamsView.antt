@@ -1,5 +1,4 @@
 -- What is read of parameters, as a state of the machine.
-use Rattle.std.specs.Prelude.{ℕ, List}
 use Rattle.sf_value.specs.declared.value.Bare.{Bare}
 use Rattle.sf_value.specs.Grammar.Pairs.{Pairs}
 use Rattle.sf_parse.specs.Machine.Params.{ParamsState, Between, Opened, InParamKey, EqualsParam}

@@ -82,11 +82,11 @@ abbrev pub FedAnswer : Progress → Progress → Result (Unit {0}) Refusal → L
 FedAnswer old new (Ok u) x =
     (new.refusal ≡ old.refusal)
     × ((s : List ℕ) → Took old s
-        → (length (s ++ x) ≤ old.max) × Viable old.dialect old.kind (s ++ x) × Took new (s ++ x))
+    → (length (s ++ x) ≤ old.max) × Viable old.dialect old.kind (s ++ x) × Took new (s ++ x))
 FedAnswer old new (Err e) x =
     (new.refusal ≡ Some e)
     × ((s : List ℕ) → Took old s → (more : List ℕ)
-        → RefusedFor old.dialect old.kind old.max ((s ++ x) ++ more) e)
+    → RefusedFor old.dialect old.kind old.max ((s ++ x) ++ more) e)
 
 -- the bytes x were fed; a refusal stands whatever comes behind them
 pub record Fed (old new : Progress) (result : Result (Unit {0}) Refusal) (x : List ℕ) : Type 0 where

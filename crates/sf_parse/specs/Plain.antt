@@ -1,5 +1,5 @@
 -- The states of spaces and numbers, which take no memory.
-use Rattle.std.specs.Prelude.{◌≡◌, ℕ, Bool, ◌==◌, ◌||◌, ⊤}
+use Rattle.std.specs.Prelude.{ℕ, Bool, ◌==◌, ◌||◌, ⊤}
 use Rattle.sf_value.specs.Grammar.Classes.{is_sp, is_digit}
 use Rattle.sf_parse.specs.declared.bare.BareState.{BareState}
 use Rattle.sf_parse.specs.declared.bare.BareState.TheVariants.{InNumber, InText, InToken, InBoolean}

@@ -51,11 +51,7 @@ impl Model for DictReader {
 }
 
 // A later member of a key takes the place of the earlier one.
-fn put_member(
-    members: &mut Entries<Member>,
-    key: Key,
-    member: Member,
-) -> Result<(), OutOfMemory>
+fn put_member(members: &mut Entries<Member>, key: Key, member: Member) -> Result<(), OutOfMemory>
     ensures { IfOk result (λ _. members.new ≡ put members.old key member) }
 {
     match members.put(key, member) {

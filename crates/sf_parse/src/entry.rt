@@ -139,10 +139,7 @@ impl EntryReader {
     {
         let EntryReader { key, phase } = self;
         match phase {
-            EntryPhase::InKey => Ok(Some((
-                key,
-                flag(Entries::new(context.alloc, &context.seed)),
-            ))),
+            EntryPhase::InKey => Ok(Some((key, flag(Entries::new(context.alloc, &context.seed))))),
             EntryPhase::Equals => Ok(None),
             EntryPhase::InMember(state) => match state.finish(context)? {
                 Some(member) => Ok(Some((key, member))),

@@ -11,8 +11,7 @@ pub fn one_value()
     ensures one { OneValue }
     ensures canon { CanonOne }
     ensures lines { LinesOne }
-{
-}
+{}
 
 /// The machine reads the grammar: its value is the one that the text spells; what completes a state
 /// completes the bytes that led to it; the outcome hangs on the joined pieces alone.
@@ -20,8 +19,7 @@ pub fn machine_reads()
     ensures read { IsRead }
     ensures rest { IsRest }
     ensures pieces { AnyPieces }
-{
-}
+{}
 
 /// A front of a text is viable exactly if the machine is not stuck on it; the bytes that may come
 /// next are those that the step takes; where it takes no further one, there the refusal stands.
@@ -30,15 +28,13 @@ pub fn refusals_are_exact()
     ensures next { IsNext }
     ensures end { IsEnd }
     ensures place { StopsAt }
-{
-}
+{}
 
 /// A text that spells a value in RFC 9651 and none in RFC 8941 has `@` or `%` at its place in
 /// RFC 8941.
 pub fn only_new_types_differ()
     ensures { OnlyNew }
-{
-}
+{}
 
 /// What a state says of the bytes that a parser took, however it came about.
 pub fn what_was_taken()
@@ -49,8 +45,7 @@ pub fn what_was_taken()
     ensures end { TookEnd }
     ensures stops { TookStops }
     ensures all { TookAll }
-{
-}
+{}
 
 /// The tests on a state tell which bytes may come next and whether the text may end; those bytes
 /// are below 128, and there is always one.
@@ -61,5 +56,4 @@ pub fn what_may_follow()
     ensures end { EndsText }
     ensures below { NextBelow }
     ensures some { SomeNext }
-{
-}
+{}

@@ -36,7 +36,11 @@ pub fn with_sign(negative: bool, value: u64) -> i64
     ensures value { result ≡ signed negative value }
     ensures short { nat_abs result < 10 ^ 15 }
 {
-    if negative { -(value as i64) } else { value as i64 }
+    if negative {
+        -(value as i64)
+    } else {
+        value as i64
+    }
 }
 
 impl NumberReader {

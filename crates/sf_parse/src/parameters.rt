@@ -56,7 +56,10 @@ fn put_param(params: &mut Entries<Bare>, key: Key, value: Bare) -> Result<(), Ou
 // Written out, so that it is one call wherever a reader is dropped.
 impl Drop for ParamsReader {
     fn drop(self) {
-        let ParamsReader { params: _, phase: _ } = self;
+        let ParamsReader {
+            params: _,
+            phase: _,
+        } = self;
     }
 }
 
@@ -110,8 +113,10 @@ impl ParamsReader {
                 if byte != b'=' && byte != b';' {
                     return Ok(false);
                 }
-                if let ParamsPhase::InKey(key) = mem::replace(&mut self.phase, ParamsPhase::Opened)
-                {
+                if let ParamsPhase::InKey(key) = mem::replace(
+                    &mut self.phase,
+                    ParamsPhase::Opened,
+                ) {
                     if byte == b'=' {
                         self.phase = ParamsPhase::Equals(key);
                     } else {
@@ -123,8 +128,10 @@ impl ParamsReader {
                 let Some(state) = BareState::start(context, byte)? else {
                     return Ok(false);
                 };
-                if let ParamsPhase::Equals(key) = mem::replace(&mut self.phase, ParamsPhase::Opened)
-                {
+                if let ParamsPhase::Equals(key) = mem::replace(
+                    &mut self.phase,
+                    ParamsPhase::Opened,
+                ) {
                     self.phase = ParamsPhase::InValue(key, state);
                 }
             }
@@ -135,9 +142,10 @@ impl ParamsReader {
                 if byte != b';' || !state.may_end() {
                     return Ok(false);
                 }
-                if let ParamsPhase::InValue(key, state) =
-                    mem::replace(&mut self.phase, ParamsPhase::Opened)
-                {
+                if let ParamsPhase::InValue(key, state) = mem::replace(
+                    &mut self.phase,
+                    ParamsPhase::Opened,
+                ) {
                     if let Some(value) = state.finish() {
                         put_param(&mut self.params, key, value)?;
                     }

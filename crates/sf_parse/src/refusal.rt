@@ -18,7 +18,11 @@ pub enum Refusal {
         may_end: bool,
     },
     /// The text has more bytes than this, and so many of them are a good front.
-    TooLong { max: u64 },
+    TooLong {
+        max: u64,
+    },
     /// A read failed after so many bytes were given.
-    ReadFault { place: u64 },
+    ReadFault {
+        place: u64,
+    },
 }

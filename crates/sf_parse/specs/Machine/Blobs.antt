@@ -9,8 +9,8 @@ use Rattle.sf_value.specs.Grammar.ByteSequences.{letter, Pads, Sextets}
 abbrev pub sextet : ℕ → Option ℕ
 sextet b = if nat_le 65 b && nat_le b 90 then Some (b - 65) else
     (if is_lower b then Some (b - 71) else
-        (if is_digit b then Some (b + 4) else
-            (if b == 43 then Some 62 else (if b == 47 then Some 63 else None))))
+    (if is_digit b then Some (b + 4) else
+    (if b == 43 then Some 62 else (if b == 47 then Some 63 else None))))
 
 -- the values of an open group
 pub data Held : Type 0 where

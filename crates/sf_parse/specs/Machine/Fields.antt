@@ -1,24 +1,20 @@
 -- The machine that reads whole fields.
-use Rattle.std.specs.Prelude.{◌≡◌, ℕ, ◌==◌, List, [], ◌∷◌, ◌++◌, Option, Some, None}
+use Rattle.std.specs.Prelude.{◌≡◌, ℕ, List, [], ◌∷◌, ◌++◌, Option, Some, None}
 use Rattle.sf_value.specs.declared.value.Field.TheVariants as field
 use Rattle.sf_value.specs.declared.value.Kind.TheVariants as kind
 use Rattle.sf_value.specs.Grammar.Words.{allow, otherwise}
-use Rattle.sf_value.specs.Grammar.Classes.{is_sp, is_key_start, is_key_rest}
+use Rattle.sf_value.specs.Grammar.Classes.{is_sp}
 use Rattle.sf_value.specs.Grammar.Pairs.{Pairs, settle, put}
 use Rattle.sf_value.specs.Grammar.Items.{SpellsItem}
 use Rattle.sf_value.specs.Grammar.InnerLists.{SpellsMember}
-use Rattle.sf_value.specs.Grammar.Fields.{list_of, dict_of, flag, SpellsEntry}
+use Rattle.sf_value.specs.Grammar.Fields.{list_of, dict_of, SpellsEntry}
 use Rattle.sf_value.specs.declared.dialect.Dialect.{Dialect}
-use Rattle.sf_value.specs.declared.value.Bare.{Bare}
 use Rattle.sf_value.specs.declared.value.Item.{Item}
 use Rattle.sf_value.specs.declared.value.Member.{Member}
 use Rattle.sf_value.specs.declared.value.Field.{Field}
 use Rattle.sf_value.specs.declared.value.Kind.{Kind}
-use Rattle.sf_parse.specs.Machine.Language.{Then, Seen, Either, After, Past, Nothing, onward, seen}
+use Rattle.sf_parse.specs.Machine.Language.{Then, Seen, Past, Nothing, onward, seen}
 use Rattle.sf_parse.specs.Machine.Language.{and_then}
-use Rattle.sf_parse.specs.Machine.Texts.{RestWord, word_start, word_step}
-use Rattle.sf_parse.specs.Machine.Params.{MoreParams, RestParams, GoodParams, between_step}
-use Rattle.sf_parse.specs.Machine.Params.{params_step, params_finish}
 use Rattle.sf_parse.specs.Machine.Items.{RestItem, GoodItem, item_start, item_step, item_finish}
 use Rattle.sf_parse.specs.declared.member.MemberState.{MemberState}
 use Rattle.sf_parse.specs.Machine.Series.{Begin, Series, RestSeries, GoodSeries, series_step}
@@ -32,29 +28,31 @@ use Rattle.sf_parse.specs.Machine.Entries.{entry_finish}
 
 abbrev pub list_series : Dialect → Series MemberState Member (List Member)
 list_series d = record {
-    Spells = SpellsMember d;
-    Rest = RestMember d;
-    Good = GoodMember;
-    Settled = λ ms. Unit {0};
-    start = member_start d;
-    step = member_step d;
-    finish = member_finish;
-    none = [];
-    add = λ ms m. ms ++ m ∷ [];
-    all = λ ms more. ms ++ more }
+  Spells = SpellsMember d;
+  Rest = RestMember d;
+  Good = GoodMember;
+  Settled = λ ms. Unit {0};
+  start = member_start d;
+  step = member_step d;
+  finish = member_finish;
+  none = [];
+  add = λ ms m. ms ++ m ∷ [];
+  all = λ ms more. ms ++ more;
+}
 
 abbrev pub dict_series : Dialect → Series EntryState (List ℕ × Member) (Pairs Member)
 dict_series d = record {
-    Spells = SpellsEntry d;
-    Rest = RestEntry d;
-    Good = GoodEntry;
-    Settled = λ ps. settle ps ≡ ps;
-    start = entry_start;
-    step = entry_step d;
-    finish = entry_finish;
-    none = [];
-    add = λ ps p. put ps p.0 p.1;
-    all = λ ps raw. settle (ps ++ raw) }
+  Spells = SpellsEntry d;
+  Rest = RestEntry d;
+  Good = GoodEntry;
+  Settled = λ ps. settle ps ≡ ps;
+  start = entry_start;
+  step = entry_step d;
+  finish = entry_finish;
+  none = [];
+  add = λ ps p. put ps p.0 p.1;
+  all = λ ps raw. settle (ps ++ raw);
+}
 
 -- spaces behind an item
 abbrev pub Tail : Item → List ℕ → Field → Type 0

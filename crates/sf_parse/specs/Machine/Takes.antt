@@ -112,8 +112,8 @@ shown_ends (Done bytes) = true
 abbrev pub bare_begins : Dialect → ℕ → Bool
 bare_begins d b = (b == 45 || number_takes (Whole false 0 0) b) ||
     (b == 34 ||
-        (is_token_start b ||
-            (b == 63 || ((is_rfc9651 d && b == 64) || (b == 58 || (is_rfc9651 d && b == 37))))))
+    (is_token_start b ||
+    (b == 63 || ((is_rfc9651 d && b == 64) || (b == 58 || (is_rfc9651 d && b == 37))))))
 
 abbrev pub bare_takes : BareState → ℕ → Bool
 bare_takes (InNumber s) b = number_takes s b

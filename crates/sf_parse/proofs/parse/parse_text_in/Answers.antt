@@ -12,16 +12,16 @@ returns-in_err-feed-clause-parses c =
     let e = c.in_err-feed.field-0.0 in
     let room : length text ≤ new.result.max = omega (arith, new.ensures.max) in
     let refused = refused_first new.result c.feed.new.self e text new.ensures.took
-        c.in_err-feed.ensures.fed room in
+    c.in_err-feed.ensures.fed room in
     rw (p.1, p.2)
-      (subst (λ k. Parses c.args.dialect k text (Err e)) new.ensures.kind
-        (subst (λ d. Parses d new.result.kind text (Err e)) new.ensures.dialect refused))
+    (subst (λ k. Parses c.args.dialect k text (Err e)) new.ensures.kind
+    (subst (λ d. Parses d new.result.kind text (Err e)) new.ensures.dialect refused))
 
 pub returns-clause-parses : goal.returns-clause-parses
 returns-clause-parses c =
     let new = c.new_in-parser in
     let text = c.args.text.now in
     let parsed = finished_first new.result c.feed.new.self c.finish.result text new.ensures.took
-        c.in_ok-feed.ensures.fed c.finish.ensures.ended in
+    c.in_ok-feed.ensures.fed c.finish.ensures.ended in
     subst (λ k. Parses c.args.dialect k text c.finish.result) new.ensures.kind
-      (subst (λ d. Parses d new.result.kind text c.finish.result) new.ensures.dialect parsed)
+    (subst (λ d. Parses d new.result.kind text c.finish.result) new.ensures.dialect parsed)
