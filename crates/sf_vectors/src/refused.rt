@@ -100,8 +100,28 @@ fn refusal_in_pieces(
     }
 }
 
+fn refusal_bytewise(
+    alloc: Global,
+    seed: &RandomState,
+    kind: Kind,
+    text: &[u8],
+) -> Result<Refusal, Fail> {
+    let mut parser = Parser::new(alloc, seed, kind, u64::MAX);
+    for byte in text {
+        if let Err(refusal) = parser.feed(&[*byte]) {
+            return Ok(refusal);
+        }
+    }
+    match parser.finish() {
+        Ok(_) => Err(Fail::from("accepted")),
+        Err(refusal) => Ok(refusal),
+    }
+}
+
 fn check_row(rt: &impl Abort, alloc: Global, seed: &RandomState, row: Row) -> Result<(), Fail> {
     let (kind, text, _, _, _) = row;
+    let refusal = refusal_bytewise(alloc, seed, kind, text)?;
+    check_refusal(rt, refusal, row)?;
     match parse_text(alloc, seed, kind, text) {
         Ok(_) => return Err(Fail::from("accepted")),
         Err(refusal) => check_refusal(rt, refusal, row)?,
@@ -126,7 +146,7 @@ fn check_rows(
     Ok(())
 }
 
-static ITEMS: [Row; 33] = [
+static ITEMS: [Row; 34] = [
     (Kind::Item, b"a \t", 2, Some(0x09), "20 end"),
     (Kind::Item, b"", 0, None, ITEM),
     (Kind::Item, b"   ", 3, None, ITEM),
@@ -161,6 +181,7 @@ static ITEMS: [Row; 33] = [
     ),
     (Kind::Item, b":iZ===:", 5, Some(0x3d), "3a"),
     (Kind::Item, b"%\"%C3\"", 3, Some(0x43), "30-37 63-66"),
+    (Kind::Item, b"%\"%C3%BC\"", 3, Some(0x43), "30-37 63-66"),
     (Kind::Item, b"%\"%c3%28\"", 6, Some(0x32), "38-39 61-62"),
     (Kind::Item, b"%\"%ed%a0%80\"", 6, Some(0x61), "38-39"),
     (Kind::Item, b"%\"%c3a\"", 5, Some(0x61), "25"),
