@@ -1,0 +1,69 @@
+-- Canonical texts as lines.
+use Rattle.std.proofs.Common.{◌≡◌, ℕ, ◌*◌, ◌≤◌, List, ◌∷◌, [], length, sym, ap, ◌∙◌, subst}
+use Rattle.sf_value.specs.declared.dialect.Dialect.{Dialect}
+use Rattle.sf_value.specs.declared.dialect.Dialect.TheVariants.{Rfc9651}
+use Rattle.sf_value.specs.declared.value.Field.{Field}
+use Rattle.sf_value.specs.declared.value.Kind.{Kind}
+use Rattle.sf_value.specs.Grammar.Canonical.{canon}
+use Rattle.sf_value.specs.Grammar.Fields.{SpellsField}
+use Rattle.sf_value.specs.Grammar.Lines.{join}
+use Rattle.sf_value.proofs.CanonicalTexts.{canon_spells}
+use Rattle.sf_value.proofs.Validity.{spelled_valid}
+use Rattle.sf_value.proofs.LengthBound.{canon_bound}
+use Rattle.sf_parse.specs.Parsers.{IsOnly}
+use Rattle.sf_parse.proofs.Theorems.{one_value, canon_one}
+use Rattle.sf_field.specs.Normal.{NormalisesTo}
+use Rattle.sf_field.specs.Laws.{CanonSettles, EqualByText, NormalIsOne, TwiceIsOnce}
+
+is_only : (d : Dialect) (kind : Kind) (t : List ℕ) (v : Field) → SpellsField d kind t v
+    → IsOnly d kind t v
+is_only d kind t v h = record { spelled = h; only = λ w k. one_value d kind t w v k h }
+
+canon_only : (d : Dialect) (kind : Kind) (t : List ℕ) (v : Field) → SpellsField d kind t v
+    → IsOnly d kind (canon v) v
+canon_only d kind t v h =
+    is_only d kind (canon v) v (canon_spells d kind v (spelled_valid d kind v t h))
+
+-- the canonical text of the value that the lines spell is their normal text
+pub normal : (kind : Kind) (lines : List (List ℕ)) (v : Field) (c : List ℕ)
+    → IsOnly Rfc9651 kind (join lines) v → c ≡ canon v → NormalisesTo kind lines c
+normal kind lines v c h e = record {
+  value = v;
+  spelled = h;
+  canonical = e;
+  again = subst (λ t. IsOnly Rfc9651 kind t v) (sym e)
+      (canon_only Rfc9651 kind (join lines) v h.spelled);
+  equal = λ w k. (
+    λ i. canon_one Rfc9651 kind w v k (spelled_valid Rfc9651 kind v (join lines) h.spelled)
+        (i ∙ e),
+    λ i. ap canon i ∙ sym e,
+  );
+  short = subst (λ t. 5 * length t ≤ 8 * length (join lines)) (sym e)
+      (canon_bound Rfc9651 kind v (join lines) h.spelled);
+}
+
+pub canon_settles : CanonSettles
+canon_settles d kind lines v h =
+    let only = canon_only d kind (join lines) v h in
+    (only, λ w k. ap canon (only.only w k))
+
+pub twice_is_once : TwiceIsOnce
+twice_is_once kind lines c n = (
+  normal kind (c ∷ []) n.value c n.again n.canonical,
+  λ e m. m.canonical ∙ ap canon (n.again.only m.value m.spelled.spelled) ∙ sym n.canonical,
+)
+
+pub equal_by_text : EqualByText
+equal_by_text d kind these those v w h k = (
+  λ e. canon_one d kind v w (spelled_valid d kind v (join these) h)
+      (spelled_valid d kind w (join those) k) e,
+  λ e. ap canon e,
+)
+
+pub normal_is_one : NormalIsOne
+normal_is_one kind these those c e p q =
+    let texts = equal_by_text Rfc9651 kind these those p.value q.value p.spelled.spelled
+    q.spelled.spelled in (
+      λ i. texts.0 (sym p.canonical ∙ i ∙ q.canonical),
+      λ i. p.canonical ∙ texts.1 i ∙ sym q.canonical,
+    )

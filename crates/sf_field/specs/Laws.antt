@@ -1,0 +1,41 @@
+-- The laws of normal texts. Each stands as the contract of a function in `src/laws.rt`.
+use Rattle.std.specs.Prelude.{◌≡◌, ℕ, ◌↔◌, List, [], ◌∷◌}
+use Rattle.sf_value.specs.declared.dialect.Dialect.{Dialect}
+use Rattle.sf_value.specs.declared.value.Field.{Field}
+use Rattle.sf_value.specs.declared.value.Kind.{Kind}
+use Rattle.sf_value.specs.Grammar.Canonical.{canon}
+use Rattle.sf_value.specs.Grammar.Fields.{SpellsField}
+use Rattle.sf_value.specs.Grammar.Lines.{join}
+use Rattle.sf_parse.specs.Parsers.{IsOnly}
+use Rattle.sf_field.specs.Normal.{NormalisesTo}
+
+-- in each dialect the canonical text of what lines spell spells, as the only line, that value, and
+-- no other; and its own canonical text is itself
+abbrev pub CanonSettles : Type 0
+CanonSettles =
+    (d : Dialect) (kind : Kind) (lines : List (List ℕ)) (v : Field)
+    → SpellsField d kind (join lines) v
+    → IsOnly d kind (join (canon v ∷ [])) v
+    × ((w : Field) → SpellsField d kind (join (canon v ∷ [])) w → canon w ≡ canon v)
+
+-- normalising a text that came of normalising gives it again, and nothing else
+abbrev pub TwiceIsOnce : Type 0
+TwiceIsOnce =
+    (kind : Kind) (lines : List (List ℕ)) (c : List ℕ)
+    → NormalisesTo kind lines c
+    → NormalisesTo kind (c ∷ []) c
+    × ((e : List ℕ) → NormalisesTo kind (c ∷ []) e → e ≡ c)
+
+-- lines that are accepted as one kind have equal values exactly if the canonical texts are equal
+abbrev pub EqualByText : Type 0
+EqualByText =
+    (d : Dialect) (kind : Kind) (these those : List (List ℕ)) (v w : Field)
+    → SpellsField d kind (join these) v → SpellsField d kind (join those) w
+    → (canon v ≡ canon w) ↔ (v ≡ w)
+
+-- normal texts of one kind are equal exactly if the lines they came of spell one value
+abbrev pub NormalIsOne : Type 0
+NormalIsOne =
+    (kind : Kind) (these those : List (List ℕ)) (c e : List ℕ)
+    → (p : NormalisesTo kind these c) (q : NormalisesTo kind those e)
+    → (c ≡ e) ↔ (p.value ≡ q.value)

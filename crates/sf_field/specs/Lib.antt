@@ -1,0 +1,5 @@
+-- What the contracts say of field lines and of header maps.
+pub mod Lines
+pub mod Headers
+pub mod Normal
+pub mod Laws

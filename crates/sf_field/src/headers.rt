@@ -1,0 +1,54 @@
+//! Field lines in a header map.
+ghost use Rattle.sf_value.specs.Grammar.Lines.{join};
+ghost use Rattle.sf_parse.specs.Parsers.{Fed};
+ghost use Rattle.sf_field.specs.Headers.{ParsesHeaders, lines_under};
+
+use http_header::{HeaderMap, HeaderName};
+use sf_parse::{Parser, Refusal};
+use sf_value::{Field, Kind};
+use std::alloc::Global;
+use std::hash::RandomState;
+
+// Feeds the joined text of the values of the name.
+fn feed_values(parser: &mut Parser, headers: &HeaderMap, name: &HeaderName) -> Result<(), Refusal>
+    ensures { Fed parser.old parser.new result (join (lines_under headers.now name.now)) }
+{
+    let mut values = headers.get_all(name).iter();
+    let Some(first) = values.next() else {
+        return parser.feed(b"");
+    };
+    parser.feed(first.as_bytes())?;
+    for value in values {
+        parser.feed(b", ")?;
+        parser.feed(value.as_bytes())?;
+    }
+    Ok(())
+}
+
+/// The value that the values of the name spell together, None where the name is absent. They are
+/// the field lines, as they stand and in the map's order, and are parsed as
+/// [`crate::parse_lines`] does.
+///
+/// ```
+/// let priority = HeaderName::from_static("priority");
+/// let field = from_headers(alloc, &seed, Kind::Dict, &headers, &priority)?;
+/// ```
+pub fn from_headers(
+    alloc: Global,
+    seed: &RandomState,
+    kind: Kind,
+    headers: &HeaderMap,
+    name: &HeaderName,
+) -> Result<Option<Field>, Refusal>
+    ensures { ParsesHeaders kind headers.now name.now result }
+{
+    if !headers.contains_key(name) {
+        return Ok(None);
+    }
+    let mut parser = Parser::new(alloc, seed, kind, u64::MAX);
+    feed_values(&mut parser, headers, name)?;
+    match parser.finish() {
+        Ok(field) => Ok(Some(field)),
+        Err(refusal) => Err(refusal),
+    }
+}

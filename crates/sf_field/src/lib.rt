@@ -1,0 +1,15 @@
+//! Structured fields as HTTP hands them over (RFC 9651 section 4.2): several field lines, or the
+//! values of one name in a header map, are parsed as their text joined by a comma and a space. That
+//! joined text is never held.
+//!
+//! A line is a [`sf_value::Blob`], any bytes. Places in a refusal are counted in the joined text.
+#![tactic(auto)]
+
+mod headers;
+pub mod laws;
+mod lines;
+#[cfg(test)]
+mod tests;
+
+pub use headers::from_headers;
+pub use lines::{normalise_lines, parse_lines, parse_lines_in};

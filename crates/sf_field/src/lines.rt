@@ -1,0 +1,101 @@
+//! Field lines.
+ghost use Rattle.std.specs.Prelude.{◌≡◌, ℕ, List, [], ◌∷◌, MatchResult, Err};
+ghost use Rattle.sf_value.specs.Grammar.Lines.{join};
+ghost use Rattle.sf_value.specs.Grammar.Words.{Every};
+ghost use Rattle.sf_value.specs.declared.dialect.Dialect.TheVariants.{Rfc9651};
+ghost use Rattle.sf_value.specs.declared.value.Kind.TheVariants as kind_is;
+ghost use Rattle.sf_parse.specs.Parsers.{Fed};
+ghost use Rattle.sf_parse.specs.Plain.{plain_byte};
+ghost use Rattle.sf_parse.specs.PlainParsers.{IsPlain, KeptPlain, NotForMemory};
+ghost use Rattle.sf_field.specs.Lines.{ParsesLines};
+ghost use Rattle.sf_field.specs.Normal.{NormalisesTo};
+
+use sf_parse::{Parser, Refusal};
+use sf_value::{Blob, Dialect, Field, Kind};
+use sf_write::to_text;
+use std::alloc::Global;
+use std::hash::RandomState;
+
+// Feeds the joined text of the lines.
+fn feed_lines(parser: &mut Parser, lines: &[Blob]) -> Result<(), Refusal>
+    ensures fed { Fed parser.old parser.new result (join lines.now) }
+    ensures plain { IsPlain parser.old → (line : List ℕ) → lines.now ≡ line ∷ []
+        → Every plain_byte line → KeptPlain parser.new result }
+{
+    let Some((first, others)) = lines.split_first() else {
+        return parser.feed(b"");
+    };
+    parser.feed(first.as_bytes())?;
+    for line in others {
+        parser.feed(b", ")?;
+        parser.feed(line.as_bytes())?;
+    }
+    Ok(())
+}
+
+/// The value that the lines spell together, in this dialect: that of their text joined by a comma
+/// and a space, in which the places of a refusal are counted. It is TooLong only where that text
+/// has 2^64 bytes or more, and never ReadFault. A single line of spaces, `-` and digits takes no
+/// memory where an Item is asked for.
+pub fn parse_lines_in(
+    alloc: Global,
+    seed: &RandomState,
+    dialect: Dialect,
+    kind: Kind,
+    lines: &[Blob],
+) -> Result<Field, Refusal>
+    ensures parses { ParsesLines dialect kind lines.now result }
+    ensures plain { kind ≡ kind_is.Item → (line : List ℕ) → lines.now ≡ line ∷ []
+        → Every plain_byte line → NotForMemory result }
+{
+    let mut parser = Parser::new_in(alloc, seed, dialect, kind, u64::MAX);
+    feed_lines(&mut parser, lines)?;
+    parser.finish()
+}
+
+/// The value that the lines spell together, in the dialect of RFC 9651 (section 4.2), as
+/// [`parse_lines_in`] gives it.
+///
+/// ```
+/// let field = parse_lines(alloc, &seed, Kind::List, lines.as_slice())?;
+/// ```
+pub fn parse_lines(
+    alloc: Global,
+    seed: &RandomState,
+    kind: Kind,
+    lines: &[Blob],
+) -> Result<Field, Refusal>
+    ensures parses { ParsesLines Rfc9651 kind lines.now result }
+    ensures plain { kind ≡ kind_is.Item → (line : List ℕ) → lines.now ≡ line ∷ []
+        → Every plain_byte line → NotForMemory result }
+{
+    parse_lines_in(alloc, seed, Dialect::Rfc9651, kind, lines)
+}
+
+// Lets a field go. It is a function of its own, so that it is one call where that is done.
+pub(crate) fn let_go(_field: Field) {}
+
+/// The canonical text (RFC 9651 section 4.1) of the value that the lines spell together. Lines that
+/// spell equal values, and no others of the kind, have equal texts. It refuses what [`parse_lines`]
+/// refuses.
+///
+/// ```
+/// let text = normalise_lines(alloc, &seed, Kind::List, lines.as_slice())?;
+/// ```
+pub fn normalise_lines(
+    alloc: Global,
+    seed: &RandomState,
+    kind: Kind,
+    lines: &[Blob],
+) -> Result<Vec<u8>, Refusal>
+    ensures { MatchResult result (λ text. NormalisesTo kind lines.now text.items)
+        (λ e. ParsesLines Rfc9651 kind lines.now (Err e)) }
+{
+    let field = parse_lines(alloc, seed, kind, lines)?;
+    let text = to_text(alloc, &field);
+    let_go(field);
+    match text {
+        Ok(text) => Ok(text),
+        Err(_) => Err(Refusal::OutOfMemory),
+    }
+}
