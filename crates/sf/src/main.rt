@@ -1,0 +1,55 @@
+//! The command `sf`: it reads its words and standard input, and writes to standard output. What it
+//! does is `sf_tool`'s.
+#![tactic(auto)]
+
+use sf_tool::{Request, RequestFault, Status, read_request, run};
+use sf_value::{Reading, Writing};
+use std::env;
+use std::hash::RandomState;
+use std::io::Write;
+use std::process::ExitCode;
+
+fn main(rt: HostRuntime) -> ExitCode {
+    let status = match request_of(&rt) {
+        Ok(request) => answer(&rt, &request),
+        Err(RequestFault::Usage) => Status::Usage,
+        Err(RequestFault::OutOfMemory) => Status::Stopped,
+    };
+    match status {
+        Status::Usage => tell(&rt, RequestFault::Usage),
+        Status::Stopped => tell(&rt, RequestFault::OutOfMemory),
+        Status::Accepted | Status::Refused => {}
+    }
+    ExitCode::from(status.code())
+}
+
+/// Prints the line of a fault on standard error. Where that fails too, nobody can be told.
+fn tell(rt: &HostRuntime, fault: RequestFault) {
+    let _ = rt.eprintln(fault);
+}
+
+/// What the words of the command line ask for.
+fn request_of(rt: &HostRuntime) -> Result<Request, RequestFault> {
+    let Ok(args) = env::args(rt) else {
+        return Err(RequestFault::OutOfMemory);
+    };
+    let words: Vec<String> = match args.collect(rt.alloc()) {
+        Ok(words) => words,
+        Err(_) => return Err(RequestFault::OutOfMemory),
+    };
+    read_request(rt.alloc(), words.as_slice())
+}
+
+/// Answers the request from standard input to standard output, and flushes that.
+fn answer(rt: &HostRuntime, request: &Request) -> Status {
+    let Ok(seed) = RandomState::new(rt) else {
+        return Status::Stopped;
+    };
+    let mut source = Reading::new(rt.reader());
+    let mut sink = Writing::new(rt.stdout());
+    let status = run(rt.alloc(), &seed, request, &mut source, &mut sink);
+    match sink.into_inner().flush() {
+        Ok(()) => status,
+        Err(_) => Status::Stopped,
+    }
+}

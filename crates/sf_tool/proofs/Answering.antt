@@ -1,0 +1,109 @@
+-- From what is to be written to what an input is answered.
+use Rattle.std.proofs.Common.{◌≡◌, ℕ, ◌*◌, ◌≤◌, inl, inr, Bool, false, List, []}
+use Rattle.std.proofs.Common.{◌∷◌, ◌++◌, length, Option, Some, None, Err, refl, sym, subst, arith}
+use Rattle.sf_value.specs.declared.dialect.Dialect.{Dialect}
+use Rattle.sf_value.specs.declared.value.Field.{Field}
+use Rattle.sf_value.specs.declared.value.Kind.{Kind}
+use Rattle.sf_value.specs.Devices.{SinkState}
+use Rattle.sf_value.specs.Grammar.Canonical.{canon}
+use Rattle.sf_value.specs.Grammar.Lines.{join}
+use Rattle.sf_parse.specs.declared.refusal.Refusal.{Refusal}
+use Rattle.sf_parse.specs.declared.refusal.Refusal.TheVariants.{OutOfMemory, Syntax, TooLong}
+use Rattle.sf_parse.specs.declared.refusal.Refusal.TheVariants.{ReadFault}
+use Rattle.sf_parse.specs.Parsers.{IsOnly, IsSyntax}
+use Rattle.sf_field.specs.Lines.{ParsesLines}
+use Rattle.sf_tool.specs.declared.request.Request.{Request}
+use Rattle.sf_tool.specs.declared.request.Request.TheVariants.{Normalise}
+use Rattle.sf_tool.specs.declared.running.TheConstants.{INPUT_LIMIT}
+use Rattle.sf_tool.specs.declared.status.Status.{Status}
+use Rattle.sf_tool.specs.declared.status.Status.TheVariants.{Accepted, Refused, Usage, Stopped}
+use Rattle.sf_tool.specs.Lines.{lines_of}
+use Rattle.sf_tool.specs.Run.{Outputs, Tells}
+use Rattle.sf_tool.specs.Run.{TellsText, TellsRefusal, IsOfText}
+
+-- the text of an input was to be written
+pub tells_text : (request : Request) (input text : List ℕ) (status : Status) (old new : SinkState)
+    (result : Status) → Outputs request input text status → TellsText text status old new result
+    → Tells request input old new result
+tells_text request input text status old new Accepted o t = record {
+  text = text;
+  after = t.1.0;
+  outputs = let P : Status → Type 0 = λ s. Outputs request input text s in subst P (sym t.0) o;
+  wrote = t.1.1;
+}
+tells_text request input text status old new Refused o t = record {
+  text = text;
+  after = t.1.0;
+  outputs = let P : Status → Type 0 = λ s. Outputs request input text s in subst P (sym t.0) o;
+  wrote = t.1.1;
+}
+tells_text request input text status old new Usage o t = absurd t
+tells_text request input text status old new Stopped o t = inr (record {
+  text = text;
+  status = status;
+  after = t.0;
+  outputs = o;
+  wrote = t.1;
+})
+
+-- the lines spell a value
+pub tells_field : (d : Dialect) (kind : Kind) (input : List ℕ) (lines : List (List ℕ)) (v : Field)
+    (old new : SinkState) (result : Status) → lines ≡ lines_of input → length input ≤ INPUT_LIMIT
+    → IsOnly d kind (join lines) v → TellsText (canon v ++ 10 ∷ []) Accepted old new result
+    → Tells (Normalise d kind) input old new result
+tells_field d kind input lines v old new result e short only t =
+    let P : List (List ℕ) → Type 0 = λ ls. IsOnly d kind (join ls) v in
+    tells_text (Normalise d kind) input (canon v ++ 10 ∷ []) Accepted old new result
+    (inl (short, (v, subst P e only, refl))) t
+
+-- what the line of a refusal tells
+refuses : (d : Dialect) (kind : Kind) (lines : List (List ℕ)) (place : ℕ) (found : Option ℕ)
+    (expected : ℕ) (may_end : Bool)
+    → ParsesLines d kind lines (Err (Syntax place found expected may_end))
+    → IsSyntax d kind (join lines) place found expected may_end × (found ≡ None → may_end ≡ false)
+refuses d kind lines place None expected may_end p = (p.1, λ e. p.0)
+refuses d kind lines place (Some b) expected may_end p = (p, λ e. cc)
+
+stopped : (request : Request) (input : List ℕ) (old new : SinkState) (result : Status)
+    → result ≡ Stopped → new ≡ old → Tells request input old new result
+stopped request input old new result e same =
+    let P : Status → Type 0 = λ s. Tells request input old new s in
+    subst P (sym e) (inl same)
+
+-- the lines are refused
+pub tells_refusal : (d : Dialect) (kind : Kind) (input : List ℕ) (lines : List (List ℕ))
+    (e : Refusal) (old new : SinkState) (result : Status) → lines ≡ lines_of input
+    → length input ≤ INPUT_LIMIT → ParsesLines d kind lines (Err e)
+    → TellsRefusal e old new result → Tells (Normalise d kind) input old new result
+tells_refusal d kind input lines OutOfMemory old new result same short p t =
+    stopped (Normalise d kind) input old new result t.0 t.1
+tells_refusal d kind input lines (Syntax place found expected may_end) old new result same short p t =
+    let P : List (List ℕ) → Type 0 = λ ls. IsSyntax d kind (join ls) place found expected may_end in
+    let known = refuses d kind lines place found expected may_end p in
+    tells_text (Normalise d kind) input _ Refused old new result
+    (inl (
+      short,
+      record {
+        place = place;
+        found = found;
+        expected = expected;
+        may_end = may_end;
+        syntax = subst P same known.0;
+        unended = known.1;
+        told = refl;
+      },
+    )) t
+tells_refusal d kind input lines (TooLong limit) old new result same short p t = absurd t
+tells_refusal d kind input lines (ReadFault place) old new result same short p t = absurd t
+
+-- lines of an input within the limit are never too long
+pub is_of_text : (d : Dialect) (kind : Kind) (input : List ℕ) (lines : List (List ℕ))
+    (e : Refusal) → length (join lines) ≤ 3 * length input → length input ≤ INPUT_LIMIT
+    → ParsesLines d kind lines (Err e) → IsOfText e
+is_of_text d kind input lines OutOfMemory small short p = tt
+is_of_text d kind input lines (Syntax place found expected may_end) small short p = tt
+is_of_text d kind input lines (TooLong limit) small short p =
+    let at = p.0 in
+    let over = p.1 in
+    absurd (omega arith)
+is_of_text d kind input lines (ReadFault place) small short p = absurd p

@@ -1,0 +1,21 @@
+-- How what single calls give joins.
+use Rattle.std.proofs.Common.{ℕ, List, [], ◌++◌, refl, arith, length-append}
+use Rattle.std.proofs.KnownBytes.{Consumes-nil, Consumes-trans}
+use Rattle.sf_value.specs.Devices.{SourceState, Gave, GivesOnce}
+
+-- no call
+pub Gave-none : (s : SourceState) → Gave s s []
+Gave-none s = record {
+  consumed = Consumes-nil s.to_come;
+  given = λ _. omega arith;
+  failures = refl;
+}
+
+-- one call more
+pub Gave-more : (a b c : SourceState) (xs ys : List ℕ)
+    → Gave a b xs → GivesOnce b c ys → Gave a c (xs ++ ys)
+Gave-more a b c xs ys p q = record {
+  consumed = Consumes-trans a.to_come b.to_come c.to_come xs ys p.consumed q.consumed;
+  given = λ h. omega (arith, length-append xs ys, p.given, q.given, h);
+  failures = cc;
+}

@@ -1,0 +1,4 @@
+pub mod Gives
+pub mod Cuts
+pub mod Runs
+pub mod Answering

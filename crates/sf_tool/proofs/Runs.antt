@@ -1,0 +1,107 @@
+-- The runs of a set, one after another.
+use Rattle.std.proofs.Common.{◌≡◌, ℕ, zero, suc, ◌+◌, ◌-◌, ◌<◌, ◌≤◌, ◌⊎◌, inl, inr, true, false}
+use Rattle.std.proofs.Common.{List, [], ◌∷◌, refl, arith, rules}
+use Rattle.std.specs.Prelude.{◌==◌, ⊤}
+use Rattle.std.proofs.lemmas.Bool.{cases_Bool}
+use Rattle.sf_tool.specs.Texts.{is_in, in_front, runs_from}
+
+-- the first of the runs does not begin below b
+abbrev pub BeginsFrom : ℕ → List (ℕ × ℕ) → Type 0
+BeginsFrom b [] = ⊤
+BeginsFrom b (run ∷ runs) = b ≤ run.0
+
+BeginsFrom-less : (a b : ℕ) (rs : List (ℕ × ℕ)) → a ≤ b → BeginsFrom b rs → BeginsFrom a rs
+BeginsFrom-less a b [] h p = tt
+BeginsFrom-less a b (r ∷ rs) h p = omega arith
+
+BeginsFrom-in_front : (b : ℕ) (rs : List (ℕ × ℕ)) → BeginsFrom b (in_front b rs)
+BeginsFrom-in_front b [] = omega arith
+BeginsFrom-in_front b (r ∷ rs) =
+    elim (cases_Bool (r.0 == suc b)) [
+      | inl t ↦ rw t (omega arith)
+      | inr f ↦ rw f (omega arith)
+    ]
+
+pub runs_begin : (set b n : ℕ) → BeginsFrom b (runs_from set b n)
+unfolding runs_from
+runs_begin set b zero = tt
+runs_begin set b (suc n) =
+    elim (cases_Bool (is_in set b)) [
+      | inl t ↦ rw t (BeginsFrom-in_front b (runs_from set (suc b) n))
+      | inr f ↦ rw f (BeginsFrom-less b (suc b) _ (omega arith) (runs_begin set (suc b) n))
+    ]
+
+-- no bytes
+pub runs-none : (set b : ℕ) → runs_from set b 0 ≡ []
+unfolding runs_from
+runs-none set b = refl
+
+-- a byte that is not in the set
+pub runs-out : (set b n : ℕ) → is_in set b ≡ false → runs_from set b (suc n) ≡ runs_from set (suc b) n
+unfolding runs_from
+runs-out set b n f = rw f refl
+
+-- a byte that is in the set
+pub runs-in : (set b n : ℕ) → is_in set b ≡ true
+    → runs_from set b (suc n) ≡ in_front b (runs_from set (suc b) n)
+unfolding runs_from
+runs-in set b n t = rw t refl
+
+in_front-apart : (b : ℕ) (rs : List (ℕ × ℕ)) → BeginsFrom (suc (suc b)) rs
+    → in_front b rs ≡ (b, b) ∷ rs
+in_front-apart b [] h = refl
+in_front-apart b (r ∷ rs) h =
+    elim (cases_Bool (r.0 == suc b)) [
+      | inl t ↦ (let e : r.0 ≡ suc b = search (rules, t) in absurd (omega arith))
+      | inr f ↦ rw f refl
+    ]
+
+-- what follows a run begins above the byte behind it, which is not in the set
+behind : (set b n : ℕ) → (n ≡ 0) ⊎ (is_in set b ≡ false) → BeginsFrom (suc b) (runs_from set b n)
+behind set b zero h = rw (runs-none set b) tt
+behind set b (suc n) h =
+    elim h [
+      | inl e ↦ absurd (omega arith)
+      | inr f ↦ rw (runs-out set b n f) (runs_begin set (suc b) n)
+    ]
+
+-- m + 1 bytes in the set and then none
+pub runs-whole : (set b m n : ℕ) → ((k : ℕ) → b ≤ k → k ≤ b + m → is_in set k ≡ true)
+    → (n ≡ 0) ⊎ (is_in set (suc (b + m)) ≡ false)
+    → runs_from set b (suc (m + n)) ≡ (b, b + m) ∷ runs_from set (suc (b + m)) n
+runs-whole set b zero n all stop =
+    let e : b + 0 ≡ b = omega arith in
+    let z : 0 + n ≡ n = omega arith in
+    let here = all b (omega arith) (omega arith) in
+    let after : (n ≡ 0) ⊎ (is_in set (suc b) ≡ false) = rw e at stop in
+    rw (e, z, runs-in set b n here)
+    (in_front-apart b (runs_from set (suc b) n) (behind set (suc b) n after))
+runs-whole set b (suc m) n all stop =
+    let e : b + suc m ≡ suc b + m = omega arith in
+    let s : suc m + n ≡ suc (m + n) = omega arith in
+    let here = all b (omega arith) (omega arith) in
+    let later = runs-whole set (suc b) m n (λ k h1 h2. all k (omega arith) (omega arith)) (rw e at stop) in
+    let same : (suc b == suc b) ≡ true = search rules in
+    rw (e, s, runs-in set b (suc (m + n)) here, later, same) refl
+
+-- the run from first to last, and what follows it
+pub runs-next : (set first last : ℕ) → first ≤ last → last < 128
+    → ((k : ℕ) → first ≤ k → k ≤ last → is_in set k ≡ true)
+    → (last ≡ 127) ⊎ (is_in set (last + 1) ≡ false)
+    → runs_from set first (128 - first) ≡ (first, last) ∷ runs_from set (last + 1) (127 - last)
+runs-next set first last forward within all stop =
+    let at : first + (last - first) ≡ last = omega arith in
+    let size : suc ((last - first) + (127 - last)) ≡ 128 - first = omega arith in
+    let next : suc last ≡ last + 1 = omega arith in
+    let after : (127 - last ≡ 0) ⊎ (is_in set (suc (first + (last - first))) ≡ false) =
+    elim stop [ inl e ↦ inl (omega arith) | inr f ↦ inr (rw (at, next) f) ] in
+    rw (size, at, next) at
+    (runs-whole set first (last - first) (127 - last) (λ k h1 h2. all k h1 (omega arith)) after)
+
+-- a byte that is not in the set, of several
+pub runs-skip : (set b : ℕ) → b < 128 → is_in set b ≡ false
+    → runs_from set b (128 - b) ≡ runs_from set (b + 1) (128 - (b + 1))
+runs-skip set b h f =
+    let size : 128 - b ≡ suc (128 - (b + 1)) = omega arith in
+    let next : b + 1 ≡ suc b = omega arith in
+    rw (size, next) (runs-out set b _ f)

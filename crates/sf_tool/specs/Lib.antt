@@ -1,0 +1,6 @@
+-- The definitions that the contracts speak of.
+pub mod Status
+pub mod Reading
+pub mod Lines
+pub mod Texts
+pub mod Run

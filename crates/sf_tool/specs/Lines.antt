@@ -1,0 +1,26 @@
+-- The field lines of an input.
+use Rattle.std.specs.Prelude.{ℕ, ◌-◌, Bool, ◌||◌, List, map, length, take, drop, ◌==◌}
+use Rattle.std.specs.List.{prefix_len, suffix_len}
+use Rattle.std.specs.Str.Lines.{lines}
+
+abbrev pub is_line_feed : ℕ → Bool
+is_line_feed b = b == 10
+
+-- a space or a tab
+abbrev pub is_blank : ℕ → Bool
+is_blank b = b == 32 || b == 9
+
+abbrev pub without_lead : List ℕ → List ℕ
+without_lead bytes = drop (prefix_len is_blank bytes) bytes
+
+abbrev pub without_trail : List ℕ → List ℕ
+without_trail bytes = take (length bytes - suffix_len is_blank bytes) bytes
+
+-- the bytes without the blanks at both ends
+abbrev pub trim : List ℕ → List ℕ
+trim bytes = without_trail (without_lead bytes)
+
+-- the lines between line feeds, each without a carriage return directly before its line feed and
+-- then without the blanks at its ends; an empty last part is no line
+abbrev pub lines_of : List ℕ → List (List ℕ)
+lines_of input = map trim (lines input)

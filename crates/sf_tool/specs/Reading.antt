@@ -1,0 +1,24 @@
+-- What reading a source to its end, or to a limit, answers.
+use Rattle.std.specs.Prelude.{◌≡◌, ℕ, ◌+◌, ◌-◌, ◌^◌, ◌<◌, ◌≤◌, List, length}
+use Rattle.std.specs.Io.KnownBytes.{IsAtEnd}
+use Rattle.sf_value.specs.Devices.{SourceState, capped, Gave, GaveAndFailed}
+use Rattle.sf_tool.specs.declared.reading.ReadAllFault.{ReadAllFault}
+use Rattle.sf_tool.specs.declared.reading.ReadAllFault.TheVariants.{OutOfMemory, ReadFault}
+use Rattle.sf_tool.specs.declared.reading.ReadAllFault.TheVariants.{TooLong}
+
+-- no byte is still to come, or as many bytes as a count holds were given
+abbrev pub IsWholeOrFull : SourceState → List ℕ → Type 0
+IsWholeOrFull new bytes = length bytes < 2 ^ 64 - 1 → IsAtEnd new.to_come
+
+-- which bytes were given, to the end
+abbrev pub ReadToEnd : SourceState → SourceState → ℕ → List ℕ → Type 0
+ReadToEnd old new max bytes = Gave old new bytes × (length bytes ≤ max) × IsWholeOrFull new bytes
+
+-- which bytes were given, and why reading ended
+abbrev pub StoppedFor : SourceState → SourceState → ℕ → ReadAllFault → Type 0
+StoppedFor old new max OutOfMemory =
+    (bytes : List ℕ) × Gave old new bytes × (length bytes ≤ capped (max + 1))
+StoppedFor old new max (ReadFault place) =
+    (bytes : List ℕ) × GaveAndFailed old new bytes × (length bytes ≡ place) × (place ≤ max)
+StoppedFor old new max (TooLong limit) =
+    (bytes : List ℕ) × Gave old new bytes × (length bytes ≡ max + 1) × (limit ≡ max)

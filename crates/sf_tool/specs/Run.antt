@@ -1,0 +1,120 @@
+-- What a run of the command reads, answers and writes.
+use Rattle.std.specs.Prelude.{◌≡◌, ℕ, ◌+◌, ◌<◌, ◌≤◌, ◌⊎◌, Bool, false, List, [], ◌∷◌, ◌++◌, length}
+use Rattle.std.specs.Prelude.{Option, None, ⊤}
+use Rattle.std.specs.Io.KnownBytes.{IsAtEnd}
+use Rattle.sf_value.specs.declared.dialect.Dialect.{Dialect}
+use Rattle.sf_value.specs.declared.value.Field.{Field}
+use Rattle.sf_value.specs.declared.value.Kind.{Kind}
+use Rattle.sf_value.specs.Devices.{SourceState, SinkState, Gave, GaveAndFailed}
+use Rattle.sf_value.specs.Grammar.Canonical.{canon}
+use Rattle.sf_value.specs.Grammar.Lines.{join}
+use Rattle.sf_write.specs.Writing.{Wrote, WroteFront}
+use Rattle.sf_parse.specs.declared.refusal.Refusal.{Refusal}
+use Rattle.sf_parse.specs.declared.refusal.Refusal.TheVariants.{OutOfMemory, Syntax, TooLong}
+use Rattle.sf_parse.specs.declared.refusal.Refusal.TheVariants.{ReadFault}
+use Rattle.sf_parse.specs.Parsers.{IsOnly, IsSyntax}
+use Rattle.sf_tool.specs.declared.request.Request.{Request}
+use Rattle.sf_tool.specs.declared.request.Request.TheVariants.{Normalise}
+use Rattle.sf_tool.specs.declared.running.TheConstants.{INPUT_LIMIT}
+use Rattle.sf_tool.specs.declared.status.Status.{Status}
+use Rattle.sf_tool.specs.declared.status.Status.TheVariants.{Accepted, Refused, Usage, Stopped}
+use Rattle.sf_tool.specs.Lines.{lines_of}
+use Rattle.sf_tool.specs.Texts.{refusal_line, too_long_line}
+
+-- the field lines of an input, joined
+abbrev pub joined : List ℕ → List ℕ
+joined input = join (lines_of input)
+
+-- the text t spells no value, and this line tells where it is refused and what could have come
+pub record Refuses (d : Dialect) (kind : Kind) (t line : List ℕ) : Type 0 where
+  pub place : ℕ
+  pub found : Option ℕ
+  pub expected : ℕ
+  pub may_end : Bool
+  pub syntax : IsSyntax d kind t place found expected may_end
+  -- where the text ended it could not have ended
+  pub unended : found ≡ None → may_end ≡ false
+  pub told : line ≡ refusal_line place found expected may_end
+
+-- the canonical text of the one value that t spells, and a line feed; or the line of a refusal
+abbrev pub Normalises : Dialect → Kind → List ℕ → List ℕ → Status → Type 0
+Normalises d kind t text Accepted = (v : Field) × IsOnly d kind t v × (text ≡ canon v ++ 10 ∷ [])
+Normalises d kind t text Refused = Refuses d kind t text
+Normalises d kind t text Usage = ⊥
+Normalises d kind t text Stopped = ⊥
+
+-- the text and the status for an input within the limit
+abbrev pub Answers : Request → List ℕ → List ℕ → Status → Type 0
+Answers (Normalise d kind) input text status = Normalises d kind (joined input) text status
+
+-- the text and the status for any input: a longer one is refused for its length
+abbrev pub Outputs : Request → List ℕ → List ℕ → Status → Type 0
+Outputs request input text status =
+    ((length input ≤ INPUT_LIMIT) × Answers request input text status)
+    ⊎ ((INPUT_LIMIT < length input) × (text ≡ too_long_line) × (status ≡ Refused))
+
+-- all of the text of an input went out, and this is its status
+pub record Finished (request : Request) (input : List ℕ) (old new : SinkState) (status : Status)
+    : Type 0 where
+  pub text : List ℕ
+  pub after : ℕ
+  pub outputs : Outputs request input text status
+  pub wrote : Wrote old new 0 after text
+
+-- a write failed, and before it a front of the text of an input went out
+pub record BrokeOff (request : Request) (input : List ℕ) (old new : SinkState) : Type 0 where
+  pub text : List ℕ
+  pub status : Status
+  pub after : ℕ
+  pub outputs : Outputs request input text status
+  pub wrote : WroteFront old new 0 after text
+
+-- an input was answered so; where memory was wanting nothing was written, and no call was made
+abbrev pub Tells : Request → List ℕ → SinkState → SinkState → Status → Type 0
+Tells request input old new Accepted = Finished request input old new Accepted
+Tells request input old new Refused = Finished request input old new Refused
+Tells request input old new Usage = ⊥
+Tells request input old new Stopped = (new ≡ old) ⊎ BrokeOff request input old new
+
+-- the input is all that the source gave to its end; or it is one byte longer than the limit, and no
+-- further byte was asked for
+abbrev pub IsInput : SourceState → SourceState → List ℕ → Type 0
+IsInput old new input =
+    Gave old new input
+    × (((length input ≤ INPUT_LIMIT) × IsAtEnd new.to_come) ⊎ (length input ≡ INPUT_LIMIT + 1))
+
+-- memory was wanting for what the source gave, or a read failed and was the last
+pub record ReadInPart (old new : SourceState) : Type 0 where
+  pub bytes : List ℕ
+  pub within : length bytes ≤ INPUT_LIMIT + 1
+  pub given : Gave old new bytes ⊎ GaveAndFailed old new bytes
+
+-- the whole input was read and then answered; or it was not all read, and nothing was written
+abbrev pub Ran : Request → SourceState → SourceState → SinkState → SinkState → Status → Type 0
+Ran request source source' sink sink' status =
+    ((input : List ℕ) × IsInput source source' input × Tells request input sink sink' status)
+    ⊎ (ReadInPart source source' × (sink' ≡ sink) × (status ≡ Stopped))
+
+-- this text was to be written, with a status where all of it went out
+abbrev pub TellsText : List ℕ → Status → SinkState → SinkState → Status → Type 0
+TellsText text status old new Accepted =
+    (Accepted ≡ status) × ((after : ℕ) × Wrote old new 0 after text)
+TellsText text status old new Refused =
+    (Refused ≡ status) × ((after : ℕ) × Wrote old new 0 after text)
+TellsText text status old new Usage = ⊥
+TellsText text status old new Stopped = (after : ℕ) × WroteFront old new 0 after text
+
+-- a refusal was answered: its line was to be written, or memory was wanting
+abbrev pub TellsRefusal : Refusal → SinkState → SinkState → Status → Type 0
+TellsRefusal (Syntax place found expected may_end) old new result =
+    TellsText (refusal_line place found expected may_end) Refused old new result
+TellsRefusal OutOfMemory old new result = (result ≡ Stopped) × (new ≡ old)
+TellsRefusal (TooLong limit) old new result = ⊥
+TellsRefusal (ReadFault place) old new result = ⊥
+
+-- a refusal for the text or for want of memory
+abbrev pub IsOfText : Refusal → Type 0
+IsOfText OutOfMemory = ⊤
+IsOfText (Syntax place found expected may_end) = ⊤
+IsOfText (TooLong limit) = ⊥
+IsOfText (ReadFault place) = ⊥

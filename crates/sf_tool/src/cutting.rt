@@ -1,0 +1,102 @@
+//! The field lines of an input.
+ghost use Rattle.std.specs.Prelude.{◌≡◌, ◌<◌, ◌≤◌, ◌+◌, ◌*◌, [], ◌∷◌, length, ◌==◌};
+ghost use Rattle.std.specs.Prelude.{MatchOption, IfSome, IfOk};
+ghost use Rattle.std.specs.List.{position_or_len, before_first, after_first};
+ghost use Rattle.std.specs.Str.Lines.{lines, strip_carriage_return};
+ghost use Rattle.sf_value.specs.Grammar.Lines.{join};
+ghost use Rattle.sf_tool.specs.Lines.{is_blank, without_lead, without_trail, trim};
+ghost use Rattle.sf_tool.specs.Lines.{lines_of, is_line_feed};
+
+use sf_value::{Blob, OutOfMemory};
+use std::alloc::Global;
+
+fn is_blank(byte: u8) -> bool
+    ensures { result ≡ is_blank byte }
+{
+    byte == b' ' || byte == b'\t'
+}
+
+fn without_lead(bytes: &[u8]) -> &[u8]
+    ensures { result.now ≡ without_lead bytes.now }
+{
+    let mut start = 0;
+    while start < bytes.len() && is_blank(bytes[start]) {
+        start += 1;
+    }
+    &bytes[start..]
+}
+
+fn without_trail(bytes: &[u8]) -> &[u8]
+    ensures { result.now ≡ without_trail bytes.now }
+{
+    let mut end = bytes.len();
+    while end > 0 && is_blank(bytes[end - 1]) {
+        end -= 1;
+    }
+    &bytes[..end]
+}
+
+/// The bytes without the spaces and tabs at both ends.
+fn trimmed(bytes: &[u8]) -> &[u8]
+    ensures { result.now ≡ trim bytes.now }
+{
+    without_trail(without_lead(bytes))
+}
+
+fn without_return(line: &[u8]) -> &[u8]
+    ensures { result.now ≡ strip_carriage_return line.now }
+{
+    let n = line.len();
+    if n > 0 && line[n - 1] == b'\r' {
+        &line[..n - 1]
+    } else {
+        line
+    }
+}
+
+/// What stands before the first line feed and after it, None where there is none.
+fn split_at_line_feed(bytes: &[u8]) -> Option<(&[u8], &[u8])>
+    ensures { MatchOption result (position_or_len is_line_feed bytes.now ≡ length bytes.now)
+        (λ p. (position_or_len is_line_feed bytes.now < length bytes.now)
+        × (p.0.now ≡ before_first is_line_feed bytes.now)
+        × (p.1.now ≡ after_first is_line_feed bytes.now)) }
+{
+    for (i, byte) in bytes.iter().enumerate() {
+        if *byte == b'\n' {
+            return Some((&bytes[..i], &bytes[i + 1..]));
+        }
+    }
+    None
+}
+
+/// The first line and what follows it, None where the input is empty.
+fn split_line(input: &[u8]) -> Option<(&[u8], &[u8])>
+    ensures lines { MatchOption result (lines input.now ≡ [])
+        (λ p. lines input.now ≡ p.0.now ∷ lines p.1.now) }
+    ensures shorter { IfSome result (λ p. length p.1.now < length input.now) }
+    ensures within { IfSome result (λ p. length p.0.now + length p.1.now ≤ length input.now) }
+{
+    if input.is_empty() {
+        return None;
+    }
+    match split_at_line_feed(input) {
+        Some((line, rest)) => Some((without_return(line), rest)),
+        None => Some((input, &[])),
+    }
+}
+
+/// The field lines of an input: it is cut at each line feed, and a last part without one is a line
+/// unless it is empty. A carriage return directly before a line feed is dropped, and then the
+/// spaces and tabs at both ends of each line.
+pub(crate) fn lines_of(alloc: Global, input: &[u8]) -> Result<Vec<Blob>, OutOfMemory>
+    ensures lines { IfOk result (λ lines. lines.items ≡ lines_of input.now) }
+    ensures short { IfOk result (λ lines. length (join lines.items) ≤ 3 * length input.now) }
+{
+    let mut lines = Vec::new(alloc);
+    let mut rest = input;
+    while let Some((line, more)) = split_line(rest) {
+        lines.push(Blob::new(alloc, trimmed(line))?)?;
+        rest = more;
+    }
+    Ok(lines)
+}

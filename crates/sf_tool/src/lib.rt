@@ -1,0 +1,18 @@
+//! What the command `sf` does: its words are read by [`read_request`], and [`run`] answers them from
+//! a source and to a sink. The lines that it prints are defined in `specs/Texts.antt`, what a run
+//! reads, answers and writes in `specs/Run.antt`.
+#![tactic(auto)]
+
+mod cutting;
+mod expected;
+mod reading;
+mod refusing;
+mod request;
+mod running;
+mod status;
+#[cfg(test)]
+mod tests;
+
+pub use request::{Request, RequestFault, read_request};
+pub use running::{INPUT_LIMIT, run};
+pub use status::Status;

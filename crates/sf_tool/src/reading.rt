@@ -1,0 +1,50 @@
+//! A source that is read to its end.
+ghost use Rattle.std.specs.Prelude.{MatchResult};
+ghost use Rattle.sf_tool.specs.Reading.{ReadToEnd, StoppedFor};
+
+use sf_value::Source;
+use std::alloc::Global;
+
+/// Why not all that a source gives was read.
+#[derive(Clone, Copy, Debug, PartialEq, Eq)]
+pub(crate) enum ReadAllFault {
+    /// No memory was left for the bytes.
+    OutOfMemory,
+    /// A read failed after so many bytes, and none came behind it.
+    ReadFault { place: u64 },
+    /// The source gave one byte more than this, and was asked for no further one.
+    TooLong { max: u64 },
+}
+
+/// All that the source gives to its end, if that is at most `max` bytes.
+pub(crate) fn read_all<R: Source>(
+    alloc: Global,
+    max: u64,
+    source: &mut R,
+) -> Result<Vec<u8>, ReadAllFault>
+    ensures { MatchResult result
+        (λ all. ReadToEnd (R.state source.old) (R.state source.new) max all.items)
+        (λ fault. StoppedFor (R.state source.old) (R.state source.new) max fault) }
+{
+    let limit = max.saturating_add(1);
+    let mut all = Vec::new(alloc);
+    let mut block = [0u8; 512];
+    let mut given = 0u64;
+    while given < limit {
+        let room = (limit - given).min(512) as usize;
+        match source.pull(&mut block[..room]) {
+            Ok(0) => return Ok(all),
+            Ok(n) => {
+                if all.extend_from_slice(&block[..n]).is_err() {
+                    return Err(ReadAllFault::OutOfMemory);
+                }
+                given += n as u64;
+            }
+            Err(_) => return Err(ReadAllFault::ReadFault { place: given }),
+        }
+    }
+    if given > max {
+        return Err(ReadAllFault::TooLong { max });
+    }
+    Ok(all)
+}
