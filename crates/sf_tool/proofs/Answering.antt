@@ -77,7 +77,8 @@ pub tells_refusal : (d : Dialect) (kind : Kind) (input : List ℕ) (lines : List
     → TellsRefusal e old new result → Tells (Normalise d kind) input old new result
 tells_refusal d kind input lines OutOfMemory old new result same short p t =
     stopped (Normalise d kind) input old new result t.0 t.1
-tells_refusal d kind input lines (Syntax place found expected may_end) old new result same short p t =
+tells_refusal d kind input lines (Syntax place found expected may_end) old new result same short
+    p t =
     let P : List (List ℕ) → Type 0 = λ ls. IsSyntax d kind (join ls) place found expected may_end in
     let known = refuses d kind lines place found expected may_end p in
     tells_text (Normalise d kind) input _ Refused old new result

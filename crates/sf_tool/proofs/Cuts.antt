@@ -2,7 +2,8 @@
 use Rattle.std.proofs.Common.{◌≡◌, ℕ, ◌+◌, ◌<◌, ◌≤◌, false, List, [], ◌∷◌, ◌++◌, length}
 use Rattle.std.proofs.Common.{◌-◌, length-drop, length-take, refl, ◌∙◌, ap, arith, length-append}
 use Rattle.std.specs.Prelude.{All}
-use Rattle.std.specs.List.{prefix_len, suffix_len, slice_split, position_or_len, before_first, after_first}
+use Rattle.std.specs.List.{prefix_len, suffix_len, slice_split, position_or_len}
+use Rattle.std.specs.List.{before_first, after_first}
 use Rattle.std.specs.Str.Lines.{lines, lines_of_parts, strip_carriage_return}
 use Rattle.std.proofs.lemmas.List.Splits.{slice_split_first, slice_split_none, length-slice_split}
 use Rattle.std.proofs.lemmas.List.Sums.{fails_before_first}

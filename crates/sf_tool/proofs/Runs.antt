@@ -37,7 +37,8 @@ unfolding runs_from
 runs-none set b = refl
 
 -- a byte that is not in the set
-pub runs-out : (set b n : ℕ) → is_in set b ≡ false → runs_from set b (suc n) ≡ runs_from set (suc b) n
+pub runs-out : (set b n : ℕ) → is_in set b ≡ false
+    → runs_from set b (suc n) ≡ runs_from set (suc b) n
 unfolding runs_from
 runs-out set b n f = rw f refl
 
@@ -80,7 +81,9 @@ runs-whole set b (suc m) n all stop =
     let e : b + suc m ≡ suc b + m = omega arith in
     let s : suc m + n ≡ suc (m + n) = omega arith in
     let here = all b (omega arith) (omega arith) in
-    let later = runs-whole set (suc b) m n (λ k h1 h2. all k (omega arith) (omega arith)) (rw e at stop) in
+    let more : (k : ℕ) → suc b ≤ k → k ≤ suc b + m → is_in set k ≡ true =
+    λ k h1 h2. all k (omega arith) (omega arith) in
+    let later = runs-whole set (suc b) m n more (rw e at stop) in
     let same : (suc b == suc b) ≡ true = search rules in
     rw (e, s, runs-in set b (suc (m + n)) here, later, same) refl
 

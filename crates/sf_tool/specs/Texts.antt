@@ -1,4 +1,4 @@
--- The lines that tell of a refusal. A set of bytes is a number: byte b is in it if its bit b is set.
+-- The lines that tell of a refusal. A set of bytes is a number: byte b is in it if bit b is set.
 use Rattle.std.specs.Prelude.{ℕ, zero, suc, ◌/◌, ◌%◌, Bool, true, false, ◌==◌, if◌then◌else◌}
 use Rattle.std.specs.Prelude.{List, [], ◌∷◌, ◌++◌, Option, Some, None, codes, decimal}
 use Rattle.std.specs.Int.{bit_at}

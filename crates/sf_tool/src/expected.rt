@@ -1,5 +1,6 @@
 //! Sets of bytes, as the lines of refusals list them.
-ghost use Rattle.std.specs.Prelude.{◌≡◌, ◌+◌, ◌-◌, ◌/◌, ◌%◌, ◌<◌, ◌≤◌, [], ◌∷◌, ◌==◌, true, MatchOption, IfSome};
+ghost use Rattle.std.specs.Prelude.{◌≡◌, ◌+◌, ◌-◌, ◌/◌, ◌%◌, ◌<◌, ◌≤◌, [], ◌∷◌, ◌==◌, true};
+ghost use Rattle.std.specs.Prelude.{MatchOption, IfSome};
 ghost use Rattle.std.specs.Int.{bit_at};
 ghost use Rattle.sf_value.specs.Grammar.DisplayStrings.{hex};
 ghost use Rattle.sf_write.specs.Writing.{Writes};
@@ -68,7 +69,8 @@ fn next_run(set: u128, from: u8) -> Option<(u8, u8)>
 
 /// A space and a run of the set: its byte, or its first and its last byte with a `-` between.
 fn write_run<W: Sink>(first: u8, last: u8, before: u64, out: &mut W) -> Result<u64, WriteFault>
-    ensures { Writes (W.state out.old) (W.state out.new) before result (32 ∷ run_text (first, last)) }
+    ensures { Writes (W.state out.old) (W.state out.new) before result
+        (32 ∷ run_text (first, last)) }
 {
     let [high, low] = hex_digits(first);
     if first == last {

@@ -112,11 +112,11 @@ fn answer<W: Sink>(
     }
 }
 
-/// Answers a request: reads the whole input from the source, then computes, then writes to the sink.
+/// Answers a request: reads the whole input from the source, computes, and then writes to the sink.
 ///
-/// An input that is longer than [`INPUT_LIMIT`] is refused, and at most one byte beyond the limit is
-/// read. A failed read is not repeated: it gives `Stopped`, as does want of memory, and then nothing
-/// was written. A failed write gives `Stopped`, and a front of the answer went out before it. Else
+/// An input longer than [`INPUT_LIMIT`] is refused, and at most one byte beyond the limit is read.
+/// A failed read is not repeated: it gives `Stopped`, as does want of memory, and then nothing was
+/// written. A failed write gives `Stopped`, and a front of the answer went out before it. Else
 /// the whole answer went out, and the status is its. It is never `Usage`, and the sink is not
 /// flushed.
 ///

@@ -5,7 +5,8 @@ use Rattle.sf_tool.proofs.cutting.without_lead.Given as goal
 
 abbrev pub invariant-loop-start : goal.invariant-loop-start
 invariant-loop-start l =
-    (l.start ≤ length l.bytes) × (prefix_len is_blank l.bytes ≡ l.start + prefix_len is_blank (drop l.start l.bytes))
+    (l.start ≤ length l.bytes)
+    × (prefix_len is_blank l.bytes ≡ l.start + prefix_len is_blank (drop l.start l.bytes))
 
 abbrev pub decreases-loop-start : goal.decreases-loop-start
 decreases-loop-start l = length l.bytes - l.start

@@ -3,4 +3,5 @@ use Rattle.sf_tool.specs.Texts.{runs_from}
 use Rattle.sf_tool.proofs.expected.next_run.Given as goal
 
 abbrev pub invariant-loop-byte : goal.invariant-loop-byte
-invariant-loop-byte l = runs_from l.set l.from (128 - l.from) ≡ runs_from l.set l.byte (128 - l.byte)
+invariant-loop-byte l =
+    runs_from l.set l.from (128 - l.from) ≡ runs_from l.set l.byte (128 - l.byte)

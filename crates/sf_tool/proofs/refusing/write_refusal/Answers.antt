@@ -5,13 +5,15 @@ use Rattle.sf_tool.proofs.refusing.write_refusal.Goals as goal
 
 pub returns-in_err-written : goal.returns-in_err-written
 returns-in_err-written g c =
-    let expected = codes " expected" ++ (set_text (runs_of c.args.expected) ++ end_text c.args.may_end) in
+    let set = set_text (runs_of c.args.expected) in
+    let expected = codes " expected" ++ (set ++ end_text c.args.may_end) in
     ends_early _ (decimal c.args.place ++ (found_text c.args.found ++ expected))
     (leaves_all _ _ _ (omega arith)) refl c.in_err-written.ensures c.from_residual.ensures.1
 
 pub returns-in_err-written-2 : goal.returns-in_err-written-2
 returns-in_err-written-2 g c =
-    let expected = codes " expected" ++ (set_text (runs_of c.args.expected) ++ end_text c.args.may_end) in
+    let set = set_text (runs_of c.args.expected) in
+    let expected = codes " expected" ++ (set ++ end_text c.args.may_end) in
     let left = leaves_less (decimal c.args.place ++ (found_text c.args.found ++ expected))
     (leaves_all _ _ _ (omega arith)) refl c.in_ok-written.ensures in
     ends_early _ (found_text c.args.found ++ expected) left refl
@@ -19,7 +21,8 @@ returns-in_err-written-2 g c =
 
 pub returns-in_err-written-3 : goal.returns-in_err-written-3
 returns-in_err-written-3 g c =
-    let expected = codes " expected" ++ (set_text (runs_of c.args.expected) ++ end_text c.args.may_end) in
+    let set = set_text (runs_of c.args.expected) in
+    let expected = codes " expected" ++ (set ++ end_text c.args.may_end) in
     let left = leaves_less (decimal c.args.place ++ (found_text c.args.found ++ expected))
     (leaves_all _ _ _ (omega arith)) refl c.in_ok-written.ensures in
     let more = leaves_less (found_text c.args.found ++ expected) left refl
@@ -29,7 +32,8 @@ returns-in_err-written-3 g c =
 
 pub returns : goal.returns
 returns g c =
-    let expected = codes " expected" ++ (set_text (runs_of c.args.expected) ++ end_text c.args.may_end) in
+    let set = set_text (runs_of c.args.expected) in
+    let expected = codes " expected" ++ (set ++ end_text c.args.may_end) in
     let left = leaves_less (decimal c.args.place ++ (found_text c.args.found ++ expected))
     (leaves_all _ _ _ (omega arith)) refl c.in_ok-written.ensures in
     let more = leaves_less (found_text c.args.found ++ expected) left refl

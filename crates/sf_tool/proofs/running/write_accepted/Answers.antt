@@ -9,5 +9,6 @@ returns-in_err-written g c =
 
 pub returns : goal.returns
 returns g c =
-    let left = leaves_less (10 ∷ []) (leaves_all _ _ _ (omega arith)) refl c.in_ok-written.ensures in
+    let all = leaves_all _ _ _ (omega arith) in
+    let left = leaves_less (10 ∷ []) all refl c.in_ok-written.ensures in
     ends_with _ _ left refl c.send_all.ensures
