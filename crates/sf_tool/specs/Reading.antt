@@ -1,14 +1,10 @@
 -- What reading a source to its end, or to a limit, answers.
-use Rattle.std.specs.Prelude.{◌≡◌, ℕ, ◌+◌, ◌-◌, ◌^◌, ◌<◌, ◌≤◌, List, length}
-use Rattle.std.specs.Io.KnownBytes.{IsAtEnd}
+use Rattle.std.specs.Prelude.{◌≡◌, ℕ, ◌+◌, ◌≤◌, List, length}
 use Rattle.sf_value.specs.Devices.{SourceState, capped, Gave, GaveAndFailed}
+use Rattle.sf_parse.specs.Reading.{IsWholeOrFull}
 use Rattle.sf_tool.specs.declared.reading.ReadAllFault.{ReadAllFault}
 use Rattle.sf_tool.specs.declared.reading.ReadAllFault.TheVariants.{OutOfMemory, ReadFault}
 use Rattle.sf_tool.specs.declared.reading.ReadAllFault.TheVariants.{TooLong}
-
--- no byte is still to come, or as many bytes as a count holds were given
-abbrev pub IsWholeOrFull : SourceState → List ℕ → Type 0
-IsWholeOrFull new bytes = length bytes < 2 ^ 64 - 1 → IsAtEnd new.to_come
 
 -- which bytes were given, to the end
 abbrev pub ReadToEnd : SourceState → SourceState → ℕ → List ℕ → Type 0
