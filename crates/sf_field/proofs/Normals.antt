@@ -1,5 +1,5 @@
 -- Canonical texts as lines.
-use Rattle.std.proofs.Common.{◌≡◌, ℕ, ◌*◌, ◌≤◌, List, ◌∷◌, [], length, sym, ap, ◌∙◌, subst}
+use Rattle.std.proofs.Common.{◌≡◌, ℕ, ◌*◌, ◌≤◌, List, ◌∷◌, [], length, sym, ap, ◌∙◌, subst, Result}
 use Rattle.sf_value.specs.declared.dialect.Dialect.{Dialect}
 use Rattle.sf_value.specs.declared.dialect.Dialect.TheVariants.{Rfc9651}
 use Rattle.sf_value.specs.declared.value.Field.{Field}
@@ -12,6 +12,7 @@ use Rattle.sf_value.proofs.Validity.{spelled_valid}
 use Rattle.sf_value.proofs.LengthBound.{canon_bound}
 use Rattle.sf_parse.specs.Parsers.{IsOnly}
 use Rattle.sf_parse.proofs.Theorems.{one_value, canon_one}
+use Rattle.sf_field.specs.Asking.{MeansAsCanonical}
 use Rattle.sf_field.specs.Normal.{NormalisesTo}
 use Rattle.sf_field.specs.Laws.{CanonSettles, EqualByText, NormalIsOne, TwiceIsOnce}
 
@@ -66,4 +67,14 @@ normal_is_one kind these those c e p q =
     q.spelled.spelled in (
       λ i. texts.0 (sym p.canonical ∙ i ∙ q.canonical),
       λ i. p.canonical ∙ texts.1 i ∙ sym q.canonical,
+    )
+
+-- what lines mean, their canonical text means
+pub means_as_canonical : {A : Type 0} (kind : Kind) (meaning : Field → Result A ℕ)
+    (lines : List (List ℕ)) → MeansAsCanonical kind meaning lines
+means_as_canonical kind meaning lines v h meant =
+    let here = is_only Rfc9651 kind (join lines) v h in
+    let there = canon_only Rfc9651 kind (join lines) v h in (
+      λ m. (v, there, ap meaning (m.1.only v h) ∙ m.2),
+      λ m. (v, here, ap meaning (m.1.only v there.spelled) ∙ m.2),
     )

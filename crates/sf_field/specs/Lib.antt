@@ -3,3 +3,5 @@ pub mod Lines
 pub mod Headers
 pub mod Normal
 pub mod Laws
+pub mod Meaning
+pub mod Asking

@@ -5,11 +5,15 @@
 //! A line is a [`sf_value::Blob`], any bytes. Places in a refusal are counted in the joined text.
 #![tactic(auto)]
 
+mod asking;
+mod consumer;
 mod headers;
 pub mod laws;
 mod lines;
 #[cfg(test)]
 mod tests;
 
+pub use asking::{AskFault, ask};
+pub use consumer::{Consumer, UseFault};
 pub use headers::from_headers;
 pub use lines::{normalise_lines, parse_lines, parse_lines_in};

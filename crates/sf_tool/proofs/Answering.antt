@@ -13,12 +13,12 @@ use Rattle.sf_parse.specs.declared.refusal.Refusal.TheVariants.{ReadFault}
 use Rattle.sf_parse.specs.Parsers.{IsOnly, IsSyntax}
 use Rattle.sf_field.specs.Lines.{ParsesLines}
 use Rattle.sf_tool.specs.declared.request.Request.{Request}
-use Rattle.sf_tool.specs.declared.request.Request.TheVariants.{Normalise}
 use Rattle.sf_tool.specs.declared.running.TheConstants.{INPUT_LIMIT}
 use Rattle.sf_tool.specs.declared.status.Status.{Status}
 use Rattle.sf_tool.specs.declared.status.Status.TheVariants.{Accepted, Refused, Usage, Stopped}
 use Rattle.sf_tool.specs.Lines.{lines_of}
-use Rattle.sf_tool.specs.Run.{Outputs, Tells}
+use Rattle.sf_tool.specs.Texts.{refusal_line}
+use Rattle.sf_tool.specs.Run.{joined, Responds, Answers, Outputs, Tells}
 use Rattle.sf_tool.specs.Run.{TellsText, TellsRefusal, IsOfText}
 
 -- the text of an input was to be written
@@ -46,15 +46,21 @@ tells_text request input text status old new Stopped o t = inr (record {
   wrote = t.1;
 })
 
+-- what a request answers where it tells this of a value
+abbrev pub RespondsTo : Request → Dialect → Kind → (Field → List ℕ) → List ℕ → Type 0
+RespondsTo request d kind tell input =
+    (text : List ℕ) (status : Status) → Responds d kind tell (joined input) text status
+    → Answers request input text status
+
 -- the lines spell a value
-pub tells_field : (d : Dialect) (kind : Kind) (input : List ℕ) (lines : List (List ℕ)) (v : Field)
-    (old new : SinkState) (result : Status) → lines ≡ lines_of input → length input ≤ INPUT_LIMIT
-    → IsOnly d kind (join lines) v → TellsText (canon v ++ 10 ∷ []) Accepted old new result
-    → Tells (Normalise d kind) input old new result
-tells_field d kind input lines v old new result e short only t =
-    let P : List (List ℕ) → Type 0 = λ ls. IsOnly d kind (join ls) v in
-    tells_text (Normalise d kind) input (canon v ++ 10 ∷ []) Accepted old new result
-    (inl (short, (v, subst P e only, refl))) t
+pub tells_field : (request : Request) (d : Dialect) (kind : Kind) (tell : Field → List ℕ)
+    (input : List ℕ) (v : Field) (old new : SinkState) (result : Status)
+    → RespondsTo request d kind tell input → length input ≤ INPUT_LIMIT
+    → IsOnly d kind (joined input) v → TellsText (tell v) Accepted old new result
+    → Tells request input old new result
+tells_field request d kind tell input v old new result given short only t =
+    tells_text request input (tell v) Accepted old new result
+    (inl (short, given (tell v) Accepted (v, only, refl))) t
 
 -- what the line of a refusal tells
 refuses : (d : Dialect) (kind : Kind) (lines : List (List ℕ)) (place : ℕ) (found : Option ℕ)
@@ -71,31 +77,32 @@ stopped request input old new result e same =
     subst P (sym e) (inl same)
 
 -- the lines are refused
-pub tells_refusal : (d : Dialect) (kind : Kind) (input : List ℕ) (lines : List (List ℕ))
-    (e : Refusal) (old new : SinkState) (result : Status) → lines ≡ lines_of input
-    → length input ≤ INPUT_LIMIT → ParsesLines d kind lines (Err e)
-    → TellsRefusal e old new result → Tells (Normalise d kind) input old new result
-tells_refusal d kind input lines OutOfMemory old new result same short p t =
-    stopped (Normalise d kind) input old new result t.0 t.1
-tells_refusal d kind input lines (Syntax place found expected may_end) old new result same short
-    p t =
-    let P : List (List ℕ) → Type 0 = λ ls. IsSyntax d kind (join ls) place found expected may_end in
-    let known = refuses d kind lines place found expected may_end p in
-    tells_text (Normalise d kind) input _ Refused old new result
+pub tells_refusal : (request : Request) (d : Dialect) (kind : Kind) (tell : Field → List ℕ)
+    (input : List ℕ) (e : Refusal) (old new : SinkState) (result : Status)
+    → RespondsTo request d kind tell input → length input ≤ INPUT_LIMIT
+    → ParsesLines d kind (lines_of input) (Err e)
+    → TellsRefusal e old new result → Tells request input old new result
+tells_refusal request d kind tell input OutOfMemory old new result given short p t =
+    stopped request input old new result t.0 t.1
+tells_refusal request d kind tell input (Syntax place found expected may_end) old new result given
+    short p t =
+    let known = refuses d kind (lines_of input) place found expected may_end p in
+    let line = refusal_line place found expected may_end in
+    tells_text request input line Refused old new result
     (inl (
       short,
-      record {
+      given line Refused (record {
         place = place;
         found = found;
         expected = expected;
         may_end = may_end;
-        syntax = subst P same known.0;
+        syntax = known.0;
         unended = known.1;
         told = refl;
-      },
+      }),
     )) t
-tells_refusal d kind input lines (TooLong limit) old new result same short p t = absurd t
-tells_refusal d kind input lines (ReadFault place) old new result same short p t = absurd t
+tells_refusal request d kind tell input (TooLong limit) old new result given short p t = absurd t
+tells_refusal request d kind tell input (ReadFault place) old new result given short p t = absurd t
 
 -- lines of an input within the limit are never too long
 pub is_of_text : (d : Dialect) (kind : Kind) (input : List ℕ) (lines : List (List ℕ))

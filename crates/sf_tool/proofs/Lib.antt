@@ -1,4 +1,5 @@
 pub mod Gives
 pub mod Cuts
+pub mod Steps
 pub mod Runs
 pub mod Answering

@@ -3,4 +3,5 @@ pub mod Status
 pub mod Reading
 pub mod Lines
 pub mod Texts
+pub mod Tree
 pub mod Run

@@ -1,6 +1,6 @@
 -- What a run of the command reads, answers and writes.
 use Rattle.std.specs.Prelude.{◌≡◌, ℕ, ◌+◌, ◌<◌, ◌≤◌, ◌⊎◌, Bool, false, List, [], ◌∷◌, ◌++◌, length}
-use Rattle.std.specs.Prelude.{Option, None, ⊤}
+use Rattle.std.specs.Prelude.{Option, None, codes, ⊤}
 use Rattle.std.specs.Io.KnownBytes.{IsAtEnd}
 use Rattle.sf_value.specs.declared.dialect.Dialect.{Dialect}
 use Rattle.sf_value.specs.declared.value.Field.{Field}
@@ -14,12 +14,13 @@ use Rattle.sf_parse.specs.declared.refusal.Refusal.TheVariants.{OutOfMemory, Syn
 use Rattle.sf_parse.specs.declared.refusal.Refusal.TheVariants.{ReadFault}
 use Rattle.sf_parse.specs.Parsers.{IsOnly, IsSyntax}
 use Rattle.sf_tool.specs.declared.request.Request.{Request}
-use Rattle.sf_tool.specs.declared.request.Request.TheVariants.{Normalise}
+use Rattle.sf_tool.specs.declared.request.Request.TheVariants.{Show, Check, Normalise}
 use Rattle.sf_tool.specs.declared.running.TheConstants.{INPUT_LIMIT}
 use Rattle.sf_tool.specs.declared.status.Status.{Status}
 use Rattle.sf_tool.specs.declared.status.Status.TheVariants.{Accepted, Refused, Usage, Stopped}
 use Rattle.sf_tool.specs.Lines.{lines_of}
 use Rattle.sf_tool.specs.Texts.{refusal_line, too_long_line}
+use Rattle.sf_tool.specs.Tree.{tree}
 
 -- the field lines of an input, joined
 abbrev pub joined : List ℕ → List ℕ
@@ -36,16 +37,27 @@ pub record Refuses (d : Dialect) (kind : Kind) (t line : List ℕ) : Type 0 wher
   pub unended : found ≡ None → may_end ≡ false
   pub told : line ≡ refusal_line place found expected may_end
 
--- the canonical text of the one value that t spells, and a line feed; or the line of a refusal
-abbrev pub Normalises : Dialect → Kind → List ℕ → List ℕ → Status → Type 0
-Normalises d kind t text Accepted = (v : Field) × IsOnly d kind t v × (text ≡ canon v ++ 10 ∷ [])
-Normalises d kind t text Refused = Refuses d kind t text
-Normalises d kind t text Usage = ⊥
-Normalises d kind t text Stopped = ⊥
+-- what is told of the one value that t spells; or the line of a refusal
+abbrev pub Responds : Dialect → Kind → (Field → List ℕ) → List ℕ → List ℕ → Status → Type 0
+Responds d kind tell t text Accepted = (v : Field) × IsOnly d kind t v × (text ≡ tell v)
+Responds d kind tell t text Refused = Refuses d kind t text
+Responds d kind tell t text Usage = ⊥
+Responds d kind tell t text Stopped = ⊥
+
+-- what `check` tells of any value
+abbrev pub accepted_line : Field → List ℕ
+accepted_line v = codes "accepted\n"
+
+-- what `normalise` tells: the canonical text, and a line feed
+abbrev pub canonical_line : Field → List ℕ
+canonical_line v = canon v ++ codes "\n"
 
 -- the text and the status for an input within the limit
 abbrev pub Answers : Request → List ℕ → List ℕ → Status → Type 0
-Answers (Normalise d kind) input text status = Normalises d kind (joined input) text status
+Answers (Show d kind) input text status = Responds d kind tree (joined input) text status
+Answers (Check d kind) input text status = Responds d kind accepted_line (joined input) text status
+Answers (Normalise d kind) input text status =
+    Responds d kind canonical_line (joined input) text status
 
 -- the text and the status for any input: a longer one is refused for its length
 abbrev pub Outputs : Request → List ℕ → List ℕ → Status → Type 0

@@ -12,6 +12,7 @@ mod running;
 mod status;
 #[cfg(test)]
 mod tests;
+mod tree;
 
 pub use request::{Request, RequestFault, read_request};
 pub use running::{INPUT_LIMIT, run};

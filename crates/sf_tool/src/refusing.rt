@@ -8,11 +8,15 @@ use itoa::Buffer;
 use sf_value::Sink;
 use sf_write::{WriteFault, send_all};
 
-/// The place, in decimal.
-fn write_place<W: Sink>(place: u64, before: u64, out: &mut W) -> Result<u64, WriteFault>
-    ensures { Writes (W.state out.old) (W.state out.new) before result (decimal place) }
+/// A number, in decimal.
+pub(crate) fn write_number<W: Sink>(
+    number: u64,
+    before: u64,
+    out: &mut W,
+) -> Result<u64, WriteFault>
+    ensures { Writes (W.state out.old) (W.state out.new) before result (decimal number) }
 {
-    send_all(Buffer::new().format(place).as_bytes(), before, out)
+    send_all(Buffer::new().format(number).as_bytes(), before, out)
 }
 
 /// The byte that was found, in hexadecimal.
@@ -73,7 +77,7 @@ pub(crate) fn write_refusal<W: Sink>(
         (refusal_line place found expected may_end) }
 {
     let written = send_all(b"refused at ", before, out)?;
-    let written = write_place(place, written, out)?;
+    let written = write_number(place, written, out)?;
     let written = write_found(found, written, out)?;
     write_expected(expected, may_end, written, out)
 }

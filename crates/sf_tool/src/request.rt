@@ -8,6 +8,10 @@ use thiserror::Error;
 /// What the command is asked to do.
 #[derive(Clone, Copy, Debug, PartialEq, Eq)]
 pub enum Request {
+    /// To write the tree of the input's field lines, read in this dialect as one field of this kind.
+    Show(Dialect, Kind),
+    /// To write whether the input's field lines are accepted, in this dialect and as this kind.
+    Check(Dialect, Kind),
     /// To write the canonical text of the input's field lines, read in this dialect as one field of
     /// this kind.
     Normalise(Dialect, Kind),
@@ -53,6 +57,8 @@ fn fault_of(kind: ErrorKind) -> RequestFault {
 fn make_command<'a>(alloc: Global) -> Result<Command<'a>, AllocError> {
     Command::new(alloc, "sf")
         .subcommand_required(true)
+        .subcommand(with_kind(alloc, "show")?)?
+        .subcommand(with_kind(alloc, "check")?)?
         .subcommand(with_kind(alloc, "normalise")?)
 }
 
@@ -67,6 +73,8 @@ fn with_kind<'a>(alloc: Global, name: &'a str) -> Result<Command<'a>, AllocError
 
 fn request_of(name: &str, given: &ArgMatches<'_>) -> Result<Request, RequestFault> {
     match name {
+        "show" => Ok(Request::Show(dialect_of(given)?, kind_of(given)?)),
+        "check" => Ok(Request::Check(dialect_of(given)?, kind_of(given)?)),
         "normalise" => Ok(Request::Normalise(dialect_of(given)?, kind_of(given)?)),
         _ => Err(RequestFault::Usage),
     }

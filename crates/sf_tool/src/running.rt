@@ -1,17 +1,21 @@
 //! What the command answers.
-ghost use Rattle.std.specs.Prelude.{◌≡◌, ◌≤◌, ◌++◌, ◌∷◌, [], length};
-ghost use Rattle.sf_value.specs.Grammar.Canonical.{canon};
+ghost use Rattle.std.specs.Prelude.{◌≤◌, length, IfErr};
 ghost use Rattle.sf_write.specs.Writing.{Writes};
+ghost use Rattle.sf_field.specs.Lines.{ParsesLines};
 ghost use Rattle.sf_tool.specs.declared.request.Request.TheVariants as request_is;
 ghost use Rattle.sf_tool.specs.declared.status.Status.TheVariants as status_is;
+ghost use Rattle.sf_tool.specs.Lines.{lines_of};
 ghost use Rattle.sf_tool.specs.Texts.{too_long_line};
+ghost use Rattle.sf_tool.specs.Tree.{tree};
 ghost use Rattle.sf_tool.specs.Run.{Ran, Tells, TellsText, TellsRefusal, IsOfText};
+ghost use Rattle.sf_tool.specs.Run.{accepted_line, canonical_line};
 
 use crate::cutting::lines_of;
 use crate::reading::{ReadAllFault, read_all};
 use crate::refusing::write_refusal;
 use crate::request::Request;
 use crate::status::Status;
+use crate::tree::write_tree;
 use sf_field::parse_lines_in;
 use sf_parse::Refusal;
 use sf_value::{Dialect, Field, Kind, Sink, Source};
@@ -23,8 +27,8 @@ use std::hash::RandomState;
 pub const INPUT_LIMIT: u64 = 1_048_576;
 
 /// The canonical text of a field, and a line feed.
-fn write_accepted<W: Sink>(field: &Field, out: &mut W) -> Result<u64, WriteFault>
-    ensures { Writes (W.state out.old) (W.state out.new) 0 result (canon field.now ++ 10 ∷ []) }
+fn write_canonical<W: Sink>(field: &Field, out: &mut W) -> Result<u64, WriteFault>
+    ensures { Writes (W.state out.old) (W.state out.new) 0 result (canonical_line field.now) }
 {
     let written = write_field_from(field, 0, out)?;
     send_all(b"\n", written, out)
@@ -33,11 +37,34 @@ fn write_accepted<W: Sink>(field: &Field, out: &mut W) -> Result<u64, WriteFault
 // Lets a field go. It is a function of its own, so that it is one call where that is done.
 fn let_go(_field: Field) {}
 
-fn answer_field<W: Sink>(field: Field, sink: &mut W) -> Status
-    ensures { TellsText (canon field ++ 10 ∷ []) status_is.Accepted
+fn answer_tree<W: Sink>(field: Field, sink: &mut W) -> Status
+    ensures { TellsText (tree field) status_is.Accepted
         (W.state sink.old) (W.state sink.new) result }
 {
-    let written = write_accepted(&field, sink);
+    let written = write_tree(&field, 0, sink);
+    let_go(field);
+    match written {
+        Ok(_) => Status::Accepted,
+        Err(_) => Status::Stopped,
+    }
+}
+
+fn answer_accepted<W: Sink>(field: Field, sink: &mut W) -> Status
+    ensures { TellsText (accepted_line field) status_is.Accepted
+        (W.state sink.old) (W.state sink.new) result }
+{
+    let_go(field);
+    match send_all(b"accepted\n", 0, sink) {
+        Ok(_) => Status::Accepted,
+        Err(_) => Status::Stopped,
+    }
+}
+
+fn answer_canonical<W: Sink>(field: Field, sink: &mut W) -> Status
+    ensures { TellsText (canonical_line field) status_is.Accepted
+        (W.state sink.old) (W.state sink.new) result }
+{
+    let written = write_canonical(&field, sink);
     let_go(field);
     match written {
         Ok(_) => Status::Accepted,
@@ -75,7 +102,63 @@ fn answer_too_long<W: Sink>(sink: &mut W) -> Status
     }
 }
 
-/// The canonical text of the input's field lines, or why they are refused.
+/// The value of the input's field lines, read as one field.
+fn parse_input(
+    alloc: Global,
+    seed: &RandomState,
+    dialect: Dialect,
+    kind: Kind,
+    input: &[u8],
+) -> Result<Field, Refusal>
+    requires { length input.now ≤ INPUT_LIMIT }
+    ensures parses { ParsesLines dialect kind (lines_of input.now) result }
+    ensures of_text { IfErr result IsOfText }
+{
+    match lines_of(alloc, input) {
+        Ok(lines) => parse_lines_in(alloc, seed, dialect, kind, lines.as_slice()),
+        Err(_) => Err(Refusal::OutOfMemory),
+    }
+}
+
+/// The tree of the input's field, or why it is refused.
+fn show<W: Sink>(
+    alloc: Global,
+    seed: &RandomState,
+    dialect: Dialect,
+    kind: Kind,
+    input: &[u8],
+    sink: &mut W,
+) -> Status
+    requires { length input.now ≤ INPUT_LIMIT }
+    ensures { Tells (request_is.Show dialect kind) input.now
+        (W.state sink.old) (W.state sink.new) result }
+{
+    match parse_input(alloc, seed, dialect, kind, input) {
+        Ok(field) => answer_tree(field, sink),
+        Err(refusal) => answer_refusal(refusal, sink),
+    }
+}
+
+/// That the input's field is accepted, or why it is refused.
+fn check<W: Sink>(
+    alloc: Global,
+    seed: &RandomState,
+    dialect: Dialect,
+    kind: Kind,
+    input: &[u8],
+    sink: &mut W,
+) -> Status
+    requires { length input.now ≤ INPUT_LIMIT }
+    ensures { Tells (request_is.Check dialect kind) input.now
+        (W.state sink.old) (W.state sink.new) result }
+{
+    match parse_input(alloc, seed, dialect, kind, input) {
+        Ok(field) => answer_accepted(field, sink),
+        Err(refusal) => answer_refusal(refusal, sink),
+    }
+}
+
+/// The canonical text of the input's field, or why it is refused.
 fn normalise<W: Sink>(
     alloc: Global,
     seed: &RandomState,
@@ -88,11 +171,8 @@ fn normalise<W: Sink>(
     ensures { Tells (request_is.Normalise dialect kind) input.now
         (W.state sink.old) (W.state sink.new) result }
 {
-    let Ok(lines) = lines_of(alloc, input) else {
-        return Status::Stopped;
-    };
-    match parse_lines_in(alloc, seed, dialect, kind, lines.as_slice()) {
-        Ok(field) => answer_field(field, sink),
+    match parse_input(alloc, seed, dialect, kind, input) {
+        Ok(field) => answer_canonical(field, sink),
         Err(refusal) => answer_refusal(refusal, sink),
     }
 }
@@ -108,6 +188,8 @@ fn answer<W: Sink>(
     ensures { Tells request.now input.now (W.state sink.old) (W.state sink.new) result }
 {
     match request {
+        Request::Show(dialect, kind) => show(alloc, seed, *dialect, *kind, input, sink),
+        Request::Check(dialect, kind) => check(alloc, seed, *dialect, *kind, input, sink),
         Request::Normalise(dialect, kind) => normalise(alloc, seed, *dialect, *kind, input, sink),
     }
 }

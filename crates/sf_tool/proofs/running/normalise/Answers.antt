@@ -1,15 +1,16 @@
-use Rattle.std.proofs.Common.{◌∙◌}
+use Rattle.sf_tool.specs.Run.{canonical_line}
+use Rattle.sf_tool.specs.declared.request.Request.TheVariants.{Normalise}
 use Rattle.sf_tool.proofs.Answering.{tells_field, tells_refusal}
 use Rattle.sf_tool.proofs.running.normalise.Goals as goal
 
-pub returns-in-Ok-parse_lines_in : goal.returns-in-Ok-parse_lines_in
-returns-in-Ok-parse_lines_in g c =
-    tells_field c.args.dialect c.args.kind c.args.input.now c.as_slice.result.now
-    c.in-Ok-parse_lines_in.field _ _ _ (c.as_slice.ensures.value ∙ c.in-Ok.ensures.lines)
-    c.requires c.in-Ok-parse_lines_in.ensures.parses c.answer_field.ensures
+pub returns-in-Ok : goal.returns-in-Ok
+returns-in-Ok g c =
+    tells_field (Normalise c.args.dialect c.args.kind) c.args.dialect c.args.kind canonical_line
+    c.args.input.now c.in-Ok.field _ _ _ (λ text status r. r) c.requires c.in-Ok.ensures.parses
+    c.answer_canonical.ensures
 
-pub returns : goal.returns
-returns g c =
-    tells_refusal c.args.dialect c.args.kind c.args.input.now c.as_slice.result.now
-    c.in-Err.refusal _ _ _ (c.as_slice.ensures.value ∙ c.in-Ok.ensures.lines)
-    c.requires c.in-Err.ensures.parses c.answer_refusal.ensures
+pub returns-in-Err : goal.returns-in-Err
+returns-in-Err g c =
+    tells_refusal (Normalise c.args.dialect c.args.kind) c.args.dialect c.args.kind canonical_line
+    c.args.input.now c.in-Err.refusal _ _ _ (λ text status r. r) c.requires c.in-Err.ensures.parses
+    c.answer_refusal.ensures

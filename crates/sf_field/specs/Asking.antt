@@ -1,0 +1,35 @@
+-- What asking a consumer about field lines answers.
+use Rattle.std.specs.Prelude.{◌≡◌, ℕ, ◌↔◌, List, [], ◌∷◌, Result, Ok, Err, ⊤}
+use Rattle.sf_value.specs.declared.dialect.Dialect.TheVariants.{Rfc9651}
+use Rattle.sf_value.specs.declared.value.Field.{Field}
+use Rattle.sf_value.specs.declared.value.Kind.{Kind}
+use Rattle.sf_value.specs.Grammar.Canonical.{canon}
+use Rattle.sf_value.specs.Grammar.Fields.{SpellsField}
+use Rattle.sf_value.specs.Grammar.Lines.{join}
+use Rattle.sf_parse.specs.Parsers.{IsOnly}
+use Rattle.sf_field.specs.Lines.{ParsesLines}
+use Rattle.sf_field.specs.declared.consumer.UseFault.{UseFault}
+use Rattle.sf_field.specs.declared.consumer.UseFault.TheVariants.{NotACache, OutOfMemory}
+use Rattle.sf_field.specs.declared.asking.AskFault.{AskFault}
+use Rattle.sf_field.specs.declared.asking.AskFault.TheVariants as fault
+
+-- the lines spell a value of the kind, and no other, and this is what it means
+abbrev pub Means : {A : Type 0} → Kind → (Field → Result A ℕ) → List (List ℕ) → Result A ℕ → Type 0
+Means kind meaning lines meant =
+    (v : Field) × IsOnly Rfc9651 kind (join lines) v × (meaning v ≡ meant)
+
+-- the answer is what the lines mean; the fault is what they mean, or their refusal, or memory was
+-- wanting
+abbrev pub Asks : {A : Type 0} → Kind → (Field → Result A ℕ) → List (List ℕ) → Result A AskFault
+    → Type 0
+Asks kind meaning lines (Ok answer) = Means kind meaning lines (Ok answer)
+Asks kind meaning lines (Err (fault.Field refusal)) = ParsesLines Rfc9651 kind lines (Err refusal)
+Asks kind meaning lines (Err (fault.Answer (NotACache index))) =
+    Means kind meaning lines (Err index)
+Asks kind meaning lines (Err (fault.Answer OutOfMemory)) = ⊤
+
+-- accepted lines mean what their canonical text means as the only line
+abbrev pub MeansAsCanonical : {A : Type 0} → Kind → (Field → Result A ℕ) → List (List ℕ) → Type 0
+MeansAsCanonical {A = A} kind meaning lines =
+    (v : Field) → SpellsField Rfc9651 kind (join lines) v → (meant : Result A ℕ)
+    → Means kind meaning lines meant ↔ Means kind meaning (canon v ∷ []) meant

@@ -1,0 +1,45 @@
+//! What field lines mean to a consumer.
+ghost use Rattle.sf_field.specs.Asking.{Asks, MeansAsCanonical};
+
+use crate::consumer::{Consumer, UseFault};
+use crate::lines::{let_go, parse_lines};
+use sf_parse::Refusal;
+use sf_value::Blob;
+use std::alloc::Global;
+use std::hash::RandomState;
+
+/// Why there is no answer for field lines.
+#[derive(Clone, Copy, Debug, PartialEq, Eq)]
+pub enum AskFault {
+    /// The lines spell no value of the consumer's kind, or memory was wanting to parse them.
+    Field(Refusal),
+    /// The value that they spell has no answer.
+    Answer(UseFault),
+}
+
+/// What the lines mean to a consumer: they are parsed as its kind, as [`crate::parse_lines`] does,
+/// and the value is answered. Accepted lines and their canonical text, as one line, mean the same.
+///
+/// ```
+/// let policy = ask(alloc, &seed, &Directives, lines.as_slice())?;
+/// ```
+pub fn ask<C: Consumer>(
+    alloc: Global,
+    seed: &RandomState,
+    consumer: &C,
+    lines: &[Blob],
+) -> Result<C::Answer, AskFault>
+    ensures answers { Asks C.KIND (C.meaning consumer.now) lines.now result }
+    ensures canonical { MeansAsCanonical C.KIND (C.meaning consumer.now) lines.now }
+{
+    let field = match parse_lines(alloc, seed, C::KIND, lines) {
+        Ok(field) => field,
+        Err(refusal) => return Err(AskFault::Field(refusal)),
+    };
+    let answer = consumer.answer(alloc, &field);
+    let_go(field);
+    match answer {
+        Ok(answer) => Ok(answer),
+        Err(fault) => Err(AskFault::Answer(fault)),
+    }
+}
