@@ -1,0 +1,11 @@
+//! Tests of the command's answers: [`sf_tool::run`] on inputs whose answer is known, read whole, a
+//! byte at a time and in every cutting into two reads, with each read and each write failing in
+//! turn. It has tests alone.
+#![tactic(auto)]
+
+#[cfg(test)]
+mod devices;
+#[cfg(test)]
+mod fields;
+#[cfg(test)]
+mod rows;
