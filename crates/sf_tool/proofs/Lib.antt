@@ -2,4 +2,5 @@ pub mod Gives
 pub mod Cuts
 pub mod Steps
 pub mod Runs
+pub mod SetRuns
 pub mod Answering

@@ -5,3 +5,4 @@ pub mod Lines
 pub mod Texts
 pub mod Tree
 pub mod Run
+pub mod Laws

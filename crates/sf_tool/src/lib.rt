@@ -5,6 +5,7 @@
 
 mod cutting;
 mod expected;
+pub mod laws;
 mod reading;
 mod refusing;
 mod request;

@@ -7,16 +7,17 @@ use std::hash::RandomState;
 use std::process::Abort;
 use std::test::Fail;
 
-type Row = (Kind, &'static [u8], &'static [u8]);
+pub(crate) type Row = (Kind, &'static [u8], &'static [u8]);
 
 fn value_in_pieces(
     alloc: Global,
     seed: &RandomState,
+    dialect: Dialect,
     kind: Kind,
     front: &[u8],
     back: &[u8],
 ) -> Result<Field, Fail> {
-    let mut parser = Parser::new(alloc, seed, kind, u64::MAX);
+    let mut parser = Parser::new_in(alloc, seed, dialect, kind, u64::MAX);
     parser.feed(front)?;
     parser.feed(back)?;
     Ok(parser.finish()?)
@@ -25,10 +26,11 @@ fn value_in_pieces(
 fn value_bytewise(
     alloc: Global,
     seed: &RandomState,
+    dialect: Dialect,
     kind: Kind,
     text: &[u8],
 ) -> Result<Field, Fail> {
-    let mut parser = Parser::new(alloc, seed, kind, u64::MAX);
+    let mut parser = Parser::new_in(alloc, seed, dialect, kind, u64::MAX);
     for byte in text {
         parser.feed(&[*byte])?;
     }
@@ -49,15 +51,26 @@ fn check_value(
     Ok(())
 }
 
-fn check_pieces(rt: &impl Abort, alloc: Global, seed: &RandomState, row: Row) -> Result<(), Fail> {
+fn check_pieces(
+    rt: &impl Abort,
+    alloc: Global,
+    seed: &RandomState,
+    dialect: Dialect,
+    row: Row,
+) -> Result<(), Fail> {
     let (kind, text, canonical) = row;
     for cut in 0..=text.len() {
         let (front, back) = text.split_at(cut);
-        let field = value_in_pieces(alloc, seed, kind, front, back)?;
+        let field = value_in_pieces(alloc, seed, dialect, kind, front, back)?;
         check_value(rt, alloc, &field, kind, canonical)?;
     }
-    let field = value_bytewise(alloc, seed, kind, text)?;
+    let field = value_bytewise(alloc, seed, dialect, kind, text)?;
     check_value(rt, alloc, &field, kind, canonical)
+}
+
+// Whether the text has a byte that Dates and Display Strings begin with.
+pub(crate) fn has_new_types(text: &[u8]) -> bool {
+    text.iter().any(|byte| *byte == b'@' || *byte == b'%')
 }
 
 fn check_row(rt: &impl Abort, alloc: Global, seed: &RandomState, row: Row) -> Result<(), Fail> {
@@ -67,7 +80,12 @@ fn check_row(rt: &impl Abort, alloc: Global, seed: &RandomState, row: Row) -> Re
     let again = parse_text(alloc, seed, kind, canonical)?;
     check_value(rt, alloc, &again, kind, canonical)?;
     assert!(rt; same(&field, &again));
-    check_pieces(rt, alloc, seed, row)
+    assert!(rt; canonical.len().saturating_mul(5) <= text.len().saturating_mul(8));
+    check_pieces(rt, alloc, seed, Dialect::Rfc9651, row)?;
+    if has_new_types(text) {
+        return Ok(());
+    }
+    check_pieces(rt, alloc, seed, Dialect::Rfc8941, row)
 }
 
 fn check_rows(
@@ -82,7 +100,7 @@ fn check_rows(
     Ok(())
 }
 
-static ITEMS: [Row; 41] = [
+pub(crate) static ITEMS: [Row; 41] = [
     (Kind::Item, b" -0 ", b"0"),
     (Kind::Item, b"@-0", b"@0"),
     (Kind::Item, b"-0.0", b"0.0"),
@@ -130,7 +148,7 @@ static ITEMS: [Row; 41] = [
     (Kind::Item, b"a;x=1;y=2;x=3", b"a;x=3;y=2"),
 ];
 
-static LISTS: [Row; 15] = [
+pub(crate) static LISTS: [Row; 15] = [
     (Kind::List, b"a \t", b"a"),
     (Kind::List, b"", b""),
     (Kind::List, b"   ", b""),
@@ -156,7 +174,7 @@ static LISTS: [Row; 15] = [
     (Kind::List, b"( 1  2 );a, 3", b"(1 2);a, 3"),
 ];
 
-static DICTIONARIES: [Row; 11] = [
+pub(crate) static DICTIONARIES: [Row; 11] = [
     (
         Kind::Dict,
         b"a=1,b;x, a=(1  2 );y=:YQ:",

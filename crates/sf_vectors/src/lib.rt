@@ -5,6 +5,8 @@
 #[cfg(test)]
 mod accepted;
 #[cfg(test)]
+mod following;
+#[cfg(test)]
 mod readers;
 #[cfg(test)]
 mod refused;

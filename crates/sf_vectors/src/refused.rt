@@ -1,4 +1,5 @@
 //! Texts that spell no value, with the exact refusal.
+use crate::accepted::has_new_types;
 use sf_parse::{Parser, Refusal, parse_text, parse_text_in};
 use sf_value::{Dialect, Kind};
 use std::alloc::Global;
@@ -8,7 +9,7 @@ use std::test::Fail;
 
 // The kind, the text, the place, the byte found there, and the bytes that could have followed: two
 // hexadecimal digits each, a run as its ends, and `end` where the front is a text.
-type Row = (Kind, &'static [u8], u64, Option<u8>, &'static str);
+pub(crate) type Row = (Kind, &'static [u8], u64, Option<u8>, &'static str);
 
 const ITEM: &str = "20 22 25 2a 2d 30-3a 3f-5a 61-7a";
 
@@ -53,7 +54,29 @@ fn set_ends(set: &str) -> bool {
     false
 }
 
-fn check_refusal(rt: &impl Abort, refusal: Refusal, row: Row) -> Result<(), Fail> {
+// Whether it is the set of what a bare item begins with, perhaps with more: it has the first bytes
+// of Dates and Display Strings, and not all that a string may go on with.
+fn begins_item(set: &str) -> bool {
+    set_has(set, b'@') && !set_has(set, b'!')
+}
+
+// Whether the byte is in the set, in this dialect: the old one has no Dates and Display Strings.
+fn set_has_in(dialect: Dialect, set: &str, byte: u8) -> bool {
+    match dialect {
+        Dialect::Rfc9651 => set_has(set, byte),
+        Dialect::Rfc8941 => {
+            let new = begins_item(set) && (byte == b'@' || byte == b'%');
+            set_has(set, byte) && !new
+        }
+    }
+}
+
+fn check_refusal(
+    rt: &impl Abort,
+    dialect: Dialect,
+    refusal: Refusal,
+    row: Row,
+) -> Result<(), Fail> {
     let (_, _, at, byte, set) = row;
     match refusal {
         Refusal::Syntax {
@@ -66,7 +89,7 @@ fn check_refusal(rt: &impl Abort, refusal: Refusal, row: Row) -> Result<(), Fail
             assert_eq!(rt; found, byte);
             assert_eq!(rt; may_end, set_ends(set));
             for next in 0..128u8 {
-                assert_eq!(rt; expected >> next & 1 == 1, set_has(set, next));
+                assert_eq!(rt; expected >> next & 1 == 1, set_has_in(dialect, set, next));
             }
             Ok(())
         }
@@ -77,11 +100,12 @@ fn check_refusal(rt: &impl Abort, refusal: Refusal, row: Row) -> Result<(), Fail
 fn refusal_in_pieces(
     alloc: Global,
     seed: &RandomState,
+    dialect: Dialect,
     kind: Kind,
     front: &[u8],
     back: &[u8],
 ) -> Result<Refusal, Fail> {
-    let mut parser = Parser::new(alloc, seed, kind, u64::MAX);
+    let mut parser = Parser::new_in(alloc, seed, dialect, kind, u64::MAX);
     if let Err(refusal) = parser.feed(front) {
         if parser.feed(&[]) != Err(refusal) {
             return Err(Fail::from("another refusal"));
@@ -103,10 +127,11 @@ fn refusal_in_pieces(
 fn refusal_bytewise(
     alloc: Global,
     seed: &RandomState,
+    dialect: Dialect,
     kind: Kind,
     text: &[u8],
 ) -> Result<Refusal, Fail> {
-    let mut parser = Parser::new(alloc, seed, kind, u64::MAX);
+    let mut parser = Parser::new_in(alloc, seed, dialect, kind, u64::MAX);
     for byte in text {
         if let Err(refusal) = parser.feed(&[*byte]) {
             return Ok(refusal);
@@ -118,22 +143,30 @@ fn refusal_bytewise(
     }
 }
 
-fn check_row(rt: &impl Abort, alloc: Global, seed: &RandomState, row: Row) -> Result<(), Fail> {
+// The row whole, in every cutting into two pieces and a byte at a time.
+fn check_row(
+    rt: &impl Abort,
+    alloc: Global,
+    seed: &RandomState,
+    dialect: Dialect,
+    row: Row,
+) -> Result<(), Fail> {
     let (kind, text, _, _, _) = row;
-    let refusal = refusal_bytewise(alloc, seed, kind, text)?;
-    check_refusal(rt, refusal, row)?;
-    match parse_text(alloc, seed, kind, text) {
+    let refusal = refusal_bytewise(alloc, seed, dialect, kind, text)?;
+    check_refusal(rt, dialect, refusal, row)?;
+    match parse_text_in(alloc, seed, dialect, kind, text) {
         Ok(_) => return Err(Fail::from("accepted")),
-        Err(refusal) => check_refusal(rt, refusal, row)?,
+        Err(refusal) => check_refusal(rt, dialect, refusal, row)?,
     }
     for cut in 0..=text.len() {
         let (front, back) = text.split_at(cut);
-        let refusal = refusal_in_pieces(alloc, seed, kind, front, back)?;
-        check_refusal(rt, refusal, row)?;
+        let refusal = refusal_in_pieces(alloc, seed, dialect, kind, front, back)?;
+        check_refusal(rt, dialect, refusal, row)?;
     }
     Ok(())
 }
 
+// The rows, and in the dialect of RFC 8941 those without a byte that only the new types begin with.
 fn check_rows(
     rt: &impl Abort,
     alloc: Global,
@@ -141,12 +174,15 @@ fn check_rows(
     rows: &[Row],
 ) -> Result<(), Fail> {
     for row in rows {
-        check_row(rt, alloc, seed, *row)?;
+        check_row(rt, alloc, seed, Dialect::Rfc9651, *row)?;
+        if !has_new_types(row.1) {
+            check_row(rt, alloc, seed, Dialect::Rfc8941, *row)?;
+        }
     }
     Ok(())
 }
 
-static ITEMS: [Row; 34] = [
+pub(crate) static ITEMS: [Row; 34] = [
     (Kind::Item, b"a \t", 2, Some(0x09), "20 end"),
     (Kind::Item, b"", 0, None, ITEM),
     (Kind::Item, b"   ", 3, None, ITEM),
@@ -201,7 +237,7 @@ static ITEMS: [Row; 34] = [
     (Kind::Item, b"a;b=$;b=1", 4, Some(0x24), BARE),
 ];
 
-static LISTS_AND_DICTIONARIES: [Row; 17] = [
+pub(crate) static LISTS_AND_DICTIONARIES: [Row; 17] = [
     (Kind::Item, b"a;b=", 4, None, BARE),
     (
         Kind::List,
@@ -251,7 +287,7 @@ static LISTS_AND_DICTIONARIES: [Row; 17] = [
     (Kind::Item, b"\"\\n\"", 2, Some(0x6e), "22 5c"),
 ];
 
-static OLD_DIALECT: [Row; 3] = [
+pub(crate) static OLD_DIALECT: [Row; 3] = [
     (Kind::Item, b"@1", 0, Some(0x40), OLD_ITEM),
     (Kind::Item, b"%\"a\"", 0, Some(0x25), OLD_ITEM),
     (
@@ -278,12 +314,16 @@ fn lists_and_dictionaries(rt: HostRuntime) -> Result<(), Fail> {
 #[test]
 fn old_dialect(rt: HostRuntime) -> Result<(), Fail> {
     let seed = RandomState::new(&rt)?;
+    // these sets are those of the old dialect itself
     for row in &OLD_DIALECT {
         match parse_text_in(rt.alloc(), &seed, Dialect::Rfc8941, row.0, row.1) {
             Ok(_) => return Err(Fail::from("accepted")),
-            Err(refusal) => check_refusal(&rt, refusal, *row)?,
+            Err(refusal) => check_refusal(&rt, Dialect::Rfc9651, refusal, *row)?,
         }
     }
+    let whole = parse_text(rt.alloc(), &seed, Kind::Item, b"a,").err();
+    let new = parse_text_in(rt.alloc(), &seed, Dialect::Rfc9651, Kind::Item, b"a,").err();
+    assert_eq!(&rt; whole, new);
     Ok(())
 }
 
