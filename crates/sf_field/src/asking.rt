@@ -6,6 +6,8 @@ use crate::lines::{let_go, parse_lines};
 use sf_parse::Refusal;
 use sf_value::Blob;
 use std::alloc::Global;
+use std::error::Error;
+use std::fmt;
 use std::hash::RandomState;
 
 /// Why there is no answer for field lines.
@@ -16,6 +18,17 @@ pub enum AskFault {
     /// The value that they spell has no answer.
     Answer(UseFault),
 }
+
+impl fmt::Display for AskFault {
+    fn fmt<W: fmt::Write>(&self, f: &mut fmt::Formatter<W>) -> fmt::Result {
+        match self {
+            AskFault::Field(refusal) => write!(f, "{refusal}"),
+            AskFault::Answer(fault) => write!(f, "{fault}"),
+        }
+    }
+}
+
+impl Error for AskFault {}
 
 /// What the lines mean to a consumer: they are parsed as its kind, as [`crate::parse_lines`] does,
 /// and the value is answered. Accepted lines and their canonical text, as one line, mean the same.

@@ -7,6 +7,8 @@ ghost use Rattle.sf_field.specs.Meaning.{Gives};
 
 use sf_value::{Field, Kind};
 use std::alloc::Global;
+use std::error::Error;
+use std::fmt;
 
 /// Why a consumer has no answer for a field.
 #[derive(Clone, Copy, Debug, PartialEq, Eq)]
@@ -20,6 +22,17 @@ pub enum UseFault {
     /// No memory was left for the answer.
     OutOfMemory,
 }
+
+impl fmt::Display for UseFault {
+    fn fmt<W: fmt::Write>(&self, f: &mut fmt::Formatter<W>) -> fmt::Result {
+        match self {
+            UseFault::NotACache { index } => write!(f, "member {index} names no cache"),
+            UseFault::OutOfMemory => write!(f, "out of memory"),
+        }
+    }
+}
+
+impl Error for UseFault {}
 
 /// What reads a field of one kind, and answers what it means.
 ///

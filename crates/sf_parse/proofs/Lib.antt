@@ -21,7 +21,6 @@ pub mod Taking
 pub mod Takes
 pub mod Below
 pub mod Dialects
-pub mod Gives
 pub mod Pieces
 pub mod Readings
 pub mod PlainSteps

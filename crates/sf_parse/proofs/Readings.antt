@@ -15,7 +15,7 @@ use Rattle.sf_parse.specs.Machine.Fields.{begin}
 use Rattle.sf_parse.specs.Parsers.{Progress, Took, Fed, RefusedFor, Finishes}
 use Rattle.sf_parse.specs.Reading.{IsWholeOrFull, ReadAndParsed}
 use Rattle.sf_parse.proofs.Taking.{took_nothing, took_viable}
-use Rattle.sf_parse.proofs.Gives.{gave_none, gave_more}
+use Rattle.sf_value.proofs.Gives.{gave_none, gave_more}
 
 -- what was given so far, and taken by the parser
 pub record Reads (old now : SourceState) (kind : Kind) (max given : ℕ) (p : Progress) : Type 0 where

@@ -1,4 +1,3 @@
-pub mod Gives
 pub mod Cuts
 pub mod Steps
 pub mod Runs

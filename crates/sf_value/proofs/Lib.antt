@@ -8,3 +8,4 @@ pub mod CanonicalTexts
 pub mod Validity
 pub mod LengthBound
 pub mod BothDialects
+pub mod Gives

@@ -1,11 +1,13 @@
--- How single reads join.
+-- How what single reads give joins.
 use Rattle.std.proofs.Common.{ℕ, List, [], ◌++◌, refl, arith, length-append}
 use Rattle.std.proofs.KnownBytes.{Consumes-nil, Consumes-trans}
 use Rattle.sf_value.specs.Devices.{SourceState, Gave, GivesOnce}
 
+-- no read
 pub gave_none : (s : SourceState) → Gave s s []
 gave_none s = record { consumed = Consumes-nil s.to_come; given = λ _. omega arith; failures = refl }
 
+-- one read more
 pub gave_more : (a b c : SourceState) (xs ys : List ℕ) → Gave a b xs → GivesOnce b c ys
     → Gave a c (xs ++ ys)
 gave_more a b c xs ys p q = record {
