@@ -1,0 +1,10 @@
+pub mod Faultless
+pub mod LastHits
+pub mod Gathered
+pub mod WrittenHops
+pub mod ReadBack
+pub mod Choosing
+pub mod Replacing
+pub mod Firsts
+pub mod Deciding
+pub mod WrittenPriorities

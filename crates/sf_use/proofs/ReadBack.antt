@@ -1,0 +1,138 @@
+-- The member that a hop is written as means that hop.
+use Rattle.std.proofs.Common.{◌≡◌, ℕ, ℤ, pos, ◌≤◌, Bool, true, false, List, [], ◌∷◌, ◌++◌}
+use Rattle.std.proofs.Common.{Option, None, Some, Ok, refl, sym, ap, ◌∙◌, arith, rules}
+use Rattle.std.specs.Prelude.{codes, unwrap_or}
+use Rattle.std.proofs.lemmas.Bool.Decides.{nat_tests}
+use Rattle.std.specs.List.{IsDistinct}
+use Rattle.std.specs.Option.{option_and_then, option_flatten, option_map, ForSome}
+use Rattle.sf_value.specs.declared.value.Bare.{Bare}
+use Rattle.sf_value.specs.declared.value.Bare.TheVariants.{Integer, Text, Token, Boolean}
+use Rattle.sf_value.specs.declared.value.Member.{Member}
+use Rattle.sf_value.specs.Grammar.Pairs.{Pairs, HasDistinctKeys, value_at}
+use Rattle.sf_use.specs.declared.cache_status.hop.Forward.{Forward}
+use Rattle.sf_use.specs.declared.cache_status.hop.Forward.TheVariants.{Bypass, Method, UriMiss}
+use Rattle.sf_use.specs.declared.cache_status.hop.Forward.TheVariants.{VaryMiss, Miss, Request}
+use Rattle.sf_use.specs.declared.cache_status.hop.Forward.TheVariants.{Stale, Partial, Other}
+use Rattle.sf_use.specs.declared.cache_status.hop.Name.{Name}
+use Rattle.sf_use.specs.declared.cache_status.hop.Name.TheVariants as name
+use Rattle.sf_use.specs.declared.cache_status.hop.Passed.{Passed}
+use Rattle.sf_use.specs.declared.cache_status.hop.Outcome.{Outcome}
+use Rattle.sf_use.specs.declared.cache_status.hop.Outcome.TheVariants.{Hit, Forwarded, Conflict}
+use Rattle.sf_use.specs.declared.cache_status.hop.Outcome.TheVariants.{Unsaid}
+use Rattle.sf_use.specs.declared.cache_status.hop.Hop.{Hop}
+use Rattle.sf_use.specs.CacheStatus.Parameters.{as_boolean, as_integer, as_name, as_text, as_token}
+use Rattle.sf_use.specs.CacheStatus.Reasons.{forward_of, token_of}
+use Rattle.sf_use.specs.CacheStatus.Hops.{hop_named, hops_of, member_hop, outcome_of, status_of}
+use Rattle.sf_use.specs.CacheStatus.Hops.{passed_by_token}
+use Rattle.sf_use.specs.CacheStatus.Members.{bare_of, entry, hit_value, parameters_of, passed_by}
+use Rattle.sf_use.specs.CacheStatus.Members.{collapsed_value, present, status_value, stored_value}
+use Rattle.sf_use.specs.CacheStatus.Members.{Table, table_of, why_value}
+use Rattle.sf_use.specs.CacheStatus.Laws.{HasStatusInRange, plain, plain_outcome, plain_passed}
+use Rattle.sf_use.specs.CacheStatus.Laws.{plain_reason, ReadsBack}
+use Rattle.sf_use.proofs.WrittenHops.{value-present}
+
+distinct-table : (h : Hop) → HasDistinctKeys (table_of h)
+unfolding IsDistinct
+distinct-table h = search rules
+
+value-of : (h : Hop) (k : List ℕ)
+    → value_at k (parameters_of h) ≡ option_flatten (value_at k (table_of h))
+value-of h k = value-present k (table_of h) (distinct-table h)
+
+-- values of each type are read back
+boolean-back : (o : Option Bool) → option_and_then as_boolean (option_map Boolean o) ≡ o
+boolean-back None = refl
+boolean-back (Some b) = refl
+
+integer-back : (o : Option ℤ) → option_and_then as_integer (option_map Integer o) ≡ o
+integer-back None = refl
+integer-back (Some n) = refl
+
+text-back : (o : Option (List ℕ)) → option_and_then as_text (option_map Text o) ≡ o
+text-back None = refl
+text-back (Some t) = refl
+
+bare-back : (n : Name) → as_name (bare_of n) ≡ Some n
+bare-back (name.Text t) = refl
+bare-back (name.Token t) = refl
+
+name-back : (o : Option Name) → option_and_then as_name (option_map bare_of o) ≡ o
+name-back None = refl
+name-back (Some n) = bare-back n
+
+in-range : (n : ℕ) → (100 ≤ n) × (n ≤ 999) → status_of (Some (pos n)) ≡ Some n
+in-range n h = grind (arith, nat_tests)
+
+status-back : (o : Option ℕ) → ForSome o (λ n. (100 ≤ n) × (n ≤ 999))
+    → status_of (option_and_then as_integer (option_map (λ n. Integer (pos n)) o)) ≡ o
+status-back None h = refl
+status-back (Some n) h = in-range n (h n refl)
+
+reason-back : (why : Forward) → forward_of (token_of why) ≡ plain_reason why
+reason-back Bypass = refl
+reason-back Method = refl
+reason-back UriMiss = refl
+reason-back VaryMiss = refl
+reason-back Miss = refl
+reason-back Request = refl
+reason-back Stale = refl
+reason-back Partial = refl
+reason-back (Other token) = refl
+
+passed-back : (ps : Pairs Bare) (p : Passed) → ForSome p.status (λ n. (100 ≤ n) × (n ≤ 999))
+    → value_at (codes "fwd-status") ps ≡ status_value (Some p)
+    → value_at (codes "stored") ps ≡ stored_value (Some p)
+    → value_at (codes "collapsed") ps ≡ collapsed_value (Some p)
+    → passed_by_token ps (token_of p.why) ≡ plain_passed p
+passed-back ps p h status stored collapsed =
+    let why' = reason-back p.why in
+    let status' = ap (λ o. status_of (option_and_then as_integer o)) status ∙ status-back p.status h in
+    let stored' = ap (option_and_then as_boolean) stored ∙ boolean-back p.stored in
+    let collapsed' = ap (option_and_then as_boolean) collapsed ∙ boolean-back p.collapsed in
+    (λ i.
+    record {
+      why = why' i;
+      status = status' i;
+      stored = stored' i;
+      collapsed = collapsed' i;
+    })
+
+outcome-back : (ps : Pairs Bare) (o : Outcome)
+    → ForSome (option_and_then (λ p. p.status) (passed_by o)) (λ n. (100 ≤ n) × (n ≤ 999))
+    → value_at (codes "hit") ps ≡ hit_value o
+    → value_at (codes "fwd") ps ≡ why_value (passed_by o)
+    → value_at (codes "fwd-status") ps ≡ status_value (passed_by o)
+    → value_at (codes "stored") ps ≡ stored_value (passed_by o)
+    → value_at (codes "collapsed") ps ≡ collapsed_value (passed_by o)
+    → outcome_of ps ≡ plain_outcome o
+outcome-back ps Hit h hit fwd status stored collapsed = rw (hit, fwd)
+outcome-back ps (Forwarded p) h hit fwd status stored collapsed =
+    rw (hit, fwd) (ap Forwarded (passed-back ps p h status stored collapsed))
+outcome-back ps (Conflict p) h hit fwd status stored collapsed =
+    rw (hit, fwd) (ap Conflict (passed-back ps p h status stored collapsed))
+outcome-back ps Unsaid h hit fwd status stored collapsed = rw (hit, fwd)
+
+hop-back : (h : Hop) → HasStatusInRange h → hop_named (parameters_of h) h.name ≡ plain h
+hop-back h ok =
+    let outcome' = outcome-back (parameters_of h) h.outcome ok
+    (value-of h (codes "hit")) (value-of h (codes "fwd")) (value-of h (codes "fwd-status"))
+    (value-of h (codes "stored")) (value-of h (codes "collapsed")) in
+    let ttl' = ap (option_and_then as_integer) (value-of h (codes "ttl")) ∙ integer-back h.ttl in
+    let key' = ap (option_and_then as_text) (value-of h (codes "key")) ∙ text-back h.key in
+    let detail' = ap (option_and_then as_name) (value-of h (codes "detail")) ∙ name-back h.detail in
+    (λ i.
+    record {
+      name = h.name;
+      outcome = outcome' i;
+      ttl = ttl' i;
+      key = key' i;
+      detail = detail' i;
+    })
+
+one-hop : (m : Member) (h : Hop) → member_hop m ≡ Some h → hops_of (m ∷ []) ≡ Ok (h ∷ [])
+one-hop m h e = rw e
+
+pub reads_back : ReadsBack
+reads_back h ok =
+    one-hop (entry h) (plain h)
+    (ap (option_map (hop_named (parameters_of h))) (bare-back h.name) ∙ ap (λ x. Some x) (hop-back h ok))

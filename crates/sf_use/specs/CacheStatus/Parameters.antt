@@ -1,0 +1,45 @@
+-- Parameters by key and type. Ours: one of another type than its own counts as absent.
+use Rattle.std.specs.Prelude.{ℕ, ℤ, Bool, List, Option, Some, None}
+use Rattle.std.specs.Option.{option_and_then}
+use Rattle.sf_value.specs.declared.value.Bare.{Bare}
+use Rattle.sf_value.specs.declared.value.Bare.TheVariants.{Integer, Text, Token, Boolean}
+use Rattle.sf_value.specs.Grammar.Pairs.{Pairs, value_at}
+use Rattle.sf_use.specs.declared.cache_status.hop.Name.{Name}
+use Rattle.sf_use.specs.declared.cache_status.hop.Name.TheVariants as name
+
+abbrev pub as_boolean : Bare → Option Bool
+as_boolean (Boolean b) = Some b
+as_boolean other = None
+
+abbrev pub as_integer : Bare → Option ℤ
+as_integer (Integer n) = Some n
+as_integer other = None
+
+abbrev pub as_token : Bare → Option (List ℕ)
+as_token (Token t) = Some t
+as_token other = None
+
+abbrev pub as_text : Bare → Option (List ℕ)
+as_text (Text t) = Some t
+as_text other = None
+
+-- a name: a String or a Token
+abbrev pub as_name : Bare → Option Name
+as_name (Text t) = Some (name.Text t)
+as_name (Token t) = Some (name.Token t)
+as_name other = None
+
+abbrev pub boolean_at : List ℕ → Pairs Bare → Option Bool
+boolean_at key params = option_and_then as_boolean (value_at key params)
+
+abbrev pub integer_at : List ℕ → Pairs Bare → Option ℤ
+integer_at key params = option_and_then as_integer (value_at key params)
+
+abbrev pub token_at : List ℕ → Pairs Bare → Option (List ℕ)
+token_at key params = option_and_then as_token (value_at key params)
+
+abbrev pub text_at : List ℕ → Pairs Bare → Option (List ℕ)
+text_at key params = option_and_then as_text (value_at key params)
+
+abbrev pub name_at : List ℕ → Pairs Bare → Option Name
+name_at key params = option_and_then as_name (value_at key params)

@@ -1,0 +1,8 @@
+-- What the consumers mean: the definitions that the contracts speak of. Cache-Status is that of RFC
+-- 9211, targeted fields that of RFC 9213, priorities that of RFC 9218.
+pub mod CacheStatus
+pub mod Targeted
+pub mod TargetedChoice
+pub mod TargetedLaws
+pub mod Priority
+pub mod PriorityLaws

@@ -1,0 +1,81 @@
+-- What a Priority field asks for, and how it is written (RFC 9218 sections 4, 5 and 8).
+use Rattle.std.specs.Prelude.{ℕ, pos, nat_le, ◌==◌, if◌then◌else◌, Bool, true, false}
+use Rattle.std.specs.Prelude.{[], ◌∷◌, ◌++◌, Option, Some, None, unwrap_or, codes}
+use Rattle.std.specs.Option.{option_or}
+use Rattle.sf_value.specs.declared.value.Bare.{Bare}
+use Rattle.sf_value.specs.declared.value.Bare.TheVariants.{Integer, Boolean}
+use Rattle.sf_value.specs.declared.value.Dict.{Dict}
+use Rattle.sf_value.specs.declared.value.Field.{Field}
+use Rattle.sf_value.specs.declared.value.Field.TheVariants as field
+use Rattle.sf_value.specs.declared.value.Member.{Member}
+use Rattle.sf_value.specs.declared.value.Member.TheVariants as member
+use Rattle.sf_value.specs.Grammar.Items.{item}
+use Rattle.sf_value.specs.Grammar.Pairs.{Pairs, value_at}
+use Rattle.sf_use.specs.declared.priority.Asked.{Asked}
+use Rattle.sf_use.specs.declared.priority.Priority.{Priority}
+
+-- an Integer from 0 to 7 (section 4.1)
+abbrev pub up_to_seven : Bare → Option ℕ
+up_to_seven (Integer (pos n)) = if nat_le n 7 then Some n else None
+up_to_seven x = None
+
+-- the urgency that a member says, whatever its parameters
+abbrev pub urgency : Option Member → Option ℕ
+urgency (Some (member.Item i)) = up_to_seven i.bare
+urgency m = None
+
+-- a Boolean (section 4.2)
+abbrev pub boolean : Bare → Option Bool
+boolean (Boolean b) = Some b
+boolean x = None
+
+-- whether a member says that the response is incremental, whatever its parameters
+abbrev pub incremental : Option Member → Option Bool
+incremental (Some (member.Item i)) = boolean i.bare
+incremental m = None
+
+-- what a Dictionary asks for (section 4); what is unknown, of another type or out of range says
+-- nothing
+abbrev pub asked : Dict → Asked
+asked d = record {
+  urgency = urgency (value_at (codes "u") d.members);
+  incremental = incremental (value_at (codes "i") d.members);
+}
+
+-- what a field asks for; one that is no Dictionary is never asked, and would say nothing
+abbrev pub asked_in : Field → Asked
+asked_in (field.Dict d) = asked d
+asked_in f = record { urgency = None; incremental = None }
+
+-- each part as the server says it, where it does, else as the client does (section 8)
+abbrev pub merged : Asked → Asked → Asked
+merged client server = record {
+  urgency = option_or server.urgency client.urgency;
+  incremental = option_or server.incremental client.incremental;
+}
+
+-- the defaults for what is not said (sections 4.1 and 4.2)
+abbrev pub filled : Asked → Priority
+filled a = record {
+  urgency = unwrap_or a.urgency 3;
+  incremental = unwrap_or a.incremental false;
+}
+
+-- a member that is an Item without parameters
+abbrev pub plain : Bare → Member
+plain x = member.Item (item x [])
+
+-- the member u, where it says more than the default
+abbrev pub urgency_written : ℕ → Pairs Member
+urgency_written n = if n == 3 then [] else (codes "u", plain (Integer (pos n))) ∷ []
+
+-- the member i, where it says more than the default
+abbrev pub incremental_written : Bool → Pairs Member
+incremental_written true = (codes "i", plain (Boolean true)) ∷ []
+incremental_written false = []
+
+-- the Dictionary that asks for a priority
+abbrev pub prio : Priority → Dict
+prio p = record {
+  members = urgency_written p.urgency ++ incremental_written p.incremental;
+}

@@ -1,0 +1,27 @@
+//! Cache-Status (RFC 9211 section 2): which caches handled a response, and how.
+//!
+//! The field is a List. Each member is a cache, named by a String or a Token; the first is the one
+//! nearest the origin, the last the one nearest the user. The parameters of a member say what that
+//! cache did. [`CacheStatus`] reads the field as a [`CachePath`], a [`Hop`] for each member, and
+//! [`append_hop`] adds the member of a cache of one's own.
+//!
+//! ```
+//! let path = sf_field::ask(alloc, &seed, &CacheStatus, lines.as_slice())?;
+//! if let Some(index) = path.served_by() {
+//!     let from = &path.hops()[index];
+//! }
+//! ```
+
+mod appending;
+mod hop;
+mod params;
+mod path;
+mod reading;
+mod status;
+#[cfg(test)]
+mod tests;
+
+pub use appending::append_hop;
+pub use hop::{Forward, Hop, Name, Outcome, Passed};
+pub use path::{CachePath, CacheStatus};
+pub use status::HopStatus;

@@ -1,0 +1,176 @@
+//! A member for a hop.
+ghost use Rattle.std.specs.Prelude.{◌≡◌, [], ◌∷◌, ◌++◌, IfOk, MatchResult};
+ghost use Rattle.std.specs.Option.{option_map};
+ghost use Rattle.sf_value.specs.declared.value.Bare.TheVariants as bare;
+ghost use Rattle.sf_value.specs.Grammar.Tokens.{IsKey};
+ghost use Rattle.sf_use.specs.CacheStatus.Members.{added, bare_of, entry, parameters_of};
+ghost use Rattle.sf_use.specs.CacheStatus.Members.{collapsed_value, hit_value, passed_by};
+ghost use Rattle.sf_use.specs.CacheStatus.Members.{status_value, stored_value, why_value};
+ghost use Rattle.sf_use.specs.CacheStatus.Reasons.{token_of};
+
+use crate::cache_status::hop::{Forward, Hop, Name, Outcome};
+use sf_value::{Bare, Entries, Int, Item, Key, List, Member, OutOfMemory, Text, TextFault, Token};
+use std::alloc::Global;
+use std::hash::RandomState;
+
+/// Adds the member of a cache at the end of a Cache-Status List, as the cache nearest the user
+/// (RFC 9211 section 2). Its parameters stand in the order `hit`, `fwd`, `fwd-status`, `ttl`,
+/// `stored`, `collapsed`, `key`, `detail`, each where the hop has it; `hit` for the outcomes `Hit`
+/// and `Conflict`. The seed is that of the parameters. For want of memory the List stays as it was.
+///
+/// ```
+/// append_hop(alloc, &seed, &mut list, &hop)?;
+/// ```
+pub fn append_hop(
+    alloc: Global,
+    seed: &RandomState,
+    list: &mut List,
+    hop: &Hop,
+) -> Result<(), OutOfMemory>
+    ensures { MatchResult result
+        (λ _. list.new.members ≡ list.old.members ++ entry hop.now ∷ [])
+        (λ _. list.new ≡ list.old) }
+{
+    let member = member_of(alloc, seed, hop)?;
+    match list.members.push(member) {
+        Ok(()) => Ok(()),
+        Err(_) => Err(OutOfMemory),
+    }
+}
+
+fn member_of(alloc: Global, seed: &RandomState, hop: &Hop) -> Result<Member, OutOfMemory>
+    ensures { IfOk result (λ member. member ≡ entry hop.now) }
+{
+    let bare = bare_of(alloc, &hop.name)?;
+    let params = params_of(alloc, seed, hop)?;
+    Ok(Member::Item(Item { bare, params }))
+}
+
+fn params_of(alloc: Global, seed: &RandomState, hop: &Hop) -> Result<Entries<Bare>, OutOfMemory>
+    ensures { IfOk result (λ params. params ≡ parameters_of hop.now) }
+{
+    let outcome = &hop.outcome;
+    let why = why_value(alloc, outcome)?;
+    let key = key_value(alloc, &hop.key)?;
+    let detail = detail_value(alloc, &hop.detail)?;
+    let mut params = Entries::new(alloc, seed);
+    put(alloc, &mut params, b"hit", hit_value(outcome))?;
+    put(alloc, &mut params, b"fwd", why)?;
+    put(alloc, &mut params, b"fwd-status", status_value(outcome))?;
+    put(alloc, &mut params, b"ttl", ttl_value(hop.ttl))?;
+    put(alloc, &mut params, b"stored", stored_value(outcome))?;
+    put(alloc, &mut params, b"collapsed", collapsed_value(outcome))?;
+    put(alloc, &mut params, b"key", key)?;
+    put(alloc, &mut params, b"detail", detail)?;
+    Ok(params)
+}
+
+// Puts the parameter, where there is a value.
+fn put(
+    alloc: Global,
+    params: &mut Entries<Bare>,
+    key: &[u8],
+    value: Option<Bare>,
+) -> Result<(), OutOfMemory>
+    requires { IsKey key.now }
+    ensures { IfOk result (λ _. params.new ≡ added params.old key.now value) }
+{
+    let Some(value) = value else {
+        return Ok(());
+    };
+    let key = match Key::new(alloc, key) {
+        Ok(key) => key,
+        Err(TextFault::OutOfMemory) => return Err(OutOfMemory),
+        Err(TextFault::Empty) => unreachable!(),
+        Err(TextFault::BadByte { place: _ }) => unreachable!(),
+    };
+    match params.put(key, value) {
+        Ok(_) => Ok(()),
+        Err(_) => Err(OutOfMemory),
+    }
+}
+
+fn hit_value(outcome: &Outcome) -> Option<Bare>
+    ensures { result ≡ hit_value outcome.now }
+{
+    if outcome.says_hit() {
+        Some(Bare::Boolean(true))
+    } else {
+        None
+    }
+}
+
+fn why_value(alloc: Global, outcome: &Outcome) -> Result<Option<Bare>, OutOfMemory>
+    ensures { IfOk result (λ value. value ≡ why_value (passed_by outcome.now)) }
+{
+    match outcome.passed() {
+        Some(passed) => Ok(Some(Bare::Token(token_of(alloc, &passed.why)?))),
+        None => Ok(None),
+    }
+}
+
+fn token_of(alloc: Global, why: &Forward) -> Result<Token, OutOfMemory>
+    ensures { IfOk result (λ token. token ≡ token_of why.now) }
+{
+    match Token::new(alloc, why.as_bytes()) {
+        Ok(token) => Ok(token),
+        Err(TextFault::OutOfMemory) => Err(OutOfMemory),
+        Err(TextFault::Empty) => unreachable!(),
+        Err(TextFault::BadByte { place: _ }) => unreachable!(),
+    }
+}
+
+fn status_value(outcome: &Outcome) -> Option<Bare>
+    ensures { result ≡ status_value (passed_by outcome.now) }
+{
+    let status = outcome.passed()?.status?;
+    match Int::new(status.get() as i64) {
+        Ok(code) => Some(Bare::Integer(code)),
+        Err(_) => unreachable!(),
+    }
+}
+
+fn ttl_value(ttl: Option<Int>) -> Option<Bare>
+    ensures { result ≡ option_map bare.Integer ttl }
+{
+    Some(Bare::Integer(ttl?))
+}
+
+fn stored_value(outcome: &Outcome) -> Option<Bare>
+    ensures { result ≡ stored_value (passed_by outcome.now) }
+{
+    Some(Bare::Boolean(outcome.passed()?.stored?))
+}
+
+fn collapsed_value(outcome: &Outcome) -> Option<Bare>
+    ensures { result ≡ collapsed_value (passed_by outcome.now) }
+{
+    Some(Bare::Boolean(outcome.passed()?.collapsed?))
+}
+
+fn key_value(alloc: Global, key: &Option<Text>) -> Result<Option<Bare>, OutOfMemory>
+    ensures { IfOk result (λ value. value ≡ option_map bare.Text key.now) }
+{
+    match key {
+        Some(key) => Ok(Some(Bare::Text(key.copy(alloc)?))),
+        None => Ok(None),
+    }
+}
+
+fn detail_value(alloc: Global, detail: &Option<Name>) -> Result<Option<Bare>, OutOfMemory>
+    ensures { IfOk result (λ value. value ≡ option_map bare_of detail.now) }
+{
+    match detail {
+        Some(detail) => Ok(Some(bare_of(alloc, detail)?)),
+        None => Ok(None),
+    }
+}
+
+fn bare_of(alloc: Global, name: &Name) -> Result<Bare, OutOfMemory>
+    ensures { IfOk result (λ bare. bare ≡ bare_of name.now) }
+{
+    match name {
+        Name::Text(text) => Ok(Bare::Text(text.copy(alloc)?)),
+        Name::Token(token) => Ok(Bare::Token(token.copy(alloc)?)),
+    }
+}

@@ -1,0 +1,72 @@
+//! Parameters by key and type: one of another type counts as absent.
+ghost use Rattle.std.specs.Prelude.{◌≡◌, IfOk};
+ghost use Rattle.std.specs.Option.{option_copied};
+ghost use Rattle.sf_use.specs.CacheStatus.Parameters.{as_name, boolean_at, integer_at};
+ghost use Rattle.sf_use.specs.CacheStatus.Parameters.{name_at, text_at, token_at};
+
+use crate::cache_status::hop::Name;
+use sf_value::{Bare, Entries, Int, OutOfMemory, Text, Token};
+use std::alloc::Global;
+
+pub(crate) fn boolean_at(params: &Entries<Bare>, key: &[u8]) -> Option<bool>
+    ensures { result ≡ boolean_at key.now params.now }
+{
+    match params.get(key) {
+        Some(Bare::Boolean(boolean)) => Some(*boolean),
+        _ => None,
+    }
+}
+
+pub(crate) fn integer_at(params: &Entries<Bare>, key: &[u8]) -> Option<Int>
+    ensures { result ≡ integer_at key.now params.now }
+{
+    match params.get(key) {
+        Some(Bare::Integer(integer)) => Some(*integer),
+        _ => None,
+    }
+}
+
+pub(crate) fn token_at<'a>(params: &'a Entries<Bare>, key: &[u8]) -> Option<&'a Token>
+    ensures { option_copied result ≡ token_at key.now params.now }
+{
+    match params.get(key) {
+        Some(Bare::Token(token)) => Some(token),
+        _ => None,
+    }
+}
+
+pub(crate) fn text_at(
+    alloc: Global,
+    params: &Entries<Bare>,
+    key: &[u8],
+) -> Result<Option<Text>, OutOfMemory>
+    ensures { IfOk result (λ text. text ≡ text_at key.now params.now) }
+{
+    match params.get(key) {
+        Some(Bare::Text(text)) => Ok(Some(text.copy(alloc)?)),
+        _ => Ok(None),
+    }
+}
+
+pub(crate) fn name_at(
+    alloc: Global,
+    params: &Entries<Bare>,
+    key: &[u8],
+) -> Result<Option<Name>, OutOfMemory>
+    ensures { IfOk result (λ name. name ≡ name_at key.now params.now) }
+{
+    match params.get(key) {
+        Some(bare) => name_of(alloc, bare),
+        None => Ok(None),
+    }
+}
+
+pub(crate) fn name_of(alloc: Global, bare: &Bare) -> Result<Option<Name>, OutOfMemory>
+    ensures { IfOk result (λ name. name ≡ as_name bare.now) }
+{
+    match bare {
+        Bare::Text(text) => Ok(Some(Name::Text(text.copy(alloc)?))),
+        Bare::Token(token) => Ok(Some(Name::Token(token.copy(alloc)?))),
+        _ => Ok(None),
+    }
+}

@@ -1,0 +1,106 @@
+//! The path of a response through caches.
+ghost use Rattle.std.specs.Prelude.{◌≡◌};
+
+use crate::cache_status::hop::Hop;
+use crate::cache_status::reading::{first_nameless, read_hops};
+use sf_field::{Consumer, UseFault};
+use sf_value::{Field, Kind, Member};
+use std::alloc::Global;
+use std::marker::Model;
+
+/// The caches that handled a response (RFC 9211 section 2), the one nearest the origin first.
+/// Contracts see the list of the hops.
+#[derive(Debug, Drop)]
+pub struct CachePath {
+    hops: Vec<Hop>,
+}
+
+impl Model for CachePath {
+    ghost use Rattle.std.specs.Prelude.{List};
+    ghost use Rattle.sf_use.specs.declared.cache_status.hop.Hop.{Hop};
+
+    ghost Value = { List Hop };
+
+    ghost view = { λ p. p.hops.items };
+}
+
+impl CachePath {
+    ghost use Rattle.sf_use.specs.CacheStatus.Served.{served, IsLastHit};
+
+    /// The hops, the one nearest the origin first. It takes no memory.
+    pub fn hops(&self) -> &[Hop]
+        ensures { result.now ≡ self.now }
+    {
+        self.hops.as_slice()
+    }
+
+    /// The place of the cache that the response came from, counted from 0: the last hop whose
+    /// outcome is [`crate::Outcome::Hit`]. `None` where no hop is one, so that the response came
+    /// from the origin or the field does not tell. It takes no memory.
+    pub fn served_by(&self) -> Option<usize>
+        ensures place { result ≡ served self.now }
+        ensures last { IsLastHit self.now result }
+    {
+        let mut last = None;
+        for (index, hop) in self.hops.iter().enumerate() {
+            if hop.outcome.is_hit() {
+                last = Some(index);
+            }
+        }
+        last
+    }
+}
+
+/// Reads Cache-Status (RFC 9211 section 2), a List, as a [`CachePath`].
+///
+/// A parameter of another type than the RFC gives it counts as absent, and so does a `fwd-status`
+/// outside 100 to 999. Parameters that the RFC does not define are ignored. A `fwd` of another
+/// token is [`crate::Forward::Other`].
+#[derive(Clone, Copy, Debug, PartialEq, Eq)]
+pub struct CacheStatus;
+
+impl Consumer for CacheStatus {
+    ghost use Rattle.sf_value.specs.declared.value.Kind.TheVariants.{List};
+    ghost use Rattle.sf_value.specs.Grammar.Fields.{kind_of};
+    ghost use Rattle.sf_field.specs.Meaning.{Gives};
+    ghost use Rattle.sf_use.specs.CacheStatus.Hops.{hops, WantsMemoryLast};
+
+    type Answer = CachePath;
+
+    const KIND: Kind = Kind::List;
+
+    ghost KIND = { List };
+
+    ghost meaning = { λ _ field. hops field };
+
+    /// The hops of the List. Refused as `NotACache`, with the place of the first such member, where
+    /// a member is not an Item of a String or a Token, else as `OutOfMemory`: the names are all
+    /// looked at first, and that takes no memory.
+    fn answer(&self, alloc: Global, field: &Field) -> Result<CachePath, UseFault>
+        requires { kind_of field.now ≡ List }
+        ensures meaning { Gives (hops field.now) result }
+        ensures names_first { WantsMemoryLast (hops field.now) result }
+    {
+        match field {
+            Field::List(list) => read_path(alloc, list.members.as_slice()),
+            Field::Item(_) => unreachable!(),
+            Field::Dict(_) => unreachable!(),
+        }
+    }
+}
+
+ghost use Rattle.sf_field.specs.Meaning.{Gives};
+ghost use Rattle.sf_use.specs.CacheStatus.Hops.{hops_of, WantsMemoryLast};
+
+fn read_path(alloc: Global, members: &[Member]) -> Result<CachePath, UseFault>
+    ensures meaning { Gives (hops_of members.now) result }
+    ensures names_first { WantsMemoryLast (hops_of members.now) result }
+{
+    if let Some(index) = first_nameless(members) {
+        return Err(UseFault::NotACache { index });
+    }
+    match read_hops(alloc, members) {
+        Ok(hops) => Ok(CachePath { hops }),
+        Err(_) => Err(UseFault::OutOfMemory),
+    }
+}

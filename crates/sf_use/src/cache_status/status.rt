@@ -1,0 +1,47 @@
+//! The status of a forwarded request's response.
+ghost use Rattle.std.specs.Prelude.{◌≡◌, ◌≤◌, ◌↔◌, IsOk, IfOk};
+
+use sf_value::OutOfRange;
+use std::marker::Model;
+
+/// A status code of three digits, from 100 to 999: what the next server answered to a forwarded
+/// request (RFC 9211 section 2.3; RFC 9110 section 15). Contracts see the number.
+#[derive(Clone, Copy, Debug, PartialEq, Eq)]
+pub struct HopStatus {
+    code: u16,
+}
+
+impl Model for HopStatus {
+    ghost use Rattle.std.specs.Prelude.{ℕ, ◌≤◌};
+
+    ghost Value = { ℕ };
+
+    ghost view = { λ s. s.code };
+
+    ghost invariant = { λ s. (100 ≤ s.code) × (s.code ≤ 999) };
+
+    ghost inverse = { λ n. record { code = n } };
+}
+
+impl HopStatus {
+    /// The status of this code, where it has three digits; `OutOfRange` exactly where it has not.
+    /// It takes no memory.
+    pub fn new(code: u16) -> Result<HopStatus, OutOfRange>
+        ensures range { IsOk result ↔ ((100 ≤ code) × (code ≤ 999)) }
+        ensures code { IfOk result (λ status. status ≡ code) }
+    {
+        if 100 <= code && code <= 999 {
+            Ok(HopStatus { code })
+        } else {
+            Err(OutOfRange)
+        }
+    }
+
+    /// The code that it was made of. It takes no memory.
+    pub fn get(&self) -> u16
+        ensures code { result ≡ self.now }
+        ensures range { (100 ≤ self.now) × (self.now ≤ 999) }
+    {
+        self.code
+    }
+}
