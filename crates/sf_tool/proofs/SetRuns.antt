@@ -17,15 +17,15 @@ Ascends-in_front b [] p = (omega arith, omega arith, tt)
 Ascends-in_front b (r ∷ rs) p =
     elim (cases_Bool (r.0 == suc b)) [
       | inl t ↦ (
-        let e : r.0 ≡ suc b = search (rules, t) in
-        let long = p.1 in
-        rw t (omega arith, omega arith, p.2)
-      )
+          let e : r.0 ≡ suc b = search (rules, t) in
+          let long = p.1 in
+          rw t (omega arith, omega arith, p.2)
+          )
       | inr f ↦ (
-        let above = p.0 in
-        let apart : b + 2 ≤ r.0 = search (rules, f) in
-        rw f (omega arith, omega arith, (apart, p.1, p.2))
-      )
+          let above = p.0 in
+          let apart : b + 2 ≤ r.0 = search (rules, f) in
+          rw f (omega arith, omega arith, (apart, p.1, p.2))
+          )
     ]
 
 pub runs_ascend : (set b n : ℕ) → Ascends b (runs_from set b n)
@@ -52,24 +52,24 @@ front_within b k (r ∷ rs) p =
     let long = p.1 in
     elim (cases_Bool (r.0 == suc b)) [
       | inl t ↦ (
-        let e : r.0 ≡ suc b = search (rules, t) in
-        rw t (
-          λ h. elim h [
-            | inl w ↦ elim (at_or_above b k w.0) [
-              | inl same ↦ inl same
-              | inr more ↦ inr (inl (omega (arith, more, e), w.1))
-            ]
-            | inr w ↦ inr (inr w)
-          ],
-          λ h. elim h [
-            | inl same ↦ inl (omega (arith, same), omega (arith, same, e, long))
-            | inr w ↦ elim w [
-              | inl x ↦ inl (omega (arith, x.0, e), x.1)
-              | inr x ↦ inr x
-            ]
-          ],
-        )
-      )
+          let e : r.0 ≡ suc b = search (rules, t) in
+          rw t (
+            λ h. elim h [
+              | inl w ↦ elim (at_or_above b k w.0) [
+                | inl same ↦ inl same
+                | inr more ↦ inr (inl (omega (arith, more, e), w.1))
+              ]
+              | inr w ↦ inr (inr w)
+            ],
+            λ h. elim h [
+              | inl same ↦ inl (omega (arith, same), omega (arith, same, e, long))
+              | inr w ↦ elim w [
+                | inl x ↦ inl (omega (arith, x.0, e), x.1)
+                | inr x ↦ inr x
+              ]
+            ],
+          )
+          )
       | inr f ↦ rw f (
         λ h. elim h [ inl w ↦ inl (omega (arith, w.0, w.1)) | inr w ↦ inr w ],
         λ h. elim h [ inl e ↦ inl (omega (arith, e), omega (arith, e)) | inr w ↦ inr w ],
@@ -92,40 +92,40 @@ runs_within set b (suc n) k =
     let later = runs_within set (suc b) n k in
     elim (cases_Bool (is_in set b)) [
       | inl t ↦
-        let front = front_within b k (runs_from set (suc b) n) (runs_ascend set (suc b) n) in
-        rw (runs-in set b n t) (
-          λ h. front.1 (elim (cases_Bool (k == b)) [
-            | inl same ↦ inl (search (rules, same))
-            | inr other ↦
-              let low = h.0 in
-              let above : suc b ≤ k = search (rules, other, low) in
-              inr (later.0 (above, omega (arith, h.1), h.2))
-          ]),
-          λ h. elim (front.0 h) [
-            | inl e ↦
-              let P : ℕ → Type 0 = λ x. is_in set x ≡ true in
-              (omega (arith, e), omega (arith, e), subst P (sym e) t)
-            | inr w ↦
-              let back = later.1 w in
-              (omega (arith, back.0), omega (arith, back.1), back.2)
-          ],
-        )
+          let front = front_within b k (runs_from set (suc b) n) (runs_ascend set (suc b) n) in
+          rw (runs-in set b n t) (
+            λ h. front.1 (elim (cases_Bool (k == b)) [
+              | inl same ↦ inl (search (rules, same))
+              | inr other ↦
+                  let low = h.0 in
+                  let above : suc b ≤ k = search (rules, other, low) in
+                  inr (later.0 (above, omega (arith, h.1), h.2))
+            ]),
+            λ h. elim (front.0 h) [
+              | inl e ↦
+                  let P : ℕ → Type 0 = λ x. is_in set x ≡ true in
+                  (omega (arith, e), omega (arith, e), subst P (sym e) t)
+              | inr w ↦
+                  let back = later.1 w in
+                  (omega (arith, back.0), omega (arith, back.1), back.2)
+            ],
+          )
       | inr f ↦
-        rw (runs-out set b n f) (
-          λ h. elim (cases_Bool (k == b)) [
-            | inl same ↦
-              let e : k ≡ b = search (rules, same) in
-              let bad : false ≡ true = sym f ∙ ap (is_in set) (sym e) ∙ h.2 in
-              absurd (false≢true bad)
-            | inr other ↦
-              let low = h.0 in
-              let above : suc b ≤ k = search (rules, other, low) in
-              later.0 (above, omega (arith, h.1), h.2)
-          ],
-          λ w.
-            let back = later.1 w in
-            (omega (arith, back.0), omega (arith, back.1), back.2),
-        )
+          rw (runs-out set b n f) (
+            λ h. elim (cases_Bool (k == b)) [
+              | inl same ↦
+                  let e : k ≡ b = search (rules, same) in
+                  let bad : false ≡ true = sym f ∙ ap (is_in set) (sym e) ∙ h.2 in
+                  absurd (false≢true bad)
+              | inr other ↦
+                  let low = h.0 in
+                  let above : suc b ≤ k = search (rules, other, low) in
+                  later.0 (above, omega (arith, h.1), h.2)
+            ],
+            λ w.
+                let back = later.1 w in
+                (omega (arith, back.0), omega (arith, back.1), back.2),
+          )
     ]
 
 pub runs_are_the_set : RunsAreTheSet

@@ -1,10 +1,12 @@
 -- What a run of the command reads, answers and writes.
 use Rattle.std.specs.Prelude.{◌≡◌, ℕ, ◌+◌, ◌<◌, ◌≤◌, ◌⊎◌, Bool, false, List, [], ◌∷◌, ◌++◌, length}
-use Rattle.std.specs.Prelude.{Option, None, codes, ⊤}
+use Rattle.std.specs.Prelude.{Option, None, Ok, Err, codes, ⊤}
 use Rattle.std.specs.Io.KnownBytes.{IsAtEnd}
 use Rattle.sf_value.specs.declared.dialect.Dialect.{Dialect}
+use Rattle.sf_value.specs.declared.dialect.Dialect.TheVariants.{Rfc9651}
 use Rattle.sf_value.specs.declared.value.Field.{Field}
 use Rattle.sf_value.specs.declared.value.Kind.{Kind}
+use Rattle.sf_value.specs.declared.value.Kind.TheVariants as kind
 use Rattle.sf_value.specs.Devices.{SourceState, SinkState, Gave, GaveAndFailed}
 use Rattle.sf_value.specs.Grammar.Canonical.{canon}
 use Rattle.sf_value.specs.Grammar.Lines.{join}
@@ -13,14 +15,29 @@ use Rattle.sf_parse.specs.declared.refusal.Refusal.{Refusal}
 use Rattle.sf_parse.specs.declared.refusal.Refusal.TheVariants.{OutOfMemory, Syntax, TooLong}
 use Rattle.sf_parse.specs.declared.refusal.Refusal.TheVariants.{ReadFault}
 use Rattle.sf_parse.specs.Parsers.{IsOnly, IsSyntax}
+use Rattle.sf_field.specs.Headers.{Headers}
+use Rattle.sf_field.specs.declared.asking.AskFault.{AskFault}
+use Rattle.sf_field.specs.declared.asking.AskFault.TheVariants as ask
+use Rattle.sf_use.specs.declared.cache_status.hop.Hop.{Hop}
+use Rattle.sf_use.specs.CacheStatus.Hops.{hops}
+use Rattle.sf_use.specs.declared.targeted.Choice.{Choice}
+use Rattle.sf_use.specs.TargetedChoice.{IsChosen}
+use Rattle.sf_use.specs.Priority.{asked_in, filled}
+use Rattle.sf_tool.specs.declared.fields.InputFault.{InputFault}
+use Rattle.sf_tool.specs.declared.fields.InputFault.TheVariants as input_fault
 use Rattle.sf_tool.specs.declared.request.Request.{Request}
 use Rattle.sf_tool.specs.declared.request.Request.TheVariants.{Show, Check, Normalise}
+use Rattle.sf_tool.specs.declared.request.Request.TheVariants.{CacheStatus, Targeted, Priority}
 use Rattle.sf_tool.specs.declared.running.TheConstants.{INPUT_LIMIT}
 use Rattle.sf_tool.specs.declared.status.Status.{Status}
 use Rattle.sf_tool.specs.declared.status.Status.TheVariants.{Accepted, Refused, Usage, Stopped}
 use Rattle.sf_tool.specs.Lines.{lines_of}
 use Rattle.sf_tool.specs.Texts.{refusal_line, too_long_line}
 use Rattle.sf_tool.specs.Tree.{tree}
+use Rattle.sf_tool.specs.PathLines.{path_lines, not_a_cache_line}
+use Rattle.sf_tool.specs.Fields.{fields_in}
+use Rattle.sf_tool.specs.ChoiceLines.{choice_lines, refused_line}
+use Rattle.sf_tool.specs.PriorityLine.{priority_line}
 
 -- the field lines of an input, joined
 abbrev pub joined : List ℕ → List ℕ
@@ -52,12 +69,43 @@ accepted_line v = codes "accepted\n"
 abbrev pub canonical_line : Field → List ℕ
 canonical_line v = canon v ++ codes "\n"
 
+-- what `priority` tells: what the Dictionary asks for, with the defaults filled in
+abbrev pub priority_of : Field → List ℕ
+priority_of v = priority_line (filled (asked_in v))
+
+-- the hops of the List that t spells, and which served; or the line of a refusal, or of a member
+-- that names no cache
+abbrev pub TellsPath : List ℕ → List ℕ → Status → Type 0
+TellsPath t text Accepted =
+    (v : Field) × IsOnly Rfc9651 kind.List t v
+    × (path : List Hop) × (hops v ≡ Ok path) × (text ≡ path_lines path)
+TellsPath t text Refused =
+    Refuses Rfc9651 kind.List t text
+    ⊎ ((v : Field) × IsOnly Rfc9651 kind.List t v
+    × (index : ℕ) × (hops v ≡ Err index) × (text ≡ not_a_cache_line index))
+TellsPath t text Usage = ⊥
+TellsPath t text Stopped = ⊥
+
+-- the choice among the fields of these names that stand in the input; or the line of a refusal for
+-- the first line that is refused
+abbrev pub TellsChoice : List (List ℕ) → List ℕ → List ℕ → Status → Type 0
+TellsChoice names input text Accepted =
+    (headers : Headers) × (fields_in names input ≡ Ok headers)
+    × (c : Choice) × IsChosen names headers c × (text ≡ choice_lines names c)
+TellsChoice names input text Refused =
+    (number : ℕ) × (fields_in names input ≡ Err number) × (text ≡ refused_line number)
+TellsChoice names input text Usage = ⊥
+TellsChoice names input text Stopped = ⊥
+
 -- the text and the status for an input within the limit
 abbrev pub Answers : Request → List ℕ → List ℕ → Status → Type 0
 Answers (Show d kind) input text status = Responds d kind tree (joined input) text status
 Answers (Check d kind) input text status = Responds d kind accepted_line (joined input) text status
 Answers (Normalise d kind) input text status =
     Responds d kind canonical_line (joined input) text status
+Answers CacheStatus input text status = TellsPath (joined input) text status
+Answers (Targeted names) input text status = TellsChoice names.items input text status
+Answers Priority input text status = Responds Rfc9651 kind.Dict priority_of (joined input) text status
 
 -- the text and the status for any input: a longer one is refused for its length
 abbrev pub Outputs : Request → List ℕ → List ℕ → Status → Type 0
@@ -130,3 +178,14 @@ IsOfText OutOfMemory = ⊤
 IsOfText (Syntax place found expected may_end) = ⊤
 IsOfText (TooLong limit) = ⊥
 IsOfText (ReadFault place) = ⊥
+
+-- a fault of a consumer that is told: its refusal is for the text
+abbrev pub IsAskOfText : AskFault → Type 0
+IsAskOfText (ask.Field refusal) = IsOfText refusal
+IsAskOfText (ask.Answer fault) = ⊤
+
+-- a refused line was answered: its number was to be written, or memory was wanting
+abbrev pub TellsInputFault : InputFault → SinkState → SinkState → Status → Type 0
+TellsInputFault (input_fault.Line number) old new result =
+    TellsText (refused_line number) Refused old new result
+TellsInputFault input_fault.OutOfMemory old new result = (result ≡ Stopped) × (new ≡ old)

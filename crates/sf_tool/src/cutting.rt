@@ -5,7 +5,7 @@ ghost use Rattle.std.specs.List.{position_or_len, before_first, after_first};
 ghost use Rattle.std.specs.Str.Lines.{lines, strip_carriage_return};
 ghost use Rattle.sf_value.specs.Grammar.Lines.{join};
 ghost use Rattle.sf_tool.specs.Lines.{is_blank, without_lead, without_trail, trim};
-ghost use Rattle.sf_tool.specs.Lines.{lines_of, is_line_feed};
+ghost use Rattle.sf_tool.specs.Lines.{lines_of};
 
 use sf_value::{Blob, OutOfMemory};
 use std::alloc::Global;
@@ -37,7 +37,7 @@ fn without_trail(bytes: &[u8]) -> &[u8]
 }
 
 /// The bytes without the spaces and tabs at both ends.
-fn trimmed(bytes: &[u8]) -> &[u8]
+pub(crate) fn trimmed(bytes: &[u8]) -> &[u8]
     ensures { result.now ≡ trim bytes.now }
 {
     without_trail(without_lead(bytes))
@@ -54,15 +54,15 @@ fn without_return(line: &[u8]) -> &[u8]
     }
 }
 
-/// What stands before the first line feed and after it, None where there is none.
-fn split_at_line_feed(bytes: &[u8]) -> Option<(&[u8], &[u8])>
-    ensures { MatchOption result (position_or_len is_line_feed bytes.now ≡ length bytes.now)
-        (λ p. (position_or_len is_line_feed bytes.now < length bytes.now)
-        × (p.0.now ≡ before_first is_line_feed bytes.now)
-        × (p.1.now ≡ after_first is_line_feed bytes.now)) }
+/// What stands before the first of these bytes and after it, None where there is none.
+pub(crate) fn split_at_first(bytes: &[u8], separator: u8) -> Option<(&[u8], &[u8])>
+    ensures { MatchOption result (position_or_len (λ b. b == separator) bytes.now ≡ length bytes.now)
+        (λ p. (position_or_len (λ b. b == separator) bytes.now < length bytes.now)
+        × (p.0.now ≡ before_first (λ b. b == separator) bytes.now)
+        × (p.1.now ≡ after_first (λ b. b == separator) bytes.now)) }
 {
     for (i, byte) in bytes.iter().enumerate() {
-        if *byte == b'\n' {
+        if *byte == separator {
             return Some((&bytes[..i], &bytes[i + 1..]));
         }
     }
@@ -70,7 +70,7 @@ fn split_at_line_feed(bytes: &[u8]) -> Option<(&[u8], &[u8])>
 }
 
 /// The first line and what follows it, None where the input is empty.
-fn split_line(input: &[u8]) -> Option<(&[u8], &[u8])>
+pub(crate) fn split_line(input: &[u8]) -> Option<(&[u8], &[u8])>
     ensures lines { MatchOption result (lines input.now ≡ [])
         (λ p. lines input.now ≡ p.0.now ∷ lines p.1.now) }
     ensures shorter { IfSome result (λ p. length p.1.now < length input.now) }
@@ -79,7 +79,7 @@ fn split_line(input: &[u8]) -> Option<(&[u8], &[u8])>
     if input.is_empty() {
         return None;
     }
-    match split_at_line_feed(input) {
+    match split_at_first(input, b'\n') {
         Some((line, rest)) => Some((without_return(line), rest)),
         None => Some((input, &[])),
     }

@@ -3,9 +3,14 @@
 //! a run reads, answers and writes in `specs/Run.antt`.
 #![tactic(auto)]
 
+mod answering;
+mod choice;
 mod cutting;
 mod expected;
+mod fields;
 pub mod laws;
+mod path;
+mod priority;
 mod reading;
 mod refusing;
 mod request;
@@ -15,6 +20,6 @@ mod status;
 mod tests;
 mod tree;
 
-pub use request::{Request, RequestFault, read_request};
+pub use request::{MAX_NAMES, Request, RequestFault, read_request};
 pub use running::{INPUT_LIMIT, run};
 pub use status::Status;

@@ -1,20 +1,45 @@
 //! The words of the command line.
+ghost use Rattle.std.specs.Prelude.{◌≡◌, ◌≢◌, ◌↔◌, [], map, true, false, IfOk, MatchResult};
+ghost use Rattle.std.specs.Prelude.{string_bytes};
+ghost use Rattle.clap.specs.Words.{app_of, found_of, rows_of};
+ghost use Rattle.sf_value.specs.declared.dialect.Dialect.{Dialect};
+ghost use Rattle.sf_value.specs.declared.value.Kind.{Kind};
+ghost use Rattle.sf_tool.specs.declared.request.RequestFault.TheVariants.{Usage};
+ghost use Rattle.sf_tool.specs.Fields.{is_header_name};
+ghost use Rattle.http_header.specs.Token.{lowercase};
+ghost use Rattle.sf_tool.specs.Request.{HasFewNames};
+ghost use Rattle.sf_tool.specs.CommandLine.{command_line, kind_command, names_command};
+ghost use Rattle.sf_tool.specs.CommandLine.{NamesKind, NamesDialect, AsksFor, IsRequestOf};
+ghost use Rattle.sf_tool.specs.CommandLine.{IsUsageOf};
+ghost use Rattle.sf_tool.specs.Commands.{IsCommandFault, IsTargetedOf, IsNamesFault};
+
 use clap::error::ErrorKind;
-use clap::{Arg, ArgMatches, Command};
+use clap::{Arg, ArgAction, ArgMatches, Command};
+use http_header::{HeaderName, HeaderNameError};
 use sf_value::{Dialect, Kind};
 use std::alloc::{AllocError, Global};
 use thiserror::Error;
 
-/// What the command is asked to do.
-#[derive(Clone, Copy, Debug, PartialEq, Eq)]
+/// The greatest number of names that `targeted` takes.
+pub const MAX_NAMES: usize = 64;
+
+/// What the command is asked to do with the field lines of its input.
+#[derive(Debug, Drop)]
 pub enum Request {
-    /// To write the tree of the input's field lines, read in this dialect as one field of this kind.
+    /// To show the value that they spell, read in this dialect as one field of this kind.
     Show(Dialect, Kind),
-    /// To write whether the input's field lines are accepted, in this dialect and as this kind.
+    /// To say whether they spell a value, read in this dialect as one field of this kind.
     Check(Dialect, Kind),
-    /// To write the canonical text of the input's field lines, read in this dialect as one field of
-    /// this kind.
+    /// To write the canonical text of the value that they spell, read in this dialect as one field
+    /// of this kind.
     Normalise(Dialect, Kind),
+    /// To tell the hops of a Cache-Status field (RFC 9211).
+    CacheStatus,
+    /// To tell which of these fields governs a cache that reads them in this order, and how
+    /// (RFC 9213). A request that [`read_request`] gives has from 1 to [`MAX_NAMES`] names.
+    Targeted(Vec<HeaderName>),
+    /// To tell the parameters of a Priority field (RFC 9218).
+    Priority,
 }
 
 /// Why words are no request. The text of each is the line that the program prints.
@@ -30,10 +55,20 @@ pub enum RequestFault {
 
 /// Reads the words of the command line, of which the first is the program's name.
 ///
-/// `normalise` takes `--kind item`, `--kind list` or `--kind dict`, and may take
-/// `--dialect rfc8941` or `--dialect rfc9651`, which is the default. Whatever else stands there is
-/// `Usage`, a request for help among it.
-pub fn read_request(alloc: Global, words: &[String]) -> Result<Request, RequestFault> {
+/// `show`, `check` and `normalise` take `--kind item`, `--kind list` or `--kind dict`, and may take
+/// `--dialect rfc8941` or `--dialect rfc9651`, which is the default. `cache-status` and `priority`
+/// take nothing. `targeted` takes from 1 to [`MAX_NAMES`] header names (RFC 9110 section 5.1); one
+/// that begins with a hyphen must stand behind `--`. Whatever else stands there is `Usage`, a
+/// request for help among it.
+///
+/// ```
+/// let request = read_request(alloc, words.as_slice())?; // sf targeted CDN-Cache-Control
+/// ```
+pub fn read_request(alloc: Global, words: &[String]) -> Result<Request, RequestFault>
+    ensures request { MatchResult result (IsRequestOf (map string_bytes words.now))
+        (IsUsageOf (map string_bytes words.now)) }
+    ensures few { IfOk result HasFewNames }
+{
     let Ok(command) = make_command(alloc) else {
         return Err(RequestFault::OutOfMemory);
     };
@@ -42,28 +77,38 @@ pub fn read_request(alloc: Global, words: &[String]) -> Result<Request, RequestF
         Err(error) => return Err(fault_of(error.kind())),
     };
     match matches.subcommand() {
-        Some((name, given)) => request_of(name, given),
+        Some((name, given)) => request_of(alloc, name, given),
         None => Err(RequestFault::Usage),
     }
 }
 
-fn fault_of(kind: ErrorKind) -> RequestFault {
+fn fault_of(kind: ErrorKind) -> RequestFault
+    ensures { (result ≡ Usage) ↔ (kind ≢ ErrorKind.OutOfMemory) }
+{
     match kind {
         ErrorKind::OutOfMemory => RequestFault::OutOfMemory,
         _ => RequestFault::Usage,
     }
 }
 
-fn make_command<'a>(alloc: Global) -> Result<Command<'a>, AllocError> {
+/// The program, with its six commands.
+fn make_command<'a>(alloc: Global) -> Result<Command<'a>, AllocError>
+    ensures { IfOk result (λ c. app_of c ≡ command_line) }
+{
     Command::new(alloc, "sf")
         .subcommand_required(true)
         .subcommand(with_kind(alloc, "show")?)?
         .subcommand(with_kind(alloc, "check")?)?
-        .subcommand(with_kind(alloc, "normalise")?)
+        .subcommand(with_kind(alloc, "normalise")?)?
+        .subcommand(Command::new(alloc, "cache-status"))?
+        .subcommand(with_names(alloc, "targeted")?)?
+        .subcommand(Command::new(alloc, "priority"))
 }
 
 /// A command that takes a kind, and a dialect.
-fn with_kind<'a>(alloc: Global, name: &'a str) -> Result<Command<'a>, AllocError> {
+fn with_kind<'a>(alloc: Global, name: &'a str) -> Result<Command<'a>, AllocError>
+    ensures { IfOk result (λ c. app_of c ≡ record { top = kind_command name.entry.now; subs = [] }) }
+{
     let kind = Arg::new(alloc, "kind").long("kind").required(true);
     let dialect = Arg::new(alloc, "dialect")
         .long("dialect")
@@ -71,28 +116,95 @@ fn with_kind<'a>(alloc: Global, name: &'a str) -> Result<Command<'a>, AllocError
     Command::new(alloc, name).arg(kind)?.arg(dialect)
 }
 
-fn request_of(name: &str, given: &ArgMatches<'_>) -> Result<Request, RequestFault> {
+/// A command that takes one name or more.
+fn with_names<'a>(alloc: Global, name: &'a str) -> Result<Command<'a>, AllocError>
+    ensures { IfOk result (λ c. app_of c ≡ record { top = names_command name.entry.now; subs = [] }) }
+{
+    let names = Arg::new(alloc, "name")
+        .required(true)
+        .num_args(1..)
+        .action(ArgAction::Append);
+    Command::new(alloc, name).arg(names)
+}
+
+/// The request that a command and what was given with it ask for.
+fn request_of(alloc: Global, name: &str, given: &ArgMatches<'_>) -> Result<Request, RequestFault>
+    ensures { MatchResult result (AsksFor name.now (rows_of (found_of given.now)))
+        (IsCommandFault name.now (rows_of (found_of given.now))) }
+{
     match name {
         "show" => Ok(Request::Show(dialect_of(given)?, kind_of(given)?)),
         "check" => Ok(Request::Check(dialect_of(given)?, kind_of(given)?)),
         "normalise" => Ok(Request::Normalise(dialect_of(given)?, kind_of(given)?)),
+        "cache-status" => Ok(Request::CacheStatus),
+        "targeted" => match given.get_strs("name") {
+            Some(names) => targeted(alloc, names),
+            None => Err(RequestFault::Usage),
+        },
+        "priority" => Ok(Request::Priority),
         _ => Err(RequestFault::Usage),
     }
 }
 
-fn dialect_of(given: &ArgMatches<'_>) -> Result<Dialect, RequestFault> {
-    match given.get_str("dialect") {
-        Some("rfc8941") => Ok(Dialect::Rfc8941),
-        Some("rfc9651") => Ok(Dialect::Rfc9651),
+fn dialect_of(given: &ArgMatches<'_>) -> Result<Dialect, RequestFault>
+    ensures { MatchResult result (NamesDialect (rows_of (found_of given.now)))
+        (λ fault. (d : Dialect) → ¬ (NamesDialect (rows_of (found_of given.now)) d)) }
+{
+    let Some(word) = given.get_str("dialect") else {
+        return Err(RequestFault::Usage);
+    };
+    match word {
+        "rfc8941" => Ok(Dialect::Rfc8941),
+        "rfc9651" => Ok(Dialect::Rfc9651),
         _ => Err(RequestFault::Usage),
     }
 }
 
-fn kind_of(given: &ArgMatches<'_>) -> Result<Kind, RequestFault> {
-    match given.get_str("kind") {
-        Some("item") => Ok(Kind::Item),
-        Some("list") => Ok(Kind::List),
-        Some("dict") => Ok(Kind::Dict),
+fn kind_of(given: &ArgMatches<'_>) -> Result<Kind, RequestFault>
+    ensures { MatchResult result (NamesKind (rows_of (found_of given.now)))
+        (λ fault. (k : Kind) → ¬ (NamesKind (rows_of (found_of given.now)) k)) }
+{
+    let Some(word) = given.get_str("kind") else {
+        return Err(RequestFault::Usage);
+    };
+    match word {
+        "item" => Ok(Kind::Item),
+        "list" => Ok(Kind::List),
+        "dict" => Ok(Kind::Dict),
         _ => Err(RequestFault::Usage),
     }
 }
+
+/// A header name as a word of the command line gives it.
+fn header_name(alloc: Global, word: &str) -> Result<HeaderName, RequestFault>
+    ensures { MatchResult result
+        (λ name. (is_header_name word.now ≡ true) × (name ≡ lowercase word.now))
+        (λ fault. fault ≡ Usage → is_header_name word.now ≡ false) }
+{
+    match HeaderName::from_bytes(alloc, word.as_bytes()) {
+        Ok(name) => Ok(name),
+        Err(HeaderNameError::Invalid) => Err(RequestFault::Usage),
+        Err(HeaderNameError::OutOfMemory) => Err(RequestFault::OutOfMemory),
+    }
+}
+
+/// The request that has the words for its names.
+fn targeted(alloc: Global, words: &[&str]) -> Result<Request, RequestFault>
+    ensures { MatchResult result (IsTargetedOf (map (λ w. w.now) words.now))
+        (IsNamesFault (map (λ w. w.now) words.now)) }
+{
+    if words.is_empty() || words.len() > MAX_NAMES {
+        return Err(RequestFault::Usage);
+    }
+    let mut names = Vec::new(alloc);
+    for word in words {
+        let name = header_name(alloc, word)?;
+        let Ok(()) = names.push(name) else {
+            return Err(RequestFault::OutOfMemory);
+        };
+    }
+    Ok(Request::Targeted(names))
+}
+
+#[cfg(test)]
+mod tests;

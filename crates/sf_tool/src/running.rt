@@ -1,106 +1,34 @@
 //! What the command answers.
 ghost use Rattle.std.specs.Prelude.{◌≤◌, length, IfErr};
-ghost use Rattle.sf_write.specs.Writing.{Writes};
+ghost use Rattle.sf_field.specs.Asking.{Asks};
 ghost use Rattle.sf_field.specs.Lines.{ParsesLines};
 ghost use Rattle.sf_tool.specs.declared.request.Request.TheVariants as request_is;
 ghost use Rattle.sf_tool.specs.declared.status.Status.TheVariants as status_is;
 ghost use Rattle.sf_tool.specs.Lines.{lines_of};
-ghost use Rattle.sf_tool.specs.Texts.{too_long_line};
-ghost use Rattle.sf_tool.specs.Tree.{tree};
-ghost use Rattle.sf_tool.specs.Run.{Ran, Tells, TellsText, TellsRefusal, IsOfText};
-ghost use Rattle.sf_tool.specs.Run.{accepted_line, canonical_line};
+ghost use Rattle.sf_tool.specs.ChoiceLines.{choice_lines, IsPlaceOf};
+ghost use Rattle.sf_tool.specs.Run.{Ran, Tells, TellsInputFault, TellsText};
+ghost use Rattle.sf_tool.specs.Run.{IsOfText, IsAskOfText};
 
+use crate::answering::{
+    answer_accepted, answer_canonical, answer_chosen, answer_fallback, answer_not_a_cache,
+    answer_path, answer_priority, answer_refusal, answer_refused_line, answer_too_long,
+    answer_tree,
+};
 use crate::cutting::lines_of;
+use crate::fields::{InputFault, MOST_NAMES, read_fields};
 use crate::reading::{ReadAllFault, read_all};
-use crate::refusing::write_refusal;
 use crate::request::Request;
 use crate::status::Status;
-use crate::tree::write_tree;
-use sf_field::parse_lines_in;
+use http_header::HeaderName;
+use sf_field::{AskFault, Consumer, UseFault, ask, parse_lines_in};
 use sf_parse::Refusal;
+use sf_use::{CacheStatus, Choice, PriorityField, select};
 use sf_value::{Dialect, Field, Kind, Sink, Source};
-use sf_write::{WriteFault, send_all, write_field_from};
 use std::alloc::Global;
 use std::hash::RandomState;
 
 /// The length in bytes of the longest input that is read; a longer one is refused.
 pub const INPUT_LIMIT: u64 = 1_048_576;
-
-/// The canonical text of a field, and a line feed.
-fn write_canonical<W: Sink>(field: &Field, out: &mut W) -> Result<u64, WriteFault>
-    ensures { Writes (W.state out.old) (W.state out.new) 0 result (canonical_line field.now) }
-{
-    let written = write_field_from(field, 0, out)?;
-    send_all(b"\n", written, out)
-}
-
-// Lets a field go. It is a function of its own, so that it is one call where that is done.
-fn let_go(_field: Field) {}
-
-fn answer_tree<W: Sink>(field: Field, sink: &mut W) -> Status
-    ensures { TellsText (tree field) status_is.Accepted
-        (W.state sink.old) (W.state sink.new) result }
-{
-    let written = write_tree(&field, 0, sink);
-    let_go(field);
-    match written {
-        Ok(_) => Status::Accepted,
-        Err(_) => Status::Stopped,
-    }
-}
-
-fn answer_accepted<W: Sink>(field: Field, sink: &mut W) -> Status
-    ensures { TellsText (accepted_line field) status_is.Accepted
-        (W.state sink.old) (W.state sink.new) result }
-{
-    let_go(field);
-    match send_all(b"accepted\n", 0, sink) {
-        Ok(_) => Status::Accepted,
-        Err(_) => Status::Stopped,
-    }
-}
-
-fn answer_canonical<W: Sink>(field: Field, sink: &mut W) -> Status
-    ensures { TellsText (canonical_line field) status_is.Accepted
-        (W.state sink.old) (W.state sink.new) result }
-{
-    let written = write_canonical(&field, sink);
-    let_go(field);
-    match written {
-        Ok(_) => Status::Accepted,
-        Err(_) => Status::Stopped,
-    }
-}
-
-fn answer_refusal<W: Sink>(refusal: Refusal, sink: &mut W) -> Status
-    requires { IsOfText refusal }
-    ensures { TellsRefusal refusal (W.state sink.old) (W.state sink.new) result }
-{
-    match refusal {
-        Refusal::Syntax {
-            place,
-            found,
-            expected,
-            may_end,
-        } => match write_refusal(place, found, expected, may_end, 0, sink) {
-            Ok(_) => Status::Refused,
-            Err(_) => Status::Stopped,
-        },
-        Refusal::OutOfMemory => Status::Stopped,
-        Refusal::TooLong { max: _ } => unreachable!(),
-        Refusal::ReadFault { place: _ } => unreachable!(),
-    }
-}
-
-fn answer_too_long<W: Sink>(sink: &mut W) -> Status
-    ensures { TellsText too_long_line status_is.Refused
-        (W.state sink.old) (W.state sink.new) result }
-{
-    match send_all(b"refused too long 1048576\n", 0, sink) {
-        Ok(_) => Status::Refused,
-        Err(_) => Status::Stopped,
-    }
-}
 
 /// The value of the input's field lines, read as one field.
 fn parse_input(
@@ -177,6 +105,99 @@ fn normalise<W: Sink>(
     }
 }
 
+/// What the input's field lines mean to a consumer.
+fn ask_input<C: Consumer>(
+    alloc: Global,
+    seed: &RandomState,
+    consumer: &C,
+    input: &[u8],
+) -> Result<C::Answer, AskFault>
+    requires { length input.now ≤ INPUT_LIMIT }
+    ensures asks { Asks C.KIND (C.meaning consumer.now) (lines_of input.now) result }
+    ensures of_text { IfErr result IsAskOfText }
+{
+    match lines_of(alloc, input) {
+        Ok(lines) => ask(alloc, seed, consumer, lines.as_slice()),
+        Err(_) => Err(AskFault::Field(Refusal::OutOfMemory)),
+    }
+}
+
+/// The hops of the input's Cache-Status field, or why it is refused.
+fn cache_status<W: Sink>(alloc: Global, seed: &RandomState, input: &[u8], sink: &mut W) -> Status
+    requires { length input.now ≤ INPUT_LIMIT }
+    ensures { Tells request_is.CacheStatus input.now (W.state sink.old) (W.state sink.new) result }
+{
+    match ask_input(alloc, seed, &CacheStatus, input) {
+        Ok(path) => answer_path(path, sink),
+        Err(AskFault::Field(refusal)) => answer_refusal(refusal, sink),
+        Err(AskFault::Answer(UseFault::NotACache { index })) => answer_not_a_cache(index, sink),
+        Err(AskFault::Answer(UseFault::OutOfMemory)) => Status::Stopped,
+    }
+}
+
+/// What the input's Priority field asks for, or why it is refused.
+fn priority<W: Sink>(alloc: Global, seed: &RandomState, input: &[u8], sink: &mut W) -> Status
+    requires { length input.now ≤ INPUT_LIMIT }
+    ensures { Tells request_is.Priority input.now (W.state sink.old) (W.state sink.new) result }
+{
+    match ask_input(alloc, seed, &PriorityField, input) {
+        Ok(asked) => answer_priority(asked.with_defaults(), sink),
+        Err(AskFault::Field(refusal)) => answer_refusal(refusal, sink),
+        Err(AskFault::Answer(UseFault::NotACache { index: _ })) => unreachable!(),
+        Err(AskFault::Answer(UseFault::OutOfMemory)) => Status::Stopped,
+    }
+}
+
+/// The lines of a choice among these names.
+fn answer_choice<W: Sink>(names: &[HeaderName], choice: Choice, sink: &mut W) -> Status
+    requires { IsPlaceOf names.now choice }
+    ensures { TellsText (choice_lines names.now choice) status_is.Accepted
+        (W.state sink.old) (W.state sink.new) result }
+{
+    match choice {
+        Choice::Field { index, policy } => {
+            answer_chosen(index, names[index].as_str().as_bytes(), &policy, sink)
+        }
+        Choice::Fallback => answer_fallback(sink),
+    }
+}
+
+/// The line of a refusal for a line of the input.
+fn answer_input_fault<W: Sink>(fault: InputFault, sink: &mut W) -> Status
+    ensures { TellsInputFault fault (W.state sink.old) (W.state sink.new) result }
+{
+    match fault {
+        InputFault::Line(number) => answer_refused_line(number, sink),
+        InputFault::OutOfMemory => Status::Stopped,
+    }
+}
+
+/// Which of the fields of these names a cache obeys, or which line of the input is refused.
+fn targeted<W: Sink>(
+    alloc: Global,
+    seed: &RandomState,
+    names: &Vec<HeaderName>,
+    input: &[u8],
+    sink: &mut W,
+) -> Status
+    requires { length input.now ≤ INPUT_LIMIT }
+    ensures { Tells (request_is.Targeted names.now) input.now
+        (W.state sink.old) (W.state sink.new) result }
+{
+    if names.len() > MOST_NAMES {
+        return Status::Stopped;
+    }
+    let names = names.as_slice();
+    let headers = match read_fields(alloc, seed, names, input) {
+        Ok(headers) => headers,
+        Err(fault) => return answer_input_fault(fault, sink),
+    };
+    match select(alloc, seed, names, &headers) {
+        Ok(choice) => answer_choice(names, choice, sink),
+        Err(_) => Status::Stopped,
+    }
+}
+
 fn answer<W: Sink>(
     alloc: Global,
     seed: &RandomState,
@@ -191,6 +212,9 @@ fn answer<W: Sink>(
         Request::Show(dialect, kind) => show(alloc, seed, *dialect, *kind, input, sink),
         Request::Check(dialect, kind) => check(alloc, seed, *dialect, *kind, input, sink),
         Request::Normalise(dialect, kind) => normalise(alloc, seed, *dialect, *kind, input, sink),
+        Request::CacheStatus => cache_status(alloc, seed, input, sink),
+        Request::Targeted(names) => targeted(alloc, seed, names, input, sink),
+        Request::Priority => priority(alloc, seed, input, sink),
     }
 }
 

@@ -1,5 +1,6 @@
 //! Bare items (RFC 9651 section 4.1.3.1).
 ghost use Rattle.std.specs.Prelude.{◌≡◌, [], ◌∷◌, if◌then◌else◌, IfOk};
+ghost use Rattle.sf_value.specs.declared.value.Bare.TheVariants as bare_is;
 ghost use Rattle.sf_value.specs.Grammar.Canonical.{canon_bare};
 ghost use Rattle.sf_write.specs.Writing.{Writes, WritesText};
 
@@ -8,7 +9,7 @@ use crate::numbers::{write_date, write_decimal, write_integer};
 use crate::send::{WriteFault, send_all};
 use crate::shown::write_display_string;
 use crate::strings::write_string;
-use sf_value::{Bare, OutOfMemory, Sink, Writing};
+use sf_value::{Bare, OutOfMemory, Sink, Text, Writing};
 use std::alloc::Global;
 
 /// A Boolean: `?1` or `?0` (section 4.1.9).
@@ -35,6 +36,15 @@ pub fn write_bare_from<W: Sink>(bare: &Bare, before: u64, out: &mut W) -> Result
         Bare::Date(seconds) => write_date(seconds, before, out),
         Bare::Shown(shown) => write_display_string(shown.as_bytes(), before, out),
     }
+}
+
+/// Writes the canonical text of a String (RFC 9651 section 4.1.6) behind other bytes, as
+/// [`write_bare_from`] does of the bare item that holds it. It takes no memory.
+pub fn write_text_from<W: Sink>(text: &Text, before: u64, out: &mut W) -> Result<u64, WriteFault>
+    ensures { Writes (W.state out.old) (W.state out.new) before result
+        (canon_bare (bare_is.Text text.now)) }
+{
+    write_string(text.as_bytes(), before, out)
 }
 
 /// Writes the canonical text of a bare item (RFC 9651 section 4.1.3.1) into a sink, piece by piece.

@@ -21,6 +21,6 @@ mod strings;
 #[cfg(test)]
 mod tests;
 
-pub use bare::{bare_text, write_bare, write_bare_from};
+pub use bare::{bare_text, write_bare, write_bare_from, write_text_from};
 pub use field::{to_text, write_field, write_field_from};
 pub use send::{WriteFault, send_all};

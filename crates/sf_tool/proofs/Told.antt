@@ -1,7 +1,9 @@
 -- From what is to be written to what an input is answered.
 use Rattle.std.proofs.Common.{◌≡◌, ℕ, ◌*◌, ◌≤◌, inl, inr, Bool, false, List, []}
-use Rattle.std.proofs.Common.{◌∷◌, ◌++◌, length, Option, Some, None, Err, refl, sym, subst, arith}
+use Rattle.std.proofs.Common.{◌∷◌, ◌++◌, ◌+◌, ◌<◌, ◌∙◌, length, Option, Some, None, Result, Err}
+use Rattle.std.proofs.Common.{refl, sym, subst, arith}
 use Rattle.sf_value.specs.declared.dialect.Dialect.{Dialect}
+use Rattle.sf_value.specs.declared.dialect.Dialect.TheVariants.{Rfc9651}
 use Rattle.sf_value.specs.declared.value.Field.{Field}
 use Rattle.sf_value.specs.declared.value.Kind.{Kind}
 use Rattle.sf_value.specs.Devices.{SinkState}
@@ -11,15 +13,30 @@ use Rattle.sf_parse.specs.declared.refusal.Refusal.{Refusal}
 use Rattle.sf_parse.specs.declared.refusal.Refusal.TheVariants.{OutOfMemory, Syntax, TooLong}
 use Rattle.sf_parse.specs.declared.refusal.Refusal.TheVariants.{ReadFault}
 use Rattle.sf_parse.specs.Parsers.{IsOnly, IsSyntax}
+use Rattle.sf_field.specs.Asking.{Asks}
+use Rattle.sf_field.specs.Headers.{Headers}
 use Rattle.sf_field.specs.Lines.{ParsesLines}
+use Rattle.sf_field.specs.declared.asking.AskFault.{AskFault}
+use Rattle.sf_field.specs.declared.asking.AskFault.TheVariants as ask
+use Rattle.sf_use.specs.declared.targeted.Choice.{Choice}
+use Rattle.sf_use.specs.declared.targeted.Choice.TheVariants as choice_is
+use Rattle.sf_use.specs.declared.targeted.Policy.{Policy}
+use Rattle.sf_use.specs.TargetedChoice.{IsChosen, IsChosenFrom}
+use Rattle.std.specs.declared.vec.Vec.{Vec}
+use Rattle.std.specs.declared.alloc.Global.{Global}
+use Rattle.sf_tool.specs.declared.fields.InputFault.{InputFault}
+use Rattle.sf_tool.specs.declared.fields.InputFault.TheVariants as input_fault
 use Rattle.sf_tool.specs.declared.request.Request.{Request}
+use Rattle.sf_tool.specs.declared.request.Request.TheVariants.{Targeted}
 use Rattle.sf_tool.specs.declared.running.TheConstants.{INPUT_LIMIT}
 use Rattle.sf_tool.specs.declared.status.Status.{Status}
 use Rattle.sf_tool.specs.declared.status.Status.TheVariants.{Accepted, Refused, Usage, Stopped}
 use Rattle.sf_tool.specs.Lines.{lines_of}
 use Rattle.sf_tool.specs.Texts.{refusal_line}
-use Rattle.sf_tool.specs.Run.{joined, Responds, Answers, Outputs, Tells}
-use Rattle.sf_tool.specs.Run.{TellsText, TellsRefusal, IsOfText}
+use Rattle.sf_tool.specs.ChoiceLines.{IsPlaceOf, refused_line}
+use Rattle.sf_tool.specs.Fields.{fields_in, IsFaultOf}
+use Rattle.sf_tool.specs.Run.{joined, Refuses, Responds, Answers, Outputs, Tells}
+use Rattle.sf_tool.specs.Run.{TellsText, TellsRefusal, TellsInputFault, IsOfText, IsAskOfText}
 
 -- the text of an input was to be written
 pub tells_text : (request : Request) (input text : List ℕ) (status : Status) (old new : SinkState)
@@ -115,3 +132,85 @@ is_of_text d kind input lines (TooLong limit) small short p =
     let over = p.1 in
     absurd (omega arith)
 is_of_text d kind input lines (ReadFault place) small short p = absurd p
+
+-- what is fed to a consumer is refused for its text alone
+pub is_ask_of_text : {A : Type 0} (kind : Kind) (meaning : Field → Result A ℕ) (input : List ℕ)
+    (e : AskFault) → length (join (lines_of input)) ≤ 3 * length input → length input ≤ INPUT_LIMIT
+    → Asks kind meaning (lines_of input) (Err e) → IsAskOfText e
+is_ask_of_text kind meaning input (ask.Field refusal) small short p =
+    is_of_text Rfc9651 kind input (lines_of input) refusal small short p
+is_ask_of_text kind meaning input (ask.Answer fault) small short p = tt
+
+-- the line of a refusal, as what an input within the limit is answered
+pub tells_refused : (request : Request) (kind : Kind) (input : List ℕ) (e : Refusal)
+    (old new : SinkState) (result : Status)
+    → ((line : List ℕ) → Refuses Rfc9651 kind (joined input) line
+    → Answers request input line Refused)
+    → length input ≤ INPUT_LIMIT → ParsesLines Rfc9651 kind (lines_of input) (Err e)
+    → TellsRefusal e old new result → Tells request input old new result
+tells_refused request kind input OutOfMemory old new result given short p t =
+    stopped request input old new result t.0 t.1
+tells_refused request kind input (Syntax place found expected may_end) old new result given short p
+    t =
+    let known = refuses Rfc9651 kind (lines_of input) place found expected may_end p in
+    let line = refusal_line place found expected may_end in
+    tells_text request input line Refused old new result
+    (inl (
+      short,
+      given line (record {
+        place = place;
+        found = found;
+        expected = expected;
+        may_end = may_end;
+        syntax = known.0;
+        unended = known.1;
+        told = refl;
+      }),
+    )) t
+tells_refused request kind input (TooLong limit) old new result given short p t = absurd t
+tells_refused request kind input (ReadFault place) old new result given short p t = absurd t
+
+-- a text that an input within the limit is answered with
+pub tells_answer : (request : Request) (input text : List ℕ) (status : Status) (old new : SinkState)
+    (result : Status) → length input ≤ INPUT_LIMIT → Answers request input text status
+    → TellsText text status old new result → Tells request input old new result
+tells_answer request input text status old new result short given t =
+    tells_text request input text status old new result (inl (short, given)) t
+
+-- memory was wanting
+pub tells_nothing : (request : Request) (input : List ℕ) (old : SinkState)
+    → Tells request input old old Stopped
+tells_nothing request input old = inl refl
+
+-- a chosen field is one of the names
+pub chosen_is_place : (index : ℕ) (names : List (List ℕ)) (headers : Headers) (choice : Choice)
+    → IsChosenFrom index names headers choice
+    → (k : ℕ) (p : Policy) → choice ≡ choice_is.Field k p → k < index + length names
+chosen_is_place index [] headers choice h k p e =
+    let never : choice_is.Field k p ≡ choice_is.Fallback = sym e ∙ h in absurd cc
+chosen_is_place index (name ∷ names) headers choice h k p e =
+    elim h [
+      | inl here ↦
+          let same : choice_is.Field k p ≡ choice_is.Field index here.0 = sym e ∙ here.2 in
+          let at : k ≡ index = cc in
+          omega (arith, at)
+      | inr later ↦
+          omega (arith, chosen_is_place (index + 1) names headers choice later.1 k p e)
+    ]
+
+pub is_place : (names : List (List ℕ)) (headers : Headers) (choice : Choice)
+    → IsChosen names headers choice → IsPlaceOf names choice
+is_place names headers (choice_is.Field k p) h =
+    omega (arith, chosen_is_place 0 names headers (choice_is.Field k p) h k p refl)
+is_place names headers choice_is.Fallback h = tt
+
+-- a line of the input is refused
+pub tells_input_fault : (names : Vec (List ℕ) Global) (input : List ℕ) (fault : InputFault)
+    (old new : SinkState) (result : Status) → length input ≤ INPUT_LIMIT
+    → IsFaultOf names.items input fault → TellsInputFault fault old new result
+    → Tells (Targeted names) input old new result
+tells_input_fault names input (input_fault.Line number) old new result short refused t =
+    tells_answer (Targeted names) input (refused_line number) Refused old new result short
+    (number, refused, refl) t
+tells_input_fault names input input_fault.OutOfMemory old new result short refused t =
+    stopped (Targeted names) input old new result t.0 t.1

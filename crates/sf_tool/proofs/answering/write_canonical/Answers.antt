@@ -1,6 +1,6 @@
 use Rattle.std.proofs.Common.{◌∷◌, [], arith, refl}
 use Rattle.sf_write.proofs.Joining.{leaves_all, leaves_less, ends_early, ends_with}
-use Rattle.sf_tool.proofs.running.write_canonical.Goals as goal
+use Rattle.sf_tool.proofs.answering.write_canonical.Goals as goal
 
 pub returns-in_err-written : goal.returns-in_err-written
 returns-in_err-written g c =

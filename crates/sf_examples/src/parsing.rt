@@ -1,0 +1,76 @@
+//! Texts, pieces and lines.
+use http_header::{HeaderMap, HeaderName, HeaderValue};
+use sf_field::{from_headers, normalise_lines};
+use sf_parse::{Parser, Refusal, parse_text};
+use sf_value::{Blob, Kind};
+use sf_write::to_text;
+use std::hash::RandomState;
+use std::test::Fail;
+
+#[test]
+fn a_text(rt: HostRuntime) -> Result<(), Fail> {
+    let alloc = rt.alloc();
+    let seed = RandomState::new(&rt)?;
+    let field = parse_text(alloc, &seed, Kind::Dict, b"u=1,  i=?1")?;
+    let text = to_text(alloc, &field)?;
+    assert_eq!(&rt; text.as_slice(), b"u=1, i".as_slice());
+    Ok(())
+}
+
+#[test]
+fn pieces(rt: HostRuntime) -> Result<(), Fail> {
+    let alloc = rt.alloc();
+    let seed = RandomState::new(&rt)?;
+    let mut parser = Parser::new(alloc, &seed, Kind::Item, u64::MAX);
+    parser.feed(b"%\"f%c3")?;
+    parser.feed(b"%bc\"")?;
+    let field = parser.finish()?;
+    assert_eq!(&rt; to_text(alloc, &field)?.as_slice(), b"%\"f%c3%bc\"".as_slice());
+    Ok(())
+}
+
+#[test]
+fn lines(rt: HostRuntime) -> Result<(), Fail> {
+    let alloc = rt.alloc();
+    let seed = RandomState::new(&rt)?;
+    let lines = [Blob::new(alloc, b"a;q=1.0,b")?, Blob::new(alloc, b"(c  d)")?];
+    let text = normalise_lines(alloc, &seed, Kind::List, &lines)?;
+    assert_eq!(&rt; text.as_slice(), b"a;q=1.0, b, (c d)".as_slice());
+    Ok(())
+}
+
+#[test]
+fn headers(rt: HostRuntime) -> Result<(), Fail> {
+    let alloc = rt.alloc();
+    let seed = RandomState::new(&rt)?;
+    let priority = HeaderName::from_static("priority");
+    let mut headers = HeaderMap::new(alloc);
+    headers.append(HeaderName::from_static("priority"), HeaderValue::from_static("u=1"))?;
+    headers.append(HeaderName::from_static("priority"), HeaderValue::from_static("i"))?;
+    let text = match from_headers(alloc, &seed, Kind::Dict, &headers, &priority)? {
+        Some(field) => to_text(alloc, &field)?,
+        None => Vec::new(alloc),
+    };
+    assert_eq!(&rt; text.as_slice(), b"u=1, i".as_slice());
+    Ok(())
+}
+
+#[test]
+fn a_refusal(rt: HostRuntime) -> Result<(), Fail> {
+    let alloc = rt.alloc();
+    let seed = RandomState::new(&rt)?;
+    let refusal = match parse_text(alloc, &seed, Kind::Item, b"1 2") {
+        Ok(_) => return Err(Fail::from("accepted")),
+        Err(refusal) => refusal,
+    };
+    let wanted = Refusal::Syntax {
+        place: 2,
+        found: Some(b'2'),
+        expected: 1 << 32, // a space alone
+        may_end: true,
+    };
+    assert_eq!(&rt; refusal, wanted);
+    let line = refusal.to_string(alloc)?;
+    assert_eq!(&rt; line.as_str(), "byte 32 at place 2, expected 20 or the end");
+    Ok(())
+}

@@ -1,0 +1,32 @@
+use Rattle.std.proofs.Common.{arith, refl}
+use Rattle.sf_write.proofs.Joining.{leaves_all, leaves_less, ends_early, ends_with}
+use Rattle.sf_tool.proofs.priority.write_priority.Goals as goal
+
+pub returns-in_err-written : goal.returns-in_err-written
+returns-in_err-written g c =
+    let all = leaves_all _ _ _ (omega arith) in
+    ends_early _ _ all refl c.in_err-written.ensures
+    c.from_residual.ensures.1
+
+pub returns-in_err-written-2 : goal.returns-in_err-written-2
+returns-in_err-written-2 g c =
+    let all = leaves_all _ _ _ (omega arith) in
+    let left = leaves_less _ all refl c.in_ok-written.ensures in
+    ends_early _ _ left refl c.in_err-written-2.ensures
+    c.from_residual-in_err-written-2.ensures.1
+
+pub returns-in_err-written-3 : goal.returns-in_err-written-3
+returns-in_err-written-3 g c =
+    let all = leaves_all _ _ _ (omega arith) in
+    let left = leaves_less _ all refl c.in_ok-written.ensures in
+    let left2 = leaves_less _ left refl c.in_ok-written-2.ensures in
+    ends_early _ _ left2 refl c.in_err-written-3.ensures
+    c.from_residual-in_err-written-3.ensures.1
+
+pub returns : goal.returns
+returns g c =
+    let all = leaves_all _ _ _ (omega arith) in
+    let left = leaves_less _ all refl c.in_ok-written.ensures in
+    let left2 = leaves_less _ left refl c.in_ok-written-2.ensures in
+    let left3 = leaves_less _ left2 refl c.in_ok-written-3.ensures in
+    ends_with _ _ left3 refl c.write_incremental.ensures

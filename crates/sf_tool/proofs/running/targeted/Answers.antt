@@ -1,0 +1,25 @@
+use Rattle.std.proofs.Common.{refl}
+use Rattle.sf_tool.specs.declared.request.Request.TheVariants.{Targeted}
+use Rattle.sf_tool.specs.declared.status.Status.TheVariants.{Accepted}
+use Rattle.sf_tool.specs.ChoiceLines.{choice_lines}
+use Rattle.sf_tool.proofs.Told.{is_place, tells_answer, tells_input_fault}
+use Rattle.sf_tool.proofs.running.targeted.Goals as goal
+
+pub returns-in-Err : goal.returns-in-Err
+returns-in-Err g c =
+    let refused = rw c.as_slice-names.ensures.value at c.in-Err.ensures in
+    tells_input_fault c.args.names.now c.args.input.now c.in-Err.fault _ _ _ c.requires refused
+    c.answer_input_fault.ensures
+
+pub answer_choice-requires : goal.answer_choice-requires
+answer_choice-requires g c =
+    is_place _ _ c.in-Ok-select.choice c.in-Ok-select.ensures.chosen
+
+pub returns-in-Ok-select : goal.returns-in-Ok-select
+returns-in-Ok-select g c =
+    let names = c.as_slice-names.ensures.value in
+    let read = rw names at c.in-Ok.ensures in
+    let chosen = rw names at c.in-Ok-select.ensures.chosen in
+    tells_answer (Targeted c.args.names.now) c.args.input.now
+    (choice_lines c.args.names.now.items c.in-Ok-select.choice) Accepted _ _ _ c.requires
+    (_, read, c.in-Ok-select.choice, chosen, refl) (rw names at c.answer_choice.ensures)

@@ -1,0 +1,113 @@
+-- The words of the command line, as clap reads them.
+use Rattle.std.specs.Prelude.{◌≡◌, ◌≤◌, true, false, List, [], ◌∷◌, map, length, codes}
+use Rattle.std.specs.Prelude.{Some, ⊤}
+use Rattle.std.specs.List.{list_all}
+use Rattle.clap.specs.Lexer.{usize_max}
+use Rattle.clap.specs.Faults.{fault_of}
+use Rattle.clap.specs.Simple.{App, Shape, new_rule, new_shape, subcommand_of}
+use Rattle.clap.specs.Walk.{Row, Rule, Text, all_of, first_of}
+use Rattle.clap.specs.declared.builder.action.ArgAction.TheVariants.{Append}
+use Rattle.http_header.specs.Token.{lowercase}
+use Rattle.sf_value.specs.declared.dialect.Dialect.{Dialect}
+use Rattle.sf_value.specs.declared.dialect.Dialect.TheVariants.{Rfc8941, Rfc9651}
+use Rattle.sf_value.specs.declared.value.Kind.{Kind}
+use Rattle.sf_value.specs.declared.value.Kind.TheVariants as kind
+use Rattle.sf_tool.specs.declared.request.Request.{Request}
+use Rattle.sf_tool.specs.declared.request.Request.TheVariants.{Show, Check, Normalise, CacheStatus}
+use Rattle.sf_tool.specs.declared.request.Request.TheVariants.{Targeted, Priority}
+use Rattle.sf_tool.specs.declared.request.RequestFault.{RequestFault}
+use Rattle.sf_tool.specs.declared.request.RequestFault.TheVariants.{Usage, OutOfMemory}
+use Rattle.sf_tool.specs.declared.request.TheConstants.{MAX_NAMES}
+use Rattle.sf_tool.specs.Fields.{is_header_name}
+
+-- `--kind`, which must be given
+abbrev pub kind_option : Rule
+kind_option =
+    record (new_rule (codes "kind")) { long = Some (codes "kind"); required = true }
+
+-- `--dialect`, which is rfc9651 where it is not given
+abbrev pub dialect_option : Rule
+dialect_option = record (new_rule (codes "dialect")) {
+  long = Some (codes "dialect");
+  defaults = codes "rfc9651" ∷ [];
+}
+
+-- one name or more
+abbrev pub name_list : Rule
+name_list = record (new_rule (codes "name")) {
+  required = true;
+  range = Some (record { start_inclusive = 1; end_inclusive = usize_max });
+  action = Some Append;
+}
+
+-- a command that takes a kind, and a dialect
+abbrev pub kind_command : Text → Shape
+kind_command word = record (new_shape word) { rules = kind_option ∷ dialect_option ∷ [] }
+
+-- a command that takes names
+abbrev pub names_command : Text → Shape
+names_command word = record (new_shape word) { rules = name_list ∷ [] }
+
+-- the program: one of six commands must be named
+abbrev pub command_line : App
+command_line = record {
+  top = record (new_shape (codes "sf")) { is_leaf = false; subcommand_required = true };
+  subs = kind_command (codes "show") ∷ kind_command (codes "check")
+      ∷ kind_command (codes "normalise") ∷ new_shape (codes "cache-status")
+      ∷ names_command (codes "targeted") ∷ new_shape (codes "priority") ∷ [];
+}
+
+abbrev pub kind_word : Kind → Text
+kind_word kind.Item = codes "item"
+kind_word kind.List = codes "list"
+kind_word kind.Dict = codes "dict"
+
+abbrev pub dialect_word : Dialect → Text
+dialect_word Rfc8941 = codes "rfc8941"
+dialect_word Rfc9651 = codes "rfc9651"
+
+abbrev pub command_word : Request → Text
+command_word (Show dialect kind) = codes "show"
+command_word (Check dialect kind) = codes "check"
+command_word (Normalise dialect kind) = codes "normalise"
+command_word CacheStatus = codes "cache-status"
+command_word (Targeted names) = codes "targeted"
+command_word Priority = codes "priority"
+
+abbrev pub NamesKind : List Row → Kind → Type 0
+NamesKind rows kind = first_of (codes "kind") rows ≡ Some (kind_word kind)
+
+abbrev pub NamesDialect : List Row → Dialect → Type 0
+NamesDialect rows dialect = first_of (codes "dialect") rows ≡ Some (dialect_word dialect)
+
+-- from 1 to 64 header names, whose letters may be of either case
+abbrev pub AreNames : List Text → List Text → Type 0
+AreNames words names =
+    (1 ≤ length words) × (length words ≤ MAX_NAMES) × (list_all is_header_name words ≡ true)
+    × (names ≡ map lowercase words)
+
+-- what was given with the command's name is what the request has
+abbrev pub HasArguments : List Row → Request → Type 0
+HasArguments rows (Show dialect kind) = NamesDialect rows dialect × NamesKind rows kind
+HasArguments rows (Check dialect kind) = NamesDialect rows dialect × NamesKind rows kind
+HasArguments rows (Normalise dialect kind) = NamesDialect rows dialect × NamesKind rows kind
+HasArguments rows CacheStatus = ⊤
+HasArguments rows (Targeted names) =
+    (words : List Text) × (all_of (codes "name") rows ≡ Some words) × AreNames words names.items
+HasArguments rows Priority = ⊤
+
+-- the command's name and what was given with it ask for the request
+abbrev pub AsksFor : Text → List Row → Request → Type 0
+AsksFor word rows request = (word ≡ command_word request) × HasArguments rows request
+
+-- clap finds no fault in the words, and what it finds in them asks for the request
+abbrev pub IsRequestOf : List Text → Request → Type 0
+IsRequestOf words request =
+    (fault_of command_line words ≡ [])
+    × ((found : Text × List Row) × (subcommand_of command_line words ≡ Some found)
+    × AsksFor found.0 found.1 request)
+
+-- a fault is Usage only where the words ask for no request; of want of memory nothing is told
+abbrev pub IsUsageOf : List Text → RequestFault → Type 0
+IsUsageOf words Usage = (request : Request) → ¬ (IsRequestOf words request)
+IsUsageOf words OutOfMemory = ⊤

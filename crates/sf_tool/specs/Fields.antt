@@ -1,0 +1,88 @@
+-- The listed fields of an input of field lines.
+use Rattle.std.specs.Prelude.{◌≡◌, ℕ, Bool, ◌&&◌, ◌||◌, not, List, [], ◌∷◌, map, length, ◌==◌}
+use Rattle.std.specs.Prelude.{nat_lt, nat_le, false, Option, Some, None, Result, Ok, Err, ⊤}
+use Rattle.std.specs.List.{list_all, list_any, filter, position, before_first, after_first}
+use Rattle.std.specs.Str.{bytes_eq}
+use Rattle.http_header.specs.Token.{lowercase}
+use Rattle.http_header.specs.FieldValue.{FieldValue, plain_value}
+use Rattle.http_header.specs.HeaderMap.{append_all}
+use Rattle.sf_value.specs.Grammar.Classes.{is_tchar}
+use Rattle.sf_field.specs.Headers.{Headers}
+use Rattle.sf_tool.specs.declared.fields.InputFault.{InputFault}
+use Rattle.sf_tool.specs.declared.fields.InputFault.TheVariants.{Line, OutOfMemory}
+use Rattle.sf_tool.specs.Lines.{lines_of, trim}
+
+abbrev pub is_colon : ℕ → Bool
+is_colon b = b == 58
+
+-- 1 to 65,535 tchars (RFC 9110 sections 5.1 and 5.6.2; the length is that of http_header)
+abbrev pub is_header_name : List ℕ → Bool
+is_header_name word =
+    nat_lt 0 (length word) && (nat_le (length word) 65535 && list_all is_tchar word)
+
+-- 0x00 to 0x1F and 0x7F
+abbrev pub is_control : ℕ → Bool
+is_control b = nat_lt b 32 || b == 127
+
+-- no control byte but HTAB (RFC 9110 section 5.5)
+abbrev pub is_field_value : List ℕ → Bool
+is_field_value value = list_all (λ b. b == 9 || not (is_control b)) value
+
+-- what stands before the first colon
+abbrev pub word_of : List ℕ → List ℕ
+word_of line = before_first is_colon line
+
+-- the same in lower case, since the case of its letters does not count (RFC 9110 section 5.1)
+abbrev pub name_of : List ℕ → List ℕ
+name_of line = lowercase (word_of line)
+
+-- what stands after the first colon, without the blanks at its ends
+abbrev pub value_of : List ℕ → List ℕ
+value_of line = trim (after_first is_colon line)
+
+-- there is a colon, and a header name before it
+abbrev pub has_name : List ℕ → Bool
+has_name line = list_any is_colon line && is_header_name (word_of line)
+
+-- the names that are listed, in lower case
+abbrev pub Targets : Type 0
+Targets = List (List ℕ)
+
+abbrev pub is_listed : Targets → List ℕ → Bool
+is_listed targets name = list_any (λ target. bytes_eq target name) targets
+
+-- the line has a name, and it is listed
+abbrev pub is_of_listed : Targets → List ℕ → Bool
+is_of_listed targets line = has_name line && is_listed targets (name_of line)
+
+-- the line is not empty, and it has no name, or it has a listed one and in its value a control
+-- byte other than HTAB
+abbrev pub is_refused : Targets → List ℕ → Bool
+is_refused targets [] = false
+is_refused targets (b ∷ line) =
+    not (has_name (b ∷ line))
+    || (is_of_listed targets (b ∷ line) && not (is_field_value (value_of (b ∷ line))))
+
+-- a name with a value
+abbrev pub field_of : List ℕ → List ℕ × FieldValue
+field_of line = (name_of line, plain_value (value_of line))
+
+-- the listed fields, in the order of their lines
+abbrev pub listed_fields : Targets → List (List ℕ) → List (List ℕ × FieldValue)
+listed_fields targets lines = map field_of (filter (is_of_listed targets) lines)
+
+-- by the place of the first refused line: its number, or where none is refused the listed fields
+abbrev pub fields_or_line : Targets → List (List ℕ) → Option ℕ → Result Headers ℕ
+fields_or_line targets lines None = Ok (append_all [] (listed_fields targets lines))
+fields_or_line targets lines (Some n) = Err n
+
+-- the listed fields of an input as a header map, or the number of the first line that is refused,
+-- counted from 0 over all lines
+abbrev pub fields_in : Targets → List ℕ → Result Headers ℕ
+fields_in targets input =
+    fields_or_line targets (lines_of input) (position (is_refused targets) (lines_of input))
+
+-- the input is refused for this line; of want of memory nothing is told
+abbrev pub IsFaultOf : Targets → List ℕ → InputFault → Type 0
+IsFaultOf targets input (Line n) = fields_in targets input ≡ Err n
+IsFaultOf targets input OutOfMemory = ⊤

@@ -1,0 +1,137 @@
+//! The listed fields of an input of field lines.
+ghost use Rattle.std.specs.Prelude.{◌≡◌, ◌≤◌, length, Ok, IfOk, MatchResult, OnErr};
+ghost use Rattle.sf_tool.specs.Fields.{fields_in, is_listed, IsFaultOf};
+ghost use Rattle.sf_tool.specs.OneLine.{IsLine, IsLineFault, Takes, HasRoomFor};
+
+use crate::cutting::{split_at_first, split_line, trimmed};
+use http_header::{
+    HeaderMap, HeaderMapError, HeaderName, HeaderNameError, HeaderValue, HeaderValueError,
+};
+use sf_value::OutOfMemory;
+use std::alloc::Global;
+use std::hash::RandomState;
+
+/// The greatest number of listed names whose fields a header map surely has room for: it is full at
+/// one name more.
+pub(crate) const MOST_NAMES: usize = 24_575;
+
+/// Why an input gives no header map.
+#[derive(Clone, Copy, Debug, PartialEq, Eq)]
+pub(crate) enum InputFault {
+    /// The line of this number is refused, and none before it. Lines are counted from 0, the empty
+    /// ones among them.
+    Line(u64),
+    /// No memory was left for a name, for a value or in the map.
+    OutOfMemory,
+}
+
+/// What a line of an input is.
+#[derive(Drop)]
+enum FieldLine {
+    /// An empty line, or a field whose name is not listed.
+    Dropped,
+    /// No field, or a listed one whose value has a control byte other than a tab.
+    Refused,
+    /// A field whose name is listed.
+    Listed(HeaderName, HeaderValue),
+}
+
+/// Why a line was not taken.
+#[derive(Clone, Copy, Debug, PartialEq, Eq)]
+enum LineFault {
+    Refused,
+    OutOfMemory,
+}
+
+fn is_listed(targets: &[HeaderName], name: &HeaderName) -> bool
+    ensures { result ≡ is_listed targets.now name.now }
+{
+    targets.contains(name)
+}
+
+/// What the line is. There are no blanks at its ends.
+fn read_line(alloc: Global, targets: &[HeaderName], line: &[u8]) -> Result<FieldLine, OutOfMemory>
+    ensures { IfOk result (IsLine targets.now line.now) }
+{
+    if line.is_empty() {
+        return Ok(FieldLine::Dropped);
+    }
+    let (word, rest) = match split_at_first(line, b':') {
+        Some(parts) => parts,
+        None => return Ok(FieldLine::Refused),
+    };
+    let name = match HeaderName::from_bytes(alloc, word) {
+        Ok(name) => name,
+        Err(HeaderNameError::Invalid) => return Ok(FieldLine::Refused),
+        Err(HeaderNameError::OutOfMemory) => return Err(OutOfMemory),
+    };
+    if !is_listed(targets, &name) {
+        return Ok(FieldLine::Dropped);
+    }
+    match HeaderValue::from_bytes(alloc, trimmed(rest)) {
+        Ok(value) => Ok(FieldLine::Listed(name, value)),
+        Err(HeaderValueError::Invalid) => Ok(FieldLine::Refused),
+        Err(HeaderValueError::OutOfMemory) => Err(OutOfMemory),
+    }
+}
+
+/// Adds the field of the line to the map, where its name is listed.
+fn take_line(
+    alloc: Global,
+    targets: &[HeaderName],
+    line: &[u8],
+    headers: &mut HeaderMap,
+) -> Result<(), LineFault>
+    requires { HasRoomFor targets.now headers.now }
+    ensures { MatchResult result (λ _. Takes targets.now line.now headers.old headers.new)
+        (IsLineFault targets.now line.now) }
+{
+    let read = match read_line(alloc, targets, line) {
+        Ok(read) => read,
+        Err(_) => return Err(LineFault::OutOfMemory),
+    };
+    match read {
+        FieldLine::Dropped => Ok(()),
+        FieldLine::Refused => Err(LineFault::Refused),
+        FieldLine::Listed(name, value) => match headers.append(name, value) {
+            Ok(_) => Ok(()),
+            Err(HeaderMapError::MaxSizeReached) => unreachable!(),
+            Err(HeaderMapError::OutOfMemory) => Err(LineFault::OutOfMemory),
+        },
+    }
+}
+
+/// The listed fields of an input, as a header map.
+///
+/// The input is cut into lines as for the other commands, and empty lines are skipped. In the
+/// others the name is what stands before the first colon, and the value is the rest without the
+/// spaces and tabs at its ends (RFC 9112 section 5). A line without a colon or with no header name
+/// before it is refused, and so is a control byte other than a tab in a value under a listed name
+/// (RFC 9110 section 5.5). Fields of other names are dropped, whatever their values are.
+pub(crate) fn read_fields(
+    alloc: Global,
+    seed: &RandomState,
+    targets: &[HeaderName],
+    input: &[u8],
+) -> Result<HeaderMap, InputFault>
+    requires { length targets.now ≤ MOST_NAMES }
+    ensures { MatchResult result (λ headers. fields_in targets.now input.now ≡ Ok headers)
+        (IsFaultOf targets.now input.now) }
+{
+    let mut headers = HeaderMap::with_hasher(alloc, *seed);
+    let mut rest = input;
+    let mut number = 0u64;
+    while let Some((line, more)) = split_line(rest) {
+        match take_line(alloc, targets, trimmed(line), &mut headers) {
+            Ok(()) => {}
+            Err(LineFault::Refused) => return Err(InputFault::Line(number)),
+            Err(LineFault::OutOfMemory) => return Err(InputFault::OutOfMemory),
+        }
+        number += 1;
+        rest = more;
+    }
+    Ok(headers)
+}
+
+#[cfg(test)]
+mod tests;
