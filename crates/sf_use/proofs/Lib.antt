@@ -1,8 +1,4 @@
-pub mod Faultless
-pub mod LastHits
-pub mod Gathered
-pub mod WrittenHops
-pub mod ReadBack
+pub mod CacheStatusLemmas
 pub mod Choosing
 pub mod Replacing
 pub mod Firsts

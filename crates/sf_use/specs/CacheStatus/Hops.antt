@@ -3,7 +3,7 @@ use Rattle.std.specs.Prelude.{ℕ, ℤ, pos, negsuc, Bool, true, false, nat_le, 
 use Rattle.std.specs.Prelude.{List as Seq, [], position, is_none, Option, Some, None}
 use Rattle.std.specs.Prelude.{Result, Ok, Err, ⊤, IsOk}
 use Rattle.std.specs.List.{filter_map}
-use Rattle.std.specs.Option.{option_and_then, option_map}
+use Rattle.std.specs.Option.{option_map}
 use Rattle.sf_value.specs.declared.value.Bare.{Bare}
 use Rattle.sf_value.specs.declared.value.Item.{Item}
 use Rattle.sf_value.specs.declared.value.Member.{Member}
@@ -40,12 +40,12 @@ passed_by_token params token =
       collapsed = boolean_at (codes "collapsed") params;
     }
 
--- it counts beside fwd alone: the RFC defines the other three for forwarded requests
+-- ours: the other three count beside fwd alone, where the RFC gives them a meaning
 abbrev pub passed_at : Pairs Bare → Option Passed
 passed_at params = option_map (passed_by_token params) (token_at (codes "fwd") params)
 
--- hit is true (2.1), and a request was forwarded (2.2), or not. Ours: the RFC rules out that both
--- are said, and then both are kept
+-- whether hit is true (2.1), and what is said of a forwarded request (2.2). Ours: the RFC asks for
+-- only one of the two, and where both are there, both are kept
 abbrev pub outcome_by : Bool → Option Passed → Outcome
 outcome_by true None = Hit
 outcome_by true (Some passed) = Conflict passed

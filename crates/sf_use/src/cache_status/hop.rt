@@ -61,7 +61,7 @@ pub enum Outcome {
     Hit,
     /// It forwarded the request: `fwd` is there, and `hit` is not true.
     Forwarded(Passed),
-    /// `hit` is true and `fwd` is there, which the RFC rules out.
+    /// `hit` is true and `fwd` is there, though the RFC asks for only one of the two.
     Conflict(Passed),
     /// Neither is said.
     Unsaid,
@@ -104,8 +104,8 @@ impl Forward {
 }
 
 impl Outcome {
-    /// Whether the cache answered from its store, so that the response needed no later server. It
-    /// takes no memory.
+    /// Whether the cache answered from its store and asked no server nearer the origin. It takes no
+    /// memory.
     pub fn is_hit(&self) -> bool
         ensures { result ≡ is_hit self.now }
     {

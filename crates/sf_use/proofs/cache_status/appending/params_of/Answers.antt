@@ -1,7 +1,7 @@
 use Rattle.std.proofs.Common.{ap, ◌∙◌}
 use Rattle.std.specs.Prelude.{codes}
 use Rattle.sf_use.specs.CacheStatus.Members.{added}
-use Rattle.sf_use.proofs.WrittenHops.{all_put}
+use Rattle.sf_use.proofs.CacheStatusLemmas.Written.{all_put}
 use Rattle.sf_use.proofs.cache_status.appending.params_of.Goals as goal
 
 pub returns : goal.returns

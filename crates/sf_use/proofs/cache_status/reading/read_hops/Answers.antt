@@ -1,6 +1,6 @@
-use Rattle.std.proofs.Common.{◌≡◌, Some, None, sym, ap, ◌∙◌}
+use Rattle.std.proofs.Common.{sym, ap, ◌∙◌}
 use Rattle.sf_use.specs.CacheStatus.Hops.{member_hop}
-use Rattle.sf_use.proofs.Gathered.{none_given, one_given}
+use Rattle.sf_use.proofs.CacheStatusLemmas.Gathered.{none_given, one_given}
 use Rattle.sf_use.proofs.cache_status.reading.read_hops.Goals.{in-Some+in_ok-push-in-Some, in-None}
 use Rattle.sf_use.proofs.cache_status.reading.read_hops.Goals as goal
 

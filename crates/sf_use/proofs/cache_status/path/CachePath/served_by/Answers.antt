@@ -1,6 +1,6 @@
-use Rattle.std.proofs.Common.{◌≡◌, sym, ap, subst, ◌∙◌, take, take_all}
+use Rattle.std.proofs.Common.{◌≡◌, sym, ap, subst, ◌∙◌, take_all}
 use Rattle.sf_use.specs.CacheStatus.Served.{IsLastHit, served}
-use Rattle.sf_use.proofs.LastHits.{one_more_hit, one_more_miss, served_is_last}
+use Rattle.sf_use.proofs.CacheStatusLemmas.LastHits.{one_more_hit, one_more_miss, served_is_last}
 use Rattle.sf_use.proofs.cache_status.path.CachePath.served_by.Goals.{then-is_hit, else-is_hit}
 use Rattle.sf_use.proofs.cache_status.path.CachePath.served_by.Goals as goal
 

@@ -2,8 +2,7 @@
 use Rattle.std.proofs.Common.{◌≡◌, ℕ, Bool, true, false, List, [], ◌∷◌, ◌++◌, Option, None, Some}
 use Rattle.std.proofs.Common.{refl, sym, ap, append-nil, subst, ◌∙◌, rules}
 use Rattle.std.specs.Prelude.{codes}
-use Rattle.std.specs.List.{IsDistinct, filter_map}
-use Rattle.std.specs.Map.{keys_of}
+use Rattle.std.specs.List.{IsDistinct}
 use Rattle.std.specs.Option.{option_flatten, option_map}
 use Rattle.std.specs.Cmp.Lexicographic.{same_text}
 use Rattle.std.specs.Str.{bytes_eq}

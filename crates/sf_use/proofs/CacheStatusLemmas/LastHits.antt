@@ -1,5 +1,5 @@
 -- The last hop that is a hit.
-use Rattle.std.proofs.Common.{◌≡◌, ℕ, suc, ◌+◌, ◌<◌, Bool, true, false, List, [], ◌∷◌, ◌++◌}
+use Rattle.std.proofs.Common.{◌≡◌, ℕ, ◌+◌, ◌<◌, Bool, true, false, List, [], ◌∷◌, ◌++◌}
 use Rattle.std.proofs.Common.{Option, None, Some, refl, sym, ap, subst, ◌∙◌, ◌≢◌, arith, take}
 use Rattle.std.proofs.Common.{length, get_or}
 use Rattle.std.proofs.Math.ListN.{length-take}
@@ -10,7 +10,7 @@ use Rattle.sf_use.specs.declared.cache_status.hop.Outcome.TheVariants.{Hit, Forw
 use Rattle.sf_use.specs.declared.cache_status.hop.Outcome.TheVariants.{Unsaid}
 use Rattle.sf_use.specs.declared.cache_status.hop.Hop.{Hop}
 use Rattle.sf_use.specs.CacheStatus.Members.{is_hit}
-use Rattle.sf_use.specs.CacheStatus.Served.{IsLastHit, later, served}
+use Rattle.sf_use.specs.CacheStatus.Served.{IsLastHit, served}
 
 -- what the test tells
 hit-is : (o : Outcome) → is_hit o ≡ true → o ≡ Hit

@@ -1,12 +1,12 @@
 -- The member that a hop is written as means that hop.
-use Rattle.std.proofs.Common.{◌≡◌, ℕ, ℤ, pos, ◌≤◌, Bool, true, false, List, [], ◌∷◌, ◌++◌}
-use Rattle.std.proofs.Common.{Option, None, Some, Ok, refl, sym, ap, ◌∙◌, arith, rules}
-use Rattle.std.specs.Prelude.{codes, unwrap_or}
+use Rattle.std.proofs.Common.{◌≡◌, ℕ, ℤ, pos, ◌≤◌, Bool, List, [], ◌∷◌}
+use Rattle.std.proofs.Common.{Option, None, Some, Ok, refl, ap, ◌∙◌, arith, rules}
+use Rattle.std.specs.Prelude.{codes}
 use Rattle.std.proofs.lemmas.Bool.Decides.{nat_tests}
 use Rattle.std.specs.List.{IsDistinct}
 use Rattle.std.specs.Option.{option_and_then, option_flatten, option_map, ForSome}
 use Rattle.sf_value.specs.declared.value.Bare.{Bare}
-use Rattle.sf_value.specs.declared.value.Bare.TheVariants.{Integer, Text, Token, Boolean}
+use Rattle.sf_value.specs.declared.value.Bare.TheVariants.{Integer, Text, Boolean}
 use Rattle.sf_value.specs.declared.value.Member.{Member}
 use Rattle.sf_value.specs.Grammar.Pairs.{Pairs, HasDistinctKeys, value_at}
 use Rattle.sf_use.specs.declared.cache_status.hop.Forward.{Forward}
@@ -20,16 +20,16 @@ use Rattle.sf_use.specs.declared.cache_status.hop.Outcome.{Outcome}
 use Rattle.sf_use.specs.declared.cache_status.hop.Outcome.TheVariants.{Hit, Forwarded, Conflict}
 use Rattle.sf_use.specs.declared.cache_status.hop.Outcome.TheVariants.{Unsaid}
 use Rattle.sf_use.specs.declared.cache_status.hop.Hop.{Hop}
-use Rattle.sf_use.specs.CacheStatus.Parameters.{as_boolean, as_integer, as_name, as_text, as_token}
+use Rattle.sf_use.specs.CacheStatus.Parameters.{as_boolean, as_integer, as_name, as_text}
 use Rattle.sf_use.specs.CacheStatus.Reasons.{forward_of, token_of}
 use Rattle.sf_use.specs.CacheStatus.Hops.{hop_named, hops_of, member_hop, outcome_of, status_of}
 use Rattle.sf_use.specs.CacheStatus.Hops.{passed_by_token}
 use Rattle.sf_use.specs.CacheStatus.Members.{bare_of, entry, hit_value, parameters_of, passed_by}
-use Rattle.sf_use.specs.CacheStatus.Members.{collapsed_value, present, status_value, stored_value}
-use Rattle.sf_use.specs.CacheStatus.Members.{Table, table_of, why_value}
+use Rattle.sf_use.specs.CacheStatus.Members.{collapsed_value, status_value, stored_value}
+use Rattle.sf_use.specs.CacheStatus.Members.{table_of, why_value}
 use Rattle.sf_use.specs.CacheStatus.Laws.{HasStatusInRange, plain, plain_outcome, plain_passed}
 use Rattle.sf_use.specs.CacheStatus.Laws.{plain_reason, ReadsBack}
-use Rattle.sf_use.proofs.WrittenHops.{value-present}
+use Rattle.sf_use.proofs.CacheStatusLemmas.Written.{value-present}
 
 distinct-table : (h : Hop) → HasDistinctKeys (table_of h)
 unfolding IsDistinct
@@ -86,7 +86,8 @@ passed-back : (ps : Pairs Bare) (p : Passed) → ForSome p.status (λ n. (100 �
     → passed_by_token ps (token_of p.why) ≡ plain_passed p
 passed-back ps p h status stored collapsed =
     let why' = reason-back p.why in
-    let status' = ap (λ o. status_of (option_and_then as_integer o)) status ∙ status-back p.status h in
+    let status' =
+    ap (λ o. status_of (option_and_then as_integer o)) status ∙ status-back p.status h in
     let stored' = ap (option_and_then as_boolean) stored ∙ boolean-back p.stored in
     let collapsed' = ap (option_and_then as_boolean) collapsed ∙ boolean-back p.collapsed in
     (λ i.
@@ -135,4 +136,5 @@ one-hop m h e = rw e
 pub reads_back : ReadsBack
 reads_back h ok =
     one-hop (entry h) (plain h)
-    (ap (option_map (hop_named (parameters_of h))) (bare-back h.name) ∙ ap (λ x. Some x) (hop-back h ok))
+    (ap (option_map (hop_named (parameters_of h))) (bare-back h.name)
+    ∙ ap (λ x. Some x) (hop-back h ok))

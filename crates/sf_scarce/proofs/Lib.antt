@@ -1,0 +1,2 @@
+-- Lemmas on calls in a row.
+pub mod CallLemmas

@@ -1,0 +1,2 @@
+-- What the calls under scarcity showed.
+pub mod Calls

@@ -1,0 +1,6 @@
+-- Lemmas on Cache-Status.
+pub mod Faultless
+pub mod Written
+pub mod ReadBack
+pub mod LastHits
+pub mod Gathered
