@@ -25,7 +25,10 @@ fn pieces(rt: HostRuntime) -> Result<(), Fail> {
     parser.feed(b"%\"f%c3")?;
     parser.feed(b"%bc\"")?;
     let field = parser.finish()?;
-    assert_eq!(&rt; to_text(alloc, &field)?.as_slice(), b"%\"f%c3%bc\"".as_slice());
+    assert_eq!(&rt;
+        to_text(alloc, &field)?.as_slice(),
+        b"%\"f%c3%bc\"".as_slice()
+    );
     Ok(())
 }
 
@@ -33,7 +36,10 @@ fn pieces(rt: HostRuntime) -> Result<(), Fail> {
 fn lines(rt: HostRuntime) -> Result<(), Fail> {
     let alloc = rt.alloc();
     let seed = RandomState::new(&rt)?;
-    let lines = [Blob::new(alloc, b"a;q=1.0,b")?, Blob::new(alloc, b"(c  d)")?];
+    let lines = [
+        Blob::new(alloc, b"a;q=1.0,b")?,
+        Blob::new(alloc, b"(c  d)")?,
+    ];
     let text = normalise_lines(alloc, &seed, Kind::List, &lines)?;
     assert_eq!(&rt; text.as_slice(), b"a;q=1.0, b, (c d)".as_slice());
     Ok(())
@@ -45,8 +51,14 @@ fn headers(rt: HostRuntime) -> Result<(), Fail> {
     let seed = RandomState::new(&rt)?;
     let priority = HeaderName::from_static("priority");
     let mut headers = HeaderMap::new(alloc);
-    headers.append(HeaderName::from_static("priority"), HeaderValue::from_static("u=1"))?;
-    headers.append(HeaderName::from_static("priority"), HeaderValue::from_static("i"))?;
+    headers.append(
+        HeaderName::from_static("priority"),
+        HeaderValue::from_static("u=1"),
+    )?;
+    headers.append(
+        HeaderName::from_static("priority"),
+        HeaderValue::from_static("i"),
+    )?;
     let text = match from_headers(alloc, &seed, Kind::Dict, &headers, &priority)? {
         Some(field) => to_text(alloc, &field)?,
         None => Vec::new(alloc),

@@ -9,7 +9,10 @@ use std::test::Fail;
 /// The Item `a;q=1`.
 fn build(alloc: Global, seed: &RandomState) -> Result<Field, Fail> {
     let mut params = Entries::new(alloc, seed);
-    if params.put(Key::new(alloc, b"q")?, Bare::Integer(Int::new(1)?)).is_err() {
+    if params
+        .put(Key::new(alloc, b"q")?, Bare::Integer(Int::new(1)?))
+        .is_err()
+    {
         return Err(OutOfMemory.into());
     }
     let bare = Bare::Token(Token::new(alloc, b"a")?);
