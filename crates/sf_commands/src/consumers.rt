@@ -64,16 +64,16 @@ fn cache_status(rt: HostRuntime) -> Result<(), Fail> {
     Ok(())
 }
 
-fn one(alloc: Global, name: &'static str) -> Result<Request, AllocError> {
+fn one(alloc: Global, name: HeaderName) -> Result<Request, AllocError> {
     let mut names = Vec::new(alloc);
-    names.push(HeaderName::from_static(name))?;
+    names.push(name)?;
     Ok(Request::Targeted(names))
 }
 
-fn two(alloc: Global, first: &'static str, second: &'static str) -> Result<Request, AllocError> {
+fn two(alloc: Global, first: HeaderName, second: HeaderName) -> Result<Request, AllocError> {
     let mut names = Vec::new(alloc);
-    names.push(HeaderName::from_static(first))?;
-    names.push(HeaderName::from_static(second))?;
+    names.push(first)?;
+    names.push(second)?;
     Ok(Request::Targeted(names))
 }
 
@@ -96,7 +96,11 @@ fn targeted_of_two(rt: HostRuntime) -> Result<(), Fail> {
         (b"\nnonsense\n", b"refused line 1\n", REFUSED),
         (b" : 1", b"refused line 0\n", REFUSED),
     ];
-    let request = two(rt.alloc(), "cdn-cache-control", "x-cache-control")?;
+    let request = two(
+        rt.alloc(),
+        HeaderName::from_static("cdn-cache-control"),
+        HeaderName::from_static("x-cache-control"),
+    )?;
     expect_rows(&rt, &seed, &request, &rows);
     Ok(())
 }
@@ -116,9 +120,19 @@ fn targeted_of_one(rt: HostRuntime) -> Result<(), Fail> {
             ACCEPTED,
         ),
     ];
-    expect_rows(&rt, &seed, &one(rt.alloc(), "cdn-cache-control")?, &cdn);
+    expect_rows(
+        &rt,
+        &seed,
+        &one(rt.alloc(), HeaderName::from_static("cdn-cache-control"))?,
+        &cdn,
+    );
     let age: [Row; 1] = [(b"b: 1\n: 2\n", b"refused line 1\n", REFUSED)];
-    expect_rows(&rt, &seed, &one(rt.alloc(), "age")?, &age);
+    expect_rows(
+        &rt,
+        &seed,
+        &one(rt.alloc(), HeaderName::from_static("age"))?,
+        &age,
+    );
     let a: [Row; 3] = [
         (
             b"b: \x00\na: no-store",
@@ -132,7 +146,12 @@ fn targeted_of_one(rt: HostRuntime) -> Result<(), Fail> {
             ACCEPTED,
         ),
     ];
-    expect_rows(&rt, &seed, &one(rt.alloc(), "a")?, &a);
+    expect_rows(
+        &rt,
+        &seed,
+        &one(rt.alloc(), HeaderName::from_static("a"))?,
+        &a,
+    );
     Ok(())
 }
 

@@ -37,7 +37,7 @@ impl fmt::Display for OutOfMemory {
 
 impl fmt::Display for OutOfRange {
     fn fmt<W: fmt::Write>(&self, f: &mut fmt::Formatter<W>) -> fmt::Result {
-        write!(f, "a number of more than 15 digits")
+        write!(f, "a number out of range")
     }
 }
 
