@@ -28,7 +28,8 @@ use Rattle.sf_parse.proofs.Bares.{same}
 use Rattle.sf_parse.proofs.Params.{params_reads, params_lives, params_apart, no_raw}
 use Rattle.sf_parse.proofs.Items.{no_item, item_not, item_reads, item_starts, item_lives}
 use Rattle.sf_parse.proofs.Items.{item_apart}
-use Rattle.sf_parse.specs.Machine.Members.{RestMember, GoodMember, member_start, member_step, member_finish}
+use Rattle.sf_parse.specs.Machine.Members.{RestMember, GoodMember, member_start, member_step}
+use Rattle.sf_parse.specs.Machine.Members.{member_finish}
 
 behind_after : (is : List Item) (b : ℕ) (t : InnerState) → behind_step is b ≡ Some t
     → is_after b ≡ true

@@ -51,7 +51,8 @@ pub and_then_cases : {X Y : Type 0} (o : Option X) (f : X → Option Y) (y : Y)
 and_then_cases (Some x) f y e = (x, refl, e)
 and_then_cases None f y e = absurd cc
 
--- A front read by A and a back read by B are read one after the other, where no byte that A goes on with begins the back.
+-- A front read by A and a back read by B are read one after the other, where no byte that A goes on
+-- with begins the back.
 module _ {S T X V : Type 0} {GoodS : S → Type 0} {GoodT : T → Type 0} {RestS : S → List ℕ → X
     → Type 0} {RestT : T → List ℕ → V → Type 0} (into : S → T) {A : List ℕ → X → Type 0} {B : X
     → List ℕ → V → Type 0} {nextA : ℕ → Option S} {endA : Option X} {nextB : X → ℕ
@@ -128,7 +129,8 @@ pub reads_seen : {S T X V : Type 0} {GoodS : S → Type 0} {GoodT : T → Type 0
     → ((s : S) (t : List ℕ) (v : V) → Seen f (RestS s) t v ↔ RestT (into s) t v)
     → Reads S X GoodS RestS A next end
     → Reads T V GoodT RestT (Seen f A) (λ b. seen into (next b)) (seen f end)
-reads_seen {GoodT = GoodT} {RestT = RestT} into f {A = A} {next = next} {end = end} good_into rest_into ra = record {
+reads_seen {GoodT = GoodT} {RestT = RestT} into f {A = A} {next = next} {end = end} good_into
+    rest_into ra = record {
   taken = λ b u v h. let k = ra.taken b u h.0 h.1 in
       (into k.0, rw k.1 refl, (rest_into k.0 u v).0 (h.0, k.2, h.2));
   gives = λ b u v t n h. let c = seen_cases into (next b) t n in
@@ -146,7 +148,8 @@ pub reads_either : {S V : Type 0} {Good : S → Type 0} {Rest : S → List ℕ �
     → ((b : ℕ) (s t : S) → nextA b ≡ Some s → nextB b ≡ Some t → ⊥)
     → ((v w : V) → endA ≡ Some v → endB ≡ Some w → ⊥)
     → Reads S V Good Rest (Either A B) (λ b. otherwise (nextA b) (nextB b)) (otherwise endA endB)
-reads_either {S = S} {V = V} {Rest = Rest} {A = A} {B = B} {nextA = nextA} {nextB = nextB} {endA = endA} {endB = endB} ra rb apart apart_ends = record {
+reads_either {S = S} {V = V} {Rest = Rest} {A = A} {B = B} {nextA = nextA} {nextB = nextB}
+    {endA = endA} {endB = endB} ra rb apart apart_ends = record {
   taken = λ b u v. ⊎_elim (left b u v) (right b u v);
   gives = λ b u v s n h. ⊎_elim (λ e. inl (ra.gives b u v s e h))
       (λ e. inr (rb.gives b u v s e.1 h)) (otherwise_cases (nextA b) (nextB b) s n);
@@ -204,7 +207,8 @@ pub reads_past : {S V : Type 0} {Good : S → Type 0} {Rest : S → List ℕ →
     → Good s → ((t : List ℕ) (v : V) → Past p A t v ↔ Rest s t v)
     → ((b : ℕ) (t : S) → p b ≡ true → next b ≡ Some t → ⊥) → Reads S V Good Rest A next end
     → Reads S V Good Rest (Past p A) (λ b. otherwise (allow (p b) s) (next b)) end
-reads_past {S = S} {V = V} {Good = Good} {Rest = Rest} p s {A = A} {next = next} {end = end} g same apart ra = record {
+reads_past {S = S} {V = V} {Good = Good} {Rest = Rest} p s {A = A} {next = next} {end = end} g same
+    apart ra = record {
   taken = λ b u v h. first b u v h.0 h.1 h.2 h.3 h.4;
   gives = λ b u v t n h. ⊎_elim
       (λ e. let k = allow_cases (p b) s t e in
@@ -262,7 +266,8 @@ pub reads_first : {S T X V : Type 0} {GoodS : S → Type 0} {GoodT : T → Type 
     → ((s : S) (t : List ℕ) (v : V) → Then (RestS s) B t v ↔ RestT (into s) t v)
     → Reads S X GoodS RestS A next None
     → Reads T V GoodT RestT (Then A B) (λ b. seen into (next b)) None
-reads_first {T = T} {X = X} {V = V} {GoodT = GoodT} {RestT = RestT} into {A = A} {B = B} {next = next} good_into rest_into ra = record {
+reads_first {T = T} {X = X} {V = V} {GoodT = GoodT} {RestT = RestT} into {A = A} {B = B}
+    {next = next} good_into rest_into ra = record {
   taken = λ b u v h. first b u v h.0 h.1 h.2 h.3 h.4 h.5;
   gives = λ b u v t n h. let c = seen_cases into (next b) t n in
       let k = (rest_into c.0 u v).1 (subst (λ y. RestT y u v) c.2 h) in

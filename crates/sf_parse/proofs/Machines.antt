@@ -93,7 +93,8 @@ module _ {S V : Type 0} {Good : S → Type 0} {Rest : S → List ℕ → V → T
       → Continues (Rest s) (p ++ b ∷ []) ↔ ((t' : S) × (step t b ≡ Some t'))
   next s t p b g e = (
     λ h. let k = (viable s (p ++ b ∷ []) g).0 h in
-        let r : and_then (step t b) (λ t. Some t) ≡ Some k.0 = rw e at (sym (run_append s p (b ∷ []))
+        let r : and_then (step t b) (λ t. Some t) ≡ Some k.0 = rw e at (sym (run_append s p (b ∷
+        []))
         ∙ k.1) in
         let c = and_then_cases (step t b) (λ t. Some t) k.0 r in (c.0, c.1),
     λ k. (viable s (p ++ b ∷ []) g).1 (k.0, run_append s p (b ∷ []) ∙ rw (e, k.1) refl),

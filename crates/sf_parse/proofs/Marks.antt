@@ -1,5 +1,6 @@
 -- A number's bits, one bit more.
-use Rattle.std.proofs.Common.{◌≡◌, ℕ, ◌+◌, ◌*◌, ◌%◌, ◌^◌, ◌<◌, Bool, true, false, nat_lt, ◌&&◌, cond}
+use Rattle.std.proofs.Common.{◌≡◌, ℕ, ◌+◌, ◌*◌, ◌%◌, ◌^◌, ◌<◌, Bool, true, false, nat_lt, ◌&&◌}
+use Rattle.std.proofs.Common.{cond}
 use Rattle.std.proofs.Common.{sym, ap, ◌∙◌, ⊎_elim, ◌⊎◌, inl, inr, arith, bit_or, ◌≢◌}
 use Rattle.std.specs.Int.{bit_at, w128}
 use Rattle.std.proofs.lemmas.Nat.Bits.{bit_at_set_same, bit_at_set_other}

@@ -66,7 +66,8 @@ took_step p q s b g t e same c r =
     (run_one p.dialect p.state q.state b e) in
     record {
       count = c ∙ ap (λ n. n + 1) t.count
-          ∙ (let l : length s + 1 ≡ length (s ++ b ∷ []) = omega (arith, length-append s (b ∷ [])) in
+          ∙ (let l : length s + 1 ≡ length (s ++ b ∷ []) = omega (arith, length-append s (b ∷ []))
+          in
           l);
       rest = λ u v.
           subst (λ d. Rest d q.state u v ↔ SpellsField d q.kind ((s ++ b ∷ []) ++ u) v)
@@ -85,7 +86,8 @@ below_bound : (b bound : ℕ) (c : Bool) → b < bound → (nat_lt b bound && c)
 below_bound b bound c h = rw (lt-ltb b bound h) refl
 
 not_zero : (n b : ℕ) → bit_at n b ≡ 1 → 0 < n
-not_zero zero b e = absurd (let k : 0 ≡ 1 = sym (bit_at-zero b) ∙ e in let n' : ⊥ = omega arith in n')
+not_zero zero b e = absurd (let k : 0 ≡ 1 = sym (bit_at-zero b)
+    ∙ e in let n' : ⊥ = omega arith in n')
 not_zero (suc n) b e = omega arith
 
 -- the bits tell the bytes that may follow what was taken
@@ -391,9 +393,11 @@ stopped_in o p q piece i e h a f =
       answer = (
         f.answer.0,
         λ s t more.
-            let x = f.answer.1 (s ++ take i piece) (a.answer.1 s t).2 (drop (i + 1) piece ++ more) in
+            let x = f.answer.1 (s ++ take i piece) (a.answer.1 s t).2 (drop (i + 1) piece ++ more)
+            in
             let whole = whole_piece s piece more i h in
-            let here = ((s ++ take i piece) ++ get_or piece i 0 ∷ []) ++ (drop (i + 1) piece ++ more) in
+            let here = ((s ++ take i piece) ++ get_or piece i 0 ∷ []) ++ (drop (i + 1) piece ++
+            more) in
             subst (λ y. RefusedFor o.dialect o.kind o.max y e) whole
             (subst (λ y. RefusedFor y o.kind o.max here e) k.dialect
             (subst (λ y. RefusedFor p.dialect y o.max here e) k.kind

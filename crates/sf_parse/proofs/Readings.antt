@@ -1,5 +1,6 @@
 -- A reader's text, read and fed block by block.
-use Rattle.std.proofs.Common.{◌≡◌, ℕ, ◌+◌, ◌^◌, ◌<◌, ◌≤◌, List, [], ◌∷◌, ◌++◌, length, take, Some, None}
+use Rattle.std.proofs.Common.{◌≡◌, ℕ, ◌+◌, ◌^◌, ◌<◌, ◌≤◌, List, [], ◌∷◌, ◌++◌, length, take, Some}
+use Rattle.std.proofs.Common.{None}
 use Rattle.std.proofs.Common.{Result, Ok, Err, refl, ap, ◌∙◌, subst, append-nil}
 use Rattle.std.proofs.Common.{length-append, arith}
 use Rattle.std.specs.Io.KnownBytes.{IsAtEnd}
@@ -134,7 +135,8 @@ pub reads_full : (old a : SourceState) (kind : Kind) (max given limit : ℕ) (p 
 reads_full old a kind max given limit p r k m e l f =
     let c = k.count in
     let w = k.within in
-    ended old a kind max k.text r k.gave (omega arith) m (λ h. absurd (let n : ⊥ = omega arith in n))
+    ended old a kind max k.text r k.gave (omega arith) m (λ h. absurd (let n : ⊥ = omega arith in
+    n))
     (finished kind max given old a p r k f)
 
 -- the reader came to its end: it gave nothing into a block that isn't empty

@@ -17,7 +17,8 @@ abbrev pub IsWholeOrFull : SourceState → List ℕ → Type 0
 IsWholeOrFull new bytes = length bytes < 2 ^ 64 - 1 → IsAtEnd new.to_come
 
 -- the reader came to its end within the limit, and its text is ended
-abbrev pub ReadToEnd : Dialect → Kind → SourceState → SourceState → ℕ → Result Field Refusal → Type 0
+abbrev pub ReadToEnd : Dialect → Kind → SourceState → SourceState → ℕ → Result Field Refusal
+    → Type 0
 ReadToEnd d kind old new max r =
     (text : List ℕ)
     × Gave old new text

@@ -2,7 +2,9 @@
 ghost use Rattle.std.specs.Prelude.{◌≡◌, ℕ, ◌<◌, List, [], ◌++◌, ◌&&◌, IfOk};
 ghost use Rattle.sf_parse.specs.Views.{held_of, FitsHeld};
 ghost use Rattle.sf_parse.specs.Machine.Language.{Steps};
-ghost use Rattle.sf_parse.specs.Machine.Blobs.{sextet as sextet_of, Held as HeldState, H0, Group, Padded, is_last, lacking, grown, pad_step, end_step, blob_step, blob_finish};
+ghost use Rattle.sf_parse.specs.Machine.Blobs.{sextet as sextet_of, Held as HeldState, H0, Group};
+ghost use Rattle.sf_parse.specs.Machine.Blobs.{Padded, is_last, lacking, grown, pad_step, end_step};
+ghost use Rattle.sf_parse.specs.Machine.Blobs.{blob_step, blob_finish};
 ghost use Rattle.sf_parse.specs.Machine.Takes.{blob_takes, blob_ends, pad_takes};
 
 use sf_value::{Blob, OutOfMemory};
@@ -94,7 +96,8 @@ impl BlobReader {
     fn grow(&mut self, held: Held, value: u8) -> Result<(), OutOfMemory>
         requires held { FitsHeld held }
         requires value { value < 64 }
-        ensures { IfOk result (λ _. (bytes : List ℕ) → self.old ≡ Group bytes (held_of held) → self.new ≡ grown bytes (held_of held) value) }
+        ensures { IfOk result (λ _. (bytes : List ℕ) → self.old ≡ Group bytes (held_of held)
+            → self.new ≡ grown bytes (held_of held) value) }
     {
         let held = match held {
             Held::H0 => Held::H1(value),
@@ -113,7 +116,8 @@ impl BlobReader {
     // A byte that is no character: the open group is the last one, or the byte is not taken.
     fn end_group(&mut self, held: Held, byte: u8) -> Result<bool, OutOfMemory>
         requires held { FitsHeld held }
-        ensures { IfOk result (λ took. (bytes : List ℕ) → self.old ≡ Group bytes (held_of held) → Steps took (end_step bytes (held_of held) byte) self.old self.new) }
+        ensures { IfOk result (λ took. (bytes : List ℕ) → self.old ≡ Group bytes (held_of held)
+            → Steps took (end_step bytes (held_of held) byte) self.old self.new) }
     {
         match held {
             Held::H0 => self.close(&[], 0, byte),
@@ -125,7 +129,8 @@ impl BlobReader {
 
     // The bytes of the last group, and the first byte behind it.
     fn close(&mut self, tail: &[u8], more: u8, byte: u8) -> Result<bool, OutOfMemory>
-        ensures { IfOk result (λ took. (bytes : List ℕ) (h : HeldState) → self.old ≡ Group bytes h → Steps took (pad_step (bytes ++ tail.now) more byte) self.old self.new) }
+        ensures { IfOk result (λ took. (bytes : List ℕ) (h : HeldState) → self.old ≡ Group bytes h
+            → Steps took (pad_step (bytes ++ tail.now) more byte) self.old self.new) }
     {
         if byte == b':' {
             self.bytes.extend(tail)?;
@@ -142,7 +147,8 @@ impl BlobReader {
 
     // A byte where so many `=` may still come.
     fn pad(&mut self, more: u8, byte: u8) -> bool
-        ensures { (bytes : List ℕ) → self.old ≡ Padded bytes more → Steps result (pad_step bytes more byte) self.old self.new }
+        ensures { (bytes : List ℕ) → self.old ≡ Padded bytes more
+            → Steps result (pad_step bytes more byte) self.old self.new }
     {
         if byte == b':' {
             self.phase = BlobPhase::Ended;

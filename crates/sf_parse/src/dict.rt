@@ -4,7 +4,8 @@ ghost use Rattle.sf_value.specs.declared.value.Member.{Member};
 ghost use Rattle.sf_value.specs.Grammar.Pairs.{Pairs, put};
 ghost use Rattle.sf_parse.specs.Machine.Language.{Steps, seen};
 ghost use Rattle.sf_parse.specs.Machine.Entries.{EntryState, entry_start, entry_finish};
-ghost use Rattle.sf_parse.specs.Machine.Series.{Begin, InPiece, Gap, Comma, given_of, series_step, series_finish};
+ghost use Rattle.sf_parse.specs.Machine.Series.{Begin, InPiece, Gap, Comma, given_of, series_step};
+ghost use Rattle.sf_parse.specs.Machine.Series.{series_finish};
 ghost use Rattle.sf_parse.specs.Machine.Fields.{dict_series, dict_finish};
 ghost use Rattle.sf_parse.specs.Machine.Takes.{dict_takes, dict_ends};
 
@@ -83,7 +84,8 @@ impl DictReader {
 
     /// Takes one more byte, or tells that the dictionary can't go on with it and stays as it is.
     pub fn step(&mut self, context: &Context, byte: u8) -> Result<bool, OutOfMemory>
-        ensures { IfOk result (λ took. Steps took (series_step (dict_series context.now.dialect) self.old byte) self.old self.new) }
+        ensures { IfOk result (λ took. Steps took (series_step (dict_series context.now.dialect)
+            self.old byte) self.old self.new) }
     {
         match &mut self.phase {
             DictPhase::Begin => {
@@ -131,8 +133,10 @@ impl DictReader {
     // These stand apart since their locals are large, and each call of a function clears them.
     #[inline(never)]
     fn begin_member(&mut self, context: &Context, byte: u8) -> Result<bool, OutOfMemory>
-        ensures first { IfOk result (λ took. self.old ≡ Begin → Steps took (seen (InPiece []) (entry_start byte)) self.old self.new) }
-        ensures next { IfOk result (λ took. (given : Pairs Member) → self.old ≡ Comma given → Steps took (seen (InPiece given) (entry_start byte)) self.old self.new) }
+        ensures first { IfOk result (λ took. self.old ≡ Begin
+            → Steps took (seen (InPiece []) (entry_start byte)) self.old self.new) }
+        ensures next { IfOk result (λ took. (given : Pairs Member) → self.old ≡ Comma given
+            → Steps took (seen (InPiece given) (entry_start byte)) self.old self.new) }
     {
         match EntryReader::start(context, byte)? {
             Some(state) => {
@@ -154,7 +158,9 @@ impl DictReader {
     // Behind a member.
     #[inline(never)]
     fn end_member(&mut self, context: &Context) -> Result<(), OutOfMemory>
-        ensures { IfOk result (λ _. (given : Pairs Member) (s : EntryState) (x : List ℕ × Member) → self.old ≡ InPiece given s → entry_finish s ≡ Some x → self.new ≡ Gap (put given x.0 x.1)) }
+        ensures { IfOk result (λ _. (given : Pairs Member) (s : EntryState) (x : List ℕ × Member)
+            → self.old ≡ InPiece given s → entry_finish s ≡ Some x
+            → self.new ≡ Gap (put given x.0 x.1)) }
     {
         if let DictPhase::InPiece(state) = mem::replace(&mut self.phase, DictPhase::Gap) {
             if let Some(entry) = state.finish(context)? {
@@ -175,7 +181,9 @@ impl DictReader {
 
     // Behind a member and a comma.
     fn end_and_open(&mut self, context: &Context) -> Result<(), OutOfMemory>
-        ensures { IfOk result (λ _. (given : Pairs Member) (s : EntryState) (x : List ℕ × Member) → self.old ≡ InPiece given s → entry_finish s ≡ Some x → self.new ≡ Comma (put given x.0 x.1)) }
+        ensures { IfOk result (λ _. (given : Pairs Member) (s : EntryState) (x : List ℕ × Member)
+            → self.old ≡ InPiece given s → entry_finish s ≡ Some x
+            → self.new ≡ Comma (put given x.0 x.1)) }
     {
         self.end_member(context)?;
         self.open();

@@ -71,7 +71,8 @@ impl EntryReader {
 
     /// Takes one more byte, or tells that the member can't go on with it and stays as it is.
     pub fn step(&mut self, context: &Context, byte: u8) -> Result<bool, OutOfMemory>
-        ensures { IfOk result (λ took. Steps took (entry_step context.now.dialect self.old byte) self.old self.new) }
+        ensures { IfOk result (λ took. Steps took (entry_step context.now.dialect self.old byte)
+            self.old self.new) }
     {
         match &mut self.phase {
             EntryPhase::InKey => {

@@ -64,7 +64,8 @@ impl InnerReader {
 
     /// Takes one more byte, or tells that the inner list can't go on with it and stays as it is.
     pub fn step(&mut self, context: &Context, byte: u8) -> Result<bool, OutOfMemory>
-        ensures { IfOk result (λ took. Steps took (inner_step context.now.dialect self.old byte) self.old self.new) }
+        ensures { IfOk result (λ took. Steps took (inner_step context.now.dialect self.old byte)
+            self.old self.new) }
     {
         match &mut self.phase {
             InnerPhase::Room => {
@@ -101,7 +102,9 @@ impl InnerReader {
     // These stand apart since their locals are large, and each call of a function clears them.
     #[inline(never)]
     fn begin_item(&mut self, context: &Context, byte: u8) -> Result<bool, OutOfMemory>
-        ensures { IfOk result (λ took. (items : List Item) → self.old ≡ Room items → Steps took (seen (InItem items) (item_start context.now.dialect byte)) self.old self.new) }
+        ensures { IfOk result (λ took. (items : List Item) → self.old ≡ Room items
+            → Steps took (seen (InItem items) (item_start context.now.dialect byte)) self.old
+            self.new) }
     {
         match ItemState::start(context, byte)? {
             Some(state) => {
@@ -114,7 +117,9 @@ impl InnerReader {
 
     #[inline(never)]
     fn end_item(&mut self, context: &Context) -> Result<(), OutOfMemory>
-        ensures { IfOk result (λ _. (items : List Item) (s : ItemState) (i : Item) → self.old ≡ InItem items s → item_finish s ≡ Some i → self.new ≡ Room (items ++ i ∷ [])) }
+        ensures { IfOk result (λ _. (items : List Item) (s : ItemState) (i : Item)
+            → self.old ≡ InItem items s → item_finish s ≡ Some i
+            → self.new ≡ Room (items ++ i ∷ [])) }
     {
         if let InnerPhase::InItem(state) = mem::replace(&mut self.phase, InnerPhase::Room) {
             if let Some(item) = state.finish(context)? {
@@ -128,7 +133,9 @@ impl InnerReader {
 
     // Behind an item and the closing bracket.
     fn end_last_item(&mut self, context: &Context) -> Result<(), OutOfMemory>
-        ensures { IfOk result (λ _. (items : List Item) (s : ItemState) (i : Item) → self.old ≡ InItem items s → item_finish s ≡ Some i → self.new ≡ Closing (items ++ i ∷ []) (Between [])) }
+        ensures { IfOk result (λ _. (items : List Item) (s : ItemState) (i : Item)
+            → self.old ≡ InItem items s → item_finish s ≡ Some i
+            → self.new ≡ Closing (items ++ i ∷ []) (Between [])) }
     {
         self.end_item(context)?;
         self.close(context);
@@ -138,7 +145,8 @@ impl InnerReader {
     // Behind the closing bracket.
     #[inline(never)]
     fn close(&mut self, context: &Context)
-        ensures { (items : List Item) → self.old ≡ Room items → self.new ≡ Closing items (Between []) }
+        ensures { (items : List Item) → self.old ≡ Room items
+            → self.new ≡ Closing items (Between []) }
     {
         self.phase = InnerPhase::Closing(ParamsReader::new(context));
     }

@@ -38,7 +38,8 @@ impl ItemState {
 
     /// Takes one more byte, or tells that the item can't go on with it and stays as it is.
     pub fn step(&mut self, context: &Context, byte: u8) -> Result<bool, OutOfMemory>
-        ensures step { IfOk result (λ took. Steps took (item_step context.now.dialect self.old byte) self.old self.new) }
+        ensures step { IfOk result (λ took. Steps took (item_step context.now.dialect self.old byte)
+            self.old self.new) }
         ensures plain { PlainItem self.old → IsOk result }
     {
         match self {
@@ -60,7 +61,8 @@ impl ItemState {
     // function clears them.
     #[inline(never)]
     fn open_params(&mut self, context: &Context)
-        ensures { (s : BareState) (x : Bare) → self.old ≡ InBare s → bare_finish s ≡ Some x → self.new ≡ InParams x (Opened []) }
+        ensures { (s : BareState) (x : Bare) → self.old ≡ InBare s → bare_finish s ≡ Some x
+            → self.new ≡ InParams x (Opened []) }
     {
         let empty = ItemState::InBare(BareState::InBoolean(BooleanState::Asked));
         if let ItemState::InBare(state) = mem::replace(self, empty) {

@@ -1,7 +1,9 @@
 //! The laws of the grammar that follow from its machine, each as the contract of a function that
 //! does nothing. They hold in both dialects.
-ghost use Rattle.sf_parse.specs.Laws.{OneValue, IsRead, IsRest, IsViable, IsNext, IsEnd, StopsAt, CanonOne, AnyPieces, OnlyNew, LinesOne};
-ghost use Rattle.sf_parse.specs.Taking.{TookNothing, TakesMore, TookViable, TookNext, TookEnd, TookStops, TookAll};
+ghost use Rattle.sf_parse.specs.Laws.{OneValue, IsRead, IsRest, IsViable, IsNext, IsEnd, StopsAt};
+ghost use Rattle.sf_parse.specs.Laws.{CanonOne, AnyPieces, OnlyNew, LinesOne};
+ghost use Rattle.sf_parse.specs.Taking.{TookNothing, TakesMore, TookViable, TookNext, TookEnd};
+ghost use Rattle.sf_parse.specs.Taking.{TookStops, TookAll};
 ghost use Rattle.sf_parse.specs.Takes.{TakesStep, MayEnd, TakesNext, EndsText, NextBelow, SomeNext};
 
 /// A text spells at most one value of a kind; valid values with one canonical text are one; lines

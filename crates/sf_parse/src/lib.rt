@@ -1,4 +1,5 @@
-//! The push parser of structured fields (RFC 9651 section 4.2): it is handed a text in pieces, keeps
+//! The push parser of structured fields (RFC 9651 section 4.2): it is handed a text in pieces,
+//! keeps
 //! no text, and refuses at the exact byte with exactly the bytes that could have followed.
 #![tactic(auto)]
 

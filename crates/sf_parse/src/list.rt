@@ -5,7 +5,8 @@ ghost use Rattle.sf_parse.specs.declared.member.MemberState.{MemberState};
 ghost use Rattle.sf_value.specs.Grammar.Classes.{is_ows};
 ghost use Rattle.sf_parse.specs.Machine.Language.{Steps, seen};
 ghost use Rattle.sf_parse.specs.Machine.Members.{member_start, member_finish};
-ghost use Rattle.sf_parse.specs.Machine.Series.{Begin, InPiece, Gap, Comma, given_of, series_step, series_finish};
+ghost use Rattle.sf_parse.specs.Machine.Series.{Begin, InPiece, Gap, Comma, given_of, series_step};
+ghost use Rattle.sf_parse.specs.Machine.Series.{series_finish};
 ghost use Rattle.sf_parse.specs.Machine.Fields.{list_series, list_finish};
 ghost use Rattle.sf_parse.specs.Machine.Takes.{list_takes, list_ends};
 
@@ -80,7 +81,8 @@ impl ListReader {
 
     /// Takes one more byte, or tells that the list can't go on with it and stays as it is.
     pub fn step(&mut self, context: &Context, byte: u8) -> Result<bool, OutOfMemory>
-        ensures { IfOk result (λ took. Steps took (series_step (list_series context.now.dialect) self.old byte) self.old self.new) }
+        ensures { IfOk result (λ took. Steps took (series_step (list_series context.now.dialect)
+            self.old byte) self.old self.new) }
     {
         match &mut self.phase {
             ListPhase::Begin => {
@@ -128,8 +130,12 @@ impl ListReader {
     // These stand apart since their locals are large, and each call of a function clears them.
     #[inline(never)]
     fn begin_member(&mut self, context: &Context, byte: u8) -> Result<bool, OutOfMemory>
-        ensures first { IfOk result (λ took. self.old ≡ Begin → Steps took (seen (InPiece []) (member_start context.now.dialect byte)) self.old self.new) }
-        ensures next { IfOk result (λ took. (given : List Member) → self.old ≡ Comma given → Steps took (seen (InPiece given) (member_start context.now.dialect byte)) self.old self.new) }
+        ensures first { IfOk result (λ took. self.old ≡ Begin
+            → Steps took (seen (InPiece []) (member_start context.now.dialect byte)) self.old
+            self.new) }
+        ensures next { IfOk result (λ took. (given : List Member) → self.old ≡ Comma given
+            → Steps took (seen (InPiece given) (member_start context.now.dialect byte)) self.old
+            self.new) }
     {
         match MemberState::start(context, byte)? {
             Some(state) => {
@@ -151,7 +157,9 @@ impl ListReader {
     // Behind a member.
     #[inline(never)]
     fn end_member(&mut self, context: &Context) -> Result<(), OutOfMemory>
-        ensures { IfOk result (λ _. (given : List Member) (s : MemberState) (x : Member) → self.old ≡ InPiece given s → member_finish s ≡ Some x → self.new ≡ Gap (given ++ x ∷ [])) }
+        ensures { IfOk result (λ _. (given : List Member) (s : MemberState) (x : Member)
+            → self.old ≡ InPiece given s → member_finish s ≡ Some x
+            → self.new ≡ Gap (given ++ x ∷ [])) }
     {
         if let ListPhase::InPiece(state) = mem::replace(&mut self.phase, ListPhase::Gap) {
             if let Some(member) = state.finish(context)? {
@@ -173,7 +181,9 @@ impl ListReader {
 
     // Behind a member and a comma.
     fn end_and_open(&mut self, context: &Context) -> Result<(), OutOfMemory>
-        ensures { IfOk result (λ _. (given : List Member) (s : MemberState) (x : Member) → self.old ≡ InPiece given s → member_finish s ≡ Some x → self.new ≡ Comma (given ++ x ∷ [])) }
+        ensures { IfOk result (λ _. (given : List Member) (s : MemberState) (x : Member)
+            → self.old ≡ InPiece given s → member_finish s ≡ Some x
+            → self.new ≡ Comma (given ++ x ∷ [])) }
     {
         self.end_member(context)?;
         self.open();

@@ -86,7 +86,8 @@ impl ParamsReader {
 
     /// Takes one more byte, or tells that the parameters can't go on with it and stay as they are.
     pub fn step(&mut self, context: &Context, byte: u8) -> Result<bool, OutOfMemory>
-        ensures { IfOk result (λ took. Steps took (params_step context.now.dialect self.old byte) self.old self.new) }
+        ensures { IfOk result (λ took. Steps took (params_step context.now.dialect self.old byte)
+            self.old self.new) }
     {
         match &mut self.phase {
             ParamsPhase::Between => {

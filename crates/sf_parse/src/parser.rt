@@ -154,7 +154,8 @@ impl Parser {
     // Why the text may not end here, if it may not.
     fn refusal_at_end(&self) -> Option<Refusal>
         ensures again { IfSome self.now.refusal (λ e. result ≡ Some e) }
-        ensures ended { IfSome result (λ e. (s : List ℕ) → Took self.now s → Finishes self.now.dialect self.now.kind s (Err e)) }
+        ensures ended { IfSome result (λ e. (s : List ℕ) → Took self.now s
+            → Finishes self.now.dialect self.now.kind s (Err e)) }
         ensures unrefused { IfNone result (self.now.refusal ≡ None) }
         ensures whole { IfNone result (may_end self.now.state ≡ true) }
         ensures plain { IsPlain self.now → IfSome result IsOther }

@@ -64,7 +64,8 @@ fn write_expected<W: fmt::Write>(
     Ok(())
 }
 
-/// One line, as `byte 32 at place 2, expected 20 or the end`: bytes stand as two hexadecimal digits,
+/// One line, as `byte 32 at place 2, expected 20 or the end`: bytes stand as two hexadecimal
+/// digits,
 /// runs of them as `30-39`, places and lengths in decimal.
 impl fmt::Display for Refusal {
     fn fmt<W: fmt::Write>(&self, f: &mut fmt::Formatter<W>) -> fmt::Result {

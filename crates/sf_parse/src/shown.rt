@@ -4,7 +4,9 @@ ghost use Rattle.std.specs.Option.{option_map};
 ghost use Rattle.sf_value.specs.Grammar.Utf8.{wants, rows, look_up, utf8_step};
 ghost use Rattle.sf_parse.specs.Views.{utf8_of};
 ghost use Rattle.sf_parse.specs.Machine.Language.{Steps};
-ghost use Rattle.sf_parse.specs.Machine.Showns.{Quote, pushed, unhex as unhex_of, can_begin as can_begin_at, shown_step, shown_finish};
+ghost use Rattle.sf_parse.specs.Machine.Showns.{Quote, pushed, unhex as unhex_of};
+ghost use Rattle.sf_parse.specs.Machine.Showns.{can_begin as can_begin_at, shown_step};
+ghost use Rattle.sf_parse.specs.Machine.Showns.{shown_finish};
 ghost use Rattle.sf_parse.specs.Machine.Takes.{shown_takes, shown_ends};
 
 use sf_value::{OutOfMemory, Shown, is_visible};
@@ -155,7 +157,8 @@ impl ShownReader {
         Ok(true)
     }
 
-    /// Takes one more byte, or tells that the display string can't go on with it and stays as it is.
+    /// Takes one more byte, or tells that the display string can't go on with it and stays as it
+    /// is.
     pub fn step(&mut self, byte: u8) -> Result<bool, OutOfMemory>
         ensures { IfOk result (λ took. Steps took (shown_step self.old byte) self.old self.new) }
     {

@@ -5,7 +5,8 @@ ghost use Rattle.sf_parse.specs.PlainParsers.{PlainState};
 ghost use Rattle.sf_parse.specs.Expected.{Marks};
 ghost use Rattle.sf_parse.specs.StateView.{state_of};
 ghost use Rattle.sf_parse.specs.Machine.Language.{Steps};
-ghost use Rattle.sf_parse.specs.Machine.Fields.{begin as begin_at, step as step_of, finish as finish_of};
+ghost use Rattle.sf_parse.specs.Machine.Fields.{begin as begin_at, step as step_of};
+ghost use Rattle.sf_parse.specs.Machine.Fields.{finish as finish_of};
 ghost use Rattle.sf_parse.specs.Machine.Takes.{takes as takes_at, may_end as may_end_at};
 
 use crate::context::Context;
@@ -36,7 +37,8 @@ impl FieldState {
 
     /// Takes one more byte, or tells that the field can't go on with it and stays as it is.
     pub fn step(&mut self, context: &Context, byte: u8) -> Result<bool, OutOfMemory>
-        ensures step { IfOk result (λ took. Steps took (step_of context.now.dialect (state_of self.old) byte) (state_of self.old) (state_of self.new)) }
+        ensures step { IfOk result (λ took. Steps took (step_of context.now.dialect (state_of
+            self.old) byte) (state_of self.old) (state_of self.new)) }
         ensures plain { PlainState (state_of self.old) → plain_byte byte ≡ true → IsOk result }
     {
         match self {

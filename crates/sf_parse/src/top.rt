@@ -33,7 +33,8 @@ pub enum TopState {
 impl TopState {
     /// Takes one more byte, or tells that the field can't go on with it and stays as it is.
     pub fn step(&mut self, context: &Context, byte: u8) -> Result<bool, OutOfMemory>
-        ensures step { IfOk result (λ took. Steps took (step_of context.now.dialect (top_of self.old) byte) (top_of self.old) (top_of self.new)) }
+        ensures step { IfOk result (λ took. Steps took (step_of context.now.dialect (top_of
+            self.old) byte) (top_of self.old) (top_of self.new)) }
         ensures plain { PlainState (top_of self.old) → plain_byte byte ≡ true → IsOk result }
     {
         match self {
@@ -60,7 +61,8 @@ impl TopState {
     // These two stand apart since their locals are large, and each call of a function clears them.
     #[inline(never)]
     fn begin_item(&mut self, context: &Context, byte: u8) -> Result<bool, OutOfMemory>
-        ensures step { IfOk result (λ took. Steps took (seen InTop (item_start context.now.dialect byte)) (top_of self.old) (top_of self.new)) }
+        ensures step { IfOk result (λ took. Steps took (seen InTop (item_start context.now.dialect
+            byte)) (top_of self.old) (top_of self.new)) }
         ensures plain { plain_byte byte ≡ true → IsOk result }
     {
         match ItemState::start(context, byte)? {
@@ -74,7 +76,8 @@ impl TopState {
 
     #[inline(never)]
     fn end_item(&mut self, context: &Context) -> Result<(), OutOfMemory>
-        ensures ended { IfOk result (λ _. (s : ItemState) (i : Item) → self.old ≡ Inside s → item_finish s ≡ Some i → self.new ≡ Behind i) }
+        ensures ended { IfOk result (λ _. (s : ItemState) (i : Item) → self.old ≡ Inside s
+            → item_finish s ≡ Some i → self.new ≡ Behind i) }
         ensures plain { PlainState (top_of self.old) → IsOk result }
     {
         if let TopState::Inside(state) = mem::replace(self, TopState::Before) {

@@ -1,5 +1,6 @@
 // The words of the command, and runs of it.
-use crate::expecting::{Drip, expect_refusals, seen_if};
+use crate::expecting::{Drip, seen_if};
+use http_header::HeaderName;
 use sf_scarce::{Seen, refusals};
 use sf_tool::{Request, RequestFault, Status, read_request, run};
 use sf_value::{Dialect, Kind, Writing};
@@ -15,41 +16,107 @@ fn words_of(alloc: Global, words: &[&str]) -> Result<Vec<String>, Fail> {
     Ok(owned)
 }
 
-fn seen_request(alloc: Global, words: &[String], want: &Result<Request, RequestFault>) -> Seen {
-    let answer = read_request(alloc, words);
-    if answer == *want {
-        Seen::Right
-    } else if answer == Err(RequestFault::OutOfMemory) {
-        Seen::Refused
-    } else {
-        Seen::Wrong
+fn names_of(alloc: Global, words: &[&str]) -> Result<Request, Fail> {
+    let mut names = Vec::new(alloc);
+    for word in words {
+        names.push(HeaderName::from_bytes(alloc, word.as_bytes())?)?;
     }
+    Ok(Request::Targeted(names))
+}
+
+fn is_request(answer: &Request, want: &Request) -> bool {
+    match (answer, want) {
+        (Request::Show(dialect, kind), Request::Show(dialect_wanted, kind_wanted))
+        | (Request::Check(dialect, kind), Request::Check(dialect_wanted, kind_wanted))
+        | (Request::Normalise(dialect, kind), Request::Normalise(dialect_wanted, kind_wanted)) => {
+            dialect == dialect_wanted && kind == kind_wanted
+        }
+        (Request::Targeted(names), Request::Targeted(wanted)) => {
+            names.as_slice() == wanted.as_slice()
+        }
+        (Request::CacheStatus, Request::CacheStatus) => true,
+        (Request::Priority, Request::Priority) => true,
+        _ => false,
+    }
+}
+
+// No request wanted is Usage wanted.
+fn seen_request(alloc: Global, words: &[String], want: Option<&Request>) -> Seen {
+    match (read_request(alloc, words), want) {
+        (Ok(request), Some(want)) => seen_if(is_request(&request, want)),
+        (Err(RequestFault::OutOfMemory), _) => Seen::Refused,
+        (Err(RequestFault::Usage), None) => Seen::Right,
+        _ => Seen::Wrong,
+    }
+}
+
+fn request_refusals(
+    alloc: Global,
+    words: &[&str],
+    want: Option<&Request>,
+) -> Result<Option<usize>, Fail> {
+    let words = words_of(alloc, words)?;
+    Ok(refusals(alloc, || seen_request(alloc, &words, want)))
 }
 
 #[test]
 fn requests(rt: HostRuntime) -> Result<(), Fail> {
     let alloc = rt.alloc();
-    let request = Request::Normalise(Dialect::Rfc8941, Kind::Dict);
-    let good = words_of(
-        alloc,
-        &["sf", "normalise", "--kind", "dict", "--dialect", "rfc8941"],
-    )?;
-    expect_refusals(&rt, || seen_request(alloc, &good, &Ok(request)));
-    let bad = words_of(alloc, &["sf", "normalise", "--kind", "text"])?;
-    expect_refusals(&rt, || seen_request(alloc, &bad, &Err(RequestFault::Usage)));
+    let rows: [(&[&str], Request); 6] = [
+        (
+            &["sf", "show", "--kind=item"],
+            Request::Show(Dialect::Rfc9651, Kind::Item),
+        ),
+        (
+            &["sf", "check", "--kind", "list", "--dialect", "rfc9651"],
+            Request::Check(Dialect::Rfc9651, Kind::List),
+        ),
+        (
+            &["sf", "normalise", "--kind", "dict", "--dialect", "rfc8941"],
+            Request::Normalise(Dialect::Rfc8941, Kind::Dict),
+        ),
+        (&["sf", "cache-status"], Request::CacheStatus),
+        (
+            &["sf", "targeted", "Cache-Control", "X-Cache", "--", "-a"],
+            names_of(alloc, &["cache-control", "x-cache", "-a"])?,
+        ),
+        (&["sf", "priority"], Request::Priority),
+    ];
+    for (words, want) in &rows {
+        let found = request_refusals(alloc, words, Some(want))?;
+        assert!(rt; found > Some(0), "{found:?}");
+    }
+    Ok(())
+}
+
+#[test]
+fn other_words(rt: HostRuntime) -> Result<(), Fail> {
+    let rows: [&[&str]; 8] = [
+        &["sf"],
+        &["sf", "help"],
+        &["sf", "show"],
+        &["sf", "check", "--kind", "text"],
+        &["sf", "normalise", "--kind", "item", "--dialect", "rfc1"],
+        &["sf", "cache-status", "more"],
+        &["sf", "targeted", "a", "b c"],
+        &["sf", "priority", "more"],
+    ];
+    for words in rows {
+        let found = request_refusals(rt.alloc(), words, None)?;
+        assert!(rt; found > Some(0), "{found:?}");
+    }
     Ok(())
 }
 
 // An input, and the text and the status that it is answered with.
-type Row = (Kind, &'static [u8], &'static [u8], Status);
+type Row = (&'static [u8], &'static [u8], Status);
 
 // Runs over a reader that gives a byte a call, into the room that is there.
-fn ran(alloc: Global, seed: &RandomState, row: Row, room: &mut Vec<u8>) -> Seen {
-    let (kind, input, text, status) = row;
-    let request = Request::Normalise(Dialect::Rfc9651, kind);
+fn ran(alloc: Global, seed: &RandomState, request: &Request, row: Row, room: &mut Vec<u8>) -> Seen {
+    let (input, text, status) = row;
     room.clear();
     let mut sink = Writing::new(&mut *room);
-    let answer = run(alloc, seed, &request, &mut Drip::new(input), &mut sink);
+    let answer = run(alloc, seed, request, &mut Drip::new(input), &mut sink);
     if answer == Status::Stopped && room.is_empty() {
         Seen::Refused
     } else {
@@ -57,42 +124,111 @@ fn ran(alloc: Global, seed: &RandomState, row: Row, room: &mut Vec<u8>) -> Seen 
     }
 }
 
-fn run_refusals(alloc: Global, seed: &RandomState, row: Row) -> Result<Option<usize>, Fail> {
+fn run_refusals(
+    alloc: Global,
+    seed: &RandomState,
+    request: &Request,
+    row: Row,
+) -> Result<Option<usize>, Fail> {
     let mut room = Vec::with_capacity(alloc, 1000)?;
-    Ok(refusals(alloc, || ran(alloc, seed, row, &mut room)))
+    Ok(refusals(alloc, || ran(alloc, seed, request, row, &mut room)))
 }
 
 #[test]
-fn runs(rt: HostRuntime) -> Result<(), Fail> {
+fn runs_of_a_kind(rt: HostRuntime) -> Result<(), Fail> {
     let seed = RandomState::new(&rt)?;
-    for row in [
+    let list = Request::Normalise(Dialect::Rfc9651, Kind::List);
+    let dict = Request::Show(Dialect::Rfc9651, Kind::Dict);
+    let item = Request::Check(Dialect::Rfc9651, Kind::Item);
+    let rows: [(&Request, Row); 5] = [
+        (&list, (b"a\r\n\tb \r\n", b"a, b\n", Status::Accepted)),
         (
-            Kind::List,
-            b"a\r\n\tb \r\n".as_slice(),
-            b"a, b\n".as_slice(),
-            Status::Accepted,
+            &list,
+            (
+                b"a\n\n",
+                b"refused at 3 ended expected 09 20 22 25 28 2a 2d 30-3a 3f-5a 61-7a\n",
+                Status::Refused,
+            ),
         ),
         (
-            Kind::List,
-            b"a\n\n",
-            b"refused at 3 ended expected 09 20 22 25 28 2a 2d 30-3a 3f-5a 61-7a\n",
-            Status::Refused,
+            &dict,
+            (
+                b"a=1,b;x, a=(1  2 );y=:YQ:",
+                b"dict 2\n  a = inner 2\n    integer 1\n    integer 2\n    ; y bytes :YQ==:\n  b = boolean ?1\n    ; x boolean ?1\n",
+                Status::Accepted,
+            ),
         ),
         (
-            Kind::Dict,
-            b"a=1,b;x, a=(1  2 );y=:YQ:",
-            b"a=(1 2);y=:YQ==:, b;x\n",
-            Status::Accepted,
+            &item,
+            (
+                b"1 2",
+                b"refused at 2 found 0x32 expected 20 end\n",
+                Status::Refused,
+            ),
         ),
-    ] {
-        let found = run_refusals(rt.alloc(), &seed, row)?;
+        (&item, (b"1", b"accepted\n", Status::Accepted)),
+    ];
+    for (request, row) in rows {
+        let found = run_refusals(rt.alloc(), &seed, request, row)?;
         assert!(rt; found > Some(0), "{found:?}");
     }
-    let empty = run_refusals(
-        rt.alloc(),
-        &seed,
-        (Kind::List, b"", b"\n", Status::Accepted),
-    )?;
+    let empty = run_refusals(rt.alloc(), &seed, &list, (b"", b"\n", Status::Accepted))?;
     assert!(rt; empty.is_some());
+    Ok(())
+}
+
+#[test]
+fn runs_of_a_consumer(rt: HostRuntime) -> Result<(), Fail> {
+    let alloc = rt.alloc();
+    let seed = RandomState::new(&rt)?;
+    let caches = Request::CacheStatus;
+    let priority = Request::Priority;
+    let targeted = names_of(alloc, &["cdn-cache-control", "x-cache-control"])?;
+    let rows: [(&Request, Row); 7] = [
+        (
+            &caches,
+            (
+                b"c;hit=?0;fwd=odd;fwd-status=99;stored;ttl=-3",
+                b"hop 0 c forwarded odd stored=?1 ttl=-3\nserved none\n",
+                Status::Accepted,
+            ),
+        ),
+        (
+            &caches,
+            (
+                b"c;hit=\"x\"",
+                b"hop 0 c unsaid\nserved none\n",
+                Status::Accepted,
+            ),
+        ),
+        (
+            &caches,
+            (b"7;hit", b"refused not a cache 0\n", Status::Refused),
+        ),
+        (
+            &priority,
+            (b"u=8, i", b"urgency 3 incremental true\n", Status::Accepted),
+        ),
+        (
+            &targeted,
+            (
+                b"CDN-Cache-Control: max-age=60,\nX-Cache-Control: max-age=30, s-maxage=90, no-store=?0\n",
+                b"field 1 x-cache-control\nlifetime shared 90\nlifetime private 30\n",
+                Status::Accepted,
+            ),
+        ),
+        (
+            &targeted,
+            (b"X-Cache-Control:\n", b"fallback\n", Status::Accepted),
+        ),
+        (
+            &targeted,
+            (b"\nnonsense\n", b"refused line 1\n", Status::Refused),
+        ),
+    ];
+    for (request, row) in rows {
+        let found = run_refusals(alloc, &seed, request, row)?;
+        assert!(rt; found > Some(0), "{found:?}");
+    }
     Ok(())
 }

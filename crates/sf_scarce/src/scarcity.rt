@@ -46,7 +46,8 @@ fn touch_stack(byte: u8) -> usize {
 }
 
 impl Scarcity {
-    /// Makes the spares and room for the blocks, some 280 MB of addresses of which nearly nothing is
+    /// Makes the spares and room for the blocks, some 280 MB of addresses of which nearly nothing
+    /// is
     /// touched, and takes nothing yet. It is refused where there is no memory for them.
     pub fn new(alloc: Global) -> Result<Scarcity, AllocError>
         ensures { IfOk result (λ s. s ≡ 0) }

@@ -31,7 +31,8 @@ use Rattle.sf_tool.specs.declared.request.Request.TheVariants.{Targeted, Priorit
 use Rattle.sf_tool.specs.declared.request.RequestFault.{RequestFault}
 use Rattle.sf_tool.specs.declared.request.RequestFault.TheVariants.{Usage, OutOfMemory}
 use Rattle.sf_tool.specs.Fields.{is_header_name}
-use Rattle.sf_tool.specs.CommandLine.{command_line, kind_word, dialect_word, NamesKind, NamesDialect}
+use Rattle.sf_tool.specs.CommandLine.{command_line, kind_word, dialect_word, NamesKind}
+use Rattle.sf_tool.specs.CommandLine.{NamesDialect}
 use Rattle.sf_tool.specs.CommandLine.{AreNames, AsksFor}
 use Rattle.sf_tool.specs.Commands.{AsksForNone, IsCommandFault, IsTargetedOf, IsNamesFault}
 

@@ -1,5 +1,6 @@
 -- What lines are, from what http_header tells of names and values.
-use Rattle.std.proofs.Common.{◌≡◌, ℕ, ◌<◌, ◌≤◌, Bool, true, false, List, [], ◌∷◌, length, refl, inl, inr}
+use Rattle.std.proofs.Common.{◌≡◌, ℕ, ◌<◌, ◌≤◌, Bool, true, false, List, [], ◌∷◌, length, refl, inl}
+use Rattle.std.proofs.Common.{inr}
 use Rattle.std.proofs.Common.{IsTrue, ◌∙◌, arith}
 use Rattle.std.specs.Prelude.{◌==◌, ◌&&◌, ◌||◌, not, nat_le, codes}
 use Rattle.std.specs.Bool.{Decides}
@@ -47,7 +48,8 @@ value_byte-decides b = rw (value_byte-is b) (λ h. h, λ h. h)
 
 pub header_name-decides : (word : List ℕ) → Decides (is_header_name word) (IsFieldName word)
 header_name-decides word =
-    let bytes = Decides-by_and is_tchar (λ b. IsTrue (is_token_byte b)) (list_all is_tchar) tchar-decides refl
+    let bytes = Decides-by_and is_tchar (λ b. IsTrue (is_token_byte b)) (list_all is_tchar)
+    tchar-decides refl
     (λ _ _. refl) word in
     let short : Decides (nat_le (length word) 65535) (length word ≤ 65535) =
     (λ h. leb-true _ _ h, λ h. le-leb _ _ h) in
@@ -92,7 +94,8 @@ not-value value h =
 
 colon : (line : List ℕ) → position_or_len is_colon line < length line
     → list_any is_colon line ≡ true
-colon line h = list_any_at is_colon line (position_or_len is_colon line) 0 h (passes_at_first is_colon line 0 h)
+colon line h = list_any_at is_colon line (position_or_len is_colon line) 0 h (passes_at_first
+    is_colon line 0 h)
 
 no-colon : (line : List ℕ) → position_or_len is_colon line ≡ length line
     → list_any is_colon line ≡ false

@@ -1,4 +1,5 @@
--- The definitions that the contracts speak of: requests and words, the input and its lines, the texts
+-- The definitions that the contracts speak of: requests and words, the input and its lines, the
+-- texts
 -- that are printed, and last what a run reads, answers and writes.
 pub mod Status
 pub mod Request

@@ -105,7 +105,8 @@ Answers (Normalise d kind) input text status =
     Responds d kind canonical_line (joined input) text status
 Answers CacheStatus input text status = TellsPath (joined input) text status
 Answers (Targeted names) input text status = TellsChoice names.items input text status
-Answers Priority input text status = Responds Rfc9651 kind.Dict priority_of (joined input) text status
+Answers Priority input text status = Responds Rfc9651 kind.Dict priority_of (joined input) text
+    status
 
 -- the text and the status for any input: a longer one is refused for its length
 abbrev pub Outputs : Request → List ℕ → List ℕ → Status → Type 0

@@ -6,7 +6,8 @@ ghost use Rattle.sf_tool.specs.declared.status.Status.TheVariants as status_is;
 ghost use Rattle.sf_tool.specs.ChoiceLines.{field_lines, refused_line};
 ghost use Rattle.sf_tool.specs.PathLines.{not_a_cache_line, path_lines};
 ghost use Rattle.sf_tool.specs.PriorityLine.{priority_line};
-ghost use Rattle.sf_tool.specs.Run.{TellsText, TellsRefusal, IsOfText, accepted_line, canonical_line};
+ghost use Rattle.sf_tool.specs.Run.{TellsText, TellsRefusal, IsOfText, accepted_line};
+ghost use Rattle.sf_tool.specs.Run.{canonical_line};
 ghost use Rattle.sf_tool.specs.Texts.{too_long_line};
 ghost use Rattle.sf_tool.specs.Tree.{tree};
 

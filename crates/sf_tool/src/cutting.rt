@@ -56,7 +56,8 @@ fn without_return(line: &[u8]) -> &[u8]
 
 /// What stands before the first of these bytes and after it, None where there is none.
 pub(crate) fn split_at_first(bytes: &[u8], separator: u8) -> Option<(&[u8], &[u8])>
-    ensures { MatchOption result (position_or_len (λ b. b == separator) bytes.now ≡ length bytes.now)
+    ensures { MatchOption result (position_or_len (λ b. b == separator) bytes.now ≡ length
+        bytes.now)
         (λ p. (position_or_len (λ b. b == separator) bytes.now < length bytes.now)
         × (p.0.now ≡ before_first (λ b. b == separator) bytes.now)
         × (p.1.now ≡ after_first (λ b. b == separator) bytes.now)) }

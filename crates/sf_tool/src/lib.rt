@@ -1,5 +1,6 @@
 //! What the command `sf` does: its words are read by [`read_request`], and [`run`] answers them
-//! from a source and to a sink. The lines that it prints are defined in `specs/Texts.antt`, and what
+//! from a source and to a sink. The lines that it prints are defined in `specs/Texts.antt`, and
+//! what
 //! a run reads, answers and writes in `specs/Run.antt`.
 #![tactic(auto)]
 

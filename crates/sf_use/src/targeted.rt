@@ -184,7 +184,8 @@ fn offered(
 }
 
 /// The field that a cache obeys: that of the first target that is there, spells a Dictionary and is
-/// not empty (RFC 9213 section 2.2). Absent, refused and empty fields are passed over (section 2.1);
+/// not empty (RFC 9213 section 2.2). Absent, refused and empty fields are passed over (section
+/// 2.1);
 /// where none is left, the answer is `Fallback`. `OutOfMemory` says that memory was wanting to read
 /// a field, and then no later one is looked at; a field of 2^64 bytes or more, which no memory can
 /// hold, is answered so too. Where no target is there, it takes no memory.

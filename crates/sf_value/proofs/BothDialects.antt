@@ -66,7 +66,8 @@ entry_both : (t : List ℕ) (p : List ℕ × Member) → SpellsEntry Rfc8941 t p
 entry_both t p (back, k, inl (e, h)) = (back, k, inl (e, member_both back p.1 h))
 entry_both t p (back, k, inr (ps, i, e, h)) = (back, k, inr (ps, i, e, params_both back ps h))
 
-module _ {X : Type 0} (P Q : List ℕ → X → Type 0) (both : (t : List ℕ) (x : X) → P t x → Q t x) where
+module _ {X : Type 0} (P Q : List ℕ → X → Type 0) (both : (t : List ℕ) (x : X) → P t x
+    → Q t x) where
   commas_both : (t : List ℕ) (xs : List X) → SpellsCommas P t xs → SpellsCommas Q t xs
   commas_both t [] h = h
   commas_both t (x ∷ xs) (before, behind, front, back, e, f, g, h, r) =

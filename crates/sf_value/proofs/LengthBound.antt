@@ -496,6 +496,7 @@ module _ (d : Dialect) where
       let a = whole_text (SpellsEntry d) canon_entry entry_text raw t h in
       let b = settle_total entry_weight raw in
       let c = entries_total raw in
-      let same : sum_of (SpellsEntry d) canon_entry entry_text ps ≡ total entry_weight (settle raw) =
+      let same : sum_of (SpellsEntry d) canon_entry entry_text ps
+      ≡ total entry_weight (settle raw) =
       entries_total ps ∙ ap (total entry_weight) e in
       series_text (SpellsEntry d) canon_entry entry_text ps t (omega arith)

@@ -1,5 +1,6 @@
 //! Conformance vectors: texts of every kind with their outcomes, run through the parser whole, in
-//! every cutting into two pieces and one byte at a time, and through the writer. It has tests alone.
+//! every cutting into two pieces and one byte at a time, and through the writer. It has tests
+//! alone.
 #![tactic(auto)]
 
 #[cfg(test)]

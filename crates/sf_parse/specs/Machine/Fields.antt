@@ -22,8 +22,10 @@ use Rattle.sf_parse.specs.Machine.Series.{SeriesState, series_finish}
 use Rattle.sf_parse.specs.Machine.States.{State}
 use Rattle.sf_parse.specs.Machine.States.{BeforeItem, InTop, AfterItem, InList}
 use Rattle.sf_parse.specs.Machine.States.{InDict}
-use Rattle.sf_parse.specs.Machine.Members.{RestMember, GoodMember, member_start, member_step, member_finish}
-use Rattle.sf_parse.specs.Machine.Entries.{EntryState, RestEntry, GoodEntry, entry_start, entry_step}
+use Rattle.sf_parse.specs.Machine.Members.{RestMember, GoodMember, member_start, member_step}
+use Rattle.sf_parse.specs.Machine.Members.{member_finish}
+use Rattle.sf_parse.specs.Machine.Entries.{EntryState, RestEntry, GoodEntry, entry_start}
+use Rattle.sf_parse.specs.Machine.Entries.{entry_step}
 use Rattle.sf_parse.specs.Machine.Entries.{entry_finish}
 
 abbrev pub list_series : Dialect → Series MemberState Member (List Member)

@@ -28,7 +28,8 @@ abbrev pub seen : {X Y : Type 0} → (X → Y) → Option X → Option Y
 seen f None = None
 seen f (Some x) = Some (f x)
 
--- The texts of L are read by next and end: a byte leads to a state whose rest is L's, and end is the empty text's value.
+-- The texts of L are read by next and end: a byte leads to a state whose rest is L's, and end is
+-- the empty text's value.
 pub record Reads (S V : Type 0) (Good : S → Type 0) (Rest : S → List ℕ → V → Type 0) (L : List ℕ → V
     → Type 0) (next : ℕ → Option S) (end : Option V) : Type 0 where
   pub taken : (b : ℕ) (u : List ℕ) (v : V) → L (b ∷ u) v → (s : S) × (next b ≡ Some s) × Rest s u v

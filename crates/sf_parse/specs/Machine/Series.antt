@@ -21,7 +21,8 @@ given_of none (InPiece given s) = given
 given_of none (Gap given) = given
 given_of none (Comma given) = given
 
--- What differs between a list and a dictionary: the pieces, and how pieces are added to what was given.
+-- What differs between a list and a dictionary: the pieces, and how pieces are added to what was
+-- given.
 pub record Series (S X V : Type 0) : Type 1 where
   pub Spells : List ℕ → X → Type 0
   pub Rest : S → List ℕ → X → Type 0

@@ -1,5 +1,6 @@
 -- The byte classes (section 3 and its ABNF; tchar is that of RFC 9110 section 5.6.2).
-use Rattle.std.specs.Prelude.{ℕ, Bool, false, List, [], ◌∷◌, ◌==◌, nat_le, nat_lt, ◌&&◌, ◌||◌, codes}
+use Rattle.std.specs.Prelude.{ℕ, Bool, false, List, [], ◌∷◌, ◌==◌, nat_le, nat_lt, ◌&&◌, ◌||◌}
+use Rattle.std.specs.Prelude.{codes}
 
 -- one of a list
 abbrev pub is_one_of : List ℕ → ℕ → Bool

@@ -1,4 +1,5 @@
-use Rattle.sf_parse.proofs.Taking.{took_nothing, takes_more, took_viable, took_next, took_end, took_stops, took_all}
+use Rattle.sf_parse.proofs.Taking.{took_nothing, takes_more, took_viable, took_next, took_end}
+use Rattle.sf_parse.proofs.Taking.{took_stops, took_all}
 use Rattle.sf_parse.proofs.laws.what_was_taken.Goals as goal
 
 pub returns-clause-nothing : goal.returns-clause-nothing

@@ -9,7 +9,8 @@ use Rattle.sf_tool.proofs.running.cache_status.Goals as goal
 pub returns-in-Err-Field : goal.returns-in-Err-Field
 returns-in-Err-Field g c =
     tells_refused CacheStatus kind.List c.args.input.now c.in-Err-Field.refusal _ _ _
-    (λ line r. inl r) c.requires (rw c.in-Err-Field.field-0-is at c.in-Err-Field.ensures.asks) c.answer_refusal.ensures
+    (λ line r. inl r) c.requires (rw c.in-Err-Field.field-0-is at c.in-Err-Field.ensures.asks)
+    c.answer_refusal.ensures
 
 pub returns-in-Err-Answer-NotACache : goal.returns-in-Err-Answer-NotACache
 returns-in-Err-Answer-NotACache g c =

@@ -7,7 +7,8 @@ pub returns-in_err-written : goal.returns-in_err-written
 returns-in_err-written g c =
     let all = leaves_all _ _ _ (omega arith) in
     let split : inner_lines c.args.depth c.args.inner.now
-    ≡ count_line (codes "inner ") c.len.result ++ (items_lines (c.args.depth + 1) c.args.inner.now.items
+    ≡ count_line (codes "inner ") c.len.result ++ (items_lines (c.args.depth + 1)
+    c.args.inner.now.items
     ++ param_lines (c.args.depth + 1) c.args.inner.now.params) = rw c.len.ensures refl in
     ends_early _ _ all split c.in_err-written.ensures
     c.from_residual.ensures.1
@@ -16,7 +17,8 @@ pub returns-in_err-written-2 : goal.returns-in_err-written-2
 returns-in_err-written-2 g c =
     let all = leaves_all _ _ _ (omega arith) in
     let split : inner_lines c.args.depth c.args.inner.now
-    ≡ count_line (codes "inner ") c.len.result ++ (items_lines (c.args.depth + 1) c.args.inner.now.items
+    ≡ count_line (codes "inner ") c.len.result ++ (items_lines (c.args.depth + 1)
+    c.args.inner.now.items
     ++ param_lines (c.args.depth + 1) c.args.inner.now.params) = rw c.len.ensures refl in
     let left = leaves_less _ all split c.in_ok-written.ensures in
     let items : items_lines (c.args.depth + 1) c.args.inner.now.items
@@ -30,7 +32,8 @@ pub returns : goal.returns
 returns g c =
     let all = leaves_all _ _ _ (omega arith) in
     let split : inner_lines c.args.depth c.args.inner.now
-    ≡ count_line (codes "inner ") c.len.result ++ (items_lines (c.args.depth + 1) c.args.inner.now.items
+    ≡ count_line (codes "inner ") c.len.result ++ (items_lines (c.args.depth + 1)
+    c.args.inner.now.items
     ++ param_lines (c.args.depth + 1) c.args.inner.now.params) = rw c.len.ensures refl in
     let left = leaves_less _ all split c.in_ok-written.ensures in
     let items : items_lines (c.args.depth + 1) c.args.inner.now.items

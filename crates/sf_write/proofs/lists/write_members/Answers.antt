@@ -13,7 +13,8 @@ returns-in_default g c =
 pub returns-in_err-written : goal.returns-in_err-written
 returns-in_err-written g c =
     ends_early _ _ (leaves_all _ _ _ (omega arith))
-    (ap (canon_series canon_member) c.in-Some.ensures.cases.0) c.in_err-written.ensures c.from_residual.ensures.1
+    (ap (canon_series canon_member) c.in-Some.ensures.cases.0) c.in_err-written.ensures
+    c.from_residual.ensures.1
 
 pub loop-member-init : goal.loop-member-init
 loop-member-init g c =

@@ -13,4 +13,5 @@ key_of-entry_of (InFlag s) k = refl
 pub returns : goal.returns
 returns c =
     let fields = c.self.inside in
-    ap (entry_of c.args.phase) (sym (key_of-entry_of fields.phase fields.key) ∙ ap key_of c.self.view_is)
+    ap (entry_of c.args.phase) (sym (key_of-entry_of fields.phase fields.key)
+    ∙ ap key_of c.self.view_is)

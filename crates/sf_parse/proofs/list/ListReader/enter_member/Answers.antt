@@ -7,4 +7,5 @@ pub returns : goal.returns
 returns c =
     let fields = c.self.inside in
     ap (λ given. InPiece given c.args.state)
-    (sym (given_of-list_at fields.phase fields.members c.self.invariant) ∙ ap (given_of []) c.self.view_is)
+    (sym (given_of-list_at fields.phase fields.members c.self.invariant)
+    ∙ ap (given_of []) c.self.view_is)

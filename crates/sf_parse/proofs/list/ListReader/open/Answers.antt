@@ -7,4 +7,5 @@ pub returns : goal.returns
 returns c given h =
     let fields = c.self.inside in
     ap Comma
-    (sym (given_of-list_at fields.phase fields.members c.self.invariant) ∙ ap (given_of []) (c.self.view_is ∙ h))
+    (sym (given_of-list_at fields.phase fields.members c.self.invariant)
+    ∙ ap (given_of []) (c.self.view_is ∙ h))

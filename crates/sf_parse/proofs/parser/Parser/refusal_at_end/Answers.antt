@@ -5,4 +5,5 @@ use Rattle.sf_parse.proofs.parser.Parser.refusal_at_end.Goals as goal
 pub returns-clause-ended : goal.returns-clause-ended
 returns-clause-ended c =
     rw (← c.self.view_is)
-    (finish_stop _ _ c.self.invariant c.expected.ensures (sym c.if-may_end.false ∙ c.may_end.ensures))
+    (finish_stop _ _ c.self.invariant c.expected.ensures (sym c.if-may_end.false
+    ∙ c.may_end.ensures))

@@ -9,7 +9,8 @@ loop-byte-preserved c =
     let loop = c.loop-byte in
     elim c.if-takes.branch [
       | then-takes w ↦ rw w.expected-is
-          (mark_set c.args.dialect loop.expected (state_of c.args.self.now) loop.byte c.loop-byte-test.true
+          (mark_set c.args.dialect loop.expected (state_of c.args.self.now) loop.byte
+          c.loop-byte-test.true
           loop.invariant (sym c.takes.ensures ∙ w.if-takes.true))
       | else-takes w ↦ rw w.expected-is
           (mark_clear c.args.dialect loop.expected (state_of c.args.self.now) loop.byte
