@@ -113,8 +113,15 @@ module _ (d : Dialect) where
   entry_to : (t : List ℕ) (p : List ℕ × Member)
       → Then (SpellsWord is_key_start is_key_rest) (BehindKey d) t p → SpellsEntry d t p
   entry_to t p (k, front, back, e, (a, w), inl (b2, e1, (m, s, c))) =
-      subst (λ y. SpellsEntry d t y) (sym c) (b2, w, inl ((let e' : t
-      ≡ k ++ 61 ∷ b2 = cc in e'), s))
+      subst (λ y. SpellsEntry d t y) (sym c) (
+        b2,
+        w,
+        inl (
+          (let e' : t
+              ≡ k ++ 61 ∷ b2 = cc in e'),
+          s,
+        ),
+      )
   entry_to t p (k, front, back, e, (a, w), inr (ps, s, c)) =
       subst (λ y. SpellsEntry d t y) (sym c) (
         back,

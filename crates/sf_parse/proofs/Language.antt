@@ -131,16 +131,16 @@ pub reads_seen : {S T X V : Type 0} {GoodS : S → Type 0} {GoodT : T → Type 0
     → Reads T V GoodT RestT (Seen f A) (λ b. seen into (next b)) (seen f end)
 reads_seen {GoodT = GoodT} {RestT = RestT} into f {A = A} {next = next} {end = end} good_into
     rest_into ra = record {
-  taken = λ b u v h. let k = ra.taken b u h.0 h.1 in
-      (into k.0, rw k.1 refl, (rest_into k.0 u v).0 (h.0, k.2, h.2));
-  gives = λ b u v t n h. let c = seen_cases into (next b) t n in
-      let k = (rest_into c.0 u v).1 (subst (λ y. RestT y u v) c.2 h) in
-      (k.0, ra.gives b u k.0 c.0 c.1 k.1, k.2);
-  good = λ b t n. let c = seen_cases into (next b) t n in
-      subst GoodT (sym c.2) (good_into c.0 (ra.good b c.0 c.1));
-  ends = λ v h. rw (ra.ends h.0 h.1) (ap Some (sym h.2));
-  ended = λ v e. let c = seen_cases f end v e in (c.0, ra.ended c.0 c.1, c.2);
-}
+      taken = λ b u v h. let k = ra.taken b u h.0 h.1 in
+          (into k.0, rw k.1 refl, (rest_into k.0 u v).0 (h.0, k.2, h.2));
+      gives = λ b u v t n h. let c = seen_cases into (next b) t n in
+          let k = (rest_into c.0 u v).1 (subst (λ y. RestT y u v) c.2 h) in
+          (k.0, ra.gives b u k.0 c.0 c.1 k.1, k.2);
+      good = λ b t n. let c = seen_cases into (next b) t n in
+          subst GoodT (sym c.2) (good_into c.0 (ra.good b c.0 c.1));
+      ends = λ v h. rw (ra.ends h.0 h.1) (ap Some (sym h.2));
+      ended = λ v e. let c = seen_cases f end v e in (c.0, ra.ended c.0 c.1, c.2);
+    }
 
 pub reads_either : {S V : Type 0} {Good : S → Type 0} {Rest : S → List ℕ → V → Type 0} {A B : List ℕ
     → V → Type 0} {nextA nextB : ℕ → Option S} {endA endB : Option V}
@@ -150,16 +150,16 @@ pub reads_either : {S V : Type 0} {Good : S → Type 0} {Rest : S → List ℕ �
     → Reads S V Good Rest (Either A B) (λ b. otherwise (nextA b) (nextB b)) (otherwise endA endB)
 reads_either {S = S} {V = V} {Rest = Rest} {A = A} {B = B} {nextA = nextA} {nextB = nextB}
     {endA = endA} {endB = endB} ra rb apart apart_ends = record {
-  taken = λ b u v. ⊎_elim (left b u v) (right b u v);
-  gives = λ b u v s n h. ⊎_elim (λ e. inl (ra.gives b u v s e h))
-      (λ e. inr (rb.gives b u v s e.1 h)) (otherwise_cases (nextA b) (nextB b) s n);
-  good = λ b s n. ⊎_elim (λ e. ra.good b s e) (λ e. rb.good b s e.1)
-      (otherwise_cases (nextA b) (nextB b) s n);
-  ends = λ v. ⊎_elim (λ h. rw (ra.ends v h) refl) (λ h. let e = rb.ends v h in
-      rw (is_none endA (λ w k. apart_ends w v k e), e) refl);
-  ended = λ v e. ⊎_elim (λ k. inl (ra.ended v k)) (λ k. inr (rb.ended v k.1))
-      (otherwise_cases endA endB v e);
-}
+      taken = λ b u v. ⊎_elim (left b u v) (right b u v);
+      gives = λ b u v s n h. ⊎_elim (λ e. inl (ra.gives b u v s e h))
+          (λ e. inr (rb.gives b u v s e.1 h)) (otherwise_cases (nextA b) (nextB b) s n);
+      good = λ b s n. ⊎_elim (λ e. ra.good b s e) (λ e. rb.good b s e.1)
+          (otherwise_cases (nextA b) (nextB b) s n);
+      ends = λ v. ⊎_elim (λ h. rw (ra.ends v h) refl) (λ h. let e = rb.ends v h in
+          rw (is_none endA (λ w k. apart_ends w v k e), e) refl);
+      ended = λ v e. ⊎_elim (λ k. inl (ra.ended v k)) (λ k. inr (rb.ended v k.1))
+          (otherwise_cases endA endB v e);
+    }
   where
     left : (b : ℕ) (u : List ℕ) (v : V) → A (b ∷ u) v
         → (s : S) × (otherwise (nextA b) (nextB b) ≡ Some s) × Rest s u v
@@ -209,17 +209,17 @@ pub reads_past : {S V : Type 0} {Good : S → Type 0} {Rest : S → List ℕ →
     → Reads S V Good Rest (Past p A) (λ b. otherwise (allow (p b) s) (next b)) end
 reads_past {S = S} {V = V} {Good = Good} {Rest = Rest} p s {A = A} {next = next} {end = end} g same
     apart ra = record {
-  taken = λ b u v h. first b u v h.0 h.1 h.2 h.3 h.4;
-  gives = λ b u v t n h. ⊎_elim
-      (λ e. let k = allow_cases (p b) s t e in
-      past_more p A b u v k.0 ((same u v).1 (subst (λ y. Rest y u v) k.1 h)))
-      (λ e. ([], b ∷ u, refl, tt, ra.gives b u v t e.1 h))
-      (otherwise_cases (allow (p b) s) (next b) t n);
-  good = λ b t n. ⊎_elim (λ e. subst Good (sym (allow_cases (p b) s t e).1) g)
-      (λ e. ra.good b t e.1) (otherwise_cases (allow (p b) s) (next b) t n);
-  ends = λ v h. last v h.0 h.1 h.2 h.3 h.4;
-  ended = λ v e. ([], [], refl, tt, ra.ended v e);
-}
+      taken = λ b u v h. first b u v h.0 h.1 h.2 h.3 h.4;
+      gives = λ b u v t n h. ⊎_elim
+          (λ e. let k = allow_cases (p b) s t e in
+          past_more p A b u v k.0 ((same u v).1 (subst (λ y. Rest y u v) k.1 h)))
+          (λ e. ([], b ∷ u, refl, tt, ra.gives b u v t e.1 h))
+          (otherwise_cases (allow (p b) s) (next b) t n);
+      good = λ b t n. ⊎_elim (λ e. subst Good (sym (allow_cases (p b) s t e).1) g)
+          (λ e. ra.good b t e.1) (otherwise_cases (allow (p b) s) (next b) t n);
+      ends = λ v h. last v h.0 h.1 h.2 h.3 h.4;
+      ended = λ v e. ([], [], refl, tt, ra.ended v e);
+    }
   where
     first : (b : ℕ) (u : List ℕ) (v : V) (front back : List ℕ) → b ∷ u ≡ front ++ back
         → Every p front → A back v
@@ -268,15 +268,15 @@ pub reads_first : {S T X V : Type 0} {GoodS : S → Type 0} {GoodT : T → Type 
     → Reads T V GoodT RestT (Then A B) (λ b. seen into (next b)) None
 reads_first {T = T} {X = X} {V = V} {GoodT = GoodT} {RestT = RestT} into {A = A} {B = B}
     {next = next} good_into rest_into ra = record {
-  taken = λ b u v h. first b u v h.0 h.1 h.2 h.3 h.4 h.5;
-  gives = λ b u v t n h. let c = seen_cases into (next b) t n in
-      let k = (rest_into c.0 u v).1 (subst (λ y. RestT y u v) c.2 h) in
-      (k.0, b ∷ k.1, k.2, ap (λ y. b ∷ y) k.3, ra.gives b k.1 k.0 c.0 c.1 k.4, k.5);
-  good = λ b t n. let c = seen_cases into (next b) t n in
-      subst GoodT (sym c.2) (good_into c.0 (ra.good b c.0 c.1));
-  ends = λ v h. last v h.0 h.1 h.2 h.3 h.4;
-  ended = λ v e. absurd cc;
-}
+      taken = λ b u v h. first b u v h.0 h.1 h.2 h.3 h.4 h.5;
+      gives = λ b u v t n h. let c = seen_cases into (next b) t n in
+          let k = (rest_into c.0 u v).1 (subst (λ y. RestT y u v) c.2 h) in
+          (k.0, b ∷ k.1, k.2, ap (λ y. b ∷ y) k.3, ra.gives b k.1 k.0 c.0 c.1 k.4, k.5);
+      good = λ b t n. let c = seen_cases into (next b) t n in
+          subst GoodT (sym c.2) (good_into c.0 (ra.good b c.0 c.1));
+      ends = λ v h. last v h.0 h.1 h.2 h.3 h.4;
+      ended = λ v e. absurd cc;
+    }
   where
     first : (b : ℕ) (u : List ℕ) (v : V) (x : X) (front back : List ℕ) → b ∷ u ≡ front ++ back
         → A front x → B x back v → (t : T) × (seen into (next b) ≡ Some t) × RestT t u v

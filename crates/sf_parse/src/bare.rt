@@ -64,8 +64,7 @@ impl BareState {
 
     /// Takes one more byte, or tells that the bare item can't go on with it and stays as it is.
     pub fn step(&mut self, byte: u8) -> Result<bool, OutOfMemory>
-        ensures step { IfOk result (λ took. Steps took (bare_step self.old byte) self.old self.new)
-            }
+        ensures step { IfOk result (λ took. Steps took (bare_step self.old byte) self.old self.new) }
         ensures plain { PlainBare self.old → IsOk result }
     {
         match self {

@@ -107,8 +107,7 @@ fn make_command<'a>(alloc: Global) -> Result<Command<'a>, AllocError>
 
 /// A command that takes a kind, and a dialect.
 fn with_kind<'a>(alloc: Global, name: &'a str) -> Result<Command<'a>, AllocError>
-    ensures { IfOk result (λ c. app_of c ≡ record { top = kind_command name.entry.now; subs = [] })
-        }
+    ensures { IfOk result (λ c. app_of c ≡ record { top = kind_command name.entry.now; subs = [] }) }
 {
     let kind = Arg::new(alloc, "kind").long("kind").required(true);
     let dialect = Arg::new(alloc, "dialect")
@@ -119,8 +118,7 @@ fn with_kind<'a>(alloc: Global, name: &'a str) -> Result<Command<'a>, AllocError
 
 /// A command that takes one name or more.
 fn with_names<'a>(alloc: Global, name: &'a str) -> Result<Command<'a>, AllocError>
-    ensures { IfOk result (λ c. app_of c ≡ record { top = names_command name.entry.now; subs = [] })
-        }
+    ensures { IfOk result (λ c. app_of c ≡ record { top = names_command name.entry.now; subs = [] }) }
 {
     let names = Arg::new(alloc, "name")
         .required(true)

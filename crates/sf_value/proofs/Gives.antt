@@ -5,8 +5,11 @@ use Rattle.sf_value.specs.Devices.{SourceState, Gave, GivesOnce}
 
 -- no read
 pub gave_none : (s : SourceState) → Gave s s []
-gave_none s = record { consumed = Consumes-nil s.to_come; given = λ _. omega arith; failures = refl
-    }
+gave_none s = record {
+  consumed = Consumes-nil s.to_come;
+  given = λ _. omega arith;
+  failures = refl;
+}
 
 -- one read more
 pub gave_more : (a b c : SourceState) (xs ys : List ℕ) → Gave a b xs → GivesOnce b c ys

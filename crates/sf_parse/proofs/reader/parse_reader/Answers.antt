@@ -38,7 +38,7 @@ loop-given-preserved g c =
     let here = take-append-le n block (drop c.min-room.result c.loop-given.block) c.in-Ok.ensures.0
     in (
       reads_more _ _ _ c.args.kind c.args.max c.loop-given.given n _ _ piece
-      c.loop-given.invariant.0
+          c.loop-given.invariant.0
           c.in-Ok.ensures.1 size (rw here at c.in_ok-feed-in-Ok.ensures.fed),
       search rules,
     )
