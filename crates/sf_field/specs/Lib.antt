@@ -5,3 +5,4 @@ pub mod Normal
 pub mod Laws
 pub mod Meaning
 pub mod Asking
+pub mod Faults

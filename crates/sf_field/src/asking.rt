@@ -1,4 +1,5 @@
 //! What field lines mean to a consumer.
+ghost use Rattle.sf_field.specs.Faults.{ask_fault_text};
 ghost use Rattle.sf_field.specs.Asking.{Asks, MeansAsCanonical};
 
 use crate::consumer::{Consumer, UseFault};
@@ -20,6 +21,8 @@ pub enum AskFault {
 }
 
 impl fmt::Display for AskFault {
+    ghost output = { ask_fault_text };
+
     fn fmt<W: fmt::Write>(&self, f: &mut fmt::Formatter<W>) -> fmt::Result {
         match self {
             AskFault::Field(refusal) => write!(f, "{refusal}"),

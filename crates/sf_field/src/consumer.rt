@@ -1,8 +1,9 @@
 //! What reads a field: consumers, each with its meaning.
-ghost use Rattle.std.specs.Prelude.{◌≡◌, ℕ, Result};
+ghost use Rattle.std.specs.Prelude.{◌≡◌, ℕ, Result, Some};
 ghost use Rattle.sf_value.specs.declared.value.Field.{Field};
 ghost use Rattle.sf_value.specs.declared.value.Kind.{Kind};
 ghost use Rattle.sf_value.specs.Grammar.Fields.{kind_of};
+ghost use Rattle.sf_field.specs.Faults.{use_fault_text};
 ghost use Rattle.sf_field.specs.Meaning.{Gives};
 
 use sf_value::{Field, Kind};
@@ -24,6 +25,8 @@ pub enum UseFault {
 }
 
 impl fmt::Display for UseFault {
+    ghost output = { λ fault. Some (use_fault_text fault) };
+
     fn fmt<W: fmt::Write>(&self, f: &mut fmt::Formatter<W>) -> fmt::Result {
         match self {
             UseFault::NotACache { index } => write!(f, "member {index} names no cache"),

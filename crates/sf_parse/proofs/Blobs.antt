@@ -12,47 +12,10 @@ use Rattle.sf_parse.specs.Machine.Blobs.{lacking, BlobState, Group, Padded, Ende
 use Rattle.sf_parse.specs.Machine.Blobs.{GoodBlob, grown, pad_step, grow_step, blob_step}
 use Rattle.sf_parse.specs.Machine.Blobs.{blob_finish}
 use Rattle.sf_value.proofs.Words.{allow_cases, otherwise_cases}
-use Rattle.sf_parse.proofs.Letters.{letter_formula, letter_is}
-
-formula_read : (x : ℕ) → x < 64 → sextet (letter_formula x) ≡ Some x
-formula_read x h = grind arith
-
-letter_read : (x : ℕ) → x < 64 → sextet (letter x) ≡ Some x
-letter_read x h = rw (letter_is x h) (formula_read x h)
-
--- the five ranges of characters
-Ranges : ℕ → ℕ → Type 0
-Ranges b x = ((65 ≤ b) × (b ≤ 90)
-    × (x + 65 ≡ b)) ⊎ (((97 ≤ b) × (b ≤ 122)
-    × (x + 71 ≡ b)) ⊎ (((48 ≤ b) × (b ≤ 57)
-    × (x ≡ b + 4)) ⊎ (((b ≡ 43) × (x ≡ 62)) ⊎ ((b ≡ 47) × (x ≡ 63)))))
-
-read_ranges : (b x : ℕ) → sextet b ≡ Some x → Ranges b x
-unfolding Ranges
-read_ranges b x e = grind arith
-
-read_small : (b x : ℕ) → Ranges b x → x < 64
-unfolding Ranges
-read_small b x r = grind arith
-
-formula_back : (b x : ℕ) → Ranges b x → letter_formula x ≡ b
-unfolding Ranges
-formula_back b x r = grind arith
-
-read_back : (b x : ℕ) → Ranges b x → letter x ≡ b
-unfolding Ranges
-read_back b x r = rw (letter_is x (read_small b x r)) (formula_back b x r)
-
-read_letter : (b x : ℕ) → sextet b ≡ Some x → (letter x ≡ b) × (x < 64)
-read_letter b x e = let r = read_ranges b x e in (read_back b x r, read_small b x r)
-
-letter_same : (x y : ℕ) → x < 64 → y < 64 → letter x ≡ letter y → x ≡ y
-letter_same x y h k e = let a = letter_read x h in let b = letter_read y k in
-    let c : sextet (letter x) ≡ sextet (letter y) = ap sextet e in cc
-
-not_letter : (x b : ℕ) → x < 64 → letter x ≡ b → sextet b ≡ None → ⊥
-not_letter x b h e n = let a = letter_read x h in
-    let c : sextet (letter x) ≡ sextet b = ap sextet e in cc
+use Rattle.sf_parse.proofs.Quads.{letter_read, read_letter, letter_same, not_letter, byte_small}
+use Rattle.sf_parse.proofs.Quads.{small_byte, pads_letter, first_small, second_small, third_small}
+use Rattle.sf_parse.proofs.Quads.{fourth_small, alone_small, last_small, one_byte, two_bytes}
+use Rattle.sf_parse.proofs.Quads.{three_bytes, quad, quad_from, quad_gives}
 
 -- the end
 pads_taken : (bytes : List ℕ) (n b : ℕ) (u v : List ℕ) → Pads n (b ∷ u) → v ≡ bytes
@@ -94,50 +57,9 @@ pads_gives bytes n b u v s e h = ⊎_elim
     room : (m n : ℕ) → m ≤ n - 1 → 0 < n → suc m ≤ n
     room m n h k = omega arith
 
-pub byte_small : (a : ℕ) → is_byte a ≡ true → a < 256
-byte_small a e = grind arith
-
-pub small_byte : (a : ℕ) → a < 256 → is_byte a ≡ true
-small_byte a e = grind arith
-
-pads_letter : (n x : ℕ) (t : List ℕ) → x < 64 → Pads n (letter x ∷ t) → ⊥
-pads_letter n x t h (zero, k, e) = not_letter x 58 h (let e' : letter x ≡ 58 = cc in e') refl
-pads_letter n x t h (suc m, k, e) = not_letter x 61 h (let e' : letter x ≡ 61 = cc in e') refl
-
--- the parts of three bytes
-first_small : (a : ℕ) → a < 256 → a / 4 < 64
-first_small a h = omega arith
-
-second_small : (a b : ℕ) → b < 256 → a % 4 * 16 + b / 16 < 64
-second_small a b h = omega arith
-
-third_small : (b c : ℕ) → c < 256 → b % 16 * 4 + c / 64 < 64
-third_small b c h = omega arith
-
-fourth_small : (c : ℕ) → c % 64 < 64
-fourth_small c = omega arith
-
-alone_small : (a low : ℕ) → low < 16 → a % 4 * 16 + low < 64
-alone_small a low h = omega arith
-
-last_small : (b low : ℕ) → low < 4 → b % 16 * 4 + low < 64
-last_small b low h = omega arith
-
 -- What stands in a group when no further letter comes
 IsLast : Held → List ℕ → List ℕ → Type 0
 IsLast h s t = (is_last h ≡ true) × (s ≡ last_bytes h) × Pads (lacking h) t
-
-one_byte : (a low x y : ℕ) → low < 16 → a / 4 ≡ x → a % 4 * 16 + low ≡ y → a ≡ x * 4 + y / 16
-one_byte a low x y l e d = omega arith
-
-two_bytes : (a b low x y z : ℕ) → low < 4 → b < 256 → a / 4 ≡ x → a % 4 * 16 + b / 16 ≡ y
-    → b % 16 * 4 + low ≡ z → (a ≡ x * 4 + y / 16) × (b ≡ y % 16 * 16 + z / 4)
-two_bytes a b low x y z l h e d c = (omega arith, omega arith)
-
-three_bytes : (a b c x y z w : ℕ) → b < 256 → c < 256 → a / 4 ≡ x → a % 4 * 16 + b / 16 ≡ y
-    → b % 16 * 4 + c / 64 ≡ z → c % 64 ≡ w
-    → (a ≡ x * 4 + y / 16) × (b ≡ y % 16 * 16 + z / 4) × (c ≡ z % 4 * 64 + w)
-three_bytes a b c x y z w h k e d f g = (omega arith, omega arith, omega arith)
 
 -- no letter: the group is the last one
 last : (h : Held) (b : ℕ) (u s : List ℕ) → GoodBlob (Group [] h) → sextet b ≡ None
@@ -293,85 +215,6 @@ last (H3 x y z) b u (a ∷ c ∷ d ∷ s) g n (
   p,
 ) = absurd (not_letter (d % 64) b (fourth_small d) (let e' : letter (d % 64) ≡ b = cc in
     e') n)
-
--- four letters: three bytes, and what follows
-quad : ℕ → ℕ → ℕ → ℕ → List ℕ
-quad x y z w = (x * 4 + y / 16) ∷ (y % 16 * 16 + z / 4) ∷ (z % 4 * 64 + w) ∷ []
-
-quad_from : (x y z w : ℕ) (u s : List ℕ) → x < 64 → y < 64 → z < 64 → w < 64
-    → Sextets (letter x ∷ letter y ∷ letter z ∷ letter w ∷ u) s
-    → (r : List ℕ) × Sextets u r × (s ≡ quad x y z w ++ r)
-unfolding quad
-quad_from x y z w u [] gx gy gz gw (
-  low,
-  back,
-  lt,
-  e,
-  f,
-  p,
-) = absurd (pads_letter 0 x (letter y ∷ letter z ∷ letter w ∷ u) gx (subst (Pads 0) (sym e) p))
-quad_from x y z w u (a ∷ []) gx gy gz gw (
-  low,
-  back,
-  lt,
-  e,
-  f,
-  p,
-) = absurd (pads_letter 2 z (letter w ∷ u) gz (subst (Pads 2) (let e' : back
-    ≡ letter z ∷ letter w ∷ u = cc in
-    e') p))
-quad_from x y z w u (a ∷ c ∷ []) gx gy gz gw (
-  low,
-  back,
-  lt,
-  e,
-  f,
-  p,
-) = absurd (pads_letter 1 w u gw (subst (Pads 1) (let e' : back ≡ letter w ∷ u = cc in
-    e') p))
-quad_from x y z w u (a ∷ c ∷ d ∷ s) gx gy gz gw (low, back, lt, e, f, p) =
-    let e1 : letter (a / 4) ≡ letter x = cc in
-    let e2 : letter (a % 4 * 16 + c / 16) ≡ letter y = cc in
-    let e3 : letter (c % 16 * 4 + d / 64) ≡ letter z = cc in
-    let e4 : letter (d % 64) ≡ letter w = cc in
-    let e5 : u ≡ unpadded low s ++ back = cc in
-    let fc = byte_small c f.1.0 in
-    let fd = byte_small d f.1.1.0 in
-    let k = three_bytes a c d x y z w fc fd
-    (letter_same (a / 4) x (first_small a (byte_small a f.0)) gx e1)
-    (letter_same (a % 4 * 16 + c / 16) y (second_small a c fc) gy e2)
-    (letter_same (c % 16 * 4 + d / 64) z (third_small c d fd) gz e3)
-    (letter_same (d % 64) w (fourth_small d) gw e4) in
-    (s, (low, back, lt, e5, f.1.1.1, p), go k.0 k.1 k.2)
-  where
-    go : a ≡ x * 4 + y / 16 → c ≡ y % 16 * 16 + z / 4 → d ≡ z % 4 * 64 + w
-        → a ∷ c ∷ d ∷ s ≡ (x * 4 + y / 16) ∷ (y % 16 * 16 + z / 4) ∷ (z % 4 * 64 + w) ∷ s
-    go p q r = ap₂ (λ p q. p ∷ q) p (ap₂ (λ p q. p ∷ q) q (ap (λ p. p ∷ s) r))
-
-quad_digits : (x y z w : ℕ) → x < 64 → y < 64 → z < 64 → w < 64
-    → ((x * 4 + y / 16) / 4 ≡ x) × ((x * 4 + y / 16) % 4 * 16 + (y % 16 * 16 + z / 4) / 16 ≡ y)
-    × ((y % 16 * 16 + z / 4) % 16 * 4 + (z % 4 * 64 + w) / 64 ≡ z) × ((z % 4 * 64 + w) % 64 ≡ w)
-quad_digits x y z w gx gy gz gw = (omega arith, omega arith, omega arith, omega arith)
-
-quad_bytes : (x y z w : ℕ) → x < 64 → y < 64 → z < 64 → w < 64
-    → (x * 4 + y / 16 < 256) × (y % 16 * 16 + z / 4 < 256) × (z % 4 * 64 + w < 256)
-quad_bytes x y z w gx gy gz gw = (omega arith, omega arith, omega arith)
-
-quad_gives : (x y z w : ℕ) (u r : List ℕ) → x < 64 → y < 64 → z < 64 → w < 64 → Sextets u r
-    → Sextets (letter x ∷ letter y ∷ letter z ∷ letter w ∷ u) (quad x y z w ++ r)
-unfolding quad
-quad_gives x y z w u r gx gy gz gw (low, back, lt, e, f, p) =
-    let k = quad_digits x y z w gx gy gz gw in
-    let b = quad_bytes x y z w gx gy gz gw in (
-      low,
-      back,
-      lt,
-      ap₂ (λ p q. letter p ∷ q) (sym k.0)
-          (ap₂ (λ p q. letter p ∷ q) (sym k.1)
-          (ap₂ (λ p q. letter p ∷ q) (sym k.2) (ap₂ (λ p q. letter p ∷ q) (sym k.3) e))),
-      (small_byte _ b.0, (small_byte _ b.1, (small_byte _ b.2, f))),
-      p,
-    )
 
 group_taken : (bytes : List ℕ) (h : Held) (b : ℕ) (u v : List ℕ) → GoodBlob (Group [] h)
     → RestBlob (Group bytes h) (b ∷ u) v

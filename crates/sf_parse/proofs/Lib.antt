@@ -8,7 +8,9 @@ pub mod Classes
 pub mod Machines
 pub mod Numbers
 pub mod Texts
+pub mod Quads
 pub mod Blobs
+pub mod HighDigits
 pub mod Showns
 pub mod Bares
 pub mod Params

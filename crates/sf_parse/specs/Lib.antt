@@ -15,3 +15,4 @@ pub mod EntryView
 pub mod ListView
 pub mod DictView
 pub mod StateView
+pub mod RefusalTexts

@@ -1,4 +1,6 @@
 //! Why a text is refused.
+ghost use Rattle.sf_parse.specs.RefusalTexts.{refusal_text};
+
 use std::error::Error;
 use std::fmt;
 
@@ -68,6 +70,8 @@ fn write_expected<W: fmt::Write>(
 /// digits,
 /// runs of them as `30-39`, places and lengths in decimal.
 impl fmt::Display for Refusal {
+    ghost output = { refusal_text };
+
     fn fmt<W: fmt::Write>(&self, f: &mut fmt::Formatter<W>) -> fmt::Result {
         match *self {
             Refusal::OutOfMemory => write!(f, "out of memory"),

@@ -3,12 +3,12 @@ use crate::expecting::{expect_no_need, expect_refusals, seen_if};
 use http_header::{HeaderMap, HeaderName, HeaderValue};
 use sf_field::{AskFault, Consumer, UseFault, ask};
 use sf_parse::{Refusal, parse_text};
-use sf_scarce::{Seen, refusals};
+use sf_scarce::{Seen, refusals, seen_without_memory};
 use sf_use::{
     Asked, CachePath, CacheStatus, Choice, Directives, Forward, Hop, HopStatus, Name, Outcome,
     Passed, Policy, Priority, PriorityField, Urgency, append_hop, merge, priority_field, select,
 };
-use sf_value::{Blob, Dict, Field, Kind, OutOfMemory, Token, same};
+use sf_value::{Blob, Field, Kind, OutOfMemory, Token, same};
 use std::alloc::Global;
 use std::hash::RandomState;
 use std::test::Fail;
@@ -22,21 +22,6 @@ const URGENT: &[u8] = b"u=1, i";
 
 /// The second member and the last name no cache.
 const NAMELESS: &[u8] = b"a;key=\"k\", (b), 7";
-
-// What is there before memory is taken.
-#[derive(Drop)]
-struct Ready {
-    hops: Vec<Blob>,
-    directives: Vec<Blob>,
-    urgent: Vec<Blob>,
-    list: Field,
-    policy: Field,
-    dict: Field,
-    nameless: Field,
-    path: CachePath,
-    targets: Vec<HeaderName>,
-    headers: HeaderMap,
-}
 
 fn line(alloc: Global, text: &[u8]) -> Result<Vec<Blob>, Fail> {
     let mut lines = Vec::new(alloc);
@@ -53,26 +38,6 @@ fn headers(alloc: Global) -> Result<HeaderMap, Fail> {
         )?;
     }
     Ok(headers)
-}
-
-fn prepare(alloc: Global, seed: &RandomState) -> Result<Ready, Fail> {
-    let hops = line(alloc, HOPS)?;
-    let path = ask(alloc, seed, &CacheStatus, hops.as_slice())?;
-    let mut targets = Vec::new(alloc);
-    targets.push(HeaderName::from_static("a"))?;
-    targets.push(HeaderName::from_static("b"))?;
-    Ok(Ready {
-        hops,
-        directives: line(alloc, DIRECTIVES)?,
-        urgent: line(alloc, URGENT)?,
-        list: parse_text(alloc, seed, Kind::List, HOPS)?,
-        policy: parse_text(alloc, seed, Kind::Dict, DIRECTIVES)?,
-        dict: parse_text(alloc, seed, Kind::Dict, URGENT)?,
-        nameless: parse_text(alloc, seed, Kind::List, NAMELESS)?,
-        path,
-        targets,
-        headers: headers(alloc)?,
-    })
 }
 
 fn is_text(name: &Name, bytes: &[u8]) -> bool {
@@ -141,22 +106,22 @@ fn seen_fault(fault: AskFault) -> Seen {
     }
 }
 
-fn ask_hops(alloc: Global, seed: &RandomState, ready: &Ready) -> Seen {
-    match ask(alloc, seed, &CacheStatus, ready.hops.as_slice()) {
+fn ask_hops(alloc: Global, seed: &RandomState, lines: &[Blob]) -> Seen {
+    match ask(alloc, seed, &CacheStatus, lines) {
         Ok(path) => seen_if(is_path(&path)),
         Err(fault) => seen_fault(fault),
     }
 }
 
-fn ask_directives(alloc: Global, seed: &RandomState, ready: &Ready) -> Seen {
-    match ask(alloc, seed, &Directives, ready.directives.as_slice()) {
+fn ask_directives(alloc: Global, seed: &RandomState, lines: &[Blob]) -> Seen {
+    match ask(alloc, seed, &Directives, lines) {
         Ok(policy) => seen_if(is_policy(&policy)),
         Err(fault) => seen_fault(fault),
     }
 }
 
-fn ask_priority(alloc: Global, seed: &RandomState, ready: &Ready) -> Seen {
-    match ask(alloc, seed, &PriorityField, ready.urgent.as_slice()) {
+fn ask_priority(alloc: Global, seed: &RandomState, lines: &[Blob]) -> Seen {
+    match ask(alloc, seed, &PriorityField, lines) {
         Ok(asked) => seen_if(is_urgent(asked)),
         Err(fault) => seen_fault(fault),
     }
@@ -172,19 +137,7 @@ fn answer_hops(alloc: Global, field: &Field) -> Seen {
     }
 }
 
-// The field of the first target alone is right: want of memory is not absence.
-fn choose(alloc: Global, seed: &RandomState, ready: &Ready) -> Seen {
-    let policy = Policy {
-        max_age: Some(60),
-        ..Policy::default()
-    };
-    match select(alloc, seed, ready.targets.as_slice(), &ready.headers) {
-        Ok(choice) => seen_if(choice == Choice::Field { index: 0, policy }),
-        Err(OutOfMemory) => Seen::Refused,
-    }
-}
-
-fn write_priority(alloc: Global, seed: &RandomState, ready: &Ready) -> Seen {
+fn write_priority(alloc: Global, seed: &RandomState, want: &Field) -> Seen {
     let Ok(urgency) = Urgency::new(1) else {
         return Seen::Wrong;
     };
@@ -193,7 +146,7 @@ fn write_priority(alloc: Global, seed: &RandomState, ready: &Ready) -> Seen {
         incremental: true,
     };
     match priority_field(alloc, seed, priority) {
-        Ok(dict) => seen_if(same(&Field::Dict(dict), &ready.dict)),
+        Ok(dict) => seen_if(same(&Field::Dict(dict), want)),
         Err(OutOfMemory) => Seen::Refused,
     }
 }
@@ -205,36 +158,64 @@ enum Call {
     AskDirectives,
     AskPriority,
     AnswerHops,
-    Choose,
     WritePriority,
 }
 
-fn made(alloc: Global, seed: &RandomState, ready: &Ready, call: Call) -> Seen {
+// Makes a call on the lines of a field, or on the field.
+fn made(alloc: Global, seed: &RandomState, call: Call, lines: &[Blob], field: &Field) -> Seen {
     match call {
-        Call::AskHops => ask_hops(alloc, seed, ready),
-        Call::AskDirectives => ask_directives(alloc, seed, ready),
-        Call::AskPriority => ask_priority(alloc, seed, ready),
-        Call::AnswerHops => answer_hops(alloc, &ready.list),
-        Call::Choose => choose(alloc, seed, ready),
-        Call::WritePriority => write_priority(alloc, seed, ready),
+        Call::AskHops => ask_hops(alloc, seed, lines),
+        Call::AskDirectives => ask_directives(alloc, seed, lines),
+        Call::AskPriority => ask_priority(alloc, seed, lines),
+        Call::AnswerHops => answer_hops(alloc, field),
+        Call::WritePriority => write_priority(alloc, seed, field),
     }
+}
+
+fn call_refusals(
+    alloc: Global,
+    seed: &RandomState,
+    call: Call,
+    kind: Kind,
+    text: &[u8],
+) -> Result<Option<usize>, Fail> {
+    let lines = line(alloc, text)?;
+    let field = parse_text(alloc, seed, kind, text)?;
+    Ok(refusals(alloc, || made(alloc, seed, call, lines.as_slice(), &field)))
 }
 
 #[test]
 fn answers(rt: HostRuntime) -> Result<(), Fail> {
+    let seed = RandomState::new(&rt)?;
+    for (call, kind, text) in [
+        (Call::AskHops, Kind::List, HOPS),
+        (Call::AskDirectives, Kind::Dict, DIRECTIVES),
+        (Call::AskPriority, Kind::Dict, URGENT),
+        (Call::AnswerHops, Kind::List, HOPS),
+        (Call::WritePriority, Kind::Dict, URGENT),
+    ] {
+        let found = call_refusals(rt.alloc(), &seed, call, kind, text)?;
+        assert!(rt; found > Some(0), "{found:?}");
+    }
+    Ok(())
+}
+
+// The field of the first target alone is right: want of memory is not absence.
+fn choose(alloc: Global, seed: &RandomState, targets: &[HeaderName], headers: &HeaderMap) -> Seen {
+    match select(alloc, seed, targets, headers) {
+        Ok(Choice::Field { index, policy }) => { seen_if(index == 0 && policy.max_age == Some(60)) }
+        Ok(Choice::Fallback) => Seen::Wrong,
+        Err(OutOfMemory) => Seen::Refused,
+    }
+}
+
+#[test]
+fn chooses(rt: HostRuntime) -> Result<(), Fail> {
     let alloc = rt.alloc();
     let seed = RandomState::new(&rt)?;
-    let ready = prepare(alloc, &seed)?;
-    for call in [
-        Call::AskHops,
-        Call::AskDirectives,
-        Call::AskPriority,
-        Call::AnswerHops,
-        Call::Choose,
-        Call::WritePriority,
-    ] {
-        expect_refusals(&rt, || made(alloc, &seed, &ready, call));
-    }
+    let headers = headers(alloc)?;
+    let targets = [HeaderName::from_static("a"), HeaderName::from_static("b")];
+    expect_refusals(&rt, || choose(alloc, &seed, &targets, &headers));
     Ok(())
 }
 
@@ -277,23 +258,46 @@ fn makes_numbers() -> bool {
         && Urgency::new(8).is_err()
 }
 
-fn answer_without(alloc: Global, ready: &Ready) -> Seen {
-    seen_if(
-        answers_directives(alloc, &ready.policy)
-            && answers_priority(alloc, &ready.dict)
-            && is_no_cache(alloc, &ready.nameless)
-            && is_path(&ready.path)
-            && ready.path.served_by() == Some(0)
-            && makes_numbers(),
-    )
+// Calls that take no memory, by the field that they are made on.
+fn answers_field(alloc: Global, field: &Field) -> bool {
+    match field {
+        Field::List(_) => is_no_cache(alloc, field),
+        _ => answers_directives(alloc, field) || answers_priority(alloc, field),
+    }
+}
+
+fn seen_answer_without_memory(
+    alloc: Global,
+    seed: &RandomState,
+    kind: Kind,
+    text: &[u8],
+) -> Result<Option<Seen>, Fail> {
+    let field = parse_text(alloc, seed, kind, text)?;
+    Ok(seen_without_memory(alloc, || seen_if(answers_field(alloc, &field))))
 }
 
 #[test]
 fn answers_that_take_none(rt: HostRuntime) -> Result<(), Fail> {
+    let seed = RandomState::new(&rt)?;
+    for (kind, text) in [
+        (Kind::List, NAMELESS),
+        (Kind::Dict, DIRECTIVES),
+        (Kind::Dict, URGENT),
+    ] {
+        let seen = seen_answer_without_memory(rt.alloc(), &seed, kind, text)?;
+        assert_eq!(rt; seen, Some(Seen::Right));
+    }
+    Ok(())
+}
+
+#[test]
+fn paths_and_numbers_take_none(rt: HostRuntime) -> Result<(), Fail> {
     let alloc = rt.alloc();
     let seed = RandomState::new(&rt)?;
-    let ready = prepare(alloc, &seed)?;
-    expect_no_need(&rt, || answer_without(alloc, &ready));
+    let path = ask(alloc, &seed, &CacheStatus, line(alloc, HOPS)?.as_slice())?;
+    expect_no_need(&rt, || {
+        seen_if(is_path(&path) && path.served_by() == Some(0) && makes_numbers())
+    });
     Ok(())
 }
 
@@ -312,15 +316,26 @@ fn edge(alloc: Global) -> Result<Hop, Fail> {
     })
 }
 
-// Adds the hop to the last List; one that a refusal left as it was is to be used again.
+fn lists_of(alloc: Global, seed: &RandomState, texts: [&[u8]; 2]) -> Result<Vec<Field>, Fail> {
+    let mut lists = Vec::with_capacity(alloc, 2)?;
+    for text in texts {
+        lists.push(parse_text(alloc, seed, Kind::List, text)?)?;
+    }
+    Ok(lists)
+}
+
+// Adds the hop to the last List; one that a refusal left as it was is to be used again. Wanted is
+// the List without the hop, and the one with it.
 fn appended(
     alloc: Global,
     seed: &RandomState,
     lists: &mut Vec<Field>,
     hop: &Hop,
-    before: &Field,
-    after: &Field,
+    wanted: &[Field],
 ) -> Seen {
+    let (Some(before), Some(after)) = (wanted.first(), wanted.last()) else {
+        return Seen::Wrong;
+    };
     let Some(Field::List(mut list)) = lists.pop() else {
         return Seen::Wrong;
     };
@@ -338,21 +353,18 @@ fn appended(
     }
 }
 
-// One List for the call with ample memory, and one for those with little.
+// One List is for the call with ample memory, and one for those with little.
 fn append_refusals(
     alloc: Global,
     seed: &RandomState,
+    hop: &Hop,
     before: &[u8],
     after: &[u8],
 ) -> Result<Option<usize>, Fail> {
-    let hop = edge(alloc)?;
-    let after = parse_text(alloc, seed, Kind::List, after)?;
-    let mut lists = Vec::with_capacity(alloc, 2)?;
-    lists.push(parse_text(alloc, seed, Kind::List, before)?)?;
-    lists.push(parse_text(alloc, seed, Kind::List, before)?)?;
-    let before = parse_text(alloc, seed, Kind::List, before)?;
+    let wanted = lists_of(alloc, seed, [before, after])?;
+    let mut lists = lists_of(alloc, seed, [before, before])?;
     Ok(refusals(alloc, || {
-        appended(alloc, seed, &mut lists, &hop, &before, &after)
+        appended(alloc, seed, &mut lists, hop, wanted.as_slice())
     }))
 }
 
@@ -360,6 +372,7 @@ fn append_refusals(
 #[test]
 fn appends(rt: HostRuntime) -> Result<(), Fail> {
     let seed = RandomState::new(&rt)?;
+    let hop = edge(rt.alloc())?;
     for (before, after) in [
         (
             b"OriginCache;hit;ttl=1100, \"CDN Company Here\";hit;ttl=545".as_slice(),
@@ -370,7 +383,7 @@ fn appends(rt: HostRuntime) -> Result<(), Fail> {
             b"a, b, c, d, edge;fwd=stale;fwd-status=304;stored;detail=x",
         ),
     ] {
-        let found = append_refusals(rt.alloc(), &seed, before, after)?;
+        let found = append_refusals(rt.alloc(), &seed, &hop, before, after)?;
         assert!(rt; found > Some(0), "{found:?}");
     }
     Ok(())

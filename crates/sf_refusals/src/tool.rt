@@ -24,66 +24,88 @@ fn names_of(alloc: Global, words: &[&str]) -> Result<Request, Fail> {
     Ok(Request::Targeted(names))
 }
 
-fn is_request(answer: &Request, want: &Request) -> bool {
-    match (answer, want) {
-        (Request::Show(dialect, kind), Request::Show(dialect_wanted, kind_wanted))
-        | (Request::Check(dialect, kind), Request::Check(dialect_wanted, kind_wanted))
-        | (Request::Normalise(dialect, kind), Request::Normalise(dialect_wanted, kind_wanted)) => {
-            dialect == dialect_wanted && kind == kind_wanted
+// What words are to be read as.
+#[derive(Clone, Copy)]
+enum Want {
+    Show(Dialect, Kind),
+    Check(Dialect, Kind),
+    Normalise(Dialect, Kind),
+    CacheStatus,
+    Targeted(&'static [&'static str]),
+    Priority,
+    Usage,
+}
+
+fn are_names(names: &[HeaderName], want: &[&str]) -> bool {
+    for (name, want) in names.iter().zip(want) {
+        if name.as_str() != *want {
+            return false;
         }
-        (Request::Targeted(names), Request::Targeted(wanted)) => {
-            names.as_slice() == wanted.as_slice()
-        }
-        (Request::CacheStatus, Request::CacheStatus) => true,
-        (Request::Priority, Request::Priority) => true,
-        _ => false,
+    }
+    names.len() == want.len()
+}
+
+fn is_request(request: &Request, want: Want) -> bool {
+    match want {
+        Want::Show(dialect, kind) => match request {
+            Request::Show(d, k) => *d == dialect && *k == kind,
+            _ => false,
+        },
+        Want::Check(dialect, kind) => match request {
+            Request::Check(d, k) => *d == dialect && *k == kind,
+            _ => false,
+        },
+        Want::Normalise(dialect, kind) => match request {
+            Request::Normalise(d, k) => *d == dialect && *k == kind,
+            _ => false,
+        },
+        Want::Targeted(want) => match request {
+            Request::Targeted(names) => are_names(names.as_slice(), want),
+            _ => false,
+        },
+        Want::CacheStatus => matches!(request, Request::CacheStatus),
+        Want::Priority => matches!(request, Request::Priority),
+        Want::Usage => false,
     }
 }
 
-// No request wanted is Usage wanted.
-fn seen_request(alloc: Global, words: &[String], want: Option<&Request>) -> Seen {
-    match (read_request(alloc, words), want) {
-        (Ok(request), Some(want)) => seen_if(is_request(&request, want)),
-        (Err(RequestFault::OutOfMemory), _) => Seen::Refused,
-        (Err(RequestFault::Usage), None) => Seen::Right,
-        _ => Seen::Wrong,
+fn seen_request(alloc: Global, words: &[String], want: Want) -> Seen {
+    match read_request(alloc, words) {
+        Ok(request) => seen_if(is_request(&request, want)),
+        Err(RequestFault::OutOfMemory) => Seen::Refused,
+        Err(RequestFault::Usage) => seen_if(matches!(want, Want::Usage)),
     }
 }
 
-fn request_refusals(
-    alloc: Global,
-    words: &[&str],
-    want: Option<&Request>,
-) -> Result<Option<usize>, Fail> {
+fn request_refusals(alloc: Global, words: &[&str], want: Want) -> Result<Option<usize>, Fail> {
     let words = words_of(alloc, words)?;
     Ok(refusals(alloc, || seen_request(alloc, &words, want)))
 }
 
 #[test]
 fn requests(rt: HostRuntime) -> Result<(), Fail> {
-    let alloc = rt.alloc();
-    let rows: [(&[&str], Request); 6] = [
+    let rows: [(&[&str], Want); 6] = [
         (
             &["sf", "show", "--kind=item"],
-            Request::Show(Dialect::Rfc9651, Kind::Item),
+            Want::Show(Dialect::Rfc9651, Kind::Item),
         ),
         (
             &["sf", "check", "--kind", "list", "--dialect", "rfc9651"],
-            Request::Check(Dialect::Rfc9651, Kind::List),
+            Want::Check(Dialect::Rfc9651, Kind::List),
         ),
         (
             &["sf", "normalise", "--kind", "dict", "--dialect", "rfc8941"],
-            Request::Normalise(Dialect::Rfc8941, Kind::Dict),
+            Want::Normalise(Dialect::Rfc8941, Kind::Dict),
         ),
-        (&["sf", "cache-status"], Request::CacheStatus),
+        (&["sf", "cache-status"], Want::CacheStatus),
         (
             &["sf", "targeted", "Cache-Control", "X-Cache", "--", "-a"],
-            names_of(alloc, &["cache-control", "x-cache", "-a"])?,
+            Want::Targeted(&["cache-control", "x-cache", "-a"]),
         ),
-        (&["sf", "priority"], Request::Priority),
+        (&["sf", "priority"], Want::Priority),
     ];
-    for (words, want) in &rows {
-        let found = request_refusals(alloc, words, Some(want))?;
+    for (words, want) in rows {
+        let found = request_refusals(rt.alloc(), words, want)?;
         assert!(rt; found > Some(0), "{found:?}");
     }
     Ok(())
@@ -102,7 +124,7 @@ fn other_words(rt: HostRuntime) -> Result<(), Fail> {
         &["sf", "priority", "more"],
     ];
     for words in rows {
-        let found = request_refusals(rt.alloc(), words, None)?;
+        let found = request_refusals(rt.alloc(), words, Want::Usage)?;
         assert!(rt; found > Some(0), "{found:?}");
     }
     Ok(())

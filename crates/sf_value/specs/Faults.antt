@@ -1,6 +1,6 @@
--- What each refusal of bytes says of them.
+-- What each refusal of bytes says of them, and of itself.
 use Rattle.std.specs.Prelude.{◌≡◌, ℕ, suc, Bool, not, List, [], ◌∷◌, Option, Some, None}
-use Rattle.std.specs.Prelude.{if◌then◌else◌}
+use Rattle.std.specs.Prelude.{if◌then◌else◌, ◌++◌, codes, decimal}
 use Rattle.std.specs.List.{position}
 use Rattle.std.specs.Option.{option_map}
 use Rattle.sf_value.specs.declared.fault.TextFault.{TextFault}
@@ -36,3 +36,9 @@ abbrev pub IsStringFault : List ℕ → TextFault → Type 0
 IsStringFault bs Empty = ⊥
 IsStringFault bs (BadByte place) = bad_place is_visible bs ≡ Some place
 IsStringFault bs OutOfMemory = Every is_visible bs
+
+-- the line of a fault
+abbrev pub text_fault_text : TextFault → List ℕ
+text_fault_text Empty = codes "no byte"
+text_fault_text (BadByte place) = codes "a bad byte at " ++ decimal place
+text_fault_text OutOfMemory = codes "out of memory"

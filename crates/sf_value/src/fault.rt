@@ -1,5 +1,6 @@
 //! Why a value could not be made.
-ghost use Rattle.std.specs.Prelude.{◌≡◌};
+ghost use Rattle.std.specs.Prelude.{◌≡◌, Some, codes};
+ghost use Rattle.sf_value.specs.Faults.{text_fault_text};
 ghost use Rattle.sf_value.specs.declared.fault.TextFault.TheVariants as fault;
 
 use std::alloc::{AllocError, AllocFailed};
@@ -30,18 +31,24 @@ pub enum TextFault {
 }
 
 impl fmt::Display for OutOfMemory {
+    ghost output = { λ _. Some (codes "out of memory") };
+
     fn fmt<W: fmt::Write>(&self, f: &mut fmt::Formatter<W>) -> fmt::Result {
         write!(f, "out of memory")
     }
 }
 
 impl fmt::Display for OutOfRange {
+    ghost output = { λ _. Some (codes "a number out of range") };
+
     fn fmt<W: fmt::Write>(&self, f: &mut fmt::Formatter<W>) -> fmt::Result {
         write!(f, "a number out of range")
     }
 }
 
 impl fmt::Display for TextFault {
+    ghost output = { λ fault. Some (text_fault_text fault) };
+
     fn fmt<W: fmt::Write>(&self, f: &mut fmt::Formatter<W>) -> fmt::Result {
         match self {
             TextFault::Empty => write!(f, "no byte"),

@@ -1,0 +1,17 @@
+-- The texts of faults.
+use Rattle.std.specs.Prelude.{ℕ, List, ◌++◌, Option, Some, codes, decimal}
+use Rattle.sf_parse.specs.RefusalTexts.{refusal_text}
+use Rattle.sf_field.specs.declared.consumer.UseFault.{UseFault}
+use Rattle.sf_field.specs.declared.consumer.UseFault.TheVariants.{NotACache, OutOfMemory}
+use Rattle.sf_field.specs.declared.asking.AskFault.{AskFault}
+use Rattle.sf_field.specs.declared.asking.AskFault.TheVariants.{Field, Answer}
+
+-- what a consumer's fault says of itself
+abbrev pub use_fault_text : UseFault → List ℕ
+use_fault_text (NotACache index) = codes "member " ++ decimal index ++ codes " names no cache"
+use_fault_text OutOfMemory = codes "out of memory"
+
+-- the same where a consumer gave no answer, and else the line of the refusal
+abbrev pub ask_fault_text : AskFault → Option (List ℕ)
+ask_fault_text (Field refusal) = refusal_text refusal
+ask_fault_text (Answer fault) = Some (use_fault_text fault)
