@@ -51,7 +51,7 @@ impl Model for ListReader {
     ghost invariant = { λ l. FitsList l.phase l.members };
 }
 
-// Space or a tab (OWS).
+/// Whether a byte is OWS: a space or a tab (RFC 9110 section 5.6.3).
 pub fn is_gap(byte: u8) -> bool
     ensures { result ≡ is_ows byte }
 {

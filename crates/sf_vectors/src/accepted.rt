@@ -100,7 +100,7 @@ fn check_rows(
     Ok(())
 }
 
-pub(crate) static ITEMS: [Row; 41] = [
+pub(crate) static ITEMS: [Row; 42] = [
     (Kind::Item, b" -0 ", b"0"),
     (Kind::Item, b"@-0", b"@0"),
     (Kind::Item, b"-0.0", b"0.0"),
@@ -146,9 +146,10 @@ pub(crate) static ITEMS: [Row; 41] = [
     (Kind::Item, b"-0", b"0"),
     (Kind::Item, b"a;a;a=?0;a", b"a;a"),
     (Kind::Item, b"a;x=1;y=2;x=3", b"a;x=3;y=2"),
+    (Kind::Item, b"abc", b"abc"),
 ];
 
-pub(crate) static LISTS: [Row; 15] = [
+pub(crate) static LISTS: [Row; 23] = [
     (Kind::List, b"a \t", b"a"),
     (Kind::List, b"", b""),
     (Kind::List, b"   ", b""),
@@ -172,9 +173,29 @@ pub(crate) static LISTS: [Row; 15] = [
     ),
     (Kind::List, b"a\t ,\t b", b"a, b"),
     (Kind::List, b"( 1  2 );a, 3", b"(1 2);a, 3"),
+    (
+        Kind::List,
+        b"OriginCache; hit; ttl=1100, \"CDN Company Here\"; hit; ttl=545",
+        b"OriginCache;hit;ttl=1100, \"CDN Company Here\";hit;ttl=545",
+    ),
+    (Kind::List, b"c;hit;fwd=miss", b"c;hit;fwd=miss"),
+    (Kind::List, b"7;hit", b"7;hit"),
+    (Kind::List, b"a, (b), 7", b"a, (b), 7"),
+    (
+        Kind::List,
+        b"c;hit=?0;fwd=odd;fwd-status=99;stored;ttl=-3",
+        b"c;hit=?0;fwd=odd;fwd-status=99;stored;ttl=-3",
+    ),
+    (Kind::List, b"c;hit=\"x\"", b"c;hit=\"x\""),
+    (
+        Kind::List,
+        b"c;stored;fwd-status=304",
+        b"c;stored;fwd-status=304",
+    ),
+    (Kind::List, b"c;detail=1", b"c;detail=1"),
 ];
 
-pub(crate) static DICTIONARIES: [Row; 11] = [
+pub(crate) static DICTIONARIES: [Row; 24] = [
     (
         Kind::Dict,
         b"a=1,b;x, a=(1  2 );y=:YQ:",
@@ -198,6 +219,35 @@ pub(crate) static DICTIONARIES: [Row; 11] = [
     (Kind::Dict, b"a=1, b=2", b"a=1, b=2"),
     (Kind::Dict, b"b=2, a=1", b"b=2, a=1"),
     (Kind::Dict, b"a, b, a=2", b"a=2, b"),
+    (
+        Kind::Dict,
+        b"max-age=30, s-maxage=90, no-store=?0",
+        b"max-age=30, s-maxage=90, no-store=?0",
+    ),
+    (
+        Kind::Dict,
+        b"max-age=30, s-maxage=90, no-store=?0, no-store",
+        b"max-age=30, s-maxage=90, no-store",
+    ),
+    (
+        Kind::Dict,
+        b"max-age=30,s-maxage=90,no-store=?1",
+        b"max-age=30, s-maxage=90, no-store",
+    ),
+    (Kind::Dict, b"max-age=-1", b"max-age=-1"),
+    (Kind::Dict, b"max-age=(1)", b"max-age=(1)"),
+    (Kind::Dict, b"max-age=60;x=1", b"max-age=60;x=1"),
+    (
+        Kind::Dict,
+        b"private=(a b), no-cache=\"x\"",
+        b"private=(a b), no-cache=\"x\"",
+    ),
+    (Kind::Dict, b"u=8, i", b"u=8, i"),
+    (Kind::Dict, b"u=5, i", b"u=5, i"),
+    (Kind::Dict, b"u=1.0", b"u=1.0"),
+    (Kind::Dict, b"u=-0", b"u=0"),
+    (Kind::Dict, b"u=1, u=9", b"u=9"),
+    (Kind::Dict, b"i=1", b"i=1"),
 ];
 
 #[test]

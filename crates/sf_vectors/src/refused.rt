@@ -237,7 +237,7 @@ pub(crate) static ITEMS: [Row; 34] = [
     (Kind::Item, b"a;b=$;b=1", 4, Some(0x24), BARE),
 ];
 
-pub(crate) static LISTS_AND_DICTIONARIES: [Row; 17] = [
+pub(crate) static LISTS_AND_DICTIONARIES: [Row; 19] = [
     (Kind::Item, b"a;b=", 4, None, BARE),
     (
         Kind::List,
@@ -285,6 +285,14 @@ pub(crate) static LISTS_AND_DICTIONARIES: [Row; 17] = [
         "22 25 28 2a 2d 30-3a 3f-5a 61-7a",
     ),
     (Kind::Item, b"\"\\n\"", 2, Some(0x6e), "22 5c"),
+    (Kind::Dict, b"max-age=60,", 11, None, "09 20 2a 61-7a"),
+    (
+        Kind::Item,
+        b"a,bcd",
+        1,
+        Some(0x2c),
+        "20-21 23-27 2a-2b 2d-3b 41-5a 5e-7a 7c 7e end",
+    ),
 ];
 
 pub(crate) static OLD_DIALECT: [Row; 3] = [
