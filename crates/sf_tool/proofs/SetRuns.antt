@@ -1,7 +1,7 @@
 -- The runs of a set are the set.
 use Rattle.std.proofs.Common.{◌≡◌, ℕ, zero, suc, ◌+◌, ◌<◌, ◌≤◌, ◌⊎◌, inl, inr, true, false}
-use Rattle.std.proofs.Common.{List, [], ◌∷◌, refl, arith, rules, subst, sym, ap, ◌∙◌}
-use Rattle.std.specs.Prelude.{◌==◌, ◌↔◌, ⊤}
+use Rattle.std.proofs.Common.{List, [], ◌∷◌, arith, rules, subst, sym, ap, ◌∙◌}
+use Rattle.std.specs.Prelude.{◌==◌, ◌↔◌}
 use Rattle.std.proofs.lemmas.Bool.{cases_Bool, false≢true}
 use Rattle.sf_tool.specs.Laws.{IsWithin, Ascends, RunsAreTheSet, RunsAreWhole}
 use Rattle.sf_tool.specs.Texts.{is_in, in_front, runs_from}

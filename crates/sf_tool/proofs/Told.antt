@@ -1,13 +1,12 @@
 -- From what is to be written to what an input is answered.
 use Rattle.std.proofs.Common.{◌≡◌, ℕ, ◌*◌, ◌≤◌, inl, inr, Bool, false, List, []}
-use Rattle.std.proofs.Common.{◌∷◌, ◌++◌, ◌+◌, ◌<◌, ◌∙◌, length, Option, Some, None, Result, Err}
+use Rattle.std.proofs.Common.{◌∷◌, ◌+◌, ◌<◌, ◌∙◌, length, Option, Some, None, Result, Err}
 use Rattle.std.proofs.Common.{refl, sym, subst, arith}
 use Rattle.sf_value.specs.declared.dialect.Dialect.{Dialect}
 use Rattle.sf_value.specs.declared.dialect.Dialect.TheVariants.{Rfc9651}
 use Rattle.sf_value.specs.declared.value.Field.{Field}
 use Rattle.sf_value.specs.declared.value.Kind.{Kind}
 use Rattle.sf_value.specs.Devices.{SinkState}
-use Rattle.sf_value.specs.Grammar.Canonical.{canon}
 use Rattle.sf_value.specs.Grammar.Lines.{join}
 use Rattle.sf_parse.specs.declared.refusal.Refusal.{Refusal}
 use Rattle.sf_parse.specs.declared.refusal.Refusal.TheVariants.{OutOfMemory, Syntax, TooLong}
@@ -34,7 +33,7 @@ use Rattle.sf_tool.specs.declared.status.Status.TheVariants.{Accepted, Refused, 
 use Rattle.sf_tool.specs.Lines.{lines_of}
 use Rattle.sf_tool.specs.Texts.{refusal_line}
 use Rattle.sf_tool.specs.ChoiceLines.{IsPlaceOf, refused_line}
-use Rattle.sf_tool.specs.Fields.{fields_in, IsFaultOf}
+use Rattle.sf_tool.specs.Fields.{IsFaultOf}
 use Rattle.sf_tool.specs.Run.{joined, Refuses, Responds, Answers, Outputs, Tells}
 use Rattle.sf_tool.specs.Run.{TellsText, TellsRefusal, TellsInputFault, IsOfText, IsAskOfText}
 

@@ -6,6 +6,7 @@ pub mod Settling
 pub mod Utf8Table
 pub mod CanonicalTexts
 pub mod Validity
+pub mod SettledWeight
 pub mod LengthBound
 pub mod BothDialects
 pub mod Gives

@@ -1,8 +1,9 @@
 // Hops read from texts and written again. What is expected comes from RFC 9211: its sections 2 and
 // 4, and what they say of parameters of other types.
 use crate::cache_status::{
-    CachePath, CacheStatus, Forward, Hop, HopStatus, Name, Outcome, Passed, append_hop, laws,
+    CachePath, CacheStatus, Forward, Hop, HopStatus, Name, Outcome, Passed, append_hop,
 };
+use crate::laws;
 use sf_field::{AskFault, Consumer, UseFault, ask};
 use sf_parse::{Refusal, parse_text};
 use sf_value::{Blob, Field, Kind, List, OutOfMemory, OutOfRange, Sequence, Token};

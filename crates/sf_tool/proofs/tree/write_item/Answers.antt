@@ -1,5 +1,5 @@
 use Rattle.std.proofs.Common.{arith, refl}
-use Rattle.sf_write.proofs.Joining.{leaves_all, leaves_less, ends_early, ends_with}
+use Rattle.sf_write.proofs.Joining.{leaves_all, leaves_less, ends_with}
 use Rattle.sf_tool.proofs.tree.write_item.Goals as goal
 
 pub returns : goal.returns

@@ -1,4 +1,4 @@
-use Rattle.std.proofs.Common.{◌≡◌, ◌+◌, ◌++◌, codes, length, arith, refl}
+use Rattle.std.proofs.Common.{◌≡◌, ◌++◌, codes, length, arith, refl}
 use Rattle.sf_tool.specs.Tree.{count_line, members_lines}
 use Rattle.sf_write.proofs.Joining.{leaves_all, leaves_less, ends_early, ends_with}
 use Rattle.sf_tool.proofs.tree.write_list_tree.Goals as goal
