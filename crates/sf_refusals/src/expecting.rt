@@ -7,17 +7,17 @@ use std::process::Abort;
 
 /// A Dictionary that has each type of value, parameters, an Inner List and parameters of its own.
 /// It is its own canonical text.
-pub const MEMBERS: &[u8] =
+pub(crate) const MEMBERS: &[u8] =
     b"a=(1 \"x y\" *t :YQ==: %\"f%c3%bc\" @1 1.5 ?0;p=\"q\";r);y=:YQ==:, b;x, c=tok;q=0.5";
 
 /// A List of such values, which is its own canonical text.
-pub const LISTED: &[u8] = b"(1 \"x y\";p *t);y=:YQ==:, b;x, \"c\", %\"f%c3%bc\", ()";
+pub(crate) const LISTED: &[u8] = b"(1 \"x y\";p *t);y=:YQ==:, b;x, \"c\", %\"f%c3%bc\", ()";
 
 /// An Item with two parameters, which is its own canonical text.
-pub const SINGLE: &[u8] = b"\"x y\";p=tok;q=:YQ==:";
+pub(crate) const SINGLE: &[u8] = b"\"x y\";p=tok;q=:YQ==:";
 
 /// Expects the call to be refused for want of memory at least once, and to be right with more.
-pub fn expect_refusals<F: FnMut() -> Seen>(rt: &(impl Abort + AllocGlobal), call: F)
+pub(crate) fn expect_refusals<F: FnMut() -> Seen>(rt: &(impl Abort + AllocGlobal), call: F)
     requires { F.IsAlwaysCallable call }
 {
     let found = refusals(rt.alloc(), call);
@@ -25,7 +25,7 @@ pub fn expect_refusals<F: FnMut() -> Seen>(rt: &(impl Abort + AllocGlobal), call
 }
 
 /// Expects the call to be right with no memory left.
-pub fn expect_no_need<F: FnMut() -> Seen>(rt: &(impl Abort + AllocGlobal), call: F)
+pub(crate) fn expect_no_need<F: FnMut() -> Seen>(rt: &(impl Abort + AllocGlobal), call: F)
     requires { F.IsAlwaysCallable call }
 {
     let seen = seen_without_memory(rt.alloc(), call);
@@ -33,12 +33,12 @@ pub fn expect_no_need<F: FnMut() -> Seen>(rt: &(impl Abort + AllocGlobal), call:
 }
 
 /// `Right` where this holds.
-pub fn seen_if(right: bool) -> Seen {
+pub(crate) fn seen_if(right: bool) -> Seen {
     if right { Seen::Right } else { Seen::Wrong }
 }
 
 /// Whether a parse gave this field, or wanted memory.
-pub fn seen_field(answer: Result<Field, Refusal>, want: &Field) -> Seen {
+pub(crate) fn seen_field(answer: Result<Field, Refusal>, want: &Field) -> Seen {
     match answer {
         Ok(field) => seen_if(same(&field, want)),
         Err(Refusal::OutOfMemory) => Seen::Refused,
@@ -47,7 +47,7 @@ pub fn seen_field(answer: Result<Field, Refusal>, want: &Field) -> Seen {
 }
 
 /// Whether a parse was refused at this place for this byte, or wanted memory.
-pub fn seen_syntax(answer: Result<Field, Refusal>, at: u64, byte: u8) -> Seen {
+pub(crate) fn seen_syntax(answer: Result<Field, Refusal>, at: u64, byte: u8) -> Seen {
     match answer {
         Err(Refusal::OutOfMemory) => Seen::Refused,
         Err(Refusal::Syntax { place, found, .. }) => seen_if(place == at && found == Some(byte)),
@@ -56,7 +56,7 @@ pub fn seen_syntax(answer: Result<Field, Refusal>, at: u64, byte: u8) -> Seen {
 }
 
 /// Whether a parse gave the Integer -7 and nothing else, or wanted memory.
-pub fn seen_minus_seven(answer: Result<Field, Refusal>) -> Seen {
+pub(crate) fn seen_minus_seven(answer: Result<Field, Refusal>) -> Seen {
     match answer {
         Ok(field) => seen_if(is_minus_seven(&field)),
         Err(Refusal::OutOfMemory) => Seen::Refused,
@@ -75,7 +75,7 @@ fn is_minus_seven(field: &Field) -> bool {
 }
 
 /// 100,000 spaces and `-007`.
-pub fn padded_number(alloc: Global) -> Result<Vec<u8>, AllocError> {
+pub(crate) fn padded_number(alloc: Global) -> Result<Vec<u8>, AllocError> {
     let mut text = Vec::new(alloc);
     for _ in 0..100_000u32 {
         text.push(b' ')?;
@@ -86,14 +86,14 @@ pub fn padded_number(alloc: Global) -> Result<Vec<u8>, AllocError> {
 
 /// A source that gives one byte a call.
 #[derive(Drop)]
-pub struct Drip {
+pub(crate) struct Drip {
     rest: &'static [u8],
     given: u64,
 }
 
 impl Drip {
     /// The source of these bytes.
-    pub fn new(rest: &'static [u8]) -> Drip {
+    pub(crate) fn new(rest: &'static [u8]) -> Drip {
         Drip { rest, given: 0 }
     }
 }

@@ -1,7 +1,7 @@
 //! What the command `sf` does: its words are read by [`read_request`], and [`run`] answers them
-//! from a source and to a sink. The lines that it prints are defined in `specs/Texts.antt`, and
-//! what
-//! a run reads, answers and writes in `specs/Run.antt`.
+//! from a source and to a sink. Which words are which request is defined in
+//! `specs/CommandLine.antt`, what is printed in `Texts`, `Tree`, `PathLines`, `ChoiceLines` and
+//! `PriorityLine`, and what a run reads, answers and writes in `specs/Run.antt`.
 #![tactic(auto)]
 
 mod answering;
