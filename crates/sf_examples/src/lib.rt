@@ -1,8 +1,11 @@
-//! The examples of the README, as tests: each is one that it shows, word for word.
+//! The examples of the README, as tests: each is one that it shows, word for word. Beside them the
+//! laws are called.
 #![tactic(auto)]
 
 #[cfg(test)]
 mod consumers;
+#[cfg(test)]
+mod laws;
 #[cfg(test)]
 mod parsing;
 #[cfg(test)]

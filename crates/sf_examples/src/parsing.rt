@@ -1,7 +1,7 @@
 //! Texts, pieces and lines.
 use http_header::{HeaderMap, HeaderName, HeaderValue};
 use sf_field::{from_headers, normalise_lines};
-use sf_parse::{Parser, Refusal, parse_text};
+use sf_parse::{Parser, Refusal, parse_text, runs_of};
 use sf_value::{Blob, Kind};
 use sf_write::to_text;
 use std::hash::RandomState;
@@ -84,5 +84,33 @@ fn a_refusal(rt: HostRuntime) -> Result<(), Fail> {
     assert_eq!(&rt; refusal, wanted);
     let line = refusal.to_string(alloc)?;
     assert_eq!(&rt; line.as_str(), "byte 32 at place 2, expected 20 or the end");
+    Ok(())
+}
+
+#[test]
+fn the_bytes_that_could_have_followed(rt: HostRuntime) -> Result<(), Fail> {
+    let alloc = rt.alloc();
+    let seed = RandomState::new(&rt)?;
+    let expected = match parse_text(alloc, &seed, Kind::List, b"(a") {
+        Err(Refusal::Syntax { expected, .. }) => expected,
+        _ => return Err(Fail::from("not refused for the text")),
+    };
+    // the rest of a token, a space, `)` or `;`
+    let wanted = [
+        (b' ', b'!'),
+        (b'#', b'\''),
+        (b')', b'+'),
+        (b'-', b';'),
+        (b'A', b'Z'),
+        (b'^', b'z'),
+        (b'|', b'|'),
+        (b'~', b'~'),
+    ];
+    let mut count = 0;
+    for run in runs_of(expected) {
+        assert_eq!(&rt; wanted.get(count), Some(&run));
+        count += 1;
+    }
+    assert_eq!(&rt; count, wanted.len());
     Ok(())
 }

@@ -1,5 +1,5 @@
 -- The texts of faults.
-use Rattle.std.specs.Prelude.{ℕ, List, ◌++◌, Option, Some, codes, decimal}
+use Rattle.std.specs.Prelude.{ℕ, List, ◌++◌, codes, decimal}
 use Rattle.sf_parse.specs.RefusalTexts.{refusal_text}
 use Rattle.sf_field.specs.declared.consumer.UseFault.{UseFault}
 use Rattle.sf_field.specs.declared.consumer.UseFault.TheVariants.{NotACache, OutOfMemory}
@@ -12,6 +12,6 @@ use_fault_text (NotACache index) = codes "member " ++ decimal index ++ codes " n
 use_fault_text OutOfMemory = codes "out of memory"
 
 -- the same where a consumer gave no answer, and else the line of the refusal
-abbrev pub ask_fault_text : AskFault → Option (List ℕ)
+abbrev pub ask_fault_text : AskFault → List ℕ
 ask_fault_text (Field refusal) = refusal_text refusal
-ask_fault_text (Answer fault) = Some (use_fault_text fault)
+ask_fault_text (Answer fault) = use_fault_text fault

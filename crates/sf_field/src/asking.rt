@@ -1,9 +1,10 @@
 //! What field lines mean to a consumer.
+ghost use Rattle.std.specs.Prelude.{Some};
 ghost use Rattle.sf_field.specs.Faults.{ask_fault_text};
 ghost use Rattle.sf_field.specs.Asking.{Asks, MeansAsCanonical};
 
 use crate::consumer::{Consumer, UseFault};
-use crate::lines::{let_go, parse_lines};
+use crate::lines::parse_lines;
 use sf_parse::Refusal;
 use sf_value::Blob;
 use std::alloc::Global;
@@ -21,7 +22,7 @@ pub enum AskFault {
 }
 
 impl fmt::Display for AskFault {
-    ghost output = { ask_fault_text };
+    ghost output = { λ fault. Some (ask_fault_text fault) };
 
     fn fmt<W: fmt::Write>(&self, f: &mut fmt::Formatter<W>) -> fmt::Result {
         match self {
@@ -53,7 +54,7 @@ pub fn ask<C: Consumer>(
         Err(refusal) => return Err(AskFault::Field(refusal)),
     };
     let answer = consumer.answer(alloc, &field);
-    let_go(field);
+    drop(field);
     match answer {
         Ok(answer) => Ok(answer),
         Err(fault) => Err(AskFault::Answer(fault)),

@@ -72,9 +72,6 @@ pub fn parse_lines(
     parse_lines_in(alloc, seed, Dialect::Rfc9651, kind, lines)
 }
 
-// Lets a field go. It is a function of its own, so that it is one call where that is done.
-pub(crate) fn let_go(_field: Field) {}
-
 /// The canonical text (RFC 9651 section 4.1) of the value that the lines spell together. Lines that
 /// spell equal values, and no others of the kind, have equal texts. It refuses what [`parse_lines`]
 /// refuses.
@@ -93,7 +90,7 @@ pub fn normalise_lines(
 {
     let field = parse_lines(alloc, seed, kind, lines)?;
     let text = to_text(alloc, &field);
-    let_go(field);
+    drop(field);
     match text {
         Ok(text) => Ok(text),
         Err(_) => Err(Refusal::OutOfMemory),

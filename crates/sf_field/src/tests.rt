@@ -1,5 +1,4 @@
 // Lines and header maps with their answers.
-use crate::lines::let_go;
 use crate::{from_headers, normalise_lines, parse_lines, parse_lines_in};
 use http_header::{HeaderMap, HeaderName, HeaderValue};
 use sf_parse::Refusal;
@@ -49,7 +48,7 @@ fn ended(place: u64, expected: u128) -> Refusal {
 
 fn text_of(alloc: Global, field: Field) -> Result<Vec<u8>, Refusal> {
     let text = to_text(alloc, &field);
-    let_go(field);
+    drop(field);
     match text {
         Ok(text) => Ok(text),
         Err(_) => Err(Refusal::OutOfMemory),

@@ -26,3 +26,6 @@ pub mod Dialects
 pub mod Pieces
 pub mod Readings
 pub mod PlainSteps
+pub mod RunSteps
+pub mod SetRuns
+pub mod HexDigits

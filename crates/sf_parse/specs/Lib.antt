@@ -15,4 +15,5 @@ pub mod EntryView
 pub mod ListView
 pub mod DictView
 pub mod StateView
+pub mod ByteSets
 pub mod RefusalTexts

@@ -1,9 +1,10 @@
-//! The laws of the grammar that follow from its machine, each as the contract of a function that
-//! does nothing. They hold in both dialects.
+//! The laws of the grammar that follow from its machine, and of the sets of bytes that refusals
+//! name, each as the contract of a function that does nothing. They hold in both dialects.
 ghost use Rattle.sf_parse.specs.Laws.{OneValue, IsRead, IsRest, IsViable, IsNext, IsEnd, StopsAt};
 ghost use Rattle.sf_parse.specs.Laws.{CanonOne, AnyPieces, OnlyNew, LinesOne};
 ghost use Rattle.sf_parse.specs.Taking.{TookNothing, TakesMore, TookViable, TookNext, TookEnd};
 ghost use Rattle.sf_parse.specs.Taking.{TookStops, TookAll};
+ghost use Rattle.sf_parse.specs.ByteSets.{RunsAreTheSet, RunsAreWhole};
 ghost use Rattle.sf_parse.specs.Takes.{TakesStep, MayEnd, TakesNext, EndsText, NextBelow, SomeNext};
 
 /// A text spells at most one value of a kind; valid values with one canonical text are one; lines
@@ -58,4 +59,11 @@ pub fn what_may_follow()
     ensures end { EndsText }
     ensures below { NextBelow }
     ensures some { SomeNext }
+{}
+
+/// The runs of a set, as [`crate::runs_of`] gives them and a refusal's line lists them, are just its
+/// bytes below 128, ascending, each run as long as it can be.
+pub fn runs_are_the_set()
+    ensures set { RunsAreTheSet }
+    ensures whole { RunsAreWhole }
 {}

@@ -1,6 +1,19 @@
-//! The push parser of structured fields (RFC 9651 section 4.2): it is handed a text in pieces,
-//! keeps
-//! no text, and refuses at the exact byte with exactly the bytes that could have followed.
+//! The push parser of structured fields (RFC 9651 section 4.2).
+//!
+//! A [`Parser`] is handed a text in pieces and keeps none of it: beside the values built so far only
+//! the open construct. It refuses at the exact byte, with exactly the bytes that could have followed
+//! ([`Refusal::Syntax`]), whatever the pieces. [`parse_text`] parses a text at once, [`parse_reader`]
+//! what a reader gives, and [`runs_of`] lists the bytes that a refusal names.
+//!
+//! ```text
+//! let mut parser = Parser::new(alloc, &seed, Kind::Item, u64::MAX);
+//! parser.feed(b"1.")?;
+//! parser.feed(b"5;q")?;
+//! let field = parser.finish()?; // the Decimal 1.5, with the parameter q
+//! ```
+//!
+//! The contracts speak of texts and values by the grammar of `sf_value`; `specs/Parsers` says what a
+//! parser took and answers. [`laws`] follow from the machine by which it is proved.
 #![tactic(auto)]
 
 mod bare;
@@ -10,6 +23,7 @@ mod context;
 mod date;
 mod dict;
 mod entry;
+mod expected;
 mod inner;
 mod item;
 pub mod laws;
@@ -26,6 +40,7 @@ mod state;
 mod text;
 mod top;
 
+pub use expected::{Runs, runs_of};
 pub use parse::{parse_text, parse_text_in};
 pub use parser::Parser;
 pub use reader::parse_reader;

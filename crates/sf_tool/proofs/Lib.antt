@@ -1,10 +1,9 @@
 pub mod Cuts
 pub mod Steps
-pub mod Runs
-pub mod SetRuns
 pub mod Names
 pub mod Room
 pub mod LineByLine
 pub mod CommandLine
 pub mod SomeWords
-pub mod Told
+pub mod Tells
+pub mod Places

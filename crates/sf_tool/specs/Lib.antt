@@ -1,6 +1,5 @@
 -- The definitions that the contracts speak of: requests and words, the input and its lines, the
--- texts
--- that are printed, and last what a run reads, answers and writes.
+-- texts that are printed, and last what a run reads, answers and writes.
 pub mod Status
 pub mod Request
 pub mod CommandLine
@@ -15,4 +14,3 @@ pub mod PathLines
 pub mod ChoiceLines
 pub mod PriorityLine
 pub mod Run
-pub mod Laws

@@ -1,40 +1,6 @@
--- The lines that tell of a refusal. A set of bytes is a number: byte b is in it if bit b is set.
-use Rattle.std.specs.Prelude.{ℕ, zero, suc, ◌/◌, ◌%◌, Bool, true, false, ◌==◌, if◌then◌else◌}
-use Rattle.std.specs.Prelude.{List, [], ◌∷◌, ◌++◌, Option, Some, None, codes, decimal}
-use Rattle.std.specs.Int.{bit_at}
-use Rattle.sf_value.specs.Grammar.DisplayStrings.{hex}
-
--- the two lower-case hexadecimal digits of a byte
-abbrev pub hex_byte : ℕ → List ℕ
-hex_byte b = hex (b / 16) ∷ hex (b % 16) ∷ []
-
-abbrev pub is_in : ℕ → ℕ → Bool
-is_in set b = bit_at set b == 1
-
--- a byte in front of runs of higher bytes: it joins the first run if that begins one above
-abbrev pub in_front : ℕ → List (ℕ × ℕ) → List (ℕ × ℕ)
-in_front b [] = (b, b) ∷ []
-in_front b (run ∷ runs) = if run.0 == suc b then (b, run.1) ∷ runs else (b, b) ∷ run ∷ runs
-
--- the runs of the n bytes from b on that are in the set, each as its first and its last byte
-unfoldable pub runs_from : ℕ → ℕ → ℕ → List (ℕ × ℕ)
-runs_from set b zero = []
-runs_from set b (suc n) =
-    if is_in set b then in_front b (runs_from set (suc b) n) else runs_from set (suc b) n
-
--- the runs of a set of bytes below 128
-abbrev pub runs_of : ℕ → List (ℕ × ℕ)
-runs_of set = runs_from set 0 128
-
--- one byte, or the first and the last of several
-abbrev pub run_text : ℕ × ℕ → List ℕ
-run_text run =
-    if run.0 == run.1 then hex_byte run.0 else hex_byte run.0 ++ 45 ∷ hex_byte run.1
-
--- each run behind a space
-abbrev pub set_text : List (ℕ × ℕ) → List ℕ
-set_text [] = []
-set_text (run ∷ runs) = (32 ∷ run_text run) ++ set_text runs
+-- The lines that tell of a refusal.
+use Rattle.std.specs.Prelude.{ℕ, Bool, true, false, List, ◌++◌, Option, Some, None, codes, decimal}
+use Rattle.sf_parse.specs.ByteSets.{hex_byte, runs_of, set_text}
 
 abbrev pub found_text : Option ℕ → List ℕ
 found_text None = codes " ended"

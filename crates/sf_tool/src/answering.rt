@@ -30,15 +30,12 @@ fn write_canonical<W: Sink>(field: &Field, out: &mut W) -> Result<u64, WriteFaul
     send_all(b"\n", written, out)
 }
 
-// Lets a field go. It is a function of its own, so that it is one call where that is done.
-fn let_go(_field: Field) {}
-
 pub(crate) fn answer_tree<W: Sink>(field: Field, sink: &mut W) -> Status
     ensures { TellsText (tree field) status_is.Accepted
         (W.state sink.old) (W.state sink.new) result }
 {
     let written = write_tree(&field, 0, sink);
-    let_go(field);
+    drop(field);
     match written {
         Ok(_) => Status::Accepted,
         Err(_) => Status::Stopped,
@@ -49,7 +46,7 @@ pub(crate) fn answer_accepted<W: Sink>(field: Field, sink: &mut W) -> Status
     ensures { TellsText (accepted_line field) status_is.Accepted
         (W.state sink.old) (W.state sink.new) result }
 {
-    let_go(field);
+    drop(field);
     match send_all(b"accepted\n", 0, sink) {
         Ok(_) => Status::Accepted,
         Err(_) => Status::Stopped,
@@ -61,7 +58,7 @@ pub(crate) fn answer_canonical<W: Sink>(field: Field, sink: &mut W) -> Status
         (W.state sink.old) (W.state sink.new) result }
 {
     let written = write_canonical(&field, sink);
-    let_go(field);
+    drop(field);
     match written {
         Ok(_) => Status::Accepted,
         Err(_) => Status::Stopped,
@@ -98,15 +95,12 @@ pub(crate) fn answer_too_long<W: Sink>(sink: &mut W) -> Status
     }
 }
 
-// Lets a path go, as a field is let go.
-fn let_path_go(_path: CachePath) {}
-
 pub(crate) fn answer_path<W: Sink>(path: CachePath, sink: &mut W) -> Status
     ensures { TellsText (path_lines path) status_is.Accepted
         (W.state sink.old) (W.state sink.new) result }
 {
     let written = write_path(&path, 0, sink);
-    let_path_go(path);
+    drop(path);
     match written {
         Ok(_) => Status::Accepted,
         Err(_) => Status::Stopped,

@@ -9,7 +9,6 @@ mod choice;
 mod cutting;
 mod expected;
 mod fields;
-pub mod laws;
 mod path;
 mod priority;
 mod reading;

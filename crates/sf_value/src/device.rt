@@ -1,6 +1,6 @@
 //! The devices that texts come from and go to. What reads a text asks for a [`Source`], what writes
 //! one for a [`Sink`]; [`Reading`] and [`Writing`] make them of any reader and writer.
-ghost use Rattle.std.specs.Prelude.{◌≡◌, ℕ, List, ◌+◌, ◌≤◌};
+ghost use Rattle.std.specs.Prelude.{◌≡◌, ℕ, List, ◌+◌, ◌≤◌, Some, codes};
 ghost use Rattle.sf_value.specs.Devices.{SourceState, SinkState, Pulls, Sends};
 ghost use Rattle.sf_value.specs.Devices.{reader_of, writer_of};
 
@@ -13,6 +13,8 @@ use std::io::{Read, Write};
 pub struct Failed;
 
 impl fmt::Display for Failed {
+    ghost output = { λ _. Some (codes "a device failed") };
+
     fn fmt<W: fmt::Write>(&self, f: &mut fmt::Formatter<W>) -> fmt::Result {
         write!(f, "a device failed")
     }

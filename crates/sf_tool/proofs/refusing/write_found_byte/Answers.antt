@@ -1,6 +1,6 @@
 use Rattle.std.proofs.Common.{arith, refl}
 use Rattle.sf_write.proofs.Joining.{leaves_all, leaves_less, ends_early, ends_with}
-use Rattle.sf_tool.specs.Texts.{hex_byte}
+use Rattle.sf_parse.specs.ByteSets.{hex_byte}
 use Rattle.sf_tool.proofs.refusing.write_found_byte.Goals as goal
 
 pub returns-in_err-written : goal.returns-in_err-written

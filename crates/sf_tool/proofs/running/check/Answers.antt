@@ -1,6 +1,6 @@
 use Rattle.sf_tool.specs.Run.{accepted_line}
 use Rattle.sf_tool.specs.declared.request.Request.TheVariants.{Check}
-use Rattle.sf_tool.proofs.Told.{tells_field, tells_refusal}
+use Rattle.sf_tool.proofs.Tells.{tells_field, tells_refusal}
 use Rattle.sf_tool.proofs.running.check.Goals as goal
 
 pub returns-in-Ok : goal.returns-in-Ok

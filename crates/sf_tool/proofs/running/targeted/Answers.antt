@@ -2,7 +2,8 @@ use Rattle.std.proofs.Common.{refl}
 use Rattle.sf_tool.specs.declared.request.Request.TheVariants.{Targeted}
 use Rattle.sf_tool.specs.declared.status.Status.TheVariants.{Accepted}
 use Rattle.sf_tool.specs.ChoiceLines.{choice_lines}
-use Rattle.sf_tool.proofs.Told.{is_place, tells_answer, tells_input_fault}
+use Rattle.sf_tool.proofs.Places.{is_place}
+use Rattle.sf_tool.proofs.Tells.{tells_answer, tells_input_fault}
 use Rattle.sf_tool.proofs.running.targeted.Goals as goal
 
 pub returns-in-Err : goal.returns-in-Err

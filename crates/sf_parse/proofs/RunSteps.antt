@@ -3,7 +3,7 @@ use Rattle.std.proofs.Common.{◌≡◌, ℕ, zero, suc, ◌+◌, ◌-◌, ◌<�
 use Rattle.std.proofs.Common.{List, [], ◌∷◌, refl, arith, rules}
 use Rattle.std.specs.Prelude.{◌==◌, ⊤}
 use Rattle.std.proofs.lemmas.Bool.{cases_Bool}
-use Rattle.sf_tool.specs.Texts.{is_in, in_front, runs_from}
+use Rattle.sf_parse.specs.ByteSets.{is_in, in_front, runs_from}
 
 -- the first of the runs does not begin below b
 abbrev pub BeginsFrom : ℕ → List (ℕ × ℕ) → Type 0
@@ -91,15 +91,15 @@ runs-whole set b (suc m) n all stop =
 pub runs-next : (set first last : ℕ) → first ≤ last → last < 128
     → ((k : ℕ) → first ≤ k → k ≤ last → is_in set k ≡ true)
     → (last ≡ 127) ⊎ (is_in set (last + 1) ≡ false)
-    → runs_from set first (128 - first) ≡ (first, last) ∷ runs_from set (last + 1) (127 - last)
+    → runs_from set first (128 - first) ≡ (first, last) ∷ runs_from set (last + 1) (128 - (last + 1))
 runs-next set first last forward within all stop =
     let at : first + (last - first) ≡ last = omega arith in
-    let size : suc ((last - first) + (127 - last)) ≡ 128 - first = omega arith in
+    let size : suc ((last - first) + (128 - (last + 1))) ≡ 128 - first = omega arith in
     let next : suc last ≡ last + 1 = omega arith in
-    let after : (127 - last ≡ 0) ⊎ (is_in set (suc (first + (last - first))) ≡ false) =
+    let after : (128 - (last + 1) ≡ 0) ⊎ (is_in set (suc (first + (last - first))) ≡ false) =
     elim stop [ inl e ↦ inl (omega arith) | inr f ↦ inr (rw (at, next) f) ] in
     rw (size, at, next) at
-    (runs-whole set first (last - first) (127 - last) (λ k h1 h2. all k h1 (omega arith)) after)
+    (runs-whole set first (last - first) (128 - (last + 1)) (λ k h1 h2. all k h1 (omega arith)) after)
 
 -- a byte that is not in the set, of several
 pub runs-skip : (set b : ℕ) → b < 128 → is_in set b ≡ false

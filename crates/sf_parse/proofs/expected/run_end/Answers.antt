@@ -1,6 +1,6 @@
 use Rattle.std.proofs.Common.{inl, inr, arith, rules}
-use Rattle.sf_tool.proofs.Runs.{runs-next}
-use Rattle.sf_tool.proofs.expected.run_end.Goals as goal
+use Rattle.sf_parse.proofs.RunSteps.{runs-next}
+use Rattle.sf_parse.proofs.expected.run_end.Goals as goal
 
 pub returns-else-is_in-clause-run : goal.returns-else-is_in-clause-run
 returns-else-is_in-clause-run c =

@@ -1,6 +1,6 @@
 use Rattle.std.proofs.Common.{◌≡◌, ◌-◌, ◌∙◌, arith, rules}
-use Rattle.sf_tool.proofs.Runs.{runs-skip, runs-none}
-use Rattle.sf_tool.proofs.expected.next_run.Goals as goal
+use Rattle.sf_parse.proofs.RunSteps.{runs-skip, runs-none}
+use Rattle.sf_parse.proofs.expected.next_run.Goals as goal
 
 pub loop-byte-preserved : goal.loop-byte-preserved
 loop-byte-preserved c =

@@ -1,6 +1,6 @@
 use Rattle.std.proofs.Common.{◌≡◌, ℕ, ◌-◌, ◌<◌, ◌≤◌, true}
-use Rattle.sf_tool.specs.Texts.{is_in}
-use Rattle.sf_tool.proofs.expected.run_end.Given as goal
+use Rattle.sf_parse.specs.ByteSets.{is_in}
+use Rattle.sf_parse.proofs.expected.run_end.Given as goal
 
 abbrev pub invariant-loop-last : goal.invariant-loop-last
 invariant-loop-last l = record {

@@ -1,6 +1,6 @@
--- From what is to be written to what an input is answered.
-use Rattle.std.proofs.Common.{◌≡◌, ℕ, ◌*◌, ◌≤◌, inl, inr, Bool, false, List, []}
-use Rattle.std.proofs.Common.{◌∷◌, ◌+◌, ◌<◌, ◌∙◌, length, Option, Some, None, Result, Err}
+-- What an input was answered (`Tells`), from the text that was to be written.
+use Rattle.std.proofs.Common.{◌≡◌, ℕ, ◌*◌, ◌≤◌, inl, inr, Bool, false, List}
+use Rattle.std.proofs.Common.{length, Option, Some, None, Result, Err}
 use Rattle.std.proofs.Common.{refl, sym, subst, arith}
 use Rattle.sf_value.specs.declared.dialect.Dialect.{Dialect}
 use Rattle.sf_value.specs.declared.dialect.Dialect.TheVariants.{Rfc9651}
@@ -13,14 +13,9 @@ use Rattle.sf_parse.specs.declared.refusal.Refusal.TheVariants.{OutOfMemory, Syn
 use Rattle.sf_parse.specs.declared.refusal.Refusal.TheVariants.{ReadFault}
 use Rattle.sf_parse.specs.Parsers.{IsOnly, IsSyntax}
 use Rattle.sf_field.specs.Asking.{Asks}
-use Rattle.sf_field.specs.Headers.{Headers}
 use Rattle.sf_field.specs.Lines.{ParsesLines}
 use Rattle.sf_field.specs.declared.asking.AskFault.{AskFault}
 use Rattle.sf_field.specs.declared.asking.AskFault.TheVariants as ask
-use Rattle.sf_use.specs.declared.targeted.Choice.{Choice}
-use Rattle.sf_use.specs.declared.targeted.Choice.TheVariants as choice_is
-use Rattle.sf_use.specs.declared.targeted.Policy.{Policy}
-use Rattle.sf_use.specs.TargetedChoice.{IsChosen, IsChosenFrom}
 use Rattle.std.specs.declared.vec.Vec.{Vec}
 use Rattle.std.specs.declared.alloc.Global.{Global}
 use Rattle.sf_tool.specs.declared.fields.InputFault.{InputFault}
@@ -32,7 +27,7 @@ use Rattle.sf_tool.specs.declared.status.Status.{Status}
 use Rattle.sf_tool.specs.declared.status.Status.TheVariants.{Accepted, Refused, Usage, Stopped}
 use Rattle.sf_tool.specs.Lines.{lines_of}
 use Rattle.sf_tool.specs.Texts.{refusal_line}
-use Rattle.sf_tool.specs.ChoiceLines.{IsPlaceOf, refused_line}
+use Rattle.sf_tool.specs.ChoiceLines.{refused_line}
 use Rattle.sf_tool.specs.Fields.{IsFaultOf}
 use Rattle.sf_tool.specs.Run.{joined, Refuses, Responds, Answers, Outputs, Tells}
 use Rattle.sf_tool.specs.Run.{TellsText, TellsRefusal, TellsInputFault, IsOfText, IsAskOfText}
@@ -92,22 +87,22 @@ stopped request input old new result e same =
     let P : Status → Type 0 = λ s. Tells request input old new s in
     subst P (sym e) (inl same)
 
--- the lines are refused
-pub tells_refusal : (request : Request) (d : Dialect) (kind : Kind) (tell : Field → List ℕ)
-    (input : List ℕ) (e : Refusal) (old new : SinkState) (result : Status)
-    → RespondsTo request d kind tell input → length input ≤ INPUT_LIMIT
-    → ParsesLines d kind (lines_of input) (Err e)
+-- the lines are refused, and the request answers that with the line of the refusal
+pub tells_refused : (request : Request) (d : Dialect) (kind : Kind) (input : List ℕ) (e : Refusal)
+    (old new : SinkState) (result : Status)
+    → ((line : List ℕ) → Refuses d kind (joined input) line → Answers request input line Refused)
+    → length input ≤ INPUT_LIMIT → ParsesLines d kind (lines_of input) (Err e)
     → TellsRefusal e old new result → Tells request input old new result
-tells_refusal request d kind tell input OutOfMemory old new result given short p t =
+tells_refused request d kind input OutOfMemory old new result given short p t =
     stopped request input old new result t.0 t.1
-tells_refusal request d kind tell input (Syntax place found expected may_end) old new result given
-    short p t =
+tells_refused request d kind input (Syntax place found expected may_end) old new result given short
+    p t =
     let known = refuses d kind (lines_of input) place found expected may_end p in
     let line = refusal_line place found expected may_end in
     tells_text request input line Refused old new result
     (inl (
       short,
-      given line Refused (record {
+      given line (record {
         place = place;
         found = found;
         expected = expected;
@@ -117,8 +112,17 @@ tells_refusal request d kind tell input (Syntax place found expected may_end) ol
         told = refl;
       }),
     )) t
-tells_refusal request d kind tell input (TooLong limit) old new result given short p t = absurd t
-tells_refusal request d kind tell input (ReadFault place) old new result given short p t = absurd t
+tells_refused request d kind input (TooLong limit) old new result given short p t = absurd t
+tells_refused request d kind input (ReadFault place) old new result given short p t = absurd t
+
+-- the same of a request that tells something of a value
+pub tells_refusal : (request : Request) (d : Dialect) (kind : Kind) (tell : Field → List ℕ)
+    (input : List ℕ) (e : Refusal) (old new : SinkState) (result : Status)
+    → RespondsTo request d kind tell input → length input ≤ INPUT_LIMIT
+    → ParsesLines d kind (lines_of input) (Err e)
+    → TellsRefusal e old new result → Tells request input old new result
+tells_refusal request d kind tell input e old new result given =
+    tells_refused request d kind input e old new result (λ line r. given line Refused r)
 
 -- lines of an input within the limit are never too long
 pub is_of_text : (d : Dialect) (kind : Kind) (input : List ℕ) (lines : List (List ℕ))
@@ -140,35 +144,6 @@ is_ask_of_text kind meaning input (ask.Field refusal) small short p =
     is_of_text Rfc9651 kind input (lines_of input) refusal small short p
 is_ask_of_text kind meaning input (ask.Answer fault) small short p = tt
 
--- the line of a refusal, as what an input within the limit is answered
-pub tells_refused : (request : Request) (kind : Kind) (input : List ℕ) (e : Refusal)
-    (old new : SinkState) (result : Status)
-    → ((line : List ℕ) → Refuses Rfc9651 kind (joined input) line
-    → Answers request input line Refused)
-    → length input ≤ INPUT_LIMIT → ParsesLines Rfc9651 kind (lines_of input) (Err e)
-    → TellsRefusal e old new result → Tells request input old new result
-tells_refused request kind input OutOfMemory old new result given short p t =
-    stopped request input old new result t.0 t.1
-tells_refused request kind input (Syntax place found expected may_end) old new result given short p
-    t =
-    let known = refuses Rfc9651 kind (lines_of input) place found expected may_end p in
-    let line = refusal_line place found expected may_end in
-    tells_text request input line Refused old new result
-    (inl (
-      short,
-      given line (record {
-        place = place;
-        found = found;
-        expected = expected;
-        may_end = may_end;
-        syntax = known.0;
-        unended = known.1;
-        told = refl;
-      }),
-    )) t
-tells_refused request kind input (TooLong limit) old new result given short p t = absurd t
-tells_refused request kind input (ReadFault place) old new result given short p t = absurd t
-
 -- a text that an input within the limit is answered with
 pub tells_answer : (request : Request) (input text : List ℕ) (status : Status) (old new : SinkState)
     (result : Status) → length input ≤ INPUT_LIMIT → Answers request input text status
@@ -180,28 +155,6 @@ tells_answer request input text status old new result short given t =
 pub tells_nothing : (request : Request) (input : List ℕ) (old : SinkState)
     → Tells request input old old Stopped
 tells_nothing request input old = inl refl
-
--- a chosen field is one of the names
-pub chosen_is_place : (index : ℕ) (names : List (List ℕ)) (headers : Headers) (choice : Choice)
-    → IsChosenFrom index names headers choice
-    → (k : ℕ) (p : Policy) → choice ≡ choice_is.Field k p → k < index + length names
-chosen_is_place index [] headers choice h k p e =
-    let never : choice_is.Field k p ≡ choice_is.Fallback = sym e ∙ h in absurd cc
-chosen_is_place index (name ∷ names) headers choice h k p e =
-    elim h [
-      | inl here ↦
-          let same : choice_is.Field k p ≡ choice_is.Field index here.0 = sym e ∙ here.2 in
-          let at : k ≡ index = cc in
-          omega (arith, at)
-      | inr later ↦
-          omega (arith, chosen_is_place (index + 1) names headers choice later.1 k p e)
-    ]
-
-pub is_place : (names : List (List ℕ)) (headers : Headers) (choice : Choice)
-    → IsChosen names headers choice → IsPlaceOf names choice
-is_place names headers (choice_is.Field k p) h =
-    omega (arith, chosen_is_place 0 names headers (choice_is.Field k p) h k p refl)
-is_place names headers choice_is.Fallback h = tt
 
 -- a line of the input is refused
 pub tells_input_fault : (names : Vec (List ℕ) Global) (input : List ℕ) (fault : InputFault)

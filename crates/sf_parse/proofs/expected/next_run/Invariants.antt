@@ -1,6 +1,6 @@
 use Rattle.std.proofs.Common.{◌≡◌, ◌-◌}
-use Rattle.sf_tool.specs.Texts.{runs_from}
-use Rattle.sf_tool.proofs.expected.next_run.Given as goal
+use Rattle.sf_parse.specs.ByteSets.{runs_from}
+use Rattle.sf_parse.proofs.expected.next_run.Given as goal
 
 abbrev pub invariant-loop-byte : goal.invariant-loop-byte
 invariant-loop-byte l =

@@ -3,9 +3,9 @@ use Rattle.std.proofs.Common.{◌≡◌, ℕ, zero, suc, ◌+◌, ◌<◌, ◌�
 use Rattle.std.proofs.Common.{List, [], ◌∷◌, arith, rules, subst, sym, ap, ◌∙◌}
 use Rattle.std.specs.Prelude.{◌==◌, ◌↔◌}
 use Rattle.std.proofs.lemmas.Bool.{cases_Bool, false≢true}
-use Rattle.sf_tool.specs.Laws.{IsWithin, Ascends, RunsAreTheSet, RunsAreWhole}
-use Rattle.sf_tool.specs.Texts.{is_in, in_front, runs_from}
-use Rattle.sf_tool.proofs.Runs.{runs-none, runs-out, runs-in}
+use Rattle.sf_parse.specs.ByteSets.{is_in, in_front, runs_from}
+use Rattle.sf_parse.specs.ByteSets.{IsWithin, Ascends, RunsAreTheSet, RunsAreWhole}
+use Rattle.sf_parse.proofs.RunSteps.{runs-none, runs-out, runs-in}
 
 Ascends-less : (a b : ℕ) (rs : List (ℕ × ℕ)) → a ≤ b → Ascends b rs → Ascends a rs
 Ascends-less a b [] h p = tt
