@@ -145,8 +145,8 @@ fn put_item(
     put_member(alloc, members, key, Member::Item(plain(alloc, seed, bare)))
 }
 
-fn check(rt: &impl Abort, alloc: Global, field: &Field, want: &str) -> Result<(), Fail> {
-    let text = to_text(alloc, field)?;
+fn check(rt: &impl Abort, alloc: Global, field: Field, want: &str) -> Result<(), Fail> {
+    let text = to_text(alloc, &field)?;
     assert_eq!(rt; text.as_slice(), want.as_bytes());
     Ok(())
 }
@@ -162,22 +162,36 @@ fn check_bare(
     Ok(())
 }
 
-// `a=(1 2);y=:YQ==:, b;x`, 21 bytes.
-fn example(alloc: Global, seed: &RandomState) -> Result<Field, Fail> {
-    let items = vec![in alloc;
-        plain(alloc, seed, integer(1)?),
-        plain(alloc, seed, integer(2)?),
-    ]?;
+fn two<T: Drop>(alloc: Global, first: T, second: T) -> Result<Vec<T>, Fail> {
+    let mut both = Vec::new(alloc);
+    both.push(first)?;
+    both.push(second)?;
+    Ok(both)
+}
+
+// `(1 2);y=:YQ==:`
+fn one_and_two_inside(alloc: Global, seed: &RandomState) -> Result<Member, Fail> {
     let mut params = Entries::new(alloc, seed);
     put(alloc, &mut params, b"y", blob(alloc, b"a")?)?;
-    let a = Member::Inner(Inner {
-        items: items.into(),
+    let one = plain(alloc, seed, integer(1)?);
+    let two_of_them = two(alloc, one, plain(alloc, seed, integer(2)?))?;
+    Ok(Member::Inner(Inner {
+        items: two_of_them.into(),
         params,
-    });
-    let b = with_param(alloc, seed, Bare::Boolean(true), b"x", Bare::Boolean(true))?;
+    }))
+}
+
+fn flag_with(alloc: Global, seed: &RandomState, key: &[u8], value: Bare) -> Result<Member, Fail> {
+    let item = with_param(alloc, seed, Bare::Boolean(true), key, value)?;
+    Ok(Member::Item(item))
+}
+
+// `a=(1 2);y=:YQ==:, b;x`, 21 bytes.
+fn example(alloc: Global, seed: &RandomState) -> Result<Field, Fail> {
     let mut members = Entries::new(alloc, seed);
-    put_member(alloc, &mut members, b"a", a)?;
-    put_member(alloc, &mut members, b"b", Member::Item(b))?;
+    put_member(alloc, &mut members, b"a", one_and_two_inside(alloc, seed)?)?;
+    let flag = flag_with(alloc, seed, b"x", Bare::Boolean(true))?;
+    put_member(alloc, &mut members, b"b", flag)?;
     Ok(Field::Dict(Dict { members }))
 }
 
@@ -289,101 +303,137 @@ fn long_byte_sequences(rt: HostRuntime) -> Result<(), Fail> {
     Ok(())
 }
 
+// `1.5;q=?0;r=1`
+fn with_two_params(alloc: Global, seed: &RandomState) -> Result<Field, Fail> {
+    let mut item = with_param(alloc, seed, decimal(1500)?, b"q", Bare::Boolean(false))?;
+    put(alloc, &mut item.params, b"r", integer(1)?)?;
+    Ok(Field::Item(item))
+}
+
+// `?1;b`
+fn true_with_a_flag(alloc: Global, seed: &RandomState) -> Result<Field, Fail> {
+    let item = with_param(alloc, seed, Bare::Boolean(true), b"b", Bare::Boolean(true))?;
+    Ok(Field::Item(item))
+}
+
 #[test]
 fn items(rt: HostRuntime) -> Result<(), Fail> {
     let alloc = rt.alloc();
     let seed = RandomState::new(&rt)?;
-    let mut item = with_param(alloc, &seed, decimal(1500)?, b"q", Bare::Boolean(false))?;
-    put(alloc, &mut item.params, b"r", integer(1)?)?;
-    check(&rt, alloc, &Field::Item(item), "1.5;q=?0;r=1")?;
-    let item = with_param(alloc, &seed, Bare::Boolean(true), b"b", Bare::Boolean(true))?;
-    check(&rt, alloc, &Field::Item(item), "?1;b")
+    check(&rt, alloc, with_two_params(alloc, &seed)?, "1.5;q=?0;r=1")?;
+    check(&rt, alloc, true_with_a_flag(alloc, &seed)?, "?1;b")
+}
+
+// Two members that are Items with no parameters.
+fn two_items(alloc: Global, seed: &RandomState, first: Bare, second: Bare) -> Result<Field, Fail> {
+    let first = Member::Item(plain(alloc, seed, first));
+    let second = Member::Item(plain(alloc, seed, second));
+    Ok(list(two(alloc, first, second)?))
+}
+
+// `(a;b c)`
+fn two_tokens_inside(alloc: Global, seed: &RandomState) -> Result<Member, Fail> {
+    let first = with_param(alloc, seed, token(alloc, b"a")?, b"b", Bare::Boolean(true))?;
+    let second = plain(alloc, seed, token(alloc, b"c")?);
+    Ok(inner(alloc, seed, two(alloc, first, second)?))
+}
+
+// `(a;b c), (), "x, y"`
+fn members_of_both_forms(alloc: Global, seed: &RandomState) -> Result<Field, Fail> {
+    let first = two_tokens_inside(alloc, seed)?;
+    let mut members = two(alloc, first, inner(alloc, seed, Vec::new(alloc)))?;
+    members.push(Member::Item(plain(alloc, seed, text(alloc, b"x, y")?)))?;
+    Ok(list(members))
 }
 
 #[test]
 fn lists(rt: HostRuntime) -> Result<(), Fail> {
     let alloc = rt.alloc();
     let seed = RandomState::new(&rt)?;
-    check(&rt, alloc, &list(Vec::new(alloc)), "")?;
-    let members = vec![in alloc;
-        Member::Item(plain(alloc, &seed, blob(alloc, b"a")?)),
-        Member::Item(plain(alloc, &seed, blob(alloc, b"a")?)),
-    ]?;
-    check(&rt, alloc, &list(members), ":YQ==:, :YQ==:")?;
-    let items = vec![in alloc;
-        with_param(alloc, &seed, token(alloc, b"a")?, b"b", Bare::Boolean(true))?,
-        plain(alloc, &seed, token(alloc, b"c")?),
-    ]?;
-    let members = vec![in alloc;
-        inner(alloc, &seed, items),
-        inner(alloc, &seed, Vec::new(alloc)),
-        Member::Item(plain(alloc, &seed, text(alloc, b"x, y")?)),
-    ]?;
-    check(&rt, alloc, &list(members), "(a;b c), (), \"x, y\"")
+    check(&rt, alloc, list(Vec::new(alloc)), "")?;
+    let twice = two_items(alloc, &seed, blob(alloc, b"a")?, blob(alloc, b"a")?)?;
+    check(&rt, alloc, twice, ":YQ==:, :YQ==:")?;
+    let field = members_of_both_forms(alloc, &seed)?;
+    check(&rt, alloc, field, "(a;b c), (), \"x, y\"")
+}
+
+// `a=?0, b, c;foo=bar`, whose last value was put in place of another.
+fn flags(alloc: Global, seed: &RandomState) -> Result<Field, Fail> {
+    let mut members = Entries::new(alloc, seed);
+    for (key, value) in [
+        (b"a".as_slice(), false),
+        (b"b".as_slice(), true),
+        (b"c".as_slice(), true),
+    ] {
+        put_item(alloc, seed, &mut members, key, Bare::Boolean(value))?;
+    }
+    let last = flag_with(alloc, seed, b"foo", token(alloc, b"bar")?)?;
+    put_member(alloc, &mut members, b"c", last)?;
+    Ok(Field::Dict(Dict { members }))
 }
 
 #[test]
 fn dictionaries(rt: HostRuntime) -> Result<(), Fail> {
     let alloc = rt.alloc();
     let seed = RandomState::new(&rt)?;
-    check(&rt, alloc, &example(alloc, &seed)?, EXAMPLE)?;
-    let mut members = Entries::new(alloc, &seed);
-    put_item(alloc, &seed, &mut members, b"a", Bare::Boolean(false))?;
-    put_item(alloc, &seed, &mut members, b"b", Bare::Boolean(true))?;
-    put_item(alloc, &seed, &mut members, b"c", Bare::Boolean(true))?;
-    let item = with_param(
-        alloc,
-        &seed,
-        Bare::Boolean(true),
-        b"foo",
-        token(alloc, b"bar")?,
-    )?;
-    put_member(alloc, &mut members, b"c", Member::Item(item))?;
-    let field = Field::Dict(Dict { members });
-    check(&rt, alloc, &field, "a=?0, b, c;foo=bar")?;
+    check(&rt, alloc, example(alloc, &seed)?, EXAMPLE)?;
+    check(&rt, alloc, flags(alloc, &seed)?, "a=?0, b, c;foo=bar")?;
     let empty = Field::Dict(Dict {
         members: Entries::new(alloc, &seed),
     });
-    check(&rt, alloc, &empty, "")
+    check(&rt, alloc, empty, "")
+}
+
+// What a sink took that takes one byte a call and fails at call `fails_at`, and the answer to it.
+#[derive(Drop)]
+struct Sent {
+    sink: Trickle,
+    answer: Result<u64, WriteFault>,
+}
+
+fn send(alloc: Global, field: &Field, fails_at: u64) -> Sent {
+    let mut sink = Trickle::new(alloc, fails_at);
+    let answer = write_field(field, &mut sink);
+    Sent { sink, answer }
+}
+
+fn check_whole(rt: &impl Abort, sent: &Sent, want: &[u8]) {
+    assert_eq!(rt; sent.answer, Ok(want.len() as u64));
+    assert_eq!(rt; sent.sink.taken.as_slice(), want);
+    assert_eq!(rt; sent.sink.failures, 0);
+    assert_eq!(rt; sent.sink.calls, want.len() as u64);
+}
+
+// One byte went out for each call before the one that failed, which was the last.
+fn check_front(rt: &impl Abort, sent: &Sent, written: u64, want: &[u8]) {
+    assert_eq!(rt; sent.answer, Err(WriteFault { written }), "after {written}");
+    assert!(rt; written as usize <= want.len());
+    assert_eq!(rt; sent.sink.taken.as_slice(), &want[..written as usize]);
+    assert_eq!(rt; sent.sink.failures, 1);
+    assert_eq!(rt; sent.sink.calls.checked_sub(1), Some(written));
 }
 
 #[test]
 fn sends_that_fail(rt: HostRuntime) -> Result<(), Fail> {
     let alloc = rt.alloc();
     let seed = RandomState::new(&rt)?;
-    let one_and_two = list(vec![in alloc;
-        Member::Item(plain(alloc, &seed, integer(1)?)),
-        Member::Item(plain(alloc, &seed, integer(2)?)),
-    ]?);
-    let mut sink = Trickle::new(alloc, 0);
-    assert_eq!(rt; write_field(&one_and_two, &mut sink), Ok(4));
-    assert_eq!(rt; sink.taken.as_slice(), b"1, 2".as_slice());
-    let mut sink = Trickle::new(alloc, 3);
-    assert_eq!(rt;
-        write_field(&one_and_two, &mut sink),
-        Err(WriteFault { written: 2 })
-    );
-    assert_eq!(rt; sink.taken.as_slice(), b"1,".as_slice());
-    let fault = WriteFault { written: 2 };
-    let told = format!(in alloc; "{fault}")?;
-    assert_eq!(rt; told.as_str(), "a write failed after 2 bytes");
+    let one_and_two = two_items(alloc, &seed, integer(1)?, integer(2)?)?;
+    check_whole(&rt, &send(alloc, &one_and_two, 0), b"1, 2");
+    check_front(&rt, &send(alloc, &one_and_two, 3), 2, b"1, 2");
     let field = example(alloc, &seed)?;
-    let whole = EXAMPLE.as_bytes();
-    for k in 1..23u64 {
-        let mut sink = Trickle::new(alloc, k);
-        let answer = write_field(&field, &mut sink);
-        let want = if k < 22 {
-            Err(WriteFault { written: k - 1 })
-        } else {
-            Ok(21)
-        };
-        assert_eq!(rt; answer, want, "send {k} fails");
-        let sent = (k - 1) as usize;
-        assert!(rt; sent <= whole.len());
-        assert_eq!(rt; sink.taken.as_slice(), &whole[..sent], "send {k} fails");
-        assert_eq!(rt; sink.failures, if k < 22 { 1 } else { 0 });
-        assert_eq!(rt; sink.calls, if k < 22 { k } else { 21 }, "send {k} fails");
+    for written in 0..21u64 {
+        let sent = send(alloc, &field, written + 1);
+        check_front(&rt, &sent, written, EXAMPLE.as_bytes());
     }
+    check_whole(&rt, &send(alloc, &field, 22), EXAMPLE.as_bytes());
+    Ok(())
+}
+
+#[test]
+fn a_fault_says_how_much_went_out(rt: HostRuntime) -> Result<(), Fail> {
+    let fault = WriteFault { written: 2 };
+    let told = format!(in rt.alloc(); "{fault}")?;
+    assert_eq!(rt; told.as_str(), "a write failed after 2 bytes");
     Ok(())
 }
 
@@ -392,17 +442,25 @@ fn counts_go_on(rt: HostRuntime) -> Result<(), Fail> {
     let alloc = rt.alloc();
     let seed = RandomState::new(&rt)?;
     let mut out = Writing::new(Vec::new(alloc));
-    let written = write_field_from(&example(alloc, &seed)?, 0, &mut out)?;
+    let field = example(alloc, &seed)?;
+    let written = write_field_from(&field, 0, &mut out)?;
     assert_eq!(rt; written, 21);
     let written = send_all(b"\n", written, &mut out)?;
-    let written = write_bare_from(&token(alloc, b"end")?, written, &mut out)?;
-    assert_eq!(rt; written, 25);
-    assert_eq!(rt; send_all(b"..", u64::MAX - 1, &mut out)?, u64::MAX);
-    assert_eq!(rt; write_bare(&integer(7)?, &mut out)?, 1);
+    assert_eq!(rt; written, 22);
     let text = out.into_inner();
-    assert_eq!(rt;
-        text.as_slice(),
-        b"a=(1 2);y=:YQ==:, b;x\nend..7".as_slice()
-    );
+    assert_eq!(rt; text.as_slice(), b"a=(1 2);y=:YQ==:, b;x\n".as_slice());
+    Ok(())
+}
+
+#[test]
+fn counts_of_bare_items_go_on(rt: HostRuntime) -> Result<(), Fail> {
+    let alloc = rt.alloc();
+    let mut out = Writing::new(Vec::new(alloc));
+    let end = token(alloc, b"end")?;
+    assert_eq!(rt; write_bare_from(&end, 22, &mut out), Ok(25));
+    assert_eq!(rt; send_all(b"..", u64::MAX - 1, &mut out), Ok(u64::MAX));
+    assert_eq!(rt; write_bare(&integer(7)?, &mut out), Ok(1));
+    let text = out.into_inner();
+    assert_eq!(rt; text.as_slice(), b"end..7".as_slice());
     Ok(())
 }
