@@ -41,14 +41,26 @@ fn value_bytewise(
 fn check_value(
     rt: &impl Abort,
     alloc: Global,
-    field: &Field,
+    field: Field,
     kind: Kind,
     canonical: &[u8],
 ) -> Result<(), Fail> {
-    let written = to_text(alloc, field)?;
+    let written = to_text(alloc, &field)?;
     assert_eq!(rt; written.as_slice(), canonical);
     assert!(rt; field.kind() == kind);
     Ok(())
+}
+
+// Whether two texts, each in its dialect and of its kind, have equal values.
+fn have_equal_values(
+    alloc: Global,
+    seed: &RandomState,
+    one: (Dialect, Kind, &[u8]),
+    other: (Dialect, Kind, &[u8]),
+) -> Result<bool, Fail> {
+    let one = parse_text_in(alloc, seed, one.0, one.1, one.2)?;
+    let other = parse_text_in(alloc, seed, other.0, other.1, other.2)?;
+    Ok(same(&one, &other))
 }
 
 fn check_pieces(
@@ -62,10 +74,10 @@ fn check_pieces(
     for cut in 0..=text.len() {
         let (front, back) = text.split_at(cut);
         let field = value_in_pieces(alloc, seed, dialect, kind, front, back)?;
-        check_value(rt, alloc, &field, kind, canonical)?;
+        check_value(rt, alloc, field, kind, canonical)?;
     }
     let field = value_bytewise(alloc, seed, dialect, kind, text)?;
-    check_value(rt, alloc, &field, kind, canonical)
+    check_value(rt, alloc, field, kind, canonical)
 }
 
 // Whether the text has a byte that Dates and Display Strings begin with.
@@ -76,10 +88,12 @@ pub(crate) fn has_new_types(text: &[u8]) -> bool {
 fn check_row(rt: &impl Abort, alloc: Global, seed: &RandomState, row: Row) -> Result<(), Fail> {
     let (kind, text, canonical) = row;
     let field = parse_text(alloc, seed, kind, text)?;
-    check_value(rt, alloc, &field, kind, canonical)?;
+    check_value(rt, alloc, field, kind, canonical)?;
     let again = parse_text(alloc, seed, kind, canonical)?;
-    check_value(rt, alloc, &again, kind, canonical)?;
-    assert!(rt; same(&field, &again));
+    check_value(rt, alloc, again, kind, canonical)?;
+    let one = (Dialect::Rfc9651, kind, text);
+    let other = (Dialect::Rfc9651, kind, canonical);
+    assert!(rt; have_equal_values(alloc, seed, one, other)?);
     assert!(rt; canonical.len().saturating_mul(5) <= text.len().saturating_mul(8));
     check_pieces(rt, alloc, seed, Dialect::Rfc9651, row)?;
     if has_new_types(text) {
@@ -271,26 +285,29 @@ fn dictionaries(rt: HostRuntime) -> Result<(), Fail> {
 #[test]
 fn both_dialects(rt: HostRuntime) -> Result<(), Fail> {
     let seed = RandomState::new(&rt)?;
-    let alloc = rt.alloc();
-    let old = parse_text_in(alloc, &seed, Dialect::Rfc8941, Kind::Item, b"a;b=1")?;
-    let new = parse_text_in(alloc, &seed, Dialect::Rfc9651, Kind::Item, b"a;b=1")?;
-    assert!(&rt; same(&old, &new));
-    let mut parser = Parser::new_in(alloc, &seed, Dialect::Rfc8941, Kind::Dict, u64::MAX);
-    parser.feed(b"a=(1")?;
-    parser.feed(b" 2)")?;
-    let field = parser.finish()?;
-    check_value(&rt, alloc, &field, Kind::Dict, b"a=(1 2)")
+    let old = (Dialect::Rfc8941, Kind::Item, b"a;b=1".as_slice());
+    let new = (Dialect::Rfc9651, Kind::Item, b"a;b=1".as_slice());
+    assert!(&rt; have_equal_values(rt.alloc(), &seed, old, new)?);
+    let dialect = Dialect::Rfc8941;
+    let field = value_in_pieces(rt.alloc(), &seed, dialect, Kind::Dict, b"a=(1", b" 2)")?;
+    check_value(&rt, rt.alloc(), field, Kind::Dict, b"a=(1 2)")
 }
 
 #[test]
-fn order_counts(rt: HostRuntime) -> Result<(), Fail> {
+fn order_and_kind_count(rt: HostRuntime) -> Result<(), Fail> {
     let seed = RandomState::new(&rt)?;
-    let alloc = rt.alloc();
-    let one = parse_text(alloc, &seed, Kind::Dict, b"a=1, b=2")?;
-    let other = parse_text(alloc, &seed, Kind::Dict, b"b=2, a=1")?;
-    assert!(&rt; !same(&one, &other));
-    let item = parse_text(alloc, &seed, Kind::Item, b"a")?;
-    let list = parse_text(alloc, &seed, Kind::List, b"a")?;
-    assert!(&rt; !same(&item, &list));
+    let new = Dialect::Rfc9651;
+    for (one, other) in [
+        (
+            (new, Kind::Dict, b"a=1, b=2".as_slice()),
+            (new, Kind::Dict, b"b=2, a=1".as_slice()),
+        ),
+        (
+            (new, Kind::Item, b"a".as_slice()),
+            (new, Kind::List, b"a".as_slice()),
+        ),
+    ] {
+        assert!(&rt; !have_equal_values(rt.alloc(), &seed, one, other)?);
+    }
     Ok(())
 }
