@@ -1,5 +1,5 @@
-//! The laws of the grammar that follow from its machine, and of the sets of bytes that refusals
-//! name, each as the contract of a function that does nothing. They hold in both dialects.
+//! The laws of the grammar that follow from its machine, in both dialects, and that of the sets of
+//! bytes that refusals name. Each is the contract of a function that does nothing.
 ghost use Rattle.sf_parse.specs.Laws.{OneValue, IsRead, IsRest, IsViable, IsNext, IsEnd, StopsAt};
 ghost use Rattle.sf_parse.specs.Laws.{CanonOne, AnyPieces, OnlyNew, LinesOne};
 ghost use Rattle.sf_parse.specs.Taking.{TookNothing, TakesMore, TookViable, TookNext, TookEnd};

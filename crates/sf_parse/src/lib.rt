@@ -13,7 +13,8 @@
 //! ```
 //!
 //! The contracts speak of texts and values by the grammar of `sf_value`; `specs/Parsers` says what a
-//! parser took and answers. [`laws`] follow from the machine by which it is proved.
+//! parser took and answers. [`laws`] says what follows from the machine by which it is proved, and
+//! what the runs of a set are.
 #![tactic(auto)]
 
 mod bare;
