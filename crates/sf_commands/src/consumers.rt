@@ -1,8 +1,8 @@
 //! `cache-status`, `targeted` and `priority`.
+use crate::lines::{one, two};
 use crate::rows::{Row, expect_rows};
 use http_header::HeaderName;
 use sf_tool::{Request, Status};
-use std::alloc::{AllocError, Global};
 use std::hash::RandomState;
 use std::test::Fail;
 
@@ -62,19 +62,6 @@ fn cache_status(rt: HostRuntime) -> Result<(), Fail> {
     ];
     expect_rows(&rt, &seed, &Request::CacheStatus, &rows);
     Ok(())
-}
-
-fn one(alloc: Global, name: HeaderName) -> Result<Request, AllocError> {
-    let mut names = Vec::new(alloc);
-    names.push(name)?;
-    Ok(Request::Targeted(names))
-}
-
-fn two(alloc: Global, first: HeaderName, second: HeaderName) -> Result<Request, AllocError> {
-    let mut names = Vec::new(alloc);
-    names.push(first)?;
-    names.push(second)?;
-    Ok(Request::Targeted(names))
 }
 
 #[test]

@@ -1,6 +1,6 @@
-//! Tests of the command's answers: [`sf_tool::run`] on inputs whose answer is known, read whole, a
-//! byte at a time and in every cutting into two reads, with each read and each write failing in
-//! turn. It has tests alone.
+//! Tests of the command: its words with the requests that they are, and [`sf_tool::run`] on inputs
+//! whose answer is known, read whole, a byte at a time and in every cutting into two reads, with each
+//! read and each write failing in turn. It has tests alone.
 #![tactic(auto)]
 
 #[cfg(test)]
@@ -10,4 +10,8 @@ mod devices;
 #[cfg(test)]
 mod fields;
 #[cfg(test)]
+mod lines;
+#[cfg(test)]
 mod rows;
+#[cfg(test)]
+mod words;

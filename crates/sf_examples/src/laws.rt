@@ -1,8 +1,15 @@
 //! Laws: functions that do nothing. Where one is called, the proof of the caller knows what it says.
+use sf_value::Bare;
 use std::test::Fail;
 
 #[test]
 fn laws_are_called(rt: HostRuntime) -> Result<(), Fail> {
+    sf_value::laws::settles_in_parts::<Bare>();
+    sf_value::laws::canon_spells();
+    sf_value::laws::spelled_is_valid();
+    sf_value::laws::canon_is_short();
+    sf_value::laws::spells_in_both();
+    sf_value::laws::table_is_utf8();
     sf_parse::laws::one_value();
     sf_parse::laws::machine_reads();
     sf_parse::laws::refusals_are_exact();

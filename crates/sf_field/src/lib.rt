@@ -10,8 +10,6 @@ mod consumer;
 mod headers;
 pub mod laws;
 mod lines;
-#[cfg(test)]
-mod tests;
 
 pub use asking::{AskFault, ask};
 pub use consumer::{Consumer, UseFault};

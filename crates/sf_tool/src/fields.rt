@@ -132,6 +132,3 @@ pub(crate) fn read_fields(
     }
     Ok(headers)
 }
-
-#[cfg(test)]
-mod tests;

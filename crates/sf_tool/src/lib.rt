@@ -16,8 +16,6 @@ mod refusing;
 mod request;
 mod running;
 mod status;
-#[cfg(test)]
-mod tests;
 mod tree;
 
 pub use request::{MAX_NAMES, Request, RequestFault, read_request};

@@ -205,6 +205,3 @@ fn targeted(alloc: Global, words: &[&str]) -> Result<Request, RequestFault>
     }
     Ok(Request::Targeted(names))
 }
-
-#[cfg(test)]
-mod tests;

@@ -18,8 +18,6 @@ mod params;
 mod path;
 mod reading;
 mod status;
-#[cfg(test)]
-mod tests;
 
 pub use appending::append_hop;
 pub use hop::{Forward, Hop, Name, Outcome, Passed};

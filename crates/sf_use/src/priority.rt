@@ -11,9 +11,6 @@ use std::alloc::Global;
 use std::hash::RandomState;
 use std::marker::Model;
 
-#[cfg(test)]
-mod tests;
-
 /// The urgency of a response (RFC 9218 section 4.1): a number from 0, the most urgent, to 7, the
 /// least; the order is that of the numbers. The default is 3. Contracts see the number.
 #[derive(Clone, Copy, Debug, PartialEq, Eq, PartialOrd, Ord)]

@@ -14,9 +14,6 @@ use sf_value::{Bare, Dict, Field, Kind, Member, OutOfMemory};
 use std::alloc::Global;
 use std::hash::RandomState;
 
-#[cfg(test)]
-mod tests;
-
 /// What a targeted field says to a cache (RFC 9213 section 2.1, with the meanings of RFC 9111
 /// section 5.2.2). Other directives are ignored, and so are parameters.
 #[derive(Clone, Copy, Debug, Default, PartialEq, Eq)]

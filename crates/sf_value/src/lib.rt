@@ -41,8 +41,6 @@ mod number;
 mod part;
 mod sequence;
 mod shown;
-#[cfg(test)]
-mod tests;
 mod text;
 mod token;
 mod value;

@@ -1,6 +1,6 @@
 //! Texts that spell a value, with its canonical text.
 use sf_parse::{Parser, parse_text, parse_text_in};
-use sf_value::{Dialect, Field, Kind, same};
+use sf_value::{Dialect, Field, Kind, OutOfMemory, same};
 use sf_write::to_text;
 use std::alloc::Global;
 use std::hash::RandomState;
@@ -38,6 +38,10 @@ fn value_bytewise(
     Ok(parser.finish()?)
 }
 
+fn kind_and_text(alloc: Global, field: Field) -> Result<(Kind, Vec<u8>), OutOfMemory> {
+    Ok((field.kind(), to_text(alloc, &field)?))
+}
+
 fn check_value(
     rt: &impl Abort,
     alloc: Global,
@@ -45,22 +49,34 @@ fn check_value(
     kind: Kind,
     canonical: &[u8],
 ) -> Result<(), Fail> {
-    let written = to_text(alloc, &field)?;
-    assert_eq!(rt; written.as_slice(), canonical);
-    assert!(rt; field.kind() == kind);
+    let (found, text) = kind_and_text(alloc, field)?;
+    assert_eq!(rt; text.as_slice(), canonical);
+    assert!(rt; found == kind);
     Ok(())
 }
 
-// Whether two texts, each in its dialect and of its kind, have equal values.
+// A text in its dialect and of its kind.
+type Source<'a> = (Dialect, Kind, &'a [u8]);
+
+fn is_value_of(
+    alloc: Global,
+    seed: &RandomState,
+    field: &Field,
+    source: Source,
+) -> Result<bool, Fail> {
+    let (dialect, kind, text) = source;
+    Ok(same(field, &parse_text_in(alloc, seed, dialect, kind, text)?))
+}
+
 fn have_equal_values(
     alloc: Global,
     seed: &RandomState,
-    one: (Dialect, Kind, &[u8]),
-    other: (Dialect, Kind, &[u8]),
+    one: Source,
+    other: Source,
 ) -> Result<bool, Fail> {
-    let one = parse_text_in(alloc, seed, one.0, one.1, one.2)?;
-    let other = parse_text_in(alloc, seed, other.0, other.1, other.2)?;
-    Ok(same(&one, &other))
+    let (dialect, kind, text) = one;
+    let field = parse_text_in(alloc, seed, dialect, kind, text)?;
+    is_value_of(alloc, seed, &field, other)
 }
 
 fn check_pieces(

@@ -1,9 +1,8 @@
 //! Texts that a reader gives, a byte a read, with a read that fails.
-use sf_parse::{Refusal, parse_reader};
+use sf_parse::{Refusal, parse_reader, parse_text};
 use sf_value::{Failed, Field, Kind, Source, same};
 use std::alloc::Global;
 use std::hash::RandomState;
-use std::process::Abort;
 use std::test::Fail;
 
 /// Gives a byte a read; the read after so many bytes fails, and every later one.
@@ -50,109 +49,106 @@ fn make_drip(text: &'static [u8], fails_at: u64) -> Drip {
     }
 }
 
-fn parse_dripping(
-    alloc: Global,
-    seed: &RandomState,
-    kind: Kind,
-    max: u64,
-    source: &mut Drip,
-) -> Result<Field, Refusal> {
-    parse_reader(alloc, seed, kind, max, source)
+const MEMBERS: &[u8] = b"a=1,b;x, a=(1  2 );y=:YQ:";
+
+// The Dictionary of all its bytes, and how often was read.
+fn read_whole(alloc: Global, seed: &RandomState) -> Result<(Field, u64), Refusal> {
+    let mut source = make_drip(MEMBERS, u64::MAX);
+    let field = parse_reader(alloc, seed, Kind::Dict, 25, &mut source)?;
+    Ok((field, source.reads))
 }
 
-const MEMBERS: &[u8] = b"a=1,b;x, a=(1  2 );y=:YQ:";
+// The refusal where the read after so many bytes fails, and how often one failed.
+fn read_until(alloc: Global, seed: &RandomState, fails_at: u64) -> (Option<Refusal>, u64) {
+    let mut source = make_drip(MEMBERS, fails_at);
+    let refusal = parse_reader(alloc, seed, Kind::Dict, 25, &mut source).err();
+    (refusal, source.failures)
+}
+
+fn is_value_of_members(alloc: Global, seed: &RandomState, field: &Field) -> Result<bool, Refusal> {
+    Ok(same(field, &parse_text(alloc, seed, Kind::Dict, MEMBERS)?))
+}
 
 #[test]
 fn byte_by_byte(rt: HostRuntime) -> Result<(), Fail> {
     let seed = RandomState::new(&rt)?;
-    let alloc = rt.alloc();
-    let mut source = make_drip(MEMBERS, u64::MAX);
-    let field = parse_dripping(alloc, &seed, Kind::Dict, 25, &mut source)?;
-    assert_eq!(&rt; source.reads, 26);
-    let whole = sf_parse::parse_text(alloc, &seed, Kind::Dict, MEMBERS)?;
-    assert!(&rt; same(&field, &whole));
+    let (field, reads) = read_whole(rt.alloc(), &seed)?;
+    assert_eq!(&rt; reads, 26);
+    assert_eq!(&rt; is_value_of_members(rt.alloc(), &seed, &field), Ok(true));
+    Ok(())
+}
+
+#[test]
+fn each_read_fails(rt: HostRuntime) -> Result<(), Fail> {
+    let seed = RandomState::new(&rt)?;
     for place in 0..=25u64 {
-        let mut source = make_drip(MEMBERS, place);
-        let refusal = parse_dripping(alloc, &seed, Kind::Dict, 25, &mut source).err();
-        assert_eq!(&rt; refusal, Some(Refusal::ReadFault { place }));
-        assert_eq!(&rt; source.failures, 1);
+        let refusal = Some(Refusal::ReadFault { place });
+        assert_eq!(&rt; read_until(rt.alloc(), &seed, place), (refusal, 1));
     }
     Ok(())
 }
 
-fn check_refusal(
-    rt: &impl Abort,
+// What a reader is answered, without the value and the set of a refusal.
+#[derive(Debug, PartialEq, Drop)]
+enum Answer {
+    Accepted(Kind),
+    Refused(u64, Option<u8>),
+    TooLong(u64),
+    ReadFault(u64),
+    OutOfMemory,
+}
+
+fn answer_of(parsed: Result<Field, Refusal>) -> Answer {
+    match parsed {
+        Ok(field) => Answer::Accepted(field.kind()),
+        Err(Refusal::Syntax { place, found, .. }) => Answer::Refused(place, found),
+        Err(Refusal::TooLong { max }) => Answer::TooLong(max),
+        Err(Refusal::ReadFault { place }) => Answer::ReadFault(place),
+        Err(Refusal::OutOfMemory) => Answer::OutOfMemory,
+    }
+}
+
+fn read_with_limit(
     alloc: Global,
     seed: &RandomState,
+    kind: Kind,
     max: u64,
-    source: &mut Drip,
-    refusal: Option<(u64, Option<u8>)>,
-) -> Result<(), Fail> {
-    match (
-        parse_dripping(alloc, seed, Kind::Item, max, source),
-        refusal,
-    ) {
-        (Ok(_), None) => Ok(()),
-        (Err(Refusal::TooLong { max: limit }), None) => {
-            assert_eq!(rt; limit, max);
-            Ok(())
-        }
-        (Err(Refusal::Syntax { place, found, .. }), Some((at, byte))) => {
-            assert_eq!(rt; place, at);
-            assert_eq!(rt; found, byte);
-            Ok(())
-        }
-        _ => Err(Fail::from("another answer")),
-    }
+    mut source: Drip,
+) -> Answer {
+    answer_of(parse_reader(alloc, seed, kind, max, &mut source))
 }
 
 #[test]
 fn limits(rt: HostRuntime) -> Result<(), Fail> {
     let seed = RandomState::new(&rt)?;
-    let alloc = rt.alloc();
-    let field = parse_dripping(
-        alloc,
-        &seed,
-        Kind::Item,
-        3,
-        &mut make_drip(b"abc", u64::MAX),
-    )?;
-    assert!(&rt; field.kind() == Kind::Item);
-    let past = parse_dripping(
-        alloc,
-        &seed,
-        Kind::Item,
-        3,
-        &mut make_drip(b"abcd", u64::MAX),
-    )
-    .err();
-    assert_eq!(&rt; past, Some(Refusal::TooLong { max: 3 }));
-    check_refusal(
-        &rt,
-        alloc,
-        &seed,
-        3,
-        &mut make_drip(b"a,bcd", u64::MAX),
-        Some((1, Some(0x2c))),
-    )?;
-    check_refusal(
-        &rt,
-        alloc,
-        &seed,
-        0,
-        &mut make_drip(b"", u64::MAX),
-        Some((0, None)),
-    )?;
-    let empty = parse_dripping(alloc, &seed, Kind::List, 0, &mut make_drip(b"", u64::MAX))?;
-    assert!(&rt; empty.kind() == Kind::List);
-    check_refusal(&rt, alloc, &seed, 0, &mut make_drip(b"a", u64::MAX), None)?;
-    check_refusal(&rt, alloc, &seed, 0, &mut make_drip(b"\t", u64::MAX), None)?;
-    check_refusal(
-        &rt,
-        alloc,
-        &seed,
-        9,
-        &mut make_drip(b"a,", 2),
-        Some((1, Some(0x2c))),
-    )
+    for (kind, max, text, answer) in [
+        (
+            Kind::Item,
+            3,
+            b"abc".as_slice(),
+            Answer::Accepted(Kind::Item),
+        ),
+        (Kind::Item, 3, b"abcd", Answer::TooLong(3)),
+        (Kind::Item, 3, b"a,bcd", Answer::Refused(1, Some(0x2c))),
+        (Kind::Item, 0, b"", Answer::Refused(0, None)),
+        (Kind::List, 0, b"", Answer::Accepted(Kind::List)),
+        (Kind::Item, 0, b"a", Answer::TooLong(0)),
+        (Kind::Item, 0, b"\t", Answer::TooLong(0)),
+    ] {
+        let source = make_drip(text, u64::MAX);
+        assert_eq!(&rt;
+            read_with_limit(rt.alloc(), &seed, kind, max, source),
+            answer
+        );
+    }
+    Ok(())
+}
+
+#[test]
+fn refused_before_a_fault(rt: HostRuntime) -> Result<(), Fail> {
+    let seed = RandomState::new(&rt)?;
+    let source = make_drip(b"a,", 2);
+    let answer = read_with_limit(rt.alloc(), &seed, Kind::Item, 9, source);
+    assert_eq!(&rt; answer, Answer::Refused(1, Some(0x2c)));
+    Ok(())
 }

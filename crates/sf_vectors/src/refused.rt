@@ -335,20 +335,40 @@ fn old_dialect(rt: HostRuntime) -> Result<(), Fail> {
     Ok(())
 }
 
+// What a parser of one byte answers to two, to none behind them and at the end, and its place.
+fn past_the_limit(alloc: Global, seed: &RandomState) -> ([Option<Refusal>; 3], u64) {
+    let mut parser = Parser::new(alloc, seed, Kind::Item, 1);
+    let fed = parser.feed(b"ab").err();
+    let place = parser.place();
+    let again = parser.feed(b"").err();
+    ([fed, again, parser.finish().err()], place)
+}
+
 #[test]
 fn limits(rt: HostRuntime) -> Result<(), Fail> {
     let seed = RandomState::new(&rt)?;
-    let mut parser = Parser::new(rt.alloc(), &seed, Kind::Item, 1);
-    let refusal = Refusal::TooLong { max: 1 };
-    assert_eq!(&rt; parser.feed(b"ab"), Err(refusal));
-    assert_eq!(&rt; parser.place(), 1);
-    assert_eq!(&rt; parser.feed(b""), Err(refusal));
-    assert_eq!(&rt; parser.finish().err(), Some(refusal));
-    let mut parser = Parser::new(rt.alloc(), &seed, Kind::Item, u64::MAX);
-    parser.feed(b":i")?;
-    parser.feed(b"Z")?;
-    assert_eq!(&rt; parser.place(), 3);
-    parser.feed(b"==:")?;
-    assert_eq!(&rt; parser.place(), 6);
+    let refusal = Some(Refusal::TooLong { max: 1 });
+    let (refusals, place) = past_the_limit(rt.alloc(), &seed);
+    assert_eq!(&rt; refusals, [refusal, refusal, refusal]);
+    assert_eq!(&rt; place, 1);
+    Ok(())
+}
+
+// The places behind each of three pieces.
+fn places(alloc: Global, seed: &RandomState, pieces: [&[u8]; 3]) -> Result<[u64; 3], Refusal> {
+    let mut parser = Parser::new(alloc, seed, Kind::Item, u64::MAX);
+    let mut places = [0; 3];
+    for (place, piece) in places.iter_mut().zip(pieces) {
+        parser.feed(piece)?;
+        *place = parser.place();
+    }
+    Ok(places)
+}
+
+#[test]
+fn place_behind_pieces(rt: HostRuntime) -> Result<(), Fail> {
+    let seed = RandomState::new(&rt)?;
+    let pieces = [b":i".as_slice(), b"Z", b"==:"];
+    assert_eq!(&rt; places(rt.alloc(), &seed, pieces), Ok([2, 3, 6]));
     Ok(())
 }

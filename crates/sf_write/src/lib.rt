@@ -18,8 +18,6 @@ mod params;
 mod send;
 mod shown;
 mod strings;
-#[cfg(test)]
-mod tests;
 
 pub use bare::{bare_text, write_bare, write_bare_from, write_text_from};
 pub use field::{to_text, write_field, write_field_from};

@@ -50,17 +50,17 @@ fn params_of(alloc: Global, seed: &RandomState, hop: &Hop) -> Result<Entries<Bar
     ensures { IfOk result (λ params. params ≡ parameters_of hop.now) }
 {
     let outcome = &hop.outcome;
-    let why = why_value(alloc, outcome)?;
-    let key = key_value(alloc, &hop.key)?;
-    let detail = detail_value(alloc, &hop.detail)?;
     let mut params = Entries::new(alloc, seed);
     put(alloc, &mut params, b"hit", hit_value(outcome))?;
+    let why = why_value(alloc, outcome)?;
     put(alloc, &mut params, b"fwd", why)?;
     put(alloc, &mut params, b"fwd-status", status_value(outcome))?;
     put(alloc, &mut params, b"ttl", ttl_value(hop.ttl))?;
     put(alloc, &mut params, b"stored", stored_value(outcome))?;
     put(alloc, &mut params, b"collapsed", collapsed_value(outcome))?;
+    let key = key_value(alloc, &hop.key)?;
     put(alloc, &mut params, b"key", key)?;
+    let detail = detail_value(alloc, &hop.detail)?;
     put(alloc, &mut params, b"detail", detail)?;
     Ok(params)
 }

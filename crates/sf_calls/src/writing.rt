@@ -1,14 +1,14 @@
-// Values with their texts, and a sink that takes one byte a call and fails at a stated call.
+//! Values with their texts, and a sink that takes one byte a call and fails at a stated call.
 ghost use Rattle.std.specs.Prelude.{Some};
 ghost use Rattle.sf_value.specs.Devices.{capped};
 
-use crate::{
-    WriteFault, bare_text, send_all, to_text, write_bare, write_bare_from, write_field,
-    write_field_from,
-};
 use sf_value::{
     Bare, Blob, Dict, Entries, Failed, Field, Inner, Int, Item, Key, List, Member, Sequence, Shown,
     Sink, Text, Thousandths, Token, Writing,
+};
+use sf_write::{
+    WriteFault, bare_text, send_all, to_text, write_bare, write_bare_from, write_field,
+    write_field_from,
 };
 use std::alloc::Global;
 use std::hash::RandomState;

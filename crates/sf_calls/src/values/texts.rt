@@ -1,4 +1,4 @@
-use crate::{
+use sf_value::{
     Blob, Int, Key, OutOfRange, Shown, Text, TextFault, Thousandths, Token, can_be_in_key,
     can_be_in_token, can_start_key, can_start_token, is_visible,
 };

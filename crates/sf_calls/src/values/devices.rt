@@ -1,4 +1,4 @@
-use crate::{Failed, Reading, Sink, Source, Writing};
+use sf_value::{Failed, Reading, Sink, Source, Writing};
 use std::io;
 use std::io::{Read, Write};
 

@@ -1,5 +1,5 @@
 //! Values for the tests.
-use crate::{
+use sf_value::{
     Bare, Blob, Dict, Entries, Field, Inner, Int, Item, Key, List, Member, OutOfRange, Sequence,
     Shown, Text, Thousandths, Token,
 };

@@ -1,7 +1,7 @@
-// Targeted fields with what they say, and headers with the choice among targets.
-use super::{Choice, Directives, Policy, select};
+//! Targeted fields with what they say, and headers with the choice among targets.
 use http_header::{HeaderMap, HeaderName, HeaderValue};
 use sf_field::ask;
+use sf_use::{Choice, Directives, Policy, select};
 use sf_value::Blob;
 use std::alloc::Global;
 use std::hash::RandomState;

@@ -1,5 +1,5 @@
-use crate::tests::build::{bare, dict, item, list, token_item, token_list};
-use crate::{Dialect, Field, Kind, Part, copy, same};
+use crate::values::build::{bare, dict, item, list, token_item, token_list};
+use sf_value::{Dialect, Field, Kind, Part, copy, same};
 use std::alloc::Global;
 use std::hash::RandomState;
 use std::test::Fail;

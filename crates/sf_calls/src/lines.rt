@@ -1,6 +1,6 @@
-// Lines and header maps with their answers.
-use crate::{from_headers, normalise_lines, parse_lines, parse_lines_in};
+//! Lines and header maps with their answers.
 use http_header::{HeaderMap, HeaderName, HeaderValue};
+use sf_field::{from_headers, normalise_lines, parse_lines, parse_lines_in};
 use sf_parse::Refusal;
 use sf_value::{Blob, Dialect, Field, Kind};
 use sf_write::to_text;

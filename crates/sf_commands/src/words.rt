@@ -1,4 +1,6 @@
-use super::*;
+//! The words of the command line with the requests that they are, and the exit codes.
+use sf_tool::{Request, RequestFault, Status, read_request};
+use std::alloc::{AllocError, Global};
 use std::process::Abort;
 use std::test::Fail;
 
@@ -169,4 +171,12 @@ fn lines_of_faults(rt: HostRuntime) -> Result<(), Fail> {
     let stopped = RequestFault::OutOfMemory.to_string(rt.alloc())?;
     assert_eq!(&rt; stopped.as_str(), "sf: out of memory or a device failed");
     Ok(())
+}
+
+#[test]
+fn codes_of_statuses(rt: HostRuntime) {
+    assert_eq!(&rt; Status::Accepted.code(), 0);
+    assert_eq!(&rt; Status::Refused.code(), 1);
+    assert_eq!(&rt; Status::Usage.code(), 2);
+    assert_eq!(&rt; Status::Stopped.code(), 3);
 }

@@ -1,5 +1,5 @@
-use crate::tests::build::{number, number_at, number_in, put};
-use crate::{Bare, Entries};
+use crate::values::build::{number, number_at, number_in, put};
+use sf_value::{Bare, Entries};
 use std::alloc::Global;
 use std::hash::RandomState;
 use std::process::Abort;

@@ -1,5 +1,5 @@
-use crate::tests::build::{bare, flag, inner, number_in, one_and_two, push};
-use crate::{Item, Part, Sequence};
+use crate::values::build::{bare, flag, inner, number_in, one_and_two, push};
+use sf_value::{Item, Part, Sequence};
 use std::hash::RandomState;
 use std::test::Fail;
 

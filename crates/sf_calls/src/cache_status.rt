@@ -1,11 +1,8 @@
-// Hops read from texts and written again. What is expected comes from RFC 9211: its sections 2 and
-// 4, and what they say of parameters of other types.
-use crate::cache_status::{
-    CachePath, CacheStatus, Forward, Hop, HopStatus, Name, Outcome, Passed, append_hop,
-};
-use crate::laws;
+//! Hops read from texts and written again. What is expected comes from RFC 9211: its sections 2 and
+//! 4, and what they say of parameters of other types.
 use sf_field::{AskFault, Consumer, UseFault, ask};
 use sf_parse::{Refusal, parse_text};
+use sf_use::{CachePath, CacheStatus, Forward, Hop, HopStatus, Name, Outcome, Passed, append_hop};
 use sf_value::{Blob, Field, Kind, List, OutOfMemory, OutOfRange, Sequence, Token};
 use sf_write::to_text;
 use std::alloc::Global;
@@ -32,6 +29,18 @@ fn written(alloc: Global, seed: &RandomState, hops: &[Hop]) -> Result<Vec<u8>, O
         append_hop(alloc, seed, &mut list, hop)?;
     }
     to_text(alloc, &Field::List(list))
+}
+
+// The member that served, of a text, and the text of the members that are appended for its hops.
+fn read_and_written(
+    alloc: Global,
+    seed: &RandomState,
+    text: &str,
+) -> Result<(Option<usize>, Vec<u8>), Fail> {
+    match read(alloc, seed, text) {
+        Ok(path) => Ok((path.served_by(), written(alloc, seed, path.hops())?)),
+        Err(_) => Err(Fail::from("refused")),
+    }
 }
 
 #[test]
@@ -87,11 +96,8 @@ fn reads_and_writes(rt: HostRuntime) -> Result<(), Fail> {
             None,
         ),
     ] {
-        let Ok(path) = read(alloc, &seed, text) else {
-            return Err(Fail::from("refused"));
-        };
-        assert_eq!(rt; path.served_by(), served, "served by, of {text}");
-        let again = written(alloc, &seed, path.hops())?;
+        let (by, again) = read_and_written(alloc, &seed, text)?;
+        assert_eq!(rt; by, served, "served by, of {text}");
         assert_eq!(rt; again.as_slice(), want.as_bytes(), "written, of {text}");
     }
     Ok(())
@@ -144,67 +150,96 @@ fn reason_of(outcome: &Outcome) -> &str {
 
 #[test]
 fn tells_reasons(rt: HostRuntime) -> Result<(), Fail> {
-    let alloc = rt.alloc();
     let seed = RandomState::new(&rt)?;
-    let Ok(path) = read(
-        alloc,
-        &seed,
-        "a;fwd=bypass, b;fwd=method, c;fwd=uri-miss, d;fwd=vary-miss, e;fwd=miss, f;fwd=request, \
-         g;fwd=stale, h;fwd=partial;hit, i;fwd=Miss, j;fwd=\"miss\", k;hit",
-    ) else {
-        return Err(Fail::from("refused"));
-    };
-    let want = [
-        "bypass",
-        "method",
-        "uri-miss",
-        "vary-miss",
-        "miss",
-        "request",
-        "stale",
-        "partial",
-        "other",
-        "none",
-        "none",
-    ];
-    assert_eq!(rt; path.hops().len(), want.len());
-    for (hop, want) in path.hops().iter().zip(want) {
-        assert_eq!(rt; reason_of(&hop.outcome), want);
+    for (text, want) in [
+        ("a;fwd=bypass", "bypass"),
+        ("b;fwd=method", "method"),
+        ("c;fwd=uri-miss", "uri-miss"),
+        ("d;fwd=vary-miss", "vary-miss"),
+        ("e;fwd=miss", "miss"),
+        ("f;fwd=request", "request"),
+        ("g;fwd=stale", "stale"),
+        ("h;fwd=partial;hit", "partial"),
+        ("i;fwd=Miss", "other"),
+        ("j;fwd=\"miss\"", "none"),
+        ("k;hit", "none"),
+    ] {
+        match read(rt.alloc(), &seed, text) {
+            Ok(path) => {
+                assert_eq!(rt; path.hops().len(), 1, "hops of {text}");
+                for hop in path.hops() {
+                    assert_eq!(rt; reason_of(&hop.outcome), want, "of {text}");
+                }
+            }
+            Err(_) => return Err(Fail::from("refused")),
+        }
     }
     Ok(())
 }
 
-#[test]
-fn appends(rt: HostRuntime) -> Result<(), Fail> {
-    let alloc = rt.alloc();
-    let seed = RandomState::new(&rt)?;
+// The List of the path of two caches that RFC 9211 shows.
+fn two_caches(alloc: Global, seed: &RandomState) -> Result<List, Fail> {
     let text = b"OriginCache; hit; ttl=1100, \"CDN Company Here\"; hit; ttl=545";
-    let Ok(Field::List(mut list)) = parse_text(alloc, &seed, Kind::List, text) else {
-        return Err(Fail::from("refused"));
+    match parse_text(alloc, seed, Kind::List, text) {
+        Ok(Field::List(list)) => Ok(list),
+        _ => Err(Fail::from("refused")),
+    }
+}
+
+fn name(alloc: Global, text: &[u8]) -> Result<Name, Fail> {
+    Ok(Name::Token(Token::new(alloc, text)?))
+}
+
+fn stale_hop(name: Name, detail: Name, status: HopStatus) -> Hop {
+    let passed = Passed {
+        why: Forward::Stale,
+        status: Some(status),
+        stored: Some(true),
+        collapsed: None,
     };
-    let hop = Hop {
-        name: Name::Token(Token::new(alloc, b"edge")?),
-        outcome: Outcome::Forwarded(Passed {
-            why: Forward::Stale,
-            status: Some(HopStatus::new(304)?),
-            stored: Some(true),
-            collapsed: None,
-        }),
+    Hop {
+        name,
+        outcome: Outcome::Forwarded(passed),
         ttl: None,
         key: None,
-        detail: Some(Name::Token(Token::new(alloc, b"x")?)),
-    };
-    append_hop(alloc, &seed, &mut list, &hop)?;
-    let field = Field::List(list);
-    let text = to_text(alloc, &field)?;
+        detail: Some(detail),
+    }
+}
+
+fn edge_hop(alloc: Global) -> Result<Hop, Fail> {
+    let status = HopStatus::new(304)?;
+    let edge = name(alloc, b"edge")?;
+    Ok(stale_hop(edge, name(alloc, b"x")?, status))
+}
+
+// The List of the two caches with the edge behind them.
+fn with_edge(alloc: Global, seed: &RandomState) -> Result<List, Fail> {
+    let mut list = two_caches(alloc, seed)?;
+    append_hop(alloc, seed, &mut list, &edge_hop(alloc)?)?;
+    Ok(list)
+}
+
+#[test]
+fn appends(rt: HostRuntime) -> Result<(), Fail> {
+    let seed = RandomState::new(&rt)?;
+    let list = with_edge(rt.alloc(), &seed)?;
+    let text = to_text(rt.alloc(), &Field::List(list))?;
     let want = "OriginCache;hit;ttl=1100, \"CDN Company Here\";hit;ttl=545, \
                 edge;fwd=stale;fwd-status=304;stored;detail=x";
     assert_eq!(rt; text.as_slice(), want.as_bytes());
-    let Ok(path) = CacheStatus.answer(alloc, &field) else {
-        return Err(Fail::from("no answer"));
-    };
-    assert_eq!(rt; path.served_by(), Some(1));
-    laws::reads_back();
+    Ok(())
+}
+
+fn served(alloc: Global, list: List) -> Option<usize> {
+    let path = CacheStatus.answer(alloc, &Field::List(list)).ok()?;
+    path.served_by()
+}
+
+#[test]
+fn appended_reads_back(rt: HostRuntime) -> Result<(), Fail> {
+    let seed = RandomState::new(&rt)?;
+    let list = with_edge(rt.alloc(), &seed)?;
+    assert_eq!(rt; served(rt.alloc(), list), Some(1));
     Ok(())
 }
 

@@ -1,7 +1,7 @@
-// Priority fields with what they come to, and priorities with their fields.
-use super::{Priority, PriorityField, Urgency, merge, priority_field};
+//! Priority fields with what they come to, and priorities with their fields.
 use sf_field::ask;
 use sf_parse::parse_text;
+use sf_use::{Priority, PriorityField, Urgency, merge, priority_field};
 use sf_value::{Blob, Dict, Field, Kind, OutOfRange};
 use sf_write::to_text;
 use std::alloc::Global;

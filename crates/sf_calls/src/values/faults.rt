@@ -1,4 +1,4 @@
-use crate::{Bare, Failed, OutOfMemory, OutOfRange, TextFault, laws};
+use sf_value::{Bare, Failed, OutOfMemory, OutOfRange, TextFault};
 use std::alloc::Global;
 use std::fmt::Display;
 use std::process::Abort;
@@ -30,14 +30,4 @@ fn faults_say_themselves(rt: HostRuntime) -> Result<(), Fail> {
     )?;
     check_text_of(&rt, alloc, &TextFault::OutOfMemory, "out of memory")?;
     check_text_of(&rt, alloc, &Failed, "a device failed")
-}
-
-#[test]
-fn laws_are_called(rt: HostRuntime) {
-    laws::settles_in_parts::<Bare>();
-    laws::canon_spells();
-    laws::spelled_is_valid();
-    laws::canon_is_short();
-    laws::spells_in_both();
-    laws::table_is_utf8();
 }

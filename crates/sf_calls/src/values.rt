@@ -1,0 +1,8 @@
+//! Values that are made, put together, copied and compared.
+mod build;
+mod devices;
+mod entries;
+mod faults;
+mod fields;
+mod sequences;
+mod texts;
