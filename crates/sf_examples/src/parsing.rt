@@ -59,7 +59,8 @@ fn headers(rt: HostRuntime) -> Result<(), Fail> {
         HeaderName::from_static("priority"),
         HeaderValue::from_static("i"),
     )?;
-    let text = match from_headers(alloc, &seed, Kind::Dict, &headers, &priority)? {
+    let field = from_headers(alloc, &seed, Kind::Dict, &headers, &priority)?;
+    let text = match field {
         Some(field) => to_text(alloc, &field)?,
         None => Vec::new(alloc),
     };

@@ -16,7 +16,8 @@ fn build(alloc: Global, seed: &RandomState) -> Result<Field, Fail> {
         return Err(OutOfMemory.into());
     }
     let bare = Bare::Token(Token::new(alloc, b"a")?);
-    Ok(Field::Item(Item { bare, params }))
+    let field = Field::Item(Item { bare, params });
+    Ok(field)
 }
 
 #[test]
