@@ -13,6 +13,15 @@ use std::fmt;
 use std::hash::RandomState;
 
 /// Why there is no answer for field lines.
+///
+/// ```
+/// match ask(alloc, &seed, &CacheStatus, lines.as_slice()) {
+///     Ok(path) => ..
+///     Err(AskFault::Field(refusal)) => .. // the lines are no List
+///     Err(AskFault::Answer(UseFault::NotACache { index })) => ..
+///     Err(AskFault::Answer(UseFault::OutOfMemory)) => ..
+/// }
+/// ```
 #[derive(Clone, Copy, Debug, PartialEq, Eq)]
 pub enum AskFault {
     /// The lines spell no value of the consumer's kind, or memory was wanting to parse them.

@@ -37,6 +37,10 @@ fn feed_lines(parser: &mut Parser, lines: &[Blob]) -> Result<(), Refusal>
 /// and a space, in which the places of a refusal are counted. It is TooLong only where that text
 /// has 2^64 bytes or more, and never ReadFault. A single line of spaces, `-` and digits takes no
 /// memory where an Item is asked for.
+///
+/// ```
+/// parse_lines_in(alloc, &seed, Dialect::Rfc8941, Kind::Item, lines.as_slice())
+/// ```
 pub fn parse_lines_in(
     alloc: Global,
     seed: &RandomState,

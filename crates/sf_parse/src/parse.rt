@@ -15,6 +15,10 @@ use std::hash::RandomState;
 
 /// The value that the text spells, in the dialect of RFC 9651 (section 4.2). It is never TooLong or
 /// ReadFault. A text of spaces, `-` and digits takes no memory.
+///
+/// ```
+/// let field = parse_text(alloc, &seed, Kind::Dict, b"u=1, i")?;
+/// ```
 pub fn parse_text(
     alloc: Global,
     seed: &RandomState,
@@ -28,6 +32,10 @@ pub fn parse_text(
 }
 
 /// The value that the text spells in this dialect.
+///
+/// ```
+/// parse_text_in(alloc, &seed, Dialect::Rfc8941, Kind::Item, b"@1") // refused: no Dates
+/// ```
 pub fn parse_text_in(
     alloc: Global,
     seed: &RandomState,

@@ -18,6 +18,14 @@ use std::marker::Model;
 
 /// What was taken of a text, and why it was refused. It keeps no text: beside the values built so
 /// far only the open construct.
+///
+/// ```
+/// let mut parser = Parser::new(alloc, &seed, Kind::List, 1000);
+/// parser.feed(b"a, ")?;
+/// parser.feed(b"b")?;
+/// parser.place() // 4
+/// let list = parser.finish()?;
+/// ```
 pub struct Parser {
     context: Context,
     kind: Kind,

@@ -13,6 +13,11 @@ use std::hash::RandomState;
 /// this order over the bytes given: Syntax with a found byte, where the first `max` of them are no
 /// good front; ReadFault, where a read failed; TooLong, where more than `max` came; else, at the
 /// reader's end, the value, or Syntax without a found byte.
+///
+/// ```
+/// let mut source = Reading::new(b"u=1, i".as_slice());
+/// let field = parse_reader(alloc, &seed, Kind::Dict, 1000, &mut source)?;
+/// ```
 pub fn parse_reader<R: Source>(
     alloc: Global,
     seed: &RandomState,

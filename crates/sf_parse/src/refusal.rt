@@ -7,6 +7,15 @@ use std::error::Error;
 use std::fmt;
 
 /// Why a text is refused. Places are counted in bytes from 0.
+///
+/// ```
+/// match parse_text(alloc, &seed, Kind::Item, b"1 2") {
+///     Ok(field) => ..
+///     Err(Refusal::Syntax { place, found, expected, may_end }) => ..
+///     // 2, Some(b'2'), the set of a space alone, true
+///     Err(refusal) => ..
+/// }
+/// ```
 #[derive(Clone, Copy, Debug, PartialEq, Eq)]
 pub enum Refusal {
     /// A growth was refused for want of memory.

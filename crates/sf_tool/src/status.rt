@@ -3,6 +3,11 @@ ghost use Rattle.std.specs.Prelude.{◌≡◌};
 ghost use Rattle.sf_tool.specs.Status.{code_of};
 
 /// How the command ends.
+///
+/// ```
+/// let status = run(alloc, &seed, &request, &mut source, &mut sink);
+/// ExitCode::from(status.code())
+/// ```
 #[derive(Clone, Copy, Debug, PartialEq, Eq)]
 pub enum Status {
     /// The input was accepted, and the answer was written.

@@ -79,6 +79,10 @@ pub struct Asked {
 }
 
 /// A priority, with both its parts (RFC 9218 section 4).
+///
+/// ```
+/// let priority = Priority { urgency: Urgency::new(1)?, incremental: true }; // u=1, i
+/// ```
 #[derive(Clone, Copy, Debug, Default, PartialEq, Eq)]
 pub struct Priority {
     /// How urgent the response is (section 4.1).
@@ -142,6 +146,10 @@ impl Priority {
 impl Asked {
     /// The priority, with the defaults for the parts that are not said: urgency 3, not incremental
     /// (RFC 9218 section 4). Fill them in after [`merge`]. It takes no memory.
+    ///
+    /// ```
+    /// Asked::default().with_defaults() // urgency 3, not incremental
+    /// ```
     pub fn with_defaults(self) -> Priority
         ensures { result ≡ filled self }
     {
@@ -169,6 +177,10 @@ pub fn merge(client: Asked, server: Asked) -> Asked
 }
 
 /// Reads the Priority field (RFC 9218 section 5), a Dictionary. Its answer takes no memory.
+///
+/// ```
+/// let asked = ask(alloc, &seed, &PriorityField, lines.as_slice())?;
+/// ```
 #[derive(Clone, Copy, Debug, Default, PartialEq, Eq)]
 pub struct PriorityField;
 

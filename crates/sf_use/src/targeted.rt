@@ -91,6 +91,12 @@ impl Policy {
     /// For how many seconds the response is fresh in a shared or in a private cache, `None` where
     /// the field does not say: in a shared one `s-maxage` stands before `max-age` (RFC 9111 section
     /// 4.2.1), in a private one `max-age` alone counts. It takes no memory.
+    ///
+    /// ```
+    /// // s-maxage=5
+    /// policy.lifetime(true)  // Some(5)
+    /// policy.lifetime(false) // None
+    /// ```
     pub fn lifetime(&self, shared: bool) -> Option<u64>
         ensures { result ≡ life self.now shared }
     {
@@ -103,6 +109,10 @@ impl Policy {
 }
 
 /// Reads a targeted field (RFC 9213 section 2.1), a Dictionary. Its answer takes no memory.
+///
+/// ```
+/// let policy = ask(alloc, &seed, &Directives, lines.as_slice())?;
+/// ```
 #[derive(Clone, Copy, Debug, Default, PartialEq, Eq)]
 pub struct Directives;
 

@@ -9,6 +9,10 @@ use std::marker::Model;
 
 /// A byte sequence (RFC 9651 section 3.3.5): any number of any bytes, as they are, not in base64. A
 /// field line is handed in as one, too. Contracts see the list of its bytes.
+///
+/// ```
+/// let blob = Blob::new(alloc, b"a\xff")?; // written as :Yf8=:
+/// ```
 #[derive(Debug, Drop)]
 pub struct Blob {
     bytes: Vec<u8>,

@@ -27,6 +27,11 @@ impl Error for Failed {}
 /// A device of your own is seen by contracts through its `state`: the bytes still to come, or that
 /// it does not tell them; how many bytes it gave; how many calls failed. The two counts stay at
 /// 2^64 - 1 once they are there.
+///
+/// ```
+/// let mut block = [0; 512];
+/// let count = source.pull(&mut block)?; // so many stand at the front; 0 at the end
+/// ```
 pub trait Source {
     // The bytes still to come, where it tells them, how many bytes it gave, and how many calls
     // failed.
@@ -43,6 +48,10 @@ pub trait Source {
 ///
 /// A device of your own is seen by contracts through its `state`: the bytes taken, or that it does
 /// not tell them; how many calls failed, a count that stays at 2^64 - 1 once it is there.
+///
+/// ```
+/// let count = sink.send(b"a, b")?; // how many of the four bytes went out
+/// ```
 pub trait Sink {
     // The bytes taken, where it tells them, and how many calls failed.
     ghost state: { Self → SinkState };
@@ -54,6 +63,11 @@ pub trait Sink {
 }
 
 /// Any reader as a source. No call is repeated, whatever its error.
+///
+/// ```
+/// let mut source = Reading::new(b"u=1, i".as_slice());
+/// let field = parse_reader(alloc, &seed, Kind::Dict, 1000, &mut source)?;
+/// ```
 #[derive(Debug, Drop)]
 pub struct Reading<R> {
     reader: R,
@@ -126,6 +140,12 @@ impl<R: Read> Source for Reading<R> {
 
 /// Any writer as a sink. No call is repeated, whatever its error, and a write that takes no byte is
 /// `Failed`. It does not flush.
+///
+/// ```
+/// let mut out = Writing::new(Vec::new(alloc));
+/// write_field(&field, &mut out)?;
+/// let text = out.into_inner();
+/// ```
 #[derive(Debug, Drop)]
 pub struct Writing<W> {
     writer: W,

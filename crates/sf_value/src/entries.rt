@@ -18,6 +18,15 @@ use std::marker::Model;
 /// Values by key, in the order in which the keys came first: the parameters of an Item or an Inner
 /// List (RFC 9651 section 3.1.2), and the members of a Dictionary (section 3.2). No key stands
 /// twice. Contracts see the list of the pairs of a key's bytes and its value.
+///
+/// ```
+/// let mut entries = Entries::new(alloc, &seed);
+/// entries.put(Key::new(alloc, b"a")?, 1) // Ok(None)
+/// entries.put(Key::new(alloc, b"b")?, 2) // Ok(None)
+/// entries.put(Key::new(alloc, b"a")?, 3) // Ok(Some(1)), and the place stays
+/// entries.at(0)                          // Some((b"a", &3))
+/// entries.get(b"b")                      // Some(&2)
+/// ```
 #[derive(Debug, Drop)]
 pub struct Entries<V> {
     map: IndexMap<Vec<u8>, V, RandomState>,

@@ -17,6 +17,14 @@ pub struct OutOfRange;
 
 /// Why bytes are no key, token or string. Where several causes hold, the one that stands first here
 /// is answered.
+///
+/// ```
+/// match Key::new(alloc, bytes) {
+///     Ok(key) => ..
+///     Err(TextFault::BadByte { place }) => ..
+///     Err(fault) => .. // TextFault::Empty, or no memory was left
+/// }
+/// ```
 #[derive(Clone, Copy, Debug, PartialEq, Eq)]
 pub enum TextFault {
     /// There is no byte, and a key or a token has at least one. A string is never refused so.

@@ -44,6 +44,11 @@ fn bad_byte(bytes: &[u8]) -> Option<usize>
 /// The key of a parameter or of a member of a dictionary (RFC 9651 section 3.1.2): a byte that may
 /// start one ([`can_start_key`]), then any number of bytes that may be in one ([`can_be_in_key`]).
 /// Upper case is never in one. Contracts see the list of its bytes.
+///
+/// ```
+/// let key = Key::new(alloc, b"max-age")?;
+/// Key::new(alloc, b"Max-age") // Err(TextFault::BadByte { place: 0 })
+/// ```
 #[derive(Debug, Drop)]
 pub struct Key {
     pub(crate) bytes: Vec<u8>,

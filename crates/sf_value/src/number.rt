@@ -10,6 +10,11 @@ const LARGEST: i64 = 999_999_999_999_999;
 /// A whole number of at most 15 digits, from -999,999,999,999,999 to 999,999,999,999,999: the value
 /// of an Integer (RFC 9651 section 3.3.1), and of a Date (section 3.3.7) in seconds from
 /// 1970-01-01T00:00:00Z on, leap seconds not counted. Contracts see the number.
+///
+/// ```
+/// let most = Int::new(999_999_999_999_999)?;
+/// Int::new(1_000_000_000_000_000) // Err(OutOfRange)
+/// ```
 #[derive(Clone, Copy, Debug, PartialEq, Eq)]
 pub struct Int {
     value: i64,
@@ -52,6 +57,11 @@ impl Int {
 /// 999,999,999,999,999: the value of a Decimal (RFC 9651 section 3.3.2), which has at most 12
 /// digits before the point and 3 behind it. So 1500 stands for 1.5. Contracts see the number of
 /// thousandths.
+///
+/// ```
+/// let number = Thousandths::new(1500)?; // 1.5
+/// number.get() // 1500
+/// ```
 #[derive(Clone, Copy, Debug, PartialEq, Eq)]
 pub struct Thousandths {
     thousandths: i64,

@@ -124,6 +124,10 @@ impl Part for Member {
 
 /// Whether two fields are equal. The order of members, items and parameters counts, and fields of
 /// two kinds are never equal, though their texts may be. It takes no memory.
+///
+/// ```
+/// same(&field, &copy(alloc, &seed, &field)?) // true
+/// ```
 pub fn same(a: &Field, b: &Field) -> bool
     ensures { IsTrue result ↔ (a.now ≡ b.now) }
 {
@@ -144,6 +148,10 @@ pub fn same(a: &Field, b: &Field) -> bool
 }
 
 /// Another field, equal to its source. The seed is that of its entries.
+///
+/// ```
+/// let twin = copy(alloc, &seed, &field)?;
+/// ```
 pub fn copy(alloc: Global, seed: &RandomState, field: &Field) -> Result<Field, OutOfMemory>
     ensures { IfOk result (λ copy. copy ≡ field.now) }
 {

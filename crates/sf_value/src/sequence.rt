@@ -18,6 +18,14 @@ use std::{slice, vec};
 /// Values in order, as the members of a List or the Items of an Inner List (RFC 9651 sections 3.1
 /// and 3.1.1). It is made from a `Vec` and gives it back without memory, and it is read as a slice.
 /// Contracts see the list of the values.
+///
+/// ```
+/// let mut members = Sequence::new(alloc);
+/// if members.push(Member::Item(item)).is_err() {
+///     return Err(OutOfMemory);
+/// }
+/// let list = List { members };
+/// ```
 #[derive(Debug, Drop)]
 pub struct Sequence<T> {
     items: Vec<T>,

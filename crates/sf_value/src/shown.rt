@@ -11,6 +11,10 @@ use std::marker::Model;
 
 /// A display string (RFC 9651 section 3.3.8): any Unicode text, as it is, with no escapes.
 /// Contracts see the list of its UTF-8 bytes.
+///
+/// ```
+/// let shown = Shown::new(alloc, "f\u{fc}r")?; // written as %"f%c3%bcr"
+/// ```
 #[derive(Debug, Drop)]
 pub struct Shown {
     text: String,

@@ -24,6 +24,11 @@ fn bad_byte(bytes: &[u8]) -> Option<usize>
 
 /// A string (RFC 9651 section 3.3.3): any number of bytes from 0x20 to 0x7E, as they are, with no
 /// quotes round them and no escapes. Contracts see the list of its bytes.
+///
+/// ```
+/// let text = Text::new(alloc, b"say \"a\"")?; // the bytes themselves, without escapes
+/// Text::new(alloc, b"a\x7f") // Err(TextFault::BadByte { place: 1 })
+/// ```
 #[derive(Debug, Drop)]
 pub struct Text {
     bytes: Vec<u8>,

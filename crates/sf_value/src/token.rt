@@ -47,6 +47,11 @@ fn bad_byte(bytes: &[u8]) -> Option<usize>
 
 /// A token (RFC 9651 section 3.3.4): a byte that may start one ([`can_start_token`]), then any
 /// number of bytes that may be in one ([`can_be_in_token`]). Contracts see the list of its bytes.
+///
+/// ```
+/// let token = Token::new(alloc, b"text/html")?;
+/// Token::new(alloc, b"a b") // Err(TextFault::BadByte { place: 1 })
+/// ```
 #[derive(Debug, Drop)]
 pub struct Token {
     pub(crate) bytes: Vec<u8>,

@@ -12,6 +12,11 @@ use crate::token::Token;
 
 /// A bare item: a value with no parameters (RFC 9651 section 3.3). Bare items of different types
 /// differ, so the Integer 1, the Decimal 1.0 and the Date of second 1 are three values.
+///
+/// ```
+/// let urgency = Bare::Integer(Int::new(1)?);
+/// let incremental = Bare::Boolean(true);
+/// ```
 #[derive(Debug, Drop)]
 pub enum Bare {
     /// An Integer (section 3.3.1).
@@ -33,6 +38,10 @@ pub enum Bare {
 }
 
 /// An Item: a bare item with parameters (RFC 9651 section 3.3).
+///
+/// ```
+/// let item = Item { bare: Bare::Boolean(true), params: Entries::new(alloc, &seed) }; // ?1
+/// ```
 #[derive(Debug, Drop)]
 pub struct Item {
     /// The bare item.
@@ -42,6 +51,10 @@ pub struct Item {
 }
 
 /// An Inner List: Items in parentheses, with parameters (RFC 9651 section 3.1.1).
+///
+/// ```
+/// let inner = Inner { items: Sequence::new(alloc), params: Entries::new(alloc, &seed) }; // ()
+/// ```
 #[derive(Debug, Drop)]
 pub struct Inner {
     /// The Items in order, each with parameters of its own.
@@ -51,6 +64,13 @@ pub struct Inner {
 }
 
 /// A member of a List or of a Dictionary (RFC 9651 sections 3.1 and 3.2).
+///
+/// ```
+/// match member {
+///     Member::Item(item) => ..
+///     Member::Inner(inner) => ..
+/// }
+/// ```
 #[derive(Debug, Drop)]
 pub enum Member {
     /// An Item.
@@ -60,6 +80,12 @@ pub enum Member {
 }
 
 /// A List (RFC 9651 section 3.1).
+///
+/// ```
+/// for member in &list.members {
+///     ..
+/// }
+/// ```
 #[derive(Debug, Drop)]
 pub struct List {
     /// Its members in order; there may be none.
@@ -67,6 +93,10 @@ pub struct List {
 }
 
 /// A Dictionary (RFC 9651 section 3.2).
+///
+/// ```
+/// let urgency = dict.members.get(b"u"); // the Member, where there is one
+/// ```
 #[derive(Debug, Drop)]
 pub struct Dict {
     /// Its members by key, in order; there may be none.
@@ -74,6 +104,13 @@ pub struct Dict {
 }
 
 /// The value of a field (RFC 9651 section 3).
+///
+/// ```
+/// match parse_text(alloc, &seed, Kind::Dict, b"u=1, i")? {
+///     Field::Dict(dict) => ..
+///     Field::Item(_) | Field::List(_) => .. // of another kind than was asked for: never
+/// }
+/// ```
 #[derive(Debug, Drop)]
 pub enum Field {
     /// The field is an Item.

@@ -23,6 +23,11 @@ fn write_boolean<W: Sink>(value: bool, before: u64, out: &mut W) -> Result<u64, 
 
 /// Writes the canonical text of a bare item, as [`write_bare`] does, behind other bytes: the count
 /// of bytes goes on from `before`, and stays at 2^64 - 1. It takes no memory.
+///
+/// ```
+/// let count = send_all(b"a;b=", 0, &mut out)?;
+/// let count = write_bare_from(&Bare::Boolean(false), count, &mut out)?; // 6
+/// ```
 pub fn write_bare_from<W: Sink>(bare: &Bare, before: u64, out: &mut W) -> Result<u64, WriteFault>
     ensures { Writes (W.state out.old) (W.state out.new) before result (canon_bare bare.now) }
 {
@@ -40,6 +45,11 @@ pub fn write_bare_from<W: Sink>(bare: &Bare, before: u64, out: &mut W) -> Result
 
 /// Writes the canonical text of a String (RFC 9651 section 4.1.6) behind other bytes, as
 /// [`write_bare_from`] does of the bare item that holds it. It takes no memory.
+///
+/// ```
+/// let count = send_all(b"key=", 0, &mut out)?;
+/// let count = write_text_from(&text, count, &mut out)?;
+/// ```
 pub fn write_text_from<W: Sink>(text: &Text, before: u64, out: &mut W) -> Result<u64, WriteFault>
     ensures { Writes (W.state out.old) (W.state out.new) before result
         (canon_bare (bare_is.Text text.now)) }
@@ -49,6 +59,10 @@ pub fn write_text_from<W: Sink>(text: &Text, before: u64, out: &mut W) -> Result
 
 /// Writes the canonical text of a bare item (RFC 9651 section 4.1.3.1) into a sink, piece by piece.
 /// It takes no memory, and answers as `write_field` does.
+///
+/// ```
+/// let length = write_bare(&Bare::Boolean(true), &mut out)?; // 2: ?1
+/// ```
 pub fn write_bare<W: Sink>(bare: &Bare, out: &mut W) -> Result<u64, WriteFault>
     ensures { WritesText (W.state out.old) (W.state out.new) result (canon_bare bare.now) }
 {
@@ -57,6 +71,10 @@ pub fn write_bare<W: Sink>(bare: &Bare, out: &mut W) -> Result<u64, WriteFault>
 
 /// The canonical text of a bare item (RFC 9651 section 4.1.3.1). The only refusal is for want of
 /// memory.
+///
+/// ```
+/// let text = bare_text(alloc, &Bare::Boolean(true))?; // ?1
+/// ```
 pub fn bare_text(alloc: Global, bare: &Bare) -> Result<Vec<u8>, OutOfMemory>
     ensures { IfOk result (λ text. text.items ≡ canon_bare bare.now) }
 {

@@ -7,6 +7,13 @@ use std::error::Error;
 use std::fmt;
 
 /// A send failed or took no byte, and nothing was sent after it.
+///
+/// ```
+/// match write_field(&field, &mut out) {
+///     Ok(length) => ..
+///     Err(WriteFault { written }) => .. // the first so many bytes went out
+/// }
+/// ```
 #[derive(Clone, Copy, Debug, PartialEq, Eq)]
 pub struct WriteFault {
     /// How many bytes went out before, counted up to 2^64 - 1.

@@ -55,6 +55,13 @@ pub struct Passed {
 }
 
 /// What a cache did with a request (RFC 9211 sections 2.1 and 2.2).
+///
+/// ```
+/// match hop.outcome.passed() {
+///     Some(passed) => .. // passed.why, passed.status, passed.stored, passed.collapsed
+///     None => .. // a hit, or nothing is said
+/// }
+/// ```
 #[derive(Debug, Drop)]
 pub enum Outcome {
     /// It answered from its store: `hit` is true, and there is no `fwd`.
@@ -68,6 +75,17 @@ pub enum Outcome {
 }
 
 /// A cache on the path of a response, and what it did (RFC 9211 section 2).
+///
+/// ```
+/// // edge;hit;ttl=30
+/// let hop = Hop {
+///     name: Name::Token(Token::new(alloc, b"edge")?),
+///     outcome: Outcome::Hit,
+///     ttl: Some(Int::new(30)?),
+///     key: None,
+///     detail: None,
+/// };
+/// ```
 #[derive(Debug, Drop)]
 pub struct Hop {
     /// The cache's name.

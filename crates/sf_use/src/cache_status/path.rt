@@ -10,6 +10,13 @@ use std::marker::Model;
 
 /// The caches that handled a response (RFC 9211 section 2), the one nearest the origin first.
 /// Contracts see the list of the hops.
+///
+/// ```
+/// for hop in path.hops() {
+///     ..
+/// }
+/// path.served_by() // Some(1), say: the second answered from its store
+/// ```
 #[derive(Debug, Drop)]
 pub struct CachePath {
     hops: Vec<Hop>,
@@ -56,6 +63,10 @@ impl CachePath {
 /// A parameter of another type than the RFC gives it counts as absent, and so does a `fwd-status`
 /// outside 100 to 999. Parameters that the RFC does not define are ignored. A `fwd` of another
 /// token is [`crate::Forward::Other`].
+///
+/// ```
+/// let path = ask(alloc, &seed, &CacheStatus, lines.as_slice())?;
+/// ```
 #[derive(Clone, Copy, Debug, PartialEq, Eq)]
 pub struct CacheStatus;
 

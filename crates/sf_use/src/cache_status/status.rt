@@ -6,6 +6,11 @@ use std::marker::Model;
 
 /// A status code of three digits, from 100 to 999: what the next server answered to a forwarded
 /// request (RFC 9211 section 2.3; RFC 9110 section 15). Contracts see the number.
+///
+/// ```
+/// let status = HopStatus::new(304)?;
+/// HopStatus::new(99) // Err(OutOfRange)
+/// ```
 #[derive(Clone, Copy, Debug, PartialEq, Eq)]
 pub struct HopStatus {
     code: u16,
