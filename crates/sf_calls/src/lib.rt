@@ -1,7 +1,7 @@
-//! Each public call of the libraries on what it is for: values that are made, put together, copied
-//! and written, lines and header maps that are read, and what consumers read of them. What is
-//! expected comes from the RFCs. It has tests alone, a module for each subject: so the libraries
-//! are proved once, and not again with tests of their own.
+//! Calls of the libraries on what they are for: values that are made, put together, copied and
+//! written, lines and header maps that are read, and what consumers read of them. What is expected
+//! comes from the RFCs. It has tests alone, a module for each subject: so the libraries are proved
+//! once, and not again with tests of their own.
 //!
 //! Texts that are parsed stand in `sf_vectors`, runs of the command in `sf_commands`.
 #![tactic(auto)]

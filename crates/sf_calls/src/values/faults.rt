@@ -1,4 +1,4 @@
-use sf_value::{Bare, Failed, OutOfMemory, OutOfRange, TextFault};
+use sf_value::{Failed, OutOfMemory, OutOfRange, TextFault};
 use std::alloc::Global;
 use std::fmt::Display;
 use std::process::Abort;
