@@ -186,7 +186,7 @@ fn two_caches(alloc: Global, seed: &RandomState) -> Result<List, Fail> {
     }
 }
 
-fn name(alloc: Global, text: &[u8]) -> Result<Name, Fail> {
+fn token_name(alloc: Global, text: &[u8]) -> Result<Name, Fail> {
     Ok(Name::Token(Token::new(alloc, text)?))
 }
 
@@ -208,8 +208,8 @@ fn stale_hop(name: Name, detail: Name, status: HopStatus) -> Hop {
 
 fn edge_hop(alloc: Global) -> Result<Hop, Fail> {
     let status = HopStatus::new(304)?;
-    let edge = name(alloc, b"edge")?;
-    Ok(stale_hop(edge, name(alloc, b"x")?, status))
+    let edge = token_name(alloc, b"edge")?;
+    Ok(stale_hop(edge, token_name(alloc, b"x")?, status))
 }
 
 // The List of the two caches with the edge behind them.

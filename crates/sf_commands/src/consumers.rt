@@ -1,14 +1,8 @@
-//! `cache-status`, `targeted` and `priority`.
-use crate::lines::{one, two};
-use crate::rows::{Row, expect_rows};
-use http_header::HeaderName;
-use sf_tool::{Request, Status};
+//! `cache-status` and `priority`.
+use crate::rows::{ACCEPTED, REFUSED, Row, expect_rows};
+use sf_tool::Request;
 use std::hash::RandomState;
 use std::test::Fail;
-
-const ACCEPTED: Status = Status::Accepted;
-
-const REFUSED: Status = Status::Refused;
 
 #[test]
 fn cache_status(rt: HostRuntime) -> Result<(), Fail> {
@@ -61,84 +55,6 @@ fn cache_status(rt: HostRuntime) -> Result<(), Fail> {
         ),
     ];
     expect_rows(&rt, &seed, &Request::CacheStatus, &rows);
-    Ok(())
-}
-
-#[test]
-fn targeted_of_two(rt: HostRuntime) -> Result<(), Fail> {
-    let seed = RandomState::new(&rt)?;
-    let rows: [Row; 6] = [
-        (
-            b"CDN-Cache-Control: max-age=60,\nX-Cache-Control: max-age=30, s-maxage=90, no-store=?0\n",
-            b"field 1 x-cache-control\nlifetime shared 90\nlifetime private 30\n",
-            ACCEPTED,
-        ),
-        (
-            b"x-cache-control: max-age=30\r\n\r\ncdn-cache-control:no-cache,\tprivate\n",
-            b"field 0 cdn-cache-control\nlifetime shared none\nlifetime private none\nno-cache\nprivate\n",
-            ACCEPTED,
-        ),
-        (b"X-Cache-Control:\n", b"fallback\n", ACCEPTED),
-        (b"", b"fallback\n", ACCEPTED),
-        (b"\nnonsense\n", b"refused line 1\n", REFUSED),
-        (b" : 1", b"refused line 0\n", REFUSED),
-    ];
-    let request = two(
-        rt.alloc(),
-        HeaderName::from_static("cdn-cache-control"),
-        HeaderName::from_static("x-cache-control"),
-    )?;
-    expect_rows(&rt, &seed, &request, &rows);
-    Ok(())
-}
-
-#[test]
-fn targeted_of_one(rt: HostRuntime) -> Result<(), Fail> {
-    let seed = RandomState::new(&rt)?;
-    let cdn: [Row; 2] = [
-        (
-            b"cdn-cache-control: no-store",
-            b"field 0 cdn-cache-control\nlifetime shared none\nlifetime private none\nno-store\n",
-            ACCEPTED,
-        ),
-        (
-            b"cdn-cache-control: must-revalidate, no-store, no-cache=\"x\", private=(a b), max-age=1",
-            b"field 0 cdn-cache-control\nlifetime shared 1\nlifetime private 1\nmust-revalidate\nno-store\nno-cache\nprivate\n",
-            ACCEPTED,
-        ),
-    ];
-    expect_rows(
-        &rt,
-        &seed,
-        &one(rt.alloc(), HeaderName::from_static("cdn-cache-control"))?,
-        &cdn,
-    );
-    let age: [Row; 1] = [(b"b: 1\n: 2\n", b"refused line 1\n", REFUSED)];
-    expect_rows(
-        &rt,
-        &seed,
-        &one(rt.alloc(), HeaderName::from_static("age"))?,
-        &age,
-    );
-    let a: [Row; 3] = [
-        (
-            b"b: \x00\na: no-store",
-            b"field 0 a\nlifetime shared none\nlifetime private none\nno-store\n",
-            ACCEPTED,
-        ),
-        (b"a: no-store\x01\n", b"refused line 0\n", REFUSED),
-        (
-            b"a: max-age=1\na: private\n",
-            b"field 0 a\nlifetime shared 1\nlifetime private 1\nprivate\n",
-            ACCEPTED,
-        ),
-    ];
-    expect_rows(
-        &rt,
-        &seed,
-        &one(rt.alloc(), HeaderName::from_static("a"))?,
-        &a,
-    );
     Ok(())
 }
 

@@ -1,14 +1,10 @@
 //! `show`, `check` and `normalise`.
-use crate::rows::{Row, expect_long, expect_rows};
-use sf_tool::{INPUT_LIMIT, Request, Status};
+use crate::rows::{ACCEPTED, REFUSED, Row, expect_long, expect_rows};
+use sf_tool::{INPUT_LIMIT, Request};
 use sf_value::{Dialect, Kind};
 use std::alloc::{AllocError, Global};
 use std::hash::RandomState;
 use std::test::Fail;
-
-const ACCEPTED: Status = Status::Accepted;
-
-const REFUSED: Status = Status::Refused;
 
 #[test]
 fn normalises(rt: HostRuntime) -> Result<(), Fail> {

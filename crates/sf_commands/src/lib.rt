@@ -10,8 +10,8 @@ mod devices;
 #[cfg(test)]
 mod fields;
 #[cfg(test)]
-mod lines;
-#[cfg(test)]
 mod rows;
+#[cfg(test)]
+mod targeted;
 #[cfg(test)]
 mod words;

@@ -6,6 +6,10 @@ use std::alloc::Global;
 use std::hash::RandomState;
 use std::process::Abort;
 
+pub(crate) const ACCEPTED: Status = Status::Accepted;
+
+pub(crate) const REFUSED: Status = Status::Refused;
+
 /// An input, the whole output for it, and the status.
 pub(crate) type Row = (&'static [u8], &'static [u8], Status);
 

@@ -17,7 +17,7 @@ use std::hash::RandomState;
 /// ```
 /// match ask(alloc, &seed, &CacheStatus, lines.as_slice()) {
 ///     Ok(path) => ..
-///     Err(AskFault::Field(refusal)) => .. // the lines are no List
+///     Err(AskFault::Field(refusal)) => .. // the lines are no List, or no memory was left
 ///     Err(AskFault::Answer(UseFault::NotACache { index })) => ..
 ///     Err(AskFault::Answer(UseFault::OutOfMemory)) => ..
 /// }

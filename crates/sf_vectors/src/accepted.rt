@@ -56,23 +56,23 @@ fn check_value(
 }
 
 // A text in its dialect and of its kind.
-type Source<'a> = (Dialect, Kind, &'a [u8]);
+type Spelling<'a> = (Dialect, Kind, &'a [u8]);
 
 fn is_value_of(
     alloc: Global,
     seed: &RandomState,
     field: &Field,
-    source: Source,
+    spelling: Spelling,
 ) -> Result<bool, Fail> {
-    let (dialect, kind, text) = source;
+    let (dialect, kind, text) = spelling;
     Ok(same(field, &parse_text_in(alloc, seed, dialect, kind, text)?))
 }
 
 fn have_equal_values(
     alloc: Global,
     seed: &RandomState,
-    one: Source,
-    other: Source,
+    one: Spelling,
+    other: Spelling,
 ) -> Result<bool, Fail> {
     let (dialect, kind, text) = one;
     let field = parse_text_in(alloc, seed, dialect, kind, text)?;

@@ -1,0 +1,177 @@
+//! `targeted`: which field is obeyed, and which lines are read, dropped or refused.
+use crate::rows::{ACCEPTED, REFUSED, Row, expect_rows};
+use http_header::HeaderName;
+use sf_tool::Request;
+use std::alloc::{AllocError, Global};
+use std::hash::RandomState;
+use std::test::Fail;
+
+fn of_one(alloc: Global, name: HeaderName) -> Result<Request, AllocError> {
+    let mut names = Vec::new(alloc);
+    names.push(name)?;
+    Ok(Request::Targeted(names))
+}
+
+fn of_two(alloc: Global, first: HeaderName, second: HeaderName) -> Result<Request, AllocError> {
+    let mut names = Vec::new(alloc);
+    names.push(first)?;
+    names.push(second)?;
+    Ok(Request::Targeted(names))
+}
+
+#[test]
+fn fields_of_two_names(rt: HostRuntime) -> Result<(), Fail> {
+    let seed = RandomState::new(&rt)?;
+    let rows: [Row; 6] = [
+        (
+            b"CDN-Cache-Control: max-age=60,\nX-Cache-Control: max-age=30, s-maxage=90, no-store=?0\n",
+            b"field 1 x-cache-control\nlifetime shared 90\nlifetime private 30\n",
+            ACCEPTED,
+        ),
+        (
+            b"x-cache-control: max-age=30\r\n\r\ncdn-cache-control:no-cache,\tprivate\n",
+            b"field 0 cdn-cache-control\nlifetime shared none\nlifetime private none\nno-cache\nprivate\n",
+            ACCEPTED,
+        ),
+        (b"X-Cache-Control:\n", b"fallback\n", ACCEPTED),
+        (b"", b"fallback\n", ACCEPTED),
+        (b"\nnonsense\n", b"refused line 1\n", REFUSED),
+        (b" : 1", b"refused line 0\n", REFUSED),
+    ];
+    let request = of_two(
+        rt.alloc(),
+        HeaderName::from_static("cdn-cache-control"),
+        HeaderName::from_static("x-cache-control"),
+    )?;
+    expect_rows(&rt, &seed, &request, &rows);
+    Ok(())
+}
+
+#[test]
+fn fields_of_one_name(rt: HostRuntime) -> Result<(), Fail> {
+    let seed = RandomState::new(&rt)?;
+    let cdn: [Row; 2] = [
+        (
+            b"cdn-cache-control: no-store",
+            b"field 0 cdn-cache-control\nlifetime shared none\nlifetime private none\nno-store\n",
+            ACCEPTED,
+        ),
+        (
+            b"cdn-cache-control: must-revalidate, no-store, no-cache=\"x\", private=(a b), max-age=1",
+            b"field 0 cdn-cache-control\nlifetime shared 1\nlifetime private 1\nmust-revalidate\nno-store\nno-cache\nprivate\n",
+            ACCEPTED,
+        ),
+    ];
+    expect_rows(
+        &rt,
+        &seed,
+        &of_one(rt.alloc(), HeaderName::from_static("cdn-cache-control"))?,
+        &cdn,
+    );
+    let age: [Row; 1] = [(b"b: 1\n: 2\n", b"refused line 1\n", REFUSED)];
+    expect_rows(
+        &rt,
+        &seed,
+        &of_one(rt.alloc(), HeaderName::from_static("age"))?,
+        &age,
+    );
+    let a: [Row; 3] = [
+        (
+            b"b: \x00\na: no-store",
+            b"field 0 a\nlifetime shared none\nlifetime private none\nno-store\n",
+            ACCEPTED,
+        ),
+        (b"a: no-store\x01\n", b"refused line 0\n", REFUSED),
+        (
+            b"a: max-age=1\na: private\n",
+            b"field 0 a\nlifetime shared 1\nlifetime private 1\nprivate\n",
+            ACCEPTED,
+        ),
+    ];
+    expect_rows(
+        &rt,
+        &seed,
+        &of_one(rt.alloc(), HeaderName::from_static("a"))?,
+        &a,
+    );
+    Ok(())
+}
+
+// Lines of the names `cdn-cache-control` and `a`, which are listed, and of others.
+#[test]
+fn lines_that_are_read(rt: HostRuntime) -> Result<(), Fail> {
+    let seed = RandomState::new(&rt)?;
+    let rows: [Row; 8] = [
+        (
+            b"CDN-Cache-Control: max-age=60,\nA: max-age=30, no-store=?0\n",
+            b"field 1 a\nlifetime shared 30\nlifetime private 30\n",
+            ACCEPTED,
+        ),
+        (b"A:\n", b"fallback\n", ACCEPTED),
+        (
+            b"a:max-age=5;x=:YQ==:",
+            b"field 1 a\nlifetime shared 5\nlifetime private 5\n",
+            ACCEPTED,
+        ),
+        (
+            b"\ta:\t max-age=6 \t\r\n",
+            b"field 1 a\nlifetime shared 6\nlifetime private 6\n",
+            ACCEPTED,
+        ),
+        (
+            b"a: max-age=7\t,\tprivate",
+            b"field 1 a\nlifetime shared 7\nlifetime private 7\nprivate\n",
+            ACCEPTED,
+        ),
+        (b"a: \x80\xff", b"fallback\n", ACCEPTED),
+        (b"b: 1\naa: 2\n", b"fallback\n", ACCEPTED),
+        (b"b: \x7f\x01", b"fallback\n", ACCEPTED),
+    ];
+    let request = of_two(
+        rt.alloc(),
+        HeaderName::from_static("cdn-cache-control"),
+        HeaderName::from_static("a"),
+    )?;
+    expect_rows(&rt, &seed, &request, &rows);
+    Ok(())
+}
+
+#[test]
+fn lines_that_are_refused(rt: HostRuntime) -> Result<(), Fail> {
+    let seed = RandomState::new(&rt)?;
+    let rows: [Row; 13] = [
+        (b"b", b"refused line 0\n", REFUSED),
+        (b":", b"refused line 0\n", REFUSED),
+        (b": a", b"refused line 0\n", REFUSED),
+        (b"a : 1", b"refused line 0\n", REFUSED),
+        (b"b c: 1", b"refused line 0\n", REFUSED),
+        (b"\xc3\xa9: 1", b"refused line 0\n", REFUSED),
+        (b"HTTP/1.1 200 OK\n", b"refused line 0\n", REFUSED),
+        (b":status: 200\n", b"refused line 0\n", REFUSED),
+        (b"a: \x1f", b"refused line 0\n", REFUSED),
+        (b"a: x\x7fy", b"refused line 0\n", REFUSED),
+        (b"a: x\r\r\n", b"refused line 0\n", REFUSED),
+        (
+            b"a: 1\n\n \t\nb: \x00\na: \x00\nc\n",
+            b"refused line 4\n",
+            REFUSED,
+        ),
+        (b"a: 1\n\r\nc\na: \x00", b"refused line 2\n", REFUSED),
+    ];
+    let request = of_one(rt.alloc(), HeaderName::from_static("a"))?;
+    expect_rows(&rt, &seed, &request, &rows);
+    Ok(())
+}
+
+// Lines of which none has a listed name.
+#[test]
+fn lines_of_other_names(rt: HostRuntime) -> Result<(), Fail> {
+    let seed = RandomState::new(&rt)?;
+    let rows: [Row; 2] = [
+        (b"a: \x00\nb: 1", b"fallback\n", ACCEPTED),
+        (b"a: 1\nb", b"refused line 1\n", REFUSED),
+    ];
+    let request = of_one(rt.alloc(), HeaderName::from_static("z"))?;
+    expect_rows(&rt, &seed, &request, &rows);
+    Ok(())
+}
