@@ -9,7 +9,7 @@ ghost use Rattle.sf_parse.specs.Machine.Showns.{can_begin as can_begin_at, shown
 ghost use Rattle.sf_parse.specs.Machine.Showns.{shown_finish};
 ghost use Rattle.sf_parse.specs.Machine.Takes.{shown_takes, shown_ends};
 
-use sf_value::{OutOfMemory, Shown, is_visible};
+use sf_value::{OutOfMemory, ShortBytes, Shown, is_visible};
 use std::alloc::Global;
 use std::marker::Model;
 
@@ -39,7 +39,7 @@ pub enum ShownPhase {
 /// What was read of a display string behind its first `%`.
 #[derive(Debug, Drop)]
 pub struct ShownReader {
-    bytes: Vec<u8>,
+    bytes: ShortBytes,
     chars: Utf8State,
     phase: ShownPhase,
 }
@@ -51,9 +51,9 @@ impl Model for ShownReader {
 
     ghost use Rattle.sf_parse.specs.Views.{shown_of, FitsShown};
 
-    ghost view = { λ s. shown_of s.phase s.bytes.items s.chars };
+    ghost view = { λ s. shown_of s.phase s.bytes s.chars };
 
-    ghost invariant = { λ s. FitsShown s.phase s.bytes.items s.chars };
+    ghost invariant = { λ s. FitsShown s.phase s.bytes s.chars };
 }
 
 impl Utf8State {
@@ -134,7 +134,7 @@ impl ShownReader {
         ensures { result ≡ Quote }
     {
         ShownReader {
-            bytes: Vec::new(alloc),
+            bytes: ShortBytes::new(alloc),
             chars: Utf8State::Start,
             phase: ShownPhase::Quote,
         }

@@ -1,12 +1,12 @@
 -- Lemmas on entries and on `settle`.
 use Rattle.std.proofs.Common.{◌≡◌, ℕ, Bool, true, false, not, cond, List, [], ◌∷◌, ◌++◌, Some}
 use Rattle.std.proofs.Common.{refl, sym, ap, ◌∙◌, subst, Vec, append-nil}
-use Rattle.std.proofs.Common.{append_assoc, take, slice_get, ◌+◌}
+use Rattle.std.proofs.Common.{IsSome, append_assoc, take, slice_get, ◌+◌}
 use Rattle.std.proofs.lemmas.List.{take_more_same}
 use Rattle.std.proofs.lemmas.Option.{slice_get_within, get_or_from_slice_get}
 use Rattle.std.proofs.lemmas.List.Elements.{filter-append}
 use Rattle.std.specs.List.{IsDistinct, AllByRecursion}
-use Rattle.std.specs.Map.{lookup, keys_of}
+use Rattle.std.specs.Map.{lookup, set_value, keys_of}
 use Rattle.std.specs.Cmp.Lexicographic.{nat_list_eq_equiv, same_text}
 use Rattle.std.specs.Str.{bytes_eq}
 use Rattle.indexmap.specs.IndexMap.{insert_entry}
@@ -161,6 +161,24 @@ module _ {V : Type 0} where
             ≡ insert_entry bytes_eq (pairs (e ∷ es)) k.items v
         by true t rest = rw t
         by false t rest = rw (t, rest)
+
+    -- a value that is written at a key that is there
+    pub pairs-set_value : (k : List ℕ) (w : V) (es : List (Vec ℕ A × V))
+        → IsSome (value_at k (pairs es))
+        → pairs (set_value (λ q. bytes_eq k q.items) es w) ≡ insert_entry bytes_eq (pairs es) k w
+    pairs-set_value k w [] h = absurd cc
+    pairs-set_value k w (e ∷ es) h =
+        by (bytes_eq k e.0.items) refl (λ there. pairs-set_value k w es there)
+      where
+        by : (b : Bool) → bytes_eq k e.0.items ≡ b
+            → (IsSome (value_at k (pairs es))
+            → pairs (set_value (λ q. bytes_eq k q.items) es w) ≡ insert_entry bytes_eq (pairs es) k w)
+            → pairs (set_value (λ q. bytes_eq k q.items) (e ∷ es) w)
+            ≡ insert_entry bytes_eq (pairs (e ∷ es)) k w
+        by true t rest = rw t
+        by false t rest =
+            let there : IsSome (value_at k (pairs es)) = rw t at h in
+            rw (t, rest there)
 
     -- one pair is copied: the pairs copied so far, before those that are left, are still all
     pub copied-step : (done done' left left' : List (Vec ℕ A × V)) (all : Pairs V)

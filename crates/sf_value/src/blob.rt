@@ -4,6 +4,7 @@ ghost use Rattle.sf_value.specs.Grammar.Words.{Every};
 ghost use Rattle.sf_value.specs.Grammar.Classes.{is_byte};
 
 use crate::fault::OutOfMemory;
+use crate::short::ShortBytes;
 use std::alloc::Global;
 use std::marker::Model;
 
@@ -15,13 +16,13 @@ use std::marker::Model;
 /// ```
 #[derive(Debug, Drop)]
 pub struct Blob {
-    bytes: Vec<u8>,
+    bytes: ShortBytes,
 }
 
 impl Model for Blob {
     ghost Value = { List ℕ };
 
-    ghost view = { λ b. b.bytes.items };
+    ghost view = { λ b. b.bytes };
 }
 
 impl Blob {
@@ -29,10 +30,17 @@ impl Blob {
     pub fn new(alloc: Global, bytes: &[u8]) -> Result<Blob, OutOfMemory>
         ensures { IfOk result (λ blob. blob ≡ bytes.now) }
     {
-        match Vec::from_slice(alloc, bytes) {
-            Ok(bytes) => Ok(Blob { bytes }),
-            Err(_) => Err(OutOfMemory),
-        }
+        Ok(Blob {
+            bytes: ShortBytes::from_slice(alloc, bytes)?,
+        })
+    }
+
+    /// The byte sequence of these bytes, which may be none. It takes no memory.
+    #[inline]
+    pub fn from_bytes(bytes: ShortBytes) -> Blob
+        ensures { result ≡ bytes }
+    {
+        Blob { bytes }
     }
 
     /// The byte sequence with no bytes, to which others are added. It takes no memory.
@@ -40,7 +48,7 @@ impl Blob {
         ensures { result ≡ [] }
     {
         Blob {
-            bytes: Vec::new(alloc),
+            bytes: ShortBytes::new(alloc),
         }
     }
 
@@ -49,18 +57,14 @@ impl Blob {
         ensures { MatchResult result (λ _. self.new ≡ self.old ++ bytes.now)
             (λ _. self.new ≡ self.old) }
     {
-        self.bytes.extend_from_slice(bytes)?;
-        Ok(())
+        self.bytes.extend(bytes)
     }
 
     /// Another byte sequence, equal to this one.
     pub fn copy(&self, alloc: Global) -> Result<Blob, OutOfMemory>
         ensures { IfOk result (λ copy. copy ≡ self.now) }
     {
-        match Vec::from_slice(alloc, self.as_bytes()) {
-            Ok(bytes) => Ok(Blob { bytes }),
-            Err(_) => Err(OutOfMemory),
-        }
+        Blob::new(alloc, self.as_bytes())
     }
 
     /// Its bytes. It takes no memory.
@@ -68,9 +72,7 @@ impl Blob {
         ensures bytes { result.now ≡ self.now }
         ensures byte { Every is_byte self.now }
     {
-        // Bound to a name, since the check knows of a named slice that its items are bytes.
-        let bytes = self.bytes.as_slice();
-        bytes
+        self.bytes.as_bytes()
     }
 
     /// Whether it has no byte. It takes no memory.

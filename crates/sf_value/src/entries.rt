@@ -9,7 +9,9 @@ ghost use Rattle.std.specs.Map.Iter.{TakesFirst, ShowsInOrder};
 
 use crate::fault::OutOfMemory;
 use crate::key::Key;
+use crate::many;
 use crate::part::Part;
+use crate::short::ShortBytes;
 use indexmap::{IndexMap, map};
 use std::alloc::Global;
 use std::hash::RandomState;
@@ -112,12 +114,7 @@ impl<V> Entries<V> {
         ensures back { IfErr result (λ pair. pair ≡ (key, value)) }
         ensures absent { IfErr result (λ _. value_at key self.old ≡ None) }
     {
-        let refused = match self.map.insert(key.bytes, value) {
-            Ok(old) => return Ok(old),
-            Err(refused) => refused,
-        };
-        let (bytes, value) = refused.value;
-        Err((Key { bytes }, value))
+        many::put(&mut self.map, key, value)
     }
 }
 
@@ -190,7 +187,12 @@ impl<V: Drop> Iterator for IntoIter<V> {
 
     fn next(&mut self) -> Option<(Key, V)> {
         let (bytes, value) = self.inner.next()?;
-        Some((Key { bytes }, value))
+        Some((
+            Key {
+                bytes: ShortBytes::from_vec(bytes),
+            },
+            value,
+        ))
     }
 }
 

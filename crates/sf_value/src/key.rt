@@ -5,6 +5,7 @@ ghost use Rattle.sf_value.specs.Grammar.Tokens.{IsKey};
 ghost use Rattle.sf_value.specs.Faults.{bad_place, bad_word_place, IsKeyFault};
 
 use crate::fault::{OutOfMemory, TextFault};
+use crate::short::ShortBytes;
 use std::alloc::Global;
 use std::marker::Model;
 
@@ -51,15 +52,15 @@ fn bad_byte(bytes: &[u8]) -> Option<usize>
 /// ```
 #[derive(Debug, Drop)]
 pub struct Key {
-    pub(crate) bytes: Vec<u8>,
+    pub(crate) bytes: ShortBytes,
 }
 
 impl Model for Key {
     ghost Value = { List ℕ };
 
-    ghost view = { λ k. k.bytes.items };
+    ghost view = { λ k. k.bytes };
 
-    ghost invariant = { λ k. IsKey k.bytes.items };
+    ghost invariant = { λ k. IsKey k.bytes };
 }
 
 impl Key {
@@ -76,10 +77,19 @@ impl Key {
         if let Some(place) = bad_byte(bytes) {
             return Err(TextFault::BadByte { place });
         }
-        match Vec::from_slice(alloc, bytes) {
-            Ok(bytes) => Ok(Key { bytes }),
-            Err(_) => Err(TextFault::OutOfMemory),
-        }
+        Ok(Key {
+            bytes: ShortBytes::from_slice(alloc, bytes)?,
+        })
+    }
+
+    /// The key of these bytes, which are known to be one. It takes no memory: a parser, which
+    /// tests each byte as it comes, makes keys so.
+    #[inline]
+    pub fn from_bytes(bytes: ShortBytes) -> Key
+        requires { IsKey bytes }
+        ensures { result ≡ bytes }
+    {
+        Key { bytes }
     }
 
     /// The key of one byte, one that [`can_start_key`] accepts. Others are added by `push`: a
@@ -88,7 +98,7 @@ impl Key {
         requires { is_key_start byte ≡ true }
         ensures { IfOk result (λ key. key ≡ byte ∷ []) }
     {
-        let mut bytes = Vec::new(alloc);
+        let mut bytes = ShortBytes::new(alloc);
         bytes.push(byte)?;
         Ok(Key { bytes })
     }
@@ -109,10 +119,9 @@ impl Key {
     pub fn copy(&self, alloc: Global) -> Result<Key, OutOfMemory>
         ensures { IfOk result (λ copy. copy ≡ self.now) }
     {
-        match Vec::from_slice(alloc, self.as_bytes()) {
-            Ok(bytes) => Ok(Key { bytes }),
-            Err(_) => Err(OutOfMemory),
-        }
+        Ok(Key {
+            bytes: ShortBytes::from_slice(alloc, self.as_bytes())?,
+        })
     }
 
     /// Its bytes, at least one. It takes no memory.
@@ -120,6 +129,6 @@ impl Key {
         ensures bytes { result.now ≡ self.now }
         ensures key { IsKey self.now }
     {
-        self.bytes.as_slice()
+        self.bytes.as_bytes()
     }
 }

@@ -6,6 +6,7 @@ ghost use Rattle.sf_value.specs.Grammar.Classes.{is_byte};
 ghost use Rattle.sf_value.specs.Grammar.Utf8.{WellFormed, Start};
 
 use crate::fault::OutOfMemory;
+use crate::short::ShortBytes;
 use std::alloc::Global;
 use std::marker::Model;
 
@@ -17,72 +18,69 @@ use std::marker::Model;
 /// ```
 #[derive(Debug, Drop)]
 pub struct Shown {
-    text: String,
+    bytes: ShortBytes,
 }
 
 impl Model for Shown {
-    ghost use Rattle.std.specs.Prelude.{List, ℕ};
-    ghost use Rattle.std.specs.String.{string_bytes};
-
     ghost Value = { List ℕ };
 
-    ghost view = { λ s. string_bytes s.text };
+    ghost view = { λ s. s.bytes };
+
+    ghost invariant = { λ s. WellFormed Start s.bytes };
 }
 
 impl Shown {
     /// The display string of this text, which may be empty.
+    #[tactic(auto, using(crate::proofs::Utf8Table::from_utf8))]
     pub fn new(alloc: Global, text: &str) -> Result<Shown, OutOfMemory>
         ensures { IfOk result (λ shown. shown ≡ text.now) }
     {
-        match String::from_str(alloc, text) {
-            Ok(text) => Ok(Shown { text }),
-            Err(_) => Err(OutOfMemory),
-        }
+        Ok(Shown {
+            bytes: ShortBytes::from_slice(alloc, text.as_bytes())?,
+        })
     }
 
     /// The display string of these UTF-8 bytes. It takes no memory.
-    #[tactic(auto, using(crate::proofs::Utf8Table::to_utf8))]
-    pub fn from_bytes(bytes: Vec<u8>) -> Shown
-        requires { WellFormed Start bytes.items }
-        ensures { result ≡ bytes.items }
+    #[inline]
+    pub fn from_bytes(bytes: ShortBytes) -> Shown
+        requires { WellFormed Start bytes }
+        ensures { result ≡ bytes }
     {
-        match String::from_utf8(bytes) {
-            Ok(text) => Shown { text },
-            Err(_) => unreachable!(),
-        }
+        Shown { bytes }
     }
 
     /// Another display string, equal to this one.
     pub fn copy(&self, alloc: Global) -> Result<Shown, OutOfMemory>
         ensures { IfOk result (λ copy. copy ≡ self.now) }
     {
-        Shown::new(alloc, self.as_str())
+        Ok(Shown {
+            bytes: ShortBytes::from_slice(alloc, self.as_bytes())?,
+        })
     }
 
     /// The UTF-8 bytes of the text. It takes no memory.
-    #[tactic(auto, using(crate::proofs::Utf8Table::from_utf8))]
+    #[tactic(auto, using(crate::proofs::Utf8Table::to_utf8))]
     pub fn as_bytes(&self) -> &[u8]
         ensures bytes { result.now ≡ self.now }
         ensures utf8 { IsUtf8 self.now }
         ensures well_formed { WellFormed Start self.now }
         ensures byte { Every is_byte self.now }
     {
-        // Bound to a name, since the check knows of a named slice that its items are bytes.
-        let bytes = self.text.as_str().as_bytes();
-        bytes
+        self.bytes.as_bytes()
     }
 
     /// The text. It takes no memory.
     pub fn as_str(&self) -> &str
         ensures { result.now ≡ self.now }
     {
-        self.text.as_str()
+        // What is well-formed by the table of RFC 3629 is UTF-8, which is proved and not tested.
+        unsafe { str::from_utf8_unchecked(self.as_bytes()) }
     }
 
     /// Whether the text is empty. It takes no memory.
     pub fn is_empty(&self) -> bool
         ensures { IsTrue result ↔ (self.now ≡ []) }
     {
-        self.as_str().is_empty()
+        self.bytes.is_empty()
     }
 }

@@ -6,6 +6,7 @@ ghost use Rattle.sf_value.specs.Grammar.Classes.{is_visible as is_visible_byte};
 ghost use Rattle.sf_value.specs.Faults.{bad_place, IsStringFault};
 
 use crate::fault::{OutOfMemory, TextFault};
+use crate::short::ShortBytes;
 use std::alloc::Global;
 use std::marker::Model;
 
@@ -31,15 +32,15 @@ fn bad_byte(bytes: &[u8]) -> Option<usize>
 /// ```
 #[derive(Debug, Drop)]
 pub struct Text {
-    bytes: Vec<u8>,
+    bytes: ShortBytes,
 }
 
 impl Model for Text {
     ghost Value = { List ℕ };
 
-    ghost view = { λ t. t.bytes.items };
+    ghost view = { λ t. t.bytes };
 
-    ghost invariant = { λ t. Every is_visible_byte t.bytes.items };
+    ghost invariant = { λ t. Every is_visible_byte t.bytes };
 }
 
 impl Text {
@@ -53,10 +54,19 @@ impl Text {
         if let Some(place) = bad_byte(bytes) {
             return Err(TextFault::BadByte { place });
         }
-        match Vec::from_slice(alloc, bytes) {
-            Ok(bytes) => Ok(Text { bytes }),
-            Err(_) => Err(TextFault::OutOfMemory),
-        }
+        Ok(Text {
+            bytes: ShortBytes::from_slice(alloc, bytes)?,
+        })
+    }
+
+    /// The string of these bytes, which are known to be one. It takes no memory: a parser, which
+    /// tests each byte as it comes, makes strings so.
+    #[inline]
+    pub fn from_bytes(bytes: ShortBytes) -> Text
+        requires { Every is_visible_byte bytes }
+        ensures { result ≡ bytes }
+    {
+        Text { bytes }
     }
 
     /// The string with no bytes, to which others are added. It takes no memory.
@@ -64,7 +74,7 @@ impl Text {
         ensures { result ≡ [] }
     {
         Text {
-            bytes: Vec::new(alloc),
+            bytes: ShortBytes::new(alloc),
         }
     }
 
@@ -84,10 +94,9 @@ impl Text {
     pub fn copy(&self, alloc: Global) -> Result<Text, OutOfMemory>
         ensures { IfOk result (λ copy. copy ≡ self.now) }
     {
-        match Vec::from_slice(alloc, self.as_bytes()) {
-            Ok(bytes) => Ok(Text { bytes }),
-            Err(_) => Err(OutOfMemory),
-        }
+        Ok(Text {
+            bytes: ShortBytes::from_slice(alloc, self.as_bytes())?,
+        })
     }
 
     /// Its bytes, without quotes and escapes. It takes no memory.
@@ -95,7 +104,7 @@ impl Text {
         ensures bytes { result.now ≡ self.now }
         ensures text { Every is_visible_byte self.now }
     {
-        self.bytes.as_slice()
+        self.bytes.as_bytes()
     }
 
     /// Whether it has no byte. It takes no memory.

@@ -5,6 +5,7 @@ ghost use Rattle.sf_value.specs.Grammar.Tokens.{IsToken};
 ghost use Rattle.sf_value.specs.Faults.{bad_place, bad_word_place, IsTokenFault};
 
 use crate::fault::{OutOfMemory, TextFault};
+use crate::short::ShortBytes;
 use std::alloc::Global;
 use std::marker::Model;
 
@@ -54,15 +55,15 @@ fn bad_byte(bytes: &[u8]) -> Option<usize>
 /// ```
 #[derive(Debug, Drop)]
 pub struct Token {
-    pub(crate) bytes: Vec<u8>,
+    pub(crate) bytes: ShortBytes,
 }
 
 impl Model for Token {
     ghost Value = { List ℕ };
 
-    ghost view = { λ t. t.bytes.items };
+    ghost view = { λ t. t.bytes };
 
-    ghost invariant = { λ t. IsToken t.bytes.items };
+    ghost invariant = { λ t. IsToken t.bytes };
 }
 
 impl Token {
@@ -79,10 +80,19 @@ impl Token {
         if let Some(place) = bad_byte(bytes) {
             return Err(TextFault::BadByte { place });
         }
-        match Vec::from_slice(alloc, bytes) {
-            Ok(bytes) => Ok(Token { bytes }),
-            Err(_) => Err(TextFault::OutOfMemory),
-        }
+        Ok(Token {
+            bytes: ShortBytes::from_slice(alloc, bytes)?,
+        })
+    }
+
+    /// The token of these bytes, which are known to be one. It takes no memory: a parser, which
+    /// tests each byte as it comes, makes tokens so.
+    #[inline]
+    pub fn from_bytes(bytes: ShortBytes) -> Token
+        requires { IsToken bytes }
+        ensures { result ≡ bytes }
+    {
+        Token { bytes }
     }
 
     /// The token of one byte, one that [`can_start_token`] accepts. Others are added by `push`: a
@@ -91,7 +101,7 @@ impl Token {
         requires { is_token_start byte ≡ true }
         ensures { IfOk result (λ token. token ≡ byte ∷ []) }
     {
-        let mut bytes = Vec::new(alloc);
+        let mut bytes = ShortBytes::new(alloc);
         bytes.push(byte)?;
         Ok(Token { bytes })
     }
@@ -112,10 +122,9 @@ impl Token {
     pub fn copy(&self, alloc: Global) -> Result<Token, OutOfMemory>
         ensures { IfOk result (λ copy. copy ≡ self.now) }
     {
-        match Vec::from_slice(alloc, self.as_bytes()) {
-            Ok(bytes) => Ok(Token { bytes }),
-            Err(_) => Err(OutOfMemory),
-        }
+        Ok(Token {
+            bytes: ShortBytes::from_slice(alloc, self.as_bytes())?,
+        })
     }
 
     /// Its bytes, at least one. It takes no memory.
@@ -123,6 +132,6 @@ impl Token {
         ensures bytes { result.now ≡ self.now }
         ensures token { IsToken self.now }
     {
-        self.bytes.as_slice()
+        self.bytes.as_bytes()
     }
 }

@@ -1,6 +1,6 @@
 use sf_value::{
-    Blob, Int, Key, OutOfRange, Shown, Text, TextFault, Thousandths, Token, can_be_in_key,
-    can_be_in_token, can_start_key, can_start_token, is_visible,
+    Blob, Int, Key, OutOfRange, ShortBytes, Shown, Text, TextFault, Thousandths, Token,
+    can_be_in_key, can_be_in_token, can_start_key, can_start_token, is_visible,
 };
 use std::alloc::Global;
 use std::process::Abort;
@@ -186,7 +186,7 @@ fn display_strings_may_be_empty(rt: HostRuntime) -> Result<(), Fail> {
     let alloc = rt.alloc();
     let shown = Shown::new(alloc, "")?;
     assert!(rt; shown.is_empty());
-    let shown = Shown::from_bytes(Vec::new(alloc));
+    let shown = Shown::from_bytes(ShortBytes::new(alloc));
     assert!(rt; shown.is_empty());
     Ok(())
 }

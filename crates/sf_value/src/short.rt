@@ -1,0 +1,116 @@
+//! Bytes of which the first few stand in place.
+ghost use Rattle.std.specs.Prelude.{◌≡◌, ℕ, List, [], ◌∷◌, ◌++◌, ◌↔◌, IsTrue, IfOk, MatchResult};
+ghost use Rattle.sf_value.specs.Grammar.Words.{Every};
+ghost use Rattle.sf_value.specs.Grammar.Classes.{is_byte};
+
+use crate::fault::OutOfMemory;
+use smallvec::SmallVec;
+use std::alloc::Global;
+use std::marker::Model;
+
+// How many bytes stand in place.
+const ROOM: usize = 16;
+
+/// Bytes that are gathered: up to 16 stand in the value itself and take no memory, more than that
+/// stand in memory of their own. The keys, strings, tokens, byte sequences and display strings of
+/// values stand on it. Contracts see the list of the bytes.
+///
+/// ```
+/// let mut bytes = ShortBytes::new(alloc);
+/// bytes.extend(b"max-")?;
+/// bytes.push(b'a')?;
+/// bytes.as_bytes() // b"max-a"
+/// ```
+#[derive(Debug, Drop)]
+pub struct ShortBytes {
+    bytes: SmallVec<u8, ROOM>,
+}
+
+impl Model for ShortBytes {
+    ghost Value = { List ℕ };
+
+    ghost view = { λ b. b.bytes.items };
+}
+
+impl ShortBytes {
+    /// No bytes. It takes no memory.
+    #[inline]
+    pub fn new(alloc: Global) -> ShortBytes
+        ensures { result ≡ [] }
+    {
+        ShortBytes {
+            bytes: SmallVec::new(alloc),
+        }
+    }
+
+    /// These bytes. Up to 16 take no memory.
+    #[inline]
+    pub fn from_slice(alloc: Global, bytes: &[u8]) -> Result<ShortBytes, OutOfMemory>
+        ensures { IfOk result (λ short. short ≡ bytes.now) }
+    {
+        Ok(ShortBytes {
+            bytes: SmallVec::from_slice(alloc, bytes)?,
+        })
+    }
+
+    /// Adds a byte at the end. For want of memory the bytes stay as they were.
+    #[inline]
+    pub fn push(&mut self, byte: u8) -> Result<(), OutOfMemory>
+        ensures { MatchResult result (λ _. self.new ≡ self.old ++ byte ∷ [])
+            (λ _. self.new ≡ self.old) }
+    {
+        self.bytes.push(byte)?;
+        Ok(())
+    }
+
+    /// Adds bytes at the end. For want of memory the bytes stay as they were.
+    #[inline]
+    pub fn extend(&mut self, run: &[u8]) -> Result<(), OutOfMemory>
+        ensures { MatchResult result (λ _. self.new ≡ self.old ++ run.now)
+            (λ _. self.new ≡ self.old) }
+    {
+        self.bytes.extend_from_slice(run)?;
+        Ok(())
+    }
+
+    /// The bytes. It takes no memory.
+    #[inline]
+    pub fn as_bytes(&self) -> &[u8]
+        ensures bytes { result.now ≡ self.now }
+        ensures byte { Every is_byte self.now }
+    {
+        // Bound to a name, since the check knows of a named slice that its items are bytes.
+        let bytes = self.bytes.as_slice();
+        bytes
+    }
+
+    /// Whether there is no byte. It takes no memory.
+    #[inline]
+    pub fn is_empty(&self) -> bool
+        ensures { IsTrue result ↔ (self.now ≡ []) }
+    {
+        self.bytes.is_empty()
+    }
+
+    // The bytes of a vector, whose memory is kept where they don't fit in place. It takes none.
+    pub(crate) fn from_vec(bytes: Vec<u8>) -> ShortBytes
+        ensures { result ≡ bytes.items }
+    {
+        ShortBytes {
+            bytes: SmallVec::from_vec(bytes),
+        }
+    }
+
+    // The bytes as a vector, or as they were for want of memory.
+    pub(crate) fn into_vec(self) -> Result<Vec<u8>, ShortBytes>
+        ensures { MatchResult result (λ v. v.items ≡ self) (λ b. b ≡ self) }
+    {
+        let ShortBytes { bytes } = self;
+        match bytes.into_vec() {
+            Ok(bytes) => Ok(bytes),
+            Err(refused) => Err(ShortBytes {
+                bytes: refused.value,
+            }),
+        }
+    }
+}
