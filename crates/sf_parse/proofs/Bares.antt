@@ -25,9 +25,9 @@ use Rattle.sf_parse.specs.Machine.Texts.{RestBoolean}
 use Rattle.sf_parse.specs.declared.boolean.BooleanState.TheVariants.{Told, Asked}
 use Rattle.sf_parse.specs.Machine.Blobs.{Group, Padded, Ended, H0, RestBlob}
 use Rattle.sf_parse.specs.Machine.Showns.{Quote, Plain, Percent, Hex, Done, RestShown}
-use Rattle.sf_parse.specs.declared.bare.BareState.{BareState}
-use Rattle.sf_parse.specs.declared.bare.BareState.TheVariants.{InNumber, InText, InToken, InBoolean}
-use Rattle.sf_parse.specs.declared.bare.BareState.TheVariants.{InDate, InBlob, InShown}
+use Rattle.sf_parse.specs.Machine.Bares.{BareState}
+use Rattle.sf_parse.specs.Machine.Bares.{InNumber, InText, InToken, InBoolean}
+use Rattle.sf_parse.specs.Machine.Bares.{InDate, InBlob, InShown}
 use Rattle.sf_parse.specs.Machine.Bares.{RestBare, GoodBare, bare_start, bare_step, bare_finish}
 use Rattle.sf_parse.proofs.Blobs.{blob_reads, blob_lives}
 use Rattle.sf_parse.proofs.Showns.{shown_reads, shown_lives}

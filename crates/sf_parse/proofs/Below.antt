@@ -18,16 +18,16 @@ use Rattle.sf_parse.specs.declared.boolean.BooleanState.TheVariants.{Asked, Told
 use Rattle.sf_parse.specs.Machine.Blobs.{sextet, is_last, lacking, BlobState, Group, Padded, Ended}
 use Rattle.sf_parse.specs.Machine.Showns.{unhex, can_begin, ShownState, Quote, Plain, Percent, Hex}
 use Rattle.sf_parse.specs.Machine.Showns.{Done}
-use Rattle.sf_parse.specs.declared.bare.BareState.{BareState}
-use Rattle.sf_parse.specs.declared.bare.BareState.TheVariants.{InNumber, InText, InToken, InBoolean}
-use Rattle.sf_parse.specs.declared.bare.BareState.TheVariants.{InDate, InBlob, InShown}
+use Rattle.sf_parse.specs.Machine.Bares.{BareState}
+use Rattle.sf_parse.specs.Machine.Bares.{InNumber, InText, InToken, InBoolean}
+use Rattle.sf_parse.specs.Machine.Bares.{InDate, InBlob, InShown}
 use Rattle.sf_parse.specs.Machine.Params.{ParamsState, Between, Opened, InParamKey, EqualsParam}
 use Rattle.sf_parse.specs.Machine.Params.{InValue}
-use Rattle.sf_parse.specs.declared.item.ItemState.{ItemState}
-use Rattle.sf_parse.specs.declared.item.ItemState.TheVariants.{InBare, InParams}
+use Rattle.sf_parse.specs.Machine.Items.{ItemState}
+use Rattle.sf_parse.specs.Machine.Items.{InBare, InParams}
 use Rattle.sf_parse.specs.Machine.Inners.{InnerState, Room, InItem, Closing}
-use Rattle.sf_parse.specs.declared.member.MemberState.{MemberState}
-use Rattle.sf_parse.specs.declared.member.MemberState.TheVariants.{InOne, InMany}
+use Rattle.sf_parse.specs.Machine.Members.{MemberState}
+use Rattle.sf_parse.specs.Machine.Members.{InOne, InMany}
 use Rattle.sf_parse.specs.Machine.Series.{SeriesState, Begin, InPiece, Gap, Comma}
 use Rattle.sf_parse.specs.Machine.Entries.{EntryState}
 use Rattle.sf_parse.specs.Machine.Entries.{InKey, Equals, InMember, InFlag}

@@ -16,19 +16,19 @@ use Rattle.sf_parse.specs.Machine.Texts.{Inside, word_start}
 use Rattle.sf_parse.specs.declared.boolean.BooleanState.TheVariants.{Asked}
 use Rattle.sf_parse.specs.Machine.Blobs.{Group, H0}
 use Rattle.sf_parse.specs.Machine.Showns.{Quote}
-use Rattle.sf_parse.specs.declared.bare.BareState.{BareState}
-use Rattle.sf_parse.specs.declared.bare.BareState.TheVariants.{InNumber, InText, InToken, InBoolean}
-use Rattle.sf_parse.specs.declared.bare.BareState.TheVariants.{InDate, InBlob, InShown}
+use Rattle.sf_parse.specs.Machine.Bares.{BareState}
+use Rattle.sf_parse.specs.Machine.Bares.{InNumber, InText, InToken, InBoolean}
+use Rattle.sf_parse.specs.Machine.Bares.{InDate, InBlob, InShown}
 use Rattle.sf_parse.specs.Machine.Bares.{bare_start}
 use Rattle.sf_parse.specs.Machine.Params.{ParamsState, Between, Opened, InParamKey, EqualsParam}
 use Rattle.sf_parse.specs.Machine.Params.{InValue, params_step}
-use Rattle.sf_parse.specs.declared.item.ItemState.{ItemState}
-use Rattle.sf_parse.specs.declared.item.ItemState.TheVariants.{InBare, InParams}
+use Rattle.sf_parse.specs.Machine.Items.{ItemState}
+use Rattle.sf_parse.specs.Machine.Items.{InBare, InParams}
 use Rattle.sf_parse.specs.Machine.Items.{item_start, item_step, item_finish}
 use Rattle.sf_parse.specs.Machine.Inners.{InnerState, Room, InItem, Closing, behind_step}
 use Rattle.sf_parse.specs.Machine.Inners.{inner_step}
-use Rattle.sf_parse.specs.declared.member.MemberState.{MemberState}
-use Rattle.sf_parse.specs.declared.member.MemberState.TheVariants.{InOne, InMany}
+use Rattle.sf_parse.specs.Machine.Members.{MemberState}
+use Rattle.sf_parse.specs.Machine.Members.{InOne, InMany}
 use Rattle.sf_parse.specs.Machine.Series.{SeriesState, Begin, InPiece, Gap, Comma, gap_step}
 use Rattle.sf_parse.specs.Machine.Series.{series_step}
 use Rattle.sf_parse.specs.Machine.Entries.{EntryState}

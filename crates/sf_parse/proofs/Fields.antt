@@ -21,9 +21,9 @@ use Rattle.sf_value.specs.declared.value.Kind.{Kind}
 use Rattle.sf_parse.specs.Machine.Language.{Then, Machine, seen, Reads, Live, is_after}
 use Rattle.sf_parse.specs.Machine.Texts.{word_step}
 use Rattle.sf_parse.specs.Machine.Params.{between_step, params_step, params_finish}
-use Rattle.sf_parse.specs.declared.item.ItemState.{ItemState}
+use Rattle.sf_parse.specs.Machine.Items.{ItemState}
 use Rattle.sf_parse.specs.Machine.Items.{item_start, item_step, item_finish}
-use Rattle.sf_parse.specs.declared.member.MemberState.{MemberState}
+use Rattle.sf_parse.specs.Machine.Members.{MemberState}
 use Rattle.sf_parse.specs.Machine.Series.{Begin}
 use Rattle.sf_parse.specs.Machine.Entries.{EntryState}
 use Rattle.sf_parse.specs.Machine.Entries.{InKey, Equals, InMember, InFlag}

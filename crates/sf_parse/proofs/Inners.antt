@@ -15,12 +15,12 @@ use Rattle.sf_value.specs.declared.value.Member.{Member}
 use Rattle.sf_parse.specs.Machine.Language.{Then, Seen, Either, After, Past, and_then, seen, Reads}
 use Rattle.sf_parse.specs.Machine.Language.{Live, is_after}
 use Rattle.sf_parse.specs.Machine.Params.{Between, params_step, params_finish}
-use Rattle.sf_parse.specs.declared.item.ItemState.{ItemState}
+use Rattle.sf_parse.specs.Machine.Items.{ItemState}
 use Rattle.sf_parse.specs.Machine.Items.{item_start, item_step, item_finish}
 use Rattle.sf_parse.specs.Machine.Inners.{InnerState, Room, InItem, Closing, MoreItems, RestInner}
 use Rattle.sf_parse.specs.Machine.Inners.{GoodInner, behind_step, inner_step, inner_finish}
-use Rattle.sf_parse.specs.declared.member.MemberState.{MemberState}
-use Rattle.sf_parse.specs.declared.member.MemberState.TheVariants.{InOne, InMany}
+use Rattle.sf_parse.specs.Machine.Members.{MemberState}
+use Rattle.sf_parse.specs.Machine.Members.{InOne, InMany}
 use Rattle.sf_parse.proofs.Language.{reads_iff, reads_seen, reads_then, reads_first, reads_either}
 use Rattle.sf_parse.proofs.Language.{reads_after, reads_past, seen_cases}
 use Rattle.sf_value.proofs.Words.{allow_cases, otherwise_cases}

@@ -8,11 +8,11 @@ use Rattle.sf_value.specs.declared.dialect.Dialect.TheVariants.{Rfc8941, Rfc9651
 use Rattle.sf_value.specs.declared.value.Bare.{Bare}
 use Rattle.sf_value.specs.declared.value.Item.{Item}
 use Rattle.sf_parse.specs.Machine.Language.{Then, seen, Reads, Live, is_after}
-use Rattle.sf_parse.specs.declared.bare.BareState.{BareState}
+use Rattle.sf_parse.specs.Machine.Bares.{BareState}
 use Rattle.sf_parse.specs.Machine.Bares.{bare_step, bare_finish}
 use Rattle.sf_parse.specs.Machine.Params.{between_step, params_step, params_finish}
-use Rattle.sf_parse.specs.declared.item.ItemState.{ItemState}
-use Rattle.sf_parse.specs.declared.item.ItemState.TheVariants.{InBare, InParams}
+use Rattle.sf_parse.specs.Machine.Items.{ItemState}
+use Rattle.sf_parse.specs.Machine.Items.{InBare, InParams}
 use Rattle.sf_parse.specs.Machine.Items.{ItemOf, RestItem, GoodItem, item_start, item_step}
 use Rattle.sf_parse.specs.Machine.Items.{item_finish}
 use Rattle.sf_parse.proofs.Language.{reads_iff, reads_seen, reads_then, reads_first, seen_cases}

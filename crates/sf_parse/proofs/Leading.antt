@@ -1,10 +1,18 @@
 -- Bytes that lead to a place in a character.
 use Rattle.std.proofs.Common.{◌≡◌, ℕ, ◌+◌, ◌*◌, ◌==◌, true, false, List, [], ◌∷◌, ◌++◌, Some}
-use Rattle.std.proofs.Common.{refl}
-use Rattle.sf_value.specs.Grammar.Utf8.{Utf8, Start, Wants, utf8_step, WellFormed}
-use Rattle.sf_parse.specs.Machine.Language.{run}
+use Rattle.std.proofs.Common.{refl, sym, ap, ◌∙◌, subst, arith, append-nil, append_assoc}
+use Rattle.sf_value.specs.Grammar.Words.{Every}
+use Rattle.sf_parse.specs.ByteRuns.{is_shown_plain}
+use Rattle.sf_parse.specs.Fronts.{Went}
+use Rattle.sf_value.specs.Grammar.Utf8.{Utf8, Start, Wants, within, utf8_step, WellFormed}
+use Rattle.sf_parse.specs.Machine.Language.{run, seen}
 use Rattle.sf_parse.specs.Machine.Showns.{Plain, Hex, unhex, pushed, shown_step}
 use Rattle.sf_value.specs.Grammar.Classes.{is_visible}
+use Rattle.sf_parse.specs.Machine.Takes.{shown_ends}
+use Rattle.sf_parse.specs.Views.{utf8_of, shown_of, FitsShown, Leads}
+use Rattle.sf_parse.specs.declared.shown.Utf8State.{Utf8State}
+use Rattle.sf_parse.specs.declared.shown.ShownPhase.{ShownPhase}
+use Rattle.sf_parse.specs.declared.shown.ShownPhase.TheVariants as shown_phase
 use Rattle.sf_parse.proofs.Language.{and_then_cases}
 
 run_push : (x y z : Utf8) (bytes : List ℕ) (b : ℕ) → run utf8_step x bytes ≡ Some y
@@ -46,3 +54,61 @@ plain_pushed bytes x b q p v = rw (q, p, v) refl
 pub hex_pushed : (bytes : List ℕ) (x : Utf8) (h b l : ℕ) → unhex b ≡ Some l
     → shown_step (Hex bytes x h) b ≡ pushed (Hex bytes x h) (h * 16 + l)
 hex_pushed bytes x h b l e = rw e refl
+
+-- a byte that stands for itself between characters leads to between characters again
+plain_low : (b : ℕ) → is_shown_plain b ≡ true → within 0 127 b ≡ true
+plain_low b h = grind arith
+
+plain_after : (b : ℕ) → is_shown_plain b ≡ true → utf8_step Start b ≡ Some Start
+plain_after b h = rw (plain_low b h) refl
+
+plain_tests : (b : ℕ) → is_shown_plain b ≡ true
+    → ((b == 34) ≡ false) × ((b == 37) ≡ false) × (is_visible b ≡ true)
+plain_tests b h = (grind arith, grind arith, grind arith)
+
+plain_taken : (bytes : List ℕ) (b : ℕ) → is_shown_plain b ≡ true
+    → shown_step (Plain bytes Start) b ≡ Some (Plain (bytes ++ b ∷ []) Start)
+plain_taken bytes b h =
+    let k = plain_tests b h in
+    plain_pushed bytes Start b k.0 k.1 k.2
+    ∙ ap (seen (Plain (bytes ++ b ∷ []))) (plain_after b h)
+
+plain_run : (bytes xs : List ℕ) → Every is_shown_plain xs
+    → run shown_step (Plain bytes Start) xs ≡ Some (Plain (bytes ++ xs) Start)
+plain_run bytes [] h = ap (λ y. Some (Plain y Start)) (sym (append-nil bytes))
+plain_run bytes (b ∷ xs) h =
+    rw (plain_taken bytes b h.0)
+    (plain_run (bytes ++ b ∷ []) xs h.1
+    ∙ ap (λ y. Some (Plain y Start)) (append_assoc bytes (b ∷ []) xs))
+
+-- a run of such bytes
+pub plain_went : (bytes xs rest piece more : List ℕ) → piece ≡ xs ++ rest
+    → Every is_shown_plain xs → more ≡ bytes ++ xs
+    → Went shown_step (Plain bytes Start) piece rest (Plain more Start)
+plain_went bytes xs rest piece more e h f = record {
+  taken = xs;
+  split = e;
+  leads = plain_run bytes xs h ∙ ap (λ y. Some (Plain y Start)) (sym f);
+}
+
+pub leads_run : (bytes xs more : List ℕ) → run utf8_step Start bytes ≡ Some Start
+    → Every is_shown_plain xs → more ≡ bytes ++ xs → run utf8_step Start more ≡ Some Start
+leads_run bytes xs more l h f =
+    subst (λ y. run utf8_step Start y ≡ Some Start) (sym f) (by bytes xs l h)
+  where
+    by : (bytes xs : List ℕ) → run utf8_step Start bytes ≡ Some Start → Every is_shown_plain xs
+        → run utf8_step Start (bytes ++ xs) ≡ Some Start
+    by bytes [] l h = rw (append-nil bytes) l
+    by bytes (b ∷ xs) l h =
+        subst (λ y. run utf8_step Start y ≡ Some Start) (append_assoc bytes (b ∷ []) xs)
+        (by (bytes ++ b ∷ []) xs (leads_push bytes b Start Start l (plain_after b h.0)) h.1)
+
+-- a closed display string is whole characters
+pub shown_whole : (p : ShownPhase) (bytes : List ℕ) (chars : Utf8State) → FitsShown p bytes chars
+    → shown_ends (shown_of p bytes chars) ≡ true → WellFormed Start bytes
+shown_whole shown_phase.Quote bytes chars f e = absurd cc
+shown_whole shown_phase.Plain bytes chars f e = absurd cc
+shown_whole shown_phase.Percent bytes chars f e = absurd cc
+shown_whole (shown_phase.Hex high) bytes chars f e = absurd cc
+shown_whole shown_phase.Done bytes chars f e =
+    whole_when_led bytes (subst (λ c. Leads bytes (utf8_of c)) f.1 f.0)

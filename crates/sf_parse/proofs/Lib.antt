@@ -3,6 +3,12 @@ pub mod Numerals
 pub mod Leading
 pub mod Given
 pub mod Marks
+pub mod Fronts
+pub mod ByteRuns
+pub mod Feeding
+pub mod CommaPieces
+pub mod Levels
+pub mod BlobGroups
 pub mod Language
 pub mod Classes
 pub mod Machines
@@ -23,7 +29,7 @@ pub mod Taking
 pub mod Takes
 pub mod Below
 pub mod Dialects
-pub mod Pieces
+pub mod FedPieces
 pub mod Readings
 pub mod PlainSteps
 pub mod RunSteps

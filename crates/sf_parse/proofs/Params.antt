@@ -13,7 +13,7 @@ use Rattle.sf_value.specs.declared.value.Bare.TheVariants.{Boolean}
 use Rattle.sf_parse.specs.Machine.Language.{Either, After, Nothing, seen, Reads, Live, is_follow}
 use Rattle.sf_parse.specs.Machine.Language.{is_after}
 use Rattle.sf_parse.specs.Machine.Texts.{word_start, word_step}
-use Rattle.sf_parse.specs.declared.bare.BareState.{BareState}
+use Rattle.sf_parse.specs.Machine.Bares.{BareState}
 use Rattle.sf_parse.specs.Machine.Bares.{bare_step, bare_finish}
 use Rattle.sf_parse.specs.Machine.Params.{ParamsState, Between, Opened, InParamKey, EqualsParam}
 use Rattle.sf_parse.specs.Machine.Params.{InValue, MoreParams, PutParams, KeyParams, RestParams}

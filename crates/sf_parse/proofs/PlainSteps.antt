@@ -7,10 +7,10 @@ use Rattle.sf_value.specs.Grammar.Words.{Every, allow, otherwise}
 use Rattle.sf_value.specs.Grammar.Classes.{is_sp, is_token_start}
 use Rattle.sf_value.specs.Grammar.Dialects.{is_rfc9651}
 use Rattle.sf_value.proofs.Words.{allow_cases, otherwise_cases}
-use Rattle.sf_parse.specs.declared.bare.BareState.{BareState}
-use Rattle.sf_parse.specs.declared.bare.BareState.TheVariants.{InNumber, InText, InToken, InBoolean}
-use Rattle.sf_parse.specs.declared.bare.BareState.TheVariants.{InDate, InBlob, InShown}
-use Rattle.sf_parse.specs.declared.item.ItemState.TheVariants.{InBare, InParams}
+use Rattle.sf_parse.specs.Machine.Bares.{BareState}
+use Rattle.sf_parse.specs.Machine.Bares.{InNumber, InText, InToken, InBoolean}
+use Rattle.sf_parse.specs.Machine.Bares.{InDate, InBlob, InShown}
+use Rattle.sf_parse.specs.Machine.Items.{InBare, InParams}
 use Rattle.sf_parse.specs.Machine.Language.{seen, only}
 use Rattle.sf_parse.specs.Machine.Numbers.{number_start, number_step, number_finish, Sign}
 use Rattle.sf_parse.specs.Machine.Texts.{Inside, word_start}
@@ -24,6 +24,8 @@ use Rattle.sf_parse.specs.Machine.States.{State, BeforeItem, InTop, AfterItem, I
 use Rattle.sf_parse.specs.Machine.Fields.{step}
 use Rattle.sf_parse.specs.Plain.{plain_byte, PlainItem, PlainBare}
 use Rattle.sf_parse.specs.PlainParsers.{PlainState}
+use Rattle.sf_parse.specs.TopView.{StaysPlain}
+use Rattle.sf_parse.proofs.Fronts.{kept_by_run}
 use Rattle.sf_parse.proofs.Language.{seen_cases, onward_cases}
 
 -- a plain byte begins no bare item but a number
@@ -103,3 +105,8 @@ pub every_at : (p : ℕ → Bool) (xs : List ℕ) (i : ℕ) → Every p xs → i
 every_at p [] i h w = absurd (let n : ⊥ = omega arith in n)
 every_at p (x ∷ xs) zero h w = h.0
 every_at p (x ∷ xs) (suc i) h w = every_at p xs i h.1 (omega arith)
+
+-- plain bytes leave a plain state plain
+pub plain_stays : (d : Dialect) (s : State) → PlainState s → StaysPlain d s
+plain_stays d s h =
+    λ xs t w e. kept_by_run (step d) PlainState plain_byte (plain_step d) s t xs h w e

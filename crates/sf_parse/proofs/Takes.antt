@@ -25,20 +25,20 @@ use Rattle.sf_parse.specs.Machine.Blobs.{sextet, is_last, last_bytes, lacking, B
 use Rattle.sf_parse.specs.Machine.Blobs.{Padded, Ended, pad_step, grow_step, blob_step, blob_finish}
 use Rattle.sf_parse.specs.Machine.Showns.{unhex, can_begin, ShownState, Quote, Plain, Percent, Hex}
 use Rattle.sf_parse.specs.Machine.Showns.{Done, quote_step, shown_step, shown_finish}
-use Rattle.sf_parse.specs.declared.bare.BareState.{BareState}
-use Rattle.sf_parse.specs.declared.bare.BareState.TheVariants.{InNumber, InText, InToken, InBoolean}
-use Rattle.sf_parse.specs.declared.bare.BareState.TheVariants.{InDate, InBlob, InShown}
+use Rattle.sf_parse.specs.Machine.Bares.{BareState}
+use Rattle.sf_parse.specs.Machine.Bares.{InNumber, InText, InToken, InBoolean}
+use Rattle.sf_parse.specs.Machine.Bares.{InDate, InBlob, InShown}
 use Rattle.sf_parse.specs.Machine.Bares.{bare_start, bare_step, bare_finish}
 use Rattle.sf_parse.specs.Machine.Params.{ParamsState, Between, Opened, InParamKey, EqualsParam}
 use Rattle.sf_parse.specs.Machine.Params.{InValue, between_step, key_step, params_step}
 use Rattle.sf_parse.specs.Machine.Params.{params_finish}
-use Rattle.sf_parse.specs.declared.item.ItemState.{ItemState}
-use Rattle.sf_parse.specs.declared.item.ItemState.TheVariants.{InBare, InParams}
+use Rattle.sf_parse.specs.Machine.Items.{ItemState}
+use Rattle.sf_parse.specs.Machine.Items.{InBare, InParams}
 use Rattle.sf_parse.specs.Machine.Items.{item_start, item_step, item_finish}
 use Rattle.sf_parse.specs.Machine.Inners.{InnerState, Room, InItem, Closing, behind_step}
 use Rattle.sf_parse.specs.Machine.Inners.{inner_step, inner_finish}
-use Rattle.sf_parse.specs.declared.member.MemberState.{MemberState}
-use Rattle.sf_parse.specs.declared.member.MemberState.TheVariants.{InOne, InMany}
+use Rattle.sf_parse.specs.Machine.Members.{MemberState}
+use Rattle.sf_parse.specs.Machine.Members.{InOne, InMany}
 use Rattle.sf_parse.specs.Machine.Series.{SeriesState, Begin, InPiece, Gap, Comma, Series, gap_step}
 use Rattle.sf_parse.specs.Machine.Series.{series_step, series_finish}
 use Rattle.sf_parse.specs.Machine.Entries.{EntryState}

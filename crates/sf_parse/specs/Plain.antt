@@ -1,11 +1,11 @@
 -- The states of spaces and numbers, which take no memory.
 use Rattle.std.specs.Prelude.{ℕ, Bool, ◌==◌, ◌||◌, ⊤}
 use Rattle.sf_value.specs.Grammar.Classes.{is_sp, is_digit}
-use Rattle.sf_parse.specs.declared.bare.BareState.{BareState}
-use Rattle.sf_parse.specs.declared.bare.BareState.TheVariants.{InNumber, InText, InToken, InBoolean}
-use Rattle.sf_parse.specs.declared.bare.BareState.TheVariants.{InDate, InBlob, InShown}
-use Rattle.sf_parse.specs.declared.item.ItemState.{ItemState}
-use Rattle.sf_parse.specs.declared.item.ItemState.TheVariants.{InBare, InParams}
+use Rattle.sf_parse.specs.Machine.Bares.{BareState}
+use Rattle.sf_parse.specs.Machine.Bares.{InNumber, InText, InToken, InBoolean}
+use Rattle.sf_parse.specs.Machine.Bares.{InDate, InBlob, InShown}
+use Rattle.sf_parse.specs.Machine.Items.{ItemState}
+use Rattle.sf_parse.specs.Machine.Items.{InBare, InParams}
 
 -- a space, a minus sign or a digit
 abbrev pub plain_byte : ℕ → Bool

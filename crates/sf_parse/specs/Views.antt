@@ -99,3 +99,11 @@ FitsPhase shown_phase.Done bytes chars = chars ≡ utf8.Start
 
 abbrev pub FitsShown : ShownPhase → List ℕ → Utf8State → Type 0
 FitsShown phase bytes chars = Leads bytes (utf8_of chars) × FitsPhase phase bytes chars
+
+-- the digit of an escape is below 16
+abbrev pub IsDigitPhase : ShownPhase → Type 0
+IsDigitPhase shown_phase.Quote = Unit {0}
+IsDigitPhase shown_phase.Plain = Unit {0}
+IsDigitPhase shown_phase.Percent = Unit {0}
+IsDigitPhase (shown_phase.Hex high) = high < 16
+IsDigitPhase shown_phase.Done = Unit {0}

@@ -1,54 +1,136 @@
 //! A bare item that is being read (RFC 9651 section 4.2.3.1).
-ghost use Rattle.std.specs.Prelude.{◌≡◌, true, IfOk, IsOk};
+ghost use Rattle.std.specs.Prelude.{◌≡◌, true, ⊤, IfNone, IfOk, IsOk};
 ghost use Rattle.sf_parse.specs.Plain.{plain_byte, PlainBare};
-ghost use Rattle.sf_parse.specs.Machine.Language.{Steps};
-ghost use Rattle.sf_parse.specs.Machine.Bares.{bare_start, bare_step, bare_finish};
+ghost use Rattle.sf_parse.specs.Fronts.{Starts};
+ghost use Rattle.sf_parse.specs.Machine.Bares.{InBoolean, bare_start, bare_step, bare_finish};
+ghost use Rattle.sf_parse.specs.declared.boolean.BooleanState.TheVariants.{Told};
 ghost use Rattle.sf_parse.specs.Machine.Takes.{bare_begins, bare_takes, bare_ends};
+ghost use Rattle.sf_parse.specs.Plainness.{plain_bare_step};
 
-use crate::blob::BlobReader;
+use crate::blob::{BlobPhase, Held};
 use crate::boolean::BooleanState;
 use crate::context::Context;
 use crate::date::DateReader;
+use crate::level::Level;
 use crate::number::NumberReader;
-use crate::shown::ShownReader;
-use crate::text::TextReader;
-use sf_value::{Bare, Dialect, OutOfMemory, Token, can_be_in_token, can_start_token};
+use crate::runs::{InToken, long_front};
+use crate::shown::ShownPlace;
+use crate::text::TextPhase;
+use sf_value::{
+    Bare, Blob, Dialect, OutOfMemory, ShortBytes, Shown, Text, Token, can_be_in_token,
+    can_start_token,
+};
+use std::marker::Model;
+use std::mem;
 
-/// What was read of a bare item, by its type.
-#[derive(Debug, Drop)]
-pub enum BareState {
-    InNumber(NumberReader),
-    InText(TextReader),
-    InToken(Token),
-    InBoolean(BooleanState),
-    InDate(DateReader),
-    InBlob(BlobReader),
-    InShown(ShownReader),
+/// The types of bare items; a number is an Integer or a Decimal.
+#[derive(Clone, Copy, Debug, PartialEq, Eq)]
+pub enum BareKind {
+    Number,
+    Text,
+    Token,
+    Boolean,
+    Date,
+    Blob,
+    Shown,
 }
 
-impl BareState {
-    /// The bare item that begins with this byte.
-    pub fn start(context: &Context, byte: u8) -> Result<Option<BareState>, OutOfMemory>
-        ensures start { IfOk result (λ state. state ≡ bare_start context.now.dialect byte) }
+/// What was read of a bare item. Its kind says which of the other fields count; all that is made of
+/// bytes gathers them in `bytes`.
+#[derive(Debug, Drop)]
+pub struct BareReader {
+    kind: BareKind,
+    number: NumberReader,
+    date: DateReader,
+    boolean: BooleanState,
+    text: TextPhase,
+    blob: BlobPhase,
+    shown: ShownPlace,
+    bytes: ShortBytes,
+}
+
+impl Model for BareReader {
+    ghost use Rattle.sf_parse.specs.Machine.Bares.{BareState};
+
+    ghost Value = { BareState };
+
+    ghost use Rattle.sf_parse.specs.BareView.{bare_of, FitsBare};
+
+    ghost view = { bare_of };
+
+    ghost invariant = { FitsBare };
+}
+
+impl BareReader {
+    /// A reader that no bare item was begun in. It takes no memory.
+    pub fn new(context: &Context) -> BareReader {
+        BareReader {
+            kind: BareKind::Boolean,
+            number: NumberReader::none(),
+            date: DateReader::open(),
+            boolean: BooleanState::Asked,
+            text: TextPhase::Inside,
+            blob: BlobPhase::Ended,
+            shown: ShownPlace::OPEN,
+            bytes: ShortBytes::new(context.alloc),
+        }
+    }
+
+    /// Begins a bare item with this byte, or tells that none begins with it.
+    pub fn start(&mut self, context: &Context, byte: u8) -> Result<bool, OutOfMemory>
+        ensures start { IfOk result (λ took. Starts took (bare_start context.now.dialect byte)
+            self.new) }
         ensures plain { plain_byte byte ≡ true → IsOk result }
     {
         if let Some(number) = NumberReader::start(byte) {
-            return Ok(Some(BareState::InNumber(number)));
+            self.number = number;
+            self.kind = BareKind::Number;
+            return Ok(true);
         }
         if can_start_token(byte) {
-            let token = Token::first(context.alloc, byte)?;
-            return Ok(Some(BareState::InToken(token)));
+            self.bytes = ShortBytes::one(context.alloc, byte);
+            self.kind = BareKind::Token;
+            return Ok(true);
         }
         match (byte, context.dialect) {
-            (b'"', _) => Ok(Some(BareState::InText(TextReader::open(context.alloc)))),
-            (b'?', _) => Ok(Some(BareState::InBoolean(BooleanState::Asked))),
-            (b':', _) => Ok(Some(BareState::InBlob(BlobReader::open(context.alloc)))),
-            (b'@', Dialect::Rfc9651) => Ok(Some(BareState::InDate(DateReader::open()))),
-            (b'%', Dialect::Rfc9651) => {
-                Ok(Some(BareState::InShown(ShownReader::open(context.alloc))))
+            (b'"', _) => {
+                self.bytes = ShortBytes::new(context.alloc);
+                self.text = TextPhase::Inside;
+                self.kind = BareKind::Text;
+                Ok(true)
             }
-            _ => Ok(None),
+            (b'?', _) => {
+                self.boolean = BooleanState::Asked;
+                self.kind = BareKind::Boolean;
+                Ok(true)
+            }
+            (b':', _) => {
+                self.bytes = ShortBytes::new(context.alloc);
+                self.blob = BlobPhase::Group(Held::H0);
+                self.kind = BareKind::Blob;
+                Ok(true)
+            }
+            (b'@', Dialect::Rfc9651) => {
+                self.date = DateReader::open();
+                self.kind = BareKind::Date;
+                Ok(true)
+            }
+            (b'%', Dialect::Rfc9651) => {
+                self.bytes = ShortBytes::new(context.alloc);
+                self.shown = ShownPlace::OPEN;
+                self.kind = BareKind::Shown;
+                Ok(true)
+            }
+            _ => Ok(false),
         }
+    }
+
+    /// Makes the bare item Boolean true.
+    pub fn set_true(&mut self)
+        ensures { self.new ≡ InBoolean (Told true) }
+    {
+        self.boolean = BooleanState::Told(true);
+        self.kind = BareKind::Boolean;
     }
 
     /// Whether a bare item may begin with this byte.
@@ -62,70 +144,112 @@ impl BareState {
         }
     }
 
-    /// Takes one more byte, or tells that the bare item can't go on with it and stays as it is.
-    pub fn step(&mut self, byte: u8) -> Result<bool, OutOfMemory>
-        ensures step { IfOk result (λ took. Steps took (bare_step self.old byte) self.old self.new) }
-        ensures plain { PlainBare self.old → IsOk result }
+    /// The bare item, if it is whole. What is left is the reader alone.
+    pub fn finish(&mut self, context: &Context) -> Option<Bare>
+        ensures value { result ≡ bare_finish self.old }
+        ensures kept { IfNone result (self.new ≡ self.old) }
     {
-        match self {
-            BareState::InNumber(number) => Ok(number.step(byte)),
-            BareState::InText(text) => text.step(byte),
-            BareState::InToken(token) => {
+        if !self.may_end() {
+            return None;
+        }
+        match self.kind {
+            BareKind::Number => return self.number.finish(),
+            BareKind::Boolean => return Some(Bare::Boolean(self.boolean.finish()?)),
+            BareKind::Date => return Some(Bare::Date(self.date.finish()?)),
+            BareKind::Text => {
+                self.kind = BareKind::Boolean;
+                let bytes = mem::replace(&mut self.bytes, ShortBytes::new(context.alloc));
+                return Some(Bare::Text(Text::from_bytes(bytes)));
+            }
+            BareKind::Token => {
+                self.kind = BareKind::Boolean;
+                let bytes = mem::replace(&mut self.bytes, ShortBytes::new(context.alloc));
+                return Some(Bare::Token(Token::from_bytes(bytes)));
+            }
+            BareKind::Blob => {
+                self.kind = BareKind::Boolean;
+                let bytes = mem::replace(&mut self.bytes, ShortBytes::new(context.alloc));
+                return Some(Bare::Blob(Blob::from_bytes(bytes)));
+            }
+            BareKind::Shown => {
+                self.kind = BareKind::Boolean;
+                let bytes = mem::replace(&mut self.bytes, ShortBytes::new(context.alloc));
+                return Some(Bare::Shown(Shown::from_bytes(bytes)));
+            }
+        }
+    }
+}
+
+impl Level for BareReader {
+    ghost next = { λ d s b. bare_step s b };
+
+    ghost stuck = { λ d s b. ⊤ };
+
+    ghost takes = { λ d s b. bare_takes s b };
+
+    ghost ends = { bare_ends };
+
+    ghost plain = { λ d s. PlainBare s };
+
+    ghost keeps = { λ d s t b h e k. plain_bare_step s t b h k };
+
+    fn take_part<'a>(
+        &mut self,
+        _context: &Context,
+        piece: &'a [u8],
+    ) -> Result<&'a [u8], OutOfMemory> {
+        match self.kind {
+            BareKind::Text => return self.text.take_run(&mut self.bytes, piece),
+            BareKind::Token => {
+                let (run, rest) = long_front::<InToken>(piece);
+                self.bytes.extend(run)?;
+                return Ok(rest);
+            }
+            BareKind::Blob => return self.blob.take_run(&mut self.bytes, piece),
+            BareKind::Shown => return self.shown.take_run(&mut self.bytes, piece),
+            BareKind::Number | BareKind::Boolean | BareKind::Date => return Ok(piece),
+        }
+    }
+
+    fn turn(&mut self, _context: &Context, byte: u8) -> Result<bool, OutOfMemory> {
+        match self.kind {
+            BareKind::Number => return Ok(self.number.step(byte)),
+            BareKind::Boolean => return Ok(self.boolean.step(byte)),
+            BareKind::Date => return Ok(self.date.step(byte)),
+            BareKind::Text => return self.text.step(&mut self.bytes, byte),
+            BareKind::Token => {
                 if !can_be_in_token(byte) {
                     return Ok(false);
                 }
-                token.push(byte)?;
-                Ok(true)
+                self.bytes.push(byte)?;
+                return Ok(true);
             }
-            BareState::InBoolean(boolean) => Ok(boolean.step(byte)),
-            BareState::InDate(date) => Ok(date.step(byte)),
-            BareState::InBlob(blob) => blob.step(byte),
-            BareState::InShown(shown) => shown.step(byte),
+            BareKind::Blob => return self.blob.step(&mut self.bytes, byte),
+            BareKind::Shown => return self.shown.step(&mut self.bytes, byte),
         }
     }
 
-    /// Whether the bare item can go on with this byte.
-    pub fn takes(&self, byte: u8) -> bool
-        ensures { result ≡ bare_takes self.now byte }
-    {
-        match self {
-            BareState::InNumber(number) => number.takes(byte),
-            BareState::InText(text) => text.takes(byte),
-            BareState::InToken(_) => can_be_in_token(byte),
-            BareState::InBoolean(boolean) => boolean.takes(byte),
-            BareState::InDate(date) => date.takes(byte),
-            BareState::InBlob(blob) => blob.takes(byte),
-            BareState::InShown(shown) => shown.takes(byte),
+    fn takes(&self, _dialect: Dialect, byte: u8) -> bool {
+        match self.kind {
+            BareKind::Number => self.number.takes(byte),
+            BareKind::Text => self.text.takes(byte),
+            BareKind::Token => can_be_in_token(byte),
+            BareKind::Boolean => self.boolean.takes(byte),
+            BareKind::Date => self.date.takes(byte),
+            BareKind::Blob => self.blob.takes(byte),
+            BareKind::Shown => self.shown.takes(byte),
         }
     }
 
-    /// Whether it is a bare item already.
-    pub fn may_end(&self) -> bool
-        ensures { result ≡ bare_ends self.now }
-    {
-        match self {
-            BareState::InNumber(number) => number.may_end(),
-            BareState::InText(text) => text.may_end(),
-            BareState::InToken(_) => true,
-            BareState::InBoolean(boolean) => boolean.may_end(),
-            BareState::InDate(date) => date.may_end(),
-            BareState::InBlob(blob) => blob.may_end(),
-            BareState::InShown(shown) => shown.may_end(),
-        }
-    }
-
-    /// The bare item, if it is whole.
-    pub fn finish(self) -> Option<Bare>
-        ensures { result ≡ bare_finish self }
-    {
-        match self {
-            BareState::InNumber(number) => number.finish(),
-            BareState::InText(text) => Some(Bare::Text(text.finish()?)),
-            BareState::InToken(token) => Some(Bare::Token(token)),
-            BareState::InBoolean(boolean) => Some(Bare::Boolean(boolean.finish()?)),
-            BareState::InDate(date) => Some(Bare::Date(date.finish()?)),
-            BareState::InBlob(blob) => Some(Bare::Blob(blob.finish()?)),
-            BareState::InShown(shown) => Some(Bare::Shown(shown.finish()?)),
+    fn may_end(&self) -> bool {
+        match self.kind {
+            BareKind::Number => self.number.may_end(),
+            BareKind::Text => self.text.may_end(),
+            BareKind::Token => true,
+            BareKind::Boolean => self.boolean.may_end(),
+            BareKind::Date => self.date.may_end(),
+            BareKind::Blob => self.blob.may_end(),
+            BareKind::Shown => self.shown.may_end(),
         }
     }
 }

@@ -1,37 +1,42 @@
 //! A member of a Dictionary that is being read (RFC 9651 section 4.2.2).
-ghost use Rattle.std.specs.Prelude.{◌≡◌, IfOk};
+ghost use Rattle.std.specs.Prelude.{◌≡◌, [], ◌∷◌, IfOk};
 ghost use Rattle.sf_value.specs.Grammar.Fields.{flag as flag_member};
-ghost use Rattle.sf_parse.specs.EntryView.{entry_of, key_of};
-ghost use Rattle.sf_parse.specs.Machine.Language.{Steps};
+ghost use Rattle.sf_parse.specs.Fronts.{Starts};
+ghost use Rattle.sf_parse.specs.EntryView.{entry_stuck};
 ghost use Rattle.sf_parse.specs.Machine.Entries.{entry_start, entry_step, entry_finish};
 ghost use Rattle.sf_parse.specs.Machine.Takes.{entry_takes, entry_ends};
 
 use crate::context::Context;
-use crate::member::MemberState;
-use crate::parameters::ParamsReader;
+use crate::level::Level;
+use crate::member::MemberReader;
+use crate::runs::{InKey, short_front};
 use sf_value::{
-    Bare, Dialect, Entries, Item, Key, Member, OutOfMemory, can_be_in_key, can_start_key,
+    Bare, Dialect, Entries, Item, Key, Member, OutOfMemory, ShortBytes, can_be_in_key,
+    can_start_key,
 };
 use std::marker::Model;
+use std::mem;
 
 /// Where in a dictionary's member the text is.
-#[derive(Debug, Drop)]
+#[derive(Clone, Copy, Debug, PartialEq, Eq)]
 pub enum EntryPhase {
     /// In its key.
     InKey,
     /// Behind the equals sign.
     Equals,
     /// In its value.
-    InMember(MemberState),
+    InMember,
     /// In the parameters of Boolean true.
-    InFlag(ParamsReader),
+    InFlag,
 }
 
-/// What was read of a dictionary's member.
+/// What was read of a dictionary's member. The parameters behind a key alone are read as those of
+/// an item of Boolean true.
 #[derive(Debug, Drop)]
 pub struct EntryReader {
-    key: Key,
     phase: EntryPhase,
+    key: ShortBytes,
+    member: MemberReader,
 }
 
 impl Model for EntryReader {
@@ -39,9 +44,18 @@ impl Model for EntryReader {
 
     ghost Value = { EntryState };
 
-    ghost use Rattle.sf_parse.specs.EntryView.{entry_of};
+    ghost use Rattle.sf_parse.specs.EntryView.{entry_of, FitsEntry};
 
-    ghost view = { λ e. entry_of e.phase e.key };
+    ghost view = { λ r. entry_of r.phase r.key r.member };
+
+    ghost invariant = { λ r. FitsEntry r.phase r.key r.member };
+}
+
+// The key of a reader in which no member was begun.
+fn no_key(context: &Context) -> ShortBytes
+    ensures { result ≡ 42 ∷ [] }
+{
+    ShortBytes::one(context.alloc, b'*')
 }
 
 // Boolean true with parameters.
@@ -55,101 +69,135 @@ fn flag(params: Entries<Bare>) -> Member
 }
 
 impl EntryReader {
-    /// The member that begins with this byte.
-    pub fn start(context: &Context, byte: u8) -> Result<Option<EntryReader>, OutOfMemory>
-        ensures { IfOk result (λ state. state ≡ entry_start byte) }
+    /// A reader that no member was begun in. It takes no memory.
+    pub fn new(context: &Context) -> EntryReader {
+        EntryReader {
+            phase: EntryPhase::InKey,
+            key: no_key(context),
+            member: MemberReader::new(context),
+        }
+    }
+
+    /// Begins a member with this byte, or tells that none begins with it.
+    pub fn start(&mut self, context: &Context, byte: u8) -> Result<bool, OutOfMemory>
+        ensures { IfOk result (λ took. Starts took (entry_start byte) self.new) }
     {
         if !can_start_key(byte) {
-            return Ok(None);
+            return Ok(false);
         }
-        let key = Key::first(context.alloc, byte)?;
-        Ok(Some(EntryReader {
-            key,
-            phase: EntryPhase::InKey,
-        }))
+        self.key = ShortBytes::one(context.alloc, byte);
+        self.phase = EntryPhase::InKey;
+        Ok(true)
     }
 
-    /// Takes one more byte, or tells that the member can't go on with it and stays as it is.
-    pub fn step(&mut self, context: &Context, byte: u8) -> Result<bool, OutOfMemory>
-        ensures { IfOk result (λ took. Steps took (entry_step context.now.dialect self.old byte)
-            self.old self.new) }
+    /// The key and the value, if the member is whole. What is left is the reader alone.
+    pub fn finish(&mut self, context: &Context) -> Result<Option<(Key, Member)>, OutOfMemory>
+        ensures { IfOk result (λ entry. entry ≡ entry_finish self.old) }
     {
-        match &mut self.phase {
+        match self.phase {
             EntryPhase::InKey => {
-                if can_be_in_key(byte) {
-                    self.key.push(byte)?;
-                    return Ok(true);
+                let key = Key::from_bytes(mem::replace(&mut self.key, no_key(context)));
+                let params = Entries::new(context.alloc, &context.seed);
+                return Ok(Some((key, flag(params))));
+            }
+            EntryPhase::Equals => return Ok(None),
+            EntryPhase::InMember => {
+                let Some(member) = self.member.finish(context)? else {
+                    return Ok(None);
+                };
+                let key = Key::from_bytes(mem::replace(&mut self.key, no_key(context)));
+                return Ok(Some((key, member)));
+            }
+            EntryPhase::InFlag => {
+                self.phase = EntryPhase::InMember;
+                let Some(member) = self.member.finish(context)? else {
+                    return Ok(None);
+                };
+                let key = Key::from_bytes(mem::replace(&mut self.key, no_key(context)));
+                return Ok(Some((key, member)));
+            }
+        }
+    }
+}
+
+impl Level for EntryReader {
+    ghost next = { entry_step };
+
+    ghost stuck = { entry_stuck };
+
+    ghost takes = { entry_takes };
+
+    ghost ends = { entry_ends };
+
+    ghost plain = { λ d s. ⊥ };
+
+    ghost keeps = { λ d s t b h e k. absurd h };
+
+    fn take_part<'a>(
+        &mut self,
+        context: &Context,
+        piece: &'a [u8],
+    ) -> Result<&'a [u8], OutOfMemory> {
+        match self.phase {
+            EntryPhase::InKey => {
+                let (run, rest) = short_front::<InKey>(piece);
+                self.key.extend(run)?;
+                return Ok(rest);
+            }
+            EntryPhase::Equals => return Ok(piece),
+            EntryPhase::InMember => return self.member.take(context, piece),
+            EntryPhase::InFlag => match self.member.take(context, piece) {
+                Ok(rest) => return Ok(rest),
+                Err(refused) => {
+                    self.phase = EntryPhase::InMember;
+                    return Err(refused);
                 }
+            },
+        }
+    }
+
+    fn turn(&mut self, context: &Context, byte: u8) -> Result<bool, OutOfMemory> {
+        match self.phase {
+            EntryPhase::InKey => {
                 if byte == b'=' {
-                    self.enter(EntryPhase::Equals);
+                    self.phase = EntryPhase::Equals;
                     return Ok(true);
                 }
-                if byte != b';' {
+                if byte == b';' {
+                    self.member.open_flag(context);
+                    self.phase = EntryPhase::InFlag;
+                    return Ok(true);
+                }
+                if !can_be_in_key(byte) {
                     return Ok(false);
                 }
-                self.enter(EntryPhase::InFlag(ParamsReader::open(context)));
-                Ok(true)
+                self.key.push(byte)?;
+                return Ok(true);
             }
             EntryPhase::Equals => {
-                let Some(state) = MemberState::start(context, byte)? else {
+                if !self.member.start(context, byte)? {
                     return Ok(false);
-                };
-                self.enter(EntryPhase::InMember(state));
-                Ok(true)
+                }
+                self.phase = EntryPhase::InMember;
+                return Ok(true);
             }
-            EntryPhase::InMember(state) => state.step(context, byte),
-            EntryPhase::InFlag(params) => params.step(context, byte),
+            EntryPhase::InMember | EntryPhase::InFlag => return Ok(false),
         }
     }
 
-    // It stands apart so that the phase that is left is dropped here alone.
-    #[inline(never)]
-    fn enter(&mut self, phase: EntryPhase)
-        ensures { self.new ≡ entry_of phase (key_of self.old) }
-    {
-        self.phase = phase;
-    }
-
-    /// Whether the member can go on with this byte.
-    pub fn takes(&self, dialect: Dialect, byte: u8) -> bool
-        ensures { result ≡ entry_takes dialect self.now byte }
-    {
-        match &self.phase {
+    fn takes(&self, dialect: Dialect, byte: u8) -> bool {
+        match self.phase {
             EntryPhase::InKey => can_be_in_key(byte) || byte == b'=' || byte == b';',
-            EntryPhase::Equals => MemberState::can_start(dialect, byte),
-            EntryPhase::InMember(state) => state.takes(dialect, byte),
-            EntryPhase::InFlag(params) => params.takes(dialect, byte),
+            EntryPhase::Equals => MemberReader::can_start(dialect, byte),
+            EntryPhase::InMember | EntryPhase::InFlag => self.member.takes(dialect, byte),
         }
     }
 
-    /// Whether it is a member already.
-    pub fn may_end(&self) -> bool
-        ensures { result ≡ entry_ends self.now }
-    {
-        match &self.phase {
+    fn may_end(&self) -> bool {
+        match self.phase {
             EntryPhase::InKey => true,
             EntryPhase::Equals => false,
-            EntryPhase::InMember(state) => state.may_end(),
-            EntryPhase::InFlag(params) => params.may_end(),
-        }
-    }
-
-    /// The key and the value, if the member is whole.
-    pub fn finish(self, context: &Context) -> Result<Option<(Key, Member)>, OutOfMemory>
-        ensures { IfOk result (λ entry. entry ≡ entry_finish self) }
-    {
-        let EntryReader { key, phase } = self;
-        match phase {
-            EntryPhase::InKey => Ok(Some((key, flag(Entries::new(context.alloc, &context.seed))))),
-            EntryPhase::Equals => Ok(None),
-            EntryPhase::InMember(state) => match state.finish(context)? {
-                Some(member) => Ok(Some((key, member))),
-                None => Ok(None),
-            },
-            EntryPhase::InFlag(params) => match params.finish()? {
-                Some(params) => Ok(Some((key, flag(params)))),
-                None => Ok(None),
-            },
+            EntryPhase::InMember | EntryPhase::InFlag => self.member.may_end(),
         }
     }
 }

@@ -1,114 +1,158 @@
 //! An Item that is being read (RFC 9651 section 4.2.3).
-ghost use Rattle.std.specs.Prelude.{◌≡◌, [], Some, true, IfOk, IsOk};
+ghost use Rattle.std.specs.Prelude.{◌≡◌, [], true, IfOk, IsOk};
 ghost use Rattle.sf_value.specs.declared.value.Bare.{Bare};
+ghost use Rattle.sf_value.specs.declared.value.Bare.TheVariants as bare_is;
 ghost use Rattle.sf_parse.specs.Plain.{plain_byte, PlainItem};
-ghost use Rattle.sf_parse.specs.declared.bare.BareState.{BareState};
-ghost use Rattle.sf_parse.specs.declared.item.ItemState.TheVariants.{InBare, InParams};
-ghost use Rattle.sf_parse.specs.Machine.Language.{Steps};
-ghost use Rattle.sf_parse.specs.Machine.Bares.{bare_finish};
-ghost use Rattle.sf_parse.specs.Machine.Params.{Opened};
-ghost use Rattle.sf_parse.specs.Machine.Items.{item_start, item_step, item_finish};
+ghost use Rattle.sf_parse.specs.Plainness.{plain_item_step};
+ghost use Rattle.sf_parse.specs.Fronts.{Starts};
+ghost use Rattle.sf_parse.specs.ItemView.{item_stuck};
+ghost use Rattle.sf_parse.specs.Machine.Params.{ParamsState, Between, Opened, params_finish};
+ghost use Rattle.sf_parse.specs.Machine.Items.{InParams, item_start, item_step, item_finish};
 ghost use Rattle.sf_parse.specs.Machine.Takes.{item_takes, item_ends};
 
-use crate::bare::BareState;
-use crate::boolean::BooleanState;
+use crate::bare::BareReader;
 use crate::context::Context;
+use crate::level::Level;
 use crate::parameters::ParamsReader;
 use sf_value::{Bare, Dialect, Entries, Item, OutOfMemory};
-use std::mem;
+use std::marker::Model;
 
-/// What was read of an item: of its bare item, or of its parameters.
+/// What was read of an item: its bare item, which stays in its reader until the item ends, and its
+/// parameters.
 #[derive(Debug, Drop)]
-pub enum ItemState {
-    InBare(BareState),
-    InParams(Bare, ParamsReader),
+pub struct ItemReader {
+    in_params: bool,
+    bare: BareReader,
+    params: ParamsReader,
 }
 
-impl ItemState {
-    /// The item that begins with this byte.
-    pub fn start(context: &Context, byte: u8) -> Result<Option<ItemState>, OutOfMemory>
-        ensures start { IfOk result (λ state. state ≡ item_start context.now.dialect byte) }
-        ensures plain { plain_byte byte ≡ true → IsOk result }
-    {
-        match BareState::start(context, byte)? {
-            Some(state) => Ok(Some(ItemState::InBare(state))),
-            None => Ok(None),
+impl Model for ItemReader {
+    ghost use Rattle.sf_parse.specs.Machine.Items.{ItemState};
+
+    ghost Value = { ItemState };
+
+    ghost use Rattle.sf_parse.specs.ItemView.{item_of, FitsItem};
+
+    ghost view = { λ r. item_of r.in_params r.bare r.params };
+
+    ghost invariant = { λ r. FitsItem r.in_params r.bare };
+}
+
+impl ItemReader {
+    /// A reader that no item was begun in. It takes no memory.
+    pub fn new(context: &Context) -> ItemReader {
+        ItemReader {
+            in_params: false,
+            bare: BareReader::new(context),
+            params: ParamsReader::new(context),
         }
     }
 
-    /// Takes one more byte, or tells that the item can't go on with it and stays as it is.
-    pub fn step(&mut self, context: &Context, byte: u8) -> Result<bool, OutOfMemory>
-        ensures step { IfOk result (λ took. Steps took (item_step context.now.dialect self.old byte)
-            self.old self.new) }
+    /// Begins an item with this byte, or tells that none begins with it.
+    pub fn start(&mut self, context: &Context, byte: u8) -> Result<bool, OutOfMemory>
+        ensures start { IfOk result (λ took. Starts took (item_start context.now.dialect byte)
+            self.new) }
+        ensures plain { plain_byte byte ≡ true → IsOk result }
+    {
+        self.in_params = false;
+        self.bare.start(context, byte)
+    }
+
+    /// Begins the parameters of Boolean true, behind the first semicolon.
+    pub fn open_flag(&mut self, context: &Context)
+        ensures { self.new ≡ InParams (bare_is.Boolean true) (Opened []) }
+    {
+        self.in_params = false;
+        self.bare.set_true();
+        self.params.open(context);
+        self.in_params = true;
+    }
+
+    /// Begins parameters that belong to no bare item: those behind a closing bracket.
+    pub fn begin_params(&mut self, context: &Context)
+        ensures { self.new ≡ InParams (bare_is.Boolean true) (Between []) }
+    {
+        self.in_params = false;
+        self.bare.set_true();
+        self.params.begin(context);
+        self.in_params = true;
+    }
+
+    /// The parameters alone, if the last one is whole. What is left is the reader alone.
+    pub fn finish_params(&mut self, context: &Context) -> Result<Option<Entries<Bare>>, OutOfMemory>
+        ensures { IfOk result (λ params. (x : Bare) (s : ParamsState) → self.old ≡ InParams x s
+            → params ≡ params_finish s) }
+    {
+        self.params.finish(context)
+    }
+
+    /// The item, if it is whole. What is left is the reader alone.
+    pub fn finish(&mut self, context: &Context) -> Result<Option<Item>, OutOfMemory>
+        ensures value { IfOk result (λ item. item ≡ item_finish self.old) }
         ensures plain { PlainItem self.old → IsOk result }
     {
-        match self {
-            ItemState::InBare(state) => {
-                if state.step(byte)? {
-                    return Ok(true);
-                }
-                if byte != b';' || !state.may_end() {
-                    return Ok(false);
-                }
-            }
-            ItemState::InParams(_, params) => return params.step(context, byte),
+        if !self.in_params {
+            let Some(bare) = self.bare.finish(context) else {
+                return Ok(None);
+            };
+            let params = Entries::new(context.alloc, &context.seed);
+            return Ok(Some(Item { bare, params }));
         }
-        self.open_params(context);
+        let Some(params) = self.params.finish(context)? else {
+            return Ok(None);
+        };
+        self.in_params = false;
+        let Some(bare) = self.bare.finish(context) else {
+            return Ok(None);
+        };
+        Ok(Some(Item { bare, params }))
+    }
+}
+
+impl Level for ItemReader {
+    ghost next = { item_step };
+
+    ghost stuck = { item_stuck };
+
+    ghost takes = { item_takes };
+
+    ghost ends = { item_ends };
+
+    ghost plain = { λ d s. PlainItem s };
+
+    ghost keeps = { plain_item_step };
+
+    fn take_part<'a>(
+        &mut self,
+        context: &Context,
+        piece: &'a [u8],
+    ) -> Result<&'a [u8], OutOfMemory> {
+        if self.in_params {
+            return self.params.take(context, piece);
+        }
+        self.bare.take(context, piece)
+    }
+
+    fn turn(&mut self, context: &Context, byte: u8) -> Result<bool, OutOfMemory> {
+        if self.in_params || byte != b';' || !self.bare.may_end() {
+            return Ok(false);
+        }
+        self.params.open(context);
+        self.in_params = true;
         Ok(true)
     }
 
-    // Behind the first semicolon. It stands apart since its locals are large, and each call of a
-    // function clears them.
-    #[inline(never)]
-    fn open_params(&mut self, context: &Context)
-        ensures { (s : BareState) (x : Bare) → self.old ≡ InBare s → bare_finish s ≡ Some x
-            → self.new ≡ InParams x (Opened []) }
-    {
-        let empty = ItemState::InBare(BareState::InBoolean(BooleanState::Asked));
-        if let ItemState::InBare(state) = mem::replace(self, empty) {
-            if let Some(bare) = state.finish() {
-                *self = ItemState::InParams(bare, ParamsReader::open(context));
-            }
+    fn takes(&self, dialect: Dialect, byte: u8) -> bool {
+        if self.in_params {
+            return self.params.takes(dialect, byte);
         }
+        self.bare.takes(dialect, byte) || self.bare.may_end() && byte == b';'
     }
 
-    /// Whether the item can go on with this byte.
-    pub fn takes(&self, dialect: Dialect, byte: u8) -> bool
-        ensures { result ≡ item_takes dialect self.now byte }
-    {
-        match self {
-            ItemState::InBare(state) => state.takes(byte) || state.may_end() && byte == b';',
-            ItemState::InParams(_, params) => params.takes(dialect, byte),
+    fn may_end(&self) -> bool {
+        if self.in_params {
+            return self.params.may_end();
         }
-    }
-
-    /// Whether it is an item already.
-    pub fn may_end(&self) -> bool
-        ensures { result ≡ item_ends self.now }
-    {
-        match self {
-            ItemState::InBare(state) => state.may_end(),
-            ItemState::InParams(_, params) => params.may_end(),
-        }
-    }
-
-    /// The item, if it is whole.
-    pub fn finish(self, context: &Context) -> Result<Option<Item>, OutOfMemory>
-        ensures value { IfOk result (λ item. item ≡ item_finish self) }
-        ensures plain { PlainItem self → IsOk result }
-    {
-        match self {
-            ItemState::InBare(state) => match state.finish() {
-                Some(bare) => Ok(Some(Item {
-                    bare,
-                    params: Entries::new(context.alloc, &context.seed),
-                })),
-                None => Ok(None),
-            },
-            ItemState::InParams(bare, params) => match params.finish()? {
-                Some(params) => Ok(Some(Item { bare, params })),
-                None => Ok(None),
-            },
-        }
+        self.bare.may_end()
     }
 }

@@ -1,87 +1,208 @@
-//! A member that is being read (RFC 9651 section 4.2.1.1).
-ghost use Rattle.std.specs.Prelude.{◌≡◌, IfOk};
-ghost use Rattle.sf_parse.specs.Machine.Language.{Steps};
-ghost use Rattle.sf_parse.specs.Machine.Members.{member_start, member_step, member_finish};
+//! A member of a List that is being read: an Item or an Inner List (RFC 9651 sections 4.2.1.1 and
+//! 4.2.1.2).
+ghost use Rattle.std.specs.Prelude.{◌≡◌, [], true, IfOk};
+ghost use Rattle.sf_value.specs.declared.value.Bare.TheVariants as bare_is;
+ghost use Rattle.sf_parse.specs.Fronts.{Starts};
+ghost use Rattle.sf_parse.specs.MemberView.{member_stuck};
+ghost use Rattle.sf_parse.specs.Machine.Params.{Opened};
+ghost use Rattle.sf_parse.specs.Machine.Items.{InParams};
+ghost use Rattle.sf_parse.specs.Machine.Members.{InOne, member_start, member_step, member_finish};
 ghost use Rattle.sf_parse.specs.Machine.Takes.{member_begins, member_takes, member_ends};
 
-use crate::bare::BareState;
+use crate::bare::BareReader;
 use crate::context::Context;
-use crate::inner::InnerReader;
-use crate::item::ItemState;
-use sf_value::{Dialect, Member, OutOfMemory};
+use crate::item::ItemReader;
+use crate::level::Level;
+use crate::runs::{Space, short_front};
+use sf_value::{Dialect, Inner, Item, Member, OutOfMemory, Sequence};
+use std::marker::Model;
+use std::mem;
 
-/// What was read of a member: of an item or of an inner list.
-#[derive(Debug, Drop)]
-pub enum MemberState {
-    InOne(ItemState),
-    InMany(InnerReader),
+/// Where in a member the text is.
+#[derive(Clone, Copy, Debug, PartialEq, Eq)]
+pub enum MemberPhase {
+    /// In an item that is the member.
+    One,
+    /// In an inner list, behind the opening bracket or a space.
+    Room,
+    /// In an item of an inner list.
+    InItem,
+    /// In the parameters behind the closing bracket of an inner list.
+    Closing,
 }
 
-impl MemberState {
-    /// The member that begins with this byte.
-    pub fn start(context: &Context, byte: u8) -> Result<Option<MemberState>, OutOfMemory>
-        ensures { IfOk result (λ state. state ≡ member_start context.now.dialect byte) }
+/// What was read of a member: the whole items of an inner list, and the item that is open. The
+/// parameters behind a closing bracket are read by the reader of items.
+#[derive(Debug, Drop)]
+pub struct MemberReader {
+    phase: MemberPhase,
+    item: ItemReader,
+    items: Sequence<Item>,
+}
+
+impl Model for MemberReader {
+    ghost use Rattle.sf_parse.specs.Machine.Members.{MemberState};
+
+    ghost Value = { MemberState };
+
+    ghost use Rattle.sf_parse.specs.MemberView.{member_of, FitsMember};
+
+    ghost view = { λ r. member_of r.phase r.item r.items };
+
+    ghost invariant = { λ r. FitsMember r.phase r.item };
+}
+
+impl MemberReader {
+    /// A reader that no member was begun in. It takes no memory.
+    pub fn new(context: &Context) -> MemberReader {
+        MemberReader {
+            phase: MemberPhase::One,
+            item: ItemReader::new(context),
+            items: Sequence::new(context.alloc),
+        }
+    }
+
+    /// Begins a member with this byte, or tells that none begins with it.
+    pub fn start(&mut self, context: &Context, byte: u8) -> Result<bool, OutOfMemory>
+        ensures { IfOk result (λ took. Starts took (member_start context.now.dialect byte)
+            self.new) }
     {
         if byte == b'(' {
-            return Ok(Some(MemberState::InMany(InnerReader::open(context))));
+            self.items = Sequence::new(context.alloc);
+            self.phase = MemberPhase::Room;
+            return Ok(true);
         }
-        match ItemState::start(context, byte)? {
-            Some(state) => Ok(Some(MemberState::InOne(state))),
-            None => Ok(None),
-        }
+        self.phase = MemberPhase::One;
+        self.item.start(context, byte)
+    }
+
+    /// Begins the parameters of Boolean true, behind the first semicolon.
+    pub fn open_flag(&mut self, context: &Context)
+        ensures { self.new ≡ InOne (InParams (bare_is.Boolean true) (Opened [])) }
+    {
+        self.phase = MemberPhase::One;
+        self.item.open_flag(context);
     }
 
     /// Whether a member may begin with this byte.
     pub fn can_start(dialect: Dialect, byte: u8) -> bool
         ensures { result ≡ member_begins dialect byte }
     {
-        BareState::can_start(dialect, byte) || byte == b'('
+        BareReader::can_start(dialect, byte) || byte == b'('
     }
 
-    /// Takes one more byte, or tells that the member can't go on with it and stays as it is.
-    pub fn step(&mut self, context: &Context, byte: u8) -> Result<bool, OutOfMemory>
-        ensures { IfOk result (λ took. Steps took (member_step context.now.dialect self.old byte)
-            self.old self.new) }
+    /// The member, if it is whole. What is left is the reader alone.
+    pub fn finish(&mut self, context: &Context) -> Result<Option<Member>, OutOfMemory>
+        ensures { IfOk result (λ member. member ≡ member_finish self.old) }
     {
-        match self {
-            MemberState::InOne(item) => item.step(context, byte),
-            MemberState::InMany(inner) => inner.step(context, byte),
-        }
-    }
-
-    /// Whether the member can go on with this byte.
-    pub fn takes(&self, dialect: Dialect, byte: u8) -> bool
-        ensures { result ≡ member_takes dialect self.now byte }
-    {
-        match self {
-            MemberState::InOne(item) => item.takes(dialect, byte),
-            MemberState::InMany(inner) => inner.takes(dialect, byte),
-        }
-    }
-
-    /// Whether it is a member already.
-    pub fn may_end(&self) -> bool
-        ensures { result ≡ member_ends self.now }
-    {
-        match self {
-            MemberState::InOne(item) => item.may_end(),
-            MemberState::InMany(inner) => inner.may_end(),
-        }
-    }
-
-    /// The member, if it is whole.
-    pub fn finish(self, context: &Context) -> Result<Option<Member>, OutOfMemory>
-        ensures { IfOk result (λ member. member ≡ member_finish self) }
-    {
-        match self {
-            MemberState::InOne(item) => match item.finish(context)? {
-                Some(item) => Ok(Some(Member::Item(item))),
-                None => Ok(None),
+        match self.phase {
+            MemberPhase::One => match self.item.finish(context)? {
+                Some(item) => return Ok(Some(Member::Item(item))),
+                None => return Ok(None),
             },
-            MemberState::InMany(inner) => match inner.finish()? {
-                Some(inner) => Ok(Some(Member::Inner(inner))),
-                None => Ok(None),
+            MemberPhase::Room | MemberPhase::InItem => return Ok(None),
+            MemberPhase::Closing => {
+                self.phase = MemberPhase::Room;
+                let Some(params) = self.item.finish_params(context)? else {
+                    return Ok(None);
+                };
+                let items = mem::replace(&mut self.items, Sequence::new(context.alloc));
+                return Ok(Some(Member::Inner(Inner { items, params })));
+            }
+        }
+    }
+}
+
+impl Level for MemberReader {
+    ghost next = { member_step };
+
+    ghost stuck = { member_stuck };
+
+    ghost takes = { member_takes };
+
+    ghost ends = { member_ends };
+
+    ghost plain = { λ d s. ⊥ };
+
+    ghost keeps = { λ d s t b h e k. absurd h };
+
+    fn take_part<'a>(
+        &mut self,
+        context: &Context,
+        piece: &'a [u8],
+    ) -> Result<&'a [u8], OutOfMemory> {
+        match self.phase {
+            MemberPhase::Room => {
+                let (_, rest) = short_front::<Space>(piece);
+                return Ok(rest);
+            }
+            MemberPhase::One => return self.item.take(context, piece),
+            MemberPhase::InItem => return self.item.take(context, piece),
+            MemberPhase::Closing => match self.item.take(context, piece) {
+                Ok(rest) => return Ok(rest),
+                Err(refused) => {
+                    self.phase = MemberPhase::Room;
+                    return Err(refused);
+                }
             },
+        }
+    }
+
+    fn turn(&mut self, context: &Context, byte: u8) -> Result<bool, OutOfMemory> {
+        match self.phase {
+            MemberPhase::One | MemberPhase::Closing => return Ok(false),
+            MemberPhase::Room => {
+                if byte == b' ' {
+                    return Ok(true);
+                }
+                if byte == b')' {
+                    self.item.begin_params(context);
+                    self.phase = MemberPhase::Closing;
+                    return Ok(true);
+                }
+                if !self.item.start(context, byte)? {
+                    return Ok(false);
+                }
+                self.phase = MemberPhase::InItem;
+                return Ok(true);
+            }
+            MemberPhase::InItem => {
+                if byte != b' ' && byte != b')' || !self.item.may_end() {
+                    return Ok(false);
+                }
+                let Some(item) = self.item.finish(context)? else {
+                    unreachable!();
+                };
+                self.phase = MemberPhase::Room;
+                if self.items.push(item).is_err() {
+                    return Err(OutOfMemory);
+                }
+                if byte == b')' {
+                    self.item.begin_params(context);
+                    self.phase = MemberPhase::Closing;
+                }
+                return Ok(true);
+            }
+        }
+    }
+
+    fn takes(&self, dialect: Dialect, byte: u8) -> bool {
+        match self.phase {
+            MemberPhase::One | MemberPhase::Closing => self.item.takes(dialect, byte),
+            MemberPhase::Room => {
+                byte == b' ' || byte == b')' || BareReader::can_start(dialect, byte)
+            }
+            MemberPhase::InItem => {
+                self.item.takes(dialect, byte)
+                    || self.item.may_end() && (byte == b' ' || byte == b')')
+            }
+        }
+    }
+
+    fn may_end(&self) -> bool {
+        match self.phase {
+            MemberPhase::One | MemberPhase::Closing => self.item.may_end(),
+            MemberPhase::Room | MemberPhase::InItem => false,
         }
     }
 }

@@ -44,6 +44,16 @@ pub fn with_sign(negative: bool, value: u64) -> i64
 }
 
 impl NumberReader {
+    /// A reader that no number was begun in.
+    pub fn none() -> NumberReader {
+        NumberReader {
+            negative: false,
+            whole: None,
+            digits: 0,
+            value: 0,
+        }
+    }
+
     /// The number that begins with this byte.
     pub fn start(byte: u8) -> Option<NumberReader>
         ensures { result ≡ number_start byte }

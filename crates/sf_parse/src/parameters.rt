@@ -1,36 +1,43 @@
 //! Parameters that are being read (RFC 9651 section 4.2.3.2).
 ghost use Rattle.std.specs.Prelude.{◌≡◌, [], IfOk};
-ghost use Rattle.sf_value.specs.Grammar.Pairs.{put};
-ghost use Rattle.sf_parse.specs.Machine.Language.{Steps};
+ghost use Rattle.sf_value.specs.Grammar.Pairs.{put as put_pair};
+ghost use Rattle.sf_value.specs.Grammar.Tokens.{IsKey};
 ghost use Rattle.sf_parse.specs.Machine.Params.{Between, Opened, params_step, params_finish};
 ghost use Rattle.sf_parse.specs.Machine.Takes.{params_takes, params_ends};
+ghost use Rattle.sf_parse.specs.ParamsView.{params_stuck};
 
-use crate::bare::BareState;
+use crate::bare::BareReader;
 use crate::context::Context;
-use sf_value::{Bare, Dialect, Entries, Key, OutOfMemory, can_be_in_key, can_start_key};
+use crate::level::Level;
+use crate::runs::{InKey, Space, short_front};
+use sf_value::{
+    Bare, Dialect, Entries, Key, OutOfMemory, ShortBytes, can_be_in_key, can_start_key,
+};
 use std::marker::Model;
 use std::mem;
 
 /// Where in parameters the text is.
-#[derive(Debug, Drop)]
+#[derive(Clone, Copy, Debug, PartialEq, Eq)]
 pub enum ParamsPhase {
     /// Behind a bare item or a parameter.
     Between,
     /// Behind a semicolon.
     Opened,
     /// In a key.
-    InKey(Key),
+    InKey,
     /// Behind an equals sign.
-    Equals(Key),
+    Equals,
     /// In a value.
-    InValue(Key, BareState),
+    InValue,
 }
 
-/// What was read of parameters: the whole ones, and the one that is open.
-#[derive(Debug)]
+/// What was read of parameters: the whole ones, and the key and the value of the one that is open.
+#[derive(Debug, Drop)]
 pub struct ParamsReader {
-    params: Entries<Bare>,
     phase: ParamsPhase,
+    key: ShortBytes,
+    value: BareReader,
+    params: Entries<Bare>,
 }
 
 impl Model for ParamsReader {
@@ -38,29 +45,11 @@ impl Model for ParamsReader {
 
     ghost Value = { ParamsState };
 
-    ghost use Rattle.sf_parse.specs.ParamsView.{params_of};
+    ghost use Rattle.sf_parse.specs.ParamsView.{params_of, FitsParams};
 
-    ghost view = { λ p. params_of p.phase p.params };
-}
+    ghost view = { λ r. params_of r.phase r.key r.value r.params };
 
-// A later value of a key takes the place of the earlier one.
-fn put_param(params: &mut Entries<Bare>, key: Key, value: Bare) -> Result<(), OutOfMemory>
-    ensures { IfOk result (λ _. params.new ≡ put params.old key value) }
-{
-    match params.put(key, value) {
-        Ok(_) => Ok(()),
-        Err(_) => Err(OutOfMemory),
-    }
-}
-
-// Written out, so that it is one call wherever a reader is dropped.
-impl Drop for ParamsReader {
-    fn drop(self) {
-        let ParamsReader {
-            params: _,
-            phase: _,
-        } = self;
-    }
+    ghost invariant = { λ r. FitsParams r.phase r.key };
 }
 
 impl ParamsReader {
@@ -69,32 +58,107 @@ impl ParamsReader {
         ensures { result ≡ Between [] }
     {
         ParamsReader {
-            params: Entries::new(context.alloc, &context.seed),
             phase: ParamsPhase::Between,
-        }
-    }
-
-    /// Behind the first semicolon. It takes no memory.
-    pub fn open(context: &Context) -> ParamsReader
-        ensures { result ≡ Opened [] }
-    {
-        ParamsReader {
+            key: ShortBytes::new(context.alloc),
+            value: BareReader::new(context),
             params: Entries::new(context.alloc, &context.seed),
-            phase: ParamsPhase::Opened,
         }
     }
 
-    /// Takes one more byte, or tells that the parameters can't go on with it and stay as they are.
-    pub fn step(&mut self, context: &Context, byte: u8) -> Result<bool, OutOfMemory>
-        ensures { IfOk result (λ took. Steps took (params_step context.now.dialect self.old byte)
-            self.old self.new) }
+    /// Begins anew, behind what the parameters belong to.
+    pub fn begin(&mut self, context: &Context)
+        ensures { self.new ≡ Between [] }
     {
-        match &mut self.phase {
+        self.phase = ParamsPhase::Between;
+        self.params = Entries::new(context.alloc, &context.seed);
+    }
+
+    /// Begins anew, behind the first semicolon.
+    pub fn open(&mut self, context: &Context)
+        ensures { self.new ≡ Opened [] }
+    {
+        self.phase = ParamsPhase::Opened;
+        self.params = Entries::new(context.alloc, &context.seed);
+    }
+
+    /// The parameters, if the last one is whole. What is left is the reader alone.
+    pub fn finish(&mut self, context: &Context) -> Result<Option<Entries<Bare>>, OutOfMemory>
+        ensures { IfOk result (λ params. params ≡ params_finish self.old) }
+    {
+        match self.phase {
+            ParamsPhase::Between => {}
+            ParamsPhase::InKey => {
+                self.phase = ParamsPhase::Between;
+                let key = mem::replace(&mut self.key, ShortBytes::new(context.alloc));
+                put(&mut self.params, key, Bare::Boolean(true))?;
+            }
+            ParamsPhase::InValue => {
+                let Some(value) = self.value.finish(context) else {
+                    return Ok(None);
+                };
+                self.phase = ParamsPhase::Between;
+                let key = mem::replace(&mut self.key, ShortBytes::new(context.alloc));
+                put(&mut self.params, key, value)?;
+            }
+            ParamsPhase::Opened | ParamsPhase::Equals => return Ok(None),
+        }
+        let empty = Entries::new(context.alloc, &context.seed);
+        Ok(Some(mem::replace(&mut self.params, empty)))
+    }
+}
+
+// A later value of a key takes the place of the earlier one.
+fn put(params: &mut Entries<Bare>, key: ShortBytes, value: Bare) -> Result<(), OutOfMemory>
+    requires { IsKey key }
+    ensures { IfOk result (λ _. params.new ≡ put_pair params.old key value) }
+{
+    match params.put(Key::from_bytes(key), value) {
+        Ok(_) => Ok(()),
+        Err(_) => Err(OutOfMemory),
+    }
+}
+
+impl Level for ParamsReader {
+    ghost next = { params_step };
+
+    ghost stuck = { λ d s b. params_stuck s b };
+
+    ghost takes = { params_takes };
+
+    ghost ends = { params_ends };
+
+    ghost plain = { λ d s. ⊥ };
+
+    ghost keeps = { λ d s t b h e k. absurd h };
+
+    fn take_part<'a>(
+        &mut self,
+        context: &Context,
+        piece: &'a [u8],
+    ) -> Result<&'a [u8], OutOfMemory> {
+        match self.phase {
+            ParamsPhase::Opened => {
+                let (_, rest) = short_front::<Space>(piece);
+                return Ok(rest);
+            }
+            ParamsPhase::InKey => {
+                let (run, rest) = short_front::<InKey>(piece);
+                self.key.extend(run)?;
+                return Ok(rest);
+            }
+            ParamsPhase::InValue => return self.value.take(context, piece),
+            ParamsPhase::Between | ParamsPhase::Equals => return Ok(piece),
+        }
+    }
+
+    fn turn(&mut self, context: &Context, byte: u8) -> Result<bool, OutOfMemory> {
+        match self.phase {
             ParamsPhase::Between => {
                 if byte != b';' {
                     return Ok(false);
                 }
                 self.phase = ParamsPhase::Opened;
+                return Ok(true);
             }
             ParamsPhase::Opened => {
                 if byte == b' ' {
@@ -103,104 +167,66 @@ impl ParamsReader {
                 if !can_start_key(byte) {
                     return Ok(false);
                 }
-                let key = Key::first(context.alloc, byte)?;
-                self.phase = ParamsPhase::InKey(key);
+                self.key = ShortBytes::one(context.alloc, byte);
+                self.phase = ParamsPhase::InKey;
+                return Ok(true);
             }
-            ParamsPhase::InKey(key) => {
-                if can_be_in_key(byte) {
-                    key.push(byte)?;
+            ParamsPhase::InKey => {
+                if byte == b'=' {
+                    self.phase = ParamsPhase::Equals;
                     return Ok(true);
                 }
-                if byte != b'=' && byte != b';' {
+                if byte == b';' {
+                    self.phase = ParamsPhase::Opened;
+                    let key = mem::replace(&mut self.key, ShortBytes::new(context.alloc));
+                    put(&mut self.params, key, Bare::Boolean(true))?;
+                    return Ok(true);
+                }
+                if !can_be_in_key(byte) {
                     return Ok(false);
                 }
-                if let ParamsPhase::InKey(key) = mem::replace(
-                    &mut self.phase,
-                    ParamsPhase::Opened,
-                ) {
-                    if byte == b'=' {
-                        self.phase = ParamsPhase::Equals(key);
-                    } else {
-                        put_param(&mut self.params, key, Bare::Boolean(true))?;
-                    }
-                }
+                self.key.push(byte)?;
+                return Ok(true);
             }
-            ParamsPhase::Equals(_) => {
-                let Some(state) = BareState::start(context, byte)? else {
+            ParamsPhase::Equals => {
+                if !self.value.start(context, byte)? {
+                    return Ok(false);
+                }
+                self.phase = ParamsPhase::InValue;
+                return Ok(true);
+            }
+            ParamsPhase::InValue => {
+                if byte != b';' {
+                    return Ok(false);
+                }
+                let Some(value) = self.value.finish(context) else {
                     return Ok(false);
                 };
-                if let ParamsPhase::Equals(key) = mem::replace(
-                    &mut self.phase,
-                    ParamsPhase::Opened,
-                ) {
-                    self.phase = ParamsPhase::InValue(key, state);
-                }
-            }
-            ParamsPhase::InValue(_, state) => {
-                if state.step(byte)? {
-                    return Ok(true);
-                }
-                if byte != b';' || !state.may_end() {
-                    return Ok(false);
-                }
-                if let ParamsPhase::InValue(key, state) = mem::replace(
-                    &mut self.phase,
-                    ParamsPhase::Opened,
-                ) {
-                    if let Some(value) = state.finish() {
-                        put_param(&mut self.params, key, value)?;
-                    }
-                }
+                self.phase = ParamsPhase::Opened;
+                let key = mem::replace(&mut self.key, ShortBytes::new(context.alloc));
+                put(&mut self.params, key, value)?;
+                return Ok(true);
             }
         }
-        Ok(true)
     }
 
-    /// Whether the parameters can go on with this byte.
-    pub fn takes(&self, dialect: Dialect, byte: u8) -> bool
-        ensures { result ≡ params_takes dialect self.now byte }
-    {
-        match &self.phase {
+    fn takes(&self, dialect: Dialect, byte: u8) -> bool {
+        match self.phase {
             ParamsPhase::Between => byte == b';',
             ParamsPhase::Opened => byte == b' ' || can_start_key(byte),
-            ParamsPhase::InKey(_) => can_be_in_key(byte) || byte == b'=' || byte == b';',
-            ParamsPhase::Equals(_) => BareState::can_start(dialect, byte),
-            ParamsPhase::InValue(_, state) => {
-                state.takes(byte) || state.may_end() && byte == b';'
+            ParamsPhase::InKey => can_be_in_key(byte) || byte == b'=' || byte == b';',
+            ParamsPhase::Equals => BareReader::can_start(dialect, byte),
+            ParamsPhase::InValue => {
+                self.value.takes(dialect, byte) || self.value.may_end() && byte == b';'
             }
         }
     }
 
-    /// Whether the last parameter is whole.
-    pub fn may_end(&self) -> bool
-        ensures { result ≡ params_ends self.now }
-    {
-        match &self.phase {
-            ParamsPhase::Between | ParamsPhase::InKey(_) => true,
-            ParamsPhase::Opened | ParamsPhase::Equals(_) => false,
-            ParamsPhase::InValue(_, state) => state.may_end(),
-        }
-    }
-
-    /// The parameters, if the last one is whole.
-    pub fn finish(self) -> Result<Option<Entries<Bare>>, OutOfMemory>
-        ensures { IfOk result (λ params. params ≡ params_finish self) }
-    {
-        let ParamsReader { mut params, phase } = self;
-        match phase {
-            ParamsPhase::Between => Ok(Some(params)),
-            ParamsPhase::Opened | ParamsPhase::Equals(_) => Ok(None),
-            ParamsPhase::InKey(key) => {
-                put_param(&mut params, key, Bare::Boolean(true))?;
-                Ok(Some(params))
-            }
-            ParamsPhase::InValue(key, state) => {
-                let Some(value) = state.finish() else {
-                    return Ok(None);
-                };
-                put_param(&mut params, key, value)?;
-                Ok(Some(params))
-            }
+    fn may_end(&self) -> bool {
+        match self.phase {
+            ParamsPhase::Between | ParamsPhase::InKey => true,
+            ParamsPhase::Opened | ParamsPhase::Equals => false,
+            ParamsPhase::InValue => self.value.may_end(),
         }
     }
 }

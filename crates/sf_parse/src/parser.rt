@@ -1,11 +1,15 @@
 //! The parser that is handed pieces.
-ghost use Rattle.std.specs.Prelude.{◌≡◌, ℕ, List, [], ◌∷◌, true, Some, None, IfSome, IfNone, Err};
+ghost use Rattle.std.specs.Prelude.{◌≡◌, ℕ, ◌+◌, ◌<◌, ◌≤◌, List, [], ◌∷◌, length, true, Some, None};
+ghost use Rattle.std.specs.Prelude.{IfSome, IfNone, IfOk, Err, MatchResult};
 ghost use Rattle.sf_value.specs.Grammar.Words.{Every};
 ghost use Rattle.sf_value.specs.declared.dialect.Dialect.TheVariants as dialect_is;
 ghost use Rattle.sf_value.specs.declared.value.Kind.TheVariants as kind_is;
+ghost use Rattle.sf_parse.specs.Fronts.{FirstIs, Halts};
 ghost use Rattle.sf_parse.specs.Parsers.{Took, StandsAt, Fed, Finishes};
+ghost use Rattle.sf_parse.specs.Feeding.{FedTo, TakenPlain};
 ghost use Rattle.sf_parse.specs.Plain.{plain_byte};
 ghost use Rattle.sf_parse.specs.PlainParsers.{IsPlain, IsOther, KeptPlain, NotForMemory};
+ghost use Rattle.sf_parse.specs.Machine.Fields.{step as step_of};
 ghost use Rattle.sf_parse.specs.Machine.Takes.{may_end};
 
 use crate::context::Context;
@@ -111,27 +115,41 @@ impl Parser {
         self.count
     }
 
-    #[tactic(auto, using(crate::proofs::PlainSteps::plain_step))]
-    fn feed_byte(&mut self, byte: u8) -> Result<(), Refusal>
-        requires { self.old.refusal ≡ None }
-        ensures fed { Fed self.old self.new result (byte ∷ []) }
-        ensures plain { IsPlain self.old → plain_byte byte ≡ true → KeptPlain self.new result }
+    // Takes what the field can go on with of bytes within the limit, and gives back the rest.
+    fn take<'a>(&mut self, front: &'a [u8]) -> Result<&'a [u8], Refusal>
+        requires unrefused { self.old.refusal ≡ None }
+        requires room { self.old.count + length front.now ≤ self.old.max }
+        ensures fed { MatchResult result (λ rest. FedTo self.old self.new front.now rest.now)
+            (λ e. Fed self.old self.new (Err e) front.now) }
+        ensures counted { IfOk result (λ rest. self.new.count + length rest.now
+            ≡ self.old.count + length front.now) }
+        ensures stops { IfOk result (λ rest. FirstIs (Halts (step_of self.new.dialect)
+            self.new.state) rest.now) }
+        ensures plain { IsPlain self.old → Every plain_byte front.now → TakenPlain self.new result }
     {
-        if self.count >= self.max {
-            let refusal = Refusal::TooLong { max: self.max };
-            self.refusal = Some(refusal);
-            return Err(refusal);
-        }
-        let took = match self.state.step(&self.context, byte) {
-            Ok(took) => took,
+        let rest = match self.state.take(&self.context, front) {
+            Ok(rest) => rest,
             Err(_) => {
                 self.refusal = Some(Refusal::OutOfMemory);
                 return Err(Refusal::OutOfMemory);
             }
         };
-        if took {
-            self.count += 1;
-            return Ok(());
+        self.count += (front.len() - rest.len()) as u64;
+        Ok(rest)
+    }
+
+    // Refuses this byte: it is past the limit, or the field can't go on with it.
+    fn refuse(&mut self, byte: u8) -> Refusal
+        requires unrefused { self.old.refusal ≡ None }
+        requires stops { self.old.count < self.old.max
+            → Halts (step_of self.old.dialect) self.old.state byte }
+        ensures fed { Fed self.old self.new (Err result) (byte ∷ []) }
+        ensures other { IsOther result }
+    {
+        if self.count >= self.max {
+            let refusal = Refusal::TooLong { max: self.max };
+            self.refusal = Some(refusal);
+            return refusal;
         }
         let refusal = Refusal::Syntax {
             place: self.count,
@@ -140,7 +158,7 @@ impl Parser {
             may_end: self.state.may_end(),
         };
         self.refusal = Some(refusal);
-        Err(refusal)
+        refusal
     }
 
     /// Takes the next piece, or refuses the text. A parser that refused once gives the same refusal
@@ -153,8 +171,14 @@ impl Parser {
         if let Some(refusal) = self.refusal {
             return Err(refusal);
         }
-        for byte in piece {
-            self.feed_byte(*byte)?;
+        let room = (self.max - self.count).min(piece.len() as u64) as usize;
+        let (front, back) = piece.split_at(room);
+        let rest = self.take(front)?;
+        if let Some((byte, _)) = rest.split_first() {
+            return Err(self.refuse(*byte));
+        }
+        if let Some((byte, _)) = back.split_first() {
+            return Err(self.refuse(*byte));
         }
         Ok(())
     }
@@ -195,7 +219,7 @@ impl Parser {
             context,
             kind: _,
             max: _,
-            state,
+            mut state,
             count: _,
             refusal: _,
         } = self;

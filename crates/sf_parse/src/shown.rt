@@ -1,17 +1,16 @@
-//! A display string that is being read (RFC 9651 section 4.2.10).
-ghost use Rattle.std.specs.Prelude.{◌≡◌, IfOk};
+//! A Display String that is being read (RFC 9651 section 4.2.10).
+ghost use Rattle.std.specs.Prelude.{◌≡◌, ℕ, ◌<◌, List, IfOk, IfSome};
 ghost use Rattle.std.specs.Option.{option_map};
 ghost use Rattle.sf_value.specs.Grammar.Utf8.{wants, rows, look_up, utf8_step};
-ghost use Rattle.sf_parse.specs.Views.{utf8_of};
+ghost use Rattle.sf_parse.specs.Fronts.{Went};
+ghost use Rattle.sf_parse.specs.Views.{utf8_of, shown_of, FitsShown, IsDigitPhase};
 ghost use Rattle.sf_parse.specs.Machine.Language.{Steps};
-ghost use Rattle.sf_parse.specs.Machine.Showns.{Quote, pushed, unhex as unhex_of};
+ghost use Rattle.sf_parse.specs.Machine.Showns.{pushed, unhex as unhex_of};
 ghost use Rattle.sf_parse.specs.Machine.Showns.{can_begin as can_begin_at, shown_step};
-ghost use Rattle.sf_parse.specs.Machine.Showns.{shown_finish};
 ghost use Rattle.sf_parse.specs.Machine.Takes.{shown_takes, shown_ends};
 
-use sf_value::{OutOfMemory, ShortBytes, Shown, is_visible};
-use std::alloc::Global;
-use std::marker::Model;
+use crate::runs::{ShownPlain, long_front};
+use sf_value::{OutOfMemory, ShortBytes, is_visible};
 
 /// Between two characters, or within one of which `more` bytes come after the next, which lies
 /// from `low` to `high`.
@@ -36,24 +35,11 @@ pub enum ShownPhase {
     Done,
 }
 
-/// What was read of a display string behind its first `%`.
-#[derive(Debug, Drop)]
-pub struct ShownReader {
-    bytes: ShortBytes,
-    chars: Utf8State,
-    phase: ShownPhase,
-}
-
-impl Model for ShownReader {
-    ghost use Rattle.sf_parse.specs.Machine.Showns.{ShownState};
-
-    ghost Value = { ShownState };
-
-    ghost use Rattle.sf_parse.specs.Views.{shown_of, FitsShown};
-
-    ghost view = { λ s. shown_of s.phase s.bytes s.chars };
-
-    ghost invariant = { λ s. FitsShown s.phase s.bytes s.chars };
+/// Where in a display string the text is, and where in a character its bytes so far.
+#[derive(Clone, Copy, Debug, PartialEq, Eq)]
+pub struct ShownPlace {
+    pub phase: ShownPhase,
+    pub chars: Utf8State,
 }
 
 impl Utf8State {
@@ -119,7 +105,8 @@ fn first_byte(byte: u8) -> Option<Utf8State>
 
 // The value of a lower-case hexadecimal digit.
 fn unhex(byte: u8) -> Option<u8>
-    ensures { result ≡ unhex_of byte }
+    ensures value { result ≡ unhex_of byte }
+    ensures small { IfSome result (λ value. value < 16) }
 {
     match byte {
         b'0'..=b'9' => Some(byte - b'0'),
@@ -128,22 +115,22 @@ fn unhex(byte: u8) -> Option<u8>
     }
 }
 
-impl ShownReader {
+impl ShownPlace {
     /// Behind the first `%`.
-    pub fn open(alloc: Global) -> ShownReader
-        ensures { result ≡ Quote }
-    {
-        ShownReader {
-            bytes: ShortBytes::new(alloc),
-            chars: Utf8State::Start,
-            phase: ShownPhase::Quote,
-        }
-    }
+    pub const OPEN: ShownPlace = ShownPlace {
+        phase: ShownPhase::Quote,
+        chars: Utf8State::Start,
+    };
 
     // One more byte of the text, in what was read of characters.
     #[tactic(auto, using(crate::proofs::Leading::leads_push))]
-    fn push(&mut self, byte: u8) -> Result<bool, OutOfMemory>
-        ensures { IfOk result (λ took. Steps took (pushed self.old byte) self.old self.new) }
+    fn push(&mut self, bytes: &mut ShortBytes, byte: u8) -> Result<bool, OutOfMemory>
+        requires { FitsShown self.old.phase bytes.old self.old.chars }
+        ensures step { IfOk result (λ took. Steps took
+            (pushed (shown_of self.old.phase bytes.old self.old.chars) byte)
+            (shown_of self.old.phase bytes.old self.old.chars)
+            (shown_of self.new.phase bytes.new self.new.chars)) }
+        ensures fits { FitsShown self.new.phase bytes.new self.new.chars }
     {
         if matches!(self.phase, ShownPhase::Quote | ShownPhase::Done) {
             return Ok(false);
@@ -151,16 +138,21 @@ impl ShownReader {
         let Some(chars) = self.chars.after(byte) else {
             return Ok(false);
         };
-        self.bytes.push(byte)?;
+        bytes.push(byte)?;
         self.chars = chars;
         self.phase = ShownPhase::Plain;
         Ok(true)
     }
 
     /// Takes one more byte, or tells that the display string can't go on with it and stays as it
-    /// is.
-    pub fn step(&mut self, byte: u8) -> Result<bool, OutOfMemory>
-        ensures { IfOk result (λ took. Steps took (shown_step self.old byte) self.old self.new) }
+    /// is. Its bytes so far are `bytes`.
+    pub fn step(&mut self, bytes: &mut ShortBytes, byte: u8) -> Result<bool, OutOfMemory>
+        requires { FitsShown self.old.phase bytes.old self.old.chars }
+        ensures step { IfOk result (λ took. Steps took
+            (shown_step (shown_of self.old.phase bytes.old self.old.chars) byte)
+            (shown_of self.old.phase bytes.old self.old.chars)
+            (shown_of self.new.phase bytes.new self.new.chars)) }
+        ensures fits { FitsShown self.new.phase bytes.new self.new.chars }
     {
         match self.phase {
             ShownPhase::Quote => {
@@ -185,7 +177,7 @@ impl ShownReader {
                 if !is_visible(byte) {
                     return Ok(false);
                 }
-                self.push(byte)
+                self.push(bytes, byte)
             }
             ShownPhase::Percent => {
                 let Some(high) = unhex(byte) else {
@@ -201,15 +193,39 @@ impl ShownReader {
                 let Some(low) = unhex(byte) else {
                     return Ok(false);
                 };
-                self.push(high * 16 + low)
+                self.push(bytes, high * 16 + low)
             }
             ShownPhase::Done => Ok(false),
         }
     }
 
+    /// Takes the bytes that stand for themselves, where no character is open, by one growth, and
+    /// gives back the rest.
+    pub fn take_run<'a>(
+        self,
+        bytes: &mut ShortBytes,
+        piece: &'a [u8],
+    ) -> Result<&'a [u8], OutOfMemory>
+        requires { FitsShown self.phase bytes.old self.chars }
+        ensures went { IfOk result (λ rest. Went shown_step (shown_of self.phase bytes.old self.chars)
+            piece.now rest.now (shown_of self.phase bytes.new self.chars)) }
+        ensures fits { FitsShown self.phase bytes.new self.chars }
+    {
+        match (self.phase, self.chars) {
+            (ShownPhase::Plain, Utf8State::Start) => {
+                let (run, rest) = long_front::<ShownPlain>(piece);
+                bytes.extend(run)?;
+                Ok(rest)
+            }
+            _ => Ok(piece),
+        }
+    }
+
     /// Whether the display string can go on with this byte.
-    pub fn takes(&self, byte: u8) -> bool
-        ensures { result ≡ shown_takes self.now byte }
+    pub fn takes(self, byte: u8) -> bool
+        requires { IsDigitPhase self.phase }
+        ensures { (bytes : List ℕ) → result ≡ shown_takes (shown_of self.phase bytes self.chars)
+            byte }
     {
         match self.phase {
             ShownPhase::Quote => byte == b'"',
@@ -230,26 +246,10 @@ impl ShownReader {
         }
     }
 
-    /// Whether it is closed.
-    pub fn may_end(&self) -> bool
-        ensures { result ≡ shown_ends self.now }
+    /// Whether the display string is closed.
+    pub fn may_end(self) -> bool
+        ensures { (bytes : List ℕ) → result ≡ shown_ends (shown_of self.phase bytes self.chars) }
     {
         self.phase == ShownPhase::Done
-    }
-
-    /// The display string, if it is closed.
-    #[tactic(auto, using(crate::proofs::Leading::whole_when_led))]
-    pub fn finish(self) -> Option<Shown>
-        ensures { result ≡ shown_finish self }
-    {
-        let ShownReader {
-            bytes,
-            chars: _,
-            phase,
-        } = self;
-        match phase {
-            ShownPhase::Done => Some(Shown::from_bytes(bytes)),
-            _ => None,
-        }
     }
 }

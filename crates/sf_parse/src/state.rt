@@ -1,26 +1,29 @@
 //! A field that is being read (RFC 9651 section 4.2).
-ghost use Rattle.std.specs.Prelude.{◌≡◌, true, IfOk, IsOk};
+ghost use Rattle.std.specs.Prelude.{◌≡◌, IfOk, IsOk};
+ghost use Rattle.sf_value.specs.Grammar.Words.{Every};
 ghost use Rattle.sf_parse.specs.Plain.{plain_byte};
 ghost use Rattle.sf_parse.specs.PlainParsers.{PlainState};
 ghost use Rattle.sf_parse.specs.Expected.{Marks};
 ghost use Rattle.sf_parse.specs.StateView.{state_of};
-ghost use Rattle.sf_parse.specs.Machine.Language.{Steps};
+ghost use Rattle.sf_parse.specs.Fronts.{Front};
 ghost use Rattle.sf_parse.specs.Machine.Fields.{begin as begin_at, step as step_of};
 ghost use Rattle.sf_parse.specs.Machine.Fields.{finish as finish_of};
 ghost use Rattle.sf_parse.specs.Machine.Takes.{takes as takes_at, may_end as may_end_at};
 
+use crate::commas::SeriesReader;
 use crate::context::Context;
-use crate::dict::DictReader;
-use crate::list::ListReader;
-use crate::top::TopState;
-use sf_value::{Dialect, Dict, Field, Kind, List, OutOfMemory};
+use crate::entry::EntryReader;
+use crate::level::Level;
+use crate::member::MemberReader;
+use crate::top::TopReader;
+use sf_value::{Dialect, Dict, Entries, Field, Kind, List, Member, OutOfMemory, Sequence};
 
 /// What was read of a field, by its kind.
 #[derive(Debug, Drop)]
 pub enum FieldState {
-    Item(TopState),
-    List(ListReader),
-    Dict(DictReader),
+    Item(TopReader),
+    List(SeriesReader<MemberReader, Sequence<Member>>),
+    Dict(SeriesReader<EntryReader, Entries<Member>>),
 }
 
 impl FieldState {
@@ -29,22 +32,30 @@ impl FieldState {
         ensures { state_of result ≡ begin_at kind }
     {
         match kind {
-            Kind::Item => FieldState::Item(TopState::Before),
-            Kind::List => FieldState::List(ListReader::new(context)),
-            Kind::Dict => FieldState::Dict(DictReader::new(context)),
+            Kind::Item => FieldState::Item(TopReader::new(context)),
+            Kind::List => {
+                FieldState::List(SeriesReader::new(context, MemberReader::new(context)))
+            }
+            Kind::Dict => {
+                FieldState::Dict(SeriesReader::new(context, EntryReader::new(context)))
+            }
         }
     }
 
-    /// Takes one more byte, or tells that the field can't go on with it and stays as it is.
-    pub fn step(&mut self, context: &Context, byte: u8) -> Result<bool, OutOfMemory>
-        ensures step { IfOk result (λ took. Steps took (step_of context.now.dialect (state_of
-            self.old) byte) (state_of self.old) (state_of self.new)) }
-        ensures plain { PlainState (state_of self.old) → plain_byte byte ≡ true → IsOk result }
+    /// Takes the longest front of the piece that the field can go on with, and gives back the rest.
+    pub fn take<'a>(
+        &mut self,
+        context: &Context,
+        piece: &'a [u8],
+    ) -> Result<&'a [u8], OutOfMemory>
+        ensures front { IfOk result (λ rest. Front (step_of context.now.dialect)
+            (state_of self.old) piece.now rest.now (state_of self.new)) }
+        ensures plain { PlainState (state_of self.old) → Every plain_byte piece.now → IsOk result }
     {
         match self {
-            FieldState::Item(top) => top.step(context, byte),
-            FieldState::List(list) => list.step(context, byte),
-            FieldState::Dict(dict) => dict.step(context, byte),
+            FieldState::Item(top) => top.take(context, piece),
+            FieldState::List(list) => list.take(context, piece),
+            FieldState::Dict(dict) => dict.take(context, piece),
         }
     }
 
@@ -83,10 +94,10 @@ impl FieldState {
         }
     }
 
-    /// The field, if it may end here.
-    pub fn finish(self, context: &Context) -> Result<Option<Field>, OutOfMemory>
-        ensures value { IfOk result (λ field. field ≡ finish_of (state_of self)) }
-        ensures plain { PlainState (state_of self) → IsOk result }
+    /// The field, if it may end here. What is left is the reader alone.
+    pub fn finish(&mut self, context: &Context) -> Result<Option<Field>, OutOfMemory>
+        ensures value { IfOk result (λ field. field ≡ finish_of (state_of self.old)) }
+        ensures plain { PlainState (state_of self.old) → IsOk result }
     {
         match self {
             FieldState::Item(top) => match top.finish(context)? {

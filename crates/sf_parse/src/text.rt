@@ -1,14 +1,17 @@
-//! A string that is being read (RFC 9651 section 4.2.5).
-ghost use Rattle.std.specs.Prelude.{◌≡◌, [], IfOk};
+//! A String that is being read (RFC 9651 section 4.2.5).
+ghost use Rattle.std.specs.Prelude.{◌≡◌, ℕ, List, IfOk};
+ghost use Rattle.sf_value.specs.Grammar.Words.{Every};
+ghost use Rattle.sf_value.specs.Grammar.Classes.{is_visible as is_visible_byte};
+ghost use Rattle.sf_parse.specs.Fronts.{Went};
+ghost use Rattle.sf_parse.specs.Views.{text_of};
 ghost use Rattle.sf_parse.specs.Machine.Language.{Steps};
-ghost use Rattle.sf_parse.specs.Machine.Texts.{Inside, text_step, text_finish};
+ghost use Rattle.sf_parse.specs.Machine.Texts.{text_step};
 ghost use Rattle.sf_parse.specs.Machine.Takes.{text_takes, text_ends};
 
-use sf_value::{OutOfMemory, Text, is_visible};
-use std::alloc::Global;
-use std::marker::Model;
+use crate::runs::{Unescaped, long_front};
+use sf_value::{OutOfMemory, ShortBytes, is_visible};
 
-/// Where in a string the text is.
+/// Where in a string the text is, behind its opening quote.
 #[derive(Clone, Copy, Debug, PartialEq, Eq)]
 pub enum TextPhase {
     /// Between the quotes.
@@ -19,88 +22,78 @@ pub enum TextPhase {
     Closed,
 }
 
-/// What was read of a string behind its opening quote.
-#[derive(Debug, Drop)]
-pub struct TextReader {
-    text: Text,
-    phase: TextPhase,
-}
-
-impl Model for TextReader {
-    ghost use Rattle.sf_parse.specs.Machine.Texts.{TextState};
-
-    ghost Value = { TextState };
-
-    ghost use Rattle.sf_parse.specs.Views.{text_of};
-
-    ghost view = { λ t. text_of t.phase t.text };
-}
-
-impl TextReader {
-    /// Behind the opening quote.
-    pub fn open(alloc: Global) -> TextReader
-        ensures { result ≡ Inside [] }
+impl TextPhase {
+    /// Takes one more byte, or tells that the string can't go on with it and stays as it is. The
+    /// bytes of the string so far are `text`.
+    #[tactic(auto, using(sf_value::proofs::Words::every_push))]
+    pub fn step(&mut self, text: &mut ShortBytes, byte: u8) -> Result<bool, OutOfMemory>
+        ensures step { IfOk result (λ took. Steps took (text_step (text_of self.old text.old) byte)
+            (text_of self.old text.old) (text_of self.new text.new)) }
+        ensures visible { Every is_visible_byte text.old → Every is_visible_byte text.new }
     {
-        TextReader {
-            text: Text::empty(alloc),
-            phase: TextPhase::Inside,
-        }
-    }
-
-    /// Takes one more byte, or tells that the string can't go on with it and stays as it is.
-    pub fn step(&mut self, byte: u8) -> Result<bool, OutOfMemory>
-        ensures { IfOk result (λ took. Steps took (text_step self.old byte) self.old self.new) }
-    {
-        match self.phase {
+        match *self {
             TextPhase::Inside => {
                 if byte == b'"' {
-                    self.phase = TextPhase::Closed;
-                } else if byte == b'\\' {
-                    self.phase = TextPhase::Escaped;
-                } else if is_visible(byte) {
-                    self.text.push(byte)?;
-                } else {
+                    *self = TextPhase::Closed;
+                    return Ok(true);
+                }
+                if byte == b'\\' {
+                    *self = TextPhase::Escaped;
+                    return Ok(true);
+                }
+                if !is_visible(byte) {
                     return Ok(false);
                 }
+                text.push(byte)?;
+                Ok(true)
             }
             TextPhase::Escaped => {
                 if byte != b'"' && byte != b'\\' {
                     return Ok(false);
                 }
-                self.text.push(byte)?;
-                self.phase = TextPhase::Inside;
+                text.push(byte)?;
+                *self = TextPhase::Inside;
+                Ok(true)
             }
-            TextPhase::Closed => return Ok(false),
+            TextPhase::Closed => Ok(false),
         }
-        Ok(true)
+    }
+
+    /// Takes the bytes that stand for themselves, by one growth, and gives back the rest.
+    pub fn take_run<'a>(
+        self,
+        text: &mut ShortBytes,
+        piece: &'a [u8],
+    ) -> Result<&'a [u8], OutOfMemory>
+        ensures went { IfOk result (λ rest. Went text_step (text_of self text.old) piece.now
+            rest.now (text_of self text.new)) }
+        ensures visible { Every is_visible_byte text.old → Every is_visible_byte text.new }
+    {
+        match self {
+            TextPhase::Inside => {
+                let (run, rest) = long_front::<Unescaped>(piece);
+                text.extend(run)?;
+                Ok(rest)
+            }
+            TextPhase::Escaped | TextPhase::Closed => Ok(piece),
+        }
     }
 
     /// Whether the string can go on with this byte.
-    pub fn takes(&self, byte: u8) -> bool
-        ensures { result ≡ text_takes self.now byte }
+    pub fn takes(self, byte: u8) -> bool
+        ensures { (bytes : List ℕ) → result ≡ text_takes (text_of self bytes) byte }
     {
-        match self.phase {
+        match self {
             TextPhase::Inside => byte == b'"' || byte == b'\\' || is_visible(byte),
             TextPhase::Escaped => byte == b'"' || byte == b'\\',
             TextPhase::Closed => false,
         }
     }
 
-    /// Whether it is closed.
-    pub fn may_end(&self) -> bool
-        ensures { result ≡ text_ends self.now }
+    /// Whether the string is closed.
+    pub fn may_end(self) -> bool
+        ensures { (bytes : List ℕ) → result ≡ text_ends (text_of self bytes) }
     {
-        self.phase == TextPhase::Closed
-    }
-
-    /// The string, if it is closed.
-    pub fn finish(self) -> Option<Text>
-        ensures { result ≡ text_finish self }
-    {
-        let TextReader { text, phase } = self;
-        match phase {
-            TextPhase::Closed => Some(text),
-            _ => None,
-        }
+        self == TextPhase::Closed
     }
 }

@@ -1,126 +1,154 @@
 //! A field of kind Item that is being read: an Item between spaces (RFC 9651 section 4.2).
-ghost use Rattle.std.specs.Prelude.{◌≡◌, Some, true, IfOk, IsOk};
-ghost use Rattle.sf_value.specs.declared.value.Item.{Item};
+ghost use Rattle.std.specs.Prelude.{◌≡◌, IfOk, IsOk};
 ghost use Rattle.sf_value.specs.declared.value.Field.TheVariants as field;
-ghost use Rattle.sf_parse.specs.declared.item.ItemState.{ItemState};
-ghost use Rattle.sf_parse.specs.declared.top.TopState.TheVariants.{Inside, Behind};
-ghost use Rattle.sf_parse.specs.StateView.{top_of};
-ghost use Rattle.sf_parse.specs.Plain.{plain_byte};
+ghost use Rattle.sf_parse.specs.TopView.{top_stuck, StaysPlain, stays_plain_step};
 ghost use Rattle.sf_parse.specs.PlainParsers.{PlainState};
-ghost use Rattle.sf_parse.specs.Machine.Language.{Steps, seen};
-ghost use Rattle.sf_parse.specs.Machine.Items.{item_start, item_finish};
-ghost use Rattle.sf_parse.specs.Machine.States.{InTop};
+ghost use Rattle.sf_parse.specs.Machine.Language.{seen};
+ghost use Rattle.sf_parse.specs.Machine.States.{BeforeItem};
 ghost use Rattle.sf_parse.specs.Machine.Fields.{step as step_of, finish as finish_of};
 ghost use Rattle.sf_parse.specs.Machine.Takes.{takes as takes_at, may_end as may_end_at};
 
-use crate::bare::BareState;
+use crate::bare::BareReader;
 use crate::context::Context;
-use crate::item::ItemState;
+use crate::item::ItemReader;
+use crate::level::Level;
+use crate::runs::{Space, short_front};
 use sf_value::{Dialect, Item, OutOfMemory};
+use std::marker::Model;
 use std::mem;
 
-/// What was read of an item between spaces.
-#[derive(Debug, Drop)]
-pub enum TopState {
+/// Where around an item the text is.
+#[derive(Clone, Copy, Debug, PartialEq, Eq)]
+pub enum TopPhase {
     /// Before the item.
     Before,
     /// In the item.
-    Inside(ItemState),
+    Inside,
     /// Behind a space after the item.
-    Behind(Item),
+    Behind,
 }
 
-impl TopState {
-    /// Takes one more byte, or tells that the field can't go on with it and stays as it is.
-    pub fn step(&mut self, context: &Context, byte: u8) -> Result<bool, OutOfMemory>
-        ensures step { IfOk result (λ took. Steps took (step_of context.now.dialect (top_of
-            self.old) byte) (top_of self.old) (top_of self.new)) }
-        ensures plain { PlainState (top_of self.old) → plain_byte byte ≡ true → IsOk result }
+/// What was read of an item between spaces: the item that is open, and the one that is whole.
+#[derive(Debug, Drop)]
+pub struct TopReader {
+    phase: TopPhase,
+    item: ItemReader,
+    whole: Option<Item>,
+}
+
+impl Model for TopReader {
+    ghost use Rattle.sf_parse.specs.Machine.States.{State};
+
+    ghost Value = { State };
+
+    ghost use Rattle.sf_parse.specs.TopView.{top_of, FitsTop};
+
+    ghost view = { λ r. top_of r.phase r.item r.whole };
+
+    ghost invariant = { λ r. FitsTop r.phase r.whole };
+}
+
+impl TopReader {
+    /// Before the item. It takes no memory.
+    pub fn new(context: &Context) -> TopReader
+        ensures { result ≡ BeforeItem }
     {
-        match self {
-            TopState::Before => {
+        TopReader {
+            phase: TopPhase::Before,
+            item: ItemReader::new(context),
+            whole: None,
+        }
+    }
+
+    /// The item, if the field may end here. What is left is the reader alone.
+    pub fn finish(&mut self, context: &Context) -> Result<Option<Item>, OutOfMemory>
+        ensures value { IfOk result (λ item. seen field.Item item ≡ finish_of self.old) }
+        ensures plain { PlainState self.old → IsOk result }
+    {
+        match self.phase {
+            TopPhase::Before => return Ok(None),
+            TopPhase::Inside => return self.item.finish(context),
+            TopPhase::Behind => {
+                self.phase = TopPhase::Before;
+                return Ok(mem::replace(&mut self.whole, None));
+            }
+        }
+    }
+}
+
+impl Level for TopReader {
+    ghost next = { step_of };
+
+    ghost stuck = { top_stuck };
+
+    ghost takes = { takes_at };
+
+    ghost ends = { may_end_at };
+
+    ghost plain = { StaysPlain };
+
+    ghost keeps = { stays_plain_step };
+
+    fn take_part<'a>(
+        &mut self,
+        context: &Context,
+        piece: &'a [u8],
+    ) -> Result<&'a [u8], OutOfMemory> {
+        match self.phase {
+            TopPhase::Before => {
+                let (_, rest) = short_front::<Space>(piece);
+                return Ok(rest);
+            }
+            TopPhase::Behind => {
+                let (_, rest) = short_front::<Space>(piece);
+                return Ok(rest);
+            }
+            TopPhase::Inside => return self.item.take(context, piece),
+        }
+    }
+
+    fn turn(&mut self, context: &Context, byte: u8) -> Result<bool, OutOfMemory> {
+        match self.phase {
+            TopPhase::Before => {
                 if byte == b' ' {
                     return Ok(true);
                 }
-                return self.begin_item(context, byte);
-            }
-            TopState::Inside(state) => {
-                if state.step(context, byte)? {
-                    return Ok(true);
-                }
-                if byte != b' ' || !state.may_end() {
+                if !self.item.start(context, byte)? {
                     return Ok(false);
                 }
+                self.phase = TopPhase::Inside;
+                return Ok(true);
             }
-            TopState::Behind(_) => return Ok(byte == b' '),
-        }
-        self.end_item(context)?;
-        Ok(true)
-    }
-
-    // These two stand apart since their locals are large, and each call of a function clears them.
-    #[inline(never)]
-    fn begin_item(&mut self, context: &Context, byte: u8) -> Result<bool, OutOfMemory>
-        ensures step { IfOk result (λ took. Steps took (seen InTop (item_start context.now.dialect
-            byte)) (top_of self.old) (top_of self.new)) }
-        ensures plain { plain_byte byte ≡ true → IsOk result }
-    {
-        match ItemState::start(context, byte)? {
-            Some(state) => {
-                *self = TopState::Inside(state);
-                Ok(true)
+            TopPhase::Inside => {
+                if byte != b' ' || !self.item.may_end() {
+                    return Ok(false);
+                }
+                let Some(item) = self.item.finish(context)? else {
+                    unreachable!();
+                };
+                self.whole = Some(item);
+                self.phase = TopPhase::Behind;
+                return Ok(true);
             }
-            None => Ok(false),
+            TopPhase::Behind => return Ok(byte == b' '),
         }
     }
 
-    #[inline(never)]
-    fn end_item(&mut self, context: &Context) -> Result<(), OutOfMemory>
-        ensures ended { IfOk result (λ _. (s : ItemState) (i : Item) → self.old ≡ Inside s
-            → item_finish s ≡ Some i → self.new ≡ Behind i) }
-        ensures plain { PlainState (top_of self.old) → IsOk result }
-    {
-        if let TopState::Inside(state) = mem::replace(self, TopState::Before) {
-            if let Some(item) = state.finish(context)? {
-                *self = TopState::Behind(item);
+    fn takes(&self, dialect: Dialect, byte: u8) -> bool {
+        match self.phase {
+            TopPhase::Before => byte == b' ' || BareReader::can_start(dialect, byte),
+            TopPhase::Inside => {
+                self.item.takes(dialect, byte) || self.item.may_end() && byte == b' '
             }
-        }
-        Ok(())
-    }
-
-    /// Whether the field can go on with this byte.
-    pub fn takes(&self, dialect: Dialect, byte: u8) -> bool
-        ensures { result ≡ takes_at dialect (top_of self.now) byte }
-    {
-        match self {
-            TopState::Before => byte == b' ' || BareState::can_start(dialect, byte),
-            TopState::Inside(state) => {
-                state.takes(dialect, byte) || state.may_end() && byte == b' '
-            }
-            TopState::Behind(_) => byte == b' ',
+            TopPhase::Behind => byte == b' ',
         }
     }
 
-    /// Whether the field may end here.
-    pub fn may_end(&self) -> bool
-        ensures { result ≡ may_end_at (top_of self.now) }
-    {
-        match self {
-            TopState::Before => false,
-            TopState::Inside(state) => state.may_end(),
-            TopState::Behind(_) => true,
-        }
-    }
-
-    /// The item, if the field may end here.
-    pub fn finish(self, context: &Context) -> Result<Option<Item>, OutOfMemory>
-        ensures value { IfOk result (λ item. seen field.Item item ≡ finish_of (top_of self)) }
-        ensures plain { PlainState (top_of self) → IsOk result }
-    {
-        match self {
-            TopState::Before => Ok(None),
-            TopState::Inside(state) => state.finish(context),
-            TopState::Behind(item) => Ok(Some(item)),
+    fn may_end(&self) -> bool {
+        match self.phase {
+            TopPhase::Before => false,
+            TopPhase::Inside => self.item.may_end(),
+            TopPhase::Behind => true,
         }
     }
 }

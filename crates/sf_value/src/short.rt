@@ -43,6 +43,16 @@ impl ShortBytes {
         }
     }
 
+    /// One byte. It takes no memory.
+    #[inline]
+    pub fn one(alloc: Global, byte: u8) -> ShortBytes
+        ensures { result ≡ byte ∷ [] }
+    {
+        let mut bytes = SmallVec::new(alloc);
+        bytes.push_reserved(byte);
+        ShortBytes { bytes }
+    }
+
     /// These bytes. Up to 16 take no memory.
     #[inline]
     pub fn from_slice(alloc: Global, bytes: &[u8]) -> Result<ShortBytes, OutOfMemory>

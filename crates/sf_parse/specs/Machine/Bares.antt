@@ -7,18 +7,28 @@ use Rattle.sf_value.specs.declared.dialect.Dialect.{Dialect}
 use Rattle.sf_value.specs.declared.value.Bare.{Bare}
 use Rattle.sf_value.specs.declared.value.Bare.TheVariants.{Text, Token, Blob, Boolean, Date, Shown}
 use Rattle.sf_parse.specs.Machine.Language.{Seen, seen, only}
-use Rattle.sf_parse.specs.Machine.Numbers.{RestNumber, GoodNumber, number_start, number_step}
-use Rattle.sf_parse.specs.Machine.Numbers.{number_finish, Sign, RestDate, GoodDate, date_step}
-use Rattle.sf_parse.specs.Machine.Numbers.{date_finish}
-use Rattle.sf_parse.specs.Machine.Texts.{Inside, RestText, text_step, text_finish, RestWord}
+use Rattle.sf_parse.specs.Machine.Numbers.{NumberState, RestNumber, GoodNumber, number_start}
+use Rattle.sf_parse.specs.Machine.Numbers.{number_step, number_finish, DateState, Sign, RestDate}
+use Rattle.sf_parse.specs.Machine.Numbers.{GoodDate, date_step, date_finish}
+use Rattle.sf_parse.specs.Machine.Texts.{TextState, Inside, RestText, text_step, text_finish, RestWord}
 use Rattle.sf_parse.specs.Machine.Texts.{word_start, word_step, RestBoolean, boolean_step}
 use Rattle.sf_parse.specs.Machine.Texts.{boolean_finish}
+use Rattle.sf_parse.specs.declared.boolean.BooleanState.{BooleanState}
 use Rattle.sf_parse.specs.declared.boolean.BooleanState.TheVariants.{Asked}
-use Rattle.sf_parse.specs.Machine.Blobs.{Group, H0, RestBlob, GoodBlob, blob_step, blob_finish}
-use Rattle.sf_parse.specs.Machine.Showns.{Quote, RestShown, GoodShown, shown_step, shown_finish}
-use Rattle.sf_parse.specs.declared.bare.BareState.{BareState}
-use Rattle.sf_parse.specs.declared.bare.BareState.TheVariants.{InNumber, InText, InToken, InBoolean}
-use Rattle.sf_parse.specs.declared.bare.BareState.TheVariants.{InDate, InBlob, InShown}
+use Rattle.sf_parse.specs.Machine.Blobs.{BlobState, Group, H0, RestBlob, GoodBlob, blob_step}
+use Rattle.sf_parse.specs.Machine.Blobs.{blob_finish}
+use Rattle.sf_parse.specs.Machine.Showns.{ShownState, Quote, RestShown, GoodShown, shown_step}
+use Rattle.sf_parse.specs.Machine.Showns.{shown_finish}
+
+-- what was read of a bare item, by its type
+pub data BareState : Type 0 where
+  InNumber : (state : NumberState) → BareState
+  InText : (state : TextState) → BareState
+  InToken : (bytes : List ℕ) → BareState
+  InBoolean : (state : BooleanState) → BareState
+  InDate : (state : DateState) → BareState
+  InBlob : (state : BlobState) → BareState
+  InShown : (state : ShownState) → BareState
 
 abbrev pub RestBare : BareState → List ℕ → Bare → Type 0
 RestBare (InNumber s) = RestNumber s

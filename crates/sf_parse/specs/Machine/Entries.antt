@@ -14,7 +14,7 @@ use Rattle.sf_parse.specs.Machine.Params.{ParamsState, MoreParams, RestParams, G
 use Rattle.sf_parse.specs.Machine.Params.{between_step, params_step, params_finish}
 use Rattle.sf_parse.specs.Machine.Members.{RestMember, GoodMember, member_start, member_step}
 use Rattle.sf_parse.specs.Machine.Members.{member_finish}
-use Rattle.sf_parse.specs.declared.member.MemberState.{MemberState}
+use Rattle.sf_parse.specs.Machine.Members.{MemberState}
 
 pub data EntryState : Type 0 where
   InKey : (key : List ℕ) → EntryState

@@ -16,7 +16,7 @@ use Rattle.sf_value.specs.declared.value.Kind.{Kind}
 use Rattle.sf_parse.specs.Machine.Language.{Then, Seen, Past, Nothing, onward, seen}
 use Rattle.sf_parse.specs.Machine.Language.{and_then}
 use Rattle.sf_parse.specs.Machine.Items.{RestItem, GoodItem, item_start, item_step, item_finish}
-use Rattle.sf_parse.specs.declared.member.MemberState.{MemberState}
+use Rattle.sf_parse.specs.Machine.Members.{MemberState}
 use Rattle.sf_parse.specs.Machine.Series.{Begin, Series, RestSeries, GoodSeries, series_step}
 use Rattle.sf_parse.specs.Machine.Series.{SeriesState, series_finish}
 use Rattle.sf_parse.specs.Machine.States.{State}

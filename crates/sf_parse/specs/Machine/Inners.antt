@@ -12,7 +12,7 @@ use Rattle.sf_value.specs.declared.value.Inner.{Inner}
 use Rattle.sf_parse.specs.Machine.Language.{Then, Seen, onward, seen}
 use Rattle.sf_parse.specs.Machine.Params.{ParamsState, Between, RestParams, GoodParams, params_step}
 use Rattle.sf_parse.specs.Machine.Params.{params_finish}
-use Rattle.sf_parse.specs.declared.item.ItemState.{ItemState}
+use Rattle.sf_parse.specs.Machine.Items.{ItemState}
 use Rattle.sf_parse.specs.Machine.Items.{RestItem, GoodItem, item_start, item_step, item_finish}
 
 pub data InnerState : Type 0 where

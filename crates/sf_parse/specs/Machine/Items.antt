@@ -5,11 +5,15 @@ use Rattle.sf_value.specs.declared.dialect.Dialect.{Dialect}
 use Rattle.sf_value.specs.declared.value.Bare.{Bare}
 use Rattle.sf_value.specs.declared.value.Item.{Item}
 use Rattle.sf_parse.specs.Machine.Language.{Then, Seen, and_then, onward, seen}
-use Rattle.sf_parse.specs.Machine.Bares.{RestBare, GoodBare, bare_start, bare_step, bare_finish}
-use Rattle.sf_parse.specs.Machine.Params.{MoreParams, RestParams, GoodParams, between_step}
-use Rattle.sf_parse.specs.Machine.Params.{params_step, params_finish}
-use Rattle.sf_parse.specs.declared.item.ItemState.{ItemState}
-use Rattle.sf_parse.specs.declared.item.ItemState.TheVariants.{InBare, InParams}
+use Rattle.sf_parse.specs.Machine.Bares.{BareState, RestBare, GoodBare, bare_start, bare_step}
+use Rattle.sf_parse.specs.Machine.Bares.{bare_finish}
+use Rattle.sf_parse.specs.Machine.Params.{ParamsState, MoreParams, RestParams, GoodParams}
+use Rattle.sf_parse.specs.Machine.Params.{between_step, params_step, params_finish}
+
+-- what was read of an item: of its bare item, or of its parameters
+pub data ItemState : Type 0 where
+  InBare : (state : BareState) → ItemState
+  InParams : (bare : Bare) (state : ParamsState) → ItemState
 
 -- the item of a bare item and parameters behind it
 abbrev pub ItemOf : Dialect → Bare → List ℕ → Item → Type 0

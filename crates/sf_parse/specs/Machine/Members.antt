@@ -5,10 +5,15 @@ use Rattle.sf_value.specs.declared.value.Member.{Member}
 use Rattle.sf_value.specs.declared.value.Member.TheVariants as member
 use Rattle.sf_value.specs.Grammar.Words.{allow, otherwise}
 use Rattle.sf_parse.specs.Machine.Language.{Seen, seen}
-use Rattle.sf_parse.specs.Machine.Items.{RestItem, GoodItem, item_start, item_step, item_finish}
-use Rattle.sf_parse.specs.Machine.Inners.{Room, RestInner, GoodInner, inner_step, inner_finish}
-use Rattle.sf_parse.specs.declared.member.MemberState.{MemberState}
-use Rattle.sf_parse.specs.declared.member.MemberState.TheVariants.{InOne, InMany}
+use Rattle.sf_parse.specs.Machine.Items.{ItemState, RestItem, GoodItem, item_start, item_step}
+use Rattle.sf_parse.specs.Machine.Items.{item_finish}
+use Rattle.sf_parse.specs.Machine.Inners.{InnerState, Room, RestInner, GoodInner, inner_step}
+use Rattle.sf_parse.specs.Machine.Inners.{inner_finish}
+
+-- what was read of a member: of an item or of an inner list
+pub data MemberState : Type 0 where
+  InOne : (state : ItemState) → MemberState
+  InMany : (state : InnerState) → MemberState
 
 abbrev pub RestMember : Dialect → MemberState → List ℕ → Member → Type 0
 RestMember d (InOne s) = Seen member.Item (RestItem d s)

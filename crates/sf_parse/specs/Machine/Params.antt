@@ -11,7 +11,7 @@ use Rattle.sf_value.specs.declared.value.Bare.{Bare}
 use Rattle.sf_value.specs.declared.value.Bare.TheVariants.{Boolean}
 use Rattle.sf_parse.specs.Machine.Language.{Then, Either, After, Past, and_then, onward, seen}
 use Rattle.sf_parse.specs.Machine.Texts.{RestWord, word_start, word_step}
-use Rattle.sf_parse.specs.declared.bare.BareState.{BareState}
+use Rattle.sf_parse.specs.Machine.Bares.{BareState}
 use Rattle.sf_parse.specs.Machine.Bares.{RestBare, GoodBare, bare_start, bare_step, bare_finish}
 
 pub data ParamsState : Type 0 where

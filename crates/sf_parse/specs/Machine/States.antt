@@ -3,8 +3,8 @@ use Rattle.std.specs.Prelude.{List}
 use Rattle.sf_value.specs.declared.value.Item.{Item}
 use Rattle.sf_value.specs.declared.value.Member.{Member}
 use Rattle.sf_value.specs.Grammar.Pairs.{Pairs}
-use Rattle.sf_parse.specs.declared.item.ItemState.{ItemState}
-use Rattle.sf_parse.specs.declared.member.MemberState.{MemberState}
+use Rattle.sf_parse.specs.Machine.Items.{ItemState}
+use Rattle.sf_parse.specs.Machine.Members.{MemberState}
 use Rattle.sf_parse.specs.Machine.Entries.{EntryState}
 use Rattle.sf_parse.specs.Machine.Series.{SeriesState}
 

@@ -1,7 +1,7 @@
 use Rattle.std.proofs.Common.{◌≤◌, Err, length, subst, arith}
 use Rattle.std.proofs.lemmas.Result.{err_from_is_err_and}
 use Rattle.sf_parse.specs.Parsers.{Parses}
-use Rattle.sf_parse.proofs.Pieces.{refused_first, finished_first}
+use Rattle.sf_parse.proofs.FedPieces.{refused_first, finished_first}
 use Rattle.sf_parse.proofs.parse.parse_text_in.Goals as goal
 
 pub returns-in_err-feed-clause-parses : goal.returns-in_err-feed-clause-parses

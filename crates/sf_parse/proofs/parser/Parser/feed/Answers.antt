@@ -1,36 +1,34 @@
-use Rattle.std.proofs.Common.{◌∙◌}
+use Rattle.std.proofs.Common.{subst}
 use Rattle.std.proofs.lemmas.Result.{err_from_is_err_and}
-use Rattle.sf_parse.proofs.PlainSteps.{every_at}
-use Rattle.sf_parse.proofs.Pieces.{fed_none, fed_more, stopped_in}
+use Rattle.sf_value.specs.Grammar.Words.{Every}
+use Rattle.sf_parse.specs.Plain.{plain_byte}
+use Rattle.sf_parse.proofs.Fronts.{every_split}
+use Rattle.sf_parse.proofs.Feeding.{refused_before, refused_behind, front_split, back_split}
 use Rattle.sf_parse.proofs.parser.Parser.feed.Goals as goal
 
-pub loop-byte-init : goal.loop-byte-init
-loop-byte-init c =
-    rw (← c.self.view_is)
-    (record { none = c.in_default.is; fed = fed_none _ c.self.invariant; plain = λ h w. h })
-
-pub loop-byte-preserved : goal.loop-byte-preserved
-loop-byte-preserved c =
-    let fed = c.in_ok-feed_byte.ensures.fed in
-    let loop = c.loop-byte in
-    record {
-      none = fed.answer.0 ∙ loop.invariant.none;
-      fed = fed_more _ loop.self _ _ _ c.loop-byte-test.true loop.invariant.fed fed;
-      plain = λ h w.
-          c.in_ok-feed_byte.ensures.plain (loop.invariant.plain h w)
-          (every_at _ _ _ w c.loop-byte-test.true);
-    }
-
-pub returns-in_err-feed_byte-clause-fed : goal.returns-in_err-feed_byte-clause-fed
-returns-in_err-feed_byte-clause-fed c =
+pub returns-in_err-rest-clause-fed : goal.returns-in_err-rest-clause-fed
+returns-in_err-rest-clause-fed c =
     let p = err_from_is_err_and c.from_residual.result c.from_residual.ensures.1 in
     rw (p.1, p.2)
-    (stopped_in _ _ _ _ _ _ c.loop-byte-test.true c.loop-byte.invariant.fed
-    c.in_err-feed_byte.ensures.fed)
+    (refused_before _ _ _ _ _ _ c.in_err-rest.ensures.fed c.split_at.ensures.by_index.0)
 
-pub returns-in_err-feed_byte-clause-plain : goal.returns-in_err-feed_byte-clause-plain
-returns-in_err-feed_byte-clause-plain c =
+pub returns-in_err-rest-clause-plain : goal.returns-in_err-rest-clause-plain
+returns-in_err-rest-clause-plain c =
     let p = err_from_is_err_and c.from_residual.result c.from_residual.ensures.1 in
     rw (p.1, p.2)
-    (λ h w. c.in_err-feed_byte.ensures.plain (c.loop-byte.invariant.plain h w)
-    (every_at _ _ _ w c.loop-byte-test.true))
+    (λ h w. c.in_err-rest.ensures.plain h
+    (every_split plain_byte _ _ (subst (Every plain_byte) c.split_at.ensures.by_index.0 w)).0)
+
+pub returns-in-Some-split_first-clause-fed : goal.returns-in-Some-split_first-clause-fed
+returns-in-Some-split_first-clause-fed c =
+    let fed = c.in_ok-rest.ensures.fed in
+    refused_behind _ _ _ fed.0 _ _ _ _ fed.2 c.refuse.ensures.fed
+    (front_split _ _ _ fed.0 _ _ _ c.split_at.ensures.by_index.0 fed.1
+    c.in-Some-split_first.ensures.cases.0)
+
+pub returns-in-Some-split_first-2-clause-fed : goal.returns-in-Some-split_first-2-clause-fed
+returns-in-Some-split_first-2-clause-fed c =
+    let fed = c.in_ok-rest.ensures.fed in
+    refused_behind _ _ _ fed.0 _ _ _ _ fed.2 c.refuse-in-Some-split_first-2.ensures.fed
+    (back_split _ _ _ fed.0 _ _ _ c.split_at.ensures.by_index.0 fed.1
+    c.in_default-split_first.ensures.cases c.in-Some-split_first-2.ensures.cases.0)

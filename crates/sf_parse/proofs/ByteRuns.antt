@@ -1,0 +1,118 @@
+-- Runs of bytes that pass a test: how a scan finds them, and what a machine takes by them.
+use Rattle.std.proofs.Common.{◌≡◌, ℕ, ◌+◌, ◌-◌, ◌<◌, ◌≤◌, Bool, true, false, ◌&&◌, List, [], ◌∷◌}
+use Rattle.std.proofs.Common.{◌++◌, length, take, drop, get_or, Option, Some, refl, sym, ap, ◌∙◌}
+use Rattle.std.proofs.Common.{subst, arith, append-nil, append_assoc}
+use Rattle.std.proofs.lemmas.List.{take_more}
+use Rattle.std.proofs.Math.Seq.{take-add}
+use Rattle.sf_value.specs.Grammar.Words.{Every, IsWord}
+use Rattle.sf_value.specs.Grammar.Classes.{is_visible}
+use Rattle.sf_value.proofs.Words.{every_push}
+use Rattle.sf_parse.specs.ByteRuns.{is_unescaped}
+use Rattle.sf_parse.specs.Fronts.{Went}
+use Rattle.sf_parse.specs.Machine.Language.{run}
+use Rattle.sf_parse.specs.Machine.Texts.{TextState, Inside, text_step, word_step}
+use Rattle.sf_parse.proofs.Fronts.{went_above}
+
+pub every_append : (p : ℕ → Bool) (xs ys : List ℕ) → Every p xs → Every p ys → Every p (xs ++ ys)
+every_append p [] ys h k = k
+every_append p (x ∷ xs) ys h k = (h.0, every_append p xs ys h.1 k)
+
+-- one byte more, and a block more
+pub every_more : (p : ℕ → Bool) (xs : List ℕ) (n : ℕ) → Every p (take n xs) → n < length xs
+    → p (get_or xs n 0) ≡ true → Every p (take (n + 1) xs)
+every_more p xs n h w e =
+    subst (Every p) (sym (take_more xs n 0 w)) (every_push p (take n xs) (get_or xs n 0) h e)
+
+pub every_block : (p : ℕ → Bool) (xs : List ℕ) (n k : ℕ) → n ≤ k → Every p (take n xs)
+    → Every p (take (k - n) (drop n xs)) → Every p (take k xs)
+every_block p xs n k w h e =
+    let t : n + (k - n) ≡ k = omega arith in
+    subst (λ y. Every p (take y xs)) t
+    (subst (Every p) (sym (take-add n (k - n) xs))
+    (every_append p (take n xs) (take (k - n) (drop n xs)) h e))
+
+both : (a b : Bool) → (a && b) ≡ true → (a ≡ true) × (b ≡ true)
+both true b h = (refl, h)
+both false b h = absurd cc
+
+-- the same, where a flag says whether all bytes passed so far
+pub all_more : (p : ℕ → Bool) (xs : List ℕ) (n : ℕ) (all more : Bool)
+    → (all ≡ true → Every p (take n xs)) → n < length xs → more ≡ p (get_or xs n 0)
+    → (all && more) ≡ true → Every p (take (n + 1) xs)
+all_more p xs n all more h w e k =
+    let t = both all more k in every_more p xs n (h t.0) w (sym e ∙ t.1)
+
+-- such a byte in a string
+text_byte : (bytes : List ℕ) (b : ℕ) → is_unescaped b ≡ true
+    → text_step (Inside bytes) b ≡ Some (Inside (bytes ++ b ∷ []))
+text_byte bytes b h = grind arith
+
+text_run : (bytes xs : List ℕ) → Every is_unescaped xs
+    → run text_step (Inside bytes) xs ≡ Some (Inside (bytes ++ xs))
+text_run bytes [] h = ap (λ y. Some (Inside y)) (sym (append-nil bytes))
+text_run bytes (b ∷ xs) h =
+    rw (text_byte bytes b h.0)
+    (text_run (bytes ++ b ∷ []) xs h.1
+    ∙ ap (λ y. Some (Inside y)) (append_assoc bytes (b ∷ []) xs))
+
+-- a string takes a run
+pub text_went : (bytes xs rest piece more : List ℕ) → piece ≡ xs ++ rest → Every is_unescaped xs
+    → more ≡ bytes ++ xs → Went text_step (Inside bytes) piece rest (Inside more)
+text_went bytes xs rest piece more e h f = record {
+  taken = xs;
+  split = e;
+  leads = text_run bytes xs h ∙ ap (λ y. Some (Inside y)) (sym f);
+}
+
+-- what a key or a token takes
+word_run : (q : ℕ → Bool) (bytes xs : List ℕ) → Every q xs
+    → run (word_step q) bytes xs ≡ Some (bytes ++ xs)
+word_run q bytes [] h = ap (λ y. Some y) (sym (append-nil bytes))
+word_run q bytes (b ∷ xs) h =
+    rw (h.0)
+    (word_run q (bytes ++ b ∷ []) xs h.1 ∙ ap (λ y. Some y) (append_assoc bytes (b ∷ []) xs))
+
+pub word_went : (q : ℕ → Bool) (bytes xs rest piece more : List ℕ) → piece ≡ xs ++ rest
+    → Every q xs → more ≡ bytes ++ xs → Went (word_step q) bytes piece rest more
+word_went q bytes xs rest piece more e h f = record {
+  taken = xs;
+  split = e;
+  leads = word_run q bytes xs h ∙ ap (λ y. Some y) (sym f);
+}
+
+visible_each : (xs : List ℕ) → Every is_unescaped xs → Every is_visible xs
+visible_each [] h = tt
+visible_each (b ∷ xs) h = (visible_of b h.0, visible_each xs h.1)
+  where
+    visible_of : (b : ℕ) → is_unescaped b ≡ true → is_visible b ≡ true
+    visible_of b h = grind arith
+
+-- what a run keeps
+pub visible_run : (bytes xs more : List ℕ) → more ≡ bytes ++ xs → Every is_unescaped xs
+    → Every is_visible bytes → Every is_visible more
+visible_run bytes xs more e h k =
+    subst (Every is_visible) (sym e) (every_append is_visible bytes xs k (visible_each xs h))
+
+pub word_run_kept : (p q : ℕ → Bool) (bytes xs more : List ℕ) → more ≡ bytes ++ xs → Every q xs
+    → IsWord p q bytes → IsWord p q more
+word_run_kept p q bytes xs more e h k = subst (IsWord p q) (sym e) (by bytes k)
+  where
+    by : (bytes : List ℕ) → IsWord p q bytes → IsWord p q (bytes ++ xs)
+    by [] k = absurd k
+    by (b ∷ bytes) k = (k.0, every_append q bytes xs k.1 h)
+
+-- bytes that change nothing
+stay_run : {S : Type 0} (next : S → ℕ → Option S) (p : ℕ → Bool) (s : S)
+    → ((b : ℕ) → p b ≡ true → next s b ≡ Some s) → (xs : List ℕ) → Every p xs
+    → run next s xs ≡ Some s
+stay_run next p s h [] w = refl
+stay_run next p s h (b ∷ xs) w = rw (h b w.0) (stay_run next p s h xs w.1)
+
+pub stay_went : {S : Type 0} (next : S → ℕ → Option S) (p : ℕ → Bool) (s : S)
+    (xs rest piece : List ℕ) → ((b : ℕ) → p b ≡ true → next s b ≡ Some s) → piece ≡ xs ++ rest
+    → Every p xs → Went next s piece rest s
+stay_went next p s xs rest piece h e w = record {
+  taken = xs;
+  split = e;
+  leads = stay_run next p s h xs w;
+}

@@ -1,0 +1,134 @@
+-- What a parser took at once, and one piece behind another.
+use Rattle.std.proofs.Common.{◌≡◌, ℕ, zero, suc, ◌+◌, ◌-◌, ◌<◌, ◌≤◌, ◌↔◌, List, [], ◌∷◌, ◌++◌, length}
+use Rattle.std.proofs.Common.{take, get_or, Option, Some, None, Ok, Err, refl, sym, ap, ◌∙◌, subst}
+use Rattle.std.proofs.Common.{append_assoc, append-nil, length-append, arith}
+use Rattle.std.proofs.Math.Seq.{take-append_seam}
+use Rattle.sf_value.specs.Grammar.Words.{Every}
+use Rattle.sf_value.specs.Grammar.Lines.{Viable}
+use Rattle.sf_value.specs.Grammar.Fields.{SpellsField}
+use Rattle.sf_value.specs.declared.dialect.Dialect.{Dialect}
+use Rattle.sf_parse.specs.declared.refusal.Refusal.{Refusal}
+use Rattle.sf_parse.specs.Machine.States.{State}
+use Rattle.sf_parse.specs.Machine.Language.{run}
+use Rattle.sf_parse.specs.Machine.Fields.{Rest, step}
+use Rattle.sf_parse.specs.Parsers.{Progress, Took, Sound, RefusedFor, SameSettings, Fed}
+use Rattle.sf_parse.specs.Plain.{plain_byte}
+use Rattle.sf_parse.specs.PlainParsers.{PlainState}
+use Rattle.sf_parse.specs.Fronts.{Front, Went}
+use Rattle.sf_parse.specs.Feeding.{FedTo}
+use Rattle.sf_parse.proofs.Machines
+use Rattle.sf_parse.proofs.Fields.{machine}
+use Rattle.sf_parse.proofs.Fronts.{kept_by_front}
+use Rattle.sf_parse.proofs.PlainSteps.{plain_step}
+use Rattle.sf_parse.proofs.Taking.{takes_more, took_viable}
+use Rattle.sf_parse.proofs.FedPieces.{FedFront, taken, stopped_in}
+
+-- a text was taken behind another
+took_run : (p q : Progress) (s t : List ℕ) → Sound p.refusal p.state p.count p.max → Took p s
+    → run (step p.dialect) p.state t ≡ Some q.state → SameSettings p q
+    → q.count ≡ p.count + length t → q.refusal ≡ None → Took q (s ++ t)
+took_run p q s t g k e same c r =
+    let more = takes_more p.dialect p.kind p.state q.state s t (taken p s g k) e in
+    record {
+      count = let n : p.count ≡ length s = k.count in omega (arith, length-append s t);
+      rest = λ u v.
+          subst (λ d. Rest d q.state u v ↔ SpellsField d q.kind ((s ++ t) ++ u) v)
+          (sym same.dialect)
+          (subst (λ k. Rest p.dialect q.state u v ↔ SpellsField p.dialect k ((s ++ t) ++ u) v)
+          (sym same.kind) (more.rest u v));
+      unrefused = r;
+    }
+
+fed_run : (p q : Progress) (t : List ℕ) → Sound p.refusal p.state p.count p.max
+    → p.count + length t ≤ p.max → run (step p.dialect) p.state t ≡ Some q.state
+    → SameSettings p q → q.count ≡ p.count + length t → q.refusal ≡ p.refusal
+    → Fed p q (Ok tt) t
+fed_run p q t g h e same c r = record {
+  settings = same;
+  counted = omega arith;
+  answer = (
+    r,
+    λ s k.
+        let n : p.count ≡ length s = k.count in
+        let m = takes_more p.dialect p.kind p.state q.state s t (taken p s g k) e in (
+          omega (arith, length-append s t),
+          took_viable p.dialect p.kind q.state (s ++ t) m,
+          took_run p q s t g k e same c (r ∙ k.unrefused),
+        ),
+  );
+}
+
+went_length : {S : Type 0} (next : S → ℕ → Option S) (s t : S) (piece rest : List ℕ)
+    (w : Went next s piece rest t) → length piece ≡ length w.taken + length rest
+went_length next s t piece rest w = ap length w.split ∙ length-append w.taken rest
+
+pub sound_taken : (r : Option Refusal) (d : Dialect) (s u : State) (piece rest : List ℕ)
+    (count max : ℕ) → Sound r s count max → r ≡ None → count + length piece ≤ max
+    → Front (step d) s piece rest u → Sound r u (count + (length piece - length rest)) max
+sound_taken r d s u piece rest count max g n h a =
+    let l = went_length (step d) s u piece rest a.went in
+    subst (λ y. Sound y u (count + (length piece - length rest)) max) (sym n) (
+      Machines.run_good (machine d) s u a.went.taken
+          (subst (λ y. Sound y s count max) n g).0 a.went.leads,
+      omega arith,
+    )
+
+pub fed_taken : (p q : Progress) (piece rest : List ℕ) → Sound p.refusal p.state p.count p.max
+    → p.count + length piece ≤ p.max → Front (step p.dialect) p.state piece rest q.state
+    → SameSettings p q → q.count ≡ p.count + (length piece - length rest)
+    → q.refusal ≡ p.refusal → FedTo p q piece rest
+fed_taken p q piece rest g h a same c r =
+    let l = went_length (step p.dialect) p.state q.state piece rest a.went in (
+      a.went.taken,
+      a.went.split,
+      fed_run p q a.went.taken g (omega arith) a.went.leads same (omega arith) r,
+    )
+
+pub plain_taken : (d : Dialect) (s u : State) (piece rest : List ℕ) → PlainState s
+    → Every plain_byte piece → Front (step d) s piece rest u → PlainState u
+plain_taken d s u piece rest h w a =
+    kept_by_front (step d) PlainState plain_byte (plain_step d) s u piece rest h w a.went
+
+at_seam : (xs : List ℕ) (b : ℕ) (more : List ℕ) → get_or (xs ++ b ∷ more) (length xs) 0 ≡ b
+at_seam [] b more = refl
+at_seam (x ∷ xs) b more = at_seam xs b more
+
+-- a byte is refused behind a front
+pub refused_behind : (o p q : Progress) (x : List ℕ) (b : ℕ) (more piece : List ℕ) (e : Refusal)
+    → Fed o p (Ok tt) x → Fed p q (Err e) (b ∷ []) → piece ≡ x ++ b ∷ more → Fed o q (Err e) piece
+refused_behind o p q x b more piece e a f s =
+    subst (Fed o q (Err e)) (sym s)
+    (stopped_in o p q (x ++ b ∷ more) (length x) e (omega (arith, length-append x (b ∷ more)))
+    (subst (FedFront o p) (sym (take-append_seam x (b ∷ more)))
+    (record { settings = a.settings; counted = a.counted; answer = a.answer }))
+    (subst (λ y. Fed p q (Err e) (y ∷ [])) (sym (at_seam x b more)) f))
+
+-- what is refused in a front is refused in the piece
+pub refused_before : (o q : Progress) (x back piece : List ℕ) (e : Refusal) → Fed o q (Err e) x
+    → piece ≡ x ++ back → Fed o q (Err e) piece
+refused_before o q x back piece e f s = subst (Fed o q (Err e)) (sym s) (record {
+  settings = f.settings;
+  counted = let k = f.counted in omega (arith, length-append x back);
+  answer = (
+    f.answer.0,
+    λ t k more.
+        subst (λ y. RefusedFor o.dialect o.kind o.max y e)
+        (sym (append_assoc (t ++ x) back more) ∙ ap (λ y. y ++ more) (append_assoc t x back))
+        (f.answer.1 t k (back ++ more)),
+  );
+})
+
+pub all_taken : (x rest : List ℕ) → length rest ≡ 0 → x ++ rest ≡ x
+all_taken x [] e = append-nil x
+all_taken x (b ∷ rest) e = absurd (let k : ⊥ = omega arith in k)
+
+-- where a byte behind a front stands: before the limit, and behind it
+pub front_split : (piece f back x rest : List ℕ) (b : ℕ) (more : List ℕ) → piece ≡ f ++ back
+    → f ≡ x ++ rest → rest ≡ b ∷ more → piece ≡ x ++ b ∷ (more ++ back)
+front_split piece f back x rest b more e s k =
+    e ∙ ap (λ y. y ++ back) (s ∙ ap (λ y. x ++ y) k) ∙ append_assoc x (b ∷ more) back
+
+pub back_split : (piece f back x rest : List ℕ) (b : ℕ) (more : List ℕ) → piece ≡ f ++ back
+    → f ≡ x ++ rest → length rest ≡ 0 → back ≡ b ∷ more → piece ≡ x ++ b ∷ more
+back_split piece f back x rest b more e s k n =
+    e ∙ ap (λ y. y ++ back) (s ∙ all_taken x rest k) ∙ ap (λ y. x ++ y) n

@@ -1,0 +1,200 @@
+-- Fronts of pieces that machines take: none, one behind another, and seen from a level above.
+use Rattle.std.proofs.Common.{◌≡◌, ℕ, ◌+◌, ◌≤◌, Bool, true, false, List, [], ◌∷◌, ◌++◌, length}
+use Rattle.std.proofs.Common.{Option, Some, None, Result, Ok, Err, IfOk, refl, sym, ap, ◌∙◌, subst}
+use Rattle.std.proofs.Common.{arith, length-append, append_assoc, append-nil}
+use Rattle.std.specs.Borrow.{Bor}
+use Rattle.sf_value.specs.Grammar.Words.{Every}
+use Rattle.sf_parse.specs.Machine.Language.{seen, run, Steps}
+use Rattle.sf_parse.specs.Fronts.{Went, FirstIs, Halts, Front}
+use Rattle.sf_parse.proofs.Language.{and_then_cases}
+
+pub run_append : {S : Type 0} (next : S → ℕ → Option S) (s t : S) (p q : List ℕ)
+    → run next s p ≡ Some t → run next s (p ++ q) ≡ run next t q
+run_append next s t [] q e = let k : s ≡ t = cc in ap (λ y. run next y q) k
+run_append next s t (b ∷ p) q e =
+    let c = and_then_cases (next s b) (λ s'. run next s' p) t e in
+    rw c.1 (run_append next c.0 t p q c.2)
+
+pub went_none : {S : Type 0} (next : S → ℕ → Option S) (s : S) (piece : List ℕ)
+    → Went next s piece piece s
+went_none next s piece = record { taken = []; split = refl; leads = refl }
+
+-- one front behind another
+pub went_more : {S : Type 0} (next : S → ℕ → Option S) (s t u : S) (piece rest more : List ℕ)
+    → Went next s piece rest t → Went next t rest more u → Went next s piece more u
+went_more next s t u piece rest more a b = record {
+  taken = a.taken ++ b.taken;
+  split = a.split ∙ ap (λ r. a.taken ++ r) b.split ∙ sym (append_assoc a.taken b.taken more);
+  leads = run_append next s t a.taken b.taken a.leads ∙ b.leads;
+}
+
+pub went_one : {S : Type 0} (next : S → ℕ → Option S) (s t : S) (b : ℕ) (more : List ℕ)
+    → next s b ≡ Some t → Went next s (b ∷ more) more t
+went_one next s t b more e = record { taken = b ∷ []; split = refl; leads = rw e refl }
+
+-- one byte more
+pub went_byte : {S : Type 0} (next : S → ℕ → Option S) (s t u : S) (piece : List ℕ) (b : ℕ)
+    (more : List ℕ) → Went next s piece (b ∷ more) t → next t b ≡ Some u → Went next s piece more u
+went_byte next s t u piece b more a e =
+    went_more next s t u piece (b ∷ more) more a (went_one next t u b more e)
+
+pub went_shorter : {S : Type 0} (next : S → ℕ → Option S) (s t : S) (piece rest : List ℕ)
+    → Went next s piece rest t → length rest ≤ length piece
+went_shorter next s t piece rest a =
+    let e = ap length a.split in omega (arith, length-append a.taken rest)
+
+pub front_all : {S : Type 0} (next : S → ℕ → Option S) (s t : S) (piece : List ℕ)
+    → Went next s piece [] t → Front next s piece [] t
+front_all next s t piece a = record { went = a; stops = tt }
+
+-- a step in place
+pub step_on : {S : Type 0} (next : S → ℕ → Option S) (s t u : S) (piece : List ℕ) (b : ℕ)
+    (more : List ℕ) (took : Bool) → Went next s piece (b ∷ more) t → took ≡ true
+    → Steps took (next t b) t u → Went next s piece more u
+step_on next s t u piece b more true a f e = went_byte next s t u piece b more a e
+step_on next s t u piece b more false a f e = absurd cc
+
+pub step_stop : {S : Type 0} (next : S → ℕ → Option S) (s t u : S) (piece : List ℕ) (b : ℕ)
+    (more : List ℕ) (took : Bool) → Went next s piece (b ∷ more) t → took ≡ false
+    → Steps took (next t b) t u → Front next s piece (b ∷ more) u
+step_stop next s t u piece b more true a f e = absurd cc
+step_stop next s t u piece b more false a f e =
+    subst (λ y. Front next s piece (b ∷ more) y) (sym e.1) (record { went = a; stops = e.0 })
+
+-- what a part takes, seen from a level that goes on with it wherever it goes on itself
+run_above : {S T : Type 0} (next : S → ℕ → Option S) (above : T → ℕ → Option T) (into : S → T)
+    → ((s t : S) (b : ℕ) → next s b ≡ Some t → above (into s) b ≡ Some (into t))
+    → (s t : S) (p : List ℕ) → run next s p ≡ Some t → run above (into s) p ≡ Some (into t)
+run_above next above into h s t [] e = let k : s ≡ t = cc in ap (λ y. Some (into y)) k
+run_above next above into h s t (b ∷ p) e =
+    let c = and_then_cases (next s b) (λ s'. run next s' p) t e in
+    rw (h s c.0 b c.1) (run_above next above into h c.0 t p c.2)
+
+pub went_above : {S T : Type 0} (next : S → ℕ → Option S) (above : T → ℕ → Option T) (into : S → T)
+    → ((s t : S) (b : ℕ) → next s b ≡ Some t → above (into s) b ≡ Some (into t))
+    → (s t : S) (piece rest : List ℕ) → Went next s piece rest t
+    → Went above (into s) piece rest (into t)
+went_above next above into h s t piece rest a = record {
+  taken = a.taken;
+  split = a.split;
+  leads = run_above next above into h s t a.taken a.leads;
+}
+
+-- the same, of a call that may fail, and where the state above is known as x
+pub part_above : {S T E : Type 0} (next : S → ℕ → Option S) (above : T → ℕ → Option T) (into : S
+    → T)
+    → ((s t : S) (b : ℕ) → next s b ≡ Some t → above (into s) b ≡ Some (into t))
+    → (s t : S) (x : T) (piece : List ℕ) (r : Result (Bor (List ℕ)) E) → into s ≡ x
+    → IfOk r (λ rest. Front next s piece rest.now t)
+    → IfOk r (λ rest. Went above x piece rest.now (into t))
+part_above next above into h s t x piece (Ok rest) e a =
+    subst (λ y. Went above y piece rest.now (into t)) e
+    (went_above next above into h s t piece rest.now a.went)
+part_above next above into h s t x piece (Err k) e a = a
+
+-- what each byte of a kind keeps, a run of them keeps
+pub kept_by_run : {S : Type 0} (next : S → ℕ → Option S) (P : S → Type 0) (q : ℕ → Bool)
+    → ((s t : S) (b : ℕ) → P s → q b ≡ true → next s b ≡ Some t → P t)
+    → (s t : S) (p : List ℕ) → P s → Every q p → run next s p ≡ Some t → P t
+kept_by_run next P q h s t [] g w e = subst P (let k : s ≡ t = cc in k) g
+kept_by_run next P q h s t (b ∷ p) g w e =
+    let c = and_then_cases (next s b) (λ s'. run next s' p) t e in
+    kept_by_run next P q h c.0 t p (h s c.0 b g w.0 c.1) w.1 c.2
+
+pub every_split : (q : ℕ → Bool) (a b : List ℕ) → Every q (a ++ b) → Every q a × Every q b
+every_split q [] b h = (tt, h)
+every_split q (x ∷ a) b h = let k = every_split q a b h.1 in ((h.0, k.0), k.1)
+
+-- a front and what is left of bytes of a kind
+pub every_rest : {S : Type 0} (next : S → ℕ → Option S) (q : ℕ → Bool) (s t : S)
+    (piece rest : List ℕ) → Went next s piece rest t → Every q piece → Every q rest
+every_rest next q s t piece rest a w = (every_split q a.taken rest (subst (Every q) a.split w)).1
+
+pub kept_by_front : {S : Type 0} (next : S → ℕ → Option S) (P : S → Type 0) (q : ℕ → Bool)
+    → ((s t : S) (b : ℕ) → P s → q b ≡ true → next s b ≡ Some t → P t)
+    → (s t : S) (piece rest : List ℕ) → P s → Every q piece → Went next s piece rest t → P t
+kept_by_front next P q h s t piece rest g w a =
+    kept_by_run next P q h s t a.taken g
+    (every_split q a.taken rest (subst (Every q) a.split w)).0 a.leads
+
+-- an Err is not Ok
+pub never : {P : Type 0} → false ≡ true → P
+never e = absurd cc
+
+-- nothing is left
+pub front_none : {S : Type 0} (next : S → ℕ → Option S) (s t : S) (piece rest : List ℕ)
+    → length rest ≡ 0 → Went next s piece rest t → Front next s piece rest t
+front_none next s t piece [] e a = front_all next s t piece a
+front_none next s t piece (b ∷ more) e a = absurd (let k : ⊥ = omega arith in k)
+
+pub first_is : (P : ℕ → Type 0) (xs : List ℕ) (b : ℕ) (more : List ℕ) → xs ≡ b ∷ more
+    → FirstIs P xs → P b
+first_is P xs b more e h = subst (FirstIs P) e h
+
+-- a turn of the loop: the open part went on to a byte that it can't take, and a step is tried
+pub turn_on : {S : Type 0} (next : S → ℕ → Option S) (P : ℕ → Type 0) (s t u v : S)
+    (piece rest back : List ℕ) (b : ℕ) (more : List ℕ) (took : Bool) → Went next s piece rest t
+    → Went next t rest back u → FirstIs P back → back ≡ b ∷ more → took ≡ true
+    → (P b → Steps took (next u b) u v) → Went next s piece more v
+turn_on next P s t u v piece rest back b more took a w h e f k =
+    step_on next s u v piece b more took
+    (subst (λ y. Went next s piece y u) e (went_more next s t u piece rest back a w)) f
+    (k (first_is P back b more e h))
+
+pub turn_stop : {S : Type 0} (next : S → ℕ → Option S) (P : ℕ → Type 0) (s t u v : S)
+    (piece rest back : List ℕ) (b : ℕ) (more : List ℕ) (took : Bool) → Went next s piece rest t
+    → Went next t rest back u → FirstIs P back → back ≡ b ∷ more → took ≡ false
+    → (P b → Steps took (next u b) u v) → Front next s piece back v
+turn_stop next P s t u v piece rest back b more took a w h e f k =
+    subst (λ y. Front next s piece y v) (sym e)
+    (step_stop next s u v piece b more took
+    (subst (λ y. Went next s piece y u) e (went_more next s t u piece rest back a w)) f
+    (k (first_is P back b more e h)))
+
+-- the same, where the part only went some way
+pub part_went : {S T E : Type 0} (next : S → ℕ → Option S) (above : T → ℕ → Option T) (into : S
+    → T)
+    → ((s t : S) (b : ℕ) → next s b ≡ Some t → above (into s) b ≡ Some (into t))
+    → (s t : S) (x : T) (piece : List ℕ) (r : Result (Bor (List ℕ)) E) → into s ≡ x
+    → IfOk r (λ rest. Went next s piece rest.now t)
+    → IfOk r (λ rest. Went above x piece rest.now (into t))
+part_went next above into h s t x piece (Ok rest) e a =
+    subst (λ y. Went above y piece rest.now (into t)) e
+    (went_above next above into h s t piece rest.now a)
+part_went next above into h s t x piece (Err k) e a = a
+
+-- where the part stopped
+pub part_stops : {S E : Type 0} (next : S → ℕ → Option S) (P : ℕ → Type 0) (s t : S)
+    (piece : List ℕ) (r : Result (Bor (List ℕ)) E)
+    → ((b : ℕ) → next t b ≡ None → P b) → IfOk r (λ rest. Front next s piece rest.now t)
+    → IfOk r (λ rest. FirstIs P rest.now)
+part_stops next P s t piece (Ok rest) h a = by rest.now a.stops
+  where
+    by : (xs : List ℕ) → FirstIs (Halts next t) xs → FirstIs P xs
+    by [] k = tt
+    by (b ∷ xs) k = h b k
+part_stops next P s t piece (Err k) h a = a
+
+-- where the level goes on just where the part does, it takes just as much
+pub front_above : {S T : Type 0} (next : S → ℕ → Option S) (above : T → ℕ → Option T) (into : S
+    → T)
+    → ((s : S) (b : ℕ) → above (into s) b ≡ seen into (next s b))
+    → (s t : S) (piece rest : List ℕ) → Front next s piece rest t
+    → Front above (into s) piece rest (into t)
+front_above next above into h s t piece rest a = record {
+  went = went_above next above into (λ s t b e. h s b ∙ ap (seen into) e) s t piece rest a.went;
+  stops = by rest a.stops;
+}
+  where
+    by : (xs : List ℕ) → FirstIs (Halts next t) xs → FirstIs (Halts above (into t)) xs
+    by [] k = tt
+    by (b ∷ xs) k = h t b ∙ ap (seen into) k
+
+pub all_above : {S T E : Type 0} (next : S → ℕ → Option S) (above : T → ℕ → Option T) (into : S
+    → T)
+    → ((s : S) (b : ℕ) → above (into s) b ≡ seen into (next s b))
+    → (s t : S) (piece : List ℕ) (r : Result (Bor (List ℕ)) E)
+    → IfOk r (λ rest. Front next s piece rest.now t)
+    → IfOk r (λ rest. Front above (into s) piece rest.now (into t))
+all_above next above into h s t piece (Ok rest) a = front_above next above into h s t piece rest.now a
+all_above next above into h s t piece (Err k) a = a

@@ -1,0 +1,11 @@
+use Rattle.std.proofs.Common.{sym, ◌∙◌}
+use Rattle.sf_value.specs.Grammar.Classes.{is_token_start, is_token_rest}
+use Rattle.sf_value.proofs.Words.{word_push}
+use Rattle.sf_parse.proofs.bare.BareReaderLevel.turn.Goals as goal
+
+pub invariant_of-self-in-Token : goal.invariant_of-self-in-Token
+invariant_of-self-in-Token c =
+    let token = rw c.in-Token.is at c.self.invariant in
+    rw (c.in-Token.is, c.in_ok-push-in-Token.ensures)
+    (word_push is_token_start is_token_rest _ _ token
+    (sym c.can_be_in_token.ensures ∙ c.if-not-can_be_in_token.false))

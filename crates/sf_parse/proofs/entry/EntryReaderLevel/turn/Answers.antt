@@ -1,0 +1,13 @@
+use Rattle.std.proofs.Common.{sym, ◌∙◌}
+use Rattle.sf_value.specs.Grammar.Classes.{is_key_start, is_key_rest}
+use Rattle.sf_value.proofs.Words.{word_push}
+use Rattle.sf_parse.proofs.entry.EntryReaderLevel.turn.Goals as goal
+
+pub invariant_of-self-in-InKey : goal.invariant_of-self-in-InKey
+invariant_of-self-in-InKey c =
+    let fits = c.self.invariant in
+    rw c.in_ok-push-in-InKey.ensures (
+      word_push is_key_start is_key_rest _ _ fits.0
+          (sym c.can_be_in_key.ensures ∙ c.if-not-can_be_in_key.false),
+      fits.1,
+    )

@@ -1,0 +1,11 @@
+use Rattle.std.proofs.Common.{sym, ◌∙◌}
+use Rattle.sf_value.specs.Grammar.Classes.{is_key_start, is_key_rest}
+use Rattle.sf_value.proofs.Words.{word_push}
+use Rattle.sf_parse.proofs.parameters.ParamsReaderLevel.turn.Goals as goal
+
+pub invariant_of-self-in-InKey : goal.invariant_of-self-in-InKey
+invariant_of-self-in-InKey c =
+    let key = rw c.in-InKey.is at c.self.invariant in
+    rw (c.in-InKey.is, c.in_ok-push-in-InKey.ensures)
+    (word_push is_key_start is_key_rest _ _ key
+    (sym c.can_be_in_key.ensures ∙ c.if-not-can_be_in_key.false))

@@ -1,0 +1,37 @@
+-- What is read of a bare item, as a state of the machine.
+use Rattle.std.specs.Prelude.{ℕ, List}
+use Rattle.sf_value.specs.Grammar.Words.{Every}
+use Rattle.sf_value.specs.Grammar.Classes.{is_visible}
+use Rattle.sf_value.specs.Grammar.Tokens.{IsToken}
+use Rattle.sf_parse.specs.Machine.Bares.{BareState, InNumber, InText, InToken, InBoolean, InDate}
+use Rattle.sf_parse.specs.Machine.Bares.{InBlob, InShown}
+use Rattle.sf_parse.specs.Views.{text_of, blob_of, shown_of, FitsBlob, FitsShown}
+use Rattle.sf_parse.specs.declared.bare.BareKind.{BareKind}
+use Rattle.sf_parse.specs.declared.bare.BareKind.TheVariants as kind
+use Rattle.sf_parse.specs.declared.bare.BareReader.TheInside.{Inside}
+
+abbrev pub bare_at : BareKind → Inside → BareState
+bare_at kind.Number r = InNumber r.number
+bare_at kind.Text r = InText (text_of r.text r.bytes)
+bare_at kind.Token r = InToken r.bytes
+bare_at kind.Boolean r = InBoolean r.boolean
+bare_at kind.Date r = InDate r.date
+bare_at kind.Blob r = InBlob (blob_of r.blob r.bytes)
+bare_at kind.Shown r = InShown (shown_of r.shown.phase r.bytes r.shown.chars)
+
+-- the kind says which of the other fields count
+abbrev pub bare_of : Inside → BareState
+bare_of r = bare_at r.kind r
+
+abbrev pub FitsAt : BareKind → Inside → Type 0
+FitsAt kind.Number r = Unit {0}
+FitsAt kind.Text r = Every is_visible r.bytes
+FitsAt kind.Token r = IsToken r.bytes
+FitsAt kind.Boolean r = Unit {0}
+FitsAt kind.Date r = Unit {0}
+FitsAt kind.Blob r = FitsBlob r.blob
+FitsAt kind.Shown r = FitsShown r.shown.phase r.bytes r.shown.chars
+
+-- the bytes are some of what the kind is made of
+abbrev pub FitsBare : Inside → Type 0
+FitsBare r = FitsAt r.kind r

@@ -1,0 +1,31 @@
+-- What a machine takes of a piece: some front of it, or the longest that it can go on with.
+use Rattle.std.specs.Prelude.{◌≡◌, ℕ, Bool, true, false, List, [], ◌∷◌, ◌++◌, Option, Some, None}
+use Rattle.std.specs.Prelude.{⊤}
+use Rattle.sf_parse.specs.Machine.Language.{run}
+
+-- the bytes before the rest of the piece lead from the old state to the new one
+pub record Went {S : Type 0} (next : S → ℕ → Option S) (old : S) (piece rest : List ℕ) (new : S)
+    : Type 0 where
+  pub taken : List ℕ
+  pub split : piece ≡ taken ++ rest
+  pub leads : run next old taken ≡ Some new
+
+-- the first byte, if there is one, is as P says
+abbrev pub FirstIs : (ℕ → Type 0) → List ℕ → Type 0
+FirstIs P [] = ⊤
+FirstIs P (b ∷ more) = P b
+
+-- the machine can't go on with this byte
+abbrev pub Halts : {S : Type 0} → (S → ℕ → Option S) → S → ℕ → Type 0
+Halts next s b = next s b ≡ None
+
+-- and the new state can't go on with the first byte of the rest
+pub record Front {S : Type 0} (next : S → ℕ → Option S) (old : S) (piece rest : List ℕ) (new : S)
+    : Type 0 where
+  pub went : Went next old piece rest new
+  pub stops : FirstIs (Halts next new) rest
+
+-- a first byte begins what the new state is in, or begins nothing
+abbrev pub Starts : {S : Type 0} → Bool → Option S → S → Type 0
+Starts true first new = first ≡ Some new
+Starts false first new = first ≡ None

@@ -1,0 +1,26 @@
+-- What is read of an item, as a state of the machine.
+use Rattle.std.specs.Prelude.{◌≡◌, ℕ, Bool, true, false, Option, Some, None, IsSome, ⊤}
+use Rattle.sf_value.specs.declared.dialect.Dialect.{Dialect}
+use Rattle.sf_value.specs.declared.value.Bare.{Bare}
+use Rattle.sf_parse.specs.Machine.Bares.{BareState, bare_step, bare_finish}
+use Rattle.sf_parse.specs.Machine.Params.{ParamsState, params_step}
+use Rattle.sf_parse.specs.Machine.Items.{ItemState, InBare, InParams}
+
+-- the bare item is taken out of its reader's state
+abbrev pub with_params : Option Bare → BareState → ParamsState → ItemState
+with_params (Some x) s ps = InParams x ps
+with_params None s ps = InBare s
+
+abbrev pub item_of : Bool → BareState → ParamsState → ItemState
+item_of true s ps = with_params (bare_finish s) s ps
+item_of false s ps = InBare s
+
+-- parameters stand behind a whole bare item
+abbrev pub FitsItem : Bool → BareState → Type 0
+FitsItem true s = IsSome (bare_finish s)
+FitsItem false s = ⊤
+
+-- the part that is open can't go on with this byte
+abbrev pub item_stuck : Dialect → ItemState → ℕ → Type 0
+item_stuck d (InBare s) b = bare_step s b ≡ None
+item_stuck d (InParams x s) b = params_step d s b ≡ None

@@ -1,0 +1,219 @@
+//! Pieces with commas between them that are being read: the members of a List or a Dictionary (RFC
+//! 9651 sections 4.2.1 and 4.2.2).
+ghost use Rattle.std.specs.Prelude.{◌≡◌, ℕ, Bool, false, Option, IfOk};
+ghost use Rattle.sf_value.specs.declared.dialect.Dialect.{Dialect};
+ghost use Rattle.sf_parse.specs.Fronts.{Starts};
+ghost use Rattle.sf_parse.specs.SeriesView.{series_next, series_end, series_stuck, Ends};
+ghost use Rattle.sf_parse.specs.Machine.Series.{Begin};
+ghost use Rattle.sf_parse.specs.Machine.Takes.{series_takes, series_ends};
+
+use crate::context::Context;
+use crate::level::Level;
+use crate::runs::{Ows, Space, is_ows, short_front};
+use sf_value::{Dialect, OutOfMemory};
+use std::marker::Model;
+use std::mem;
+
+/// A piece between commas; the whole ones are added to a `G`.
+pub trait Piece<G>: Level {
+    // whether a piece may begin with a byte, and what the byte begins
+    ghost begins: { Dialect → ℕ → Bool };
+
+    ghost first: { Dialect → ℕ → Option Self };
+
+    // what no piece gives
+    ghost none: { G };
+
+    // what was given with this piece, where it may end
+    ghost added: { Self → G → Option G };
+
+    /// Where no piece is whole yet. It takes no memory.
+    fn none(context: &Context) -> G
+        ensures { result ≡ none };
+
+    /// Whether a piece may begin with this byte.
+    fn can_start(dialect: Dialect, byte: u8) -> bool
+        ensures { result ≡ begins dialect byte };
+
+    /// Begins a piece with this byte, or tells that none begins with it.
+    fn start(&mut self, context: &Context, byte: u8) -> Result<bool, OutOfMemory>
+        ensures { IfOk result (λ took. Starts took (first context.now.dialect byte) self.new) };
+
+    /// Adds the piece, if it is whole, or tells that it is not, and changes nothing.
+    fn end(&mut self, context: &Context, given: &mut G) -> Result<bool, OutOfMemory>
+        ensures ended { IfOk result (λ ended. Ends ended (added self.old given.old) given.old
+            given.new) }
+        ensures kept { IfOk result (λ ended. ended ≡ false → self.new ≡ self.old) };
+}
+
+/// Where in pieces with commas the text is.
+#[derive(Clone, Copy, Debug, PartialEq, Eq)]
+pub enum SeriesPhase {
+    /// Before the first piece.
+    Begin,
+    /// In a piece.
+    InPiece,
+    /// Behind a piece.
+    Gap,
+    /// Behind a comma.
+    Comma,
+}
+
+/// What was read of pieces with commas: what the whole ones gave, and the piece that is open.
+#[derive(Debug, Drop)]
+pub struct SeriesReader<P, G> {
+    phase: SeriesPhase,
+    given: G,
+    piece: P,
+}
+
+impl<P, G> Model for SeriesReader<P, G> {
+    ghost use Rattle.sf_parse.specs.Machine.Series.{SeriesState};
+
+    ghost Value = { SeriesState P G };
+
+    ghost use Rattle.sf_parse.specs.SeriesView.{series_of};
+
+    ghost view = { λ r. series_of r.phase r.given r.piece };
+}
+
+impl<P: Piece<G>, G: Drop> SeriesReader<P, G> {
+    /// Before the first piece.
+    pub fn new(context: &Context, piece: P) -> SeriesReader<P, G>
+        ensures { result ≡ Begin }
+    {
+        SeriesReader {
+            phase: SeriesPhase::Begin,
+            given: P::none(context),
+            piece,
+        }
+    }
+
+    /// What the pieces gave, if the last one is whole. What is left is the reader alone.
+    pub fn finish(&mut self, context: &Context) -> Result<Option<G>, OutOfMemory>
+        ensures { IfOk result (λ given. given ≡ series_end P.added P.none self.old) }
+    {
+        match self.phase {
+            SeriesPhase::Begin => return Ok(Some(P::none(context))),
+            SeriesPhase::Comma => return Ok(None),
+            SeriesPhase::InPiece => {
+                if !self.piece.end(context, &mut self.given)? {
+                    return Ok(None);
+                }
+                return Ok(Some(mem::replace(&mut self.given, P::none(context))));
+            }
+            SeriesPhase::Gap => {
+                return Ok(Some(mem::replace(&mut self.given, P::none(context))));
+            }
+        }
+    }
+}
+
+impl<P: Piece<G>, G: Drop> Level for SeriesReader<P, G> {
+    ghost next = { λ d. series_next (P.first d) (P.next d) P.added P.none };
+
+    ghost stuck = { λ d. series_stuck (P.next d) };
+
+    ghost takes = { λ d. series_takes (P.begins d) (P.takes d) P.ends };
+
+    ghost ends = { λ s. series_ends P.ends s };
+
+    ghost plain = { λ d s. ⊥ };
+
+    ghost keeps = { λ d s t b h e k. absurd h };
+
+    fn take_part<'a>(
+        &mut self,
+        context: &Context,
+        piece: &'a [u8],
+    ) -> Result<&'a [u8], OutOfMemory> {
+        match self.phase {
+            SeriesPhase::Begin => {
+                let (_, rest) = short_front::<Space>(piece);
+                return Ok(rest);
+            }
+            SeriesPhase::Gap => {
+                let (_, rest) = short_front::<Ows>(piece);
+                return Ok(rest);
+            }
+            SeriesPhase::Comma => {
+                let (_, rest) = short_front::<Ows>(piece);
+                return Ok(rest);
+            }
+            SeriesPhase::InPiece => return self.piece.take(context, piece),
+        }
+    }
+
+    fn turn(&mut self, context: &Context, byte: u8) -> Result<bool, OutOfMemory> {
+        match self.phase {
+            SeriesPhase::Begin => {
+                if byte == b' ' {
+                    return Ok(true);
+                }
+                if !self.piece.start(context, byte)? {
+                    return Ok(false);
+                }
+                self.given = P::none(context);
+                self.phase = SeriesPhase::InPiece;
+                return Ok(true);
+            }
+            SeriesPhase::Comma => {
+                if is_ows(byte) {
+                    return Ok(true);
+                }
+                if !self.piece.start(context, byte)? {
+                    return Ok(false);
+                }
+                self.phase = SeriesPhase::InPiece;
+                return Ok(true);
+            }
+            SeriesPhase::InPiece => {
+                if byte == b',' {
+                    if !self.piece.end(context, &mut self.given)? {
+                        return Ok(false);
+                    }
+                    self.phase = SeriesPhase::Comma;
+                    return Ok(true);
+                }
+                if !is_ows(byte) {
+                    return Ok(false);
+                }
+                if !self.piece.end(context, &mut self.given)? {
+                    return Ok(false);
+                }
+                self.phase = SeriesPhase::Gap;
+                return Ok(true);
+            }
+            SeriesPhase::Gap => {
+                if is_ows(byte) {
+                    return Ok(true);
+                }
+                if byte != b',' {
+                    return Ok(false);
+                }
+                self.phase = SeriesPhase::Comma;
+                return Ok(true);
+            }
+        }
+    }
+
+    fn takes(&self, dialect: Dialect, byte: u8) -> bool {
+        match self.phase {
+            SeriesPhase::Begin => byte == b' ' || P::can_start(dialect, byte),
+            SeriesPhase::InPiece => {
+                self.piece.takes(dialect, byte)
+                    || self.piece.may_end() && (is_ows(byte) || byte == b',')
+            }
+            SeriesPhase::Gap => is_ows(byte) || byte == b',',
+            SeriesPhase::Comma => is_ows(byte) || P::can_start(dialect, byte),
+        }
+    }
+
+    fn may_end(&self) -> bool {
+        match self.phase {
+            SeriesPhase::Begin | SeriesPhase::Gap => true,
+            SeriesPhase::InPiece => self.piece.may_end(),
+            SeriesPhase::Comma => false,
+        }
+    }
+}

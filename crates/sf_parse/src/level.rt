@@ -1,0 +1,73 @@
+//! What every level of the grammar has in common: it takes the longest front of a piece.
+ghost use Rattle.std.specs.Prelude.{◌≡◌, ℕ, Bool, true, Option, Some, IfOk, IsOk};
+ghost use Rattle.sf_value.specs.Grammar.Words.{Every};
+ghost use Rattle.sf_value.specs.declared.dialect.Dialect.{Dialect};
+ghost use Rattle.sf_parse.specs.Plain.{plain_byte};
+ghost use Rattle.sf_parse.specs.Fronts.{Went, FirstIs, Front};
+ghost use Rattle.sf_parse.specs.Machine.Language.{Steps};
+
+use crate::context::Context;
+use sf_value::{Dialect, OutOfMemory};
+
+/// A level of the grammar that is being read: contracts see its state of the machine.
+pub trait Level {
+    // what the machine does with one more byte
+    ghost next: { Dialect → Self → ℕ → Option Self };
+
+    // the part that is open can't go on with this byte
+    ghost stuck: { Dialect → Self → ℕ → Type 0 };
+
+    // whether it can go on with a byte, and whether it may end
+    ghost takes: { Dialect → Self → ℕ → Bool };
+
+    ghost ends: { Self → Bool };
+
+    // the states that take no memory for a further space, minus sign or digit
+    ghost plain: { Dialect → Self → Type 0 };
+
+    /// Takes what the part that is open can go on with, and gives back the rest.
+    fn take_part<'a>(&mut self, context: &Context, piece: &'a [u8]) -> Result<&'a [u8], OutOfMemory>
+        ensures went { IfOk result (λ rest. Went (next context.now.dialect) self.old piece.now
+            rest.now self.new) }
+        ensures stuck { IfOk result (λ rest. FirstIs (stuck context.now.dialect self.new) rest.now) }
+        ensures plain { plain context.now.dialect self.old → Every plain_byte piece.now → IsOk result };
+
+    /// Takes a byte with which the part that is open can't go on, or tells that the level can't
+    /// either, and stays as it is.
+    fn turn(&mut self, context: &Context, byte: u8) -> Result<bool, OutOfMemory>
+        ensures step { IfOk result (λ took. stuck context.now.dialect self.old byte
+            → Steps took (next context.now.dialect self.old byte) self.old self.new) }
+        ensures plain { plain context.now.dialect self.old → plain_byte byte ≡ true → IsOk result };
+
+    /// Whether the level can go on with this byte.
+    fn takes(&self, dialect: Dialect, byte: u8) -> bool
+        ensures { result ≡ takes dialect self.now byte };
+
+    /// Whether the level may end here.
+    fn may_end(&self) -> bool
+        ensures { result ≡ ends self.now };
+
+    // a plain byte leaves a plain state plain
+    ghost keeps: { (d : Dialect) (s t : Self) (b : ℕ) → plain d s → plain_byte b ≡ true
+        → next d s b ≡ Some t → plain d t };
+
+    /// Takes the longest front of the piece that the level can go on with, and gives back the rest.
+    final fn take<'a>(&mut self, context: &Context, piece: &'a [u8]) -> Result<&'a [u8], OutOfMemory>
+        ensures front { IfOk result (λ rest. Front (next context.now.dialect) self.old piece.now
+            rest.now self.new) }
+        ensures plain { plain context.now.dialect self.old → Every plain_byte piece.now → IsOk result }
+    {
+        let mut rest = piece;
+        while !rest.is_empty() {
+            rest = self.take_part(context, rest)?;
+            let Some((byte, more)) = rest.split_first() else {
+                return Ok(rest);
+            };
+            if !self.turn(context, *byte)? {
+                return Ok(rest);
+            }
+            rest = more;
+        }
+        Ok(rest)
+    }
+}

@@ -1,0 +1,92 @@
+//! The pieces of a List and of a Dictionary (RFC 9651 sections 4.2.1 and 4.2.2).
+ghost use Rattle.std.specs.Prelude.{[]};
+ghost use Rattle.sf_parse.specs.Machine.Takes.{member_begins};
+ghost use Rattle.sf_parse.specs.Machine.Members.{member_start};
+ghost use Rattle.sf_parse.specs.Machine.Entries.{entry_start};
+ghost use Rattle.sf_parse.specs.PieceEnds.{with_member, with_entry};
+ghost use Rattle.sf_value.specs.Grammar.Classes.{is_key_start};
+
+use crate::commas::Piece;
+use crate::context::Context;
+use crate::entry::EntryReader;
+use crate::level::Level;
+use crate::member::MemberReader;
+use sf_value::{Dialect, Entries, Member, OutOfMemory, Sequence, can_start_key};
+
+impl Piece<Sequence<Member>> for MemberReader {
+    ghost begins = { member_begins };
+
+    ghost first = { member_start };
+
+    ghost none = { [] };
+
+    ghost added = { with_member };
+
+    fn none(context: &Context) -> Sequence<Member> {
+        Sequence::new(context.alloc)
+    }
+
+    fn can_start(dialect: Dialect, byte: u8) -> bool {
+        MemberReader::can_start(dialect, byte)
+    }
+
+    fn start(&mut self, context: &Context, byte: u8) -> Result<bool, OutOfMemory> {
+        MemberReader::start(self, context, byte)
+    }
+
+    fn end(
+        &mut self,
+        context: &Context,
+        given: &mut Sequence<Member>,
+    ) -> Result<bool, OutOfMemory> {
+        if !self.may_end() {
+            return Ok(false);
+        }
+        let Some(member) = self.finish(context)? else {
+            unreachable!();
+        };
+        if given.push(member).is_err() {
+            return Err(OutOfMemory);
+        }
+        Ok(true)
+    }
+}
+
+impl Piece<Entries<Member>> for EntryReader {
+    ghost begins = { λ d. is_key_start };
+
+    ghost first = { λ d. entry_start };
+
+    ghost none = { [] };
+
+    ghost added = { with_entry };
+
+    fn none(context: &Context) -> Entries<Member> {
+        Entries::new(context.alloc, &context.seed)
+    }
+
+    fn can_start(_dialect: Dialect, byte: u8) -> bool {
+        can_start_key(byte)
+    }
+
+    fn start(&mut self, context: &Context, byte: u8) -> Result<bool, OutOfMemory> {
+        EntryReader::start(self, context, byte)
+    }
+
+    fn end(
+        &mut self,
+        context: &Context,
+        given: &mut Entries<Member>,
+    ) -> Result<bool, OutOfMemory> {
+        if !self.may_end() {
+            return Ok(false);
+        }
+        let Some((key, member)) = self.finish(context)? else {
+            unreachable!();
+        };
+        if given.put(key, member).is_err() {
+            return Err(OutOfMemory);
+        }
+        Ok(true)
+    }
+}

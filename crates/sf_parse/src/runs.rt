@@ -1,0 +1,139 @@
+//! Runs of bytes of one class, which are found many at a time.
+ghost use Rattle.std.specs.Prelude.{◌≡◌, ◌++◌, ℕ, Bool, true};
+ghost use Rattle.sf_value.specs.Grammar.Words.{Every};
+ghost use Rattle.sf_value.specs.Grammar.Classes.{is_key_rest, is_token_rest, is_sp};
+ghost use Rattle.sf_value.specs.Grammar.Classes.{is_ows as is_ows_byte};
+ghost use Rattle.sf_parse.specs.ByteRuns.{is_unescaped, is_shown_plain};
+
+use sf_value::{can_be_in_key, can_be_in_token, is_visible};
+
+/// A class of bytes.
+pub trait ByteClass {
+    // the bytes of the class
+    ghost test: { ℕ → Bool };
+
+    /// Whether the byte is of the class.
+    fn has(byte: u8) -> bool
+        ensures { result ≡ test byte };
+}
+
+/// What stands for itself between the quotes of a string (RFC 9651 section 3.3.3).
+pub struct Unescaped;
+
+/// What a token may go on with (section 3.3.4).
+pub struct InToken;
+
+/// What a key may go on with (section 3.1.2).
+pub struct InKey;
+
+/// What stands for itself between the quotes of a display string (section 3.3.8).
+pub struct ShownPlain;
+
+/// A space.
+pub struct Space;
+
+/// Optional white space (RFC 9110 section 5.6.3).
+pub struct Ows;
+
+/// Whether a byte is a space or a tab.
+#[inline]
+pub fn is_ows(byte: u8) -> bool
+    ensures { result ≡ is_ows_byte byte }
+{
+    byte == b' ' || byte == b'\t'
+}
+
+impl ByteClass for Unescaped {
+    ghost test = { is_unescaped };
+
+    #[inline]
+    fn has(byte: u8) -> bool {
+        is_visible(byte) && byte != b'"' && byte != b'\\'
+    }
+}
+
+impl ByteClass for InToken {
+    ghost test = { is_token_rest };
+
+    #[inline]
+    fn has(byte: u8) -> bool {
+        can_be_in_token(byte)
+    }
+}
+
+impl ByteClass for InKey {
+    ghost test = { is_key_rest };
+
+    #[inline]
+    fn has(byte: u8) -> bool {
+        can_be_in_key(byte)
+    }
+}
+
+impl ByteClass for ShownPlain {
+    ghost test = { is_shown_plain };
+
+    #[inline]
+    fn has(byte: u8) -> bool {
+        is_visible(byte) && byte != b'"' && byte != b'%'
+    }
+}
+
+impl ByteClass for Space {
+    ghost test = { is_sp };
+
+    #[inline]
+    fn has(byte: u8) -> bool {
+        byte == b' '
+    }
+}
+
+impl ByteClass for Ows {
+    ghost test = { is_ows_byte };
+
+    #[inline]
+    fn has(byte: u8) -> bool {
+        is_ows(byte)
+    }
+}
+
+// Whether all bytes are of the class. It looks at each, which a processor does many at a time.
+#[inline]
+fn all_of<C: ByteClass>(bytes: &[u8]) -> bool
+    ensures { result ≡ true → Every C.test bytes.now }
+{
+    let mut all = true;
+    for byte in bytes {
+        all &= C::has(*byte);
+    }
+    all
+}
+
+/// The bytes of the class that the piece begins with, and the rest. Blocks of 16 are looked at first.
+#[inline]
+pub fn long_front<C: ByteClass>(piece: &[u8]) -> (&[u8], &[u8])
+    ensures whole { piece.now ≡ result.0.now ++ result.1.now }
+    ensures every { Every C.test result.0.now }
+{
+    let mut run = 0;
+    while piece.len() - run >= 16 && all_of::<C>(&piece[run..run + 16]) {
+        run += 16;
+    }
+    while run < piece.len() && C::has(piece[run]) {
+        run += 1;
+    }
+    piece.split_at(run)
+}
+
+/// The same, for runs that are mostly short.
+#[inline]
+pub fn short_front<C: ByteClass>(piece: &[u8]) -> (&[u8], &[u8])
+    ensures whole { piece.now ≡ result.0.now ++ result.1.now }
+    ensures every { Every C.test result.0.now }
+{
+    let mut run = 0;
+    while run < piece.len() && C::has(piece[run]) {
+        run += 1;
+    }
+    piece.split_at(run)
+}
