@@ -1,10 +1,10 @@
 -- Whole groups of base64, which are taken at once.
-use Rattle.std.proofs.Common.{◌≡◌, ℕ, zero, suc, ◌-◌, ◌≤◌, List, [], ◌∷◌, ◌++◌, length, take, drop}
+use Rattle.std.proofs.Common.{◌≡◌, ℕ, ◌-◌, ◌≤◌, List, [], ◌∷◌, ◌++◌, length, take, drop}
 use Rattle.std.proofs.Common.{get_or, Some, refl, sym, ap, ◌∙◌, subst, arith}
 use Rattle.std.proofs.lemmas.List.{take_rest}
 use Rattle.sf_parse.specs.Fronts.{Went}
 use Rattle.sf_parse.specs.Machine.Language.{run}
-use Rattle.sf_parse.specs.Machine.Blobs.{BlobState, H0, Group, blob_step}
+use Rattle.sf_parse.specs.Machine.Blobs.{H0, Group, blob_step}
 use Rattle.sf_parse.proofs.Fronts.{went_more}
 
 -- the first four bytes, and the rest as a slice is seen

@@ -2,9 +2,8 @@
 use Rattle.std.proofs.Common.{◌≡◌, ℕ, zero, suc, ◌+◌, ◌-◌, ◌*◌, ◌/◌, ◌%◌, ◌<◌, ◌≤◌, Bool, true}
 use Rattle.std.proofs.Common.{false, ◌==◌, nat_lt, ◌&&◌, if◌then◌else◌, List, [], ◌∷◌, ◌++◌}
 use Rattle.std.proofs.Common.{replicate, Option, Some, None, is_some, ⊎_elim, refl, sym, ap, ap₂}
-use Rattle.std.proofs.Common.{◌∙◌, subst, ◌⊎◌, append-nil, append_assoc, eqb-true, arith}
+use Rattle.std.proofs.Common.{◌∙◌, subst, append-nil, append_assoc, eqb-true, arith}
 use Rattle.sf_value.specs.Grammar.Words.{Every, allow}
-use Rattle.sf_value.specs.Grammar.Classes.{is_byte}
 use Rattle.sf_value.specs.Grammar.ByteSequences.{letter, unpadded, Pads, Sextets}
 use Rattle.sf_parse.specs.Machine.Language.{Reads, Live}
 use Rattle.sf_parse.specs.Machine.Blobs.{sextet, Held, H0, H1, H2, H3, letters, is_last, last_bytes}
@@ -15,7 +14,7 @@ use Rattle.sf_value.proofs.Words.{allow_cases, otherwise_cases}
 use Rattle.sf_parse.proofs.Quads.{letter_read, read_letter, letter_same, not_letter, byte_small}
 use Rattle.sf_parse.proofs.Quads.{small_byte, pads_letter, first_small, second_small, third_small}
 use Rattle.sf_parse.proofs.Quads.{fourth_small, alone_small, last_small, one_byte, two_bytes}
-use Rattle.sf_parse.proofs.Quads.{three_bytes, quad, quad_from, quad_gives}
+use Rattle.sf_parse.proofs.Quads.{quad, quad_from, quad_gives}
 
 -- the end
 pads_taken : (bytes : List ℕ) (n b : ℕ) (u v : List ℕ) → Pads n (b ∷ u) → v ≡ bytes

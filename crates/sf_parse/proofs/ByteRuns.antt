@@ -10,8 +10,7 @@ use Rattle.sf_value.proofs.Words.{every_push}
 use Rattle.sf_parse.specs.ByteRuns.{is_unescaped}
 use Rattle.sf_parse.specs.Fronts.{Went}
 use Rattle.sf_parse.specs.Machine.Language.{run}
-use Rattle.sf_parse.specs.Machine.Texts.{TextState, Inside, text_step, word_step}
-use Rattle.sf_parse.proofs.Fronts.{went_above}
+use Rattle.sf_parse.specs.Machine.Texts.{Inside, text_step, word_step}
 
 pub every_append : (p : ℕ → Bool) (xs ys : List ℕ) → Every p xs → Every p ys → Every p (xs ++ ys)
 every_append p [] ys h k = k

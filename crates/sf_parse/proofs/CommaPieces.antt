@@ -1,9 +1,9 @@
 -- How a reader of pieces with commas goes on, and that it is the machine's.
-use Rattle.std.proofs.Common.{◌≡◌, ℕ, true, List, Option, Some, None, refl, ap, ◌∙◌}
+use Rattle.std.proofs.Common.{◌≡◌, ℕ, true, Option, Some, None, refl, ap, ◌∙◌}
 use Rattle.sf_value.specs.Grammar.Classes.{is_sp, is_ows}
 use Rattle.sf_parse.specs.Machine.Language.{onward, seen, and_then}
 use Rattle.sf_parse.specs.Machine.Series.{Series, SeriesState, Begin, InPiece, Gap, Comma}
-use Rattle.sf_parse.specs.Machine.Series.{gap_step, series_step, series_finish}
+use Rattle.sf_parse.specs.Machine.Series.{series_step, series_finish}
 use Rattle.sf_parse.specs.SeriesView.{behind_step, series_next, series_end}
 
 module _ {S V : Type 0} (first : ℕ → Option S) (next : S → ℕ → Option S)

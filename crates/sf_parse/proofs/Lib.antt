@@ -1,7 +1,6 @@
 pub mod Letters
 pub mod Numerals
 pub mod Leading
-pub mod Given
 pub mod Marks
 pub mod Fronts
 pub mod ByteRuns

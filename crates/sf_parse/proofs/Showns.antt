@@ -1,11 +1,11 @@
 -- Display strings are read by their machine.
 use Rattle.std.proofs.Common.{◌≡◌, ℕ, zero, suc, ◌+◌, ◌*◌, ◌/◌, ◌%◌, ◌<◌, ◌≤◌, Bool, true, false}
-use Rattle.std.proofs.Common.{◌==◌, nat_le, ◌&&◌, List, [], ◌∷◌, ◌++◌, Option, Some, None, ⊎_elim}
+use Rattle.std.proofs.Common.{◌==◌, List, [], ◌∷◌, ◌++◌, Option, Some, None, ⊎_elim}
 use Rattle.std.proofs.Common.{refl, sym, ap, ap₂, ◌∙◌, subst, ◌⊎◌, inl, inr, append-nil}
-use Rattle.std.proofs.Common.{append_assoc, eqb-true, arith, max}
+use Rattle.std.proofs.Common.{append_assoc, eqb-true, arith}
 use Rattle.sf_value.specs.Grammar.Words.{allow}
 use Rattle.sf_value.specs.Grammar.Classes.{is_visible, is_byte}
-use Rattle.sf_value.specs.Grammar.Utf8.{Utf8, Start, Wants, wants, within, rows, utf8_step}
+use Rattle.sf_value.specs.Grammar.Utf8.{Utf8, Start, Wants, wants, within, utf8_step}
 use Rattle.sf_value.specs.Grammar.Utf8.{WellFormed}
 use Rattle.sf_value.specs.Grammar.DisplayStrings.{hex, is_plain, Pieces}
 use Rattle.sf_parse.specs.Machine.Language.{and_then, seen, Reads, Live}

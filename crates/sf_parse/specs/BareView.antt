@@ -1,5 +1,4 @@
 -- What is read of a bare item, as a state of the machine.
-use Rattle.std.specs.Prelude.{ℕ, List}
 use Rattle.sf_value.specs.Grammar.Words.{Every}
 use Rattle.sf_value.specs.Grammar.Classes.{is_visible}
 use Rattle.sf_value.specs.Grammar.Tokens.{IsToken}

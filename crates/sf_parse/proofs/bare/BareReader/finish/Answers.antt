@@ -1,5 +1,4 @@
-use Rattle.std.proofs.Common.{sym, ap, ◌∙◌}
-use Rattle.sf_parse.specs.Machine.Takes.{bare_ends}
+use Rattle.std.proofs.Common.{sym, ◌∙◌}
 use Rattle.sf_parse.proofs.Leading.{shown_whole}
 use Rattle.sf_parse.proofs.bare.BareReader.finish.Goals as goal
 

@@ -1,7 +1,7 @@
 use Rattle.sf_value.specs.Grammar.Words.{Every}
-use Rattle.std.proofs.Common.{subst, arith, length, ap}
+use Rattle.std.proofs.Common.{subst}
 use Rattle.sf_parse.specs.Plain.{plain_byte}
-use Rattle.sf_parse.proofs.Fronts.{never, went_more, went_shorter, every_rest, kept_by_front}
+use Rattle.sf_parse.proofs.Fronts.{never, went_more, every_rest, kept_by_front}
 use Rattle.sf_parse.proofs.Fronts.{front_none, turn_on, turn_stop}
 use Rattle.sf_parse.proofs.level.Level.take.Goals as goal
 

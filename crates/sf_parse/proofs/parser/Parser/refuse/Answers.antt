@@ -1,4 +1,4 @@
-use Rattle.std.proofs.Common.{refl, ap, ◌∙◌}
+use Rattle.std.proofs.Common.{refl}
 use Rattle.sf_parse.proofs.FedPieces.{fed_stop, fed_past}
 use Rattle.sf_parse.proofs.parser.Parser.refuse.Goals as goal
 

@@ -1,6 +1,5 @@
-use Rattle.std.proofs.Common.{refl, [], sym, subst}
+use Rattle.std.proofs.Common.{refl, []}
 use Rattle.sf_value.specs.Grammar.Classes.{is_sp}
-use Rattle.sf_parse.specs.PlainParsers.{PlainState}
 use Rattle.sf_parse.specs.Machine.Items.{item_step}
 use Rattle.sf_parse.specs.Machine.States.{BeforeItem, InTop}
 use Rattle.sf_parse.specs.Machine.Fields.{step}
