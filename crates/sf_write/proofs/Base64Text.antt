@@ -1,5 +1,5 @@
 -- The base64 of an engine and that of the canonical texts.
-use Rattle.std.proofs.Common.{◌≡◌, ℕ, zero, suc, ◌+◌, ◌*◌, ◌/◌, ◌%◌, ◌<◌, ◌≤◌, min, Bool, true}
+use Rattle.std.proofs.Common.{◌≡◌, ℕ, zero, suc, ◌+◌, ◌*◌, ◌/◌, ◌%◌, ◌<◌, ◌≤◌, min, true}
 use Rattle.std.proofs.Common.{Result, Ok}
 use Rattle.std.proofs.Common.{List, [], ◌∷◌, ◌++◌, length, take, drop, replicate, refl, sym, ap}
 use Rattle.std.proofs.Common.{◌∙◌, arith, append_assoc, length-append, add-zero, ⊎_elim}

@@ -1,8 +1,8 @@
 -- Texts put one behind another: a fault of an earlier one is the answer of all.
-use Rattle.std.proofs.Common.{◌≡◌, ℕ, ◌+◌, ◌^◌, ◌<◌, min, List, [], ◌++◌, length}
+use Rattle.std.proofs.Common.{◌≡◌, ℕ, ◌+◌, List, [], ◌++◌}
 use Rattle.std.proofs.Common.{Result, Ok, Err, refl, ◌∙◌, arith}
 use Rattle.sf_value.specs.Devices.{SinkState}
-use Rattle.sf_write.specs.Writing.{Follows, Wrote, Writes}
+use Rattle.sf_write.specs.Writing.{Follows, Wrote}
 use Rattle.sf_write.specs.declared.send.WriteFault.{WriteFault}
 use Rattle.sf_write.proofs.Joining.{Wrote-nil, Writes-append, WroteFront-longer}
 

@@ -1,6 +1,6 @@
 //! Display Strings (RFC 9651 section 4.1.11).
-ghost use Rattle.std.specs.Prelude.{◌≡◌, ◌/◌, ◌%◌, ◌<◌, ◌≤◌, [], ◌∷◌, not, length};
-ghost use Rattle.std.specs.List.{count_by, prefix_len};
+ghost use Rattle.std.specs.Prelude.{◌≡◌, ◌/◌, ◌%◌, ◌<◌, ◌≤◌, [], ◌∷◌, length};
+ghost use Rattle.std.specs.List.{prefix_len};
 ghost use Rattle.sf_value.specs.Grammar.DisplayStrings.{hex, is_plain};
 ghost use Rattle.sf_value.specs.Grammar.Canonical.{canon_shown};
 ghost use Rattle.sf_write.specs.Writing.{Follows};
@@ -14,11 +14,13 @@ fn stands_for_itself(byte: u8) -> bool
     matches!(byte, b' '..=b'~') && byte != b'"' && byte != b'%'
 }
 
-/// How many of the bytes do not stand for themselves.
-pub(crate) fn escaped_count(bytes: &[u8]) -> usize
-    ensures { result ≡ count_by (λ b. not (is_plain b)) bytes.now }
-{
-    bytes.iter().filter(|b| !stands_for_itself(**b)).count()
+/// How many of the bytes do not stand for themselves; a sum that the compiler makes of vectors.
+pub(crate) fn escaped_count(bytes: &[u8]) -> usize {
+    let mut count = 0usize;
+    for byte in bytes {
+        count = count.wrapping_add(!stands_for_itself(*byte) as usize);
+    }
+    count
 }
 
 /// How many bytes at the front stand for themselves.

@@ -1,6 +1,6 @@
 //! Strings (RFC 9651 section 4.1.6).
 ghost use Rattle.std.specs.Prelude.{◌≡◌, ◌≤◌, [], ◌∷◌, ◌++◌, not, length};
-ghost use Rattle.std.specs.List.{count_by, prefix_len};
+ghost use Rattle.std.specs.List.{prefix_len};
 ghost use Rattle.sf_value.specs.Grammar.Strings.{escaped, is_escaped};
 ghost use Rattle.sf_write.specs.Writing.{Follows};
 
@@ -13,11 +13,13 @@ fn needs_backslash(byte: u8) -> bool
     matches!(byte, b'"' | b'\\')
 }
 
-/// How many of the bytes need a backslash.
-pub(crate) fn escaped_count(bytes: &[u8]) -> usize
-    ensures { result ≡ count_by is_escaped bytes.now }
-{
-    bytes.iter().filter(|b| needs_backslash(**b)).count()
+/// How many of the bytes need a backslash; a sum that the compiler makes of vectors.
+pub(crate) fn escaped_count(bytes: &[u8]) -> usize {
+    let mut count = 0usize;
+    for byte in bytes {
+        count = count.wrapping_add(needs_backslash(*byte) as usize);
+    }
+    count
 }
 
 /// How many bytes at the front need no backslash.

@@ -1,4 +1,4 @@
-use Rattle.sf_write.proofs.Following.{nothing, then}
+use Rattle.sf_write.proofs.Following.{then}
 use Rattle.sf_write.proofs.CanonSteps.{value_written}
 use Rattle.sf_write.proofs.params.put_value.Goals as goal
 
