@@ -1,5 +1,5 @@
 -- Texts put one behind another: a fault of an earlier one is the answer of all.
-use Rattle.std.proofs.Common.{◌≡◌, ℕ, ◌+◌, List, [], ◌++◌}
+use Rattle.std.proofs.Common.{◌≡◌, ℕ, List, [], ◌++◌}
 use Rattle.std.proofs.Common.{Result, Ok, Err, refl, ◌∙◌, arith}
 use Rattle.sf_value.specs.Devices.{SinkState}
 use Rattle.sf_write.specs.Writing.{Follows, Wrote}

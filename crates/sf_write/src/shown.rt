@@ -6,6 +6,7 @@ ghost use Rattle.sf_value.specs.Grammar.Canonical.{canon_shown};
 ghost use Rattle.sf_write.specs.Writing.{Follows};
 
 use crate::send::{Sent, put};
+use crate::strings::CHUNK;
 use sf_value::Sink;
 
 fn stands_for_itself(byte: u8) -> bool
@@ -14,11 +15,16 @@ fn stands_for_itself(byte: u8) -> bool
     matches!(byte, b' '..=b'~') && byte != b'"' && byte != b'%'
 }
 
-/// How many of the bytes do not stand for themselves; a sum that the compiler makes of vectors.
+/// How many of the bytes do not stand for themselves. Each chunk's count is a sum of vectors of
+/// bytes.
 pub(crate) fn escaped_count(bytes: &[u8]) -> usize {
     let mut count = 0usize;
-    for byte in bytes {
-        count = count.wrapping_add(!stands_for_itself(*byte) as usize);
+    for chunk in bytes.chunks(CHUNK) {
+        let mut escaped = 0u8;
+        for byte in chunk {
+            escaped = escaped.wrapping_add(!stands_for_itself(*byte) as u8);
+        }
+        count = count.wrapping_add(escaped as usize);
     }
     count
 }

@@ -7,17 +7,24 @@ ghost use Rattle.sf_write.specs.Writing.{Follows};
 use crate::send::{Sent, put};
 use sf_value::Sink;
 
+/// How many bytes are counted together: few enough for a byte to hold the count.
+pub(crate) const CHUNK: usize = 128;
+
 fn needs_backslash(byte: u8) -> bool
     ensures { result ≡ is_escaped byte }
 {
     matches!(byte, b'"' | b'\\')
 }
 
-/// How many of the bytes need a backslash; a sum that the compiler makes of vectors.
+/// How many of the bytes need a backslash. Each chunk's count is a sum of vectors of bytes.
 pub(crate) fn escaped_count(bytes: &[u8]) -> usize {
     let mut count = 0usize;
-    for byte in bytes {
-        count = count.wrapping_add(needs_backslash(*byte) as usize);
+    for chunk in bytes.chunks(CHUNK) {
+        let mut escaped = 0u8;
+        for byte in chunk {
+            escaped = escaped.wrapping_add(needs_backslash(*byte) as u8);
+        }
+        count = count.wrapping_add(escaped as usize);
     }
     count
 }
