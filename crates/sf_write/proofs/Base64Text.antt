@@ -1,14 +1,13 @@
 -- The base64 of an engine and that of the canonical texts.
-use Rattle.std.proofs.Common.{◌≡◌, ℕ, zero, suc, ◌+◌, ◌*◌, ◌/◌, ◌%◌, ◌<◌, ◌≤◌, min, Bool, true}
+use Rattle.std.proofs.Common.{◌≡◌, ℕ, zero, suc, ◌+◌, ◌*◌, ◌/◌, ◌%◌, ◌<◌, ◌≤◌, min, true}
 use Rattle.std.proofs.Common.{Result, Ok}
 use Rattle.std.proofs.Common.{List, [], ◌∷◌, ◌++◌, length, take, drop, replicate, refl, sym, ap}
 use Rattle.std.proofs.Common.{◌∙◌, arith, append_assoc, length-append, add-zero, ⊎_elim}
 use Rattle.std.proofs.Math.Seq.{take-length, drop-length}
 use Rattle.std.proofs.lemmas.List.{length-replicate, take_at}
 use Rattle.std.proofs.lemmas.Bool.{cases_lt}
-use Rattle.base64.specs.GeneralPurpose.{IsEncodedOver, engine_symbols, engine_padding}
-use Rattle.base64.specs.GeneralPurpose.{engine_config, config_padding, encoded_size_of}
-use Rattle.base64.specs.declared.engine.general_purpose.GeneralPurpose.{GeneralPurpose}
+use Rattle.base64.specs.Engines.{standard}
+use Rattle.base64.specs.GeneralPurpose.{IsEncodedOver, encoded_size_of}
 use Rattle.base64.specs.declared.encode.EncodeSliceError.{EncodeSliceError}
 use Rattle.base64.specs.Rfc4648.{encode, encoded_size, encode_symbols, padding_len}
 use Rattle.sf_value.specs.Grammar.ByteSequences.{alphabet, letter, unpadded, needed}
@@ -55,15 +54,15 @@ groups (suc k) (a ∷ b ∷ c ∷ s) h =
 last : (s : List ℕ) → canon_base64 s ≡ padded s ++ canon_base64 []
 last s = sym (append_assoc (unpadded 0 s) (replicate (needed s) 61) (58 ∷ []))
 
--- a block of at most 48 bytes, and the rest
-block_front : (s : List ℕ) (n : ℕ) → n ≡ min (length s) 48
+-- a block of at most 192 bytes, and the rest
+block_front : (s : List ℕ) (n : ℕ) → n ≡ min (length s) 192
     → canon_base64 s ≡ padded (take n s) ++ canon_base64 (drop n s)
-block_front s n e = ⊎_elim part whole (cases_lt (length s) 48)
+block_front s n e = ⊎_elim part whole (cases_lt (length s) 192)
   where
-    whole : 48 ≤ length s → canon_base64 s ≡ padded (take n s) ++ canon_base64 (drop n s)
-    whole h = let size : n ≡ 48 = omega arith in rw size (groups 16 s h)
+    whole : 192 ≤ length s → canon_base64 s ≡ padded (take n s) ++ canon_base64 (drop n s)
+    whole h = let size : n ≡ 192 = omega arith in rw size (groups 64 s h)
 
-    part : length s < 48 → canon_base64 s ≡ padded (take n s) ++ canon_base64 (drop n s)
+    part : length s < 192 → canon_base64 s ≡ padded (take n s) ++ canon_base64 (drop n s)
     part h = let size : n ≡ length s = omega arith in
         rw (size, take-length s, drop-length s) (last s)
 
@@ -78,34 +77,30 @@ length_padded s =
     length-append (unpadded 0 s) (replicate (needed s) 61)
     ∙ rw (length_unpadded s, length-replicate, padding_is s)
 
--- what an engine of this alphabet leaves of a block at the front of a buffer
-encoded_block : (table : List ℕ) (pad : ℕ) (padding : Bool) (block old new : List ℕ) (n : ℕ)
-    → table ≡ alphabet → pad ≡ 61 → padding ≡ true → n ≡ encoded_size (length block) padding
-    → new ≡ encode table pad padding block ++ drop (encoded_size (length block) padding) old
-    → take n new ≡ padded block
-encoded_block table pad padding block old new n t p q size w =
+-- what the engine leaves of a block at the front of a buffer
+encoded_block : (block old new : List ℕ) (n : ℕ) → n ≡ encoded_size (length block) true
+    → IsEncodedOver standard block old new → take n new ≡ padded block
+encoded_block block old new n size w =
     let text : new ≡ padded block ++ drop (encoded_size (length block) true) old =
-    w ∙ rw (t, p, q, encode_is block) in
-    let count : length (padded block) ≡ n = length_padded block ∙ rw (size, q) in
+    w ∙ ap (λ t. t ++ drop (encoded_size (length block) true) old) (encode_is block) in
+    let count : length (padded block) ≡ n = length_padded block ∙ rw size refl in
     rw text (take_at (padded block) _ n count)
 
--- a block of at most 48 bytes takes at most 64 characters
-block_size : (n : ℕ) (padding : Bool) → padding ≡ true → n ≤ 48 → encoded_size n padding ≤ 64
-block_size n padding q h = rw q (omega arith)
+-- a block of at most 192 bytes takes at most 256 characters
+block_size : (n : ℕ) → n ≤ 192 → encoded_size n true ≤ 256
+block_size n h = omega arith
 
 abbrev answer : ℕ → Result ℕ EncodeSliceError
 answer n = Ok n
 
--- what an engine sends of a block moves the rest on
-pub block_sent : (e : GeneralPurpose) (s block more old new : List ℕ) (n k : ℕ)
-    → engine_symbols e ≡ alphabet → engine_padding e ≡ 61
-    → config_padding (engine_config e) ≡ true → k ≡ min (length s) 48 → block ≡ take k s
-    → more ≡ drop k s → length block ≡ k
-    → (encoded_size_of e (length block) ≤ 64
-    → answer n ≡ answer (encoded_size_of e (length block)))
-    → IsEncodedOver e block old new → canon_base64 s ≡ take n new ++ canon_base64 more
-block_sent e s block more old new n k t p q size b m small fits w =
-    let few : length block ≤ 48 = omega arith in
-    let whole = fits (block_size (length block) (config_padding (engine_config e)) q few) in
-    let count : n ≡ encoded_size_of e (length block) = cc in
-    rw (encoded_block _ _ _ block old new n t p q count w, b, m) (block_front s k size)
+-- what the engine sends of a block moves the rest on
+pub block_sent : (s block more old new : List ℕ) (n k : ℕ) → k ≡ min (length s) 192
+    → block ≡ take k s → more ≡ drop k s → length block ≡ k
+    → (encoded_size_of standard (length block) ≤ 256
+    → answer n ≡ answer (encoded_size_of standard (length block)))
+    → IsEncodedOver standard block old new → canon_base64 s ≡ take n new ++ canon_base64 more
+block_sent s block more old new n k size b m small fits w =
+    let few : length block ≤ 192 = omega arith in
+    let whole = fits (block_size (length block) few) in
+    let count : n ≡ encoded_size (length block) true = cc in
+    rw (encoded_block block old new n count w, b, m) (block_front s k size)

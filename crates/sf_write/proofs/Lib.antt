@@ -1,4 +1,5 @@
 pub mod Joining
+pub mod Following
 pub mod Runs
 pub mod Base64Text
 pub mod CanonSteps

@@ -1,5 +1,6 @@
 -- What several calls of a sink write together.
 use Rattle.std.specs.Prelude.{◌≡◌, ℕ, ◌+◌, ◌-◌, ◌^◌, ◌<◌, List, ◌++◌, length, take, Result, Ok, Err}
+use Rattle.std.specs.Prelude.{IfOk, IfErr}
 use Rattle.std.specs.Io.KnownBytes.{Appends}
 use Rattle.sf_value.specs.Devices.{SinkState, RefusesOnce, capped}
 use Rattle.sf_write.specs.declared.send.WriteFault.{WriteFault}
@@ -24,6 +25,13 @@ pub record WroteFront (old new : SinkState) (before after : ℕ) (text : List �
 abbrev pub Writes : SinkState → SinkState → ℕ → Result ℕ WriteFault → List ℕ → Type 0
 Writes old new before (Ok after) text = Wrote old new before after text
 Writes old new before (Err fault) text = WroteFront old new before fault.written text
+
+-- the text is put behind earlier ones: it goes out where none of these failed, and their count goes
+-- on; behind a fault nothing goes out, and the fault stays
+pub record Follows (old new : SinkState) (before after : Result ℕ WriteFault) (text : List ℕ)
+    : Type 0 where
+  pub goes_on : IfOk before (λ n. n < 2 ^ 64 → Writes old new n after text)
+  pub stays : IfErr before (λ _. (new ≡ old) × (after ≡ before))
 
 -- all of the text went out and no call failed; n is its length, or 2^64 - 1 where it is longer
 pub record WritesAll (old new : SinkState) (n : ℕ) (text : List ℕ) : Type 0 where

@@ -2,23 +2,40 @@
 ghost use Rattle.std.specs.Prelude.{◌≡◌, [], ◌∷◌, if◌then◌else◌, IfOk};
 ghost use Rattle.sf_value.specs.declared.value.Bare.TheVariants as bare_is;
 ghost use Rattle.sf_value.specs.Grammar.Canonical.{canon_bare};
-ghost use Rattle.sf_write.specs.Writing.{Writes, WritesText};
+ghost use Rattle.sf_write.specs.Writing.{Follows, Writes, WritesText};
 
-use crate::blobs::write_blob;
-use crate::numbers::{write_date, write_decimal, write_integer};
-use crate::send::{WriteFault, send_all};
-use crate::shown::write_display_string;
-use crate::strings::write_string;
+use crate::blobs::put_blob;
+use crate::length::bare_len;
+use crate::numbers::{put_date, put_decimal, put_integer};
+use crate::send::{Sent, WriteFault, put};
+use crate::shown::put_display_string;
+use crate::strings::put_string;
 use sf_value::{Bare, OutOfMemory, Sink, Text, Writing};
 use std::alloc::Global;
 
 /// A Boolean: `?1` or `?0` (section 4.1.9).
-fn write_boolean<W: Sink>(value: bool, before: u64, out: &mut W) -> Result<u64, WriteFault>
-    ensures { Writes (W.state out.old) (W.state out.new) before result
+fn put_boolean<W: Sink>(value: bool, before: Sent, out: &mut W) -> Sent
+    ensures { Follows (W.state out.old) (W.state out.new) before result
         (63 ∷ (if value then 49 else 48) ∷ []) }
 {
     let text = if value { b"?1" } else { b"?0" };
-    send_all(text, before, out)
+    put(text, before, out)
+}
+
+/// A bare item of any type.
+pub(crate) fn put_bare<W: Sink>(bare: &Bare, before: Sent, out: &mut W) -> Sent
+    ensures { Follows (W.state out.old) (W.state out.new) before result (canon_bare bare.now) }
+{
+    match bare {
+        Bare::Integer(number) => put_integer(number, before, out),
+        Bare::Decimal(number) => put_decimal(number, before, out),
+        Bare::Text(text) => put_string(text.as_bytes(), before, out),
+        Bare::Token(token) => put(token.as_bytes(), before, out),
+        Bare::Blob(blob) => put_blob(blob.as_bytes(), before, out),
+        Bare::Boolean(value) => put_boolean(*value, before, out),
+        Bare::Date(seconds) => put_date(seconds, before, out),
+        Bare::Shown(shown) => put_display_string(shown.as_bytes(), before, out),
+    }
 }
 
 /// Writes the canonical text of a bare item, as [`write_bare`] does, behind other bytes: the count
@@ -31,16 +48,7 @@ fn write_boolean<W: Sink>(value: bool, before: u64, out: &mut W) -> Result<u64, 
 pub fn write_bare_from<W: Sink>(bare: &Bare, before: u64, out: &mut W) -> Result<u64, WriteFault>
     ensures { Writes (W.state out.old) (W.state out.new) before result (canon_bare bare.now) }
 {
-    match bare {
-        Bare::Integer(number) => write_integer(number, before, out),
-        Bare::Decimal(number) => write_decimal(number, before, out),
-        Bare::Text(text) => write_string(text.as_bytes(), before, out),
-        Bare::Token(token) => send_all(token.as_bytes(), before, out),
-        Bare::Blob(blob) => write_blob(blob.as_bytes(), before, out),
-        Bare::Boolean(value) => write_boolean(*value, before, out),
-        Bare::Date(seconds) => write_date(seconds, before, out),
-        Bare::Shown(shown) => write_display_string(shown.as_bytes(), before, out),
-    }
+    put_bare(bare, Ok(before), out)
 }
 
 /// Writes the canonical text of a String (RFC 9651 section 4.1.6) behind other bytes, as
@@ -54,7 +62,7 @@ pub fn write_text_from<W: Sink>(text: &Text, before: u64, out: &mut W) -> Result
     ensures { Writes (W.state out.old) (W.state out.new) before result
         (canon_bare (bare_is.Text text.now)) }
 {
-    write_string(text.as_bytes(), before, out)
+    put_string(text.as_bytes(), Ok(before), out)
 }
 
 /// Writes the canonical text of a bare item (RFC 9651 section 4.1.3.1) into a sink, piece by piece.
@@ -78,7 +86,7 @@ pub fn write_bare<W: Sink>(bare: &Bare, out: &mut W) -> Result<u64, WriteFault>
 pub fn bare_text(alloc: Global, bare: &Bare) -> Result<Vec<u8>, OutOfMemory>
     ensures { IfOk result (λ text. text.items ≡ canon_bare bare.now) }
 {
-    let mut out = Writing::new(Vec::new(alloc));
+    let mut out = Writing::new(Vec::with_capacity(alloc, bare_len(bare))?);
     match write_bare(bare, &mut out) {
         Ok(_) => Ok(out.into_inner()),
         Err(_) => Err(OutOfMemory),

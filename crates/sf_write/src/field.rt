@@ -1,14 +1,26 @@
 //! Whole fields (RFC 9651 section 4.1).
 ghost use Rattle.std.specs.Prelude.{◌≡◌, IfOk};
 ghost use Rattle.sf_value.specs.Grammar.Canonical.{canon};
-ghost use Rattle.sf_write.specs.Writing.{Writes, WritesText};
+ghost use Rattle.sf_write.specs.Writing.{Follows, Writes, WritesText};
 
-use crate::dicts::write_entries;
-use crate::items::write_item;
-use crate::lists::write_members;
-use crate::send::WriteFault;
+use crate::dicts::put_entries;
+use crate::items::put_item;
+use crate::length::field_len;
+use crate::lists::put_members;
+use crate::send::{Sent, WriteFault};
 use sf_value::{Field, OutOfMemory, Sink, Writing};
 use std::alloc::Global;
+
+/// A field of any kind.
+fn put_field<W: Sink>(field: &Field, before: Sent, out: &mut W) -> Sent
+    ensures { Follows (W.state out.old) (W.state out.new) before result (canon field.now) }
+{
+    match field {
+        Field::Item(item) => put_item(item, before, out),
+        Field::List(list) => put_members(list.members.as_slice(), before, out),
+        Field::Dict(dict) => put_entries(&dict.members, before, out),
+    }
+}
 
 /// Writes the canonical text of a field, as [`write_field`] does, behind other bytes: the count of
 /// bytes goes on from `before`, and stays at 2^64 - 1. It takes no memory.
@@ -20,11 +32,7 @@ use std::alloc::Global;
 pub fn write_field_from<W: Sink>(field: &Field, before: u64, out: &mut W) -> Result<u64, WriteFault>
     ensures { Writes (W.state out.old) (W.state out.new) before result (canon field.now) }
 {
-    match field {
-        Field::Item(item) => write_item(item, before, out),
-        Field::List(list) => write_members(list.members.as_slice(), before, out),
-        Field::Dict(dict) => write_entries(&dict.members, before, out),
-    }
+    put_field(field, Ok(before), out)
 }
 
 /// Writes the canonical text of a field (RFC 9651 section 4.1) into a sink, piece by piece. It
@@ -53,7 +61,7 @@ pub fn write_field<W: Sink>(field: &Field, out: &mut W) -> Result<u64, WriteFaul
 pub fn to_text(alloc: Global, field: &Field) -> Result<Vec<u8>, OutOfMemory>
     ensures { IfOk result (λ text. text.items ≡ canon field.now) }
 {
-    let mut out = Writing::new(Vec::new(alloc));
+    let mut out = Writing::new(Vec::with_capacity(alloc, field_len(field))?);
     match write_field(field, &mut out) {
         Ok(_) => Ok(out.into_inner()),
         Err(_) => Err(OutOfMemory),

@@ -2,7 +2,7 @@
 //! sink, without memory, or as a text of its own.
 //!
 //! The pieces that go out are as long as they come: a key, a token, the bytes of a string between
-//! two escapes, 64 characters of base64. A sink may take any part of a piece at a time.
+//! two escapes, up to 256 characters of base64. A sink may take any part of a piece at a time.
 //! `specs/Writing.antt` says what the calls of a sink write together; the texts themselves are
 //! defined in `sf_value`.
 #![tactic(auto)]
@@ -12,6 +12,7 @@ mod blobs;
 mod dicts;
 mod field;
 mod items;
+mod length;
 mod lists;
 mod numbers;
 mod params;

@@ -3,60 +3,52 @@ ghost use Rattle.std.specs.Prelude.{◌≡◌, ◌/◌, ◌%◌, ◌<◌, ◌∷
 ghost use Rattle.std.specs.Fmt.{signed_decimal};
 ghost use Rattle.sf_value.specs.Grammar.Numbers.{sign};
 ghost use Rattle.sf_value.specs.Grammar.Canonical.{canon_decimal, fraction, is_negative};
-ghost use Rattle.sf_write.specs.Writing.{Writes};
+ghost use Rattle.sf_write.specs.Writing.{Follows};
 
-use crate::send::{WriteFault, send_all};
+use crate::send::{Sent, put};
 use itoa::Buffer;
 use sf_value::{Int, Sink, Thousandths};
 
 /// An Integer: its digits, behind a `-` where it is below 0.
-pub(crate) fn write_integer<W: Sink>(
-    number: &Int,
-    before: u64,
-    out: &mut W,
-) -> Result<u64, WriteFault>
-    ensures { Writes (W.state out.old) (W.state out.new) before result (signed_decimal number.now) }
+pub(crate) fn put_integer<W: Sink>(number: &Int, before: Sent, out: &mut W) -> Sent
+    ensures { Follows (W.state out.old) (W.state out.new) before result (signed_decimal number.now) }
 {
-    send_all(Buffer::new().format(number.get()).as_bytes(), before, out)
+    put(Buffer::new().format(number.get()).as_bytes(), before, out)
 }
 
 /// A Date: `@` and the seconds.
-pub(crate) fn write_date<W: Sink>(
-    seconds: &Int,
-    before: u64,
-    out: &mut W,
-) -> Result<u64, WriteFault>
-    ensures { Writes (W.state out.old) (W.state out.new) before result
+pub(crate) fn put_date<W: Sink>(seconds: &Int, before: Sent, out: &mut W) -> Sent
+    ensures { Follows (W.state out.old) (W.state out.new) before result
         (64 ∷ signed_decimal seconds.now) }
 {
-    let written = send_all(b"@", before, out)?;
-    write_integer(seconds, written, out)
+    let sent = put(b"@", before, out);
+    put_integer(seconds, sent, out)
 }
 
-fn write_sign<W: Sink>(is_negative: bool, before: u64, out: &mut W) -> Result<u64, WriteFault>
-    ensures { Writes (W.state out.old) (W.state out.new) before result (sign is_negative) }
+fn put_sign<W: Sink>(is_negative: bool, before: Sent, out: &mut W) -> Sent
+    ensures { Follows (W.state out.old) (W.state out.new) before result (sign is_negative) }
 {
     if is_negative {
-        send_all(b"-", before, out)
+        put(b"-", before, out)
     } else {
-        Ok(before)
+        before
     }
 }
 
 /// The point and the digits behind it: at least one, and no needless zero at the end.
-fn write_fraction<W: Sink>(thousandths: u64, before: u64, out: &mut W) -> Result<u64, WriteFault>
+fn put_fraction<W: Sink>(thousandths: u64, before: Sent, out: &mut W) -> Sent
     requires { thousandths < 1000 }
-    ensures { Writes (W.state out.old) (W.state out.new) before result (46 ∷ fraction thousandths) }
+    ensures { Follows (W.state out.old) (W.state out.new) before result (46 ∷ fraction thousandths) }
 {
     let tenths = b'0' + (thousandths / 100) as u8;
     let hundredths = b'0' + (thousandths / 10 % 10) as u8;
     let last = b'0' + (thousandths % 10) as u8;
     if thousandths % 100 == 0 {
-        send_all(&[b'.', tenths], before, out)
+        put(&[b'.', tenths], before, out)
     } else if thousandths % 10 == 0 {
-        send_all(&[b'.', tenths, hundredths], before, out)
+        put(&[b'.', tenths, hundredths], before, out)
     } else {
-        send_all(&[b'.', tenths, hundredths, last], before, out)
+        put(&[b'.', tenths, hundredths, last], before, out)
     }
 }
 
@@ -72,15 +64,11 @@ fn parts(number: &Thousandths) -> (bool, u64, u64)
 }
 
 /// A Decimal: its sign, whole part, point and fraction.
-pub(crate) fn write_decimal<W: Sink>(
-    number: &Thousandths,
-    before: u64,
-    out: &mut W,
-) -> Result<u64, WriteFault>
-    ensures { Writes (W.state out.old) (W.state out.new) before result (canon_decimal number.now) }
+pub(crate) fn put_decimal<W: Sink>(number: &Thousandths, before: Sent, out: &mut W) -> Sent
+    ensures { Follows (W.state out.old) (W.state out.new) before result (canon_decimal number.now) }
 {
     let (is_negative, whole, thousandths) = parts(number);
-    let written = write_sign(is_negative, before, out)?;
-    let written = send_all(Buffer::new().format(whole).as_bytes(), written, out)?;
-    write_fraction(thousandths, written, out)
+    let sent = put_sign(is_negative, before, out);
+    let sent = put(Buffer::new().format(whole).as_bytes(), sent, out);
+    put_fraction(thousandths, sent, out)
 }

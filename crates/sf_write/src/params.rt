@@ -2,46 +2,39 @@
 ghost use Rattle.std.specs.Prelude.{◌≡◌, ◌↔◌, IsTrue, true};
 ghost use Rattle.sf_value.specs.declared.value.Bare.TheVariants.{Boolean};
 ghost use Rattle.sf_value.specs.Grammar.Canonical.{canon_params, canon_value};
-ghost use Rattle.sf_write.specs.Writing.{Writes};
+ghost use Rattle.sf_write.specs.Writing.{Follows};
 
-use crate::bare::write_bare_from;
-use crate::send::{WriteFault, send_all};
+use crate::bare::put_bare;
+use crate::send::{Sent, put};
 use sf_value::{Bare, Entries, Sink};
 
-fn is_true(bare: &Bare) -> bool
+/// Whether a value stands behind its key by nothing at all.
+pub(crate) fn is_true(bare: &Bare) -> bool
     ensures { IsTrue result ↔ (bare.now ≡ Boolean true) }
 {
     matches!(bare, Bare::Boolean(true))
 }
 
 /// What stands behind a key: nothing for Boolean true, and else `=` and the bare item.
-pub(crate) fn write_value<W: Sink>(
-    value: &Bare,
-    before: u64,
-    out: &mut W,
-) -> Result<u64, WriteFault>
-    ensures { Writes (W.state out.old) (W.state out.new) before result (canon_value value.now) }
+pub(crate) fn put_value<W: Sink>(value: &Bare, before: Sent, out: &mut W) -> Sent
+    ensures { Follows (W.state out.old) (W.state out.new) before result (canon_value value.now) }
 {
     if is_true(value) {
-        return Ok(before);
+        return before;
     }
-    let written = send_all(b"=", before, out)?;
-    write_bare_from(value, written, out)
+    let sent = put(b"=", before, out);
+    put_bare(value, sent, out)
 }
 
 /// Parameters: for each a `;`, its key and its value.
-pub(crate) fn write_params<W: Sink>(
-    params: &Entries<Bare>,
-    before: u64,
-    out: &mut W,
-) -> Result<u64, WriteFault>
-    ensures { Writes (W.state out.old) (W.state out.new) before result (canon_params params.now) }
+pub(crate) fn put_params<W: Sink>(params: &Entries<Bare>, before: Sent, out: &mut W) -> Sent
+    ensures { Follows (W.state out.old) (W.state out.new) before result (canon_params params.now) }
 {
-    let mut written = before;
+    let mut sent = before;
     for (key, value) in params {
-        written = send_all(b";", written, out)?;
-        written = send_all(key, written, out)?;
-        written = write_value(value, written, out)?;
+        sent = put(b";", sent, out);
+        sent = put(key, sent, out);
+        sent = put_value(value, sent, out);
     }
-    Ok(written)
+    sent
 }

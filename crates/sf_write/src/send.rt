@@ -1,6 +1,6 @@
 //! Bytes sent to a sink.
 ghost use Rattle.std.specs.Prelude.{◌++◌, Some, codes, decimal};
-ghost use Rattle.sf_write.specs.Writing.{Writes};
+ghost use Rattle.sf_write.specs.Writing.{Follows, Writes};
 
 use sf_value::Sink;
 use std::error::Error;
@@ -58,4 +58,18 @@ pub fn send_all<W: Sink>(bytes: &[u8], before: u64, out: &mut W) -> Result<u64, 
         }
     }
     Ok(written)
+}
+
+/// How far a text came: the count of its bytes so far, or the fault that ended it.
+pub(crate) type Sent = Result<u64, WriteFault>;
+
+/// Sends all the bytes behind those sent before, as [`send_all`] does. After a fault nothing more
+/// is sent and the fault stays, so that one piece is put behind another with no look at the answer.
+pub(crate) fn put<W: Sink>(bytes: &[u8], before: Sent, out: &mut W) -> Sent
+    ensures { Follows (W.state out.old) (W.state out.new) before result bytes.now }
+{
+    match before {
+        Ok(count) => send_all(bytes, count, out),
+        Err(_) => before,
+    }
 }

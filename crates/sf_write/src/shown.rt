@@ -3,15 +3,30 @@ ghost use Rattle.std.specs.Prelude.{◌≡◌, ◌/◌, ◌%◌, ◌<◌, ◌≤
 ghost use Rattle.std.specs.List.{prefix_len};
 ghost use Rattle.sf_value.specs.Grammar.DisplayStrings.{hex, is_plain};
 ghost use Rattle.sf_value.specs.Grammar.Canonical.{canon_shown};
-ghost use Rattle.sf_write.specs.Writing.{Writes};
+ghost use Rattle.sf_write.specs.Writing.{Follows};
 
-use crate::send::{WriteFault, send_all};
+use crate::send::{Sent, put};
+use crate::strings::CHUNK;
 use sf_value::Sink;
 
 fn stands_for_itself(byte: u8) -> bool
     ensures { result ≡ is_plain byte }
 {
     matches!(byte, b' '..=b'~') && byte != b'"' && byte != b'%'
+}
+
+/// How many of the bytes do not stand for themselves. Each chunk's count is a sum of vectors of
+/// bytes.
+pub(crate) fn escaped_count(bytes: &[u8]) -> usize {
+    let mut count = 0usize;
+    for chunk in bytes.chunks(CHUNK) {
+        let mut escaped = 0u8;
+        for byte in chunk {
+            escaped = escaped.wrapping_add(!stands_for_itself(*byte) as u8);
+        }
+        count = count.wrapping_add(escaped as usize);
+    }
+    count
 }
 
 /// How many bytes at the front stand for themselves.
@@ -44,24 +59,20 @@ fn percent_escape(byte: u8) -> [u8; 3]
 /// A Display String by its UTF-8 bytes: `%`, then between quotes each byte from 0x20 to 0x7E but
 /// `"` and `%` as itself, and every other one as `%` and two lower-case digits. Bytes that stand
 /// for themselves go out as one piece.
-pub(crate) fn write_display_string<W: Sink>(
-    text: &[u8],
-    before: u64,
-    out: &mut W,
-) -> Result<u64, WriteFault>
-    ensures { Writes (W.state out.old) (W.state out.new) before result
+pub(crate) fn put_display_string<W: Sink>(text: &[u8], before: Sent, out: &mut W) -> Sent
+    ensures { Follows (W.state out.old) (W.state out.new) before result
         (37 ∷ 34 ∷ canon_shown text.now) }
 {
-    let mut written = send_all(b"%\"", before, out)?;
+    let mut sent = put(b"%\"", before, out);
     let mut rest = text;
     loop {
         let (plain, behind) = rest.split_at(plain_len(rest));
-        written = send_all(plain, written, out)?;
+        sent = put(plain, sent, out);
         let Some((byte, more)) = behind.split_first() else {
-            return send_all(b"\"", written, out);
+            return put(b"\"", sent, out);
         };
         let escape = percent_escape(*byte);
-        written = send_all(&escape, written, out)?;
+        sent = put(&escape, sent, out);
         rest = more;
     }
 }

@@ -2,15 +2,31 @@
 ghost use Rattle.std.specs.Prelude.{◌≡◌, ◌≤◌, [], ◌∷◌, ◌++◌, not, length};
 ghost use Rattle.std.specs.List.{prefix_len};
 ghost use Rattle.sf_value.specs.Grammar.Strings.{escaped, is_escaped};
-ghost use Rattle.sf_write.specs.Writing.{Writes};
+ghost use Rattle.sf_write.specs.Writing.{Follows};
 
-use crate::send::{WriteFault, send_all};
+use crate::send::{Sent, put};
 use sf_value::Sink;
 
-fn needs_no_backslash(byte: u8) -> bool
-    ensures { result ≡ not (is_escaped byte) }
+/// How many bytes are counted together: few enough for a byte to hold the count.
+pub(crate) const CHUNK: usize = 128;
+
+fn needs_backslash(byte: u8) -> bool
+    ensures { result ≡ is_escaped byte }
 {
-    !matches!(byte, b'"' | b'\\')
+    matches!(byte, b'"' | b'\\')
+}
+
+/// How many of the bytes need a backslash. Each chunk's count is a sum of vectors of bytes.
+pub(crate) fn escaped_count(bytes: &[u8]) -> usize {
+    let mut count = 0usize;
+    for chunk in bytes.chunks(CHUNK) {
+        let mut escaped = 0u8;
+        for byte in chunk {
+            escaped = escaped.wrapping_add(needs_backslash(*byte) as u8);
+        }
+        count = count.wrapping_add(escaped as usize);
+    }
+    count
 }
 
 /// How many bytes at the front need no backslash.
@@ -18,28 +34,24 @@ fn plain_len(bytes: &[u8]) -> usize
     ensures len { result ≡ prefix_len (λ b. not (is_escaped b)) bytes.now }
     ensures within { result ≤ length bytes.now }
 {
-    bytes.iter().take_while(|b| needs_no_backslash(**b)).count()
+    bytes.iter().take_while(|b| !needs_backslash(**b)).count()
 }
 
 /// A String: quotes around its bytes, with a backslash before each quote and each backslash. The
 /// bytes between two of these go out as one piece.
-pub(crate) fn write_string<W: Sink>(
-    text: &[u8],
-    before: u64,
-    out: &mut W,
-) -> Result<u64, WriteFault>
-    ensures { Writes (W.state out.old) (W.state out.new) before result
+pub(crate) fn put_string<W: Sink>(text: &[u8], before: Sent, out: &mut W) -> Sent
+    ensures { Follows (W.state out.old) (W.state out.new) before result
         (34 ∷ (escaped text.now ++ 34 ∷ [])) }
 {
-    let mut written = send_all(b"\"", before, out)?;
+    let mut sent = put(b"\"", before, out);
     let mut rest = text;
     loop {
         let (plain, behind) = rest.split_at(plain_len(rest));
-        written = send_all(plain, written, out)?;
+        sent = put(plain, sent, out);
         let Some((byte, more)) = behind.split_first() else {
-            return send_all(b"\"", written, out);
+            return put(b"\"", sent, out);
         };
-        written = send_all(&[b'\\', *byte], written, out)?;
+        sent = put(&[b'\\', *byte], sent, out);
         rest = more;
     }
 }

@@ -1,0 +1,273 @@
+/* Times parsing and writing on texts of every shape, and prints a table.
+ *
+ * usage: bench [SHAPE..]     all shapes, or those named
+ *
+ * For each shape and size n the time of a text of about n bytes and of one of about 2n: ns a text,
+ * the least of five rounds, and the second over the first. A ratio near 2 says that the time grows
+ * with the length alone.
+ */
+#define _POSIX_C_SOURCE 200809L
+#include <stdint.h>
+#include <stdio.h>
+#include <stdlib.h>
+#include <string.h>
+#include <time.h>
+
+/* Of crates/sf_bench. The kind is 'i', 'l' or 'd'. */
+size_t sf_bench_parse(uint8_t kind, const uint8_t *text, size_t len, size_t times);
+size_t sf_bench_normalise(uint8_t kind, const uint8_t *text, size_t len, size_t times);
+
+enum { ROUNDS = 5, KIB = 1024, LARGEST = 512 * KIB };
+
+/* A round lasts about as long as this. */
+static const double ROUND_NS = 5e6;
+
+struct text {
+  char *bytes;
+  size_t len;
+};
+
+/* Room for twice the largest size, and for the last piece. */
+static struct text text_new(void) {
+  struct text t = {malloc(2 * LARGEST + 64), 0};
+  if (!t.bytes) abort();
+  return t;
+}
+
+static void add(struct text *t, const char *piece) {
+  size_t n = strlen(piece);
+  memcpy(t->bytes + t->len, piece, n);
+  t->len += n;
+}
+
+static void add_number(struct text *t, const char *format, unsigned n) {
+  t->len += (size_t)sprintf(t->bytes + t->len, format, n);
+}
+
+/* Repeats the pieces in turn up to the size. */
+static void fill(struct text *t, size_t size, const char *const *pieces, size_t count) {
+  for (size_t i = 0; t->len + 1 < size; ++i) add(t, pieces[i % count]);
+}
+
+#define FILL(t, size, ...)                                              \
+  do {                                                                  \
+    static const char *const pieces[] = {__VA_ARGS__};                  \
+    fill(t, size, pieces, sizeof pieces / sizeof *pieces);              \
+  } while (0)
+
+/* Repeats a piece with a number in it, behind a separator from the second on. */
+static void count_up(struct text *t, size_t size, const char *separator, const char *format) {
+  for (unsigned i = 0; t->len + 1 < size; ++i) {
+    if (i) add(t, separator);
+    add_number(t, format, i);
+  }
+}
+
+static void string(struct text *t, size_t size) {
+  add(t, "\"");
+  FILL(t, size, "the quick brown fox, ", "jumps; over = ", "the (lazy) dog. ");
+  add(t, "\"");
+}
+
+static void escapes(struct text *t, size_t size) {
+  add(t, "\"");
+  FILL(t, size, "a\\\"b", "C:\\\\d", "\\\"\\\\");
+  add(t, "\"");
+}
+
+static void token(struct text *t, size_t size) { FILL(t, size, "text/", "x:y.", "a-b_c*"); }
+
+static void base64(struct text *t, size_t size) {
+  add(t, ":");
+  FILL(t, size, "AAEC", "z9/+", "Zm9v", "YmFy");
+  add(t, "Zg==:");
+}
+
+static void display(struct text *t, size_t size) {
+  add(t, "%\"");
+  FILL(t, size, "plain text ", "%c3%bc", "of every sort ", "%e2%82%ac", "%f0%9f%98%80");
+  add(t, "\"");
+}
+
+static void display_escaped(struct text *t, size_t size) {
+  add(t, "%\"");
+  FILL(t, size, "%c3%bc", "%e2%82%ac", "%25%22");
+  add(t, "\"");
+}
+
+static void integers(struct text *t, size_t size) { count_up(t, size, ", ", "%u"); }
+
+static void decimals(struct text *t, size_t size) { count_up(t, size, ", ", "-%u.125"); }
+
+static void dates(struct text *t, size_t size) { count_up(t, size, ", ", "@%u"); }
+
+static void tokens(struct text *t, size_t size) { count_up(t, size, ", ", "token%u;q=0.5"); }
+
+static void keys(struct text *t, size_t size) { count_up(t, size, ", ", "key%u=10;x"); }
+
+static void one_key(struct text *t, size_t size) { count_up(t, size, ", ", "key=%u"); }
+
+static void params(struct text *t, size_t size) {
+  add(t, "item;");
+  count_up(t, size, ";", "p%u=\"v\"");
+}
+
+static void one_param(struct text *t, size_t size) {
+  add(t, "item;");
+  count_up(t, size, ";", "p=%u");
+}
+
+static void params_in_items(struct text *t, size_t size) {
+  count_up(t, size, ", ", "a;b=%u;c;d=\"e\";f=?0");
+}
+
+static void inner(struct text *t, size_t size) {
+  add(t, "(");
+  count_up(t, size, " ", "i%u;a");
+  add(t, ");b");
+}
+
+static void inners(struct text *t, size_t size) { count_up(t, size, ", ", "(a \"b\" %u);c"); }
+
+static void dict_of_inners(struct text *t, size_t size) { count_up(t, size, ", ", "k%u=(1 2 3)"); }
+
+static void flags(struct text *t, size_t size) { count_up(t, size, ", ", "flag%u"); }
+
+static void refused_at_end(struct text *t, size_t size) {
+  integers(t, size);
+  add(t, ",");
+}
+
+static void refused_in_string(struct text *t, size_t size) {
+  string(t, size);
+  t->bytes[t->len - 1] = '\n';
+}
+
+struct shape {
+  const char *name;
+  uint8_t kind;
+  void (*make)(struct text *, size_t);
+};
+
+static const struct shape shapes[] = {
+    {"string", 'i', string},
+    {"escapes", 'i', escapes},
+    {"token", 'i', token},
+    {"base64", 'i', base64},
+    {"display", 'i', display},
+    {"display_escaped", 'i', display_escaped},
+    {"integers", 'l', integers},
+    {"decimals", 'l', decimals},
+    {"dates", 'l', dates},
+    {"tokens", 'l', tokens},
+    {"keys", 'd', keys},
+    {"one_key", 'd', one_key},
+    {"flags", 'd', flags},
+    {"params", 'i', params},
+    {"one_param", 'i', one_param},
+    {"params_in_items", 'l', params_in_items},
+    {"inner", 'l', inner},
+    {"inners", 'l', inners},
+    {"dict_of_inners", 'd', dict_of_inners},
+    {"refused_at_end", 'l', refused_at_end},
+    {"refused_in_string", 'i', refused_in_string},
+};
+
+/* Texts as they stand in messages, each for itself. */
+static const struct {
+  uint8_t kind;
+  const char *text;
+} messages[] = {
+    {'d', "u=2, i"},
+    {'d', "max-age=600, stale-if-error=86400"},
+    {'l', "edge.example; hit; ttl=1100, origin.example; fwd=uri-miss; stored"},
+    {'i', "?1"},
+    {'i', "1730000000"},
+    {'i', "\"a short string\""},
+    {'d', "sha-256=:AAECAwQFBgcICQoLDA0ODxAREhMUFRYXGBkaGxwdHh8=:"},
+    {'l', "gzip;q=1.0, br;q=0.9, *;q=0.1"},
+    {'d', "sig=(\"@method\" \"@path\" \"date\");created=1730000000;keyid=\"k1\""},
+    {'i', "@1730000000"},
+    {'i', "%\"caf%c3%a9\""},
+    {'d', "a=1,"},
+    {'i', "1.0000"},
+    {'l', "(a b"},
+};
+
+static double now(void) {
+  struct timespec t;
+  clock_gettime(CLOCK_MONOTONIC, &t);
+  return (double)t.tv_sec * 1e9 + (double)t.tv_nsec;
+}
+
+typedef size_t (*call)(uint8_t, const uint8_t *, size_t, size_t);
+
+static double once(call f, uint8_t kind, const uint8_t *text, size_t len, size_t times) {
+  double start = now();
+  f(kind, text, len, times);
+  return (now() - start) / (double)times;
+}
+
+/* ns of a call, the least of the rounds. */
+static double least(call f, uint8_t kind, const uint8_t *text, size_t len) {
+  double guess = once(f, kind, text, len, 3);
+  size_t times = (size_t)(ROUND_NS / (guess + 1)) + 1;
+  double best = guess;
+  for (int i = 0; i < ROUNDS; ++i) {
+    double spent = once(f, kind, text, len, times);
+    if (spent < best) best = spent;
+  }
+  return best;
+}
+
+static int is_chosen(const char *name, int argc, char **argv) {
+  for (int a = 1; a < argc; ++a)
+    if (!strcmp(argv[a], name)) return 1;
+  return argc < 2;
+}
+
+static double figures(call f, uint8_t kind, const struct text *one, const struct text *two) {
+  double first = least(f, kind, (const uint8_t *)one->bytes, one->len);
+  double second = least(f, kind, (const uint8_t *)two->bytes, two->len);
+  printf(" %11.0f %11.0f %6.2f", first, second, second / first);
+  return second / first;
+}
+
+int main(int argc, char **argv) {
+  static const size_t sizes[] = {4 * KIB, 32 * KIB, 128 * KIB, 256 * KIB, LARGEST};
+  double largest = 0;
+
+  printf("%-18s %6s %-8s %11s %11s %6s %11s %11s %6s\n", "ns a text", "n KiB", "answer", "parse n",
+         "2n", "2n/n", "normalise n", "2n", "2n/n");
+  for (size_t s = 0; s < sizeof shapes / sizeof *shapes; ++s) {
+    const struct shape *shape = &shapes[s];
+    if (!is_chosen(shape->name, argc, argv)) continue;
+    for (size_t i = 0; i < sizeof sizes / sizeof *sizes; ++i) {
+      struct text one = text_new(), two = text_new();
+      shape->make(&one, sizes[i]);
+      shape->make(&two, 2 * sizes[i]);
+      size_t accepted = sf_bench_parse(shape->kind, (const uint8_t *)two.bytes, two.len, 1);
+      printf("%-18s %6zu %-8s", shape->name, sizes[i] / KIB, accepted ? "accepted" : "refused");
+      double parse = figures(sf_bench_parse, shape->kind, &one, &two);
+      double normalise = figures(sf_bench_normalise, shape->kind, &one, &two);
+      printf("\n");
+      if (parse > largest) largest = parse;
+      if (normalise > largest) largest = normalise;
+      free(one.bytes);
+      free(two.bytes);
+    }
+  }
+  if (largest > 0) printf("the largest ratio of 2n to n: %.2f\n", largest);
+
+  if (is_chosen("messages", argc, argv)) {
+    printf("\n%-18s %8s %9s  %s\n", "messages: ns a text", "parse", "normalise", "text");
+    for (size_t m = 0; m < sizeof messages / sizeof *messages; ++m) {
+      const uint8_t *text = (const uint8_t *)messages[m].text;
+      size_t len = strlen(messages[m].text);
+      double parse = least(sf_bench_parse, messages[m].kind, text, len);
+      double normalise = least(sf_bench_normalise, messages[m].kind, text, len);
+      printf("%19c %8.0f %9.0f  %s\n", messages[m].kind, parse, normalise, messages[m].text);
+    }
+  }
+  return 0;
+}

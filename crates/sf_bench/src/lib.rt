@@ -1,0 +1,103 @@
+//! Parsing and writing as functions that C can time. Each does its work so many times and answers
+//! for the last; see README.md in this folder.
+#![tactic(auto)]
+
+ghost use Rattle.std.specs.Prelude.{◌≡◌, ◌<◌, ◌≤◌, IfSome, IsTrue};
+ghost use Rattle.sf_bench.specs.Timed.{letter, IsAccepted, HasCanonical};
+
+use sf_parse::parse_text;
+use sf_value::Kind;
+use sf_write::to_text;
+use std::alloc::Global;
+use std::hash::RandomState;
+use std::io;
+use std::random::RandomSource;
+
+/// The seed of the hashes: the same in every run, so that runs can be compared. A server takes one
+/// that strangers cannot guess.
+struct SameSeed;
+
+impl RandomSource for SameSeed {
+    fn fill_bytes(&self, bytes: &mut [u8]) -> io::Result<()> {
+        bytes.fill(7);
+        Ok(())
+    }
+}
+
+/// The kind that a letter names: `i`, `l` or `d`.
+fn kind_named(name: u8) -> Option<Kind>
+    ensures { IfSome result (λ kind. letter kind ≡ name) }
+{
+    match name {
+        b'i' => Some(Kind::Item),
+        b'l' => Some(Kind::List),
+        b'd' => Some(Kind::Dict),
+        _ => None,
+    }
+}
+
+/// Whether the text is accepted; `false` also for want of memory.
+fn is_accepted(alloc: Global, seed: &RandomState, kind: Kind, text: &[u8]) -> bool
+    ensures { IsTrue result → IsAccepted kind text.now }
+{
+    match parse_text(alloc, seed, kind, text) {
+        Ok(_) => true,
+        Err(_) => false,
+    }
+}
+
+/// The length of the canonical text of the value that the text spells; `None` where it is refused,
+/// and for want of memory.
+fn canonical_len(alloc: Global, seed: &RandomState, kind: Kind, text: &[u8]) -> Option<usize>
+    ensures { IfSome result (HasCanonical kind text.now) }
+{
+    let Ok(field) = parse_text(alloc, seed, kind, text) else {
+        return None;
+    };
+    match to_text(alloc, &field) {
+        Ok(canonical) => Some(canonical.len()),
+        Err(_) => None,
+    }
+}
+
+/// Parses the text so many times as a field of the kind that the letter `i`, `l` or `d` names. 1
+/// where it is accepted; 0 where it is refused, for want of memory, for no times and for another
+/// letter.
+///
+/// ```c
+/// size_t sf_bench_parse(uint8_t kind, const uint8_t *text, size_t len, size_t times);
+/// ```
+#[unsafe(no_mangle)]
+pub extern "C" fn sf_bench_parse(alloc: Global, name: u8, text: &[u8], times: usize) -> usize
+    ensures bit { result ≤ 1 }
+    ensures accepted { 0 < result → (k : Kind) × (letter k ≡ name) × IsAccepted k text.now }
+{
+    let (Some(kind), Ok(seed)) = (kind_named(name), RandomState::new(&SameSeed)) else {
+        return 0;
+    };
+    let mut accepted = false;
+    for _ in 0..times {
+        accepted = is_accepted(alloc, &seed, kind, text);
+    }
+    accepted as usize
+}
+
+/// Parses the text so many times, as [`sf_bench_parse`] does, and writes its canonical text. The
+/// length of the canonical text; 0 where the other answers 0, and where that text is empty.
+///
+/// ```c
+/// size_t sf_bench_normalise(uint8_t kind, const uint8_t *text, size_t len, size_t times);
+/// ```
+#[unsafe(no_mangle)]
+pub extern "C" fn sf_bench_normalise(alloc: Global, name: u8, text: &[u8], times: usize) -> usize
+    ensures { 0 < result → (k : Kind) × (letter k ≡ name) × HasCanonical k text.now result }
+{
+    let (Some(kind), Ok(seed)) = (kind_named(name), RandomState::new(&SameSeed)) else {
+        return 0;
+    };
+    let mut length = None;
+    for _ in 0..times {
+        length = canonical_len(alloc, &seed, kind, text);
+    }
+    length.unwrap_or(0)
+}

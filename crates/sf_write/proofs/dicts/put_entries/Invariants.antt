@@ -1,0 +1,8 @@
+use Rattle.sf_value.specs.Grammar.Canonical.{canon_entry, canon_commas, canon_series}
+use Rattle.sf_write.proofs.Following.{Remains}
+use Rattle.sf_write.proofs.dicts.put_entries.Given as goal
+
+abbrev pub invariant-loop-key : goal.invariant-loop-key
+invariant-loop-key g l =
+    Remains (g.W.Sink.state l.fn.out) (g.W.Sink.state l.out) l.fn.before l.sent
+    (canon_series canon_entry l.entries) (canon_commas canon_entry l.key-iterator)

@@ -1,0 +1,10 @@
+use Rattle.std.proofs.Common.{drop}
+use Rattle.sf_value.specs.Grammar.Canonical.{canon_member, canon_commas, canon_series}
+use Rattle.sf_write.proofs.Following.{Remains}
+use Rattle.sf_write.proofs.lists.put_members.Given as goal
+
+abbrev pub invariant-loop-member : goal.invariant-loop-member
+invariant-loop-member g l =
+    Remains (g.W.Sink.state l.fn.out) (g.W.Sink.state l.out) l.fn.before l.sent
+    (canon_series canon_member l.members)
+    (canon_commas canon_member (drop l.member-index l.others))

@@ -1,0 +1,12 @@
+use Rattle.std.proofs.Common.{length, [], ◌∷◌, ◌++◌}
+use Rattle.sf_value.specs.Grammar.Strings.{escaped}
+use Rattle.sf_write.proofs.Following.{Remains}
+use Rattle.sf_write.proofs.strings.put_string.Given as goal
+
+abbrev pub invariant-loop-byte : goal.invariant-loop-byte
+invariant-loop-byte g l =
+    Remains (g.W.Sink.state l.fn.out) (g.W.Sink.state l.out) l.fn.before l.sent
+    (34 ∷ (escaped l.text ++ 34 ∷ [])) (escaped l.rest ++ 34 ∷ [])
+
+abbrev pub decreases-loop-byte : goal.decreases-loop-byte
+decreases-loop-byte g l = length l.rest
