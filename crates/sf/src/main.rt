@@ -1,5 +1,5 @@
 //! The command `sf`: it reads its words and standard input, and writes to standard output. What it
-//! does is `sf_tool`'s.
+//! does, how it ends and what it says of that are `sf_tool`'s.
 #![tactic(auto)]
 
 use sf_tool::{Request, RequestFault, Status, read_request, run};
@@ -12,20 +12,13 @@ use std::process::ExitCode;
 fn main(rt: HostRuntime) -> ExitCode {
     let status = match request_of(&rt) {
         Ok(request) => answer(&rt, &request),
-        Err(RequestFault::Usage) => Status::Usage,
-        Err(RequestFault::OutOfMemory) => Status::Stopped,
+        Err(fault) => fault.status(),
     };
-    match status {
-        Status::Usage => tell(&rt, RequestFault::Usage),
-        Status::Stopped => tell(&rt, RequestFault::OutOfMemory),
-        Status::Accepted | Status::Refused => {}
+    if let Some(line) = status.line() {
+        // Where that fails too, nobody can be told.
+        let _ = rt.eprintln(line);
     }
     ExitCode::from(status.code())
-}
-
-/// Prints the line of a fault on standard error. Where that fails too, nobody can be told.
-fn tell(rt: &HostRuntime, fault: RequestFault) {
-    let _ = rt.eprintln(fault);
 }
 
 /// What the words of the command line ask for.
@@ -48,8 +41,5 @@ fn answer(rt: &HostRuntime, request: &Request) -> Status {
     let mut source = Reading::new(rt.reader());
     let mut sink = Writing::new(rt.stdout());
     let status = run(rt.alloc(), &seed, request, &mut source, &mut sink);
-    match sink.into_inner().flush() {
-        Ok(()) => status,
-        Err(_) => Status::Stopped,
-    }
+    status.after_flush(sink.into_inner().flush())
 }

@@ -15,6 +15,7 @@ pub(crate) struct Paced<'a> {
     fails_at: u64,
     pub(crate) calls: u64,
     given: u64,
+    pub(crate) ends: u64,
     failures: u64,
 }
 
@@ -27,6 +28,7 @@ impl<'a> Paced<'a> {
             fails_at,
             calls: 0,
             given: 0,
+            ends: 0,
             failures: 0,
         }
     }
@@ -45,10 +47,14 @@ impl Source for Paced<'_> {
     ghost state = { λ d. record {
       to_come = Some d.rest.now;
       given = d.given;
+      ends = d.ends;
       failures = d.failures;
     } };
 
     fn pull(&mut self, block: &mut [u8]) -> Result<usize, Failed> {
+        if block.is_empty() {
+            return Ok(0);
+        }
         self.calls = self.calls.saturating_add(1);
         if self.calls == self.fails_at {
             self.failures = self.failures.saturating_add(1);
@@ -56,6 +62,10 @@ impl Source for Paced<'_> {
         }
         let most = block.len().min(self.most());
         match self.rest.read(&mut block[..most]) {
+            Ok(0) => {
+                self.ends = self.ends.saturating_add(1);
+                Ok(0)
+            }
             Ok(n) => {
                 self.given = self.given.saturating_add(n as u64);
                 Ok(n)

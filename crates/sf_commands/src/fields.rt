@@ -1,6 +1,6 @@
 //! `show`, `check` and `normalise`.
 use crate::rows::{ACCEPTED, REFUSED, Row, expect_long, expect_rows};
-use sf_tool::{INPUT_LIMIT, Request};
+use sf_tool::Request;
 use sf_value::{Dialect, Kind};
 use std::alloc::{AllocError, Global};
 use std::hash::RandomState;
@@ -182,8 +182,8 @@ fn spaces(alloc: Global, count: u64) -> Result<Vec<u8>, AllocError> {
 #[test]
 fn long_inputs(rt: HostRuntime) -> Result<(), Fail> {
     let seed = RandomState::new(&rt)?;
-    let longest = spaces(rt.alloc(), INPUT_LIMIT)?;
-    let longer = spaces(rt.alloc(), INPUT_LIMIT + 1)?;
+    let longest = spaces(rt.alloc(), 1_048_576)?;
+    let longer = spaces(rt.alloc(), 1_048_577)?;
     let item = Request::Normalise(Dialect::Rfc9651, Kind::Item);
     let ended = b"refused at 0 ended expected 20 22 25 2a 2d 30-3a 3f-5a 61-7a\n";
     expect_long(&rt, &seed, &item, longest.as_slice(), ended, REFUSED);

@@ -29,6 +29,7 @@ fn expect_paced(
     let written = sink.into_inner();
     assert_eq!(rt; written.as_slice(), text);
     assert_eq!(rt; answer, status);
+    assert_eq!(rt; source.ends, 1);
 }
 
 /// The input as a reader in memory gives it.

@@ -1,5 +1,5 @@
 //! `targeted`: which field is obeyed, and which lines are read, dropped or refused.
-use crate::rows::{ACCEPTED, REFUSED, Row, expect_rows};
+use crate::rows::{ACCEPTED, REFUSED, Row, expect_rows, expect_whole};
 use http_header::HeaderName;
 use sf_tool::Request;
 use std::alloc::{AllocError, Global};
@@ -173,5 +173,39 @@ fn lines_of_other_names(rt: HostRuntime) -> Result<(), Fail> {
     ];
     let request = of_one(rt.alloc(), HeaderName::from_static("z"))?;
     expect_rows(&rt, &seed, &request, &rows);
+    Ok(())
+}
+
+// A request of so many names `a` and one other behind them.
+fn of_many(alloc: Global, count: usize, last: HeaderName) -> Result<Request, AllocError> {
+    let mut names = Vec::new(alloc);
+    for _ in 0..count {
+        names.push(HeaderName::from_static("a"))?;
+    }
+    names.push(last)?;
+    Ok(Request::Targeted(names))
+}
+
+// The last of 64 names is there, as in a command line of the most names.
+#[test]
+fn the_last_of_64_names(rt: HostRuntime) -> Result<(), Fail> {
+    let seed = RandomState::new(&rt)?;
+    let rows: [Row; 1] = [(
+        b"b: no-store\n",
+        b"field 63 b\nlifetime shared none\nlifetime private none\nno-store\n",
+        ACCEPTED,
+    )];
+    let request = of_many(rt.alloc(), 63, HeaderName::from_static("b"))?;
+    expect_rows(&rt, &seed, &request, &rows);
+    Ok(())
+}
+
+// More names than a header map has room for are answered as any others.
+#[test]
+fn more_names_than_a_map_holds(rt: HostRuntime) -> Result<(), Fail> {
+    let seed = RandomState::new(&rt)?;
+    let request = of_many(rt.alloc(), 24_575, HeaderName::from_static("b"))?;
+    expect_whole(&rt, &seed, &request, (b"", b"fallback\n", ACCEPTED));
+    expect_whole(&rt, &seed, &request, (b"c", b"refused line 0\n", REFUSED));
     Ok(())
 }

@@ -1,5 +1,6 @@
 //! The words of the command line with the requests that they are, and the exit codes.
 use sf_tool::{Request, RequestFault, Status, read_request};
+use sf_value::Failed;
 use std::alloc::{AllocError, Global};
 use std::process::Abort;
 use std::test::Fail;
@@ -161,16 +162,37 @@ fn at_most_64_names(rt: HostRuntime) -> Result<(), Fail> {
     Ok(())
 }
 
+const USAGE: &str =
+    "sf: usage: sf show, check or normalise --kind item, list or dict [--dialect rfc8941 or rfc9651]; sf cache-status; sf targeted NAME..; sf priority";
+
+const STOPPED: &str = "sf: out of memory or a device failed";
+
 #[test]
-fn lines_of_faults(rt: HostRuntime) -> Result<(), Fail> {
-    let usage = RequestFault::Usage.to_string(rt.alloc())?;
-    assert_eq!(&rt;
-        usage.as_str(),
-        "sf: usage: sf show, check or normalise --kind item, list or dict [--dialect rfc8941 or rfc9651]; sf cache-status; sf targeted NAME..; sf priority"
-    );
-    let stopped = RequestFault::OutOfMemory.to_string(rt.alloc())?;
-    assert_eq!(&rt; stopped.as_str(), "sf: out of memory or a device failed");
+fn faults(rt: HostRuntime) -> Result<(), Fail> {
+    for (fault, status, line) in [
+        (RequestFault::Usage, Status::Usage, USAGE),
+        (RequestFault::OutOfMemory, Status::Stopped, STOPPED),
+    ] {
+        assert_eq!(&rt; fault.status(), status);
+        assert_eq!(&rt; fault.to_string(rt.alloc())?.as_str(), line);
+    }
     Ok(())
+}
+
+#[test]
+fn lines_of_statuses(rt: HostRuntime) {
+    assert_eq!(&rt; Status::Accepted.line(), None);
+    assert_eq!(&rt; Status::Refused.line(), None);
+    assert_eq!(&rt; Status::Usage.line(), Some(USAGE));
+    assert_eq!(&rt; Status::Stopped.line(), Some(STOPPED));
+}
+
+#[test]
+fn statuses_behind_a_flush(rt: HostRuntime) {
+    for status in [Status::Accepted, Status::Refused, Status::Stopped] {
+        assert_eq!(&rt; status.after_flush::<Failed>(Ok(())), status);
+        assert_eq!(&rt; status.after_flush(Err(Failed)), Status::Stopped);
+    }
 }
 
 #[test]

@@ -1,6 +1,6 @@
 -- From what was fed to what is answered.
 use Rattle.std.proofs.Common.{◌≡◌, ℕ, ◌-◌, ◌^◌, List, [], Some, None, Result, Ok, Err, sym, subst}
-use Rattle.std.proofs.Common.{◌∙◌, append-nil, take, length, ◌<◌}
+use Rattle.std.proofs.Common.{◌∙◌, append-nil, take, length, ◌<◌, arith}
 use Rattle.sf_value.specs.declared.dialect.Dialect.{Dialect}
 use Rattle.sf_value.specs.declared.value.Field.{Field}
 use Rattle.sf_value.specs.declared.value.Kind.{Kind}
@@ -25,9 +25,9 @@ refused_lines d kind p q e lines x y z k f =
   where
     at : (e : Refusal) → RefusedFor d kind (2 ^ 64 - 1) (join lines) e
         → ParsesLines d kind lines (Err e)
-    at OutOfMemory h = tt
+    at OutOfMemory h = (tt, tt)
     at (Syntax place None expected may) h = absurd h
-    at (Syntax place (Some b) expected may) h = h.1
+    at (Syntax place (Some b) expected may) h = (h.1, h.0)
     at (TooLong limit) h = (
       h.0,
       subst (λ n. n < length (join lines)) (sym h.0) h.1,
@@ -37,20 +37,24 @@ refused_lines d kind p q e lines x y z k f =
 
 -- the end of the joined text that a new parser was fed
 pub finished_lines : (d : Dialect) (kind : Kind) (p q : Progress) (r : Result Field Refusal)
-    (lines : List (List ℕ)) → p.dialect ≡ d → p.kind ≡ kind → Took p []
+    (lines : List (List ℕ)) → p.dialect ≡ d → p.kind ≡ kind → p.max ≡ 2 ^ 64 - 1 → Took p []
     → Fed p q (Ok tt) (join lines)
     → ((s : List ℕ) → Took q s → Finishes q.dialect q.kind s r) → ParsesLines d kind lines r
-finished_lines d kind p q r lines x y k f h =
-    let took = (f.answer.1 [] k).2 in
-    at r
+finished_lines d kind p q r lines x y z k f h =
+    let fed = f.answer.1 [] k in
+    let took = fed.2 in
+    let within = fed.0 in
+    let short : length (join lines) < 2 ^ 64 = omega arith in
+    at r short
     (subst (λ n. Finishes d n (join lines) r) (f.settings.kind ∙ y)
     (subst (λ n. Finishes n q.kind (join lines) r) (f.settings.dialect ∙ x)
     (h (join lines) took)))
   where
-    at : (r : Result Field Refusal) → Finishes d kind (join lines) r → ParsesLines d kind lines r
-    at (Ok v) h = h
-    at (Err OutOfMemory) h = tt
-    at (Err (Syntax place None expected may)) h = (h.1, h.2)
-    at (Err (Syntax place (Some b) expected may)) h = absurd h
-    at (Err (TooLong limit)) h = absurd h
-    at (Err (ReadFault place)) h = absurd h
+    at : (r : Result Field Refusal) → length (join lines) < 2 ^ 64
+        → Finishes d kind (join lines) r → ParsesLines d kind lines r
+    at (Ok v) n h = (h, n)
+    at (Err OutOfMemory) n h = (tt, tt)
+    at (Err (Syntax place None expected may)) n h = ((h.1, h.2), n)
+    at (Err (Syntax place (Some b) expected may)) n h = absurd h
+    at (Err (TooLong limit)) n h = absurd h
+    at (Err (ReadFault place)) n h = absurd h

@@ -1,5 +1,5 @@
 -- What asking a consumer about field lines answers.
-use Rattle.std.specs.Prelude.{◌≡◌, ℕ, ◌↔◌, List, [], ◌∷◌, Result, Ok, Err, ⊤}
+use Rattle.std.specs.Prelude.{◌≡◌, ℕ, ◌↔◌, List, [], ◌∷◌, Result, Ok, Err, IsOk, ⊤}
 use Rattle.sf_value.specs.declared.dialect.Dialect.TheVariants.{Rfc9651}
 use Rattle.sf_value.specs.declared.value.Field.{Field}
 use Rattle.sf_value.specs.declared.value.Kind.{Kind}
@@ -7,6 +7,7 @@ use Rattle.sf_value.specs.Grammar.Canonical.{canon}
 use Rattle.sf_value.specs.Grammar.Fields.{SpellsField}
 use Rattle.sf_value.specs.Grammar.Lines.{join}
 use Rattle.sf_parse.specs.Parsers.{IsOnly}
+use Rattle.sf_parse.specs.PlainParsers.{IsOther}
 use Rattle.sf_field.specs.Lines.{ParsesLines}
 use Rattle.sf_field.specs.declared.consumer.UseFault.TheVariants.{NotACache, OutOfMemory}
 use Rattle.sf_field.specs.declared.asking.AskFault.{AskFault}
@@ -17,15 +18,22 @@ abbrev pub Means : {A : Type 0} → Kind → (Field → Result A ℕ) → List (
 Means kind meaning lines meant =
     (v : Field) × IsOnly Rfc9651 kind (join lines) v × (meaning v ≡ meant)
 
--- the answer is what the lines mean; the fault is what they mean, or their refusal, or memory was
--- wanting
+-- the answer is what the lines mean; the fault is what they mean, or their refusal; or memory was
+-- wanting for an answer that they have
 abbrev pub Asks : {A : Type 0} → Kind → (Field → Result A ℕ) → List (List ℕ) → Result A AskFault
     → Type 0
 Asks kind meaning lines (Ok answer) = Means kind meaning lines (Ok answer)
 Asks kind meaning lines (Err (fault.Field refusal)) = ParsesLines Rfc9651 kind lines (Err refusal)
 Asks kind meaning lines (Err (fault.Answer (NotACache index))) =
     Means kind meaning lines (Err index)
-Asks kind meaning lines (Err (fault.Answer OutOfMemory)) = ⊤
+Asks kind meaning lines (Err (fault.Answer OutOfMemory)) =
+    (v : Field) × IsOnly Rfc9651 kind (join lines) v × IsOk (meaning v)
+
+-- memory was not wanting to parse the lines
+abbrev pub ParsedOrRefused : {A : Type 0} → Result A AskFault → Type 0
+ParsedOrRefused (Ok answer) = ⊤
+ParsedOrRefused (Err (fault.Field refusal)) = IsOther refusal
+ParsedOrRefused (Err (fault.Answer f)) = ⊤
 
 -- accepted lines mean what their canonical text means as the only line
 abbrev pub MeansAsCanonical : {A : Type 0} → Kind → (Field → Result A ℕ) → List (List ℕ) → Type 0

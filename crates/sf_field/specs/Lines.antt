@@ -1,5 +1,5 @@
 -- What parsing field lines answers.
-use Rattle.std.specs.Prelude.{◌≡◌, ℕ, ◌-◌, ◌^◌, ◌<◌, false, List, length, take, Some, None}
+use Rattle.std.specs.Prelude.{◌≡◌, ℕ, ◌-◌, ◌^◌, ◌<◌, List, length, take, Some, None}
 use Rattle.std.specs.Prelude.{Result, Ok, Err, ⊤}
 use Rattle.sf_value.specs.declared.dialect.Dialect.{Dialect}
 use Rattle.sf_value.specs.declared.value.Field.{Field}
@@ -8,16 +8,21 @@ use Rattle.sf_value.specs.Grammar.Lines.{join, Viable}
 use Rattle.sf_parse.specs.declared.refusal.Refusal.{Refusal}
 use Rattle.sf_parse.specs.declared.refusal.Refusal.TheVariants.{OutOfMemory, Syntax, TooLong}
 use Rattle.sf_parse.specs.declared.refusal.Refusal.TheVariants.{ReadFault}
-use Rattle.sf_parse.specs.Parsers.{IsOnly, IsSyntax}
+use Rattle.sf_parse.specs.Parsers.{Parses}
 
--- the lines are parsed as their joined text
+-- of a text of n bytes the answer rests on no more than 2^64 - 1: the text is no longer, or the
+-- byte that is found stands among the first so many
+abbrev pub IsCounted : ℕ → Result Field Refusal → Type 0
+IsCounted n (Ok v) = n < 2 ^ 64
+IsCounted n (Err OutOfMemory) = ⊤
+IsCounted n (Err (Syntax place None expected may_end)) = n < 2 ^ 64
+IsCounted n (Err (Syntax place (Some b) expected may_end)) = place < 2 ^ 64 - 1
+IsCounted n (Err (TooLong limit)) = ⊥
+IsCounted n (Err (ReadFault place)) = ⊥
+
+-- the lines are parsed as their joined text; it is TooLong where it has 2^64 bytes or more, of
+-- which the first 2^64 - 1 are viable
 abbrev pub ParsesLines : Dialect → Kind → List (List ℕ) → Result Field Refusal → Type 0
-ParsesLines d kind lines (Ok v) = IsOnly d kind (join lines) v
-ParsesLines d kind lines (Err OutOfMemory) = ⊤
-ParsesLines d kind lines (Err (Syntax place None expected may_end)) =
-    (may_end ≡ false) × IsSyntax d kind (join lines) place None expected may_end
-ParsesLines d kind lines (Err (Syntax place (Some b) expected may_end)) =
-    IsSyntax d kind (join lines) place (Some b) expected may_end
 ParsesLines d kind lines (Err (TooLong limit)) =
     (limit ≡ 2 ^ 64 - 1) × (limit < length (join lines)) × Viable d kind (take limit (join lines))
-ParsesLines d kind lines (Err (ReadFault place)) = ⊥
+ParsesLines d kind lines r = Parses d kind (join lines) r × IsCounted (length (join lines)) r

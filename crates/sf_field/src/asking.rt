@@ -1,7 +1,10 @@
 //! What field lines mean to a consumer.
-ghost use Rattle.std.specs.Prelude.{Some};
+ghost use Rattle.std.specs.Prelude.{◌≡◌, ℕ, List, [], ◌∷◌, Some};
+ghost use Rattle.sf_value.specs.Grammar.Words.{Every};
+ghost use Rattle.sf_value.specs.declared.value.Kind.TheVariants as kind_is;
+ghost use Rattle.sf_parse.specs.Plain.{plain_byte};
 ghost use Rattle.sf_field.specs.Faults.{ask_fault_text};
-ghost use Rattle.sf_field.specs.Asking.{Asks, MeansAsCanonical};
+ghost use Rattle.sf_field.specs.Asking.{Asks, MeansAsCanonical, ParsedOrRefused};
 
 use crate::consumer::{Consumer, UseFault};
 use crate::lines::parse_lines;
@@ -45,6 +48,8 @@ impl Error for AskFault {}
 
 /// What the lines mean to a consumer: they are parsed as its kind, as [`crate::parse_lines`] does,
 /// and the value is answered. Accepted lines and their canonical text, as one line, mean the same.
+/// Want of memory for the answer is told only where the value has one. A single line of spaces, `-`
+/// and digits takes no memory to parse where the consumer reads an Item.
 ///
 /// ```
 /// let policy = ask(alloc, &seed, &Directives, lines.as_slice())?;
@@ -57,6 +62,8 @@ pub fn ask<C: Consumer>(
 ) -> Result<C::Answer, AskFault>
     ensures answers { Asks C.KIND (C.meaning consumer.now) lines.now result }
     ensures canonical { MeansAsCanonical C.KIND (C.meaning consumer.now) lines.now }
+    ensures plain { C.KIND ≡ kind_is.Item → (line : List ℕ) → lines.now ≡ line ∷ []
+        → Every plain_byte line → ParsedOrRefused result }
 {
     let field = match parse_lines(alloc, seed, C::KIND, lines) {
         Ok(field) => field,

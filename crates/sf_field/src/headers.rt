@@ -1,6 +1,11 @@
 //! Field lines in a header map.
+ghost use Rattle.std.specs.Prelude.{◌≡◌, ℕ, List, [], ◌∷◌, IfErr};
 ghost use Rattle.sf_value.specs.Grammar.Lines.{join};
+ghost use Rattle.sf_value.specs.Grammar.Words.{Every};
+ghost use Rattle.sf_value.specs.declared.value.Kind.TheVariants as kind_is;
 ghost use Rattle.sf_parse.specs.Parsers.{Fed};
+ghost use Rattle.sf_parse.specs.Plain.{plain_byte};
+ghost use Rattle.sf_parse.specs.PlainParsers.{IsOther, IsPlain, KeptPlain};
 ghost use Rattle.sf_field.specs.Headers.{ParsesHeaders, lines_under};
 
 use http_header::{HeaderMap, HeaderName};
@@ -11,7 +16,10 @@ use std::hash::RandomState;
 
 // Feeds the joined text of the values of the name.
 fn feed_values(parser: &mut Parser, headers: &HeaderMap, name: &HeaderName) -> Result<(), Refusal>
-    ensures { Fed parser.old parser.new result (join (lines_under headers.now name.now)) }
+    ensures fed { Fed parser.old parser.new result (join (lines_under headers.now name.now)) }
+    ensures plain { IsPlain parser.old → (value : List ℕ)
+        → lines_under headers.now name.now ≡ value ∷ [] → Every plain_byte value
+        → KeptPlain parser.new result }
 {
     let mut values = headers.get_all(name).iter();
     let Some(first) = values.next() else {
@@ -27,7 +35,8 @@ fn feed_values(parser: &mut Parser, headers: &HeaderMap, name: &HeaderName) -> R
 
 /// The value that the values of the name spell together, None where the name is absent. They are
 /// the field lines, as they stand and in the map's order, and are parsed as
-/// [`crate::parse_lines`] does.
+/// [`crate::parse_lines`] does. A single value of spaces, `-` and digits takes no memory where an
+/// Item is asked for.
 ///
 /// ```
 /// let priority = HeaderName::from_static("priority");
@@ -40,7 +49,10 @@ pub fn from_headers(
     headers: &HeaderMap,
     name: &HeaderName,
 ) -> Result<Option<Field>, Refusal>
-    ensures { ParsesHeaders kind headers.now name.now result }
+    ensures parses { ParsesHeaders kind headers.now name.now result }
+    ensures plain { kind ≡ kind_is.Item → (value : List ℕ)
+        → lines_under headers.now name.now ≡ value ∷ [] → Every plain_byte value
+        → IfErr result IsOther }
 {
     if !headers.contains_key(name) {
         return Ok(None);

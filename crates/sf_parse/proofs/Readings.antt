@@ -1,20 +1,23 @@
 -- A reader's text, read and fed block by block.
-use Rattle.std.proofs.Common.{◌≡◌, ℕ, ◌+◌, ◌^◌, ◌<◌, ◌≤◌, List, [], ◌∷◌, ◌++◌, length, take, Some}
-use Rattle.std.proofs.Common.{None}
-use Rattle.std.proofs.Common.{Result, Ok, Err, refl, ap, ◌∙◌, subst, append-nil}
+use Rattle.std.proofs.Common.{◌≡◌, ℕ, ◌+◌, ◌^◌, ◌<◌, ◌≤◌, Bool, List, [], ◌∷◌, ◌++◌, length, take}
+use Rattle.std.proofs.Common.{Some, None, inl, inr}
+use Rattle.std.proofs.Common.{Result, Ok, Err, refl, ◌∙◌, subst, append-nil}
 use Rattle.std.proofs.Common.{length-append, arith}
-use Rattle.std.specs.Io.KnownBytes.{IsAtEnd}
-use Rattle.sf_value.specs.Devices.{SourceState, capped, Gave, GivesOnce, FailsOnce}
+use Rattle.sf_value.specs.Devices.{SourceState, capped, Gave, GivesOnce, EndsOnce, FailsOnce}
 use Rattle.sf_value.specs.declared.dialect.Dialect.TheVariants.{Rfc9651}
 use Rattle.sf_value.specs.declared.value.Field.{Field}
 use Rattle.sf_value.specs.declared.value.Kind.{Kind}
+use Rattle.sf_value.specs.declared.value.Kind.TheVariants as kind_is
 use Rattle.sf_value.specs.Grammar.Lines.{Viable}
+use Rattle.sf_value.specs.Grammar.Words.{Every}
 use Rattle.sf_parse.specs.declared.refusal.Refusal.{Refusal}
 use Rattle.sf_parse.specs.declared.refusal.Refusal.TheVariants.{OutOfMemory, Syntax, TooLong}
 use Rattle.sf_parse.specs.declared.refusal.Refusal.TheVariants.{ReadFault}
 use Rattle.sf_parse.specs.Machine.Fields.{begin}
 use Rattle.sf_parse.specs.Parsers.{Progress, Took, Fed, RefusedFor, Finishes}
-use Rattle.sf_parse.specs.Reading.{IsWholeOrFull, ReadAndParsed}
+use Rattle.sf_parse.specs.Plain.{plain_byte}
+use Rattle.sf_parse.specs.PlainParsers.{IsPlain, IsOther, NotForMemory}
+use Rattle.sf_parse.specs.Reading.{GaveAll, IsPlainText, Wanted, ReadAndParsed}
 use Rattle.sf_parse.proofs.Taking.{took_nothing, took_viable}
 use Rattle.sf_value.proofs.Gives.{gave_none, gave_more}
 
@@ -29,10 +32,23 @@ pub record Reads (old now : SourceState) (kind : Kind) (max given : ℕ) (p : Pr
   pub same_max : p.max ≡ max
   pub within : given ≤ max
   pub viable : Viable Rfc9651 kind text
+  pub plain : IsPlainText kind text → IsPlain p
+
+every_front : (t : ℕ → Bool) (a b : List ℕ) → Every t (a ++ b) → Every t a
+every_front t [] b h = tt
+every_front t (x ∷ a) b h = (h.0, every_front t a b h.1)
+
+every_behind : (t : ℕ → Bool) (a b : List ℕ) → Every t (a ++ b) → Every t b
+every_behind t [] b h = h
+every_behind t (x ∷ a) b h = every_behind t a b h.1
+
+plain_front : (kind : Kind) (a b : List ℕ) → IsPlainText kind (a ++ b) → IsPlainText kind a
+plain_front kind a b h = (h.0, every_front plain_byte a b h.1)
 
 pub reads_start : (s : SourceState) (kind : Kind) (max : ℕ) (p : Progress) → Took p []
-    → p.dialect ≡ Rfc9651 → p.kind ≡ kind → p.max ≡ max → Reads s s kind max 0 p
-reads_start s kind max p t d k m = record {
+    → p.dialect ≡ Rfc9651 → p.kind ≡ kind → p.max ≡ max → (kind ≡ kind_is.Item → IsPlain p)
+    → Reads s s kind max 0 p
+reads_start s kind max p t d k m plain = record {
   text = [];
   gave = gave_none s;
   took = t;
@@ -42,12 +58,14 @@ reads_start s kind max p t d k m = record {
   same_max = m;
   within = omega arith;
   viable = took_viable Rfc9651 kind (begin kind) [] (took_nothing Rfc9651 kind);
+  plain = λ h. plain h.0;
 }
 
 pub reads_more : (old a b : SourceState) (kind : Kind) (max given n : ℕ) (p q : Progress)
     (ys : List ℕ) → Reads old a kind max given p → GivesOnce a b ys → length ys ≡ n
-    → Fed p q (Ok tt) ys → Reads old b kind max (given + n) q
-reads_more old a b kind max given n p q ys r g e f =
+    → Fed p q (Ok tt) ys → (IsPlain p → Every plain_byte ys → IsPlain q)
+    → Reads old b kind max (given + n) q
+reads_more old a b kind max given n p q ys r g e f plain =
     let fed = f.answer.1 r.text r.took in
     let same = f.settings in
     let count : length (r.text ++ ys) ≡ given + n =
@@ -64,6 +82,8 @@ reads_more old a b kind max given n p q ys r g e f =
       viable =
           subst (λ k. Viable Rfc9651 k (r.text ++ ys)) r.same_kind
           (subst (λ d. Viable d p.kind (r.text ++ ys)) r.dialect fed.1);
+      plain = λ h.
+          plain (r.plain (plain_front kind r.text ys h)) (every_behind plain_byte r.text ys h.1);
     }
 
 at_most : (m n k given top : ℕ) → m ≡ given → k ≡ m + n → given + n ≤ top → k ≤ top
@@ -72,8 +92,9 @@ at_most m n k given top c e l = omega arith
 pub reads_refused : (old a b : SourceState) (kind : Kind) (max given : ℕ) (p q : Progress)
     (ys : List ℕ) (e : Refusal) → Reads old a kind max given p → GivesOnce a b ys
     → given + length ys ≤ capped (max + 1) → Fed p q (Err e) ys
+    → (IsPlain p → Every plain_byte ys → IsOther e)
     → ReadAndParsed Rfc9651 kind old b max (Err e)
-reads_refused old a b kind max given p q ys e r g l f = at e refused
+reads_refused old a b kind max given p q ys e r g l f plain = at e refused other
   where
     text : List ℕ
     text = r.text ++ ys
@@ -92,16 +113,21 @@ reads_refused old a b kind max given p q ys e r g l f = at e refused
         (subst (λ m. RefusedFor p.dialect p.kind m (text ++ more) e) r.same_max
         (f.answer.1 r.text r.took more)))
 
+    other : IsPlainText kind text → IsOther e
+    other h =
+        plain (r.plain (plain_front kind r.text ys h)) (every_behind plain_byte r.text ys h.1)
+
     at : (e : Refusal) → ((more : List ℕ) → RefusedFor Rfc9651 kind max (text ++ more) e)
-        → ReadAndParsed Rfc9651 kind old b max (Err e)
-    at OutOfMemory h = (text, gave, bound)
-    at (Syntax place None expected may) h = absurd (h [])
-    at (Syntax place (Some c) expected may) h = (text, gave, bound, (h []).0, λ more. (h more).1)
-    at (TooLong limit) h =
+        → (IsPlainText kind text → IsOther e) → ReadAndParsed Rfc9651 kind old b max (Err e)
+    at OutOfMemory h o = (text, (o, inl (gave, bound)))
+    at (Syntax place None expected may) h o = absurd (h [])
+    at (Syntax place (Some c) expected may) h o =
+        (text, gave, bound, (h []).0, λ more. (h more).1)
+    at (TooLong limit) h o =
         let none = append-nil text in
         let k = subst (λ y. RefusedFor Rfc9651 kind max y (TooLong limit)) none (h []) in
         (text, gave, (let m = k.1 in let w = bound in omega arith), k.0, k.2)
-    at (ReadFault place) h = absurd (h [])
+    at (ReadFault place) h o = absurd (h [])
 
 pub reads_failed : (old a b : SourceState) (kind : Kind) (max given : ℕ) (p : Progress)
     → Reads old a kind max given p → FailsOnce a b
@@ -109,15 +135,21 @@ pub reads_failed : (old a b : SourceState) (kind : Kind) (max given : ℕ) (p : 
 reads_failed old a b kind max given p r f =
     (r.text, record { mid = a; gave = r.gave; failed = f }, r.count, r.within, r.viable)
 
+wanted : (old b : SourceState) (kind : Kind) (max : ℕ) (text : List ℕ) → GaveAll old b text
+    → length text ≤ max → max < 2 ^ 64 → ¬ (IsPlainText kind text) → Wanted kind old b max text
+wanted old b kind max text g l m n =
+    elim g [ inl e ↦ (n, inr (e, l)) | inr f ↦ (n, inl (f.0, omega arith)) ]
+
 ended : (old b : SourceState) (kind : Kind) (max : ℕ) (text : List ℕ) (r : Result Field Refusal)
-    → Gave old b text → length text ≤ max → max < 2 ^ 64 → IsWholeOrFull b text
+    → GaveAll old b text → length text ≤ max → max < 2 ^ 64
+    → (IsPlainText kind text → NotForMemory r)
     → Finishes Rfc9651 kind text r → ReadAndParsed Rfc9651 kind old b max r
-ended old b kind max text (Ok v) g l m w f = (text, g, l, w, f)
-ended old b kind max text (Err OutOfMemory) g l m w f = (text, g, omega arith)
-ended old b kind max text (Err (Syntax place None expected may)) g l m w f = (text, g, l, w, f)
-ended old b kind max text (Err (Syntax place (Some c) expected may)) g l m w f = absurd f
-ended old b kind max text (Err (TooLong limit)) g l m w f = absurd f
-ended old b kind max text (Err (ReadFault place)) g l m w f = absurd f
+ended old b kind max text (Ok v) g l m n f = (text, g, l, f)
+ended old b kind max text (Err OutOfMemory) g l m n f = (text, wanted old b kind max text g l m n)
+ended old b kind max text (Err (Syntax place None expected may)) g l m n f = (text, g, l, f)
+ended old b kind max text (Err (Syntax place (Some c) expected may)) g l m n f = absurd f
+ended old b kind max text (Err (TooLong limit)) g l m n f = absurd f
+ended old b kind max text (Err (ReadFault place)) g l m n f = absurd f
 
 finished : (kind : Kind) (max given : ℕ) (old a : SourceState) (p : Progress)
     (r : Result Field Refusal) (k : Reads old a kind max given p)
@@ -129,31 +161,22 @@ finished kind max given old a p r k f =
 -- as many bytes were given as a count holds
 pub reads_full : (old a : SourceState) (kind : Kind) (max given limit : ℕ) (p : Progress)
     (r : Result Field Refusal) → Reads old a kind max given p → max < 2 ^ 64
-    → limit ≡ capped (max + 1) → limit ≤ given
+    → limit ≡ capped (max + 1) → limit ≤ given → (IsPlain p → NotForMemory r)
     → ((s : List ℕ) → Took p s → Finishes p.dialect p.kind s r)
     → ReadAndParsed Rfc9651 kind old a max r
-reads_full old a kind max given limit p r k m e l f =
+reads_full old a kind max given limit p r k m e l n f =
     let c = k.count in
     let w = k.within in
-    ended old a kind max k.text r k.gave (omega arith) m (λ h. absurd (let n : ⊥ = omega arith in
-    n))
-    (finished kind max given old a p r k f)
+    ended old a kind max k.text r (inr (k.gave, omega arith)) (omega arith) m
+    (λ h. n (k.plain h)) (finished kind max given old a p r k f)
 
--- the reader came to its end: it gave nothing into a block that isn't empty
-pub reads_ended : (old a b : SourceState) (kind : Kind) (max given n : ℕ) (block : List ℕ)
-    (p : Progress) (r : Result Field Refusal) → Reads old a kind max given p → max < 2 ^ 64
-    → n ≡ 0 → GivesOnce a b (take n block) → IsAtEnd b.to_come
-    → ((s : List ℕ) → Took p s → Finishes p.dialect p.kind s r)
+-- the reader came to its end
+pub reads_ended : (old a b : SourceState) (kind : Kind) (max given : ℕ) (p : Progress)
+    (r : Result Field Refusal) → Reads old a kind max given p → max < 2 ^ 64 → EndsOnce a b
+    → (IsPlain p → NotForMemory r) → ((s : List ℕ) → Took p s → Finishes p.dialect p.kind s r)
     → ReadAndParsed Rfc9651 kind old b max r
-reads_ended old a b kind max given n block p r k m z g e f =
+reads_ended old a b kind max given p r k m e n f =
     let c = k.count in
     let w = k.within in
-    let nothing : take n block ≡ [] = ap (λ i. take i block) z ∙ take_none block in
-    let joined = gave_more old a b k.text [] k.gave (subst (GivesOnce a b) nothing g) in
-    let gave = subst (Gave old b) (append-nil k.text) joined in
-    ended old b kind max k.text r gave (omega arith) m (λ h. e)
-    (finished kind max given old a p r k f)
-  where
-    take_none : (xs : List ℕ) → take 0 xs ≡ []
-    take_none [] = refl
-    take_none (x ∷ xs) = refl
+    ended old b kind max k.text r (inl (record { mid = a; gave = k.gave; ended = e }))
+    (omega arith) m (λ h. n (k.plain h)) (finished kind max given old a p r k f)

@@ -89,26 +89,37 @@ pub(crate) fn padded_number(alloc: Global) -> Result<Vec<u8>, AllocError> {
 pub(crate) struct Drip {
     rest: &'static [u8],
     given: u64,
+    ends: u64,
 }
 
 impl Drip {
     /// The source of these bytes.
     pub(crate) fn new(rest: &'static [u8]) -> Drip {
-        Drip { rest, given: 0 }
+        Drip {
+            rest,
+            given: 0,
+            ends: 0,
+        }
     }
 }
 
 impl Source for Drip {
     ghost use Rattle.std.specs.Prelude.{None};
 
-    ghost state = { λ s. record { to_come = None; given = s.given; failures = 0 } };
+    ghost state = { λ s. record {
+      to_come = None;
+      given = s.given;
+      ends = s.ends;
+      failures = 0;
+    } };
 
     fn pull(&mut self, block: &mut [u8]) -> Result<usize, Failed> {
         let given = self.given.saturating_add(1);
-        let Some((first, rest)) = self.rest.split_first() else {
+        let Some(place) = block.first_mut() else {
             return Ok(0);
         };
-        let Some(place) = block.first_mut() else {
+        let Some((first, rest)) = self.rest.split_first() else {
+            self.ends = self.ends.saturating_add(1);
             return Ok(0);
         };
         *place = *first;

@@ -1,5 +1,5 @@
 -- What clap finds in the words of the command line.
-use Rattle.std.proofs.Common.{◌≡◌, ℕ, ◌+◌, ◌<◌, true, false, List, [], ◌∷◌, ◌++◌, length}
+use Rattle.std.proofs.Common.{◌≡◌, ℕ, ◌+◌, ◌<◌, ◌≤◌, true, false, List, [], ◌∷◌, ◌++◌, length}
 use Rattle.std.proofs.Common.{Option, Some, None, refl, ap, ap₂, sym, ◌∙◌, map, codes, arith, take}
 use Rattle.std.proofs.Common.{subst, bytes_eq, get_or, suc}
 use Rattle.std.specs.Prelude.{option_map, Result, Ok, Err, MatchResult, IsErrAnd}
@@ -144,7 +144,7 @@ targeted-asks rows word texts e given (Err Usage) h =
     (λ names words some are.
     let P : List Text → Type 0 = λ ws. AreNames ws names in
     h names (subst P (some-same _ _ (sym some ∙ given)) are))
-targeted-asks rows word texts e given (Err OutOfMemory) h = tt
+targeted-asks rows word texts e given (Err OutOfMemory) h = (e, (texts, given, h))
 
 -- one name more
 
@@ -171,10 +171,10 @@ pub not-names : (words : List Text) (i : ℕ) (d : Text) → i < length words
 not-names words i d lt bad names are =
     false≢true (sym (list_all_at is_header_name words i d lt bad) ∙ are.2)
 
-pub names-fault : (words : List Text) (i : ℕ) (d : Text) → i < length words → (fault : RequestFault)
-    → (fault ≡ Usage → is_header_name (get_or words i d) ≡ false)
+pub names-fault : (words : List Text) (i : ℕ) (d : Text) → i < length words → length words ≤ 64
+    → (fault : RequestFault) → (fault ≡ Usage → is_header_name (get_or words i d) ≡ false)
     → (r : Result Request RequestFault) → IsErrAnd r (λ e. e ≡ fault)
     → MatchResult r (IsTargetedOf words) (IsNamesFault words)
-names-fault words i d lt fault bad (Ok request) h = absurd h
-names-fault words i d lt fault bad (Err OutOfMemory) h = tt
-names-fault words i d lt fault bad (Err Usage) h = not-names words i d lt (bad (sym h))
+names-fault words i d lt few fault bad (Ok request) h = absurd h
+names-fault words i d lt few fault bad (Err OutOfMemory) h = (omega arith, few)
+names-fault words i d lt few fault bad (Err Usage) h = not-names words i d lt (bad (sym h))

@@ -1,103 +1,128 @@
 -- The fields of an input, line by line.
-use Rattle.std.proofs.Common.{◌≡◌, ℕ, suc, ◌+◌, Bool, true, false, List, [], ◌∷◌, length}
-use Rattle.std.proofs.Common.{refl, ap, sym, ◌∙◌, inl, inr, arith, Option, Some, None, Result, Ok}
-use Rattle.std.proofs.Common.{Err}
-use Rattle.std.specs.Prelude.{if◌then◌else◌, cond, nat_lt, option_map}
-use Rattle.std.specs.List.{position, position_or_len}
-use Rattle.std.proofs.lemmas.Bool.{cases_Bool}
-use Rattle.std.proofs.lemmas.Bool.Decides.{nat_tests}
-use Rattle.http_header.specs.HeaderMap.{append_all}
+use Rattle.std.proofs.Common.{◌≡◌, ℕ, suc, ◌+◌, ◌<◌, ◌≤◌, ◌⊎◌, true, false, List, [], ◌∷◌, ◌++◌}
+use Rattle.std.proofs.Common.{length, take, drop, get_or, refl, ap, sym, ◌∙◌, subst, inl, inr}
+use Rattle.std.proofs.Common.{map, arith, add-one, length-drop}
+use Rattle.std.specs.Prelude.{fold}
+use Rattle.std.specs.List.{filter}
+use Rattle.std.proofs.Math.Seq.{take-suc, take-length}
+use borrow.Author.Count.{below_more}
+use Rattle.std.proofs.lemmas.Bool.{false≢true}
+use Rattle.std.proofs.lemmas.List.{map-append, drop_more}
+use Rattle.std.proofs.lemmas.List.Elements.{filter-append}
+use Rattle.std.proofs.lemmas.List.Sums.{fold-append}
+use Rattle.http_header.specs.FieldValue.{FieldValue}
+use Rattle.http_header.specs.HeaderMap.{append, append_all, RefusesAppend}
 use Rattle.sf_field.specs.Headers.{Headers}
 use Rattle.sf_tool.specs.Lines.{lines_of}
-use Rattle.sf_tool.specs.Fields.{Targets, is_refused, is_of_listed, listed_fields}
-use Rattle.sf_tool.specs.Fields.{fields_in, fields_or_line}
-use Rattle.sf_tool.specs.OneLine.{Takes}
+use Rattle.sf_tool.specs.Fields.{Targets, is_refused, is_of_listed, field_of, name_of}
+use Rattle.sf_tool.specs.Fields.{listed_fields}
+use Rattle.sf_tool.specs.Fields.{headers_of, IsOver, IsRefusedAt, AreTaken, AreFields}
+use Rattle.sf_tool.specs.Fields.{IsFirstRefused}
+use Rattle.sf_tool.specs.OneLine.{Takes, FindsNoRoom}
 
--- from line n on, with what the lines before it gave
-abbrev pub read_from : Targets → ℕ → List (List ℕ) → Headers → Result Headers ℕ
-read_from targets n [] headers = Ok headers
-read_from targets n (line ∷ lines) headers =
-    if is_refused targets line then Err n
-    else read_from targets (n + 1) lines (append_all headers (listed_fields targets (line ∷ [])))
+-- the fields of one line more
+headers-more : (targets : Targets) (lines : List (List ℕ)) (line : List ℕ)
+    → headers_of targets (lines ++ line ∷ [])
+    ≡ append_all (headers_of targets lines) (listed_fields targets (line ∷ []))
+headers-more targets lines line =
+    let add : Headers → (List ℕ × FieldValue) → Headers = λ m item. append m item.0 item.1 in
+    let listed = is_of_listed targets in
+    let fields : listed_fields targets (lines ++ line ∷ [])
+    ≡ listed_fields targets lines ++ listed_fields targets (line ∷ []) =
+    ap (map field_of) (filter-append listed lines (line ∷ []))
+    ∙ map-append field_of (filter listed lines) (filter listed (line ∷ [])) in
+    ap (fold add []) fields
+    ∙ fold-append add [] (listed_fields targets lines) (listed_fields targets (line ∷ []))
 
--- the same by the place of the first refused line
-abbrev fields_from : Targets → ℕ → List (List ℕ) → Headers → Option ℕ → Result Headers ℕ
-fields_from targets n lines headers None = Ok (append_all headers (listed_fields targets lines))
-fields_from targets n lines headers (Some k) = Err (n + k)
+-- the lines before the n-th were taken and gave these headers, and these are left
+pub record ReadsOn (targets : Targets) (all left : List (List ℕ)) (n : ℕ) (headers : Headers)
+    : Type 0 where
+  pub rest : left ≡ drop n all
+  pub within : n ≤ length all
+  pub held : headers ≡ headers_of targets (take n all)
+  pub taken : AreTaken targets all n
 
-place-later : (k n : ℕ) → cond (nat_lt (suc k) (suc n)) (Some (suc k)) None
-    ≡ option_map suc (cond (nat_lt k n) (Some k) None)
-place-later k n =
-    let same : nat_lt (suc k) (suc n) ≡ nat_lt k n = grind (arith, nat_tests) in
-    elim (cases_Bool (nat_lt k n)) [ inl t ↦ rw (same, t) refl | inr f ↦ rw (same, f) refl ]
+pub reads_on-start : (targets : Targets) (all : List (List ℕ)) → ReadsOn targets all all 0 []
+reads_on-start targets all = record {
+  rest = refl;
+  within = omega arith;
+  held = refl;
+  taken = λ i h. absurd (let n : ⊥ = omega arith in n);
+}
 
-module _ {X : Type 0} where
-  position-here : (p : X → Bool) (x : X) (xs : List X) → p x ≡ true
-      → position p (x ∷ xs) ≡ Some 0
-  position-here p x xs t =
-      let first : position_or_len p (x ∷ xs) ≡ 0 = rw t refl in
-      let some : nat_lt 0 (length (x ∷ xs)) ≡ true = grind (arith, nat_tests) in
-      rw (first, some) refl
+-- what is left begins with the line of the number
+at : (all more : List (List ℕ)) (line : List ℕ) (n : ℕ) → line ∷ more ≡ drop n all → n ≤ length all
+    → (n < length all) × (get_or all n [] ≡ line) × (drop (n + 1) all ≡ more)
+at all more line n e w =
+    let some : length (line ∷ more) ≡ length (drop n all) = ap length e in
+    let lt : n < length all = omega (arith, length-drop n all) in
+    let split : line ∷ more ≡ get_or all n [] ∷ drop (n + 1) all = e ∙ drop_more all n [] lt in
+    (lt, cc, cc)
 
-  position-later : (p : X → Bool) (x : X) (xs : List X) → p x ≡ false
-      → position p (x ∷ xs) ≡ option_map suc (position p xs)
-  position-later p x xs f =
-      let next : 1 + position_or_len p xs ≡ suc (position_or_len p xs) = omega arith in
-      let later : position_or_len p (x ∷ xs) ≡ suc (position_or_len p xs) = rw f next in
-      rw later (place-later (position_or_len p xs) (length xs))
+not-refused : (targets : Targets) (all : List (List ℕ)) (line : List ℕ) (n : ℕ) (old : Headers)
+    → get_or all n [] ≡ line → old ≡ headers_of targets (take n all)
+    → is_refused targets line ≡ false → ¬ (FindsNoRoom targets line old)
+    → ¬ (IsRefusedAt targets all n)
+not-refused targets all line n old e h good room =
+    rw e (λ r. elim r [
+      | inl bad ↦ false≢true (sym good ∙ bad)
+      | inr over ↦ room (over.1, rw h over.2)
+    ])
 
-fields-later : (targets : Targets) (n : ℕ) (line : List ℕ) (lines : List (List ℕ))
-    (headers : Headers) (at : Option ℕ)
-    → fields_from targets (n + 1) lines
-    (append_all headers (listed_fields targets (line ∷ []))) at
-    ≡ fields_from targets n (line ∷ lines) headers (option_map suc at)
-fields-later targets n line lines headers None =
-    elim (cases_Bool (is_of_listed targets line)) [ inl t ↦ rw t refl | inr f ↦ rw f refl ]
-fields-later targets n line lines headers (Some k) =
-    let e : (n + 1) + k ≡ n + suc k = omega arith in
-    ap Err e
+-- a line is taken
+pub reads_on-takes : (targets : Targets) (all more : List (List ℕ)) (line : List ℕ) (n : ℕ)
+    (old new : Headers) → ReadsOn targets all (line ∷ more) n old → Takes targets line old new
+    → ReadsOn targets all more (n + 1) new
+reads_on-takes targets all more line n old new r t =
+    let here = at all more line n r.rest r.within in
+    let lt = here.0 in
+    let longer : take (n + 1) all ≡ take n all ++ line ∷ [] =
+    rw add-one (take-suc all n [] lt) ∙ ap (λ l. take n all ++ l ∷ []) here.1 in
+    record {
+      rest = sym here.2;
+      within = omega arith;
+      held = t.2
+          ∙ ap (λ m. append_all m (listed_fields targets (line ∷ []))) r.held
+          ∙ sym (headers-more targets (take n all) line)
+          ∙ ap (headers_of targets) (sym longer);
+      taken = below_more (λ i. ¬ (IsRefusedAt targets all i)) n r.taken
+          (not-refused targets all line n old here.1 r.held t.0 t.1);
+    }
 
-read_from-is : (targets : Targets) (n : ℕ) (lines : List (List ℕ)) (headers : Headers)
-    → read_from targets n lines headers
-    ≡ fields_from targets n lines headers (position (is_refused targets) lines)
-read_from-is targets n [] headers = refl
-read_from-is targets n (line ∷ lines) headers =
-    let p : List ℕ → Bool = is_refused targets in
-    elim (cases_Bool (is_refused targets line)) [
-      | inl t ↦
-          let here : n ≡ n + 0 = omega arith in
-          rw (position-here p line lines t, t) (ap Err here)
-      | inr f ↦
-          rw (position-later p line lines f, f)
-          (read_from-is targets (n + 1) lines _
-          ∙ fields-later targets n line lines headers (position p lines))
-    ]
+-- a line is refused
+pub reads_on-refused : (targets : Targets) (input : List ℕ) (more : List (List ℕ)) (line : List ℕ)
+    (n : ℕ) (headers : Headers) → ReadsOn targets (lines_of input) (line ∷ more) n headers
+    → (FindsNoRoom targets line headers → 24576 ≤ length targets)
+    → (is_refused targets line ≡ true) ⊎ FindsNoRoom targets line headers
+    → IsFirstRefused targets input n
+reads_on-refused targets input more line n headers r many why =
+    let all = lines_of input in
+    let here = at all more line n r.rest r.within in
+    let Stops : List ℕ → Type 0 =
+    λ l. (is_refused targets l ≡ true) ⊎ IsOver targets (take n all) l in
+    let stops : Stops line = elim why [
+      | inl bad ↦ inl bad
+      | inr room ↦
+          inr (
+            many room,
+            room.0,
+            subst (λ m. RefusesAppend m (name_of line)) r.held room.1,
+          )
+    ] in
+    (here.0, subst Stops (sym here.1) stops, r.taken)
 
-fields_from-start : (targets : Targets) (lines : List (List ℕ)) (at : Option ℕ)
-    → fields_from targets 0 lines [] at ≡ fields_or_line targets lines at
-fields_from-start targets lines None = refl
-fields_from-start targets lines (Some k) =
-    let e : 0 + k ≡ k = omega arith in
-    ap Err e
-
-pub read_from-start : (targets : Targets) (input : List ℕ)
-    → read_from targets 0 (lines_of input) [] ≡ fields_in targets input
-read_from-start targets input =
-    let lines = lines_of input in
-    read_from-is targets 0 lines [] ∙ fields_from-start targets lines _
-
--- a line that is taken, and the lines behind it
-pub read_from-takes : (targets : Targets) (n : ℕ) (line : List ℕ) (lines : List (List ℕ))
-    (old new : Headers) → Takes targets line old new
-    → read_from targets n (line ∷ lines) old ≡ read_from targets (n + 1) lines new
-read_from-takes targets n line lines old new taken =
-    let next = append_all old (listed_fields targets (line ∷ [])) in
-    let front : read_from targets n (line ∷ lines) old ≡ read_from targets (n + 1) lines next =
-    rw taken.0 refl in
-    front ∙ ap (λ m. read_from targets (n + 1) lines m) (sym taken.1)
-
--- a line that is refused
-pub read_from-refused : (targets : Targets) (n : ℕ) (line : List ℕ) (lines : List (List ℕ))
-    (headers : Headers) → is_refused targets line ≡ true
-    → read_from targets n (line ∷ lines) headers ≡ Err n
-read_from-refused targets n line lines headers t = rw t refl
+-- no line is left
+pub reads_on-done : (targets : Targets) (input : List ℕ) (left : List (List ℕ)) (n : ℕ)
+    (headers : Headers) → ReadsOn targets (lines_of input) left n headers → left ≡ []
+    → AreFields targets input headers
+reads_on-done targets input left n headers r e =
+    let all = lines_of input in
+    let none : length left ≡ 0 = ap length e in
+    let same : length left ≡ length (drop n all) = ap length r.rest in
+    let w = r.within in
+    let whole : n ≡ length all = omega (arith, length-drop n all) in (
+      subst (AreTaken targets all) whole r.taken,
+      r.held
+          ∙ ap (λ k. headers_of targets (take k all)) whole
+          ∙ ap (headers_of targets) (take-length all),
+    )

@@ -1,4 +1,4 @@
--- A map of values under listed names has room for one more.
+-- A map of values under listed names has room for one more, where the names are few.
 use Rattle.std.proofs.Common.{◌≡◌, ℕ, suc, ◌+◌, ◌<◌, ◌≤◌, ◌^◌, ◌⊎◌, inl, inr, true, false, List, []}
 use Rattle.std.proofs.Common.{◌∷◌, ◌++◌, length, bytes_eq, refl, sym, ap, ◌∙◌, arith, subst}
 use Rattle.std.proofs.Common.{length-append}
@@ -14,7 +14,7 @@ use Rattle.http_header.specs.HeaderMap.{Entry, Entries, keys, update, append}
 use Rattle.http_header.specs.HeaderMap.{value_count, RefusesAppend}
 use Rattle.sf_field.specs.Headers.{Headers}
 use Rattle.sf_tool.specs.Fields.{Targets, is_listed, is_of_listed, field_of, name_of, has_name}
-use Rattle.sf_tool.specs.OneLine.{Takes, HasRoomFor}
+use Rattle.sf_tool.specs.OneLine.{Takes}
 
 module _ {X : Type 0} where
   -- a name of the map after an update was there, or is the new one
@@ -102,18 +102,17 @@ module _ {X : Type 0} where
     counted = omega (arith, value_count-append m name value, map.counted);
   }
 
-  -- so the map takes a further value
-  not-full : (targets : Targets) (m : Entries X) (n : ℕ) (name : List ℕ)
-      → length targets < 24576 → n + 1 < 2 ^ 64 → IsListedMap targets m n
-      → ¬ (RefusesAppend m name)
-  not-full targets m n name few small map full =
+  -- so the map takes a further value, but where there are names enough to fill it
+  pub many-names : (targets : Targets) (m : Entries X) (n : ℕ) (name : List ℕ)
+      → n + 1 < 2 ^ 64 → IsListedMap targets m n → RefusesAppend m name → 24576 ≤ length targets
+  many-names targets m n name small map full =
       let names : length (keys m) ≤ length targets =
       length-le_from_is_member nat_list_eq_equiv (keys m) targets map.distinct map.listed in
       let kept = length-keys m in
       let counted = map.counted in
       elim full [
         | inl a ↦ absurd (omega arith)
-        | inr b ↦ elim b.1 [ inl c ↦ absurd (omega arith) | inr d ↦ absurd (omega arith) ]
+        | inr b ↦ elim b.1 [ inl c ↦ omega arith | inr d ↦ absurd (omega arith) ]
       ]
 
 listed-member : (targets : Targets) (name : List ℕ) → is_listed targets name ≡ true
@@ -130,10 +129,6 @@ listed-member (t ∷ targets) name h =
           rw back (listed-member targets name later)
     ]
 
-pub HasRoomFor-listed : (targets : Targets) (m : Headers) (n : ℕ) → length targets < 24576
-    → n + 1 < 2 ^ 64 → IsListedMap targets m n → HasRoomFor targets m
-HasRoomFor-listed targets m n few small map name here = not-full targets m n name few small map
-
 -- the empty map
 pub IsListedMap-empty : (targets : Targets) → IsListedMap {X = FieldValue} targets [] 0
 unfolding IsDistinct
@@ -148,19 +143,12 @@ is_listed-of targets line h =
       | inr f ↦ (let bad : false ≡ true = rw f at h in absurd (false≢true bad))
     ]
 
--- a field that a line gives finds room
-pub room-listed : (targets : Targets) (line name : List ℕ) (m : Headers) → HasRoomFor targets m
-    → is_of_listed targets line ≡ true → name ≡ name_of line → ¬ (RefusesAppend m name)
-room-listed targets line name m room of e =
-    let P : List ℕ → Type 0 = λ q. ¬ (RefusesAppend m q) in
-    subst P (sym e) (room (name_of line) (is_listed-of targets line of))
-
 -- the map after one line more
 pub IsListedMap-takes : (targets : Targets) (line : List ℕ) (old new : Headers) (n : ℕ)
     → IsListedMap targets old n → Takes targets line old new → IsListedMap targets new (n + 1)
 IsListedMap-takes targets line old new n map taken =
     let P : Headers → Type 0 = λ m. IsListedMap targets m (n + 1) in
-    subst P (sym taken.1)
+    subst P (sym taken.2)
     (elim (cases_Bool (is_of_listed targets line)) [
       | inl t ↦
           let field = field_of line in

@@ -17,7 +17,6 @@ use Rattle.sf_tool.specs.declared.request.Request.TheVariants.{Show, Check, Norm
 use Rattle.sf_tool.specs.declared.request.Request.TheVariants.{Targeted, Priority}
 use Rattle.sf_tool.specs.declared.request.RequestFault.{RequestFault}
 use Rattle.sf_tool.specs.declared.request.RequestFault.TheVariants.{Usage, OutOfMemory}
-use Rattle.sf_tool.specs.declared.request.TheConstants.{MAX_NAMES}
 use Rattle.sf_tool.specs.Fields.{is_header_name}
 
 -- `--kind`, which must be given
@@ -83,7 +82,7 @@ NamesDialect rows dialect = first_of (codes "dialect") rows ≡ Some (dialect_wo
 -- from 1 to 64 header names, whose letters may be of either case
 abbrev pub AreNames : List Text → List Text → Type 0
 AreNames words names =
-    (1 ≤ length words) × (length words ≤ MAX_NAMES) × (list_all is_header_name words ≡ true)
+    (1 ≤ length words) × (length words ≤ 64) × (list_all is_header_name words ≡ true)
     × (names ≡ map lowercase words)
 
 -- what was given with the command's name is what the request has

@@ -1,6 +1,6 @@
 -- What the steps of reading the words tell of a command that clap found in them.
-use Rattle.std.specs.Prelude.{List, ⊤}
-use Rattle.clap.specs.Walk.{Row, Text}
+use Rattle.std.specs.Prelude.{◌≡◌, ◌≤◌, List, length, Some, codes, ⊤}
+use Rattle.clap.specs.Walk.{Row, Text, all_of}
 use Rattle.sf_tool.specs.declared.request.Request.{Request}
 use Rattle.sf_tool.specs.declared.request.Request.TheVariants.{Show, Check, Normalise, CacheStatus}
 use Rattle.sf_tool.specs.declared.request.Request.TheVariants.{Targeted, Priority}
@@ -12,15 +12,22 @@ use Rattle.sf_tool.specs.CommandLine.{AreNames, AsksFor}
 abbrev pub AsksForNone : Text → List Row → Type 0
 AsksForNone word rows = (request : Request) → ¬ (AsksFor word rows request)
 
--- Usage, where a command that was found in the words asks for no request
+-- so many names take memory: none and more than 64 are refused without it
+abbrev pub TakesMemory : List Text → Type 0
+TakesMemory words = (1 ≤ length words) × (length words ≤ 64)
+
+-- Usage, where a command that was found in the words asks for no request; memory is wanting for the
+-- names of `targeted` alone
 abbrev pub IsCommandFault : Text → List Row → RequestFault → Type 0
 IsCommandFault word rows Usage = AsksForNone word rows
-IsCommandFault word rows OutOfMemory = ⊤
+IsCommandFault word rows OutOfMemory =
+    (word ≡ codes "targeted")
+    × ((words : List Text) × (all_of (codes "name") rows ≡ Some words) × TakesMemory words)
 
--- Usage, where the words are no names that `targeted` takes
+-- Usage, where the words are no names that `targeted` takes; memory is wanting for 1 to 64 of them
 abbrev pub IsNamesFault : List Text → RequestFault → Type 0
 IsNamesFault words Usage = (names : List Text) → ¬ (AreNames words names)
-IsNamesFault words OutOfMemory = ⊤
+IsNamesFault words OutOfMemory = TakesMemory words
 
 -- the request has names, and they are those of the words
 abbrev pub IsTargetedOf : List Text → Request → Type 0

@@ -1,11 +1,11 @@
 -- The listed fields of an input of field lines.
-use Rattle.std.specs.Prelude.{◌≡◌, ℕ, Bool, ◌&&◌, ◌||◌, not, List, [], ◌∷◌, map, length, ◌==◌}
-use Rattle.std.specs.Prelude.{nat_lt, nat_le, false, Option, Some, None, Result, Ok, Err, ⊤}
-use Rattle.std.specs.List.{list_all, list_any, filter, position, before_first, after_first}
+use Rattle.std.specs.Prelude.{◌≡◌, ℕ, ◌<◌, ◌≤◌, ◌⊎◌, Bool, ◌&&◌, ◌||◌, not, true, false, ◌==◌}
+use Rattle.std.specs.Prelude.{List, [], ◌∷◌, map, length, take, get_or, nat_lt, nat_le, ⊤}
+use Rattle.std.specs.List.{list_all, list_any, filter, before_first, after_first}
 use Rattle.std.specs.Str.{bytes_eq}
 use Rattle.http_header.specs.Token.{lowercase}
 use Rattle.http_header.specs.FieldValue.{FieldValue, plain_value}
-use Rattle.http_header.specs.HeaderMap.{append_all}
+use Rattle.http_header.specs.HeaderMap.{append_all, RefusesAppend}
 use Rattle.sf_value.specs.Grammar.Classes.{is_tchar}
 use Rattle.sf_field.specs.Headers.{Headers}
 use Rattle.sf_tool.specs.declared.fields.InputFault.{InputFault}
@@ -71,18 +71,42 @@ field_of line = (name_of line, plain_value (value_of line))
 abbrev pub listed_fields : Targets → List (List ℕ) → List (List ℕ × FieldValue)
 listed_fields targets lines = map field_of (filter (is_of_listed targets) lines)
 
--- by the place of the first refused line: its number, or where none is refused the listed fields
-abbrev pub fields_or_line : Targets → List (List ℕ) → Option ℕ → Result Headers ℕ
-fields_or_line targets lines None = Ok (append_all [] (listed_fields targets lines))
-fields_or_line targets lines (Some n) = Err n
+-- the listed fields of these lines as a header map
+abbrev pub headers_of : Targets → List (List ℕ) → Headers
+headers_of targets lines = append_all [] (listed_fields targets lines)
 
--- the listed fields of an input as a header map, or the number of the first line that is refused,
--- counted from 0 over all lines
-abbrev pub fields_in : Targets → List ℕ → Result Headers ℕ
-fields_in targets input =
-    fields_or_line targets (lines_of input) (position (is_refused targets) (lines_of input))
+-- the map of the lines before has no room for the field of this line: it is full of names, which
+-- takes a list of 24,576 or more, and a command line has 64 at most
+abbrev pub IsOver : Targets → List (List ℕ) → List ℕ → Type 0
+IsOver targets before line =
+    (24576 ≤ length targets)
+    × (is_of_listed targets line ≡ true)
+    × RefusesAppend (headers_of targets before) (name_of line)
+
+-- the line of this number is refused, for what it is or since its field finds no room
+abbrev pub IsRefusedAt : Targets → List (List ℕ) → ℕ → Type 0
+IsRefusedAt targets lines n =
+    (is_refused targets (get_or lines n []) ≡ true)
+    ⊎ IsOver targets (take n lines) (get_or lines n [])
+
+-- none of the first n lines is refused
+abbrev pub AreTaken : Targets → List (List ℕ) → ℕ → Type 0
+AreTaken targets lines n = (i : ℕ) → i < n → ¬ (IsRefusedAt targets lines i)
+
+-- the listed fields of an input as a header map, where none of its lines is refused
+abbrev pub AreFields : Targets → List ℕ → Headers → Type 0
+AreFields targets input headers =
+    AreTaken targets (lines_of input) (length (lines_of input))
+    × (headers ≡ headers_of targets (lines_of input))
+
+-- the number of the first line that is refused, counted from 0 over all lines
+abbrev pub IsFirstRefused : Targets → List ℕ → ℕ → Type 0
+IsFirstRefused targets input n =
+    (n < length (lines_of input))
+    × IsRefusedAt targets (lines_of input) n
+    × AreTaken targets (lines_of input) n
 
 -- the input is refused for this line; of want of memory nothing is told
 abbrev pub IsFaultOf : Targets → List ℕ → InputFault → Type 0
-IsFaultOf targets input (Line n) = fields_in targets input ≡ Err n
+IsFaultOf targets input (Line n) = IsFirstRefused targets input n
 IsFaultOf targets input OutOfMemory = ⊤

@@ -1,5 +1,5 @@
 -- What the steps of reading an input's fields do with one line.
-use Rattle.std.specs.Prelude.{◌≡◌, ℕ, true, false, List, [], ◌∷◌, ⊤}
+use Rattle.std.specs.Prelude.{◌≡◌, ◌⊎◌, ℕ, true, false, List, [], ◌∷◌, ⊤}
 use Rattle.http_header.specs.FieldValue.{plain_value}
 use Rattle.http_header.specs.HeaderMap.{append_all, RefusesAppend}
 use Rattle.sf_field.specs.Headers.{Headers}
@@ -7,7 +7,7 @@ use Rattle.sf_tool.specs.declared.fields.LineFault.{LineFault}
 use Rattle.sf_tool.specs.declared.fields.LineFault.TheVariants as fault
 use Rattle.sf_tool.specs.declared.fields.FieldLine.{FieldLine}
 use Rattle.sf_tool.specs.declared.fields.FieldLine.TheVariants.{Dropped, Refused, Listed}
-use Rattle.sf_tool.specs.Fields.{Targets, is_listed, is_of_listed, is_refused, name_of, value_of}
+use Rattle.sf_tool.specs.Fields.{Targets, is_of_listed, is_refused, name_of, value_of}
 use Rattle.sf_tool.specs.Fields.{listed_fields}
 
 -- what the line is
@@ -19,18 +19,20 @@ IsLine targets line (Listed name value) =
     (is_refused targets line ≡ false) × (is_of_listed targets line ≡ true)
     × (name ≡ name_of line) × (value ≡ plain_value (value_of line))
 
+-- the map has no room for the field of the line
+abbrev pub FindsNoRoom : Targets → List ℕ → Headers → Type 0
+FindsNoRoom targets line headers =
+    (is_of_listed targets line ≡ true) × RefusesAppend headers (name_of line)
+
 -- the line is not refused, and its field, if it is listed, is added
 abbrev pub Takes : Targets → List ℕ → Headers → Headers → Type 0
 Takes targets line old new =
     (is_refused targets line ≡ false)
+    × ¬ (FindsNoRoom targets line old)
     × (new ≡ append_all old (listed_fields targets (line ∷ [])))
 
 -- why the line was not taken
-abbrev pub IsLineFault : Targets → List ℕ → LineFault → Type 0
-IsLineFault targets line fault.Refused = is_refused targets line ≡ true
-IsLineFault targets line fault.OutOfMemory = ⊤
-
--- a further value under any listed name finds room
-abbrev pub HasRoomFor : Targets → Headers → Type 0
-HasRoomFor targets headers =
-    (name : List ℕ) → is_listed targets name ≡ true → ¬ (RefusesAppend headers name)
+abbrev pub IsLineFault : Targets → List ℕ → Headers → LineFault → Type 0
+IsLineFault targets line headers fault.Refused =
+    (is_refused targets line ≡ true) ⊎ FindsNoRoom targets line headers
+IsLineFault targets line headers fault.OutOfMemory = ⊤

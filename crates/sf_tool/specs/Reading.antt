@@ -1,19 +1,19 @@
 -- What reading a source to its end, or to a limit, answers.
-use Rattle.std.specs.Prelude.{◌≡◌, ℕ, ◌+◌, ◌≤◌, List, length}
-use Rattle.sf_value.specs.Devices.{SourceState, capped, Gave, GaveAndFailed}
-use Rattle.sf_parse.specs.Reading.{IsWholeOrFull}
+use Rattle.std.specs.Prelude.{◌≡◌, ℕ, ◌+◌, ◌<◌, ◌≤◌, List, length}
+use Rattle.sf_value.specs.Devices.{SourceState, Gave, GaveAndEnded, GaveAndFailed}
 use Rattle.sf_tool.specs.declared.reading.ReadAllFault.{ReadAllFault}
 use Rattle.sf_tool.specs.declared.reading.ReadAllFault.TheVariants.{OutOfMemory, ReadFault}
 use Rattle.sf_tool.specs.declared.reading.ReadAllFault.TheVariants.{TooLong}
 
 -- which bytes were given, to the end
 abbrev pub ReadToEnd : SourceState → SourceState → ℕ → List ℕ → Type 0
-ReadToEnd old new max bytes = Gave old new bytes × (length bytes ≤ max) × IsWholeOrFull new bytes
+ReadToEnd old new max bytes = GaveAndEnded old new bytes × (length bytes ≤ max)
 
--- which bytes were given, and why reading ended
+-- which bytes were given, and why reading ended: for some of them, within the limit, no memory was
+-- left; a read failed behind them; or there was one more than the limit
 abbrev pub StoppedFor : SourceState → SourceState → ℕ → ReadAllFault → Type 0
 StoppedFor old new max OutOfMemory =
-    (bytes : List ℕ) × Gave old new bytes × (length bytes ≤ capped (max + 1))
+    (bytes : List ℕ) × Gave old new bytes × (0 < length bytes) × (length bytes ≤ max)
 StoppedFor old new max (ReadFault place) =
     (bytes : List ℕ) × GaveAndFailed old new bytes × (length bytes ≡ place) × (place ≤ max)
 StoppedFor old new max (TooLong limit) =

@@ -3,11 +3,10 @@ use Rattle.std.specs.Prelude.{◌≤◌, length, ⊤}
 use Rattle.sf_tool.specs.declared.request.Request.{Request}
 use Rattle.sf_tool.specs.declared.request.Request.TheVariants.{Show, Check, Normalise, CacheStatus}
 use Rattle.sf_tool.specs.declared.request.Request.TheVariants.{Targeted, Priority}
-use Rattle.sf_tool.specs.declared.request.TheConstants.{MAX_NAMES}
 
 -- where it has names, from 1 to 64 of them
 abbrev pub HasFewNames : Request → Type 0
-HasFewNames (Targeted names) = (1 ≤ length names.items) × (length names.items ≤ MAX_NAMES)
+HasFewNames (Targeted names) = (1 ≤ length names.items) × (length names.items ≤ 64)
 HasFewNames (Show dialect kind) = ⊤
 HasFewNames (Check dialect kind) = ⊤
 HasFewNames (Normalise dialect kind) = ⊤

@@ -1,13 +1,13 @@
 -- What a run of the command reads, answers and writes.
-use Rattle.std.specs.Prelude.{◌≡◌, ℕ, ◌+◌, ◌<◌, ◌≤◌, ◌⊎◌, Bool, false, List, ◌++◌, length}
+use Rattle.std.specs.Prelude.{◌≡◌, ℕ, ◌<◌, ◌≤◌, ◌⊎◌, Bool, false, List, ◌++◌, length}
 use Rattle.std.specs.Prelude.{Option, None, Ok, Err, codes, ⊤}
-use Rattle.std.specs.Io.KnownBytes.{IsAtEnd}
 use Rattle.sf_value.specs.declared.dialect.Dialect.{Dialect}
 use Rattle.sf_value.specs.declared.dialect.Dialect.TheVariants.{Rfc9651}
 use Rattle.sf_value.specs.declared.value.Field.{Field}
 use Rattle.sf_value.specs.declared.value.Kind.{Kind}
 use Rattle.sf_value.specs.declared.value.Kind.TheVariants as kind
-use Rattle.sf_value.specs.Devices.{SourceState, SinkState, Gave, GaveAndFailed}
+use Rattle.sf_value.specs.Devices.{SourceState, SinkState, Gave, GaveAndEnded}
+use Rattle.sf_value.specs.Devices.{GaveAndFailed}
 use Rattle.sf_value.specs.Grammar.Canonical.{canon}
 use Rattle.sf_value.specs.Grammar.Lines.{join}
 use Rattle.sf_write.specs.Writing.{Wrote, WroteFront}
@@ -28,14 +28,13 @@ use Rattle.sf_tool.specs.declared.fields.InputFault.TheVariants as input_fault
 use Rattle.sf_tool.specs.declared.request.Request.{Request}
 use Rattle.sf_tool.specs.declared.request.Request.TheVariants.{Show, Check, Normalise}
 use Rattle.sf_tool.specs.declared.request.Request.TheVariants.{CacheStatus, Targeted, Priority}
-use Rattle.sf_tool.specs.declared.running.TheConstants.{INPUT_LIMIT}
 use Rattle.sf_tool.specs.declared.status.Status.{Status}
 use Rattle.sf_tool.specs.declared.status.Status.TheVariants.{Accepted, Refused, Usage, Stopped}
 use Rattle.sf_tool.specs.Lines.{lines_of}
 use Rattle.sf_tool.specs.Texts.{refusal_line, too_long_line}
 use Rattle.sf_tool.specs.Tree.{tree}
 use Rattle.sf_tool.specs.PathLines.{path_lines, not_a_cache_line}
-use Rattle.sf_tool.specs.Fields.{fields_in}
+use Rattle.sf_tool.specs.Fields.{AreFields, IsFirstRefused}
 use Rattle.sf_tool.specs.ChoiceLines.{choice_lines, refused_line}
 use Rattle.sf_tool.specs.PriorityLine.{priority_line}
 
@@ -90,10 +89,10 @@ TellsPath t text Stopped = ⊥
 -- the first line that is refused
 abbrev pub TellsChoice : List (List ℕ) → List ℕ → List ℕ → Status → Type 0
 TellsChoice names input text Accepted =
-    (headers : Headers) × (fields_in names input ≡ Ok headers)
+    (headers : Headers) × AreFields names input headers
     × (c : Choice) × IsChosen names headers c × (text ≡ choice_lines names c)
 TellsChoice names input text Refused =
-    (number : ℕ) × (fields_in names input ≡ Err number) × (text ≡ refused_line number)
+    (number : ℕ) × IsFirstRefused names input number × (text ≡ refused_line number)
 TellsChoice names input text Usage = ⊥
 TellsChoice names input text Stopped = ⊥
 
@@ -108,18 +107,12 @@ Answers (Targeted names) input text status = TellsChoice names.items input text 
 Answers Priority input text status = Responds Rfc9651 kind.Dict priority_of (joined input) text
     status
 
--- the text and the status for any input: a longer one is refused for its length
-abbrev pub Outputs : Request → List ℕ → List ℕ → Status → Type 0
-Outputs request input text status =
-    ((length input ≤ INPUT_LIMIT) × Answers request input text status)
-    ⊎ ((INPUT_LIMIT < length input) × (text ≡ too_long_line) × (status ≡ Refused))
-
 -- all of the text of an input went out, and this is its status
 pub record Finished (request : Request) (input : List ℕ) (old new : SinkState) (status : Status)
     : Type 0 where
   pub text : List ℕ
   pub after : ℕ
-  pub outputs : Outputs request input text status
+  pub answers : Answers request input text status
   pub wrote : Wrote old new 0 after text
 
 -- a write failed, and before it a front of the text of an input went out
@@ -127,7 +120,7 @@ pub record BrokeOff (request : Request) (input : List ℕ) (old new : SinkState)
   pub text : List ℕ
   pub status : Status
   pub after : ℕ
-  pub outputs : Outputs request input text status
+  pub answers : Answers request input text status
   pub wrote : WroteFront old new 0 after text
 
 -- an input was answered so; where memory was wanting nothing was written, and no call was made
@@ -137,26 +130,8 @@ Tells request input old new Refused = Finished request input old new Refused
 Tells request input old new Usage = ⊥
 Tells request input old new Stopped = (new ≡ old) ⊎ BrokeOff request input old new
 
--- the input is all that the source gave to its end; or it is one byte longer than the limit, and no
--- further byte was asked for
-abbrev pub IsInput : SourceState → SourceState → List ℕ → Type 0
-IsInput old new input =
-    Gave old new input
-    × (((length input ≤ INPUT_LIMIT) × IsAtEnd new.to_come) ⊎ (length input ≡ INPUT_LIMIT + 1))
-
--- memory was wanting for what the source gave, or a read failed and was the last
-pub record ReadInPart (old new : SourceState) : Type 0 where
-  pub bytes : List ℕ
-  pub within : length bytes ≤ INPUT_LIMIT + 1
-  pub given : Gave old new bytes ⊎ GaveAndFailed old new bytes
-
--- the whole input was read and then answered; or it was not all read, and nothing was written
-abbrev pub Ran : Request → SourceState → SourceState → SinkState → SinkState → Status → Type 0
-Ran request source source' sink sink' status =
-    ((input : List ℕ) × IsInput source source' input × Tells request input sink sink' status)
-    ⊎ (ReadInPart source source' × (sink' ≡ sink) × (status ≡ Stopped))
-
--- this text was to be written, with a status where all of it went out
+-- this text was to be written, with a status where all of it went out; where it did not, a write
+-- failed behind a front of it
 abbrev pub TellsText : List ℕ → Status → SinkState → SinkState → Status → Type 0
 TellsText text status old new Accepted =
     (Accepted ≡ status) × ((after : ℕ) × Wrote old new 0 after text)
@@ -164,6 +139,30 @@ TellsText text status old new Refused =
     (Refused ≡ status) × ((after : ℕ) × Wrote old new 0 after text)
 TellsText text status old new Usage = ⊥
 TellsText text status old new Stopped = (after : ℕ) × WroteFront old new 0 after text
+
+-- the input is all that the source gave to its end, which was asked for once, at most 1,048,576
+-- bytes
+abbrev pub IsWhole : SourceState → SourceState → List ℕ → Type 0
+IsWhole old new input = GaveAndEnded old new input × (length input ≤ 1048576)
+
+-- the source gave 1,048,577 bytes, and no further one was asked for
+abbrev pub IsTooLong : SourceState → SourceState → Type 0
+IsTooLong old new = (bytes : List ℕ) × Gave old new bytes × (length bytes ≡ 1048577)
+
+-- at most 1,048,576 bytes were read: for some of them memory was wanting, or a read failed and was
+-- the last
+pub record ReadInPart (old new : SourceState) : Type 0 where
+  pub bytes : List ℕ
+  pub within : length bytes ≤ 1048576
+  pub given : (Gave old new bytes × (0 < length bytes)) ⊎ GaveAndFailed old new bytes
+
+-- the whole input was read and then answered; or it was too long, and that was told, whatever
+-- memory there was; or it was not all read, and nothing was written
+abbrev pub Ran : Request → SourceState → SourceState → SinkState → SinkState → Status → Type 0
+Ran request source source' sink sink' status =
+    ((input : List ℕ) × IsWhole source source' input × Tells request input sink sink' status)
+    ⊎ ((IsTooLong source source' × TellsText too_long_line Refused sink sink' status)
+    ⊎ (ReadInPart source source' × (sink' ≡ sink) × (status ≡ Stopped)))
 
 -- a refusal was answered: its line was to be written, or memory was wanting
 abbrev pub TellsRefusal : Refusal → SinkState → SinkState → Status → Type 0

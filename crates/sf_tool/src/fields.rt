@@ -1,7 +1,7 @@
 //! The listed fields of an input of field lines.
-ghost use Rattle.std.specs.Prelude.{◌≡◌, ◌≤◌, length, Ok, IfOk, MatchResult, OnErr};
-ghost use Rattle.sf_tool.specs.Fields.{fields_in, is_listed, IsFaultOf};
-ghost use Rattle.sf_tool.specs.OneLine.{IsLine, IsLineFault, Takes, HasRoomFor};
+ghost use Rattle.std.specs.Prelude.{◌≡◌, IfOk, MatchResult};
+ghost use Rattle.sf_tool.specs.Fields.{is_listed, AreFields, IsFaultOf};
+ghost use Rattle.sf_tool.specs.OneLine.{IsLine, IsLineFault, Takes};
 
 use crate::cutting::{split_at_first, split_line, trimmed};
 use http_header::{
@@ -10,10 +10,6 @@ use http_header::{
 use sf_value::OutOfMemory;
 use std::alloc::Global;
 use std::hash::RandomState;
-
-/// The greatest number of listed names whose fields a header map surely has room for: it is full at
-/// one name more.
-pub(crate) const MOST_NAMES: usize = 24_575;
 
 /// Why an input gives no header map.
 #[derive(Clone, Copy, Debug, PartialEq, Eq)]
@@ -75,16 +71,16 @@ fn read_line(alloc: Global, targets: &[HeaderName], line: &[u8]) -> Result<Field
     }
 }
 
-/// Adds the field of the line to the map, where its name is listed.
+/// Adds the field of the line to the map, where its name is listed. A field that finds no room in
+/// it is refused.
 fn take_line(
     alloc: Global,
     targets: &[HeaderName],
     line: &[u8],
     headers: &mut HeaderMap,
 ) -> Result<(), LineFault>
-    requires { HasRoomFor targets.now headers.now }
     ensures { MatchResult result (λ _. Takes targets.now line.now headers.old headers.new)
-        (IsLineFault targets.now line.now) }
+        (IsLineFault targets.now line.now headers.old) }
 {
     let read = match read_line(alloc, targets, line) {
         Ok(read) => read,
@@ -95,7 +91,7 @@ fn take_line(
         FieldLine::Refused => Err(LineFault::Refused),
         FieldLine::Listed(name, value) => match headers.append(name, value) {
             Ok(_) => Ok(()),
-            Err(HeaderMapError::MaxSizeReached) => unreachable!(),
+            Err(HeaderMapError::MaxSizeReached) => Err(LineFault::Refused),
             Err(HeaderMapError::OutOfMemory) => Err(LineFault::OutOfMemory),
         },
     }
@@ -107,15 +103,15 @@ fn take_line(
 /// others the name is what stands before the first colon, and the value is the rest without the
 /// spaces and tabs at its ends (RFC 9112 section 5). A line without a colon or with no header name
 /// before it is refused, and so is a control byte other than a tab in a value under a listed name
-/// (RFC 9110 section 5.5). Fields of other names are dropped, whatever their values are.
+/// (RFC 9110 section 5.5). Fields of other names are dropped, whatever their values are. A map has
+/// room for 24,576 names; the line whose name would be one more is refused.
 pub(crate) fn read_fields(
     alloc: Global,
     seed: &RandomState,
     targets: &[HeaderName],
     input: &[u8],
 ) -> Result<HeaderMap, InputFault>
-    requires { length targets.now ≤ MOST_NAMES }
-    ensures { MatchResult result (λ headers. fields_in targets.now input.now ≡ Ok headers)
+    ensures { MatchResult result (AreFields targets.now input.now)
         (IsFaultOf targets.now input.now) }
 {
     let mut headers = HeaderMap::with_hasher(alloc, *seed);

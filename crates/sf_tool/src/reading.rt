@@ -1,5 +1,5 @@
 //! A source that is read to its end.
-ghost use Rattle.std.specs.Prelude.{MatchResult};
+ghost use Rattle.std.specs.Prelude.{◌<◌, ◌-◌, ◌^◌, MatchResult};
 ghost use Rattle.sf_tool.specs.Reading.{ReadToEnd, StoppedFor};
 
 use sf_value::Source;
@@ -16,25 +16,29 @@ pub(crate) enum ReadAllFault {
     TooLong { max: u64 },
 }
 
-/// All that the source gives to its end, if that is at most `max` bytes.
+/// All that the source gives to its end, if that is at most `max` bytes. It asks for no byte behind
+/// the end, nor behind a failed read, nor where one byte more than `max` came.
 pub(crate) fn read_all<R: Source>(
     alloc: Global,
     max: u64,
     source: &mut R,
 ) -> Result<Vec<u8>, ReadAllFault>
+    requires { max < 2 ^ 64 - 1 }
     ensures { MatchResult result
         (λ all. ReadToEnd (R.state source.old) (R.state source.new) max all.items)
         (λ fault. StoppedFor (R.state source.old) (R.state source.new) max fault) }
 {
-    let limit = max.saturating_add(1);
     let mut all = Vec::new(alloc);
     let mut block = [0u8; 512];
     let mut given = 0u64;
-    while given < limit {
-        let room = (limit - given).min(512) as usize;
+    loop {
+        let room = (max - given + 1).min(512) as usize;
         match source.pull(&mut block[..room]) {
             Ok(0) => return Ok(all),
             Ok(n) => {
+                if n as u64 > max - given {
+                    return Err(ReadAllFault::TooLong { max });
+                }
                 if all.extend_from_slice(&block[..n]).is_err() {
                     return Err(ReadAllFault::OutOfMemory);
                 }
@@ -43,8 +47,4 @@ pub(crate) fn read_all<R: Source>(
             Err(_) => return Err(ReadAllFault::ReadFault { place: given }),
         }
     }
-    if given > max {
-        return Err(ReadAllFault::TooLong { max });
-    }
-    Ok(all)
 }

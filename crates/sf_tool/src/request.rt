@@ -1,5 +1,5 @@
 //! The words of the command line.
-ghost use Rattle.std.specs.Prelude.{◌≡◌, ◌≢◌, ◌↔◌, [], map, true, false, IfOk, MatchResult};
+ghost use Rattle.std.specs.Prelude.{◌≡◌, ◌≢◌, ◌↔◌, [], map, true, false, Some, IfOk, MatchResult};
 ghost use Rattle.std.specs.Prelude.{string_bytes};
 ghost use Rattle.clap.specs.Words.{app_of, found_of, rows_of};
 ghost use Rattle.sf_value.specs.declared.dialect.Dialect.{Dialect};
@@ -8,17 +8,20 @@ ghost use Rattle.sf_tool.specs.declared.request.RequestFault.TheVariants.{Usage}
 ghost use Rattle.sf_tool.specs.Fields.{is_header_name};
 ghost use Rattle.http_header.specs.Token.{lowercase};
 ghost use Rattle.sf_tool.specs.Request.{HasFewNames};
+ghost use Rattle.sf_tool.specs.Status.{fault_line, status_of};
 ghost use Rattle.sf_tool.specs.CommandLine.{command_line, kind_command, names_command};
 ghost use Rattle.sf_tool.specs.CommandLine.{NamesKind, NamesDialect, AsksFor, IsRequestOf};
 ghost use Rattle.sf_tool.specs.CommandLine.{IsUsageOf};
 ghost use Rattle.sf_tool.specs.Commands.{IsCommandFault, IsTargetedOf, IsNamesFault};
 
+use crate::status::Status;
 use clap::error::ErrorKind;
 use clap::{Arg, ArgAction, ArgMatches, Command};
 use http_header::{HeaderName, HeaderNameError};
 use sf_value::{Dialect, Kind};
 use std::alloc::{AllocError, Global};
-use thiserror::Error;
+use std::error::Error;
+use std::fmt;
 
 /// The greatest number of names that `targeted` takes.
 pub const MAX_NAMES: usize = 64;
@@ -42,16 +45,46 @@ pub enum Request {
     Priority,
 }
 
-/// Why words are no request. The text of each is the line that the program prints.
-#[derive(Clone, Copy, Debug, PartialEq, Eq, Error)]
+/// Why words are no request.
+#[derive(Clone, Copy, Debug, PartialEq, Eq)]
 pub enum RequestFault {
     /// The words are not those of a command, or ask for help.
-    #[error("sf: usage: sf show, check or normalise --kind item, list or dict [--dialect rfc8941 or rfc9651]; sf cache-status; sf targeted NAME..; sf priority")]
     Usage,
     /// No memory was left to read them.
-    #[error("sf: out of memory or a device failed")]
     OutOfMemory,
 }
+
+impl RequestFault {
+    /// How the command ends that has these words. It takes no memory.
+    ///
+    /// ```
+    /// RequestFault::Usage.status() // Status::Usage, whose exit code is 2
+    /// ```
+    pub fn status(self) -> Status
+        ensures { result ≡ status_of self }
+    {
+        match self {
+            RequestFault::Usage => Status::Usage,
+            RequestFault::OutOfMemory => Status::Stopped,
+        }
+    }
+}
+
+impl fmt::Display for RequestFault {
+    ghost output = { λ fault. Some (fault_line fault) };
+
+    fn fmt<W: fmt::Write>(&self, f: &mut fmt::Formatter<W>) -> fmt::Result {
+        match self {
+            RequestFault::Usage => write!(
+                f,
+                "sf: usage: sf show, check or normalise --kind item, list or dict [--dialect rfc8941 or rfc9651]; sf cache-status; sf targeted NAME..; sf priority"
+            ),
+            RequestFault::OutOfMemory => write!(f, "sf: out of memory or a device failed"),
+        }
+    }
+}
+
+impl Error for RequestFault {}
 
 /// Reads the words of the command line, of which the first is the program's name.
 ///
@@ -148,7 +181,8 @@ fn request_of(alloc: Global, name: &str, given: &ArgMatches<'_>) -> Result<Reque
 
 fn dialect_of(given: &ArgMatches<'_>) -> Result<Dialect, RequestFault>
     ensures { MatchResult result (NamesDialect (rows_of (found_of given.now)))
-        (λ fault. (d : Dialect) → ¬ (NamesDialect (rows_of (found_of given.now)) d)) }
+        (λ fault. (fault ≡ Usage)
+        × ((d : Dialect) → ¬ (NamesDialect (rows_of (found_of given.now)) d))) }
 {
     let Some(word) = given.get_str("dialect") else {
         return Err(RequestFault::Usage);
@@ -162,7 +196,8 @@ fn dialect_of(given: &ArgMatches<'_>) -> Result<Dialect, RequestFault>
 
 fn kind_of(given: &ArgMatches<'_>) -> Result<Kind, RequestFault>
     ensures { MatchResult result (NamesKind (rows_of (found_of given.now)))
-        (λ fault. (k : Kind) → ¬ (NamesKind (rows_of (found_of given.now)) k)) }
+        (λ fault. (fault ≡ Usage)
+        × ((k : Kind) → ¬ (NamesKind (rows_of (found_of given.now)) k))) }
 {
     let Some(word) = given.get_str("kind") else {
         return Err(RequestFault::Usage);

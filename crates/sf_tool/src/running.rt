@@ -15,7 +15,7 @@ use crate::answering::{
     answer_tree,
 };
 use crate::cutting::lines_of;
-use crate::fields::{InputFault, MOST_NAMES, read_fields};
+use crate::fields::{InputFault, read_fields};
 use crate::reading::{ReadAllFault, read_all};
 use crate::request::Request;
 use crate::status::Status;
@@ -38,7 +38,7 @@ fn parse_input(
     kind: Kind,
     input: &[u8],
 ) -> Result<Field, Refusal>
-    requires { length input.now ≤ INPUT_LIMIT }
+    requires { length input.now ≤ 1048576 }
     ensures parses { ParsesLines dialect kind (lines_of input.now) result }
     ensures of_text { IfErr result IsOfText }
 {
@@ -57,7 +57,7 @@ fn show<W: Sink>(
     input: &[u8],
     sink: &mut W,
 ) -> Status
-    requires { length input.now ≤ INPUT_LIMIT }
+    requires { length input.now ≤ 1048576 }
     ensures { Tells (request_is.Show dialect kind) input.now
         (W.state sink.old) (W.state sink.new) result }
 {
@@ -76,7 +76,7 @@ fn check<W: Sink>(
     input: &[u8],
     sink: &mut W,
 ) -> Status
-    requires { length input.now ≤ INPUT_LIMIT }
+    requires { length input.now ≤ 1048576 }
     ensures { Tells (request_is.Check dialect kind) input.now
         (W.state sink.old) (W.state sink.new) result }
 {
@@ -95,7 +95,7 @@ fn normalise<W: Sink>(
     input: &[u8],
     sink: &mut W,
 ) -> Status
-    requires { length input.now ≤ INPUT_LIMIT }
+    requires { length input.now ≤ 1048576 }
     ensures { Tells (request_is.Normalise dialect kind) input.now
         (W.state sink.old) (W.state sink.new) result }
 {
@@ -112,7 +112,7 @@ fn ask_input<C: Consumer>(
     consumer: &C,
     input: &[u8],
 ) -> Result<C::Answer, AskFault>
-    requires { length input.now ≤ INPUT_LIMIT }
+    requires { length input.now ≤ 1048576 }
     ensures asks { Asks C.KIND (C.meaning consumer.now) (lines_of input.now) result }
     ensures of_text { IfErr result IsAskOfText }
 {
@@ -124,7 +124,7 @@ fn ask_input<C: Consumer>(
 
 /// The hops of the input's Cache-Status field, or why it is refused.
 fn cache_status<W: Sink>(alloc: Global, seed: &RandomState, input: &[u8], sink: &mut W) -> Status
-    requires { length input.now ≤ INPUT_LIMIT }
+    requires { length input.now ≤ 1048576 }
     ensures { Tells request_is.CacheStatus input.now (W.state sink.old) (W.state sink.new) result }
 {
     match ask_input(alloc, seed, &CacheStatus, input) {
@@ -137,7 +137,7 @@ fn cache_status<W: Sink>(alloc: Global, seed: &RandomState, input: &[u8], sink: 
 
 /// What the input's Priority field asks for, or why it is refused.
 fn priority<W: Sink>(alloc: Global, seed: &RandomState, input: &[u8], sink: &mut W) -> Status
-    requires { length input.now ≤ INPUT_LIMIT }
+    requires { length input.now ≤ 1048576 }
     ensures { Tells request_is.Priority input.now (W.state sink.old) (W.state sink.new) result }
 {
     match ask_input(alloc, seed, &PriorityField, input) {
@@ -180,13 +180,9 @@ fn targeted<W: Sink>(
     input: &[u8],
     sink: &mut W,
 ) -> Status
-    requires { length input.now ≤ INPUT_LIMIT }
     ensures { Tells (request_is.Targeted names.now) input.now
         (W.state sink.old) (W.state sink.new) result }
 {
-    if names.len() > MOST_NAMES {
-        return Status::Stopped;
-    }
     let names = names.as_slice();
     let headers = match read_fields(alloc, seed, names, input) {
         Ok(headers) => headers,
@@ -205,7 +201,7 @@ fn answer<W: Sink>(
     input: &[u8],
     sink: &mut W,
 ) -> Status
-    requires { length input.now ≤ INPUT_LIMIT }
+    requires { length input.now ≤ 1048576 }
     ensures { Tells request.now input.now (W.state sink.old) (W.state sink.new) result }
 {
     match request {
@@ -220,11 +216,12 @@ fn answer<W: Sink>(
 
 /// Answers a request: reads the whole input from the source, computes, and then writes to the sink.
 ///
-/// An input longer than [`INPUT_LIMIT`] is refused, and at most one byte beyond the limit is read.
-/// A failed read is not repeated: it gives `Stopped`, as does want of memory, and then nothing was
-/// written. A failed write gives `Stopped`, and a front of the answer went out before it. Else
-/// the whole answer went out, and the status is its. It is never `Usage`, and the sink is not
-/// flushed.
+/// An input longer than [`INPUT_LIMIT`] is refused: one byte beyond the limit is read, none is
+/// asked for behind it, and that it was too long is told whatever memory is left. Nor is a byte
+/// asked for behind the end. A failed read is not repeated: it gives `Stopped`, as does want of
+/// memory, and then nothing was written. A failed write gives `Stopped`, and a front of the answer
+/// went out before it. Else the whole answer went out, and the status is its. It is never `Usage`,
+/// and the sink is not flushed.
 ///
 /// ```
 /// let request = Request::Normalise(Dialect::Rfc9651, Kind::Item);

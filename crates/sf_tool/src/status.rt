@@ -1,11 +1,17 @@
 //! How the command ends.
-ghost use Rattle.std.specs.Prelude.{◌≡◌};
-ghost use Rattle.sf_tool.specs.Status.{code_of};
+ghost use Rattle.std.specs.Prelude.{◌≡◌, MatchResult};
+ghost use Rattle.std.specs.Option.{option_map};
+ghost use Rattle.sf_tool.specs.declared.status.Status.TheVariants.{Stopped};
+ghost use Rattle.sf_tool.specs.Status.{code_of, line_of};
 
 /// How the command ends.
 ///
 /// ```
 /// let status = run(alloc, &seed, &request, &mut source, &mut sink);
+/// let status = status.after_flush(sink.into_inner().flush());
+/// if let Some(line) = status.line() {
+///     let _ = rt.eprintln(line);
+/// }
 /// ExitCode::from(status.code())
 /// ```
 #[derive(Clone, Copy, Debug, PartialEq, Eq)]
@@ -30,6 +36,32 @@ impl Status {
             Status::Refused => 1,
             Status::Usage => 2,
             Status::Stopped => 3,
+        }
+    }
+
+    /// How the command ends that ran so and whose output was then flushed with this outcome: as it
+    /// ran, but `Stopped` where the flush failed. It takes no memory.
+    pub fn after_flush<E: Drop>(self, flushed: Result<(), E>) -> Status
+        ensures { MatchResult flushed (λ _. result ≡ self) (λ _. result ≡ Stopped) }
+    {
+        match flushed {
+            Ok(()) => self,
+            Err(_) => Status::Stopped,
+        }
+    }
+
+    /// The line for standard error, without its line feed; `None` where the input was answered. It
+    /// takes no memory.
+    pub fn line(self) -> Option<&'static str>
+        ensures { option_map (λ s. s.now) result ≡ line_of self }
+    {
+        match self {
+            Status::Accepted => None,
+            Status::Refused => None,
+            Status::Usage => Some(
+                "sf: usage: sf show, check or normalise --kind item, list or dict [--dialect rfc8941 or rfc9651]; sf cache-status; sf targeted NAME..; sf priority",
+            ),
+            Status::Stopped => Some("sf: out of memory or a device failed"),
         }
     }
 }

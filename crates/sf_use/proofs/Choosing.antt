@@ -37,21 +37,21 @@ read_offer h n f (Some p) r m = (
   m.0,
   record {
     present = r.0;
-    spelled = subst (SpellsField Rfc9651 kind.Dict (join (lines_under h n))) m.1 r.1.spelled;
+    spelled = subst (SpellsField Rfc9651 kind.Dict (join (lines_under h n))) m.1 r.1.0.spelled;
     filled = m.2;
   },
   m.3,
 )
 read_offer h n f None r m =
-    λ d u. u.filled (m d (sym (r.1.only (field.Dict d) u.spelled)))
+    λ d u. u.filled (m d (sym (r.1.0.only (field.Dict d) u.spelled)))
 
 -- a field that is refused offers nothing
 pub refused_offer : (h : Headers) (n : List ℕ) (place : ℕ) (found : Option ℕ) (expected : ℕ)
     (may_end : Bool) → ParsesHeaders kind.Dict h n (Err (Syntax place found expected may_end))
     → IsOffer h n None
-refused_offer h n place None expected may_end r = λ d u. r.1.1.unspelled (field.Dict d) u.spelled
+refused_offer h n place None expected may_end r = λ d u. r.1.0.1.unspelled (field.Dict d) u.spelled
 refused_offer h n place (Some b) expected may_end r =
-    λ d u. r.1.unspelled (field.Dict d) u.spelled
+    λ d u. r.1.0.unspelled (field.Dict d) u.spelled
 
 -- a target that offers nothing is passed over
 pub pass_over : (index : ℕ) (names : List (List ℕ)) (name : List ℕ) (h : Headers) (c : Choice)

@@ -8,6 +8,7 @@ pub gave_none : (s : SourceState) → Gave s s []
 gave_none s = record {
   consumed = Consumes-nil s.to_come;
   given = λ _. omega arith;
+  ends = refl;
   failures = refl;
 }
 
@@ -17,5 +18,6 @@ pub gave_more : (a b c : SourceState) (xs ys : List ℕ) → Gave a b xs → Giv
 gave_more a b c xs ys p q = record {
   consumed = Consumes-trans a.to_come b.to_come c.to_come xs ys p.consumed q.consumed;
   given = λ h. omega (arith, length-append xs ys, p.given, q.given, h);
+  ends = cc;
   failures = cc;
 }

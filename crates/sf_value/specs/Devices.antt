@@ -10,10 +10,11 @@ abbrev pub capped : ℕ → ℕ
 capped n = min n (2 ^ 64 - 1)
 
 -- what a source shows: the bytes still to come, or that it doesn't tell them; how many bytes it
--- gave; how many calls failed
+-- gave; how many calls answered that it came to its end; how many failed
 pub record SourceState : Type 0 where
   pub to_come : Option (List ℕ)
   pub given : ℕ
+  pub ends : ℕ
   pub failures : ℕ
 
 -- what a sink shows: the bytes taken, or that it doesn't tell them, and how many calls failed
@@ -43,21 +44,34 @@ Counts old new n = new < 2 ^ 64 - 1 → new ≡ old + n
 pub record GivesOnce (old new : SourceState) (bytes : List ℕ) : Type 0 where
   pub consumed : Consumes old.to_come new.to_come bytes
   pub given : new.given ≡ capped (old.given + length bytes)
+  pub ends : new.ends ≡ old.ends
+  pub failures : new.failures ≡ old.failures
+
+-- one call answered that no byte is still to come
+pub record EndsOnce (old new : SourceState) : Type 0 where
+  pub kept : Keeps old.to_come new.to_come
+  pub none : IsAtEnd new.to_come
+  pub given : new.given ≡ old.given
+  pub ends : new.ends ≡ capped (old.ends + 1)
   pub failures : new.failures ≡ old.failures
 
 -- one call failed, and gave nothing
 pub record FailsOnce (old new : SourceState) : Type 0 where
   pub kept : KeepsOrHides old.to_come new.to_come
   pub given : new.given ≡ old.given
+  pub ends : new.ends ≡ old.ends
   pub failures : new.failures ≡ capped (old.failures + 1)
 
--- pull answered r and left block
+-- pull answered r and left block: so many bytes stand at the front of a block that is not empty,
+-- and where there are none the source came to its end; into an empty block nothing is given, and
+-- that can't fail
 abbrev pub Pulls : {E : Type 0} → SourceState → SourceState → Result ℕ E → List ℕ → Type 0
 Pulls old new (Ok n) block =
     (n ≤ length block)
-    × GivesOnce old new (take n block)
-    × (n ≡ 0 → 0 < length block → IsAtEnd new.to_come)
-Pulls old new (Err _) block = FailsOnce old new
+    × (0 < n → GivesOnce old new (take n block))
+    × (n ≡ 0 → 0 < length block → EndsOnce old new)
+    × (length block ≡ 0 → new ≡ old)
+Pulls old new (Err _) block = (0 < length block) × FailsOnce old new
 
 -- one call took these bytes
 pub record TakesOnce (old new : SinkState) (bytes : List ℕ) : Type 0 where
@@ -69,19 +83,26 @@ pub record RefusesOnce (old new : SinkState) : Type 0 where
   pub kept : Keeps old.taken new.taken
   pub failures : new.failures ≡ capped (old.failures + 1)
 
--- send was handed bytes and answered r
+-- send was handed bytes and answered r; where there are none it can't fail
 abbrev pub Sends : {E : Type 0} → SinkState → SinkState → Result ℕ E → List ℕ → Type 0
 Sends old new (Ok n) bytes =
     (n ≤ length bytes) × (0 < length bytes → 0 < n) × TakesOnce old new (take n bytes)
-Sends old new (Err _) bytes = RefusesOnce old new
+Sends old new (Err _) bytes = (0 < length bytes) × RefusesOnce old new
 
--- calls gave these bytes, and none failed
+-- calls gave these bytes, none of them failed, and none answered that there are no more
 pub record Gave (old new : SourceState) (bytes : List ℕ) : Type 0 where
   pub consumed : Consumes old.to_come new.to_come bytes
   pub given : Counts old.given new.given (length bytes)
+  pub ends : new.ends ≡ old.ends
   pub failures : new.failures ≡ old.failures
 
--- calls gave these bytes, and then one failed
+-- calls gave these bytes, and then one, the last, answered that there are no more
+pub record GaveAndEnded (old new : SourceState) (bytes : List ℕ) : Type 0 where
+  pub mid : SourceState
+  pub gave : Gave old mid bytes
+  pub ended : EndsOnce mid new
+
+-- calls gave these bytes, and then one, the last, failed
 pub record GaveAndFailed (old new : SourceState) (bytes : List ℕ) : Type 0 where
   pub mid : SourceState
   pub gave : Gave old mid bytes

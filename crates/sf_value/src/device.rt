@@ -25,21 +25,22 @@ impl Error for Failed {}
 /// What bytes come from.
 ///
 /// A device of your own is seen by contracts through its `state`: the bytes still to come, or that
-/// it does not tell them; how many bytes it gave; how many calls failed. The two counts stay at
-/// 2^64 - 1 once they are there.
+/// it does not tell them; how many bytes it gave; how many calls answered its end; how many calls
+/// failed. The counts stay at 2^64 - 1 once they are there.
 ///
 /// ```
 /// let mut block = [0; 512];
 /// let count = source.pull(&mut block)?; // so many stand at the front; 0 at the end
 /// ```
 pub trait Source {
-    // The bytes still to come, where it tells them, how many bytes it gave, and how many calls
-    // failed.
+    // The bytes still to come, where it tells them, how many bytes it gave, how often it answered
+    // its end, and how many calls failed.
     ghost state: { Self → SourceState };
 
     /// Puts the next bytes at the front of the block, and answers how many. It answers 0 into a
-    /// block that is not empty only where no byte is still to come. After `Failed` no byte was
-    /// given, and the source may tell its bytes no longer.
+    /// block that is not empty only where no byte is still to come. Into an empty block it gives
+    /// nothing, and does not fail. After `Failed` no byte was given, and the source may tell its
+    /// bytes no longer.
     fn pull(&mut self, block: &mut [u8]) -> Result<usize, Failed>
         ensures { Pulls (state self.old) (state self.new) result block.new };
 }
@@ -57,12 +58,13 @@ pub trait Sink {
     ghost state: { Self → SinkState };
 
     /// Takes bytes from the front of those handed in, and answers how many: at least one, where any
-    /// were handed in. After `Failed` no byte was taken.
+    /// were handed in; where none were, it does not fail. After `Failed` no byte was taken.
     fn send(&mut self, bytes: &[u8]) -> Result<usize, Failed>
         ensures { Sends (state self.old) (state self.new) result bytes.now };
 }
 
-/// Any reader as a source. No call is repeated, whatever its error.
+/// Any reader as a source. No call is repeated, whatever its error, and none is made for an empty
+/// block.
 ///
 /// ```
 /// let mut source = Reading::new(b"u=1, i".as_slice());
@@ -72,19 +74,21 @@ pub trait Sink {
 pub struct Reading<R> {
     reader: R,
     given: u64,
+    ends: u64,
     failures: u64,
 }
 
 impl<R: Read> Reading<R> {
-    /// The source of this reader's bytes, with both counts at 0. It takes no memory.
+    /// The source of this reader's bytes, with its counts at 0. It takes no memory.
     pub fn new(reader: R) -> Reading<R>
         ensures state { ⟦<Reading<R> as Source>⟧.state result
-            ≡ record { to_come = R.remaining reader; given = 0; failures = 0 } }
+            ≡ record { to_come = R.remaining reader; given = 0; ends = 0; failures = 0 } }
         ensures reader { reader_of result ≡ reader }
     {
         Reading {
             reader,
             given: 0,
+            ends: 0,
             failures: 0,
         }
     }
@@ -94,6 +98,13 @@ impl<R: Read> Reading<R> {
         ensures { result ≡ (⟦<Reading<R> as Source>⟧.state self.now).given }
     {
         self.given
+    }
+
+    /// How many calls answered the reader's end so far, up to 2^64 - 1. It takes no memory.
+    pub fn ends(&self) -> u64
+        ensures { result ≡ (⟦<Reading<R> as Source>⟧.state self.now).ends }
+    {
+        self.ends
     }
 
     /// How many calls failed so far, up to 2^64 - 1. It takes no memory.
@@ -111,6 +122,7 @@ impl<R: Read> Reading<R> {
         let Reading {
             reader,
             given: _,
+            ends: _,
             failures: _,
         } = self;
         reader
@@ -121,11 +133,19 @@ impl<R: Read> Source for Reading<R> {
     ghost state = { λ r. record {
       to_come = R.remaining r.reader;
       given = r.given;
+      ends = r.ends;
       failures = r.failures;
     } };
 
     fn pull(&mut self, block: &mut [u8]) -> Result<usize, Failed> {
+        if block.is_empty() {
+            return Ok(0);
+        }
         match self.reader.read(block) {
+            Ok(0) => {
+                self.ends = self.ends.saturating_add(1);
+                Ok(0)
+            }
             Ok(n) => {
                 self.given = self.given.saturating_add(n as u64);
                 Ok(n)
@@ -138,8 +158,8 @@ impl<R: Read> Source for Reading<R> {
     }
 }
 
-/// Any writer as a sink. No call is repeated, whatever its error, and a write that takes no byte is
-/// `Failed`. It does not flush.
+/// Any writer as a sink. No call is repeated, whatever its error, and none is made for no bytes; a
+/// write that takes no byte of some is `Failed`. It does not flush.
 ///
 /// ```
 /// let mut out = Writing::new(Vec::new(alloc));
@@ -190,6 +210,9 @@ impl<W: Write> Sink for Writing<W> {
     ghost state = { λ w. record { taken = W.contents w.writer; failures = w.failures } };
 
     fn send(&mut self, bytes: &[u8]) -> Result<usize, Failed> {
+        if bytes.is_empty() {
+            return Ok(0);
+        }
         match self.writer.write(bytes) {
             Ok(n) if n > 0 => Ok(n),
             _ => {

@@ -11,6 +11,7 @@ struct Drip {
     text: &'static [u8],
     fails_at: u64,
     given: u64,
+    ends: u64,
     failures: u64,
     reads: u64,
 }
@@ -18,18 +19,24 @@ struct Drip {
 impl Source for Drip {
     ghost use Rattle.std.specs.Prelude.{None};
 
-    ghost state = { λ s. record { to_come = None; given = s.given; failures = s.failures } };
+    ghost state = { λ s. record {
+      to_come = None;
+      given = s.given;
+      ends = s.ends;
+      failures = s.failures;
+    } };
 
     fn pull(&mut self, block: &mut [u8]) -> Result<usize, Failed> {
+        let Some(place) = block.first_mut() else {
+            return Ok(0);
+        };
         self.reads = self.reads.saturating_add(1);
         if self.given == self.fails_at {
             self.failures = self.failures.saturating_add(1);
             return Err(Failed);
         }
         let Some((first, rest)) = self.text.split_first() else {
-            return Ok(0);
-        };
-        let Some(place) = block.first_mut() else {
+            self.ends = self.ends.saturating_add(1);
             return Ok(0);
         };
         *place = *first;
@@ -44,6 +51,7 @@ fn make_drip(text: &'static [u8], fails_at: u64) -> Drip {
         text,
         fails_at,
         given: 0,
+        ends: 0,
         failures: 0,
         reads: 0,
     }

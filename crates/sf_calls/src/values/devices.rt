@@ -20,11 +20,12 @@ impl Read for Halting<'_> {
     }
 }
 
-// Takes one byte a call, fails at its second, and takes none at its third.
+// Takes one byte a call, fails at its second, and takes none at its third. It counts its flushes.
 #[derive(Drop)]
 struct Stubborn {
     taken: Vec<u8>,
     calls: u64,
+    flushes: u64,
 }
 
 impl Write for Stubborn {
@@ -44,6 +45,7 @@ impl Write for Stubborn {
     }
 
     fn flush(&mut self) -> io::Result<()> {
+        self.flushes = self.flushes.saturating_add(1);
         Ok(())
     }
 }
@@ -52,14 +54,18 @@ impl Write for Stubborn {
 fn readers_are_sources(rt: HostRuntime) {
     let mut block = [0u8; 4];
     let mut source = Reading::new(b"abcde".as_slice());
-    for (answer, held, given) in [
-        (Ok(4), b"abcd", 4),
-        (Ok(1), b"ebcd", 5),
-        (Ok(0), b"ebcd", 5),
+    for (answer, held, given, ends) in [
+        (Ok(4), b"abcd", 4, 0),
+        (Ok(1), b"ebcd", 5, 0),
+        (Ok(0), b"ebcd", 5, 1),
+        (Ok(0), b"ebcd", 5, 2),
     ] {
         assert_eq!(rt; source.pull(&mut block), answer);
         assert_eq!(rt; &block, held);
-        assert_eq!(rt; (source.given(), source.failures()), (given, 0));
+        assert_eq!(rt;
+            (source.given(), source.ends(), source.failures()),
+            (given, ends, 0)
+        );
     }
     assert!(rt; source.into_inner().is_empty());
 }
@@ -95,6 +101,7 @@ fn failed_writes_are_counted(rt: HostRuntime) {
     let mut sink = Writing::new(Stubborn {
         taken: Vec::new(rt.alloc()),
         calls: 0,
+        flushes: 0,
     });
     for (answer, failures) in [(Ok(1), 0), (Err(Failed), 1), (Err(Failed), 2), (Ok(1), 2)] {
         assert_eq!(rt; sink.send(b"xy"), answer);
@@ -102,7 +109,30 @@ fn failed_writes_are_counted(rt: HostRuntime) {
     }
     let writer = sink.into_inner();
     assert_eq!(rt;
-        (writer.taken.as_slice(), writer.calls),
-        (b"xx".as_slice(), 4)
+        (writer.taken.as_slice(), writer.calls, writer.flushes),
+        (b"xx".as_slice(), 4, 0)
     );
+}
+
+// Neither a pull into an empty block nor a send of no bytes is a call of the device.
+#[test]
+fn nothing_is_no_call(rt: HostRuntime) {
+    let mut source = Reading::new(Halting {
+        rest: b"xyz",
+        calls: 1,
+    });
+    assert_eq!(rt; source.pull(&mut []), Ok(0));
+    assert_eq!(rt;
+        (source.given(), source.ends(), source.failures()),
+        (0, 0, 0)
+    );
+    assert_eq!(rt; source.into_inner().calls, 1);
+    let mut sink = Writing::new(Stubborn {
+        taken: Vec::new(rt.alloc()),
+        calls: 1,
+        flushes: 0,
+    });
+    assert_eq!(rt; sink.send(b""), Ok(0));
+    assert_eq!(rt; sink.failures(), 0);
+    assert_eq!(rt; sink.into_inner().calls, 1);
 }

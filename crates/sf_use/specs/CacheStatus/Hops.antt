@@ -1,7 +1,7 @@
 -- The hops that a List means.
 use Rattle.std.specs.Prelude.{ℕ, ℤ, pos, negsuc, Bool, true, false, nat_le, ◌&&◌, codes, unwrap_or}
 use Rattle.std.specs.Prelude.{List as Seq, [], position, is_none, Option, Some, None}
-use Rattle.std.specs.Prelude.{Result, Ok, Err, ⊤, IsOk}
+use Rattle.std.specs.Prelude.{Result, Ok, Err}
 use Rattle.std.specs.List.{filter_map}
 use Rattle.std.specs.Option.{option_map}
 use Rattle.sf_value.specs.declared.value.Bare.{Bare}
@@ -12,8 +12,6 @@ use Rattle.sf_value.specs.declared.value.Field.{Field}
 use Rattle.sf_value.specs.declared.value.Field.TheVariants as field
 use Rattle.sf_value.specs.Grammar.Words.{allow}
 use Rattle.sf_value.specs.Grammar.Pairs.{Pairs}
-use Rattle.sf_field.specs.declared.consumer.UseFault.{UseFault}
-use Rattle.sf_field.specs.declared.consumer.UseFault.TheVariants.{NotACache, OutOfMemory}
 use Rattle.sf_use.specs.declared.cache_status.hop.Name.{Name}
 use Rattle.sf_use.specs.declared.cache_status.hop.Passed.{Passed}
 use Rattle.sf_use.specs.declared.cache_status.hop.Outcome.{Outcome}
@@ -92,10 +90,3 @@ abbrev pub hops : Field → Result (Seq Hop) ℕ
 hops (field.List l) = hops_of l.members
 hops (field.Item i) = Ok []
 hops (field.Dict d) = Ok []
-
--- want of memory is answered only where the members all name a cache: a member that names none
--- comes first
-abbrev pub WantsMemoryLast : Result (Seq Hop) ℕ → Result (Seq Hop) UseFault → Type 0
-WantsMemoryLast meant (Ok path) = ⊤
-WantsMemoryLast meant (Err (NotACache index)) = ⊤
-WantsMemoryLast meant (Err OutOfMemory) = IsOk meant

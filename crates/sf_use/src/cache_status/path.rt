@@ -74,7 +74,7 @@ impl Consumer for CacheStatus {
     ghost use Rattle.sf_value.specs.declared.value.Kind.TheVariants.{List};
     ghost use Rattle.sf_value.specs.Grammar.Fields.{kind_of};
     ghost use Rattle.sf_field.specs.Meaning.{Gives};
-    ghost use Rattle.sf_use.specs.CacheStatus.Hops.{hops, WantsMemoryLast};
+    ghost use Rattle.sf_use.specs.CacheStatus.Hops.{hops};
 
     type Answer = CachePath;
 
@@ -89,8 +89,7 @@ impl Consumer for CacheStatus {
     /// looked at first, and that takes no memory.
     fn answer(&self, alloc: Global, field: &Field) -> Result<CachePath, UseFault>
         requires { kind_of field.now ≡ List }
-        ensures meaning { Gives (hops field.now) result }
-        ensures names_first { WantsMemoryLast (hops field.now) result }
+        ensures { Gives (hops field.now) result }
     {
         match field {
             Field::List(list) => read_path(alloc, list.members.as_slice()),
@@ -101,11 +100,10 @@ impl Consumer for CacheStatus {
 }
 
 ghost use Rattle.sf_field.specs.Meaning.{Gives};
-ghost use Rattle.sf_use.specs.CacheStatus.Hops.{hops_of, WantsMemoryLast};
+ghost use Rattle.sf_use.specs.CacheStatus.Hops.{hops_of};
 
 fn read_path(alloc: Global, members: &[Member]) -> Result<CachePath, UseFault>
-    ensures meaning { Gives (hops_of members.now) result }
-    ensures names_first { WantsMemoryLast (hops_of members.now) result }
+    ensures { Gives (hops_of members.now) result }
 {
     if let Some(index) = first_nameless(members) {
         return Err(UseFault::NotACache { index });

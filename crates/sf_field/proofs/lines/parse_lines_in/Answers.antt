@@ -15,5 +15,5 @@ pub returns-clause-parses : goal.returns-clause-parses
 returns-clause-parses c =
     let new = c.new_in-parser in
     finished_lines c.args.dialect c.args.kind new.result c.feed_lines.new.parser c.finish.result
-    c.args.lines.now new.ensures.dialect new.ensures.kind new.ensures.took
+    c.args.lines.now new.ensures.dialect new.ensures.kind new.ensures.max new.ensures.took
     c.in_ok-feed_lines.ensures.fed c.finish.ensures.ended

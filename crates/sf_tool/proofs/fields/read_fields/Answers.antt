@@ -1,11 +1,12 @@
-use Rattle.std.proofs.Common.{◌≡◌, ℕ, ◌+◌, ◌<◌, ◌^◌, List, ◌∷◌, map, ap, sym, subst, ◌∙◌, arith}
+use Rattle.std.proofs.Common.{◌≡◌, ℕ, ◌+◌, ◌<◌, ◌≤◌, ◌^◌, List, ◌∷◌, map, ap, sym, subst, ◌∙◌}
+use Rattle.std.proofs.Common.{length, arith}
 use Rattle.std.specs.Str.Lines.{lines}
 use Rattle.sf_tool.specs.declared.fields.LineFault.{LineFault}
-use Rattle.sf_tool.specs.OneLine.{IsLineFault}
+use Rattle.sf_tool.specs.OneLine.{IsLineFault, FindsNoRoom}
 use Rattle.sf_tool.specs.Lines.{trim, lines_of}
-use Rattle.sf_tool.proofs.Room.{IsListedMap-empty, IsListedMap-takes, HasRoomFor-listed}
-use Rattle.sf_tool.proofs.LineByLine.{read_from, read_from-start, read_from-takes}
-use Rattle.sf_tool.proofs.LineByLine.{read_from-refused}
+use Rattle.sf_tool.proofs.Room.{IsListedMap-empty, IsListedMap-takes, many-names}
+use Rattle.sf_tool.proofs.LineByLine.{ReadsOn, reads_on-start, reads_on-takes, reads_on-refused}
+use Rattle.sf_tool.proofs.LineByLine.{reads_on-done}
 use Rattle.sf_tool.proofs.fields.read_fields.Goals as goal
 
 -- the lines from the first on
@@ -18,15 +19,8 @@ loop-line-init c =
     rw c.with_hasher-headers.ensures (record {
       number_fits = omega arith;
       listed = IsListedMap-empty c.args.targets.now;
-      reads = read_from-start c.args.targets.now c.args.input.now;
+      reads = reads_on-start c.args.targets.now (lines_of c.args.input.now);
     })
-
-pub take_line-requires : goal.take_line-requires
-take_line-requires c =
-    let small : c.loop-line.number + 1 < 2 ^ 64 =
-    omega (arith, c.in-Some.ensures.shorter, c.loop-line.invariant.number_fits) in
-    HasRoomFor-listed c.args.targets.now c.loop-line.headers c.loop-line.number (omega arith) small
-    c.loop-line.invariant.listed
 
 pub returns-in-Err-Refused : goal.returns-in-Err-Refused
 returns-in-Err-Refused c =
@@ -34,12 +28,18 @@ returns-in-Err-Refused c =
     c.in-Some.ensures.lines c.trimmed.ensures in
     let targets = c.args.targets.now in
     let number = c.loop-line.number in
-    let more = lines_of c.in-Some.more.now in
-    let P : LineFault → Type 0 = λ fault. IsLineFault targets c.trimmed.result.now fault in
+    let headers = c.loop-line.headers in
+    let small : number + 1 < 2 ^ 64 =
+    omega (arith, c.in-Some.ensures.shorter, c.loop-line.invariant.number_fits) in
+    let P : LineFault → Type 0 = λ fault. IsLineFault targets c.trimmed.result.now headers fault in
     let refused = subst P c.in-Err-Refused.field-0-is c.in-Err-Refused.ensures in
-    sym c.loop-line.invariant.reads
-    ∙ ap (λ ls. read_from targets number ls c.loop-line.headers) e
-    ∙ read_from-refused targets number c.trimmed.result.now more c.loop-line.headers refused
+    let reads =
+    subst (λ ls. ReadsOn targets (lines_of c.args.input.now) ls number headers) e
+    c.loop-line.invariant.reads in
+    let many : FindsNoRoom targets c.trimmed.result.now headers → 24576 ≤ length targets =
+    λ room. many-names targets headers number _ small c.loop-line.invariant.listed room.1 in
+    reads_on-refused targets c.args.input.now _ c.trimmed.result.now number headers reads many
+    refused
 
 pub loop-line-preserved : goal.loop-line-preserved
 loop-line-preserved c =
@@ -48,18 +48,18 @@ loop-line-preserved c =
     let taken = c.in-Ok.ensures in
     let targets = c.args.targets.now in
     let number = c.loop-line.number in
-    let more = lines_of c.in-Some.more.now in
-    let step = read_from-takes targets number c.trimmed.result.now more c.loop-line.headers
-    c.take_line.new.headers taken in
+    let headers = c.loop-line.headers in
+    let reads =
+    subst (λ ls. ReadsOn targets (lines_of c.args.input.now) ls number headers) e
+    c.loop-line.invariant.reads in
     record {
       number_fits = omega (
         arith,
         c.in-Some.ensures.shorter,
         c.loop-line.invariant.number_fits,
       );
-      listed = IsListedMap-takes targets c.trimmed.result.now c.loop-line.headers
+      listed = IsListedMap-takes targets c.trimmed.result.now headers
           c.take_line.new.headers number c.loop-line.invariant.listed taken;
-      reads = sym step
-          ∙ ap (λ ls. read_from targets number ls c.loop-line.headers) (sym e)
-          ∙ c.loop-line.invariant.reads;
+      reads = reads_on-takes targets (lines_of c.args.input.now) _ c.trimmed.result.now number
+          headers c.take_line.new.headers reads taken;
     }

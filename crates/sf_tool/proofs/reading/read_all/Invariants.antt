@@ -2,12 +2,12 @@ use Rattle.std.proofs.Common.{◌≡◌, ◌-◌, ◌≤◌, length}
 use Rattle.sf_value.specs.Devices.{Gave}
 use Rattle.sf_tool.proofs.reading.read_all.Given as goal
 
-abbrev pub invariant-loop-given : goal.invariant-loop-given
-invariant-loop-given g l = record {
+abbrev pub invariant-loop-all : goal.invariant-loop-all
+invariant-loop-all g l = record {
   gave : Gave (g.R.Source.state l.initial.source) (g.R.Source.state l.source) l.all.items;
   count : length l.all.items ≡ l.given;
-  within : l.given ≤ l.limit;
+  within : l.given ≤ l.max;
 }
 
-abbrev pub decreases-loop-given : goal.decreases-loop-given
-decreases-loop-given g l = l.limit - l.given
+abbrev pub decreases-loop-all : goal.decreases-loop-all
+decreases-loop-all g l = l.max - l.given

@@ -1,4 +1,4 @@
-use Rattle.std.proofs.Common.{ap, codes, ◌∙◌, Some}
+use Rattle.std.proofs.Common.{ap, codes, ◌∙◌, Some, refl}
 use Rattle.clap.specs.Words.{found_of}
 use Rattle.sf_tool.proofs.CommandLine.{value-some, other-dialect, no-dialect}
 use Rattle.sf_tool.proofs.request.dialect_of.Goals as goal
@@ -16,10 +16,15 @@ returns-in-rfc9651 c =
     ∙ ap Some c.in-rfc9651.is
 
 pub returns-in_default-word : goal.returns-in_default-word
-returns-in_default-word c =
-    other-dialect (found_of c.args.given.now) c.get_str.result c.in-Some.word c.get_str.ensures
-    c.in-Some.is c.in_default-word.not-rfc8941 c.in_default-word.not-rfc9651
+returns-in_default-word c = (
+  refl,
+  other-dialect (found_of c.args.given.now) c.get_str.result c.in-Some.word c.get_str.ensures
+      c.in-Some.is c.in_default-word.not-rfc8941 c.in_default-word.not-rfc9651,
+)
 
 pub returns-in_default : goal.returns-in_default
-returns-in_default c =
-    no-dialect (found_of c.args.given.now) c.get_str.result c.get_str.ensures c.in_default.is
+returns-in_default c = (
+  refl,
+  no-dialect (found_of c.args.given.now) c.get_str.result c.get_str.ensures
+      c.in_default.is,
+)

@@ -1,4 +1,4 @@
-use Rattle.std.proofs.Common.{ap, codes, ◌∙◌, Some}
+use Rattle.std.proofs.Common.{ap, codes, ◌∙◌, Some, refl}
 use Rattle.clap.specs.Words.{found_of}
 use Rattle.sf_tool.proofs.CommandLine.{value-some, other-kind, no-kind}
 use Rattle.sf_tool.proofs.request.kind_of.Goals as goal
@@ -22,10 +22,12 @@ returns-in-dict c =
     ∙ ap Some c.in-dict.is
 
 pub returns-in_default-word : goal.returns-in_default-word
-returns-in_default-word c =
-    other-kind (found_of c.args.given.now) c.get_str.result c.in-Some.word c.get_str.ensures
-    c.in-Some.is c.in_default-word.not-item c.in_default-word.not-list c.in_default-word.not-dict
+returns-in_default-word c = (
+  refl,
+  other-kind (found_of c.args.given.now) c.get_str.result c.in-Some.word c.get_str.ensures
+      c.in-Some.is c.in_default-word.not-item c.in_default-word.not-list c.in_default-word.not-dict,
+)
 
 pub returns-in_default : goal.returns-in_default
 returns-in_default c =
-    no-kind (found_of c.args.given.now) c.get_str.result c.get_str.ensures c.in_default.is
+    (refl, no-kind (found_of c.args.given.now) c.get_str.result c.get_str.ensures c.in_default.is)

@@ -22,7 +22,7 @@ returns-in_err-name c =
     let lt : i < length words = omega arith in
     let at = get_or-map text c.args.words.now i empty [] c.loop-word-test.true in
     let P : Text → Type 0 = λ w. is_header_name w ≡ false in
-    names-fault words i [] lt c.in_err-name.field-0.0
+    names-fault words i [] lt (omega arith) c.in_err-name.field-0.0
     (λ usage. subst P (sym at) (c.in_err-name.ensures usage)) c.from_residual.result
     c.from_residual.ensures.1
 

@@ -6,6 +6,7 @@ use Rattle.sf_tool.proofs.running.priority.Goals as goal
 
 pub returns-in-Err-Field : goal.returns-in-Err-Field
 returns-in-Err-Field g c =
-    tells_refused Priority Rfc9651 kind.Dict c.args.input.now c.in-Err-Field.refusal _ _ _ (λ line r. r)
-    c.requires (rw c.in-Err-Field.field-0-is at c.in-Err-Field.ensures.asks)
+    tells_refused Priority Rfc9651 kind.Dict c.args.input.now c.in-Err-Field.refusal _ _ _
+    (λ line r. r)
+    (rw c.in-Err-Field.field-0-is at c.in-Err-Field.ensures.asks)
     c.answer_refusal.ensures

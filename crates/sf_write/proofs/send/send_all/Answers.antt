@@ -17,7 +17,7 @@ returns-in-Err g c =
     let some : 0 < length c.loop-rest.rest.now = search rules in
     let left = c.loop-rest.invariant in
     left.finish _ (Err (record { written = c.loop-rest.written }))
-    (refused_once left.counted some c.in-Err.ensures)
+    (refused_once left.counted some c.in-Err.ensures.1)
 
 pub returns : goal.returns
 returns g c = ends_done c.loop-rest.invariant (nil_from_length _ (search rules))
