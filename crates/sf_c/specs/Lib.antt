@@ -1,0 +1,7 @@
+-- What the exports answer.
+pub mod Statuses
+pub mod Calls
+pub mod Refusals
+pub mod Parsing
+pub mod Checks
+pub mod Normal

@@ -1,0 +1,23 @@
+//! The library, called from C: a static library with one export for each call, declared for C in
+//! `include/sf.h`.
+//!
+//! Numbers, slices as a pointer and a length, and structs in C's layout cross; nothing owned does.
+//! The caller gives the room for an answer, and where that is too small the answer says how much
+//! was wanted. Each export is total: on any input it returns one of the [`Status`]es, and what it
+//! may write, and where, stands in its contract. `specs/` says what each answer means, by the
+//! definitions of the crates below.
+#![tactic(auto)]
+
+mod call;
+mod check;
+mod normalise;
+mod refusal;
+mod room;
+mod seed;
+mod status;
+
+pub use check::sf_check;
+pub use normalise::{sf_equal, sf_normalise};
+pub use refusal::SyntaxRefusal;
+pub use seed::Seed;
+pub use status::Status;
