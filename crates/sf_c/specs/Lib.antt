@@ -5,3 +5,5 @@ pub mod Refusals
 pub mod Parsing
 pub mod Checks
 pub mod Normal
+pub mod Priorities
+pub mod Policies

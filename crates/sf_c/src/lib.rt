@@ -11,13 +11,17 @@
 mod call;
 mod check;
 mod normalise;
+mod priority;
 mod refusal;
 mod room;
 mod seed;
 mod status;
+mod targeted;
 
 pub use check::sf_check;
 pub use normalise::{sf_equal, sf_normalise};
+pub use priority::{PriorityFlags, sf_priority, sf_priority_merge};
 pub use refusal::SyntaxRefusal;
 pub use seed::Seed;
 pub use status::Status;
+pub use targeted::{PolicyFlags, sf_cache_control, sf_lifetime};
