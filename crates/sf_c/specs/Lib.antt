@@ -7,3 +7,7 @@ pub mod Checks
 pub mod Normal
 pub mod Priorities
 pub mod Policies
+pub mod Joining
+pub mod Tellings
+pub mod Nodes
+pub mod Flattening

@@ -10,7 +10,10 @@
 
 mod call;
 mod check;
+mod joining;
+mod nodes;
 mod normalise;
+mod parsing;
 mod priority;
 mod refusal;
 mod room;
@@ -19,7 +22,10 @@ mod status;
 mod targeted;
 
 pub use check::sf_check;
+pub use joining::{Joined, sf_join};
+pub use nodes::{Node, Sizes};
 pub use normalise::{sf_equal, sf_normalise};
+pub use parsing::sf_parse;
 pub use priority::{PriorityFlags, sf_priority, sf_priority_merge};
 pub use refusal::SyntaxRefusal;
 pub use seed::Seed;
