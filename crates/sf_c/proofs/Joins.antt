@@ -116,6 +116,12 @@ puts_one old line comma mid new is fits e f =
       );
       longer = omega arith;
       fits = fits;
+      begun = refl;
+      wanted = refl;
+      front = ap (take all) whole
+          ∙ front_at all text (drop (n + length comma + length line) room) long
+          ∙ append_assoc (take n room) comma line
+          ∙ ap (λ t. take n room ++ (t ++ line)) is;
       behind = ap (drop all) whole
           ∙ behind_at all text (drop (n + length comma + length line) room) long
           ∙ ap (λ k. drop k room) same;

@@ -1,3 +1,5 @@
 pub mod TellingLemmas
 pub mod Joins
 pub mod NodeSteps
+pub mod OneValue
+pub mod NodeBound

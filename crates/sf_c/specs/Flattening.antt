@@ -1,5 +1,5 @@
 -- What parsing a text into nodes answers.
-use Rattle.std.specs.Prelude.{◌≡◌, ℕ, ◌+◌, ◌<◌, ◌≤◌, ◌⊎◌, List, ◌++◌, length, drop, map}
+use Rattle.std.specs.Prelude.{◌≡◌, ℕ, ◌+◌, ◌*◌, ◌<◌, ◌≤◌, ◌⊎◌, List, ◌++◌, length, drop, map}
 use Rattle.sf_value.specs.declared.dialect.Dialect.{Dialect}
 use Rattle.sf_value.specs.declared.value.Field.{Field}
 use Rattle.sf_value.specs.declared.value.Kind.{Kind}
@@ -20,10 +20,14 @@ pub record NodeRoom : Type 0 where
   pub sizes : Sizes
   pub refusal : SyntaxRefusal
 
--- how many nodes and bytes the value has
-abbrev pub AreSizes : Sizes → Field → Type 0
-AreSizes sizes v =
-    (sizes.nodes ≡ length (told_field v)) × (sizes.bytes ≡ told_size (told_field v))
+-- how many nodes and bytes the value of the text t has: nodes at most one more than eight fifths of
+-- its length, bytes at most eight fifths
+abbrev pub AreSizes : List ℕ → Sizes → Field → Type 0
+AreSizes t sizes v =
+    (sizes.nodes ≡ length (told_field v))
+    × (sizes.bytes ≡ told_size (told_field v))
+    × (5 * sizes.nodes ≤ 8 * length t + 5)
+    × (5 * sizes.bytes ≤ 8 * length t)
 
 -- the fronts of the rooms tell the value that the text t spells, the only one; or a room is too
 -- small; or the struct says the refusal. All else is left as it was
@@ -31,13 +35,13 @@ abbrev pub Flattens : NodeRoom → NodeRoom → List ℕ → Dialect → Kind �
 Flattens old new t d k Answered =
     (v : Field)
     × IsOnly d k t v
-    × AreSizes new.sizes v
+    × AreSizes t new.sizes v
     × TellAtFront (told_field v) old.nodes new.nodes old.bytes new.bytes
     × (new.refusal ≡ old.refusal)
 Flattens old new t d k Short =
     (v : Field)
     × IsOnly d k t v
-    × AreSizes new.sizes v
+    × AreSizes t new.sizes v
     × ((length old.nodes < new.sizes.nodes) ⊎ (length old.bytes < new.sizes.bytes))
     × (new.nodes ≡ old.nodes)
     × (new.bytes ≡ old.bytes)

@@ -29,6 +29,10 @@ pub record PutsOne (old new : JoinRoom) (line : List ℕ) : Type 0 where
   pub joins : (ls : List (List ℕ)) → AreJoined ls old → AreJoined (ls ++ line ∷ []) new
   pub longer : new.joined.length ≡ old.joined.length + length (added old.joined line)
   pub fits : new.joined.length ≤ length old.room
+  pub begun : new.joined.begun ≡ 1
+  pub wanted : new.joined.wanted ≡ old.joined.wanted
+  pub front : take new.joined.length new.room
+      ≡ take old.joined.length old.room ++ added old.joined line
   pub behind : drop new.joined.length new.room ≡ drop new.joined.length old.room
   pub kept : length new.room ≡ length old.room
 

@@ -11,3 +11,4 @@ pub mod Joining
 pub mod Tellings
 pub mod Nodes
 pub mod Flattening
+pub mod Laws

@@ -11,6 +11,7 @@
 mod call;
 mod check;
 mod joining;
+pub mod laws;
 mod nodes;
 mod normalise;
 mod parsing;

@@ -4,6 +4,7 @@ ghost use Rattle.sf_c.specs.Flattening.{Flattens};
 ghost use Rattle.sf_c.specs.Statuses.{status_at};
 
 use crate::call::{dialect_of, kind_of, parse};
+use crate::laws::nodes_are_few;
 use crate::nodes::{Node, Sizes, flatten};
 use crate::refusal::SyntaxRefusal;
 use crate::seed::Seed;
@@ -32,6 +33,7 @@ fn parse_flat(
         Ok(field) => field,
         Err(status) => return status,
     };
+    nodes_are_few();
     let Ok(flat) = flatten(alloc, &field) else {
         return Status::OutOfMemory;
     };

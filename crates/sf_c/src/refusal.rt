@@ -13,7 +13,7 @@ pub struct SyntaxRefusal {
     pub expected_low: u64,
     /// The same for the bytes from 64 to 127.
     pub expected_high: u64,
-    /// The byte at that place, or -1 where the text ended.
+    /// The byte found there, or -1 where the text ended.
     pub found: i32,
     /// 1 where that front is a text of the kind itself, else 0.
     pub may_end: u32,

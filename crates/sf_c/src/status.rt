@@ -15,11 +15,9 @@ pub enum Status {
     Short,
     /// 4: memory was wanting.
     OutOfMemory,
-    /// 5: a member of a Cache-Status List names no cache.
-    NotACache,
-    /// 6: the field has no member, so it says nothing.
+    /// 5: the field has no member, so it says nothing.
     Empty,
-    /// 7: there is no such kind or dialect.
+    /// 6: there is no such kind or dialect, or a length is greater than its room.
     BadCall,
 }
 
@@ -34,9 +32,8 @@ impl Status {
             Status::SecondRefused => 2,
             Status::Short => 3,
             Status::OutOfMemory => 4,
-            Status::NotACache => 5,
-            Status::Empty => 6,
-            Status::BadCall => 7,
+            Status::Empty => 5,
+            Status::BadCall => 6,
         }
     }
 }
