@@ -159,6 +159,47 @@ static int is_set(const sf_refusal *refusal, const char *set) {
          refusal->may_end == may_end;
 }
 
+/* The nodes of a text and of its canonical text are the same, in rooms of exactly their size; a room
+ * that is one short, or empty, is answered with what is wanted. */
+static void same_value(uint32_t dialect, uint32_t kind, const char *about, const void *text,
+                       size_t length, const void *canonical, size_t canonical_length) {
+  uint32_t status;
+  sf_refusal refusal = untouched;
+  sf_sizes sizes = {4711, 4712}, again = {4711, 4712};
+  CALL(sf_parse(&seed, dialect, kind, text, length, NULL, 0, NULL, 0, &sizes, &refusal));
+  CHECK(status == (sizes.nodes == 0 && sizes.bytes == 0 ? SF_OK : SF_SHORT));
+  CHECK(sizes.nodes <= SF_PARSE_ROOM(length) && sizes.bytes <= SF_PARSE_ROOM(length));
+
+  size_t size = sizes.nodes * sizeof(sf_node);
+  unsigned char *bytes = block_of(NULL, sizes.bytes), *other = block_of(NULL, sizes.bytes);
+  sf_node *nodes = (sf_node *)(void *)block_of(NULL, size);
+  sf_node *others = (sf_node *)(void *)block_of(NULL, size);
+  if (sizes.nodes > 0) {
+    CALL(sf_parse(&seed, dialect, kind, text, length, nodes, sizes.nodes - 1, bytes, sizes.bytes,
+                  &again, &refusal));
+    CHECK(status == SF_SHORT && memcmp(&again, &sizes, sizeof sizes) == 0);
+  }
+  if (sizes.bytes > 0) {
+    CALL(sf_parse(&seed, dialect, kind, text, length, nodes, sizes.nodes, bytes, sizes.bytes - 1,
+                  &again, &refusal));
+    CHECK(status == SF_SHORT && memcmp(&again, &sizes, sizeof sizes) == 0);
+  }
+  CHECK(all_are((unsigned char *)nodes, size) && all_are(bytes, sizes.bytes));
+  CALL(sf_parse(&seed, dialect, kind, text, length, nodes, sizes.nodes, bytes, sizes.bytes, &again,
+                &refusal));
+  CHECK(status == SF_OK && memcmp(&again, &sizes, sizeof sizes) == 0);
+  CALL(sf_parse(&seed, dialect, kind, canonical, canonical_length, others, sizes.nodes, other,
+                sizes.bytes, &again, &refusal));
+  CHECK(status == SF_OK && memcmp(&again, &sizes, sizeof sizes) == 0);
+  CHECK(size == 0 || memcmp(nodes, others, size) == 0);
+  CHECK(sizes.bytes == 0 || memcmp(bytes, other, sizes.bytes) == 0);
+  CHECK(is_untouched(&refusal));
+  free(nodes);
+  free(others);
+  free(bytes);
+  free(other);
+}
+
 static void accepted(uint32_t dialect, uint32_t kind, const char *from, size_t length,
                      const char *canonical, size_t canonical_length) {
   const char *about = from;
@@ -187,11 +228,12 @@ static void accepted(uint32_t dialect, uint32_t kind, const char *from, size_t l
   }
   CHECK(canonical_length <= SF_CANONICAL_ROOM(length));
 
-  /* It is equal to its canonical text, and to no longer one. */
+  /* It is equal to its canonical text. */
   unsigned char *other = block_of(canonical, canonical_length);
   uint32_t equal = 4711;
   CALL(sf_equal(&seed, dialect, kind, text, length, other, canonical_length, &equal, &refusal));
   CHECK(status == SF_OK && equal == 1);
+  same_value(dialect, kind, about, text, length, other, canonical_length);
   free(other);
   CHECK(is_untouched(&refusal));
   free(text);

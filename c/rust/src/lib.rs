@@ -121,6 +121,37 @@ fn start(text: &[u8]) -> *const c_void {
     text.as_ptr().cast()
 }
 
+/// The lines of a field as one text, with a comma and a space between two (RFC 9651 section 4.2).
+#[must_use]
+pub fn join(lines: &[&[u8]]) -> Vec<u8> {
+    let mut room = Vec::new();
+    let mut joined = raw::Joined {
+        length: 0,
+        wanted: 0,
+        begun: 0,
+    };
+    for line in lines {
+        loop {
+            // SAFETY: as in `check_in`; the room is borrowed alone.
+            let status = unsafe {
+                raw::sf_join(
+                    start(line),
+                    line.len(),
+                    room.as_mut_ptr() as *mut c_void,
+                    room.len(),
+                    &mut joined,
+                )
+            };
+            if status == raw::OK {
+                break;
+            }
+            room.resize(joined.wanted, 0u8);
+        }
+    }
+    room.truncate(joined.length);
+    room
+}
+
 /// Whether the text spells a value of the kind, by RFC 9651.
 pub fn check(seed: &Seed, kind: Kind, text: &[u8]) -> Result<(), Fault> {
     check_in(seed, Dialect::Rfc9651, kind, text)

@@ -50,6 +50,13 @@ pub struct Policy {
     pub is_private: u8,
 }
 
+#[repr(C)]
+pub struct Joined {
+    pub length: usize,
+    pub wanted: usize,
+    pub begun: u32,
+}
+
 pub const OK: u32 = 0;
 pub const REFUSED: u32 = 1;
 pub const SECOND_REFUSED: u32 = 2;
@@ -117,6 +124,13 @@ extern "C" {
         length: usize,
         policy: *mut Policy,
         refusal: *mut Refusal,
+    ) -> u32;
+    pub fn sf_join(
+        line: *const c_void,
+        line_length: usize,
+        room: *mut c_void,
+        room_length: usize,
+        joined: *mut Joined,
     ) -> u32;
     pub fn sf_lifetime(policy: *const Policy, shared: u32, seconds: *mut u64) -> u32;
 }

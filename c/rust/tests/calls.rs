@@ -1,8 +1,8 @@
 //! The wrapper from safe Rust: what each call answers.
 
 use sf::{
-    cache_control, check, check_in, equal, merge, normalise, parse, priority, Dialect, Fault, Kind,
-    Policy, Priority, Refusal, Role, Seed, Type,
+    cache_control, check, check_in, equal, join, merge, normalise, parse, priority, Dialect, Fault,
+    Kind, Policy, Priority, Refusal, Role, Seed, Type,
 };
 
 const SEED: [u8; 16] = *b"sixteen bytes of";
@@ -48,6 +48,14 @@ fn texts_are_normalised_and_compared() {
     );
     let second = equal(&seed(), Kind::Item, b"a", b"a,");
     assert!(matches!(second, Err(Fault::SecondRefused(refusal)) if refusal.place == 1));
+}
+
+#[test]
+fn lines_are_joined() {
+    assert_eq!(join(&[]), b"");
+    assert_eq!(join(&[b""]), b"");
+    assert_eq!(join(&[b"", b""]), b", ");
+    assert_eq!(join(&[b"a;q=1.0,b", b"(c  d)"]), b"a;q=1.0,b, (c  d)");
 }
 
 #[test]
