@@ -1,6 +1,6 @@
 -- A value has at most one node more than its canonical text has bytes, and at most as many bytes.
 use Rattle.std.proofs.Common.{◌≡◌, ℕ, ◌+◌, ◌*◌, ◌≤◌, Bool, true, false, List as Seq, [], ◌∷◌, ◌++◌}
-use Rattle.std.proofs.Common.{length, refl, ap, arith, length-append}
+use Rattle.std.proofs.Common.{length, refl, arith, length-append}
 use Rattle.sf_value.specs.declared.value.Bare.{Bare}
 use Rattle.sf_value.specs.declared.value.Bare.TheVariants.{Integer, Decimal, Text, Token}
 use Rattle.sf_value.specs.declared.value.Bare.TheVariants.{Blob, Boolean, Date, Shown}
@@ -13,16 +13,15 @@ use Rattle.sf_value.specs.declared.value.Field.TheVariants as field
 use Rattle.sf_value.specs.Grammar.Pairs.{Pairs}
 use Rattle.sf_value.specs.Grammar.Strings.{escaped, is_escaped}
 use Rattle.sf_value.specs.Grammar.ByteSequences.{unpadded, needed}
-use Rattle.sf_value.specs.Grammar.DisplayStrings.{is_plain, hex}
+use Rattle.sf_value.specs.Grammar.DisplayStrings.{is_plain}
 use Rattle.sf_value.specs.Grammar.Canonical.{canon_bare, canon_value, canon_params, canon_item}
 use Rattle.sf_value.specs.Grammar.Canonical.{canon_more, canon_items, canon_inner, canon_member}
-use Rattle.sf_value.specs.Grammar.Canonical.{canon_flag, canon_behind, canon_entry, canon_commas}
-use Rattle.sf_value.specs.Grammar.Canonical.{canon_series, canon, canon_shown, canon_base64}
+use Rattle.sf_value.specs.Grammar.Canonical.{canon_flag, canon_entry, canon_commas}
+use Rattle.sf_value.specs.Grammar.Canonical.{canon_series, canon, canon_shown}
 use Rattle.std.proofs.Common.{replicate}
 use Rattle.sf_c.specs.Tellings.{Told, told_size}
-use Rattle.sf_c.specs.Nodes.{text_of, told_params, told_item, told_items, told_inside, told_inner}
+use Rattle.sf_c.specs.Nodes.{text_of, told_params, told_item, told_items, told_inner}
 use Rattle.sf_c.specs.Nodes.{told_member, told_members, told_entries, told_field}
-use Rattle.sf_c.proofs.NodeSteps.{length_params}
 use Rattle.sf_c.proofs.TellingLemmas.{told_size-append}
 
 -- the bytes of a String are no more than those of its text

@@ -36,7 +36,8 @@ length_next items i x h e =
     omega arith
 
 -- what is inside an Inner List
-pub length_inside : (l : Inner) → length (told_inside l) ≡ length (told_items l.items) + length l.params
+pub length_inside : (l : Inner)
+    → length (told_inside l) ≡ length (told_items l.items) + length l.params
 length_inside l =
     let both = length-append (told_items l.items) (told_params l.params) in
     let params = length_params l.params in

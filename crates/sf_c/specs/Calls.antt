@@ -14,12 +14,14 @@ dialect_at n = if n == 0 then Some Rfc9651 else (if n == 1 then Some Rfc8941 els
 -- the kind of a number
 abbrev pub kind_at : ℕ → Option Kind
 kind_at n =
-    if n == 0 then Some Item else (if n == 1 then Some List else (if n == 2 then Some Dict else None))
+    if n == 0 then Some Item
+    else (if n == 1 then Some List
+    else (if n == 2 then Some Dict else None))
 
 -- the status is that of a call by this dialect and kind; where there is no such kind or dialect it
 -- is BadCall
-abbrev pub Called : Option Dialect → Option Kind → Option Status → (Dialect → Kind → Status → Type 0)
-    → Type 0
+abbrev pub Called : Option Dialect → Option Kind → Option Status
+    → (Dialect → Kind → Status → Type 0) → Type 0
 Called (Some d) (Some k) (Some s) P = P d k s
 Called (Some d) (Some k) None P = ⊥
 Called (Some d) None s P = s ≡ Some BadCall

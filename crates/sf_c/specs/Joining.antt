@@ -38,6 +38,7 @@ pub record PutsOne (old new : JoinRoom) (line : List ℕ) : Type 0 where
 
 -- the room is too small for the text with this line, and nothing is put
 pub record WantsMore (old new : JoinRoom) (line : List ℕ) : Type 0 where
+  pub within : old.joined.length ≤ length old.room
   pub short : length old.room < old.joined.length + length (added old.joined line)
   pub wanted : new.joined.wanted ≡ capped (old.joined.length + length (added old.joined line))
   pub room : new.room ≡ old.room

@@ -10,7 +10,7 @@ use crate::status::Status;
 use sf_value::{Dialect, Kind};
 use std::alloc::Global;
 
-// The same, of a dialect and a kind.
+// As [`sf_check`] answers, of a dialect and a kind.
 fn check(
     alloc: Global,
     seed: &Seed,

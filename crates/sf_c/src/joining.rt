@@ -1,8 +1,7 @@
 //! The lines of a field, joined.
-ghost use Rattle.std.specs.Prelude.{◌≡◌};
+ghost use Rattle.std.specs.Prelude.{◌≡◌, Some};
 ghost use Rattle.sf_c.specs.Joining.{PutsLine, separator_of};
 ghost use Rattle.sf_c.specs.Statuses.{status_at};
-ghost use Rattle.std.specs.Prelude.{Some};
 
 use crate::room::put;
 use crate::status::Status;

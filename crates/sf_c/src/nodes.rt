@@ -1,6 +1,6 @@
 //! A value as a flat list of nodes.
-ghost use Rattle.std.specs.Prelude.{◌≡◌, ℕ, ◌+◌, ◌++◌, List, [], ◌∷◌, length, IfOk, MatchResult};
-ghost use Rattle.std.specs.Prelude.{◌≤◌, pos};
+ghost use Rattle.std.specs.Prelude.{◌≡◌, ◌+◌, ◌++◌, ◌≤◌, [], ◌∷◌, pos, length};
+ghost use Rattle.std.specs.Prelude.{IfOk, MatchResult};
 ghost use Rattle.sf_c.specs.Tellings.{told_size, TellAtFront};
 ghost use Rattle.sf_c.specs.Nodes.{told, told_entries, told_field, told_inner, told_inside};
 ghost use Rattle.sf_c.specs.Nodes.{told_item, told_items, told_member, told_members, told_params};

@@ -1,9 +1,6 @@
 //! The canonical text.
-ghost use Rattle.std.specs.Prelude.{◌≡◌, ◌↔◌, true, IfOk};
 ghost use Rattle.sf_c.specs.Calls.{Called, dialect_at, kind_at};
 ghost use Rattle.sf_c.specs.Normal.{Normalises, Equals};
-ghost use Rattle.sf_c.specs.Parsing.{ParsesOrSays};
-ghost use Rattle.sf_c.specs.Refusals.{flag_number};
 ghost use Rattle.sf_c.specs.Statuses.{status_at};
 
 use crate::call::{dialect_of, kind_of, parse};
@@ -16,7 +13,7 @@ use sf_value::{Dialect, Kind, same};
 use sf_write::to_text;
 use std::alloc::Global;
 
-// The same, of a dialect and a kind.
+// As [`sf_normalise`] answers, of a dialect and a kind.
 fn normalise(
     alloc: Global,
     seed: &Seed,
@@ -73,7 +70,7 @@ pub extern "C" fn sf_normalise(
     normalise(alloc, seed, dialect, kind, text, room, wanted, refusal).code()
 }
 
-// The same, of a dialect and a kind.
+// As [`sf_equal`] answers, of a dialect and a kind.
 fn equal(
     alloc: Global,
     seed: &Seed,

@@ -12,7 +12,7 @@ use crate::status::Status;
 use sf_value::{Dialect, Kind};
 use std::alloc::Global;
 
-// The same, of a dialect and a kind.
+// As [`sf_parse`] answers, of a dialect and a kind.
 fn parse_flat(
     alloc: Global,
     seed: &Seed,

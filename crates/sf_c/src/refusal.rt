@@ -1,6 +1,6 @@
 //! Why a text is refused, as C sees it.
-ghost use Rattle.std.specs.Prelude.{◌≡◌, ◌+◌, ◌*◌, ◌^◌};
-ghost use Rattle.sf_c.specs.Refusals.{SaysSyntax, found_number, flag_number};
+ghost use Rattle.std.specs.Prelude.{◌≡◌};
+ghost use Rattle.sf_c.specs.Refusals.{SaysSyntax, found_number};
 
 /// Where and why a text is refused (RFC 9651 section 4.2). In C an `sf_refusal`.
 #[repr(C)]

@@ -1,6 +1,7 @@
 //! Targeted cache control (RFC 9213).
 ghost use Rattle.std.specs.Prelude.{◌≡◌, Some};
-ghost use Rattle.sf_c.specs.Policies.{Directs, LifeIs, SaysPolicy, SaysToCache, policy_by, seconds_at};
+ghost use Rattle.sf_c.specs.Policies.{Directs, LifeIs, SaysPolicy, SaysToCache};
+ghost use Rattle.sf_c.specs.Policies.{policy_by, seconds_at};
 ghost use Rattle.sf_c.specs.Statuses.{status_at};
 
 use crate::call::parse;

@@ -1,7 +1,7 @@
-use Rattle.std.proofs.Common.{◌≡◌, ◌∙◌, ◌∷◌, ◌++◌, [], ap, sym, refl, false, rules, arith, length}
+use Rattle.std.proofs.Common.{◌≡◌, ap, refl, false, rules, arith, length}
 use Rattle.std.proofs.Common.{length-append}
 use Rattle.std.specs.Prelude.{is_err}
-use Rattle.sf_c.proofs.TellingLemmas.{Points, holds_more, pushed, told_more}
+use Rattle.sf_c.proofs.TellingLemmas.{holds_more, pushed, told_more}
 use Rattle.sf_c.proofs.nodes.Flat.push.Goals as goal
 
 pub invariant_of-self-else-is_err : goal.invariant_of-self-else-is_err
