@@ -1,0 +1,96 @@
+/* The canonical text of the field on standard input, a line of the field a line.
+ *
+ *   printf 'u=1,  i=?1\n' | normalise dict        u=1, i
+ */
+#define _POSIX_C_SOURCE 200809L
+#include <sf.h>
+#include <stdio.h>
+#include <stdlib.h>
+#include <string.h>
+
+/* A seed that strangers can't guess. */
+static int fill(sf_seed *seed) {
+  FILE *random = fopen("/dev/urandom", "rb");
+  if (random == NULL)
+    return 0;
+  size_t got = fread(seed->bytes, 1, sizeof seed->bytes, random);
+  fclose(random);
+  return got == sizeof seed->bytes;
+}
+
+/* Joins a line to the text, which grows as it must. */
+static int add(char **text, size_t *room, sf_joined *joined, const char *line, size_t length) {
+  uint32_t status = sf_join(line, length, *text, *room, joined);
+  if (status != SF_SHORT)
+    return status == SF_OK;
+  char *longer = realloc(*text, joined->wanted);
+  if (longer == NULL)
+    return 0;
+  *text = longer;
+  *room = joined->wanted;
+  return sf_join(line, length, *text, *room, joined) == SF_OK;
+}
+
+static int kind_of(const char *word, uint32_t *kind) {
+  static const char *const words[] = {"item", "list", "dict"};
+  for (*kind = SF_ITEM; *kind <= SF_DICT; ++*kind)
+    if (strcmp(word, words[*kind]) == 0)
+      return 1;
+  return 0;
+}
+
+int main(int argc, char **argv) {
+  uint32_t kind;
+  if (argc != 2 || !kind_of(argv[1], &kind)) {
+    fprintf(stderr, "usage: normalise item|list|dict\n");
+    return 2;
+  }
+  sf_seed seed;
+  if (!fill(&seed)) {
+    fprintf(stderr, "normalise: no random bytes\n");
+    return 3;
+  }
+
+  char *text = NULL, *line = NULL;
+  size_t room = 0, line_room = 0;
+  sf_joined joined = {0, 0, 0};
+  ssize_t length;
+  while ((length = getline(&line, &line_room, stdin)) >= 0) {
+    if (length > 0 && line[length - 1] == '\n')
+      --length;
+    if (!add(&text, &room, &joined, line, (size_t)length)) {
+      fprintf(stderr, "normalise: out of memory\n");
+      return 3;
+    }
+  }
+  free(line);
+
+  size_t wanted = SF_CANONICAL_ROOM(joined.length); /* never too small */
+  char *canonical = malloc(wanted + 1);
+  if (canonical == NULL) {
+    fprintf(stderr, "normalise: out of memory\n");
+    return 3;
+  }
+  sf_refusal refusal;
+  int answer = 0;
+  switch (sf_normalise(&seed, SF_RFC9651, kind, text, joined.length, canonical, wanted, &wanted,
+                       &refusal)) {
+  case SF_OK:
+    printf("%.*s\n", (int)wanted, canonical);
+    break;
+  case SF_REFUSED:
+    if (refusal.found < 0)
+      printf("refused at %llu: the text ended\n", (unsigned long long)refusal.place);
+    else
+      printf("refused at %llu: byte 0x%02x\n", (unsigned long long)refusal.place,
+             (unsigned)refusal.found);
+    answer = 1;
+    break;
+  default:
+    fprintf(stderr, "normalise: out of memory\n");
+    answer = 3;
+  }
+  free(canonical);
+  free(text);
+  return answer;
+}

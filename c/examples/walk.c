@@ -1,0 +1,91 @@
+/* The value of a text as a tree, a part a line.
+ *
+ *   walk list 'a;q=1, ("b" 1.5)'
+ *
+ * prints
+ *
+ *   token a
+ *     ;q integer 1
+ *   inner list
+ *     string b
+ *     decimal 1.500
+ */
+#include <sf.h>
+#include <stdio.h>
+#include <stdlib.h>
+#include <string.h>
+
+static const char *const types[] = {"inner list", "integer", "decimal", "string", "token",
+                                    "bytes",      "boolean", "date",    "display"};
+
+/* What a node itself says: its key, its type, and its number or its bytes. */
+static void print(const sf_node *node, const char *bytes, int depth) {
+  printf("%*s", 2 * depth, "");
+  if (node->role == SF_PARAMETER)
+    printf(";");
+  if (node->key_length > 0)
+    printf("%.*s ", (int)node->key_length, bytes + node->key_at);
+  printf("%s", types[node->type]);
+  switch (node->type) {
+  case SF_INTEGER:
+  case SF_BOOLEAN:
+  case SF_DATE:
+    printf(" %lld", (long long)node->number);
+    break;
+  case SF_DECIMAL: {
+    long long number = node->number;
+    printf(" %s%lld.%03lld", number < 0 ? "-" : "", llabs(number) / 1000, llabs(number) % 1000);
+    break;
+  }
+  case SF_BYTE_SEQUENCE:
+    for (size_t i = 0; i < node->text_length; ++i)
+      printf(" %02x", (unsigned char)bytes[node->text_at + i]);
+    break;
+  case SF_INNER_LIST:
+    break;
+  default:
+    printf(" %.*s", (int)node->text_length, bytes + node->text_at);
+  }
+  printf("\n");
+}
+
+/* The siblings from a node to an end, and below each what it has. */
+static void walk(const sf_node *node, const sf_node *end, const char *bytes, int depth) {
+  for (; node < end; node += node->span) {
+    print(node, bytes, depth);
+    walk(node + 1, node + node->span, bytes, depth + 1);
+  }
+}
+
+int main(int argc, char **argv) {
+  static const char *const kinds[] = {"item", "list", "dict"};
+  uint32_t kind = SF_ITEM;
+  while (argc == 3 && kind <= SF_DICT && strcmp(argv[1], kinds[kind]) != 0)
+    ++kind;
+  if (argc != 3 || kind > SF_DICT) {
+    fprintf(stderr, "usage: walk item|list|dict TEXT\n");
+    return 2;
+  }
+  sf_seed seed;
+  FILE *random = fopen("/dev/urandom", "rb");
+  if (random == NULL || fread(&seed, 1, sizeof seed, random) != sizeof seed)
+    return 3;
+  fclose(random);
+
+  size_t length = strlen(argv[2]);
+  sf_sizes sizes = {SF_PARSE_ROOM(length), SF_PARSE_ROOM(length)}; /* never too small */
+  sf_node *nodes = malloc(sizes.nodes * sizeof *nodes + 1);
+  char *bytes = malloc(sizes.bytes + 1);
+  if (nodes == NULL || bytes == NULL)
+    return 3;
+  sf_refusal refusal;
+  uint32_t status = sf_parse(&seed, SF_RFC9651, kind, argv[2], length, nodes, sizes.nodes, bytes,
+                             sizes.bytes, &sizes, &refusal);
+  if (status == SF_OK)
+    walk(nodes, nodes + sizes.nodes, bytes, 0);
+  else if (status == SF_REFUSED)
+    printf("refused at %llu\n", (unsigned long long)refusal.place);
+  free(nodes);
+  free(bytes);
+  return status == SF_OK ? 0 : status == SF_REFUSED ? 1 : 3;
+}

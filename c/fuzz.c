@@ -1,0 +1,225 @@
+/* A fuzz target over the archive, for libFuzzer. The first byte of an input says the kind and the
+ * dialect, the rest is a text. A text that is accepted is normalised, parsed again and compared;
+ * its nodes and those of its canonical text are the same; rooms that are one short are answered
+ * with what is wanted; the lines of the text, joined one by one, are the text again; a refusal
+ * agrees with the front of the text that it names. Rooms are blocks of exactly their length, for
+ * the address sanitizer.
+ */
+#include <sf.h>
+#include <stdint.h>
+#include <stdio.h>
+#include <stdlib.h>
+#include <string.h>
+
+#define CHECK(fact)                                                                                \
+  do {                                                                                             \
+    if (!(fact)) {                                                                                 \
+      fprintf(stderr, "fuzz.c:%d: %s\n", __LINE__, #fact);                                         \
+      abort();                                                                                     \
+    }                                                                                              \
+  } while (0)
+
+static const sf_seed seed = {{2, 7, 1, 8, 2, 8, 1, 8, 2, 8, 4, 5, 9, 0, 4, 5}};
+
+static void *block(size_t size) {
+  if (size == 0)
+    return NULL;
+  void *block = malloc(size);
+  CHECK(block != NULL);
+  return block;
+}
+
+static uint8_t *copy(const uint8_t *text, size_t length) {
+  uint8_t *bytes = block(length);
+  if (length > 0)
+    memcpy(bytes, text, length);
+  return bytes;
+}
+
+static int is_expected(const sf_refusal *refusal, unsigned byte) {
+  uint64_t word = byte < 64 ? refusal->expected_low : refusal->expected_high;
+  return byte < 128 && (word >> (byte % 64) & 1) != 0;
+}
+
+/* What a refusal says of the text: its front is good, the byte behind it is not, and each byte that
+ * it names could have stood there. */
+static void refused(uint32_t dialect, uint32_t kind, const uint8_t *text, size_t length,
+                    const sf_refusal *refusal) {
+  CHECK(refusal->place <= length);
+  CHECK((refusal->found == -1) == (refusal->place == length));
+  CHECK(refusal->found == -1 || refusal->found == text[refusal->place]);
+  CHECK(refusal->found < 0 || !is_expected(refusal, (unsigned)refusal->found));
+  CHECK(refusal->expected_low != 0 || refusal->expected_high != 0);
+  CHECK(refusal->may_end <= 1);
+
+  size_t place = (size_t)refusal->place;
+  uint8_t *front = block(place + 1);
+  if (place > 0)
+    memcpy(front, text, place);
+  sf_refusal other;
+  uint32_t status = sf_check(&seed, dialect, kind, front, place, &other);
+  CHECK(status == (refusal->may_end ? SF_OK : SF_REFUSED));
+  CHECK(status == SF_OK || (other.place == place && other.found == -1));
+  for (unsigned byte = 0; byte < 256; ++byte) {
+    front[place] = (uint8_t)byte;
+    status = sf_check(&seed, dialect, kind, front, place + 1, &other);
+    int fits = status == SF_OK || other.place == place + 1;
+    CHECK(fits == is_expected(refusal, byte));
+  }
+  free(front);
+}
+
+typedef struct value {
+  sf_node *nodes;
+  uint8_t *bytes;
+  sf_sizes sizes;
+} value;
+
+/* The value of a text that is accepted, in rooms of exactly its size. */
+static value parse(uint32_t dialect, uint32_t kind, const uint8_t *text, size_t length) {
+  value v = {NULL, NULL, {0, 0}};
+  sf_refusal refusal;
+  uint32_t status = sf_parse(&seed, dialect, kind, text, length, NULL, 0, NULL, 0, &v.sizes,
+                             &refusal);
+  CHECK(status == (v.sizes.nodes == 0 && v.sizes.bytes == 0 ? SF_OK : SF_SHORT));
+  CHECK(v.sizes.nodes <= SF_PARSE_ROOM(length) && v.sizes.bytes <= SF_PARSE_ROOM(length));
+  v.nodes = block(v.sizes.nodes * sizeof *v.nodes);
+  v.bytes = block(v.sizes.bytes);
+  sf_sizes sizes = {0, 0};
+  if (v.sizes.nodes > 0) {
+    status = sf_parse(&seed, dialect, kind, text, length, v.nodes, v.sizes.nodes - 1, v.bytes,
+                      v.sizes.bytes, &sizes, &refusal);
+    CHECK(status == SF_SHORT && memcmp(&sizes, &v.sizes, sizeof sizes) == 0);
+  }
+  if (v.sizes.bytes > 0) {
+    status = sf_parse(&seed, dialect, kind, text, length, v.nodes, v.sizes.nodes, v.bytes,
+                      v.sizes.bytes - 1, &sizes, &refusal);
+    CHECK(status == SF_SHORT && memcmp(&sizes, &v.sizes, sizeof sizes) == 0);
+  }
+  status = sf_parse(&seed, dialect, kind, text, length, v.nodes, v.sizes.nodes, v.bytes,
+                    v.sizes.bytes, &sizes, &refusal);
+  CHECK(status == SF_OK && memcmp(&sizes, &v.sizes, sizeof sizes) == 0);
+  return v;
+}
+
+static void drop(value v) {
+  free(v.nodes);
+  free(v.bytes);
+}
+
+static int same_piece(const uint8_t *a, size_t a_at, const uint8_t *b, size_t b_at, size_t length) {
+  return length == 0 || memcmp(a + a_at, b + b_at, length) == 0;
+}
+
+/* The nodes nest, point into the bytes, and are those of another value. */
+static void same_nodes(const value *v, const value *w) {
+  CHECK(v->sizes.nodes == w->sizes.nodes && v->sizes.bytes == w->sizes.bytes);
+  for (size_t i = 0; i < v->sizes.nodes; ++i) {
+    const sf_node *a = &v->nodes[i], *b = &w->nodes[i];
+    CHECK(a->key_at <= v->sizes.bytes && a->key_length <= v->sizes.bytes - a->key_at);
+    CHECK(a->text_at <= v->sizes.bytes && a->text_length <= v->sizes.bytes - a->text_at);
+    CHECK(a->span >= 1 && a->span <= v->sizes.nodes - i);
+    CHECK(a->role <= SF_PARAMETER && a->type <= SF_DISPLAY_STRING);
+    CHECK(a->role != SF_PARAMETER || (a->key_length > 0 && a->span == 1));
+    CHECK(a->role == b->role && a->type == b->type && a->number == b->number);
+    CHECK(a->span == b->span);
+    CHECK(a->key_length == b->key_length && a->text_length == b->text_length);
+    CHECK(same_piece(v->bytes, a->key_at, w->bytes, b->key_at, a->key_length));
+    CHECK(same_piece(v->bytes, a->text_at, w->bytes, b->text_at, a->text_length));
+  }
+}
+
+static void accepted(uint32_t dialect, uint32_t kind, const uint8_t *text, size_t length) {
+  sf_refusal refusal;
+  size_t wanted = 0, again = 0;
+  uint32_t equal = 0;
+  uint32_t status =
+      sf_normalise(&seed, dialect, kind, text, length, NULL, 0, &wanted, &refusal);
+  CHECK(status == (wanted == 0 ? SF_OK : SF_SHORT));
+  CHECK(wanted <= SF_CANONICAL_ROOM(length));
+  uint8_t *canonical = block(wanted);
+  if (wanted > 0) {
+    status = sf_normalise(&seed, dialect, kind, text, length, canonical, wanted - 1, &again,
+                          &refusal);
+    CHECK(status == SF_SHORT && again == wanted);
+  }
+  status = sf_normalise(&seed, dialect, kind, text, length, canonical, wanted, &again, &refusal);
+  CHECK(status == SF_OK && again == wanted);
+
+  /* the canonical text is its own, and an equal value */
+  uint8_t *twice = block(wanted);
+  status = sf_normalise(&seed, dialect, kind, canonical, wanted, twice, wanted, &again, &refusal);
+  CHECK(status == SF_OK && again == wanted && same_piece(twice, 0, canonical, 0, wanted));
+  status = sf_equal(&seed, dialect, kind, text, length, canonical, wanted, &equal, &refusal);
+  CHECK(status == SF_OK && equal == 1);
+
+  value v = parse(dialect, kind, text, length), w = parse(dialect, kind, canonical, wanted);
+  same_nodes(&v, &w);
+  drop(v);
+  drop(w);
+  free(twice);
+  free(canonical);
+}
+
+/* The pieces of a text between its commas with a space, joined again, are the text. */
+static void joining(const uint8_t *text, size_t length) {
+  uint8_t *room = block(length);
+  sf_joined joined = {0, 0, 0};
+  size_t from = 0;
+  for (size_t i = 0; i <= length; ++i) {
+    int comma = i + 1 < length && text[i] == ',' && text[i + 1] == ' ';
+    if (!comma && i < length)
+      continue;
+    uint8_t *line = copy(text + from, i - from);
+    CHECK(sf_join(line, i - from, room, length, &joined) == SF_OK);
+    free(line);
+    from = i + 2;
+    i += 1;
+  }
+  CHECK(joined.length == length && same_piece(room, 0, text, 0, length));
+  CHECK(sf_join("a", 1, room, length, &joined) == SF_SHORT && joined.wanted == length + 3);
+  free(room);
+}
+
+static void consumers(const uint8_t *text, size_t length, int is_dict) {
+  sf_refusal refusal;
+  sf_priority_flags priority = {0, 0, 0, 0};
+  uint32_t status = sf_priority(&seed, text, length, &priority, &refusal);
+  CHECK(status == (is_dict ? SF_OK : SF_REFUSED));
+  if (is_dict) {
+    CHECK(priority.urgency <= 7 && priority.incremental <= 1);
+    sf_priority_flags both = sf_priority_merge(&priority, &priority);
+    CHECK(memcmp(&both, &priority, sizeof both) == 0);
+  }
+  sf_policy policy;
+  memset(&policy, 0, sizeof policy);
+  status = sf_cache_control(&seed, text, length, &policy, &refusal);
+  CHECK(is_dict ? status == SF_OK || status == SF_EMPTY : status == SF_REFUSED);
+  uint64_t shared = 0, alone = 0;
+  uint32_t in_shared = sf_lifetime(&policy, 1, &shared);
+  uint32_t in_private = sf_lifetime(&policy, 0, &alone);
+  CHECK(in_private == policy.says_max_age && in_shared >= in_private);
+  CHECK(policy.says_s_maxage || shared == alone);
+}
+
+int LLVMFuzzerTestOneInput(const uint8_t *data, size_t size);
+
+int LLVMFuzzerTestOneInput(const uint8_t *data, size_t size) {
+  if (size == 0)
+    return 0;
+  uint32_t kind = data[0] % 3, dialect = data[0] / 3 % 2;
+  size_t length = size - 1;
+  uint8_t *text = copy(data + 1, length);
+  sf_refusal refusal;
+  uint32_t status = sf_check(&seed, dialect, kind, text, length, &refusal);
+  CHECK(status == SF_OK || status == SF_REFUSED);
+  if (status == SF_OK)
+    accepted(dialect, kind, text, length);
+  else
+    refused(dialect, kind, text, length, &refusal);
+  joining(text, length);
+  if (kind == SF_DICT && dialect == SF_RFC9651)
+    consumers(text, length, status == SF_OK);
+  free(text);
+  return 0;
+}

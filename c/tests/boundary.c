@@ -1,0 +1,726 @@
+/* Every function of sf.h, called as C calls it: the worked texts, rooms of exactly the size that is
+ * wanted, one short and empty, NULL with length 0, numbers that are no kind, malloc refused at each
+ * call in turn, and a thread for each processor. Each room is a block of its own, so that the
+ * address sanitizer sees a byte that is read or written past its end.
+ *
+ * Prints 'N passed, M failed'. It is linked with --wrap=malloc and --wrap=realloc and --wrap=free,
+ * and counts blocks that the library takes and gives back. */
+#define _POSIX_C_SOURCE 200809L
+#include "texts.h"
+#include <inttypes.h>
+#include <pthread.h>
+#include <sf.h>
+#include <stdio.h>
+#include <stdlib.h>
+#include <string.h>
+#include <unistd.h>
+
+/* The library's memory. Each thread counts its own. */
+
+void *__real_malloc(size_t size);
+void *__real_realloc(void *block, size_t size);
+void __real_free(void *block);
+void *__wrap_malloc(size_t size);
+void *__wrap_realloc(void *block, size_t size);
+void __wrap_free(void *block);
+
+static __thread long calls;         /* of malloc and realloc */
+static __thread long refused_from;  /* the first call that is refused, counted from 1; 0: none is */
+static __thread int refused_once;   /* whether only that one is */
+static __thread long refusals;      /* how many were */
+static __thread long blocks;        /* that were taken and not given back */
+static __thread int watching;       /* whether the library runs */
+
+static int refuses(void) {
+  if (!watching || refused_from == 0)
+    return 0;
+  ++calls;
+  if (refused_once ? calls != refused_from : calls < refused_from)
+    return 0;
+  ++refusals;
+  return 1;
+}
+
+void *__wrap_malloc(size_t size) {
+  if (refuses())
+    return NULL;
+  void *block = __real_malloc(size);
+  if (watching && block != NULL)
+    ++blocks;
+  return block;
+}
+
+void *__wrap_realloc(void *block, size_t size) {
+  if (refuses())
+    return NULL;
+  void *moved = __real_realloc(block, size);
+  if (watching && block == NULL && moved != NULL)
+    ++blocks;
+  return moved;
+}
+
+void __wrap_free(void *block) {
+  if (watching && block != NULL)
+    --blocks;
+  __real_free(block);
+}
+
+/* Checks, and their count. */
+
+static pthread_mutex_t counting = PTHREAD_MUTEX_INITIALIZER;
+static long passed, failed;
+
+static void check(int holds, const char *what, int line, const char *about) {
+  pthread_mutex_lock(&counting);
+  if (holds) {
+    ++passed;
+  } else {
+    ++failed;
+    fprintf(stderr, "boundary.c:%d: %s [%s]\n", line, what, about);
+  }
+  pthread_mutex_unlock(&counting);
+}
+
+/* That a fact holds of the text that is looked at. */
+#define CHECK(fact) check((fact) != 0, #fact, __LINE__, about)
+
+/* A call of the library, watched: what it takes it gives back. */
+#define CALL(call)                                                                                 \
+  do {                                                                                             \
+    blocks = 0;                                                                                    \
+    watching = 1;                                                                                  \
+    status = (call);                                                                               \
+    watching = 0;                                                                                  \
+    CHECK(blocks == 0);                                                                            \
+  } while (0)
+
+static const sf_seed seed = {{3, 1, 4, 1, 5, 9, 2, 6, 5, 3, 5, 8, 9, 7, 9, 3}};
+
+/* A block of exactly so many bytes, with a copy of a text; NULL for none. */
+static unsigned char *block_of(const void *text, size_t length) {
+  if (length == 0)
+    return NULL;
+  unsigned char *block = malloc(length);
+  if (block == NULL)
+    abort();
+  if (text == NULL)
+    memset(block, 0xa5, length);
+  else
+    memcpy(block, text, length);
+  return block;
+}
+
+/* What a refusal holds before a call that does not write it. */
+static const sf_refusal untouched = {77, 78, 79, 80, 81};
+
+static int is_untouched(const sf_refusal *refusal) {
+  return memcmp(refusal, &untouched, sizeof *refusal) == 0;
+}
+
+static int all_are(const unsigned char *bytes, size_t length) {
+  for (size_t i = 0; i < length; ++i)
+    if (bytes[i] != 0xa5)
+      return 0;
+  return 1;
+}
+
+static unsigned hex(const char *digits) {
+  unsigned value;
+  if (sscanf(digits, "%2x", &value) != 1)
+    abort();
+  return value;
+}
+
+/* Whether a refusal's set is this one: `20 30-39 end`. */
+static int is_set(const sf_refusal *refusal, const char *set) {
+  uint64_t low = 0, high = 0;
+  uint32_t may_end = 0;
+  while (*set != '\0') {
+    if (strcmp(set, "end") == 0) {
+      may_end = 1;
+      break;
+    }
+    unsigned from = hex(set), to = from;
+    set += 2;
+    if (*set == '-') {
+      to = hex(set + 1);
+      set += 3;
+    }
+    for (unsigned byte = from; byte <= to; ++byte) {
+      if (byte < 64)
+        low |= UINT64_C(1) << byte;
+      else
+        high |= UINT64_C(1) << (byte - 64);
+    }
+    if (*set == ' ')
+      ++set;
+  }
+  return refusal->expected_low == low && refusal->expected_high == high &&
+         refusal->may_end == may_end;
+}
+
+/* The nodes of a text and of its canonical text are the same, in rooms of exactly their size; a room
+ * that is one short, or empty, is answered with what is wanted. */
+static void same_value(uint32_t dialect, uint32_t kind, const char *about, const void *text,
+                       size_t length, const void *canonical, size_t canonical_length) {
+  uint32_t status;
+  sf_refusal refusal = untouched;
+  sf_sizes sizes = {4711, 4712}, again = {4711, 4712};
+  CALL(sf_parse(&seed, dialect, kind, text, length, NULL, 0, NULL, 0, &sizes, &refusal));
+  CHECK(status == (sizes.nodes == 0 && sizes.bytes == 0 ? SF_OK : SF_SHORT));
+  CHECK(sizes.nodes <= SF_PARSE_ROOM(length) && sizes.bytes <= SF_PARSE_ROOM(length));
+
+  size_t size = sizes.nodes * sizeof(sf_node);
+  unsigned char *bytes = block_of(NULL, sizes.bytes), *other = block_of(NULL, sizes.bytes);
+  sf_node *nodes = (sf_node *)(void *)block_of(NULL, size);
+  sf_node *others = (sf_node *)(void *)block_of(NULL, size);
+  if (sizes.nodes > 0) {
+    CALL(sf_parse(&seed, dialect, kind, text, length, nodes, sizes.nodes - 1, bytes, sizes.bytes,
+                  &again, &refusal));
+    CHECK(status == SF_SHORT && memcmp(&again, &sizes, sizeof sizes) == 0);
+  }
+  if (sizes.bytes > 0) {
+    CALL(sf_parse(&seed, dialect, kind, text, length, nodes, sizes.nodes, bytes, sizes.bytes - 1,
+                  &again, &refusal));
+    CHECK(status == SF_SHORT && memcmp(&again, &sizes, sizeof sizes) == 0);
+  }
+  CHECK(all_are((unsigned char *)nodes, size) && all_are(bytes, sizes.bytes));
+  CALL(sf_parse(&seed, dialect, kind, text, length, nodes, sizes.nodes, bytes, sizes.bytes, &again,
+                &refusal));
+  CHECK(status == SF_OK && memcmp(&again, &sizes, sizeof sizes) == 0);
+  CALL(sf_parse(&seed, dialect, kind, canonical, canonical_length, others, sizes.nodes, other,
+                sizes.bytes, &again, &refusal));
+  CHECK(status == SF_OK && memcmp(&again, &sizes, sizeof sizes) == 0);
+  CHECK(size == 0 || memcmp(nodes, others, size) == 0);
+  CHECK(sizes.bytes == 0 || memcmp(bytes, other, sizes.bytes) == 0);
+  CHECK(is_untouched(&refusal));
+  free(nodes);
+  free(others);
+  free(bytes);
+  free(other);
+}
+
+static void accepted(uint32_t dialect, uint32_t kind, const char *from, size_t length,
+                     const char *canonical, size_t canonical_length) {
+  const char *about = from;
+  uint32_t status;
+  unsigned char *text = block_of(from, length);
+  sf_refusal refusal = untouched;
+
+  CALL(sf_check(&seed, dialect, kind, text, length, &refusal));
+  CHECK(status == SF_OK);
+
+  /* A room of exactly the size, a longer one, and each shorter one. */
+  for (size_t room = 0; room <= canonical_length + 3; ++room) {
+    unsigned char *out = block_of(NULL, room);
+    size_t wanted = 4711;
+    CALL(sf_normalise(&seed, dialect, kind, text, length, out, room, &wanted, &refusal));
+    CHECK(wanted == canonical_length);
+    if (room < canonical_length) {
+      CHECK(status == SF_SHORT);
+      CHECK(all_are(out, room));
+    } else {
+      CHECK(status == SF_OK);
+      CHECK(canonical_length == 0 || memcmp(out, canonical, canonical_length) == 0);
+      CHECK(room == canonical_length || all_are(out + canonical_length, room - canonical_length));
+    }
+    free(out);
+  }
+  CHECK(canonical_length <= SF_CANONICAL_ROOM(length));
+
+  /* It is equal to its canonical text. */
+  unsigned char *other = block_of(canonical, canonical_length);
+  uint32_t equal = 4711;
+  CALL(sf_equal(&seed, dialect, kind, text, length, other, canonical_length, &equal, &refusal));
+  CHECK(status == SF_OK && equal == 1);
+  same_value(dialect, kind, about, text, length, other, canonical_length);
+  free(other);
+  CHECK(is_untouched(&refusal));
+  free(text);
+}
+
+static void refused(uint32_t dialect, uint32_t kind, const char *from, size_t length,
+                    uint64_t place, int32_t found, const char *set) {
+  const char *about = from;
+  uint32_t status;
+  unsigned char *text = block_of(from, length);
+
+  sf_refusal refusal = untouched;
+  CALL(sf_check(&seed, dialect, kind, text, length, &refusal));
+  CHECK(status == SF_REFUSED);
+  CHECK(refusal.place == place);
+  CHECK(refusal.found == found);
+  CHECK(is_set(&refusal, set));
+  CHECK((refusal.found == -1) == (refusal.place == length));
+
+  sf_refusal same = untouched;
+  unsigned char out[4];
+  memset(out, 0xa5, sizeof out);
+  size_t wanted = 4711;
+  CALL(sf_normalise(&seed, dialect, kind, text, length, out, sizeof out, &wanted, &same));
+  CHECK(status == SF_REFUSED && memcmp(&same, &refusal, sizeof same) == 0);
+  CHECK(all_are(out, sizeof out) && wanted == 4711);
+
+  uint32_t equal = 4711;
+  same = untouched;
+  CALL(sf_equal(&seed, dialect, kind, text, length, text, length, &equal, &same));
+  CHECK(status == SF_REFUSED && memcmp(&same, &refusal, sizeof same) == 0 && equal == 4711);
+
+  /* behind one that is accepted it is the second */
+  same = untouched;
+  CALL(sf_equal(&seed, dialect, kind, "a", 1, text, length, &equal, &same));
+  CHECK(status == SF_SECOND_REFUSED && memcmp(&same, &refusal, sizeof same) == 0 && equal == 4711);
+
+  sf_node node;
+  unsigned char byte = 0xa5;
+  sf_sizes sizes = {4711, 4712};
+  memset(&node, 0xa5, sizeof node);
+  same = untouched;
+  CALL(sf_parse(&seed, dialect, kind, text, length, &node, 1, &byte, 1, &sizes, &same));
+  CHECK(status == SF_REFUSED && memcmp(&same, &refusal, sizeof same) == 0);
+  CHECK(all_are((unsigned char *)&node, sizeof node) && byte == 0xa5);
+  CHECK(sizes.nodes == 4711 && sizes.bytes == 4712);
+  free(text);
+}
+
+static void worked_texts(void) {
+#define ROW(kind, text, canonical)                                                                 \
+  accepted(SF_RFC9651, kind, text, sizeof text - 1, canonical, sizeof canonical - 1);
+  ACCEPTED(ROW)
+#undef ROW
+#define ROW(kind, text, place, found, set)                                                         \
+  refused(SF_RFC9651, kind, text, sizeof text - 1, place, found, set);
+  REFUSED(ROW)
+#undef ROW
+#define ROW(kind, text, place, found, set)                                                         \
+  refused(SF_RFC8941, kind, text, sizeof text - 1, place, found, set);
+  REFUSED_8941(ROW)
+#undef ROW
+}
+
+/* Numbers that are no kind or no dialect. */
+static void bad_calls(void) {
+  static const uint32_t numbers[][2] = {{2, 0}, {0, 3}, {2, 3}, {UINT32_MAX, 0}, {0, UINT32_MAX}};
+  for (size_t i = 0; i < sizeof numbers / sizeof *numbers; ++i) {
+    const char *about = "bad call";
+    uint32_t dialect = numbers[i][0], kind = numbers[i][1], status, equal = 4711;
+    sf_refusal refusal = untouched;
+    size_t wanted = 4711;
+    sf_sizes sizes = {4711, 4712};
+    CALL(sf_check(&seed, dialect, kind, "a", 1, &refusal));
+    CHECK(status == SF_BAD_CALL);
+    CALL(sf_normalise(&seed, dialect, kind, "a", 1, NULL, 0, &wanted, &refusal));
+    CHECK(status == SF_BAD_CALL && wanted == 4711);
+    CALL(sf_equal(&seed, dialect, kind, "a", 1, "a", 1, &equal, &refusal));
+    CHECK(status == SF_BAD_CALL && equal == 4711);
+    CALL(sf_parse(&seed, dialect, kind, "a", 1, NULL, 0, NULL, 0, &sizes, &refusal));
+    CHECK(status == SF_BAD_CALL && sizes.nodes == 4711 && sizes.bytes == 4712);
+    CHECK(is_untouched(&refusal));
+  }
+}
+
+/* Two texts of a kind, and whether their values are equal. */
+static void comparing(void) {
+  static const struct {
+    uint32_t kind;
+    const char *first, *second;
+    uint32_t equal;
+  } rows[] = {
+      {SF_DICT, "a=1, b=2", "b=2, a=1", 0}, {SF_DICT, "u=1,i", "u=1, i=?1", 1},
+      {SF_ITEM, "1", "1.0", 0},             {SF_ITEM, "1.0", "1.000", 1},
+      {SF_ITEM, "a", "\"a\"", 0},           {SF_ITEM, "%\"a\"", "%\"%61\"", 1},
+      {SF_LIST, "", "  ", 1},               {SF_LIST, "a;b;c", "a;c;b", 0},
+      {SF_LIST, "a;b;c;b=1", "a;b=1;c", 1}, {SF_LIST, "(a)", "a", 0},
+  };
+  for (size_t i = 0; i < sizeof rows / sizeof *rows; ++i) {
+    const char *about = rows[i].first;
+    uint32_t status, equal = 4711;
+    sf_refusal refusal = untouched;
+    CALL(sf_equal(&seed, SF_RFC9651, rows[i].kind, rows[i].first, strlen(rows[i].first),
+                  rows[i].second, strlen(rows[i].second), &equal, &refusal));
+    CHECK(status == SF_OK && equal == rows[i].equal);
+    CHECK(is_untouched(&refusal));
+  }
+}
+
+/* Whether a piece of the bytes is a text. */
+static int is_piece(const unsigned char *bytes, size_t size, size_t at, size_t length,
+                    const char *text) {
+  return at <= size && length <= size - at && length == strlen(text) &&
+         (length == 0 || memcmp(bytes + at, text, length) == 0);
+}
+
+/* What a node is to tell. */
+typedef struct row {
+  uint32_t role, type;
+  int64_t number;
+  const char *key, *text;
+  size_t span;
+} row;
+
+static void parsed(uint32_t kind, const char *from, const row *rows, size_t count, size_t size) {
+  const char *about = from;
+  uint32_t status;
+  size_t length = strlen(from);
+  unsigned char *text = block_of(from, length);
+  sf_refusal refusal = untouched;
+
+  /* each room that is too small, and one that is longer */
+  for (size_t n = 0; n <= count + 1; ++n) {
+    for (size_t b = 0; b <= size + 1; ++b) {
+      sf_node *nodes = (sf_node *)(void *)block_of(NULL, n * sizeof *nodes);
+      unsigned char *bytes = block_of(NULL, b);
+      sf_sizes sizes = {4711, 4712};
+      CALL(sf_parse(&seed, SF_RFC9651, kind, text, length, nodes, n, bytes, b, &sizes, &refusal));
+      CHECK(sizes.nodes == count && sizes.bytes == size);
+      if (n < count || b < size) {
+        CHECK(status == SF_SHORT);
+        CHECK(all_are((unsigned char *)nodes, n * sizeof *nodes) && all_are(bytes, b));
+      } else {
+        CHECK(status == SF_OK);
+        for (size_t i = 0; i < count; ++i) {
+          CHECK(nodes[i].role == rows[i].role);
+          CHECK(nodes[i].type == rows[i].type);
+          CHECK(nodes[i].number == rows[i].number);
+          CHECK(nodes[i].span == rows[i].span);
+          CHECK(is_piece(bytes, size, nodes[i].key_at, nodes[i].key_length, rows[i].key));
+          CHECK(is_piece(bytes, size, nodes[i].text_at, nodes[i].text_length, rows[i].text));
+        }
+        CHECK(n == count || all_are((unsigned char *)(nodes + count), sizeof *nodes));
+        CHECK(b == size || bytes[size] == 0xa5);
+      }
+      free(nodes);
+      free(bytes);
+    }
+  }
+  CHECK(count <= SF_PARSE_ROOM(length) && size <= SF_PARSE_ROOM(length));
+  CHECK(is_untouched(&refusal));
+  free(text);
+}
+
+#define PARSED(kind, text, rows, size) parsed(kind, text, rows, sizeof rows / sizeof *rows, size)
+
+static void nodes_of_values(void) {
+  static const row integer[] = {{SF_MEMBER, SF_INTEGER, -7, "", "", 1}};
+  PARSED(SF_ITEM, " -007 ", integer, 0);
+  static const row decimal[] = {{SF_MEMBER, SF_DECIMAL, 1500, "", "", 3},
+                                {SF_PARAMETER, SF_BOOLEAN, 0, "q", "", 1},
+                                {SF_PARAMETER, SF_INTEGER, 1, "r", "", 1}};
+  PARSED(SF_ITEM, "01.500;q;q=?0;r=1", decimal, 2);
+  static const row string[] = {{SF_MEMBER, SF_STRING, 0, "", "a\"b\\", 1}};
+  PARSED(SF_ITEM, "\"a\\\"b\\\\\"", string, 4);
+  static const row bytes[] = {{SF_MEMBER, SF_BYTE_SEQUENCE, 0, "", "\x89", 1}};
+  PARSED(SF_ITEM, ":iZ==:", bytes, 1);
+  static const row display[] = {{SF_MEMBER, SF_DISPLAY_STRING, 0, "", "f\xc3\xbc", 1}};
+  PARSED(SF_ITEM, "%\"f%c3%bc\"", display, 3);
+  static const row date[] = {{SF_MEMBER, SF_DATE, 1659578233, "", "", 1}};
+  PARSED(SF_ITEM, "@1659578233", date, 0);
+  static const row dict[] = {{SF_MEMBER, SF_INNER_LIST, 0, "a", "", 4},
+                             {SF_INNER_ITEM, SF_INTEGER, 1, "", "", 1},
+                             {SF_INNER_ITEM, SF_INTEGER, 2, "", "", 1},
+                             {SF_PARAMETER, SF_BYTE_SEQUENCE, 0, "y", "a", 1},
+                             {SF_MEMBER, SF_BOOLEAN, 1, "b", "", 2},
+                             {SF_PARAMETER, SF_BOOLEAN, 1, "x", "", 1}};
+  PARSED(SF_DICT, "a=1,b;x, a=(1  2 );y=:YQ:", dict, 5);
+  static const row list[] = {{SF_MEMBER, SF_TOKEN, 0, "", "abc", 4},
+                             {SF_PARAMETER, SF_INTEGER, 1, "a", "", 1},
+                             {SF_PARAMETER, SF_INTEGER, 2, "b", "", 1},
+                             {SF_PARAMETER, SF_BOOLEAN, 1, "cde_456", "", 1},
+                             {SF_MEMBER, SF_INNER_LIST, 0, "", "", 6},
+                             {SF_INNER_ITEM, SF_TOKEN, 0, "", "ghi", 2},
+                             {SF_PARAMETER, SF_INTEGER, 4, "jk", "", 1},
+                             {SF_INNER_ITEM, SF_TOKEN, 0, "", "l", 1},
+                             {SF_PARAMETER, SF_STRING, 0, "q", "9", 1},
+                             {SF_PARAMETER, SF_TOKEN, 0, "r", "w", 1}};
+  PARSED(SF_LIST, "abc;a=1;b=2; cde_456, (ghi;jk=4 l);q=\"9\";r=w", list, 22);
+  static const row inner[] = {{SF_MEMBER, SF_INNER_LIST, 0, "", "", 1}};
+  PARSED(SF_LIST, "( )", inner, 0);
+  parsed(SF_LIST, "", NULL, 0, 0);
+  parsed(SF_DICT, "  ", NULL, 0, 0);
+}
+
+static void priorities(void) {
+  static const struct {
+    const char *text;
+    sf_priority_flags says;
+  } rows[] = {
+      {"", {3, 0, 0, 0}},      {"u=1, i", {1, 1, 1, 1}}, {"u=8, i", {3, 1, 0, 1}},
+      {"u=1.0", {3, 0, 0, 0}}, {"u=-0", {0, 0, 1, 0}},   {"u=1, u=9", {3, 0, 0, 0}},
+      {"i=1", {3, 0, 0, 0}},   {"i=?0", {3, 0, 0, 1}},   {"u=3;x", {3, 0, 1, 0}},
+  };
+  uint32_t status;
+  for (size_t i = 0; i < sizeof rows / sizeof *rows; ++i) {
+    const char *about = rows[i].text;
+    size_t length = strlen(about);
+    unsigned char *text = block_of(about, length);
+    sf_priority_flags priority = {9, 9, 9, 9};
+    sf_refusal refusal = untouched;
+    CALL(sf_priority(&seed, text, length, &priority, &refusal));
+    CHECK(status == SF_OK && memcmp(&priority, &rows[i].says, sizeof priority) == 0);
+    CHECK(is_untouched(&refusal));
+    free(text);
+  }
+  const char *about = "u=1, ";
+  sf_priority_flags priority = {9, 9, 9, 9}, nines = {9, 9, 9, 9};
+  sf_refusal refusal = untouched;
+  CALL(sf_priority(&seed, about, 5, &priority, &refusal));
+  CHECK(status == SF_REFUSED && refusal.place == 5 && refusal.found == -1);
+  CHECK(is_set(&refusal, "09 20 2a 61-7a"));
+  CHECK(memcmp(&priority, &nines, sizeof nines) == 0);
+
+  static const struct {
+    sf_priority_flags client, server, both;
+  } pairs[] = {
+      {{5, 1, 1, 1}, {1, 0, 1, 0}, {1, 1, 1, 1}}, /* u=5, i and u=1 */
+      {{3, 0, 0, 0}, {3, 0, 0, 0}, {3, 0, 0, 0}},
+      {{5, 1, 0, 0}, {1, 1, 0, 0}, {3, 0, 0, 0}}, /* what is not said does not count */
+      {{2, 0, 1, 1}, {8, 9, 1, 7}, {2, 1, 1, 1}}, /* 8 is no urgency, 9 and 7 are flags */
+      {{255, 255, 255, 255}, {0, 0, 0, 0}, {3, 1, 0, 1}},
+  };
+  about = "merge";
+  for (size_t i = 0; i < sizeof pairs / sizeof *pairs; ++i) {
+    sf_priority_flags both = sf_priority_merge(&pairs[i].client, &pairs[i].server);
+    CHECK(memcmp(&both, &pairs[i].both, sizeof both) == 0);
+  }
+}
+
+static void policies(void) {
+  static const struct {
+    const char *text;
+    sf_policy says;
+    int shared, alone; /* the lifetimes; -1: none */
+  } rows[] = {
+      {"max-age=30, s-maxage=90, no-store=?0", {30, 90, 1, 1, 0, 0, 0, 0}, 90, 30},
+      {"max-age=30,s-maxage=90,no-store=?1", {30, 90, 1, 1, 0, 1, 0, 0}, 90, 30},
+      {"max-age=-1", {0, 0, 0, 0, 0, 0, 0, 0}, -1, -1},
+      {"max-age=1.0", {0, 0, 0, 0, 0, 0, 0, 0}, -1, -1},
+      {"max-age", {0, 0, 0, 0, 0, 0, 0, 0}, -1, -1},
+      {"max-age=(1)", {0, 0, 0, 0, 0, 0, 0, 0}, -1, -1},
+      {"max-age=60;x=1", {60, 0, 1, 0, 0, 0, 0, 0}, 60, 60},
+      {"max-age=0", {0, 0, 1, 0, 0, 0, 0, 0}, 0, 0},
+      {"s-maxage=5", {0, 5, 0, 1, 0, 0, 0, 0}, 5, -1},
+      {"private=(a b), no-cache=\"x\", must-revalidate", {0, 0, 0, 0, 1, 0, 1, 1}, -1, -1},
+  };
+  uint32_t status;
+  for (size_t i = 0; i < sizeof rows / sizeof *rows; ++i) {
+    const char *about = rows[i].text;
+    size_t length = strlen(about);
+    unsigned char *text = block_of(about, length);
+    sf_policy policy;
+    memset(&policy, 0, sizeof policy);
+    sf_refusal refusal = untouched;
+    CALL(sf_cache_control(&seed, text, length, &policy, &refusal));
+    CHECK(status == SF_OK && is_untouched(&refusal));
+    CHECK(policy.max_age == rows[i].says.max_age);
+    CHECK(policy.s_maxage == rows[i].says.s_maxage);
+    CHECK(policy.says_max_age == rows[i].says.says_max_age);
+    CHECK(policy.says_s_maxage == rows[i].says.says_s_maxage);
+    CHECK(policy.must_revalidate == rows[i].says.must_revalidate);
+    CHECK(policy.no_store == rows[i].says.no_store);
+    CHECK(policy.no_cache == rows[i].says.no_cache);
+    CHECK(policy.is_private == rows[i].says.is_private);
+    uint64_t seconds = 4711;
+    CHECK(sf_lifetime(&policy, 1, &seconds) == (rows[i].shared >= 0));
+    CHECK(seconds == (rows[i].shared >= 0 ? (uint64_t)rows[i].shared : 4711));
+    seconds = 4711;
+    CHECK(sf_lifetime(&policy, 0, &seconds) == (rows[i].alone >= 0));
+    CHECK(seconds == (rows[i].alone >= 0 ? (uint64_t)rows[i].alone : 4711));
+    free(text);
+  }
+  const char *about = "no policy";
+  sf_policy policy, ones;
+  memset(&policy, 1, sizeof policy);
+  memset(&ones, 1, sizeof ones);
+  sf_refusal refusal = untouched;
+  CALL(sf_cache_control(&seed, NULL, 0, &policy, &refusal));
+  CHECK(status == SF_EMPTY && is_untouched(&refusal));
+  CALL(sf_cache_control(&seed, "max-age=60,", 11, &policy, &refusal));
+  CHECK(status == SF_REFUSED && refusal.place == 11 && refusal.found == -1);
+  CHECK(is_set(&refusal, "09 20 2a 61-7a"));
+  CHECK(memcmp(&policy, &ones, sizeof ones) == 0);
+  /* any number but 0 sets a flag, and names a shared cache */
+  sf_policy large = {7, 8, 200, 255, 0, 0, 0, 0};
+  uint64_t seconds;
+  CHECK(sf_lifetime(&large, UINT32_MAX, &seconds) == 1 && seconds == 8);
+  CHECK(sf_lifetime(&large, 0, &seconds) == 1 && seconds == 7);
+}
+
+/* Lines, joined into a room that is exactly as long as the text, or one short for some line. */
+static void joining(void) {
+  static const struct {
+    const char *lines[4], *text;
+  } rows[] = {
+      {{NULL}, ""},           {{"", NULL}, ""},
+      {{"a", NULL}, "a"},     {{"a", "", NULL}, "a, "},
+      {{"", "", NULL}, ", "}, {{"\"a", "b\"", NULL}, "\"a, b\""},
+      {{"a;q=1.0,b", "(c  d)", "e", NULL}, "a;q=1.0,b, (c  d), e"},
+  };
+  uint32_t status;
+  for (size_t i = 0; i < sizeof rows / sizeof *rows; ++i) {
+    const char *about = rows[i].text;
+    size_t whole = strlen(about);
+    for (size_t room = 0; room <= whole + 2; ++room) {
+      unsigned char *text = block_of(NULL, room);
+      sf_joined joined = {0, 0, 0};
+      size_t length = 0;
+      int fits = 1;
+      for (size_t l = 0; fits && rows[i].lines[l] != NULL; ++l) {
+        size_t line_length = strlen(rows[i].lines[l]);
+        unsigned char *line = block_of(rows[i].lines[l], line_length);
+        size_t next = length + (l > 0 ? 2 : 0) + line_length;
+        fits = next <= room;
+        CALL(sf_join(line, line_length, text, room, &joined));
+        CHECK(status == (fits ? SF_OK : SF_SHORT));
+        if (fits)
+          length = next;
+        else
+          CHECK(joined.wanted == next);
+        CHECK(joined.length == length && joined.begun == (l > 0 || fits));
+        CHECK(length == 0 || memcmp(text, about, length) == 0);
+        CHECK(room == length || all_are(text + length, room - length));
+        free(line);
+      }
+      CHECK(!fits || length == whole);
+      free(text);
+    }
+  }
+  const char *about = "joined before";
+  unsigned char room[4] = {0xa5, 0xa5, 0xa5, 0xa5};
+  sf_joined joined = {5, 6, 1};
+  CALL(sf_join("a", 1, room, sizeof room, &joined));
+  CHECK(status == SF_BAD_CALL && joined.length == 5 && joined.wanted == 6 && joined.begun == 1);
+  joined.length = SIZE_MAX;
+  CALL(sf_join(NULL, 0, NULL, 0, &joined));
+  CHECK(status == SF_BAD_CALL && joined.length == SIZE_MAX);
+  joined.length = 0;
+  joined.begun = 9; /* any number but 0 says that it has begun */
+  CALL(sf_join("a", 1, room, sizeof room, &joined));
+  CHECK(status == SF_OK && joined.length == 3 && memcmp(room, ", a", 3) == 0 && room[3] == 0xa5);
+}
+
+/* Malloc refused at its n-th call, alone or from there on, for each n: the answer is the right one
+ * or SF_NO_MEMORY, which leaves all that the call might write as it was, and nothing leaks. */
+
+static const char large[] = "abc;a=1;b=2; cde_456, "
+                            "(ghi;jk=4 \"l\" :YWJjZA:);q=\"9\";r=%\"w%c3%bc\", "
+                            "k;a;b;c;d;e;f;g;h;i;j;k;l;m;n;o;p;q;r;s;t;u;v;w;x;y;z, 1, 2, 3, 4, 5";
+static const char directives[] = "max-age=30, s-maxage=90, a;b;c, d=(e f), g=\"h\", u=1, i";
+
+#define EACH_REFUSAL(call, right, left)                                                            \
+  do {                                                                                             \
+    for (int once = 0; once < 2; ++once) {                                                         \
+      long met = 0;                                                                                \
+      for (long n = 1; n < 10000; ++n) {                                                           \
+        calls = refusals = 0;                                                                      \
+        refused_once = once;                                                                       \
+        refused_from = n;                                                                          \
+        CALL(call);                                                                                \
+        refused_from = 0;                                                                          \
+        if (refusals == 0) {                                                                       \
+          CHECK(status == SF_OK && (right));                                                       \
+          break;                                                                                   \
+        }                                                                                          \
+        ++met;                                                                                     \
+        CHECK(status == SF_OK ? (right) : status == SF_NO_MEMORY && (left));                       \
+      }                                                                                            \
+      CHECK(met > 0);                                                                              \
+    }                                                                                              \
+  } while (0)
+
+static void want_of_memory(void) {
+  uint32_t status;
+  sf_refusal refusal = untouched;
+
+  const char *about = "sf_check, no memory";
+  EACH_REFUSAL(sf_check(&seed, 0, SF_LIST, large, sizeof large - 1, &refusal), 1,
+               is_untouched(&refusal));
+
+  about = "sf_normalise, no memory";
+  unsigned char room[400];
+  size_t wanted = 4711, length;
+  memset(room, 0xa5, sizeof room);
+  CALL(sf_normalise(&seed, 0, SF_LIST, large, sizeof large - 1, room, sizeof room, &wanted,
+                    &refusal));
+  CHECK(status == SF_OK);
+  length = wanted;
+  EACH_REFUSAL((memset(room, 0xa5, sizeof room), wanted = 4711,
+                sf_normalise(&seed, 0, SF_LIST, large, sizeof large - 1, room, sizeof room, &wanted,
+                             &refusal)),
+               wanted == length && all_are(room + length, sizeof room - length),
+               wanted == 4711 && all_are(room, sizeof room) && is_untouched(&refusal));
+
+  about = "sf_equal, no memory";
+  uint32_t equal = 4711;
+  EACH_REFUSAL((equal = 4711, sf_equal(&seed, 0, SF_LIST, large, sizeof large - 1, room, length,
+                                       &equal, &refusal)),
+               equal == 1, equal == 4711 && is_untouched(&refusal));
+
+  about = "sf_parse, no memory";
+  sf_node nodes[100];
+  sf_sizes sizes = {4711, 4712};
+  EACH_REFUSAL((memset(nodes, 0xa5, sizeof nodes), memset(room, 0xa5, sizeof room),
+                sizes.nodes = 4711,
+                sf_parse(&seed, 0, SF_LIST, large, sizeof large - 1, nodes, 100, room, sizeof room,
+                         &sizes, &refusal)),
+               sizes.nodes == 43 && nodes[4].span == 7,
+               sizes.nodes == 4711 && all_are((unsigned char *)nodes, sizeof nodes) &&
+                   all_are(room, sizeof room) && is_untouched(&refusal));
+
+  about = "sf_priority, no memory";
+  sf_priority_flags priority = {9, 9, 9, 9};
+  EACH_REFUSAL((priority.urgency = 9, sf_priority(&seed, directives, sizeof directives - 1,
+                                                  &priority, &refusal)),
+               priority.urgency == 1 && priority.incremental == 1,
+               priority.urgency == 9 && is_untouched(&refusal));
+
+  about = "sf_cache_control, no memory";
+  sf_policy policy;
+  memset(&policy, 9, sizeof policy);
+  EACH_REFUSAL((policy.says_max_age = 9, sf_cache_control(&seed, directives, sizeof directives - 1,
+                                                          &policy, &refusal)),
+               policy.max_age == 30 && policy.s_maxage == 90,
+               policy.says_max_age == 9 && is_untouched(&refusal));
+
+  /* what takes no memory is answered without */
+  about = "no memory is taken";
+  static const char spaces[] = "    -007     ";
+  refused_once = 0;
+  refused_from = 1;
+  CALL(sf_check(&seed, 0, SF_ITEM, spaces, sizeof spaces - 1, &refusal));
+  CHECK(status == SF_OK);
+  sf_joined joined = {0, 0, 0};
+  CALL(sf_join("a", 1, room, sizeof room, &joined));
+  CHECK(status == SF_OK);
+  refused_from = 0;
+}
+
+static void all(void) {
+  worked_texts();
+  bad_calls();
+  comparing();
+  nodes_of_values();
+  priorities();
+  policies();
+  joining();
+  want_of_memory();
+}
+
+static void *run(void *unused) {
+  all();
+  return unused;
+}
+
+int main(void) {
+  all();
+  enum { MOST = 64 };
+  pthread_t threads[MOST];
+  long cores = sysconf(_SC_NPROCESSORS_ONLN);
+  int count = cores < 2 ? 2 : cores > MOST ? MOST : (int)cores;
+  for (int i = 0; i < count; ++i)
+    if (pthread_create(&threads[i], NULL, run, NULL) != 0)
+      return 1;
+  for (int i = 0; i < count; ++i)
+    pthread_join(threads[i], NULL);
+  printf("%ld passed, %ld failed\n", passed, failed);
+  return failed != 0;
+}

@@ -1,0 +1,129 @@
+-- Lines that are joined one after another, and what is put into a room.
+use Rattle.std.proofs.Common.{◌≡◌, ℕ, ◌+◌, ◌≤◌, zero, suc, ◌==◌, cond, List, [], ◌∷◌, ◌++◌}
+use Rattle.std.proofs.Common.{length, take, drop, refl, ap, ◌∙◌, sym, subst, arith, rules, tests}
+use Rattle.std.proofs.Common.{append_assoc, length-append}
+use Rattle.std.proofs.lemmas.Bool.Decides.{nat_tests}
+use Rattle.std.proofs.lemmas.List.{length-take-le, length-drop}
+use Rattle.std.proofs.lemmas.Slice.{drop-append-drop}
+use Rattle.std.proofs.Math.Seq.{take-append_seam, drop-append_seam}
+use Rattle.std.specs.Prelude.{◌↔◌}
+use Rattle.sf_value.specs.Grammar.Lines.{join}
+use Rattle.sf_c.specs.Joining.{JoinRoom, PutsOne, separator_of}
+
+-- one more line behind others
+pub join-push : (m : List ℕ) (ms : List (List ℕ)) (line : List ℕ)
+    → join ((m ∷ ms) ++ line ∷ []) ≡ (join (m ∷ ms) ++ 44 ∷ 32 ∷ []) ++ line
+join-push m [] line = sym (append_assoc m (44 ∷ 32 ∷ []) line)
+join-push m (n ∷ ms) line =
+    ap (λ t. m ++ 44 ∷ 32 ∷ t) (join-push n ms line)
+    ∙ sym (
+    ap (λ t. t ++ line) (append_assoc m (44 ∷ 32 ∷ join (n ∷ ms)) (44 ∷ 32 ∷ []))
+    ∙ append_assoc m (44 ∷ 32 ∷ (join (n ∷ ms) ++ 44 ∷ 32 ∷ [])) line
+    )
+
+-- the front of a room, at a length that is known
+pub front_at : (n : ℕ) (xs ys : List ℕ) → length xs ≡ n → take n (xs ++ ys) ≡ xs
+front_at n xs ys e =
+    let P : ℕ → Type 0 = λ m. take m (xs ++ ys) ≡ xs in subst P e (take-append_seam xs ys)
+
+pub behind_at : (n : ℕ) (xs ys : List ℕ) → length xs ≡ n → drop n (xs ++ ys) ≡ ys
+behind_at n xs ys e =
+    let P : ℕ → Type 0 = λ m. drop m (xs ++ ys) ≡ ys in subst P e (drop-append_seam xs ys)
+
+-- how long the front with what was put is
+pub front_length : (n : ℕ) (room x : List ℕ) → n ≤ length room
+    → length (take n room ++ x) ≡ n + length x
+front_length n room x h =
+    let a = length-append (take n room) x in
+    let b = length-take-le n room h in
+    omega arith
+
+-- two pieces put one behind the other
+pub put_twice : (n : ℕ) (room mid new x y : List ℕ) → n ≤ length room
+    → mid ≡ (take n room ++ x) ++ drop (n + length x) room
+    → new ≡ (take (n + length x) mid ++ y) ++ drop (n + length x + length y) mid
+    → new ≡ ((take n room ++ x) ++ y) ++ drop (n + length x + length y) room
+put_twice n room mid new x y h e f =
+    let long = front_length n room x h in
+    let front : take (n + length x) mid ≡ take n room ++ x
+    = ap (take (n + length x)) e ∙ front_at (n + length x) (take n room ++ x) _ long in
+    let more : n + length x ≤ n + length x + length y = omega arith in
+    let back : drop (n + length x + length y) mid ≡ drop (n + length x + length y) room
+    = ap (drop (n + length x + length y)) e
+    ∙ drop-append-drop (n + length x) room (take n room ++ x) (n + length x + length y) more long in
+    f ∙ ap (λ t. (t ++ y) ++ drop (n + length x + length y) mid) front
+    ∙ ap (λ t. ((take n room ++ x) ++ y) ++ t) back
+
+-- lines that are joined, with one more
+pub joined_more : (ls : List (List ℕ)) (line text comma : List ℕ) (begun : ℕ) → text ≡ join ls
+    → (begun ≡ 0) ↔ (ls ≡ []) → comma ≡ cond (begun == 0) [] (44 ∷ 32 ∷ [])
+    → (text ++ comma) ++ line ≡ join (ls ++ line ∷ [])
+joined_more [] line text comma begun e h f =
+    let begins : begun ≡ 0 = h.1 refl in
+    let none : comma ≡ [] = f ∙ rw begins refl in
+    rw (e, none) refl
+joined_more (m ∷ ms) line text comma zero e h f =
+    let never : m ∷ ms ≡ [] = h.0 refl in absurd cc
+joined_more (m ∷ ms) line text comma (suc k) e h f =
+    let tested : cond (suc k == 0) [] (44 ∷ 32 ∷ []) ≡ 44 ∷ 32 ∷ []
+    = first_of (search (tests, rules), grind (arith, nat_tests)) in
+    let some : comma ≡ 44 ∷ 32 ∷ [] = f ∙ tested in
+    rw (e, some) (sym (join-push m ms line))
+
+-- one line more is not none
+pub push_some : (ls : List (List ℕ)) (line : List ℕ) → ls ++ line ∷ [] ≡ [] → ⊥
+push_some [] line e = absurd cc
+push_some (m ∷ ms) line e = absurd cc
+
+-- a separator and a line that are put where there is room
+pub puts_one : (old : JoinRoom) (line comma mid new : List ℕ) → comma ≡ separator_of old.joined
+    → old.joined.length + (length comma + length line) ≤ length old.room
+    → mid
+    ≡ (take old.joined.length old.room ++ comma) ++ drop (old.joined.length + length comma) old.room
+    → new
+    ≡ (take (old.joined.length + length comma) mid ++ line)
+    ++ drop (old.joined.length + length comma + length line) mid
+    → PutsOne old (record {
+      room = new;
+      joined = record {
+        length = old.joined.length + (length comma + length line);
+        wanted = old.joined.wanted;
+        begun = 1;
+      };
+    }) line
+puts_one old line comma mid new is fits e f =
+    let n : ℕ = old.joined.length in
+    let room : List ℕ = old.room in
+    let all : ℕ = n + (length comma + length line) in
+    let enough : n ≤ length room = omega arith in
+    let same : n + length comma + length line ≡ all = omega arith in
+    let whole = put_twice n room mid new comma line enough e f in
+    let text : List ℕ = (take n room ++ comma) ++ line in
+    let first = front_length n room comma enough in
+    let second = length-append (take n room ++ comma) line in
+    let long : length text ≡ all = omega arith in
+    let adds : length (separator_of old.joined ++ line) ≡ length comma + length line
+    = ap (λ t. length (t ++ line)) (sym is) ∙ length-append comma line in
+    let sum = ap length whole in
+    let parts = length-append text (drop (n + length comma + length line) room) in
+    let rest = length-drop (n + length comma + length line) room in
+    record {
+      joins = λ ls a. (
+        ((λ h. absurd (omega arith)), (λ h. absurd (push_some ls line h))),
+        ap (take all) whole
+            ∙ front_at all text (drop (n + length comma + length line) room) long
+            ∙ joined_more ls line (take n room) comma old.joined.begun a.1 a.0 is,
+      );
+      longer = omega arith;
+      fits = fits;
+      begun = refl;
+      wanted = refl;
+      front = ap (take all) whole
+          ∙ front_at all text (drop (n + length comma + length line) room) long
+          ∙ append_assoc (take n room) comma line
+          ∙ ap (λ t. take n room ++ (t ++ line)) is;
+      behind = ap (drop all) whole
+          ∙ behind_at all text (drop (n + length comma + length line) room) long
+          ∙ ap (λ k. drop k room) same;
+      kept = omega arith;
+    }

@@ -1,0 +1,5 @@
+pub mod TellingLemmas
+pub mod Joins
+pub mod NodeSteps
+pub mod OneValue
+pub mod NodeBound

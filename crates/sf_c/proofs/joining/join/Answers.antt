@@ -1,0 +1,12 @@
+use Rattle.std.proofs.Common.{arith}
+use Rattle.sf_c.proofs.Joins.{puts_one}
+use Rattle.sf_c.proofs.joining.join.Goals as goal
+
+pub returns : goal.returns
+returns c =
+    let begins = c.if-joined-room.false in
+    let comma = c.if-free-comma.false in
+    let line = c.if-free-comma-2.false in
+    puts_one (record { room = c.args.room.now; joined = c.args.joined.now }) c.args.line.now
+    c.separator-comma.result.now c.put.new.room c.put-2.new.room c.separator-comma.ensures
+    (omega arith) c.put.ensures c.put-2.ensures

@@ -1,0 +1,28 @@
+-- What C names by numbers, and what a call by such names answers.
+use Rattle.std.specs.Prelude.{◌≡◌, ℕ, ◌==◌, if◌then◌else◌, Option, Some, None}
+use Rattle.sf_value.specs.declared.dialect.Dialect.{Dialect}
+use Rattle.sf_value.specs.declared.dialect.Dialect.TheVariants.{Rfc8941, Rfc9651}
+use Rattle.sf_value.specs.declared.value.Kind.{Kind}
+use Rattle.sf_value.specs.declared.value.Kind.TheVariants.{Item, List, Dict}
+use Rattle.sf_c.specs.declared.status.Status.{Status}
+use Rattle.sf_c.specs.declared.status.Status.TheVariants.{BadCall}
+
+-- the dialect of a number
+abbrev pub dialect_at : ℕ → Option Dialect
+dialect_at n = if n == 0 then Some Rfc9651 else (if n == 1 then Some Rfc8941 else None)
+
+-- the kind of a number
+abbrev pub kind_at : ℕ → Option Kind
+kind_at n =
+    if n == 0 then Some Item
+    else (if n == 1 then Some List
+    else (if n == 2 then Some Dict else None))
+
+-- the status is that of a call by this dialect and kind; where there is no such kind or dialect it
+-- is BadCall
+abbrev pub Called : Option Dialect → Option Kind → Option Status
+    → (Dialect → Kind → Status → Type 0) → Type 0
+Called (Some d) (Some k) (Some s) P = P d k s
+Called (Some d) (Some k) None P = ⊥
+Called (Some d) None s P = s ≡ Some BadCall
+Called None k s P = s ≡ Some BadCall

@@ -1,0 +1,52 @@
+-- What joining the lines of a field does, one after another.
+use Rattle.std.specs.Prelude.{◌≡◌, ℕ, ◌+◌, ◌<◌, ◌≤◌, ◌↔◌, ◌==◌, if◌then◌else◌}
+use Rattle.std.specs.Prelude.{List, [], ◌∷◌, ◌++◌, length, take, drop, Option, Some}
+use Rattle.sf_value.specs.Devices.{capped}
+use Rattle.sf_value.specs.Grammar.Lines.{join}
+use Rattle.sf_c.specs.declared.joining.Joined.{Joined}
+use Rattle.sf_c.specs.declared.status.Status.{Status}
+use Rattle.sf_c.specs.declared.status.Status.TheVariants.{Answered, Short, BadCall}
+
+-- what joining may write to
+pub record JoinRoom : Type 0 where
+  pub room : List ℕ
+  pub joined : Joined
+
+-- nothing stands before the first line, and a comma and a space before each other one
+abbrev pub separator_of : Joined → List ℕ
+separator_of j = if j.begun == 0 then [] else 44 ∷ 32 ∷ []
+
+-- what a line adds to the text
+abbrev pub added : Joined → List ℕ → List ℕ
+added j line = separator_of j ++ line
+
+-- these lines stand joined at the front of the room
+abbrev pub AreJoined : List (List ℕ) → JoinRoom → Type 0
+AreJoined ls r = ((r.joined.begun ≡ 0) ↔ (ls ≡ [])) × (take r.joined.length r.room ≡ join ls)
+
+-- the line is joined to the others, and what stands behind the text is left as it was
+pub record PutsOne (old new : JoinRoom) (line : List ℕ) : Type 0 where
+  pub joins : (ls : List (List ℕ)) → AreJoined ls old → AreJoined (ls ++ line ∷ []) new
+  pub longer : new.joined.length ≡ old.joined.length + length (added old.joined line)
+  pub fits : new.joined.length ≤ length old.room
+  pub begun : new.joined.begun ≡ 1
+  pub wanted : new.joined.wanted ≡ old.joined.wanted
+  pub front : take new.joined.length new.room
+      ≡ take old.joined.length old.room ++ added old.joined line
+  pub behind : drop new.joined.length new.room ≡ drop new.joined.length old.room
+  pub kept : length new.room ≡ length old.room
+
+-- the room is too small for the text with this line, and nothing is put
+pub record WantsMore (old new : JoinRoom) (line : List ℕ) : Type 0 where
+  pub within : old.joined.length ≤ length old.room
+  pub short : length old.room < old.joined.length + length (added old.joined line)
+  pub wanted : new.joined.wanted ≡ capped (old.joined.length + length (added old.joined line))
+  pub room : new.room ≡ old.room
+  pub still : new.joined ≡ record old.joined { wanted = new.joined.wanted }
+
+-- the line is joined, or the room is too small, or shorter than the text that is to stand in it
+abbrev pub PutsLine : JoinRoom → JoinRoom → List ℕ → Option Status → Type 0
+PutsLine old new line (Some Answered) = PutsOne old new line
+PutsLine old new line (Some Short) = WantsMore old new line
+PutsLine old new line (Some BadCall) = (length old.room < old.joined.length) × (new ≡ old)
+PutsLine old new line status = ⊥

@@ -1,0 +1,27 @@
+-- The laws of the nodes. Each stands as the contract of a function in `src/laws.rt`.
+use Rattle.std.specs.Prelude.{◌≡◌, ℕ, ◌+◌, ◌*◌, ◌≤◌, List, length, map}
+use Rattle.sf_value.specs.declared.dialect.Dialect.{Dialect}
+use Rattle.sf_value.specs.declared.value.Field.{Field}
+use Rattle.sf_value.specs.declared.value.Kind.{Kind}
+use Rattle.sf_value.specs.Grammar.Fields.{SpellsField, kind_of}
+use Rattle.sf_c.specs.declared.nodes.Node.{Node}
+use Rattle.sf_c.specs.Tellings.{told_by, told_size}
+use Rattle.sf_c.specs.Nodes.{told_field}
+
+-- nodes that tell two values of a kind tell one
+abbrev pub TellOneValue : Type 0
+TellOneValue =
+    (bytes : List ℕ) (nodes : List Node) (v w : Field) → kind_of v ≡ kind_of w
+    → map (told_by bytes) nodes ≡ told_field v → map (told_by bytes) nodes ≡ told_field w → v ≡ w
+
+-- how many nodes the value of a text may have
+abbrev pub NodesAreFew : Type 0
+NodesAreFew =
+    (d : Dialect) (kind : Kind) (t : List ℕ) (v : Field)
+    → SpellsField d kind t v → 5 * length (told_field v) ≤ 8 * length t + 5
+
+-- how many bytes it may have
+abbrev pub BytesAreFew : Type 0
+BytesAreFew =
+    (d : Dialect) (kind : Kind) (t : List ℕ) (v : Field)
+    → SpellsField d kind t v → 5 * told_size (told_field v) ≤ 8 * length t

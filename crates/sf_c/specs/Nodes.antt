@@ -1,0 +1,104 @@
+-- What the nodes of a value tell, in the order of the canonical text.
+use Rattle.std.specs.Prelude.{ℕ, ◌+◌, ℤ, pos, true, List as Seq, [], ◌∷◌, ◌++◌, length}
+use Rattle.sf_value.specs.declared.value.Bare.{Bare}
+use Rattle.sf_value.specs.declared.value.Bare.TheVariants.{Integer, Decimal, Text, Token}
+use Rattle.sf_value.specs.declared.value.Bare.TheVariants.{Blob, Boolean, Date, Shown}
+use Rattle.sf_value.specs.declared.value.Item.{Item}
+use Rattle.sf_value.specs.declared.value.Inner.{Inner}
+use Rattle.sf_value.specs.declared.value.Member.{Member}
+use Rattle.sf_value.specs.declared.value.Member.TheVariants as member
+use Rattle.sf_value.specs.declared.value.Field.{Field}
+use Rattle.sf_value.specs.declared.value.Field.TheVariants as field
+use Rattle.sf_value.specs.Grammar.Pairs.{Pairs}
+use Rattle.sf_c.specs.Tellings.{Told}
+
+-- the number of a type
+abbrev pub sort_of : Bare → ℕ
+sort_of (Integer n) = 1
+sort_of (Decimal m) = 2
+sort_of (Text s) = 3
+sort_of (Token s) = 4
+sort_of (Blob s) = 5
+sort_of (Boolean b) = 6
+sort_of (Date n) = 7
+sort_of (Shown s) = 8
+
+-- an Integer, the thousandths of a Decimal, the second of a Date, or 1 for true
+abbrev pub number_of : Bare → ℤ
+number_of (Integer n) = n
+number_of (Decimal m) = m
+number_of (Boolean true) = pos 1
+number_of (Date n) = n
+number_of x = pos 0
+
+-- the bytes of the others
+abbrev pub text_of : Bare → Seq ℕ
+text_of (Text s) = s
+text_of (Token s) = s
+text_of (Blob s) = s
+text_of (Shown s) = s
+text_of x = []
+
+-- a bare item in this role (0 the Item of the field or a member, 1 an Item of an Inner List, 2 a
+-- parameter), with this key, and with so many nodes
+abbrev pub told : ℕ → Seq ℕ → ℕ → Bare → Told
+told role key span x = record {
+  role = role;
+  sort = sort_of x;
+  number = number_of x;
+  key = key;
+  text = text_of x;
+  span = span;
+}
+
+-- parameters: a node for each
+abbrev pub told_params : Pairs Bare → Seq Told
+told_params [] = []
+told_params (p ∷ ps) = told 2 p.0 1 p.1 ∷ told_params ps
+
+-- an Item: its bare item, then its parameters
+abbrev pub told_item : ℕ → Seq ℕ → Item → Seq Told
+told_item role key i = told role key (1 + length i.params) i.bare ∷ told_params i.params
+
+-- the Items of an Inner List
+abbrev pub told_items : Seq Item → Seq Told
+told_items [] = []
+told_items (i ∷ is) = told_item 1 [] i ++ told_items is
+
+-- the Items of an Inner List, then its parameters
+abbrev pub told_inside : Inner → Seq Told
+told_inside l = told_items l.items ++ told_params l.params
+
+-- an Inner List: a node of its own, then what is inside
+abbrev pub told_inner : Seq ℕ → Inner → Seq Told
+told_inner key l =
+    record {
+      role = 0;
+      sort = 0;
+      number = pos 0;
+      key = key;
+      text = [];
+      span = 1 + length (told_inside l);
+    }
+    ∷ told_inside l
+
+-- a member, with the key that it has in a Dictionary
+abbrev pub told_member : Seq ℕ → Member → Seq Told
+told_member key (member.Item i) = told_item 0 key i
+told_member key (member.Inner l) = told_inner key l
+
+-- the members of a List
+abbrev pub told_members : Seq Member → Seq Told
+told_members [] = []
+told_members (m ∷ ms) = told_member [] m ++ told_members ms
+
+-- the members of a Dictionary
+abbrev pub told_entries : Pairs Member → Seq Told
+told_entries [] = []
+told_entries (p ∷ ps) = told_member p.0 p.1 ++ told_entries ps
+
+-- a field
+abbrev pub told_field : Field → Seq Told
+told_field (field.Item i) = told_item 0 [] i
+told_field (field.List l) = told_members l.members
+told_field (field.Dict d) = told_entries d.members

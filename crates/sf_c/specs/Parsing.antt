@@ -1,0 +1,19 @@
+-- What every call begins with: a text is parsed.
+use Rattle.std.specs.Prelude.{◌≡◌, ℕ, List, Result, Ok, Err}
+use Rattle.sf_value.specs.declared.dialect.Dialect.{Dialect}
+use Rattle.sf_value.specs.declared.value.Field.{Field}
+use Rattle.sf_value.specs.declared.value.Kind.{Kind}
+use Rattle.sf_parse.specs.Parsers.{IsOnly}
+use Rattle.sf_c.specs.declared.refusal.SyntaxRefusal.{SyntaxRefusal}
+use Rattle.sf_c.specs.declared.status.Status.{Status}
+use Rattle.sf_c.specs.declared.status.Status.TheVariants.{Refused, OutOfMemory}
+use Rattle.sf_c.specs.Refusals.{SaysRefusal}
+
+-- the value that the text spells, the only one; or the struct says its refusal; or memory was
+-- wanting. The struct is else left as it was
+abbrev pub ParsesOrSays : SyntaxRefusal → SyntaxRefusal → List ℕ → Dialect → Kind
+    → Result Field Status → Type 0
+ParsesOrSays old new t d k (Ok v) = IsOnly d k t v × (new ≡ old)
+ParsesOrSays old new t d k (Err Refused) = SaysRefusal d k t new
+ParsesOrSays old new t d k (Err OutOfMemory) = new ≡ old
+ParsesOrSays old new t d k (Err status) = ⊥

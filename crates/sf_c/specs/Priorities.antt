@@ -1,0 +1,55 @@
+-- What the struct of a priority says.
+use Rattle.std.specs.Prelude.{◌≡◌, ℕ, ◌==◌, nat_le, not, if◌then◌else◌, List, is_some}
+use Rattle.std.specs.Prelude.{Bool, Option, Some, None}
+use Rattle.sf_value.specs.declared.dialect.Dialect.TheVariants.{Rfc9651}
+use Rattle.sf_value.specs.declared.value.Field.{Field}
+use Rattle.sf_value.specs.declared.value.Kind.TheVariants.{Dict}
+use Rattle.sf_parse.specs.Parsers.{IsOnly}
+use Rattle.sf_use.specs.declared.priority.Asked.{Asked}
+use Rattle.sf_use.specs.Priority.{asked_in, filled}
+use Rattle.sf_c.specs.declared.priority.PriorityFlags.{PriorityFlags}
+use Rattle.sf_c.specs.declared.refusal.SyntaxRefusal.{SyntaxRefusal}
+use Rattle.sf_c.specs.declared.status.Status.{Status}
+use Rattle.sf_c.specs.declared.status.Status.TheVariants.{Answered, Refused, OutOfMemory}
+use Rattle.sf_c.specs.Refusals.{SaysRefusal, flag_number}
+
+-- the struct says which parts are asked for, and has the defaults for the others
+abbrev pub SaysAsked : PriorityFlags → Asked → Type 0
+SaysAsked p asked =
+    (p.urgency ≡ (filled asked).urgency)
+    × (p.incremental ≡ flag_number (filled asked).incremental)
+    × (p.says_urgency ≡ flag_number (is_some asked.urgency))
+    × (p.says_incremental ≡ flag_number (is_some asked.incremental))
+
+-- an urgency that is said, from 0 to 7
+abbrev pub urgency_at : ℕ → ℕ → Option ℕ
+urgency_at says n = if says == 0 then None else (if nat_le n 7 then Some n else None)
+
+-- a flag that is said; any number but 0 sets it
+abbrev pub flag_at : ℕ → ℕ → Option Bool
+flag_at says n = if says == 0 then None else Some (not (n == 0))
+
+-- what a struct asks for
+abbrev pub asked_by : PriorityFlags → Asked
+asked_by p = record {
+  urgency = urgency_at p.says_urgency p.urgency;
+  incremental = flag_at p.says_incremental p.incremental;
+}
+
+-- what reading a priority may write to
+pub record PriorityRoom : Type 0 where
+  pub priority : PriorityFlags
+  pub refusal : SyntaxRefusal
+
+-- the text spells a Dictionary, and the struct says what it asks for; or the other one says the
+-- refusal. All else is left as it was
+abbrev pub AsksFor : PriorityRoom → PriorityRoom → List ℕ → Option Status → Type 0
+AsksFor old new t (Some Answered) =
+    (v : Field)
+    × IsOnly Rfc9651 Dict t v
+    × SaysAsked new.priority (asked_in v)
+    × (new.refusal ≡ old.refusal)
+AsksFor old new t (Some Refused) =
+    SaysRefusal Rfc9651 Dict t new.refusal × (new.priority ≡ old.priority)
+AsksFor old new t (Some OutOfMemory) = new ≡ old
+AsksFor old new t status = ⊥

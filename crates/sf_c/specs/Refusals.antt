@@ -1,0 +1,32 @@
+-- What the struct of a refusal says.
+use Rattle.std.specs.Prelude.{◌≡◌, ℕ, ◌+◌, ◌*◌, ◌^◌, ℤ, pos, negsuc, Bool, true, false, List}
+use Rattle.std.specs.Prelude.{Option, Some, None}
+use Rattle.sf_value.specs.declared.dialect.Dialect.{Dialect}
+use Rattle.sf_value.specs.declared.value.Kind.{Kind}
+use Rattle.sf_parse.specs.Parsers.{IsSyntax}
+use Rattle.sf_c.specs.declared.refusal.SyntaxRefusal.{SyntaxRefusal}
+
+-- the byte that was found, or -1 where the text ended
+abbrev pub found_number : Option ℕ → ℤ
+found_number (Some b) = pos b
+found_number None = negsuc 0
+
+-- 1 where it holds
+abbrev pub flag_number : Bool → ℕ
+flag_number true = 1
+flag_number false = 0
+
+-- the struct has these parts; bit b of the set is that of byte b
+abbrev pub SaysSyntax : SyntaxRefusal → ℕ → Option ℕ → ℕ → Bool → Type 0
+SaysSyntax r place found expected may_end =
+    (r.place ≡ place)
+    × (r.found ≡ found_number found)
+    × (r.expected_low + r.expected_high * 2 ^ 64 ≡ expected)
+    × (r.may_end ≡ flag_number may_end)
+
+-- the struct says an exact refusal of the text t
+abbrev pub SaysRefusal : Dialect → Kind → List ℕ → SyntaxRefusal → Type 0
+SaysRefusal d k t r =
+    (place : ℕ) × (found : Option ℕ) × (expected : ℕ) × (may_end : Bool)
+    × SaysSyntax r place found expected may_end
+    × IsSyntax d k t place found expected may_end

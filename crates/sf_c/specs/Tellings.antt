@@ -1,0 +1,62 @@
+-- What a node tells.
+use Rattle.std.specs.Prelude.{◌≡◌, ℕ, ℤ, ◌+◌, ◌≤◌, List, [], ◌∷◌, ◌++◌, length, take, drop}
+use Rattle.std.specs.Prelude.{map}
+use Rattle.sf_c.specs.declared.nodes.Node.{Node}
+
+-- a part of a value: its role, its type, its number, its key, its bytes, and how many parts it has
+pub record Told : Type 0 where
+  pub role : ℕ
+  pub sort : ℕ
+  pub number : ℤ
+  pub key : List ℕ
+  pub text : List ℕ
+  pub span : ℕ
+
+-- so many bytes from a place on
+abbrev pub piece : ℕ → ℕ → List ℕ → List ℕ
+piece at count bytes = take count (drop at bytes)
+
+-- what a node tells, which points into these bytes
+abbrev pub told_by : List ℕ → Node → Told
+told_by bytes n = record {
+  role = n.role;
+  sort = n.sort;
+  number = n.number;
+  key = piece n.key_at n.key_length bytes;
+  text = piece n.text_at n.text_length bytes;
+  span = n.span;
+}
+
+-- the node points to bytes that are there
+abbrev pub IsWithin : List ℕ → Node → Type 0
+IsWithin bytes n =
+    (n.key_at + n.key_length ≤ length bytes) × (n.text_at + n.text_length ≤ length bytes)
+
+-- so does each node
+abbrev pub AreWithin : List ℕ → List Node → Type 0
+AreWithin bytes [] = Unit {0}
+AreWithin bytes (n ∷ ns) = IsWithin bytes n × AreWithin bytes ns
+
+-- how many bytes the keys and the bytes of parts have together
+abbrev pub told_size : List Told → ℕ
+told_size [] = 0
+told_size (t ∷ ts) = length t.key + length t.text + told_size ts
+
+-- the nodes point to bytes that are there, and no byte is in vain
+abbrev pub HoldsUp : List ℕ → List Node → Type 0
+HoldsUp bytes ns =
+    AreWithin bytes ns × (length bytes ≡ told_size (map (told_by bytes) ns))
+
+-- the nodes and the bytes at the fronts of two rooms tell these parts, and what stands behind them
+-- is left as it was
+pub record TellAtFront (ts : List Told) (nodes new_nodes : List Node) (bytes new_bytes : List ℕ)
+    : Type 0 where
+  pub some_nodes : List Node
+  pub some_bytes : List ℕ
+  pub tells : map (told_by some_bytes) some_nodes ≡ ts
+  pub within : AreWithin some_bytes some_nodes
+  pub size : length some_bytes ≡ told_size ts
+  pub nodes_fit : length some_nodes ≤ length nodes
+  pub bytes_fit : length some_bytes ≤ length bytes
+  pub nodes_there : new_nodes ≡ some_nodes ++ drop (length some_nodes) nodes
+  pub bytes_there : new_bytes ≡ some_bytes ++ drop (length some_bytes) bytes

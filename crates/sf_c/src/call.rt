@@ -1,0 +1,67 @@
+//! What C names by numbers, and what every call begins with.
+ghost use Rattle.std.specs.Prelude.{◌≡◌};
+ghost use Rattle.sf_c.specs.Calls.{dialect_at, kind_at};
+ghost use Rattle.sf_c.specs.Parsing.{ParsesOrSays};
+
+use crate::refusal::SyntaxRefusal;
+use crate::seed::Seed;
+use crate::status::Status;
+use sf_parse::{Refusal, parse_text_in};
+use sf_value::{Dialect, Field, Kind};
+use std::alloc::Global;
+
+// The dialect of a number, an `sf_dialect` of `include/sf.h`.
+pub(crate) fn dialect_of(number: u32) -> Option<Dialect>
+    ensures { result ≡ dialect_at number }
+{
+    match number {
+        0 => Some(Dialect::Rfc9651),
+        1 => Some(Dialect::Rfc8941),
+        _ => None,
+    }
+}
+
+// The kind of a number, an `sf_kind` of `include/sf.h`.
+pub(crate) fn kind_of(number: u32) -> Option<Kind>
+    ensures { result ≡ kind_at number }
+{
+    match number {
+        0 => Some(Kind::Item),
+        1 => Some(Kind::List),
+        2 => Some(Kind::Dict),
+        _ => None,
+    }
+}
+
+// The value that the text spells, or the status that says why there is none; a refusal is put into
+// its struct, which is else left as it was.
+pub(crate) fn parse(
+    alloc: Global,
+    seed: &Seed,
+    dialect: Dialect,
+    kind: Kind,
+    text: &[u8],
+    refusal: &mut SyntaxRefusal,
+) -> Result<Field, Status>
+    ensures { ParsesOrSays refusal.old refusal.new text.now dialect kind result }
+{
+    let Some(state) = seed.state() else {
+        return Err(Status::OutOfMemory);
+    };
+    match parse_text_in(alloc, &state, dialect, kind, text) {
+        Ok(field) => Ok(field),
+        Err(Refusal::OutOfMemory) => Err(Status::OutOfMemory),
+        Err(
+            Refusal::Syntax {
+                place,
+                found,
+                expected,
+                may_end,
+            },
+        ) => {
+            *refusal = SyntaxRefusal::of(place, found, expected, may_end);
+            Err(Status::Refused)
+        }
+        Err(_) => unreachable!(),
+    }
+}

@@ -1,0 +1,49 @@
+//! Whether a text is accepted.
+ghost use Rattle.sf_c.specs.Calls.{Called, dialect_at, kind_at};
+ghost use Rattle.sf_c.specs.Checks.{Checks};
+ghost use Rattle.sf_c.specs.Statuses.{status_at};
+
+use crate::call::{dialect_of, kind_of, parse};
+use crate::refusal::SyntaxRefusal;
+use crate::seed::Seed;
+use crate::status::Status;
+use sf_value::{Dialect, Kind};
+use std::alloc::Global;
+
+// As [`sf_check`] answers, of a dialect and a kind.
+fn check(
+    alloc: Global,
+    seed: &Seed,
+    dialect: Dialect,
+    kind: Kind,
+    text: &[u8],
+    refusal: &mut SyntaxRefusal,
+) -> Status
+    ensures { Checks refusal.old refusal.new text.now dialect kind result }
+{
+    match parse(alloc, seed, dialect, kind, text, refusal) {
+        Ok(_) => Status::Answered,
+        Err(status) => status,
+    }
+}
+
+/// Whether the text spells a value of the kind in the dialect (RFC 9651 section 4.2): `Answered`
+/// where it does; `Refused` where not, and then `refusal` says where and why, and is else left as
+/// it was; `OutOfMemory`; or `BadCall` for a number that is no kind or no dialect.
+#[unsafe(no_mangle)]
+pub extern "C" fn sf_check(
+    alloc: Global,
+    seed: &Seed,
+    dialect: u32,
+    kind: u32,
+    text: &[u8],
+    refusal: &mut SyntaxRefusal,
+) -> u32
+    ensures { Called (dialect_at dialect) (kind_at kind) (status_at result)
+        (Checks refusal.old refusal.new text.now) }
+{
+    let (Some(dialect), Some(kind)) = (dialect_of(dialect), kind_of(kind)) else {
+        return Status::BadCall.code();
+    };
+    check(alloc, seed, dialect, kind, text, refusal).code()
+}

@@ -1,0 +1,62 @@
+//! The lines of a field, joined.
+ghost use Rattle.std.specs.Prelude.{◌≡◌, Some};
+ghost use Rattle.sf_c.specs.Joining.{PutsLine, separator_of};
+ghost use Rattle.sf_c.specs.Statuses.{status_at};
+
+use crate::room::put;
+use crate::status::Status;
+
+/// How far the lines of a field are joined. In C an `sf_joined`; it begins with zeros.
+#[repr(C)]
+#[derive(Clone, Copy, Debug, Drop)]
+pub struct Joined {
+    /// How many bytes of joined text stand at the front of the room.
+    pub length: usize,
+    /// How long the room must be for the line that was too long for it.
+    pub wanted: usize,
+    /// 0 before the first line, else 1.
+    pub begun: u32,
+}
+
+// What stands before the next line.
+fn separator(joined: &Joined) -> &'static [u8]
+    ensures { result.now ≡ separator_of joined.now }
+{
+    if joined.begun == 0 { b"" } else { b", " }
+}
+
+// Puts the line behind those that are joined, where there is room.
+fn join(line: &[u8], room: &mut [u8], joined: &mut Joined) -> Status
+    ensures { PutsLine (record { room = room.old; joined = joined.old })
+        (record { room = room.new; joined = joined.new }) line.now (Some result) }
+{
+    let comma = separator(joined);
+    if joined.length > room.len() {
+        return Status::BadCall;
+    }
+    let free = room.len() - joined.length;
+    if free < comma.len() || free - comma.len() < line.len() {
+        joined.wanted = joined
+            .length
+            .saturating_add(comma.len())
+            .saturating_add(line.len());
+        return Status::Short;
+    }
+    put(room, joined.length, comma);
+    put(room, joined.length + comma.len(), line);
+    joined.length += comma.len() + line.len();
+    joined.begun = 1;
+    Status::Answered
+}
+
+/// Puts one more line of a field behind those that are joined in the room, with a comma and a space
+/// between two (RFC 9651 section 4.2): `Answered`; `Short` where the room is too small, and then
+/// `joined.wanted` says how long it must be, and the room is left as it was; or `BadCall` where
+/// `joined.length` is greater than the room.
+#[unsafe(no_mangle)]
+pub extern "C" fn sf_join(line: &[u8], room: &mut [u8], joined: &mut Joined) -> u32
+    ensures { PutsLine (record { room = room.old; joined = joined.old })
+        (record { room = room.new; joined = joined.new }) line.now (status_at result) }
+{
+    join(line, room, joined).code()
+}

@@ -1,0 +1,18 @@
+//! Laws of the nodes, each as the contract of a function that does nothing.
+ghost use Rattle.sf_c.specs.Laws.{BytesAreFew, NodesAreFew, TellOneValue};
+
+use sf_value::laws::canon_is_short;
+
+/// Nodes, with the bytes that they point into, tell at most one value of a kind.
+pub fn nodes_tell_one_value()
+    ensures { TellOneValue }
+{}
+
+/// The value of a text has at most one node more than eight fifths of the text's length, and at
+/// most eight fifths of it in bytes.
+pub fn nodes_are_few()
+    ensures nodes { NodesAreFew }
+    ensures bytes { BytesAreFew }
+{
+    canon_is_short();
+}

@@ -1,0 +1,34 @@
+//! The library, called from C: a static library with one export for each call, declared for C in
+//! `include/sf.h`.
+//!
+//! Numbers, slices as a pointer and a length, and structs in C's layout cross; nothing owned does.
+//! The caller gives the room for an answer, and where that is too small the answer says how much
+//! was wanted. Each export is total: on any input it returns one of the [`Status`]es, and what it
+//! may write, and where, stands in its contract. `specs/` says what each answer means, by the
+//! definitions of the crates below.
+#![tactic(auto)]
+
+mod call;
+mod check;
+mod joining;
+pub mod laws;
+mod nodes;
+mod normalise;
+mod parsing;
+mod priority;
+mod refusal;
+mod room;
+mod seed;
+mod status;
+mod targeted;
+
+pub use check::sf_check;
+pub use joining::{Joined, sf_join};
+pub use nodes::{Node, Sizes};
+pub use normalise::{sf_equal, sf_normalise};
+pub use parsing::sf_parse;
+pub use priority::{PriorityFlags, sf_priority, sf_priority_merge};
+pub use refusal::SyntaxRefusal;
+pub use seed::Seed;
+pub use status::Status;
+pub use targeted::{PolicyFlags, sf_cache_control, sf_lifetime};

@@ -1,0 +1,358 @@
+//! A value as a flat list of nodes.
+ghost use Rattle.std.specs.Prelude.{◌≡◌, ◌+◌, ◌++◌, ◌≤◌, [], ◌∷◌, pos, length};
+ghost use Rattle.std.specs.Prelude.{IfOk, MatchResult};
+ghost use Rattle.sf_c.specs.Tellings.{told_size, TellAtFront};
+ghost use Rattle.sf_c.specs.Nodes.{told, told_entries, told_field, told_inner, told_inside};
+ghost use Rattle.sf_c.specs.Nodes.{told_item, told_items, told_member, told_members, told_params};
+
+use crate::room::put;
+use sf_value::{Bare, Entries, Field, Inner, Item, Member, OutOfMemory};
+use std::alloc::Global;
+use std::marker::Model;
+
+/// A part of a value. In C an `sf_node`.
+#[repr(C)]
+#[derive(Clone, Copy, Debug, Drop)]
+pub struct Node {
+    /// The number of an Integer or a Date, the thousandths of a Decimal, 1 for Boolean true; else
+    /// 0.
+    pub number: i64,
+    /// Where the key stands among the bytes.
+    pub key_at: usize,
+    /// The length of the key; 0 where there is none.
+    pub key_length: usize,
+    /// Where the bytes of a String, a Token, a Byte Sequence or a Display String stand, decoded.
+    pub text_at: usize,
+    /// The length of these bytes; 0 for another type.
+    pub text_length: usize,
+    /// How many nodes this part has, itself one of them: the next sibling stands so many further.
+    pub span: usize,
+    /// 0 for the field's Item or a member, 1 for an Item of an Inner List, 2 for a parameter.
+    pub role: u32,
+    /// The type: 0 for an Inner List, then from 1 on Integer, Decimal, String, Token, Byte
+    /// Sequence, Boolean, Date and Display String.
+    pub sort: u32,
+}
+
+/// How many nodes and bytes a value has. In C an `sf_sizes`.
+#[repr(C)]
+#[derive(Clone, Copy, Debug, Drop)]
+pub struct Sizes {
+    /// How many nodes.
+    pub nodes: usize,
+    /// How many bytes, those of keys and those of texts.
+    pub bytes: usize,
+}
+
+// The nodes of a value, and the bytes that they point into. Contracts see what the nodes tell.
+#[derive(Drop)]
+pub(crate) struct Flat {
+    nodes: Vec<Node>,
+    bytes: Vec<u8>,
+}
+
+impl Model for Flat {
+    ghost use Rattle.std.specs.Prelude.{List, map};
+    ghost use Rattle.sf_c.specs.Tellings.{Told, told_by, HoldsUp};
+
+    ghost Value = { List Told };
+
+    ghost view = { λ f. map (told_by f.bytes.items) f.nodes.items };
+
+    ghost invariant = { λ f. HoldsUp f.bytes.items f.nodes.items };
+}
+
+// A key and a text behind the bytes; or these as they were.
+fn extend(bytes: &mut Vec<u8>, key: &[u8], text: &[u8]) -> Result<(), OutOfMemory>
+    ensures { MatchResult result (λ _. bytes.new.items ≡ (bytes.old.items ++ key.now) ++ text.now)
+        (λ _. bytes.new.items ≡ bytes.old.items) }
+{
+    let length = bytes.as_slice().len();
+    if bytes.extend_from_slice(key).is_err() {
+        return Err(OutOfMemory);
+    }
+    if bytes.extend_from_slice(text).is_err() {
+        bytes.truncate(length);
+        return Err(OutOfMemory);
+    }
+    Ok(())
+}
+
+// What a node of its own says, without its key and its bytes.
+#[derive(Clone, Copy)]
+struct Part {
+    role: u32,
+    sort: u32,
+    number: i64,
+    span: usize,
+}
+
+impl Flat {
+    // No nodes.
+    pub(crate) fn new(alloc: Global) -> Flat
+        ensures { result ≡ [] }
+    {
+        Flat {
+            nodes: Vec::new(alloc),
+            bytes: Vec::new(alloc),
+        }
+    }
+
+    // How many nodes and bytes there are.
+    pub(crate) fn sizes(&self) -> Sizes
+        ensures nodes { result.nodes ≡ length self.now }
+        ensures bytes { result.bytes ≡ told_size self.now }
+    {
+        Sizes {
+            nodes: self.nodes.as_slice().len(),
+            bytes: self.bytes.as_slice().len(),
+        }
+    }
+
+    // Puts the nodes and the bytes at the fronts of rooms that are long enough.
+    pub(crate) fn write(&self, nodes: &mut [Node], bytes: &mut [u8])
+        requires nodes { length self.now ≤ length nodes.old }
+        requires bytes { told_size self.now ≤ length bytes.old }
+        ensures { TellAtFront self.now nodes.old nodes.new bytes.old bytes.new }
+    {
+        put(nodes, 0, self.nodes.as_slice());
+        put(bytes, 0, self.bytes.as_slice());
+    }
+
+    // One more node, with its key and its bytes; or all as it was.
+    fn push(&mut self, part: Part, key: &[u8], text: &[u8]) -> Result<(), OutOfMemory>
+        ensures { IfOk result (λ _. self.new ≡ self.old ++ record {
+          role = part.role;
+          sort = part.sort;
+          number = part.number;
+          key = key.now;
+          text = text.now;
+          span = part.span;
+        } ∷ []) }
+    {
+        let key_at = self.bytes.as_slice().len();
+        let text_at = add(key_at, key.len())?;
+        extend(&mut self.bytes, key, text)?;
+        let node = Node {
+            number: part.number,
+            key_at,
+            key_length: key.len(),
+            text_at,
+            text_length: text.len(),
+            span: part.span,
+            role: part.role,
+            sort: part.sort,
+        };
+        if self.nodes.push(node).is_err() {
+            self.bytes.truncate(key_at);
+            return Err(OutOfMemory);
+        }
+        Ok(())
+    }
+}
+
+// A number, in the place of its bytes.
+fn push_number(
+    flat: &mut Flat,
+    role: u32,
+    key: &[u8],
+    span: usize,
+    sort: u32,
+    number: i64,
+) -> Result<(), OutOfMemory>
+    ensures { IfOk result (λ _. flat.new ≡ flat.old ++ record {
+      role = role;
+      sort = sort;
+      number = number;
+      key = key.now;
+      text = [];
+      span = span;
+    } ∷ []) }
+{
+    let part = Part {
+        role,
+        sort,
+        number,
+        span,
+    };
+    flat.push(part, key, b"")
+}
+
+// Bytes, in the place of a number.
+fn push_text(
+    flat: &mut Flat,
+    role: u32,
+    key: &[u8],
+    span: usize,
+    sort: u32,
+    text: &[u8],
+) -> Result<(), OutOfMemory>
+    ensures { IfOk result (λ _. flat.new ≡ flat.old ++ record {
+      role = role;
+      sort = sort;
+      number = pos 0;
+      key = key.now;
+      text = text.now;
+      span = span;
+    } ∷ []) }
+{
+    let part = Part {
+        role,
+        sort,
+        number: 0,
+        span,
+    };
+    flat.push(part, key, text)
+}
+
+// A bare item.
+fn push_bare(
+    flat: &mut Flat,
+    role: u32,
+    key: &[u8],
+    span: usize,
+    bare: &Bare,
+) -> Result<(), OutOfMemory>
+    ensures { IfOk result (λ _. flat.new ≡ flat.old ++ told role key.now span bare.now ∷ []) }
+{
+    match bare {
+        Bare::Integer(n) => push_number(flat, role, key, span, 1, n.get()),
+        Bare::Decimal(n) => push_number(flat, role, key, span, 2, n.get()),
+        Bare::Text(text) => push_text(flat, role, key, span, 3, text.as_bytes()),
+        Bare::Token(token) => push_text(flat, role, key, span, 4, token.as_bytes()),
+        Bare::Blob(blob) => push_text(flat, role, key, span, 5, blob.as_bytes()),
+        Bare::Boolean(b) => push_number(flat, role, key, span, 6, i64::from(*b)),
+        Bare::Date(n) => push_number(flat, role, key, span, 7, n.get()),
+        Bare::Shown(shown) => push_text(flat, role, key, span, 8, shown.as_bytes()),
+    }
+}
+
+// Parameters.
+fn push_params(flat: &mut Flat, params: &Entries<Bare>) -> Result<(), OutOfMemory>
+    ensures { IfOk result (λ _. flat.new ≡ flat.old ++ told_params params.now) }
+{
+    for (key, value) in params {
+        push_bare(flat, 2, key, 1, value)?;
+    }
+    Ok(())
+}
+
+// The sum; what is counted is less than 2^64 in all memory.
+fn add(count: usize, more: usize) -> Result<usize, OutOfMemory>
+    ensures { IfOk result (λ n. n ≡ count + more) }
+{
+    match count.checked_add(more) {
+        Some(n) => Ok(n),
+        None => Err(OutOfMemory),
+    }
+}
+
+// How many nodes there are with one more.
+fn one_more(count: usize) -> Result<usize, OutOfMemory>
+    ensures { IfOk result (λ n. n ≡ 1 + count) }
+{
+    match count.checked_add(1) {
+        Some(n) => Ok(n),
+        None => Err(OutOfMemory),
+    }
+}
+
+// An Item.
+fn push_item(flat: &mut Flat, role: u32, key: &[u8], item: &Item) -> Result<(), OutOfMemory>
+    ensures { IfOk result (λ _. flat.new ≡ flat.old ++ told_item role key.now item.now) }
+{
+    let span = one_more(item.params.len())?;
+    push_bare(flat, role, key, span, &item.bare)?;
+    push_params(flat, &item.params)
+}
+
+// The Items of an Inner List.
+fn push_items(flat: &mut Flat, items: &[Item]) -> Result<(), OutOfMemory>
+    ensures { IfOk result (λ _. flat.new ≡ flat.old ++ told_items items.now) }
+{
+    for item in items {
+        push_item(flat, 1, b"", item)?;
+    }
+    Ok(())
+}
+
+// How many nodes the Items have, and so many more.
+fn count_items(items: &[Item], more: usize) -> Result<usize, OutOfMemory>
+    ensures { IfOk result (λ n. n ≡ more + length (told_items items.now)) }
+{
+    let mut count = more;
+    for item in items {
+        let size = one_more(item.params.len())?;
+        count = add(count, size)?;
+    }
+    Ok(count)
+}
+
+// How many nodes are inside an Inner List.
+fn count_inside(inner: &Inner) -> Result<usize, OutOfMemory>
+    ensures { IfOk result (λ n. n ≡ length (told_inside inner.now)) }
+{
+    let count = count_items(inner.items.as_slice(), inner.params.len())?;
+    Ok(count)
+}
+
+// What is inside an Inner List.
+fn push_inside(flat: &mut Flat, inner: &Inner) -> Result<(), OutOfMemory>
+    ensures { IfOk result (λ _. flat.new ≡ flat.old ++ told_inside inner.now) }
+{
+    push_items(flat, inner.items.as_slice())?;
+    push_params(flat, &inner.params)
+}
+
+// An Inner List.
+fn push_inner(flat: &mut Flat, key: &[u8], inner: &Inner) -> Result<(), OutOfMemory>
+    ensures { IfOk result (λ _. flat.new ≡ flat.old ++ told_inner key.now inner.now) }
+{
+    let count = count_inside(inner)?;
+    let span = one_more(count)?;
+    push_number(flat, 0, key, span, 0, 0)?;
+    push_inside(flat, inner)
+}
+
+// A member, with its key in a Dictionary.
+fn push_member(flat: &mut Flat, key: &[u8], member: &Member) -> Result<(), OutOfMemory>
+    ensures { IfOk result (λ _. flat.new ≡ flat.old ++ told_member key.now member.now) }
+{
+    match member {
+        Member::Item(item) => push_item(flat, 0, key, item),
+        Member::Inner(inner) => push_inner(flat, key, inner),
+    }
+}
+
+// The members of a List.
+fn push_members(flat: &mut Flat, members: &[Member]) -> Result<(), OutOfMemory>
+    ensures { IfOk result (λ _. flat.new ≡ flat.old ++ told_members members.now) }
+{
+    for member in members {
+        push_member(flat, b"", member)?;
+    }
+    Ok(())
+}
+
+// The members of a Dictionary.
+fn push_entries(flat: &mut Flat, entries: &Entries<Member>) -> Result<(), OutOfMemory>
+    ensures { IfOk result (λ _. flat.new ≡ flat.old ++ told_entries entries.now) }
+{
+    for (key, member) in entries {
+        push_member(flat, key, member)?;
+    }
+    Ok(())
+}
+
+// The nodes of a field.
+pub(crate) fn flatten(alloc: Global, field: &Field) -> Result<Flat, OutOfMemory>
+    ensures { IfOk result (λ flat. flat ≡ told_field field.now) }
+{
+    let mut flat = Flat::new(alloc);
+    match field {
+        Field::Item(item) => push_item(&mut flat, 0, b"", item)?,
+        Field::List(list) => push_members(&mut flat, list.members.as_slice())?,
+        Field::Dict(dict) => push_entries(&mut flat, &dict.members)?,
+    }
+    Ok(flat)
+}

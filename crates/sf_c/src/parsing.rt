@@ -1,0 +1,79 @@
+//! A value as nodes, into the caller's rooms.
+ghost use Rattle.sf_c.specs.Calls.{Called, dialect_at, kind_at};
+ghost use Rattle.sf_c.specs.Flattening.{Flattens};
+ghost use Rattle.sf_c.specs.Statuses.{status_at};
+
+use crate::call::{dialect_of, kind_of, parse};
+use crate::laws::nodes_are_few;
+use crate::nodes::{Node, Sizes, flatten};
+use crate::refusal::SyntaxRefusal;
+use crate::seed::Seed;
+use crate::status::Status;
+use sf_value::{Dialect, Kind};
+use std::alloc::Global;
+
+// As [`sf_parse`] answers, of a dialect and a kind.
+fn parse_flat(
+    alloc: Global,
+    seed: &Seed,
+    dialect: Dialect,
+    kind: Kind,
+    text: &[u8],
+    nodes: &mut [Node],
+    bytes: &mut [u8],
+    sizes: &mut Sizes,
+    refusal: &mut SyntaxRefusal,
+) -> Status
+    ensures { Flattens
+        (record { nodes = nodes.old; bytes = bytes.old; sizes = sizes.old; refusal = refusal.old })
+        (record { nodes = nodes.new; bytes = bytes.new; sizes = sizes.new; refusal = refusal.new })
+        text.now dialect kind result }
+{
+    let field = match parse(alloc, seed, dialect, kind, text, refusal) {
+        Ok(field) => field,
+        Err(status) => return status,
+    };
+    nodes_are_few();
+    let Ok(flat) = flatten(alloc, &field) else {
+        return Status::OutOfMemory;
+    };
+    *sizes = flat.sizes();
+    if nodes.len() < sizes.nodes {
+        return Status::Short;
+    }
+    if bytes.len() < sizes.bytes {
+        return Status::Short;
+    }
+    flat.write(nodes, bytes);
+    Status::Answered
+}
+
+/// The value that the text spells, as nodes: `Answered` and the first `sizes.nodes` nodes and the
+/// first `sizes.bytes` bytes tell it, and the others are left as they were; `Short` where one of
+/// the rooms is smaller than `sizes` says, and both are left as they were; `Refused` where no value
+/// is spelled, and then `refusal` says where and why; `OutOfMemory`; or `BadCall`.
+#[unsafe(no_mangle)]
+pub extern "C" fn sf_parse(
+    alloc: Global,
+    seed: &Seed,
+    dialect: u32,
+    kind: u32,
+    text: &[u8],
+    nodes: &mut [Node],
+    bytes: &mut [u8],
+    sizes: &mut Sizes,
+    refusal: &mut SyntaxRefusal,
+) -> u32
+    ensures { Called (dialect_at dialect) (kind_at kind) (status_at result) (Flattens
+        (record { nodes = nodes.old; bytes = bytes.old; sizes = sizes.old; refusal = refusal.old })
+        (record { nodes = nodes.new; bytes = bytes.new; sizes = sizes.new; refusal = refusal.new })
+        text.now) }
+{
+    let (Some(dialect), Some(kind)) = (dialect_of(dialect), kind_of(kind)) else {
+        return Status::BadCall.code();
+    };
+    parse_flat(
+        alloc, seed, dialect, kind, text, nodes, bytes, sizes, refusal,
+    )
+    .code()
+}

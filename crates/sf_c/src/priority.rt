@@ -1,0 +1,127 @@
+//! Priorities (RFC 9218).
+ghost use Rattle.std.specs.Prelude.{◌≡◌, Some};
+ghost use Rattle.sf_use.specs.Priority.{merged};
+ghost use Rattle.sf_c.specs.Priorities.{AsksFor, SaysAsked, asked_by, flag_at, urgency_at};
+ghost use Rattle.sf_c.specs.Statuses.{status_at};
+
+use crate::call::parse;
+use crate::refusal::SyntaxRefusal;
+use crate::seed::Seed;
+use crate::status::Status;
+use sf_use::{Asked, Priority, Urgency, merge};
+use sf_value::{Dialect, Field, Kind};
+use std::alloc::Global;
+
+/// What a Priority field asks for, with the defaults for what it does not say (RFC 9218 section 4).
+/// In C an `sf_priority`.
+#[repr(C)]
+#[derive(Clone, Copy, Debug, Drop)]
+pub struct PriorityFlags {
+    /// The urgency, from 0 to 7; 3 where it is not said.
+    pub urgency: u8,
+    /// 1 where the response is of use while it arrives, else 0.
+    pub incremental: u8,
+    /// 1 where the field says the urgency, else 0.
+    pub says_urgency: u8,
+    /// 1 where the field says whether the response is incremental, else 0.
+    pub says_incremental: u8,
+}
+
+impl PriorityFlags {
+    // The struct of what is asked for.
+    fn of(asked: Asked) -> PriorityFlags
+        ensures { SaysAsked result asked }
+    {
+        let filled = asked.with_defaults();
+        PriorityFlags {
+            urgency: filled.urgency.get(),
+            incremental: u8::from(filled.incremental),
+            says_urgency: u8::from(asked.urgency.is_some()),
+            says_incremental: u8::from(asked.incremental.is_some()),
+        }
+    }
+
+    // What the struct asks for.
+    fn asked(&self) -> Asked
+        ensures { result ≡ asked_by self.now }
+    {
+        Asked {
+            urgency: urgency_of(self.says_urgency, self.urgency),
+            incremental: flag_of(self.says_incremental, self.incremental),
+        }
+    }
+}
+
+// An urgency that is said and is one.
+fn urgency_of(says: u8, urgency: u8) -> Option<Urgency>
+    ensures { result ≡ urgency_at says urgency }
+{
+    if says == 0 {
+        return None;
+    }
+    match Urgency::new(urgency) {
+        Ok(urgency) => Some(urgency),
+        Err(_) => None,
+    }
+}
+
+// A flag that is said.
+fn flag_of(says: u8, flag: u8) -> Option<bool>
+    ensures { result ≡ flag_at says flag }
+{
+    if says == 0 {
+        return None;
+    }
+    Some(flag != 0)
+}
+
+// What a text asks for.
+fn asked_of(
+    alloc: Global,
+    seed: &Seed,
+    text: &[u8],
+    priority: &mut PriorityFlags,
+    refusal: &mut SyntaxRefusal,
+) -> Status
+    ensures { AsksFor (record { priority = priority.old; refusal = refusal.old })
+        (record { priority = priority.new; refusal = refusal.new }) text.now (Some result) }
+{
+    let field = match parse(alloc, seed, Dialect::Rfc9651, Kind::Dict, text, refusal) {
+        Ok(field) => field,
+        Err(status) => return status,
+    };
+    match &field {
+        Field::Dict(dict) => {
+            *priority = PriorityFlags::of(Priority::from_dict(dict));
+            Status::Answered
+        }
+        _ => unreachable!(),
+    }
+}
+
+/// What the text of a Priority field asks for (RFC 9218 section 5): `Answered` and `priority` says
+/// it; `Refused` where the text spells no Dictionary, and then `refusal` says where and why; or
+/// `OutOfMemory`.
+#[unsafe(no_mangle)]
+pub extern "C" fn sf_priority(
+    alloc: Global,
+    seed: &Seed,
+    text: &[u8],
+    priority: &mut PriorityFlags,
+    refusal: &mut SyntaxRefusal,
+) -> u32
+    ensures { AsksFor (record { priority = priority.old; refusal = refusal.old })
+        (record { priority = priority.new; refusal = refusal.new }) text.now (status_at result) }
+{
+    asked_of(alloc, seed, text, priority, refusal).code()
+}
+
+/// What a client and a server ask for together (RFC 9218 section 8): each part as the server says
+/// it, where it does, else as the client does; defaults are filled in. A flag counts as 1 where it
+/// is not 0, and an urgency above 7 as not said.
+#[unsafe(no_mangle)]
+pub extern "C" fn sf_priority_merge(client: &PriorityFlags, server: &PriorityFlags) -> PriorityFlags
+    ensures { SaysAsked result (merged (asked_by client.now) (asked_by server.now)) }
+{
+    PriorityFlags::of(merge(client.asked(), server.asked()))
+}

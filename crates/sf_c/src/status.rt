@@ -1,0 +1,39 @@
+//! How a call came out.
+ghost use Rattle.std.specs.Prelude.{◌≡◌, Some};
+ghost use Rattle.sf_c.specs.Statuses.{status_at};
+
+/// How a call came out. C sees the number, an `sf_status` of `include/sf.h`.
+#[derive(Clone, Copy, Debug, PartialEq, Eq)]
+pub enum Status {
+    /// 0: the call was answered.
+    Answered,
+    /// 1: the text spells no value; for a call that takes two texts, the first one.
+    Refused,
+    /// 2: the second text of a call that takes two spells no value.
+    SecondRefused,
+    /// 3: the room is too small for the answer, and stayed as it was.
+    Short,
+    /// 4: memory was wanting.
+    OutOfMemory,
+    /// 5: the field has no member, so it says nothing.
+    Empty,
+    /// 6: there is no such kind or dialect, or a length is greater than its room.
+    BadCall,
+}
+
+impl Status {
+    /// The number of the status.
+    pub fn code(self) -> u32
+        ensures { status_at result ≡ Some self }
+    {
+        match self {
+            Status::Answered => 0,
+            Status::Refused => 1,
+            Status::SecondRefused => 2,
+            Status::Short => 3,
+            Status::OutOfMemory => 4,
+            Status::Empty => 5,
+            Status::BadCall => 6,
+        }
+    }
+}

@@ -1,0 +1,140 @@
+//! Targeted cache control (RFC 9213).
+ghost use Rattle.std.specs.Prelude.{◌≡◌, Some};
+ghost use Rattle.sf_c.specs.Policies.{Directs, LifeIs, SaysPolicy, SaysToCache};
+ghost use Rattle.sf_c.specs.Policies.{policy_by, seconds_at};
+ghost use Rattle.sf_c.specs.Statuses.{status_at};
+
+use crate::call::parse;
+use crate::refusal::SyntaxRefusal;
+use crate::seed::Seed;
+use crate::status::Status;
+use sf_use::Policy;
+use sf_value::{Dialect, Dict, Field, Kind};
+use std::alloc::Global;
+
+/// What a targeted field says to a cache (RFC 9213 section 2.1). In C an `sf_policy`.
+#[repr(C)]
+#[derive(Clone, Copy, Debug, Drop)]
+pub struct PolicyFlags {
+    /// `max-age` in seconds; 0 where it is not said.
+    pub max_age: u64,
+    /// `s-maxage` in seconds; 0 where it is not said.
+    pub s_maxage: u64,
+    /// 1 where the field says `max-age`, else 0.
+    pub says_max_age: u8,
+    /// 1 where the field says `s-maxage`, else 0.
+    pub says_s_maxage: u8,
+    /// 1 where `must-revalidate` is set, else 0.
+    pub must_revalidate: u8,
+    /// 1 where `no-store` is set, else 0.
+    pub no_store: u8,
+    /// 1 where `no-cache` is set, else 0.
+    pub no_cache: u8,
+    /// 1 where `private` is set, else 0.
+    pub is_private: u8,
+}
+
+impl PolicyFlags {
+    // The struct of a policy.
+    fn of(policy: Policy) -> PolicyFlags
+        ensures { SaysPolicy result policy }
+    {
+        PolicyFlags {
+            max_age: policy.max_age.unwrap_or(0),
+            s_maxage: policy.s_maxage.unwrap_or(0),
+            says_max_age: u8::from(policy.max_age.is_some()),
+            says_s_maxage: u8::from(policy.s_maxage.is_some()),
+            must_revalidate: u8::from(policy.must_revalidate),
+            no_store: u8::from(policy.no_store),
+            no_cache: u8::from(policy.no_cache),
+            is_private: u8::from(policy.is_private),
+        }
+    }
+
+    // The policy of the struct.
+    fn policy(&self) -> Policy
+        ensures { result ≡ policy_by self.now }
+    {
+        Policy {
+            max_age: seconds_of(self.says_max_age, self.max_age),
+            s_maxage: seconds_of(self.says_s_maxage, self.s_maxage),
+            must_revalidate: self.must_revalidate != 0,
+            no_store: self.no_store != 0,
+            no_cache: self.no_cache != 0,
+            is_private: self.is_private != 0,
+        }
+    }
+}
+
+// Seconds that are said.
+fn seconds_of(says: u8, seconds: u64) -> Option<u64>
+    ensures { result ≡ seconds_at says seconds }
+{
+    if says == 0 { None } else { Some(seconds) }
+}
+
+// What a Dictionary says, which may have no member.
+fn directed(dict: &Dict, policy: &mut PolicyFlags) -> Status
+    ensures { Directs policy.old policy.new dict.now result }
+{
+    if dict.members.is_empty() {
+        return Status::Empty;
+    }
+    *policy = PolicyFlags::of(Policy::from_dict(dict));
+    Status::Answered
+}
+
+// What a text says.
+fn direct(
+    alloc: Global,
+    seed: &Seed,
+    text: &[u8],
+    policy: &mut PolicyFlags,
+    refusal: &mut SyntaxRefusal,
+) -> Status
+    ensures { SaysToCache (record { policy = policy.old; refusal = refusal.old })
+        (record { policy = policy.new; refusal = refusal.new }) text.now (Some result) }
+{
+    let field = match parse(alloc, seed, Dialect::Rfc9651, Kind::Dict, text, refusal) {
+        Ok(field) => field,
+        Err(status) => return status,
+    };
+    match &field {
+        Field::Dict(dict) => directed(dict, policy),
+        _ => unreachable!(),
+    }
+}
+
+/// What the text of one targeted field says to a cache (RFC 9213 section 2.1): `Answered` and
+/// `policy` says it; `Empty` where the Dictionary has no member, so that the next target counts
+/// (section 2.2); `Refused` where the text spells no Dictionary, and then `refusal` says where and
+/// why; or `OutOfMemory`.
+#[unsafe(no_mangle)]
+pub extern "C" fn sf_cache_control(
+    alloc: Global,
+    seed: &Seed,
+    text: &[u8],
+    policy: &mut PolicyFlags,
+    refusal: &mut SyntaxRefusal,
+) -> u32
+    ensures { SaysToCache (record { policy = policy.old; refusal = refusal.old })
+        (record { policy = policy.new; refusal = refusal.new }) text.now (status_at result) }
+{
+    direct(alloc, seed, text, policy, refusal).code()
+}
+
+/// For how many seconds a response is fresh by this policy, in a shared cache where `shared` is not
+/// 0, else in a private one (RFC 9111 section 4.2.1): 1 and `seconds` is that, or 0 where the
+/// policy does not say, and then `seconds` is left as it was.
+#[unsafe(no_mangle)]
+pub extern "C" fn sf_lifetime(policy: &PolicyFlags, shared: u32, seconds: &mut u64) -> u32
+    ensures { LifeIs (policy_by policy.now) shared seconds.old seconds.new result }
+{
+    match policy.policy().lifetime(shared != 0) {
+        Some(lifetime) => {
+            *seconds = lifetime;
+            1
+        }
+        None => 0,
+    }
+}

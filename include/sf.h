@@ -1,0 +1,278 @@
+/*
+ * Structured Field Values for HTTP (RFC 9651), proved: parse, compare and write them, and what
+ * three fields mean: Priority (RFC 9218), the targeted cache control fields (RFC 9213) and the
+ * lines of any field joined. The archive libsf.a has these functions and needs the C library alone.
+ *
+ * Nothing that the library owns crosses: the caller gives the room for each answer, and where a
+ * room is too small the answer is SF_SHORT and says how much was wanted. Memory that a call takes
+ * by malloc it gives back before it returns.
+ *
+ * Every function may be called with any numbers and any bytes. What it asks for is what C asks for:
+ * a pointer with a length is that of so many bytes or elements, which may be NULL where the length
+ * is 0; any other pointer is not NULL and aligned; and what a call writes to overlaps nothing else
+ * that it is given. An argument that is not written to is only read. Calls share no state, so any
+ * number of threads may call at once, each with rooms of its own. No function may be called from a
+ * signal handler, nor in the child of a fork of a program with threads. The program's malloc and
+ * realloc give memory that is aligned as C asks.
+ *
+ * Bytes are octets and texts have no NUL at the end. A place is counted in bytes from 0.
+ */
+#ifndef SF_H
+#define SF_H
+
+#include <stddef.h>
+#include <stdint.h>
+
+/* The version of this header and of the archive beside it. */
+#define SF_VERSION_MAJOR 0
+#define SF_VERSION_MINOR 1
+#define SF_VERSION_PATCH 0
+#define SF_VERSION "0.1.0"
+
+#ifdef __cplusplus
+extern "C" {
+#endif
+
+/* How a call came out. */
+typedef enum sf_status {
+  SF_OK = 0,             /* it was answered */
+  SF_REFUSED = 1,        /* the text spells no value: sf_refusal says where and why */
+  SF_SECOND_REFUSED = 2, /* the second of two texts spells no value */
+  SF_SHORT = 3,          /* a room is too small */
+  SF_NO_MEMORY = 4,      /* malloc or realloc gave none */
+  SF_EMPTY = 5,          /* the field has no member, so it says nothing */
+  SF_BAD_CALL = 6        /* no such kind or dialect, or a length greater than its room */
+} sf_status;
+
+/* The kind of a field; the field's definition names it. */
+typedef enum sf_kind {
+  SF_ITEM = 0, /* RFC 9651 section 3.3 */
+  SF_LIST = 1, /* section 3.1 */
+  SF_DICT = 2  /* section 3.2 */
+} sf_kind;
+
+/* By which RFC a text is read. What RFC 8941 accepts has the same value by RFC 9651. */
+typedef enum sf_dialect {
+  SF_RFC9651 = 0,
+  SF_RFC8941 = 1 /* without Dates and Display Strings */
+} sf_dialect;
+
+/*
+ * A seed for the hashes by which keys are looked up. Fill it from a source that strangers can't
+ * guess, as getrandom, once for the program or for each call: keys are a stranger's choice, and
+ * with hashes that they foresee a long Dictionary takes quadratic time. No answer depends on it.
+ */
+typedef struct sf_seed {
+  uint8_t bytes[16];
+} sf_seed;
+
+/* Where and why a text is refused (RFC 9651 section 4.2). */
+typedef struct sf_refusal {
+  uint64_t place;         /* how long the longest front is that some text of the kind begins with */
+  uint64_t expected_low;  /* bit b: byte b could have stood at that place, b from 0 to 63 */
+  uint64_t expected_high; /* bit b: byte 64 + b could have */
+  int32_t found;          /* the byte at that place, or -1 where the text ended */
+  uint32_t may_end;       /* 1 where the text could have ended there, else 0 */
+} sf_refusal;
+
+/*
+ * Whether the text spells a value of the kind.
+ *
+ *   SF_OK         it does
+ *   SF_REFUSED    it does not, and refusal says where and why
+ *   SF_NO_MEMORY, SF_BAD_CALL
+ *
+ * Where the answer is not SF_REFUSED, refusal is left as it was; so it is in each function below.
+ */
+uint32_t sf_check(const sf_seed *seed, uint32_t dialect, uint32_t kind, const void *text,
+                  size_t text_length, sf_refusal *refusal);
+
+/* A room of so many bytes is never too small for the canonical text of a text of this length. It is
+ * eight fifths, as SF_CANONICAL_ROOM(5) is 8; for lengths up to SIZE_MAX / 8. */
+#define SF_CANONICAL_ROOM(length) ((length) * 8 / 5)
+
+/*
+ * The canonical text (RFC 9651 section 4.1) of the value that the text spells. Two texts of a kind
+ * spell equal values exactly where their canonical texts are equal, and a canonical text is its
+ * own.
+ *
+ *   SF_OK         the first *wanted bytes of the room are it, and the others are left as they were
+ *   SF_SHORT      it has *wanted bytes, more than the room; the room is left as it was
+ *   SF_REFUSED    no value is spelled, and refusal says where and why
+ *   SF_NO_MEMORY, SF_BAD_CALL
+ *
+ * Where the answer is neither SF_OK nor SF_SHORT, the room and *wanted are left as they were.
+ */
+uint32_t sf_normalise(const sf_seed *seed, uint32_t dialect, uint32_t kind, const void *text,
+                      size_t text_length, void *room, size_t room_length, size_t *wanted,
+                      sf_refusal *refusal);
+
+/*
+ * Whether two texts of a kind spell equal values. The order of members, items and parameters
+ * counts.
+ *
+ *   SF_OK              *equal is 1 or 0
+ *   SF_REFUSED         the first text spells no value, and refusal says where and why
+ *   SF_SECOND_REFUSED  the first does and the second spells none, and refusal says where and why
+ *   SF_NO_MEMORY, SF_BAD_CALL
+ *
+ * Where the answer is not SF_OK, *equal is left as it was.
+ */
+uint32_t sf_equal(const sf_seed *seed, uint32_t dialect, uint32_t kind, const void *first,
+                  size_t first_length, const void *second, size_t second_length, uint32_t *equal,
+                  sf_refusal *refusal);
+
+/* What a node of a parsed value is. */
+typedef enum sf_role {
+  SF_MEMBER = 0,    /* the Item of an Item field, or a member of a List or a Dictionary */
+  SF_INNER_ITEM = 1, /* an Item of an Inner List */
+  SF_PARAMETER = 2  /* a parameter of the Item or the Inner List before it */
+} sf_role;
+
+/* The type of a node (RFC 9651 section 3). */
+typedef enum sf_type {
+  SF_INNER_LIST = 0,     /* 3.1.1: number 0, no bytes */
+  SF_INTEGER = 1,        /* 3.3.1: number */
+  SF_DECIMAL = 2,        /* 3.3.2: number, in thousandths */
+  SF_STRING = 3,         /* 3.3.3: bytes, without quotes and escapes */
+  SF_TOKEN = 4,          /* 3.3.4: bytes */
+  SF_BYTE_SEQUENCE = 5,  /* 3.3.5: bytes, decoded */
+  SF_BOOLEAN = 6,        /* 3.3.6: number, 1 for true and 0 for false */
+  SF_DATE = 7,           /* 3.3.7: number, in seconds from 1970-01-01T00:00:00Z on */
+  SF_DISPLAY_STRING = 8  /* 3.3.8: bytes, UTF-8, decoded */
+} sf_type;
+
+/*
+ * A part of a value. The nodes of a value stand in its order: an Item is a node, then its
+ * parameters; an Inner List is a node, then its Items, each with its parameters, then the
+ * parameters of its own. Keys and bytes stand in the caller's bytes.
+ */
+typedef struct sf_node {
+  int64_t number;     /* of a number, a Boolean or a Date; else 0 */
+  size_t key_at;      /* where the key stands, of a parameter or of a member of a Dictionary */
+  size_t key_length;  /* its length; 0 where there is no key */
+  size_t text_at;     /* where the bytes stand, of a String, a Token, a Byte Sequence, .. */
+  size_t text_length; /* their length; 0 for another type */
+  size_t span;        /* how many nodes the part has, this one included: nodes + span is the next
+                         sibling, or where its parent ends */
+  uint32_t role;      /* an sf_role */
+  uint32_t type;      /* an sf_type */
+} sf_node;
+
+/* A room of so many nodes, or of so many bytes, is never too small for the value of a text of this
+ * length; for lengths up to SIZE_MAX / 8. */
+#define SF_PARSE_ROOM(length) ((length) * 8 / 5 + 1)
+
+/* How many nodes and bytes a value has. */
+typedef struct sf_sizes {
+  size_t nodes;
+  size_t bytes;
+} sf_sizes;
+
+/*
+ * The value that the text spells, as nodes. Members and parameters of one key stand once, at the
+ * place of the first and with the value of the last (RFC 9651 section 4.2). No two values of a kind
+ * have the same nodes.
+ *
+ *   SF_OK         the first sizes->nodes nodes and the first sizes->bytes bytes tell the value, and
+ *                 the others are left as they were
+ *   SF_SHORT      the value has sizes->nodes nodes and sizes->bytes bytes, and one of the two rooms
+ *                 is smaller; both are left as they were
+ *   SF_REFUSED    no value is spelled, and refusal says where and why
+ *   SF_NO_MEMORY, SF_BAD_CALL
+ *
+ * Where the answer is neither SF_OK nor SF_SHORT, both rooms and sizes are left as they were.
+ */
+uint32_t sf_parse(const sf_seed *seed, uint32_t dialect, uint32_t kind, const void *text,
+                  size_t text_length, sf_node *nodes, size_t nodes_room, void *bytes,
+                  size_t bytes_room, sf_sizes *sizes, sf_refusal *refusal);
+
+/* What a Priority field asks for (RFC 9218 section 4), with the defaults for what it does not say.
+ * */
+typedef struct sf_priority_flags {
+  uint8_t urgency;          /* from 0, the most urgent, to 7; 3 where it is not said (4.1) */
+  uint8_t incremental;      /* 1 where the response is of use while it arrives; else 0 (4.2) */
+  uint8_t says_urgency;     /* 1 where the field says the urgency, else 0 */
+  uint8_t says_incremental; /* 1 where the field says whether it is incremental, else 0 */
+} sf_priority_flags;
+
+/*
+ * What the text of a Priority field (RFC 9218 section 5) asks for. Members that are unknown, of
+ * another type or out of range say nothing.
+ *
+ *   SF_OK         priority says it
+ *   SF_REFUSED    the text spells no Dictionary, and refusal says where and why
+ *   SF_NO_MEMORY
+ *
+ * Where the answer is not SF_OK, priority is left as it was.
+ */
+uint32_t sf_priority(const sf_seed *seed, const void *text, size_t text_length,
+                     sf_priority_flags *priority, sf_refusal *refusal);
+
+/*
+ * What a client and a server ask for together (RFC 9218 section 8): each part as the server says
+ * it, where it does, else as the client does; defaults are filled in. Only what is said counts. Any
+ * number but 0 sets a flag, and an urgency above 7 counts as not said.
+ */
+sf_priority_flags sf_priority_merge(const sf_priority_flags *client,
+                                    const sf_priority_flags *server);
+
+/* What a targeted field says to a cache (RFC 9213 section 2.1, RFC 9111 section 5.2.2). */
+typedef struct sf_policy {
+  uint64_t max_age;        /* max-age in seconds; 0 where it is not said */
+  uint64_t s_maxage;       /* s-maxage in seconds; 0 where it is not said */
+  uint8_t says_max_age;    /* 1 where it is said, as an Integer that is not negative; else 0 */
+  uint8_t says_s_maxage;   /* the same of s-maxage */
+  uint8_t must_revalidate; /* 1 where the directive is set, else 0; so the next three */
+  uint8_t no_store;
+  uint8_t no_cache;
+  uint8_t is_private;
+} sf_policy;
+
+/*
+ * What the text of one targeted field says to a cache (RFC 9213 section 2.1). A field that is
+ * SF_REFUSED or SF_EMPTY is passed over, and the next of the target list counts (section 2.2).
+ *
+ *   SF_OK         policy says it
+ *   SF_EMPTY      the Dictionary has no member
+ *   SF_REFUSED    the text spells no Dictionary, and refusal says where and why
+ *   SF_NO_MEMORY
+ *
+ * Where the answer is not SF_OK, policy is left as it was.
+ */
+uint32_t sf_cache_control(const sf_seed *seed, const void *text, size_t text_length,
+                          sf_policy *policy, sf_refusal *refusal);
+
+/*
+ * For how many seconds a response is fresh by this policy, in a shared cache where shared is not 0,
+ * else in a private one: in a shared one s-maxage stands before max-age (RFC 9111 section 4.2.1),
+ * in a private one max-age alone counts. 1 and *seconds is that; 0 where the policy does not say,
+ * and then *seconds is left as it was. In policy any number but 0 sets a flag.
+ */
+uint32_t sf_lifetime(const sf_policy *policy, uint32_t shared, uint64_t *seconds);
+
+/* How far the lines of a field are joined. It begins with zeros: sf_joined joined = {0, 0, 0}; */
+typedef struct sf_joined {
+  size_t length;  /* how many bytes of joined text stand at the front of the room */
+  size_t wanted;  /* how long the room must be for the line that was too long for it */
+  uint32_t begun; /* 0 before the first line, else 1 */
+} sf_joined;
+
+/*
+ * Joins one more line of a field to those that stand in the room, with a comma and a space between
+ * two (RFC 9651 section 4.2), the text that the calls above take. Call it for each line in order.
+ * With no line the text is the empty one.
+ *
+ *   SF_OK        the first joined->length bytes of the room are the text with this line
+ *   SF_SHORT     the room must be joined->wanted bytes long; it is left as it was. Call again with
+ *                a longer room that begins with the same bytes
+ *   SF_BAD_CALL  joined->length is greater than the room
+ */
+uint32_t sf_join(const void *line, size_t line_length, void *room, size_t room_length,
+                 sf_joined *joined);
+
+#ifdef __cplusplus
+}
+#endif
+
+#endif
