@@ -20,8 +20,8 @@ four (a ∷ b ∷ c ∷ d ∷ xs) h = refl
 pub group_on : (first bytes more out piece xs : List ℕ)
     → Went blob_step (Group first H0) piece xs (Group bytes H0) → 4 ≤ length xs
     → ((bs : List ℕ) → run blob_step (Group bs H0)
-        (get_or xs 0 0 ∷ get_or xs 1 0 ∷ get_or xs 2 0 ∷ get_or xs 3 0 ∷ [])
-        ≡ Some (Group (bs ++ out) H0))
+    (get_or xs 0 0 ∷ get_or xs 1 0 ∷ get_or xs 2 0 ∷ get_or xs 3 0 ∷ [])
+    ≡ Some (Group (bs ++ out) H0))
     → more ≡ bytes ++ out
     → Went blob_step (Group first H0) piece (take (length xs - 4) (drop 4 xs)) (Group more H0)
 group_on first bytes more out piece xs w h r e =

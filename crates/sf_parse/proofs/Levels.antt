@@ -146,7 +146,7 @@ member_in_entry d k s t b e = ap (seen (InMember k)) e
 flag_went : (d : Dialect) (k : List ℕ) (x : Bare) (p : ParamsState) (t : MemberState)
     (piece rest : List ℕ) → Front (member_step d) (InOne (InParams x p)) piece rest t
     → (q : ParamsState) × (t ≡ InOne (InParams x q))
-        × Went (entry_step d) (InFlag k p) piece rest (InFlag k q)
+    × Went (entry_step d) (InFlag k p) piece rest (InFlag k q)
 flag_went d k x p t piece rest a =
     let one = one_of_member d (InParams x p) t a.went.taken a.went.leads in
     let item = params_of_item d x p one.0 a.went.taken one.2 in (

@@ -32,6 +32,7 @@ in_bare None (Some x) d b t h p e = absurd (no_semicolon (b == 59) refl)
   where
     not_semicolon : (b == 59) ≡ true → ⊥
     not_semicolon e = let k : false ≡ true = grind arith in absurd cc
+
     no_semicolon : (c : Bool) → (b == 59) ≡ c → ⊥
     no_semicolon true f = not_semicolon f
     no_semicolon false f =

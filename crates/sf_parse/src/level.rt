@@ -52,7 +52,11 @@ pub trait Level {
         → next d s b ≡ Some t → plain d t };
 
     /// Takes the longest front of the piece that the level can go on with, and gives back the rest.
-    final fn take<'a>(&mut self, context: &Context, piece: &'a [u8]) -> Result<&'a [u8], OutOfMemory>
+    final fn take<'a>(
+        &mut self,
+        context: &Context,
+        piece: &'a [u8],
+    ) -> Result<&'a [u8], OutOfMemory>
         ensures front { IfOk result (λ rest. Front (next context.now.dialect) self.old piece.now
             rest.now self.new) }
         ensures plain { plain context.now.dialect self.old → Every plain_byte piece.now → IsOk result }

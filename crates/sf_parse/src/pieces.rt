@@ -73,11 +73,7 @@ impl Piece<Entries<Member>> for EntryReader {
         EntryReader::start(self, context, byte)
     }
 
-    fn end(
-        &mut self,
-        context: &Context,
-        given: &mut Entries<Member>,
-    ) -> Result<bool, OutOfMemory> {
+    fn end(&mut self, context: &Context, given: &mut Entries<Member>) -> Result<bool, OutOfMemory> {
         if !self.may_end() {
             return Ok(false);
         }

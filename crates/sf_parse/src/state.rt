@@ -43,11 +43,7 @@ impl FieldState {
     }
 
     /// Takes the longest front of the piece that the field can go on with, and gives back the rest.
-    pub fn take<'a>(
-        &mut self,
-        context: &Context,
-        piece: &'a [u8],
-    ) -> Result<&'a [u8], OutOfMemory>
+    pub fn take<'a>(&mut self, context: &Context, piece: &'a [u8]) -> Result<&'a [u8], OutOfMemory>
         ensures front { IfOk result (λ rest. Front (step_of context.now.dialect)
             (state_of self.old) piece.now rest.now (state_of self.new)) }
         ensures plain { PlainState (state_of self.old) → Every plain_byte piece.now → IsOk result }

@@ -21,7 +21,7 @@ const ROOM: usize = 16;
 /// bytes.push(b'a')?;
 /// bytes.as_bytes() // b"max-a"
 /// ```
-#[derive(Debug, Drop)]
+#[derive(Debug)]
 pub struct ShortBytes {
     bytes: SmallVec<u8, ROOM>,
 }
@@ -30,6 +30,13 @@ impl Model for ShortBytes {
     ghost Value = { List ℕ };
 
     ghost view = { λ b. b.bytes.items };
+}
+
+// Written out, so that proofs about what holds such bytes don't look into them where they are let go.
+impl Drop for ShortBytes {
+    fn drop(self) {
+        let ShortBytes { bytes: _ } = self;
+    }
 }
 
 impl ShortBytes {
