@@ -1,7 +1,7 @@
 -- What a parser took, a byte longer, and where it stops.
 use Rattle.std.proofs.Common.{◌≡◌, ℕ, zero, suc, ◌+◌, ◌<◌, ◌≤◌, ◌↔◌, Bool, true, false, List, []}
 use Rattle.std.proofs.Common.{◌∷◌, ◌++◌, length, take, drop, get_or, Option, Some, None, Result, Ok}
-use Rattle.std.proofs.Common.{Err, is_some, nat_lt, ◌&&◌, cond, refl, sym, ap, ◌∙◌, subst}
+use Rattle.std.proofs.Common.{Err, nat_lt, ◌&&◌, cond, refl, sym, ap, ◌∙◌, subst}
 use Rattle.std.proofs.Common.{append-nil, append_assoc, length-append, arith, take-append-drop}
 use Rattle.std.proofs.Common.{take_all, length-take}
 use Rattle.std.specs.List.{slice_get}
@@ -19,18 +19,16 @@ use Rattle.sf_parse.specs.declared.refusal.Refusal.{Refusal}
 use Rattle.sf_parse.specs.declared.refusal.Refusal.TheVariants.{OutOfMemory, Syntax, TooLong}
 use Rattle.sf_parse.specs.declared.refusal.Refusal.TheVariants.{ReadFault}
 use Rattle.sf_parse.specs.Machine.States.{State}
-use Rattle.sf_parse.specs.Machine.Language.{run}
 use Rattle.sf_parse.specs.Machine.Fields.{Rest, step, finish, begin}
 use Rattle.sf_parse.specs.Machine.Takes.{takes, may_end}
 use Rattle.sf_parse.specs.Taking as taking
 use Rattle.sf_parse.specs.Expected.{Marks}
 use Rattle.sf_parse.specs.Parsers.{Progress, Took, Sound, IsSyntax, RefusedFor}
 use Rattle.sf_parse.specs.Parsers.{SameSettings, Fed, FedAnswer, Finishes, Parses}
-use Rattle.sf_parse.proofs.Fields.{machine}
 use Rattle.sf_parse.proofs.Theorems.{one_value}
-use Rattle.sf_parse.proofs.Taking.{took_nothing, takes_more, took_viable, took_end, took_stops}
+use Rattle.sf_parse.proofs.Taking.{took_nothing, took_viable, took_end, took_stops}
 use Rattle.sf_parse.proofs.Taking.{took_all}
-use Rattle.sf_parse.proofs.Takes.{takes_next, ends_text, may_end_is}
+use Rattle.sf_parse.proofs.Takes.{takes_next, ends_text}
 use Rattle.sf_parse.proofs.Below.{some_next}
 
 -- what a sound parser took, as the machine's laws say it
@@ -45,10 +43,6 @@ within_max : (p : Progress) (s : List ℕ) → Sound p.refusal p.state p.count p
     → p.count ≤ p.max
 within_max p s g t = (subst (λ r. Sound r p.state p.count p.max) t.unrefused g).1
 
-run_one : (d : Dialect) (s t : State) (b : ℕ) → step d s b ≡ Some t
-    → run (step d) s (b ∷ []) ≡ Some t
-run_one d s t b e = rw e refl
-
 pub new_took : (p : Progress) → p.state ≡ begin p.kind → p.count ≡ 0 → p.refusal ≡ None → Took p []
 new_took p e c r = record {
   count = c;
@@ -57,25 +51,6 @@ new_took p e c r = record {
       ((took_nothing p.dialect p.kind).rest u v);
   unrefused = r;
 }
-
-pub took_step : (p q : Progress) (s : List ℕ) (b : ℕ) → Sound p.refusal p.state p.count p.max
-    → Took p s → step p.dialect p.state b ≡ Some q.state → SameSettings p q
-    → q.count ≡ p.count + 1 → q.refusal ≡ None → Took q (s ++ b ∷ [])
-took_step p q s b g t e same c r =
-    let more = takes_more p.dialect p.kind p.state q.state s (b ∷ []) (taken p s g t)
-    (run_one p.dialect p.state q.state b e) in
-    record {
-      count = c ∙ ap (λ n. n + 1) t.count
-          ∙ (let l : length s + 1 ≡ length (s ++ b ∷ []) = omega (arith, length-append s (b ∷ []))
-          in
-          l);
-      rest = λ u v.
-          subst (λ d. Rest d q.state u v ↔ SpellsField d q.kind ((s ++ b ∷ []) ++ u) v)
-          (sym same.dialect)
-          (subst (λ k. Rest p.dialect q.state u v ↔ SpellsField p.dialect k ((s ++ b ∷ []) ++ u) v)
-          (sym same.kind) (more.rest u v));
-      unrefused = r;
-    }
 
 bit_is : (c : Bool) (n : ℕ) → n ≡ cond c 1 0 → (n ≡ 1) ↔ (c ≡ true)
 bit_is true n e = (λ h. refl, λ h. e)
@@ -175,45 +150,6 @@ ends_exact p s bits g t m e =
     clash : may_end p.state ≡ true → ⊥
     clash i = let n : false ≡ true = e ∙ i in cc
 
-pub sound_step : (r : Option Refusal) (d : Dialect) (s t : State) (count max b : ℕ)
-    → Sound r s count max → r ≡ None → count < max → step d s b ≡ Some t
-    → Sound None t (count + 1) max
-sound_step r d s t count max b g n h e =
-    let good = (subst (λ y. Sound y s count max) n g).0 in
-    (((machine d).reads s good).good b t e, omega arith)
-
--- the same, where the refusal is not looked at: a parser that refused stays as it is
-pub kept_sound : (r : Option Refusal) (d : Dialect) (s t : State) (count max b : ℕ)
-    → Sound r s count max → r ≡ None → count < max → step d s b ≡ Some t
-    → Sound r t (count + 1) max
-kept_sound r d s t count max b g n h e =
-    subst (λ y. Sound y t (count + 1) max) (sym n) (sound_step r d s t count max b g n h e)
-
-same_settings : (p q : Progress) → q.dialect ≡ p.dialect → q.kind ≡ p.kind → q.max ≡ p.max
-    → SameSettings p q
-same_settings p q d k m = record { dialect = d; kind = k; max = m }
-
--- one byte was taken
-pub fed_step : (p q : Progress) (b : ℕ) → Sound p.refusal p.state p.count p.max
-    → p.count < p.max → step p.dialect p.state b ≡ Some q.state → SameSettings p q
-    → q.count ≡ p.count + 1 → q.refusal ≡ p.refusal → Fed p q (Ok tt) (b ∷ [])
-fed_step p q b g h e same c r = record {
-  settings = same;
-  counted = omega arith;
-  answer = (
-    r,
-    λ s t.
-        let t' = took_step p q s b g t e same c (r ∙ t.unrefused) in
-        let n : p.count ≡ length s = t.count in
-        let k = takes_more p.dialect p.kind p.state q.state s (b ∷ []) (taken p s g t)
-        (run_one p.dialect p.state q.state b e) in (
-          omega (arith, length-append s (b ∷ [])),
-          took_viable p.dialect p.kind q.state (s ++ b ∷ []) k,
-          t',
-        ),
-  );
-}
-
 -- a byte was refused
 pub fed_stop : (p q : Progress) (b bits : ℕ) (may : Bool) → Sound p.refusal p.state p.count p.max
     → p.count < p.max → step p.dialect p.state b ≡ None → Marks p.dialect bits p.state 128
@@ -250,15 +186,6 @@ fed_past p q b g h same c r = record {
   );
 }
 
--- no memory was left
-pub fed_short : (p q : Progress) (b : ℕ) → SameSettings p q → q.count ≡ p.count
-    → q.refusal ≡ Some OutOfMemory → Fed p q (Err OutOfMemory) (b ∷ [])
-fed_short p q b same c r = record {
-  settings = same;
-  counted = omega arith;
-  answer = (r, λ s t more. tt);
-}
-
 pub finish_stop : (p : Progress) (bits : ℕ) → Sound p.refusal p.state p.count p.max
     → Marks p.dialect bits p.state 128 → false ≡ may_end p.state
     → (s : List ℕ) → Took p s
@@ -274,37 +201,11 @@ finish_with p v g e s t =
       only = λ w k. one_value p.dialect p.kind s w v k spelled;
     }
 
--- a state that may end has a value
-pub finish_some : (s : State) → may_end s ≡ true → finish s ≡ None → ⊥
-finish_some s e n =
-    let told : is_some (finish s) ≡ true = may_end_is s ∙ e in
-    let none : is_some (finish s) ≡ false = rw n refl in
-    let clash : true ≡ false = sym told ∙ none in
-    cc
-
 -- what a front of the piece made of the parser
 pub record FedFront (o p : Progress) (x : List ℕ) : Type 0 where
   pub settings : SameSettings o p
   pub counted : p.count ≤ o.count + length x
   pub answer : FedAnswer o p (Ok tt) x
-
-pub fed_none : (p : Progress) → Sound p.refusal p.state p.count p.max → FedFront p p []
-fed_none p g = record {
-  settings = record { dialect = refl; kind = refl; max = refl };
-  counted = omega arith;
-  answer = (
-    refl,
-    λ s t.
-        let n : p.count ≡ length s = t.count in
-        let w = within_max p s g t in
-        let e = sym (append-nil s) in (
-          subst (λ y. length y ≤ p.max) e (omega arith),
-          subst (Viable p.dialect p.kind) e
-              (took_viable p.dialect p.kind p.state s (taken p s g t)),
-          subst (Took p) e t,
-        ),
-  );
-}
 
 next_piece : (s piece : List ℕ) (i : ℕ) → i < length piece
     → (s ++ take i piece) ++ get_or piece i 0 ∷ [] ≡ s ++ take (i + 1) piece
@@ -324,34 +225,6 @@ length-take_more : (piece : List ℕ) (i : ℕ) → i < length piece
 length-take_more piece i h =
     ap length (take_more piece i 0 h) ∙ length-append (take i piece) (get_or piece i 0 ∷ [])
 
-pub fed_more : (o p q : Progress) (piece : List ℕ) (i : ℕ) → i < length piece
-    → FedFront o p (take i piece) → Fed p q (Ok tt) (get_or piece i 0 ∷ [])
-    → FedFront o q (take (i + 1) piece)
-fed_more o p q piece i h a f = record {
-  settings = joined_settings o p q a.settings f.settings;
-  counted =
-      let x = a.counted in
-      let y = f.counted in
-      let l = length-take_more piece i h in
-      let z : q.count ≤ p.count + 1 = y in
-      omega arith;
-  answer = (
-    f.answer.0 ∙ a.answer.0,
-    λ s t.
-        let x = f.answer.1 (s ++ take i piece) (a.answer.1 s t).2 in
-        let e = next_piece s piece i h in
-        let k = a.settings in (
-          subst (λ y. length y ≤ o.max) e
-              (subst (λ y. length ((s ++ take i piece) ++ get_or piece i 0 ∷ []) ≤ y) k.max x.0),
-          subst (Viable o.dialect o.kind) e
-              (subst (λ y. Viable o.dialect y ((s ++ take i piece) ++ get_or piece i 0 ∷ [])) k.kind
-              (subst (λ y. Viable y p.kind ((s ++ take i piece) ++ get_or piece i 0 ∷ [])) k.dialect
-              x.1)),
-          subst (Took q) e x.2,
-        ),
-  );
-}
-
 whole_piece : (s piece more : List ℕ) (i : ℕ) → i < length piece
     → ((s ++ take i piece) ++ get_or piece i 0 ∷ []) ++ (drop (i + 1) piece ++ more)
     ≡ (s ++ piece) ++ more
@@ -367,16 +240,6 @@ front_short piece i h =
     let l = length-take_more piece i h in
     let w : length (take (i + 1) piece) ≤ length piece = grind (arith, length-take) in
     omega arith
-
-pub fed_whole : (o p : Progress) (piece : List ℕ) (i : ℕ) → length piece ≤ i
-    → FedFront o p (take i piece) → Fed o p (Ok tt) piece
-fed_whole o p piece i h a =
-    let e : take i piece ≡ piece = take_all i piece h in
-    record {
-      settings = a.settings;
-      counted = subst (λ y. p.count ≤ o.count + length y) e a.counted;
-      answer = subst (FedAnswer o p (Ok tt)) e a.answer;
-    }
 
 pub stopped_in : (o p q : Progress) (piece : List ℕ) (i : ℕ) (e : Refusal) → i < length piece
     → FedFront o p (take i piece) → Fed p q (Err e) (get_or piece i 0 ∷ [])
@@ -404,12 +267,6 @@ stopped_in o p q piece i e h a f =
             (subst (λ y. RefusedFor p.dialect p.kind y here e) k.max x))),
       );
     }
-
-pub count_at_max : (r : Option Refusal) (s : State) (count max : ℕ) → Sound r s count max → r ≡ None
-    → max ≤ count → count ≡ max
-count_at_max r s count max g n h =
-    let w = (subst (λ y. Sound y s count max) n g).1 in
-    omega arith
 
 -- a refusal of a piece that is fed first is one of the piece as a text
 pub refused_first : (p q : Progress) (e : Refusal) (t : List ℕ) → Took p []

@@ -1,7 +1,7 @@
 -- Fronts of pieces that machines take: none, one behind another, and seen from a level above.
-use Rattle.std.proofs.Common.{◌≡◌, ℕ, ◌≤◌, Bool, true, false, List, [], ◌∷◌, ◌++◌, length}
+use Rattle.std.proofs.Common.{◌≡◌, ℕ, Bool, true, false, List, [], ◌∷◌, ◌++◌, length}
 use Rattle.std.proofs.Common.{Option, Some, None, Result, Ok, Err, IfOk, refl, sym, ap, ◌∙◌, subst}
-use Rattle.std.proofs.Common.{arith, length-append, append_assoc}
+use Rattle.std.proofs.Common.{arith, append_assoc}
 use Rattle.std.specs.Borrow.{Bor}
 use Rattle.sf_value.specs.Grammar.Words.{Every}
 use Rattle.sf_parse.specs.Machine.Language.{seen, run, Steps}
@@ -14,10 +14,6 @@ run_append next s t [] q e = let k : s ≡ t = cc in ap (λ y. run next y q) k
 run_append next s t (b ∷ p) q e =
     let c = and_then_cases (next s b) (λ s'. run next s' p) t e in
     rw c.1 (run_append next c.0 t p q c.2)
-
-pub went_none : {S : Type 0} (next : S → ℕ → Option S) (s : S) (piece : List ℕ)
-    → Went next s piece piece s
-went_none next s piece = record { taken = []; split = refl; leads = refl }
 
 -- one front behind another
 pub went_more : {S : Type 0} (next : S → ℕ → Option S) (s t u : S) (piece rest more : List ℕ)
@@ -37,11 +33,6 @@ pub went_byte : {S : Type 0} (next : S → ℕ → Option S) (s t u : S) (piece 
     (more : List ℕ) → Went next s piece (b ∷ more) t → next t b ≡ Some u → Went next s piece more u
 went_byte next s t u piece b more a e =
     went_more next s t u piece (b ∷ more) more a (went_one next t u b more e)
-
-pub went_shorter : {S : Type 0} (next : S → ℕ → Option S) (s t : S) (piece rest : List ℕ)
-    → Went next s piece rest t → length rest ≤ length piece
-went_shorter next s t piece rest a =
-    let e = ap length a.split in omega (arith, length-append a.taken rest)
 
 pub front_all : {S : Type 0} (next : S → ℕ → Option S) (s t : S) (piece : List ℕ)
     → Went next s piece [] t → Front next s piece [] t

@@ -17,7 +17,6 @@ use Rattle.sf_parse.specs.Machine.Items.{ItemState, InBare, InParams, item_step,
 use Rattle.sf_parse.specs.Machine.Inners.{Room, InItem, Closing, behind_step, inner_step}
 use Rattle.sf_parse.specs.Machine.Members.{MemberState, InOne, InMany, member_step}
 use Rattle.sf_parse.specs.Machine.Entries.{InKey, InMember, InFlag, behind_key_step, entry_step}
-use Rattle.sf_parse.specs.Machine.Series.{Series, InPiece, gap_step, series_step}
 use Rattle.sf_parse.specs.Machine.States.{BeforeItem, InTop, AfterItem}
 use Rattle.sf_parse.specs.TopView.{after_of}
 use Rattle.sf_parse.specs.Machine.Fields.{step}
@@ -59,11 +58,6 @@ item_in_inner d is s t b e =
 pub key_in_entry : (d : Dialect) (s t : List ℕ) (b : ℕ) → word_step is_key_rest s b ≡ Some t
     → entry_step d (InKey s) b ≡ Some (InKey t)
 key_in_entry d s t b e = ap (λ o. onward InKey o (Some s) (λ k. behind_key_step k b)) e
-
-pub piece_in_series : {S X V : Type 0} (k : Series S X V) (given : V) (s t : S) (b : ℕ)
-    → k.step s b ≡ Some t → series_step k (InPiece given s) b ≡ Some (InPiece given t)
-piece_in_series k given s t b e =
-    ap (λ o. onward (InPiece given) o (k.finish s) (λ x. gap_step k (k.add given x) b)) e
 
 pub item_in_field : (d : Dialect) (s t : ItemState) (b : ℕ) → item_step d s b ≡ Some t
     → step d (InTop s) b ≡ Some (InTop t)
