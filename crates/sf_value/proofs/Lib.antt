@@ -2,6 +2,7 @@ pub mod Words
 pub mod ByteLists
 mod Rows
 pub mod EntryMaps
+pub mod SlotLists
 pub mod Settling
 pub mod Utf8Table
 pub mod CanonicalTexts

@@ -43,6 +43,7 @@ mod part;
 mod sequence;
 mod short;
 mod shown;
+mod store;
 mod text;
 mod token;
 mod value;
