@@ -5,3 +5,6 @@ pub mod Entries
 pub mod Faults
 pub mod Devices
 pub mod Laws
+pub mod Lookups
+pub mod Equality
+pub mod Deciding
