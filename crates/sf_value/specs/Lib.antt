@@ -6,3 +6,6 @@ pub mod Stores
 pub mod Faults
 pub mod Devices
 pub mod Laws
+pub mod Lookups
+pub mod Equality
+pub mod Deciding

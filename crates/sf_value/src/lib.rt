@@ -31,12 +31,16 @@
 #![tactic(auto)]
 
 mod blob;
+mod building;
+mod conversion;
 mod device;
 mod dialect;
 mod entries;
+mod equality;
 mod fault;
 mod key;
 pub mod laws;
+mod lookup;
 mod many;
 mod number;
 mod part;

@@ -1,5 +1,6 @@
 //! Numbers of at most 15 digits (RFC 9651 sections 3.3.1, 3.3.2 and 3.3.7).
 ghost use Rattle.std.specs.Prelude.{◌≡◌, ℤ, ◌^◌, ◌<◌, ◌↔◌, IsOk, IfOk, nat_abs};
+ghost use Rattle.std.specs.Result.{OkIff};
 
 use crate::fault::OutOfRange;
 use std::marker::Model;
@@ -97,5 +98,68 @@ impl Thousandths {
         ensures short { nat_abs self.now < 10 ^ 15 }
     {
         self.thousandths
+    }
+}
+
+/// The number, where it has at most 15 digits, as [`Int::new`] gives it.
+impl TryFrom<i64> for Int {
+    type Error = OutOfRange;
+
+    ghost try_from_gives = { λ n r. OkIff r (nat_abs n < 10 ^ 15) n };
+
+    fn try_from(value: i64) -> Result<Int, OutOfRange> {
+        Int::new(value)
+    }
+}
+
+/// The number, which has at most 10 digits.
+impl From<i32> for Int {
+    ghost from_gives = { λ n int. int ≡ n };
+
+    fn from(value: i32) -> Int {
+        Int {
+            value: i64::from(value),
+        }
+    }
+}
+
+/// The number that it was made of.
+impl From<Int> for i64 {
+    ghost from_gives = { λ int n. n ≡ int };
+
+    fn from(number: Int) -> i64 {
+        number.get()
+    }
+}
+
+/// The Decimal of so many thousandths, where they have at most 15 digits, as [`Thousandths::new`]
+/// gives it.
+impl TryFrom<i64> for Thousandths {
+    type Error = OutOfRange;
+
+    ghost try_from_gives = { λ n r. OkIff r (nat_abs n < 10 ^ 15) n };
+
+    fn try_from(value: i64) -> Result<Thousandths, OutOfRange> {
+        Thousandths::new(value)
+    }
+}
+
+/// The Decimal of so many thousandths.
+impl From<i32> for Thousandths {
+    ghost from_gives = { λ n number. number ≡ n };
+
+    fn from(value: i32) -> Thousandths {
+        Thousandths {
+            thousandths: i64::from(value),
+        }
+    }
+}
+
+/// The number of thousandths that it was made of.
+impl From<Thousandths> for i64 {
+    ghost from_gives = { λ number n. n ≡ number };
+
+    fn from(number: Thousandths) -> i64 {
+        number.get()
     }
 }

@@ -1,0 +1,143 @@
+//! Building: values that have nothing yet, and one part more, in a chain with `?`.
+ghost use Rattle.std.specs.Prelude.{◌≡◌, [], ◌∷◌, ◌++◌, IfOk};
+ghost use Rattle.sf_value.specs.Grammar.Items.{item};
+ghost use Rattle.sf_value.specs.Grammar.Pairs.{put};
+ghost use Rattle.sf_value.specs.Grammar.InnerLists.{inner};
+
+use crate::entries::Entries;
+use crate::fault::OutOfMemory;
+use crate::key::Key;
+use crate::sequence::Sequence;
+use crate::value::{Bare, Dict, Inner, Item, List, Member};
+use std::alloc::Global;
+use std::hash::RandomState;
+
+impl Item {
+    /// The Item of a bare item, with no parameters. It takes no memory. The seed is that of its
+    /// parameters: see [`Entries::new`].
+    ///
+    /// ```
+    /// let item = Item::new(alloc, &seed, Bare::Boolean(true)); // ?1
+    /// ```
+    pub fn new(alloc: Global, seed: &RandomState, bare: Bare) -> Item
+        ensures { result ≡ item bare [] }
+    {
+        let params = Entries::new(alloc, seed);
+        Item { bare, params }
+    }
+
+    /// The Item with one more parameter. The value of a key that is there is replaced in its place.
+    ///
+    /// ```
+    /// let item = Item::new(alloc, &seed, Bare::Token(Token::new(alloc, b"a")?))
+    ///     .with_param(Key::new(alloc, b"q")?, Bare::Integer(Int::from(1)))?
+    ///     .with_param(Key::new(alloc, b"r")?, Bare::Boolean(true))?; // a;q=1;r
+    /// ```
+    pub fn with_param(self, key: Key, value: Bare) -> Result<Item, OutOfMemory>
+        ensures { IfOk result (λ more. more ≡ item self.bare (put self.params key value)) }
+    {
+        let Item { bare, mut params } = self;
+        match params.put(key, value) {
+            Ok(_) => Ok(Item { bare, params }),
+            Err(_) => Err(OutOfMemory),
+        }
+    }
+}
+
+impl Inner {
+    /// The Inner List with no Items and no parameters. It takes no memory.
+    ///
+    /// ```
+    /// let inner = Inner::new(alloc, &seed); // ()
+    /// ```
+    pub fn new(alloc: Global, seed: &RandomState) -> Inner
+        ensures { result ≡ inner [] [] }
+    {
+        let params = Entries::new(alloc, seed);
+        Inner {
+            items: Sequence::new(alloc),
+            params,
+        }
+    }
+
+    /// The Inner List with one more Item at its end.
+    ///
+    /// ```
+    /// let inner = Inner::new(alloc, &seed).with_item(first)?.with_item(second)?;
+    /// ```
+    pub fn with_item(self, item: Item) -> Result<Inner, OutOfMemory>
+        ensures { IfOk result (λ more. more ≡ inner (self.items ++ item ∷ []) self.params) }
+    {
+        let Inner { mut items, params } = self;
+        match items.push(item) {
+            Ok(()) => Ok(Inner { items, params }),
+            Err(_) => Err(OutOfMemory),
+        }
+    }
+
+    /// The Inner List with one more parameter of the whole. The value of a key that is there is
+    /// replaced in its place.
+    pub fn with_param(self, key: Key, value: Bare) -> Result<Inner, OutOfMemory>
+        ensures { IfOk result (λ more. more ≡ inner self.items (put self.params key value)) }
+    {
+        let Inner { items, mut params } = self;
+        match params.put(key, value) {
+            Ok(_) => Ok(Inner { items, params }),
+            Err(_) => Err(OutOfMemory),
+        }
+    }
+}
+
+impl List {
+    /// The List with no members. It takes no memory.
+    pub fn new(alloc: Global) -> List
+        ensures { result ≡ record { members = [] } }
+    {
+        List {
+            members: Sequence::new(alloc),
+        }
+    }
+
+    /// The List with one more member at its end.
+    ///
+    /// ```
+    /// let list = List::new(alloc).with(Member::Item(item))?.with(Member::Inner(inner))?;
+    /// ```
+    pub fn with(self, member: Member) -> Result<List, OutOfMemory>
+        ensures { IfOk result (λ more. more ≡ record { members = self.members ++ member ∷ [] }) }
+    {
+        let List { mut members } = self;
+        match members.push(member) {
+            Ok(()) => Ok(List { members }),
+            Err(_) => Err(OutOfMemory),
+        }
+    }
+}
+
+impl Dict {
+    /// The Dictionary with no members. It takes no memory. The seed is that of its members: see
+    /// [`Entries::new`].
+    pub fn new(alloc: Global, seed: &RandomState) -> Dict
+        ensures { result ≡ record { members = [] } }
+    {
+        Dict {
+            members: Entries::new(alloc, seed),
+        }
+    }
+
+    /// The Dictionary with one more member. The value of a key that is there is replaced in its
+    /// place.
+    ///
+    /// ```
+    /// let dict = Dict::new(alloc, &seed).with(Key::new(alloc, b"u")?, Member::Item(item))?;
+    /// ```
+    pub fn with(self, key: Key, member: Member) -> Result<Dict, OutOfMemory>
+        ensures { IfOk result (λ more. more ≡ record { members = put self.members key member }) }
+    {
+        let Dict { mut members } = self;
+        match members.put(key, member) {
+            Ok(_) => Ok(Dict { members }),
+            Err(_) => Err(OutOfMemory),
+        }
+    }
+}

@@ -1,0 +1,287 @@
+//! Look-ups: a bare item as a value of its type, a member and a field as their case, a parameter
+//! and a member of a Dictionary by key. None of them takes memory.
+ghost use Rattle.std.specs.Prelude.{◌≡◌};
+ghost use Rattle.std.specs.Option.{option_copied};
+ghost use Rattle.sf_value.specs.Grammar.Pairs.{value_at};
+ghost use Rattle.sf_value.specs.Lookups.{as_blob, as_boolean, as_date, as_decimal, as_integer};
+ghost use Rattle.sf_value.specs.Lookups.{as_shown, as_text, as_token};
+ghost use Rattle.sf_value.specs.Lookups.{field_dict, field_item, field_list};
+ghost use Rattle.sf_value.specs.Lookups.{member_inner, member_item};
+
+use crate::blob::Blob;
+use crate::number::{Int, Thousandths};
+use crate::shown::Shown;
+use crate::text::Text;
+use crate::token::Token;
+use crate::value::{Bare, Dict, Field, Inner, Item, List, Member};
+
+impl Bare {
+    /// The number of an Integer; `None` where it is of another type.
+    ///
+    /// ```
+    /// Bare::Integer(Int::new(7)?).as_integer() // Some(7)
+    /// Bare::Date(Int::new(7)?).as_integer()    // None
+    /// ```
+    pub fn as_integer(&self) -> Option<Int>
+        ensures { result ≡ as_integer self.now }
+    {
+        match self {
+            Bare::Integer(number) => Some(*number),
+            _ => None,
+        }
+    }
+
+    /// The number of a Decimal; `None` where it is of another type.
+    pub fn as_decimal(&self) -> Option<Thousandths>
+        ensures { result ≡ as_decimal self.now }
+    {
+        match self {
+            Bare::Decimal(number) => Some(*number),
+            _ => None,
+        }
+    }
+
+    /// The string of a String; `None` where it is of another type.
+    pub fn as_text(&self) -> Option<&Text>
+        ensures { option_copied result ≡ as_text self.now }
+    {
+        match self {
+            Bare::Text(text) => Some(text),
+            _ => None,
+        }
+    }
+
+    /// The token of a Token; `None` where it is of another type.
+    pub fn as_token(&self) -> Option<&Token>
+        ensures { option_copied result ≡ as_token self.now }
+    {
+        match self {
+            Bare::Token(token) => Some(token),
+            _ => None,
+        }
+    }
+
+    /// The bytes of a Byte Sequence; `None` where it is of another type.
+    pub fn as_blob(&self) -> Option<&Blob>
+        ensures { option_copied result ≡ as_blob self.now }
+    {
+        match self {
+            Bare::Blob(blob) => Some(blob),
+            _ => None,
+        }
+    }
+
+    /// The truth of a Boolean; `None` where it is of another type.
+    pub fn as_boolean(&self) -> Option<bool>
+        ensures { result ≡ as_boolean self.now }
+    {
+        match self {
+            Bare::Boolean(boolean) => Some(*boolean),
+            _ => None,
+        }
+    }
+
+    /// The seconds of a Date, from 1970-01-01T00:00:00Z on; `None` where it is of another type.
+    pub fn as_date(&self) -> Option<Int>
+        ensures { result ≡ as_date self.now }
+    {
+        match self {
+            Bare::Date(seconds) => Some(*seconds),
+            _ => None,
+        }
+    }
+
+    /// The text of a Display String; `None` where it is of another type.
+    pub fn as_shown(&self) -> Option<&Shown>
+        ensures { option_copied result ≡ as_shown self.now }
+    {
+        match self {
+            Bare::Shown(shown) => Some(shown),
+            _ => None,
+        }
+    }
+
+    /// The string of a String, taken out; `None` where it is of another type.
+    pub fn into_text(self) -> Option<Text>
+        ensures { result ≡ as_text self }
+    {
+        match self {
+            Bare::Text(text) => Some(text),
+            _ => None,
+        }
+    }
+
+    /// The token of a Token, taken out; `None` where it is of another type.
+    pub fn into_token(self) -> Option<Token>
+        ensures { result ≡ as_token self }
+    {
+        match self {
+            Bare::Token(token) => Some(token),
+            _ => None,
+        }
+    }
+
+    /// The bytes of a Byte Sequence, taken out; `None` where it is of another type.
+    pub fn into_blob(self) -> Option<Blob>
+        ensures { result ≡ as_blob self }
+    {
+        match self {
+            Bare::Blob(blob) => Some(blob),
+            _ => None,
+        }
+    }
+
+    /// The text of a Display String, taken out; `None` where it is of another type.
+    pub fn into_shown(self) -> Option<Shown>
+        ensures { result ≡ as_shown self }
+    {
+        match self {
+            Bare::Shown(shown) => Some(shown),
+            _ => None,
+        }
+    }
+}
+
+impl Item {
+    /// The value of the parameter with this key; `None` where there is none, also where the bytes
+    /// are no key.
+    ///
+    /// ```
+    /// let item = parse_item(alloc, &seed, b"a;q=1")?;
+    /// item.param(b"q")?.as_integer() // Some(1)
+    /// item.param(b"r")               // None
+    /// ```
+    pub fn param(&self, key: &[u8]) -> Option<&Bare>
+        ensures { option_copied result ≡ value_at key.now self.now.params }
+    {
+        self.params.get(key)
+    }
+}
+
+impl Inner {
+    /// The value of the parameter of the whole Inner List with this key; `None` where there is
+    /// none, also where the bytes are no key.
+    pub fn param(&self, key: &[u8]) -> Option<&Bare>
+        ensures { option_copied result ≡ value_at key.now self.now.params }
+    {
+        self.params.get(key)
+    }
+}
+
+impl Member {
+    /// The Item; `None` where the member is an Inner List.
+    pub fn as_item(&self) -> Option<&Item>
+        ensures { option_copied result ≡ member_item self.now }
+    {
+        match self {
+            Member::Item(item) => Some(item),
+            Member::Inner(_) => None,
+        }
+    }
+
+    /// The Inner List; `None` where the member is an Item.
+    pub fn as_inner(&self) -> Option<&Inner>
+        ensures { option_copied result ≡ member_inner self.now }
+    {
+        match self {
+            Member::Item(_) => None,
+            Member::Inner(inner) => Some(inner),
+        }
+    }
+
+    /// The Item, taken out; `None` where the member is an Inner List.
+    pub fn into_item(self) -> Option<Item>
+        ensures { result ≡ member_item self }
+    {
+        match self {
+            Member::Item(item) => Some(item),
+            Member::Inner(_) => None,
+        }
+    }
+
+    /// The Inner List, taken out; `None` where the member is an Item.
+    pub fn into_inner(self) -> Option<Inner>
+        ensures { result ≡ member_inner self }
+    {
+        match self {
+            Member::Item(_) => None,
+            Member::Inner(inner) => Some(inner),
+        }
+    }
+}
+
+impl Dict {
+    /// The member with this key; `None` where there is none, also where the bytes are no key.
+    ///
+    /// ```
+    /// let dict = parse_dict(alloc, &seed, b"u=1, i")?;
+    /// let urgency = dict.get(b"u")?.as_item()?.bare.as_integer()?; // 1
+    /// ```
+    pub fn get(&self, key: &[u8]) -> Option<&Member>
+        ensures { option_copied result ≡ value_at key.now self.now.members }
+    {
+        self.members.get(key)
+    }
+}
+
+impl Field {
+    /// The Item; `None` where the field is of another kind.
+    pub fn as_item(&self) -> Option<&Item>
+        ensures { option_copied result ≡ field_item self.now }
+    {
+        match self {
+            Field::Item(item) => Some(item),
+            _ => None,
+        }
+    }
+
+    /// The List; `None` where the field is of another kind.
+    pub fn as_list(&self) -> Option<&List>
+        ensures { option_copied result ≡ field_list self.now }
+    {
+        match self {
+            Field::List(list) => Some(list),
+            _ => None,
+        }
+    }
+
+    /// The Dictionary; `None` where the field is of another kind.
+    pub fn as_dict(&self) -> Option<&Dict>
+        ensures { option_copied result ≡ field_dict self.now }
+    {
+        match self {
+            Field::Dict(dict) => Some(dict),
+            _ => None,
+        }
+    }
+
+    /// The Item, taken out; `None` where the field is of another kind.
+    pub fn into_item(self) -> Option<Item>
+        ensures { result ≡ field_item self }
+    {
+        match self {
+            Field::Item(item) => Some(item),
+            _ => None,
+        }
+    }
+
+    /// The List, taken out; `None` where the field is of another kind.
+    pub fn into_list(self) -> Option<List>
+        ensures { result ≡ field_list self }
+    {
+        match self {
+            Field::List(list) => Some(list),
+            _ => None,
+        }
+    }
+
+    /// The Dictionary, taken out; `None` where the field is of another kind.
+    pub fn into_dict(self) -> Option<Dict>
+        ensures { result ≡ field_dict self }
+    {
+        match self {
+            Field::Dict(dict) => Some(dict),
+            _ => None,
+        }
+    }
+}
