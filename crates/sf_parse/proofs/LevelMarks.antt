@@ -1,12 +1,12 @@
 -- The sets of bytes of levels, seen from the level above, and those of a display string.
-use Rattle.std.proofs.Common.{◌≡◌, ℕ, ◌+◌, ◌<◌, ◌≤◌, Bool, true, false, ◌==◌, ◌&&◌, if◌then◌else◌, List}
+use Rattle.std.proofs.Common.{◌≡◌, ℕ, ◌<◌, ◌≤◌, Bool, true, false, ◌==◌, ◌&&◌, if◌then◌else◌, List}
 use Rattle.std.proofs.Common.{[], ◌∷◌, Option, Some, None, IsSome, refl, sym, ap, ◌∙◌, subst, arith, cond}
 use Rattle.std.proofs.Common.{nat_lt}
 use Rattle.sf_value.specs.declared.dialect.Dialect.{Dialect}
 use Rattle.sf_value.specs.declared.value.Bare.{Bare}
 use Rattle.sf_value.specs.declared.value.Item.{Item}
 use Rattle.sf_value.specs.Grammar.Classes.{is_sp, is_visible}
-use Rattle.sf_value.specs.Grammar.Utf8.{Utf8, Start, Wants, wants, within, utf8_step}
+use Rattle.sf_value.specs.Grammar.Utf8.{Utf8, Wants, within, utf8_step}
 use Rattle.sf_parse.specs.Expected.{Marks, digit_takes}
 use Rattle.sf_parse.specs.Machine.Language.{run}
 use Rattle.sf_parse.specs.Machine.Showns.{ShownState, Quote, Plain, Percent, Hex, Done, unhex, GoodUtf8}

@@ -1,7 +1,7 @@
 -- Sets of bytes as the bits of a number: put together, and bit by bit.
 use Rattle.std.proofs.Common.{◌≡◌, ℕ, zero, ◌+◌, ◌*◌, ◌%◌, ◌^◌, ◌<◌, ◌≤◌, Bool, true, false, ◌==◌}
-use Rattle.std.proofs.Common.{nat_lt, ◌&&◌, ◌||◌, cond, refl, sym, ap, ap₂, ◌∙◌, subst, ⊎_elim, ◌⊎◌, inl}
-use Rattle.std.proofs.Common.{inr, arith, bit_or, ◌≢◌, eqb-true, max, lt-ltb}
+use Rattle.std.proofs.Common.{nat_lt, ◌&&◌, ◌||◌, cond, refl, sym, ap, ap₂, ◌∙◌, ⊎_elim, ◌⊎◌, inl}
+use Rattle.std.proofs.Common.{inr, arith, bit_or, ◌≢◌, eqb-true, max}
 use Rattle.std.specs.Int.{bit_at, w128}
 use Rattle.std.proofs.lemmas.Nat.Bits.{bit_at_set_same, bit_at_set_other, bit_at_or, bit_at_above}
 use Rattle.std.proofs.lemmas.Nat.Bits.{bit_at-zero}

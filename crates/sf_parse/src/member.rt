@@ -194,8 +194,7 @@ impl Level for MemberReader {
             MemberPhase::Closing => return self.item.expected(dialect),
             MemberPhase::Room => return SPACE | (CLOSE | BareReader::first_bytes(dialect)),
             MemberPhase::InItem => {
-                return self.item.expected(dialect)
-                    | set_if(self.item.may_end(), SPACE | CLOSE);
+                return self.item.expected(dialect) | set_if(self.item.may_end(), SPACE | CLOSE);
             }
         }
     }

@@ -6,8 +6,13 @@ use Rattle.sf_parse.proofs.number.NumberReader.expected.Goals as goal
 pub returns-in-None : goal.returns-in-None
 returns-in-None c =
     let n = c.self.inside.digits in
-    rw (← c.self.view_is, c.in-None.is, c.set_if-in-None.ensures, c.set_if-point.ensures,
-    c.set_if.ensures)
+    rw (
+      ← c.self.view_is,
+      c.in-None.is,
+      c.set_if-in-None.ensures,
+      c.set_if-point.ensures,
+      c.set_if.ensures,
+    )
     (marks_or _ _ (λ b. is_digit b && nat_lt n 15) (λ b. b == 46 && (nat_le 1 n && nat_le n 12))
     (marks_where _ _ is_digit (marks_table _ is_digit refl))
     (marks_both (nat_le 1 n) (nat_le n 12) (2 ^ 46) (λ b. b == 46)
