@@ -4,6 +4,7 @@ mod Rows
 pub mod EntryMaps
 pub mod SlotLists
 pub mod Settling
+pub mod Removals
 pub mod Utf8Table
 pub mod CanonicalTexts
 pub mod Validity

@@ -18,7 +18,7 @@ use Rattle.sf_value.proofs.EntryMaps.{IsAbsent, insert_entry-absent, insert_entr
 use Rattle.sf_value.proofs.EntryMaps.{AreEntries-insert, pairs-insert_entry, vec_eq}
 
 -- the first place at which a test passes, by recursion
-abbrev place : {X : Type 0} → (X → Bool) → List X → Option ℕ
+abbrev pub place : {X : Type 0} → (X → Bool) → List X → Option ℕ
 place t [] = None
 place t (x ∷ xs) = cond (t x) (Some 0) (option_map (λ i. suc i) (place t xs))
 
@@ -80,7 +80,7 @@ module _ {V : Type 0} where
             put = λ v e key value. rw (t, there.put v e key value);
           })
 
-  place_missing : (k : List ℕ) (ss : List (Slot V)) → place (has_key k) ss ≡ None
+  pub place_missing : (k : List ℕ) (ss : List (Slot V)) → place (has_key k) ss ≡ None
       → IsAbsent k (slot_pairs ss)
   place_missing k [] e = tt
   place_missing k (s ∷ ss) e =

@@ -3,6 +3,7 @@
 pub mod Grammar
 pub mod Entries
 pub mod Stores
+pub mod Lending
 pub mod Faults
 pub mod Devices
 pub mod Laws

@@ -2,7 +2,7 @@
 ghost use Rattle.std.specs.Prelude.{◌≡◌, ℕ, List, [], ◌∷◌, ◌++◌, None, length, slice_get, ◌↔◌};
 ghost use Rattle.std.specs.Prelude.{IsTrue, IsSome, IfOk, IfErr, OnOk, OnErr};
 ghost use Rattle.std.specs.Option.{option_map, option_copied};
-ghost use Rattle.sf_value.specs.Grammar.Pairs.{settle, value_at};
+ghost use Rattle.sf_value.specs.Grammar.Pairs.{settle, without, value_at};
 ghost use Rattle.sf_value.specs.Entries.{deref_entry, AreEntries};
 ghost use Rattle.std.specs.Iterator.{at_most};
 ghost use Rattle.std.specs.Map.Iter.{TakesFirst, ShowsInOrder};
@@ -28,7 +28,7 @@ use std::marker::Model;
 /// entries.at(0)                          // Some((b"a", &3))
 /// entries.get(b"b")                      // Some(&2)
 /// ```
-#[derive(Debug, Drop)]
+#[derive(Debug)]
 pub struct Entries<V> {
     store: Store<V>,
 }
@@ -43,6 +43,13 @@ impl<V> Model for Entries<V> {
     ghost view = { λ e. stored e.store };
 
     ghost invariant = { λ e. AreEntries (stored e.store) × HasSeed e.store };
+}
+
+// Written out, so that proofs about what holds entries don't look into them where they are let go.
+impl<V: Drop> Drop for Entries<V> {
+    fn drop(self) {
+        let Entries { store: _ } = self;
+    }
 }
 
 impl<V> Entries<V> {
@@ -133,6 +140,19 @@ impl<V: Drop> Entries<V> {
             Ok(_) => return Ok(()),
             Err(_) => return Err(OutOfMemory),
         }
+    }
+
+    /// Takes out the key of these bytes, and answers its value; `None` where it has none. The other
+    /// entries keep their order. It takes no memory.
+    ///
+    /// ```
+    /// entries.remove(b"a") // Some(3), and the entry of b"b" is now the first
+    /// ```
+    pub fn remove(&mut self, key: &[u8]) -> Option<V>
+        ensures value { result ≡ value_at key.now self.old }
+        ensures rest { self.new ≡ without key.now self.old }
+    {
+        self.store.remove(key)
     }
 }
 

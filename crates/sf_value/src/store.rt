@@ -7,7 +7,7 @@ ghost use Rattle.std.specs.List.{position};
 ghost use Rattle.std.specs.Map.{keys_of};
 ghost use Rattle.std.specs.Str.{bytes_eq};
 ghost use Rattle.indexmap.specs.IndexMap.{spare};
-ghost use Rattle.sf_value.specs.Grammar.Pairs.{settle, value_at, HasDistinctKeys};
+ghost use Rattle.sf_value.specs.Grammar.Pairs.{settle, without, value_at, HasDistinctKeys};
 ghost use Rattle.sf_value.specs.Entries.{deref_entry, pairs, AreEntries};
 ghost use Rattle.sf_value.specs.Stores.{slot_pairs, stored, HasSeed, name_bytes, lent_pairs, left_pairs};
 
@@ -237,6 +237,35 @@ impl<V: Drop> Store<V> {
                 return put;
             }
             Store::Many(map) => return many::put(map, key, value),
+        }
+    }
+
+    /// Takes out the key of these bytes, and answers its value. The others keep their order.
+    pub(crate) fn remove(&mut self, key: &[u8]) -> Option<V>
+        requires entries { AreEntries (stored self.old) }
+        requires seed { HasSeed self.old }
+        ensures entries { AreEntries (stored self.new) }
+        ensures seed { HasSeed self.new }
+        ensures value { result ≡ value_at key.now (stored self.old) }
+        ensures rest { stored self.new ≡ without key.now (stored self.old) }
+    {
+        match self {
+            Store::Fresh(_, _) => return None,
+            Store::Few(slots) => {
+                let place = place_of(slots, key)?;
+                let Slot {
+                    key: _,
+                    value,
+                    seed,
+                } = slots.remove(place);
+                if !slots.is_empty() {
+                    return Some(value);
+                }
+                let alloc = *slots.allocator();
+                *self = Store::Fresh(alloc, seed);
+                return Some(value);
+            }
+            Store::Many(map) => return map.shift_remove(key),
         }
     }
 }
