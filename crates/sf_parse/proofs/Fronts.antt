@@ -52,6 +52,20 @@ step_stop next s t u piece b more true a f e = absurd cc
 step_stop next s t u piece b more false a f e =
     subst (λ y. Front next s piece (b ∷ more) y) (sym e.1) (record { went = a; stops = e.0 })
 
+-- the same, of the first byte of what is left
+pub byte_on : {S : Type 0} (next : S → ℕ → Option S) (s t u : S) (piece rest : List ℕ) (b : ℕ)
+    (more : List ℕ) (took : Bool) → Went next s piece rest t → rest ≡ b ∷ more → took ≡ true
+    → Steps took (next t b) t u → Went next s piece more u
+byte_on next s t u piece rest b more took w e f k =
+    step_on next s t u piece b more took (subst (λ y. Went next s piece y t) e w) f k
+
+pub byte_stop : {S : Type 0} (next : S → ℕ → Option S) (s t u : S) (piece rest : List ℕ) (b : ℕ)
+    (took : Bool) → Went next s piece rest t → took ≡ false → Steps took (next t b) t u
+    → Went next s piece rest u
+byte_stop next s t u piece rest b true w f k = absurd cc
+byte_stop next s t u piece rest b false w f k =
+    subst (λ y. Went next s piece rest y) (sym k.1) w
+
 -- what a part takes, seen from a level that goes on with it wherever it goes on itself
 run_above : {S T : Type 0} (next : S → ℕ → Option S) (above : T → ℕ → Option T) (into : S → T)
     → ((s t : S) (b : ℕ) → next s b ≡ Some t → above (into s) b ≡ Some (into t))

@@ -1,5 +1,5 @@
 -- The sets of bytes of levels, seen from the level above, and those of a display string.
-use Rattle.std.proofs.Common.{◌≡◌, ℕ, ◌<◌, ◌≤◌, Bool, true, false, ◌==◌, ◌&&◌, if◌then◌else◌, List}
+use Rattle.std.proofs.Common.{◌≡◌, ℕ, ◌≤◌, Bool, true, false, ◌==◌, ◌&&◌, if◌then◌else◌, List}
 use Rattle.std.proofs.Common.{[], ◌∷◌, Option, Some, None, IsSome, refl, sym, ap, ◌∙◌, subst, arith, cond}
 use Rattle.std.proofs.Common.{nat_lt}
 use Rattle.sf_value.specs.declared.dialect.Dialect.{Dialect}
@@ -7,9 +7,9 @@ use Rattle.sf_value.specs.declared.value.Bare.{Bare}
 use Rattle.sf_value.specs.declared.value.Item.{Item}
 use Rattle.sf_value.specs.Grammar.Classes.{is_sp, is_visible}
 use Rattle.sf_value.specs.Grammar.Utf8.{Utf8, Wants, within, utf8_step}
-use Rattle.sf_parse.specs.Expected.{Marks, digit_takes}
+use Rattle.sf_parse.specs.Expected.{Marks}
 use Rattle.sf_parse.specs.Machine.Language.{run}
-use Rattle.sf_parse.specs.Machine.Showns.{ShownState, Quote, Plain, Percent, Hex, Done, unhex, GoodUtf8}
+use Rattle.sf_parse.specs.Machine.Showns.{Plain, GoodUtf8}
 use Rattle.sf_parse.specs.Machine.Bares.{BareState}
 use Rattle.sf_parse.specs.Machine.Params.{ParamsState}
 use Rattle.sf_parse.specs.Machine.Items.{ItemState, InBare, InParams}
@@ -77,20 +77,3 @@ pub marks_wants : (bytes : List ℕ) (n low high : ℕ) → GoodUtf8 (Wants n lo
 marks_wants bytes n low high g b =
     marks_table 137438953472 (λ b. b == 37) refl b
     ∙ ap (λ y. cond (nat_lt b 128 && y) 1 0) (sym (only_escapes bytes n low high b g.0))
-
--- what is no digit goes on with no escape
-no_digit : (s : ShownState) (b : ℕ) → unhex b ≡ None → digit_takes s b ≡ false
-no_digit Quote b e = refl
-no_digit (Plain bytes x) b e = refl
-no_digit (Percent bytes x) b e = rw e refl
-no_digit (Hex bytes x h) b e = rw e refl
-no_digit (Done bytes) b e = refl
-
-pub below_digits : (s : ShownState) (b : ℕ) → b < 48 → digit_takes s b ≡ false
-below_digits s b h = no_digit s b (grind arith)
-
-pub between_digits : (s : ShownState) (b : ℕ) → 58 ≤ b → b < 97 → digit_takes s b ≡ false
-between_digits s b l h = no_digit s b (grind arith)
-
-pub above_digits : (s : ShownState) (b : ℕ) → 103 ≤ b → digit_takes s b ≡ false
-above_digits s b h = no_digit s b (grind arith)

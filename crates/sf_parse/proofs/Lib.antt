@@ -1,4 +1,5 @@
 pub mod Tables
+pub mod ByteTables
 pub mod Letters
 pub mod Numerals
 pub mod Leading
@@ -10,6 +11,7 @@ pub mod CommaPieces
 pub mod Levels
 pub mod LevelMarks
 pub mod BlobGroups
+pub mod Blocks
 pub mod Language
 pub mod Classes
 pub mod Machines

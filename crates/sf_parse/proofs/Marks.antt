@@ -110,22 +110,3 @@ mark_clear n k p m t b = ⊎_elim
     ∙ ap (λ y. bit y) (same_test k (p k) ∙ t)))
     (λ e. m b ∙ sym (ap (λ y. bit y) (other_test b k (p b) e)))
     (same_or_other b k)
-
--- bytes that are passed over, since none passes the test
-pub marks_over : (n low high : ℕ) (p : ℕ → Bool) → low ≤ high
-    → ((b : ℕ) → low ≤ b → b < high → p b ≡ false) → MarksBelow low n p → MarksBelow high n p
-marks_over n low high p w h m b = m b ∙ ap (λ y. bit y) (same (p b) (λ l k. h b l k))
-  where
-    same : (x : Bool) → (low ≤ b → b < high → x ≡ false)
-        → (nat_lt b low && x) ≡ (nat_lt b high && x)
-    same true h =
-        let no : low ≤ b → b < high → ⊥ = λ l k. absurd (let e = h l k in cc) in
-        ⊎_elim (λ l. at l (omega arith)) (λ l. ⊎_elim (λ k. absurd (no l k)) (λ k. past l k) (cases_lt b high))
-        (cases_lt b low)
-      where
-        at : b < low → b < high → (nat_lt b low && true) ≡ (nat_lt b high && true)
-        at l k = grind arith
-
-        past : low ≤ b → high ≤ b → (nat_lt b low && true) ≡ (nat_lt b high && true)
-        past l k = grind arith
-    same false h = grind arith

@@ -208,7 +208,9 @@ impl Level for BareReader {
             }
             BareKind::Blob => return self.blob.take_run(&mut self.bytes, piece),
             BareKind::Shown => return self.shown.take_run(&mut self.bytes, piece),
-            BareKind::Number | BareKind::Boolean | BareKind::Date => return Ok(piece),
+            BareKind::Number => return Ok(self.number.take_run(piece)),
+            BareKind::Date => return Ok(self.date.take_run(piece)),
+            BareKind::Boolean => return Ok(piece),
         }
     }
 

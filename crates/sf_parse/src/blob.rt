@@ -1,5 +1,6 @@
 //! A Byte Sequence that is being read (RFC 9651 section 4.2.7).
-ghost use Rattle.std.specs.Prelude.{◌≡◌, ℕ, ◌<◌, List, [], ◌∷◌, ◌++◌, ◌&&◌, Some, IfOk, IfSome};
+ghost use Rattle.std.specs.Prelude.{◌≡◌, ℕ, ◌<◌, ◌≤◌, List, [], ◌∷◌, ◌++◌, ◌&&◌, Some, IfOk, IfSome};
+ghost use Rattle.std.specs.Prelude.{take};
 ghost use Rattle.sf_parse.specs.Expected.{Marks};
 ghost use Rattle.sf_parse.specs.Fronts.{Went};
 ghost use Rattle.sf_parse.specs.Views.{held_of, blob_of, FitsHeld, FitsBlob};
@@ -31,44 +32,90 @@ pub enum BlobPhase {
     Ended,
 }
 
-/// The value of a base64 character (RFC 4648 section 4).
+// How many bytes are decoded at a time: those of 32 groups.
+const BLOCK: usize = 96;
+
+// The value of each byte as a character of base64 (RFC 4648 section 4); 64 where it is none.
+#[rattlefmt::skip]
+static SEXTETS: [u8; 256] = [
+    64, 64, 64, 64, 64, 64, 64, 64, 64, 64, 64, 64, 64, 64, 64, 64,
+    64, 64, 64, 64, 64, 64, 64, 64, 64, 64, 64, 64, 64, 64, 64, 64,
+    64, 64, 64, 64, 64, 64, 64, 64, 64, 64, 64, 62, 64, 64, 64, 63,
+    52, 53, 54, 55, 56, 57, 58, 59, 60, 61, 64, 64, 64, 64, 64, 64,
+    64, 0, 1, 2, 3, 4, 5, 6, 7, 8, 9, 10, 11, 12, 13, 14,
+    15, 16, 17, 18, 19, 20, 21, 22, 23, 24, 25, 64, 64, 64, 64, 64,
+    64, 26, 27, 28, 29, 30, 31, 32, 33, 34, 35, 36, 37, 38, 39, 40,
+    41, 42, 43, 44, 45, 46, 47, 48, 49, 50, 51, 64, 64, 64, 64, 64,
+    64, 64, 64, 64, 64, 64, 64, 64, 64, 64, 64, 64, 64, 64, 64, 64,
+    64, 64, 64, 64, 64, 64, 64, 64, 64, 64, 64, 64, 64, 64, 64, 64,
+    64, 64, 64, 64, 64, 64, 64, 64, 64, 64, 64, 64, 64, 64, 64, 64,
+    64, 64, 64, 64, 64, 64, 64, 64, 64, 64, 64, 64, 64, 64, 64, 64,
+    64, 64, 64, 64, 64, 64, 64, 64, 64, 64, 64, 64, 64, 64, 64, 64,
+    64, 64, 64, 64, 64, 64, 64, 64, 64, 64, 64, 64, 64, 64, 64, 64,
+    64, 64, 64, 64, 64, 64, 64, 64, 64, 64, 64, 64, 64, 64, 64, 64,
+    64, 64, 64, 64, 64, 64, 64, 64, 64, 64, 64, 64, 64, 64, 64, 64,
+];
+
+/// The value of a base64 character.
+#[inline]
 fn sextet(byte: u8) -> Option<u8>
     ensures value { result ≡ sextet_of byte }
     ensures small { IfSome result (λ value. value < 64) }
 {
-    match byte {
-        b'A'..=b'Z' => Some(byte - b'A'),
-        b'a'..=b'z' => Some(byte - b'a' + 26),
-        b'0'..=b'9' => Some(byte - b'0' + 52),
-        b'+' => Some(62),
-        b'/' => Some(63),
-        _ => None,
-    }
+    let value = SEXTETS[byte as usize];
+    if value < 64 { Some(value) } else { None }
 }
 
 // The bytes of a whole group of four characters.
-fn group_bytes(a: u8, b: u8, c: u8, d: u8) -> Option<[u8; 3]>
+#[inline]
+fn group_bytes(a: u8, b: u8, c: u8, d: u8) -> Option<(u8, u8, u8)>
     ensures { IfSome result (λ out. (bs : List ℕ) → run blob_step (Group bs H0)
-        (a ∷ b ∷ c ∷ d ∷ []) ≡ Some (Group (bs ++ out) H0)) }
+        (a ∷ b ∷ c ∷ d ∷ []) ≡ Some (Group (bs ++ out.0 ∷ out.1 ∷ out.2 ∷ []) H0)) }
 {
     let x = sextet(a)?;
     let y = sextet(b)?;
     let z = sextet(c)?;
     let w = sextet(d)?;
-    Some([x * 4 + y / 16, y % 16 * 16 + z / 4, z % 4 * 64 + w])
+    Some((x * 4 + y / 16, y % 16 * 16 + z / 4, z % 4 * 64 + w))
 }
 
-// Takes whole groups, behind a whole one.
+// Decodes whole groups into the block until it is full: how many bytes they are of, and the rest.
+fn decode_groups<'a>(piece: &'a [u8], block: &mut [u8; BLOCK]) -> (usize, &'a [u8])
+    ensures within { result.0 ≤ 96 }
+    ensures went { (bs : List ℕ) → Went blob_step (Group bs H0) piece.now result.1.now
+        (Group (bs ++ take result.0 block.new) H0) }
+{
+    let mut count = 0;
+    let mut rest = piece;
+    while let [a, b, c, d, more @ ..] = rest {
+        if count + 3 > BLOCK {
+            return (count, rest);
+        }
+        let Some(bytes) = group_bytes(*a, *b, *c, *d) else {
+            return (count, rest);
+        };
+        block[count] = bytes.0;
+        block[count + 1] = bytes.1;
+        block[count + 2] = bytes.2;
+        count += 3;
+        rest = more;
+    }
+    (count, rest)
+}
+
+// Takes whole groups, behind a whole one, a block by one growth.
 fn take_groups<'a>(bytes: &mut ShortBytes, piece: &'a [u8]) -> Result<&'a [u8], OutOfMemory>
     ensures { IfOk result (λ rest. Went blob_step (Group bytes.old H0) piece.now rest.now
         (Group bytes.new H0)) }
 {
     let mut rest = piece;
-    while let [a, b, c, d, more @ ..] = rest {
-        let Some(decoded) = group_bytes(*a, *b, *c, *d) else {
-            return Ok(rest);
-        };
-        bytes.extend(&decoded)?;
+    while let [_, ..] = rest {
+        let mut block = [0; BLOCK];
+        let (count, more) = decode_groups(rest, &mut block);
+        bytes.extend(&block[..count])?;
+        if more.len() >= rest.len() {
+            return Ok(more);
+        }
         rest = more;
     }
     Ok(rest)

@@ -1,6 +1,7 @@
 //! A Date that is being read (RFC 9651 section 4.2.9).
 ghost use Rattle.std.specs.Prelude.{◌≡◌};
 ghost use Rattle.sf_parse.specs.Expected.{Marks};
+ghost use Rattle.sf_parse.specs.Fronts.{Went};
 ghost use Rattle.sf_parse.specs.Machine.Language.{Steps};
 ghost use Rattle.sf_parse.specs.Machine.Numbers.{Sign, date_step, date_finish};
 ghost use Rattle.sf_parse.specs.Machine.Takes.{date_takes, date_ends};
@@ -61,6 +62,20 @@ impl DateReader {
         self.value = 10 * self.value + u64::from(byte - b'0');
         self.digits += 1;
         true
+    }
+
+    /// Takes the bytes that the date goes on with, and gives back the rest.
+    pub fn take_run<'a>(&mut self, piece: &'a [u8]) -> &'a [u8]
+        ensures { Went date_step self.old piece.now result.now self.new }
+    {
+        let mut rest = piece;
+        while let Some((byte, more)) = rest.split_first() {
+            if !self.step(*byte) {
+                return rest;
+            }
+            rest = more;
+        }
+        rest
     }
 
     /// The bytes that the date can go on with.

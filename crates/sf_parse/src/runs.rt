@@ -7,13 +7,43 @@ ghost use Rattle.sf_parse.specs.ByteRuns.{is_unescaped, is_shown_plain};
 
 use sf_value::{can_be_in_key, can_be_in_token, is_visible};
 
+// The flags of the bytes that keys and tokens go on with.
+const KEY: u8 = 1;
+
+const TOKEN: u8 = 2;
+
+// The flags of each byte.
+#[rattlefmt::skip]
+static CLASSES: [u8; 256] = [
+    0, 0, 0, 0, 0, 0, 0, 0, 0, 0, 0, 0, 0, 0, 0, 0,
+    0, 0, 0, 0, 0, 0, 0, 0, 0, 0, 0, 0, 0, 0, 0, 0,
+    0, 2, 0, 2, 2, 2, 2, 2, 0, 0, 3, 2, 0, 3, 3, 2,
+    3, 3, 3, 3, 3, 3, 3, 3, 3, 3, 2, 0, 0, 0, 0, 0,
+    0, 2, 2, 2, 2, 2, 2, 2, 2, 2, 2, 2, 2, 2, 2, 2,
+    2, 2, 2, 2, 2, 2, 2, 2, 2, 2, 2, 0, 0, 0, 2, 3,
+    2, 3, 3, 3, 3, 3, 3, 3, 3, 3, 3, 3, 3, 3, 3, 3,
+    3, 3, 3, 3, 3, 3, 3, 3, 3, 3, 3, 0, 2, 0, 2, 0,
+    0, 0, 0, 0, 0, 0, 0, 0, 0, 0, 0, 0, 0, 0, 0, 0,
+    0, 0, 0, 0, 0, 0, 0, 0, 0, 0, 0, 0, 0, 0, 0, 0,
+    0, 0, 0, 0, 0, 0, 0, 0, 0, 0, 0, 0, 0, 0, 0, 0,
+    0, 0, 0, 0, 0, 0, 0, 0, 0, 0, 0, 0, 0, 0, 0, 0,
+    0, 0, 0, 0, 0, 0, 0, 0, 0, 0, 0, 0, 0, 0, 0, 0,
+    0, 0, 0, 0, 0, 0, 0, 0, 0, 0, 0, 0, 0, 0, 0, 0,
+    0, 0, 0, 0, 0, 0, 0, 0, 0, 0, 0, 0, 0, 0, 0, 0,
+    0, 0, 0, 0, 0, 0, 0, 0, 0, 0, 0, 0, 0, 0, 0, 0,
+];
+
 /// A class of bytes.
 pub trait ByteClass {
     // the bytes of the class
     ghost test: { ℕ → Bool };
 
-    /// Whether the byte is of the class.
+    /// Whether the byte is of the class, in a form of which many are computed at a time.
     fn has(byte: u8) -> bool
+        ensures { result ≡ test byte };
+
+    /// The same, for a byte on its own.
+    fn has_one(byte: u8) -> bool
         ensures { result ≡ test byte };
 }
 
@@ -50,6 +80,11 @@ impl ByteClass for Unescaped {
     fn has(byte: u8) -> bool {
         is_visible(byte) && byte != b'"' && byte != b'\\'
     }
+
+    #[inline]
+    fn has_one(byte: u8) -> bool {
+        Unescaped::has(byte)
+    }
 }
 
 impl ByteClass for InToken {
@@ -58,6 +93,11 @@ impl ByteClass for InToken {
     #[inline]
     fn has(byte: u8) -> bool {
         can_be_in_token(byte)
+    }
+
+    #[inline]
+    fn has_one(byte: u8) -> bool {
+        CLASSES[byte as usize] & TOKEN != 0
     }
 }
 
@@ -68,6 +108,11 @@ impl ByteClass for InKey {
     fn has(byte: u8) -> bool {
         can_be_in_key(byte)
     }
+
+    #[inline]
+    fn has_one(byte: u8) -> bool {
+        CLASSES[byte as usize] & KEY != 0
+    }
 }
 
 impl ByteClass for ShownPlain {
@@ -76,6 +121,11 @@ impl ByteClass for ShownPlain {
     #[inline]
     fn has(byte: u8) -> bool {
         is_visible(byte) && byte != b'"' && byte != b'%'
+    }
+
+    #[inline]
+    fn has_one(byte: u8) -> bool {
+        ShownPlain::has(byte)
     }
 }
 
@@ -86,6 +136,11 @@ impl ByteClass for Space {
     fn has(byte: u8) -> bool {
         byte == b' '
     }
+
+    #[inline]
+    fn has_one(byte: u8) -> bool {
+        Space::has(byte)
+    }
 }
 
 impl ByteClass for Ows {
@@ -94,6 +149,11 @@ impl ByteClass for Ows {
     #[inline]
     fn has(byte: u8) -> bool {
         is_ows(byte)
+    }
+
+    #[inline]
+    fn has_one(byte: u8) -> bool {
+        Ows::has(byte)
     }
 }
 
@@ -109,18 +169,25 @@ fn all_of<C: ByteClass>(bytes: &[u8]) -> bool
     all
 }
 
-/// The bytes of the class that the piece begins with, and the rest. Blocks of 16 are looked at first.
+/// The bytes of the class that the piece begins with, and the rest. Behind the first 16 bytes blocks of
+/// 16 are looked at.
 #[inline]
 pub fn long_front<C: ByteClass>(piece: &[u8]) -> (&[u8], &[u8])
     ensures whole { piece.now ≡ result.0.now ++ result.1.now }
     ensures every { Every C.test result.0.now }
 {
     let mut run = 0;
-    while piece.len() - run >= 16 && all_of::<C>(&piece[run..run + 16]) {
-        run += 16;
-    }
-    while run < piece.len() && C::has(piece[run]) {
+    let start = piece.len().min(16);
+    while run < start && C::has_one(piece[run]) {
         run += 1;
+    }
+    if run == 16 {
+        while piece.len() - run >= 16 && all_of::<C>(&piece[run..run + 16]) {
+            run += 16;
+        }
+        while run < piece.len() && C::has_one(piece[run]) {
+            run += 1;
+        }
     }
     piece.split_at(run)
 }
@@ -132,7 +199,7 @@ pub fn short_front<C: ByteClass>(piece: &[u8]) -> (&[u8], &[u8])
     ensures every { Every C.test result.0.now }
 {
     let mut run = 0;
-    while run < piece.len() && C::has(piece[run]) {
+    while run < piece.len() && C::has_one(piece[run]) {
         run += 1;
     }
     piece.split_at(run)

@@ -1,12 +1,12 @@
 //! A Display String that is being read (RFC 9651 section 4.2.10).
-ghost use Rattle.std.specs.Prelude.{◌≡◌, ℕ, ◌<◌, List, IfOk, IfSome};
+ghost use Rattle.std.specs.Prelude.{◌≡◌, ℕ, ◌<◌, ◌≤◌, List, [], ◌∷◌, ◌++◌, Some, IfOk, IfSome, take};
 ghost use Rattle.std.specs.Option.{option_map};
-ghost use Rattle.sf_value.specs.Grammar.Utf8.{wants, rows, look_up, utf8_step};
+ghost use Rattle.sf_value.specs.Grammar.Utf8.{Utf8, wants, rows, look_up, utf8_step};
 ghost use Rattle.sf_parse.specs.Expected.{Marks};
 ghost use Rattle.sf_parse.specs.Fronts.{Went};
-ghost use Rattle.sf_parse.specs.Views.{utf8_of, shown_of, FitsShown, IsDigitPhase};
-ghost use Rattle.sf_parse.specs.Machine.Language.{Steps};
-ghost use Rattle.sf_parse.specs.Machine.Showns.{pushed, unhex as unhex_of};
+ghost use Rattle.sf_parse.specs.Views.{utf8_of, shown_of, Leads, FitsShown, IsDigitPhase};
+ghost use Rattle.sf_parse.specs.Machine.Language.{Steps, run};
+ghost use Rattle.sf_parse.specs.Machine.Showns.{Plain, pushed, unhex as unhex_of};
 ghost use Rattle.sf_parse.specs.Machine.Showns.{can_begin as can_begin_at, shown_step};
 ghost use Rattle.sf_parse.specs.Machine.Showns.{GoodUtf8};
 ghost use Rattle.sf_parse.specs.Machine.Takes.{shown_takes, shown_ends};
@@ -107,16 +107,151 @@ fn first_byte(byte: u8) -> Option<Utf8State>
     Some(Utf8State::Wants { more, low, high })
 }
 
+// How many escapes are read at a time.
+const BLOCK: usize = 64;
+
+// The value of each byte as a lower-case hexadecimal digit; 16 where it is none.
+#[rattlefmt::skip]
+static DIGITS: [u8; 256] = [
+    16, 16, 16, 16, 16, 16, 16, 16, 16, 16, 16, 16, 16, 16, 16, 16,
+    16, 16, 16, 16, 16, 16, 16, 16, 16, 16, 16, 16, 16, 16, 16, 16,
+    16, 16, 16, 16, 16, 16, 16, 16, 16, 16, 16, 16, 16, 16, 16, 16,
+    0, 1, 2, 3, 4, 5, 6, 7, 8, 9, 16, 16, 16, 16, 16, 16,
+    16, 16, 16, 16, 16, 16, 16, 16, 16, 16, 16, 16, 16, 16, 16, 16,
+    16, 16, 16, 16, 16, 16, 16, 16, 16, 16, 16, 16, 16, 16, 16, 16,
+    16, 10, 11, 12, 13, 14, 15, 16, 16, 16, 16, 16, 16, 16, 16, 16,
+    16, 16, 16, 16, 16, 16, 16, 16, 16, 16, 16, 16, 16, 16, 16, 16,
+    16, 16, 16, 16, 16, 16, 16, 16, 16, 16, 16, 16, 16, 16, 16, 16,
+    16, 16, 16, 16, 16, 16, 16, 16, 16, 16, 16, 16, 16, 16, 16, 16,
+    16, 16, 16, 16, 16, 16, 16, 16, 16, 16, 16, 16, 16, 16, 16, 16,
+    16, 16, 16, 16, 16, 16, 16, 16, 16, 16, 16, 16, 16, 16, 16, 16,
+    16, 16, 16, 16, 16, 16, 16, 16, 16, 16, 16, 16, 16, 16, 16, 16,
+    16, 16, 16, 16, 16, 16, 16, 16, 16, 16, 16, 16, 16, 16, 16, 16,
+    16, 16, 16, 16, 16, 16, 16, 16, 16, 16, 16, 16, 16, 16, 16, 16,
+    16, 16, 16, 16, 16, 16, 16, 16, 16, 16, 16, 16, 16, 16, 16, 16,
+];
+
 // The value of a lower-case hexadecimal digit.
+#[inline]
 fn unhex(byte: u8) -> Option<u8>
     ensures value { result ≡ unhex_of byte }
     ensures small { IfSome result (λ value. value < 16) }
 {
-    match byte {
-        b'0'..=b'9' => Some(byte - b'0'),
-        b'a'..=b'f' => Some(byte - b'a' + 10),
-        _ => None,
+    let value = DIGITS[byte as usize];
+    if value < 16 { Some(value) } else { None }
+}
+
+// The byte that an escape of these digits stands for.
+#[inline]
+fn escaped(high: u8, low: u8) -> Option<u8>
+    ensures { IfSome result (λ c. (bs : List ℕ) (x y : Utf8) → utf8_step x c ≡ Some y
+        → run shown_step (Plain bs x) (37 ∷ high ∷ low ∷ []) ≡ Some (Plain (bs ++ c ∷ []) y)) }
+{
+    let high = unhex(high)?;
+    let low = unhex(low)?;
+    Some(high * 16 + low)
+}
+
+// Reads whole escapes into the block until it is full: how many they are, where in a character they
+// lead, and the rest.
+fn read_escapes<'a>(
+    from: Utf8State,
+    piece: &'a [u8],
+    block: &mut [u8; BLOCK],
+) -> (usize, Utf8State, &'a [u8])
+    ensures within { result.0 ≤ 64 }
+    ensures went { (bs : List ℕ) → Went shown_step (Plain bs (utf8_of from)) piece.now result.2.now
+        (Plain (bs ++ take result.0 block.new) (utf8_of result.1)) }
+    ensures leads { (bs : List ℕ) → Leads bs (utf8_of from)
+        → Leads (bs ++ take result.0 block.new) (utf8_of result.1) }
+{
+    let mut count = 0;
+    let mut chars = from;
+    let mut rest = piece;
+    while let [percent, high, low, more @ ..] = rest {
+        if *percent != b'%' {
+            return (count, chars, rest);
+        }
+        if count >= BLOCK {
+            return (count, chars, rest);
+        }
+        let Some(byte) = escaped(*high, *low) else {
+            return (count, chars, rest);
+        };
+        let Some(next) = chars.after(byte) else {
+            return (count, chars, rest);
+        };
+        block[count] = byte;
+        count += 1;
+        chars = next;
+        rest = more;
     }
+    (count, chars, rest)
+}
+
+// Takes whole escapes, a block by one growth, and gives back the rest.
+fn take_escapes<'a>(
+    chars: &mut Utf8State,
+    bytes: &mut ShortBytes,
+    piece: &'a [u8],
+) -> Result<&'a [u8], OutOfMemory>
+    requires { Leads bytes.old (utf8_of chars.old) }
+    ensures went { IfOk result (λ rest. Went shown_step (Plain bytes.old (utf8_of chars.old)) piece.now
+        rest.now (Plain bytes.new (utf8_of chars.new))) }
+    ensures leads { Leads bytes.new (utf8_of chars.new) }
+{
+    let mut block = [0; BLOCK];
+    let (count, next, rest) = read_escapes(*chars, piece, &mut block);
+    bytes.extend(&block[..count])?;
+    *chars = next;
+    Ok(rest)
+}
+
+// Takes the bytes that stand for themselves, where no character is open, and gives back the rest.
+fn take_plain<'a>(
+    chars: Utf8State,
+    bytes: &mut ShortBytes,
+    piece: &'a [u8],
+) -> Result<&'a [u8], OutOfMemory>
+    requires { Leads bytes.old (utf8_of chars) }
+    ensures went { IfOk result (λ rest. Went shown_step (Plain bytes.old (utf8_of chars)) piece.now
+        rest.now (Plain bytes.new (utf8_of chars))) }
+    ensures leads { Leads bytes.new (utf8_of chars) }
+{
+    match chars {
+        Utf8State::Start => {
+            let (run, rest) = long_front::<ShownPlain>(piece);
+            bytes.extend(run)?;
+            return Ok(rest);
+        }
+        Utf8State::Wants { .. } => return Ok(piece),
+    }
+}
+
+// Takes bytes that stand for themselves and whole escapes, and gives back the rest.
+fn take_chars<'a>(
+    chars: &mut Utf8State,
+    bytes: &mut ShortBytes,
+    piece: &'a [u8],
+) -> Result<&'a [u8], OutOfMemory>
+    requires { Leads bytes.old (utf8_of chars.old) }
+    ensures went { IfOk result (λ rest. Went shown_step (Plain bytes.old (utf8_of chars.old)) piece.now
+        rest.now (Plain bytes.new (utf8_of chars.new))) }
+    ensures leads { Leads bytes.new (utf8_of chars.new) }
+{
+    let mut rest = piece;
+    while let Some((byte, _)) = rest.split_first() {
+        let size = rest.len();
+        rest = if *byte == b'%' {
+            take_escapes(chars, bytes, rest)?
+        } else {
+            take_plain(*chars, bytes, rest)?
+        };
+        if rest.len() >= size {
+            return Ok(rest);
+        }
+    }
+    Ok(rest)
 }
 
 impl ShownPlace {
@@ -203,25 +338,22 @@ impl ShownPlace {
         }
     }
 
-    /// Takes the bytes that stand for themselves, where no character is open, by one growth, and
-    /// gives back the rest.
+    /// Takes bytes that stand for themselves and whole escapes, many by one growth, and gives back the
+    /// rest.
     pub fn take_run<'a>(
-        self,
+        &mut self,
         bytes: &mut ShortBytes,
         piece: &'a [u8],
     ) -> Result<&'a [u8], OutOfMemory>
-        requires { FitsShown self.phase bytes.old self.chars }
-        ensures went { IfOk result (λ rest. Went shown_step (shown_of self.phase bytes.old self.chars)
-            piece.now rest.now (shown_of self.phase bytes.new self.chars)) }
-        ensures fits { FitsShown self.phase bytes.new self.chars }
+        requires { FitsShown self.old.phase bytes.old self.old.chars }
+        ensures went { IfOk result (λ rest. Went shown_step
+            (shown_of self.old.phase bytes.old self.old.chars) piece.now rest.now
+            (shown_of self.new.phase bytes.new self.new.chars)) }
+        ensures fits { FitsShown self.new.phase bytes.new self.new.chars }
     {
-        match (self.phase, self.chars) {
-            (ShownPhase::Plain, Utf8State::Start) => {
-                let (run, rest) = long_front::<ShownPlain>(piece);
-                bytes.extend(run)?;
-                Ok(rest)
-            }
-            _ => Ok(piece),
+        match self.phase {
+            ShownPhase::Plain => return take_chars(&mut self.chars, bytes, piece),
+            _ => return Ok(piece),
         }
     }
 

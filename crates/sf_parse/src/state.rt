@@ -28,6 +28,7 @@ pub enum FieldState {
 
 impl FieldState {
     /// Before the first byte of a field of this kind. It takes no memory.
+    #[inline(never)]
     pub fn begin(context: &Context, kind: Kind) -> FieldState
         ensures { state_of result ≡ begin_at kind }
     {
@@ -43,6 +44,7 @@ impl FieldState {
     }
 
     /// Takes the longest front of the piece that the field can go on with, and gives back the rest.
+    #[inline(never)]
     pub fn take<'a>(&mut self, context: &Context, piece: &'a [u8]) -> Result<&'a [u8], OutOfMemory>
         ensures front { IfOk result (λ rest. Front (step_of context.now.dialect)
             (state_of self.old) piece.now rest.now (state_of self.new)) }
@@ -56,6 +58,7 @@ impl FieldState {
     }
 
     /// The bytes below 128 that the field can go on with, a bit for each.
+    #[inline(never)]
     pub fn expected(&self, dialect: Dialect) -> u128
         ensures { Marks result (takes_at dialect (state_of self.now)) }
     {
@@ -78,6 +81,7 @@ impl FieldState {
     }
 
     /// The field, if it may end here. What is left is the reader alone.
+    #[inline(never)]
     pub fn finish(&mut self, context: &Context) -> Result<Option<Field>, OutOfMemory>
         ensures value { IfOk result (λ field. field ≡ finish_of (state_of self.old)) }
         ensures plain { PlainState (state_of self.old) → IsOk result }

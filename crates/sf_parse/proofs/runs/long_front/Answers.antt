@@ -4,16 +4,25 @@ use Rattle.sf_parse.proofs.runs.long_front.Goals as goal
 
 pub loop-run-preserved : goal.loop-run-preserved
 loop-run-preserved g c = record {
+  within = let h = c.loop-run-test.true in omega arith;
+  every =
+      every_more g.C.ByteClass.test _ _ c.loop-run.invariant.every
+      (let h = c.loop-run-test.true in omega arith)
+      (sym c.has_one.ensures ∙ c.if-has_one.true);
+}
+
+pub loop-run-then-run-eq16-preserved : goal.loop-run-then-run-eq16-preserved
+loop-run-then-run-eq16-preserved g c = record {
   within = omega arith;
   every =
-      every_block g.C.ByteClass.test _ _ _ (omega arith) c.loop-run.invariant.every
+      every_block g.C.ByteClass.test _ _ _ (omega arith) c.loop-run-then-run-eq16.invariant.every
       (c.all_of.ensures c.if-all_of.true);
 }
 
-pub loop-run-2-preserved : goal.loop-run-2-preserved
-loop-run-2-preserved g c = record {
-  within = let h = c.loop-run-2-test.true in omega arith;
+pub loop-run-then-run-eq16-2-preserved : goal.loop-run-then-run-eq16-2-preserved
+loop-run-then-run-eq16-2-preserved g c = record {
+  within = let h = c.loop-run-then-run-eq16-2-test.true in omega arith;
   every =
-      every_more g.C.ByteClass.test _ _ c.loop-run-2.invariant.every c.loop-run-2-test.true
-      (sym c.has.ensures ∙ c.if-has.true);
+      every_more g.C.ByteClass.test _ _ c.loop-run-then-run-eq16-2.invariant.every c.loop-run-then-run-eq16-2-test.true
+      (sym c.has_one-in-loop-run-then-run-eq16-2.ensures ∙ c.if-has_one-2.true);
 }

@@ -11,11 +11,20 @@ invariant-loop-run g l = record {
 abbrev pub decreases-loop-run : goal.decreases-loop-run
 decreases-loop-run g l = length l.piece - l.run
 
-abbrev pub invariant-loop-run-2 : goal.invariant-loop-run-2
-invariant-loop-run-2 g l = record {
+abbrev pub invariant-loop-run-then-run-eq16 : goal.invariant-loop-run-then-run-eq16
+invariant-loop-run-then-run-eq16 g l = record {
   within : l.run ≤ length l.piece;
   every : Every g.C.ByteClass.test (take l.run l.piece);
 }
 
-abbrev pub decreases-loop-run-2 : goal.decreases-loop-run-2
-decreases-loop-run-2 g l = length l.piece - l.run
+abbrev pub decreases-loop-run-then-run-eq16 : goal.decreases-loop-run-then-run-eq16
+decreases-loop-run-then-run-eq16 g l = length l.piece - l.run
+
+abbrev pub invariant-loop-run-then-run-eq16-2 : goal.invariant-loop-run-then-run-eq16-2
+invariant-loop-run-then-run-eq16-2 g l = record {
+  within : l.run ≤ length l.piece;
+  every : Every g.C.ByteClass.test (take l.run l.piece);
+}
+
+abbrev pub decreases-loop-run-then-run-eq16-2 : goal.decreases-loop-run-then-run-eq16-2
+decreases-loop-run-then-run-eq16-2 g l = length l.piece - l.run

@@ -7,5 +7,5 @@ loop-run-preserved g c = record {
   within = let h = c.loop-run-test.true in omega arith;
   every =
       every_more g.C.ByteClass.test _ _ c.loop-run.invariant.every c.loop-run-test.true
-      (sym c.has.ensures ∙ c.if-has.true);
+      (sym c.has_one.ensures ∙ c.if-has_one.true);
 }

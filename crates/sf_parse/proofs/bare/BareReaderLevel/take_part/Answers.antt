@@ -4,7 +4,9 @@ use Rattle.sf_parse.specs.Machine.Language.{seen}
 use Rattle.sf_parse.specs.Machine.Texts.{text_step, word_step}
 use Rattle.sf_parse.specs.Machine.Blobs.{blob_step}
 use Rattle.sf_parse.specs.Machine.Showns.{shown_step}
-use Rattle.sf_parse.specs.Machine.Bares.{InText, InToken, InBlob, InShown, bare_step}
+use Rattle.sf_parse.specs.Machine.Numbers.{number_step, date_step}
+use Rattle.sf_parse.specs.Machine.Bares.{InNumber, InText, InToken, InDate, InBlob, InShown}
+use Rattle.sf_parse.specs.Machine.Bares.{bare_step}
 use Rattle.sf_parse.proofs.Fronts.{part_went, went_above}
 use Rattle.sf_parse.proofs.ByteRuns.{word_went, word_run_kept}
 use Rattle.sf_parse.proofs.bare.BareReaderLevel.take_part.Goals as goal
@@ -40,3 +42,15 @@ returns-in-Shown-clause-went c =
     rw (← c.self.view_is, c.in-Shown.is)
     (part_went shown_step bare_step InShown (λ s t b e. ap (seen InShown) e) _ _ _ _ _ refl
     c.take_run-in-Shown.ensures.went)
+
+pub returns-in-Number-clause-went : goal.returns-in-Number-clause-went
+returns-in-Number-clause-went c =
+    rw (← c.self.view_is, c.in-Number.is)
+    (went_above number_step bare_step InNumber (λ s t b e. ap (seen InNumber) e) _ _ _ _
+    c.take_run-in-Number.ensures)
+
+pub returns-in-Date-clause-went : goal.returns-in-Date-clause-went
+returns-in-Date-clause-went c =
+    rw (← c.self.view_is, c.in-Date.is)
+    (went_above date_step bare_step InDate (λ s t b e. ap (seen InDate) e) _ _ _ _
+    c.take_run-in-Date.ensures)
