@@ -4,5 +4,6 @@ mod devices;
 mod entries;
 mod faults;
 mod fields;
+mod forms;
 mod sequences;
 mod texts;

@@ -1,0 +1,107 @@
+//! Entries of up to 8 stand in one form, more in another: both, and the change from one to the other.
+use crate::values::build::{number, number_in, put};
+use sf_value::{Bare, Entries, Item, Member, Part};
+use std::alloc::Global;
+use std::hash::RandomState;
+use std::mem;
+use std::process::Abort;
+use std::test::Fail;
+
+// The bytes of the key at a place. Every third is too long to stand in place.
+fn key_at(alloc: Global, place: u8) -> Result<Vec<u8>, Fail> {
+    let mut key = Vec::from_slice(alloc, b"k")?;
+    key.push(b'a' + place % 26)?;
+    if place % 3 == 2 {
+        key.extend_from_slice(b"-of-more-than-sixteen-bytes")?;
+    }
+    Ok(key)
+}
+
+// What the key at a place has at last: every second is put again.
+fn value_of(place: u8) -> i64 {
+    if place % 2 == 0 {
+        100 + i64::from(place)
+    } else {
+        i64::from(place)
+    }
+}
+
+// Keys in order, and then every second of them once more.
+fn filled(
+    rt: &impl Abort,
+    alloc: Global,
+    seed: &RandomState,
+    count: u8,
+) -> Result<Entries<Bare>, Fail> {
+    let mut entries = Entries::new(alloc, seed);
+    for place in 0..count {
+        let key = key_at(alloc, place)?;
+        let old = put(alloc, &mut entries, &key, number(i64::from(place))?)?;
+        assert!(rt; old.is_none());
+    }
+    for place in 0..count {
+        if place % 2 == 0 {
+            let key = key_at(alloc, place)?;
+            let old = put(alloc, &mut entries, &key, number(100 + i64::from(place))?)?;
+            assert_eq!(rt; old.as_ref().and_then(number_in), Some(i64::from(place)));
+        }
+    }
+    Ok(entries)
+}
+
+fn look_up(rt: &impl Abort, alloc: Global, entries: &Entries<Bare>, count: u8) -> Result<(), Fail> {
+    assert_eq!(rt; entries.len(), usize::from(count));
+    for place in 0..count {
+        let key = key_at(alloc, place)?;
+        assert_eq!(rt; entries.get(&key).and_then(number_in), Some(value_of(place)));
+        let there = entries.at(usize::from(place));
+        assert_eq!(rt; there.map(|e| e.0), Some(key.as_slice()));
+        assert_eq!(rt; there.and_then(|e| number_in(e.1)), Some(value_of(place)));
+    }
+    let absent = key_at(alloc, count)?;
+    assert!(rt; entries.get(&absent).is_none() && entries.at(usize::from(count)).is_none());
+    Ok(())
+}
+
+fn go_over(rt: &impl Abort, alloc: Global, entries: Entries<Bare>, count: u8) -> Result<(), Fail> {
+    let mut place = 0;
+    for (key, value) in &entries {
+        assert_eq!(rt; key, key_at(alloc, place)?.as_slice());
+        assert_eq!(rt; number_in(value), Some(value_of(place)));
+        place = place.wrapping_add(1);
+    }
+    assert_eq!(rt; place, count);
+    let mut place = 0;
+    for (key, value) in entries {
+        assert_eq!(rt; key.as_bytes(), key_at(alloc, place)?.as_slice());
+        assert_eq!(rt; number_in(&value), Some(value_of(place)));
+        place = place.wrapping_add(1);
+    }
+    assert_eq!(rt; place, count);
+    Ok(())
+}
+
+#[test]
+fn entries_of_each_count_are_the_same_pairs(rt: HostRuntime) -> Result<(), Fail> {
+    let alloc = rt.alloc();
+    let seed = RandomState::new(&rt)?;
+    for count in 0..21 {
+        let entries = filled(&rt, alloc, &seed, count)?;
+        look_up(&rt, alloc, &entries, count)?;
+        let copy = entries.copy(alloc, &seed)?;
+        assert!(rt; entries.same(&copy));
+        let fewer = filled(&rt, alloc, &seed, count.saturating_sub(1))?;
+        assert_eq!(rt; entries.same(&fewer), count == 0);
+        go_over(&rt, alloc, entries, count)?;
+        go_over(&rt, alloc, copy, count)?;
+    }
+    Ok(())
+}
+
+#[test]
+fn values_are_small(rt: HostRuntime) -> Result<(), Fail> {
+    assert_eq!(rt; mem::size_of::<Entries<Bare>>(), 32);
+    assert_eq!(rt; mem::size_of::<Item>(), 72);
+    assert_eq!(rt; mem::size_of::<Member>(), 80);
+    Ok(())
+}
