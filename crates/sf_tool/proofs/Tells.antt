@@ -1,5 +1,5 @@
 -- What an input was answered (`Tells`), from the text that was to be written.
-use Rattle.std.proofs.Common.{◌≡◌, ℕ, ◌*◌, ◌≤◌, inl, inr, Bool, false, List, []}
+use Rattle.std.proofs.Common.{◌≡◌, ℕ, ◌*◌, ◌≤◌, inl, inr, Bool, false, List}
 use Rattle.std.proofs.Common.{length, Option, Some, None, Result, Ok, Err}
 use Rattle.std.proofs.Common.{refl, sym, subst, arith}
 use Rattle.sf_value.specs.declared.dialect.Dialect.{Dialect}
@@ -28,9 +28,7 @@ use Rattle.sf_tool.specs.Lines.{lines_of}
 use Rattle.sf_tool.specs.Texts.{refusal_line}
 use Rattle.sf_tool.specs.ChoiceLines.{refused_line}
 use Rattle.sf_tool.specs.Fields.{IsFaultOf}
-use Rattle.std.specs.Io.KnownBytes.{Appends}
-use Rattle.sf_write.specs.Writing.{Wrote}
-use Rattle.sf_tool.specs.Run.{joined, Refuses, Responds, Answers, Finished, Tells}
+use Rattle.sf_tool.specs.Run.{joined, Refuses, Responds, Answers, Tells}
 use Rattle.sf_tool.specs.Run.{TellsText, TellsRefusal, TellsInputFault, IsOfText, IsAskOfText}
 
 -- the text of an input was to be written
@@ -57,25 +55,6 @@ tells_text request input text status old new Stopped o t = inr (record {
   answers = o;
   wrote = t.1;
 })
-
--- a text that was made in memory, from nothing
-made_is : (empty full : SinkState) (after : ℕ) (text made : List ℕ) → empty.taken ≡ Some []
-    → full.taken ≡ Some made → Wrote empty full 0 after text → made ≡ text
-made_is empty full after text made begun ended w =
-    let P : Option (List ℕ) → Type 0 = λ known. Appends known full.taken text in
-    let Q : Option (List ℕ) → Type 0 = λ known. Appends (Some []) known text in
-    subst Q ended (subst P begun w.taken)
-
--- the text of an input was made in memory, and then it was to be written
-pub tells_made : (request : Request) (input made : List ℕ) (status : Status)
-    (empty full old new : SinkState) (result : Status) → empty.taken ≡ Some []
-    → full.taken ≡ Some made → Finished request input empty full status
-    → TellsText made status old new result → Tells request input old new result
-tells_made request input made status empty full old new result begun ended f =
-    let same : made ≡ f.text =
-    made_is empty full f.after f.text made begun ended f.wrote in
-    let P : List ℕ → Type 0 = λ text. Answers request input text status in
-    tells_text request input made status old new result (subst P (sym same) f.answers)
 
 -- what a request answers where it tells this of a value
 abbrev pub RespondsTo : Request → Dialect → Kind → (Field → List ℕ) → List ℕ → Type 0
