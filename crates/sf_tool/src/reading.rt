@@ -6,7 +6,7 @@ use sf_value::Source;
 use std::alloc::Global;
 
 /// How many bytes are asked for at a time, at most.
-const BLOCK: usize = 65_536;
+const BLOCK: usize = 262_144;
 
 /// Why not all that a source gives was read.
 #[derive(Clone, Copy, Debug, PartialEq, Eq)]
@@ -20,7 +20,9 @@ pub(crate) enum ReadAllFault {
 }
 
 /// All that the source gives to its end, if that is at most `max` bytes. It asks for no byte behind
-/// the end, nor behind a failed read, nor where one byte more than `max` came.
+/// the end, nor behind a failed read, nor where one byte more than `max` came. Its block leaves the
+/// stack with it.
+#[inline(never)]
 pub(crate) fn read_all<R: Source>(
     alloc: Global,
     max: u64,

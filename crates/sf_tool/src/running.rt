@@ -1,5 +1,5 @@
 //! What the command answers.
-ghost use Rattle.std.specs.Prelude.{◌≤◌, length, IfErr};
+ghost use Rattle.std.specs.Prelude.{◌≡◌, ◌≤◌, [], length, IfErr};
 ghost use Rattle.sf_field.specs.Asking.{Asks};
 ghost use Rattle.sf_field.specs.Lines.{ParsesLines};
 ghost use Rattle.sf_tool.specs.declared.request.Request.TheVariants as request_is;
@@ -214,6 +214,17 @@ fn answer<W: Sink>(
     }
 }
 
+/// An empty text with room for most answers to so many bytes, or for none where memory is wanting.
+fn room_for(alloc: Global, length: usize) -> Vec<u8>
+    requires { length ≤ 1048576 }
+    ensures { result.items ≡ [] }
+{
+    match Vec::with_capacity(alloc, 2 * length) {
+        Ok(text) => text,
+        Err(_) => Vec::new(alloc),
+    }
+}
+
 /// Answers in one piece: the text is made whole in memory, and then sent. Where no memory is left
 /// for that, the request is answered anew, and its text is sent as it is made.
 fn answer_at_once<W: Sink>(
@@ -226,7 +237,7 @@ fn answer_at_once<W: Sink>(
     requires { length input.now ≤ 1048576 }
     ensures { Tells request.now input.now (W.state sink.old) (W.state sink.new) result }
 {
-    let mut made = Writing::new(Vec::new(alloc));
+    let mut made = Writing::new(room_for(alloc, input.len()));
     match answer(alloc, seed, request, input, &mut made) {
         Status::Accepted => {
             let text = made.into_inner();
@@ -250,7 +261,7 @@ fn answer_at_once<W: Sink>(
 /// asked for behind the end. A failed read is not repeated: it gives `Stopped`, as does want of
 /// memory, and then nothing was written. A failed write gives `Stopped`, and a front of the answer
 /// went out before it. Else the whole answer went out, and the status is its. It is never `Usage`,
-/// and the sink is not flushed. The source is asked for at most 65,536 bytes at a time, and the
+/// and the sink is not flushed. The source is asked for at most 262,144 bytes at a time, and the
 /// sink is handed the whole answer at once, where there is memory for that.
 ///
 /// ```
