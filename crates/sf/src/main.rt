@@ -38,7 +38,7 @@ fn answer(rt: &HostRuntime, request: &Request) -> Status {
     let Ok(seed) = RandomState::new(rt) else {
         return Status::Stopped;
     };
-    let mut source = Reading::new(rt.reader());
+    let mut source = Reading::new(rt.stdin());
     let mut sink = Writing::new(rt.stdout());
     let status = run(rt.alloc(), &seed, request, &mut source, &mut sink);
     status.after_flush(sink.into_inner().flush())

@@ -113,3 +113,37 @@ impl Sink for Trickle {
         Ok(1)
     }
 }
+
+/// Takes all bytes of a call. The calls are counted from 1.
+#[derive(Drop)]
+pub(crate) struct Tally {
+    pub(crate) taken: Vec<u8>,
+    pub(crate) calls: u64,
+    failures: u64,
+}
+
+impl Tally {
+    pub(crate) fn new(alloc: Global) -> Tally {
+        Tally {
+            taken: Vec::new(alloc),
+            calls: 0,
+            failures: 0,
+        }
+    }
+}
+
+impl Sink for Tally {
+    ghost state = { λ t. record { taken = Some t.taken.items; failures = t.failures } };
+
+    fn send(&mut self, bytes: &[u8]) -> Result<usize, Failed> {
+        if bytes.is_empty() {
+            return Ok(0);
+        }
+        self.calls = self.calls.saturating_add(1);
+        if self.taken.extend_from_slice(bytes).is_err() {
+            self.failures = self.failures.saturating_add(1);
+            return Err(Failed);
+        }
+        Ok(bytes.len())
+    }
+}

@@ -1,6 +1,7 @@
 //! `show`, `check` and `normalise`.
+use crate::devices::{Paced, Tally};
 use crate::rows::{ACCEPTED, REFUSED, Row, expect_long, expect_rows};
-use sf_tool::Request;
+use sf_tool::{Request, run};
 use sf_value::{Dialect, Kind};
 use std::alloc::{AllocError, Global};
 use std::hash::RandomState;
@@ -192,5 +193,36 @@ fn long_inputs(rt: HostRuntime) -> Result<(), Fail> {
     let too_long = b"refused too long 1048576\n";
     expect_long(&rt, &seed, &item, longer.as_slice(), too_long, REFUSED);
     expect_long(&rt, &seed, &list, longer.as_slice(), too_long, REFUSED);
+    Ok(())
+}
+
+// "a,a,..,a", so many times "a".
+fn members(alloc: Global, count: u64) -> Result<Vec<u8>, AllocError> {
+    let mut bytes = Vec::new(alloc);
+    bytes.push(b'a')?;
+    for _ in 1..count {
+        bytes.extend_from_slice(b",a")?;
+    }
+    Ok(bytes)
+}
+
+#[test]
+fn few_calls(rt: HostRuntime) -> Result<(), Fail> {
+    let seed = RandomState::new(&rt)?;
+    let input = members(rt.alloc(), 524_288)?;
+    assert_eq!(&rt; input.len(), 1_048_575);
+    for (request, written) in [
+        (Request::Check(Dialect::Rfc9651, Kind::List), 9),
+        (Request::Normalise(Dialect::Rfc9651, Kind::List), 1_572_863),
+        (Request::Show(Dialect::Rfc9651, Kind::List), 5_242_892),
+    ] {
+        let mut source = Paced::new(input.as_slice(), 1_048_576, 0, 0);
+        let mut sink = Tally::new(rt.alloc());
+        let answer = run(rt.alloc(), &seed, &request, &mut source, &mut sink);
+        assert_eq!(&rt; answer, ACCEPTED);
+        assert_eq!(&rt; sink.taken.len(), written);
+        assert_eq!(&rt; sink.calls, 1);
+        assert_eq!(&rt; source.calls, 5);
+    }
     Ok(())
 }

@@ -1,7 +1,7 @@
 // The words of the command, and runs of it.
 use crate::expecting::{Drip, seen_if};
 use http_header::HeaderName;
-use sf_scarce::{Seen, refusals};
+use sf_scarce::{Seen, refusals, seen_without_memory};
 use sf_tool::{Request, RequestFault, Status, read_request, run};
 use sf_value::{Dialect, Kind, Writing};
 use std::alloc::Global;
@@ -252,5 +252,31 @@ fn runs_of_a_consumer(rt: HostRuntime) -> Result<(), Fail> {
         let found = run_refusals(alloc, &seed, request, row)?;
         assert!(rt; found > Some(0), "{found:?}");
     }
+    Ok(())
+}
+
+// An answer goes out where no memory is left for its text.
+#[test]
+fn answers_without_memory(rt: HostRuntime) -> Result<(), Fail> {
+    let alloc = rt.alloc();
+    let seed = RandomState::new(&rt)?;
+    let mut room = Vec::with_capacity(alloc, 1000)?;
+    let list = Request::Normalise(Dialect::Rfc9651, Kind::List);
+    let seen = seen_without_memory(alloc, || {
+        ran(
+            alloc,
+            &seed,
+            &list,
+            (b"", b"\n", Status::Accepted),
+            &mut room,
+        )
+    });
+    assert_eq!(&rt; seen, Some(Seen::Right));
+    let item = Request::Show(Dialect::Rfc9651, Kind::Item);
+    let text = b"refused at 0 ended expected 20 22 25 2a 2d 30-3a 3f-5a 61-7a\n";
+    let seen = seen_without_memory(alloc, || {
+        ran(alloc, &seed, &item, (b"", text, Status::Refused), &mut room)
+    });
+    assert_eq!(&rt; seen, Some(Seen::Right));
     Ok(())
 }

@@ -1,6 +1,6 @@
 //! Texts with their status, each written to its end. A text is whole before its first byte is
 //! written.
-ghost use Rattle.std.specs.Prelude.{codes};
+ghost use Rattle.std.specs.Prelude.{◌≡◌, ◌⊎◌, codes};
 ghost use Rattle.sf_write.specs.Writing.{Writes};
 ghost use Rattle.sf_tool.specs.declared.status.Status.TheVariants as status_is;
 ghost use Rattle.sf_tool.specs.ChoiceLines.{field_lines, refused_line};
@@ -28,6 +28,17 @@ fn write_canonical<W: Sink>(field: &Field, out: &mut W) -> Result<u64, WriteFaul
 {
     let written = write_field_from(field, 0, out)?;
     send_all(b"\n", written, out)
+}
+
+/// A text that was made before, and the status of the input that it tells.
+pub(crate) fn answer_made<W: Sink>(text: &[u8], status: Status, sink: &mut W) -> Status
+    requires { status ≡ status_is.Accepted ⊎ status ≡ status_is.Refused }
+    ensures { TellsText text.now status (W.state sink.old) (W.state sink.new) result }
+{
+    match send_all(text, 0, sink) {
+        Ok(_) => status,
+        Err(_) => Status::Stopped,
+    }
 }
 
 pub(crate) fn answer_tree<W: Sink>(field: Field, sink: &mut W) -> Status

@@ -5,6 +5,9 @@ ghost use Rattle.sf_tool.specs.Reading.{ReadToEnd, StoppedFor};
 use sf_value::Source;
 use std::alloc::Global;
 
+/// How many bytes are asked for at a time, at most.
+const BLOCK: usize = 262_144;
+
 /// Why not all that a source gives was read.
 #[derive(Clone, Copy, Debug, PartialEq, Eq)]
 pub(crate) enum ReadAllFault {
@@ -17,7 +20,9 @@ pub(crate) enum ReadAllFault {
 }
 
 /// All that the source gives to its end, if that is at most `max` bytes. It asks for no byte behind
-/// the end, nor behind a failed read, nor where one byte more than `max` came.
+/// the end, nor behind a failed read, nor where one byte more than `max` came. Its block leaves the
+/// stack with it.
+#[inline(never)]
 pub(crate) fn read_all<R: Source>(
     alloc: Global,
     max: u64,
@@ -29,10 +34,10 @@ pub(crate) fn read_all<R: Source>(
         (λ fault. StoppedFor (R.state source.old) (R.state source.new) max fault) }
 {
     let mut all = Vec::new(alloc);
-    let mut block = [0u8; 512];
+    let mut block = [0u8; BLOCK];
     let mut given = 0u64;
     loop {
-        let room = (max - given + 1).min(512) as usize;
+        let room = (max - given + 1).min(BLOCK as u64) as usize;
         match source.pull(&mut block[..room]) {
             Ok(0) => return Ok(all),
             Ok(n) => {

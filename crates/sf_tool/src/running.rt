@@ -1,5 +1,5 @@
 //! What the command answers.
-ghost use Rattle.std.specs.Prelude.{◌≤◌, length, IfErr};
+ghost use Rattle.std.specs.Prelude.{◌≡◌, ◌≤◌, [], length, IfErr};
 ghost use Rattle.sf_field.specs.Asking.{Asks};
 ghost use Rattle.sf_field.specs.Lines.{ParsesLines};
 ghost use Rattle.sf_tool.specs.declared.request.Request.TheVariants as request_is;
@@ -10,9 +10,9 @@ ghost use Rattle.sf_tool.specs.Run.{Ran, Tells, TellsInputFault, TellsText};
 ghost use Rattle.sf_tool.specs.Run.{IsOfText, IsAskOfText};
 
 use crate::answering::{
-    answer_accepted, answer_canonical, answer_chosen, answer_fallback, answer_not_a_cache,
-    answer_path, answer_priority, answer_refusal, answer_refused_line, answer_too_long,
-    answer_tree,
+    answer_accepted, answer_canonical, answer_chosen, answer_fallback, answer_made,
+    answer_not_a_cache, answer_path, answer_priority, answer_refusal, answer_refused_line,
+    answer_too_long, answer_tree,
 };
 use crate::cutting::lines_of;
 use crate::fields::{InputFault, read_fields};
@@ -23,7 +23,7 @@ use http_header::HeaderName;
 use sf_field::{AskFault, Consumer, UseFault, ask, parse_lines_in};
 use sf_parse::Refusal;
 use sf_use::{CacheStatus, Choice, PriorityField, select};
-use sf_value::{Dialect, Field, Kind, Sink, Source};
+use sf_value::{Dialect, Field, Kind, Sink, Source, Writing};
 use std::alloc::Global;
 use std::hash::RandomState;
 
@@ -214,6 +214,46 @@ fn answer<W: Sink>(
     }
 }
 
+/// An empty text with room for most answers to so many bytes, or for none where memory is wanting.
+fn room_for(alloc: Global, length: usize) -> Vec<u8>
+    requires { length ≤ 1048576 }
+    ensures { result.items ≡ [] }
+{
+    match Vec::with_capacity(alloc, 2 * length) {
+        Ok(text) => text,
+        Err(_) => Vec::new(alloc),
+    }
+}
+
+/// Answers in one piece: the text is made whole in memory, and then sent. Where no memory is left
+/// for that, the request is answered anew, and its text is sent as it is made.
+fn answer_at_once<W: Sink>(
+    alloc: Global,
+    seed: &RandomState,
+    request: &Request,
+    input: &[u8],
+    sink: &mut W,
+) -> Status
+    requires { length input.now ≤ 1048576 }
+    ensures { Tells request.now input.now (W.state sink.old) (W.state sink.new) result }
+{
+    let mut made = Writing::new(room_for(alloc, input.len()));
+    match answer(alloc, seed, request, input, &mut made) {
+        Status::Accepted => {
+            let text = made.into_inner();
+            answer_made(text.as_slice(), Status::Accepted, sink)
+        }
+        Status::Refused => {
+            let text = made.into_inner();
+            answer_made(text.as_slice(), Status::Refused, sink)
+        }
+        _ => {
+            drop(made);
+            answer(alloc, seed, request, input, sink)
+        }
+    }
+}
+
 /// Answers a request: reads the whole input from the source, computes, and then writes to the sink.
 ///
 /// An input longer than [`INPUT_LIMIT`] is refused: one byte beyond the limit is read, none is
@@ -221,7 +261,8 @@ fn answer<W: Sink>(
 /// asked for behind the end. A failed read is not repeated: it gives `Stopped`, as does want of
 /// memory, and then nothing was written. A failed write gives `Stopped`, and a front of the answer
 /// went out before it. Else the whole answer went out, and the status is its. It is never `Usage`,
-/// and the sink is not flushed.
+/// and the sink is not flushed. The source is asked for at most 262,144 bytes at a time, and the
+/// sink is handed the whole answer at once, where there is memory for that.
 ///
 /// ```
 /// let request = Request::Normalise(Dialect::Rfc9651, Kind::Item);
@@ -240,7 +281,7 @@ pub fn run<R: Source, W: Sink>(
         (W.state sink.old) (W.state sink.new) result }
 {
     match read_all(alloc, INPUT_LIMIT, source) {
-        Ok(input) => answer(alloc, seed, request, input.as_slice(), sink),
+        Ok(input) => answer_at_once(alloc, seed, request, input.as_slice(), sink),
         Err(ReadAllFault::TooLong { max: _ }) => answer_too_long(sink),
         Err(_) => Status::Stopped,
     }
