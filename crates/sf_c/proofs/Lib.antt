@@ -3,3 +3,5 @@ pub mod Joins
 pub mod NodeSteps
 pub mod OneValue
 pub mod NodeBound
+pub mod HopLemmas
+pub mod OneHop

@@ -1,5 +1,5 @@
-//! Laws of the nodes, each as the contract of a function that does nothing.
-ghost use Rattle.sf_c.specs.Laws.{BytesAreFew, NodesAreFew, TellOneValue};
+//! Laws of the nodes and of the hops, each as the contract of a function that does nothing.
+ghost use Rattle.sf_c.specs.Laws.{BytesAreFew, NodesAreFew, TellOnePath, TellOneValue};
 
 use sf_value::laws::canon_is_short;
 
@@ -16,3 +16,8 @@ pub fn nodes_are_few()
 {
     canon_is_short();
 }
+
+/// Structs of hops, with the bytes that they point into, tell at most one path.
+pub fn hops_tell_one_path()
+    ensures { TellOnePath }
+{}
