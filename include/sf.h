@@ -161,8 +161,8 @@ typedef struct sf_node {
   uint32_t type;      /* an sf_type */
 } sf_node;
 
-/* A room of so many nodes, or of so many bytes, is never too small for the value of a text of this
- * length; for lengths up to SIZE_MAX / 8. */
+/* A room of so many nodes or hops, or of so many bytes, is never too small for the value of a text
+ * of this length; for lengths up to SIZE_MAX / 8. */
 #define SF_PARSE_ROOM(length) ((length) * 8 / 5 + 1)
 
 /* How many nodes and bytes a value has. */
@@ -331,8 +331,9 @@ typedef struct sf_path {
  *   SF_REFUSED      the text spells no List, and refusal says where and why
  *   SF_NO_MEMORY
  *
- * Where the answer is neither SF_OK nor SF_SHORT, both rooms are left as they were, and so is path
- * but for nameless, which is written exactly where the answer is SF_NOT_A_CACHE.
+ * Rooms of SF_PARSE_ROOM(text_length) hops and bytes are never too small. Where the answer is
+ * neither SF_OK nor SF_SHORT, both rooms are left as they were, and so is path but for nameless,
+ * which is written exactly where the answer is SF_NOT_A_CACHE.
  */
 uint32_t sf_cache_status(const sf_seed *seed, const void *text, size_t text_length, sf_hop *hops,
                          size_t hops_room, void *bytes, size_t bytes_room, sf_path *path,

@@ -5,3 +5,4 @@ pub mod OneValue
 pub mod NodeBound
 pub mod HopLemmas
 pub mod OneHop
+pub mod HopBound

@@ -1,5 +1,5 @@
 -- What the text of a Cache-Status field answers (RFC 9211 section 2).
-use Rattle.std.specs.Prelude.{◌≡◌, ℕ, ◌<◌, ◌⊎◌, List as Seq, length, map, is_some, unwrap_or}
+use Rattle.std.specs.Prelude.{◌≡◌, ℕ, ◌+◌, ◌*◌, ◌<◌, ◌≤◌, ◌⊎◌, List as Seq, length, map, is_some, unwrap_or}
 use Rattle.std.specs.Prelude.{Option, Some, None, Ok, Err}
 use Rattle.sf_value.specs.declared.dialect.Dialect.TheVariants.{Rfc9651}
 use Rattle.sf_value.specs.declared.value.Field.{Field}
@@ -17,11 +17,14 @@ use Rattle.sf_c.specs.declared.status.Status.TheVariants.{NotACache}
 use Rattle.sf_c.specs.Hops.{hops_size, told_hop, HopsAtFront}
 use Rattle.sf_c.specs.Refusals.{SaysRefusal, flag_number}
 
--- the struct says how many hops and bytes there are, and which hop the response came from
-abbrev pub SaysPath : Path → Seq Hop → Type 0
-SaysPath p hs =
+-- the struct says how many hops and bytes there are, and which hop the response came from: of a
+-- text t hops are at most one more than eight fifths of its length, bytes at most eight fifths
+abbrev pub SaysPath : Seq ℕ → Path → Seq Hop → Type 0
+SaysPath t p hs =
     (p.hops ≡ length hs)
     × (p.bytes ≡ hops_size (map told_hop hs))
+    × (5 * p.hops ≤ 8 * length t + 5)
+    × (5 * p.bytes ≤ 8 * length t)
     × (p.served ≡ unwrap_or (served hs) 0)
     × (p.is_served ≡ flag_number (is_some (served hs)))
 
@@ -48,7 +51,7 @@ TellsPath old new t (Some Answered) =
     (v : Field) × (hs : Seq Hop)
     × IsOnly Rfc9651 List t v
     × (hops v ≡ Ok hs)
-    × SaysPath new.path hs
+    × SaysPath t new.path hs
     × (new.path.nameless ≡ old.path.nameless)
     × HopsAtFront (map told_hop hs) old.hops new.hops old.bytes new.bytes
     × (new.refusal ≡ old.refusal)
@@ -56,7 +59,7 @@ TellsPath old new t (Some Short) =
     (v : Field) × (hs : Seq Hop)
     × IsOnly Rfc9651 List t v
     × (hops v ≡ Ok hs)
-    × SaysPath new.path hs
+    × SaysPath t new.path hs
     × (new.path.nameless ≡ old.path.nameless)
     × IsTooSmall old new.path
     × KeepsRooms old new

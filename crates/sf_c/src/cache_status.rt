@@ -5,6 +5,7 @@ ghost use Rattle.sf_c.specs.Statuses.{status_at};
 
 use crate::call::parse;
 use crate::hops::{HopNode, flatten_hops};
+use crate::laws::hops_are_few;
 use crate::refusal::SyntaxRefusal;
 use crate::seed::Seed;
 use crate::status::Status;
@@ -60,6 +61,7 @@ fn path_of(
     let Ok(flat) = flatten_hops(alloc, caches.hops()) else {
         return Status::OutOfMemory;
     };
+    hops_are_few();
     let served = caches.served_by();
     path.hops = flat.count();
     path.bytes = flat.size();

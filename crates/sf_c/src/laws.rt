@@ -1,5 +1,5 @@
 //! Laws of the nodes and of the hops, each as the contract of a function that does nothing.
-ghost use Rattle.sf_c.specs.Laws.{BytesAreFew, NodesAreFew, TellOnePath, TellOneValue};
+ghost use Rattle.sf_c.specs.Laws.{BytesAreFew, HopsAreFew, NodesAreFew, TellOnePath, TellOneValue};
 
 use sf_value::laws::canon_is_short;
 
@@ -21,3 +21,11 @@ pub fn nodes_are_few()
 pub fn hops_tell_one_path()
     ensures { TellOnePath }
 {}
+
+/// The path that a text tells has at most one hop more than eight fifths of the text's length, and
+/// at most eight fifths of it in bytes.
+pub fn hops_are_few()
+    ensures { HopsAreFew }
+{
+    nodes_are_few();
+}
