@@ -1,8 +1,9 @@
 -- A path has at most as many hops as the value of its text has nodes, and at most as many bytes.
-use Rattle.std.proofs.Common.{◌≡◌, ℕ, ◌+◌, ◌≤◌, Bool, true, false, List as Seq, [], ◌∷◌, length}
+use Rattle.std.proofs.Common.{◌≡◌, ℕ, ◌+◌, ◌*◌, ◌≤◌, Bool, true, false, List as Seq, [], ◌∷◌, length}
 use Rattle.std.proofs.Common.{map, Option, Some, None, Ok, Err, Result, refl, sym, ap, ◌∙◌, arith}
 use Rattle.std.proofs.Common.{codes, bytes_eq, length-append}
 use Rattle.std.proofs.lemmas.Bool.{false≢true}
+use Rattle.std.proofs.lemmas.List.{length-map}
 use Rattle.std.proofs.lemmas.Slice.Eq.{bytes_eq-Decides}
 use Rattle.std.specs.List.{cons_option, filter_map}
 use Rattle.std.specs.Map.{lookup}
@@ -29,7 +30,8 @@ use Rattle.sf_use.specs.CacheStatus.Hops.{passed_by_token, unless}
 use Rattle.sf_use.specs.CacheStatus.Members.{passed_by}
 use Rattle.sf_c.specs.Nodes.{text_of, told_field, told_member, told_members, told_params}
 use Rattle.sf_c.specs.Tellings.{told_size}
-use Rattle.sf_c.specs.Hops.{bytes_of, detail_bytes, hop_size, hops_size, told_hop, why_token}
+use Rattle.sf_c.specs.Hops.{ToldHop, bytes_of, detail_bytes, hop_size, hops_size, told_hop}
+use Rattle.sf_c.specs.Hops.{why_token}
 use Rattle.sf_c.proofs.TellingLemmas.{told_size-append}
 
 -- how many bytes a bare item has, where there is one
@@ -105,22 +107,22 @@ abbrev AreTheirs : Pairs Forward → Type 0
 AreTheirs [] = Unit {0}
 AreTheirs (p ∷ ps) = (token_of p.1 ≡ p.0) × AreTheirs ps
 
-from_some : Forward → Option Forward → Forward
+abbrev from_some : Forward → Option Forward → Forward
 from_some w (Some v) = v
 from_some w None = w
 
 found : (s : Seq ℕ) (w : Forward) (ps : Pairs Forward) → AreTheirs ps → value_at s ps ≡ Some w
     → token_of w ≡ s
 found s w [] h e = let never : None ≡ Some w = e in absurd cc
-found s w (p ∷ ps) h e = go (bytes_eq s p.0) refl e
+found s w (p ∷ ps) h e = go (bytes_eq s p.0) refl e (found s w ps h.1)
   where
-    go : (b : Bool) → bytes_eq s p.0 ≡ b → value_at s (p ∷ ps) ≡ Some w → token_of w ≡ s
-    go true i f =
+    go : (b : Bool) → bytes_eq s p.0 ≡ b → value_at s (p ∷ ps) ≡ Some w
+        → (value_at s ps ≡ Some w → token_of w ≡ s) → token_of w ≡ s
+    go true i f rest =
         let here : Some p.1 ≡ Some w = rw i at f in
         ap token_of (sym (ap (from_some w) here)) ∙ h.0 ∙ sym ((bytes_eq-Decides s p.0).0 i)
-    go false i f =
-        let there : value_at s ps ≡ Some w = rw i at f in
-        found s w ps h.1 there
+    go false i f rest =
+        let there : value_at s ps ≡ Some w = rw i at f in rest there
 
 forward_back : (s : Seq ℕ) → token_of (forward_of s) ≡ s
 forward_back s = go (value_at s reasons) refl
@@ -129,7 +131,7 @@ forward_back s = go (value_at s reasons) refl
     go None e = ap (λ o. token_of (unwrap_or o (Other s))) e
     go (Some w) e =
         ap (λ o. token_of (unwrap_or o (Other s))) e
-        ∙ found s w reasons (refl, refl, refl, refl, refl, refl, refl, refl, tt) e
+        ∙ found s w reasons (refl, (refl, (refl, (refl, (refl, (refl, (refl, (refl, tt)))))))) e
 
 -- a parameter as a token, as a text and as a detail
 token_few : (ps : Pairs Bare) (o : Option Bare)
@@ -240,7 +242,7 @@ members_count (m ∷ ms) = go (member_hop m) refl (member_some m) (members_count
         let both = length-append (told_member [] m) (told_members ms) in rw e (omega arith)
 
 -- the hops of an answer
-from_ok : Seq Hop → Result (Seq Hop) ℕ → Seq Hop
+abbrev from_ok : Seq Hop → Result (Seq Hop) ℕ → Seq Hop
 from_ok hs (Ok js) = js
 from_ok hs (Err index) = hs
 
@@ -268,3 +270,19 @@ path_few (field.Dict d) hs e =
     let count = ap length same in
     let size = ap (λ js. hops_size (map told_hop js)) same in
     (omega arith, omega arith)
+
+-- the same of numbers that say how many there are
+pub count_few : (n m : ℕ) (ts : Seq ToldHop) (js hs : Seq Hop) → n ≡ length ts
+    → ts ≡ map told_hop js → js ≡ hs → 5 * length hs ≤ m → 5 * n ≤ m
+count_few n m ts js hs e f g h =
+    let told = ap length f in
+    let each = length-map js told_hop in
+    let same = ap length g in
+    omega arith
+
+pub size_few : (n m : ℕ) (ts : Seq ToldHop) (js hs : Seq Hop) → n ≡ hops_size ts
+    → ts ≡ map told_hop js → js ≡ hs → 5 * hops_size (map told_hop hs) ≤ m → 5 * n ≤ m
+size_few n m ts js hs e f g h =
+    let told = ap hops_size f in
+    let same = ap (λ z. hops_size (map told_hop z)) g in
+    omega arith

@@ -37,9 +37,15 @@ TellOnePath =
     → map (told_hop_by bytes) hops ≡ map told_hop hs
     → map (told_hop_by bytes) hops ≡ map told_hop js → hs ≡ js
 
--- how many hops and bytes the path that a text tells may have
+-- how many hops the path that a text tells may have
 abbrev pub HopsAreFew : Type 0
 HopsAreFew =
     (d : Dialect) (kind : Kind) (t : List ℕ) (v : Field) (hs : List Hop)
+    → SpellsField d kind t v → hops v ≡ Ok hs → 5 * length hs ≤ 8 * length t + 5
+
+-- how many bytes it may have
+abbrev pub HopBytesAreFew : Type 0
+HopBytesAreFew =
+    (d : Dialect) (kind : Kind) (t : List ℕ) (v : Field) (hs : List Hop)
     → SpellsField d kind t v → hops v ≡ Ok hs
-    → (5 * length hs ≤ 8 * length t + 5) × (5 * hops_size (map told_hop hs) ≤ 8 * length t)
+    → 5 * hops_size (map told_hop hs) ≤ 8 * length t

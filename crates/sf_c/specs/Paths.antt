@@ -1,6 +1,6 @@
 -- What the text of a Cache-Status field answers (RFC 9211 section 2).
 use Rattle.std.specs.Prelude.{◌≡◌, ℕ, ◌+◌, ◌*◌, ◌<◌, ◌≤◌, ◌⊎◌, List as Seq, length, map, is_some, unwrap_or}
-use Rattle.std.specs.Prelude.{Option, Some, None, Ok, Err}
+use Rattle.std.specs.Prelude.{Option, Some, None, Ok, Err, ⊤}
 use Rattle.sf_value.specs.declared.dialect.Dialect.TheVariants.{Rfc9651}
 use Rattle.sf_value.specs.declared.value.Field.{Field}
 use Rattle.sf_value.specs.declared.value.Kind.TheVariants.{List}
@@ -17,14 +17,11 @@ use Rattle.sf_c.specs.declared.status.Status.TheVariants.{NotACache}
 use Rattle.sf_c.specs.Hops.{hops_size, told_hop, HopsAtFront}
 use Rattle.sf_c.specs.Refusals.{SaysRefusal, flag_number}
 
--- the struct says how many hops and bytes there are, and which hop the response came from: of a
--- text t hops are at most one more than eight fifths of its length, bytes at most eight fifths
-abbrev pub SaysPath : Seq ℕ → Path → Seq Hop → Type 0
-SaysPath t p hs =
+-- the struct says how many hops and bytes there are, and which hop the response came from
+abbrev pub SaysPath : Path → Seq Hop → Type 0
+SaysPath p hs =
     (p.hops ≡ length hs)
     × (p.bytes ≡ hops_size (map told_hop hs))
-    × (5 * p.hops ≤ 8 * length t + 5)
-    × (5 * p.bytes ≤ 8 * length t)
     × (p.served ≡ unwrap_or (served hs) 0)
     × (p.is_served ≡ flag_number (is_some (served hs)))
 
@@ -51,7 +48,7 @@ TellsPath old new t (Some Answered) =
     (v : Field) × (hs : Seq Hop)
     × IsOnly Rfc9651 List t v
     × (hops v ≡ Ok hs)
-    × SaysPath t new.path hs
+    × SaysPath new.path hs
     × (new.path.nameless ≡ old.path.nameless)
     × HopsAtFront (map told_hop hs) old.hops new.hops old.bytes new.bytes
     × (new.refusal ≡ old.refusal)
@@ -59,7 +56,7 @@ TellsPath old new t (Some Short) =
     (v : Field) × (hs : Seq Hop)
     × IsOnly Rfc9651 List t v
     × (hops v ≡ Ok hs)
-    × SaysPath t new.path hs
+    × SaysPath new.path hs
     × (new.path.nameless ≡ old.path.nameless)
     × IsTooSmall old new.path
     × KeepsRooms old new
@@ -75,3 +72,14 @@ TellsPath old new t (Some Refused) =
     SaysRefusal Rfc9651 List t new.refusal × KeepsRooms old new × (new.path ≡ old.path)
 TellsPath old new t (Some OutOfMemory) = new ≡ old
 TellsPath old new t status = ⊥
+
+-- of a text t hops are at most one more than eight fifths of its length, and bytes at most eight
+-- fifths
+abbrev pub IsShort : Seq ℕ → Path → Type 0
+IsShort t p = (5 * p.hops ≤ 8 * length t + 5) × (5 * p.bytes ≤ 8 * length t)
+
+-- so are they where the struct says how many there are
+abbrev pub SaysFew : Seq ℕ → Path → Option Status → Type 0
+SaysFew t p (Some Answered) = IsShort t p
+SaysFew t p (Some Short) = IsShort t p
+SaysFew t p status = ⊤

@@ -1,6 +1,6 @@
 //! Cache-Status (RFC 9211).
 ghost use Rattle.std.specs.Prelude.{◌≡◌, Some};
-ghost use Rattle.sf_c.specs.Paths.{TellsPath};
+ghost use Rattle.sf_c.specs.Paths.{SaysFew, TellsPath};
 ghost use Rattle.sf_c.specs.Statuses.{status_at};
 
 use crate::call::parse;
@@ -41,10 +41,11 @@ fn path_of(
     path: &mut Path,
     refusal: &mut SyntaxRefusal,
 ) -> Status
-    ensures { TellsPath
+    ensures tells { TellsPath
         (record { hops = hops.old; bytes = bytes.old; path = path.old; refusal = refusal.old })
         (record { hops = hops.new; bytes = bytes.new; path = path.new; refusal = refusal.new })
         text.now (Some result) }
+    ensures few { SaysFew text.now path.new (Some result) }
 {
     let field = match parse(alloc, seed, Dialect::Rfc9651, Kind::List, text, refusal) {
         Ok(field) => field,
@@ -93,10 +94,11 @@ pub extern "C" fn sf_cache_status(
     path: &mut Path,
     refusal: &mut SyntaxRefusal,
 ) -> u32
-    ensures { TellsPath
+    ensures tells { TellsPath
         (record { hops = hops.old; bytes = bytes.old; path = path.old; refusal = refusal.old })
         (record { hops = hops.new; bytes = bytes.new; path = path.new; refusal = refusal.new })
         text.now (status_at result) }
+    ensures few { SaysFew text.now path.new (status_at result) }
 {
     path_of(alloc, seed, text, hops, bytes, path, refusal).code()
 }

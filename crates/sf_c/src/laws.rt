@@ -1,5 +1,6 @@
 //! Laws of the nodes and of the hops, each as the contract of a function that does nothing.
-ghost use Rattle.sf_c.specs.Laws.{BytesAreFew, HopsAreFew, NodesAreFew, TellOnePath, TellOneValue};
+ghost use Rattle.sf_c.specs.Laws.{BytesAreFew, NodesAreFew, TellOneValue};
+ghost use Rattle.sf_c.specs.Laws.{HopBytesAreFew, HopsAreFew, TellOnePath};
 
 use sf_value::laws::canon_is_short;
 
@@ -25,7 +26,8 @@ pub fn hops_tell_one_path()
 /// The path that a text tells has at most one hop more than eight fifths of the text's length, and
 /// at most eight fifths of it in bytes.
 pub fn hops_are_few()
-    ensures { HopsAreFew }
+    ensures hops { HopsAreFew }
+    ensures bytes { HopBytesAreFew }
 {
     nodes_are_few();
 }
