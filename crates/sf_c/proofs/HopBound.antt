@@ -5,7 +5,7 @@ use Rattle.std.proofs.Common.{codes, bytes_eq, length-append}
 use Rattle.std.proofs.lemmas.Bool.{false≢true}
 use Rattle.std.proofs.lemmas.List.{length-map}
 use Rattle.std.proofs.lemmas.Slice.Eq.{bytes_eq-Decides}
-use Rattle.std.specs.List.{cons_option, filter_map}
+use Rattle.std.specs.List.{filter_map}
 use Rattle.std.specs.Map.{lookup}
 use Rattle.std.specs.Option.{option_and_then, option_map}
 use Rattle.std.specs.Prelude.{unwrap_or}

@@ -1,10 +1,9 @@
 -- What the structs of hops tell stays when more bytes and more hops come.
-use Rattle.std.proofs.Common.{◌≡◌, ℕ, ◌+◌, ◌≤◌, List, [], ◌∷◌, ◌++◌, length, take, drop, map, refl}
+use Rattle.std.proofs.Common.{◌≡◌, ℕ, ◌+◌, ◌≤◌, List, [], ◌∷◌, ◌++◌, length, drop, map, refl}
 use Rattle.std.proofs.Common.{ap, ◌∙◌, arith, length-append}
 use Rattle.std.proofs.lemmas.List.{length-map, map-append}
 use Rattle.sf_use.specs.declared.cache_status.hop.Hop.{Hop}
 use Rattle.sf_use.specs.CacheStatus.Members.{passed_by}
-use Rattle.sf_use.specs.declared.cache_status.hop.Name.{Name}
 use Rattle.sf_c.specs.declared.hops.Piece.{Piece}
 use Rattle.sf_c.specs.declared.hops.HopNode.{HopNode}
 use Rattle.sf_c.specs.Hops.{ToldHop, piece_of, says_by, says_of, told_hop_by, told_hop}

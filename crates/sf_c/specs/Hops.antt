@@ -1,6 +1,6 @@
 -- What the structs of hops tell (RFC 9211 section 2).
 use Rattle.std.specs.Prelude.{◌≡◌, ℕ, ℤ, pos, ◌+◌, ◌≤◌, Bool, true, false, List, [], ◌∷◌, ◌++◌}
-use Rattle.std.specs.Prelude.{length, drop, map, Option, Some, None, is_some, unwrap_or}
+use Rattle.std.specs.Prelude.{length, drop, map, Option, is_some, unwrap_or}
 use Rattle.std.specs.Option.{option_and_then, option_map}
 use Rattle.sf_use.specs.declared.cache_status.hop.Name.{Name}
 use Rattle.sf_use.specs.declared.cache_status.hop.Name.TheVariants as name
