@@ -21,6 +21,17 @@
     }                                                                                              \
   } while (0)
 
+/* The archive does not count its branches for the fuzzer. It is told what the answers say instead:
+ * an input with an answer of a new shape is kept. */
+__attribute__((section("__libfuzzer_extra_counters"))) static uint8_t shapes[1 << 14];
+
+static void shape(uint64_t a, uint64_t b, uint64_t c) {
+  uint64_t hash = (a + 1) * UINT64_C(0x9e3779b97f4a7c15);
+  hash = (hash ^ b ^ hash >> 29) * UINT64_C(0xbf58476d1ce4e5b9);
+  hash = (hash ^ c ^ hash >> 32) * UINT64_C(0x94d049bb133111eb);
+  shapes[hash >> 50] = 1;
+}
+
 static const sf_seed seed = {{2, 7, 1, 8, 2, 8, 1, 8, 2, 8, 4, 5, 9, 0, 4, 5}};
 
 static void *block(size_t size) {
@@ -38,6 +49,11 @@ static uint8_t *copy(const uint8_t *text, size_t length) {
   return bytes;
 }
 
+/* The bytes of a text between two places. */
+static uint8_t *part(const uint8_t *text, size_t from, size_t to) {
+  return from < to ? copy(text + from, to - from) : NULL;
+}
+
 static int is_expected(const sf_refusal *refusal, unsigned byte) {
   uint64_t word = byte < 64 ? refusal->expected_low : refusal->expected_high;
   return byte < 128 && (word >> (byte % 64) & 1) != 0;
@@ -53,6 +69,7 @@ static void refused(uint32_t dialect, uint32_t kind, const uint8_t *text, size_t
   CHECK(refusal->found < 0 || !is_expected(refusal, (unsigned)refusal->found));
   CHECK(refusal->expected_low != 0 || refusal->expected_high != 0);
   CHECK(refusal->may_end <= 1);
+  shape(refusal->place < 16 ? refusal->place : 16, refusal->expected_low, refusal->expected_high);
 
   size_t place = (size_t)refusal->place;
   uint8_t *front = block(place + 1);
@@ -125,6 +142,7 @@ static void same_nodes(const value *v, const value *w) {
     CHECK(a->role != SF_PARAMETER || (a->key_length > 0 && a->span == 1));
     CHECK(a->role == b->role && a->type == b->type && a->number == b->number);
     CHECK(a->span == b->span);
+    shape(a->role * 16 + a->type, i > 0 ? v->nodes[i - 1].type + 1 : 0, a->span < 8 ? a->span : 8);
     CHECK(a->key_length == b->key_length && a->text_length == b->text_length);
     CHECK(same_piece(v->bytes, a->key_at, w->bytes, b->key_at, a->key_length));
     CHECK(same_piece(v->bytes, a->text_at, w->bytes, b->text_at, a->text_length));
@@ -172,7 +190,7 @@ static void joining(const uint8_t *text, size_t length) {
     int comma = i + 1 < length && text[i] == ',' && text[i + 1] == ' ';
     if (!comma && i < length)
       continue;
-    uint8_t *line = copy(text + from, i - from);
+    uint8_t *line = part(text, from, i);
     CHECK(sf_join(line, i - from, room, length, &joined) == SF_OK);
     free(line);
     from = i + 2;
@@ -200,7 +218,7 @@ static void pieces(uint32_t dialect, uint32_t kind, const uint8_t *text, size_t 
     bits = bits * 1664525u + 1013904223u;
     if (i < from || (i < length && (text[i] != ',' || bits >> 31 != 0)))
       continue;
-    uint8_t *piece = copy(text + from, i - from);
+    uint8_t *piece = part(text, from, i);
     size_t wanted = 0;
     uint32_t status = sf_normalise(&seed, dialect, kind, piece, i - from, line, line_room, &wanted,
                                    &refusal);
@@ -268,6 +286,8 @@ static void one_hop(const sf_hop *hop, size_t size) {
   CHECK(is_within(hop->name, size) && is_within(hop->why_token, size));
   CHECK(is_within(hop->key, size) && is_within(hop->detail, size));
   CHECK(hop->outcome <= SF_CONFLICT && hop->why <= SF_OTHER);
+  shape(hop->outcome * 16u + hop->why, hop->says_status * 4u + hop->says_stored * 2u +
+        hop->says_collapsed, hop->says_ttl * 4u + hop->says_key * 2u + hop->says_detail);
   CHECK((hop->why != SF_NO_FORWARD) == (hop->outcome >= SF_FORWARDED));
   CHECK((hop->why != SF_NO_FORWARD) == (hop->why_token.length > 0));
   CHECK(hop->says_status <= 1 && hop->says_stored <= 1 && hop->says_collapsed <= 1);
