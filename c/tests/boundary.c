@@ -610,6 +610,7 @@ static void told(const char *from, const hop_row *rows, size_t count, size_t siz
       free(bytes);
     }
   }
+  CHECK(count <= SF_PARSE_ROOM(length) && size <= SF_PARSE_ROOM(length));
   CHECK(is_untouched(&refusal));
   free(text);
 }
