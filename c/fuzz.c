@@ -1,11 +1,13 @@
 /* A fuzz target over the archive, for libFuzzer. The first byte of an input says the kind and the
  * dialect, the rest is a text. A text that is accepted is normalised, parsed again and compared;
- * its nodes and those of its canonical text are the same; rooms that are one short are answered
- * with what is wanted; the lines of the text, joined one by one, are the text again; a refusal
- * agrees with the front of the text that it names. Rooms are blocks of exactly their length, for
- * the address sanitizer.
+ * its nodes and those of its canonical text are the same, and so is its path of caches; rooms that
+ * are one short are answered with what is wanted; the lines of the text, joined one by one, are the
+ * text again; the text is accepted exactly where pieces of it are that are cut at some of its
+ * commas, and then it is equal to their canonical texts, joined; a refusal agrees with the front of
+ * the text that it names. Rooms are blocks of exactly their length, for the address sanitizer.
  */
 #include <sf.h>
+#include <stddef.h>
 #include <stdint.h>
 #include <stdio.h>
 #include <stdlib.h>
@@ -18,6 +20,17 @@
       abort();                                                                                     \
     }                                                                                              \
   } while (0)
+
+/* The archive does not count its branches for the fuzzer. It is told what the answers say instead:
+ * an input with an answer of a new shape is kept. */
+__attribute__((section("__libfuzzer_extra_counters"))) static uint8_t shapes[1 << 14];
+
+static void shape(uint64_t a, uint64_t b, uint64_t c) {
+  uint64_t hash = (a + 1) * UINT64_C(0x9e3779b97f4a7c15);
+  hash = (hash ^ b ^ hash >> 29) * UINT64_C(0xbf58476d1ce4e5b9);
+  hash = (hash ^ c ^ hash >> 32) * UINT64_C(0x94d049bb133111eb);
+  shapes[hash >> 50] = 1;
+}
 
 static const sf_seed seed = {{2, 7, 1, 8, 2, 8, 1, 8, 2, 8, 4, 5, 9, 0, 4, 5}};
 
@@ -36,6 +49,11 @@ static uint8_t *copy(const uint8_t *text, size_t length) {
   return bytes;
 }
 
+/* The bytes of a text between two places. */
+static uint8_t *part(const uint8_t *text, size_t from, size_t to) {
+  return from < to ? copy(text + from, to - from) : NULL;
+}
+
 static int is_expected(const sf_refusal *refusal, unsigned byte) {
   uint64_t word = byte < 64 ? refusal->expected_low : refusal->expected_high;
   return byte < 128 && (word >> (byte % 64) & 1) != 0;
@@ -51,6 +69,7 @@ static void refused(uint32_t dialect, uint32_t kind, const uint8_t *text, size_t
   CHECK(refusal->found < 0 || !is_expected(refusal, (unsigned)refusal->found));
   CHECK(refusal->expected_low != 0 || refusal->expected_high != 0);
   CHECK(refusal->may_end <= 1);
+  shape(refusal->place < 16 ? refusal->place : 16, refusal->expected_low, refusal->expected_high);
 
   size_t place = (size_t)refusal->place;
   uint8_t *front = block(place + 1);
@@ -123,6 +142,7 @@ static void same_nodes(const value *v, const value *w) {
     CHECK(a->role != SF_PARAMETER || (a->key_length > 0 && a->span == 1));
     CHECK(a->role == b->role && a->type == b->type && a->number == b->number);
     CHECK(a->span == b->span);
+    shape(a->role * 16 + a->type, i > 0 ? v->nodes[i - 1].type + 1 : 0, a->span < 8 ? a->span : 8);
     CHECK(a->key_length == b->key_length && a->text_length == b->text_length);
     CHECK(same_piece(v->bytes, a->key_at, w->bytes, b->key_at, a->key_length));
     CHECK(same_piece(v->bytes, a->text_at, w->bytes, b->text_at, a->text_length));
@@ -170,7 +190,7 @@ static void joining(const uint8_t *text, size_t length) {
     int comma = i + 1 < length && text[i] == ',' && text[i + 1] == ' ';
     if (!comma && i < length)
       continue;
-    uint8_t *line = copy(text + from, i - from);
+    uint8_t *line = part(text, from, i);
     CHECK(sf_join(line, i - from, room, length, &joined) == SF_OK);
     free(line);
     from = i + 2;
@@ -179,6 +199,130 @@ static void joining(const uint8_t *text, size_t length) {
   CHECK(joined.length == length && same_piece(room, 0, text, 0, length));
   CHECK(sf_join("a", 1, room, length, &joined) == SF_SHORT && joined.wanted == length + 3);
   free(room);
+}
+
+/* The text against pieces of it. It is cut behind a piece that is accepted and not empty, at a comma
+ * that its bytes choose, and the spaces behind the comma are left away. */
+static void pieces(uint32_t dialect, uint32_t kind, const uint8_t *text, size_t length,
+                   int is_some) {
+  uint32_t bits = 2166136261u;
+  for (size_t i = 0; i < length; ++i)
+    bits = (bits ^ text[i]) * 16777619u;
+  size_t room = SF_CANONICAL_ROOM(length) + 2 * length, line_room = SF_CANONICAL_ROOM(length);
+  uint8_t *whole = block(room), *line = block(line_room);
+  sf_joined joined = {0, 0, 0};
+  sf_refusal refusal;
+  size_t from = 0;
+  int is_whole = 0;
+  for (size_t i = 0; i <= length; ++i) {
+    bits = bits * 1664525u + 1013904223u;
+    if (i < from || (i < length && (text[i] != ',' || bits >> 31 != 0)))
+      continue;
+    uint8_t *piece = part(text, from, i);
+    size_t wanted = 0;
+    uint32_t status = sf_normalise(&seed, dialect, kind, piece, i - from, line, line_room, &wanted,
+                                   &refusal);
+    free(piece);
+    CHECK(status == SF_OK || status == SF_REFUSED);
+    if (status == SF_REFUSED || wanted == 0)
+      continue;
+    CHECK(sf_join(line, wanted, whole, room, &joined) == SF_OK);
+    is_whole = i == length;
+    from = i + 1;
+    while (from < length && (text[from] == ' ' || text[from] == '\t'))
+      ++from;
+  }
+  CHECK(is_whole == is_some);
+  if (is_whole) {
+    uint32_t equal = 0;
+    CHECK(sf_equal(&seed, dialect, kind, text, length, whole, joined.length, &equal, &refusal) ==
+          SF_OK);
+    CHECK(equal == 1);
+  }
+  free(line);
+  free(whole);
+}
+
+typedef struct caches {
+  sf_hop *hops;
+  uint8_t *bytes;
+  sf_path path;
+} caches;
+
+/* The path of a List, in rooms of exactly its size; no hops where a member names no cache. */
+static caches tell(const uint8_t *text, size_t length) {
+  caches c = {NULL, NULL, {0, 0, 0, 0, 0}};
+  sf_refusal refusal;
+  uint32_t status =
+      sf_cache_status(&seed, text, length, NULL, 0, NULL, 0, &c.path, &refusal);
+  if (status == SF_NOT_A_CACHE)
+    return c;
+  CHECK(status == (c.path.hops == 0 ? SF_OK : SF_SHORT));
+  CHECK(c.path.hops <= SF_PARSE_ROOM(length) && c.path.bytes <= SF_PARSE_ROOM(length));
+  c.hops = block(c.path.hops * sizeof *c.hops);
+  c.bytes = block(c.path.bytes);
+  sf_path path = {0, 0, 0, 0, 0};
+  if (c.path.hops > 0) {
+    status = sf_cache_status(&seed, text, length, c.hops, c.path.hops - 1, c.bytes, c.path.bytes,
+                             &path, &refusal);
+    CHECK(status == SF_SHORT && path.hops == c.path.hops && path.bytes == c.path.bytes);
+  }
+  if (c.path.bytes > 0) {
+    status = sf_cache_status(&seed, text, length, c.hops, c.path.hops, c.bytes, c.path.bytes - 1,
+                             &path, &refusal);
+    CHECK(status == SF_SHORT && path.hops == c.path.hops && path.bytes == c.path.bytes);
+  }
+  status = sf_cache_status(&seed, text, length, c.hops, c.path.hops, c.bytes, c.path.bytes, &path,
+                           &refusal);
+  CHECK(status == SF_OK && path.hops == c.path.hops && path.bytes == c.path.bytes);
+  return c;
+}
+
+static int is_within(sf_piece piece, size_t size) {
+  return piece.at <= size && piece.length <= size - piece.at;
+}
+
+static void one_hop(const sf_hop *hop, size_t size) {
+  CHECK(is_within(hop->name, size) && is_within(hop->why_token, size));
+  CHECK(is_within(hop->key, size) && is_within(hop->detail, size));
+  CHECK(hop->outcome <= SF_CONFLICT && hop->why <= SF_OTHER);
+  shape(hop->outcome * 16u + hop->why, hop->says_status * 4u + hop->says_stored * 2u +
+        hop->says_collapsed, hop->says_ttl * 4u + hop->says_key * 2u + hop->says_detail);
+  CHECK((hop->why != SF_NO_FORWARD) == (hop->outcome >= SF_FORWARDED));
+  CHECK((hop->why != SF_NO_FORWARD) == (hop->why_token.length > 0));
+  CHECK(hop->says_status <= 1 && hop->says_stored <= 1 && hop->says_collapsed <= 1);
+  CHECK(hop->says_ttl <= 1 && hop->says_key <= 1 && hop->says_detail <= 1);
+  CHECK(hop->says_status ? hop->status >= 100 && hop->status <= 999 : hop->status == 0);
+  CHECK(hop->stored <= hop->says_stored && hop->collapsed <= hop->says_collapsed);
+  CHECK(hop->says_ttl || hop->ttl == 0);
+  CHECK(hop->says_key || hop->key.length == 0);
+  CHECK(hop->says_detail || (hop->detail.length == 0 && !hop->detail_is_token));
+}
+
+/* The path of a text and that of its canonical text. */
+static void paths(const uint8_t *text, size_t length) {
+  sf_refusal refusal;
+  size_t wanted = SF_CANONICAL_ROOM(length);
+  uint8_t *canonical = block(wanted);
+  CHECK(sf_normalise(&seed, SF_RFC9651, SF_LIST, text, length, canonical, wanted, &wanted,
+                     &refusal) == SF_OK);
+  caches c = tell(text, length), d = tell(canonical, wanted);
+  CHECK(memcmp(&c.path, &d.path, offsetof(sf_path, is_served) + sizeof c.path.is_served) == 0);
+  CHECK(c.hops == NULL || memcmp(c.hops, d.hops, c.path.hops * sizeof *c.hops) == 0);
+  CHECK(same_piece(c.bytes, 0, d.bytes, 0, c.bytes == NULL ? 0 : c.path.bytes));
+  long served = -1;
+  for (size_t i = 0; c.hops != NULL && i < c.path.hops; ++i) {
+    one_hop(&c.hops[i], c.path.bytes);
+    if (c.hops[i].outcome == SF_HIT)
+      served = (long)i;
+  }
+  CHECK(c.path.is_served == (served >= 0));
+  CHECK(c.path.served == (served < 0 ? 0 : (size_t)served));
+  free(c.hops);
+  free(c.bytes);
+  free(d.hops);
+  free(d.bytes);
+  free(canonical);
 }
 
 static void consumers(const uint8_t *text, size_t length, int is_dict) {
@@ -202,6 +346,13 @@ static void consumers(const uint8_t *text, size_t length, int is_dict) {
   CHECK(policy.says_s_maxage || shared == alone);
 }
 
+static int has_members(uint32_t dialect, uint32_t kind, const uint8_t *text, size_t length) {
+  sf_refusal refusal;
+  size_t wanted = 0;
+  sf_normalise(&seed, dialect, kind, text, length, NULL, 0, &wanted, &refusal);
+  return wanted > 0;
+}
+
 int LLVMFuzzerTestOneInput(const uint8_t *data, size_t size);
 
 int LLVMFuzzerTestOneInput(const uint8_t *data, size_t size) {
@@ -218,6 +369,10 @@ int LLVMFuzzerTestOneInput(const uint8_t *data, size_t size) {
   else
     refused(dialect, kind, text, length, &refusal);
   joining(text, length);
+  if (kind != SF_ITEM)
+    pieces(dialect, kind, text, length, status == SF_OK && has_members(dialect, kind, text, length));
+  if (kind == SF_LIST && dialect == SF_RFC9651 && status == SF_OK)
+    paths(text, length);
   if (kind == SF_DICT && dialect == SF_RFC9651)
     consumers(text, length, status == SF_OK);
   free(text);

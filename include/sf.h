@@ -1,7 +1,8 @@
 /*
- * Structured Field Values for HTTP (RFC 9651), proved: parse, compare and write them, and what
- * three fields mean: Priority (RFC 9218), the targeted cache control fields (RFC 9213) and the
- * lines of any field joined. The archive libsf.a has these functions and needs the C library alone.
+ * Structured Field Values for HTTP (RFC 9651), proved: parse, compare and write them, join the
+ * lines of a field, and what three fields mean: Priority (RFC 9218), the targeted cache control
+ * fields (RFC 9213) and Cache-Status (RFC 9211). The archive libsf.a has these functions and needs
+ * the C library alone.
  *
  * Nothing that the library owns crosses: the caller gives the room for each answer, and where a
  * room is too small the answer is SF_SHORT and says how much was wanted. Memory that a call takes
@@ -41,7 +42,8 @@ typedef enum sf_status {
   SF_SHORT = 3,          /* a room is too small */
   SF_NO_MEMORY = 4,      /* malloc or realloc gave none */
   SF_EMPTY = 5,          /* the field has no member, so it says nothing */
-  SF_BAD_CALL = 6        /* no such kind or dialect, or a length greater than its room */
+  SF_BAD_CALL = 6,       /* no such kind or dialect, or a length greater than its room */
+  SF_NOT_A_CACHE = 7     /* a member of a Cache-Status List names no cache */
 } sf_status;
 
 /* The kind of a field; the field's definition names it. */
@@ -159,8 +161,8 @@ typedef struct sf_node {
   uint32_t type;      /* an sf_type */
 } sf_node;
 
-/* A room of so many nodes, or of so many bytes, is never too small for the value of a text of this
- * length; for lengths up to SIZE_MAX / 8. */
+/* A room of so many nodes or hops, or of so many bytes, is never too small for the value of a text
+ * of this length; for lengths up to SIZE_MAX / 8. */
 #define SF_PARSE_ROOM(length) ((length) * 8 / 5 + 1)
 
 /* How many nodes and bytes a value has. */
@@ -250,6 +252,92 @@ uint32_t sf_cache_control(const sf_seed *seed, const void *text, size_t text_len
  * and then *seconds is left as it was. In policy any number but 0 sets a flag.
  */
 uint32_t sf_lifetime(const sf_policy *policy, uint32_t shared, uint64_t *seconds);
+
+/* Bytes among the caller's. */
+typedef struct sf_piece {
+  size_t at;     /* where they begin */
+  size_t length; /* how many they are */
+} sf_piece;
+
+/* What a cache did with a request (RFC 9211 sections 2.1 and 2.2). */
+typedef enum sf_outcome {
+  SF_UNSAID = 0,    /* neither hit nor fwd is said */
+  SF_HIT = 1,       /* it answered from its store: hit is true, and fwd is not said */
+  SF_FORWARDED = 2, /* it forwarded the request: fwd is said, and hit is not true */
+  SF_CONFLICT = 3   /* hit is true and fwd is said, though the RFC asks for only one of the two */
+} sf_outcome;
+
+/* Why a cache forwarded a request (RFC 9211 section 2.2). */
+typedef enum sf_forward {
+  SF_NO_FORWARD = 0, /* fwd is not said */
+  SF_BYPASS = 1,     /* bypass: the cache was configured not to handle the request */
+  SF_METHOD = 2,     /* method: the request's method requires it */
+  SF_URI_MISS = 3,   /* uri-miss: no response of the URI was stored */
+  SF_VARY_MISS = 4,  /* vary-miss: one was, and none that matches the request's headers */
+  SF_MISS = 5,       /* miss: one of these two or both */
+  SF_REQUEST = 6,    /* request: a fresh one was, and the request's directives forbade its use */
+  SF_STALE = 7,      /* stale: the stored response was stale */
+  SF_PARTIAL = 8,    /* partial: it did not have all the ranges that were asked for */
+  SF_OTHER = 9       /* another token: why_token has it */
+} sf_forward;
+
+/*
+ * A cache on the path of a response, and what it did (RFC 9211 section 2). Pieces are of the
+ * caller's bytes. A number or a piece that is not said is 0 or empty. A parameter of another type
+ * than the RFC gives it counts as not said, and so does a fwd-status outside 100 to 999.
+ */
+typedef struct sf_hop {
+  sf_piece name;           /* the cache's name */
+  sf_piece why_token;      /* the token of fwd */
+  sf_piece key;            /* key: the cache key (2.7) */
+  sf_piece detail;         /* detail: what else the cache tells (2.8) */
+  int64_t ttl;             /* ttl: for how many seconds the response is still fresh; where negative,
+                              since how many it is stale (2.4) */
+  uint16_t outcome;        /* an sf_outcome */
+  uint16_t why;            /* fwd: an sf_forward (2.2) */
+  uint16_t status;         /* fwd-status: what the next server answered, from 100 to 999 (2.3) */
+  uint8_t says_status;     /* 1 where it is said, else 0; so the other says_ */
+  uint8_t stored;          /* stored: 1 where the cache stored the response (2.5) */
+  uint8_t says_stored;
+  uint8_t collapsed;       /* collapsed: 1 where the request was made one with others (2.6) */
+  uint8_t says_collapsed;
+  uint8_t says_ttl;
+  uint8_t says_key;
+  uint8_t says_detail;
+  uint8_t name_is_token;   /* 1 where the name is a Token, 0 where it is a String */
+  uint8_t detail_is_token; /* 1 where the detail is a Token, else 0 */
+} sf_hop;
+
+/* How many hops and bytes the path of a response has, and where the response came from. */
+typedef struct sf_path {
+  size_t hops;        /* how many hops */
+  size_t bytes;       /* how many bytes: those of names, tokens, keys and details */
+  size_t served;      /* the place of the hop that the response came from, counted from 0: the last
+                         one whose outcome is SF_HIT; 0 where there is none */
+  size_t nameless;    /* the place of the first member that names no cache, counted from 0 */
+  uint32_t is_served; /* 1 where there is such a hop; 0 where the response came from the origin, or
+                         the field does not tell */
+} sf_path;
+
+/*
+ * The path of a response by the text of its Cache-Status field (RFC 9211 section 2): a hop for each
+ * member, the cache nearest the origin first. No two paths have the same hops.
+ *
+ *   SF_OK           the first path->hops hops and the first path->bytes bytes tell it, and the
+ *                   others are left as they were
+ *   SF_SHORT        it has path->hops hops and path->bytes bytes, and one of the two rooms is
+ *                   smaller; both are left as they were
+ *   SF_NOT_A_CACHE  member path->nameless is the first that is not an Item of a String or a Token
+ *   SF_REFUSED      the text spells no List, and refusal says where and why
+ *   SF_NO_MEMORY
+ *
+ * Rooms of SF_PARSE_ROOM(text_length) hops and bytes are never too small. Where the answer is
+ * neither SF_OK nor SF_SHORT, both rooms are left as they were, and so is path but for nameless,
+ * which is written exactly where the answer is SF_NOT_A_CACHE.
+ */
+uint32_t sf_cache_status(const sf_seed *seed, const void *text, size_t text_length, sf_hop *hops,
+                         size_t hops_room, void *bytes, size_t bytes_room, sf_path *path,
+                         sf_refusal *refusal);
 
 /* How far the lines of a field are joined. It begins with zeros: sf_joined joined = {0, 0, 0}; */
 typedef struct sf_joined {

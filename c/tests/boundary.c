@@ -545,6 +545,140 @@ static void policies(void) {
   CHECK(sf_lifetime(&large, 0, &seconds) == 1 && seconds == 7);
 }
 
+/* What a hop is to tell; a text that is NULL is not said. */
+typedef struct hop_row {
+  const char *name;
+  int name_is_token;
+  uint16_t outcome, why;
+  const char *why_token;
+  int status, stored, collapsed; /* -1: not said */
+  const char *ttl, *key, *detail;
+  int detail_is_token;
+} hop_row;
+
+static int is_said(const unsigned char *bytes, size_t size, sf_piece piece, uint8_t says,
+                   const char *text) {
+  return says == (text != NULL) &&
+         is_piece(bytes, size, piece.at, piece.length, text == NULL ? "" : text);
+}
+
+static int is_number(unsigned number, uint8_t says, int row) {
+  return says == (row >= 0) && number == (row >= 0 ? (unsigned)row : 0);
+}
+
+static int is_hop(const unsigned char *bytes, size_t size, const sf_hop *hop, const hop_row *row) {
+  return is_said(bytes, size, hop->name, 1, row->name) &&
+         hop->name_is_token == row->name_is_token && hop->outcome == row->outcome &&
+         hop->why == row->why &&
+         is_said(bytes, size, hop->why_token, hop->why != SF_NO_FORWARD, row->why_token) &&
+         is_number(hop->status, hop->says_status, row->status) &&
+         is_number(hop->stored, hop->says_stored, row->stored) &&
+         is_number(hop->collapsed, hop->says_collapsed, row->collapsed) &&
+         hop->says_ttl == (row->ttl != NULL) &&
+         hop->ttl == (row->ttl == NULL ? 0 : strtoll(row->ttl, NULL, 10)) &&
+         is_said(bytes, size, hop->key, hop->says_key, row->key) &&
+         is_said(bytes, size, hop->detail, hop->says_detail, row->detail) &&
+         hop->detail_is_token == row->detail_is_token;
+}
+
+/* A path in each room that is too small, in rooms of exactly its size, and in longer ones. */
+static void told(const char *from, const hop_row *rows, size_t count, size_t size, long served) {
+  const char *about = from;
+  uint32_t status;
+  size_t length = strlen(from);
+  unsigned char *text = block_of(from, length);
+  sf_refusal refusal = untouched;
+  for (size_t n = 0; n <= count + 1; ++n) {
+    for (size_t b = 0; b <= size + 1; ++b) {
+      sf_hop *hops = (sf_hop *)(void *)block_of(NULL, n * sizeof *hops);
+      unsigned char *bytes = block_of(NULL, b);
+      sf_path path = {4711, 4712, 4713, 4714, 4715};
+      CALL(sf_cache_status(&seed, text, length, hops, n, bytes, b, &path, &refusal));
+      CHECK(path.hops == count && path.bytes == size && path.nameless == 4714);
+      CHECK(path.is_served == (served >= 0) && path.served == (served < 0 ? 0 : (size_t)served));
+      if (n < count || b < size) {
+        CHECK(status == SF_SHORT);
+        CHECK(all_are((unsigned char *)hops, n * sizeof *hops) && all_are(bytes, b));
+      } else {
+        CHECK(status == SF_OK);
+        for (size_t i = 0; i < count; ++i)
+          CHECK(is_hop(bytes, size, &hops[i], &rows[i]));
+        CHECK(n == count || all_are((unsigned char *)(hops + count), sizeof *hops));
+        CHECK(b == size || bytes[size] == 0xa5);
+      }
+      free(hops);
+      free(bytes);
+    }
+  }
+  CHECK(count <= SF_PARSE_ROOM(length) && size <= SF_PARSE_ROOM(length));
+  CHECK(is_untouched(&refusal));
+  free(text);
+}
+
+#define TOLD(text, rows, size, served) told(text, rows, sizeof rows / sizeof *rows, size, served)
+
+static void paths(void) {
+  static const hop_row two[] = {
+      {"OriginCache", 1, SF_HIT, 0, NULL, -1, -1, -1, "1100", NULL, NULL, 0},
+      {"CDN Company Here", 0, SF_HIT, 0, NULL, -1, -1, -1, "545", NULL, NULL, 0}};
+  TOLD("OriginCache; hit; ttl=1100, \"CDN Company Here\"; hit; ttl=545", two, 27, 1);
+  static const hop_row all[] = {{"c", 1, SF_FORWARDED, SF_STALE, "stale", 304, 1, 0, "-3", "k\"",
+                                 "why not", 0}};
+  TOLD("c;fwd=stale;fwd-status=304;stored;collapsed=?0;ttl=-3;key=\"k\\\"\";detail=\"why not\"",
+       all, 15, -1);
+  static const hop_row both[] = {
+      {"c", 1, SF_HIT, 0, NULL, -1, -1, -1, NULL, NULL, NULL, 0},
+      {"d", 1, SF_CONFLICT, SF_MISS, "miss", -1, -1, -1, NULL, NULL, "e", 1}};
+  TOLD("c;hit, d;hit;fwd=miss;detail=e", both, 7, 0);
+  /* a token that the RFC does not know, a status that is none */
+  static const hop_row odd[] = {
+      {"c", 1, SF_FORWARDED, SF_OTHER, "odd", -1, 1, -1, "-3", NULL, NULL, 0}};
+  TOLD("c;hit=?0;fwd=odd;fwd-status=99;stored;ttl=-3", odd, 4, -1);
+  /* parameters of another type, and what counts beside fwd alone */
+  static const hop_row none[] = {{"c", 1, SF_UNSAID, 0, NULL, -1, -1, -1, NULL, NULL, NULL, 0}};
+  TOLD("c;hit=\"x\";fwd=1;ttl=1.0;key=k;detail=1", none, 1, -1);
+  TOLD("c;stored;collapsed;fwd-status=304", none, 1, -1);
+  static const hop_row empty[] = {{"", 0, SF_UNSAID, 0, NULL, -1, -1, -1, NULL, "", "", 0}};
+  TOLD("\"\";key=\"\";detail=\"\"", empty, 0, -1);
+  static const char *const words[] = {"bypass",  "method", "uri-miss", "vary-miss",
+                                      "miss",    "request", "stale",   "partial"};
+  for (size_t i = 0; i < sizeof words / sizeof *words; ++i) {
+    char text[32] = "c;fwd-status=999;fwd=";
+    strcat(text, words[i]);
+    hop_row row = {"c", 1, SF_FORWARDED, (uint16_t)(SF_BYPASS + i), words[i], 999, -1, -1, NULL,
+                   NULL, NULL, 0};
+    told(text, &row, 1, 1 + strlen(words[i]), -1);
+  }
+  told("", NULL, 0, 0, -1);
+
+  static const struct {
+    const char *text;
+    size_t place;
+  } rows[] = {{"7;hit", 0}, {"a, (b), 7", 1}, {"a, b, :YQ==:", 2}, {"a, (), b", 1}, {"?1", 0}};
+  uint32_t status;
+  sf_hop hop;
+  unsigned char byte = 0xa5;
+  sf_path path = {4711, 4712, 4713, 4714, 4715};
+  sf_refusal refusal = untouched;
+  memset(&hop, 0xa5, sizeof hop);
+  for (size_t i = 0; i < sizeof rows / sizeof *rows; ++i) {
+    const char *about = rows[i].text;
+    size_t length = strlen(about);
+    unsigned char *text = block_of(about, length);
+    CALL(sf_cache_status(&seed, text, length, &hop, 1, &byte, 1, &path, &refusal));
+    CHECK(status == SF_NOT_A_CACHE && path.nameless == rows[i].place);
+    CHECK(path.hops == 4711 && path.bytes == 4712 && path.served == 4713 && path.is_served == 4715);
+    free(text);
+  }
+  const char *about = "a,";
+  CHECK(is_untouched(&refusal));
+  path.nameless = 4714;
+  CALL(sf_cache_status(&seed, about, 2, &hop, 1, &byte, 1, &path, &refusal));
+  CHECK(status == SF_REFUSED && refusal.place == 2 && refusal.found == -1);
+  CHECK(path.hops == 4711 && path.bytes == 4712 && path.served == 4713 && path.nameless == 4714);
+  CHECK(path.is_served == 4715 && byte == 0xa5 && all_are((unsigned char *)&hop, sizeof hop));
+}
+
 /* Lines, joined into a room that is exactly as long as the text, or one short for some line. */
 static void joining(void) {
   static const struct {
@@ -681,6 +815,19 @@ static void want_of_memory(void) {
                policy.max_age == 30 && policy.s_maxage == 90,
                policy.says_max_age == 9 && is_untouched(&refusal));
 
+  about = "sf_cache_status, no memory";
+  static const char caches[] = "origin; fwd=stale; fwd-status=304; collapsed; key=\"abc\", "
+                               "\"edge\"; hit; ttl=30; detail=odd, a;fwd=none, b, c, d, e, f";
+  sf_hop hops[9];
+  sf_path path = {4711, 4712, 4713, 4714, 4715};
+  EACH_REFUSAL((memset(hops, 0xa5, sizeof hops), memset(room, 0xa5, sizeof room), path.hops = 4711,
+                sf_cache_status(&seed, caches, sizeof caches - 1, hops, 9, room, sizeof room, &path,
+                                &refusal)),
+               path.hops == 8 && path.served == 1 && path.is_served == 1 &&
+                   path.nameless == 4714 && hops[2].why == SF_OTHER,
+               path.hops == 4711 && all_are((unsigned char *)hops, sizeof hops) &&
+                   all_are(room, sizeof room) && is_untouched(&refusal));
+
   /* what takes no memory is answered without */
   about = "no memory is taken";
   static const char spaces[] = "    -007     ";
@@ -701,6 +848,7 @@ static void all(void) {
   nodes_of_values();
   priorities();
   policies();
+  paths();
   joining();
   want_of_memory();
 }

@@ -8,7 +8,10 @@
 //! assert_eq!(sf::normalise(&seed, sf::Kind::Dict, b"u=1,  i=?1").unwrap(), b"u=1, i");
 //! ```
 
+mod path;
 mod raw;
+
+pub use path::{cache_status, Forward, Hop, Name, Outcome, Passed, Path};
 
 use std::error::Error;
 use std::ffi::c_void;
@@ -69,6 +72,8 @@ pub enum Fault {
     Refused(Refusal),
     /// The second of two texts spells no value.
     SecondRefused(Refusal),
+    /// This member of a Cache-Status List, counted from 0, is the first that names no cache.
+    NotACache(usize),
     /// Memory was wanting.
     OutOfMemory,
 }
@@ -78,6 +83,7 @@ impl fmt::Display for Fault {
         let (text, refusal) = match self {
             Fault::Refused(refusal) => ("the text", refusal),
             Fault::SecondRefused(refusal) => ("the second text", refusal),
+            Fault::NotACache(place) => return write!(f, "member {place} names no cache"),
             Fault::OutOfMemory => return write!(f, "out of memory"),
         };
         match refusal.found {

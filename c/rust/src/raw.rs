@@ -51,6 +51,45 @@ pub struct Policy {
 }
 
 #[repr(C)]
+#[derive(Clone, Copy)]
+pub struct Piece {
+    pub at: usize,
+    pub length: usize,
+}
+
+#[repr(C)]
+#[derive(Clone, Copy)]
+pub struct Hop {
+    pub name: Piece,
+    pub why_token: Piece,
+    pub key: Piece,
+    pub detail: Piece,
+    pub ttl: i64,
+    pub outcome: u16,
+    pub why: u16,
+    pub status: u16,
+    pub says_status: u8,
+    pub stored: u8,
+    pub says_stored: u8,
+    pub collapsed: u8,
+    pub says_collapsed: u8,
+    pub says_ttl: u8,
+    pub says_key: u8,
+    pub says_detail: u8,
+    pub name_is_token: u8,
+    pub detail_is_token: u8,
+}
+
+#[repr(C)]
+pub struct Path {
+    pub hops: usize,
+    pub bytes: usize,
+    pub served: usize,
+    pub nameless: usize,
+    pub is_served: u32,
+}
+
+#[repr(C)]
 pub struct Joined {
     pub length: usize,
     pub wanted: usize,
@@ -62,6 +101,7 @@ pub const REFUSED: u32 = 1;
 pub const SECOND_REFUSED: u32 = 2;
 pub const SHORT: u32 = 3;
 pub const EMPTY: u32 = 5;
+pub const NOT_A_CACHE: u32 = 7;
 
 extern "C" {
     pub fn sf_check(
@@ -123,6 +163,17 @@ extern "C" {
         text: *const c_void,
         length: usize,
         policy: *mut Policy,
+        refusal: *mut Refusal,
+    ) -> u32;
+    pub fn sf_cache_status(
+        seed: *const [u8; 16],
+        text: *const c_void,
+        length: usize,
+        hops: *mut Hop,
+        hops_room: usize,
+        bytes: *mut c_void,
+        bytes_room: usize,
+        path: *mut Path,
         refusal: *mut Refusal,
     ) -> u32;
     pub fn sf_join(

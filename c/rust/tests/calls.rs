@@ -1,8 +1,9 @@
 //! The wrapper from safe Rust: what each call answers.
 
 use sf::{
-    cache_control, check, check_in, equal, join, merge, normalise, parse, priority, Dialect, Fault,
-    Kind, Policy, Priority, Refusal, Role, Seed, Type,
+    cache_control, cache_status, check, check_in, equal, join, merge, normalise, parse, priority,
+    Dialect, Fault, Forward, Hop, Kind, Name, Outcome, Passed, Policy, Priority, Refusal, Role,
+    Seed, Type,
 };
 
 const SEED: [u8; 16] = *b"sixteen bytes of";
@@ -113,4 +114,42 @@ fn policies_are_read() {
     assert_eq!(Policy::default().lifetime(true), None);
     assert_eq!(cache_control(&seed(), b""), Ok(None));
     assert!(cache_control(&seed(), b"max-age=60,").is_err());
+}
+
+#[test]
+fn a_path_is_told() {
+    let text = b"origin; fwd=stale; fwd-status=304; collapsed, \"edge\"; hit; ttl=30; key=\"k\"";
+    let path = cache_status(&seed(), text).unwrap();
+    let passed = Passed {
+        why: Forward::Stale,
+        status: Some(304),
+        stored: None,
+        collapsed: Some(true),
+    };
+    let origin = Hop {
+        name: Name::Token(b"origin"),
+        outcome: Outcome::Forwarded(passed),
+        ttl: None,
+        key: None,
+        detail: None,
+    };
+    let edge = Hop {
+        name: Name::String(b"edge"),
+        outcome: Outcome::Hit,
+        ttl: Some(30),
+        key: Some(b"k"),
+        detail: None,
+    };
+    assert_eq!(path.hops().collect::<Vec<_>>(), [origin, edge]);
+    assert_eq!(path.served_by(), Some(1));
+
+    let path = cache_status(&seed(), b"c;hit;fwd=odd;detail=d").unwrap();
+    let hop = path.hops().next().unwrap();
+    let odd = Forward::Other(b"odd");
+    assert!(matches!(hop.outcome, Outcome::Conflict(passed) if passed.why == odd));
+    assert_eq!(hop.detail, Some(Name::Token(b"d")));
+    assert_eq!(path.served_by(), None);
+    assert_eq!(cache_status(&seed(), b"").unwrap().hops().len(), 0);
+    let nameless = cache_status(&seed(), b"a, (b), 7").err();
+    assert_eq!(nameless, Some(Fault::NotACache(1)));
 }

@@ -1,12 +1,16 @@
--- The laws of the nodes. Each stands as the contract of a function in `src/laws.rt`.
-use Rattle.std.specs.Prelude.{◌≡◌, ℕ, ◌+◌, ◌*◌, ◌≤◌, List, length, map}
+-- The laws of the nodes and of the hops. Each stands as the contract of a function in `src/laws.rt`.
+use Rattle.std.specs.Prelude.{◌≡◌, ℕ, ◌+◌, ◌*◌, ◌≤◌, List, length, map, Ok}
 use Rattle.sf_value.specs.declared.dialect.Dialect.{Dialect}
 use Rattle.sf_value.specs.declared.value.Field.{Field}
 use Rattle.sf_value.specs.declared.value.Kind.{Kind}
 use Rattle.sf_value.specs.Grammar.Fields.{SpellsField, kind_of}
+use Rattle.sf_use.specs.declared.cache_status.hop.Hop.{Hop}
+use Rattle.sf_use.specs.CacheStatus.Hops.{hops}
 use Rattle.sf_c.specs.declared.nodes.Node.{Node}
+use Rattle.sf_c.specs.declared.hops.HopNode.{HopNode}
 use Rattle.sf_c.specs.Tellings.{told_by, told_size}
 use Rattle.sf_c.specs.Nodes.{told_field}
+use Rattle.sf_c.specs.Hops.{hops_size, told_hop, told_hop_by}
 
 -- nodes that tell two values of a kind tell one
 abbrev pub TellOneValue : Type 0
@@ -25,3 +29,23 @@ abbrev pub BytesAreFew : Type 0
 BytesAreFew =
     (d : Dialect) (kind : Kind) (t : List ℕ) (v : Field)
     → SpellsField d kind t v → 5 * told_size (told_field v) ≤ 8 * length t
+
+-- structs that tell two paths tell one
+abbrev pub TellOnePath : Type 0
+TellOnePath =
+    (bytes : List ℕ) (hops : List HopNode) (hs js : List Hop)
+    → map (told_hop_by bytes) hops ≡ map told_hop hs
+    → map (told_hop_by bytes) hops ≡ map told_hop js → hs ≡ js
+
+-- how many hops the path that a text tells may have
+abbrev pub HopsAreFew : Type 0
+HopsAreFew =
+    (d : Dialect) (kind : Kind) (t : List ℕ) (v : Field) (hs : List Hop)
+    → SpellsField d kind t v → hops v ≡ Ok hs → 5 * length hs ≤ 8 * length t + 5
+
+-- how many bytes it may have
+abbrev pub HopBytesAreFew : Type 0
+HopBytesAreFew =
+    (d : Dialect) (kind : Kind) (t : List ℕ) (v : Field) (hs : List Hop)
+    → SpellsField d kind t v → hops v ≡ Ok hs
+    → 5 * hops_size (map told_hop hs) ≤ 8 * length t

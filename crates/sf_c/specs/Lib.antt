@@ -11,4 +11,6 @@ pub mod Joining
 pub mod Tellings
 pub mod Nodes
 pub mod Flattening
+pub mod Hops
+pub mod Paths
 pub mod Laws

@@ -1,5 +1,6 @@
-//! Laws of the nodes, each as the contract of a function that does nothing.
+//! Laws of the nodes and of the hops, each as the contract of a function that does nothing.
 ghost use Rattle.sf_c.specs.Laws.{BytesAreFew, NodesAreFew, TellOneValue};
+ghost use Rattle.sf_c.specs.Laws.{HopBytesAreFew, HopsAreFew, TellOnePath};
 
 use sf_value::laws::canon_is_short;
 
@@ -15,4 +16,18 @@ pub fn nodes_are_few()
     ensures bytes { BytesAreFew }
 {
     canon_is_short();
+}
+
+/// Structs of hops, with the bytes that they point into, tell at most one path.
+pub fn hops_tell_one_path()
+    ensures { TellOnePath }
+{}
+
+/// The path that a text tells has at most one hop more than eight fifths of the text's length, and
+/// at most eight fifths of it in bytes.
+pub fn hops_are_few()
+    ensures hops { HopsAreFew }
+    ensures bytes { HopBytesAreFew }
+{
+    nodes_are_few();
 }

@@ -8,8 +8,10 @@
 //! definitions of the crates below.
 #![tactic(auto)]
 
+mod cache_status;
 mod call;
 mod check;
+mod hops;
 mod joining;
 pub mod laws;
 mod nodes;
@@ -22,7 +24,9 @@ mod seed;
 mod status;
 mod targeted;
 
+pub use cache_status::{Path, sf_cache_status};
 pub use check::sf_check;
+pub use hops::{HopNode, Piece};
 pub use joining::{Joined, sf_join};
 pub use nodes::{Node, Sizes};
 pub use normalise::{sf_equal, sf_normalise};

@@ -19,6 +19,8 @@ pub enum Status {
     Empty,
     /// 6: there is no such kind or dialect, or a length is greater than its room.
     BadCall,
+    /// 7: a member of a Cache-Status List names no cache.
+    NotACache,
 }
 
 impl Status {
@@ -34,6 +36,7 @@ impl Status {
             Status::OutOfMemory => 4,
             Status::Empty => 5,
             Status::BadCall => 6,
+            Status::NotACache => 7,
         }
     }
 }

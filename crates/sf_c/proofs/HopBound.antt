@@ -1,0 +1,288 @@
+-- A path has at most as many hops as the value of its text has nodes, and at most as many bytes.
+use Rattle.std.proofs.Common.{◌≡◌, ℕ, ◌+◌, ◌*◌, ◌≤◌, Bool, true, false, List as Seq, [], ◌∷◌, length}
+use Rattle.std.proofs.Common.{map, Option, Some, None, Ok, Err, Result, refl, sym, ap, ◌∙◌, arith}
+use Rattle.std.proofs.Common.{codes, bytes_eq, length-append}
+use Rattle.std.proofs.lemmas.Bool.{false≢true}
+use Rattle.std.proofs.lemmas.List.{length-map}
+use Rattle.std.proofs.lemmas.Slice.Eq.{bytes_eq-Decides}
+use Rattle.std.specs.List.{filter_map}
+use Rattle.std.specs.Map.{lookup}
+use Rattle.std.specs.Option.{option_and_then, option_map}
+use Rattle.std.specs.Prelude.{unwrap_or}
+use Rattle.sf_value.specs.declared.value.Bare.{Bare}
+use Rattle.sf_value.specs.declared.value.Bare.TheVariants.{Integer, Decimal, Text, Token}
+use Rattle.sf_value.specs.declared.value.Bare.TheVariants.{Blob, Boolean, Date, Shown}
+use Rattle.sf_value.specs.declared.value.Member.{Member}
+use Rattle.sf_value.specs.declared.value.Member.TheVariants as member
+use Rattle.sf_value.specs.declared.value.Field.{Field}
+use Rattle.sf_value.specs.declared.value.Field.TheVariants as field
+use Rattle.sf_value.specs.Grammar.Pairs.{Pairs, value_at}
+use Rattle.sf_use.specs.declared.cache_status.hop.Name.{Name}
+use Rattle.sf_use.specs.declared.cache_status.hop.Name.TheVariants as name
+use Rattle.sf_use.specs.declared.cache_status.hop.Forward.{Forward}
+use Rattle.sf_use.specs.declared.cache_status.hop.Forward.TheVariants.{Other}
+use Rattle.sf_use.specs.declared.cache_status.hop.Passed.{Passed}
+use Rattle.sf_use.specs.declared.cache_status.hop.Hop.{Hop}
+use Rattle.sf_use.specs.CacheStatus.Parameters.{as_name, as_text, as_token, boolean_at}
+use Rattle.sf_use.specs.CacheStatus.Reasons.{forward_of, reasons, token_of}
+use Rattle.sf_use.specs.CacheStatus.Hops.{hop_named, hops, member_hop, outcome_by, passed_at}
+use Rattle.sf_use.specs.CacheStatus.Hops.{passed_by_token, unless}
+use Rattle.sf_use.specs.CacheStatus.Members.{passed_by}
+use Rattle.sf_c.specs.Nodes.{text_of, told_field, told_member, told_members, told_params}
+use Rattle.sf_c.specs.Tellings.{told_size}
+use Rattle.sf_c.specs.Hops.{ToldHop, bytes_of, detail_bytes, hop_size, hops_size, told_hop}
+use Rattle.sf_c.specs.Hops.{why_token}
+use Rattle.sf_c.proofs.TellingLemmas.{told_size-append}
+
+-- how many bytes a bare item has, where there is one
+abbrev taken : Option Bare → ℕ
+taken None = 0
+taken (Some x) = length (text_of x)
+
+-- no key passes both tests
+abbrev Apart : (Seq ℕ → Bool) → (Seq ℕ → Bool) → Type 0
+Apart f g = (k : Seq ℕ) → f k ≡ true → g k ≡ true → ⊥
+
+-- what is looked up among parameters has at most their bytes
+one_taken : (f : Seq ℕ → Bool) (ps : Pairs Bare)
+    → taken (lookup f ps) ≤ told_size (told_params ps)
+one_taken f [] = omega arith
+one_taken f (p ∷ ps) = go (f p.0) refl (one_taken f ps)
+  where
+    go : (b : Bool) → f p.0 ≡ b → taken (lookup f ps) ≤ told_size (told_params ps)
+        → taken (lookup f (p ∷ ps)) ≤ told_size (told_params (p ∷ ps))
+    go true e rest = rw e (omega arith)
+    go false e rest = rw e (omega arith)
+
+-- so have two that differ
+two_taken : (f g : Seq ℕ → Bool) → Apart f g → (ps : Pairs Bare)
+    → taken (lookup f ps) + taken (lookup g ps) ≤ told_size (told_params ps)
+two_taken f g d [] = omega arith
+two_taken f g d (p ∷ ps) =
+    go (f p.0) refl (g p.0) refl (one_taken f ps) (one_taken g ps) (two_taken f g d ps)
+  where
+    go : (b : Bool) → f p.0 ≡ b → (c : Bool) → g p.0 ≡ c
+        → taken (lookup f ps) ≤ told_size (told_params ps)
+        → taken (lookup g ps) ≤ told_size (told_params ps)
+        → taken (lookup f ps) + taken (lookup g ps) ≤ told_size (told_params ps)
+        → taken (lookup f (p ∷ ps)) + taken (lookup g (p ∷ ps)) ≤ told_size (told_params (p ∷ ps))
+    go true e true i one other both = absurd (d p.0 e i)
+    go true e false i one other both = rw (e, i) (omega arith)
+    go false e true i one other both = rw (e, i) (omega arith)
+    go false e false i one other both = rw (e, i) (omega arith)
+
+-- and three
+three_taken : (f g h : Seq ℕ → Bool) → Apart f g → Apart f h → Apart g h → (ps : Pairs Bare)
+    → taken (lookup f ps) + taken (lookup g ps) + taken (lookup h ps)
+    ≤ told_size (told_params ps)
+three_taken f g h d m n [] = omega arith
+three_taken f g h d m n (p ∷ ps) =
+    go (f p.0) refl (g p.0) refl (h p.0) refl (two_taken f g d ps) (two_taken f h m ps)
+    (two_taken g h n ps) (three_taken f g h d m n ps)
+  where
+    go : (b : Bool) → f p.0 ≡ b → (c : Bool) → g p.0 ≡ c → (a : Bool) → h p.0 ≡ a
+        → taken (lookup f ps) + taken (lookup g ps) ≤ told_size (told_params ps)
+        → taken (lookup f ps) + taken (lookup h ps) ≤ told_size (told_params ps)
+        → taken (lookup g ps) + taken (lookup h ps) ≤ told_size (told_params ps)
+        → taken (lookup f ps) + taken (lookup g ps) + taken (lookup h ps)
+        ≤ told_size (told_params ps)
+        → taken (lookup f (p ∷ ps)) + taken (lookup g (p ∷ ps)) + taken (lookup h (p ∷ ps))
+        ≤ told_size (told_params (p ∷ ps))
+    go true e true i b j fg fh gh all = absurd (d p.0 e i)
+    go true e false i true j fg fh gh all = absurd (m p.0 e j)
+    go true e false i false j fg fh gh all = rw (e, i, j) (omega arith)
+    go false e true i true j fg fh gh all = absurd (n p.0 i j)
+    go false e true i false j fg fh gh all = rw (e, i, j) (omega arith)
+    go false e false i true j fg fh gh all = rw (e, i, j) (omega arith)
+    go false e false i false j fg fh gh all = rw (e, i, j) (omega arith)
+
+-- two keys that differ
+keys_apart : (a b : Seq ℕ) → bytes_eq a b ≡ false → Apart (bytes_eq a) (bytes_eq b)
+keys_apart a b differ k p q =
+    let same : a ≡ b = (bytes_eq-Decides a k).0 p ∙ sym ((bytes_eq-Decides b k).0 q) in
+    false≢true (sym differ ∙ (bytes_eq-Decides a b).1 same)
+
+-- the reason of a token has that token
+abbrev AreTheirs : Pairs Forward → Type 0
+AreTheirs [] = Unit {0}
+AreTheirs (p ∷ ps) = (token_of p.1 ≡ p.0) × AreTheirs ps
+
+abbrev from_some : Forward → Option Forward → Forward
+from_some w (Some v) = v
+from_some w None = w
+
+found : (s : Seq ℕ) (w : Forward) (ps : Pairs Forward) → AreTheirs ps → value_at s ps ≡ Some w
+    → token_of w ≡ s
+found s w [] h e = let never : None ≡ Some w = e in absurd cc
+found s w (p ∷ ps) h e = go (bytes_eq s p.0) refl e (found s w ps h.1)
+  where
+    go : (b : Bool) → bytes_eq s p.0 ≡ b → value_at s (p ∷ ps) ≡ Some w
+        → (value_at s ps ≡ Some w → token_of w ≡ s) → token_of w ≡ s
+    go true i f rest =
+        let here : Some p.1 ≡ Some w = rw i at f in
+        ap token_of (sym (ap (from_some w) here)) ∙ h.0 ∙ sym ((bytes_eq-Decides s p.0).0 i)
+    go false i f rest =
+        let there : value_at s ps ≡ Some w = rw i at f in rest there
+
+forward_back : (s : Seq ℕ) → token_of (forward_of s) ≡ s
+forward_back s = go (value_at s reasons) refl
+  where
+    go : (o : Option Forward) → value_at s reasons ≡ o → token_of (forward_of s) ≡ s
+    go None e = ap (λ o. token_of (unwrap_or o (Other s))) e
+    go (Some w) e =
+        ap (λ o. token_of (unwrap_or o (Other s))) e
+        ∙ found s w reasons (refl, (refl, (refl, (refl, (refl, (refl, (refl, (refl, tt)))))))) e
+
+-- a parameter as a token, as a text and as a detail
+token_few : (ps : Pairs Bare) (o : Option Bare)
+    → length (why_token (option_map (passed_by_token ps) (option_and_then as_token o))) ≤ taken o
+token_few ps None = omega arith
+token_few ps (Some (Integer n)) = omega arith
+token_few ps (Some (Decimal n)) = omega arith
+token_few ps (Some (Text s)) = omega arith
+token_few ps (Some (Token s)) = let e = ap length (forward_back s) in omega arith
+token_few ps (Some (Blob s)) = omega arith
+token_few ps (Some (Boolean b)) = omega arith
+token_few ps (Some (Date n)) = omega arith
+token_few ps (Some (Shown s)) = omega arith
+
+text_few : (o : Option Bare) → length (unwrap_or (option_and_then as_text o) []) ≤ taken o
+text_few None = omega arith
+text_few (Some (Integer n)) = omega arith
+text_few (Some (Decimal n)) = omega arith
+text_few (Some (Text s)) = omega arith
+text_few (Some (Token s)) = omega arith
+text_few (Some (Blob s)) = omega arith
+text_few (Some (Boolean b)) = omega arith
+text_few (Some (Date n)) = omega arith
+text_few (Some (Shown s)) = omega arith
+
+detail_few : (o : Option Bare) → length (detail_bytes (option_and_then as_name o)) ≤ taken o
+detail_few None = omega arith
+detail_few (Some (Integer n)) = omega arith
+detail_few (Some (Decimal n)) = omega arith
+detail_few (Some (Text s)) = omega arith
+detail_few (Some (Token s)) = omega arith
+detail_few (Some (Blob s)) = omega arith
+detail_few (Some (Boolean b)) = omega arith
+detail_few (Some (Date n)) = omega arith
+detail_few (Some (Shown s)) = omega arith
+
+passed_back : (b : Bool) (o : Option Passed) → passed_by (outcome_by b o) ≡ o
+passed_back true None = refl
+passed_back true (Some p) = refl
+passed_back false None = refl
+passed_back false (Some p) = refl
+
+-- a hop has at most the bytes of its name and its parameters
+hop_few : (ps : Pairs Bare) (n : Name)
+    → hop_size (told_hop (hop_named ps n)) ≤ length (bytes_of n) + told_size (told_params ps)
+hop_few ps n =
+    let back = ap (λ o. length (why_token o))
+    (passed_back (unwrap_or (boolean_at (codes "hit") ps) false) (passed_at ps)) in
+    let why = token_few ps (value_at (codes "fwd") ps) in
+    let key = text_few (value_at (codes "key") ps) in
+    let detail = detail_few (value_at (codes "detail") ps) in
+    let all = three_taken (bytes_eq (codes "fwd")) (bytes_eq (codes "key"))
+    (bytes_eq (codes "detail")) (keys_apart (codes "fwd") (codes "key") refl)
+    (keys_apart (codes "fwd") (codes "detail") refl)
+    (keys_apart (codes "key") (codes "detail") refl) ps in
+    omega arith
+
+-- the bytes of a hop, where there is one
+abbrev few : Option Hop → ℕ
+few None = 0
+few (Some h) = hop_size (told_hop h)
+
+bare_few : (x : Bare) (ps : Pairs Bare)
+    → few (option_map (hop_named ps) (as_name x)) ≤ length (text_of x) + told_size (told_params ps)
+bare_few (Integer n) ps = omega arith
+bare_few (Decimal n) ps = omega arith
+bare_few (Text s) ps = hop_few ps (name.Text s)
+bare_few (Token s) ps = hop_few ps (name.Token s)
+bare_few (Blob s) ps = omega arith
+bare_few (Boolean b) ps = omega arith
+bare_few (Date n) ps = omega arith
+bare_few (Shown s) ps = omega arith
+
+member_few : (m : Member) → few (member_hop m) ≤ told_size (told_member [] m)
+member_few (member.Item i) = let h = bare_few i.bare i.params in omega arith
+member_few (member.Inner l) = omega arith
+
+-- a member has a node
+member_some : (m : Member) → 1 ≤ length (told_member [] m)
+member_some (member.Item i) = omega arith
+member_some (member.Inner l) = omega arith
+
+members_few : (ms : Seq Member)
+    → hops_size (map told_hop (filter_map member_hop ms)) ≤ told_size (told_members ms)
+members_few [] = omega arith
+members_few (m ∷ ms) = go (member_hop m) refl (member_few m) (members_few ms)
+  where
+    go : (o : Option Hop) → member_hop m ≡ o → few o ≤ told_size (told_member [] m)
+        → hops_size (map told_hop (filter_map member_hop ms)) ≤ told_size (told_members ms)
+        → hops_size (map told_hop (filter_map member_hop (m ∷ ms)))
+        ≤ told_size (told_members (m ∷ ms))
+    go None e one rest =
+        let both = told_size-append (told_member [] m) (told_members ms) in rw e (omega arith)
+    go (Some h) e one rest =
+        let both = told_size-append (told_member [] m) (told_members ms) in rw e (omega arith)
+
+members_count : (ms : Seq Member)
+    → length (filter_map member_hop ms) ≤ length (told_members ms)
+members_count [] = omega arith
+members_count (m ∷ ms) = go (member_hop m) refl (member_some m) (members_count ms)
+  where
+    go : (o : Option Hop) → member_hop m ≡ o → 1 ≤ length (told_member [] m)
+        → length (filter_map member_hop ms) ≤ length (told_members ms)
+        → length (filter_map member_hop (m ∷ ms)) ≤ length (told_members (m ∷ ms))
+    go None e one rest =
+        let both = length-append (told_member [] m) (told_members ms) in rw e (omega arith)
+    go (Some h) e one rest =
+        let both = length-append (told_member [] m) (told_members ms) in rw e (omega arith)
+
+-- the hops of an answer
+abbrev from_ok : Seq Hop → Result (Seq Hop) ℕ → Seq Hop
+from_ok hs (Ok js) = js
+from_ok hs (Err index) = hs
+
+unless_ok : (o : Option ℕ) (js hs : Seq Hop) → unless o js ≡ Ok hs → js ≡ hs
+unless_ok None js hs e = ap (from_ok hs) e
+unless_ok (Some index) js hs e = let never : Err index ≡ Ok hs = e in absurd cc
+
+pub path_few : (v : Field) (hs : Seq Hop) → hops v ≡ Ok hs
+    → (length hs ≤ length (told_field v))
+    × (hops_size (map told_hop hs) ≤ told_size (told_field v))
+path_few (field.List l) hs e =
+    let same = unless_ok _ (filter_map member_hop l.members) hs e in
+    let count = ap length same in
+    let size = ap (λ js. hops_size (map told_hop js)) same in
+    let nodes = members_count l.members in
+    let bytes = members_few l.members in
+    (omega arith, omega arith)
+path_few (field.Item i) hs e =
+    let same : [] ≡ hs = ap (from_ok hs) e in
+    let count = ap length same in
+    let size = ap (λ js. hops_size (map told_hop js)) same in
+    (omega arith, omega arith)
+path_few (field.Dict d) hs e =
+    let same : [] ≡ hs = ap (from_ok hs) e in
+    let count = ap length same in
+    let size = ap (λ js. hops_size (map told_hop js)) same in
+    (omega arith, omega arith)
+
+-- the same of numbers that say how many there are
+pub count_few : (n m : ℕ) (ts : Seq ToldHop) (js hs : Seq Hop) → n ≡ length ts
+    → ts ≡ map told_hop js → js ≡ hs → 5 * length hs ≤ m → 5 * n ≤ m
+count_few n m ts js hs e f g h =
+    let told = ap length f in
+    let each = length-map js told_hop in
+    let same = ap length g in
+    omega arith
+
+pub size_few : (n m : ℕ) (ts : Seq ToldHop) (js hs : Seq Hop) → n ≡ hops_size ts
+    → ts ≡ map told_hop js → js ≡ hs → 5 * hops_size (map told_hop hs) ≤ m → 5 * n ≤ m
+size_few n m ts js hs e f g h =
+    let told = ap hops_size f in
+    let same = ap (λ z. hops_size (map told_hop z)) g in
+    omega arith

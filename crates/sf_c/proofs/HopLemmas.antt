@@ -1,0 +1,207 @@
+-- What the structs of hops tell stays when more bytes and more hops come.
+use Rattle.std.proofs.Common.{◌≡◌, ℕ, ◌+◌, ◌≤◌, List, [], ◌∷◌, ◌++◌, length, drop, map, refl}
+use Rattle.std.proofs.Common.{ap, ◌∙◌, arith, length-append}
+use Rattle.std.proofs.lemmas.List.{length-map, map-append}
+use Rattle.sf_use.specs.declared.cache_status.hop.Hop.{Hop}
+use Rattle.sf_use.specs.CacheStatus.Members.{passed_by}
+use Rattle.sf_c.specs.declared.hops.Piece.{Piece}
+use Rattle.sf_c.specs.declared.hops.HopNode.{HopNode}
+use Rattle.sf_c.specs.Hops.{ToldHop, piece_of, says_by, says_of, told_hop_by, told_hop}
+use Rattle.sf_c.specs.Hops.{bytes_of, detail_bytes, why_token, hops_size, IsPieceWithin}
+use Rattle.sf_c.specs.Hops.{IsHopWithin, AreHopsWithin, HopsHoldUp, PutsPiece, HopsAtFront}
+use Rattle.sf_c.proofs.TellingLemmas.{piece-append, piece_last}
+use Rattle.std.specs.Prelude.{unwrap_or}
+
+-- a piece of bytes is the same among more, and there
+piece_more : (bytes more : List ℕ) (p : Piece) → IsPieceWithin bytes p
+    → piece_of (bytes ++ more) p ≡ piece_of bytes p
+piece_more bytes more p h = piece-append p.at p.length bytes more h
+
+within_more : (bytes more : List ℕ) (p : Piece) → IsPieceWithin bytes p
+    → IsPieceWithin (bytes ++ more) p
+within_more bytes more p h = let longer = length-append bytes more in omega arith
+
+-- so is a hop
+hop_within_more : (bytes more : List ℕ) (n : HopNode) → IsHopWithin bytes n
+    → IsHopWithin (bytes ++ more) n
+hop_within_more bytes more n h = (
+  within_more bytes more n.name h.0,
+  within_more bytes more n.why_token h.1,
+  within_more bytes more n.key h.2,
+  within_more bytes more n.detail h.3,
+)
+
+hop_more : (bytes more : List ℕ) (n : HopNode) → IsHopWithin bytes n
+    → told_hop_by (bytes ++ more) n ≡ told_hop_by bytes n
+hop_more bytes more n h =
+    let name = piece_more bytes more n.name h.0 in
+    let why = piece_more bytes more n.why_token h.1 in
+    let key = piece_more bytes more n.key h.2 in
+    let detail = piece_more bytes more n.detail h.3 in
+    rw (name, why, key, detail) refl
+
+-- and each of hops
+hops_within_more : (bytes more : List ℕ) (ns : List HopNode) → AreHopsWithin bytes ns
+    → AreHopsWithin (bytes ++ more) ns
+hops_within_more bytes more [] h = tt
+hops_within_more bytes more (n ∷ ns) h =
+    (hop_within_more bytes more n h.0, hops_within_more bytes more ns h.1)
+
+hops_more : (bytes more : List ℕ) (ns : List HopNode) → AreHopsWithin bytes ns
+    → map (told_hop_by (bytes ++ more)) ns ≡ map (told_hop_by bytes) ns
+hops_more bytes more [] h = refl
+hops_more bytes more (n ∷ ns) h =
+    rw (hop_more bytes more n h.0, hops_more bytes more ns h.1) refl
+
+hops_within_push : (bytes : List ℕ) (ns : List HopNode) (n : HopNode) → AreHopsWithin bytes ns
+    → IsHopWithin bytes n → AreHopsWithin bytes (ns ++ n ∷ [])
+hops_within_push bytes [] n h w = (w, tt)
+hops_within_push bytes (m ∷ ns) n h w = (h.0, hops_within_push bytes ns n h.1 w)
+
+-- a text that was put is there
+put_within : (old new text : List ℕ) (p : Piece) → PutsPiece old new text p → IsPieceWithin new p
+put_within old new text p h =
+    let now = ap length h.0 in
+    let at = h.1 in
+    let long = h.2 in
+    let both = length-append old text in
+    omega arith
+
+put_there : (old new text : List ℕ) (p : Piece) → PutsPiece old new text p
+    → piece_of new p ≡ text
+put_there old new text p h = rw (h.0, h.1, h.2) (piece_last old text)
+
+-- what stays when one more text is put
+put_keeps : (old new text : List ℕ) (p q : Piece) → PutsPiece old new text q
+    → IsPieceWithin old p → IsPieceWithin new p × (piece_of new p ≡ piece_of old p)
+put_keeps old new text p q h w =
+    rw h.0 (within_more old text p w, piece_more old text p w)
+
+put_keeps_hops : (old new text : List ℕ) (ns : List HopNode) (q : Piece)
+    → PutsPiece old new text q → AreHopsWithin old ns
+    → AreHopsWithin new ns × (map (told_hop_by new) ns ≡ map (told_hop_by old) ns)
+put_keeps_hops old new text ns q h w =
+    rw h.0 (hops_within_more old text ns w, hops_more old text ns w)
+
+-- the four texts of a hop, put one after another
+pub record PutsHop (b0 b1 b2 b3 b4 n w k d : List ℕ) (x : HopNode) : Type 0 where
+  pub name : PutsPiece b0 b1 n x.name
+  pub why : PutsPiece b1 b2 w x.why_token
+  pub key : PutsPiece b2 b3 k x.key
+  pub detail : PutsPiece b3 b4 d x.detail
+
+-- where they stand in the end
+pieces_there : (b0 b1 b2 b3 b4 n w k d : List ℕ) (x : HopNode)
+    → PutsHop b0 b1 b2 b3 b4 n w k d x
+    → IsHopWithin b4 x
+    × (piece_of b4 x.name ≡ n)
+    × (piece_of b4 x.why_token ≡ w)
+    × (piece_of b4 x.key ≡ k)
+    × (piece_of b4 x.detail ≡ d)
+pieces_there b0 b1 b2 b3 b4 n w k d x p =
+    let n1 = put_within b0 b1 n x.name p.name in
+    let n2 = put_keeps b1 b2 w x.name x.why_token p.why n1 in
+    let n3 = put_keeps b2 b3 k x.name x.key p.key n2.0 in
+    let n4 = put_keeps b3 b4 d x.name x.detail p.detail n3.0 in
+    let w2 = put_within b1 b2 w x.why_token p.why in
+    let w3 = put_keeps b2 b3 k x.why_token x.key p.key w2 in
+    let w4 = put_keeps b3 b4 d x.why_token x.detail p.detail w3.0 in
+    let k3 = put_within b2 b3 k x.key p.key in
+    let k4 = put_keeps b3 b4 d x.key x.detail p.detail k3 in
+    let d4 = put_within b3 b4 d x.detail p.detail in (
+      (n4.0, w4.0, k4.0, d4),
+      n4.1 ∙ n3.1 ∙ n2.1 ∙ put_there b0 b1 n x.name p.name,
+      w4.1 ∙ w3.1 ∙ put_there b1 b2 w x.why_token p.why,
+      k4.1 ∙ put_there b2 b3 k x.key p.key,
+      put_there b3 b4 d x.detail p.detail,
+    )
+
+-- the hops that were there, in the end
+hops_there : (b0 b1 b2 b3 b4 n w k d : List ℕ) (x : HopNode) (ns : List HopNode)
+    → PutsHop b0 b1 b2 b3 b4 n w k d x → AreHopsWithin b0 ns
+    → AreHopsWithin b4 ns × (map (told_hop_by b4) ns ≡ map (told_hop_by b0) ns)
+hops_there b0 b1 b2 b3 b4 n w k d x ns p h =
+    let h1 = put_keeps_hops b0 b1 n ns x.name p.name h in
+    let h2 = put_keeps_hops b1 b2 w ns x.why_token p.why h1.0 in
+    let h3 = put_keeps_hops b2 b3 k ns x.key p.key h2.0 in
+    let h4 = put_keeps_hops b3 b4 d ns x.detail p.detail h3.0 in
+    (h4.0, h4.1 ∙ h3.1 ∙ h2.1 ∙ h1.1)
+
+-- the struct tells the hop whose texts they are
+pub record TextsOf (h : Hop) (n w k d : List ℕ) : Type 0 where
+  pub name : n ≡ bytes_of h.name
+  pub why : w ≡ why_token (passed_by h.outcome)
+  pub key : k ≡ unwrap_or h.key []
+  pub detail : d ≡ detail_bytes h.detail
+
+hop_is : (b0 b1 b2 b3 b4 n w k d : List ℕ) (x : HopNode) (h : Hop)
+    → PutsHop b0 b1 b2 b3 b4 n w k d x → TextsOf h n w k d → says_by x ≡ says_of h
+    → told_hop_by b4 x ≡ told_hop h
+hop_is b0 b1 b2 b3 b4 n w k d x h p t s =
+    let there = pieces_there b0 b1 b2 b3 b4 n w k d x p in
+    let name = there.1 ∙ t.name in
+    let why = there.2 ∙ t.why in
+    let key = there.3 ∙ t.key in
+    let detail = there.4 ∙ t.detail in
+    rw (name, why, key, detail, s) refl
+
+-- the hops with one more
+pub hop_told : (b0 b1 b2 b3 b4 n w k d : List ℕ) (x : HopNode) (h : Hop) (ns ms : List HopNode)
+    → PutsHop b0 b1 b2 b3 b4 n w k d x → TextsOf h n w k d → says_by x ≡ says_of h
+    → ms ≡ ns ++ x ∷ [] → AreHopsWithin b0 ns
+    → map (told_hop_by b4) ms ≡ map (told_hop_by b0) ns ++ told_hop h ∷ []
+hop_told b0 b1 b2 b3 b4 n w k d x h ns ms p t s e a =
+    let last = hop_is b0 b1 b2 b3 b4 n w k d x h p t s in
+    let before = hops_there b0 b1 b2 b3 b4 n w k d x ns p a in
+    let others = before.1 in
+    rw e (map-append (told_hop_by b4) ns (x ∷ []) ∙ rw (others, last) refl)
+
+hops_size-append : (ts us : List ToldHop) → hops_size (ts ++ us) ≡ hops_size ts + hops_size us
+hops_size-append [] us = omega arith
+hops_size-append (t ∷ ts) us = let e = hops_size-append ts us in omega arith
+
+pub hop_held : (b0 b1 b2 b3 b4 n w k d : List ℕ) (x : HopNode) (h : Hop) (ns ms : List HopNode)
+    → PutsHop b0 b1 b2 b3 b4 n w k d x → TextsOf h n w k d → says_by x ≡ says_of h
+    → ms ≡ ns ++ x ∷ [] → HopsHoldUp b0 ns → HopsHoldUp b4 ms
+hop_held b0 b1 b2 b3 b4 n w k d x h ns ms p t s e a =
+    let before = hops_there b0 b1 b2 b3 b4 n w k d x ns p a.0 in
+    let there = pieces_there b0 b1 b2 b3 b4 n w k d x p in
+    let told = ap hops_size (hop_told b0 b1 b2 b3 b4 n w k d x h ns ms p t s e a.0) in
+    let sum = hops_size-append (map (told_hop_by b0) ns) (told_hop h ∷ []) in
+    let l1 = ap length p.name.0 in
+    let l2 = ap length p.why.0 in
+    let l3 = ap length p.key.0 in
+    let l4 = ap length p.detail.0 in
+    let a1 = length-append b0 n in
+    let a2 = length-append b1 w in
+    let a3 = length-append b2 k in
+    let a4 = length-append b3 d in
+    let t1 = ap length t.name in
+    let t2 = ap length t.why in
+    let t3 = ap length t.key in
+    let t4 = ap length t.detail in
+    let size = a.1 in
+    (rw e (hops_within_push b4 ns x before.0 there.0), omega arith)
+
+-- hops and bytes that are put into rooms which are long enough
+pub hops_at_front : (ts : List ToldHop) (hops new_hops some_hops : List HopNode)
+    (bytes new_bytes some_bytes : List ℕ) → map (told_hop_by some_bytes) some_hops ≡ ts
+    → HopsHoldUp some_bytes some_hops → length ts ≤ length hops → hops_size ts ≤ length bytes
+    → new_hops ≡ some_hops ++ drop (0 + length some_hops) hops
+    → new_bytes ≡ some_bytes ++ drop (0 + length some_bytes) bytes
+    → HopsAtFront ts hops new_hops bytes new_bytes
+hops_at_front ts hops new_hops some_hops bytes new_bytes some_bytes tells h n b e f =
+    let size : length some_bytes ≡ hops_size ts = h.1 ∙ ap hops_size tells in
+    let count = ap length tells in
+    let each = length-map some_hops (told_hop_by some_bytes) in
+    record {
+      some_hops = some_hops;
+      some_bytes = some_bytes;
+      tells = tells;
+      within = h.0;
+      size = size;
+      hops_fit = omega arith;
+      bytes_fit = omega arith;
+      hops_there = e ∙ ap (λ k. some_hops ++ drop k hops) (omega arith);
+      bytes_there = f ∙ ap (λ k. some_bytes ++ drop k bytes) (omega arith);
+    }

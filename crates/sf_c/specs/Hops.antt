@@ -1,0 +1,200 @@
+-- What the structs of hops tell (RFC 9211 section 2).
+use Rattle.std.specs.Prelude.{◌≡◌, ℕ, ℤ, pos, ◌+◌, ◌≤◌, Bool, true, false, List, [], ◌∷◌, ◌++◌}
+use Rattle.std.specs.Prelude.{length, drop, map, Option, is_some, unwrap_or}
+use Rattle.std.specs.Option.{option_and_then, option_map}
+use Rattle.sf_use.specs.declared.cache_status.hop.Name.{Name}
+use Rattle.sf_use.specs.declared.cache_status.hop.Name.TheVariants as name
+use Rattle.sf_use.specs.declared.cache_status.hop.Forward.{Forward}
+use Rattle.sf_use.specs.declared.cache_status.hop.Forward.TheVariants.{Bypass, Method, UriMiss}
+use Rattle.sf_use.specs.declared.cache_status.hop.Forward.TheVariants.{VaryMiss, Miss, Request}
+use Rattle.sf_use.specs.declared.cache_status.hop.Forward.TheVariants.{Stale, Partial, Other}
+use Rattle.sf_use.specs.declared.cache_status.hop.Passed.{Passed}
+use Rattle.sf_use.specs.declared.cache_status.hop.Outcome.{Outcome}
+use Rattle.sf_use.specs.declared.cache_status.hop.Outcome.TheVariants.{Hit, Forwarded, Conflict}
+use Rattle.sf_use.specs.declared.cache_status.hop.Outcome.TheVariants.{Unsaid}
+use Rattle.sf_use.specs.declared.cache_status.hop.Hop.{Hop}
+use Rattle.sf_use.specs.CacheStatus.Members.{passed_by}
+use Rattle.sf_use.specs.CacheStatus.Reasons.{token_of}
+use Rattle.sf_c.specs.declared.hops.Piece.{Piece}
+use Rattle.sf_c.specs.declared.hops.HopNode.{HopNode}
+use Rattle.sf_c.specs.Refusals.{flag_number}
+use Rattle.sf_c.specs.Tellings.{piece}
+
+-- what a hop says in numbers; a number that is not said is 0
+pub record HopSays : Type 0 where
+  pub outcome : ℕ
+  pub why : ℕ
+  pub status : ℕ
+  pub says_status : ℕ
+  pub stored : ℕ
+  pub says_stored : ℕ
+  pub collapsed : ℕ
+  pub says_collapsed : ℕ
+  pub ttl : ℤ
+  pub says_ttl : ℕ
+  pub says_key : ℕ
+  pub says_detail : ℕ
+  pub name_is_token : ℕ
+  pub detail_is_token : ℕ
+
+-- what a hop says; bytes that are not said are none
+pub record ToldHop : Type 0 where
+  pub name : List ℕ
+  pub why_token : List ℕ
+  pub key : List ℕ
+  pub detail : List ℕ
+  pub says : HopSays
+
+-- the numbers of a struct
+abbrev pub says_by : HopNode → HopSays
+says_by n = record {
+  outcome = n.outcome;
+  why = n.why;
+  status = n.status;
+  says_status = n.says_status;
+  stored = n.stored;
+  says_stored = n.says_stored;
+  collapsed = n.collapsed;
+  says_collapsed = n.says_collapsed;
+  ttl = n.ttl;
+  says_ttl = n.says_ttl;
+  says_key = n.says_key;
+  says_detail = n.says_detail;
+  name_is_token = n.name_is_token;
+  detail_is_token = n.detail_is_token;
+}
+
+-- the bytes of a piece
+abbrev pub piece_of : List ℕ → Piece → List ℕ
+piece_of bytes p = piece p.at p.length bytes
+
+-- what a struct tells, which points into these bytes
+abbrev pub told_hop_by : List ℕ → HopNode → ToldHop
+told_hop_by bytes n = record {
+  name = piece_of bytes n.name;
+  why_token = piece_of bytes n.why_token;
+  key = piece_of bytes n.key;
+  detail = piece_of bytes n.detail;
+  says = says_by n;
+}
+
+-- a name, or a detail: its bytes, and whether it is a Token
+abbrev pub bytes_of : Name → List ℕ
+bytes_of (name.Text t) = t
+bytes_of (name.Token t) = t
+
+abbrev pub is_token : Name → Bool
+is_token (name.Text t) = false
+is_token (name.Token t) = true
+
+abbrev pub detail_bytes : Option Name → List ℕ
+detail_bytes detail = unwrap_or (option_map bytes_of detail) []
+
+abbrev pub detail_is_token : Option Name → Bool
+detail_is_token detail = unwrap_or (option_map is_token detail) false
+
+-- what the cache did
+abbrev pub outcome_number : Outcome → ℕ
+outcome_number Unsaid = 0
+outcome_number Hit = 1
+outcome_number (Forwarded passed) = 2
+outcome_number (Conflict passed) = 3
+
+-- why it forwarded the request
+abbrev pub reason_number : Forward → ℕ
+reason_number Bypass = 1
+reason_number Method = 2
+reason_number UriMiss = 3
+reason_number VaryMiss = 4
+reason_number Miss = 5
+reason_number Request = 6
+reason_number Stale = 7
+reason_number Partial = 8
+reason_number (Other token) = 9
+
+abbrev pub why_number : Option Passed → ℕ
+why_number passed = unwrap_or (option_map (λ p. reason_number p.why) passed) 0
+
+abbrev pub why_token : Option Passed → List ℕ
+why_token passed = unwrap_or (option_map (λ p. token_of p.why) passed) []
+
+-- the numbers of a hop
+abbrev pub says_passed : Option Passed → Hop → HopSays
+says_passed passed h = record {
+  outcome = outcome_number h.outcome;
+  why = why_number passed;
+  status = unwrap_or (option_and_then (λ p. p.status) passed) 0;
+  says_status = flag_number (is_some (option_and_then (λ p. p.status) passed));
+  stored = flag_number (unwrap_or (option_and_then (λ p. p.stored) passed) false);
+  says_stored = flag_number (is_some (option_and_then (λ p. p.stored) passed));
+  collapsed = flag_number (unwrap_or (option_and_then (λ p. p.collapsed) passed) false);
+  says_collapsed = flag_number (is_some (option_and_then (λ p. p.collapsed) passed));
+  ttl = unwrap_or h.ttl (pos 0);
+  says_ttl = flag_number (is_some h.ttl);
+  says_key = flag_number (is_some h.key);
+  says_detail = flag_number (is_some h.detail);
+  name_is_token = flag_number (is_token h.name);
+  detail_is_token = flag_number (detail_is_token h.detail);
+}
+
+abbrev pub says_of : Hop → HopSays
+says_of h = says_passed (passed_by h.outcome) h
+
+-- what a hop says
+abbrev pub told_hop : Hop → ToldHop
+told_hop h = record {
+  name = bytes_of h.name;
+  why_token = why_token (passed_by h.outcome);
+  key = unwrap_or h.key [];
+  detail = detail_bytes h.detail;
+  says = says_of h;
+}
+
+-- the piece is within the bytes
+abbrev pub IsPieceWithin : List ℕ → Piece → Type 0
+IsPieceWithin bytes p = p.at + p.length ≤ length bytes
+
+-- the struct points to bytes that are there
+abbrev pub IsHopWithin : List ℕ → HopNode → Type 0
+IsHopWithin bytes n =
+    IsPieceWithin bytes n.name
+    × IsPieceWithin bytes n.why_token
+    × IsPieceWithin bytes n.key
+    × IsPieceWithin bytes n.detail
+
+-- so does each struct
+abbrev pub AreHopsWithin : List ℕ → List HopNode → Type 0
+AreHopsWithin bytes [] = Unit {0}
+AreHopsWithin bytes (n ∷ ns) = IsHopWithin bytes n × AreHopsWithin bytes ns
+
+-- how many bytes hops have together
+abbrev pub hop_size : ToldHop → ℕ
+hop_size t = length t.name + length t.why_token + length t.key + length t.detail
+
+abbrev pub hops_size : List ToldHop → ℕ
+hops_size [] = 0
+hops_size (t ∷ ts) = hop_size t + hops_size ts
+
+-- the structs point to bytes that are there, and no byte is in vain
+abbrev pub HopsHoldUp : List ℕ → List HopNode → Type 0
+HopsHoldUp bytes ns =
+    AreHopsWithin bytes ns × (length bytes ≡ hops_size (map (told_hop_by bytes) ns))
+
+-- the text stands behind the bytes that were there, and the piece is that of it
+abbrev pub PutsPiece : List ℕ → List ℕ → List ℕ → Piece → Type 0
+PutsPiece old new text p =
+    (new ≡ old ++ text) × (p.at ≡ length old) × (p.length ≡ length text)
+
+-- the structs and the bytes at the fronts of two rooms tell these hops, and what stands behind them
+-- is left as it was
+pub record HopsAtFront (ts : List ToldHop) (hops new_hops : List HopNode)
+    (bytes new_bytes : List ℕ) : Type 0 where
+  pub some_hops : List HopNode
+  pub some_bytes : List ℕ
+  pub tells : map (told_hop_by some_bytes) some_hops ≡ ts
+  pub within : AreHopsWithin some_bytes some_hops
+  pub size : length some_bytes ≡ hops_size ts
+  pub hops_fit : length some_hops ≤ length hops
+  pub bytes_fit : length some_bytes ≤ length bytes
+  pub hops_there : new_hops ≡ some_hops ++ drop (length some_hops) hops
+  pub bytes_there : new_bytes ≡ some_bytes ++ drop (length some_bytes) bytes

@@ -1,0 +1,85 @@
+-- What the text of a Cache-Status field answers (RFC 9211 section 2).
+use Rattle.std.specs.Prelude.{◌≡◌, ℕ, ◌+◌, ◌*◌, ◌<◌, ◌≤◌, ◌⊎◌, List as Seq, length, map, is_some, unwrap_or}
+use Rattle.std.specs.Prelude.{Option, Some, Ok, Err, ⊤}
+use Rattle.sf_value.specs.declared.dialect.Dialect.TheVariants.{Rfc9651}
+use Rattle.sf_value.specs.declared.value.Field.{Field}
+use Rattle.sf_value.specs.declared.value.Kind.TheVariants.{List}
+use Rattle.sf_parse.specs.Parsers.{IsOnly}
+use Rattle.sf_use.specs.declared.cache_status.hop.Hop.{Hop}
+use Rattle.sf_use.specs.CacheStatus.Hops.{hops}
+use Rattle.sf_use.specs.CacheStatus.Served.{served}
+use Rattle.sf_c.specs.declared.cache_status.Path.{Path}
+use Rattle.sf_c.specs.declared.hops.HopNode.{HopNode}
+use Rattle.sf_c.specs.declared.refusal.SyntaxRefusal.{SyntaxRefusal}
+use Rattle.sf_c.specs.declared.status.Status.{Status}
+use Rattle.sf_c.specs.declared.status.Status.TheVariants.{Answered, Refused, Short, OutOfMemory}
+use Rattle.sf_c.specs.declared.status.Status.TheVariants.{NotACache}
+use Rattle.sf_c.specs.Hops.{hops_size, told_hop, HopsAtFront}
+use Rattle.sf_c.specs.Refusals.{SaysRefusal, flag_number}
+
+-- the struct says how many hops and bytes there are, and which hop the response came from
+abbrev pub SaysPath : Path → Seq Hop → Type 0
+SaysPath p hs =
+    (p.hops ≡ length hs)
+    × (p.bytes ≡ hops_size (map told_hop hs))
+    × (p.served ≡ unwrap_or (served hs) 0)
+    × (p.is_served ≡ flag_number (is_some (served hs)))
+
+-- what reading a path may write to
+pub record PathRoom : Type 0 where
+  pub hops : Seq HopNode
+  pub bytes : Seq ℕ
+  pub path : Path
+  pub refusal : SyntaxRefusal
+
+-- the rooms are as they were
+abbrev pub KeepsRooms : PathRoom → PathRoom → Type 0
+KeepsRooms old new = (new.hops ≡ old.hops) × (new.bytes ≡ old.bytes)
+
+-- one of the rooms is too small for the path
+abbrev pub IsTooSmall : PathRoom → Path → Type 0
+IsTooSmall r p = (length r.hops < p.hops) ⊎ (length r.bytes < p.bytes)
+
+-- the text spells a List, and the fronts of the rooms tell its hops; or a room is too small; or a
+-- member names no cache, the first such at this place; or the struct says the refusal. All else is
+-- left as it was
+abbrev pub TellsPath : PathRoom → PathRoom → Seq ℕ → Option Status → Type 0
+TellsPath old new t (Some Answered) =
+    (v : Field) × (hs : Seq Hop)
+    × IsOnly Rfc9651 List t v
+    × (hops v ≡ Ok hs)
+    × SaysPath new.path hs
+    × (new.path.nameless ≡ old.path.nameless)
+    × HopsAtFront (map told_hop hs) old.hops new.hops old.bytes new.bytes
+    × (new.refusal ≡ old.refusal)
+TellsPath old new t (Some Short) =
+    (v : Field) × (hs : Seq Hop)
+    × IsOnly Rfc9651 List t v
+    × (hops v ≡ Ok hs)
+    × SaysPath new.path hs
+    × (new.path.nameless ≡ old.path.nameless)
+    × IsTooSmall old new.path
+    × KeepsRooms old new
+    × (new.refusal ≡ old.refusal)
+TellsPath old new t (Some NotACache) =
+    (v : Field)
+    × IsOnly Rfc9651 List t v
+    × (hops v ≡ Err new.path.nameless)
+    × (new.path ≡ record old.path { nameless = new.path.nameless })
+    × KeepsRooms old new
+    × (new.refusal ≡ old.refusal)
+TellsPath old new t (Some Refused) =
+    SaysRefusal Rfc9651 List t new.refusal × KeepsRooms old new × (new.path ≡ old.path)
+TellsPath old new t (Some OutOfMemory) = new ≡ old
+TellsPath old new t status = ⊥
+
+-- of a text t hops are at most one more than eight fifths of its length, and bytes at most eight
+-- fifths
+abbrev pub IsShort : Seq ℕ → Path → Type 0
+IsShort t p = (5 * p.hops ≤ 8 * length t + 5) × (5 * p.bytes ≤ 8 * length t)
+
+-- so are they where the struct says how many there are
+abbrev pub SaysFew : Seq ℕ → Path → Option Status → Type 0
+SaysFew t p (Some Answered) = IsShort t p
+SaysFew t p (Some Short) = IsShort t p
+SaysFew t p status = ⊤

@@ -1,0 +1,104 @@
+//! Cache-Status (RFC 9211).
+ghost use Rattle.std.specs.Prelude.{◌≡◌, Some};
+ghost use Rattle.sf_c.specs.Paths.{SaysFew, TellsPath};
+ghost use Rattle.sf_c.specs.Statuses.{status_at};
+
+use crate::call::parse;
+use crate::hops::{HopNode, flatten_hops};
+use crate::laws::hops_are_few;
+use crate::refusal::SyntaxRefusal;
+use crate::seed::Seed;
+use crate::status::Status;
+use sf_field::{Consumer, UseFault};
+use sf_use::CacheStatus;
+use sf_value::{Dialect, Kind};
+use std::alloc::Global;
+
+/// How many hops and bytes the path of a response has, and where it came from. In C an `sf_path`.
+#[repr(C)]
+#[derive(Clone, Copy, Debug, Drop)]
+pub struct Path {
+    /// How many hops.
+    pub hops: usize,
+    /// How many bytes, those of names, tokens, keys and details.
+    pub bytes: usize,
+    /// The place of the hop that the response came from, counted from 0; 0 where there is none.
+    pub served: usize,
+    /// The place of the first member that names no cache, counted from 0, where the answer is
+    /// `NotACache`.
+    pub nameless: usize,
+    /// 1 where a hop answered from its store, else 0.
+    pub is_served: u32,
+}
+
+// As [`sf_cache_status`] answers.
+fn path_of(
+    alloc: Global,
+    seed: &Seed,
+    text: &[u8],
+    hops: &mut [HopNode],
+    bytes: &mut [u8],
+    path: &mut Path,
+    refusal: &mut SyntaxRefusal,
+) -> Status
+    ensures tells { TellsPath
+        (record { hops = hops.old; bytes = bytes.old; path = path.old; refusal = refusal.old })
+        (record { hops = hops.new; bytes = bytes.new; path = path.new; refusal = refusal.new })
+        text.now (Some result) }
+    ensures few { SaysFew text.now path.new (Some result) }
+{
+    let field = match parse(alloc, seed, Dialect::Rfc9651, Kind::List, text, refusal) {
+        Ok(field) => field,
+        Err(status) => return status,
+    };
+    let caches = match CacheStatus.answer(alloc, &field) {
+        Ok(caches) => caches,
+        Err(UseFault::NotACache { index }) => {
+            path.nameless = index;
+            return Status::NotACache;
+        }
+        Err(UseFault::OutOfMemory) => return Status::OutOfMemory,
+    };
+    let Ok(flat) = flatten_hops(alloc, caches.hops()) else {
+        return Status::OutOfMemory;
+    };
+    hops_are_few();
+    let served = caches.served_by();
+    path.hops = flat.count();
+    path.bytes = flat.size();
+    path.served = served.unwrap_or(0);
+    path.is_served = u32::from(served.is_some());
+    if hops.len() < path.hops {
+        return Status::Short;
+    }
+    if bytes.len() < path.bytes {
+        return Status::Short;
+    }
+    flat.write(hops, bytes);
+    Status::Answered
+}
+
+/// The path of a response by the text of its Cache-Status field (RFC 9211 section 2), the cache
+/// nearest the origin first: `Answered` and the first `path.hops` hops and the first `path.bytes`
+/// bytes tell it, and the others are left as they were; `Short` where one of the rooms is smaller
+/// than `path` says, and both are left as they were; `NotACache` where a member names no cache, and
+/// then `path.nameless` is the place of the first such member; `Refused` where the text spells no
+/// List, and then `refusal` says where and why; or `OutOfMemory`.
+#[unsafe(no_mangle)]
+pub extern "C" fn sf_cache_status(
+    alloc: Global,
+    seed: &Seed,
+    text: &[u8],
+    hops: &mut [HopNode],
+    bytes: &mut [u8],
+    path: &mut Path,
+    refusal: &mut SyntaxRefusal,
+) -> u32
+    ensures tells { TellsPath
+        (record { hops = hops.old; bytes = bytes.old; path = path.old; refusal = refusal.old })
+        (record { hops = hops.new; bytes = bytes.new; path = path.new; refusal = refusal.new })
+        text.now (status_at result) }
+    ensures few { SaysFew text.now path.new (status_at result) }
+{
+    path_of(alloc, seed, text, hops, bytes, path, refusal).code()
+}

@@ -1,0 +1,318 @@
+//! The hops of a path (RFC 9211 section 2) as flat structs.
+ghost use Rattle.std.specs.Prelude.{◌≡◌, ◌≤◌, ◌++◌, [], ◌∷◌, pos, length, map, unwrap_or, IfOk};
+ghost use Rattle.std.specs.Option.{option_and_then};
+ghost use Rattle.sf_use.specs.CacheStatus.Members.{passed_by};
+ghost use Rattle.sf_c.specs.Hops.{bytes_of, detail_bytes, hops_size, is_token, told_hop};
+ghost use Rattle.sf_c.specs.Hops.{detail_is_token, outcome_number, says_by, says_of};
+ghost use Rattle.sf_c.specs.Hops.{reason_number, why_number, why_token, HopsAtFront, PutsPiece};
+
+use crate::room::put;
+use sf_use::{Forward, Hop, HopStatus, Name, Outcome};
+use sf_value::{Int, OutOfMemory, Text};
+use std::alloc::Global;
+use std::marker::Model;
+
+/// Bytes among others. In C an `sf_piece`.
+#[repr(C)]
+#[derive(Clone, Copy, Debug, Drop)]
+pub struct Piece {
+    /// Where they begin.
+    pub at: usize,
+    /// How many they are.
+    pub length: usize,
+}
+
+/// A cache on the path of a response, and what it did (RFC 9211 section 2). In C an `sf_hop`.
+#[repr(C)]
+#[derive(Clone, Copy, Debug, Drop)]
+pub struct HopNode {
+    /// The cache's name.
+    pub name: Piece,
+    /// The token of `fwd` (section 2.2); empty where it is not said.
+    pub why_token: Piece,
+    /// The cache key: `key` (section 2.7); empty where it is not said.
+    pub key: Piece,
+    /// What else the cache tells: `detail` (section 2.8); empty where it is not said.
+    pub detail: Piece,
+    /// For how many seconds the response is still fresh: `ttl` (section 2.4); 0 where it is not
+    /// said.
+    pub ttl: i64,
+    /// What it did: 0 where neither `hit` nor `fwd` is said, 1 for a hit, 2 where it forwarded the
+    /// request, 3 where both are said.
+    pub outcome: u16,
+    /// Why it forwarded the request: 0 where it is not said, then from 1 on `bypass`, `method`,
+    /// `uri-miss`, `vary-miss`, `miss`, `request`, `stale`, `partial`, and 9 for another token.
+    pub why: u16,
+    /// The status that the next server answered: `fwd-status` (section 2.3); 0 where it is not
+    /// said.
+    pub status: u16,
+    /// 1 where `fwd-status` is said, else 0.
+    pub says_status: u8,
+    /// 1 where the response was stored: `stored` (section 2.5), else 0.
+    pub stored: u8,
+    /// 1 where `stored` is said, else 0.
+    pub says_stored: u8,
+    /// 1 where the request was collapsed with others: `collapsed` (section 2.6), else 0.
+    pub collapsed: u8,
+    /// 1 where `collapsed` is said, else 0.
+    pub says_collapsed: u8,
+    /// 1 where `ttl` is said, else 0.
+    pub says_ttl: u8,
+    /// 1 where `key` is said, else 0.
+    pub says_key: u8,
+    /// 1 where `detail` is said, else 0.
+    pub says_detail: u8,
+    /// 1 where the name is a Token, 0 where it is a String.
+    pub name_is_token: u8,
+    /// 1 where `detail` is a Token, else 0.
+    pub detail_is_token: u8,
+}
+
+// A text behind the bytes.
+fn put_piece(bytes: &mut Vec<u8>, text: &[u8]) -> Result<Piece, OutOfMemory>
+    ensures { IfOk result (λ piece. PutsPiece bytes.old.items bytes.new.items text.now piece) }
+{
+    let at = bytes.as_slice().len();
+    bytes.extend_from_slice(text)?;
+    Ok(Piece {
+        at,
+        length: text.len(),
+    })
+}
+
+fn bytes_of(name: &Name) -> &[u8]
+    ensures { result.now ≡ bytes_of name.now }
+{
+    match name {
+        Name::Text(text) => text.as_bytes(),
+        Name::Token(token) => token.as_bytes(),
+    }
+}
+
+fn is_token(name: &Name) -> bool
+    ensures { result ≡ is_token name.now }
+{
+    matches!(name, Name::Token(_))
+}
+
+fn key_bytes(key: &Option<Text>) -> &[u8]
+    ensures { result.now ≡ unwrap_or key.now [] }
+{
+    match key {
+        Some(key) => key.as_bytes(),
+        None => b"",
+    }
+}
+
+fn detail_bytes(detail: &Option<Name>) -> &[u8]
+    ensures { result.now ≡ detail_bytes detail.now }
+{
+    match detail {
+        Some(detail) => bytes_of(detail),
+        None => b"",
+    }
+}
+
+fn detail_is_token(detail: &Option<Name>) -> bool
+    ensures { result ≡ detail_is_token detail.now }
+{
+    match detail {
+        Some(detail) => is_token(detail),
+        None => false,
+    }
+}
+
+fn why_token(outcome: &Outcome) -> &[u8]
+    ensures { result.now ≡ why_token (passed_by outcome.now) }
+{
+    match outcome.passed() {
+        Some(passed) => passed.why.as_bytes(),
+        None => b"",
+    }
+}
+
+fn outcome_number(outcome: &Outcome) -> u16
+    ensures { result ≡ outcome_number outcome.now }
+{
+    match outcome {
+        Outcome::Unsaid => 0,
+        Outcome::Hit => 1,
+        Outcome::Forwarded(_) => 2,
+        Outcome::Conflict(_) => 3,
+    }
+}
+
+fn reason_number(why: &Forward) -> u16
+    ensures { result ≡ reason_number why.now }
+{
+    match why {
+        Forward::Bypass => 1,
+        Forward::Method => 2,
+        Forward::UriMiss => 3,
+        Forward::VaryMiss => 4,
+        Forward::Miss => 5,
+        Forward::Request => 6,
+        Forward::Stale => 7,
+        Forward::Partial => 8,
+        Forward::Other(_) => 9,
+    }
+}
+
+fn why_number(outcome: &Outcome) -> u16
+    ensures { result ≡ why_number (passed_by outcome.now) }
+{
+    match outcome.passed() {
+        Some(passed) => reason_number(&passed.why),
+        None => 0,
+    }
+}
+
+fn status_of(outcome: &Outcome) -> Option<HopStatus>
+    ensures { result ≡ option_and_then (λ p. p.status) (passed_by outcome.now) }
+{
+    outcome.passed()?.status
+}
+
+fn stored_of(outcome: &Outcome) -> Option<bool>
+    ensures { result ≡ option_and_then (λ p. p.stored) (passed_by outcome.now) }
+{
+    outcome.passed()?.stored
+}
+
+fn collapsed_of(outcome: &Outcome) -> Option<bool>
+    ensures { result ≡ option_and_then (λ p. p.collapsed) (passed_by outcome.now) }
+{
+    outcome.passed()?.collapsed
+}
+
+fn code_of(status: Option<HopStatus>) -> u16
+    ensures { result ≡ unwrap_or status 0 }
+{
+    match status {
+        Some(status) => status.get(),
+        None => 0,
+    }
+}
+
+fn seconds_of(ttl: Option<Int>) -> i64
+    ensures { result ≡ unwrap_or ttl (pos 0) }
+{
+    match ttl {
+        Some(ttl) => ttl.get(),
+        None => 0,
+    }
+}
+
+// The struct of a hop whose bytes stand in these pieces.
+fn node_of(hop: &Hop, name: Piece, why_token: Piece, key: Piece, detail: Piece) -> HopNode
+    ensures name { result.name ≡ name }
+    ensures why_token { result.why_token ≡ why_token }
+    ensures key { result.key ≡ key }
+    ensures detail { result.detail ≡ detail }
+    ensures says { says_by result ≡ says_of hop.now }
+{
+    let status = status_of(&hop.outcome);
+    let stored = stored_of(&hop.outcome);
+    let collapsed = collapsed_of(&hop.outcome);
+    HopNode {
+        name,
+        why_token,
+        key,
+        detail,
+        ttl: seconds_of(hop.ttl),
+        outcome: outcome_number(&hop.outcome),
+        why: why_number(&hop.outcome),
+        status: code_of(status),
+        says_status: u8::from(status.is_some()),
+        stored: u8::from(stored.unwrap_or(false)),
+        says_stored: u8::from(stored.is_some()),
+        collapsed: u8::from(collapsed.unwrap_or(false)),
+        says_collapsed: u8::from(collapsed.is_some()),
+        says_ttl: u8::from(hop.ttl.is_some()),
+        says_key: u8::from(hop.key.is_some()),
+        says_detail: u8::from(hop.detail.is_some()),
+        name_is_token: u8::from(is_token(&hop.name)),
+        detail_is_token: u8::from(detail_is_token(&hop.detail)),
+    }
+}
+
+// The structs of hops, and the bytes that they point into. Contracts see what the structs tell.
+#[derive(Drop)]
+pub(crate) struct FlatPath {
+    hops: Vec<HopNode>,
+    bytes: Vec<u8>,
+}
+
+impl Model for FlatPath {
+    ghost use Rattle.std.specs.Prelude.{List, map};
+    ghost use Rattle.sf_c.specs.Hops.{ToldHop, told_hop_by, HopsHoldUp};
+
+    ghost Value = { List ToldHop };
+
+    ghost view = { λ f. map (told_hop_by f.bytes.items) f.hops.items };
+
+    ghost invariant = { λ f. HopsHoldUp f.bytes.items f.hops.items };
+}
+
+impl FlatPath {
+    // No hops.
+    fn new(alloc: Global) -> FlatPath
+        ensures { result ≡ [] }
+    {
+        FlatPath {
+            hops: Vec::new(alloc),
+            bytes: Vec::new(alloc),
+        }
+    }
+
+    // How many hops there are.
+    pub(crate) fn count(&self) -> usize
+        ensures { result ≡ length self.now }
+    {
+        self.hops.as_slice().len()
+    }
+
+    // How many bytes they have.
+    pub(crate) fn size(&self) -> usize
+        ensures { result ≡ hops_size self.now }
+    {
+        self.bytes.as_slice().len()
+    }
+
+    // Puts the hops and the bytes at the fronts of rooms that are long enough.
+    pub(crate) fn write(&self, hops: &mut [HopNode], bytes: &mut [u8])
+        requires hops { length self.now ≤ length hops.old }
+        requires bytes { hops_size self.now ≤ length bytes.old }
+        ensures { HopsAtFront self.now hops.old hops.new bytes.old bytes.new }
+    {
+        put(hops, 0, self.hops.as_slice());
+        put(bytes, 0, self.bytes.as_slice());
+    }
+
+    // One more hop.
+    fn with(self, hop: &Hop) -> Result<FlatPath, OutOfMemory>
+        ensures { IfOk result (λ path. path ≡ self ++ told_hop hop.now ∷ []) }
+    {
+        let FlatPath {
+            mut hops,
+            mut bytes,
+        } = self;
+        let name = put_piece(&mut bytes, bytes_of(&hop.name))?;
+        let why = put_piece(&mut bytes, why_token(&hop.outcome))?;
+        let key = put_piece(&mut bytes, key_bytes(&hop.key))?;
+        let detail = put_piece(&mut bytes, detail_bytes(&hop.detail))?;
+        hops.push(node_of(hop, name, why, key, detail))?;
+        Ok(FlatPath { hops, bytes })
+    }
+}
+
+// The structs of hops.
+pub(crate) fn flatten_hops(alloc: Global, hops: &[Hop]) -> Result<FlatPath, OutOfMemory>
+    ensures { IfOk result (λ path. path ≡ map told_hop hops.now) }
+{
+    let mut path = FlatPath::new(alloc);
+    for hop in hops {
+        path = path.with(hop)?;
+    }
+    Ok(path)
+}
