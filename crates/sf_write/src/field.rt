@@ -46,7 +46,8 @@ pub fn write_field_from<W: Sink>(field: &Field, before: u64, out: &mut W) -> Res
 /// `Ok` tells the length of the text in bytes, all of which went out. A fault is answered only
 /// where a send failed or took no byte, and that send is not repeated: exactly the first `written`
 /// bytes of the text went out. Both numbers stay at 2^64 - 1, and there which bytes went out is
-/// left open.
+/// left open. Whatever it answers, the field is valid, as any field is, so that its text spells it
+/// (`sf_value::laws::canon_spells`).
 ///
 /// ```
 /// let mut out = Writing::new(io::writer(&rt));
@@ -59,7 +60,9 @@ pub fn write_field<W: Sink>(field: &Field, out: &mut W) -> Result<u64, WriteFaul
     write_field_from(field, 0, out)
 }
 
-/// The canonical text of a field (RFC 9651 section 4.1). The only refusal is for want of memory.
+/// The canonical text of a field (RFC 9651 section 4.1). The text spells the field: parsed as one of
+/// its kind it gives that field again, also where the field was built and never parsed. The only
+/// refusal is for want of memory.
 ///
 /// ```
 /// let text = to_text(rt.alloc(), &field)?;
