@@ -1,5 +1,6 @@
 -- Canonical texts as lines.
-use Rattle.std.proofs.Common.{◌≡◌, ℕ, ◌*◌, ◌≤◌, List, ◌∷◌, [], length, sym, ap, ◌∙◌, subst, Result}
+use Rattle.std.proofs.Common.{◌≡◌, ℕ, ◌-◌, ◌*◌, ◌^◌, ◌<◌, ◌≤◌, List, ◌∷◌, [], length, sym, ap, ◌∙◌}
+use Rattle.std.proofs.Common.{subst, Result, Ok, Err, Some, None, arith}
 use Rattle.sf_value.specs.declared.dialect.Dialect.{Dialect}
 use Rattle.sf_value.specs.declared.dialect.Dialect.TheVariants.{Rfc9651}
 use Rattle.sf_value.specs.declared.value.Field.{Field}
@@ -7,23 +8,63 @@ use Rattle.sf_value.specs.declared.value.Kind.{Kind}
 use Rattle.sf_value.specs.Grammar.Canonical.{canon}
 use Rattle.sf_value.specs.Grammar.Fields.{SpellsField}
 use Rattle.sf_value.specs.Grammar.Lines.{join}
+use Rattle.sf_value.specs.Grammar.Valid.{Valid}
 use Rattle.sf_value.proofs.CanonicalTexts.{canon_spells}
 use Rattle.sf_value.proofs.Validity.{spelled_valid}
 use Rattle.sf_value.proofs.LengthBound.{canon_bound}
-use Rattle.sf_parse.specs.Parsers.{IsOnly}
+use Rattle.sf_parse.specs.declared.refusal.Refusal.{Refusal}
+use Rattle.sf_parse.specs.declared.refusal.Refusal.TheVariants.{OutOfMemory, Syntax, TooLong}
+use Rattle.sf_parse.specs.declared.refusal.Refusal.TheVariants.{ReadFault}
+use Rattle.sf_parse.specs.Parsers.{IsOnly, Parses}
 use Rattle.sf_parse.proofs.Theorems.{one_value, canon_one}
 use Rattle.sf_field.specs.Asking.{MeansAsCanonical}
 use Rattle.sf_field.specs.Normal.{NormalisesTo}
+use Rattle.sf_field.specs.Lines.{ParsesLines}
 use Rattle.sf_field.specs.Laws.{CanonSettles, EqualByText, NormalIsOne, TwiceIsOnce}
+use Rattle.sf_field.specs.Laws.{BuiltSpells, IsBack, BuiltIsParsed, BuiltLineIsParsed}
 
 is_only : (d : Dialect) (kind : Kind) (t : List ℕ) (v : Field) → SpellsField d kind t v
     → IsOnly d kind t v
 is_only d kind t v h = record { spelled = h; only = λ w k. one_value d kind t w v k h }
 
+-- the canonical text of a valid value spells it and no other
+pub built_spells : BuiltSpells
+built_spells d kind v h = is_only d kind (canon v) v (canon_spells d kind v h)
+
+-- what parsing such a text answers
+pub built_is_parsed : BuiltIsParsed
+built_is_parsed d kind v h r k = back r k
+  where
+    one : IsOnly d kind (canon v) v
+    one = built_spells d kind v h
+
+    back : (r : Result Field Refusal) → Parses d kind (canon v) r → IsBack v r
+    back (Ok w) k = one.only w k.spelled
+    back (Err OutOfMemory) k = tt
+    back (Err (Syntax place None expected may_end)) k = k.1.unspelled v one.spelled
+    back (Err (Syntax place (Some b) expected may_end)) k = k.unspelled v one.spelled
+    back (Err (TooLong limit)) k = k
+    back (Err (ReadFault place)) k = k
+
+pub built_line_is_parsed : BuiltLineIsParsed
+built_line_is_parsed d kind v h short r k = back r k
+  where
+    back : (r : Result Field Refusal) → ParsesLines d kind (canon v ∷ []) r → IsBack v r
+    back (Ok w) k = built_is_parsed d kind v h (Ok w) k.0
+    back (Err OutOfMemory) k = tt
+    back (Err (Syntax place None expected may_end)) k =
+        built_is_parsed d kind v h (Err (Syntax place None expected may_end)) k.0
+    back (Err (Syntax place (Some b) expected may_end)) k =
+        built_is_parsed d kind v h (Err (Syntax place (Some b) expected may_end)) k.0
+    back (Err (TooLong limit)) k = too_long limit k.0 k.1
+      where
+        too_long : (limit : ℕ) → limit ≡ 2 ^ 64 - 1 → limit < length (canon v) → ⊥
+        too_long limit e l = omega (arith, e, l, short)
+    back (Err (ReadFault place)) k = k.0
+
 canon_only : (d : Dialect) (kind : Kind) (t : List ℕ) (v : Field) → SpellsField d kind t v
     → IsOnly d kind (canon v) v
-canon_only d kind t v h =
-    is_only d kind (canon v) v (canon_spells d kind v (spelled_valid d kind v t h))
+canon_only d kind t v h = built_spells d kind v (spelled_valid d kind v t h)
 
 -- the canonical text of the value that the lines spell is their normal text
 pub normal : (kind : Kind) (lines : List (List ℕ)) (v : Field) (c : List ℕ)

@@ -1,12 +1,17 @@
 -- The laws of normal texts. Each stands as the contract of a function in `src/laws.rt`.
-use Rattle.std.specs.Prelude.{◌≡◌, ℕ, ◌↔◌, List, [], ◌∷◌}
+use Rattle.std.specs.Prelude.{◌≡◌, ℕ, ◌^◌, ◌<◌, ◌↔◌, List, [], ◌∷◌, length, Result, Ok, Err, ⊤}
 use Rattle.sf_value.specs.declared.dialect.Dialect.{Dialect}
 use Rattle.sf_value.specs.declared.value.Field.{Field}
 use Rattle.sf_value.specs.declared.value.Kind.{Kind}
 use Rattle.sf_value.specs.Grammar.Canonical.{canon}
 use Rattle.sf_value.specs.Grammar.Fields.{SpellsField}
 use Rattle.sf_value.specs.Grammar.Lines.{join}
-use Rattle.sf_parse.specs.Parsers.{IsOnly}
+use Rattle.sf_value.specs.Grammar.Valid.{Valid}
+use Rattle.sf_parse.specs.declared.refusal.Refusal.{Refusal}
+use Rattle.sf_parse.specs.declared.refusal.Refusal.TheVariants.{OutOfMemory, Syntax, TooLong}
+use Rattle.sf_parse.specs.declared.refusal.Refusal.TheVariants.{ReadFault}
+use Rattle.sf_parse.specs.Parsers.{IsOnly, Parses}
+use Rattle.sf_field.specs.Lines.{ParsesLines}
 use Rattle.sf_field.specs.Normal.{NormalisesTo}
 
 -- in each dialect the canonical text of what lines spell spells, as the only line, that value, and
@@ -39,3 +44,27 @@ NormalIsOne =
     (kind : Kind) (these those : List (List ℕ)) (c e : List ℕ)
     → (p : NormalisesTo kind these c) (q : NormalisesTo kind those e)
     → (c ≡ e) ↔ (p.value ≡ q.value)
+
+-- the canonical text of a valid value, however the value came about, spells it and no other
+abbrev pub BuiltSpells : Type 0
+BuiltSpells = (d : Dialect) (kind : Kind) (v : Field) → Valid d kind v → IsOnly d kind (canon v) v
+
+-- the answer is this value, or memory was wanting
+abbrev pub IsBack : Field → Result Field Refusal → Type 0
+IsBack v (Ok w) = w ≡ v
+IsBack v (Err OutOfMemory) = ⊤
+IsBack v (Err (Syntax place found expected may_end)) = ⊥
+IsBack v (Err (TooLong limit)) = ⊥
+IsBack v (Err (ReadFault place)) = ⊥
+
+-- who parses that text has the value again
+abbrev pub BuiltIsParsed : Type 0
+BuiltIsParsed =
+    (d : Dialect) (kind : Kind) (v : Field) → Valid d kind v → (r : Result Field Refusal)
+    → Parses d kind (canon v) r → IsBack v r
+
+-- and so has who parses it as the only line, where it is shorter than 2^64 bytes
+abbrev pub BuiltLineIsParsed : Type 0
+BuiltLineIsParsed =
+    (d : Dialect) (kind : Kind) (v : Field) → Valid d kind v → length (canon v) < 2 ^ 64
+    → (r : Result Field Refusal) → ParsesLines d kind (canon v ∷ []) r → IsBack v r

@@ -3,3 +3,4 @@ pub mod Following
 pub mod Runs
 pub mod Base64Text
 pub mod CanonSteps
+pub mod ValidParts

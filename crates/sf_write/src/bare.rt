@@ -1,6 +1,8 @@
 //! Bare items (RFC 9651 section 4.1.3.1).
 ghost use Rattle.std.specs.Prelude.{◌≡◌, [], ◌∷◌, if◌then◌else◌, IfOk};
+ghost use Rattle.sf_value.specs.declared.dialect.Dialect.TheVariants.{Rfc9651};
 ghost use Rattle.sf_value.specs.declared.value.Bare.TheVariants as bare_is;
+ghost use Rattle.sf_value.specs.Grammar.Valid.{ValidBare};
 ghost use Rattle.sf_value.specs.Grammar.Canonical.{canon_bare};
 ghost use Rattle.sf_write.specs.Writing.{Follows, Writes, WritesText};
 
@@ -24,7 +26,8 @@ fn put_boolean<W: Sink>(value: bool, before: Sent, out: &mut W) -> Sent
 
 /// A bare item of any type.
 pub(crate) fn put_bare<W: Sink>(bare: &Bare, before: Sent, out: &mut W) -> Sent
-    ensures { Follows (W.state out.old) (W.state out.new) before result (canon_bare bare.now) }
+    ensures text { Follows (W.state out.old) (W.state out.new) before result (canon_bare bare.now) }
+    ensures valid { ValidBare Rfc9651 bare.now }
 {
     match bare {
         Bare::Integer(number) => put_integer(number, before, out),
@@ -46,7 +49,8 @@ pub(crate) fn put_bare<W: Sink>(bare: &Bare, before: Sent, out: &mut W) -> Sent
 /// let count = write_bare_from(&Bare::Boolean(false), count, &mut out)?; // 6
 /// ```
 pub fn write_bare_from<W: Sink>(bare: &Bare, before: u64, out: &mut W) -> Result<u64, WriteFault>
-    ensures { Writes (W.state out.old) (W.state out.new) before result (canon_bare bare.now) }
+    ensures text { Writes (W.state out.old) (W.state out.new) before result (canon_bare bare.now) }
+    ensures valid { ValidBare Rfc9651 bare.now }
 {
     put_bare(bare, Ok(before), out)
 }
@@ -72,7 +76,8 @@ pub fn write_text_from<W: Sink>(text: &Text, before: u64, out: &mut W) -> Result
 /// let length = write_bare(&Bare::Boolean(true), &mut out)?; // 2: ?1
 /// ```
 pub fn write_bare<W: Sink>(bare: &Bare, out: &mut W) -> Result<u64, WriteFault>
-    ensures { WritesText (W.state out.old) (W.state out.new) result (canon_bare bare.now) }
+    ensures text { WritesText (W.state out.old) (W.state out.new) result (canon_bare bare.now) }
+    ensures valid { ValidBare Rfc9651 bare.now }
 {
     write_bare_from(bare, 0, out)
 }
@@ -84,7 +89,8 @@ pub fn write_bare<W: Sink>(bare: &Bare, out: &mut W) -> Result<u64, WriteFault>
 /// let text = bare_text(alloc, &Bare::Boolean(true))?; // ?1
 /// ```
 pub fn bare_text(alloc: Global, bare: &Bare) -> Result<Vec<u8>, OutOfMemory>
-    ensures { IfOk result (λ text. text.items ≡ canon_bare bare.now) }
+    ensures canon { IfOk result (λ text. text.items ≡ canon_bare bare.now) }
+    ensures valid { IfOk result (λ _. ValidBare Rfc9651 bare.now) }
 {
     let mut out = Writing::new(Vec::with_capacity(alloc, bare_len(bare))?);
     match write_bare(bare, &mut out) {

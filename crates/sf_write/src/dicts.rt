@@ -1,5 +1,7 @@
 //! Dictionaries (RFC 9651 section 4.1.2).
 ghost use Rattle.std.specs.Prelude.{◌∷◌};
+ghost use Rattle.sf_value.specs.declared.dialect.Dialect.TheVariants.{Rfc9651};
+ghost use Rattle.sf_value.specs.Grammar.Valid.{ValidItem, ValidInner, ValidMember, ValidEntries};
 ghost use Rattle.sf_value.specs.Grammar.Canonical.{canon_behind, canon_entry, canon_flag};
 ghost use Rattle.sf_value.specs.Grammar.Canonical.{canon_inner, canon_series};
 ghost use Rattle.sf_write.specs.Writing.{Follows};
@@ -12,8 +14,9 @@ use sf_value::{Entries, Inner, Item, Member, Sink};
 /// Behind a key an Item of Boolean true stands as its parameters alone, and any other as `=` and
 /// its text.
 fn put_item_behind<W: Sink>(item: &Item, before: Sent, out: &mut W) -> Sent
-    ensures { Follows (W.state out.old) (W.state out.new) before result
+    ensures text { Follows (W.state out.old) (W.state out.new) before result
         (canon_flag item.now.bare item.now.params) }
+    ensures valid { ValidItem Rfc9651 item.now }
 {
     let sent = put_value(&item.bare, before, out);
     put_params(&item.params, sent, out)
@@ -21,15 +24,18 @@ fn put_item_behind<W: Sink>(item: &Item, before: Sent, out: &mut W) -> Sent
 
 /// Behind a key an Inner List stands as `=` and its text.
 fn put_inner_behind<W: Sink>(inner: &Inner, before: Sent, out: &mut W) -> Sent
-    ensures { Follows (W.state out.old) (W.state out.new) before result
+    ensures text { Follows (W.state out.old) (W.state out.new) before result
         (61 ∷ canon_inner inner.now) }
+    ensures valid { ValidInner Rfc9651 inner.now }
 {
     let sent = put(b"=", before, out);
     put_inner(inner, sent, out)
 }
 
 fn put_behind<W: Sink>(member: &Member, before: Sent, out: &mut W) -> Sent
-    ensures { Follows (W.state out.old) (W.state out.new) before result (canon_behind member.now) }
+    ensures text { Follows (W.state out.old) (W.state out.new) before result
+        (canon_behind member.now) }
+    ensures valid { ValidMember Rfc9651 member.now }
 {
     match member {
         Member::Item(item) => put_item_behind(item, before, out),
@@ -39,8 +45,9 @@ fn put_behind<W: Sink>(member: &Member, before: Sent, out: &mut W) -> Sent
 
 /// A member of a Dictionary: its key and what stands behind it.
 fn put_entry<W: Sink>(key: &[u8], member: &Member, before: Sent, out: &mut W) -> Sent
-    ensures { Follows (W.state out.old) (W.state out.new) before result
+    ensures text { Follows (W.state out.old) (W.state out.new) before result
         (canon_entry (key.now, member.now)) }
+    ensures valid { ValidMember Rfc9651 member.now }
 {
     let sent = put(key, before, out);
     put_behind(member, sent, out)
@@ -48,9 +55,12 @@ fn put_entry<W: Sink>(key: &[u8], member: &Member, before: Sent, out: &mut W) ->
 
 /// A Dictionary: its members with a comma and a space between two.
 pub(crate) fn put_entries<W: Sink>(entries: &Entries<Member>, before: Sent, out: &mut W) -> Sent
-    ensures { Follows (W.state out.old) (W.state out.new) before result
+    ensures text { Follows (W.state out.old) (W.state out.new) before result
         (canon_series canon_entry entries.now) }
+    ensures valid { ValidEntries Rfc9651 entries.now }
 {
+    // What `len` ensures tells that each key is one and that none stands twice.
+    let _ = entries.len();
     let mut others = entries.iter();
     let Some((key, member)) = others.next() else {
         return before;

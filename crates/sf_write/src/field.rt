@@ -1,5 +1,8 @@
 //! Whole fields (RFC 9651 section 4.1).
 ghost use Rattle.std.specs.Prelude.{◌≡◌, IfOk};
+ghost use Rattle.sf_value.specs.declared.dialect.Dialect.TheVariants.{Rfc9651};
+ghost use Rattle.sf_value.specs.Grammar.Fields.{SpellsField, kind_of};
+ghost use Rattle.sf_value.specs.Grammar.Valid.{Valid};
 ghost use Rattle.sf_value.specs.Grammar.Canonical.{canon};
 ghost use Rattle.sf_write.specs.Writing.{Follows, Writes, WritesText};
 
@@ -13,7 +16,8 @@ use std::alloc::Global;
 
 /// A field of any kind.
 fn put_field<W: Sink>(field: &Field, before: Sent, out: &mut W) -> Sent
-    ensures { Follows (W.state out.old) (W.state out.new) before result (canon field.now) }
+    ensures text { Follows (W.state out.old) (W.state out.new) before result (canon field.now) }
+    ensures valid { Valid Rfc9651 (kind_of field.now) field.now }
 {
     match field {
         Field::Item(item) => put_item(item, before, out),
@@ -30,7 +34,8 @@ fn put_field<W: Sink>(field: &Field, before: Sent, out: &mut W) -> Sent
 /// let count = send_all(b"\n", count, &mut out)?;
 /// ```
 pub fn write_field_from<W: Sink>(field: &Field, before: u64, out: &mut W) -> Result<u64, WriteFault>
-    ensures { Writes (W.state out.old) (W.state out.new) before result (canon field.now) }
+    ensures text { Writes (W.state out.old) (W.state out.new) before result (canon field.now) }
+    ensures valid { Valid Rfc9651 (kind_of field.now) field.now }
 {
     put_field(field, Ok(before), out)
 }
@@ -48,7 +53,8 @@ pub fn write_field_from<W: Sink>(field: &Field, before: u64, out: &mut W) -> Res
 /// let length = write_field(&field, &mut out)?;
 /// ```
 pub fn write_field<W: Sink>(field: &Field, out: &mut W) -> Result<u64, WriteFault>
-    ensures { WritesText (W.state out.old) (W.state out.new) result (canon field.now) }
+    ensures text { WritesText (W.state out.old) (W.state out.new) result (canon field.now) }
+    ensures valid { Valid Rfc9651 (kind_of field.now) field.now }
 {
     write_field_from(field, 0, out)
 }
@@ -59,7 +65,11 @@ pub fn write_field<W: Sink>(field: &Field, out: &mut W) -> Result<u64, WriteFaul
 /// let text = to_text(rt.alloc(), &field)?;
 /// ```
 pub fn to_text(alloc: Global, field: &Field) -> Result<Vec<u8>, OutOfMemory>
-    ensures { IfOk result (λ text. text.items ≡ canon field.now) }
+    ensures canon { IfOk result (λ text. text.items ≡ canon field.now) }
+    // it spells the field: whoever parses it has the field again
+    ensures spells { IfOk result
+        (λ text. SpellsField Rfc9651 (kind_of field.now) text.items field.now) }
+    ensures valid { IfOk result (λ _. Valid Rfc9651 (kind_of field.now) field.now) }
 {
     let mut out = Writing::new(Vec::with_capacity(alloc, field_len(field))?);
     match write_field(field, &mut out) {

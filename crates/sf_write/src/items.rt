@@ -1,5 +1,8 @@
 //! Items and Inner Lists (RFC 9651 sections 4.1.3 and 4.1.1.1).
 ghost use Rattle.std.specs.Prelude.{◌≡◌};
+ghost use Rattle.sf_value.specs.declared.dialect.Dialect.TheVariants.{Rfc9651};
+ghost use Rattle.sf_value.specs.Grammar.Words.{Each};
+ghost use Rattle.sf_value.specs.Grammar.Valid.{ValidItem, ValidInner};
 ghost use Rattle.sf_value.specs.Grammar.Canonical.{canon_item, canon_items, canon_inner};
 ghost use Rattle.sf_write.specs.Writing.{Follows};
 
@@ -10,7 +13,8 @@ use sf_value::{Inner, Item, Sink};
 
 /// An Item: its bare item and its parameters.
 pub(crate) fn put_item<W: Sink>(item: &Item, before: Sent, out: &mut W) -> Sent
-    ensures { Follows (W.state out.old) (W.state out.new) before result (canon_item item.now) }
+    ensures text { Follows (W.state out.old) (W.state out.new) before result (canon_item item.now) }
+    ensures valid { ValidItem Rfc9651 item.now }
 {
     let sent = put_bare(&item.bare, before, out);
     put_params(&item.params, sent, out)
@@ -18,7 +22,8 @@ pub(crate) fn put_item<W: Sink>(item: &Item, before: Sent, out: &mut W) -> Sent
 
 /// Items with one space between two.
 fn put_items<W: Sink>(items: &[Item], before: Sent, out: &mut W) -> Sent
-    ensures { Follows (W.state out.old) (W.state out.new) before result (canon_items items.now) }
+    ensures text { Follows (W.state out.old) (W.state out.new) before result (canon_items items.now) }
+    ensures valid { Each (ValidItem Rfc9651) items.now }
 {
     let Some((first, others)) = items.split_first() else {
         return before;
@@ -33,7 +38,8 @@ fn put_items<W: Sink>(items: &[Item], before: Sent, out: &mut W) -> Sent
 
 /// An Inner List: its Items in parentheses, and its parameters.
 pub(crate) fn put_inner<W: Sink>(inner: &Inner, before: Sent, out: &mut W) -> Sent
-    ensures { Follows (W.state out.old) (W.state out.new) before result (canon_inner inner.now) }
+    ensures text { Follows (W.state out.old) (W.state out.new) before result (canon_inner inner.now) }
+    ensures valid { ValidInner Rfc9651 inner.now }
 {
     let sent = put(b"(", before, out);
     let sent = put_items(inner.items.as_slice(), sent, out);

@@ -1,4 +1,7 @@
 //! Lists (RFC 9651 section 4.1.1).
+ghost use Rattle.sf_value.specs.declared.dialect.Dialect.TheVariants.{Rfc9651};
+ghost use Rattle.sf_value.specs.Grammar.Words.{Each};
+ghost use Rattle.sf_value.specs.Grammar.Valid.{ValidMember};
 ghost use Rattle.sf_value.specs.Grammar.Canonical.{canon_member, canon_series};
 ghost use Rattle.sf_write.specs.Writing.{Follows};
 
@@ -8,7 +11,9 @@ use sf_value::{Member, Sink};
 
 /// A member of a List: an Item or an Inner List.
 fn put_member<W: Sink>(member: &Member, before: Sent, out: &mut W) -> Sent
-    ensures { Follows (W.state out.old) (W.state out.new) before result (canon_member member.now) }
+    ensures text { Follows (W.state out.old) (W.state out.new) before result
+        (canon_member member.now) }
+    ensures valid { ValidMember Rfc9651 member.now }
 {
     match member {
         Member::Item(item) => put_item(item, before, out),
@@ -18,8 +23,9 @@ fn put_member<W: Sink>(member: &Member, before: Sent, out: &mut W) -> Sent
 
 /// A List: its members with a comma and a space between two.
 pub(crate) fn put_members<W: Sink>(members: &[Member], before: Sent, out: &mut W) -> Sent
-    ensures { Follows (W.state out.old) (W.state out.new) before result
+    ensures text { Follows (W.state out.old) (W.state out.new) before result
         (canon_series canon_member members.now) }
+    ensures valid { Each (ValidMember Rfc9651) members.now }
 {
     let Some((first, others)) = members.split_first() else {
         return before;

@@ -1,5 +1,5 @@
 //! Integers, Decimals and Dates (RFC 9651 sections 4.1.4, 4.1.5 and 4.1.10).
-ghost use Rattle.std.specs.Prelude.{◌≡◌, ◌/◌, ◌%◌, ◌<◌, ◌∷◌, nat_abs};
+ghost use Rattle.std.specs.Prelude.{◌≡◌, ◌/◌, ◌%◌, ◌^◌, ◌<◌, ◌∷◌, nat_abs};
 ghost use Rattle.std.specs.Fmt.{signed_decimal};
 ghost use Rattle.sf_value.specs.Grammar.Numbers.{sign};
 ghost use Rattle.sf_value.specs.Grammar.Canonical.{canon_decimal, fraction, is_negative};
@@ -11,15 +11,18 @@ use sf_value::{Int, Sink, Thousandths};
 
 /// An Integer: its digits, behind a `-` where it is below 0.
 pub(crate) fn put_integer<W: Sink>(number: &Int, before: Sent, out: &mut W) -> Sent
-    ensures { Follows (W.state out.old) (W.state out.new) before result (signed_decimal number.now) }
+    ensures text { Follows (W.state out.old) (W.state out.new) before result
+        (signed_decimal number.now) }
+    ensures short { nat_abs number.now < 10 ^ 15 }
 {
     put(Buffer::new().format(number.get()).as_bytes(), before, out)
 }
 
 /// A Date: `@` and the seconds.
 pub(crate) fn put_date<W: Sink>(seconds: &Int, before: Sent, out: &mut W) -> Sent
-    ensures { Follows (W.state out.old) (W.state out.new) before result
+    ensures text { Follows (W.state out.old) (W.state out.new) before result
         (64 ∷ signed_decimal seconds.now) }
+    ensures short { nat_abs seconds.now < 10 ^ 15 }
 {
     let sent = put(b"@", before, out);
     put_integer(seconds, sent, out)
@@ -57,6 +60,7 @@ fn parts(number: &Thousandths) -> (bool, u64, u64)
     ensures sign { result.0 ≡ is_negative number.now }
     ensures whole { result.1 ≡ nat_abs number.now / 1000 }
     ensures thousandths { result.2 ≡ nat_abs number.now % 1000 }
+    ensures short { nat_abs number.now < 10 ^ 15 }
 {
     let thousandths = number.get();
     let magnitude = thousandths.unsigned_abs();
@@ -65,7 +69,9 @@ fn parts(number: &Thousandths) -> (bool, u64, u64)
 
 /// A Decimal: its sign, whole part, point and fraction.
 pub(crate) fn put_decimal<W: Sink>(number: &Thousandths, before: Sent, out: &mut W) -> Sent
-    ensures { Follows (W.state out.old) (W.state out.new) before result (canon_decimal number.now) }
+    ensures text { Follows (W.state out.old) (W.state out.new) before result
+        (canon_decimal number.now) }
+    ensures short { nat_abs number.now < 10 ^ 15 }
 {
     let (is_negative, whole, thousandths) = parts(number);
     let sent = put_sign(is_negative, before, out);

@@ -1,6 +1,8 @@
 //! Parameters (RFC 9651 section 4.1.1.2).
 ghost use Rattle.std.specs.Prelude.{◌≡◌, ◌↔◌, IsTrue, true};
+ghost use Rattle.sf_value.specs.declared.dialect.Dialect.TheVariants.{Rfc9651};
 ghost use Rattle.sf_value.specs.declared.value.Bare.TheVariants.{Boolean};
+ghost use Rattle.sf_value.specs.Grammar.Valid.{ValidBare, ValidParams};
 ghost use Rattle.sf_value.specs.Grammar.Canonical.{canon_params, canon_value};
 ghost use Rattle.sf_write.specs.Writing.{Follows};
 
@@ -17,7 +19,8 @@ pub(crate) fn is_true(bare: &Bare) -> bool
 
 /// What stands behind a key: nothing for Boolean true, and else `=` and the bare item.
 pub(crate) fn put_value<W: Sink>(value: &Bare, before: Sent, out: &mut W) -> Sent
-    ensures { Follows (W.state out.old) (W.state out.new) before result (canon_value value.now) }
+    ensures text { Follows (W.state out.old) (W.state out.new) before result (canon_value value.now) }
+    ensures valid { ValidBare Rfc9651 value.now }
 {
     if is_true(value) {
         return before;
@@ -28,8 +31,12 @@ pub(crate) fn put_value<W: Sink>(value: &Bare, before: Sent, out: &mut W) -> Sen
 
 /// Parameters: for each a `;`, its key and its value.
 pub(crate) fn put_params<W: Sink>(params: &Entries<Bare>, before: Sent, out: &mut W) -> Sent
-    ensures { Follows (W.state out.old) (W.state out.new) before result (canon_params params.now) }
+    ensures text { Follows (W.state out.old) (W.state out.new) before result
+        (canon_params params.now) }
+    ensures valid { ValidParams Rfc9651 params.now }
 {
+    // What `len` ensures tells that each key is one and that none stands twice.
+    let _ = params.len();
     let mut sent = before;
     for (key, value) in params {
         sent = put(b";", sent, out);

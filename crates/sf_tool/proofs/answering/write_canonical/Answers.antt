@@ -5,10 +5,10 @@ use Rattle.sf_tool.proofs.answering.write_canonical.Goals as goal
 pub returns-in_err-written : goal.returns-in_err-written
 returns-in_err-written g c =
     ends_early _ (10 ∷ []) (leaves_all _ _ _ (omega arith)) refl
-    c.in_err-written.ensures c.from_residual.ensures.1
+    c.in_err-written.ensures.text c.from_residual.ensures.1
 
 pub returns : goal.returns
 returns g c =
     let all = leaves_all _ _ _ (omega arith) in
-    let left = leaves_less (10 ∷ []) all refl c.in_ok-written.ensures in
+    let left = leaves_less (10 ∷ []) all refl c.in_ok-written.ensures.text in
     ends_with _ _ left refl c.send_all.ensures

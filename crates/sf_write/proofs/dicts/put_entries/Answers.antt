@@ -1,6 +1,9 @@
 use Rattle.std.proofs.Common.{◌≡◌, ◌∷◌, ap}
+use Rattle.sf_value.specs.declared.dialect.Dialect.TheVariants.{Rfc9651}
 use Rattle.sf_value.specs.Grammar.Canonical.{canon_entry, canon_commas, canon_series}
+use Rattle.sf_value.specs.Grammar.Valid.{ValidMember}
 use Rattle.sf_write.proofs.Following.{then, remains_all, remains_less, remains_none}
+use Rattle.sf_write.proofs.ValidParts.{awaits_all, awaits_less, awaits_none, entries_valid}
 use Rattle.sf_write.proofs.dicts.put_entries.Goals as goal
 
 pub loop-key-init : goal.loop-key-init
@@ -12,13 +15,28 @@ loop-key-init g c =
       c.in-Some.ensures.steps,
       c.into_iter-key-iterator.ensures.into_iter_gives,
     ) in
-    remains_less remains_all (ap (canon_series canon_entry) entries) c.put_entry-sent.ensures
+    record {
+      text = remains_less remains_all (ap (canon_series canon_entry) entries)
+          c.put_entry-sent.ensures.text;
+      valid = awaits_less awaits_all entries c.put_entry-sent.ensures.valid;
+    }
 
 pub loop-key-preserved : goal.loop-key-preserved
 loop-key-preserved g c =
-    remains_less c.loop-key.invariant (ap (canon_commas canon_entry) c.in-Some-2.ensures.steps)
-    (then c.put-sent.ensures c.put_entry-sent-in-loop-key.ensures)
+    let entry = c.put_entry-sent-in-loop-key.ensures in
+    record {
+      text = remains_less c.loop-key.invariant.text
+          (ap (canon_commas canon_entry) c.in-Some-2.ensures.steps)
+          (then c.put-sent.ensures entry.text);
+      valid = awaits_less c.loop-key.invariant.valid c.in-Some-2.ensures.steps entry.valid;
+    }
 
-pub returns : goal.returns
-returns g c =
-    remains_none c.loop-key.invariant (ap (canon_commas canon_entry) c.in-None.ensures.steps.0)
+pub returns-clause-text : goal.returns-clause-text
+returns-clause-text g c =
+    remains_none c.loop-key.invariant.text
+    (ap (canon_commas canon_entry) c.in-None.ensures.steps.0)
+
+pub returns-clause-valid : goal.returns-clause-valid
+returns-clause-valid g c =
+    entries_valid (ValidMember Rfc9651) _ c.len.ensures.entries
+    (awaits_none c.loop-key.invariant.valid c.in-None.ensures.steps.0)
