@@ -4,5 +4,6 @@ mod devices;
 mod entries;
 mod faults;
 mod fields;
+mod lookups;
 mod sequences;
 mod texts;

@@ -1,9 +1,10 @@
 -- One piece fed behind another, and a field line behind another.
-use Rattle.std.proofs.Common.{◌≡◌, ℕ, ◌+◌, ◌≤◌, Bool, true, List, ◌∷◌, ◌++◌, [], length, Result}
+use Rattle.std.proofs.Common.{◌≡◌, ℕ, ◌+◌, ◌≤◌, Bool, true, false, List, ◌∷◌, ◌++◌, [], length, Result}
 use Rattle.std.proofs.Common.{Ok, Err, sym, ap, ◌∙◌, subst, arith, append_assoc, length-append}
 use Rattle.sf_value.specs.Grammar.Lines.{Viable}
 use Rattle.sf_parse.specs.declared.refusal.Refusal.{Refusal}
 use Rattle.sf_parse.specs.Parsers.{Progress, Took, RefusedFor, SameSettings, Fed, FedAnswer}
+use Rattle.sf_parse.specs.Parsers.{in_line}
 
 joined_settings : (a b c : Progress) → SameSettings a b → SameSettings b c → SameSettings a c
 joined_settings a b c p q = record {
@@ -93,3 +94,22 @@ fed_line o p q x e f =
             (k.0, k.1, record { count = k.2.count; rest = k.2.rest; unrefused = k.2.unrefused }),
       );
     })
+
+-- a line behind another: the comma and the space are refused
+pub comma_refused : (o q : Progress) (e : Refusal) (after : Bool) (line : List ℕ) → after ≡ true
+    → Fed o q (Err e) (44 ∷ 32 ∷ []) → Fed o q (Err e) (in_line after line)
+comma_refused o q e after line t f =
+    subst (λ b. Fed o q (Err e) (in_line b line)) (sym t)
+    (fed_before o q e (44 ∷ 32 ∷ []) line f)
+
+-- a line behind another: they are taken, and then the line is fed
+pub line_behind : (o p q : Progress) (r : Result (Unit {0}) Refusal) (after : Bool) (line : List ℕ)
+    → after ≡ true → Fed o p (Ok tt) (44 ∷ 32 ∷ []) → Fed p q r line
+    → Fed o q r (in_line after line)
+line_behind o p q r after line t f g =
+    subst (λ b. Fed o q r (in_line b line)) (sym t) (fed_after o p q r (44 ∷ 32 ∷ []) line f g)
+
+-- the first line
+pub line_first : (o q : Progress) (r : Result (Unit {0}) Refusal) (after : Bool) (line : List ℕ)
+    → after ≡ false → Fed o q r line → Fed o q r (in_line after line)
+line_first o q r after line t f = subst (λ b. Fed o q r (in_line b line)) (sym t) f
