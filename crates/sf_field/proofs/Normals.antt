@@ -8,7 +8,6 @@ use Rattle.sf_value.specs.declared.value.Kind.{Kind}
 use Rattle.sf_value.specs.Grammar.Canonical.{canon}
 use Rattle.sf_value.specs.Grammar.Fields.{SpellsField}
 use Rattle.sf_value.specs.Grammar.Lines.{join}
-use Rattle.sf_value.specs.Grammar.Valid.{Valid}
 use Rattle.sf_value.proofs.CanonicalTexts.{canon_spells}
 use Rattle.sf_value.proofs.Validity.{spelled_valid}
 use Rattle.sf_value.proofs.LengthBound.{canon_bound}

@@ -67,7 +67,7 @@ not_zero (suc n) b e = omega arith
 
 -- the bits tell the bytes that may follow what was taken
 marks_next : (d : Dialect) (kind : Kind) (state : State) (s : List ℕ) (bits b : ℕ)
-    → taking.Took d kind state s → Marks d bits state 128 → b < 128
+    → taking.Took d kind state s → Marks bits (takes d state) → b < 128
     → (bit_at bits b ≡ 1) ↔ Viable d kind (s ++ b ∷ [])
 marks_next d kind state s bits b k m h =
     let bit = bit_is (takes d state b) (bit_at bits b)
@@ -76,13 +76,13 @@ marks_next d kind state s bits b k m h =
     (λ i. next.1 (bit.0 i), λ i. bit.1 (next.0 i))
 
 marks_some : (d : Dialect) (kind : Kind) (state : State) (s : List ℕ) (bits : ℕ)
-    → taking.Took d kind state s → Marks d bits state 128 → 0 < bits
+    → taking.Took d kind state s → Marks bits (takes d state) → 0 < bits
 marks_some d kind state s bits k m =
     let n = some_next d kind state s k in
     not_zero bits n.0 ((marks_next d kind state s bits n.0 k m n.1.0).1 n.1.1)
 
 exact : (d : Dialect) (kind : Kind) (state : State) (s t : List ℕ) (place : ℕ) (found : Option ℕ)
-    (bits : ℕ) (may : Bool) → taking.Took d kind state s → Marks d bits state 128
+    (bits : ℕ) (may : Bool) → taking.Took d kind state s → Marks bits (takes d state)
     → may ≡ may_end state → take place t ≡ s → IsPlace d kind t place → found ≡ slice_get t place
     → ((v : Field) → SpellsField d kind t v → ⊥)
     → IsSyntax d kind t place found bits may
@@ -123,7 +123,7 @@ no_value d kind t n at h v k =
 
 pub stops_exact : (p : Progress) (s q : List ℕ) (b bits : ℕ) (may : Bool)
     → Sound p.refusal p.state p.count p.max → Took p s → step p.dialect p.state b ≡ None
-    → Marks p.dialect bits p.state 128 → may ≡ may_end p.state
+    → Marks bits (takes p.dialect p.state) → may ≡ may_end p.state
     → IsSyntax p.dialect p.kind ((s ++ b ∷ []) ++ q) p.count (Some b) bits may
 stops_exact p s q b bits may g t n m e =
     let k = taken p s g t in
@@ -137,7 +137,7 @@ stops_exact p s q b bits may g t n m e =
     (omega (arith, length-append s (b ∷ q))))))
 
 pub ends_exact : (p : Progress) (s : List ℕ) (bits : ℕ) → Sound p.refusal p.state p.count p.max
-    → Took p s → Marks p.dialect bits p.state 128 → false ≡ may_end p.state
+    → Took p s → Marks bits (takes p.dialect p.state) → false ≡ may_end p.state
     → IsSyntax p.dialect p.kind s p.count None bits false
 ends_exact p s bits g t m e =
     let k = taken p s g t in
@@ -152,7 +152,7 @@ ends_exact p s bits g t m e =
 
 -- a byte was refused
 pub fed_stop : (p q : Progress) (b bits : ℕ) (may : Bool) → Sound p.refusal p.state p.count p.max
-    → p.count < p.max → step p.dialect p.state b ≡ None → Marks p.dialect bits p.state 128
+    → p.count < p.max → step p.dialect p.state b ≡ None → Marks bits (takes p.dialect p.state)
     → may ≡ may_end p.state → SameSettings p q → q.count ≡ p.count
     → q.refusal ≡ Some (Syntax p.count (Some b) bits may)
     → Fed p q (Err (Syntax p.count (Some b) bits may)) (b ∷ [])
@@ -187,7 +187,7 @@ fed_past p q b g h same c r = record {
 }
 
 pub finish_stop : (p : Progress) (bits : ℕ) → Sound p.refusal p.state p.count p.max
-    → Marks p.dialect bits p.state 128 → false ≡ may_end p.state
+    → Marks bits (takes p.dialect p.state) → false ≡ may_end p.state
     → (s : List ℕ) → Took p s
     → Finishes p.dialect p.kind s (Err (Syntax p.count None bits false))
 finish_stop p bits g m e s t = (t.count, refl, ends_exact p s bits g t m e)

@@ -1,3 +1,4 @@
+pub mod Tables
 pub mod Letters
 pub mod Numerals
 pub mod Leading
@@ -7,6 +8,7 @@ pub mod ByteRuns
 pub mod Feeding
 pub mod CommaPieces
 pub mod Levels
+pub mod LevelMarks
 pub mod BlobGroups
 pub mod Language
 pub mod Classes

@@ -1,6 +1,7 @@
 //! A bare item that is being read (RFC 9651 section 4.2.3.1).
 ghost use Rattle.std.specs.Prelude.{◌≡◌, true, ⊤, IfNone, IfOk, IsOk};
 ghost use Rattle.sf_parse.specs.Plain.{plain_byte, PlainBare};
+ghost use Rattle.sf_parse.specs.Expected.{Marks};
 ghost use Rattle.sf_parse.specs.Fronts.{Starts};
 ghost use Rattle.sf_parse.specs.Machine.Bares.{InBoolean, bare_start, bare_step, bare_finish};
 ghost use Rattle.sf_parse.specs.declared.boolean.BooleanState.TheVariants.{Told};
@@ -14,6 +15,7 @@ use crate::date::DateReader;
 use crate::level::Level;
 use crate::number::NumberReader;
 use crate::runs::{InToken, long_front};
+use crate::sets::{BARE_8941, BARE_9651, TOKEN};
 use crate::shown::ShownPlace;
 use crate::text::TextPhase;
 use sf_value::{
@@ -133,14 +135,13 @@ impl BareReader {
         self.kind = BareKind::Boolean;
     }
 
-    /// Whether a bare item may begin with this byte.
-    pub fn can_start(dialect: Dialect, byte: u8) -> bool
-        ensures { result ≡ bare_begins dialect byte }
+    /// The bytes that a bare item may begin with.
+    pub fn first_bytes(dialect: Dialect) -> u128
+        ensures { Marks result (bare_begins dialect) }
     {
-        match byte {
-            b'-' | b'0'..=b'9' | b'"' | b'?' | b':' => true,
-            b'@' | b'%' => dialect == Dialect::Rfc9651,
-            _ => can_start_token(byte),
+        match dialect {
+            Dialect::Rfc8941 => return BARE_8941,
+            Dialect::Rfc9651 => return BARE_9651,
         }
     }
 
@@ -229,15 +230,15 @@ impl Level for BareReader {
         }
     }
 
-    fn takes(&self, _dialect: Dialect, byte: u8) -> bool {
+    fn expected(&self, _dialect: Dialect) -> u128 {
         match self.kind {
-            BareKind::Number => self.number.takes(byte),
-            BareKind::Text => self.text.takes(byte),
-            BareKind::Token => can_be_in_token(byte),
-            BareKind::Boolean => self.boolean.takes(byte),
-            BareKind::Date => self.date.takes(byte),
-            BareKind::Blob => self.blob.takes(byte),
-            BareKind::Shown => self.shown.takes(byte),
+            BareKind::Number => return self.number.expected(),
+            BareKind::Text => return self.text.expected(),
+            BareKind::Token => return TOKEN,
+            BareKind::Boolean => return self.boolean.expected(),
+            BareKind::Date => return self.date.expected(),
+            BareKind::Blob => return self.blob.expected(),
+            BareKind::Shown => return self.shown.expected(),
         }
     }
 

@@ -1,5 +1,6 @@
 //! A Byte Sequence that is being read (RFC 9651 section 4.2.7).
 ghost use Rattle.std.specs.Prelude.{◌≡◌, ℕ, ◌<◌, List, [], ◌∷◌, ◌++◌, ◌&&◌, Some, IfOk, IfSome};
+ghost use Rattle.sf_parse.specs.Expected.{Marks};
 ghost use Rattle.sf_parse.specs.Fronts.{Went};
 ghost use Rattle.sf_parse.specs.Views.{held_of, blob_of, FitsHeld, FitsBlob};
 ghost use Rattle.sf_parse.specs.Machine.Language.{Steps, run};
@@ -7,6 +8,7 @@ ghost use Rattle.sf_parse.specs.Machine.Blobs.{sextet as sextet_of, H0, Group, P
 ghost use Rattle.sf_parse.specs.Machine.Blobs.{pad_step, end_step, blob_step, is_last, lacking};
 ghost use Rattle.sf_parse.specs.Machine.Takes.{blob_takes, blob_ends, pad_takes};
 
+use crate::sets::{BASE64, COLON, EQUALS, set_if};
 use sf_value::{OutOfMemory, ShortBytes};
 
 /// The values of the characters of an open group of base64.
@@ -178,14 +180,14 @@ impl BlobPhase {
         }
     }
 
-    /// Whether the byte sequence can go on with this byte.
-    pub fn takes(self, byte: u8) -> bool
-        ensures { (bytes : List ℕ) → result ≡ blob_takes (blob_of self bytes) byte }
+    /// The bytes that the byte sequence can go on with.
+    pub fn expected(self) -> u128
+        ensures { (bytes : List ℕ) → Marks result (blob_takes (blob_of self bytes)) }
     {
         match self {
-            BlobPhase::Group(held) => sextet(byte).is_some() || takes_end(held, byte),
-            BlobPhase::Padded(more) => takes_pad(more, byte),
-            BlobPhase::Ended => false,
+            BlobPhase::Group(held) => return BASE64 | expected_end(held),
+            BlobPhase::Padded(more) => return expected_pad(more),
+            BlobPhase::Ended => return 0,
         }
     }
 
@@ -216,21 +218,21 @@ fn grow(held: Held, bytes: &mut ShortBytes, value: u8) -> Result<Held, OutOfMemo
     }
 }
 
-/// Whether `=` or the colon may follow where so many `=` may still come.
-fn takes_pad(more: u8, byte: u8) -> bool
-    ensures { result ≡ pad_takes more byte }
+// What may follow where so many `=` may still come.
+fn expected_pad(more: u8) -> u128
+    ensures { Marks result (pad_takes more) }
 {
-    byte == b':' || byte == b'=' && more > 0
+    COLON | set_if(more > 0, EQUALS)
 }
 
-/// Whether `=` or the colon may follow an open group.
-fn takes_end(held: Held, byte: u8) -> bool
-    ensures { result ≡ (is_last (held_of held) && pad_takes (lacking (held_of held)) byte) }
+// What may follow an open group beside a character.
+fn expected_end(held: Held) -> u128
+    ensures { Marks result (λ b. is_last (held_of held) && pad_takes (lacking (held_of held)) b) }
 {
     match held {
-        Held::H0 => takes_pad(0, byte),
-        Held::H1(_) => false,
-        Held::H2(_, _) => takes_pad(2, byte),
-        Held::H3(_, _, _) => takes_pad(1, byte),
+        Held::H0 => return COLON,
+        Held::H1(_) => return 0,
+        Held::H2(_, _) => return COLON | EQUALS,
+        Held::H3(_, _, _) => return COLON | EQUALS,
     }
 }

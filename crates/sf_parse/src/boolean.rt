@@ -1,8 +1,11 @@
 //! A Boolean that is being read (RFC 9651 section 4.2.8).
 ghost use Rattle.std.specs.Prelude.{◌≡◌};
+ghost use Rattle.sf_parse.specs.Expected.{Marks};
 ghost use Rattle.sf_parse.specs.Machine.Language.{Steps};
 ghost use Rattle.sf_parse.specs.Machine.Texts.{boolean_step, boolean_finish};
 ghost use Rattle.sf_parse.specs.Machine.Takes.{boolean_takes, boolean_ends};
+
+use crate::sets::BITS;
 
 /// What was read of a boolean.
 #[derive(Clone, Copy, Debug, PartialEq, Eq)]
@@ -26,13 +29,13 @@ impl BooleanState {
         true
     }
 
-    /// Whether the boolean can go on with this byte.
-    pub fn takes(self, byte: u8) -> bool
-        ensures { result ≡ boolean_takes self byte }
+    /// The bytes that the boolean can go on with.
+    pub fn expected(self) -> u128
+        ensures { Marks result (boolean_takes self) }
     {
         match self {
-            BooleanState::Asked => byte == b'0' || byte == b'1',
-            BooleanState::Told(_) => false,
+            BooleanState::Asked => return BITS,
+            BooleanState::Told(_) => return 0,
         }
     }
 

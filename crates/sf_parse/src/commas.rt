@@ -2,6 +2,7 @@
 //! 9651 sections 4.2.1 and 4.2.2).
 ghost use Rattle.std.specs.Prelude.{◌≡◌, ℕ, Bool, false, Option, IfOk};
 ghost use Rattle.sf_value.specs.declared.dialect.Dialect.{Dialect};
+ghost use Rattle.sf_parse.specs.Expected.{Marks};
 ghost use Rattle.sf_parse.specs.Fronts.{Starts};
 ghost use Rattle.sf_parse.specs.SeriesView.{series_next, series_end, series_stuck, Ends};
 ghost use Rattle.sf_parse.specs.Machine.Series.{Begin};
@@ -10,6 +11,7 @@ ghost use Rattle.sf_parse.specs.Machine.Takes.{series_takes, series_ends};
 use crate::context::Context;
 use crate::level::Level;
 use crate::runs::{Ows, Space, is_ows, short_front};
+use crate::sets::{COMMA, OWS, SPACE, set_if};
 use sf_value::{Dialect, OutOfMemory};
 use std::marker::Model;
 use std::mem;
@@ -31,9 +33,9 @@ pub trait Piece<G>: Level {
     fn none(context: &Context) -> G
         ensures { result ≡ none };
 
-    /// Whether a piece may begin with this byte.
-    fn can_start(dialect: Dialect, byte: u8) -> bool
-        ensures { result ≡ begins dialect byte };
+    /// The bytes below 128 that a piece may begin with, a bit for each.
+    fn first_bytes(dialect: Dialect) -> u128
+        ensures { Marks result (begins dialect) };
 
     /// Begins a piece with this byte, or tells that none begins with it.
     fn start(&mut self, context: &Context, byte: u8) -> Result<bool, OutOfMemory>
@@ -197,15 +199,14 @@ impl<P: Piece<G>, G: Drop> Level for SeriesReader<P, G> {
         }
     }
 
-    fn takes(&self, dialect: Dialect, byte: u8) -> bool {
+    fn expected(&self, dialect: Dialect) -> u128 {
         match self.phase {
-            SeriesPhase::Begin => byte == b' ' || P::can_start(dialect, byte),
+            SeriesPhase::Begin => return SPACE | P::first_bytes(dialect),
             SeriesPhase::InPiece => {
-                self.piece.takes(dialect, byte)
-                    || self.piece.may_end() && (is_ows(byte) || byte == b',')
+                return self.piece.expected(dialect) | set_if(self.piece.may_end(), OWS | COMMA);
             }
-            SeriesPhase::Gap => is_ows(byte) || byte == b',',
-            SeriesPhase::Comma => is_ows(byte) || P::can_start(dialect, byte),
+            SeriesPhase::Gap => return OWS | COMMA,
+            SeriesPhase::Comma => return OWS | P::first_bytes(dialect),
         }
     }
 

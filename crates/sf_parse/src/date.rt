@@ -1,10 +1,12 @@
 //! A Date that is being read (RFC 9651 section 4.2.9).
 ghost use Rattle.std.specs.Prelude.{◌≡◌};
+ghost use Rattle.sf_parse.specs.Expected.{Marks};
 ghost use Rattle.sf_parse.specs.Machine.Language.{Steps};
 ghost use Rattle.sf_parse.specs.Machine.Numbers.{Sign, date_step, date_finish};
 ghost use Rattle.sf_parse.specs.Machine.Takes.{date_takes, date_ends};
 
 use crate::number::with_sign;
+use crate::sets::{DIGITS, MINUS, set_if};
 use sf_value::Int;
 use std::marker::Model;
 
@@ -61,11 +63,14 @@ impl DateReader {
         true
     }
 
-    /// Whether the date can go on with this byte.
-    pub fn takes(&self, byte: u8) -> bool
-        ensures { result ≡ date_takes self.now byte }
+    /// The bytes that the date can go on with.
+    pub fn expected(&self) -> u128
+        ensures { Marks result (date_takes self.now) }
     {
-        !self.begun && byte == b'-' || byte.is_ascii_digit() && self.digits < 15
+        if !self.begun {
+            return MINUS | DIGITS;
+        }
+        set_if(self.digits < 15, DIGITS)
     }
 
     /// Whether it is a date already.

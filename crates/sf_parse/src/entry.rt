@@ -10,6 +10,7 @@ use crate::context::Context;
 use crate::level::Level;
 use crate::member::MemberReader;
 use crate::runs::{InKey, short_front};
+use crate::sets::{EQUALS, KEY, SEMICOLON};
 use sf_value::{
     Bare, Dialect, Entries, Item, Key, Member, OutOfMemory, ShortBytes, can_be_in_key,
     can_start_key,
@@ -185,11 +186,12 @@ impl Level for EntryReader {
         }
     }
 
-    fn takes(&self, dialect: Dialect, byte: u8) -> bool {
+    fn expected(&self, dialect: Dialect) -> u128 {
         match self.phase {
-            EntryPhase::InKey => can_be_in_key(byte) || byte == b'=' || byte == b';',
-            EntryPhase::Equals => MemberReader::can_start(dialect, byte),
-            EntryPhase::InMember | EntryPhase::InFlag => self.member.takes(dialect, byte),
+            EntryPhase::InKey => return KEY | EQUALS | SEMICOLON,
+            EntryPhase::Equals => return MemberReader::first_bytes(dialect),
+            EntryPhase::InMember => return self.member.expected(dialect),
+            EntryPhase::InFlag => return self.member.expected(dialect),
         }
     }
 

@@ -14,6 +14,7 @@ use crate::bare::BareReader;
 use crate::context::Context;
 use crate::level::Level;
 use crate::parameters::ParamsReader;
+use crate::sets::{SEMICOLON, set_if};
 use sf_value::{Bare, Dialect, Entries, Item, OutOfMemory};
 use std::marker::Model;
 
@@ -142,11 +143,11 @@ impl Level for ItemReader {
         Ok(true)
     }
 
-    fn takes(&self, dialect: Dialect, byte: u8) -> bool {
+    fn expected(&self, dialect: Dialect) -> u128 {
         if self.in_params {
-            return self.params.takes(dialect, byte);
+            return self.params.expected(dialect);
         }
-        self.bare.takes(dialect, byte) || self.bare.may_end() && byte == b';'
+        self.bare.expected(dialect) | set_if(self.bare.may_end(), SEMICOLON)
     }
 
     fn may_end(&self) -> bool {

@@ -3,6 +3,7 @@ ghost use Rattle.std.specs.Prelude.{◌≡◌, ℕ, Bool, true, Option, Some, If
 ghost use Rattle.sf_value.specs.Grammar.Words.{Every};
 ghost use Rattle.sf_value.specs.declared.dialect.Dialect.{Dialect};
 ghost use Rattle.sf_parse.specs.Plain.{plain_byte};
+ghost use Rattle.sf_parse.specs.Expected.{Marks};
 ghost use Rattle.sf_parse.specs.Fronts.{Went, FirstIs, Front};
 ghost use Rattle.sf_parse.specs.Machine.Language.{Steps};
 
@@ -39,9 +40,9 @@ pub trait Level {
             → Steps took (next context.now.dialect self.old byte) self.old self.new) }
         ensures plain { plain context.now.dialect self.old → plain_byte byte ≡ true → IsOk result };
 
-    /// Whether the level can go on with this byte.
-    fn takes(&self, dialect: Dialect, byte: u8) -> bool
-        ensures { result ≡ takes dialect self.now byte };
+    /// The bytes below 128 that the level can go on with, a bit for each.
+    fn expected(&self, dialect: Dialect) -> u128
+        ensures { Marks result (takes dialect self.now) };
 
     /// Whether the level may end here.
     fn may_end(&self) -> bool

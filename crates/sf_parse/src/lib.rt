@@ -37,6 +37,7 @@ mod pieces;
 mod reader;
 mod refusal;
 mod runs;
+mod sets;
 mod shown;
 mod state;
 mod text;

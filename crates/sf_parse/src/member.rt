@@ -2,6 +2,7 @@
 //! 4.2.1.2).
 ghost use Rattle.std.specs.Prelude.{◌≡◌, [], true, IfOk};
 ghost use Rattle.sf_value.specs.declared.value.Bare.TheVariants as bare_is;
+ghost use Rattle.sf_parse.specs.Expected.{Marks};
 ghost use Rattle.sf_parse.specs.Fronts.{Starts};
 ghost use Rattle.sf_parse.specs.MemberView.{member_stuck};
 ghost use Rattle.sf_parse.specs.Machine.Params.{Opened};
@@ -14,6 +15,7 @@ use crate::context::Context;
 use crate::item::ItemReader;
 use crate::level::Level;
 use crate::runs::{Space, short_front};
+use crate::sets::{CLOSE, OPEN, SPACE, set_if};
 use sf_value::{Dialect, Inner, Item, Member, OutOfMemory, Sequence};
 use std::marker::Model;
 use std::mem;
@@ -84,11 +86,11 @@ impl MemberReader {
         self.item.open_flag(context);
     }
 
-    /// Whether a member may begin with this byte.
-    pub fn can_start(dialect: Dialect, byte: u8) -> bool
-        ensures { result ≡ member_begins dialect byte }
+    /// The bytes that a member may begin with.
+    pub fn first_bytes(dialect: Dialect) -> u128
+        ensures { Marks result (member_begins dialect) }
     {
-        BareReader::can_start(dialect, byte) || byte == b'('
+        BareReader::first_bytes(dialect) | OPEN
     }
 
     /// The member, if it is whole. What is left is the reader alone.
@@ -186,15 +188,13 @@ impl Level for MemberReader {
         }
     }
 
-    fn takes(&self, dialect: Dialect, byte: u8) -> bool {
+    fn expected(&self, dialect: Dialect) -> u128 {
         match self.phase {
-            MemberPhase::One | MemberPhase::Closing => self.item.takes(dialect, byte),
-            MemberPhase::Room => {
-                byte == b' ' || byte == b')' || BareReader::can_start(dialect, byte)
-            }
+            MemberPhase::One => return self.item.expected(dialect),
+            MemberPhase::Closing => return self.item.expected(dialect),
+            MemberPhase::Room => return SPACE | (CLOSE | BareReader::first_bytes(dialect)),
             MemberPhase::InItem => {
-                self.item.takes(dialect, byte)
-                    || self.item.may_end() && (byte == b' ' || byte == b')')
+                return self.item.expected(dialect) | set_if(self.item.may_end(), SPACE | CLOSE);
             }
         }
     }

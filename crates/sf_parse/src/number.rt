@@ -1,10 +1,12 @@
 //! A number that is being read (RFC 9651 section 4.2.4).
 ghost use Rattle.std.specs.Prelude.{◌≡◌, ◌≤◌, ◌<◌, ◌^◌, nat_abs};
 ghost use Rattle.sf_value.specs.Grammar.Numbers.{signed};
+ghost use Rattle.sf_parse.specs.Expected.{Marks};
 ghost use Rattle.sf_parse.specs.Machine.Language.{Steps};
 ghost use Rattle.sf_parse.specs.Machine.Numbers.{number_start, number_step, number_finish};
 ghost use Rattle.sf_parse.specs.Machine.Takes.{number_takes, number_ends};
 
+use crate::sets::{DIGITS, POINT, set_if};
 use sf_value::{Bare, Int, Thousandths};
 use std::marker::Model;
 
@@ -108,16 +110,16 @@ impl NumberReader {
         true
     }
 
-    /// Whether the number can go on with this byte.
-    pub fn takes(&self, byte: u8) -> bool
-        ensures { result ≡ number_takes self.now byte }
+    /// The bytes that the number can go on with.
+    pub fn expected(&self) -> u128
+        ensures { Marks result (number_takes self.now) }
     {
         match self.whole {
             None => {
-                byte.is_ascii_digit() && self.digits < 15
-                    || byte == b'.' && self.digits >= 1 && self.digits <= 12
+                let point = set_if(self.digits >= 1, set_if(self.digits <= 12, POINT));
+                return set_if(self.digits < 15, DIGITS) | point;
             }
-            Some(_) => byte.is_ascii_digit() && self.digits < 3,
+            Some(_) => return set_if(self.digits < 3, DIGITS),
         }
     }
 

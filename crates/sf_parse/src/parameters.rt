@@ -10,6 +10,7 @@ use crate::bare::BareReader;
 use crate::context::Context;
 use crate::level::Level;
 use crate::runs::{InKey, Space, short_front};
+use crate::sets::{EQUALS, KEY, KEY_START, SEMICOLON, SPACE, set_if};
 use sf_value::{
     Bare, Dialect, Entries, Key, OutOfMemory, ShortBytes, can_be_in_key, can_start_key,
 };
@@ -210,14 +211,14 @@ impl Level for ParamsReader {
         }
     }
 
-    fn takes(&self, dialect: Dialect, byte: u8) -> bool {
+    fn expected(&self, dialect: Dialect) -> u128 {
         match self.phase {
-            ParamsPhase::Between => byte == b';',
-            ParamsPhase::Opened => byte == b' ' || can_start_key(byte),
-            ParamsPhase::InKey => can_be_in_key(byte) || byte == b'=' || byte == b';',
-            ParamsPhase::Equals => BareReader::can_start(dialect, byte),
+            ParamsPhase::Between => return SEMICOLON,
+            ParamsPhase::Opened => return SPACE | KEY_START,
+            ParamsPhase::InKey => return KEY | EQUALS | SEMICOLON,
+            ParamsPhase::Equals => return BareReader::first_bytes(dialect),
             ParamsPhase::InValue => {
-                self.value.takes(dialect, byte) || self.value.may_end() && byte == b';'
+                return self.value.expected(dialect) | set_if(self.value.may_end(), SEMICOLON);
             }
         }
     }

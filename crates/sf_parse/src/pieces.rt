@@ -11,7 +11,8 @@ use crate::context::Context;
 use crate::entry::EntryReader;
 use crate::level::Level;
 use crate::member::MemberReader;
-use sf_value::{Dialect, Entries, Member, OutOfMemory, Sequence, can_start_key};
+use crate::sets::KEY_START;
+use sf_value::{Dialect, Entries, Member, OutOfMemory, Sequence};
 
 impl Piece<Sequence<Member>> for MemberReader {
     ghost begins = { member_begins };
@@ -26,8 +27,8 @@ impl Piece<Sequence<Member>> for MemberReader {
         Sequence::new(context.alloc)
     }
 
-    fn can_start(dialect: Dialect, byte: u8) -> bool {
-        MemberReader::can_start(dialect, byte)
+    fn first_bytes(dialect: Dialect) -> u128 {
+        MemberReader::first_bytes(dialect)
     }
 
     fn start(&mut self, context: &Context, byte: u8) -> Result<bool, OutOfMemory> {
@@ -65,8 +66,8 @@ impl Piece<Entries<Member>> for EntryReader {
         Entries::new(context.alloc, &context.seed)
     }
 
-    fn can_start(_dialect: Dialect, byte: u8) -> bool {
-        can_start_key(byte)
+    fn first_bytes(_dialect: Dialect) -> u128 {
+        KEY_START
     }
 
     fn start(&mut self, context: &Context, byte: u8) -> Result<bool, OutOfMemory> {

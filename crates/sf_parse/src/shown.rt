@@ -2,14 +2,18 @@
 ghost use Rattle.std.specs.Prelude.{◌≡◌, ℕ, ◌<◌, List, IfOk, IfSome};
 ghost use Rattle.std.specs.Option.{option_map};
 ghost use Rattle.sf_value.specs.Grammar.Utf8.{wants, rows, look_up, utf8_step};
+ghost use Rattle.sf_parse.specs.Expected.{Marks};
 ghost use Rattle.sf_parse.specs.Fronts.{Went};
 ghost use Rattle.sf_parse.specs.Views.{utf8_of, shown_of, FitsShown, IsDigitPhase};
 ghost use Rattle.sf_parse.specs.Machine.Language.{Steps};
 ghost use Rattle.sf_parse.specs.Machine.Showns.{pushed, unhex as unhex_of};
 ghost use Rattle.sf_parse.specs.Machine.Showns.{can_begin as can_begin_at, shown_step};
+ghost use Rattle.sf_parse.specs.Machine.Showns.{GoodUtf8};
 ghost use Rattle.sf_parse.specs.Machine.Takes.{shown_takes, shown_ends};
+ghost use Rattle.sf_parse.specs.Expected.{digit_takes};
 
 use crate::runs::{ShownPlain, long_front};
+use crate::sets::{FIRST_DIGITS, PERCENT, QUOTE, VISIBLE};
 use sf_value::{OutOfMemory, ShortBytes, is_visible};
 
 /// Between two characters, or within one of which `more` bytes come after the next, which lies
@@ -221,28 +225,57 @@ impl ShownPlace {
         }
     }
 
-    /// Whether the display string can go on with this byte.
-    pub fn takes(self, byte: u8) -> bool
+    // Whether an escape can go on with this byte.
+    fn takes_digit(self, byte: u8) -> bool
         requires { IsDigitPhase self.phase }
-        ensures { (bytes : List ℕ) → result ≡ shown_takes (shown_of self.phase bytes self.chars)
+        ensures { (bytes : List ℕ) → result ≡ digit_takes (shown_of self.phase bytes self.chars)
             byte }
     {
+        let Some(digit) = unhex(byte) else {
+            return false;
+        };
         match self.phase {
-            ShownPhase::Quote => byte == b'"',
-            ShownPhase::Plain => match byte {
-                b'"' => self.chars == Utf8State::Start,
-                b'%' => true,
-                _ => is_visible(byte) && self.chars.after(byte).is_some(),
-            },
-            ShownPhase::Percent => match unhex(byte) {
-                Some(high) => self.chars.can_begin(high),
-                None => false,
-            },
-            ShownPhase::Hex(high) => match unhex(byte) {
-                Some(low) => self.chars.after(high * 16 + low).is_some(),
-                None => false,
-            },
-            ShownPhase::Done => false,
+            ShownPhase::Percent => self.chars.can_begin(digit),
+            ShownPhase::Hex(high) => self.chars.after(high * 16 + digit).is_some(),
+            ShownPhase::Quote | ShownPhase::Plain | ShownPhase::Done => false,
+        }
+    }
+
+    // The digits that an escape can go on with.
+    fn expected_digits(self) -> u128
+        requires { IsDigitPhase self.phase }
+        ensures { (bytes : List ℕ) → Marks result (digit_takes (shown_of self.phase bytes
+            self.chars)) }
+    {
+        let mut expected = 0;
+        for byte in b'0'..=b'9' {
+            if self.takes_digit(byte) {
+                expected |= 1u128 << byte;
+            }
+        }
+        for byte in b'a'..=b'f' {
+            if self.takes_digit(byte) {
+                expected |= 1u128 << byte;
+            }
+        }
+        expected
+    }
+
+    /// The bytes that the display string can go on with.
+    pub fn expected(self) -> u128
+        requires digit { IsDigitPhase self.phase }
+        requires good { GoodUtf8 (utf8_of self.chars) }
+        ensures { (bytes : List ℕ) → Marks result (shown_takes (shown_of self.phase bytes
+            self.chars)) }
+    {
+        match (self.phase, self.chars) {
+            (ShownPhase::Quote, _) => return QUOTE,
+            (ShownPhase::Plain, Utf8State::Start) => return VISIBLE,
+            (ShownPhase::Plain, Utf8State::Wants { .. }) => return PERCENT,
+            (ShownPhase::Percent, Utf8State::Start) => return FIRST_DIGITS,
+            (ShownPhase::Percent, Utf8State::Wants { .. }) => return self.expected_digits(),
+            (ShownPhase::Hex(_), _) => return self.expected_digits(),
+            (ShownPhase::Done, _) => return 0,
         }
     }
 

@@ -55,28 +55,15 @@ impl FieldState {
         }
     }
 
-    /// Whether the field can go on with this byte.
-    pub fn takes(&self, dialect: Dialect, byte: u8) -> bool
-        ensures { result ≡ takes_at dialect (state_of self.now) byte }
-    {
-        match self {
-            FieldState::Item(top) => top.takes(dialect, byte),
-            FieldState::List(list) => list.takes(dialect, byte),
-            FieldState::Dict(dict) => dict.takes(dialect, byte),
-        }
-    }
-
     /// The bytes below 128 that the field can go on with, a bit for each.
     pub fn expected(&self, dialect: Dialect) -> u128
-        ensures { Marks dialect result (state_of self.now) 128 }
+        ensures { Marks result (takes_at dialect (state_of self.now)) }
     {
-        let mut expected = 0;
-        for byte in 0..128u8 {
-            if self.takes(dialect, byte) {
-                expected |= 1u128 << byte;
-            }
+        match self {
+            FieldState::Item(top) => top.expected(dialect),
+            FieldState::List(list) => list.expected(dialect),
+            FieldState::Dict(dict) => dict.expected(dialect),
         }
-        expected
     }
 
     /// Whether the field may end here.

@@ -2,6 +2,7 @@
 ghost use Rattle.std.specs.Prelude.{◌≡◌, ℕ, List, IfOk};
 ghost use Rattle.sf_value.specs.Grammar.Words.{Every};
 ghost use Rattle.sf_value.specs.Grammar.Classes.{is_visible as is_visible_byte};
+ghost use Rattle.sf_parse.specs.Expected.{Marks};
 ghost use Rattle.sf_parse.specs.Fronts.{Went};
 ghost use Rattle.sf_parse.specs.Views.{text_of};
 ghost use Rattle.sf_parse.specs.Machine.Language.{Steps};
@@ -9,6 +10,7 @@ ghost use Rattle.sf_parse.specs.Machine.Texts.{text_step};
 ghost use Rattle.sf_parse.specs.Machine.Takes.{text_takes, text_ends};
 
 use crate::runs::{Unescaped, long_front};
+use crate::sets::{ESCAPED, VISIBLE};
 use sf_value::{OutOfMemory, ShortBytes, is_visible};
 
 /// Where in a string the text is, behind its opening quote.
@@ -79,14 +81,14 @@ impl TextPhase {
         }
     }
 
-    /// Whether the string can go on with this byte.
-    pub fn takes(self, byte: u8) -> bool
-        ensures { (bytes : List ℕ) → result ≡ text_takes (text_of self bytes) byte }
+    /// The bytes that the string can go on with.
+    pub fn expected(self) -> u128
+        ensures { (bytes : List ℕ) → Marks result (text_takes (text_of self bytes)) }
     {
         match self {
-            TextPhase::Inside => byte == b'"' || byte == b'\\' || is_visible(byte),
-            TextPhase::Escaped => byte == b'"' || byte == b'\\',
-            TextPhase::Closed => false,
+            TextPhase::Inside => return VISIBLE,
+            TextPhase::Escaped => return ESCAPED,
+            TextPhase::Closed => return 0,
         }
     }
 

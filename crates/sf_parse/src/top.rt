@@ -13,6 +13,7 @@ use crate::context::Context;
 use crate::item::ItemReader;
 use crate::level::Level;
 use crate::runs::{Space, short_front};
+use crate::sets::{SPACE, set_if};
 use sf_value::{Dialect, Item, OutOfMemory};
 use std::marker::Model;
 use std::mem;
@@ -134,13 +135,13 @@ impl Level for TopReader {
         }
     }
 
-    fn takes(&self, dialect: Dialect, byte: u8) -> bool {
+    fn expected(&self, dialect: Dialect) -> u128 {
         match self.phase {
-            TopPhase::Before => byte == b' ' || BareReader::can_start(dialect, byte),
+            TopPhase::Before => return SPACE | BareReader::first_bytes(dialect),
             TopPhase::Inside => {
-                self.item.takes(dialect, byte) || self.item.may_end() && byte == b' '
+                return self.item.expected(dialect) | set_if(self.item.may_end(), SPACE);
             }
-            TopPhase::Behind => byte == b' ',
+            TopPhase::Behind => return SPACE,
         }
     }
 

@@ -180,22 +180,6 @@ module _ {V : Type 0} where
             let there : IsSome (value_at k (pairs es)) = rw t at h in
             rw (t, rest there)
 
-    -- one pair is copied: the pairs copied so far, before those that are left, are still all
-    pub copied-step : (done done' left left' : List (Vec ℕ A × V)) (all : Pairs V)
-        (k key : Vec ℕ A) (v value : V)
-        → HasDistinctKeys all → pairs done ++ pairs left ≡ all
-        → left ≡ (k, v) ∷ left' → done' ≡ insert_entry vec_eq done key value → key.items ≡ k.items
-        → value ≡ v → pairs done' ++ pairs left' ≡ all
-    copied-step done done' left left' all k key v value d all-is left-is done-is key-is value-is =
-        let next : pairs done ++ (k.items, v) ∷ pairs left' ≡ all =
-        ap (λ es. pairs done ++ pairs es) (sym left-is) ∙ all-is in
-        ap (λ es. pairs es ++ pairs left') done-is
-        ∙ ap (λ ps. ps ++ pairs left') (pairs-insert_entry done key value)
-        ∙ (λ i. insert_entry bytes_eq (pairs done) (key-is i) (value-is i) ++ pairs left')
-        ∙ insert_entry-next (pairs done) (pairs left') (k.items, v)
-        (subst (λ ps. HasDistinctKeys ps) (sym next) d)
-        ∙ next
-
 -- one more place at which two lists have one item
 pub same-step : {X : Type 0} (xs ys : List X) (i : ℕ) (x y : X) → take i xs ≡ take i ys
     → slice_get xs i ≡ Some x → slice_get ys i ≡ Some y → x ≡ y → take (i + 1) xs ≡ take (i + 1) ys

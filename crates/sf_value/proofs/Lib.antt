@@ -2,7 +2,9 @@ pub mod Words
 pub mod ByteLists
 mod Rows
 pub mod EntryMaps
+pub mod SlotLists
 pub mod Settling
+pub mod Removals
 pub mod Utf8Table
 pub mod CanonicalTexts
 pub mod Validity

@@ -100,7 +100,7 @@ module _ {V : Type 0} where
       by true t rest = rw t rest
       by false t rest = rw t (h.0, rest)
 
-  distinct-without : (k : List ℕ) (ps : Pairs V) → HasDistinctKeys ps
+  pub distinct-without : (k : List ℕ) (ps : Pairs V) → HasDistinctKeys ps
       → HasDistinctKeys (without k ps)
   unfolding IsDistinct
   distinct-without k [] d = tt

@@ -2,6 +2,8 @@
 -- and values; the others say what the calls of this crate do.
 pub mod Grammar
 pub mod Entries
+pub mod Stores
+pub mod Lending
 pub mod Faults
 pub mod Devices
 pub mod Laws

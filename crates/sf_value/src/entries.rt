@@ -1,18 +1,17 @@
 //! Entries in order, by key (RFC 9651 sections 3.1.2 and 3.2).
 ghost use Rattle.std.specs.Prelude.{◌≡◌, ℕ, List, [], ◌∷◌, ◌++◌, None, length, slice_get, ◌↔◌};
-ghost use Rattle.std.specs.Prelude.{IsTrue, IsSome, IfOk, IfErr};
+ghost use Rattle.std.specs.Prelude.{IsTrue, IsSome, IfOk, IfErr, OnOk, OnErr};
 ghost use Rattle.std.specs.Option.{option_map, option_copied};
-ghost use Rattle.sf_value.specs.Grammar.Pairs.{settle, value_at};
+ghost use Rattle.sf_value.specs.Grammar.Pairs.{settle, without, value_at};
 ghost use Rattle.sf_value.specs.Entries.{deref_entry, AreEntries};
 ghost use Rattle.std.specs.Iterator.{at_most};
 ghost use Rattle.std.specs.Map.Iter.{TakesFirst, ShowsInOrder};
 
 use crate::fault::OutOfMemory;
 use crate::key::Key;
-use crate::many;
 use crate::part::Part;
 use crate::short::ShortBytes;
-use indexmap::{IndexMap, map};
+use crate::store::{Left, Lent, Slot, Store};
 use std::alloc::Global;
 use std::hash::RandomState;
 use std::marker::Model;
@@ -29,20 +28,28 @@ use std::marker::Model;
 /// entries.at(0)                          // Some((b"a", &3))
 /// entries.get(b"b")                      // Some(&2)
 /// ```
-#[derive(Debug, Drop)]
+#[derive(Debug)]
 pub struct Entries<V> {
-    map: IndexMap<Vec<u8>, V, RandomState>,
+    store: Store<V>,
 }
 
 impl<V> Model for Entries<V> {
     ghost use Rattle.std.specs.Prelude.{List, ℕ};
-    ghost use Rattle.sf_value.specs.Entries.{AreEntries, pairs};
+    ghost use Rattle.sf_value.specs.Entries.{AreEntries};
+    ghost use Rattle.sf_value.specs.Stores.{stored, HasSeed};
 
     ghost Value = { List (List ℕ × V) };
 
-    ghost view = { λ e. pairs e.map.entries };
+    ghost view = { λ e. stored e.store };
 
-    ghost invariant = { λ e. AreEntries (pairs e.map.entries) };
+    ghost invariant = { λ e. AreEntries (stored e.store) × HasSeed e.store };
+}
+
+// Written out, so that proofs about what holds entries don't look into them where they are let go.
+impl<V: Drop> Drop for Entries<V> {
+    fn drop(self) {
+        let Entries { store: _ } = self;
+    }
 }
 
 impl<V> Entries<V> {
@@ -52,7 +59,7 @@ impl<V> Entries<V> {
         ensures { result ≡ [] }
     {
         Entries {
-            map: IndexMap::with_hasher(alloc, *seed),
+            store: Store::Fresh(alloc, *seed),
         }
     }
 
@@ -61,7 +68,7 @@ impl<V> Entries<V> {
         ensures len { result ≡ length self.now }
         ensures entries { AreEntries self.now }
     {
-        self.map.len()
+        self.store.len()
     }
 
     /// Whether there is no entry. It takes no memory.
@@ -76,7 +83,7 @@ impl<V> Entries<V> {
     pub fn get(&self, key: &[u8]) -> Option<&V>
         ensures { option_copied result ≡ value_at key.now self.now }
     {
-        self.map.get(key)
+        self.store.get(key)
     }
 
     /// Whether the key of these bytes has a value. It takes no memory.
@@ -90,8 +97,7 @@ impl<V> Entries<V> {
     pub fn at(&self, index: usize) -> Option<(&[u8], &V)>
         ensures { option_map deref_entry result ≡ slice_get self.now index }
     {
-        let (key, value) = self.map.get_index(index)?;
-        Some((key.as_slice(), value))
+        self.store.at(index)
     }
 
     /// The entries in order, each as its key's bytes and its value. It takes no memory.
@@ -100,10 +106,12 @@ impl<V> Entries<V> {
         ensures runs { ShowsInOrder (deref_entry {V = V}) }
     {
         Iter {
-            inner: self.map.iter(),
+            lent: self.store.iter(),
         }
     }
+}
 
+impl<V: Drop> Entries<V> {
     /// Puts a value at a key. A new key goes last, and the answer is `None`. The value of a key
     /// that is there is replaced in its place, and the old one is the answer; this takes no memory.
     /// For want of memory the entries stay as they were, and the key and the value come back.
@@ -114,23 +122,53 @@ impl<V> Entries<V> {
         ensures back { IfErr result (λ pair. pair ≡ (key, value)) }
         ensures absent { IfErr result (λ _. value_at key self.old ≡ None) }
     {
-        many::put(&mut self.map, key, value)
+        self.store.put(key, value)
+    }
+
+    /// Puts a value at a key, as [`Entries::put`] does, where neither the old value nor a pair that
+    /// comes back is wanted. For want of memory the entries stay as they were.
+    ///
+    /// ```
+    /// entries.set(Key::new(alloc, b"q")?, Bare::Integer(Int::new(1)?))?;
+    /// ```
+    pub fn set(&mut self, key: Key, value: V) -> Result<(), OutOfMemory>
+        ensures new { OnOk result (self.new ≡ settle (self.old ++ (key, value) ∷ [])) }
+        ensures same { OnErr result (self.new ≡ self.old) }
+        ensures absent { OnErr result (value_at key self.old ≡ None) }
+    {
+        match self.put(key, value) {
+            Ok(_) => return Ok(()),
+            Err(_) => return Err(OutOfMemory),
+        }
+    }
+
+    /// Takes out the key of these bytes, and answers its value; `None` where it has none. The other
+    /// entries keep their order. It takes no memory.
+    ///
+    /// ```
+    /// entries.remove(b"a") // Some(3), and the entry of b"b" is now the first
+    /// ```
+    pub fn remove(&mut self, key: &[u8]) -> Option<V>
+        ensures value { result ≡ value_at key.now self.old }
+        ensures rest { self.new ≡ without key.now self.old }
+    {
+        self.store.remove(key)
     }
 }
 
 /// The entries that an iteration by reference has left, each as its key's bytes and its value.
 #[derive(Drop)]
 pub struct Iter<'a, V> {
-    inner: map::Iter<'a, Vec<u8>, V>,
+    lent: Lent<'a, V>,
 }
 
 impl<'a, V> Model for Iter<'a, V> {
     ghost use Rattle.std.specs.Prelude.{List, ℕ};
-    ghost use Rattle.sf_value.specs.Entries.{pairs};
+    ghost use Rattle.sf_value.specs.Stores.{lent_pairs};
 
     ghost Value = { List (List ℕ × V) };
 
-    ghost view = { λ a. pairs a.inner };
+    ghost view = { λ a. lent_pairs a.lent };
 }
 
 impl<'a, V> Iterator for Iter<'a, V> {
@@ -141,8 +179,17 @@ impl<'a, V> Iterator for Iter<'a, V> {
     ghost remaining = { λ s. at_most (length s) };
 
     fn next(&mut self) -> Option<(&'a [u8], &'a V)> {
-        let (key, value) = self.inner.next()?;
-        Some((key.as_slice(), value))
+        match &mut self.lent {
+            Lent::Nothing => return None,
+            Lent::Few(slots) => {
+                let slot = slots.next()?;
+                return Some((slot.key.as_bytes(), &slot.value));
+            }
+            Lent::Many(entries) => {
+                let (key, value) = entries.next()?;
+                return Some((key.as_slice(), value));
+            }
+        }
     }
 }
 
@@ -161,7 +208,7 @@ impl<'a, V> IntoIterator for &'a Entries<V> {
 /// The entries that an iteration by value has left, each as its key and its value.
 #[derive(Drop)]
 pub struct IntoIter<V> {
-    inner: map::IntoIter<Vec<u8>, V>,
+    left: Left<V>,
 }
 
 impl<V> Model for IntoIter<V> {
@@ -169,13 +216,13 @@ impl<V> Model for IntoIter<V> {
     ghost use Rattle.std.specs.Map.{keys_of};
     ghost use Rattle.sf_value.specs.Grammar.Words.{Each};
     ghost use Rattle.sf_value.specs.Grammar.Tokens.{IsKey};
-    ghost use Rattle.sf_value.specs.Entries.{pairs};
+    ghost use Rattle.sf_value.specs.Stores.{left_pairs};
 
     ghost Value = { List (List ℕ × V) };
 
-    ghost view = { λ a. pairs a.inner };
+    ghost view = { λ a. left_pairs a.left };
 
-    ghost invariant = { λ a. Each IsKey (keys_of (pairs a.inner)) };
+    ghost invariant = { λ a. Each IsKey (keys_of (left_pairs a.left)) };
 }
 
 impl<V: Drop> Iterator for IntoIter<V> {
@@ -186,13 +233,18 @@ impl<V: Drop> Iterator for IntoIter<V> {
     ghost remaining = { λ s. at_most (length s) };
 
     fn next(&mut self) -> Option<(Key, V)> {
-        let (bytes, value) = self.inner.next()?;
-        Some((
-            Key {
-                bytes: ShortBytes::from_vec(bytes),
-            },
-            value,
-        ))
+        match &mut self.left {
+            Left::Nothing => return None,
+            Left::Few(slots) => {
+                let Slot { key, value, .. } = slots.next()?;
+                return Some((key, value));
+            }
+            Left::Many(entries) => {
+                let (bytes, value) = entries.next()?;
+                let bytes = ShortBytes::from_vec(bytes);
+                return Some((Key { bytes }, value));
+            }
+        }
     }
 }
 
@@ -204,9 +256,9 @@ impl<V: Drop> IntoIterator for Entries<V> {
     ghost into_iter_gives = { λ e r. r ≡ e };
 
     fn into_iter(self) -> IntoIter<V> {
-        let Entries { map } = self;
+        let Entries { store } = self;
         IntoIter {
-            inner: map.into_iter(),
+            left: store.into_iter(),
         }
     }
 }
@@ -228,12 +280,14 @@ impl<V: Part> Part for Entries<V> {
     }
 
     fn copy(&self, alloc: Global, seed: &RandomState) -> Result<Entries<V>, OutOfMemory> {
-        let mut map = IndexMap::with_hasher(alloc, *seed);
-        for (key, value) in &self.map {
-            let key = Vec::from_slice(alloc, key.as_slice())?;
+        // That these are entries the proof has to know.
+        let _ = &self.store;
+        let mut copy = Entries::new(alloc, seed);
+        for (key, value) in self {
+            let bytes = ShortBytes::from_slice(alloc, key)?;
             let value = value.copy(alloc, seed)?;
-            map.insert(key, value)?;
+            copy.set(Key { bytes }, value)?;
         }
-        Ok(Entries { map })
+        Ok(copy)
     }
 }

@@ -17,9 +17,7 @@
 //! ```text
 //! let seed = RandomState::new(&rt)?;
 //! let mut params = Entries::new(alloc, &seed);
-//! if params.put(Key::new(alloc, b"q")?, Bare::Integer(Int::new(1)?)).is_err() {
-//!     return Err(OutOfMemory.into());
-//! }
+//! params.set(Key::new(alloc, b"q")?, Bare::Integer(Int::new(1)?))?;
 //! let bare = Bare::Token(Token::new(alloc, b"a")?);
 //! let field = Field::Item(Item { bare, params });
 //! ```
@@ -47,6 +45,7 @@ mod part;
 mod sequence;
 mod short;
 mod shown;
+mod store;
 mod text;
 mod token;
 mod value;

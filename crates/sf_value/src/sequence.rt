@@ -1,15 +1,17 @@
 //! Values in order.
 ghost use Rattle.std.specs.Prelude.{◌≡◌, List, [], ◌∷◌, ◌++◌, ◌↔◌, IsTrue, length, slice_get};
-ghost use Rattle.std.specs.Prelude.{IfOk, IfErr, OnErr};
+ghost use Rattle.std.specs.Prelude.{◌+◌, ◌<◌, ◌≤◌, take, drop, Some, IfOk, IfErr, OnErr, MatchOption};
 ghost use Rattle.std.specs.Slice.Iter.{iter_rest};
 ghost use Rattle.std.specs.Vec.Iter.{into_iter_items, into_iter_steps};
 ghost use Rattle.std.specs.Iterator.Runs.{EveryRun, ItemsAre};
 ghost use Rattle.std.specs.declared.alloc.Global.{Global};
 ghost use Rattle.std.specs.Iterator.Adapters.{IterYieldsInOrder};
+ghost use Rattle.std.specs.Borrow.{sem};
+ghost use Rattle.sf_value.specs.Lending.{LendsItems};
 
 use crate::fault::OutOfMemory;
 use crate::part::Part;
-use std::alloc::Global;
+use std::alloc::{AllocFailed, Global};
 use std::hash::RandomState;
 use std::marker::Model;
 use std::ops::DerefSlice;
@@ -21,9 +23,7 @@ use std::{slice, vec};
 ///
 /// ```
 /// let mut members = Sequence::new(alloc);
-/// if members.push(Member::Item(item)).is_err() {
-///     return Err(OutOfMemory);
-/// }
+/// members.push(Member::Item(item))?;
 /// let list = List { members };
 /// ```
 #[derive(Debug, Drop)]
@@ -94,16 +94,73 @@ impl<T> Sequence<T> {
     }
 
     /// Adds a value at the end. For want of memory the values stay as they were, and the one handed
-    /// in comes back.
-    pub fn push(&mut self, item: T) -> Result<(), T>
+    /// in comes back in the error, which `?` makes an [`OutOfMemory`] of.
+    ///
+    /// ```
+    /// members.push(Member::Item(item))?;
+    /// ```
+    pub fn push(&mut self, item: T) -> Result<(), AllocFailed<T>>
         ensures added { IfOk result (λ _. self.new ≡ self.old ++ item ∷ []) }
         ensures same { OnErr result (self.new ≡ self.old) }
-        ensures back { IfErr result (λ x. x ≡ item) }
+        ensures back { IfErr result (λ refused. refused.value ≡ item) }
     {
-        match self.items.push(item) {
-            Ok(()) => Ok(()),
-            Err(refused) => Err(refused.value),
-        }
+        self.items.push(item)
+    }
+
+    /// Takes the last value out; `None` where there is none. It takes no memory.
+    ///
+    /// ```
+    /// members.pop() // Some(member)
+    /// ```
+    pub fn pop(&mut self) -> Option<T>
+        ensures { MatchOption result ((self.old ≡ []) × (self.new ≡ []))
+            (λ last. self.old ≡ self.new ++ last ∷ []) }
+    {
+        self.items.pop()
+    }
+
+    /// Puts a value at a place, counted from 0 and no greater than the length; those from there on
+    /// move up. For want of memory as `push`.
+    ///
+    /// ```
+    /// members.insert(0, member)?; // the first one now
+    /// ```
+    pub fn insert(&mut self, index: usize, item: T) -> Result<(), AllocFailed<T>>
+        requires { index ≤ length self.old }
+        ensures inserted { IfOk result (λ _. self.new
+            ≡ take index self.old ++ item ∷ drop index self.old) }
+        ensures same { OnErr result (self.new ≡ self.old) }
+        ensures back { IfErr result (λ refused. refused.value ≡ item) }
+    {
+        self.items.insert(index, item)
+    }
+
+    /// Takes out the value at a place, counted from 0 and less than the length; those behind it move
+    /// down. It takes no memory.
+    ///
+    /// ```
+    /// let first = members.remove(0);
+    /// ```
+    pub fn remove(&mut self, index: usize) -> T
+        requires { index < length self.old }
+        ensures value { slice_get self.old index ≡ Some result }
+        ensures rest { self.new ≡ take index self.old ++ drop (index + 1) self.old }
+    {
+        self.items.remove(index)
+    }
+
+    /// The values, as a slice whose items may be changed. It takes no memory.
+    ///
+    /// ```
+    /// for member in members.as_mut_slice() {
+    ///     ..
+    /// }
+    /// ```
+    pub fn as_mut_slice(&mut self) -> &mut [T]
+        ensures* writes_back { sem 𝓛 (LendsItems T.row self.entry result) }
+        ensures value { result.now ≡ self.old }
+    {
+        self.items.as_mut_slice()
     }
 }
 

@@ -1,0 +1,271 @@
+//! Where entries stand: a few in a vector, where they are found by their bytes, more in a map,
+//! where they are found by hashes.
+ghost use Rattle.std.specs.Prelude.{◌≡◌, ◌<◌, ◌≤◌, ◌+◌, [], ◌∷◌, ◌++◌, None, length, map as each, slice_get};
+ghost use Rattle.std.specs.Prelude.{IfOk, IfErr, OnErr, vec_len};
+ghost use Rattle.std.specs.Option.{option_map, option_copied};
+ghost use Rattle.std.specs.List.{position};
+ghost use Rattle.std.specs.Map.{keys_of};
+ghost use Rattle.std.specs.Str.{bytes_eq};
+ghost use Rattle.indexmap.specs.IndexMap.{spare};
+ghost use Rattle.sf_value.specs.Grammar.Pairs.{settle, without, value_at, HasDistinctKeys};
+ghost use Rattle.sf_value.specs.Entries.{deref_entry, pairs, AreEntries};
+ghost use Rattle.sf_value.specs.Stores.{slot_pairs, stored, HasSeed, name_bytes, lent_pairs, left_pairs};
+
+use crate::fault::OutOfMemory;
+use crate::key::Key;
+use crate::many;
+use crate::many::Many;
+use indexmap::{IndexMap, map};
+use std::alloc::Global;
+use std::hash::RandomState;
+use std::{mem, slice, vec};
+
+// How many entries a vector holds at most.
+const FEW: usize = 8;
+
+/// One of a few entries.
+#[derive(Debug, Drop)]
+pub(crate) struct Slot<V> {
+    pub(crate) key: Key,
+    pub(crate) value: V,
+    // That of the map which takes the place of the vector when there are more than a few. It stands
+    // here, in the memory of the vector, so that entries are no larger than one.
+    seed: RandomState,
+}
+
+/// The place of entries: none yet, a few, or more.
+#[derive(Debug, Drop)]
+pub(crate) enum Store<V> {
+    Fresh(Global, RandomState),
+    Few(Vec<Slot<V>>),
+    Many(Box<Many<V>>),
+}
+
+/// The entries that an iteration by reference has left.
+#[derive(Drop)]
+pub(crate) enum Lent<'a, V> {
+    Nothing,
+    Few(slice::Iter<'a, Slot<V>>),
+    Many(map::Iter<'a, Vec<u8>, V>),
+}
+
+/// The entries that an iteration by value has left.
+#[derive(Drop)]
+pub(crate) enum Left<V> {
+    Nothing,
+    Few(vec::IntoIter<Slot<V>>),
+    Many(map::IntoIter<Vec<u8>, V>),
+}
+
+// The place of the key of these bytes among a few.
+fn place_of<V>(slots: &[Slot<V>], key: &[u8]) -> Option<usize>
+    ensures { result ≡ position (λ slot. bytes_eq key.now slot.key) slots.now }
+{
+    slots.iter().position(|slot| key == slot.key.as_bytes())
+}
+
+impl<V> Store<V> {
+    /// How many entries there are.
+    pub(crate) fn len(&self) -> usize
+        ensures { result ≡ length (stored self.now) }
+    {
+        match self {
+            Store::Fresh(_, _) => 0,
+            Store::Few(slots) => slots.len(),
+            Store::Many(map) => map.len(),
+        }
+    }
+
+    /// The value of the key of these bytes.
+    pub(crate) fn get(&self, key: &[u8]) -> Option<&V>
+        ensures { option_copied result ≡ value_at key.now (stored self.now) }
+    {
+        match self {
+            Store::Fresh(_, _) => return None,
+            Store::Few(slots) => {
+                let place = place_of(slots, key)?;
+                return Some(&slots[place].value);
+            }
+            Store::Many(map) => return map.get(key),
+        }
+    }
+
+    /// The key and the value at a place.
+    pub(crate) fn at(&self, index: usize) -> Option<(&[u8], &V)>
+        ensures { option_map deref_entry result ≡ slice_get (stored self.now) index }
+    {
+        match self {
+            Store::Fresh(_, _) => return None,
+            Store::Few(slots) => {
+                let slot = slots.get(index)?;
+                return Some((slot.key.as_bytes(), &slot.value));
+            }
+            Store::Many(map) => {
+                let (key, value) = map.get_index(index)?;
+                return Some((key.as_slice(), value));
+            }
+        }
+    }
+
+    /// All entries in order, by reference.
+    pub(crate) fn iter(&self) -> Lent<'_, V>
+        ensures { lent_pairs result ≡ stored self.now }
+    {
+        match self {
+            Store::Fresh(_, _) => Lent::Nothing,
+            Store::Few(slots) => Lent::Few(slots.iter()),
+            Store::Many(map) => Lent::Many(map.iter()),
+        }
+    }
+}
+
+// The keys of a few entries, in vectors of their own.
+fn names<V>(alloc: Global, slots: &[Slot<V>]) -> Result<Vec<Vec<u8>>, OutOfMemory>
+    ensures { IfOk result (λ names. each name_bytes names.items ≡ keys_of (slot_pairs slots.now)) }
+{
+    let mut names = Vec::with_capacity(alloc, slots.len())?;
+    for slot in slots {
+        let name = Vec::from_slice(alloc, slot.key.as_bytes())?;
+        names.push(name)?;
+    }
+    Ok(names)
+}
+
+// Puts the values into an empty map that has room for them, under their keys as vectors.
+fn fill<V: Drop>(map: &mut Many<V>, names: Vec<Vec<u8>>, slots: Vec<Slot<V>>)
+    requires names { each name_bytes names.items ≡ keys_of (slot_pairs slots.items) }
+    requires distinct { HasDistinctKeys (slot_pairs slots.items) }
+    requires empty { map.old.entries ≡ [] }
+    requires room { vec_len slots ≤ spare map.old }
+    ensures { pairs map.new.entries ≡ slot_pairs slots.items }
+{
+    let mut names = names.into_iter();
+    for slot in slots {
+        let Slot { key: _, value, .. } = slot;
+        let Some(name) = names.next() else {
+            unreachable!()
+        };
+        let Ok(_) = map.insert(name, value) else {
+            unreachable!()
+        };
+    }
+}
+
+// The map of these entries, which leave the vector. For want of memory they stay.
+fn grown<V: Drop>(slots: &mut Vec<Slot<V>>) -> Result<Box<Many<V>>, OutOfMemory>
+    requires some { 0 < vec_len slots.old }
+    requires distinct { HasDistinctKeys (slot_pairs slots.old.items) }
+    ensures all { IfOk result (λ map. pairs map.value.entries ≡ slot_pairs slots.old.items) }
+    ensures same { OnErr result (slots.new.items ≡ slots.old.items) }
+{
+    let seed = slots[0].seed;
+    let alloc = *slots.allocator();
+    let names = names(alloc, slots)?;
+    let map = IndexMap::with_capacity_and_hasher(alloc, slots.len() + 1, seed)?;
+    let Ok(mut map) = Box::new(alloc, map) else {
+        return Err(OutOfMemory);
+    };
+    let few = mem::replace(slots, Vec::new(alloc));
+    fill(&mut map, names, few);
+    Ok(map)
+}
+
+// Adds a new entry to a few.
+fn push<V>(slots: &mut Vec<Slot<V>>, slot: Slot<V>) -> Result<(), (Key, V)>
+    ensures added { IfOk result (λ _. slots.new.items ≡ slots.old.items ++ slot ∷ []) }
+    ensures same { OnErr result (slots.new.items ≡ slots.old.items) }
+    ensures back { IfErr result (λ pair. pair ≡ (slot.key, slot.value)) }
+{
+    match slots.push(slot) {
+        Ok(()) => return Ok(()),
+        Err(refused) => {
+            let Slot { key, value, .. } = refused.value;
+            return Err((key, value));
+        }
+    }
+}
+
+impl<V: Drop> Store<V> {
+    /// All entries in order, by value.
+    pub(crate) fn into_iter(self) -> Left<V>
+        ensures { left_pairs result ≡ stored self }
+    {
+        match self {
+            Store::Fresh(_, _) => Left::Nothing,
+            Store::Few(slots) => Left::Few(slots.into_iter()),
+            Store::Many(map) => Left::Many(Box::into_inner(map).into_iter()),
+        }
+    }
+
+    /// Puts a value at a key, as `Entries::put` does. Only a new key takes memory.
+    pub(crate) fn put(&mut self, key: Key, value: V) -> Result<Option<V>, (Key, V)>
+        requires entries { AreEntries (stored self.old) }
+        requires seed { HasSeed self.old }
+        ensures entries { AreEntries (stored self.new) }
+        ensures seed { HasSeed self.new }
+        ensures new { IfOk result (λ _. stored self.new
+            ≡ settle (stored self.old ++ (key, value) ∷ [])) }
+        ensures old { IfOk result (λ old. old ≡ value_at key (stored self.old)) }
+        ensures same { IfErr result (λ _. stored self.new ≡ stored self.old) }
+        ensures back { IfErr result (λ pair. pair ≡ (key, value)) }
+        ensures absent { IfErr result (λ _. value_at key (stored self.old) ≡ None) }
+    {
+        match self {
+            Store::Fresh(alloc, seed) => {
+                // Bytes of a key, which the proof has to know.
+                let _ = key.as_bytes();
+                let mut slots = Vec::new(*alloc);
+                let seed = *seed;
+                push(&mut slots, Slot { key, value, seed })?;
+                *self = Store::Few(slots);
+                return Ok(None);
+            }
+            Store::Few(slots) => {
+                if let Some(place) = place_of(slots, key.as_bytes()) {
+                    return Ok(Some(mem::replace(&mut slots[place].value, value)));
+                }
+                if slots.len() < FEW {
+                    let seed = slots[0].seed;
+                    push(slots, Slot { key, value, seed })?;
+                    return Ok(None);
+                }
+                let Ok(mut map) = grown(slots) else {
+                    return Err((key, value));
+                };
+                let put = many::put(&mut map, key, value);
+                *self = Store::Many(map);
+                return put;
+            }
+            Store::Many(map) => return many::put(map, key, value),
+        }
+    }
+
+    /// Takes out the key of these bytes, and answers its value. The others keep their order.
+    pub(crate) fn remove(&mut self, key: &[u8]) -> Option<V>
+        requires entries { AreEntries (stored self.old) }
+        requires seed { HasSeed self.old }
+        ensures entries { AreEntries (stored self.new) }
+        ensures seed { HasSeed self.new }
+        ensures value { result ≡ value_at key.now (stored self.old) }
+        ensures rest { stored self.new ≡ without key.now (stored self.old) }
+    {
+        match self {
+            Store::Fresh(_, _) => return None,
+            Store::Few(slots) => {
+                let place = place_of(slots, key)?;
+                let Slot {
+                    key: _,
+                    value,
+                    seed,
+                } = slots.remove(place);
+                if !slots.is_empty() {
+                    return Some(value);
+                }
+                let alloc = *slots.allocator();
+                *self = Store::Fresh(alloc, seed);
+                return Some(value);
+            }
+            Store::Many(map) => return map.shift_remove(key),
+        }
+    }
+}
