@@ -13,7 +13,7 @@ pub returns-then-self-clause-fed : goal.returns-then-self-clause-fed
 returns-then-self-clause-fed c =
     let after = sym (ap (λ q. q.after_line) c.self.view_is) ∙ c.if-self.true in
     line_behind _ c.feed.new.self _ _ _ c.args.line.now after c.in_ok-feed.ensures.fed
-    c.feed-2.ensures.fed
+    c.feed-then-self.ensures.fed
 
 pub returns-in_err-feed-2-clause-fed : goal.returns-in_err-feed-2-clause-fed
 returns-in_err-feed-2-clause-fed c =
@@ -26,4 +26,4 @@ pub returns-clause-fed : goal.returns-clause-fed
 returns-clause-fed c =
     let after = sym (ap (λ q. q.after_line) c.self.view_is) ∙ c.if-self.false in
     line_first _ _ _ _ c.args.line.now after
-    (fed_line _ c.feed-3.new.self _ _ c.mark_line.ensures c.in_ok-feed-2.ensures.fed)
+    (fed_line _ c.feed-2.new.self _ _ c.mark_line.ensures c.in_ok-feed-2.ensures.fed)

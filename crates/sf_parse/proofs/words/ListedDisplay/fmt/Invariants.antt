@@ -8,4 +8,4 @@ abbrev pub invariant-loop-first : goal.invariant-loop-first
 invariant-loop-first g l =
     IsPlainFormatter l.fn.f
     → (done : List ℕ) × HasWritten g.W.Write.write_str_gives l.fn.f done l.f
-    × (done ++ listed l.before.now l.first-iterator ≡ listed (codes " ") (runs_of l.fn.self.set))
+    × (done ++ listed l.before l.first-iterator ≡ listed (codes " ") (runs_of l.fn.self.set))
