@@ -255,16 +255,35 @@ fn a_field_that_is_set(rt: HostRuntime) -> Result<(), Fail> {
     let seed = RandomState::new(&rt)?;
     let name = HeaderName::from_static("priority");
     let mut headers = HeaderMap::new(alloc);
-    headers.append(HeaderName::from_static("priority"), HeaderValue::from_static("u=5"))?;
-    headers.append(HeaderName::from_static("priority"), HeaderValue::from_static("i"))?;
+    headers.append(
+        HeaderName::from_static("priority"),
+        HeaderValue::from_static("u=5"),
+    )?;
+    headers.append(
+        HeaderName::from_static("priority"),
+        HeaderValue::from_static("i"),
+    )?;
     let field = parse_text(alloc, &seed, Kind::Dict, b"u=1,i")?;
-    assert_eq!(rt; header_value(alloc, &field)?.as_bytes(), b"u=1, i".as_slice());
-    set_field(alloc, &mut headers, HeaderName::from_static("priority"), &field)?;
+    assert_eq!(rt;
+        header_value(alloc, &field)?.as_bytes(),
+        b"u=1, i".as_slice()
+    );
+    set_field(
+        alloc,
+        &mut headers,
+        HeaderName::from_static("priority"),
+        &field,
+    )?;
     assert_eq!(rt; headers.get_all(&name).iter().count(), 1);
     let read = from_headers(alloc, &seed, Kind::Dict, &headers, &name)?;
     assert!(rt; read.ok_or("absent")? == field);
     let none = parse_text(alloc, &seed, Kind::Dict, b"")?;
-    set_field(alloc, &mut headers, HeaderName::from_static("priority"), &none)?;
+    set_field(
+        alloc,
+        &mut headers,
+        HeaderName::from_static("priority"),
+        &none,
+    )?;
     assert!(rt; !headers.contains_key(&name));
     Ok(())
 }

@@ -6,7 +6,7 @@ use Rattle.std.specs.Cmp.Lexicographic.{bytes_decides}
 use Rattle.std.specs.Str.{bytes_eq}
 use Rattle.http_header.specs.FieldValue.{FieldValue, IsFieldValue, plain_value}
 use Rattle.http_header.specs.Token.{is_value_byte}
-use Rattle.http_header.specs.HeaderMap.{ContainsKey, get_all, insert, keys}
+use Rattle.http_header.specs.HeaderMap.{ContainsKey, get_all, insert, keys, remove}
 use Rattle.http_header.proofs.HeaderMapLemmas.{get_all-insert_same}
 use Rattle.sf_value.specs.declared.dialect.Dialect.{Dialect}
 use Rattle.sf_value.specs.declared.dialect.Dialect.TheVariants.{Rfc9651}
@@ -35,6 +35,16 @@ value_bytes (b ∷ t) h (suc k) x l = value_bytes t h.1 k x (omega arith)
 pub spelled_value : (d : Dialect) (kind : Kind) (v : Field) (t : List ℕ) → SpellsField d kind t v
     → IsFieldValue t
 spelled_value d kind v t h = value_bytes t (spelled_text d kind v t h)
+
+-- the empty text removes the name, any other one is the only value
+pub set_none : (m : Headers) (name t : List ℕ) → length t ≡ 0 → set_text m name t ≡ remove m name
+set_none m name [] e = refl
+set_none m name (b ∷ t) e = absurd (let n : ⊥ = omega arith in n)
+
+pub set_some : (m : Headers) (name t : List ℕ) → (length t ≡ 0 → ⊥)
+    → set_text m name t ≡ insert m name (plain_value t)
+set_some m name [] h = absurd (h refl)
+set_some m name (b ∷ t) h = refl
 
 -- what is inserted is there
 there : (m : Headers) (name : List ℕ) (value : FieldValue) → ContainsKey (insert m name value) name

@@ -92,5 +92,8 @@ pub fn normalise_lines(
     let field = parse_lines(alloc, seed, kind, lines)?;
     let text = to_text(alloc, &field);
     drop(field);
-    Ok(text?)
+    match text {
+        Ok(text) => Ok(text),
+        Err(_) => Err(Refusal::OutOfMemory),
+    }
 }

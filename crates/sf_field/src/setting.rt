@@ -79,7 +79,7 @@ pub fn set_field(
     ensures same { OnErr result (headers.new ≡ headers.old) }
 {
     let value = header_value(alloc, field)?;
-    if value.as_bytes().is_empty() {
+    if value.is_empty() {
         drop(headers.remove(&name));
         return Ok(());
     }

@@ -16,11 +16,7 @@ use std::hash::RandomState;
 /// ```
 /// let item = parse_item_lines(alloc, &seed, lines.as_slice())?;
 /// ```
-pub fn parse_item_lines(
-    alloc: Global,
-    seed: &RandomState,
-    lines: &[Blob],
-) -> Result<Item, Refusal>
+pub fn parse_item_lines(alloc: Global, seed: &RandomState, lines: &[Blob]) -> Result<Item, Refusal>
     ensures { ParsesLinesAs field_is.Item kind_is.Item lines.now result }
 {
     match parse_lines(alloc, seed, Kind::Item, lines)? {
@@ -36,11 +32,7 @@ pub fn parse_item_lines(
 /// ```
 /// let list = parse_list_lines(alloc, &seed, lines.as_slice())?;
 /// ```
-pub fn parse_list_lines(
-    alloc: Global,
-    seed: &RandomState,
-    lines: &[Blob],
-) -> Result<List, Refusal>
+pub fn parse_list_lines(alloc: Global, seed: &RandomState, lines: &[Blob]) -> Result<List, Refusal>
     ensures { ParsesLinesAs field_is.List kind_is.List lines.now result }
 {
     match parse_lines(alloc, seed, Kind::List, lines)? {
@@ -56,11 +48,7 @@ pub fn parse_list_lines(
 /// ```
 /// let dict = parse_dict_lines(alloc, &seed, lines.as_slice())?;
 /// ```
-pub fn parse_dict_lines(
-    alloc: Global,
-    seed: &RandomState,
-    lines: &[Blob],
-) -> Result<Dict, Refusal>
+pub fn parse_dict_lines(alloc: Global, seed: &RandomState, lines: &[Blob]) -> Result<Dict, Refusal>
     ensures { ParsesLinesAs field_is.Dict kind_is.Dict lines.now result }
 {
     match parse_lines(alloc, seed, Kind::Dict, lines)? {

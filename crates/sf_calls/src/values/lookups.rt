@@ -1,6 +1,8 @@
 //! Values that are looked up, by the calls for it and by a user's own matches.
 use crate::values::build::bare;
-use sf_value::{Bare, Dict, Entries, Field, Inner, Int, Item, Key, List, Member, Thousandths, Token};
+use sf_value::{
+    Bare, Dict, Entries, Field, Inner, Int, Item, Key, List, Member, Thousandths, Token,
+};
 use std::alloc::Global;
 use std::hash::RandomState;
 use std::test::Fail;
@@ -75,8 +77,14 @@ fn parts_by_key(rt: HostRuntime) -> Result<(), Fail> {
     assert_eq!(rt; dict.members.len(), 2);
     let first = dict.get(b"b").ok_or("no b")?;
     assert!(rt; first.as_inner().is_none());
-    assert_eq!(rt; number_of(first.as_item().ok_or("an Inner List")?, b"q"), Some(1));
-    assert_eq!(rt; number_of(first.as_item().ok_or("an Inner List")?, b"r"), None);
+    assert_eq!(rt;
+        number_of(first.as_item().ok_or("an Inner List")?, b"q"),
+        Some(1)
+    );
+    assert_eq!(rt;
+        number_of(first.as_item().ok_or("an Inner List")?, b"r"),
+        None
+    );
     let second = dict.get(b"c").ok_or("no c")?;
     assert!(rt; second.as_item().is_none());
     let inner = second.as_inner().ok_or("an Item")?;
@@ -116,7 +124,11 @@ fn values_with_equals(rt: HostRuntime) -> Result<(), Fail> {
     let seed = RandomState::new(&rt)?;
     for i in 0..8usize {
         for j in 0..8usize {
-            assert_eq!(rt; bare(rt.alloc(), i)? == bare(rt.alloc(), j)?, i == j, "{i} and {j}");
+            assert_eq!(rt;
+                bare(rt.alloc(), i)? == bare(rt.alloc(), j)?,
+                i == j,
+                "{i} and {j}"
+            );
         }
     }
     assert!(rt; item(rt.alloc(), &seed)? == item(rt.alloc(), &seed)?);
@@ -130,7 +142,10 @@ fn values_with_equals(rt: HostRuntime) -> Result<(), Fail> {
 
 #[test]
 fn numbers_of_numbers(rt: HostRuntime) -> Result<(), Fail> {
-    assert_eq!(rt; Int::try_from(999_999_999_999_999i64)?.get(), 999_999_999_999_999);
+    assert_eq!(rt;
+        Int::try_from(999_999_999_999_999i64)?.get(),
+        999_999_999_999_999
+    );
     assert!(rt; Int::try_from(1_000_000_000_000_000i64).is_err());
     assert_eq!(rt; i64::from(Int::from(-7)), -7);
     assert_eq!(rt; i64::from(Thousandths::try_from(-1500i64)?), -1500);
@@ -174,10 +189,12 @@ fn looked_up(params: &Entries<Bare>, key: &[u8]) -> Option<i64> {
 
 fn token_of(field: Field) -> Option<Token> {
     match field {
-        Field::Item(Item {
-            bare: Bare::Token(token),
-            params: _,
-        }) => Some(token),
+        Field::Item(
+            Item {
+                bare: Bare::Token(token),
+                params: _,
+            },
+        ) => Some(token),
         _ => None,
     }
 }

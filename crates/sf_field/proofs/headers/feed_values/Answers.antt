@@ -13,7 +13,7 @@ pub returns-in_err-feed-clause-fed : goal.returns-in_err-feed-clause-fed
 returns-in_err-feed-clause-fed c =
     let p = err_from_is_err_and c.from_residual.result c.from_residual.ensures.1 in
     rw (p.1, p.2)
-    (fed_before c.args.parser.now c.feed.new.parser c.in_err-feed.field-0.0 []
+    (fed_before c.args.parser.now c.feed.new.self c.in_err-feed.field-0.0 []
     (join (lines_under c.args.headers.now c.args.name.now)) c.in_err-feed.ensures.fed)
 
 pub loop-value-init : goal.loop-value-init
@@ -22,7 +22,7 @@ loop-value-init c =
     rw c.into_iter-value-iterator.ensures.into_iter_gives (record {
       leaves =
           subst
-          (Leaves c.args.parser.now c.feed.new.parser
+          (Leaves c.args.parser.now c.feed.new.self
           (join (lines_under c.args.headers.now c.args.name.now)))
           (values_joined c.args.headers.now c.args.name.now _ _ _ c.get_all.ensures.value
           c.iter-values.ensures flag)
@@ -35,7 +35,7 @@ loop-value-init c =
 
 pub loop-value-preserved : goal.loop-value-preserved
 loop-value-preserved c =
-    let next = next_value _ _ _ _ c.in-Some-value.ensures.steps in
+    let next = next_value c.loop-value.parser.after_line _ _ _ c.in-Some-value.ensures.steps in
     let after = c.in_ok-feed_line.ensures.lines in
     record {
       leaves =
@@ -43,12 +43,12 @@ loop-value-preserved c =
           (leaves_less _ _ _ _ _ _ _ c.loop-value.invariant.leaves next
           (rw c.as_bytes.ensures.value at c.in_ok-feed_line.ensures.fed));
       plain = λ h value e w.
-          let one = alone_next value _ _ _ _ c.in-Some-value.ensures.steps
+          let one = alone_next value c.loop-value.parser.after_line _ _ _ c.in-Some-value.ensures.steps
           (c.loop-value.invariant.alone value e) in
           c.in_ok-feed_line.ensures.plain (c.loop-value.invariant.plain h value e w) one.1
           (rw c.as_bytes.ensures.value (subst (Every plain_byte) (sym one.0) w));
       alone = λ value e.
-          inr (alone_next value _ _ _ _ c.in-Some-value.ensures.steps
+          inr (alone_next value c.loop-value.parser.after_line _ _ _ c.in-Some-value.ensures.steps
           (c.loop-value.invariant.alone value e)).2;
     }
 
@@ -56,7 +56,7 @@ pub returns-in_err-feed_line-clause-fed : goal.returns-in_err-feed_line-clause-f
 returns-in_err-feed_line-clause-fed c =
     let p = err_from_is_err_and c.from_residual-in_err-feed_line.result
     c.from_residual-in_err-feed_line.ensures.1 in
-    let next = next_value _ _ _ _ c.in-Some-value.ensures.steps in
+    let next = next_value c.loop-value.parser.after_line _ _ _ c.in-Some-value.ensures.steps in
     rw (p.1, p.2)
     (ends_early _ c.loop-value.parser _ _ _ _ _ _ c.loop-value.invariant.leaves next
     (rw c.as_bytes.ensures.value at c.in_err-feed_line.ensures.fed))

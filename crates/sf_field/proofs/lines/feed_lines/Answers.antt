@@ -13,7 +13,7 @@ pub returns-in_err-feed-clause-fed : goal.returns-in_err-feed-clause-fed
 returns-in_err-feed-clause-fed c =
     let p = err_from_is_err_and c.from_residual.result c.from_residual.ensures.1 in
     rw (p.1, p.2)
-    (fed_before c.args.parser.now c.feed.new.parser c.in_err-feed.field-0.0 []
+    (fed_before c.args.parser.now c.feed.new.self c.in_err-feed.field-0.0 []
     (join c.args.lines.now) c.in_err-feed.ensures.fed)
 
 pub loop-line-init : goal.loop-line-init
@@ -21,7 +21,7 @@ loop-line-init c =
     let flag = c.in_ok-feed.ensures.lines ∙ c.requires in
     record {
       leaves =
-          subst (Leaves c.args.parser.now c.feed.new.parser (join c.args.lines.now))
+          subst (Leaves c.args.parser.now c.feed.new.self (join c.args.lines.now))
           (joined c.args.lines.now ∙ ap (λ b. behind b c.args.lines.now) (sym flag))
           (leaves_all _ _ _ c.in_ok-feed.ensures.fed);
       first = λ e. flag;
@@ -32,14 +32,14 @@ pub returns-in_err-feed_line-clause-fed : goal.returns-in_err-feed_line-clause-f
 returns-in_err-feed_line-clause-fed c =
     let p = err_from_is_err_and c.from_residual-in_err-feed_line.result
     c.from_residual-in_err-feed_line.ensures.1 in
-    let next = next_line _ _ _ _ c.loop-line-test.true c.line-item.is in
+    let next = next_line c.loop-line.parser.after_line _ _ _ c.loop-line-test.true c.line-item.is in
     rw (p.1, p.2)
     (ends_early _ c.loop-line.parser _ _ _ _ _ _ c.loop-line.invariant.leaves next
     (rw c.as_bytes.ensures.bytes at c.in_err-feed_line.ensures.fed))
 
 pub loop-line-preserved : goal.loop-line-preserved
 loop-line-preserved c =
-    let next = next_line _ _ _ _ c.loop-line-test.true c.line-item.is in
+    let next = next_line c.loop-line.parser.after_line _ _ _ c.loop-line-test.true c.line-item.is in
     let after = c.in_ok-feed_line.ensures.lines in
     record {
       leaves =
