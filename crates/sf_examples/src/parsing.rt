@@ -84,10 +84,7 @@ fn a_refusal(rt: HostRuntime) -> Result<(), Fail> {
     };
     assert_eq!(&rt; refusal, wanted);
     let line = refusal.to_string(alloc)?;
-    assert_eq!(&rt;
-        line.as_str(),
-        "byte 0x32 '2' at place 2, expected a space or the end"
-    );
+    assert_eq!(&rt; line.as_str(), "byte 32 at place 2, expected 20 or the end");
     Ok(())
 }
 

@@ -14,7 +14,6 @@ pub mod Taking
 pub mod Takes
 pub mod RefusalTexts
 pub mod ByteSets
-pub mod ByteWords
 pub mod PieceEnds
 pub mod SeriesView
 pub mod EntryView

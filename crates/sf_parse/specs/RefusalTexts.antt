@@ -1,7 +1,6 @@
 -- What a refusal says of itself.
 use Rattle.std.specs.Prelude.{ℕ, Bool, true, false, List, [], ◌++◌, Some, None, codes, decimal}
-use Rattle.sf_parse.specs.ByteSets.{runs_of}
-use Rattle.sf_parse.specs.ByteWords.{found_name, listed}
+use Rattle.sf_parse.specs.ByteSets.{hex_byte, runs_of, set_text}
 use Rattle.sf_parse.specs.declared.refusal.Refusal.{Refusal}
 use Rattle.sf_parse.specs.declared.refusal.Refusal.TheVariants.{OutOfMemory, Syntax, TooLong}
 use Rattle.sf_parse.specs.declared.refusal.Refusal.TheVariants.{ReadFault}
@@ -14,13 +13,13 @@ end_text false = []
 -- what could have come
 abbrev pub expected_text : ℕ → Bool → List ℕ
 expected_text expected may_end =
-    codes ", expected" ++ (listed (codes " ") (runs_of expected) ++ end_text may_end)
+    codes ", expected" ++ (set_text (runs_of expected) ++ end_text may_end)
 
 -- the line of a refusal
 abbrev pub refusal_text : Refusal → List ℕ
 refusal_text OutOfMemory = codes "out of memory"
 refusal_text (Syntax place (Some b) expected may_end) =
-    codes "byte " ++ (found_name b ++ (codes " at place " ++ (decimal place
+    codes "byte " ++ (hex_byte b ++ (codes " at place " ++ (decimal place
     ++ expected_text expected may_end)))
 refusal_text (Syntax place None expected may_end) =
     codes "the text ended at place " ++ (decimal place ++ expected_text expected may_end)

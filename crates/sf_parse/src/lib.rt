@@ -42,7 +42,6 @@ mod shown;
 mod state;
 mod text;
 mod top;
-mod words;
 
 pub use expected::{Runs, runs_of};
 pub use parse::{parse_dict, parse_item, parse_list, parse_text, parse_text_in};

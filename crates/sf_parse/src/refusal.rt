@@ -3,7 +3,7 @@ ghost use Rattle.std.specs.Prelude.{◌≡◌, Some};
 ghost use Rattle.sf_parse.specs.RefusalTexts.{refusal_text};
 ghost use Rattle.sf_parse.specs.declared.refusal.Refusal.TheVariants as refusal_is;
 
-use crate::words::{Found, Listed};
+use crate::expected::{ByteSet, Hex};
 use sf_value::OutOfMemory;
 use std::error::Error;
 use std::fmt;
@@ -46,8 +46,8 @@ pub enum Refusal {
     },
 }
 
-/// One line, as `byte 0x32 '2' at place 2, expected a space or the end`: what could have come is
-/// told by runs of bytes, whole classes by their names.
+/// One line, as `byte 32 at place 2, expected 20 or the end`: bytes stand as two hexadecimal
+/// digits, runs of them as `30-39`, places and lengths in decimal.
 impl fmt::Display for Refusal {
     ghost output = { λ refusal. Some (refusal_text refusal) };
 
@@ -60,11 +60,11 @@ impl fmt::Display for Refusal {
                 expected,
                 may_end,
             } => {
-                let set = Listed { set: expected };
+                let set = ByteSet { set: expected };
                 let end = if may_end { " or the end" } else { "" };
                 match found {
                     Some(byte) => {
-                        let byte = Found { byte };
+                        let byte = Hex { byte };
                         write!(f, "byte {byte} at place {place}, expected{set}{end}")
                     }
                     None => write!(f, "the text ended at place {place}, expected{set}{end}"),
