@@ -53,7 +53,8 @@ impl From<OutOfMemory> for SetFault {
 pub fn header_value(alloc: Global, field: &Field) -> Result<HeaderValue, OutOfMemory>
     ensures { IfOk result (λ value. value ≡ plain_value (canon field.now)) }
 {
-    match HeaderValue::from_vec(to_text(alloc, field)?) {
+    let text = to_text(alloc, field)?;
+    match HeaderValue::from_vec(text) {
         Ok(value) => Ok(value),
         Err(HeaderValueError::Invalid) => unreachable!(),
         Err(HeaderValueError::OutOfMemory) => Err(OutOfMemory),

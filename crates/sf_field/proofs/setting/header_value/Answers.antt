@@ -8,5 +8,5 @@ pub unreachable-requires : goal.unreachable-requires
 unreachable-requires c =
     let refused = rw c.in-Err-Invalid.field-0-is at c.in-Err-Invalid.ensures.invalid in
     refused.0 refl
-    (spelled_value Rfc9651 (kind_of c.args.field.now) c.args.field.now c.in_ok-to_text.field-0.items
-    c.in_ok-to_text.ensures.spells)
+    (spelled_value Rfc9651 (kind_of c.args.field.now) c.args.field.now c.in_ok-text.text.items
+    c.in_ok-text.ensures.spells)
