@@ -1,7 +1,10 @@
 //! Lines and header maps with their answers.
 use http_header::{HeaderMap, HeaderName, HeaderValue};
-use sf_field::{from_headers, normalise_lines, parse_lines, parse_lines_in};
-use sf_parse::Refusal;
+use sf_field::{
+    from_headers, header_value, normalise_lines, parse_dict_lines, parse_item_lines, parse_lines,
+    parse_lines_in, parse_list_lines, set_field,
+};
+use sf_parse::{Parser, Refusal, parse_dict, parse_item, parse_list, parse_text};
 use sf_value::{Blob, Dialect, Field, Kind};
 use sf_write::to_text;
 use std::alloc::Global;
@@ -210,5 +213,77 @@ fn parses_header_maps(rt: HostRuntime) -> Result<(), Fail> {
         let headers = headers_of(alloc, name, &values)?;
         check(&rt, spelled_under(alloc, &seed, &headers), want)?;
     }
+    Ok(())
+}
+
+#[test]
+fn texts_of_a_known_kind(rt: HostRuntime) -> Result<(), Fail> {
+    let alloc = rt.alloc();
+    let seed = RandomState::new(&rt)?;
+    let item = parse_item(alloc, &seed, b"a;q=1")?;
+    assert!(rt; item.param(b"q").is_some());
+    assert_eq!(rt; parse_list(alloc, &seed, b"a, (b c)")?.members.len(), 2);
+    assert_eq!(rt; parse_dict(alloc, &seed, b"u=1, i")?.members.len(), 2);
+    assert!(rt; parse_item(alloc, &seed, b"a, b").is_err());
+    let lines = lines_of(alloc, &[b"a", b"b"])?;
+    assert_eq!(rt; parse_list_lines(alloc, &seed, &lines)?.members.len(), 2);
+    assert_eq!(rt; parse_dict_lines(alloc, &seed, &lines)?.members.len(), 2);
+    assert!(rt; parse_item_lines(alloc, &seed, &lines).is_err());
+    Ok(())
+}
+
+#[test]
+fn lines_one_by_one(rt: HostRuntime) -> Result<(), Fail> {
+    let alloc = rt.alloc();
+    let seed = RandomState::new(&rt)?;
+    let mut parser = Parser::new(alloc, &seed, Kind::List, u64::MAX);
+    parser.feed_line(b"a")?;
+    parser.feed_line(b"b, c")?;
+    assert_eq!(rt; parser.place(), 7);
+    let field = parser.finish()?;
+    assert!(rt; field == parse_text(alloc, &seed, Kind::List, b"a, b, c")?);
+    // an empty first line stands before a comma, and none may stand there
+    let mut parser = Parser::new(alloc, &seed, Kind::List, u64::MAX);
+    parser.feed_line(b"")?;
+    assert!(rt; parser.feed_line(b"b").is_err());
+    Ok(())
+}
+
+#[test]
+fn a_field_that_is_set(rt: HostRuntime) -> Result<(), Fail> {
+    let alloc = rt.alloc();
+    let seed = RandomState::new(&rt)?;
+    let name = HeaderName::from_static("priority");
+    let mut headers = HeaderMap::new(alloc);
+    headers.append(
+        HeaderName::from_static("priority"),
+        HeaderValue::from_static("u=5"),
+    )?;
+    headers.append(
+        HeaderName::from_static("priority"),
+        HeaderValue::from_static("i"),
+    )?;
+    let field = parse_text(alloc, &seed, Kind::Dict, b"u=1,i")?;
+    assert_eq!(rt;
+        header_value(alloc, &field)?.as_bytes(),
+        b"u=1, i".as_slice()
+    );
+    set_field(
+        alloc,
+        &mut headers,
+        HeaderName::from_static("priority"),
+        &field,
+    )?;
+    assert_eq!(rt; headers.get_all(&name).iter().count(), 1);
+    let read = from_headers(alloc, &seed, Kind::Dict, &headers, &name)?;
+    assert!(rt; read.ok_or("absent")? == field);
+    let none = parse_text(alloc, &seed, Kind::Dict, b"")?;
+    set_field(
+        alloc,
+        &mut headers,
+        HeaderName::from_static("priority"),
+        &none,
+    )?;
+    assert!(rt; !headers.contains_key(&name));
     Ok(())
 }

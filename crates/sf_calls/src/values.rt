@@ -5,5 +5,6 @@ mod entries;
 mod faults;
 mod fields;
 mod forms;
+mod lookups;
 mod sequences;
 mod texts;

@@ -1,6 +1,6 @@
 //! Values that are built, compared and written.
 use sf_parse::parse_text;
-use sf_value::{Bare, Entries, Field, Int, Item, Key, Kind, OutOfMemory, Token, Writing, same};
+use sf_value::{Bare, Field, Int, Item, Key, Kind, Token, Writing};
 use sf_write::write_field;
 use std::alloc::Global;
 use std::hash::RandomState;
@@ -8,16 +8,11 @@ use std::test::Fail;
 
 /// The Item `a;q=1`.
 fn build(alloc: Global, seed: &RandomState) -> Result<Field, Fail> {
-    let mut params = Entries::new(alloc, seed);
-    if params
-        .put(Key::new(alloc, b"q")?, Bare::Integer(Int::new(1)?))
-        .is_err()
-    {
-        return Err(OutOfMemory.into());
-    }
-    let bare = Bare::Token(Token::new(alloc, b"a")?);
-    let field = Field::Item(Item { bare, params });
-    Ok(field)
+    let item = Item::new(alloc, seed, Token::new(alloc, b"a")?.into()).with_param(
+        Key::new(alloc, b"q")?,
+        Bare::Integer(Int::from(1)),
+    )?;
+    Ok(item.into())
 }
 
 #[test]
@@ -38,8 +33,8 @@ fn equal_values(rt: HostRuntime) -> Result<(), Fail> {
     let seed = RandomState::new(&rt)?;
     let field = build(alloc, &seed)?;
     let parsed = parse_text(alloc, &seed, Kind::Item, b" a;  q=01")?;
-    assert!(&rt; same(&field, &parsed));
+    assert!(&rt; field == parsed);
     let list = parse_text(alloc, &seed, Kind::List, b"a;q=1")?;
-    assert!(&rt; !same(&field, &list));
+    assert!(&rt; field != list);
     Ok(())
 }

@@ -3,6 +3,9 @@ use Rattle.std.specs.Prelude.{ℕ, List, ◌++◌, codes, decimal}
 use Rattle.sf_parse.specs.RefusalTexts.{refusal_text}
 use Rattle.sf_field.specs.declared.consumer.UseFault.{UseFault}
 use Rattle.sf_field.specs.declared.consumer.UseFault.TheVariants.{NotACache, OutOfMemory}
+use Rattle.sf_field.specs.declared.setting.SetFault.{SetFault}
+use Rattle.sf_field.specs.declared.setting.SetFault.TheVariants.{Full}
+use Rattle.sf_field.specs.declared.setting.SetFault.TheVariants as set_fault
 use Rattle.sf_field.specs.declared.asking.AskFault.{AskFault}
 use Rattle.sf_field.specs.declared.asking.AskFault.TheVariants.{Field, Answer}
 
@@ -15,3 +18,7 @@ use_fault_text OutOfMemory = codes "out of memory"
 abbrev pub ask_fault_text : AskFault → List ℕ
 ask_fault_text (Field refusal) = refusal_text refusal
 ask_fault_text (Answer fault) = use_fault_text fault
+
+abbrev pub set_fault_text : SetFault → List ℕ
+set_fault_text Full = codes "no room for a further name"
+set_fault_text set_fault.OutOfMemory = codes "out of memory"

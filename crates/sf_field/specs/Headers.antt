@@ -1,7 +1,7 @@
 -- The field lines of a name in a header map.
-use Rattle.std.specs.Prelude.{ℕ, List, map, Option, Some, None, Result, Ok, Err}
-use Rattle.http_header.specs.FieldValue.{FieldValue}
-use Rattle.http_header.specs.HeaderMap.{ContainsKey, Entries, get_all}
+use Rattle.std.specs.Prelude.{ℕ, List, [], ◌∷◌, map, Option, Some, None, Result, Ok, Err}
+use Rattle.http_header.specs.FieldValue.{FieldValue, plain_value}
+use Rattle.http_header.specs.HeaderMap.{ContainsKey, Entries, get_all, insert, remove}
 use Rattle.sf_value.specs.declared.dialect.Dialect.TheVariants.{Rfc9651}
 use Rattle.sf_value.specs.declared.value.Field.{Field}
 use Rattle.sf_value.specs.declared.value.Kind.{Kind}
@@ -23,3 +23,8 @@ ParsesHeaders kind headers name (Ok (Some v)) =
     ContainsKey headers name × ParsesLines Rfc9651 kind (lines_under headers name) (Ok v)
 ParsesHeaders kind headers name (Err e) =
     ContainsKey headers name × ParsesLines Rfc9651 kind (lines_under headers name) (Err e)
+
+-- the map with this text as the only value under the name; the empty text is not sent
+abbrev pub set_text : Headers → List ℕ → List ℕ → Headers
+set_text headers name [] = remove headers name
+set_text headers name (b ∷ text) = insert headers name (plain_value (b ∷ text))

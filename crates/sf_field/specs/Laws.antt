@@ -1,5 +1,6 @@
 -- The laws of normal texts. Each stands as the contract of a function in `src/laws.rt`.
 use Rattle.std.specs.Prelude.{◌≡◌, ℕ, ◌^◌, ◌<◌, ◌↔◌, List, [], ◌∷◌, length, Result, Ok, Err, ⊤}
+use Rattle.std.specs.Prelude.{Option, Some, None}
 use Rattle.sf_value.specs.declared.dialect.Dialect.{Dialect}
 use Rattle.sf_value.specs.declared.value.Field.{Field}
 use Rattle.sf_value.specs.declared.value.Kind.{Kind}
@@ -11,6 +12,8 @@ use Rattle.sf_parse.specs.declared.refusal.Refusal.{Refusal}
 use Rattle.sf_parse.specs.declared.refusal.Refusal.TheVariants.{OutOfMemory, Syntax, TooLong}
 use Rattle.sf_parse.specs.declared.refusal.Refusal.TheVariants.{ReadFault}
 use Rattle.sf_parse.specs.Parsers.{IsOnly, Parses}
+use Rattle.sf_value.specs.declared.dialect.Dialect.TheVariants.{Rfc9651}
+use Rattle.sf_field.specs.Headers.{Headers, ParsesHeaders, set_text}
 use Rattle.sf_field.specs.Lines.{ParsesLines}
 use Rattle.sf_field.specs.Normal.{NormalisesTo}
 
@@ -68,3 +71,18 @@ abbrev pub BuiltLineIsParsed : Type 0
 BuiltLineIsParsed =
     (d : Dialect) (kind : Kind) (v : Field) → Valid d kind v → length (canon v) < 2 ^ 64
     → (r : Result Field Refusal) → ParsesLines d kind (canon v ∷ []) r → IsBack v r
+
+-- a header map that was set gives the value back, memory aside
+abbrev pub IsReadBack : Field → Result (Option Field) Refusal → Type 0
+IsReadBack v (Ok None) = ⊥
+IsReadBack v (Ok (Some w)) = w ≡ v
+IsReadBack v (Err e) = IsBack v (Err e)
+
+-- a field that is set in a header map is read from it again, where it is sent and its text is
+-- shorter than 2^64 bytes
+abbrev pub SetIsRead : Type 0
+SetIsRead =
+    (headers : Headers) (name : List ℕ) (kind : Kind) (v : Field)
+    → Valid Rfc9651 kind v → 0 < length (canon v) → length (canon v) < 2 ^ 64
+    → (r : Result (Option Field) Refusal)
+    → ParsesHeaders kind (set_text headers name (canon v)) name r → IsReadBack v r

@@ -4,6 +4,7 @@ ghost use Rattle.sf_value.specs.Grammar.Words.{Every};
 ghost use Rattle.sf_value.specs.declared.value.Kind.TheVariants as kind_is;
 ghost use Rattle.sf_parse.specs.Plain.{plain_byte};
 ghost use Rattle.sf_field.specs.Faults.{ask_fault_text};
+ghost use Rattle.sf_field.specs.declared.asking.AskFault.TheVariants as fault_is;
 ghost use Rattle.sf_field.specs.Asking.{Asks, MeansAsCanonical, ParsedOrRefused};
 
 use crate::consumer::{Consumer, UseFault};
@@ -46,6 +47,22 @@ impl fmt::Display for AskFault {
 
 impl Error for AskFault {}
 
+impl From<Refusal> for AskFault {
+    ghost from_gives = { λ refusal e. e ≡ fault_is.Field refusal };
+
+    fn from(refusal: Refusal) -> AskFault {
+        AskFault::Field(refusal)
+    }
+}
+
+impl From<UseFault> for AskFault {
+    ghost from_gives = { λ fault e. e ≡ fault_is.Answer fault };
+
+    fn from(fault: UseFault) -> AskFault {
+        AskFault::Answer(fault)
+    }
+}
+
 /// What the lines mean to a consumer: they are parsed as its kind, as [`crate::parse_lines`] does,
 /// and the value is answered. Accepted lines and their canonical text, as one line, mean the same.
 /// Want of memory for the answer is told only where the value has one. A single line of spaces, `-`
@@ -65,14 +82,8 @@ pub fn ask<C: Consumer>(
     ensures plain { C.KIND ≡ kind_is.Item → (line : List ℕ) → lines.now ≡ line ∷ []
         → Every plain_byte line → ParsedOrRefused result }
 {
-    let field = match parse_lines(alloc, seed, C::KIND, lines) {
-        Ok(field) => field,
-        Err(refusal) => return Err(AskFault::Field(refusal)),
-    };
+    let field = parse_lines(alloc, seed, C::KIND, lines)?;
     let answer = consumer.answer(alloc, &field);
     drop(field);
-    match answer {
-        Ok(answer) => Ok(answer),
-        Err(fault) => Err(AskFault::Answer(fault)),
-    }
+    Ok(answer?)
 }

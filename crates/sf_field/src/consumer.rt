@@ -4,9 +4,10 @@ ghost use Rattle.sf_value.specs.declared.value.Field.{Field};
 ghost use Rattle.sf_value.specs.declared.value.Kind.{Kind};
 ghost use Rattle.sf_value.specs.Grammar.Fields.{kind_of};
 ghost use Rattle.sf_field.specs.Faults.{use_fault_text};
+ghost use Rattle.sf_field.specs.declared.consumer.UseFault.TheVariants as fault_is;
 ghost use Rattle.sf_field.specs.Meaning.{Gives};
 
-use sf_value::{Field, Kind};
+use sf_value::{Field, Kind, OutOfMemory};
 use std::alloc::Global;
 use std::error::Error;
 use std::fmt;
@@ -36,6 +37,14 @@ impl fmt::Display for UseFault {
 }
 
 impl Error for UseFault {}
+
+impl From<OutOfMemory> for UseFault {
+    ghost from_gives = { λ _ e. e ≡ fault_is.OutOfMemory };
+
+    fn from(_fault: OutOfMemory) -> UseFault {
+        UseFault::OutOfMemory
+    }
+}
 
 /// What reads a field of one kind, and answers what it means.
 ///

@@ -1,5 +1,5 @@
 //! Field lines in a header map.
-ghost use Rattle.std.specs.Prelude.{◌≡◌, ℕ, List, [], ◌∷◌, IfErr};
+ghost use Rattle.std.specs.Prelude.{◌≡◌, ℕ, List, [], ◌∷◌, false, IfErr};
 ghost use Rattle.sf_value.specs.Grammar.Lines.{join};
 ghost use Rattle.sf_value.specs.Grammar.Words.{Every};
 ghost use Rattle.sf_value.specs.declared.value.Kind.TheVariants as kind_is;
@@ -14,21 +14,18 @@ use sf_value::{Field, Kind};
 use std::alloc::Global;
 use std::hash::RandomState;
 
-// Feeds the joined text of the values of the name.
+// Feeds the joined text of the values of the name, which is empty where there is none.
 fn feed_values(parser: &mut Parser, headers: &HeaderMap, name: &HeaderName) -> Result<(), Refusal>
+    requires { parser.old.after_line ≡ false }
     ensures fed { Fed parser.old parser.new result (join (lines_under headers.now name.now)) }
     ensures plain { IsPlain parser.old → (value : List ℕ)
         → lines_under headers.now name.now ≡ value ∷ [] → Every plain_byte value
         → KeptPlain parser.new result }
 {
-    let mut values = headers.get_all(name).iter();
-    let Some(first) = values.next() else {
-        return parser.feed(b"");
-    };
-    parser.feed(first.as_bytes())?;
+    parser.feed(b"")?;
+    let values = headers.get_all(name).iter();
     for value in values {
-        parser.feed(b", ")?;
-        parser.feed(value.as_bytes())?;
+        parser.feed_line(value.as_bytes())?;
     }
     Ok(())
 }

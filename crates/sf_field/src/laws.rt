@@ -1,6 +1,6 @@
 //! The laws of normal texts, each as the contract of a function that does nothing.
 ghost use Rattle.sf_field.specs.Laws.{CanonSettles, EqualByText, NormalIsOne, TwiceIsOnce};
-ghost use Rattle.sf_field.specs.Laws.{BuiltSpells, BuiltIsParsed, BuiltLineIsParsed};
+ghost use Rattle.sf_field.specs.Laws.{BuiltSpells, BuiltIsParsed, BuiltLineIsParsed, SetIsRead};
 
 /// Normalising twice is normalising once. In each dialect the canonical text of what lines spell is
 /// accepted, as the only line, as that value alone.
@@ -22,4 +22,10 @@ pub fn built_reads_back()
     ensures spells { BuiltSpells }
     ensures text { BuiltIsParsed }
     ensures line { BuiltLineIsParsed }
+{}
+
+/// A field that is set in a header map is read from it again, memory aside: [`crate::from_headers`]
+/// gives the value that [`crate::set_field`] was handed.
+pub fn set_is_read()
+    ensures { SetIsRead }
 {}

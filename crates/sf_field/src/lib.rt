@@ -10,8 +10,12 @@ mod consumer;
 mod headers;
 pub mod laws;
 mod lines;
+mod setting;
+mod typed;
 
 pub use asking::{AskFault, ask};
 pub use consumer::{Consumer, UseFault};
 pub use headers::from_headers;
 pub use lines::{normalise_lines, parse_lines, parse_lines_in};
+pub use setting::{SetFault, header_value, set_field};
+pub use typed::{parse_dict_lines, parse_item_lines, parse_list_lines};

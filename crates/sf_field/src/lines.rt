@@ -1,5 +1,5 @@
 //! Field lines.
-ghost use Rattle.std.specs.Prelude.{◌≡◌, ℕ, List, [], ◌∷◌, MatchResult, Err};
+ghost use Rattle.std.specs.Prelude.{◌≡◌, ℕ, List, [], ◌∷◌, false, MatchResult, Err};
 ghost use Rattle.sf_value.specs.Grammar.Lines.{join};
 ghost use Rattle.sf_value.specs.Grammar.Words.{Every};
 ghost use Rattle.sf_value.specs.declared.dialect.Dialect.TheVariants.{Rfc9651};
@@ -16,19 +16,16 @@ use sf_write::to_text;
 use std::alloc::Global;
 use std::hash::RandomState;
 
-// Feeds the joined text of the lines.
+// Feeds the joined text of the lines, which is empty where there is none.
 fn feed_lines(parser: &mut Parser, lines: &[Blob]) -> Result<(), Refusal>
+    requires { parser.old.after_line ≡ false }
     ensures fed { Fed parser.old parser.new result (join lines.now) }
     ensures plain { IsPlain parser.old → (line : List ℕ) → lines.now ≡ line ∷ []
         → Every plain_byte line → KeptPlain parser.new result }
 {
-    let Some((first, others)) = lines.split_first() else {
-        return parser.feed(b"");
-    };
-    parser.feed(first.as_bytes())?;
-    for line in others {
-        parser.feed(b", ")?;
-        parser.feed(line.as_bytes())?;
+    parser.feed(b"")?;
+    for line in lines {
+        parser.feed_line(line.as_bytes())?;
     }
     Ok(())
 }

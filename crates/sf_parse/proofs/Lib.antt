@@ -38,3 +38,4 @@ pub mod PlainSteps
 pub mod RunSteps
 pub mod SetRuns
 pub mod HexDigits
+pub mod FedLines

@@ -21,6 +21,8 @@ pub record Progress : Type 0 where
   pub state : State
   pub count : ℕ
   pub refusal : Option Refusal
+  -- a field line was fed to it
+  pub after_line : Bool
 
 -- it took the text s and refused nothing: its count is the length of s, and what completes its
 -- state completes s
@@ -94,6 +96,11 @@ pub record Fed (old new : Progress) (result : Result (Unit {0}) Refusal) (x : Li
   pub counted : new.count ≤ old.count + length x
   pub answer : FedAnswer old new result x
 
+-- a field line as it stands in the joined text: behind another one a comma and a space come first
+abbrev pub in_line : Bool → List ℕ → List ℕ
+in_line true line = 44 ∷ 32 ∷ line
+in_line false line = line
+
 -- the text s is ended
 abbrev pub Finishes : Dialect → Kind → List ℕ → Result Field Refusal → Type 0
 Finishes d kind s (Ok v) = IsOnly d kind s v
@@ -114,3 +121,9 @@ Parses d kind t (Err (Syntax place (Some b) expected may_end)) =
     IsSyntax d kind t place (Some b) expected may_end
 Parses d kind t (Err (TooLong limit)) = ⊥
 Parses d kind t (Err (ReadFault place)) = ⊥
+
+-- the whole text t is parsed as a field of one kind, and the answer is what the field is made of
+abbrev pub ParsesAs : {A : Type 0} → (A → Field) → Dialect → Kind → List ℕ → Result A Refusal
+    → Type 0
+ParsesAs make d kind t (Ok v) = IsOnly d kind t (make v)
+ParsesAs make d kind t (Err e) = Parses d kind t (Err e)

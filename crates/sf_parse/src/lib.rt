@@ -44,7 +44,7 @@ mod text;
 mod top;
 
 pub use expected::{Runs, runs_of};
-pub use parse::{parse_text, parse_text_in};
+pub use parse::{parse_dict, parse_item, parse_list, parse_text, parse_text_in};
 pub use parser::Parser;
 pub use reader::parse_reader;
 pub use refusal::Refusal;

@@ -1,15 +1,16 @@
 //! Whole texts.
-ghost use Rattle.std.specs.Prelude.{◌≡◌};
+ghost use Rattle.std.specs.Prelude.{◌≡◌, IfErr};
 ghost use Rattle.sf_value.specs.Grammar.Words.{Every};
 ghost use Rattle.sf_value.specs.declared.dialect.Dialect.TheVariants.{Rfc9651};
+ghost use Rattle.sf_value.specs.declared.value.Field.TheVariants as field_is;
 ghost use Rattle.sf_value.specs.declared.value.Kind.TheVariants as kind_is;
-ghost use Rattle.sf_parse.specs.Parsers.{Parses};
+ghost use Rattle.sf_parse.specs.Parsers.{Parses, ParsesAs};
 ghost use Rattle.sf_parse.specs.Plain.{plain_byte};
-ghost use Rattle.sf_parse.specs.PlainParsers.{NotForMemory};
+ghost use Rattle.sf_parse.specs.PlainParsers.{IsOther, NotForMemory};
 
 use crate::parser::Parser;
 use crate::refusal::Refusal;
-use sf_value::{Dialect, Field, Kind};
+use sf_value::{Dialect, Dict, Field, Item, Kind, List};
 use std::alloc::Global;
 use std::hash::RandomState;
 
@@ -50,4 +51,57 @@ pub fn parse_text_in(
     let mut parser = Parser::new_in(alloc, seed, dialect, kind, max);
     parser.feed(text)?;
     parser.finish()
+}
+
+/// The Item that the text spells, in the dialect of RFC 9651 (section 4.2), as [`parse_text`] gives
+/// it where an Item is asked for. A text of spaces,
+/// `-` and digits takes no memory.
+///
+/// ```
+/// let item = parse_item(alloc, &seed, b"a;q=1")?;
+/// item.param(b"q") // Some(1)
+/// ```
+pub fn parse_item(alloc: Global, seed: &RandomState, text: &[u8]) -> Result<Item, Refusal>
+    ensures parses { ParsesAs field_is.Item Rfc9651 kind_is.Item text.now result }
+    ensures plain { Every plain_byte text.now → IfErr result IsOther }
+{
+    match parse_text(alloc, seed, Kind::Item, text)? {
+        Field::Item(item) => Ok(item),
+        Field::List(_) => unreachable!(),
+        Field::Dict(_) => unreachable!(),
+    }
+}
+
+/// The List that the text spells, in the dialect of RFC 9651 (section 4.2), as [`parse_text`] gives
+/// it where a List is asked for.
+///
+/// ```
+/// let list = parse_list(alloc, &seed, b"a, (b c)")?;
+/// list.members.len() // 2
+/// ```
+pub fn parse_list(alloc: Global, seed: &RandomState, text: &[u8]) -> Result<List, Refusal>
+    ensures { ParsesAs field_is.List Rfc9651 kind_is.List text.now result }
+{
+    match parse_text(alloc, seed, Kind::List, text)? {
+        Field::List(list) => Ok(list),
+        Field::Item(_) => unreachable!(),
+        Field::Dict(_) => unreachable!(),
+    }
+}
+
+/// The Dictionary that the text spells, in the dialect of RFC 9651 (section 4.2), as [`parse_text`] gives
+/// it where a Dictionary is asked for.
+///
+/// ```
+/// let dict = parse_dict(alloc, &seed, b"u=1, i")?;
+/// dict.get(b"u") // Some(1)
+/// ```
+pub fn parse_dict(alloc: Global, seed: &RandomState, text: &[u8]) -> Result<Dict, Refusal>
+    ensures { ParsesAs field_is.Dict Rfc9651 kind_is.Dict text.now result }
+{
+    match parse_text(alloc, seed, Kind::Dict, text)? {
+        Field::Dict(dict) => Ok(dict),
+        Field::Item(_) => unreachable!(),
+        Field::List(_) => unreachable!(),
+    }
 }

@@ -1,11 +1,11 @@
 //! The parser that is handed pieces.
 ghost use Rattle.std.specs.Prelude.{◌≡◌, ℕ, ◌+◌, ◌<◌, ◌≤◌, List, [], ◌∷◌, length, true, Some, None};
-ghost use Rattle.std.specs.Prelude.{IfSome, IfNone, IfOk, Err, MatchResult};
+ghost use Rattle.std.specs.Prelude.{IfSome, IfNone, IfOk, OnOk, Err, MatchResult, false};
 ghost use Rattle.sf_value.specs.Grammar.Words.{Every};
 ghost use Rattle.sf_value.specs.declared.dialect.Dialect.TheVariants as dialect_is;
 ghost use Rattle.sf_value.specs.declared.value.Kind.TheVariants as kind_is;
 ghost use Rattle.sf_parse.specs.Fronts.{FirstIs, Halts};
-ghost use Rattle.sf_parse.specs.Parsers.{Took, StandsAt, Fed, Finishes};
+ghost use Rattle.sf_parse.specs.Parsers.{Took, StandsAt, Fed, Finishes, in_line};
 ghost use Rattle.sf_parse.specs.Feeding.{FedTo, TakenPlain};
 ghost use Rattle.sf_parse.specs.Plain.{plain_byte};
 ghost use Rattle.sf_parse.specs.PlainParsers.{IsPlain, IsOther, KeptPlain, NotForMemory};
@@ -17,6 +17,7 @@ use crate::refusal::Refusal;
 use crate::state::FieldState;
 use sf_value::{Dialect, Field, Kind};
 use std::alloc::Global;
+use std::fmt;
 use std::hash::RandomState;
 use std::marker::Model;
 
@@ -37,6 +38,7 @@ pub struct Parser {
     state: FieldState,
     count: u64,
     refusal: Option<Refusal>,
+    after_line: bool,
 }
 
 impl Model for Parser {
@@ -45,7 +47,7 @@ impl Model for Parser {
 
     ghost Value = { Progress };
 
-    ghost view = { λ p. record { dialect = p.context.dialect; kind = p.kind; max = p.max; state = state_of p.state; count = p.count; refusal = p.refusal } };
+    ghost view = { λ p. record { dialect = p.context.dialect; kind = p.kind; max = p.max; state = state_of p.state; count = p.count; refusal = p.refusal; after_line = p.after_line } };
 
     ghost invariant = { λ p. Sound p.refusal (state_of p.state) p.count p.max };
 }
@@ -60,7 +62,20 @@ impl Drop for Parser {
             state: _,
             count: _,
             refusal: _,
+            after_line: _,
         } = self;
+    }
+}
+
+/// The settings and the place, not what was read nor the seed.
+impl fmt::Debug for Parser {
+    fn fmt<W: fmt::Write>(&self, f: &mut fmt::Formatter<W>) -> fmt::Result {
+        f.debug_struct("Parser")
+            .field("kind", &self.kind)
+            .field("max", &self.max)
+            .field("place", &self.count)
+            .field("refusal", &self.refusal)
+            .finish()
     }
 }
 
@@ -72,6 +87,7 @@ impl Parser {
         ensures kind { result.kind ≡ kind }
         ensures max { result.max ≡ max }
         ensures took { Took result [] }
+        ensures lines { result.after_line ≡ false }
         ensures plain { kind ≡ kind_is.Item → IsPlain result }
     {
         Parser::new_in(alloc, seed, Dialect::Rfc9651, kind, max)
@@ -90,6 +106,7 @@ impl Parser {
         ensures kind { result.kind ≡ kind }
         ensures max { result.max ≡ max }
         ensures took { Took result [] }
+        ensures lines { result.after_line ≡ false }
         ensures plain { kind ≡ kind_is.Item → IsPlain result }
     {
         let context = Context {
@@ -104,6 +121,7 @@ impl Parser {
             state: FieldState::begin(&context, kind),
             count: 0,
             refusal: None,
+            after_line: false,
         }
     }
 
@@ -123,6 +141,7 @@ impl Parser {
             (λ e. Fed self.old self.new (Err e) front.now) }
         ensures counted { IfOk result (λ rest. self.new.count + length rest.now
             ≡ self.old.count + length front.now) }
+        ensures lines { self.new.after_line ≡ self.old.after_line }
         ensures stops { IfOk result (λ rest. FirstIs (Halts (step_of self.new.dialect)
             self.new.state) rest.now) }
         ensures plain { IsPlain self.old → Every plain_byte front.now → TakenPlain self.new result }
@@ -144,6 +163,7 @@ impl Parser {
         requires stops { self.old.count < self.old.max
             → Halts (step_of self.old.dialect) self.old.state byte }
         ensures fed { Fed self.old self.new (Err result) (byte ∷ []) }
+        ensures lines { self.new.after_line ≡ self.old.after_line }
         ensures other { IsOther result }
     {
         if self.count >= self.max {
@@ -165,6 +185,7 @@ impl Parser {
     /// to every later call, whatever the piece.
     pub fn feed(&mut self, piece: &[u8]) -> Result<(), Refusal>
         ensures fed { Fed self.old self.new result piece.now }
+        ensures lines { self.new.after_line ≡ self.old.after_line }
         ensures again { IfSome self.old.refusal (λ e. (result ≡ Err e) × (self.new ≡ self.old)) }
         ensures plain { IsPlain self.old → Every plain_byte piece.now → KeptPlain self.new result }
     {
@@ -180,6 +201,37 @@ impl Parser {
         if let Some((byte, _)) = back.split_first() {
             return Err(self.refuse(*byte));
         }
+        Ok(())
+    }
+
+    fn mark_line(&mut self)
+        ensures { self.new ≡ record self.old { after_line = true } }
+    {
+        self.after_line = true;
+    }
+
+    /// Takes the next field line, or refuses the text: as `feed` does of the line, behind a comma
+    /// and a space where a line was fed before, so that the whole text is that of the lines joined
+    /// (RFC 9651 section 4.2). A parser that refused once gives the same refusal again.
+    ///
+    /// ```
+    /// parser.feed_line(b"a, b")?;
+    /// parser.feed_line(b"c")?;
+    /// parser.finish()? // the List a, b, c
+    /// ```
+    pub fn feed_line(&mut self, line: &[u8]) -> Result<(), Refusal>
+        ensures fed { Fed self.old self.new result (in_line self.old.after_line line.now) }
+        ensures lines { OnOk result (self.new.after_line ≡ true) }
+        ensures again { IfSome self.old.refusal (λ e. (result ≡ Err e) × (self.new ≡ self.old)) }
+        ensures plain { IsPlain self.old → self.old.after_line ≡ false → Every plain_byte line.now
+            → KeptPlain self.new result }
+    {
+        if self.after_line {
+            self.feed(b", ")?;
+            return self.feed(line);
+        }
+        self.feed(line)?;
+        self.mark_line();
         Ok(())
     }
 
@@ -222,6 +274,7 @@ impl Parser {
             mut state,
             count: _,
             refusal: _,
+            after_line: _,
         } = self;
         match state.finish(&context) {
             Ok(Some(field)) => Ok(field),

@@ -1,8 +1,10 @@
 //! Why a text is refused.
-ghost use Rattle.std.specs.Prelude.{Some};
+ghost use Rattle.std.specs.Prelude.{◌≡◌, Some};
 ghost use Rattle.sf_parse.specs.RefusalTexts.{refusal_text};
+ghost use Rattle.sf_parse.specs.declared.refusal.Refusal.TheVariants as refusal_is;
 
 use crate::expected::{ByteSet, Hex};
+use sf_value::OutOfMemory;
 use std::error::Error;
 use std::fmt;
 
@@ -75,3 +77,11 @@ impl fmt::Display for Refusal {
 }
 
 impl Error for Refusal {}
+
+impl From<OutOfMemory> for Refusal {
+    ghost from_gives = { λ _ e. e ≡ refusal_is.OutOfMemory };
+
+    fn from(_fault: OutOfMemory) -> Refusal {
+        Refusal::OutOfMemory
+    }
+}

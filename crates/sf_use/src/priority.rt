@@ -58,6 +58,20 @@ impl Urgency {
     }
 }
 
+/// The urgency of this number, as [`Urgency::new`] gives it.
+impl TryFrom<u8> for Urgency {
+    type Error = OutOfRange;
+
+    ghost use Rattle.std.specs.Prelude.{◌<◌};
+    ghost use Rattle.std.specs.Result.{OkIff};
+
+    ghost try_from_gives = { λ n r. OkIff r (n < 8) n };
+
+    fn try_from(number: u8) -> Result<Urgency, OutOfRange> {
+        Urgency::new(number)
+    }
+}
+
 impl Default for Urgency {
     ghost use Rattle.std.specs.Prelude.{◌≡◌};
 
@@ -223,11 +237,8 @@ fn put_item(
     ensures { IfOk result (λ _. members.new ≡ put members.old (letter ∷ []) (plain bare)) }
 {
     let key = Key::first(alloc, letter)?;
-    let params = Entries::new(alloc, seed);
-    match members.put(key, Member::Item(Item { bare, params })) {
-        Ok(_) => Ok(()),
-        Err(_) => Err(OutOfMemory),
-    }
+    let item = Item::new(alloc, seed, bare);
+    members.set(key, item.into())
 }
 
 /// The Dictionary that asks for a priority: `u` where the urgency is not 3, then `i` where it is

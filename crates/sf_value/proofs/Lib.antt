@@ -12,3 +12,4 @@ pub mod SettledWeight
 pub mod LengthBound
 pub mod BothDialects
 pub mod Gives
+pub mod TextBytes

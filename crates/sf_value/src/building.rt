@@ -37,10 +37,8 @@ impl Item {
         ensures { IfOk result (λ more. more ≡ item self.bare (put self.params key value)) }
     {
         let Item { bare, mut params } = self;
-        match params.put(key, value) {
-            Ok(_) => Ok(Item { bare, params }),
-            Err(_) => Err(OutOfMemory),
-        }
+        params.set(key, value)?;
+        Ok(Item { bare, params })
     }
 }
 
@@ -69,10 +67,8 @@ impl Inner {
         ensures { IfOk result (λ more. more ≡ inner (self.items ++ item ∷ []) self.params) }
     {
         let Inner { mut items, params } = self;
-        match items.push(item) {
-            Ok(()) => Ok(Inner { items, params }),
-            Err(_) => Err(OutOfMemory),
-        }
+        items.push(item)?;
+        Ok(Inner { items, params })
     }
 
     /// The Inner List with one more parameter of the whole. The value of a key that is there is
@@ -81,10 +77,8 @@ impl Inner {
         ensures { IfOk result (λ more. more ≡ inner self.items (put self.params key value)) }
     {
         let Inner { items, mut params } = self;
-        match params.put(key, value) {
-            Ok(_) => Ok(Inner { items, params }),
-            Err(_) => Err(OutOfMemory),
-        }
+        params.set(key, value)?;
+        Ok(Inner { items, params })
     }
 }
 
@@ -107,10 +101,8 @@ impl List {
         ensures { IfOk result (λ more. more ≡ record { members = self.members ++ member ∷ [] }) }
     {
         let List { mut members } = self;
-        match members.push(member) {
-            Ok(()) => Ok(List { members }),
-            Err(_) => Err(OutOfMemory),
-        }
+        members.push(member)?;
+        Ok(List { members })
     }
 }
 
@@ -135,9 +127,7 @@ impl Dict {
         ensures { IfOk result (λ more. more ≡ record { members = put self.members key member }) }
     {
         let Dict { mut members } = self;
-        match members.put(key, member) {
-            Ok(_) => Ok(Dict { members }),
-            Err(_) => Err(OutOfMemory),
-        }
+        members.set(key, member)?;
+        Ok(Dict { members })
     }
 }

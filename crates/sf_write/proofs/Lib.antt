@@ -4,3 +4,4 @@ pub mod Runs
 pub mod Base64Text
 pub mod CanonSteps
 pub mod ValidParts
+pub mod AsciiTexts

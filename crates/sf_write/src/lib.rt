@@ -10,6 +10,7 @@
 mod bare;
 mod blobs;
 mod dicts;
+mod display;
 mod field;
 mod items;
 mod length;
@@ -21,5 +22,6 @@ mod shown;
 mod strings;
 
 pub use bare::{bare_text, write_bare, write_bare_from, write_text_from};
+pub use display::to_string;
 pub use field::{to_text, write_field, write_field_from};
 pub use send::{WriteFault, send_all};

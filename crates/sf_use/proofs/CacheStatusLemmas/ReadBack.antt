@@ -20,7 +20,8 @@ use Rattle.sf_use.specs.declared.cache_status.hop.Outcome.{Outcome}
 use Rattle.sf_use.specs.declared.cache_status.hop.Outcome.TheVariants.{Hit, Forwarded, Conflict}
 use Rattle.sf_use.specs.declared.cache_status.hop.Outcome.TheVariants.{Unsaid}
 use Rattle.sf_use.specs.declared.cache_status.hop.Hop.{Hop}
-use Rattle.sf_use.specs.CacheStatus.Parameters.{as_boolean, as_integer, as_name, as_text}
+use Rattle.sf_value.specs.Lookups.{as_boolean, as_integer, as_text}
+use Rattle.sf_use.specs.CacheStatus.Parameters.{as_name}
 use Rattle.sf_use.specs.CacheStatus.Reasons.{forward_of, token_of}
 use Rattle.sf_use.specs.CacheStatus.Hops.{hop_named, hops_of, member_hop, outcome_of, status_of}
 use Rattle.sf_use.specs.CacheStatus.Hops.{passed_by_token}

@@ -2,26 +2,11 @@
 use Rattle.std.specs.Prelude.{ℕ, ℤ, Bool, List, Option, Some, None}
 use Rattle.std.specs.Option.{option_and_then}
 use Rattle.sf_value.specs.declared.value.Bare.{Bare}
-use Rattle.sf_value.specs.declared.value.Bare.TheVariants.{Integer, Text, Token, Boolean}
+use Rattle.sf_value.specs.declared.value.Bare.TheVariants.{Text, Token}
 use Rattle.sf_value.specs.Grammar.Pairs.{Pairs, value_at}
+use Rattle.sf_value.specs.Lookups.{as_boolean, as_integer, as_text, as_token}
 use Rattle.sf_use.specs.declared.cache_status.hop.Name.{Name}
 use Rattle.sf_use.specs.declared.cache_status.hop.Name.TheVariants as name
-
-abbrev pub as_boolean : Bare → Option Bool
-as_boolean (Boolean b) = Some b
-as_boolean other = None
-
-abbrev pub as_integer : Bare → Option ℤ
-as_integer (Integer n) = Some n
-as_integer other = None
-
-abbrev pub as_token : Bare → Option (List ℕ)
-as_token (Token t) = Some t
-as_token other = None
-
-abbrev pub as_text : Bare → Option (List ℕ)
-as_text (Text t) = Some t
-as_text other = None
 
 -- a name: a String or a Token
 abbrev pub as_name : Bare → Option Name

@@ -11,28 +11,19 @@ use std::alloc::Global;
 pub(crate) fn boolean_at(params: &Entries<Bare>, key: &[u8]) -> Option<bool>
     ensures { result ≡ boolean_at key.now params.now }
 {
-    match params.get(key) {
-        Some(Bare::Boolean(boolean)) => Some(*boolean),
-        _ => None,
-    }
+    params.get(key)?.as_boolean()
 }
 
 pub(crate) fn integer_at(params: &Entries<Bare>, key: &[u8]) -> Option<Int>
     ensures { result ≡ integer_at key.now params.now }
 {
-    match params.get(key) {
-        Some(Bare::Integer(integer)) => Some(*integer),
-        _ => None,
-    }
+    params.get(key)?.as_integer()
 }
 
 pub(crate) fn token_at<'a>(params: &'a Entries<Bare>, key: &[u8]) -> Option<&'a Token>
     ensures { option_copied result ≡ token_at key.now params.now }
 {
-    match params.get(key) {
-        Some(Bare::Token(token)) => Some(token),
-        _ => None,
-    }
+    params.get(key)?.as_token()
 }
 
 pub(crate) fn text_at(

@@ -50,3 +50,17 @@ impl HopStatus {
         self.code
     }
 }
+
+/// The status of this code, as [`HopStatus::new`] gives it.
+impl TryFrom<u16> for HopStatus {
+    type Error = OutOfRange;
+
+    ghost use Rattle.std.specs.Prelude.{◌≤◌};
+    ghost use Rattle.std.specs.Result.{OkIff};
+
+    ghost try_from_gives = { λ n r. OkIff r ((100 ≤ n) × (n ≤ 999)) n };
+
+    fn try_from(code: u16) -> Result<HopStatus, OutOfRange> {
+        HopStatus::new(code)
+    }
+}

@@ -1,62 +1,55 @@
-use Rattle.std.proofs.Common.{[], ◌∷◌, refl, ap, ◌∙◌}
+use Rattle.std.proofs.Common.{[], refl, sym, ap, ◌∙◌, subst, absurd, arith, true, drop, ◌≡◌}
 use Rattle.std.proofs.lemmas.Result.{err_from_is_err_and}
 use Rattle.sf_value.specs.Grammar.Lines.{join}
-use Rattle.sf_field.proofs.Feeding.{commas, join_first, next_line, leaves_first, leaves_less}
-use Rattle.sf_field.proofs.Feeding.{ends_early, first_refused, only_line, only_none}
+use Rattle.sf_value.specs.Grammar.Words.{Every}
+use Rattle.sf_parse.specs.Plain.{plain_byte}
+use Rattle.sf_parse.specs.Parsers.{in_line}
+use Rattle.sf_parse.proofs.FedLines.{fed_before}
+use Rattle.sf_field.proofs.Feeding.{Leaves, behind, joined, next_line, leaves_all, leaves_less}
+use Rattle.sf_field.proofs.Feeding.{ends_early, only_line}
 use Rattle.sf_field.proofs.lines.feed_lines.Goals as goal
 
 pub returns-in_err-feed-clause-fed : goal.returns-in_err-feed-clause-fed
 returns-in_err-feed-clause-fed c =
     let p = err_from_is_err_and c.from_residual.result c.from_residual.ensures.1 in
-    let split = ap join c.in-Some.ensures.cases.0
-    ∙ join_first c.in-Some.first.now c.in-Some.others.now in
     rw (p.1, p.2)
-    (first_refused _ c.feed-2.new.self _ _ _ (commas c.in-Some.others.now) split
-    (rw c.as_bytes.ensures.bytes at c.in_err-feed.ensures.fed))
+    (fed_before c.args.parser.now c.feed.new.self c.in_err-feed.field-0.0 []
+    (join c.args.lines.now) c.in_err-feed.ensures.fed)
 
 pub loop-line-init : goal.loop-line-init
 loop-line-init c =
-    let split = ap join c.in-Some.ensures.cases.0
-    ∙ join_first c.in-Some.first.now c.in-Some.others.now in
+    let flag = c.in_ok-feed.ensures.lines ∙ c.requires in
     record {
-      leaves = leaves_first _ _ _ _ _ split
-          (rw c.as_bytes.ensures.bytes at c.in_ok-feed.ensures.fed);
-      plain = λ h line e w.
-          c.in_ok-feed.ensures.plain h
-          (rw c.as_bytes.ensures.bytes
-          (only_line c.args.lines.now _ c.in-Some.others.now line c.in-Some.ensures.cases.0 e w).0);
+      leaves =
+          subst (Leaves c.args.parser.now c.feed.new.self (join c.args.lines.now))
+          (joined c.args.lines.now ∙ ap (λ b. behind b c.args.lines.now) (sym flag))
+          (leaves_all _ _ _ c.in_ok-feed.ensures.fed);
+      first = λ e. flag;
+      plain = λ h line e w. c.in_ok-feed.ensures.plain h tt;
     }
 
-pub returns-in_err-feed-2-clause-fed : goal.returns-in_err-feed-2-clause-fed
-returns-in_err-feed-2-clause-fed c =
-    let p = err_from_is_err_and c.from_residual-in_err-feed-2.result
-    c.from_residual-in_err-feed-2.ensures.1 in
-    let next = next_line _ _ _ c.loop-line-test.true c.line-item.is in
+pub returns-in_err-feed_line-clause-fed : goal.returns-in_err-feed_line-clause-fed
+returns-in_err-feed_line-clause-fed c =
+    let p = err_from_is_err_and c.from_residual-in_err-feed_line.result
+    c.from_residual-in_err-feed_line.ensures.1 in
+    let next = next_line c.loop-line.parser.after_line _ _ _ c.loop-line-test.true c.line-item.is in
     rw (p.1, p.2)
-    (ends_early _ c.loop-line.parser _ _ _ _ (44 ∷ 32 ∷ []) _ c.loop-line.invariant.leaves next
-    c.in_err-feed-2.ensures.fed)
-
-pub returns-in_err-feed-3-clause-fed : goal.returns-in_err-feed-3-clause-fed
-returns-in_err-feed-3-clause-fed c =
-    let p = err_from_is_err_and c.from_residual-in_err-feed-3.result
-    c.from_residual-in_err-feed-3.ensures.1 in
-    let next = next_line _ _ _ c.loop-line-test.true c.line-item.is in
-    let comma = leaves_less _ c.loop-line.parser _ _ _ (44 ∷ 32 ∷ []) _ c.loop-line.invariant.leaves
-    next c.in_ok-feed-2.ensures.fed in
-    rw (p.1, p.2)
-    (ends_early _ _ _ _ _ _ c.line-item.result _ comma refl
-    (rw c.as_bytes-in-loop-line.ensures.bytes at c.in_err-feed-3.ensures.fed))
+    (ends_early _ c.loop-line.parser _ _ _ _ _ _ c.loop-line.invariant.leaves next
+    (rw c.as_bytes.ensures.bytes at c.in_err-feed_line.ensures.fed))
 
 pub loop-line-preserved : goal.loop-line-preserved
 loop-line-preserved c =
-    let next = next_line _ _ _ c.loop-line-test.true c.line-item.is in
-    let comma = leaves_less _ c.loop-line.parser _ _ _ (44 ∷ 32 ∷ []) _ c.loop-line.invariant.leaves
-    next c.in_ok-feed-2.ensures.fed in
+    let next = next_line c.loop-line.parser.after_line _ _ _ c.loop-line-test.true c.line-item.is in
+    let after = c.in_ok-feed_line.ensures.lines in
     record {
-      leaves = leaves_less _ _ _ _ _ c.line-item.result _ comma refl
-          (rw c.as_bytes-in-loop-line.ensures.bytes at c.in_ok-feed-3.ensures.fed);
+      leaves =
+          rw after
+          (leaves_less _ _ _ _ _ _ _ c.loop-line.invariant.leaves next
+          (rw c.as_bytes.ensures.bytes at c.in_ok-feed_line.ensures.fed));
+      first = λ e. absurd (omega arith);
       plain = λ h line e w.
-          absurd (
-          only_none c.args.lines.now _ c.in-Some.others.now line _ c.in-Some.ensures.cases.0 e
-          c.loop-line-test.true);
+          let only = only_line _ _ _ line e c.loop-line-test.true c.line-item.is in
+          c.in_ok-feed_line.ensures.plain (c.loop-line.invariant.plain h line e w)
+          (c.loop-line.invariant.first only.0)
+          (rw c.as_bytes.ensures.bytes (subst (Every plain_byte) (sym only.1) w));
     }

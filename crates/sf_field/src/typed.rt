@@ -1,0 +1,59 @@
+//! Field lines of a field whose kind is known: the answer is the Item, the List or the Dictionary
+//! itself.
+ghost use Rattle.sf_value.specs.declared.value.Field.TheVariants as field_is;
+ghost use Rattle.sf_value.specs.declared.value.Kind.TheVariants as kind_is;
+ghost use Rattle.sf_field.specs.Lines.{ParsesLinesAs};
+
+use crate::lines::parse_lines;
+use sf_parse::Refusal;
+use sf_value::{Blob, Dict, Field, Item, Kind, List};
+use std::alloc::Global;
+use std::hash::RandomState;
+
+/// The Item that the lines spell together, as [`crate::parse_lines`] gives it where an Item is
+/// asked for.
+///
+/// ```
+/// let item = parse_item_lines(alloc, &seed, lines.as_slice())?;
+/// ```
+pub fn parse_item_lines(alloc: Global, seed: &RandomState, lines: &[Blob]) -> Result<Item, Refusal>
+    ensures { ParsesLinesAs field_is.Item kind_is.Item lines.now result }
+{
+    match parse_lines(alloc, seed, Kind::Item, lines)? {
+        Field::Item(item) => Ok(item),
+        Field::List(_) => unreachable!(),
+        Field::Dict(_) => unreachable!(),
+    }
+}
+
+/// The List that the lines spell together, as [`crate::parse_lines`] gives it where a List is
+/// asked for.
+///
+/// ```
+/// let list = parse_list_lines(alloc, &seed, lines.as_slice())?;
+/// ```
+pub fn parse_list_lines(alloc: Global, seed: &RandomState, lines: &[Blob]) -> Result<List, Refusal>
+    ensures { ParsesLinesAs field_is.List kind_is.List lines.now result }
+{
+    match parse_lines(alloc, seed, Kind::List, lines)? {
+        Field::List(list) => Ok(list),
+        Field::Item(_) => unreachable!(),
+        Field::Dict(_) => unreachable!(),
+    }
+}
+
+/// The Dictionary that the lines spell together, as [`crate::parse_lines`] gives it where a Dictionary is
+/// asked for.
+///
+/// ```
+/// let dict = parse_dict_lines(alloc, &seed, lines.as_slice())?;
+/// ```
+pub fn parse_dict_lines(alloc: Global, seed: &RandomState, lines: &[Blob]) -> Result<Dict, Refusal>
+    ensures { ParsesLinesAs field_is.Dict kind_is.Dict lines.now result }
+{
+    match parse_lines(alloc, seed, Kind::Dict, lines)? {
+        Field::Dict(dict) => Ok(dict),
+        Field::Item(_) => unreachable!(),
+        Field::List(_) => unreachable!(),
+    }
+}
