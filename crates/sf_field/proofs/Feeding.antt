@@ -44,6 +44,14 @@ leaves_less o p q all left piece more l e f = record {
   fed = fed_after o p q (Ok tt) l.front piece l.fed f;
 }
 
+-- a further line was fed
+pub leaves_line : (o p q : Progress) (all left line : List ℕ) (ls : List (List ℕ)) (after : Bool)
+    → q.after_line ≡ true → Leaves o p all left → left ≡ in_line after line ++ behind true ls
+    → Fed p q (Ok tt) (in_line after line) → Leaves o q all (behind q.after_line ls)
+leaves_line o p q all left line ls after t l e f =
+    subst (λ b. Leaves o q all (behind b ls)) (sym t)
+    (leaves_less o p q all left (in_line after line) (behind true ls) l e f)
+
 -- a further piece was refused
 pub ends_early : (o p q : Progress) (e : Refusal) (all left piece more : List ℕ)
     → Leaves o p all left → left ≡ piece ++ more → Fed p q (Err e) piece → Fed o q (Err e) all

@@ -6,7 +6,7 @@ use Rattle.std.specs.Cmp.Lexicographic.{bytes_decides}
 use Rattle.std.specs.Str.{bytes_eq}
 use Rattle.http_header.specs.FieldValue.{FieldValue, IsFieldValue, plain_value}
 use Rattle.http_header.specs.Token.{is_value_byte}
-use Rattle.http_header.specs.HeaderMap.{ContainsKey, get_all, insert, keys, remove}
+use Rattle.http_header.specs.HeaderMap.{ContainsKey, Entry, get_all, insert, keys, remove}
 use Rattle.http_header.proofs.HeaderMapLemmas.{get_all-insert_same}
 use Rattle.sf_value.specs.declared.dialect.Dialect.{Dialect}
 use Rattle.sf_value.specs.declared.dialect.Dialect.TheVariants.{Rfc9651}
@@ -46,17 +46,19 @@ pub set_some : (m : Headers) (name t : List ℕ) → (length t ≡ 0 → ⊥)
 set_some m name [] h = absurd (h refl)
 set_some m name (b ∷ t) h = refl
 
+there_behind : (e : Entry FieldValue) (m : Headers) (name : List ℕ) (value : FieldValue) (t : Bool)
+    → bytes_eq e.0 name ≡ t → ContainsKey (insert m name value) name
+    → ContainsKey (insert (e ∷ m) name value) name
+there_behind e m name value true q k = rw q (0, omega arith, (bytes_decides e.0 name).0 q)
+there_behind e m name value false q k =
+    let l : k.0 < length (keys (insert m name value)) = k.1 in
+    rw q (suc k.0, omega arith, k.2)
+
 -- what is inserted is there
 there : (m : Headers) (name : List ℕ) (value : FieldValue) → ContainsKey (insert m name value) name
 there [] name value = (0, omega arith, refl)
-there (e ∷ m) name value = go (bytes_eq e.0 name) refl
-  where
-    go : (t : Bool) → bytes_eq e.0 name ≡ t → ContainsKey (insert (e ∷ m) name value) name
-    go true q = rw q (0, omega arith, (bytes_decides e.0 name).0 q)
-    go false q =
-        let k = there m name value in
-        let l : k.0 < length (keys (insert m name value)) = k.1 in
-        rw q (suc k.0, omega arith, k.2)
+there (e ∷ m) name value =
+    there_behind e m name value (bytes_eq e.0 name) refl (there m name value)
 
 read_back : (headers : Headers) (name : List ℕ) (kind : Kind) (v : Field) (t : List ℕ)
     → t ≡ canon v → Valid Rfc9651 kind v → 0 < length t → length (canon v) < 2 ^ 64

@@ -85,8 +85,8 @@ pub fn set_field(
         return Ok(());
     }
     match headers.insert(name, value) {
-        Ok(_) => Ok(()),
-        Err(HeaderMapError::MaxSizeReached) => Err(SetFault::Full),
-        Err(HeaderMapError::OutOfMemory) => Err(SetFault::OutOfMemory),
+        Ok(_) => return Ok(()),
+        Err(HeaderMapError::MaxSizeReached) => return Err(SetFault::Full),
+        Err(HeaderMapError::OutOfMemory) => return Err(SetFault::OutOfMemory),
     }
 }

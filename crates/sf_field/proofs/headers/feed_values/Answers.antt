@@ -5,7 +5,7 @@ use Rattle.sf_value.specs.Grammar.Words.{Every}
 use Rattle.sf_parse.specs.Plain.{plain_byte}
 use Rattle.sf_parse.proofs.FedLines.{fed_before}
 use Rattle.sf_field.specs.Headers.{lines_under}
-use Rattle.sf_field.proofs.Feeding.{Leaves, leaves_all, leaves_less, ends_early}
+use Rattle.sf_field.proofs.Feeding.{Leaves, leaves_all, leaves_line, ends_early}
 use Rattle.sf_field.proofs.Values.{values_joined, next_value, alone_first, alone_next}
 use Rattle.sf_field.proofs.headers.feed_values.Goals as goal
 
@@ -35,20 +35,19 @@ loop-value-init c =
 
 pub loop-value-preserved : goal.loop-value-preserved
 loop-value-preserved c =
-    let next = next_value c.loop-value.parser.after_line _ _ _ c.in-Some-value.ensures.steps in
+    let next = next_value c.loop-value.parser.after_line _ _ _ c.in-Some.ensures.steps in
     let after = c.in_ok-feed_line.ensures.lines in
     record {
       leaves =
-          rw after
-          (leaves_less _ _ _ _ _ _ _ c.loop-value.invariant.leaves next
-          (rw c.as_bytes.ensures.value at c.in_ok-feed_line.ensures.fed));
+          leaves_line _ _ c.feed_line.new.self _ _ _ _ _ after c.loop-value.invariant.leaves next
+          (rw c.as_bytes.ensures.value at c.in_ok-feed_line.ensures.fed);
       plain = λ h value e w.
-          let one = alone_next value c.loop-value.parser.after_line _ _ _ c.in-Some-value.ensures.steps
+          let one = alone_next value c.loop-value.parser.after_line _ _ _ c.in-Some.ensures.steps
           (c.loop-value.invariant.alone value e) in
           c.in_ok-feed_line.ensures.plain (c.loop-value.invariant.plain h value e w) one.1
           (rw c.as_bytes.ensures.value (subst (Every plain_byte) (sym one.0) w));
       alone = λ value e.
-          inr (alone_next value c.loop-value.parser.after_line _ _ _ c.in-Some-value.ensures.steps
+          inr (alone_next value c.loop-value.parser.after_line _ _ _ c.in-Some.ensures.steps
           (c.loop-value.invariant.alone value e)).2;
     }
 
@@ -56,7 +55,7 @@ pub returns-in_err-feed_line-clause-fed : goal.returns-in_err-feed_line-clause-f
 returns-in_err-feed_line-clause-fed c =
     let p = err_from_is_err_and c.from_residual-in_err-feed_line.result
     c.from_residual-in_err-feed_line.ensures.1 in
-    let next = next_value c.loop-value.parser.after_line _ _ _ c.in-Some-value.ensures.steps in
+    let next = next_value c.loop-value.parser.after_line _ _ _ c.in-Some.ensures.steps in
     rw (p.1, p.2)
     (ends_early _ c.loop-value.parser _ _ _ _ _ _ c.loop-value.invariant.leaves next
     (rw c.as_bytes.ensures.value at c.in_err-feed_line.ensures.fed))

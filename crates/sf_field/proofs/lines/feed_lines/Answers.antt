@@ -1,11 +1,11 @@
-use Rattle.std.proofs.Common.{[], refl, sym, ap, ◌∙◌, subst, absurd, arith, true, drop, ◌≡◌}
+use Rattle.std.proofs.Common.{[], refl, sym, ap, ◌∙◌, subst, arith, true, drop, ◌≡◌}
 use Rattle.std.proofs.lemmas.Result.{err_from_is_err_and}
 use Rattle.sf_value.specs.Grammar.Lines.{join}
 use Rattle.sf_value.specs.Grammar.Words.{Every}
 use Rattle.sf_parse.specs.Plain.{plain_byte}
 use Rattle.sf_parse.specs.Parsers.{in_line}
 use Rattle.sf_parse.proofs.FedLines.{fed_before}
-use Rattle.sf_field.proofs.Feeding.{Leaves, behind, joined, next_line, leaves_all, leaves_less}
+use Rattle.sf_field.proofs.Feeding.{Leaves, behind, joined, next_line, leaves_all, leaves_line}
 use Rattle.sf_field.proofs.Feeding.{ends_early, only_line}
 use Rattle.sf_field.proofs.lines.feed_lines.Goals as goal
 
@@ -43,9 +43,8 @@ loop-line-preserved c =
     let after = c.in_ok-feed_line.ensures.lines in
     record {
       leaves =
-          rw after
-          (leaves_less _ _ _ _ _ _ _ c.loop-line.invariant.leaves next
-          (rw c.as_bytes.ensures.bytes at c.in_ok-feed_line.ensures.fed));
+          leaves_line _ _ c.feed_line.new.self _ _ _ _ _ after c.loop-line.invariant.leaves next
+          (rw c.as_bytes.ensures.bytes at c.in_ok-feed_line.ensures.fed);
       first = λ e. absurd (omega arith);
       plain = λ h line e w.
           let only = only_line _ _ _ line e c.loop-line-test.true c.line-item.is in
