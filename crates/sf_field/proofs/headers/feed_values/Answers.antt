@@ -39,7 +39,8 @@ loop-value-preserved c =
     let after = c.in_ok-feed_line.ensures.lines in
     record {
       leaves =
-          leaves_line _ _ c.feed_line.new.self _ _ _ _ _ after c.loop-value.invariant.leaves next
+          leaves_line _ _ c.feed_line.new.self _ _ c.in-Some.value.now.bytes _ c.loop-value.parser.after_line after
+          c.loop-value.invariant.leaves next
           (rw c.as_bytes.ensures.value at c.in_ok-feed_line.ensures.fed);
       plain = λ h value e w.
           let one = alone_next value c.loop-value.parser.after_line _ _ _ c.in-Some.ensures.steps

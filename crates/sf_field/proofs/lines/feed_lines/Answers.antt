@@ -43,7 +43,8 @@ loop-line-preserved c =
     let after = c.in_ok-feed_line.ensures.lines in
     record {
       leaves =
-          leaves_line _ _ c.feed_line.new.self _ _ _ _ _ after c.loop-line.invariant.leaves next
+          leaves_line _ _ c.feed_line.new.self _ _ c.line-item.result _ c.loop-line.parser.after_line after
+          c.loop-line.invariant.leaves next
           (rw c.as_bytes.ensures.bytes at c.in_ok-feed_line.ensures.fed);
       first = λ e. absurd (omega arith);
       plain = λ h line e w.
