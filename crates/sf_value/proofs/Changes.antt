@@ -14,7 +14,7 @@ use Rattle.sf_value.specs.declared.store.Store.{Store}
 use Rattle.sf_value.specs.declared.store.Store.TheVariants.{Fresh, Few, Many}
 use Rattle.sf_value.specs.Grammar.Words.{Each}
 use Rattle.sf_value.specs.Grammar.Tokens.{IsKey}
-use Rattle.sf_value.specs.Grammar.Pairs.{Pairs, value_at, HasDistinctKeys}
+use Rattle.sf_value.specs.Grammar.Pairs.{Pairs, value_at}
 use Rattle.sf_value.specs.Entries.{pair, pairs, AreEntries}
 use Rattle.sf_value.specs.Stores.{slot_pair, slot_pairs, stored, HasSeed}
 use Rattle.sf_value.specs.Lending.{with_slot_value, with_stored}
