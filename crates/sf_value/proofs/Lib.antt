@@ -5,6 +5,7 @@ pub mod EntryMaps
 pub mod SlotLists
 pub mod Settling
 pub mod Removals
+pub mod Changes
 pub mod Utf8Table
 pub mod CanonicalTexts
 pub mod Validity

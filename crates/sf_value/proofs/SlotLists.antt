@@ -37,7 +37,7 @@ place_from t n (x ∷ xs) = by (t x) refl (place_from t (n + 1) xs)
     by true h rest = rw h (ap Some (omega arith))
     by false h rest = rw h (rest ∙ further (place t xs))
 
-is_place : {X : Type 0} (t : X → Bool) (xs : List X) → position t xs ≡ place t xs
+pub is_place : {X : Type 0} (t : X → Bool) (xs : List X) → position t xs ≡ place t xs
 is_place t xs = position_from-zero t xs ∙ place_from t 0 xs ∙ same (place t xs)
   where
     same : (r : Option ℕ) → option_map (λ i. 0 + i) r ≡ r

@@ -1,7 +1,19 @@
 -- What a value ends as whose parts were lent to be changed.
-use Rattle.std.specs.Prelude.{List, ◌++◌, length, take, drop}
-use Rattle.std.specs.Borrow.{Lends, Fml, RattleType, MutBor, Array}
-use Rattle.sf_value.specs.contracts.sequence.Sequence.{the_row}
+use Rattle.std.specs.Prelude.{ℕ, List, ◌++◌, length, take, drop, slice_get, Option}
+use Rattle.std.specs.Borrow.{Lends, LendsIf, Fml, RattleType, MutBor, Array}
+use Rattle.std.specs.Box.{with_value}
+use Rattle.std.specs.Map.{set_value}
+use Rattle.std.specs.Option.{option_map_or}
+use Rattle.std.specs.Str.{bytes_eq}
+use Rattle.std.specs.Vec.{with_item}
+use Rattle.indexmap.specs.IndexMap as map
+use Rattle.sf_value.specs.declared.store.Slot.{Slot}
+use Rattle.sf_value.specs.declared.store.Store.{Store}
+use Rattle.sf_value.specs.declared.store.Store.TheVariants.{Fresh, Few, Many}
+use Rattle.sf_value.specs.contracts.store.Store.{the_row as store_row}
+use Rattle.sf_value.specs.contracts.entries.Entries.{the_row as entries_row}
+use Rattle.sf_value.specs.contracts.sequence.Sequence.{the_row as sequence_row}
+use Rattle.sf_value.specs.Grammar.Pairs.{Pairs}
 
 -- xs in the place of as many of the values
 abbrev pub with_items : {T : Type 0} → List T → List T → List T
@@ -9,4 +21,26 @@ with_items values xs = take (length values) (xs ++ drop (length xs) values)
 
 -- once the borrow r ends, the values are those that r shows last: they are as many as they were
 abbrev pub LendsItems : (T : RattleType) → MutBor (List T.Denot) → MutBor (List T.Denot) → Fml
-LendsItems T s r = Lends (the_row T) (Array T 0) s r (with_items s.now)
+LendsItems T s r = Lends (sequence_row T) (Array T 0) s r (with_items s.now)
+
+module _ {V : Type 0} where
+  abbrev pub with_slot_value : Slot V → V → Slot V
+  with_slot_value slot w = record { key = slot.key; value = w; seed = slot.seed }
+
+  -- the place of the entries, with w as the value at an index
+  abbrev pub with_stored : Store V → ℕ → V → Store V
+  with_stored (Fresh alloc seed) i w = Fresh alloc seed
+  with_stored (Few slots) i w =
+      option_map_or (λ slot. Few (with_item slots i (with_slot_value slot w)))
+      (slice_get slots.items i) (Few slots)
+  with_stored (Many m) i w = Many (with_value m (map.with_value_at m.value i w))
+
+-- once the borrow r ends, the index has the value that r shows last; at `None` nothing changes
+abbrev pub LendsStored : (V : RattleType) → MutBor (Store V.Denot) → ℕ → Option (MutBor V.Denot)
+    → Fml
+LendsStored V s i r = LendsIf (store_row V) V s r (with_stored s.now i) s.now
+
+-- the same of the key k
+abbrev pub LendsValue : (V : RattleType) → MutBor (Pairs V.Denot) → List ℕ
+    → Option (MutBor V.Denot) → Fml
+LendsValue V e k r = LendsIf (entries_row V) V e r (set_value (bytes_eq k) e.now) e.now

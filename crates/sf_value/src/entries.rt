@@ -1,7 +1,9 @@
 //! Entries in order, by key (RFC 9651 sections 3.1.2 and 3.2).
 ghost use Rattle.std.specs.Prelude.{◌≡◌, ℕ, List, [], ◌∷◌, ◌++◌, None, length, slice_get, ◌↔◌};
 ghost use Rattle.std.specs.Prelude.{IsTrue, IsSome, IfOk, IfErr, OnOk, OnErr};
-ghost use Rattle.std.specs.Option.{option_map, option_copied};
+ghost use Rattle.std.specs.Option.{option_map, option_copied, option_copied_mut};
+ghost use Rattle.std.specs.Borrow.{sem};
+ghost use Rattle.sf_value.specs.Lending.{LendsValue};
 ghost use Rattle.sf_value.specs.Grammar.Pairs.{settle, without, value_at};
 ghost use Rattle.sf_value.specs.Entries.{deref_entry, AreEntries};
 ghost use Rattle.std.specs.Iterator.{at_most};
@@ -84,6 +86,22 @@ impl<V> Entries<V> {
         ensures { option_copied result ≡ value_at key.now self.now }
     {
         self.store.get(key)
+    }
+
+    /// The value of the key of these bytes, to be changed; `None` where it has none. It takes no
+    /// memory.
+    ///
+    /// ```
+    /// if let Some(value) = entries.get_mut(b"q") {
+    ///     *value = Bare::Boolean(true);
+    /// }
+    /// ```
+    pub fn get_mut(&mut self, key: &[u8]) -> Option<&mut V>
+        ensures* writes_back { sem 𝓛 (LendsValue V.row self.entry key.now result) }
+        ensures value { option_copied_mut result ≡ value_at key.now self.old }
+    {
+        let place = self.store.place(key)?;
+        self.store.value_mut(place)
     }
 
     /// Whether the key of these bytes has a value. It takes no memory.

@@ -2,10 +2,12 @@
 //! where they are found by hashes.
 ghost use Rattle.std.specs.Prelude.{◌≡◌, ◌<◌, ◌≤◌, ◌+◌, [], ◌∷◌, ◌++◌, None, length, map as each, slice_get};
 ghost use Rattle.std.specs.Prelude.{IfOk, IfErr, OnErr, vec_len};
-ghost use Rattle.std.specs.Option.{option_map, option_copied};
+ghost use Rattle.std.specs.Option.{option_map, option_copied, option_copied_mut};
 ghost use Rattle.std.specs.List.{position};
 ghost use Rattle.std.specs.Map.{keys_of};
 ghost use Rattle.std.specs.Str.{bytes_eq};
+ghost use Rattle.std.specs.Borrow.{sem};
+ghost use Rattle.sf_value.specs.Lending.{LendsStored};
 ghost use Rattle.indexmap.specs.IndexMap.{spare};
 ghost use Rattle.sf_value.specs.Grammar.Pairs.{settle, without, value_at, HasDistinctKeys};
 ghost use Rattle.sf_value.specs.Entries.{deref_entry, pairs, AreEntries};
@@ -104,6 +106,33 @@ impl<V> Store<V> {
                 let (key, value) = map.get_index(index)?;
                 return Some((key.as_slice(), value));
             }
+        }
+    }
+
+    /// The place of the key of these bytes.
+    pub(crate) fn place(&self, key: &[u8]) -> Option<usize>
+        ensures { result ≡ position (bytes_eq key.now) (keys_of (stored self.now)) }
+    {
+        match self {
+            Store::Fresh(_, _) => return None,
+            Store::Few(slots) => return place_of(slots, key),
+            Store::Many(map) => return map.get_index_of(key),
+        }
+    }
+
+    /// The value at a place, to be changed.
+    pub(crate) fn value_mut(&mut self, place: usize) -> Option<&mut V>
+        ensures* writes_back { sem 𝓛 (LendsStored V.row self.entry place result) }
+        ensures value { option_copied_mut result
+            ≡ option_map (λ entry. entry.1) (slice_get (stored self.old) place) }
+    {
+        match self {
+            Store::Fresh(_, _) => return None,
+            Store::Few(slots) => {
+                let slot = slots.get_mut(place)?;
+                return Some(&mut slot.value);
+            }
+            Store::Many(map) => return map.get_index_mut(place),
         }
     }
 
