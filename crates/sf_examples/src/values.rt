@@ -15,6 +15,21 @@ fn build(alloc: Global, seed: &RandomState) -> Result<Field, Fail> {
     Ok(item.into())
 }
 
+/// What a Dictionary says under `u`, if that is an Integer.
+fn urgency(field: &Field) -> Option<i64> {
+    let number = field.as_dict()?.get(b"u")?.as_item()?.bare.as_integer()?;
+    Some(number.get())
+}
+
+#[test]
+fn a_look_at_a_value(rt: HostRuntime) -> Result<(), Fail> {
+    let alloc = rt.alloc();
+    let seed = RandomState::new(&rt)?;
+    let field = parse_text(alloc, &seed, Kind::Dict, b"u=1,  i=?1")?;
+    assert_eq!(&rt; urgency(&field), Some(1));
+    Ok(())
+}
+
 #[test]
 fn a_value(rt: HostRuntime) -> Result<(), Fail> {
     let alloc = rt.alloc();

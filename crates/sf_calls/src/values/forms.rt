@@ -53,7 +53,10 @@ fn look_up(rt: &impl Abort, alloc: Global, entries: &Entries<Bare>, count: u8) -
     assert_eq!(rt; entries.len(), usize::from(count));
     for place in 0..count {
         let key = key_at(alloc, place)?;
-        assert_eq!(rt; entries.get(&key).and_then(number_in), Some(value_of(place)));
+        assert_eq!(rt;
+            entries.get(&key).and_then(number_in),
+            Some(value_of(place))
+        );
         let there = entries.at(usize::from(place));
         assert_eq!(rt; there.map(|e| e.0), Some(key.as_slice()));
         assert_eq!(rt; there.and_then(|e| number_in(e.1)), Some(value_of(place)));
