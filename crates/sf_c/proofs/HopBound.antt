@@ -17,13 +17,14 @@ use Rattle.sf_value.specs.declared.value.Member.TheVariants as member
 use Rattle.sf_value.specs.declared.value.Field.{Field}
 use Rattle.sf_value.specs.declared.value.Field.TheVariants as field
 use Rattle.sf_value.specs.Grammar.Pairs.{Pairs, value_at}
+use Rattle.sf_value.specs.Lookups.{as_text, as_token}
 use Rattle.sf_use.specs.declared.cache_status.hop.Name.{Name}
 use Rattle.sf_use.specs.declared.cache_status.hop.Name.TheVariants as name
 use Rattle.sf_use.specs.declared.cache_status.hop.Forward.{Forward}
 use Rattle.sf_use.specs.declared.cache_status.hop.Forward.TheVariants.{Other}
 use Rattle.sf_use.specs.declared.cache_status.hop.Passed.{Passed}
 use Rattle.sf_use.specs.declared.cache_status.hop.Hop.{Hop}
-use Rattle.sf_use.specs.CacheStatus.Parameters.{as_name, as_text, as_token, boolean_at}
+use Rattle.sf_use.specs.CacheStatus.Parameters.{as_name, boolean_at}
 use Rattle.sf_use.specs.CacheStatus.Reasons.{forward_of, reasons, token_of}
 use Rattle.sf_use.specs.CacheStatus.Hops.{hop_named, hops, member_hop, outcome_by, passed_at}
 use Rattle.sf_use.specs.CacheStatus.Hops.{passed_by_token, unless}
