@@ -154,7 +154,8 @@ fn numbers_of_numbers(rt: HostRuntime) -> Result<(), Fail> {
 }
 
 // A user's own matches. An Integer or a Date is `Copy`, so the toolchain wants what holds it matched
-// in two steps, or by reference: not as `Ok(Some(Bare::Integer(old)))` at once.
+// in two steps, or by reference: not as `Ok(Some(Bare::Integer(old)))` at once. Nor does it take one
+// pattern that moves fields out of several parts, as `Field::Item(Item { bare: Bare::Token(t), .. })`.
 
 fn replaced(params: &mut Entries<Bare>, key: Key, value: Bare) -> Option<i64> {
     let Ok(Some(old)) = params.put(key, value) else {
@@ -188,13 +189,12 @@ fn looked_up(params: &Entries<Bare>, key: &[u8]) -> Option<i64> {
 }
 
 fn token_of(field: Field) -> Option<Token> {
-    match field {
-        Field::Item(
-            Item {
-                bare: Bare::Token(token),
-                params: _,
-            },
-        ) => Some(token),
+    let Field::Item(item) = field else {
+        return None;
+    };
+    let Item { bare, params: _ } = item;
+    match bare {
+        Bare::Token(token) => Some(token),
         _ => None,
     }
 }
