@@ -51,8 +51,14 @@ fn the_priority_of_a_response(rt: HostRuntime) -> Result<(), Fail> {
     let seed = RandomState::new(&rt)?;
     let request = [Blob::new(alloc, b"u=5, i")?];
     let response = [Blob::new(alloc, b"u=1")?];
-    let client = ask(alloc, &seed, &PriorityField, &request)?;
-    let server = ask(alloc, &seed, &PriorityField, &response)?;
+    let client = match ask(alloc, &seed, &PriorityField, &request) {
+        Ok(asked) => asked,
+        Err(fault) => return Err(fault.into()),
+    };
+    let server = match ask(alloc, &seed, &PriorityField, &response) {
+        Ok(asked) => asked,
+        Err(fault) => return Err(fault.into()),
+    };
     let priority = merge(client, server).with_defaults();
     assert_eq!(&rt; priority.urgency.get(), 1);
     assert!(&rt; priority.incremental);
