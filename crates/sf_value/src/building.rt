@@ -1,7 +1,7 @@
 //! Building: values that have nothing yet, and one part more, in a chain with `?`.
-ghost use Rattle.std.specs.Prelude.{◌≡◌, [], ◌∷◌, ◌++◌, IfOk};
+ghost use Rattle.std.specs.Prelude.{◌≡◌, [], ◌∷◌, ◌++◌, None, IfOk, OnErr};
 ghost use Rattle.sf_value.specs.Grammar.Items.{item};
-ghost use Rattle.sf_value.specs.Grammar.Pairs.{put};
+ghost use Rattle.sf_value.specs.Grammar.Pairs.{put, value_at};
 ghost use Rattle.sf_value.specs.Grammar.InnerLists.{inner};
 
 use crate::entries::Entries;
@@ -26,7 +26,8 @@ impl Item {
         Item { bare, params }
     }
 
-    /// The Item with one more parameter. The value of a key that is there is replaced in its place.
+    /// The Item with one more parameter. The value of a key that is there is replaced in its place,
+    /// which takes no memory.
     ///
     /// ```
     /// let item = Item::new(alloc, &seed, Bare::Token(Token::new(alloc, b"a")?))
@@ -34,7 +35,8 @@ impl Item {
     ///     .with_param(Key::new(alloc, b"r")?, Bare::Boolean(true))?; // a;q=1;r
     /// ```
     pub fn with_param(self, key: Key, value: Bare) -> Result<Item, OutOfMemory>
-        ensures { IfOk result (λ more. more ≡ item self.bare (put self.params key value)) }
+        ensures new { IfOk result (λ more. more ≡ item self.bare (put self.params key value)) }
+        ensures absent { OnErr result (value_at key self.params ≡ None) }
     {
         let Item { bare, mut params } = self;
         params.set(key, value)?;
@@ -72,9 +74,10 @@ impl Inner {
     }
 
     /// The Inner List with one more parameter of the whole. The value of a key that is there is
-    /// replaced in its place.
+    /// replaced in its place, which takes no memory.
     pub fn with_param(self, key: Key, value: Bare) -> Result<Inner, OutOfMemory>
-        ensures { IfOk result (λ more. more ≡ inner self.items (put self.params key value)) }
+        ensures new { IfOk result (λ more. more ≡ inner self.items (put self.params key value)) }
+        ensures absent { OnErr result (value_at key self.params ≡ None) }
     {
         let Inner { items, mut params } = self;
         params.set(key, value)?;
@@ -118,13 +121,14 @@ impl Dict {
     }
 
     /// The Dictionary with one more member. The value of a key that is there is replaced in its
-    /// place.
+    /// place, which takes no memory.
     ///
     /// ```
     /// let dict = Dict::new(alloc, &seed).with(Key::new(alloc, b"u")?, Member::Item(item))?;
     /// ```
     pub fn with(self, key: Key, member: Member) -> Result<Dict, OutOfMemory>
-        ensures { IfOk result (λ more. more ≡ record { members = put self.members key member }) }
+        ensures new { IfOk result (λ more. more ≡ record { members = put self.members key member }) }
+        ensures absent { OnErr result (value_at key self.members ≡ None) }
     {
         let Dict { mut members } = self;
         members.set(key, member)?;
