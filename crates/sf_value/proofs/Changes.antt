@@ -15,7 +15,7 @@ use Rattle.sf_value.specs.declared.store.Store.TheVariants.{Fresh, Few, Many}
 use Rattle.sf_value.specs.Grammar.Words.{Each}
 use Rattle.sf_value.specs.Grammar.Tokens.{IsKey}
 use Rattle.sf_value.specs.Grammar.Pairs.{Pairs, value_at}
-use Rattle.sf_value.specs.Entries.{pair, pairs, AreEntries}
+use Rattle.sf_value.specs.Entries.{AreEntries}
 use Rattle.sf_value.specs.Stores.{slot_pair, slot_pairs, stored, HasSeed}
 use Rattle.sf_value.specs.Lending.{with_slot_value, with_stored}
 use Rattle.sf_value.proofs.SlotLists.{place, is_place}
@@ -74,13 +74,6 @@ module _ {V : Type 0} where
       position-map slot_pair (λ e. bytes_eq k e.0) ss
       ∙ position-map (λ e. e.0) (bytes_eq k) (slot_pairs ss)
 
-  pub names-position : {A : Type 0} (k : List ℕ) (es : List (Vec ℕ A × V))
-      → position (λ q. bytes_eq k q.items) (keys_of es) ≡ position (bytes_eq k) (keys_of (pairs es))
-  names-position k es =
-      sym (position-map (λ e. e.0) (λ q. bytes_eq k q.items) es)
-      ∙ position-map pair (λ e. bytes_eq k e.0) es
-      ∙ position-map (λ e. e.0) (bytes_eq k) (pairs es)
-
   slots-set : (ss : List (Slot V)) (i : ℕ) (s : Slot V) (w : V) → slice_get ss i ≡ Some s
       → slot_pairs (slice_set ss i (with_slot_value s w)) ≡ set_value_at (slot_pairs ss) i w
   slots-set [] i s w e = absurd cc
@@ -88,12 +81,6 @@ module _ {V : Type 0} where
       let same : t ≡ s = cc in
       ap (λ u. (u.key, w) ∷ slot_pairs ss) (sym same)
   slots-set (t ∷ ss) (suc i) s w e = ap (λ ps. (t.key, t.value) ∷ ps) (slots-set ss i s w e)
-
-  pairs-set : {A : Type 0} (es : List (Vec ℕ A × V)) (i : ℕ) (w : V)
-      → pairs (set_value_at es i w) ≡ set_value_at (pairs es) i w
-  pairs-set [] i w = refl
-  pairs-set (e ∷ es) zero w = refl
-  pairs-set (e ∷ es) (suc i) w = ap (λ ps. (e.0.items, e.1) ∷ ps) (pairs-set es i w)
 
   set-past : (ss : List (Slot V)) (i : ℕ) (w : V) → slice_get ss i ≡ None
       → slot_pairs ss ≡ set_value_at (slot_pairs ss) i w
@@ -110,7 +97,7 @@ module _ {V : Type 0} where
           → stored (with_stored (Few slots) i w) ≡ set_value_at (slot_pairs slots.items) i w
       by None e = rw e (set-past slots.items i w e)
       by (Some s) e = rw e (slots-set slots.items i s w e)
-  stored-set (Many m) i w = pairs-set m.value.entries i w
+  stored-set (Many m) i w = refl
 
   pub seed-set : (st : Store V) (i : ℕ) (w : V) → HasSeed st → HasSeed (with_stored st i w)
   seed-set (Fresh alloc seed) i w h = h
@@ -133,11 +120,11 @@ module _ {V : Type 0} where
   few-value (t ∷ ss) zero s e = let same : t ≡ s = cc in ap (λ u. Some u.value) (sym same)
   few-value (t ∷ ss) (suc i) s e = few-value ss i s e
 
-  pub many-value : {A : Type 0} (es : List (Vec ℕ A × V)) (i : ℕ)
-      → slice_get (values_of es) i ≡ option_map (λ e. e.1) (slice_get (pairs es) i)
+  pub many-value : (ps : Pairs V) (i : ℕ)
+      → slice_get (values_of ps) i ≡ option_map (λ e. e.1) (slice_get ps i)
   many-value [] i = refl
-  many-value (e ∷ es) zero = refl
-  many-value (e ∷ es) (suc i) = many-value es i
+  many-value (p ∷ ps) zero = refl
+  many-value (p ∷ ps) (suc i) = many-value ps i
 
   -- the answer of a search among all keys
   pub record SearchedAll (k : List ℕ) (ps : Pairs V) (r : Option ℕ) : Type 0 where

@@ -1,23 +1,19 @@
 -- Lemmas on entries and on `settle`.
 use Rattle.std.proofs.Common.{◌≡◌, ℕ, Bool, true, false, not, cond, List, [], ◌∷◌, ◌++◌, Some}
-use Rattle.std.proofs.Common.{refl, sym, ap, ◌∙◌, subst, Vec, append-nil}
-use Rattle.std.proofs.Common.{IsSome, append_assoc, take, slice_get, ◌+◌}
+use Rattle.std.proofs.Common.{refl, sym, ap, ◌∙◌, subst, append-nil}
+use Rattle.std.proofs.Common.{append_assoc, take, slice_get, ◌+◌}
 use Rattle.std.proofs.lemmas.List.{take_more_same}
 use Rattle.std.proofs.lemmas.Option.{slice_get_within, get_or_from_slice_get}
 use Rattle.std.proofs.lemmas.List.Elements.{filter-append}
 use Rattle.std.specs.List.{IsDistinct, AllByRecursion}
-use Rattle.std.specs.Map.{lookup, set_value, keys_of}
+use Rattle.std.specs.Map.{keys_of}
 use Rattle.std.specs.Cmp.Lexicographic.{nat_list_eq_equiv, same_text}
 use Rattle.std.specs.Str.{bytes_eq}
 use Rattle.indexmap.specs.IndexMap.{insert_entry}
 use Rattle.sf_value.specs.Grammar.Words.{Each}
 use Rattle.sf_value.specs.Grammar.Tokens.{IsKey}
-use Rattle.sf_value.specs.Grammar.Pairs.{Pairs, latest, without, settle, value_at, HasDistinctKeys}
-use Rattle.sf_value.specs.Entries.{pairs, AreEntries}
-
--- the keys as the map compares them
-abbrev pub vec_eq : {A : Type 0} → Vec ℕ A → Vec ℕ A → Bool
-vec_eq x y = bytes_eq x.items y.items
+use Rattle.sf_value.specs.Grammar.Pairs.{Pairs, latest, without, settle, HasDistinctKeys}
+use Rattle.sf_value.specs.Entries.{AreEntries}
 
 module _ {V : Type 0} where
   -- no pair of ps has the key k
@@ -142,43 +138,6 @@ module _ {V : Type 0} where
   insert_entry-next ps qs q d =
       ap (λ rs. rs ++ qs) (insert_entry-absent q.0 q.1 ps (IsAbsent-before ps qs q d))
       ∙ append_assoc ps (q ∷ []) qs
-
-  module _ {A : Type 0} where
-    pub lookup-pairs : (k : List ℕ) (es : List (Vec ℕ A × V))
-        → value_at k (pairs es) ≡ lookup (λ q. bytes_eq k q.items) es
-    lookup-pairs k [] = refl
-    lookup-pairs k (e ∷ es) = ap (cond (bytes_eq k e.0.items) (Some e.1)) (lookup-pairs k es)
-
-    pub pairs-insert_entry : (es : List (Vec ℕ A × V)) (k : Vec ℕ A) (v : V)
-        → pairs (insert_entry vec_eq es k v) ≡ insert_entry bytes_eq (pairs es) k.items v
-    pairs-insert_entry [] k v = refl
-    pairs-insert_entry (e ∷ es) k v =
-        by (bytes_eq k.items e.0.items) refl (pairs-insert_entry es k v)
-      where
-        by : (b : Bool) → bytes_eq k.items e.0.items ≡ b
-            → pairs (insert_entry vec_eq es k v) ≡ insert_entry bytes_eq (pairs es) k.items v
-            → pairs (insert_entry vec_eq (e ∷ es) k v)
-            ≡ insert_entry bytes_eq (pairs (e ∷ es)) k.items v
-        by true t rest = rw t
-        by false t rest = rw (t, rest)
-
-    -- a value that is written at a key that is there
-    pub pairs-set_value : (k : List ℕ) (w : V) (es : List (Vec ℕ A × V))
-        → IsSome (value_at k (pairs es))
-        → pairs (set_value (λ q. bytes_eq k q.items) es w) ≡ insert_entry bytes_eq (pairs es) k w
-    pairs-set_value k w [] h = absurd cc
-    pairs-set_value k w (e ∷ es) h =
-        by (bytes_eq k e.0.items) refl (λ there. pairs-set_value k w es there)
-      where
-        by : (b : Bool) → bytes_eq k e.0.items ≡ b
-            → (IsSome (value_at k (pairs es))
-            → pairs (set_value (λ q. bytes_eq k q.items) es w) ≡ insert_entry bytes_eq (pairs es) k w)
-            → pairs (set_value (λ q. bytes_eq k q.items) (e ∷ es) w)
-            ≡ insert_entry bytes_eq (pairs (e ∷ es)) k w
-        by true t rest = rw t
-        by false t rest =
-            let there : IsSome (value_at k (pairs es)) = rw t at h in
-            rw (t, rest there)
 
 -- one more place at which two lists have one item
 pub same-step : {X : Type 0} (xs ys : List X) (i : ℕ) (x y : X) → take i xs ≡ take i ys

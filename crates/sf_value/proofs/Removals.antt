@@ -1,5 +1,5 @@
 -- Lemmas on a key that is taken out.
-use Rattle.std.proofs.Common.{◌≡◌, ℕ, suc, Bool, true, false, List, [], ◌∷◌, Vec, remove, refl}
+use Rattle.std.proofs.Common.{◌≡◌, ℕ, suc, Bool, true, false, List, [], ◌∷◌, remove, refl}
 use Rattle.std.proofs.Common.{Option, Some, None, sym, ap, ◌∙◌, subst}
 use Rattle.std.specs.List.{IsDistinct}
 use Rattle.std.specs.Map.{keys_of}
@@ -10,7 +10,7 @@ use Rattle.sf_value.specs.declared.store.Slot.{Slot}
 use Rattle.sf_value.specs.Grammar.Words.{Each}
 use Rattle.sf_value.specs.Grammar.Tokens.{IsKey}
 use Rattle.sf_value.specs.Grammar.Pairs.{Pairs, without, HasDistinctKeys}
-use Rattle.sf_value.specs.Entries.{pairs, AreEntries}
+use Rattle.sf_value.specs.Entries.{AreEntries}
 use Rattle.sf_value.specs.Stores.{slot_pairs}
 use Rattle.sf_value.proofs.EntryMaps.{IsAbsent, without-absent}
 use Rattle.sf_value.proofs.Settling.{distinct-without}
@@ -53,18 +53,16 @@ module _ {V : Type 0} (k : List ℕ) where
   removed_none ss h = sym (without-absent k (slot_pairs ss) (place_missing k ss h.was))
 
   -- the entry of the key is taken out of a map
-  pub pairs-without : {A : Type 0} (es : List (Vec ℕ A × V)) → HasDistinctKeys (pairs es)
-      → pairs (shift_remove_entry (λ q. bytes_eq k q.items) es) ≡ without k (pairs es)
+  pub taken-out : (ps : Pairs V) → HasDistinctKeys ps
+      → shift_remove_entry (bytes_eq k) ps ≡ without k ps
   unfolding IsDistinct
-  pairs-without [] d = refl
-  pairs-without {A} (e ∷ es) d = by (bytes_eq k e.0.items) refl (pairs-without es d.1)
+  taken-out [] d = refl
+  taken-out (p ∷ ps) d = by (bytes_eq k p.0) refl (taken-out ps d.1)
     where
-      by : (b : Bool) → bytes_eq k e.0.items ≡ b
-          → pairs (shift_remove_entry (λ q. bytes_eq k q.items) es) ≡ without k (pairs es)
-          → pairs (shift_remove_entry (λ q. bytes_eq k q.items) (e ∷ es))
-          ≡ without k (pairs (e ∷ es))
-      by true t rest = rw t (without-behind e.0.items (pairs es) d.0 t)
-      by false t rest = rw t (ap (λ ps. (e.0.items, e.1) ∷ ps) rest)
+      by : (b : Bool) → bytes_eq k p.0 ≡ b → shift_remove_entry (bytes_eq k) ps ≡ without k ps
+          → shift_remove_entry (bytes_eq k) (p ∷ ps) ≡ without k (p ∷ ps)
+      by true t rest = rw t (without-behind p.0 ps d.0 t)
+      by false t rest = rw t (ap (λ qs. p ∷ qs) rest)
 
   pub entries-without : (ps qs : Pairs V) → AreEntries ps → qs ≡ without k ps → AreEntries qs
   entries-without ps qs h is =

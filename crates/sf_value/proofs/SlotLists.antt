@@ -12,10 +12,10 @@ use Rattle.sf_value.specs.declared.store.Slot.{Slot}
 use Rattle.sf_value.specs.Grammar.Words.{Each}
 use Rattle.sf_value.specs.Grammar.Tokens.{IsKey}
 use Rattle.sf_value.specs.Grammar.Pairs.{Pairs, settle, value_at, HasDistinctKeys}
-use Rattle.sf_value.specs.Entries.{pairs, AreEntries}
-use Rattle.sf_value.specs.Stores.{slot_pairs, name_bytes}
+use Rattle.sf_value.specs.Entries.{AreEntries}
+use Rattle.sf_value.specs.Stores.{slot_pairs}
 use Rattle.sf_value.proofs.EntryMaps.{IsAbsent, insert_entry-absent, insert_entry-next, settle-push}
-use Rattle.sf_value.proofs.EntryMaps.{AreEntries-insert, pairs-insert_entry, vec_eq}
+use Rattle.sf_value.proofs.EntryMaps.{AreEntries-insert}
 
 -- the first place at which a test passes, by recursion
 abbrev pub place : {X : Type 0} → (X → Bool) → List X → Option ℕ
@@ -152,27 +152,16 @@ module _ {V : Type 0} where
   stay_entries k v ps qs h key is = subst AreEntries (sym is) (AreEntries-insert ps k v h key)
 
   -- one more slot goes into the map: what is in it, before what is left, is still all
-  pub filled-step : {A : Type 0} (ns ns' : List (Vec ℕ A)) (n : Vec ℕ A) (ss ss' : List (Slot V))
-      (s : Slot V) (es es' : List (Vec ℕ A × V)) (all : Pairs V)
-      → HasDistinctKeys all → map name_bytes ns ≡ keys_of (slot_pairs ss)
-      → pairs es ++ slot_pairs ss ≡ all → ns ≡ n ∷ ns' → ss ≡ s ∷ ss'
-      → es' ≡ insert_entry vec_eq es n s.value
-      → (map name_bytes ns' ≡ keys_of (slot_pairs ss')) × (pairs es' ++ slot_pairs ss' ≡ all)
-  filled-step ns ns' n ss ss' s es es' all d named all-is ns-is ss-is es-is =
-      let both : n.items ∷ map name_bytes ns' ≡ s.key ∷ keys_of (slot_pairs ss') =
-      ap (map name_bytes) (sym ns-is) ∙ named ∙ ap (λ ts. keys_of (slot_pairs ts)) ss-is in
-      let head : n.items ≡ s.key = cc in
-      let tail : map name_bytes ns' ≡ keys_of (slot_pairs ss') = cc in
-      let next : pairs es ++ (s.key, s.value) ∷ slot_pairs ss' ≡ all =
-      ap (λ ts. pairs es ++ slot_pairs ts) (sym ss-is) ∙ all-is in (
-        tail,
-        ap (λ fs. pairs fs ++ slot_pairs ss') es-is
-            ∙ ap (λ ps. ps ++ slot_pairs ss') (pairs-insert_entry es n s.value)
-            ∙ ap (λ q. insert_entry bytes_eq (pairs es) q s.value ++ slot_pairs ss') head
-            ∙ insert_entry-next (pairs es) (slot_pairs ss') (s.key, s.value)
-            (subst (λ ps. HasDistinctKeys ps) (sym next) d)
-            ∙ next,
-      )
+  pub filled-step : (ss ss' : List (Slot V)) (s : Slot V) (es es' all : Pairs V)
+      → HasDistinctKeys all → es ++ slot_pairs ss ≡ all → ss ≡ s ∷ ss'
+      → es' ≡ insert_entry bytes_eq es s.key s.value → es' ++ slot_pairs ss' ≡ all
+  filled-step ss ss' s es es' all d all-is ss-is es-is =
+      let next : es ++ (s.key, s.value) ∷ slot_pairs ss' ≡ all =
+      ap (λ ts. es ++ slot_pairs ts) (sym ss-is) ∙ all-is in
+      ap (λ fs. fs ++ slot_pairs ss') es-is
+      ∙ insert_entry-next es (slot_pairs ss') (s.key, s.value)
+      (subst (λ ps. HasDistinctKeys ps) (sym next) d)
+      ∙ next
 
   HasDistinctKeys-front : (ps qs : Pairs V) → HasDistinctKeys (ps ++ qs) → HasDistinctKeys ps
   unfolding IsDistinct

@@ -2,7 +2,6 @@
 use Rattle.std.specs.Prelude.{ℕ, ◌<◌, List, [], length, map}
 use Rattle.std.specs.Slice.Iter.{iter_rest}
 use Rattle.std.specs.Vec.Iter.{into_iter_items}
-use Rattle.std.specs.declared.vec.Vec.{Vec}
 use Rattle.sf_value.specs.declared.store.Slot.{Slot}
 use Rattle.sf_value.specs.declared.store.Store.{Store}
 use Rattle.sf_value.specs.declared.store.Store.TheVariants as store
@@ -11,11 +10,6 @@ use Rattle.sf_value.specs.declared.store.Lent.TheVariants as lent
 use Rattle.sf_value.specs.declared.store.Left.{Left}
 use Rattle.sf_value.specs.declared.store.Left.TheVariants as left
 use Rattle.sf_value.specs.Grammar.Pairs.{Pairs}
-use Rattle.sf_value.specs.Entries.{pairs}
-
--- a key that is stored as a `Vec`, as its bytes
-abbrev pub name_bytes : {A : Type 0} → Vec ℕ A → List ℕ
-name_bytes v = v.items
 
 module _ {V : Type 0} where
   abbrev pub slot_pair : Slot V → List ℕ × V
@@ -27,7 +21,7 @@ module _ {V : Type 0} where
   abbrev pub stored : Store V → Pairs V
   stored (store.Fresh _ _) = []
   stored (store.Few slots) = slot_pairs slots.items
-  stored (store.Many map) = pairs map.value.entries
+  stored (store.Many map) = map.value.entries
 
   -- whether the seed of a map is at hand: a vector has it in its first slot
   abbrev pub HasSeed : Store V → Type 0
@@ -39,10 +33,10 @@ module _ {V : Type 0} where
   abbrev pub lent_pairs : Lent V → Pairs V
   lent_pairs lent.Nothing = []
   lent_pairs (lent.Few slots) = slot_pairs (iter_rest slots)
-  lent_pairs (lent.Many entries) = pairs entries
+  lent_pairs (lent.Many entries) = entries
 
   -- what an iteration by value has left
   abbrev pub left_pairs : Left V → Pairs V
   left_pairs left.Nothing = []
   left_pairs (left.Few slots) = slot_pairs (into_iter_items slots)
-  left_pairs (left.Many entries) = pairs entries
+  left_pairs (left.Many entries) = entries

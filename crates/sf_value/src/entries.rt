@@ -205,7 +205,7 @@ impl<'a, V> Iterator for Iter<'a, V> {
             }
             Lent::Many(entries) => {
                 let (key, value) = entries.next()?;
-                return Some((key.as_slice(), value));
+                return Some((key.as_bytes(), value));
             }
         }
     }
@@ -258,9 +258,7 @@ impl<V: Drop> Iterator for IntoIter<V> {
                 return Some((key, value));
             }
             Left::Many(entries) => {
-                let (bytes, value) = entries.next()?;
-                let bytes = ShortBytes::from_vec(bytes);
-                return Some((Key { bytes }, value));
+                return entries.next();
             }
         }
     }

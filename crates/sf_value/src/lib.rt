@@ -40,6 +40,7 @@ mod key;
 pub mod laws;
 mod lookup;
 mod many;
+mod naming;
 mod number;
 mod part;
 mod sequence;

@@ -1,6 +1,6 @@
 //! Where entries stand: a few in a vector, where they are found by their bytes, more in a map,
 //! where they are found by hashes.
-ghost use Rattle.std.specs.Prelude.{◌≡◌, ◌<◌, ◌≤◌, ◌+◌, [], ◌∷◌, ◌++◌, None, length, map as each, slice_get};
+ghost use Rattle.std.specs.Prelude.{◌≡◌, ◌<◌, ◌≤◌, ◌+◌, [], ◌∷◌, ◌++◌, None, length, slice_get};
 ghost use Rattle.std.specs.Prelude.{IfOk, IfErr, OnErr, vec_len};
 ghost use Rattle.std.specs.Option.{option_map, option_copied, option_copied_mut};
 ghost use Rattle.std.specs.List.{position};
@@ -10,13 +10,14 @@ ghost use Rattle.std.specs.Borrow.{sem};
 ghost use Rattle.sf_value.specs.Lending.{LendsStored};
 ghost use Rattle.indexmap.specs.IndexMap.{spare};
 ghost use Rattle.sf_value.specs.Grammar.Pairs.{settle, without, value_at, HasDistinctKeys};
-ghost use Rattle.sf_value.specs.Entries.{deref_entry, pairs, AreEntries};
-ghost use Rattle.sf_value.specs.Stores.{slot_pairs, stored, HasSeed, name_bytes, lent_pairs, left_pairs};
+ghost use Rattle.sf_value.specs.Entries.{deref_entry, AreEntries};
+ghost use Rattle.sf_value.specs.Stores.{slot_pairs, stored, HasSeed, lent_pairs, left_pairs};
 
 use crate::fault::OutOfMemory;
 use crate::key::Key;
 use crate::many;
 use crate::many::Many;
+use crate::naming::Name;
 use indexmap::{IndexMap, map};
 use std::alloc::Global;
 use std::hash::RandomState;
@@ -48,7 +49,7 @@ pub(crate) enum Store<V> {
 pub(crate) enum Lent<'a, V> {
     Nothing,
     Few(slice::Iter<'a, Slot<V>>),
-    Many(map::Iter<'a, Vec<u8>, V>),
+    Many(map::Iter<'a, Key, V>),
 }
 
 /// The entries that an iteration by value has left.
@@ -56,7 +57,7 @@ pub(crate) enum Lent<'a, V> {
 pub(crate) enum Left<V> {
     Nothing,
     Few(vec::IntoIter<Slot<V>>),
-    Many(map::IntoIter<Vec<u8>, V>),
+    Many(map::IntoIter<Key, V>),
 }
 
 // The place of the key of these bytes among a few.
@@ -88,7 +89,7 @@ impl<V> Store<V> {
                 let place = place_of(slots, key)?;
                 return Some(&slots[place].value);
             }
-            Store::Many(map) => return map.get(key),
+            Store::Many(map) => return map.get(Name { bytes: key }),
         }
     }
 
@@ -104,7 +105,7 @@ impl<V> Store<V> {
             }
             Store::Many(map) => {
                 let (key, value) = map.get_index(index)?;
-                return Some((key.as_slice(), value));
+                return Some((key.as_bytes(), value));
             }
         }
     }
@@ -116,7 +117,7 @@ impl<V> Store<V> {
         match self {
             Store::Fresh(_, _) => return None,
             Store::Few(slots) => return place_of(slots, key),
-            Store::Many(map) => return map.get_index_of(key),
+            Store::Many(map) => return map.get_index_of(Name { bytes: key }),
         }
     }
 
@@ -148,33 +149,16 @@ impl<V> Store<V> {
     }
 }
 
-// The keys of a few entries, in vectors of their own.
-fn names<V>(alloc: Global, slots: &[Slot<V>]) -> Result<Vec<Vec<u8>>, OutOfMemory>
-    ensures { IfOk result (λ names. each name_bytes names.items ≡ keys_of (slot_pairs slots.now)) }
-{
-    let mut names = Vec::with_capacity(alloc, slots.len())?;
-    for slot in slots {
-        let name = Vec::from_slice(alloc, slot.key.as_bytes())?;
-        names.push(name)?;
-    }
-    Ok(names)
-}
-
-// Puts the values into an empty map that has room for them, under their keys as vectors.
-fn fill<V: Drop>(map: &mut Many<V>, names: Vec<Vec<u8>>, slots: Vec<Slot<V>>)
-    requires names { each name_bytes names.items ≡ keys_of (slot_pairs slots.items) }
+// Puts the entries into an empty map that has room for them.
+fn fill<V: Drop>(map: &mut Many<V>, slots: Vec<Slot<V>>)
     requires distinct { HasDistinctKeys (slot_pairs slots.items) }
     requires empty { map.old.entries ≡ [] }
     requires room { vec_len slots ≤ spare map.old }
-    ensures { pairs map.new.entries ≡ slot_pairs slots.items }
+    ensures { map.new.entries ≡ slot_pairs slots.items }
 {
-    let mut names = names.into_iter();
     for slot in slots {
-        let Slot { key: _, value, .. } = slot;
-        let Some(name) = names.next() else {
-            unreachable!()
-        };
-        let Ok(_) = map.insert(name, value) else {
+        let Slot { key, value, .. } = slot;
+        let Ok(_) = map.insert(key, value) else {
             unreachable!()
         };
     }
@@ -184,18 +168,17 @@ fn fill<V: Drop>(map: &mut Many<V>, names: Vec<Vec<u8>>, slots: Vec<Slot<V>>)
 fn grown<V: Drop>(slots: &mut Vec<Slot<V>>) -> Result<Box<Many<V>>, OutOfMemory>
     requires some { 0 < vec_len slots.old }
     requires distinct { HasDistinctKeys (slot_pairs slots.old.items) }
-    ensures all { IfOk result (λ map. pairs map.value.entries ≡ slot_pairs slots.old.items) }
+    ensures all { IfOk result (λ map. map.value.entries ≡ slot_pairs slots.old.items) }
     ensures same { OnErr result (slots.new.items ≡ slots.old.items) }
 {
     let seed = slots[0].seed;
     let alloc = *slots.allocator();
-    let names = names(alloc, slots)?;
     let map = IndexMap::with_capacity_and_hasher(alloc, slots.len() + 1, seed)?;
     let Ok(mut map) = Box::new(alloc, map) else {
         return Err(OutOfMemory);
     };
     let few = mem::replace(slots, Vec::new(alloc));
-    fill(&mut map, names, few);
+    fill(&mut map, few);
     Ok(map)
 }
 
@@ -294,7 +277,7 @@ impl<V: Drop> Store<V> {
                 *self = Store::Fresh(alloc, seed);
                 return Some(value);
             }
-            Store::Many(map) => return map.shift_remove(key),
+            Store::Many(map) => return map.shift_remove(Name { bytes: key }),
         }
     }
 }

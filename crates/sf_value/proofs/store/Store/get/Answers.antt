@@ -1,8 +1,6 @@
 use Rattle.std.proofs.Common.{refl, sym, ap, ◌∙◌}
 use Rattle.sf_value.specs.Grammar.Pairs.{value_at}
-use Rattle.sf_value.specs.Entries.{pairs}
 use Rattle.sf_value.specs.Stores.{stored}
-use Rattle.sf_value.proofs.EntryMaps.{lookup-pairs}
 use Rattle.sf_value.proofs.SlotLists.{searched, value_missing, value_found}
 use Rattle.sf_value.proofs.store.Store.get.Goals as goal
 
@@ -26,6 +24,5 @@ returns-in-Few g c =
 pub returns-in-Many : goal.returns-in-Many
 returns-in-Many g c =
     let k = c.args.key.now in
-    c.get.ensures.value ∙ sym (lookup-pairs k c.deref-in-Many.result.now.entries)
-    ∙ ap (λ m. value_at k (pairs m.entries)) c.deref-in-Many.ensures
+    c.get.ensures.value ∙ ap (λ m. value_at k m.entries) c.deref-in-Many.ensures
     ∙ ap (λ s. value_at k (stored s)) (sym c.in-Many.is)

@@ -2,10 +2,9 @@ use Rattle.std.proofs.Common.{sym, ap, ◌∙◌}
 use Rattle.std.specs.List.{position}
 use Rattle.std.specs.Map.{keys_of}
 use Rattle.std.specs.Str.{bytes_eq}
-use Rattle.sf_value.specs.Entries.{pairs}
 use Rattle.sf_value.specs.Stores.{stored}
 use Rattle.sf_value.proofs.SlotLists.{has_key}
-use Rattle.sf_value.proofs.Changes.{slots-position, names-position}
+use Rattle.sf_value.proofs.Changes.{slots-position}
 use Rattle.sf_value.proofs.store.Store.place.Goals as goal
 
 pub returns-in-Few : goal.returns-in-Few
@@ -18,6 +17,6 @@ returns-in-Few g c =
 pub returns-in-Many : goal.returns-in-Many
 returns-in-Many g c =
     let k = c.args.key.now in
-    c.get_index_of.ensures.index ∙ names-position k c.deref-in-Many.result.now.entries
-    ∙ ap (λ m. position (bytes_eq k) (keys_of (pairs m.entries))) c.deref-in-Many.ensures
+    c.get_index_of.ensures.index
+    ∙ ap (λ m. position (bytes_eq k) (keys_of m.entries)) c.deref-in-Many.ensures
     ∙ ap (λ s. position (bytes_eq k) (keys_of (stored s))) (sym c.in-Many.is)

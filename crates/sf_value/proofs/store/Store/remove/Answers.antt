@@ -1,10 +1,10 @@
 use Rattle.std.proofs.Common.{refl, sym, ap, subst, ◌∙◌}
-use Rattle.sf_value.specs.Entries.{AreEntries, pairs}
+use Rattle.sf_value.specs.Entries.{AreEntries}
 use Rattle.sf_value.specs.Grammar.Pairs.{value_at, without}
 use Rattle.sf_value.specs.Stores.{slot_pairs}
-use Rattle.sf_value.proofs.EntryMaps.{AreEntries-none, lookup-pairs}
+use Rattle.sf_value.proofs.EntryMaps.{AreEntries-none}
 use Rattle.sf_value.proofs.SlotLists.{searched, value_missing, value_found}
-use Rattle.sf_value.proofs.Removals.{removed_slot, removed_none, pairs-without, entries-without}
+use Rattle.sf_value.proofs.Removals.{removed_slot, removed_none, taken-out, entries-without}
 use Rattle.sf_value.proofs.store.Store.remove.Goals as goal
 
 pub returns-in_err-place-in-Few-clause-value : goal.returns-in_err-place-in-Few-clause-value
@@ -57,28 +57,27 @@ pub returns-in-Many-clause-entries : goal.returns-in-Many-clause-entries
 returns-in-Many-clause-entries g c =
     let k = c.args.key.now in
     let m = c.deref_mut.result.now in
-    let there : AreEntries (pairs c.in-Many.map.value.entries) =
+    let there : AreEntries c.in-Many.map.value.entries =
     rw c.in-Many.is at c.requires.entries in
-    let here : AreEntries (pairs m.entries) =
-    subst (λ n. AreEntries (pairs n.entries)) (sym c.deref_mut.ensures.value) there in
-    entries-without k (pairs m.entries) _ here
-    (ap pairs c.shift_remove.ensures.entries ∙ pairs-without k m.entries here.distinct)
+    let here : AreEntries m.entries =
+    subst (λ n. AreEntries n.entries) (sym c.deref_mut.ensures.value) there in
+    entries-without k m.entries _ here
+    (c.shift_remove.ensures.entries ∙ taken-out k m.entries here.distinct)
 
 pub returns-in-Many-clause-value : goal.returns-in-Many-clause-value
 returns-in-Many-clause-value g c =
     let k = c.args.key.now in
     rw c.in-Many.is
-    (c.shift_remove.ensures.value ∙ sym (lookup-pairs k c.deref_mut.result.now.entries)
-    ∙ ap (λ n. value_at k (pairs n.entries)) c.deref_mut.ensures.value)
+    (c.shift_remove.ensures.value ∙ ap (λ n. value_at k n.entries) c.deref_mut.ensures.value)
 
 pub returns-in-Many-clause-rest : goal.returns-in-Many-clause-rest
 returns-in-Many-clause-rest g c =
     let k = c.args.key.now in
     let m = c.deref_mut.result.now in
-    let there : AreEntries (pairs c.in-Many.map.value.entries) =
+    let there : AreEntries c.in-Many.map.value.entries =
     rw c.in-Many.is at c.requires.entries in
-    let here : AreEntries (pairs m.entries) =
-    subst (λ n. AreEntries (pairs n.entries)) (sym c.deref_mut.ensures.value) there in
+    let here : AreEntries m.entries =
+    subst (λ n. AreEntries n.entries) (sym c.deref_mut.ensures.value) there in
     rw c.in-Many.is
-    (ap pairs c.shift_remove.ensures.entries ∙ pairs-without k m.entries here.distinct
-    ∙ ap (λ n. without k (pairs n.entries)) c.deref_mut.ensures.value)
+    (c.shift_remove.ensures.entries ∙ taken-out k m.entries here.distinct
+    ∙ ap (λ n. without k n.entries) c.deref_mut.ensures.value)

@@ -5,7 +5,6 @@ use Rattle.std.specs.Box.{with_value}
 use Rattle.std.specs.Option.{ghost_name_of, option_map}
 use Rattle.indexmap.specs.IndexMap.{with_value_at}
 use Rattle.sf_value.specs.declared.store.Store.TheVariants.{Many}
-use Rattle.sf_value.specs.Entries.{pairs}
 use Rattle.sf_value.proofs.Changes.{few-set, few-value, many-value}
 use Rattle.sf_value.proofs.store.Store.value_mut.Goals as goal
 
@@ -37,6 +36,6 @@ returns-in-Many g c =
       record {
         writes_back = tt;
         value = c.get_index_mut.ensures.value ∙ many-value c.deref_mut.result.now.entries i
-            ∙ ap (λ m. option_map (λ e. e.1) (slice_get (pairs m.entries) i)) here;
+            ∙ ap (λ m. option_map (λ e. e.1) (slice_get m.entries i)) here;
       },
     )
