@@ -2,6 +2,9 @@
 //! itself.
 ghost use Rattle.sf_value.specs.declared.value.Field.TheVariants as field_is;
 ghost use Rattle.sf_value.specs.declared.value.Kind.TheVariants as kind_is;
+ghost use Rattle.std.specs.Prelude.{◌≡◌, ℕ, List, [], ◌∷◌, IfErr};
+ghost use Rattle.sf_value.specs.Grammar.Words.{Every};
+ghost use Rattle.sf_parse.specs.Plain.{plain_byte, IsOther};
 ghost use Rattle.sf_field.specs.Lines.{ParsesLinesAs};
 
 use crate::lines::parse_lines;
@@ -11,13 +14,15 @@ use std::alloc::Global;
 use std::hash::RandomState;
 
 /// The Item that the lines spell together, as [`crate::parse_lines`] gives it where an Item is
-/// asked for.
+/// asked for. One line of spaces, `-` and digits takes no memory.
 ///
 /// ```
 /// let item = parse_item_lines(alloc, &seed, lines.as_slice())?;
 /// ```
 pub fn parse_item_lines(alloc: Global, seed: &RandomState, lines: &[Blob]) -> Result<Item, Refusal>
-    ensures { ParsesLinesAs field_is.Item kind_is.Item lines.now result }
+    ensures parses { ParsesLinesAs field_is.Item kind_is.Item lines.now result }
+    // one line of spaces, minus signs and digits takes no memory
+    ensures plain { (line : List ℕ) → lines.now ≡ line ∷ [] → Every plain_byte line → IfErr result IsOther }
 {
     match parse_lines(alloc, seed, Kind::Item, lines)? {
         Field::Item(item) => Ok(item),
@@ -42,8 +47,8 @@ pub fn parse_list_lines(alloc: Global, seed: &RandomState, lines: &[Blob]) -> Re
     }
 }
 
-/// The Dictionary that the lines spell together, as [`crate::parse_lines`] gives it where a Dictionary is
-/// asked for.
+/// The Dictionary that the lines spell together, as [`crate::parse_lines`] gives it where a
+/// Dictionary is asked for.
 ///
 /// ```
 /// let dict = parse_dict_lines(alloc, &seed, lines.as_slice())?;

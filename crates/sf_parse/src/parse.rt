@@ -54,12 +54,11 @@ pub fn parse_text_in(
 }
 
 /// The Item that the text spells, in the dialect of RFC 9651 (section 4.2), as [`parse_text`] gives
-/// it where an Item is asked for. A text of spaces,
-/// `-` and digits takes no memory.
+/// it where an Item is asked for. A text of spaces, `-` and digits takes no memory.
 ///
 /// ```
 /// let item = parse_item(alloc, &seed, b"a;q=1")?;
-/// item.param(b"q") // Some(1)
+/// item.param(b"q")?.as_integer() // Some(1)
 /// ```
 pub fn parse_item(alloc: Global, seed: &RandomState, text: &[u8]) -> Result<Item, Refusal>
     ensures parses { ParsesAs field_is.Item Rfc9651 kind_is.Item text.now result }
@@ -89,12 +88,12 @@ pub fn parse_list(alloc: Global, seed: &RandomState, text: &[u8]) -> Result<List
     }
 }
 
-/// The Dictionary that the text spells, in the dialect of RFC 9651 (section 4.2), as [`parse_text`] gives
-/// it where a Dictionary is asked for.
+/// The Dictionary that the text spells, in the dialect of RFC 9651 (section 4.2), as [`parse_text`]
+/// gives it where a Dictionary is asked for.
 ///
 /// ```
 /// let dict = parse_dict(alloc, &seed, b"u=1, i")?;
-/// dict.get(b"u") // Some(1)
+/// dict.get(b"u") // Some(Member::Item(1))
 /// ```
 pub fn parse_dict(alloc: Global, seed: &RandomState, text: &[u8]) -> Result<Dict, Refusal>
     ensures { ParsesAs field_is.Dict Rfc9651 kind_is.Dict text.now result }
