@@ -1,5 +1,5 @@
 //! A member of a Dictionary that is being read (RFC 9651 section 4.2.2).
-ghost use Rattle.std.specs.Prelude.{◌≡◌, [], ◌∷◌, IfOk};
+ghost use Rattle.std.specs.Prelude.{◌≡◌, [], ◌∷◌, IfOk, IfNone};
 ghost use Rattle.sf_value.specs.Grammar.Fields.{flag as flag_member};
 ghost use Rattle.sf_parse.specs.Fronts.{Starts};
 ghost use Rattle.sf_parse.specs.EntryView.{entry_stuck};
@@ -93,7 +93,8 @@ impl EntryReader {
 
     /// The key and the value, if the member is whole. What is left is the reader alone.
     pub fn finish(&mut self, context: &Context) -> Result<Option<(Key, Member)>, OutOfMemory>
-        ensures { IfOk result (λ entry. entry ≡ entry_finish self.old) }
+        ensures value { IfOk result (λ entry. entry ≡ entry_finish self.old) }
+        ensures kept { IfOk result (λ entry. IfNone entry (self.new ≡ self.old)) }
     {
         match self.phase {
             EntryPhase::InKey => {
@@ -112,6 +113,7 @@ impl EntryReader {
             EntryPhase::InFlag => {
                 self.phase = EntryPhase::InMember;
                 let Some(member) = self.member.finish(context)? else {
+                    self.phase = EntryPhase::InFlag;
                     return Ok(None);
                 };
                 let key = Key::from_bytes(mem::replace(&mut self.key, no_key(context)));

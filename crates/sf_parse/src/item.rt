@@ -1,5 +1,5 @@
 //! An Item that is being read (RFC 9651 section 4.2.3).
-ghost use Rattle.std.specs.Prelude.{◌≡◌, [], true, IfOk, IsOk};
+ghost use Rattle.std.specs.Prelude.{◌≡◌, [], true, IfOk, IfNone, IsOk};
 ghost use Rattle.sf_value.specs.declared.value.Bare.{Bare};
 ghost use Rattle.sf_value.specs.declared.value.Bare.TheVariants as bare_is;
 ghost use Rattle.sf_parse.specs.Plain.{plain_byte, PlainItem};
@@ -81,15 +81,18 @@ impl ItemReader {
 
     /// The parameters alone, if the last one is whole. What is left is the reader alone.
     pub fn finish_params(&mut self, context: &Context) -> Result<Option<Entries<Bare>>, OutOfMemory>
-        ensures { IfOk result (λ params. (x : Bare) (s : ParamsState) → self.old ≡ InParams x s
-            → params ≡ params_finish s) }
+        ensures value { IfOk result (λ params. (x : Bare) (s : ParamsState)
+            → self.old ≡ InParams x s → params ≡ params_finish s) }
+        ensures kept { IfOk result (λ params. IfNone params (self.new ≡ self.old)) }
     {
         self.params.finish(context)
     }
 
     /// The item, if it is whole. What is left is the reader alone.
+    #[inline(always)]
     pub fn finish(&mut self, context: &Context) -> Result<Option<Item>, OutOfMemory>
         ensures value { IfOk result (λ item. item ≡ item_finish self.old) }
+        ensures kept { IfOk result (λ item. IfNone item (self.new ≡ self.old)) }
         ensures plain { PlainItem self.old → IsOk result }
     {
         if !self.in_params {
@@ -104,7 +107,7 @@ impl ItemReader {
         };
         self.in_params = false;
         let Some(bare) = self.bare.finish(context) else {
-            return Ok(None);
+            unreachable!()
         };
         Ok(Some(Item { bare, params }))
     }

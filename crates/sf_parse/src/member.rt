@@ -1,6 +1,6 @@
 //! A member of a List that is being read: an Item or an Inner List (RFC 9651 sections 4.2.1.1 and
 //! 4.2.1.2).
-ghost use Rattle.std.specs.Prelude.{◌≡◌, [], true, IfOk};
+ghost use Rattle.std.specs.Prelude.{◌≡◌, [], true, IfOk, IfNone};
 ghost use Rattle.sf_value.specs.declared.value.Bare.TheVariants as bare_is;
 ghost use Rattle.sf_parse.specs.Expected.{Marks};
 ghost use Rattle.sf_parse.specs.Fronts.{Starts};
@@ -94,8 +94,10 @@ impl MemberReader {
     }
 
     /// The member, if it is whole. What is left is the reader alone.
+    #[inline(always)]
     pub fn finish(&mut self, context: &Context) -> Result<Option<Member>, OutOfMemory>
-        ensures { IfOk result (λ member. member ≡ member_finish self.old) }
+        ensures value { IfOk result (λ member. member ≡ member_finish self.old) }
+        ensures kept { IfOk result (λ member. IfNone member (self.new ≡ self.old)) }
     {
         match self.phase {
             MemberPhase::One => match self.item.finish(context)? {
@@ -106,6 +108,7 @@ impl MemberReader {
             MemberPhase::Closing => {
                 self.phase = MemberPhase::Room;
                 let Some(params) = self.item.finish_params(context)? else {
+                    self.phase = MemberPhase::Closing;
                     return Ok(None);
                 };
                 let items = mem::replace(&mut self.items, Sequence::new(context.alloc));
@@ -169,11 +172,11 @@ impl Level for MemberReader {
                 return Ok(true);
             }
             MemberPhase::InItem => {
-                if byte != b' ' && byte != b')' || !self.item.may_end() {
+                if byte != b' ' && byte != b')' {
                     return Ok(false);
                 }
                 let Some(item) = self.item.finish(context)? else {
-                    unreachable!();
+                    return Ok(false);
                 };
                 self.phase = MemberPhase::Room;
                 if self.items.push(item).is_err() {

@@ -1,5 +1,5 @@
 //! Parameters that are being read (RFC 9651 section 4.2.3.2).
-ghost use Rattle.std.specs.Prelude.{◌≡◌, [], IfOk};
+ghost use Rattle.std.specs.Prelude.{◌≡◌, [], IfOk, IfNone};
 ghost use Rattle.sf_value.specs.Grammar.Pairs.{put as put_pair};
 ghost use Rattle.sf_value.specs.Grammar.Tokens.{IsKey};
 ghost use Rattle.sf_parse.specs.Machine.Params.{Between, Opened, params_step, params_finish};
@@ -84,7 +84,8 @@ impl ParamsReader {
 
     /// The parameters, if the last one is whole. What is left is the reader alone.
     pub fn finish(&mut self, context: &Context) -> Result<Option<Entries<Bare>>, OutOfMemory>
-        ensures { IfOk result (λ params. params ≡ params_finish self.old) }
+        ensures value { IfOk result (λ params. params ≡ params_finish self.old) }
+        ensures kept { IfOk result (λ params. IfNone params (self.new ≡ self.old)) }
     {
         match self.phase {
             ParamsPhase::Between => {}

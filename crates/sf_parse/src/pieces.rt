@@ -40,11 +40,8 @@ impl Piece<Sequence<Member>> for MemberReader {
         context: &Context,
         given: &mut Sequence<Member>,
     ) -> Result<bool, OutOfMemory> {
-        if !self.may_end() {
-            return Ok(false);
-        }
         let Some(member) = self.finish(context)? else {
-            unreachable!();
+            return Ok(false);
         };
         if given.push(member).is_err() {
             return Err(OutOfMemory);
@@ -75,11 +72,8 @@ impl Piece<Entries<Member>> for EntryReader {
     }
 
     fn end(&mut self, context: &Context, given: &mut Entries<Member>) -> Result<bool, OutOfMemory> {
-        if !self.may_end() {
-            return Ok(false);
-        }
         let Some((key, member)) = self.finish(context)? else {
-            unreachable!();
+            return Ok(false);
         };
         if given.put(key, member).is_err() {
             return Err(OutOfMemory);

@@ -121,11 +121,11 @@ impl Level for TopReader {
                 return Ok(true);
             }
             TopPhase::Inside => {
-                if byte != b' ' || !self.item.may_end() {
+                if byte != b' ' {
                     return Ok(false);
                 }
                 let Some(item) = self.item.finish(context)? else {
-                    unreachable!();
+                    return Ok(false);
                 };
                 self.whole = Some(item);
                 self.phase = TopPhase::Behind;
