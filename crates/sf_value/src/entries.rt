@@ -154,10 +154,7 @@ impl<V: Drop> Entries<V> {
         ensures same { OnErr result (self.new ≡ self.old) }
         ensures absent { OnErr result (value_at key self.old ≡ None) }
     {
-        match self.put(key, value) {
-            Ok(_) => return Ok(()),
-            Err(_) => return Err(OutOfMemory),
-        }
+        self.store.set(key, value)
     }
 
     /// Takes out the key of these bytes, and answers its value; `None` where it has none. The other

@@ -1,8 +1,9 @@
 //! Entries in a map, where they are more than a few.
-ghost use Rattle.std.specs.Prelude.{◌≡◌, [], ◌∷◌, ◌++◌, None, IfOk, IfErr};
+ghost use Rattle.std.specs.Prelude.{◌≡◌, [], ◌∷◌, ◌++◌, None, IfOk, IfErr, OnOk, OnErr};
 ghost use Rattle.sf_value.specs.Grammar.Pairs.{settle, value_at};
 ghost use Rattle.sf_value.specs.Entries.{AreEntries};
 
+use crate::fault::OutOfMemory;
 use crate::key::Key;
 use indexmap::IndexMap;
 use std::hash::RandomState;
@@ -26,5 +27,21 @@ pub(crate) fn put<V>(map: &mut Many<V>, key: Key, value: V) -> Result<Option<V>,
     match map.insert(key, value) {
         Ok(old) => Ok(old),
         Err(refused) => Err(refused.value),
+    }
+}
+
+/// Puts a value at a key, as `Entries::set` does: what `put` answers is not carried about.
+pub(crate) fn set<V: Drop>(map: &mut Many<V>, key: Key, value: V) -> Result<(), OutOfMemory>
+    requires { AreEntries map.old.entries }
+    ensures entries { AreEntries map.new.entries }
+    ensures new { OnOk result (map.new.entries ≡ settle (map.old.entries ++ (key, value) ∷ [])) }
+    ensures same { OnErr result (map.new.entries ≡ map.old.entries) }
+    ensures absent { OnErr result (value_at key map.old.entries ≡ None) }
+{
+    // That its bytes are a key's the proof has to know.
+    let _ = key.as_bytes();
+    match map.insert(key, value) {
+        Ok(_) => Ok(()),
+        Err(_) => Err(OutOfMemory),
     }
 }

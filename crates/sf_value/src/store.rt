@@ -1,7 +1,7 @@
 //! Where entries stand: a few in a vector, where they are found by their bytes, more in a map,
 //! where they are found by hashes.
 ghost use Rattle.std.specs.Prelude.{◌≡◌, ◌<◌, ◌≤◌, ◌+◌, [], ◌∷◌, ◌++◌, None, length, slice_get};
-ghost use Rattle.std.specs.Prelude.{IfOk, IfErr, OnErr, vec_len};
+ghost use Rattle.std.specs.Prelude.{IfOk, IfErr, OnOk, OnErr, vec_len};
 ghost use Rattle.std.specs.Option.{option_map, option_copied, option_copied_mut};
 ghost use Rattle.std.specs.List.{position};
 ghost use Rattle.std.specs.Map.{keys_of};
@@ -249,6 +249,26 @@ impl<V: Drop> Store<V> {
                 return put;
             }
             Store::Many(map) => return many::put(map, key, value),
+        }
+    }
+
+    /// Puts a value at a key, as `Entries::set` does. Only a new key takes memory.
+    #[inline(never)]
+    pub(crate) fn set(&mut self, key: Key, value: V) -> Result<(), OutOfMemory>
+        requires entries { AreEntries (stored self.old) }
+        requires seed { HasSeed self.old }
+        ensures entries { AreEntries (stored self.new) }
+        ensures seed { HasSeed self.new }
+        ensures new { OnOk result (stored self.new ≡ settle (stored self.old ++ (key, value) ∷ [])) }
+        ensures same { OnErr result (stored self.new ≡ stored self.old) }
+        ensures absent { OnErr result (value_at key (stored self.old) ≡ None) }
+    {
+        if let Store::Many(map) = self {
+            return many::set(map, key, value);
+        }
+        match self.put(key, value) {
+            Ok(_) => return Ok(()),
+            Err(_) => return Err(OutOfMemory),
         }
     }
 
