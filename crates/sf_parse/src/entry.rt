@@ -1,9 +1,11 @@
 //! A member of a Dictionary that is being read (RFC 9651 section 4.2.2).
-ghost use Rattle.std.specs.Prelude.{◌≡◌, [], ◌∷◌, IfOk, IfNone};
+ghost use Rattle.std.specs.Prelude.{◌≡◌, [], ◌∷◌, false, IfOk};
 ghost use Rattle.sf_value.specs.Grammar.Fields.{flag as flag_member};
 ghost use Rattle.sf_parse.specs.Fronts.{Starts};
 ghost use Rattle.sf_parse.specs.EntryView.{entry_stuck};
-ghost use Rattle.sf_parse.specs.Machine.Entries.{entry_start, entry_step, entry_finish};
+ghost use Rattle.sf_parse.specs.PieceEnds.{with_entry};
+ghost use Rattle.sf_parse.specs.SeriesView.{Ends};
+ghost use Rattle.sf_parse.specs.Machine.Entries.{entry_start, entry_step};
 ghost use Rattle.sf_parse.specs.Machine.Takes.{entry_takes, entry_ends};
 
 use crate::context::Context;
@@ -91,35 +93,41 @@ impl EntryReader {
         Ok(true)
     }
 
-    /// The key and the value, if the member is whole. What is left is the reader alone.
-    pub fn finish(&mut self, context: &Context) -> Result<Option<(Key, Member)>, OutOfMemory>
-        ensures value { IfOk result (λ entry. entry ≡ entry_finish self.old) }
-        ensures kept { IfOk result (λ entry. IfNone entry (self.new ≡ self.old)) }
+    /// Puts the member at its key, if it is whole, or tells that it is not, and changes nothing. What
+    /// is left is the reader alone.
+    pub fn end(
+        &mut self,
+        context: &Context,
+        given: &mut Entries<Member>,
+    ) -> Result<bool, OutOfMemory>
+        ensures ended { IfOk result (λ ended. Ends ended (with_entry self.old given.old) given.old
+            given.new) }
+        ensures kept { IfOk result (λ ended. ended ≡ false → self.new ≡ self.old) }
     {
         match self.phase {
             EntryPhase::InKey => {
                 let key = Key::from_bytes(mem::replace(&mut self.key, no_key(context)));
-                let params = Entries::new(context.alloc, &context.seed);
-                return Ok(Some((key, flag(params))));
+                given.set(key, flag(Entries::new(context.alloc, &context.seed)))?;
             }
-            EntryPhase::Equals => return Ok(None),
+            EntryPhase::Equals => return Ok(false),
             EntryPhase::InMember => {
                 let Some(member) = self.member.finish(context)? else {
-                    return Ok(None);
+                    return Ok(false);
                 };
                 let key = Key::from_bytes(mem::replace(&mut self.key, no_key(context)));
-                return Ok(Some((key, member)));
+                given.set(key, member)?;
             }
             EntryPhase::InFlag => {
                 self.phase = EntryPhase::InMember;
                 let Some(member) = self.member.finish(context)? else {
                     self.phase = EntryPhase::InFlag;
-                    return Ok(None);
+                    return Ok(false);
                 };
                 let key = Key::from_bytes(mem::replace(&mut self.key, no_key(context)));
-                return Ok(Some((key, member)));
+                given.set(key, member)?;
             }
         }
+        Ok(true)
     }
 }
 

@@ -1,17 +1,20 @@
 //! An Item that is being read (RFC 9651 section 4.2.3).
-ghost use Rattle.std.specs.Prelude.{◌≡◌, [], true, IfOk, IfNone, IsOk};
+ghost use Rattle.std.specs.Prelude.{◌≡◌, [], true, false, IfOk, IfNone, IsOk};
 ghost use Rattle.sf_value.specs.declared.value.Bare.{Bare};
 ghost use Rattle.sf_value.specs.declared.value.Bare.TheVariants as bare_is;
 ghost use Rattle.sf_parse.specs.Plain.{plain_byte, PlainItem};
 ghost use Rattle.sf_parse.specs.Plainness.{plain_item_step};
 ghost use Rattle.sf_parse.specs.Fronts.{Starts};
 ghost use Rattle.sf_parse.specs.ItemView.{item_stuck};
+ghost use Rattle.sf_parse.specs.SeriesView.{Ends};
+ghost use Rattle.sf_parse.specs.Machine.Language.{seen};
 ghost use Rattle.sf_parse.specs.Machine.Params.{ParamsState, Between, Opened, params_finish};
 ghost use Rattle.sf_parse.specs.Machine.Items.{InParams, item_start, item_step, item_finish};
 ghost use Rattle.sf_parse.specs.Machine.Takes.{item_takes, item_ends};
 
 use crate::bare::BareReader;
 use crate::context::Context;
+use crate::gather::Gather;
 use crate::level::Level;
 use crate::parameters::ParamsReader;
 use crate::sets::{SEMICOLON, set_if};
@@ -88,28 +91,36 @@ impl ItemReader {
         self.params.finish(context)
     }
 
-    /// The item, if it is whole. What is left is the reader alone.
+    /// Adds the item, if it is whole, or tells that it is not, and changes nothing. What is left is
+    /// the reader alone.
     #[inline(always)]
-    pub fn finish(&mut self, context: &Context) -> Result<Option<Item>, OutOfMemory>
-        ensures value { IfOk result (λ item. item ≡ item_finish self.old) }
-        ensures kept { IfOk result (λ item. IfNone item (self.new ≡ self.old)) }
-        ensures plain { PlainItem self.old → IsOk result }
+    pub fn end<G: Gather<Item>>(
+        &mut self,
+        context: &Context,
+        given: &mut G,
+    ) -> Result<bool, OutOfMemory>
+        ensures ended { IfOk result (λ ended. Ends ended (seen (G.with given.old)
+            (item_finish self.old)) given.old given.new) }
+        ensures kept { IfOk result (λ ended. ended ≡ false → self.new ≡ self.old) }
+        ensures plain { G.free → PlainItem self.old → IsOk result }
     {
         if !self.in_params {
             let Some(bare) = self.bare.finish(context) else {
-                return Ok(None);
+                return Ok(false);
             };
             let params = Entries::new(context.alloc, &context.seed);
-            return Ok(Some(Item { bare, params }));
+            given.add(Item { bare, params })?;
+            return Ok(true);
         }
         let Some(params) = self.params.finish(context)? else {
-            return Ok(None);
+            return Ok(false);
         };
         self.in_params = false;
         let Some(bare) = self.bare.finish(context) else {
             unreachable!()
         };
-        Ok(Some(Item { bare, params }))
+        given.add(Item { bare, params })?;
+        Ok(true)
     }
 }
 

@@ -25,6 +25,7 @@ mod context;
 mod date;
 mod entry;
 mod expected;
+mod gather;
 mod item;
 pub mod laws;
 mod level;

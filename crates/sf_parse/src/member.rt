@@ -1,13 +1,16 @@
 //! A member of a List that is being read: an Item or an Inner List (RFC 9651 sections 4.2.1.1 and
 //! 4.2.1.2).
-ghost use Rattle.std.specs.Prelude.{◌≡◌, [], true, IfOk, IfNone};
+ghost use Rattle.std.specs.Prelude.{◌≡◌, [], true, false, IfOk, IfNone};
 ghost use Rattle.sf_value.specs.declared.value.Bare.TheVariants as bare_is;
 ghost use Rattle.sf_parse.specs.Expected.{Marks};
 ghost use Rattle.sf_parse.specs.Fronts.{Starts};
 ghost use Rattle.sf_parse.specs.MemberView.{member_stuck};
 ghost use Rattle.sf_parse.specs.Machine.Params.{Opened};
 ghost use Rattle.sf_parse.specs.Machine.Items.{InParams};
-ghost use Rattle.sf_parse.specs.Machine.Members.{InOne, member_start, member_step, member_finish};
+ghost use Rattle.sf_parse.specs.SeriesView.{Ends};
+ghost use Rattle.sf_parse.specs.PieceEnds.{with_member};
+ghost use Rattle.sf_parse.specs.Machine.Inners.{InnerState, inner_finish};
+ghost use Rattle.sf_parse.specs.Machine.Members.{InOne, InMany, member_start, member_step, member_finish};
 ghost use Rattle.sf_parse.specs.Machine.Takes.{member_begins, member_takes, member_ends};
 
 use crate::bare::BareReader;
@@ -93,18 +96,15 @@ impl MemberReader {
         BareReader::first_bytes(dialect) | OPEN
     }
 
-    /// The member, if it is whole. What is left is the reader alone.
-    #[inline(always)]
-    pub fn finish(&mut self, context: &Context) -> Result<Option<Member>, OutOfMemory>
-        ensures value { IfOk result (λ member. member ≡ member_finish self.old) }
-        ensures kept { IfOk result (λ member. IfNone member (self.new ≡ self.old)) }
+    // The inner list behind whose bracket the text is, if its last parameter is whole.
+    #[inline(never)]
+    fn finish_inner(&mut self, context: &Context) -> Result<Option<Inner>, OutOfMemory>
+        ensures value { IfOk result (λ inner. (s : InnerState) → self.old ≡ InMany s
+            → inner ≡ inner_finish s) }
+        ensures kept { IfOk result (λ inner. IfNone inner (self.new ≡ self.old)) }
     {
         match self.phase {
-            MemberPhase::One => match self.item.finish(context)? {
-                Some(item) => return Ok(Some(Member::Item(item))),
-                None => return Ok(None),
-            },
-            MemberPhase::Room | MemberPhase::InItem => return Ok(None),
+            MemberPhase::One | MemberPhase::Room | MemberPhase::InItem => return Ok(None),
             MemberPhase::Closing => {
                 self.phase = MemberPhase::Room;
                 let Some(params) = self.item.finish_params(context)? else {
@@ -112,7 +112,54 @@ impl MemberReader {
                     return Ok(None);
                 };
                 let items = mem::replace(&mut self.items, Sequence::new(context.alloc));
-                return Ok(Some(Member::Inner(Inner { items, params })));
+                return Ok(Some(Inner { items, params }));
+            }
+        }
+    }
+
+    /// The member, if it is whole. What is left is the reader alone.
+    pub fn finish(&mut self, context: &Context) -> Result<Option<Member>, OutOfMemory>
+        ensures value { IfOk result (λ member. member ≡ member_finish self.old) }
+        ensures kept { IfOk result (λ member. IfNone member (self.new ≡ self.old)) }
+    {
+        match self.phase {
+            MemberPhase::One => {
+                let mut member = None;
+                self.item.end(context, &mut member)?;
+                return Ok(member);
+            }
+            MemberPhase::Room | MemberPhase::InItem => return Ok(None),
+            MemberPhase::Closing => {
+                let Some(inner) = self.finish_inner(context)? else {
+                    return Ok(None);
+                };
+                return Ok(Some(Member::Inner(inner)));
+            }
+        }
+    }
+
+    /// Adds the member, if it is whole, or tells that it is not, and changes nothing. What is left
+    /// is the reader alone.
+    pub fn end(
+        &mut self,
+        context: &Context,
+        given: &mut Sequence<Member>,
+    ) -> Result<bool, OutOfMemory>
+        ensures ended { IfOk result (λ ended. Ends ended (with_member self.old given.old) given.old
+            given.new) }
+        ensures kept { IfOk result (λ ended. ended ≡ false → self.new ≡ self.old) }
+    {
+        match self.phase {
+            MemberPhase::One => return self.item.end(context, given),
+            MemberPhase::Room | MemberPhase::InItem => return Ok(false),
+            MemberPhase::Closing => {
+                let Some(inner) = self.finish_inner(context)? else {
+                    return Ok(false);
+                };
+                if given.push(Member::Inner(inner)).is_err() {
+                    return Err(OutOfMemory);
+                }
+                return Ok(true);
             }
         }
     }
@@ -175,13 +222,10 @@ impl Level for MemberReader {
                 if byte != b' ' && byte != b')' {
                     return Ok(false);
                 }
-                let Some(item) = self.item.finish(context)? else {
+                if !self.item.end(context, &mut self.items)? {
                     return Ok(false);
-                };
-                self.phase = MemberPhase::Room;
-                if self.items.push(item).is_err() {
-                    return Err(OutOfMemory);
                 }
+                self.phase = MemberPhase::Room;
                 if byte == b')' {
                     self.item.begin_params(context);
                     self.phase = MemberPhase::Closing;

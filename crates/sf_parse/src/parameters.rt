@@ -1,5 +1,5 @@
 //! Parameters that are being read (RFC 9651 section 4.2.3.2).
-ghost use Rattle.std.specs.Prelude.{◌≡◌, [], IfOk, IfNone};
+ghost use Rattle.std.specs.Prelude.{◌≡◌, [], IfOk, IfNone, OnOk};
 ghost use Rattle.sf_value.specs.Grammar.Pairs.{put as put_pair};
 ghost use Rattle.sf_value.specs.Grammar.Tokens.{IsKey};
 ghost use Rattle.sf_parse.specs.Machine.Params.{Between, Opened, params_step, params_finish};
@@ -91,16 +91,14 @@ impl ParamsReader {
             ParamsPhase::Between => {}
             ParamsPhase::InKey => {
                 self.phase = ParamsPhase::Between;
-                let key = mem::replace(&mut self.key, ShortBytes::new(context.alloc));
-                put(&mut self.params, key, Bare::Boolean(true))?;
+                put(&mut self.params, &mut self.key, context, Bare::Boolean(true))?;
             }
             ParamsPhase::InValue => {
                 let Some(value) = self.value.finish(context) else {
                     return Ok(None);
                 };
                 self.phase = ParamsPhase::Between;
-                let key = mem::replace(&mut self.key, ShortBytes::new(context.alloc));
-                put(&mut self.params, key, value)?;
+                put(&mut self.params, &mut self.key, context, value)?;
             }
             ParamsPhase::Opened | ParamsPhase::Equals => return Ok(None),
         }
@@ -109,15 +107,18 @@ impl ParamsReader {
     }
 }
 
-// A later value of a key takes the place of the earlier one.
-fn put(params: &mut Entries<Bare>, key: ShortBytes, value: Bare) -> Result<(), OutOfMemory>
-    requires { IsKey key }
-    ensures { IfOk result (λ _. params.new ≡ put_pair params.old key value) }
+// Puts a value at the key that was read. A later value of a key takes the place of the earlier one.
+fn put(
+    params: &mut Entries<Bare>,
+    key: &mut ShortBytes,
+    context: &Context,
+    value: Bare,
+) -> Result<(), OutOfMemory>
+    requires { IsKey key.old }
+    ensures { OnOk result (params.new ≡ put_pair params.old key.old value) }
 {
-    match params.put(Key::from_bytes(key), value) {
-        Ok(_) => Ok(()),
-        Err(_) => Err(OutOfMemory),
-    }
+    let key = mem::replace(key, ShortBytes::new(context.alloc));
+    params.set(Key::from_bytes(key), value)
 }
 
 impl Level for ParamsReader {
@@ -180,8 +181,7 @@ impl Level for ParamsReader {
                 }
                 if byte == b';' {
                     self.phase = ParamsPhase::Opened;
-                    let key = mem::replace(&mut self.key, ShortBytes::new(context.alloc));
-                    put(&mut self.params, key, Bare::Boolean(true))?;
+                    put(&mut self.params, &mut self.key, context, Bare::Boolean(true))?;
                     return Ok(true);
                 }
                 if !can_be_in_key(byte) {
@@ -205,8 +205,7 @@ impl Level for ParamsReader {
                     return Ok(false);
                 };
                 self.phase = ParamsPhase::Opened;
-                let key = mem::replace(&mut self.key, ShortBytes::new(context.alloc));
-                put(&mut self.params, key, value)?;
+                put(&mut self.params, &mut self.key, context, value)?;
                 return Ok(true);
             }
         }

@@ -40,13 +40,7 @@ impl Piece<Sequence<Member>> for MemberReader {
         context: &Context,
         given: &mut Sequence<Member>,
     ) -> Result<bool, OutOfMemory> {
-        let Some(member) = self.finish(context)? else {
-            return Ok(false);
-        };
-        if given.push(member).is_err() {
-            return Err(OutOfMemory);
-        }
-        Ok(true)
+        MemberReader::end(self, context, given)
     }
 }
 
@@ -72,12 +66,6 @@ impl Piece<Entries<Member>> for EntryReader {
     }
 
     fn end(&mut self, context: &Context, given: &mut Entries<Member>) -> Result<bool, OutOfMemory> {
-        let Some((key, member)) = self.finish(context)? else {
-            return Ok(false);
-        };
-        if given.put(key, member).is_err() {
-            return Err(OutOfMemory);
-        }
-        Ok(true)
+        EntryReader::end(self, context, given)
     }
 }

@@ -68,7 +68,11 @@ impl TopReader {
     {
         match self.phase {
             TopPhase::Before => return Ok(None),
-            TopPhase::Inside => return self.item.finish(context),
+            TopPhase::Inside => {
+                let mut whole = None;
+                self.item.end(context, &mut whole)?;
+                return Ok(whole);
+            }
             TopPhase::Behind => {
                 self.phase = TopPhase::Before;
                 return Ok(mem::replace(&mut self.whole, None));
@@ -124,10 +128,9 @@ impl Level for TopReader {
                 if byte != b' ' {
                     return Ok(false);
                 }
-                let Some(item) = self.item.finish(context)? else {
+                if !self.item.end(context, &mut self.whole)? {
                     return Ok(false);
-                };
-                self.whole = Some(item);
+                }
                 self.phase = TopPhase::Behind;
                 return Ok(true);
             }

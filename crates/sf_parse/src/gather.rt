@@ -1,0 +1,76 @@
+//! What the parts of a value are added to, as soon as they are whole.
+ghost use Rattle.std.specs.Prelude.{◌≡◌, [], ◌∷◌, ◌++◌, Some, OnOk, IsOk, ⊤};
+ghost use Rattle.sf_value.specs.declared.value.Member.TheVariants as member_is;
+
+use sf_value::{Item, Member, OutOfMemory, Sequence};
+
+/// Takes the parts of a value, one behind the other. A part is built where it is added, so that no
+/// answer carries it about.
+pub trait Gather<T> {
+    // what there is with one part more
+    ghost with: { Self → T → Self };
+
+    // whether a part more takes no memory
+    ghost free: { Type 0 };
+
+    /// Adds a part at the end.
+    fn add(&mut self, part: T) -> Result<(), OutOfMemory>
+        ensures added { OnOk result (self.new ≡ with self.old part) }
+        ensures free { free → IsOk result };
+}
+
+/// The Items of an Inner List.
+impl Gather<Item> for Sequence<Item> {
+    ghost with = { λ items item. items ++ item ∷ [] };
+
+    ghost free = { ⊥ };
+
+    #[inline(always)]
+    fn add(&mut self, part: Item) -> Result<(), OutOfMemory> {
+        match self.push(part) {
+            Ok(()) => Ok(()),
+            Err(_) => Err(OutOfMemory),
+        }
+    }
+}
+
+/// The members of a List, as far as they are Items.
+impl Gather<Item> for Sequence<Member> {
+    ghost with = { λ members item. members ++ member_is.Item item ∷ [] };
+
+    ghost free = { ⊥ };
+
+    #[inline(always)]
+    fn add(&mut self, part: Item) -> Result<(), OutOfMemory> {
+        match self.push(Member::Item(part)) {
+            Ok(()) => Ok(()),
+            Err(_) => Err(OutOfMemory),
+        }
+    }
+}
+
+/// One Item.
+impl Gather<Item> for Option<Item> {
+    ghost with = { λ none item. Some item };
+
+    ghost free = { ⊤ };
+
+    #[inline(always)]
+    fn add(&mut self, part: Item) -> Result<(), OutOfMemory> {
+        *self = Some(part);
+        Ok(())
+    }
+}
+
+/// One member that is an Item.
+impl Gather<Item> for Option<Member> {
+    ghost with = { λ none item. Some (member_is.Item item) };
+
+    ghost free = { ⊤ };
+
+    #[inline(always)]
+    fn add(&mut self, part: Item) -> Result<(), OutOfMemory> {
+        *self = Some(Member::Item(part));
+        Ok(())
+    }
+}
