@@ -66,6 +66,13 @@ byte_stop next s t u piece rest b true w f k = absurd cc
 byte_stop next s t u piece rest b false w f k =
     subst (λ y. Went next s piece rest y) (sym k.1) w
 
+-- the byte with which the machine stopped is the first of the rest
+pub halts_at : {S : Type 0} (next : S → ℕ → Option S) (s t : S) (rest more : List ℕ) (b : ℕ)
+    (took : Bool) → rest ≡ b ∷ more → took ≡ false → Steps took (next s b) s t
+    → FirstIs (Halts next t) rest
+halts_at next s t rest more b true e f k = absurd cc
+halts_at next s t rest more b false e f k = rw (e, k.1) k.0
+
 -- what a part takes, seen from a level that goes on with it wherever it goes on itself
 run_above : {S T : Type 0} (next : S → ℕ → Option S) (above : T → ℕ → Option T) (into : S → T)
     → ((s t : S) (b : ℕ) → next s b ≡ Some t → above (into s) b ≡ Some (into t))

@@ -1,9 +1,11 @@
 -- What is read of a bare item, as a state of the machine.
+use Rattle.std.specs.Prelude.{◌≡◌, ℕ, None, ⊤}
 use Rattle.sf_value.specs.Grammar.Words.{Every}
 use Rattle.sf_value.specs.Grammar.Classes.{is_visible}
 use Rattle.sf_value.specs.Grammar.Tokens.{IsToken}
 use Rattle.sf_parse.specs.Machine.Bares.{BareState, InNumber, InText, InToken, InBoolean, InDate}
 use Rattle.sf_parse.specs.Machine.Bares.{InBlob, InShown}
+use Rattle.sf_parse.specs.Machine.Numbers.{number_step}
 use Rattle.sf_parse.specs.Views.{text_of, blob_of, shown_of, FitsBlob, FitsShown}
 use Rattle.sf_parse.specs.declared.bare.BareKind.{BareKind}
 use Rattle.sf_parse.specs.declared.bare.BareKind.TheVariants as kind
@@ -30,6 +32,16 @@ FitsAt kind.Boolean r = Unit {0}
 FitsAt kind.Date r = Unit {0}
 FitsAt kind.Blob r = FitsBlob r.blob
 FitsAt kind.Shown r = FitsShown r.shown.phase r.bytes r.shown.chars
+
+-- a number can't go on with this byte
+abbrev pub bare_stuck : BareState → ℕ → Type 0
+bare_stuck (InNumber s) b = number_step s b ≡ None
+bare_stuck (InText s) b = ⊤
+bare_stuck (InToken bytes) b = ⊤
+bare_stuck (InBoolean s) b = ⊤
+bare_stuck (InDate s) b = ⊤
+bare_stuck (InBlob s) b = ⊤
+bare_stuck (InShown s) b = ⊤
 
 -- the bytes are some of what the kind is made of
 abbrev pub FitsBare : Inside → Type 0

@@ -3,6 +3,7 @@ ghost use Rattle.std.specs.Prelude.{◌≡◌, true, ⊤, IfNone, IfOk, IsOk};
 ghost use Rattle.sf_parse.specs.Plain.{plain_byte, PlainBare};
 ghost use Rattle.sf_parse.specs.Expected.{Marks};
 ghost use Rattle.sf_parse.specs.Fronts.{Starts};
+ghost use Rattle.sf_parse.specs.BareView.{bare_stuck};
 ghost use Rattle.sf_parse.specs.Machine.Bares.{InBoolean, bare_start, bare_step, bare_finish};
 ghost use Rattle.sf_parse.specs.declared.boolean.BooleanState.TheVariants.{Told};
 ghost use Rattle.sf_parse.specs.Machine.Takes.{bare_begins, bare_takes, bare_ends};
@@ -14,14 +15,11 @@ use crate::context::Context;
 use crate::date::DateReader;
 use crate::level::Level;
 use crate::number::NumberReader;
-use crate::runs::{InToken, long_front};
+use crate::runs::{ByteClass, InToken, long_front};
 use crate::sets::{BARE_8941, BARE_9651, TOKEN};
 use crate::shown::ShownPlace;
 use crate::text::TextPhase;
-use sf_value::{
-    Bare, Blob, Dialect, OutOfMemory, ShortBytes, Shown, Text, Token, can_be_in_token,
-    can_start_token,
-};
+use sf_value::{Bare, Blob, Dialect, OutOfMemory, ShortBytes, Shown, Text, Token, can_start_token};
 use std::marker::Model;
 use std::mem;
 
@@ -184,7 +182,7 @@ impl BareReader {
 impl Level for BareReader {
     ghost next = { λ d s b. bare_step s b };
 
-    ghost stuck = { λ d s b. ⊤ };
+    ghost stuck = { λ d s b. bare_stuck s b };
 
     ghost takes = { λ d s b. bare_takes s b };
 
@@ -216,12 +214,13 @@ impl Level for BareReader {
 
     fn turn(&mut self, _context: &Context, byte: u8) -> Result<bool, OutOfMemory> {
         match self.kind {
-            BareKind::Number => return Ok(self.number.step(byte)),
+            // Its run is as long as it can be.
+            BareKind::Number => return Ok(false),
             BareKind::Boolean => return Ok(self.boolean.step(byte)),
             BareKind::Date => return Ok(self.date.step(byte)),
             BareKind::Text => return self.text.step(&mut self.bytes, byte),
             BareKind::Token => {
-                if !can_be_in_token(byte) {
+                if !InToken::has_one(byte) {
                     return Ok(false);
                 }
                 self.bytes.push(byte)?;

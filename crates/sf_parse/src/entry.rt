@@ -11,12 +11,9 @@ ghost use Rattle.sf_parse.specs.Machine.Takes.{entry_takes, entry_ends};
 use crate::context::Context;
 use crate::level::Level;
 use crate::member::MemberReader;
-use crate::runs::{InKey, short_front};
+use crate::runs::{ByteClass, InKey, short_front};
 use crate::sets::{EQUALS, KEY, SEMICOLON};
-use sf_value::{
-    Bare, Dialect, Entries, Item, Key, Member, OutOfMemory, ShortBytes, can_be_in_key,
-    can_start_key,
-};
+use sf_value::{Bare, Dialect, Entries, Item, Key, Member, OutOfMemory, ShortBytes, can_start_key};
 use std::marker::Model;
 use std::mem;
 
@@ -179,7 +176,7 @@ impl Level for EntryReader {
                     self.phase = EntryPhase::InFlag;
                     return Ok(true);
                 }
-                if !can_be_in_key(byte) {
+                if !InKey::has_one(byte) {
                     return Ok(false);
                 }
                 self.key.push(byte)?;

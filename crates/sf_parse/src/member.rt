@@ -152,16 +152,28 @@ impl MemberReader {
         match self.phase {
             MemberPhase::One => return self.item.end(context, given),
             MemberPhase::Room | MemberPhase::InItem => return Ok(false),
-            MemberPhase::Closing => {
-                let Some(inner) = self.finish_inner(context)? else {
-                    return Ok(false);
-                };
-                if given.push(Member::Inner(inner)).is_err() {
-                    return Err(OutOfMemory);
-                }
-                return Ok(true);
-            }
+            MemberPhase::Closing => return self.end_inner(context, given),
         }
+    }
+
+    // The same of the inner list behind whose bracket the text is.
+    #[inline(never)]
+    fn end_inner(
+        &mut self,
+        context: &Context,
+        given: &mut Sequence<Member>,
+    ) -> Result<bool, OutOfMemory>
+        ensures ended { IfOk result (λ ended. (s : InnerState) → self.old ≡ InMany s
+            → Ends ended (with_member (InMany s) given.old) given.old given.new) }
+        ensures kept { IfOk result (λ ended. ended ≡ false → self.new ≡ self.old) }
+    {
+        let Some(inner) = self.finish_inner(context)? else {
+            return Ok(false);
+        };
+        if given.push(Member::Inner(inner)).is_err() {
+            return Err(OutOfMemory);
+        }
+        Ok(true)
     }
 }
 

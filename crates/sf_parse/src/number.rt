@@ -2,7 +2,7 @@
 ghost use Rattle.std.specs.Prelude.{◌≡◌, ◌≤◌, ◌<◌, ◌^◌, nat_abs};
 ghost use Rattle.sf_value.specs.Grammar.Numbers.{signed};
 ghost use Rattle.sf_parse.specs.Expected.{Marks};
-ghost use Rattle.sf_parse.specs.Fronts.{Went};
+ghost use Rattle.sf_parse.specs.Fronts.{Went, FirstIs, Halts};
 ghost use Rattle.sf_parse.specs.Machine.Language.{Steps};
 ghost use Rattle.sf_parse.specs.Machine.Numbers.{number_start, number_step, number_finish};
 ghost use Rattle.sf_parse.specs.Machine.Takes.{number_takes, number_ends};
@@ -113,7 +113,8 @@ impl NumberReader {
 
     /// Takes the bytes that the number goes on with, and gives back the rest.
     pub fn take_run<'a>(&mut self, piece: &'a [u8]) -> &'a [u8]
-        ensures { Went number_step self.old piece.now result.now self.new }
+        ensures went { Went number_step self.old piece.now result.now self.new }
+        ensures stop { FirstIs (Halts number_step self.new) result.now }
     {
         let mut rest = piece;
         while let Some((byte, more)) = rest.split_first() {

@@ -9,11 +9,9 @@ ghost use Rattle.sf_parse.specs.ParamsView.{params_stuck};
 use crate::bare::BareReader;
 use crate::context::Context;
 use crate::level::Level;
-use crate::runs::{InKey, Space, short_front};
+use crate::runs::{ByteClass, InKey, Space, short_front};
 use crate::sets::{EQUALS, KEY, KEY_START, SEMICOLON, SPACE, set_if};
-use sf_value::{
-    Bare, Dialect, Entries, Key, OutOfMemory, ShortBytes, can_be_in_key, can_start_key,
-};
+use sf_value::{Bare, Dialect, Entries, Key, OutOfMemory, ShortBytes, can_start_key};
 use std::marker::Model;
 use std::mem;
 
@@ -91,7 +89,12 @@ impl ParamsReader {
             ParamsPhase::Between => {}
             ParamsPhase::InKey => {
                 self.phase = ParamsPhase::Between;
-                put(&mut self.params, &mut self.key, context, Bare::Boolean(true))?;
+                put(
+                    &mut self.params,
+                    &mut self.key,
+                    context,
+                    Bare::Boolean(true),
+                )?;
             }
             ParamsPhase::InValue => {
                 let Some(value) = self.value.finish(context) else {
@@ -181,10 +184,15 @@ impl Level for ParamsReader {
                 }
                 if byte == b';' {
                     self.phase = ParamsPhase::Opened;
-                    put(&mut self.params, &mut self.key, context, Bare::Boolean(true))?;
+                    put(
+                        &mut self.params,
+                        &mut self.key,
+                        context,
+                        Bare::Boolean(true),
+                    )?;
                     return Ok(true);
                 }
-                if !can_be_in_key(byte) {
+                if !InKey::has_one(byte) {
                     return Ok(false);
                 }
                 self.key.push(byte)?;

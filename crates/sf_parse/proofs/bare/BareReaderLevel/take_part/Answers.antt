@@ -47,7 +47,10 @@ pub returns-in-Number-clause-went : goal.returns-in-Number-clause-went
 returns-in-Number-clause-went c =
     rw (← c.self.view_is, c.in-Number.is)
     (went_above number_step bare_step InNumber (λ s t b e. ap (seen InNumber) e) _ _ _ _
-    c.take_run-in-Number.ensures)
+    c.take_run-in-Number.ensures.went)
+
+pub returns-in-Number-clause-stuck : goal.returns-in-Number-clause-stuck
+returns-in-Number-clause-stuck c = rw c.in-Number.is c.take_run-in-Number.ensures.stop
 
 pub returns-in-Date-clause-went : goal.returns-in-Date-clause-went
 returns-in-Date-clause-went c =

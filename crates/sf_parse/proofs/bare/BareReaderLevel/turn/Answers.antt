@@ -8,4 +8,4 @@ invariant_of-self-in-Token c =
     let token = rw c.in-Token.is at c.self.invariant in
     rw (c.in-Token.is, c.in_ok-push-in-Token.ensures)
     (word_push is_token_start is_token_rest _ _ token
-    (sym c.can_be_in_token.ensures ∙ c.if-not-can_be_in_token.false))
+    (sym c.has_one.ensures ∙ c.if-not-has_one.false))

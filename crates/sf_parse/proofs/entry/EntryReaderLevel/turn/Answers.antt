@@ -8,6 +8,6 @@ invariant_of-self-in-InKey c =
     let fits = c.self.invariant in
     rw c.in_ok-push-in-InKey.ensures (
       word_push is_key_start is_key_rest _ _ fits.0
-          (sym c.can_be_in_key.ensures ∙ c.if-not-can_be_in_key.false),
+          (sym c.has_one.ensures ∙ c.if-not-has_one.false),
       fits.1,
     )

@@ -8,4 +8,4 @@ invariant_of-self-in-InKey c =
     let key = rw c.in-InKey.is at c.self.invariant in
     rw (c.in-InKey.is, c.in_ok-push-in-InKey.ensures)
     (word_push is_key_start is_key_rest _ _ key
-    (sym c.can_be_in_key.ensures ∙ c.if-not-can_be_in_key.false))
+    (sym c.has_one.ensures ∙ c.if-not-has_one.false))
