@@ -125,13 +125,26 @@ impl WholeField for DictReader {
     }
 }
 
-/// The value that the text spells as a field of this kind, or its exact refusal. The text is taken
-/// at once, so no count is kept and nothing is moved.
+/// The value that the text spells as a field of this kind, or its exact refusal.
 pub fn parse_whole<W: WholeField>(context: &Context, text: &[u8]) -> Result<Field, Refusal>
     ensures parses { Parses context.now.dialect W.kind text.now result }
     ensures plain { W.kind ≡ kind_is.Item → Every plain_byte text.now → NotForMemory result }
 {
     let mut field = W::begin(context);
+    read_whole(&mut field, context, text)
+}
+
+// Reads the text into a field that nothing was read of. What is left is the reader alone.
+fn read_whole<W: WholeField>(
+    field: &mut W,
+    context: &Context,
+    text: &[u8],
+) -> Result<Field, Refusal>
+    requires begin { W.state field.old ≡ begin_at W.kind }
+    requires plain { PlainState (W.state field.old) → W.plain context.now.dialect field.old }
+    ensures parses { Parses context.now.dialect W.kind text.now result }
+    ensures plain { W.kind ≡ kind_is.Item → Every plain_byte text.now → NotForMemory result }
+{
     let rest = field.take(context, text)?;
     let found = rest.first().copied();
     let may_end = field.may_end();
