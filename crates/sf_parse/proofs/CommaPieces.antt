@@ -2,8 +2,7 @@
 use Rattle.std.proofs.Common.{◌≡◌, ℕ, true, Option, Some, None, refl, ap, ◌∙◌}
 use Rattle.sf_value.specs.Grammar.Classes.{is_sp, is_ows}
 use Rattle.sf_parse.specs.Machine.Language.{onward, seen, and_then}
-use Rattle.sf_parse.specs.Machine.Series.{Series, SeriesState, Begin, InPiece, Gap, Comma}
-use Rattle.sf_parse.specs.Machine.Series.{series_step, series_finish}
+use Rattle.sf_parse.specs.Machine.Series.{SeriesState, Begin, InPiece, Gap, Comma, series_finish}
 use Rattle.sf_parse.specs.SeriesView.{behind_step, series_next, series_end}
 
 module _ {S V : Type 0} (first : ℕ → Option S) (next : S → ℕ → Option S)
@@ -23,25 +22,6 @@ module _ {S V : Type 0} (first : ℕ → Option S) (next : S → ℕ → Option 
       → series_next first next added none (InPiece given s) b ≡ Some (InPiece given t)
   piece_goes_on given s t b e =
       ap (λ o. onward (InPiece given) o (added s given) (λ more. behind_step more b)) e
-
-onward_seen : {S T X V : Type 0} (into : S → T) (o : Option S) (f : X → V) (e : Option X)
-    (after : V → Option T) → onward into o (seen f e) after ≡ onward into o e (λ x. after (f x))
-onward_seen into (Some s) f e after = refl
-onward_seen into None f (Some x) after = refl
-onward_seen into None f None after = refl
-
--- where a piece is added by its end
-pub series_is : {S X V : Type 0} (k : Series S X V) (added : S → V → Option V)
-    → ((s : S) (given : V) → added s given ≡ seen (k.add given) (k.finish s))
-    → (s : SeriesState S V) (b : ℕ)
-    → series_next k.start k.step added k.none s b ≡ series_step k s b
-series_is k added h Begin b = refl
-series_is k added h (InPiece given s) b =
-    ap (λ e. onward (InPiece given) (k.step s b) e (λ more. behind_step more b)) (h s given)
-    ∙ onward_seen (InPiece given) (k.step s b) (k.add given) (k.finish s)
-    (λ more. behind_step more b)
-series_is k added h (Gap given) b = refl
-series_is k added h (Comma given) b = refl
 
 seen_is : {X Y : Type 0} (f : X → Y) (o : Option X) → seen f o ≡ and_then o (λ x. Some (f x))
 seen_is f None = refl

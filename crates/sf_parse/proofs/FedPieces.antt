@@ -1,35 +1,23 @@
 -- What a parser took, a byte longer, and where it stops.
-use Rattle.std.proofs.Common.{◌≡◌, ℕ, zero, suc, ◌+◌, ◌<◌, ◌≤◌, ◌↔◌, Bool, true, false, List, []}
-use Rattle.std.proofs.Common.{◌∷◌, ◌++◌, length, take, drop, get_or, Option, Some, None, Result, Ok}
-use Rattle.std.proofs.Common.{Err, nat_lt, ◌&&◌, cond, refl, sym, ap, ◌∙◌, subst}
-use Rattle.std.proofs.Common.{append-nil, append_assoc, length-append, arith, take-append-drop}
-use Rattle.std.proofs.Common.{take_all, length-take}
-use Rattle.std.specs.List.{slice_get}
-use Rattle.std.specs.Int.{bit_at}
+use Rattle.std.proofs.Common.{◌≡◌, ℕ, ◌+◌, ◌<◌, ◌≤◌, ◌↔◌, Bool, false, List, [], ◌∷◌, ◌++◌, length}
+use Rattle.std.proofs.Common.{take, drop, get_or, Option, Some, None, Ok, Err, refl, sym, ap, ◌∙◌}
+use Rattle.std.proofs.Common.{subst, append_assoc, length-append, arith, take-append-drop}
+use Rattle.std.proofs.Common.{length-take}
 use Rattle.std.proofs.lemmas.List.{take_more}
 use Rattle.std.proofs.Math.Seq.{take-append_seam}
-use Rattle.std.proofs.lemmas.Bool.{lt-ltb}
-use Rattle.std.proofs.lemmas.Nat.Bits.{bit_at-zero}
-use Rattle.sf_value.specs.declared.dialect.Dialect.{Dialect}
 use Rattle.sf_value.specs.declared.value.Field.{Field}
-use Rattle.sf_value.specs.declared.value.Kind.{Kind}
 use Rattle.sf_value.specs.Grammar.Fields.{SpellsField}
-use Rattle.sf_value.specs.Grammar.Lines.{Viable, IsPlace, Continues}
+use Rattle.sf_value.specs.Grammar.Lines.{Viable}
 use Rattle.sf_parse.specs.declared.refusal.Refusal.{Refusal}
-use Rattle.sf_parse.specs.declared.refusal.Refusal.TheVariants.{OutOfMemory, Syntax, TooLong}
-use Rattle.sf_parse.specs.declared.refusal.Refusal.TheVariants.{ReadFault}
-use Rattle.sf_parse.specs.Machine.States.{State}
+use Rattle.sf_parse.specs.declared.refusal.Refusal.TheVariants.{Syntax, TooLong}
 use Rattle.sf_parse.specs.Machine.Fields.{Rest, step, finish, begin}
 use Rattle.sf_parse.specs.Machine.Takes.{takes, may_end}
 use Rattle.sf_parse.specs.Taking as taking
 use Rattle.sf_parse.specs.Expected.{Marks}
 use Rattle.sf_parse.specs.Parsers.{Progress, Took, Sound, IsSyntax, RefusedFor}
-use Rattle.sf_parse.specs.Parsers.{SameSettings, Fed, FedAnswer, Finishes, Parses}
-use Rattle.sf_parse.proofs.Theorems.{one_value}
-use Rattle.sf_parse.proofs.Taking.{took_nothing, took_viable, took_end, took_stops}
-use Rattle.sf_parse.proofs.Taking.{took_all}
-use Rattle.sf_parse.proofs.Takes.{takes_next, ends_text}
-use Rattle.sf_parse.proofs.Below.{some_next}
+use Rattle.sf_parse.specs.Parsers.{SameSettings, Fed, FedAnswer, Finishes}
+use Rattle.sf_parse.proofs.Taking.{took_nothing, took_viable}
+use Rattle.sf_parse.proofs.Refusals.{stops_exact, ends_exact, ends_only}
 
 -- what a sound parser took, as the machine's laws say it
 pub taken : (p : Progress) (s : List ℕ) → Sound p.refusal p.state p.count p.max → Took p s
@@ -52,103 +40,15 @@ new_took p e c r = record {
   unrefused = r;
 }
 
-bit_is : (c : Bool) (n : ℕ) → n ≡ cond c 1 0 → (n ≡ 1) ↔ (c ≡ true)
-bit_is true n e = (λ h. refl, λ h. e)
-bit_is false n e =
-    (λ h. absurd (let k : 0 ≡ 1 = sym e ∙ h in let n' : ⊥ = omega arith in n'), λ h. absurd cc)
-
-below_bound : (b bound : ℕ) (c : Bool) → b < bound → (nat_lt b bound && c) ≡ c
-below_bound b bound c h = rw (lt-ltb b bound h) refl
-
-not_zero : (n b : ℕ) → bit_at n b ≡ 1 → 0 < n
-not_zero zero b e = absurd (let k : 0 ≡ 1 = sym (bit_at-zero b)
-    ∙ e in let n' : ⊥ = omega arith in n')
-not_zero (suc n) b e = omega arith
-
--- the bits tell the bytes that may follow what was taken
-marks_next : (d : Dialect) (kind : Kind) (state : State) (s : List ℕ) (bits b : ℕ)
-    → taking.Took d kind state s → Marks bits (takes d state) → b < 128
-    → (bit_at bits b ≡ 1) ↔ Viable d kind (s ++ b ∷ [])
-marks_next d kind state s bits b k m h =
-    let bit = bit_is (takes d state b) (bit_at bits b)
-    (m b ∙ ap (λ c. cond c 1 0) (below_bound b 128 (takes d state b) h)) in
-    let next = takes_next d kind state s b k in
-    (λ i. next.1 (bit.0 i), λ i. bit.1 (next.0 i))
-
-marks_some : (d : Dialect) (kind : Kind) (state : State) (s : List ℕ) (bits : ℕ)
-    → taking.Took d kind state s → Marks bits (takes d state) → 0 < bits
-marks_some d kind state s bits k m =
-    let n = some_next d kind state s k in
-    not_zero bits n.0 ((marks_next d kind state s bits n.0 k m n.1.0).1 n.1.1)
-
-exact : (d : Dialect) (kind : Kind) (state : State) (s t : List ℕ) (place : ℕ) (found : Option ℕ)
-    (bits : ℕ) (may : Bool) → taking.Took d kind state s → Marks bits (takes d state)
-    → may ≡ may_end state → take place t ≡ s → IsPlace d kind t place → found ≡ slice_get t place
-    → ((v : Field) → SpellsField d kind t v → ⊥)
-    → IsSyntax d kind t place found bits may
-exact d kind state s t place found bits may k m e front at f none = record {
-  unspelled = none;
-  is_place = at;
-  byte = f;
-  next = λ b h.
-      subst (λ y. (bit_at bits b ≡ 1) ↔ Viable d kind (y ++ b ∷ [])) (sym front)
-      (marks_next d kind state s bits b k m h);
-  some = marks_some d kind state s bits k m;
-  ends =
-      let ends = ends_text d kind state s k in
-      subst (λ y. (may ≡ true) ↔ ((v : Field) × SpellsField d kind y v)) (sym front)
-      (λ i. ends.1 (sym e ∙ i), λ i. e ∙ ends.0 i);
-}
-
-slice_get_seam : (xs ys : List ℕ) (b : ℕ) → slice_get (xs ++ b ∷ ys) (length xs) ≡ Some b
-slice_get_seam [] ys b = refl
-slice_get_seam (x ∷ xs) ys b = slice_get_seam xs ys b
-
-slice_get_end : (xs : List ℕ) → slice_get xs (length xs) ≡ None
-slice_get_end [] = refl
-slice_get_end (x ∷ xs) = slice_get_end xs
-
--- a text that a place before its end stops is none
-no_value : (d : Dialect) (kind : Kind) (t : List ℕ) (n : ℕ) → IsPlace d kind t n → n < length t
-    → (v : Field) → SpellsField d kind t v → ⊥
-no_value d kind t n at h v k =
-    let whole : Continues (SpellsField d kind) (take (length t) t) = (
-      [],
-      v,
-      subst (λ y. SpellsField d kind y v)
-          (sym (append-nil (take (length t) t) ∙ take_all (length t) t (omega arith))) k,
-    ) in
-    let l = at.longest (length t) (omega arith) whole in
-    omega arith
-
-pub stops_exact : (p : Progress) (s q : List ℕ) (b bits : ℕ) (may : Bool)
+stops_at : (p : Progress) (s q : List ℕ) (b bits : ℕ) (may : Bool)
     → Sound p.refusal p.state p.count p.max → Took p s → step p.dialect p.state b ≡ None
     → Marks bits (takes p.dialect p.state) → may ≡ may_end p.state
     → IsSyntax p.dialect p.kind ((s ++ b ∷ []) ++ q) p.count (Some b) bits may
-stops_exact p s q b bits may g t n m e =
-    let k = taken p s g t in
+stops_at p s q b bits may g t n m e =
     let joined : (s ++ b ∷ []) ++ q ≡ s ++ b ∷ q = append_assoc s (b ∷ []) q in
-    let at = took_stops p.dialect p.kind p.state s q b k n in
     subst (λ y. IsSyntax p.dialect p.kind y p.count (Some b) bits may) (sym joined)
     (subst (λ c. IsSyntax p.dialect p.kind (s ++ b ∷ q) c (Some b) bits may) (sym t.count)
-    (exact p.dialect p.kind p.state s (s ++ b ∷ q) (length s) (Some b) bits may k m e
-    (take-append_seam s (b ∷ q)) at (sym (slice_get_seam s q b))
-    (no_value p.dialect p.kind (s ++ b ∷ q) (length s) at
-    (omega (arith, length-append s (b ∷ q))))))
-
-pub ends_exact : (p : Progress) (s : List ℕ) (bits : ℕ) → Sound p.refusal p.state p.count p.max
-    → Took p s → Marks bits (takes p.dialect p.state) → false ≡ may_end p.state
-    → IsSyntax p.dialect p.kind s p.count None bits false
-ends_exact p s bits g t m e =
-    let k = taken p s g t in
-    subst (λ c. IsSyntax p.dialect p.kind s c None bits false) (sym t.count)
-    (exact p.dialect p.kind p.state s s (length s) None bits false k m e
-    (take_all (length s) s (omega arith)) (took_all p.dialect p.kind p.state s k)
-    (sym (slice_get_end s))
-    (λ v h. let i = (ends_text p.dialect p.kind p.state s k).0 (v, h) in clash i))
-  where
-    clash : may_end p.state ≡ true → ⊥
-    clash i = let n : false ≡ true = e ∙ i in cc
+    (stops_exact p.dialect p.kind p.state s q b bits may (taken p s g t) n m e))
 
 -- a byte was refused
 pub fed_stop : (p q : Progress) (b bits : ℕ) (may : Bool) → Sound p.refusal p.state p.count p.max
@@ -159,7 +59,7 @@ pub fed_stop : (p q : Progress) (b bits : ℕ) (may : Bool) → Sound p.refusal 
 fed_stop p q b bits may g h n m e same c r = record {
   settings = same;
   counted = omega arith;
-  answer = (r, λ s t more. (h, stops_exact p s more b bits may g t n m e));
+  answer = (r, λ s t more. (h, stops_at p s more b bits may g t n m e));
 }
 
 -- a byte stands past the limit
@@ -190,16 +90,16 @@ pub finish_stop : (p : Progress) (bits : ℕ) → Sound p.refusal p.state p.coun
     → Marks bits (takes p.dialect p.state) → false ≡ may_end p.state
     → (s : List ℕ) → Took p s
     → Finishes p.dialect p.kind s (Err (Syntax p.count None bits false))
-finish_stop p bits g m e s t = (t.count, refl, ends_exact p s bits g t m e)
+finish_stop p bits g m e s t = (
+  t.count,
+  refl,
+  subst (λ c. IsSyntax p.dialect p.kind s c None bits false) (sym t.count)
+      (ends_exact p.dialect p.kind p.state s bits (taken p s g t) m e),
+)
 
 pub finish_with : (p : Progress) (v : Field) → Sound p.refusal p.state p.count p.max
     → finish p.state ≡ Some v → (s : List ℕ) → Took p s → Finishes p.dialect p.kind s (Ok v)
-finish_with p v g e s t =
-    let spelled = (took_end p.dialect p.kind p.state s v (taken p s g t)).1 e in
-    record {
-      spelled = spelled;
-      only = λ w k. one_value p.dialect p.kind s w v k spelled;
-    }
+finish_with p v g e s t = ends_only p.dialect p.kind p.state s v (taken p s g t) e
 
 -- what a front of the piece made of the parser
 pub record FedFront (o p : Progress) (x : List ℕ) : Type 0 where
@@ -267,34 +167,3 @@ stopped_in o p q piece i e h a f =
             (subst (λ y. RefusedFor p.dialect p.kind y here e) k.max x))),
       );
     }
-
--- a refusal of a piece that is fed first is one of the piece as a text
-pub refused_first : (p q : Progress) (e : Refusal) (t : List ℕ) → Took p []
-    → Fed p q (Err e) t → length t ≤ p.max → Parses p.dialect p.kind t (Err e)
-refused_first p q e t k f l = at e (subst (λ y. RefusedFor p.dialect p.kind p.max y e)
-    (append-nil t) (f.answer.1 [] k []))
-  where
-    at : (e : Refusal) → RefusedFor p.dialect p.kind p.max t e → Parses p.dialect p.kind t (Err e)
-    at OutOfMemory h = tt
-    at (Syntax place None expected may) h = absurd h
-    at (Syntax place (Some b) expected may) h = h.1
-    at (TooLong limit) h = absurd (let n : ⊥ = (let k = h.1 in omega arith) in n)
-    at (ReadFault place) h = absurd h
-
--- the end of a text that was fed at once
-pub finished_first : (p q : Progress) (r : Result Field Refusal) (t : List ℕ) → Took p []
-    → Fed p q (Ok tt) t → ((s : List ℕ) → Took q s → Finishes q.dialect q.kind s r)
-    → Parses p.dialect p.kind t r
-finished_first p q r t k f h =
-    let took = (f.answer.1 [] k).2 in
-    let same = f.settings in
-    at r (subst (λ y. Finishes p.dialect y t r) same.kind
-    (subst (λ y. Finishes y q.kind t r) same.dialect (h t took)))
-  where
-    at : (r : Result Field Refusal) → Finishes p.dialect p.kind t r → Parses p.dialect p.kind t r
-    at (Ok v) h = h
-    at (Err OutOfMemory) h = tt
-    at (Err (Syntax place None expected may)) h = (h.1, h.2)
-    at (Err (Syntax place (Some b) expected may)) h = absurd h
-    at (Err (TooLong limit)) h = absurd h
-    at (Err (ReadFault place)) h = absurd h

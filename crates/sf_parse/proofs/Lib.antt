@@ -32,6 +32,8 @@ pub mod Taking
 pub mod Takes
 pub mod Below
 pub mod Dialects
+pub mod Refusals
+pub mod Wholes
 pub mod FedPieces
 pub mod Readings
 pub mod PlainSteps

@@ -16,6 +16,7 @@ pub mod RefusalTexts
 pub mod ByteSets
 pub mod PieceEnds
 pub mod SeriesView
+pub mod Wholes
 pub mod EntryView
 pub mod MemberView
 pub mod ItemView

@@ -43,6 +43,7 @@ mod shown;
 mod state;
 mod text;
 mod top;
+mod whole;
 
 pub use expected::{Runs, runs_of};
 pub use parse::{parse_dict, parse_item, parse_list, parse_text, parse_text_in};

@@ -8,8 +8,10 @@ ghost use Rattle.sf_parse.specs.Parsers.{Parses, ParsesAs};
 ghost use Rattle.sf_parse.specs.Plain.{plain_byte};
 ghost use Rattle.sf_parse.specs.PlainParsers.{IsOther, NotForMemory};
 
-use crate::parser::Parser;
+use crate::context::Context;
 use crate::refusal::Refusal;
+use crate::top::TopReader;
+use crate::whole::{DictReader, ListReader, parse_whole};
 use sf_value::{Dialect, Dict, Field, Item, Kind, List};
 use std::alloc::Global;
 use std::hash::RandomState;
@@ -47,10 +49,16 @@ pub fn parse_text_in(
     ensures parses { Parses dialect kind text.now result }
     ensures plain { kind ≡ kind_is.Item → Every plain_byte text.now → NotForMemory result }
 {
-    let max = text.len() as u64;
-    let mut parser = Parser::new_in(alloc, seed, dialect, kind, max);
-    parser.feed(text)?;
-    parser.finish()
+    let context = Context {
+        alloc,
+        seed: *seed,
+        dialect,
+    };
+    match kind {
+        Kind::Item => parse_whole::<TopReader>(&context, text),
+        Kind::List => parse_whole::<ListReader>(&context, text),
+        Kind::Dict => parse_whole::<DictReader>(&context, text),
+    }
 }
 
 /// The Item that the text spells, in the dialect of RFC 9651 (section 4.2), as [`parse_text`] gives

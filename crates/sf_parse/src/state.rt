@@ -10,20 +10,18 @@ ghost use Rattle.sf_parse.specs.Machine.Fields.{begin as begin_at, step as step_
 ghost use Rattle.sf_parse.specs.Machine.Fields.{finish as finish_of};
 ghost use Rattle.sf_parse.specs.Machine.Takes.{takes as takes_at, may_end as may_end_at};
 
-use crate::commas::SeriesReader;
 use crate::context::Context;
-use crate::entry::EntryReader;
 use crate::level::Level;
-use crate::member::MemberReader;
 use crate::top::TopReader;
-use sf_value::{Dialect, Dict, Entries, Field, Kind, List, Member, OutOfMemory, Sequence};
+use crate::whole::{DictReader, ListReader, WholeField};
+use sf_value::{Dialect, Field, Kind, OutOfMemory};
 
 /// What was read of a field, by its kind.
 #[derive(Debug, Drop)]
 pub enum FieldState {
     Item(TopReader),
-    List(SeriesReader<MemberReader, Sequence<Member>>),
-    Dict(SeriesReader<EntryReader, Entries<Member>>),
+    List(ListReader),
+    Dict(DictReader),
 }
 
 impl FieldState {
@@ -33,13 +31,9 @@ impl FieldState {
         ensures { state_of result ≡ begin_at kind }
     {
         match kind {
-            Kind::Item => FieldState::Item(TopReader::new(context)),
-            Kind::List => {
-                FieldState::List(SeriesReader::new(context, MemberReader::new(context)))
-            }
-            Kind::Dict => {
-                FieldState::Dict(SeriesReader::new(context, EntryReader::new(context)))
-            }
+            Kind::Item => FieldState::Item(TopReader::begin(context)),
+            Kind::List => FieldState::List(ListReader::begin(context)),
+            Kind::Dict => FieldState::Dict(DictReader::begin(context)),
         }
     }
 
@@ -87,18 +81,9 @@ impl FieldState {
         ensures plain { PlainState (state_of self.old) → IsOk result }
     {
         match self {
-            FieldState::Item(top) => match top.finish(context)? {
-                Some(item) => Ok(Some(Field::Item(item))),
-                None => Ok(None),
-            },
-            FieldState::List(list) => match list.finish(context)? {
-                Some(members) => Ok(Some(Field::List(List { members }))),
-                None => Ok(None),
-            },
-            FieldState::Dict(dict) => match dict.finish(context)? {
-                Some(members) => Ok(Some(Field::Dict(Dict { members }))),
-                None => Ok(None),
-            },
+            FieldState::Item(top) => top.finish_field(context),
+            FieldState::List(list) => list.finish_field(context),
+            FieldState::Dict(dict) => dict.finish_field(context),
         }
     }
 }

@@ -1,13 +1,12 @@
-use Rattle.std.proofs.Common.{refl, [], sym, ap}
-use Rattle.sf_parse.specs.Machine.Language.{seen}
+use Rattle.std.proofs.Common.{[]}
 use Rattle.sf_parse.specs.Machine.Members.{member_start, member_step}
 use Rattle.sf_parse.specs.Machine.Entries.{entry_start, entry_step}
 use Rattle.sf_parse.specs.Machine.States.{InList, InDict}
-use Rattle.sf_parse.specs.Machine.Fields.{step, list_series, dict_series}
+use Rattle.sf_parse.specs.Machine.Fields.{step}
 use Rattle.sf_parse.specs.SeriesView.{series_next}
 use Rattle.sf_parse.specs.PieceEnds.{with_member, with_entry}
+use Rattle.sf_parse.specs.Wholes.{list_steps, dict_steps}
 use Rattle.sf_parse.proofs.Fronts.{all_above}
-use Rattle.sf_parse.proofs.CommaPieces.{series_is}
 use Rattle.sf_parse.proofs.PlainSteps.{plain_stays}
 use Rattle.sf_parse.proofs.state.FieldState.take.Goals as goal
 
@@ -21,13 +20,11 @@ returns-in-List-clause-front c =
     let d = c.args.context.now.dialect in
     rw c.in-List.is
     (all_above (series_next (member_start d) (member_step d) with_member []) (step d) InList
-    (λ s b. ap (seen InList) (sym (series_is (list_series d) with_member (λ s given. refl) s b)))
-    _ _ _ _ c.take-in-List.ensures.front)
+    (list_steps d) _ _ _ _ c.take-in-List.ensures.front)
 
 pub returns-in-Dict-clause-front : goal.returns-in-Dict-clause-front
 returns-in-Dict-clause-front c =
     let d = c.args.context.now.dialect in
     rw c.in-Dict.is
     (all_above (series_next entry_start (entry_step d) with_entry []) (step d) InDict
-    (λ s b. ap (seen InDict) (sym (series_is (dict_series d) with_entry (λ s given. refl) s b)))
-    _ _ _ _ c.take-in-Dict.ensures.front)
+    (dict_steps d) _ _ _ _ c.take-in-Dict.ensures.front)

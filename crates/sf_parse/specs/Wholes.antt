@@ -1,0 +1,53 @@
+-- The machine of fields goes on as the reader of a kind does.
+use Rattle.std.specs.Prelude.{◌≡◌, ℕ, List, [], ◌∷◌, ◌++◌, Option, Some, None}
+use Rattle.std.proofs.Common.{refl, sym, ap, ◌∙◌}
+use Rattle.sf_value.specs.declared.dialect.Dialect.{Dialect}
+use Rattle.sf_value.specs.declared.value.Member.{Member}
+use Rattle.sf_value.specs.Grammar.Pairs.{Pairs}
+use Rattle.sf_parse.specs.Machine.Language.{onward, seen}
+use Rattle.sf_parse.specs.Machine.Series.{Series, SeriesState, Begin, InPiece, Gap, Comma}
+use Rattle.sf_parse.specs.Machine.Series.{series_step}
+use Rattle.sf_parse.specs.Machine.Members.{MemberState, member_start, member_step}
+use Rattle.sf_parse.specs.Machine.Entries.{EntryState, entry_start, entry_step}
+use Rattle.sf_parse.specs.Machine.States.{State, InList, InDict}
+use Rattle.sf_parse.specs.Machine.Fields.{step, list_series, dict_series}
+use Rattle.sf_parse.specs.SeriesView.{behind_step, series_next}
+use Rattle.sf_parse.specs.PieceEnds.{with_member, with_entry}
+
+onward_seen : {S T X V : Type 0} (into : S → T) (o : Option S) (f : X → V) (e : Option X)
+    (after : V → Option T) → onward into o (seen f e) after ≡ onward into o e (λ x. after (f x))
+onward_seen into (Some s) f e after = refl
+onward_seen into None f (Some x) after = refl
+onward_seen into None f None after = refl
+
+-- where a piece is added by its end
+series_is : {S X V : Type 0} (k : Series S X V) (added : S → V → Option V)
+    → ((s : S) (given : V) → added s given ≡ seen (k.add given) (k.finish s))
+    → (s : SeriesState S V) (b : ℕ)
+    → series_next k.start k.step added k.none s b ≡ series_step k s b
+series_is k added h Begin b = refl
+series_is k added h (InPiece given s) b =
+    ap (λ e. onward (InPiece given) (k.step s b) e (λ more. behind_step more b)) (h s given)
+    ∙ onward_seen (InPiece given) (k.step s b) (k.add given) (k.finish s)
+    (λ more. behind_step more b)
+series_is k added h (Gap given) b = refl
+series_is k added h (Comma given) b = refl
+
+-- of an Item
+pub top_steps : (d : Dialect) (s : State) (b : ℕ) → step d s b ≡ seen (λ s. s) (step d s b)
+top_steps d s b = same (step d s b)
+  where
+    same : (o : Option State) → o ≡ seen (λ s. s) o
+    same None = refl
+    same (Some s) = refl
+
+-- of a List
+pub list_steps : (d : Dialect) (s : SeriesState MemberState (List Member)) (b : ℕ)
+    → step d (InList s) b
+    ≡ seen InList (series_next (member_start d) (member_step d) with_member [] s b)
+list_steps d s b = ap (seen InList) (sym (series_is (list_series d) with_member (λ s given. refl) s b))
+
+-- of a Dictionary
+pub dict_steps : (d : Dialect) (s : SeriesState EntryState (Pairs Member)) (b : ℕ)
+    → step d (InDict s) b ≡ seen InDict (series_next entry_start (entry_step d) with_entry [] s b)
+dict_steps d s b = ap (seen InDict) (sym (series_is (dict_series d) with_entry (λ s given. refl) s b))

@@ -1,0 +1,163 @@
+//! Whole texts, each parsed by the reader of its kind (RFC 9651 section 4.2).
+ghost use Rattle.std.specs.Prelude.{◌≡◌, ℕ, IfOk, IsOk, refl};
+ghost use Rattle.sf_value.specs.Grammar.Words.{Every};
+ghost use Rattle.sf_value.specs.declared.dialect.Dialect.{Dialect};
+ghost use Rattle.sf_value.specs.declared.value.Kind.{Kind};
+ghost use Rattle.sf_value.specs.declared.value.Kind.TheVariants as kind_is;
+ghost use Rattle.sf_parse.specs.Parsers.{Parses};
+ghost use Rattle.sf_parse.specs.Plain.{plain_byte};
+ghost use Rattle.sf_parse.specs.PlainParsers.{PlainState, NotForMemory};
+ghost use Rattle.sf_parse.specs.Wholes.{top_steps, list_steps, dict_steps};
+ghost use Rattle.sf_parse.specs.Machine.Language.{seen};
+ghost use Rattle.sf_parse.specs.Machine.States.{State, InList, InDict};
+ghost use Rattle.sf_parse.specs.Machine.Fields.{begin as begin_at, step as step_of};
+ghost use Rattle.sf_parse.specs.Machine.Fields.{finish as finish_of};
+ghost use Rattle.sf_parse.specs.Machine.Takes.{takes as takes_at, may_end as may_end_at};
+
+use crate::commas::SeriesReader;
+use crate::context::Context;
+use crate::entry::EntryReader;
+use crate::level::Level;
+use crate::member::MemberReader;
+use crate::refusal::Refusal;
+use crate::top::TopReader;
+use sf_value::{Dict, Entries, Field, List, Member, OutOfMemory, Sequence};
+
+/// The members of a List that are being read.
+pub type ListReader = SeriesReader<MemberReader, Sequence<Member>>;
+
+/// The members of a Dictionary that are being read.
+pub type DictReader = SeriesReader<EntryReader, Entries<Member>>;
+
+/// A field of one kind that is being read.
+pub trait WholeField: Level + Drop {
+    // the kind
+    ghost kind: { Kind };
+
+    // what was read, as a state of the machine of fields
+    ghost state: { Self → State };
+
+    /// Before the first byte. It takes no memory.
+    fn begin(context: &Context) -> Self
+        ensures begin { state result ≡ begin_at kind }
+        ensures plain { PlainState (state result) → Self.plain context.now.dialect result };
+
+    /// The field, if it may end here. What is left is the reader alone.
+    fn finish_field(&mut self, context: &Context) -> Result<Option<Field>, OutOfMemory>
+        ensures value { IfOk result (λ field. field ≡ finish_of (state self.old)) }
+        ensures plain { PlainState (state self.old) → IsOk result };
+
+    // the machine of fields goes on just as the level does, and its tests tell the same
+    ghost steps: { (d : Dialect) (s : Self) (b : ℕ)
+        → step_of d (state s) b ≡ seen state (Self.next d s b) };
+
+    ghost takes_too: { (d : Dialect) (s : Self) → Self.takes d s ≡ takes_at d (state s) };
+
+    ghost ends_too: { (s : Self) → Self.ends s ≡ may_end_at (state s) };
+}
+
+impl WholeField for TopReader {
+    ghost kind = { kind_is.Item };
+
+    ghost state = { λ s. s };
+
+    ghost steps = { top_steps };
+
+    ghost takes_too = { λ d s. refl };
+
+    ghost ends_too = { λ s. refl };
+
+    fn begin(context: &Context) -> TopReader {
+        TopReader::new(context)
+    }
+
+    fn finish_field(&mut self, context: &Context) -> Result<Option<Field>, OutOfMemory> {
+        match self.finish(context)? {
+            Some(item) => Ok(Some(Field::Item(item))),
+            None => Ok(None),
+        }
+    }
+}
+
+impl WholeField for ListReader {
+    ghost kind = { kind_is.List };
+
+    ghost state = { InList };
+
+    ghost steps = { list_steps };
+
+    ghost takes_too = { λ d s. refl };
+
+    ghost ends_too = { λ s. refl };
+
+    fn begin(context: &Context) -> ListReader {
+        SeriesReader::new(context, MemberReader::new(context))
+    }
+
+    fn finish_field(&mut self, context: &Context) -> Result<Option<Field>, OutOfMemory> {
+        match self.finish(context)? {
+            Some(members) => Ok(Some(Field::List(List { members }))),
+            None => Ok(None),
+        }
+    }
+}
+
+impl WholeField for DictReader {
+    ghost kind = { kind_is.Dict };
+
+    ghost state = { InDict };
+
+    ghost steps = { dict_steps };
+
+    ghost takes_too = { λ d s. refl };
+
+    ghost ends_too = { λ s. refl };
+
+    fn begin(context: &Context) -> DictReader {
+        SeriesReader::new(context, EntryReader::new(context))
+    }
+
+    fn finish_field(&mut self, context: &Context) -> Result<Option<Field>, OutOfMemory> {
+        match self.finish(context)? {
+            Some(members) => Ok(Some(Field::Dict(Dict { members }))),
+            None => Ok(None),
+        }
+    }
+}
+
+/// The value that the text spells as a field of this kind, or its exact refusal.
+pub fn parse_whole<W: WholeField>(context: &Context, text: &[u8]) -> Result<Field, Refusal>
+    ensures parses { Parses context.now.dialect W.kind text.now result }
+    ensures plain { W.kind ≡ kind_is.Item → Every plain_byte text.now → NotForMemory result }
+{
+    let mut field = W::begin(context);
+    read_whole(&mut field, context, text)
+}
+
+// Reads the text into a field that nothing was read of. What is left is the reader alone.
+fn read_whole<W: WholeField>(
+    field: &mut W,
+    context: &Context,
+    text: &[u8],
+) -> Result<Field, Refusal>
+    requires begin { W.state field.old ≡ begin_at W.kind }
+    requires plain { PlainState (W.state field.old) → W.plain context.now.dialect field.old }
+    ensures parses { Parses context.now.dialect W.kind text.now result }
+    ensures plain { W.kind ≡ kind_is.Item → Every plain_byte text.now → NotForMemory result }
+{
+    let rest = field.take(context, text)?;
+    let found = rest.first().copied();
+    let may_end = field.may_end();
+    if found.is_some() || !may_end {
+        return Err(Refusal::Syntax {
+            place: (text.len() - rest.len()) as u64,
+            found,
+            expected: field.expected(context.dialect),
+            may_end,
+        });
+    }
+    match field.finish_field(context)? {
+        Some(value) => Ok(value),
+        None => unreachable!(),
+    }
+}
