@@ -1,5 +1,5 @@
 -- The machine of fields goes on as the reader of a kind does.
-use Rattle.std.specs.Prelude.{◌≡◌, ℕ, List, [], ◌∷◌, ◌++◌, Option, Some, None}
+use Rattle.std.specs.Prelude.{◌≡◌, ℕ, List, [], Option, Some, None}
 use Rattle.std.proofs.Common.{refl, sym, ap, ◌∙◌}
 use Rattle.sf_value.specs.declared.dialect.Dialect.{Dialect}
 use Rattle.sf_value.specs.declared.value.Member.{Member}

@@ -23,7 +23,7 @@ use std::marker::Model;
 
 /// What was read of an item: its bare item, which stays in its reader until the item ends, and its
 /// parameters.
-#[derive(Debug, Drop)]
+#[derive(Debug)]
 pub struct ItemReader {
     in_params: bool,
     bare: BareReader,
@@ -40,6 +40,18 @@ impl Model for ItemReader {
     ghost view = { λ r. item_of r.in_params r.bare r.params };
 
     ghost invariant = { λ r. FitsItem r.in_params r.bare };
+}
+
+// Written out, so that a reader is let go where it stands and not moved first.
+impl Drop for ItemReader {
+    #[inline(always)]
+    fn drop(self) {
+        let ItemReader {
+            in_params: _,
+            bare: _,
+            params: _,
+        } = self;
+    }
 }
 
 impl ItemReader {
