@@ -82,8 +82,7 @@ impl BareReader {
             self.new) }
         ensures plain { plain_byte byte ≡ true → IsOk result }
     {
-        if let Some(number) = NumberReader::start(byte) {
-            self.number = number;
+        if self.number.start(byte) {
             self.kind = BareKind::Number;
             return Ok(true);
         }

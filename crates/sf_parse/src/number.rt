@@ -1,8 +1,8 @@
 //! A number that is being read (RFC 9651 section 4.2.4).
-ghost use Rattle.std.specs.Prelude.{◌≡◌, ◌≤◌, ◌<◌, ◌^◌, nat_abs};
+ghost use Rattle.std.specs.Prelude.{◌≡◌, ◌≤◌, ◌<◌, ◌^◌, false, nat_abs};
 ghost use Rattle.sf_value.specs.Grammar.Numbers.{signed};
 ghost use Rattle.sf_parse.specs.Expected.{Marks};
-ghost use Rattle.sf_parse.specs.Fronts.{Went, FirstIs, Halts};
+ghost use Rattle.sf_parse.specs.Fronts.{Went, FirstIs, Halts, Starts};
 ghost use Rattle.sf_parse.specs.Machine.Language.{Steps};
 ghost use Rattle.sf_parse.specs.Machine.Numbers.{number_start, number_step, number_finish};
 ghost use Rattle.sf_parse.specs.Machine.Takes.{number_takes, number_ends};
@@ -57,24 +57,27 @@ impl NumberReader {
         }
     }
 
-    /// The number that begins with this byte.
-    pub fn start(byte: u8) -> Option<NumberReader>
-        ensures { result ≡ number_start byte }
+    /// Begins a number with this byte, or tells that none begins with it, and stays as it is.
+    pub fn start(&mut self, byte: u8) -> bool
+        ensures start { Starts result (number_start byte) self.new }
+        ensures kept { result ≡ false → self.new ≡ self.old }
     {
         match byte {
-            b'-' => Some(NumberReader {
-                negative: true,
-                whole: None,
-                digits: 0,
-                value: 0,
-            }),
-            b'0'..=b'9' => Some(NumberReader {
-                negative: false,
-                whole: None,
-                digits: 1,
-                value: u64::from(byte - b'0'),
-            }),
-            _ => None,
+            b'-' => {
+                self.negative = true;
+                self.whole = None;
+                self.digits = 0;
+                self.value = 0;
+                true
+            }
+            b'0'..=b'9' => {
+                self.negative = false;
+                self.whole = None;
+                self.digits = 1;
+                self.value = u64::from(byte - b'0');
+                true
+            }
+            _ => false,
         }
     }
 
