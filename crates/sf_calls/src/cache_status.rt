@@ -1,30 +1,24 @@
 //! Hops read from texts and written again. What is expected comes from RFC 9211: its sections 2 and
 //! 4, and what they say of parameters of other types.
 use sf_field::{AskFault, Consumer, UseFault, ask};
-use sf_parse::{Refusal, parse_text};
+use sf_parse::{Refusal, parse_list};
 use sf_use::{CachePath, CacheStatus, Forward, Hop, HopStatus, Name, Outcome, Passed, append_hop};
-use sf_value::{Blob, Field, Kind, List, OutOfMemory, OutOfRange, Sequence, Token};
+use sf_value::{Blob, Field, List, OutOfMemory, OutOfRange, Token};
 use sf_write::to_text;
 use std::alloc::Global;
 use std::hash::RandomState;
 use std::test::Fail;
 
 fn read(alloc: Global, seed: &RandomState, text: &str) -> Result<CachePath, AskFault> {
-    let mut lines = Vec::new(alloc);
     let Ok(line) = Blob::new(alloc, text.as_bytes()) else {
         return Err(AskFault::Field(Refusal::OutOfMemory));
     };
-    match lines.push(line) {
-        Ok(()) => ask(alloc, seed, &CacheStatus, lines.as_slice()),
-        Err(_) => Err(AskFault::Field(Refusal::OutOfMemory)),
-    }
+    ask(alloc, seed, &CacheStatus, &[line])
 }
 
 // The text of the members that are appended for the hops.
 fn written(alloc: Global, seed: &RandomState, hops: &[Hop]) -> Result<Vec<u8>, OutOfMemory> {
-    let mut list = List {
-        members: Sequence::new(alloc),
-    };
+    let mut list = List::new(alloc);
     for hop in hops {
         append_hop(alloc, seed, &mut list, hop)?;
     }
@@ -37,10 +31,8 @@ fn read_and_written(
     seed: &RandomState,
     text: &str,
 ) -> Result<(Option<usize>, Vec<u8>), Fail> {
-    match read(alloc, seed, text) {
-        Ok(path) => Ok((path.served_by(), written(alloc, seed, path.hops())?)),
-        Err(_) => Err(Fail::from("refused")),
-    }
+    let path = read(alloc, seed, text)?;
+    Ok((path.served_by(), written(alloc, seed, path.hops())?))
 }
 
 #[test]
@@ -108,13 +100,8 @@ fn refuses(rt: HostRuntime) -> Result<(), Fail> {
     let alloc = rt.alloc();
     let seed = RandomState::new(&rt)?;
     for (text, want) in [("7;hit", 0), ("a, (b), 7", 1), ("a, \"b\", :YQ==:, ()", 2)] {
-        match read(alloc, &seed, text) {
-            Ok(_) => return Err(Fail::from("accepted")),
-            Err(fault) => {
-                let want = AskFault::Answer(UseFault::NotACache { index: want });
-                assert_eq!(rt; fault, want, "of {text}");
-            }
-        }
+        let want = AskFault::Answer(UseFault::NotACache { index: want });
+        assert_eq!(rt; read(alloc, &seed, text).err(), Some(want), "of {text}");
     }
     match read(alloc, &seed, "(a") {
         Err(
@@ -164,14 +151,10 @@ fn tells_reasons(rt: HostRuntime) -> Result<(), Fail> {
         ("j;fwd=\"miss\"", "none"),
         ("k;hit", "none"),
     ] {
-        match read(rt.alloc(), &seed, text) {
-            Ok(path) => {
-                assert_eq!(rt; path.hops().len(), 1, "hops of {text}");
-                for hop in path.hops() {
-                    assert_eq!(rt; reason_of(&hop.outcome), want, "of {text}");
-                }
-            }
-            Err(_) => return Err(Fail::from("refused")),
+        let path = read(rt.alloc(), &seed, text)?;
+        assert_eq!(rt; path.hops().len(), 1, "hops of {text}");
+        for hop in path.hops() {
+            assert_eq!(rt; reason_of(&hop.outcome), want, "of {text}");
         }
     }
     Ok(())
@@ -180,10 +163,7 @@ fn tells_reasons(rt: HostRuntime) -> Result<(), Fail> {
 // The List of the path of two caches that RFC 9211 shows.
 fn two_caches(alloc: Global, seed: &RandomState) -> Result<List, Fail> {
     let text = b"OriginCache; hit; ttl=1100, \"CDN Company Here\"; hit; ttl=545";
-    match parse_text(alloc, seed, Kind::List, text) {
-        Ok(Field::List(list)) => Ok(list),
-        _ => Err(Fail::from("refused")),
-    }
+    Ok(parse_list(alloc, seed, text)?)
 }
 
 fn token_name(alloc: Global, text: &[u8]) -> Result<Name, Fail> {
@@ -246,12 +226,12 @@ fn appended_reads_back(rt: HostRuntime) -> Result<(), Fail> {
 #[test]
 fn statuses(rt: HostRuntime) {
     for (code, want) in [
-        (99, Err(OutOfRange)),
+        (99u16, Err(OutOfRange)),
         (100, Ok(100)),
         (999, Ok(999)),
         (1000, Err(OutOfRange)),
     ] {
-        let got = HopStatus::new(code).map(|status| status.get());
-        assert_eq!(rt; got, want);
+        assert_eq!(rt; HopStatus::new(code).map(|status| status.get()), want);
+        assert_eq!(rt; HopStatus::try_from(code).map(|status| status.get()), want);
     }
 }

@@ -1,30 +1,18 @@
 //! Priority fields with what they come to, and priorities with their fields.
 use sf_field::ask;
-use sf_parse::parse_text;
+use sf_parse::parse_dict;
 use sf_use::{Priority, PriorityField, Urgency, merge, priority_field};
-use sf_value::{Blob, Dict, Field, Kind, OutOfRange};
+use sf_value::{Blob, Field, OutOfRange};
 use sf_write::to_text;
 use std::alloc::Global;
 use std::hash::RandomState;
 use std::test::Fail;
 
-// The Dictionary of a field of one line.
-fn dict_of(alloc: Global, seed: &RandomState, line: &[u8]) -> Result<Dict, Fail> {
-    match parse_text(alloc, seed, Kind::Dict, line) {
-        Ok(Field::Dict(dict)) => Ok(dict),
-        _ => Err(Fail::from("no Dictionary")),
-    }
-}
-
 // What the field of a request comes to.
 fn alone(alloc: Global, seed: &RandomState, line: &[u8]) -> Result<(u8, bool), Fail> {
-    match ask(alloc, seed, &PriorityField, &[Blob::new(alloc, line)?]) {
-        Ok(asked) => {
-            let priority = asked.with_defaults();
-            Ok((priority.urgency.get(), priority.incremental))
-        }
-        Err(_) => Err(Fail::from("no Dictionary")),
-    }
+    let asked = ask(alloc, seed, &PriorityField, &[Blob::new(alloc, line)?])?;
+    let priority = asked.with_defaults();
+    Ok((priority.urgency.get(), priority.incremental))
 }
 
 // What the fields of a request and of a response come to.
@@ -34,8 +22,8 @@ fn together(
     client: &[u8],
     server: &[u8],
 ) -> Result<(u8, bool), Fail> {
-    let client = Priority::from_dict(&dict_of(alloc, seed, client)?);
-    let server = Priority::from_dict(&dict_of(alloc, seed, server)?);
+    let client = Priority::from_dict(&parse_dict(alloc, seed, client)?);
+    let server = Priority::from_dict(&parse_dict(alloc, seed, server)?);
     let priority = merge(client, server).with_defaults();
     Ok((priority.urgency.get(), priority.incremental))
 }
@@ -47,18 +35,12 @@ fn written(
     urgency: u8,
     incremental: bool,
 ) -> Result<Vec<u8>, Fail> {
-    let Ok(urgency) = Urgency::new(urgency) else {
-        return Err(Fail::from("no urgency"));
+    let priority = Priority {
+        urgency: Urgency::new(urgency)?,
+        incremental,
     };
-    let dict = priority_field(
-        alloc,
-        seed,
-        Priority {
-            urgency,
-            incremental,
-        },
-    )?;
-    Ok(to_text(alloc, &Field::Dict(dict))?)
+    let dict = priority_field(alloc, seed, priority)?;
+    Ok(to_text(alloc, &Field::from(dict))?)
 }
 
 #[test]
@@ -116,7 +98,21 @@ fn written_priorities(rt: HostRuntime) -> Result<(), Fail> {
     }
     let default = Priority::default();
     assert_eq!(rt; (default.urgency.get(), default.incremental), (3, false));
-    assert_eq!(rt; Urgency::new(7).is_ok(), true);
-    assert_eq!(rt; Urgency::new(8), Err(OutOfRange));
     Ok(())
+}
+
+#[test]
+fn urgencies(rt: HostRuntime) {
+    for (number, want) in [
+        (0u8, Ok(0)),
+        (7, Ok(7)),
+        (8, Err(OutOfRange)),
+        (255, Err(OutOfRange)),
+    ] {
+        assert_eq!(rt; Urgency::new(number).map(|urgency| urgency.get()), want);
+        assert_eq!(rt;
+            Urgency::try_from(number).map(|urgency| urgency.get()),
+            want
+        );
+    }
 }

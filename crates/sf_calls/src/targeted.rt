@@ -9,28 +9,14 @@ use std::test::Fail;
 
 // What a targeted field of one line says.
 fn policy_of(alloc: Global, seed: &RandomState, line: &[u8]) -> Result<Policy, Fail> {
-    match ask(alloc, seed, &Directives, &[Blob::new(alloc, line)?]) {
-        Ok(policy) => Ok(policy),
-        Err(_) => Err(Fail::from("no Dictionary")),
-    }
-}
-
-fn nothing_said() -> Policy {
-    Policy {
-        max_age: None,
-        s_maxage: None,
-        must_revalidate: false,
-        no_store: false,
-        no_cache: false,
-        is_private: false,
-    }
+    Ok(ask(alloc, seed, &Directives, &[Blob::new(alloc, line)?])?)
 }
 
 #[test]
 fn policies(rt: HostRuntime) -> Result<(), Fail> {
     let alloc = rt.alloc();
     let seed = RandomState::new(&rt)?;
-    let none = nothing_said();
+    let none = Policy::default();
     let aged = Policy {
         max_age: Some(60),
         ..none
@@ -105,7 +91,7 @@ fn choices(rt: HostRuntime) -> Result<(), Fail> {
     let alloc = rt.alloc();
     let seed = RandomState::new(&rt)?;
     let targets = [b"cdn-cache-control".as_slice(), b"x-cache-control"];
-    let none = nothing_said();
+    let none = Policy::default();
     let both = Policy {
         max_age: Some(30),
         s_maxage: Some(90),

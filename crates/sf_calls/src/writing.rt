@@ -1,149 +1,15 @@
-//! Values with their texts, and a sink that takes one byte a call and fails at a stated call.
-ghost use Rattle.std.specs.Prelude.{Some};
-ghost use Rattle.sf_value.specs.Devices.{capped};
-
-use sf_value::{
-    Bare, Blob, Dict, Entries, Failed, Field, Inner, Int, Item, Key, List, Member, Sequence, Shown,
-    Sink, Text, Thousandths, Token, Writing,
-};
+//! Values with their texts, and sinks that fail.
+use crate::build::{blob, date, decimal, dict, flag, integer, item, shown, text, token, two, with};
+use sf_devices::Trickle;
+use sf_value::{Bare, Dict, Field, Inner, Item, Key, List, Text, Writing};
 use sf_write::{
-    WriteFault, bare_text, send_all, to_text, write_bare, write_bare_from, write_field,
-    write_field_from,
+    WriteFault, bare_text, put, put_bare, put_field, put_text, send_all, to_string, to_text,
+    write_bare, write_field,
 };
 use std::alloc::Global;
 use std::hash::RandomState;
 use std::process::Abort;
 use std::test::Fail;
-
-// Takes one byte a call; the calls are counted from 1.
-#[derive(Drop)]
-struct Trickle {
-    taken: Vec<u8>,
-    calls: u64,
-    fails_at: u64,
-    failures: u64,
-}
-
-impl Trickle {
-    fn new(alloc: Global, fails_at: u64) -> Trickle {
-        Trickle {
-            taken: Vec::new(alloc),
-            calls: 0,
-            fails_at,
-            failures: 0,
-        }
-    }
-}
-
-impl Sink for Trickle {
-    ghost state = { λ t. record { taken = Some t.taken.items; failures = t.failures } };
-
-    fn send(&mut self, bytes: &[u8]) -> Result<usize, Failed> {
-        self.calls = self.calls.saturating_add(1);
-        let Some(first) = bytes.first() else {
-            return Ok(0);
-        };
-        if self.calls == self.fails_at || self.taken.push(*first).is_err() {
-            self.failures = self.failures.saturating_add(1);
-            return Err(Failed);
-        }
-        Ok(1)
-    }
-}
-
-fn integer(n: i64) -> Result<Bare, Fail> {
-    Ok(Bare::Integer(Int::new(n)?))
-}
-
-fn decimal(thousandths: i64) -> Result<Bare, Fail> {
-    Ok(Bare::Decimal(Thousandths::new(thousandths)?))
-}
-
-fn date(seconds: i64) -> Result<Bare, Fail> {
-    Ok(Bare::Date(Int::new(seconds)?))
-}
-
-fn text(alloc: Global, bytes: &[u8]) -> Result<Bare, Fail> {
-    Ok(Bare::Text(Text::new(alloc, bytes)?))
-}
-
-fn token(alloc: Global, bytes: &[u8]) -> Result<Bare, Fail> {
-    Ok(Bare::Token(Token::new(alloc, bytes)?))
-}
-
-fn blob(alloc: Global, bytes: &[u8]) -> Result<Bare, Fail> {
-    Ok(Bare::Blob(Blob::new(alloc, bytes)?))
-}
-
-fn shown(alloc: Global, text: &str) -> Result<Bare, Fail> {
-    Ok(Bare::Shown(Shown::new(alloc, text)?))
-}
-
-// Puts a parameter.
-fn put(alloc: Global, params: &mut Entries<Bare>, key: &[u8], value: Bare) -> Result<(), Fail> {
-    match params.put(Key::new(alloc, key)?, value) {
-        Ok(_) => Ok(()),
-        Err(_) => Err(Fail::from("no memory")),
-    }
-}
-
-// An item with no parameters.
-fn plain(alloc: Global, seed: &RandomState, bare: Bare) -> Item {
-    Item {
-        bare,
-        params: Entries::new(alloc, seed),
-    }
-}
-
-// An item with one parameter.
-fn with_param(
-    alloc: Global,
-    seed: &RandomState,
-    bare: Bare,
-    key: &[u8],
-    value: Bare,
-) -> Result<Item, Fail> {
-    let mut params = Entries::new(alloc, seed);
-    put(alloc, &mut params, key, value)?;
-    Ok(Item { bare, params })
-}
-
-// Items in parentheses, with no parameters.
-fn inner(alloc: Global, seed: &RandomState, items: Vec<Item>) -> Member {
-    Member::Inner(Inner {
-        items: items.into(),
-        params: Entries::new(alloc, seed),
-    })
-}
-
-fn list(members: Vec<Member>) -> Field {
-    Field::List(List {
-        members: Sequence::from_vec(members),
-    })
-}
-
-// Puts a member of a dictionary.
-fn put_member(
-    alloc: Global,
-    members: &mut Entries<Member>,
-    key: &[u8],
-    member: Member,
-) -> Result<(), Fail> {
-    match members.put(Key::new(alloc, key)?, member) {
-        Ok(_) => Ok(()),
-        Err(_) => Err(Fail::from("no memory")),
-    }
-}
-
-fn put_item(
-    alloc: Global,
-    seed: &RandomState,
-    members: &mut Entries<Member>,
-    key: &[u8],
-    bare: Bare,
-) -> Result<(), Fail> {
-    put_member(alloc, members, key, Member::Item(plain(alloc, seed, bare)))
-}
 
 fn check(rt: &impl Abort, alloc: Global, field: Field, want: &str) -> Result<(), Fail> {
     let text = to_text(alloc, &field)?;
@@ -162,40 +28,12 @@ fn check_bare(
     Ok(())
 }
 
-fn two<T: Drop>(alloc: Global, first: T, second: T) -> Result<Vec<T>, Fail> {
-    let mut both = Vec::new(alloc);
-    both.push(first)?;
-    both.push(second)?;
-    Ok(both)
-}
-
-// `(1 2);y=:YQ==:`
-fn one_and_two_inside(alloc: Global, seed: &RandomState) -> Result<Member, Fail> {
-    let mut params = Entries::new(alloc, seed);
-    put(alloc, &mut params, b"y", blob(alloc, b"a")?)?;
-    let one = plain(alloc, seed, integer(1)?);
-    let two_of_them = two(alloc, one, plain(alloc, seed, integer(2)?))?;
-    Ok(Member::Inner(Inner {
-        items: two_of_them.into(),
-        params,
-    }))
-}
-
-fn flag_with(alloc: Global, seed: &RandomState, key: &[u8], value: Bare) -> Result<Member, Fail> {
-    let item = with_param(alloc, seed, Bare::Boolean(true), key, value)?;
-    Ok(Member::Item(item))
-}
-
-// `a=(1 2);y=:YQ==:, b;x`, 21 bytes.
-fn example(alloc: Global, seed: &RandomState) -> Result<Field, Fail> {
-    let mut members = Entries::new(alloc, seed);
-    put_member(alloc, &mut members, b"a", one_and_two_inside(alloc, seed)?)?;
-    let flag = flag_with(alloc, seed, b"x", Bare::Boolean(true))?;
-    put_member(alloc, &mut members, b"b", flag)?;
-    Ok(Field::Dict(Dict { members }))
-}
-
 const EXAMPLE: &str = "a=(1 2);y=:YQ==:, b;x";
+
+// The Dictionary of that text, which has 21 bytes.
+fn example(alloc: Global, seed: &RandomState) -> Result<Field, Fail> {
+    dict(alloc, seed, b"a", false)
+}
 
 #[test]
 fn numbers(rt: HostRuntime) -> Result<(), Fail> {
@@ -305,15 +143,14 @@ fn long_byte_sequences(rt: HostRuntime) -> Result<(), Fail> {
 
 // `1.5;q=?0;r=1`
 fn with_two_params(alloc: Global, seed: &RandomState) -> Result<Field, Fail> {
-    let mut item = with_param(alloc, seed, decimal(1500)?, b"q", Bare::Boolean(false))?;
-    put(alloc, &mut item.params, b"r", integer(1)?)?;
-    Ok(Field::Item(item))
+    let key = Key::new(alloc, b"r")?;
+    let item = item(alloc, seed, decimal(1500)?, b"q", Bare::Boolean(false))?;
+    Ok(item.with_param(key, integer(1)?)?.into())
 }
 
 // `?1;b`
 fn true_with_a_flag(alloc: Global, seed: &RandomState) -> Result<Field, Fail> {
-    let item = with_param(alloc, seed, Bare::Boolean(true), b"b", Bare::Boolean(true))?;
-    Ok(Field::Item(item))
+    Ok(item(alloc, seed, Bare::Boolean(true), b"b", Bare::Boolean(true))?.into())
 }
 
 #[test]
@@ -326,31 +163,35 @@ fn items(rt: HostRuntime) -> Result<(), Fail> {
 
 // Two members that are Items with no parameters.
 fn two_items(alloc: Global, seed: &RandomState, first: Bare, second: Bare) -> Result<Field, Fail> {
-    let first = Member::Item(plain(alloc, seed, first));
-    let second = Member::Item(plain(alloc, seed, second));
-    Ok(list(two(alloc, first, second)?))
+    let first = Item::new(alloc, seed, first).into();
+    let second = Item::new(alloc, seed, second).into();
+    two(alloc, first, second)
 }
 
 // `(a;b c)`
-fn two_tokens_inside(alloc: Global, seed: &RandomState) -> Result<Member, Fail> {
-    let first = with_param(alloc, seed, token(alloc, b"a")?, b"b", Bare::Boolean(true))?;
-    let second = plain(alloc, seed, token(alloc, b"c")?);
-    Ok(inner(alloc, seed, two(alloc, first, second)?))
+fn two_tokens_inside(alloc: Global, seed: &RandomState) -> Result<Inner, Fail> {
+    let first = item(alloc, seed, token(alloc, b"a")?, b"b", Bare::Boolean(true))?;
+    let second = Item::new(alloc, seed, token(alloc, b"c")?);
+    Ok(Inner::new(alloc, seed).with_item(first)?.with_item(second)?)
 }
 
 // `(a;b c), (), "x, y"`
 fn members_of_both_forms(alloc: Global, seed: &RandomState) -> Result<Field, Fail> {
-    let first = two_tokens_inside(alloc, seed)?;
-    let mut members = two(alloc, first, inner(alloc, seed, Vec::new(alloc)))?;
-    members.push(Member::Item(plain(alloc, seed, text(alloc, b"x, y")?)))?;
-    Ok(list(members))
+    let first = two_tokens_inside(alloc, seed)?.into();
+    let last = Item::new(alloc, seed, text(alloc, b"x, y")?).into();
+    let list = List::new(alloc).with(first)?;
+    Ok(
+        list.with(Inner::new(alloc, seed).into())?
+            .with(last)?
+            .into(),
+    )
 }
 
 #[test]
 fn lists(rt: HostRuntime) -> Result<(), Fail> {
     let alloc = rt.alloc();
     let seed = RandomState::new(&rt)?;
-    check(&rt, alloc, list(Vec::new(alloc)), "")?;
+    check(&rt, alloc, List::new(alloc).into(), "")?;
     let twice = two_items(alloc, &seed, blob(alloc, b"a")?, blob(alloc, b"a")?)?;
     check(&rt, alloc, twice, ":YQ==:, :YQ==:")?;
     let field = members_of_both_forms(alloc, &seed)?;
@@ -359,17 +200,17 @@ fn lists(rt: HostRuntime) -> Result<(), Fail> {
 
 // `a=?0, b, c;foo=bar`, whose last value was put in place of another.
 fn flags(alloc: Global, seed: &RandomState) -> Result<Field, Fail> {
-    let mut members = Entries::new(alloc, seed);
+    let mut dict = Dict::new(alloc, seed);
     for (key, value) in [
         (b"a".as_slice(), false),
         (b"b".as_slice(), true),
         (b"c".as_slice(), true),
     ] {
-        put_item(alloc, seed, &mut members, key, Bare::Boolean(value))?;
+        let member = Item::new(alloc, seed, Bare::Boolean(value)).into();
+        dict = with(alloc, dict, key, member)?;
     }
-    let last = flag_with(alloc, seed, b"foo", token(alloc, b"bar")?)?;
-    put_member(alloc, &mut members, b"c", last)?;
-    Ok(Field::Dict(Dict { members }))
+    let last = flag(alloc, seed, b"foo", token(alloc, b"bar")?)?;
+    Ok(with(alloc, dict, b"c", last)?.into())
 }
 
 #[test]
@@ -378,10 +219,7 @@ fn dictionaries(rt: HostRuntime) -> Result<(), Fail> {
     let seed = RandomState::new(&rt)?;
     check(&rt, alloc, example(alloc, &seed)?, EXAMPLE)?;
     check(&rt, alloc, flags(alloc, &seed)?, "a=?0, b, c;foo=bar")?;
-    let empty = Field::Dict(Dict {
-        members: Entries::new(alloc, &seed),
-    });
-    check(&rt, alloc, empty, "")
+    check(&rt, alloc, Dict::new(alloc, &seed).into(), "")
 }
 
 // What a sink took that takes one byte a call and fails at call `fails_at`, and the answer to it.
@@ -443,10 +281,9 @@ fn counts_go_on(rt: HostRuntime) -> Result<(), Fail> {
     let seed = RandomState::new(&rt)?;
     let mut out = Writing::new(Vec::new(alloc));
     let field = example(alloc, &seed)?;
-    let written = write_field_from(&field, 0, &mut out)?;
-    assert_eq!(rt; written, 21);
-    let written = send_all(b"\n", written, &mut out)?;
-    assert_eq!(rt; written, 22);
+    let sent = put_field(&field, Ok(0), &mut out);
+    assert_eq!(rt; sent, Ok(21));
+    assert_eq!(rt; put(b"\n", sent, &mut out), Ok(22));
     let text = out.into_inner();
     assert_eq!(rt; text.as_slice(), b"a=(1 2);y=:YQ==:, b;x\n".as_slice());
     Ok(())
@@ -457,10 +294,44 @@ fn counts_of_bare_items_go_on(rt: HostRuntime) -> Result<(), Fail> {
     let alloc = rt.alloc();
     let mut out = Writing::new(Vec::new(alloc));
     let end = token(alloc, b"end")?;
-    assert_eq!(rt; write_bare_from(&end, 22, &mut out), Ok(25));
+    assert_eq!(rt; put_bare(&end, Ok(22), &mut out), Ok(25));
     assert_eq!(rt; send_all(b"..", u64::MAX - 1, &mut out), Ok(u64::MAX));
     assert_eq!(rt; write_bare(&integer(7)?, &mut out), Ok(1));
+    assert_eq!(rt;
+        put_text(&Text::new(alloc, b"a\"")?, Ok(1), &mut out),
+        Ok(6)
+    );
     let text = out.into_inner();
-    assert_eq!(rt; text.as_slice(), b"end..7".as_slice());
+    assert_eq!(rt; text.as_slice(), b"end..7\"a\\\"\"".as_slice());
+    Ok(())
+}
+
+// Behind a fault nothing is sent, and the fault stays.
+#[test]
+fn faults_go_on(rt: HostRuntime) -> Result<(), Fail> {
+    let alloc = rt.alloc();
+    let seed = RandomState::new(&rt)?;
+    let mut out = Trickle::new(alloc, 2);
+    let field = example(alloc, &seed)?;
+    let fault = Err(WriteFault { written: 1 });
+    assert_eq!(rt; put(b"ab", Ok(0), &mut out), fault);
+    assert_eq!(rt; put(b"c", fault, &mut out), fault);
+    assert_eq!(rt; put_field(&field, fault, &mut out), fault);
+    assert_eq!(rt; (out.taken.as_slice(), out.calls), (b"a".as_slice(), 2));
+    Ok(())
+}
+
+#[test]
+fn texts_are_strings(rt: HostRuntime) -> Result<(), Fail> {
+    let alloc = rt.alloc();
+    let seed = RandomState::new(&rt)?;
+    assert_eq!(rt;
+        to_string(alloc, &example(alloc, &seed)?)?.as_str(),
+        EXAMPLE
+    );
+    let name = Item::new(alloc, &seed, shown(alloc, "fü")?).into();
+    assert_eq!(rt; to_string(alloc, &name)?.as_str(), "%\"f%c3%bc\"");
+    let none = List::new(alloc).into();
+    assert_eq!(rt; to_string(alloc, &none)?.as_str(), "");
     Ok(())
 }

@@ -18,6 +18,7 @@ use std::hash::RandomState;
 fn feed_values(parser: &mut Parser, headers: &HeaderMap, name: &HeaderName) -> Result<(), Refusal>
     requires { parser.old.after_line ≡ false }
     ensures fed { Fed parser.old parser.new result (join (lines_under headers.now name.now)) }
+    // a plain parser stays plain over a single value of spaces, `-` and digits
     ensures plain { IsPlain parser.old → (value : List ℕ)
         → lines_under headers.now name.now ≡ value ∷ [] → Every plain_byte value
         → KeptPlain parser.new result }
@@ -47,6 +48,7 @@ pub fn from_headers(
     name: &HeaderName,
 ) -> Result<Option<Field>, Refusal>
     ensures parses { ParsesHeaders kind headers.now name.now result }
+    // a single value of spaces, `-` and digits is never refused for want of memory
     ensures plain { kind ≡ kind_is.Item → (value : List ℕ)
         → lines_under headers.now name.now ≡ value ∷ [] → Every plain_byte value
         → IfErr result IsOther }

@@ -20,6 +20,7 @@ use std::hash::RandomState;
 fn feed_lines(parser: &mut Parser, lines: &[Blob]) -> Result<(), Refusal>
     requires { parser.old.after_line ≡ false }
     ensures fed { Fed parser.old parser.new result (join lines.now) }
+    // a plain parser stays plain over a single line of spaces, `-` and digits
     ensures plain { IsPlain parser.old → (line : List ℕ) → lines.now ≡ line ∷ []
         → Every plain_byte line → KeptPlain parser.new result }
 {
@@ -46,6 +47,7 @@ pub fn parse_lines_in(
     lines: &[Blob],
 ) -> Result<Field, Refusal>
     ensures parses { ParsesLines dialect kind lines.now result }
+    // a single line of spaces, `-` and digits is never refused for want of memory
     ensures plain { kind ≡ kind_is.Item → (line : List ℕ) → lines.now ≡ line ∷ []
         → Every plain_byte line → NotForMemory result }
 {
@@ -67,6 +69,7 @@ pub fn parse_lines(
     lines: &[Blob],
 ) -> Result<Field, Refusal>
     ensures parses { ParsesLines Rfc9651 kind lines.now result }
+    // a single line of spaces, `-` and digits is never refused for want of memory
     ensures plain { kind ≡ kind_is.Item → (line : List ℕ) → lines.now ≡ line ∷ []
         → Every plain_byte line → NotForMemory result }
 {
@@ -86,14 +89,12 @@ pub fn normalise_lines(
     kind: Kind,
     lines: &[Blob],
 ) -> Result<Vec<u8>, Refusal>
+    // the canonical text of the value, or the refusal of the lines
     ensures { MatchResult result (λ text. NormalisesTo kind lines.now text.items)
         (λ e. ParsesLines Rfc9651 kind lines.now (Err e)) }
 {
     let field = parse_lines(alloc, seed, kind, lines)?;
     let text = to_text(alloc, &field);
     drop(field);
-    match text {
-        Ok(text) => Ok(text),
-        Err(_) => Err(Refusal::OutOfMemory),
-    }
+    Ok(text?)
 }

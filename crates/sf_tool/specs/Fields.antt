@@ -90,13 +90,13 @@ IsRefusedAt targets lines n =
     ⊎ IsOver targets (take n lines) (get_or lines n [])
 
 -- none of the first n lines is refused
-abbrev pub AreTaken : Targets → List (List ℕ) → ℕ → Type 0
-AreTaken targets lines n = (i : ℕ) → i < n → ¬ (IsRefusedAt targets lines i)
+abbrev pub NoneIsRefused : Targets → List (List ℕ) → ℕ → Type 0
+NoneIsRefused targets lines n = (i : ℕ) → i < n → ¬ (IsRefusedAt targets lines i)
 
 -- the listed fields of an input as a header map, where none of its lines is refused
 abbrev pub AreFields : Targets → List ℕ → Headers → Type 0
 AreFields targets input headers =
-    AreTaken targets (lines_of input) (length (lines_of input))
+    NoneIsRefused targets (lines_of input) (length (lines_of input))
     × (headers ≡ headers_of targets (lines_of input))
 
 -- the number of the first line that is refused, counted from 0 over all lines
@@ -104,7 +104,7 @@ abbrev pub IsFirstRefused : Targets → List ℕ → ℕ → Type 0
 IsFirstRefused targets input n =
     (n < length (lines_of input))
     × IsRefusedAt targets (lines_of input) n
-    × AreTaken targets (lines_of input) n
+    × NoneIsRefused targets (lines_of input) n
 
 -- the input is refused for this line; of want of memory nothing is told
 abbrev pub IsFaultOf : Targets → List ℕ → InputFault → Type 0

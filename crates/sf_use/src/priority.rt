@@ -109,32 +109,15 @@ pub struct Priority {
 fn urgency_in(member: Option<&Member>) -> Option<Urgency>
     ensures { result ≡ urgency (option_copied member.entry) }
 {
-    let Some(Member::Item(item)) = member else {
-        return None;
-    };
-    let Bare::Integer(number) = &item.bare else {
-        return None;
-    };
-    let number = number.get();
-    if number < 0 || 7 < number {
-        return None;
-    }
-    Some(Urgency {
-        value: number as u8,
-    })
+    let number = member?.as_item()?.bare.as_integer()?.get();
+    Urgency::new(u8::try_from(number).ok()?).ok()
 }
 
 // The Boolean that a member says.
 fn boolean_in(member: Option<&Member>) -> Option<bool>
     ensures { result ≡ incremental (option_copied member.entry) }
 {
-    let Some(Member::Item(item)) = member else {
-        return None;
-    };
-    match item.bare {
-        Bare::Boolean(incremental) => Some(incremental),
-        _ => None,
-    }
+    member?.as_item()?.bare.as_boolean()
 }
 
 impl Priority {
@@ -151,8 +134,8 @@ impl Priority {
         ensures { result ≡ asked dict.now }
     {
         Asked {
-            urgency: urgency_in(dict.members.get(b"u")),
-            incremental: boolean_in(dict.members.get(b"i")),
+            urgency: urgency_in(dict.get(b"u")),
+            incremental: boolean_in(dict.get(b"i")),
         }
     }
 }
@@ -234,6 +217,7 @@ fn put_item(
     bare: Bare,
 ) -> Result<(), OutOfMemory>
     requires { is_key_start letter ≡ true }
+    // the Item is put under the key of this letter
     ensures { IfOk result (λ _. members.new ≡ put members.old (letter ∷ []) (plain bare)) }
 {
     let key = Key::first(alloc, letter)?;
@@ -255,13 +239,12 @@ pub fn priority_field(
     priority: Priority,
 ) -> Result<Dict, OutOfMemory>
     ensures written { IfOk result (λ dict. dict ≡ prio priority) }
+    // the default priority takes no memory
     ensures default { priority.urgency ≡ 3 → priority.incremental ≡ false → IsOk result }
 {
     let mut members = Entries::new(alloc, seed);
     if priority.urgency != Urgency::default() {
-        let Ok(number) = Int::new(i64::from(priority.urgency.get())) else {
-            unreachable!()
-        };
+        let number = Int::from(i32::from(priority.urgency.get()));
         put_item(alloc, seed, &mut members, b'u', Bare::Integer(number))?;
     }
     if priority.incremental {

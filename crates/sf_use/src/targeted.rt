@@ -38,17 +38,8 @@ pub struct Policy {
 fn seconds(member: Option<&Member>) -> Option<u64>
     ensures { result ≡ delta_seconds (option_copied member.entry) }
 {
-    let Some(Member::Item(item)) = member else {
-        return None;
-    };
-    let Bare::Integer(number) = &item.bare else {
-        return None;
-    };
-    let number = number.get();
-    if number < 0 {
-        return None;
-    }
-    Some(number as u64)
+    let number = member?.as_item()?.bare.as_integer()?;
+    u64::try_from(number.get()).ok()
 }
 
 // Whether a member is there that is no Item of Boolean false.
@@ -79,12 +70,12 @@ impl Policy {
         ensures { result ≡ policy dict.now }
     {
         Policy {
-            max_age: seconds(dict.members.get(b"max-age")),
-            s_maxage: seconds(dict.members.get(b"s-maxage")),
-            must_revalidate: sets(dict.members.get(b"must-revalidate")),
-            no_store: sets(dict.members.get(b"no-store")),
-            no_cache: sets(dict.members.get(b"no-cache")),
-            is_private: sets(dict.members.get(b"private")),
+            max_age: seconds(dict.get(b"max-age")),
+            s_maxage: seconds(dict.get(b"s-maxage")),
+            must_revalidate: sets(dict.get(b"must-revalidate")),
+            no_store: sets(dict.get(b"no-store")),
+            no_cache: sets(dict.get(b"no-cache")),
+            is_private: sets(dict.get(b"private")),
         }
     }
 
@@ -161,9 +152,7 @@ pub enum Choice {
 fn policy_in(field: &Field) -> Option<Policy>
     ensures { MayOffer field.now result }
 {
-    let Field::Dict(dict) = field else {
-        return None;
-    };
+    let dict = field.as_dict()?;
     if dict.members.is_empty() {
         return None;
     }
@@ -178,15 +167,15 @@ fn offered(
     headers: &HeaderMap,
 ) -> Result<Option<Policy>, OutOfMemory>
     ensures offer { IfOk result (IsOffer headers.now name.now) }
+    // where the name is absent, no memory is wanting
     ensures absent { ¬ (ContainsKey headers.now name.now) → result ≡ Ok None }
 {
     match from_headers(alloc, seed, Kind::Dict, headers, name) {
         Ok(Some(field)) => Ok(policy_in(&field)),
         Ok(None) => Ok(None),
         Err(Refusal::Syntax { .. }) => Ok(None),
-        Err(Refusal::OutOfMemory) => Err(OutOfMemory),
-        Err(Refusal::TooLong { max: _ }) => Err(OutOfMemory),
-        Err(Refusal::ReadFault { place: _ }) => unreachable!(),
+        Err(Refusal::OutOfMemory | Refusal::TooLong { .. }) => Err(OutOfMemory),
+        Err(Refusal::ReadFault { .. }) => unreachable!(),
     }
 }
 
@@ -211,13 +200,13 @@ pub fn select(
     headers: &HeaderMap,
 ) -> Result<Choice, OutOfMemory>
     ensures chosen { IfOk result (IsChosen targets.now headers.now) }
+    // where no target is there, no memory is wanting
     ensures absent { All (λ name. ¬ (ContainsKey headers.now name)) targets.now
         → result ≡ Ok Fallback }
 {
     for (index, target) in targets.iter().enumerate() {
-        match offered(alloc, seed, target, headers)? {
-            Some(policy) => return Ok(Choice::Field { index, policy }),
-            None => {}
+        if let Some(policy) = offered(alloc, seed, target, headers)? {
+            return Ok(Choice::Field { index, policy });
         }
     }
     Ok(Choice::Fallback)

@@ -1,4 +1,4 @@
-use crate::values::build::{number, number_at, number_in, put};
+use crate::build::{integer, number_in, put};
 use sf_value::{Bare, Entries};
 use std::alloc::Global;
 use std::hash::RandomState;
@@ -13,10 +13,15 @@ fn put_again(rt: &impl Abort, alloc: Global, seed: &RandomState) -> Result<Entri
         (b"b".as_slice(), 2, None),
         (b"a".as_slice(), 3, Some(1)),
     ] {
-        let answer = put(alloc, &mut entries, key, number(value)?)?;
+        let answer = put(alloc, &mut entries, key, integer(value)?)?;
         assert_eq!(rt; answer.as_ref().and_then(number_in), old);
     }
     Ok(entries)
+}
+
+fn number_at(entries: &Entries<Bare>, index: usize, key: &[u8]) -> Option<i64> {
+    let (found, value) = entries.at(index)?;
+    if found == key { number_in(value) } else { None }
 }
 
 #[test]

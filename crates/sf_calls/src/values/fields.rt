@@ -1,5 +1,5 @@
-use crate::values::build::{bare, dict, item, list, token_item, token_list};
-use sf_value::{Dialect, Field, Kind, Part, copy, same};
+use crate::build::{bare, dict, integer, item, list, token_item};
+use sf_value::{Dialect, Field, Item, Kind, List, Part, copy, same};
 use std::alloc::Global;
 use std::hash::RandomState;
 use std::test::Fail;
@@ -10,9 +10,14 @@ fn bares_are_same(alloc: Global, seed: &RandomState, i: usize, j: usize) -> Resu
     Ok(x.same(&y))
 }
 
+// The Item `5` with a parameter of one of the eight types.
+fn five(alloc: Global, seed: &RandomState, i: usize) -> Result<Item, Fail> {
+    item(alloc, seed, integer(5)?, b"y", bare(alloc, i)?)
+}
+
 fn params_are_same(alloc: Global, seed: &RandomState, i: usize, j: usize) -> Result<bool, Fail> {
-    let x = item(alloc, seed, 5, bare(alloc, i)?)?;
-    let y = item(alloc, seed, 5, bare(alloc, j)?)?.copy(alloc, seed)?;
+    let x = five(alloc, seed, i)?;
+    let y = five(alloc, seed, j)?.copy(alloc, seed)?;
     Ok(x.same(&y))
 }
 
@@ -62,10 +67,11 @@ fn members_count(rt: HostRuntime) -> Result<(), Fail> {
 #[test]
 fn kinds_count(rt: HostRuntime) -> Result<(), Fail> {
     let seed = RandomState::new(&rt)?;
-    let value = token_item(rt.alloc(), &seed)?;
+    let value = Field::from(token_item(rt.alloc(), &seed)?);
     assert_eq!(rt; value.kind(), Kind::Item);
     assert!(rt; is_copied(rt.alloc(), &seed, &value)?);
-    let other = token_list(rt.alloc(), &seed)?;
+    let member = token_item(rt.alloc(), &seed)?.into();
+    let other = Field::from(List::new(rt.alloc()).with(member)?);
     assert!(rt; !same(&value, &other));
     Ok(())
 }

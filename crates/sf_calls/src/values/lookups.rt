@@ -1,5 +1,6 @@
 //! Values that are looked up, by the calls for it and by a user's own matches.
-use crate::values::build::bare;
+use crate::build;
+use crate::build::{bare, integer, token};
 use sf_value::{
     Bare, Dict, Entries, Field, Inner, Int, Item, Key, List, Member, Thousandths, Token,
 };
@@ -47,9 +48,7 @@ fn bare_items_by_type(rt: HostRuntime) -> Result<(), Fail> {
 
 // The Item `a;q=1`.
 fn item(alloc: Global, seed: &RandomState) -> Result<Item, Fail> {
-    let token = Token::new(alloc, b"a")?;
-    let item = Item::new(alloc, seed, token.into());
-    Ok(item.with_param(Key::new(alloc, b"q")?, Bare::Integer(Int::from(1)))?)
+    build::item(alloc, seed, token(alloc, b"a")?, b"q", integer(1)?)
 }
 
 // The Inner List `(a;q=1);r`.
@@ -60,10 +59,10 @@ fn inner(alloc: Global, seed: &RandomState) -> Result<Inner, Fail> {
 
 // The Dictionary `b=a;q=1, c=(a;q=1);r`.
 fn dict(alloc: Global, seed: &RandomState) -> Result<Dict, Fail> {
-    let first = item(alloc, seed)?;
-    let dict = Dict::new(alloc, seed).with(Key::new(alloc, b"b")?, first.into())?;
-    let second = inner(alloc, seed)?;
-    Ok(dict.with(Key::new(alloc, b"c")?, second.into())?)
+    let first = item(alloc, seed)?.into();
+    let second = inner(alloc, seed)?.into();
+    let dict = build::with(alloc, Dict::new(alloc, seed), b"b", first)?;
+    build::with(alloc, dict, b"c", second)
 }
 
 fn number_of(item: &Item, key: &[u8]) -> Option<i64> {

@@ -1,12 +1,13 @@
-use crate::values::build::{bare, flag, inner, number_in, one_and_two, push};
+use crate::build::{number_in, one_and_two, token_item};
 use sf_value::{Item, Part, Sequence};
+use std::alloc::Global;
 use std::hash::RandomState;
 use std::test::Fail;
 
 #[test]
 fn sequences_are_copied(rt: HostRuntime) -> Result<(), Fail> {
     let seed = RandomState::new(&rt)?;
-    let items = one_and_two(rt.alloc(), &seed)?;
+    let items = one_and_two(rt.alloc(), &seed)?.items;
     let twin = items.copy(rt.alloc(), &seed)?;
     assert!(rt; items.same(&twin));
     assert_eq!(rt;
@@ -47,7 +48,7 @@ fn sum_by_value(items: Sequence<Item>) -> i64 {
 #[test]
 fn sequences_are_iterated(rt: HostRuntime) -> Result<(), Fail> {
     let seed = RandomState::new(&rt)?;
-    let items = one_and_two(rt.alloc(), &seed)?;
+    let items = one_and_two(rt.alloc(), &seed)?.items;
     assert_eq!(rt;
         items.first().and_then(|item| number_in(&item.bare)),
         Some(1)
@@ -62,10 +63,59 @@ fn sequences_are_iterated(rt: HostRuntime) -> Result<(), Fail> {
 fn sequences_are_vecs(rt: HostRuntime) -> Result<(), Fail> {
     let alloc = rt.alloc();
     let seed = RandomState::new(&rt)?;
-    let mut members = Sequence::new(alloc);
-    assert!(rt; members.is_empty());
-    push(&mut members, flag(alloc, &seed)?)?;
-    push(&mut members, inner(alloc, &seed, bare(alloc, 0)?)?)?;
-    assert_eq!(rt; members.into_vec().len(), 2);
+    let mut items = Sequence::new(alloc);
+    assert!(rt; items.is_empty());
+    items.push(token_item(alloc, &seed)?)?;
+    items.push(token_item(alloc, &seed)?)?;
+    assert_eq!(rt; items.into_vec().len(), 2);
+    Ok(())
+}
+
+fn letters(alloc: Global, bytes: &[u8]) -> Result<Sequence<u8>, Fail> {
+    Ok(Sequence::from_vec(Vec::from_slice(alloc, bytes)?))
+}
+
+#[test]
+fn values_are_inserted(rt: HostRuntime) -> Result<(), Fail> {
+    for (index, want) in [(0, b"xabc"), (1, b"axbc"), (2, b"abxc"), (3, b"abcx")] {
+        let mut items = letters(rt.alloc(), b"abc")?;
+        if index <= items.len() {
+            items.insert(index, b'x')?;
+        }
+        assert_eq!(rt; items.as_slice(), want.as_slice());
+    }
+    Ok(())
+}
+
+#[test]
+fn values_are_removed(rt: HostRuntime) -> Result<(), Fail> {
+    for (index, value, rest) in [(0, b'a', b"bc"), (1, b'b', b"ac"), (2, b'c', b"ab")] {
+        let mut items = letters(rt.alloc(), b"abc")?;
+        if index < items.len() {
+            assert_eq!(rt; items.remove(index), value);
+        }
+        assert_eq!(rt; items.as_slice(), rest.as_slice());
+    }
+    Ok(())
+}
+
+#[test]
+fn the_last_value_is_popped(rt: HostRuntime) -> Result<(), Fail> {
+    let mut items = letters(rt.alloc(), b"ab")?;
+    for (value, left) in [(Some(b'b'), 1), (Some(b'a'), 0), (None, 0)] {
+        assert_eq!(rt; (items.pop(), items.len()), (value, left));
+    }
+    items.push(b'c')?;
+    assert_eq!(rt; items.as_slice(), b"c".as_slice());
+    Ok(())
+}
+
+#[test]
+fn values_are_changed_in_place(rt: HostRuntime) -> Result<(), Fail> {
+    let mut items = letters(rt.alloc(), b"abc")?;
+    for item in items.as_mut_slice() {
+        *item = item.to_ascii_uppercase();
+    }
+    assert_eq!(rt; items.as_slice(), b"ABC".as_slice());
     Ok(())
 }

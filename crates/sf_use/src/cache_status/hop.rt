@@ -135,10 +135,8 @@ impl Outcome {
         ensures { option_copied result ≡ passed_by self.now }
     {
         match self {
-            Outcome::Forwarded(passed) => Some(passed),
-            Outcome::Conflict(passed) => Some(passed),
-            Outcome::Hit => None,
-            Outcome::Unsaid => None,
+            Outcome::Forwarded(passed) | Outcome::Conflict(passed) => Some(passed),
+            Outcome::Hit | Outcome::Unsaid => None,
         }
     }
 

@@ -93,8 +93,7 @@ impl Consumer for CacheStatus {
     {
         match field {
             Field::List(list) => read_path(alloc, list.members.as_slice()),
-            Field::Item(_) => unreachable!(),
-            Field::Dict(_) => unreachable!(),
+            Field::Item(_) | Field::Dict(_) => unreachable!(),
         }
     }
 }
@@ -108,8 +107,6 @@ fn read_path(alloc: Global, members: &[Member]) -> Result<CachePath, UseFault>
     if let Some(index) = first_nameless(members) {
         return Err(UseFault::NotACache { index });
     }
-    match read_hops(alloc, members) {
-        Ok(hops) => Ok(CachePath { hops }),
-        Err(_) => Err(UseFault::OutOfMemory),
-    }
+    let hops = read_hops(alloc, members)?;
+    Ok(CachePath { hops })
 }

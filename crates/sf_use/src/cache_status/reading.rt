@@ -34,9 +34,8 @@ pub(crate) fn read_hops(alloc: Global, members: &[Member]) -> Result<Vec<Hop>, O
 {
     let mut hops = Vec::new(alloc);
     for member in members {
-        match read_member(alloc, member)? {
-            Some(hop) => hops.push(hop)?,
-            None => {}
+        if let Some(hop) = read_member(alloc, member)? {
+            hops.push(hop)?;
         }
     }
     Ok(hops)
