@@ -1,6 +1,5 @@
 //! The hops of a path (RFC 9211 section 2) as flat structs.
 ghost use Rattle.std.specs.Prelude.{◌≡◌, ◌≤◌, ◌++◌, [], ◌∷◌, pos, length, map, unwrap_or, IfOk};
-ghost use Rattle.std.specs.Option.{option_and_then};
 ghost use Rattle.sf_use.specs.CacheStatus.Members.{passed_by};
 ghost use Rattle.sf_c.specs.Hops.{bytes_of, detail_bytes, hops_size, is_token, told_hop};
 ghost use Rattle.sf_c.specs.Hops.{detail_is_token, outcome_number, says_by, says_of};
@@ -167,24 +166,6 @@ fn why_number(outcome: &Outcome) -> u16
     }
 }
 
-fn status_of(outcome: &Outcome) -> Option<HopStatus>
-    ensures { result ≡ option_and_then (λ p. p.status) (passed_by outcome.now) }
-{
-    outcome.passed()?.status
-}
-
-fn stored_of(outcome: &Outcome) -> Option<bool>
-    ensures { result ≡ option_and_then (λ p. p.stored) (passed_by outcome.now) }
-{
-    outcome.passed()?.stored
-}
-
-fn collapsed_of(outcome: &Outcome) -> Option<bool>
-    ensures { result ≡ option_and_then (λ p. p.collapsed) (passed_by outcome.now) }
-{
-    outcome.passed()?.collapsed
-}
-
 fn code_of(status: Option<HopStatus>) -> u16
     ensures { result ≡ unwrap_or status 0 }
 {
@@ -211,9 +192,9 @@ fn node_of(hop: &Hop, name: Piece, why_token: Piece, key: Piece, detail: Piece) 
     ensures detail { result.detail ≡ detail }
     ensures says { says_by result ≡ says_of hop.now }
 {
-    let status = status_of(&hop.outcome);
-    let stored = stored_of(&hop.outcome);
-    let collapsed = collapsed_of(&hop.outcome);
+    let status = hop.outcome.status();
+    let stored = hop.outcome.stored();
+    let collapsed = hop.outcome.collapsed();
     HopNode {
         name,
         why_token,

@@ -241,20 +241,14 @@ fn push_params(flat: &mut Flat, params: &Entries<Bare>) -> Result<(), OutOfMemor
 fn add(count: usize, more: usize) -> Result<usize, OutOfMemory>
     ensures { IfOk result (λ n. n ≡ count + more) }
 {
-    match count.checked_add(more) {
-        Some(n) => Ok(n),
-        None => Err(OutOfMemory),
-    }
+    count.checked_add(more).ok_or(OutOfMemory)
 }
 
 // How many nodes there are with one more.
 fn one_more(count: usize) -> Result<usize, OutOfMemory>
     ensures { IfOk result (λ n. n ≡ 1 + count) }
 {
-    match count.checked_add(1) {
-        Some(n) => Ok(n),
-        None => Err(OutOfMemory),
-    }
+    count.checked_add(1).ok_or(OutOfMemory)
 }
 
 // An Item.

@@ -6,6 +6,7 @@ use Rattle.std.specs.Str.{bytes_eq}
 use Rattle.http_header.specs.Token.{lowercase}
 use Rattle.http_header.specs.FieldValue.{FieldValue, plain_value}
 use Rattle.http_header.specs.HeaderMap.{append_all, RefusesAppend}
+use Rattle.sf_value.specs.Ascii.{colon, del, space, tab}
 use Rattle.sf_value.specs.Grammar.Classes.{is_tchar}
 use Rattle.sf_field.specs.Headers.{Headers}
 use Rattle.sf_tool.specs.declared.fields.InputFault.{InputFault}
@@ -13,7 +14,7 @@ use Rattle.sf_tool.specs.declared.fields.InputFault.TheVariants.{Line, OutOfMemo
 use Rattle.sf_tool.specs.Lines.{lines_of, trim}
 
 abbrev pub is_colon : ℕ → Bool
-is_colon b = b == 58
+is_colon b = b == colon
 
 -- 1 to 65,535 tchars (RFC 9110 sections 5.1 and 5.6.2; the length is that of http_header)
 abbrev pub is_header_name : List ℕ → Bool
@@ -22,11 +23,11 @@ is_header_name word =
 
 -- 0x00 to 0x1F and 0x7F
 abbrev pub is_control : ℕ → Bool
-is_control b = nat_lt b 32 || b == 127
+is_control b = nat_lt b space || b == del
 
 -- no control byte but HTAB (RFC 9110 section 5.5)
 abbrev pub is_field_value : List ℕ → Bool
-is_field_value value = list_all (λ b. b == 9 || not (is_control b)) value
+is_field_value value = list_all (λ b. b == tab || not (is_control b)) value
 
 -- what stands before the first colon
 abbrev pub word_of : List ℕ → List ℕ

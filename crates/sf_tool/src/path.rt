@@ -1,7 +1,5 @@
 //! The lines of a path of caches. Nothing here takes memory.
-ghost use Rattle.std.specs.Prelude.{◌≡◌, ◌++◌};
-ghost use Rattle.std.specs.Option.{option_and_then};
-ghost use Rattle.sf_use.specs.CacheStatus.Members.{passed_by};
+ghost use Rattle.std.specs.Prelude.{◌++◌};
 ghost use Rattle.sf_use.specs.CacheStatus.Reasons.{token_of};
 ghost use Rattle.sf_write.specs.Writing.{Follows};
 ghost use Rattle.sf_tool.specs.PathLines.{name_text, outcome_text, part, boolean_text};
@@ -9,7 +7,7 @@ ghost use Rattle.sf_tool.specs.PathLines.{status_part, ttl_part, key_part, detai
 ghost use Rattle.sf_tool.specs.PathLines.{hop_line, hop_lines, served_line, path_lines};
 
 use crate::refusing::{put_count, put_number};
-use sf_use::{CachePath, Forward, Hop, HopStatus, Name, Outcome};
+use sf_use::{CachePath, Forward, Hop, Name, Outcome};
 use sf_value::{Bare, Sink};
 use sf_write::{Sent, put, put_bare, put_text};
 
@@ -44,29 +42,11 @@ fn put_outcome<W: Sink>(outcome: &Outcome, before: Sent, out: &mut W) -> Sent
     }
 }
 
-fn status_of(outcome: &Outcome) -> Option<HopStatus>
-    ensures { result ≡ option_and_then (λ p. p.status) (passed_by outcome.now) }
-{
-    outcome.passed()?.status
-}
-
-fn stored_of(outcome: &Outcome) -> Option<bool>
-    ensures { result ≡ option_and_then (λ p. p.stored) (passed_by outcome.now) }
-{
-    outcome.passed()?.stored
-}
-
-fn collapsed_of(outcome: &Outcome) -> Option<bool>
-    ensures { result ≡ option_and_then (λ p. p.collapsed) (passed_by outcome.now) }
-{
-    outcome.passed()?.collapsed
-}
-
 /// The status with its label, where it is present; so are the parts below.
 fn put_status<W: Sink>(outcome: &Outcome, before: Sent, out: &mut W) -> Sent
     ensures { Follows (W.state out.old) (W.state out.new) before result (status_part outcome.now) }
 {
-    match status_of(outcome) {
+    match outcome.status() {
         Some(status) => {
             let sent = put(b" status=", before, out);
             put_number(status.get() as u64, sent, out)
@@ -129,8 +109,8 @@ fn put_parts<W: Sink>(hop: &Hop, before: Sent, out: &mut W) -> Sent
     ensures { Follows (W.state out.old) (W.state out.new) before result (parts hop.now) }
 {
     let sent = put_status(&hop.outcome, before, out);
-    let sent = put_flag(b" stored=", stored_of(&hop.outcome), sent, out);
-    let sent = put_flag(b" collapsed=", collapsed_of(&hop.outcome), sent, out);
+    let sent = put_flag(b" stored=", hop.outcome.stored(), sent, out);
+    let sent = put_flag(b" collapsed=", hop.outcome.collapsed(), sent, out);
     let sent = put_ttl(hop, sent, out);
     let sent = put_key(hop, sent, out);
     let sent = put_detail(hop, sent, out);

@@ -1,5 +1,5 @@
 //! Bare items (RFC 9651 section 4.1.3.1).
-ghost use Rattle.std.specs.Prelude.{◌≡◌, [], ◌∷◌, if◌then◌else◌, IfOk};
+ghost use Rattle.std.specs.Prelude.{◌≡◌, IfOk};
 ghost use Rattle.sf_value.specs.declared.dialect.Dialect.TheVariants.{Rfc9651};
 ghost use Rattle.sf_value.specs.declared.value.Bare.TheVariants as bare_is;
 ghost use Rattle.sf_value.specs.Grammar.Valid.{ValidBare};
@@ -18,7 +18,7 @@ use std::alloc::Global;
 /// A Boolean: `?1` or `?0` (section 4.1.9).
 fn put_boolean<W: Sink>(value: bool, before: Sent, out: &mut W) -> Sent
     ensures { Follows (W.state out.old) (W.state out.new) before result
-        (63 ∷ (if value then 49 else 48) ∷ []) }
+        (canon_bare (bare_is.Boolean value)) }
 {
     let text = if value { b"?1" } else { b"?0" };
     put(text, before, out)

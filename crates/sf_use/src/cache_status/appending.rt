@@ -89,11 +89,7 @@ fn put(
 fn hit_value(outcome: &Outcome) -> Option<Bare>
     ensures { result ≡ hit_value outcome.now }
 {
-    if outcome.says_hit() {
-        Some(Bare::Boolean(true))
-    } else {
-        None
-    }
+    outcome.says_hit().then_some(Bare::Boolean(true))
 }
 
 fn why_value(alloc: Global, outcome: &Outcome) -> Result<Option<Bare>, OutOfMemory>
@@ -118,8 +114,8 @@ fn token_of(alloc: Global, why: &Forward) -> Result<Token, OutOfMemory>
 fn status_value(outcome: &Outcome) -> Option<Bare>
     ensures { result ≡ status_value (passed_by outcome.now) }
 {
-    let status = outcome.passed()?.status?;
-    Some(Bare::Integer(Int::from(i32::from(status.get()))))
+    let code = i32::from(outcome.status()?.get());
+    Some(Bare::Integer(Int::from(code)))
 }
 
 fn ttl_value(ttl: Option<Int>) -> Option<Bare>
@@ -131,13 +127,13 @@ fn ttl_value(ttl: Option<Int>) -> Option<Bare>
 fn stored_value(outcome: &Outcome) -> Option<Bare>
     ensures { result ≡ stored_value (passed_by outcome.now) }
 {
-    Some(Bare::Boolean(outcome.passed()?.stored?))
+    Some(Bare::Boolean(outcome.stored()?))
 }
 
 fn collapsed_value(outcome: &Outcome) -> Option<Bare>
     ensures { result ≡ collapsed_value (passed_by outcome.now) }
 {
-    Some(Bare::Boolean(outcome.passed()?.collapsed?))
+    Some(Bare::Boolean(outcome.collapsed()?))
 }
 
 fn key_value(alloc: Global, key: &Option<Text>) -> Result<Option<Bare>, OutOfMemory>

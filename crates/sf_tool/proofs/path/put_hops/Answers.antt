@@ -2,7 +2,7 @@ use Rattle.std.proofs.Common.{ap}
 use Rattle.std.proofs.lemmas.List.{drop_all}
 use Rattle.sf_write.proofs.Following.{remains_less, remains_none}
 use Rattle.sf_tool.specs.PathLines.{hop_lines}
-use Rattle.sf_tool.proofs.Steps.{next_left}
+use Rattle.sf_tool.proofs.Walks.{next_left}
 use Rattle.sf_tool.proofs.path.put_hops.Goals as goal
 
 pub loop-place-preserved : goal.loop-place-preserved

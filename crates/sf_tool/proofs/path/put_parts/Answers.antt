@@ -3,8 +3,8 @@ use Rattle.sf_tool.proofs.path.put_parts.Goals as goal
 
 pub returns : goal.returns
 returns g c =
-    let stored = rw c.stored_of.ensures at c.put_flag-sent.ensures in
-    let collapsed = rw c.collapsed_of.ensures at c.put_flag-sent-2.ensures in
+    let stored = rw c.stored.ensures at c.put_flag-sent.ensures in
+    let collapsed = rw c.collapsed.ensures at c.put_flag-sent-2.ensures in
     then c.put_status-sent.ensures
     (then stored
     (then collapsed

@@ -1,7 +1,7 @@
 use Rattle.std.proofs.Common.{ap, refl}
 use Rattle.std.proofs.lemmas.List.{drop_all}
 use Rattle.sf_tool.specs.Tree.{items_lines}
-use Rattle.sf_tool.proofs.Steps.{next_left}
+use Rattle.sf_tool.proofs.Walks.{next_left}
 use Rattle.sf_write.proofs.Following.{remains_less, remains_none}
 use Rattle.sf_tool.proofs.tree.put_items.Goals as goal
 
