@@ -67,6 +67,76 @@ pub struct HopNode {
     pub detail_is_token: u8,
 }
 
+// The structs of hops, and the bytes that they point into. Contracts see what the structs tell.
+#[derive(Drop)]
+pub(crate) struct FlatPath {
+    hops: Vec<HopNode>,
+    bytes: Vec<u8>,
+}
+
+impl Model for FlatPath {
+    ghost use Rattle.std.specs.Prelude.{List, map};
+    ghost use Rattle.sf_c.specs.Hops.{ToldHop, told_hop_by, HopsHoldUp};
+
+    ghost Value = { List ToldHop };
+
+    ghost view = { λ f. map (told_hop_by f.bytes.items) f.hops.items };
+
+    ghost invariant = { λ f. HopsHoldUp f.bytes.items f.hops.items };
+}
+
+impl FlatPath {
+    // No hops.
+    fn new(alloc: Global) -> FlatPath
+        ensures { result ≡ [] }
+    {
+        FlatPath {
+            hops: Vec::new(alloc),
+            bytes: Vec::new(alloc),
+        }
+    }
+
+    // How many hops there are.
+    pub(crate) fn count(&self) -> usize
+        ensures { result ≡ length self.now }
+    {
+        self.hops.as_slice().len()
+    }
+
+    // How many bytes they have.
+    pub(crate) fn size(&self) -> usize
+        ensures { result ≡ hops_size self.now }
+    {
+        self.bytes.as_slice().len()
+    }
+
+    // Puts the hops and the bytes at the fronts of rooms that are long enough.
+    pub(crate) fn write(&self, hops: &mut [HopNode], bytes: &mut [u8])
+        requires hops { length self.now ≤ length hops.old }
+        requires bytes { hops_size self.now ≤ length bytes.old }
+        ensures { HopsAtFront self.now hops.old hops.new bytes.old bytes.new }
+    {
+        put(hops, 0, self.hops.as_slice());
+        put(bytes, 0, self.bytes.as_slice());
+    }
+
+    // One more hop.
+    fn with(self, hop: &Hop) -> Result<FlatPath, OutOfMemory>
+        ensures { IfOk result (λ path. path ≡ self ++ told_hop hop.now ∷ []) }
+    {
+        let FlatPath {
+            mut hops,
+            mut bytes,
+        } = self;
+        let name = put_piece(&mut bytes, bytes_of(&hop.name))?;
+        let why = put_piece(&mut bytes, why_token(&hop.outcome))?;
+        let key = put_piece(&mut bytes, key_bytes(&hop.key))?;
+        let detail = put_piece(&mut bytes, detail_bytes(&hop.detail))?;
+        hops.push(node_of(hop, name, why, key, detail))?;
+        Ok(FlatPath { hops, bytes })
+    }
+}
+
 // A text behind the bytes.
 fn put_piece(bytes: &mut Vec<u8>, text: &[u8]) -> Result<Piece, OutOfMemory>
     ensures { IfOk result (λ piece. PutsPiece bytes.old.items bytes.new.items text.now piece) }
@@ -214,76 +284,6 @@ fn node_of(hop: &Hop, name: Piece, why_token: Piece, key: Piece, detail: Piece) 
         says_detail: u8::from(hop.detail.is_some()),
         name_is_token: u8::from(is_token(&hop.name)),
         detail_is_token: u8::from(detail_is_token(&hop.detail)),
-    }
-}
-
-// The structs of hops, and the bytes that they point into. Contracts see what the structs tell.
-#[derive(Drop)]
-pub(crate) struct FlatPath {
-    hops: Vec<HopNode>,
-    bytes: Vec<u8>,
-}
-
-impl Model for FlatPath {
-    ghost use Rattle.std.specs.Prelude.{List, map};
-    ghost use Rattle.sf_c.specs.Hops.{ToldHop, told_hop_by, HopsHoldUp};
-
-    ghost Value = { List ToldHop };
-
-    ghost view = { λ f. map (told_hop_by f.bytes.items) f.hops.items };
-
-    ghost invariant = { λ f. HopsHoldUp f.bytes.items f.hops.items };
-}
-
-impl FlatPath {
-    // No hops.
-    fn new(alloc: Global) -> FlatPath
-        ensures { result ≡ [] }
-    {
-        FlatPath {
-            hops: Vec::new(alloc),
-            bytes: Vec::new(alloc),
-        }
-    }
-
-    // How many hops there are.
-    pub(crate) fn count(&self) -> usize
-        ensures { result ≡ length self.now }
-    {
-        self.hops.as_slice().len()
-    }
-
-    // How many bytes they have.
-    pub(crate) fn size(&self) -> usize
-        ensures { result ≡ hops_size self.now }
-    {
-        self.bytes.as_slice().len()
-    }
-
-    // Puts the hops and the bytes at the fronts of rooms that are long enough.
-    pub(crate) fn write(&self, hops: &mut [HopNode], bytes: &mut [u8])
-        requires hops { length self.now ≤ length hops.old }
-        requires bytes { hops_size self.now ≤ length bytes.old }
-        ensures { HopsAtFront self.now hops.old hops.new bytes.old bytes.new }
-    {
-        put(hops, 0, self.hops.as_slice());
-        put(bytes, 0, self.bytes.as_slice());
-    }
-
-    // One more hop.
-    fn with(self, hop: &Hop) -> Result<FlatPath, OutOfMemory>
-        ensures { IfOk result (λ path. path ≡ self ++ told_hop hop.now ∷ []) }
-    {
-        let FlatPath {
-            mut hops,
-            mut bytes,
-        } = self;
-        let name = put_piece(&mut bytes, bytes_of(&hop.name))?;
-        let why = put_piece(&mut bytes, why_token(&hop.outcome))?;
-        let key = put_piece(&mut bytes, key_bytes(&hop.key))?;
-        let detail = put_piece(&mut bytes, detail_bytes(&hop.detail))?;
-        hops.push(node_of(hop, name, why, key, detail))?;
-        Ok(FlatPath { hops, bytes })
     }
 }
 

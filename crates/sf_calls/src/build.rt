@@ -1,51 +1,57 @@
-//! Values for the tests.
+//! Values for the tests. A test ends where memory is wanting for one, or a part of it is refused.
 use sf_value::{
     Bare, Blob, Dict, Entries, Field, Inner, Int, Item, Key, List, Member, Shown, Text,
     Thousandths, Token,
 };
-use std::alloc::Global;
 use std::hash::RandomState;
-use std::test::Fail;
 
-pub(crate) fn integer(n: i64) -> Result<Bare, Fail> {
-    Ok(Bare::Integer(Int::new(n)?))
+pub(crate) fn seed(rt: &HostRuntime) -> RandomState {
+    RandomState::new(rt).expect(rt, "a seed")
 }
 
-pub(crate) fn decimal(thousandths: i64) -> Result<Bare, Fail> {
-    Ok(Bare::Decimal(Thousandths::new(thousandths)?))
+pub(crate) fn integer(rt: &HostRuntime, n: i64) -> Bare {
+    Bare::Integer(Int::new(n).expect(rt, "an Integer"))
 }
 
-pub(crate) fn date(seconds: i64) -> Result<Bare, Fail> {
-    Ok(Bare::Date(Int::new(seconds)?))
+pub(crate) fn decimal(rt: &HostRuntime, thousandths: i64) -> Bare {
+    Bare::Decimal(Thousandths::new(thousandths).expect(rt, "a Decimal"))
 }
 
-pub(crate) fn text(alloc: Global, bytes: &[u8]) -> Result<Bare, Fail> {
-    Ok(Bare::Text(Text::new(alloc, bytes)?))
+pub(crate) fn date(rt: &HostRuntime, seconds: i64) -> Bare {
+    Bare::Date(Int::new(seconds).expect(rt, "a Date"))
 }
 
-pub(crate) fn token(alloc: Global, bytes: &[u8]) -> Result<Bare, Fail> {
-    Ok(Bare::Token(Token::new(alloc, bytes)?))
+pub(crate) fn text(rt: &HostRuntime, bytes: &[u8]) -> Bare {
+    Bare::Text(Text::new(rt.alloc(), bytes).expect(rt, "a String"))
 }
 
-pub(crate) fn blob(alloc: Global, bytes: &[u8]) -> Result<Bare, Fail> {
-    Ok(Bare::Blob(Blob::new(alloc, bytes)?))
+pub(crate) fn token(rt: &HostRuntime, bytes: &[u8]) -> Bare {
+    Bare::Token(Token::new(rt.alloc(), bytes).expect(rt, "a Token"))
 }
 
-pub(crate) fn shown(alloc: Global, text: &str) -> Result<Bare, Fail> {
-    Ok(Bare::Shown(Shown::new(alloc, text)?))
+pub(crate) fn blob(rt: &HostRuntime, bytes: &[u8]) -> Bare {
+    Bare::Blob(Blob::new(rt.alloc(), bytes).expect(rt, "a Byte Sequence"))
+}
+
+pub(crate) fn shown(rt: &HostRuntime, text: &str) -> Bare {
+    Bare::Shown(Shown::new(rt.alloc(), text).expect(rt, "a Display String"))
+}
+
+pub(crate) fn key(rt: &HostRuntime, bytes: &[u8]) -> Key {
+    Key::new(rt.alloc(), bytes).expect(rt, "a key")
 }
 
 // One of each of the eight types of bare items, by its place.
-pub(crate) fn bare(alloc: Global, index: usize) -> Result<Bare, Fail> {
+pub(crate) fn bare(rt: &HostRuntime, index: usize) -> Bare {
     match index {
-        0 => integer(1),
-        1 => decimal(1000),
-        2 => text(alloc, b"1"),
-        3 => token(alloc, b"a"),
-        4 => blob(alloc, b"1"),
-        5 => Ok(Bare::Boolean(true)),
-        6 => date(1),
-        _ => shown(alloc, "1"),
+        0 => integer(rt, 1),
+        1 => decimal(rt, 1000),
+        2 => text(rt, b"1"),
+        3 => token(rt, b"a"),
+        4 => blob(rt, b"1"),
+        5 => Bare::Boolean(true),
+        6 => date(rt, 1),
+        _ => shown(rt, "1"),
     }
 }
 
@@ -55,88 +61,105 @@ pub(crate) fn number_in(bare: &Bare) -> Option<i64> {
 
 // Puts a value at the key of these bytes.
 pub(crate) fn put<V: Drop>(
-    alloc: Global,
+    rt: &HostRuntime,
     entries: &mut Entries<V>,
-    key: &[u8],
+    bytes: &[u8],
     value: V,
-) -> Result<Option<V>, Fail> {
-    match entries.put(Key::new(alloc, key)?, value) {
-        Ok(old) => Ok(old),
-        Err(_) => Err(Fail::from("no memory")),
-    }
+) -> Option<V> {
+    entries.put(key(rt, bytes), value).ok().expect(rt, "room")
+}
+
+pub(crate) fn plain(rt: &HostRuntime, seed: &RandomState, bare: Bare) -> Item {
+    Item::new(rt.alloc(), seed, bare)
 }
 
 // An Item with one parameter.
 pub(crate) fn item(
-    alloc: Global,
+    rt: &HostRuntime,
     seed: &RandomState,
     bare: Bare,
-    key: &[u8],
+    bytes: &[u8],
     value: Bare,
-) -> Result<Item, Fail> {
-    let key = Key::new(alloc, key)?;
-    Ok(Item::new(alloc, seed, bare).with_param(key, value)?)
+) -> Item {
+    let item = plain(rt, seed, bare);
+    item.with_param(key(rt, bytes), value).expect(rt, "room")
+}
+
+// The Inner List of two Items.
+pub(crate) fn both(
+    rt: &HostRuntime,
+    seed: &RandomState,
+    first: Item,
+    second: Item,
+) -> Inner {
+    let inner = Inner::new(rt.alloc(), seed);
+    let inner = inner.with_item(first).expect(rt, "room");
+    inner.with_item(second).expect(rt, "room")
 }
 
 // The Inner List `(1 2)`.
-pub(crate) fn one_and_two(alloc: Global, seed: &RandomState) -> Result<Inner, Fail> {
-    let one = Item::new(alloc, seed, integer(1)?);
-    let two = Item::new(alloc, seed, integer(2)?);
-    Ok(Inner::new(alloc, seed).with_item(one)?.with_item(two)?)
+pub(crate) fn one_and_two(rt: &HostRuntime, seed: &RandomState) -> Inner {
+    let one = plain(rt, seed, integer(rt, 1));
+    both(rt, seed, one, plain(rt, seed, integer(rt, 2)))
 }
 
 // The Inner List `(1 2)` with the parameter `y`.
-pub(crate) fn inner(alloc: Global, seed: &RandomState, param: Bare) -> Result<Member, Fail> {
-    let key = Key::new(alloc, b"y")?;
-    Ok(one_and_two(alloc, seed)?.with_param(key, param)?.into())
+pub(crate) fn inner(
+    rt: &HostRuntime,
+    seed: &RandomState,
+    param: Bare,
+) -> Member {
+    let inner = one_and_two(rt, seed);
+    inner.with_param(key(rt, b"y"), param).expect(rt, "room").into()
 }
 
 // The Item `?1` with one parameter.
 pub(crate) fn flag(
-    alloc: Global,
+    rt: &HostRuntime,
     seed: &RandomState,
-    key: &[u8],
+    bytes: &[u8],
     value: Bare,
-) -> Result<Member, Fail> {
-    Ok(item(alloc, seed, Bare::Boolean(true), key, value)?.into())
+) -> Member {
+    item(rt, seed, Bare::Boolean(true), bytes, value).into()
 }
 
 // A Dictionary with one more member.
-pub(crate) fn with(alloc: Global, dict: Dict, key: &[u8], member: Member) -> Result<Dict, Fail> {
-    Ok(dict.with(Key::new(alloc, key)?, member)?)
+pub(crate) fn with(
+    rt: &HostRuntime,
+    dict: Dict,
+    bytes: &[u8],
+    member: Member,
+) -> Dict {
+    dict.with(key(rt, bytes), member).expect(rt, "room")
 }
 
 // The Dictionary `a=(1 2);y=PARAM, b;x`, or with its members the other way round.
 pub(crate) fn dict(
-    alloc: Global,
+    rt: &HostRuntime,
     seed: &RandomState,
     param: &[u8],
     turned: bool,
-) -> Result<Field, Fail> {
-    let first = inner(alloc, seed, blob(alloc, param)?)?;
-    let second = flag(alloc, seed, b"x", Bare::Boolean(true))?;
-    let none = Dict::new(alloc, seed);
+) -> Field {
+    let first = inner(rt, seed, blob(rt, param));
+    let second = flag(rt, seed, b"x", Bare::Boolean(true));
+    let none = Dict::new(rt.alloc(), seed);
     let both = if turned {
-        with(alloc, with(alloc, none, b"b", second)?, b"a", first)?
+        with(rt, with(rt, none, b"b", second), b"a", first)
     } else {
-        with(alloc, with(alloc, none, b"a", first)?, b"b", second)?
+        with(rt, with(rt, none, b"a", first), b"b", second)
     };
-    Ok(both.into())
+    both.into()
 }
 
 // The List of two members.
-pub(crate) fn two(alloc: Global, first: Member, second: Member) -> Result<Field, Fail> {
-    Ok(List::new(alloc).with(first)?.with(second)?.into())
+pub(crate) fn two(rt: &HostRuntime, first: Member, second: Member) -> List {
+    let list = List::new(rt.alloc()).with(first).expect(rt, "room");
+    list.with(second).expect(rt, "room")
 }
 
 // The List `N;y, (1 2);y=?0`.
-pub(crate) fn list(alloc: Global, seed: &RandomState, n: i64) -> Result<Field, Fail> {
-    let first = item(alloc, seed, integer(n)?, b"y", Bare::Boolean(true))?;
-    let second = inner(alloc, seed, Bare::Boolean(false))?;
-    two(alloc, first.into(), second)
-}
-
-// The Item `a`.
-pub(crate) fn token_item(alloc: Global, seed: &RandomState) -> Result<Item, Fail> {
-    Ok(Item::new(alloc, seed, token(alloc, b"a")?))
+pub(crate) fn list(rt: &HostRuntime, seed: &RandomState, n: i64) -> Field {
+    let first = item(rt, seed, integer(rt, n), b"y", Bare::Boolean(true));
+    let second = inner(rt, seed, Bare::Boolean(false));
+    two(rt, first.into(), second).into()
 }

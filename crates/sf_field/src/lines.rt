@@ -16,21 +16,6 @@ use sf_write::to_text;
 use std::alloc::Global;
 use std::hash::RandomState;
 
-// Feeds the joined text of the lines, which is empty where there is none.
-fn feed_lines(parser: &mut Parser, lines: &[Blob]) -> Result<(), Refusal>
-    requires { parser.old.after_line ≡ false }
-    ensures fed { Fed parser.old parser.new result (join lines.now) }
-    // a plain parser stays plain over a single line of spaces, `-` and digits
-    ensures plain { IsPlain parser.old → (line : List ℕ) → lines.now ≡ line ∷ []
-        → Every plain_byte line → KeptPlain parser.new result }
-{
-    parser.feed(b"")?;
-    for line in lines {
-        parser.feed_line(line.as_bytes())?;
-    }
-    Ok(())
-}
-
 /// The value that the lines spell together, in this dialect: that of their text joined by a comma
 /// and a space, in which the places of a refusal are counted. It is TooLong only where that text
 /// has 2^64 bytes or more, and never ReadFault. A single line of spaces, `-` and digits takes no
@@ -97,4 +82,19 @@ pub fn normalise_lines(
     let text = to_text(alloc, &field);
     drop(field);
     Ok(text?)
+}
+
+// Feeds the joined text of the lines, which is empty where there is none.
+fn feed_lines(parser: &mut Parser, lines: &[Blob]) -> Result<(), Refusal>
+    requires { parser.old.after_line ≡ false }
+    ensures fed { Fed parser.old parser.new result (join lines.now) }
+    // a plain parser stays plain over a single line of spaces, `-` and digits
+    ensures plain { IsPlain parser.old → (line : List ℕ) → lines.now ≡ line ∷ []
+        → Every plain_byte line → KeptPlain parser.new result }
+{
+    parser.feed(b"")?;
+    for line in lines {
+        parser.feed_line(line.as_bytes())?;
+    }
+    Ok(())
 }

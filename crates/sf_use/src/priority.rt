@@ -30,6 +30,37 @@ impl Model for Urgency {
     ghost inverse = { λ u. record { value = u } };
 }
 
+/// What a field asks for; `None` is a part that it does not say (RFC 9218 section 4). A client asks
+/// in a request, a server in a response.
+#[derive(Clone, Copy, Debug, Default, PartialEq, Eq)]
+pub struct Asked {
+    /// `u`: how urgent the response is.
+    pub urgency: Option<Urgency>,
+    /// `i`: whether the response is of use while it arrives.
+    pub incremental: Option<bool>,
+}
+
+/// A priority, with both its parts (RFC 9218 section 4).
+///
+/// ```
+/// let priority = Priority { urgency: Urgency::new(1)?, incremental: true }; // u=1, i
+/// ```
+#[derive(Clone, Copy, Debug, Default, PartialEq, Eq)]
+pub struct Priority {
+    /// How urgent the response is (section 4.1).
+    pub urgency: Urgency,
+    /// Whether the response is of use while it arrives (section 4.2).
+    pub incremental: bool,
+}
+
+/// Reads the Priority field (RFC 9218 section 5), a Dictionary. Its answer takes no memory.
+///
+/// ```
+/// let asked = ask(alloc, &seed, &PriorityField, lines.as_slice())?;
+/// ```
+#[derive(Clone, Copy, Debug, Default, PartialEq, Eq)]
+pub struct PriorityField;
+
 impl Urgency {
     /// The urgency of this number, from 0 to 7; `OutOfRange` exactly where it is greater. It takes
     /// no memory.
@@ -56,68 +87,6 @@ impl Urgency {
     {
         self.value
     }
-}
-
-/// The urgency of this number, as [`Urgency::new`] gives it.
-impl TryFrom<u8> for Urgency {
-    type Error = OutOfRange;
-
-    ghost use Rattle.std.specs.Prelude.{◌<◌};
-    ghost use Rattle.std.specs.Result.{OkIff};
-
-    ghost try_from_gives = { λ n r. OkIff r (n < 8) n };
-
-    fn try_from(number: u8) -> Result<Urgency, OutOfRange> {
-        Urgency::new(number)
-    }
-}
-
-impl Default for Urgency {
-    ghost use Rattle.std.specs.Prelude.{◌≡◌};
-
-    ghost is_default = { λ urgency. urgency ≡ 3 };
-
-    fn default() -> Urgency {
-        Urgency { value: 3 }
-    }
-}
-
-/// What a field asks for; `None` is a part that it does not say (RFC 9218 section 4). A client asks
-/// in a request, a server in a response.
-#[derive(Clone, Copy, Debug, Default, PartialEq, Eq)]
-pub struct Asked {
-    /// `u`: how urgent the response is.
-    pub urgency: Option<Urgency>,
-    /// `i`: whether the response is of use while it arrives.
-    pub incremental: Option<bool>,
-}
-
-/// A priority, with both its parts (RFC 9218 section 4).
-///
-/// ```
-/// let priority = Priority { urgency: Urgency::new(1)?, incremental: true }; // u=1, i
-/// ```
-#[derive(Clone, Copy, Debug, Default, PartialEq, Eq)]
-pub struct Priority {
-    /// How urgent the response is (section 4.1).
-    pub urgency: Urgency,
-    /// Whether the response is of use while it arrives (section 4.2).
-    pub incremental: bool,
-}
-
-// The urgency that a member says: an Integer from 0 to 7.
-fn urgency_in(member: Option<&Member>) -> Option<Urgency>
-    ensures { result ≡ urgency (option_copied member.entry) }
-{
-    let number = member?.as_item()?.bare.as_integer()?.get();
-    Urgency::new(u8::try_from(number).ok()?).ok()
-}
-
-// The Boolean that a member says.
-fn boolean_in(member: Option<&Member>) -> Option<bool>
-    ensures { result ≡ incremental (option_copied member.entry) }
-{
-    member?.as_item()?.bare.as_boolean()
 }
 
 impl Priority {
@@ -157,29 +126,29 @@ impl Asked {
     }
 }
 
-/// What a client and a server ask for together: each part as the server says it, where it does,
-/// else as the client does (RFC 9218 section 8). It takes no memory.
-///
-/// ```
-/// // the request said u=5, i and the response u=1
-/// let priority = merge(client, server).with_defaults(); // urgency 1, incremental
-/// ```
-pub fn merge(client: Asked, server: Asked) -> Asked
-    ensures { result ≡ merged client server }
-{
-    Asked {
-        urgency: server.urgency.or(client.urgency),
-        incremental: server.incremental.or(client.incremental),
+/// The urgency of this number, as [`Urgency::new`] gives it.
+impl TryFrom<u8> for Urgency {
+    type Error = OutOfRange;
+
+    ghost use Rattle.std.specs.Prelude.{◌<◌};
+    ghost use Rattle.std.specs.Result.{OkIff};
+
+    ghost try_from_gives = { λ n r. OkIff r (n < 8) n };
+
+    fn try_from(number: u8) -> Result<Urgency, OutOfRange> {
+        Urgency::new(number)
     }
 }
 
-/// Reads the Priority field (RFC 9218 section 5), a Dictionary. Its answer takes no memory.
-///
-/// ```
-/// let asked = ask(alloc, &seed, &PriorityField, lines.as_slice())?;
-/// ```
-#[derive(Clone, Copy, Debug, Default, PartialEq, Eq)]
-pub struct PriorityField;
+impl Default for Urgency {
+    ghost use Rattle.std.specs.Prelude.{◌≡◌};
+
+    ghost is_default = { λ urgency. urgency ≡ 3 };
+
+    fn default() -> Urgency {
+        Urgency { value: 3 }
+    }
+}
 
 impl Consumer for PriorityField {
     ghost use Rattle.std.specs.Prelude.{◌≡◌, Ok, IsOk};
@@ -208,21 +177,20 @@ impl Consumer for PriorityField {
     }
 }
 
-// Puts an Item without parameters under the key of one letter.
-fn put_item(
-    alloc: Global,
-    seed: &RandomState,
-    members: &mut Entries<Member>,
-    letter: u8,
-    bare: Bare,
-) -> Result<(), OutOfMemory>
-    requires { is_key_start letter ≡ true }
-    // the Item is put under the key of this letter
-    ensures { IfOk result (λ _. members.new ≡ put members.old (letter ∷ []) (plain bare)) }
+/// What a client and a server ask for together: each part as the server says it, where it does,
+/// else as the client does (RFC 9218 section 8). It takes no memory.
+///
+/// ```
+/// // the request said u=5, i and the response u=1
+/// let priority = merge(client, server).with_defaults(); // urgency 1, incremental
+/// ```
+pub fn merge(client: Asked, server: Asked) -> Asked
+    ensures { result ≡ merged client server }
 {
-    let key = Key::first(alloc, letter)?;
-    let item = Item::new(alloc, seed, bare);
-    members.set(key, item.into())
+    Asked {
+        urgency: server.urgency.or(client.urgency),
+        incremental: server.incremental.or(client.incremental),
+    }
 }
 
 /// The Dictionary that asks for a priority: `u` where the urgency is not 3, then `i` where it is
@@ -251,4 +219,36 @@ pub fn priority_field(
         put_item(alloc, seed, &mut members, b'i', Bare::Boolean(true))?;
     }
     Ok(Dict { members })
+}
+
+// The urgency that a member says: an Integer from 0 to 7.
+fn urgency_in(member: Option<&Member>) -> Option<Urgency>
+    ensures { result ≡ urgency (option_copied member.entry) }
+{
+    let number = member?.as_item()?.bare.as_integer()?.get();
+    Urgency::new(u8::try_from(number).ok()?).ok()
+}
+
+// The Boolean that a member says.
+fn boolean_in(member: Option<&Member>) -> Option<bool>
+    ensures { result ≡ incremental (option_copied member.entry) }
+{
+    member?.as_item()?.bare.as_boolean()
+}
+
+// Puts an Item without parameters under the key of one letter.
+fn put_item(
+    alloc: Global,
+    seed: &RandomState,
+    members: &mut Entries<Member>,
+    letter: u8,
+    bare: Bare,
+) -> Result<(), OutOfMemory>
+    requires { is_key_start letter ≡ true }
+    // the Item is put under the key of this letter
+    ensures { IfOk result (λ _. members.new ≡ put members.old (letter ∷ []) (plain bare)) }
+{
+    let key = Key::first(alloc, letter)?;
+    let item = Item::new(alloc, seed, bare);
+    members.set(key, item.into())
 }

@@ -34,26 +34,26 @@ pub struct Policy {
     pub is_private: bool,
 }
 
-// How many seconds a member says: an Integer that is not negative.
-fn seconds(member: Option<&Member>) -> Option<u64>
-    ensures { result ≡ delta_seconds (option_copied member.entry) }
-{
-    let number = member?.as_item()?.bare.as_integer()?;
-    u64::try_from(number.get()).ok()
-}
+/// Reads a targeted field (RFC 9213 section 2.1), a Dictionary. Its answer takes no memory.
+///
+/// ```
+/// let policy = ask(alloc, &seed, &Directives, lines.as_slice())?;
+/// ```
+#[derive(Clone, Copy, Debug, Default, PartialEq, Eq)]
+pub struct Directives;
 
-// Whether a member is there that is no Item of Boolean false.
-fn sets(member: Option<&Member>) -> bool
-    ensures { result ≡ is_set (option_copied member.entry) }
-{
-    match member {
-        None => false,
-        Some(Member::Inner(_)) => true,
-        Some(Member::Item(item)) => match item.bare {
-            Bare::Boolean(set) => set,
-            _ => true,
-        },
-    }
+/// Which field of a target list a cache obeys (RFC 9213 section 2.2).
+#[derive(Clone, Copy, Debug, PartialEq, Eq)]
+pub enum Choice {
+    /// The field of a target.
+    Field {
+        /// The place of the target in the list, counted from 0.
+        index: usize,
+        /// What the field says.
+        policy: Policy,
+    },
+    /// No target has a field that can be used: `Cache-Control` and `Expires` decide.
+    Fallback,
 }
 
 impl Policy {
@@ -99,14 +99,6 @@ impl Policy {
     }
 }
 
-/// Reads a targeted field (RFC 9213 section 2.1), a Dictionary. Its answer takes no memory.
-///
-/// ```
-/// let policy = ask(alloc, &seed, &Directives, lines.as_slice())?;
-/// ```
-#[derive(Clone, Copy, Debug, Default, PartialEq, Eq)]
-pub struct Directives;
-
 impl Consumer for Directives {
     ghost use Rattle.std.specs.Prelude.{◌≡◌, Ok, IsOk};
     ghost use Rattle.sf_value.specs.declared.value.Kind.TheVariants as kind_is;
@@ -134,18 +126,59 @@ impl Consumer for Directives {
     }
 }
 
-/// Which field of a target list a cache obeys (RFC 9213 section 2.2).
-#[derive(Clone, Copy, Debug, PartialEq, Eq)]
-pub enum Choice {
-    /// The field of a target.
-    Field {
-        /// The place of the target in the list, counted from 0.
-        index: usize,
-        /// What the field says.
-        policy: Policy,
-    },
-    /// No target has a field that can be used: `Cache-Control` and `Expires` decide.
-    Fallback,
+/// The field that a cache obeys: that of the first target that is there, spells a Dictionary and is
+/// not empty (RFC 9213 section 2.2). Absent, refused and empty fields are passed over (section 2.1);
+/// where none is left, the answer is `Fallback`. `OutOfMemory` says that memory was wanting to read
+/// a field, and then no later one is looked at; a field of 2^64 bytes or more, which no memory can
+/// hold, is answered so too. Where no target is there, it takes no memory.
+///
+/// ```
+/// let targets = [HeaderName::from_static("cdn-cache-control")];
+/// match select(alloc, &seed, &targets, &headers)? {
+///     Choice::Field { index, policy } => ..
+///     Choice::Fallback => ..
+/// }
+/// ```
+pub fn select(
+    alloc: Global,
+    seed: &RandomState,
+    targets: &[HeaderName],
+    headers: &HeaderMap,
+) -> Result<Choice, OutOfMemory>
+    ensures chosen { IfOk result (IsChosen targets.now headers.now) }
+    // where no target is there, no memory is wanting
+    ensures absent { All (λ name. ¬ (ContainsKey headers.now name)) targets.now
+        → result ≡ Ok Fallback }
+{
+    for (index, target) in targets.iter().enumerate() {
+        match offered(alloc, seed, target, headers)? {
+            Some(policy) => return Ok(Choice::Field { index, policy }),
+            None => {}
+        }
+    }
+    Ok(Choice::Fallback)
+}
+
+// How many seconds a member says: an Integer that is not negative.
+fn seconds(member: Option<&Member>) -> Option<u64>
+    ensures { result ≡ delta_seconds (option_copied member.entry) }
+{
+    let number = member?.as_item()?.bare.as_integer()?;
+    u64::try_from(number.get()).ok()
+}
+
+// Whether a member is there that is no Item of Boolean false.
+fn sets(member: Option<&Member>) -> bool
+    ensures { result ≡ is_set (option_copied member.entry) }
+{
+    match member {
+        None => false,
+        Some(Member::Inner(_)) => true,
+        Some(Member::Item(item)) => match item.bare {
+            Bare::Boolean(set) => set,
+            _ => true,
+        },
+    }
 }
 
 // What a field offers: a policy, where it has a member.
@@ -177,37 +210,4 @@ fn offered(
         Err(Refusal::OutOfMemory | Refusal::TooLong { .. }) => Err(OutOfMemory),
         Err(Refusal::ReadFault { .. }) => unreachable!(),
     }
-}
-
-/// The field that a cache obeys: that of the first target that is there, spells a Dictionary and is
-/// not empty (RFC 9213 section 2.2). Absent, refused and empty fields are passed over (section
-/// 2.1);
-/// where none is left, the answer is `Fallback`. `OutOfMemory` says that memory was wanting to read
-/// a field, and then no later one is looked at; a field of 2^64 bytes or more, which no memory can
-/// hold, is answered so too. Where no target is there, it takes no memory.
-///
-/// ```
-/// let targets = [HeaderName::from_static("cdn-cache-control")];
-/// match select(alloc, &seed, &targets, &headers)? {
-///     Choice::Field { index, policy } => ..
-///     Choice::Fallback => ..
-/// }
-/// ```
-pub fn select(
-    alloc: Global,
-    seed: &RandomState,
-    targets: &[HeaderName],
-    headers: &HeaderMap,
-) -> Result<Choice, OutOfMemory>
-    ensures chosen { IfOk result (IsChosen targets.now headers.now) }
-    // where no target is there, no memory is wanting
-    ensures absent { All (λ name. ¬ (ContainsKey headers.now name)) targets.now
-        → result ≡ Ok Fallback }
-{
-    for (index, target) in targets.iter().enumerate() {
-        if let Some(policy) = offered(alloc, seed, target, headers)? {
-            return Ok(Choice::Field { index, policy });
-        }
-    }
-    Ok(Choice::Fallback)
 }

@@ -15,15 +15,6 @@ use crate::strings::put_string;
 use sf_value::{Bare, OutOfMemory, Sink, Text, Writing};
 use std::alloc::Global;
 
-/// A Boolean: `?1` or `?0` (section 4.1.9).
-fn put_boolean<W: Sink>(value: bool, before: Sent, out: &mut W) -> Sent
-    ensures { Follows (W.state out.old) (W.state out.new) before result
-        (canon_bare (bare_is.Boolean value)) }
-{
-    let text = if value { b"?1" } else { b"?0" };
-    put(text, before, out)
-}
-
 /// Writes the canonical text of a bare item, as [`write_bare`] does, behind what was sent before, as
 /// [`crate::put`] does. It takes no memory.
 ///
@@ -89,4 +80,13 @@ pub fn bare_text(alloc: Global, bare: &Bare) -> Result<Vec<u8>, OutOfMemory>
         Ok(_) => Ok(out.into_inner()),
         Err(_) => Err(OutOfMemory),
     }
+}
+
+/// A Boolean: `?1` or `?0` (section 4.1.9).
+fn put_boolean<W: Sink>(value: bool, before: Sent, out: &mut W) -> Sent
+    ensures { Follows (W.state out.old) (W.state out.new) before result
+        (canon_bare (bare_is.Boolean value)) }
+{
+    let text = if value { b"?1" } else { b"?0" };
+    put(text, before, out)
 }

@@ -81,7 +81,8 @@ fn put(
     let key = match Key::new(alloc, key) {
         Ok(key) => key,
         Err(TextFault::OutOfMemory) => return Err(OutOfMemory),
-        Err(TextFault::Empty | TextFault::BadByte { .. }) => unreachable!(),
+        Err(TextFault::Empty) => unreachable!(),
+        Err(TextFault::BadByte { .. }) => unreachable!(),
     };
     params.set(key, value)
 }
@@ -107,7 +108,8 @@ fn token_of(alloc: Global, why: &Forward) -> Result<Token, OutOfMemory>
     match Token::new(alloc, why.as_bytes()) {
         Ok(token) => Ok(token),
         Err(TextFault::OutOfMemory) => Err(OutOfMemory),
-        Err(TextFault::Empty | TextFault::BadByte { .. }) => unreachable!(),
+        Err(TextFault::Empty) => unreachable!(),
+        Err(TextFault::BadByte { .. }) => unreachable!(),
     }
 }
 

@@ -34,8 +34,9 @@ pub(crate) fn read_hops(alloc: Global, members: &[Member]) -> Result<Vec<Hop>, O
 {
     let mut hops = Vec::new(alloc);
     for member in members {
-        if let Some(hop) = read_member(alloc, member)? {
-            hops.push(hop)?;
+        match read_member(alloc, member)? {
+            Some(hop) => hops.push(hop)?,
+            None => {}
         }
     }
     Ok(hops)
