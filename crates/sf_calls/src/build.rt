@@ -86,12 +86,7 @@ pub(crate) fn item(
 }
 
 // The Inner List of two Items.
-pub(crate) fn both(
-    rt: &HostRuntime,
-    seed: &RandomState,
-    first: Item,
-    second: Item,
-) -> Inner {
+pub(crate) fn both(rt: &HostRuntime, seed: &RandomState, first: Item, second: Item) -> Inner {
     let inner = Inner::new(rt.alloc(), seed);
     let inner = inner.with_item(first).expect(rt, "room");
     inner.with_item(second).expect(rt, "room")
@@ -104,42 +99,26 @@ pub(crate) fn one_and_two(rt: &HostRuntime, seed: &RandomState) -> Inner {
 }
 
 // The Inner List `(1 2)` with the parameter `y`.
-pub(crate) fn inner(
-    rt: &HostRuntime,
-    seed: &RandomState,
-    param: Bare,
-) -> Member {
+pub(crate) fn inner(rt: &HostRuntime, seed: &RandomState, param: Bare) -> Member {
     let inner = one_and_two(rt, seed);
-    inner.with_param(key(rt, b"y"), param).expect(rt, "room").into()
+    inner
+        .with_param(key(rt, b"y"), param)
+        .expect(rt, "room")
+        .into()
 }
 
 // The Item `?1` with one parameter.
-pub(crate) fn flag(
-    rt: &HostRuntime,
-    seed: &RandomState,
-    bytes: &[u8],
-    value: Bare,
-) -> Member {
+pub(crate) fn flag(rt: &HostRuntime, seed: &RandomState, bytes: &[u8], value: Bare) -> Member {
     item(rt, seed, Bare::Boolean(true), bytes, value).into()
 }
 
 // A Dictionary with one more member.
-pub(crate) fn with(
-    rt: &HostRuntime,
-    dict: Dict,
-    bytes: &[u8],
-    member: Member,
-) -> Dict {
+pub(crate) fn with(rt: &HostRuntime, dict: Dict, bytes: &[u8], member: Member) -> Dict {
     dict.with(key(rt, bytes), member).expect(rt, "room")
 }
 
 // The Dictionary `a=(1 2);y=PARAM, b;x`, or with its members the other way round.
-pub(crate) fn dict(
-    rt: &HostRuntime,
-    seed: &RandomState,
-    param: &[u8],
-    turned: bool,
-) -> Field {
+pub(crate) fn dict(rt: &HostRuntime, seed: &RandomState, param: &[u8], turned: bool) -> Field {
     let first = inner(rt, seed, blob(rt, param));
     let second = flag(rt, seed, b"x", Bare::Boolean(true));
     let none = Dict::new(rt.alloc(), seed);

@@ -1,52 +1,43 @@
 //! Priority fields with what they come to, and priorities with their fields.
+use crate::build::seed;
 use sf_field::ask;
 use sf_parse::parse_dict;
-use sf_use::{Priority, PriorityField, Urgency, merge, priority_field};
-use sf_value::{Blob, Field, OutOfRange};
+use sf_use::{Asked, Priority, PriorityField, Urgency, merge, priority_field};
+use sf_value::{Blob, OutOfRange};
 use sf_write::to_text;
-use std::alloc::Global;
 use std::hash::RandomState;
-use std::test::Fail;
 
-// What the field of a request comes to.
-fn alone(alloc: Global, seed: &RandomState, line: &[u8]) -> Result<(u8, bool), Fail> {
-    let asked = ask(alloc, seed, &PriorityField, &[Blob::new(alloc, line)?])?;
+fn parts(asked: Asked) -> (u8, bool) {
     let priority = asked.with_defaults();
-    Ok((priority.urgency.get(), priority.incremental))
+    (priority.urgency.get(), priority.incremental)
 }
 
-// What the fields of a request and of a response come to.
-fn together(
-    alloc: Global,
-    seed: &RandomState,
-    client: &[u8],
-    server: &[u8],
-) -> Result<(u8, bool), Fail> {
-    let client = Priority::from_dict(&parse_dict(alloc, seed, client)?);
-    let server = Priority::from_dict(&parse_dict(alloc, seed, server)?);
-    let priority = merge(client, server).with_defaults();
-    Ok((priority.urgency.get(), priority.incremental))
+// What the field of a request comes to.
+fn alone(rt: &HostRuntime, seed: &RandomState, line: &[u8]) -> (u8, bool) {
+    let line = Blob::new(rt.alloc(), line).expect(rt, "room");
+    let asked = ask(rt.alloc(), seed, &PriorityField, &[line]);
+    parts(asked.expect(rt, "a Dictionary"))
+}
+
+// What a field asks for.
+fn asked(rt: &HostRuntime, seed: &RandomState, text: &[u8]) -> Asked {
+    let dict = parse_dict(rt.alloc(), seed, text).expect(rt, "a Dictionary");
+    Priority::from_dict(&dict)
 }
 
 // The text of the field that asks for a priority.
-fn written(
-    alloc: Global,
-    seed: &RandomState,
-    urgency: u8,
-    incremental: bool,
-) -> Result<Vec<u8>, Fail> {
+fn written(rt: &HostRuntime, seed: &RandomState, urgency: u8, incremental: bool) -> Vec<u8> {
     let priority = Priority {
-        urgency: Urgency::new(urgency)?,
+        urgency: Urgency::new(urgency).expect(rt, "an urgency"),
         incremental,
     };
-    let dict = priority_field(alloc, seed, priority)?;
-    Ok(to_text(alloc, &Field::from(dict))?)
+    let dict = priority_field(rt.alloc(), seed, priority).expect(rt, "room");
+    to_text(rt.alloc(), &dict.into()).expect(rt, "room")
 }
 
 #[test]
-fn priorities(rt: HostRuntime) -> Result<(), Fail> {
-    let alloc = rt.alloc();
-    let seed = RandomState::new(&rt)?;
+fn priorities(rt: HostRuntime) {
+    let seed = seed(&rt);
     for (line, want) in [
         (b"u=8, i".as_slice(), (3, true)),
         (b"u=5, i", (5, true)),
@@ -61,16 +52,14 @@ fn priorities(rt: HostRuntime) -> Result<(), Fail> {
         (b"i=?0", (3, false)),
         (b"", (3, false)),
     ] {
-        assert_eq!(rt; alone(alloc, &seed, line)?, want);
+        assert_eq!(rt; alone(&rt, &seed, line), want);
     }
-    Ok(())
 }
 
 // What a request and a response ask for, and what both come to.
 #[test]
-fn merging(rt: HostRuntime) -> Result<(), Fail> {
-    let alloc = rt.alloc();
-    let seed = RandomState::new(&rt)?;
+fn merging(rt: HostRuntime) {
+    let seed = seed(&rt);
     for (client, server, want) in [
         (b"u=5, i".as_slice(), b"u=1".as_slice(), (1, true)),
         (b"u=5", b"i", (5, true)),
@@ -78,27 +67,26 @@ fn merging(rt: HostRuntime) -> Result<(), Fail> {
         (b"u=5, i", b"u=8", (5, true)),
         (b"", b"", (3, false)),
     ] {
-        assert_eq!(rt; together(alloc, &seed, client, server)?, want);
+        let client = asked(&rt, &seed, client);
+        let server = asked(&rt, &seed, server);
+        assert_eq!(rt; parts(merge(client, server)), want);
     }
-    Ok(())
 }
 
 #[test]
-fn written_priorities(rt: HostRuntime) -> Result<(), Fail> {
-    let alloc = rt.alloc();
-    let seed = RandomState::new(&rt)?;
+fn written_priorities(rt: HostRuntime) {
+    let seed = seed(&rt);
     for (urgency, incremental, want) in [
         (1, true, b"u=1, i".as_slice()),
         (3, false, b""),
         (3, true, b"i"),
         (0, false, b"u=0"),
     ] {
-        let text = written(alloc, &seed, urgency, incremental)?;
+        let text = written(&rt, &seed, urgency, incremental);
         assert_eq!(rt; text.as_slice(), want);
     }
     let default = Priority::default();
     assert_eq!(rt; (default.urgency.get(), default.incremental), (3, false));
-    Ok(())
 }
 
 #[test]

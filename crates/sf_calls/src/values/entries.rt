@@ -46,7 +46,11 @@ fn entries_may_be_none(rt: HostRuntime) {
 
 // The key, and then `3` or `2`.
 fn list_entry(rt: &HostRuntime, listed: &mut Vec<u8>, key: &[u8], value: &Bare) {
-    let digit = if number_in(value) == Some(3) { b'3' } else { b'2' };
+    let digit = if number_in(value) == Some(3) {
+        b'3'
+    } else {
+        b'2'
+    };
     listed.extend_from_slice(key).expect(rt, "room");
     listed.push(digit).expect(rt, "room");
 }

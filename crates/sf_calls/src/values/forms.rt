@@ -9,7 +9,8 @@ fn key_at(rt: &HostRuntime, place: u8) -> Vec<u8> {
     let mut key = Vec::from_slice(rt.alloc(), b"k").expect(rt, "room");
     key.push(b'a' + place % 26).expect(rt, "room");
     if place % 3 == 2 {
-        key.extend_from_slice(b"-of-more-than-sixteen-bytes").expect(rt, "room");
+        key.extend_from_slice(b"-of-more-than-sixteen-bytes")
+            .expect(rt, "room");
     }
     key
 }
@@ -23,14 +24,11 @@ fn value_of(place: u8) -> i64 {
     }
 }
 
-fn put_at(
-    rt: &HostRuntime,
-    entries: &mut Entries<Bare>,
-    place: u8,
-    value: i64,
-) -> Option<i64> {
+fn put_at(rt: &HostRuntime, entries: &mut Entries<Bare>, place: u8, value: i64) -> Option<i64> {
     let key = key_at(rt, place);
-    put(rt, entries, &key, integer(rt, value)).as_ref().and_then(number_in)
+    put(rt, entries, &key, integer(rt, value))
+        .as_ref()
+        .and_then(number_in)
 }
 
 // Keys in order, and then every second of them once more.
@@ -95,17 +93,14 @@ fn entries_of_each_count_are_the_same_pairs(rt: HostRuntime) {
 }
 
 // The keys in order with what each has at last, but for the one at a place.
-fn all_but(
-    rt: &HostRuntime,
-    seed: &RandomState,
-    count: u8,
-    left_out: Option<u8>,
-) -> Entries<Bare> {
+fn all_but(rt: &HostRuntime, seed: &RandomState, count: u8, left_out: Option<u8>) -> Entries<Bare> {
     let mut entries = Entries::new(rt.alloc(), seed);
     for place in 0..count {
         if Some(place) != left_out {
             let key = key(rt, &key_at(rt, place));
-            entries.set(key, integer(rt, value_of(place))).expect(rt, "room");
+            entries
+                .set(key, integer(rt, value_of(place)))
+                .expect(rt, "room");
         }
     }
     entries
@@ -122,7 +117,11 @@ fn each_key_is_taken_out(rt: HostRuntime) {
     for count in 0..21u8 {
         for place in 0..=count {
             let mut entries = all_but(&rt, &seed, count, None);
-            let there = if place < count { Some(value_of(place)) } else { None };
+            let there = if place < count {
+                Some(value_of(place))
+            } else {
+                None
+            };
             assert_eq!(rt; remove(&rt, &mut entries, place), there);
             assert!(rt; entries.same(&all_but(&rt, &seed, count, Some(place))));
             assert_eq!(rt; remove(&rt, &mut entries, place), None);
@@ -139,7 +138,9 @@ fn all_keys_are_taken_out_and_one_is_set(rt: HostRuntime) {
             assert_eq!(rt; remove(&rt, &mut entries, place), Some(value_of(place)));
         }
         assert!(rt; entries.is_empty());
-        entries.set(key(&rt, b"k"), integer(&rt, 7)).expect(&rt, "room");
+        entries
+            .set(key(&rt, b"k"), integer(&rt, 7))
+            .expect(&rt, "room");
         assert_eq!(rt; entries.get(b"k").and_then(number_in), Some(7));
     }
 }

@@ -56,7 +56,9 @@ fn sequences_are_vecs(rt: HostRuntime) {
     let mut items = Sequence::new(rt.alloc());
     assert!(rt; items.is_empty());
     for n in 1..=2 {
-        items.push(plain(&rt, &seed, integer(&rt, n))).expect(&rt, "room");
+        items
+            .push(plain(&rt, &seed, integer(&rt, n)))
+            .expect(&rt, "room");
     }
     assert_eq!(rt; items.into_vec().len(), 2);
 }
