@@ -4,45 +4,47 @@ use sf_value::{
     Thousandths, Token,
 };
 use std::hash::RandomState;
+use std::process::Abort;
+use std::random::RandomSource;
 
-pub(crate) fn seed(rt: &HostRuntime) -> RandomState {
+pub(crate) fn seed(rt: &(impl Abort + RandomSource)) -> RandomState {
     RandomState::new(rt).expect(rt, "a seed")
 }
 
-pub(crate) fn integer(rt: &HostRuntime, n: i64) -> Bare {
+pub(crate) fn integer(rt: &impl Abort, n: i64) -> Bare {
     Bare::Integer(Int::new(n).expect(rt, "an Integer"))
 }
 
-pub(crate) fn decimal(rt: &HostRuntime, thousandths: i64) -> Bare {
+pub(crate) fn decimal(rt: &impl Abort, thousandths: i64) -> Bare {
     Bare::Decimal(Thousandths::new(thousandths).expect(rt, "a Decimal"))
 }
 
-pub(crate) fn date(rt: &HostRuntime, seconds: i64) -> Bare {
+pub(crate) fn date(rt: &impl Abort, seconds: i64) -> Bare {
     Bare::Date(Int::new(seconds).expect(rt, "a Date"))
 }
 
-pub(crate) fn text(rt: &HostRuntime, bytes: &[u8]) -> Bare {
+pub(crate) fn text(rt: &(impl Abort + AllocGlobal), bytes: &[u8]) -> Bare {
     Bare::Text(Text::new(rt.alloc(), bytes).expect(rt, "a String"))
 }
 
-pub(crate) fn token(rt: &HostRuntime, bytes: &[u8]) -> Bare {
+pub(crate) fn token(rt: &(impl Abort + AllocGlobal), bytes: &[u8]) -> Bare {
     Bare::Token(Token::new(rt.alloc(), bytes).expect(rt, "a Token"))
 }
 
-pub(crate) fn blob(rt: &HostRuntime, bytes: &[u8]) -> Bare {
+pub(crate) fn blob(rt: &(impl Abort + AllocGlobal), bytes: &[u8]) -> Bare {
     Bare::Blob(Blob::new(rt.alloc(), bytes).expect(rt, "a Byte Sequence"))
 }
 
-pub(crate) fn shown(rt: &HostRuntime, text: &str) -> Bare {
+pub(crate) fn shown(rt: &(impl Abort + AllocGlobal), text: &str) -> Bare {
     Bare::Shown(Shown::new(rt.alloc(), text).expect(rt, "a Display String"))
 }
 
-pub(crate) fn key(rt: &HostRuntime, bytes: &[u8]) -> Key {
+pub(crate) fn key(rt: &(impl Abort + AllocGlobal), bytes: &[u8]) -> Key {
     Key::new(rt.alloc(), bytes).expect(rt, "a key")
 }
 
 // One of each of the eight types of bare items, by its place.
-pub(crate) fn bare(rt: &HostRuntime, index: usize) -> Bare {
+pub(crate) fn bare(rt: &(impl Abort + AllocGlobal), index: usize) -> Bare {
     match index {
         0 => integer(rt, 1),
         1 => decimal(rt, 1000),
@@ -61,7 +63,7 @@ pub(crate) fn number_in(bare: &Bare) -> Option<i64> {
 
 // Puts a value at the key of these bytes.
 pub(crate) fn put<V: Drop>(
-    rt: &HostRuntime,
+    rt: &(impl Abort + AllocGlobal),
     entries: &mut Entries<V>,
     bytes: &[u8],
     value: V,
@@ -69,13 +71,13 @@ pub(crate) fn put<V: Drop>(
     entries.put(key(rt, bytes), value).ok().expect(rt, "room")
 }
 
-pub(crate) fn plain(rt: &HostRuntime, seed: &RandomState, bare: Bare) -> Item {
+pub(crate) fn plain(rt: &impl AllocGlobal, seed: &RandomState, bare: Bare) -> Item {
     Item::new(rt.alloc(), seed, bare)
 }
 
 // An Item with one parameter.
 pub(crate) fn item(
-    rt: &HostRuntime,
+    rt: &(impl Abort + AllocGlobal),
     seed: &RandomState,
     bare: Bare,
     bytes: &[u8],
@@ -86,20 +88,25 @@ pub(crate) fn item(
 }
 
 // The Inner List of two Items.
-pub(crate) fn both(rt: &HostRuntime, seed: &RandomState, first: Item, second: Item) -> Inner {
+pub(crate) fn both(
+    rt: &(impl Abort + AllocGlobal),
+    seed: &RandomState,
+    first: Item,
+    second: Item,
+) -> Inner {
     let inner = Inner::new(rt.alloc(), seed);
     let inner = inner.with_item(first).expect(rt, "room");
     inner.with_item(second).expect(rt, "room")
 }
 
 // The Inner List `(1 2)`.
-pub(crate) fn one_and_two(rt: &HostRuntime, seed: &RandomState) -> Inner {
+pub(crate) fn one_and_two(rt: &(impl Abort + AllocGlobal), seed: &RandomState) -> Inner {
     let one = plain(rt, seed, integer(rt, 1));
     both(rt, seed, one, plain(rt, seed, integer(rt, 2)))
 }
 
 // The Inner List `(1 2)` with the parameter `y`.
-pub(crate) fn inner(rt: &HostRuntime, seed: &RandomState, param: Bare) -> Member {
+pub(crate) fn inner(rt: &(impl Abort + AllocGlobal), seed: &RandomState, param: Bare) -> Member {
     let inner = one_and_two(rt, seed);
     inner
         .with_param(key(rt, b"y"), param)
@@ -108,17 +115,32 @@ pub(crate) fn inner(rt: &HostRuntime, seed: &RandomState, param: Bare) -> Member
 }
 
 // The Item `?1` with one parameter.
-pub(crate) fn flag(rt: &HostRuntime, seed: &RandomState, bytes: &[u8], value: Bare) -> Member {
+pub(crate) fn flag(
+    rt: &(impl Abort + AllocGlobal),
+    seed: &RandomState,
+    bytes: &[u8],
+    value: Bare,
+) -> Member {
     item(rt, seed, Bare::Boolean(true), bytes, value).into()
 }
 
 // A Dictionary with one more member.
-pub(crate) fn with(rt: &HostRuntime, dict: Dict, bytes: &[u8], member: Member) -> Dict {
+pub(crate) fn with(
+    rt: &(impl Abort + AllocGlobal),
+    dict: Dict,
+    bytes: &[u8],
+    member: Member,
+) -> Dict {
     dict.with(key(rt, bytes), member).expect(rt, "room")
 }
 
 // The Dictionary `a=(1 2);y=PARAM, b;x`, or with its members the other way round.
-pub(crate) fn dict(rt: &HostRuntime, seed: &RandomState, param: &[u8], turned: bool) -> Field {
+pub(crate) fn dict(
+    rt: &(impl Abort + AllocGlobal),
+    seed: &RandomState,
+    param: &[u8],
+    turned: bool,
+) -> Field {
     let first = inner(rt, seed, blob(rt, param));
     let second = flag(rt, seed, b"x", Bare::Boolean(true));
     let none = Dict::new(rt.alloc(), seed);
@@ -131,13 +153,13 @@ pub(crate) fn dict(rt: &HostRuntime, seed: &RandomState, param: &[u8], turned: b
 }
 
 // The List of two members.
-pub(crate) fn two(rt: &HostRuntime, first: Member, second: Member) -> List {
+pub(crate) fn two(rt: &(impl Abort + AllocGlobal), first: Member, second: Member) -> List {
     let list = List::new(rt.alloc()).with(first).expect(rt, "room");
     list.with(second).expect(rt, "room")
 }
 
 // The List `N;y, (1 2);y=?0`.
-pub(crate) fn list(rt: &HostRuntime, seed: &RandomState, n: i64) -> Field {
+pub(crate) fn list(rt: &(impl Abort + AllocGlobal), seed: &RandomState, n: i64) -> Field {
     let first = item(rt, seed, integer(rt, n), b"y", Bare::Boolean(true));
     let second = inner(rt, seed, Bare::Boolean(false));
     two(rt, first.into(), second).into()

@@ -7,14 +7,19 @@ use sf_use::{CachePath, CacheStatus, Forward, Hop, HopStatus, Name, Outcome, Pas
 use sf_value::{Blob, List, OutOfRange, Token};
 use sf_write::to_text;
 use std::hash::RandomState;
+use std::process::Abort;
 
-fn read(rt: &HostRuntime, seed: &RandomState, text: &str) -> Result<CachePath, AskFault> {
+fn read(
+    rt: &(impl Abort + AllocGlobal),
+    seed: &RandomState,
+    text: &str,
+) -> Result<CachePath, AskFault> {
     let line = Blob::new(rt.alloc(), text.as_bytes()).expect(rt, "room");
     ask(rt.alloc(), seed, &CacheStatus, &[line])
 }
 
 // The text of the members that are appended for the hops.
-fn written(rt: &HostRuntime, seed: &RandomState, hops: &[Hop]) -> Vec<u8> {
+fn written(rt: &(impl Abort + AllocGlobal), seed: &RandomState, hops: &[Hop]) -> Vec<u8> {
     let mut list = List::new(rt.alloc());
     for hop in hops {
         append_hop(rt.alloc(), seed, &mut list, hop).expect(rt, "room");
@@ -22,7 +27,7 @@ fn written(rt: &HostRuntime, seed: &RandomState, hops: &[Hop]) -> Vec<u8> {
     text_of(rt, list)
 }
 
-fn text_of(rt: &HostRuntime, list: List) -> Vec<u8> {
+fn text_of(rt: &(impl Abort + AllocGlobal), list: List) -> Vec<u8> {
     to_text(rt.alloc(), &list.into()).expect(rt, "room")
 }
 
@@ -145,7 +150,7 @@ fn tells_reasons(rt: HostRuntime) {
     }
 }
 
-fn token_name(rt: &HostRuntime, text: &[u8]) -> Name {
+fn token_name(rt: &(impl Abort + AllocGlobal), text: &[u8]) -> Name {
     Name::Token(Token::new(rt.alloc(), text).expect(rt, "a Token"))
 }
 
@@ -166,7 +171,7 @@ fn stale_hop(name: Name, detail: Name, status: HopStatus) -> Hop {
 }
 
 // The List of the path of two caches that RFC 9211 shows, with a third one behind them.
-fn with_edge(rt: &HostRuntime, seed: &RandomState) -> List {
+fn with_edge(rt: &(impl Abort + AllocGlobal), seed: &RandomState) -> List {
     let text = b"OriginCache; hit; ttl=1100, \"CDN Company Here\"; hit; ttl=545";
     let mut list = parse_list(rt.alloc(), seed, text).expect(rt, "a List");
     let status = HopStatus::new(304).expect(rt, "a status");

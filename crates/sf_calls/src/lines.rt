@@ -8,8 +8,9 @@ use sf_field::{
 use sf_parse::{Parser, Refusal, parse_dict, parse_item, parse_list, parse_text};
 use sf_value::{Blob, Dialect, Field, Kind};
 use sf_write::to_text;
+use std::process::Abort;
 
-fn lines_of(rt: &HostRuntime, lines: &[&[u8]]) -> Vec<Blob> {
+fn lines_of(rt: &(impl Abort + AllocGlobal), lines: &[&[u8]]) -> Vec<Blob> {
     let mut blobs = Vec::new(rt.alloc());
     for line in lines {
         let line = Blob::new(rt.alloc(), line).expect(rt, "room");
@@ -47,14 +48,21 @@ fn ended(place: u64, expected: u128) -> Refusal {
     }
 }
 
-fn text_of(rt: &HostRuntime, field: Result<Field, Refusal>) -> Result<Vec<u8>, Refusal> {
+fn text_of(
+    rt: &(impl Abort + AllocGlobal),
+    field: Result<Field, Refusal>,
+) -> Result<Vec<u8>, Refusal> {
     match field {
         Ok(field) => Ok(to_text(rt.alloc(), &field).expect(rt, "room")),
         Err(refusal) => Err(refusal),
     }
 }
 
-fn check(rt: &HostRuntime, answer: Result<Vec<u8>, Refusal>, want: Result<&str, Refusal>) {
+fn check(
+    rt: &(impl Abort + AllocGlobal),
+    answer: Result<Vec<u8>, Refusal>,
+    want: Result<&str, Refusal>,
+) {
     match answer {
         Ok(text) => assert_eq!(rt; Ok(text.as_slice()), want.map(|want| want.as_bytes())),
         Err(refusal) => assert_eq!(rt; Some(refusal), want.err()),
@@ -62,7 +70,7 @@ fn check(rt: &HostRuntime, answer: Result<Vec<u8>, Refusal>, want: Result<&str, 
 }
 
 // The values of the name behind a header of another name.
-fn headers_of(rt: &HostRuntime, name: &[u8], values: &[&[u8]]) -> HeaderMap {
+fn headers_of(rt: &(impl Abort + AllocGlobal), name: &[u8], values: &[&[u8]]) -> HeaderMap {
     let mut headers = HeaderMap::new(rt.alloc());
     let server = HeaderName::from_static("server");
     let first = HeaderValue::from_static("x");
@@ -147,9 +155,11 @@ fn parses_header_maps(rt: HostRuntime) {
         ([b"u=1", b""], Err(refusal)),
     ] {
         let headers = headers_of(&rt, b"priority", &values);
-        let field = from_headers(rt.alloc(), &seed, Kind::Dict, &headers, &priority);
-        let there = field.transpose().expect(&rt, "a field");
-        check(&rt, text_of(&rt, there), want);
+        let found = match from_headers(rt.alloc(), &seed, Kind::Dict, &headers, &priority) {
+            Ok(field) => Ok(field.expect(&rt, "a field")),
+            Err(refusal) => Err(refusal),
+        };
+        check(&rt, text_of(&rt, found), want);
     }
     let headers = headers_of(&rt, b"age", &[b"1", b"2"]);
     let absent = from_headers(rt.alloc(), &seed, Kind::Dict, &headers, &priority);
@@ -201,7 +211,7 @@ fn an_empty_first_line(rt: HostRuntime) {
     assert!(rt; parser.feed_line(b"b").is_err());
 }
 
-fn set(rt: &HostRuntime, headers: &mut HeaderMap, field: &Field) {
+fn set(rt: &(impl Abort + AllocGlobal), headers: &mut HeaderMap, field: &Field) {
     let name = HeaderName::from_static("priority");
     set_field(rt.alloc(), headers, name, field).expect(rt, "room");
 }

@@ -6,6 +6,7 @@ use sf_use::{Asked, Priority, PriorityField, Urgency, merge, priority_field};
 use sf_value::{Blob, OutOfRange};
 use sf_write::to_text;
 use std::hash::RandomState;
+use std::process::Abort;
 
 fn parts(asked: Asked) -> (u8, bool) {
     let priority = asked.with_defaults();
@@ -13,20 +14,25 @@ fn parts(asked: Asked) -> (u8, bool) {
 }
 
 // What the field of a request comes to.
-fn alone(rt: &HostRuntime, seed: &RandomState, line: &[u8]) -> (u8, bool) {
+fn alone(rt: &(impl Abort + AllocGlobal), seed: &RandomState, line: &[u8]) -> (u8, bool) {
     let line = Blob::new(rt.alloc(), line).expect(rt, "room");
     let asked = ask(rt.alloc(), seed, &PriorityField, &[line]);
     parts(asked.expect(rt, "a Dictionary"))
 }
 
 // What a field asks for.
-fn asked(rt: &HostRuntime, seed: &RandomState, text: &[u8]) -> Asked {
+fn asked(rt: &(impl Abort + AllocGlobal), seed: &RandomState, text: &[u8]) -> Asked {
     let dict = parse_dict(rt.alloc(), seed, text).expect(rt, "a Dictionary");
     Priority::from_dict(&dict)
 }
 
 // The text of the field that asks for a priority.
-fn written(rt: &HostRuntime, seed: &RandomState, urgency: u8, incremental: bool) -> Vec<u8> {
+fn written(
+    rt: &(impl Abort + AllocGlobal),
+    seed: &RandomState,
+    urgency: u8,
+    incremental: bool,
+) -> Vec<u8> {
     let priority = Priority {
         urgency: Urgency::new(urgency).expect(rt, "an urgency"),
         incremental,

@@ -5,9 +5,10 @@ use sf_field::ask;
 use sf_use::{Choice, Directives, Policy, select};
 use sf_value::Blob;
 use std::hash::RandomState;
+use std::process::Abort;
 
 // What a targeted field of one line says.
-fn policy_of(rt: &HostRuntime, seed: &RandomState, line: &[u8]) -> Policy {
+fn policy_of(rt: &(impl Abort + AllocGlobal), seed: &RandomState, line: &[u8]) -> Policy {
     let line = Blob::new(rt.alloc(), line).expect(rt, "room");
     ask(rt.alloc(), seed, &Directives, &[line]).expect(rt, "a Dictionary")
 }
@@ -63,11 +64,11 @@ fn policies(rt: HostRuntime) {
     assert_eq!(rt; aged.lifetime(true), Some(60));
 }
 
-fn name_of(rt: &HostRuntime, name: &[u8]) -> HeaderName {
+fn name_of(rt: &(impl Abort + AllocGlobal), name: &[u8]) -> HeaderName {
     HeaderName::from_bytes(rt.alloc(), name).expect(rt, "a name")
 }
 
-fn headers_of(rt: &HostRuntime, fields: &[(&[u8], &[u8])]) -> HeaderMap {
+fn headers_of(rt: &(impl Abort + AllocGlobal), fields: &[(&[u8], &[u8])]) -> HeaderMap {
     let mut headers = HeaderMap::new(rt.alloc());
     for (name, value) in fields {
         let value = HeaderValue::from_bytes(rt.alloc(), value).expect(rt, "a value");
@@ -77,7 +78,7 @@ fn headers_of(rt: &HostRuntime, fields: &[(&[u8], &[u8])]) -> HeaderMap {
 }
 
 fn choice_of(
-    rt: &HostRuntime,
+    rt: &(impl Abort + AllocGlobal),
     seed: &RandomState,
     targets: &[&[u8]],
     fields: &[(&[u8], &[u8])],

@@ -10,13 +10,14 @@ use sf_write::{
     write_bare, write_field,
 };
 use std::hash::RandomState;
+use std::process::Abort;
 
-fn check(rt: &HostRuntime, field: Field, want: &str) {
+fn check(rt: &(impl Abort + AllocGlobal), field: Field, want: &str) {
     let text = to_text(rt.alloc(), &field).expect(rt, "room");
     assert_eq!(rt; text.as_slice(), want.as_bytes());
 }
 
-fn check_bare(rt: &HostRuntime, bare: Bare, want: &str) {
+fn check_bare(rt: &(impl Abort + AllocGlobal), bare: Bare, want: &str) {
     let text = bare_text(rt.alloc(), &bare).expect(rt, "room");
     assert_eq!(rt; text.as_slice(), want.as_bytes());
 }
@@ -24,7 +25,7 @@ fn check_bare(rt: &HostRuntime, bare: Bare, want: &str) {
 const EXAMPLE: &str = "a=(1 2);y=:YQ==:, b;x";
 
 // The Dictionary of that text, which has 21 bytes.
-fn example(rt: &HostRuntime, seed: &RandomState) -> Field {
+fn example(rt: &(impl Abort + AllocGlobal), seed: &RandomState) -> Field {
     dict(rt, seed, b"a", false)
 }
 
@@ -124,7 +125,7 @@ fn long_byte_sequences(rt: HostRuntime) {
 }
 
 // `1.5;q=?0;r=1`
-fn with_two_params(rt: &HostRuntime, seed: &RandomState) -> Field {
+fn with_two_params(rt: &(impl Abort + AllocGlobal), seed: &RandomState) -> Field {
     let item = item(rt, seed, decimal(rt, 1500), b"q", Bare::Boolean(false));
     let item = item.with_param(key(rt, b"r"), integer(rt, 1));
     item.expect(rt, "room").into()
@@ -139,19 +140,24 @@ fn items(rt: HostRuntime) {
 }
 
 // Two members that are Items with no parameters.
-fn two_items(rt: &HostRuntime, seed: &RandomState, first: Bare, second: Bare) -> Field {
+fn two_items(
+    rt: &(impl Abort + AllocGlobal),
+    seed: &RandomState,
+    first: Bare,
+    second: Bare,
+) -> Field {
     let second = plain(rt, seed, second).into();
     two(rt, plain(rt, seed, first).into(), second).into()
 }
 
 // `(a;b c)`
-fn two_tokens_inside(rt: &HostRuntime, seed: &RandomState) -> Inner {
+fn two_tokens_inside(rt: &(impl Abort + AllocGlobal), seed: &RandomState) -> Inner {
     let first = item(rt, seed, token(rt, b"a"), b"b", Bare::Boolean(true));
     both(rt, seed, first, plain(rt, seed, token(rt, b"c")))
 }
 
 // `(a;b c), (), "x, y"`
-fn members_of_both_forms(rt: &HostRuntime, seed: &RandomState) -> Field {
+fn members_of_both_forms(rt: &(impl Abort + AllocGlobal), seed: &RandomState) -> Field {
     let none = Inner::new(rt.alloc(), seed).into();
     let list = two(rt, two_tokens_inside(rt, seed).into(), none);
     let last = plain(rt, seed, text(rt, b"x, y")).into();
@@ -172,7 +178,7 @@ fn lists(rt: HostRuntime) {
 }
 
 // `a=?0, b, c;foo=bar`, whose last value was put in place of another.
-fn flags(rt: &HostRuntime, seed: &RandomState) -> Field {
+fn flags(rt: &(impl Abort + AllocGlobal), seed: &RandomState) -> Field {
     let mut dict = Dict::new(rt.alloc(), seed);
     for (key, value) in [
         (b"a".as_slice(), false),
@@ -200,13 +206,13 @@ struct Sent {
     answer: Result<u64, WriteFault>,
 }
 
-fn send(rt: &HostRuntime, field: &Field, fails_at: u64) -> Sent {
+fn send(rt: &(impl Abort + AllocGlobal), field: &Field, fails_at: u64) -> Sent {
     let mut sink = Trickle::new(rt.alloc(), fails_at);
     let answer = write_field(field, &mut sink);
     Sent { sink, answer }
 }
 
-fn check_whole(rt: &HostRuntime, sent: &Sent, want: &[u8]) {
+fn check_whole(rt: &impl Abort, sent: &Sent, want: &[u8]) {
     assert_eq!(rt; sent.answer, Ok(want.len() as u64));
     assert_eq!(rt; sent.sink.taken.as_slice(), want);
     assert_eq!(rt; sent.sink.failures, 0);
@@ -214,7 +220,7 @@ fn check_whole(rt: &HostRuntime, sent: &Sent, want: &[u8]) {
 }
 
 // One byte went out for each call before the one that failed, which was the last.
-fn check_front(rt: &HostRuntime, sent: &Sent, written: u64, want: &[u8]) {
+fn check_front(rt: &impl Abort, sent: &Sent, written: u64, want: &[u8]) {
     assert_eq!(rt; sent.answer, Err(WriteFault { written }), "after {written}");
     assert!(rt; written as usize <= want.len());
     assert_eq!(rt; sent.sink.taken.as_slice(), &want[..written as usize]);
@@ -278,7 +284,7 @@ fn faults_go_on(rt: HostRuntime) {
     assert_eq!(rt; (out.taken.as_slice(), out.calls), (b"a".as_slice(), 2));
 }
 
-fn check_string(rt: &HostRuntime, field: Field, want: &str) {
+fn check_string(rt: &(impl Abort + AllocGlobal), field: Field, want: &str) {
     let text = to_string(rt.alloc(), &field).expect(rt, "room");
     assert_eq!(rt; text.as_str(), want);
 }

@@ -1,9 +1,11 @@
 use crate::build::{integer, number_in, put, seed};
 use sf_value::{Bare, Entries};
+use std::hash::RandomState;
+use std::process::Abort;
 
 // `a` is put as 1, `b` as 2, and `a` again as 3.
-fn put_again(rt: &HostRuntime) -> Entries<Bare> {
-    let mut entries = Entries::new(rt.alloc(), &seed(rt));
+fn put_again(rt: &(impl Abort + AllocGlobal), seed: &RandomState) -> Entries<Bare> {
+    let mut entries = Entries::new(rt.alloc(), seed);
     for (key, value, old) in [
         (b"a".as_slice(), 1, None),
         (b"b".as_slice(), 2, None),
@@ -22,7 +24,7 @@ fn number_at(entries: &Entries<Bare>, index: usize, key: &[u8]) -> Option<i64> {
 
 #[test]
 fn a_later_value_takes_the_place(rt: HostRuntime) {
-    let entries = put_again(&rt);
+    let entries = put_again(&rt, &seed(&rt));
     assert_eq!(rt; entries.len(), 2);
     assert_eq!(rt; number_at(&entries, 0, b"a"), Some(3));
     assert_eq!(rt; number_at(&entries, 1, b"b"), Some(2));
@@ -31,7 +33,7 @@ fn a_later_value_takes_the_place(rt: HostRuntime) {
 
 #[test]
 fn entries_are_looked_up(rt: HostRuntime) {
-    let entries = put_again(&rt);
+    let entries = put_again(&rt, &seed(&rt));
     assert_eq!(rt; entries.get(b"b").and_then(number_in), Some(2));
     assert!(rt; entries.get(b"c").is_none() && entries.get(b"A").is_none());
     assert!(rt; entries.contains_key(b"a") && !entries.contains_key(b"c"));
@@ -41,11 +43,11 @@ fn entries_are_looked_up(rt: HostRuntime) {
 fn entries_may_be_none(rt: HostRuntime) {
     let entries = Entries::<Bare>::new(rt.alloc(), &seed(&rt));
     assert!(rt; entries.is_empty());
-    assert!(rt; !put_again(&rt).is_empty());
+    assert!(rt; !put_again(&rt, &seed(&rt)).is_empty());
 }
 
 // The key, and then `3` or `2`.
-fn list_entry(rt: &HostRuntime, listed: &mut Vec<u8>, key: &[u8], value: &Bare) {
+fn list_entry(rt: &impl Abort, listed: &mut Vec<u8>, key: &[u8], value: &Bare) {
     let digit = if number_in(value) == Some(3) {
         b'3'
     } else {
@@ -55,19 +57,19 @@ fn list_entry(rt: &HostRuntime, listed: &mut Vec<u8>, key: &[u8], value: &Bare) 
     listed.push(digit).expect(rt, "room");
 }
 
-fn list_by_iter(rt: &HostRuntime, listed: &mut Vec<u8>, entries: &Entries<Bare>) {
+fn list_by_iter(rt: &impl Abort, listed: &mut Vec<u8>, entries: &Entries<Bare>) {
     for (key, value) in entries.iter() {
         list_entry(rt, listed, key, value);
     }
 }
 
-fn list_by_reference(rt: &HostRuntime, listed: &mut Vec<u8>, entries: &Entries<Bare>) {
+fn list_by_reference(rt: &impl Abort, listed: &mut Vec<u8>, entries: &Entries<Bare>) {
     for (key, value) in entries {
         list_entry(rt, listed, key, value);
     }
 }
 
-fn list_by_value(rt: &HostRuntime, listed: &mut Vec<u8>, entries: Entries<Bare>) {
+fn list_by_value(rt: &impl Abort, listed: &mut Vec<u8>, entries: Entries<Bare>) {
     for (key, value) in entries {
         list_entry(rt, listed, key.as_bytes(), &value);
     }
@@ -76,7 +78,7 @@ fn list_by_value(rt: &HostRuntime, listed: &mut Vec<u8>, entries: Entries<Bare>)
 #[test]
 fn entries_are_iterated_in_order(rt: HostRuntime) {
     let mut listed = Vec::new(rt.alloc());
-    let entries = put_again(&rt);
+    let entries = put_again(&rt, &seed(&rt));
     list_by_iter(&rt, &mut listed, &entries);
     list_by_reference(&rt, &mut listed, &entries);
     list_by_value(&rt, &mut listed, entries);

@@ -1,7 +1,8 @@
 use sf_value::{Failed, OutOfMemory, OutOfRange, TextFault};
 use std::fmt::Display;
+use std::process::Abort;
 
-fn check_text_of(rt: &HostRuntime, fault: &(impl Display + Drop), text: &str) {
+fn check_text_of(rt: &(impl Abort + AllocGlobal), fault: &(impl Display + Drop), text: &str) {
     let shown = fault.to_string(rt.alloc()).expect(rt, "room");
     assert_eq!(rt; shown.as_str(), text);
 }

@@ -1,18 +1,24 @@
 use crate::build::{bare, dict, integer, item, list, plain, seed, token};
 use sf_value::{Dialect, Field, Item, Kind, List, Part, copy, same};
 use std::hash::RandomState;
+use std::process::Abort;
 
-fn bares_are_same(rt: &HostRuntime, seed: &RandomState, i: usize, j: usize) -> bool {
+fn bares_are_same(rt: &(impl Abort + AllocGlobal), seed: &RandomState, i: usize, j: usize) -> bool {
     let twin = bare(rt, j).copy(rt.alloc(), seed).expect(rt, "room");
     bare(rt, i).same(&twin)
 }
 
 // The Item `5` with a parameter of one of the eight types.
-fn five(rt: &HostRuntime, seed: &RandomState, i: usize) -> Item {
+fn five(rt: &(impl Abort + AllocGlobal), seed: &RandomState, i: usize) -> Item {
     item(rt, seed, integer(rt, 5), b"y", bare(rt, i))
 }
 
-fn params_are_same(rt: &HostRuntime, seed: &RandomState, i: usize, j: usize) -> bool {
+fn params_are_same(
+    rt: &(impl Abort + AllocGlobal),
+    seed: &RandomState,
+    i: usize,
+    j: usize,
+) -> bool {
     let twin = five(rt, seed, j).copy(rt.alloc(), seed).expect(rt, "room");
     five(rt, seed, i).same(&twin)
 }
@@ -30,7 +36,7 @@ fn types_count(rt: HostRuntime) {
     assert!(rt; Dialect::Rfc8941 != Dialect::Rfc9651);
 }
 
-fn is_copied(rt: &HostRuntime, seed: &RandomState, field: &Field) -> bool {
+fn is_copied(rt: &(impl Abort + AllocGlobal), seed: &RandomState, field: &Field) -> bool {
     let twin = copy(rt.alloc(), seed, field).expect(rt, "room");
     same(field, &twin)
 }
@@ -56,7 +62,7 @@ fn members_count(rt: HostRuntime) {
 }
 
 // The Item `a`.
-fn token_item(rt: &HostRuntime, seed: &RandomState) -> Item {
+fn token_item(rt: &(impl Abort + AllocGlobal), seed: &RandomState) -> Item {
     plain(rt, seed, token(rt, b"a"))
 }
 

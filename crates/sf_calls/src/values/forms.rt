@@ -3,9 +3,10 @@ use crate::build::{integer, key, number_in, put, seed};
 use sf_value::{Bare, Entries, Item, Member, Part};
 use std::hash::RandomState;
 use std::mem;
+use std::process::Abort;
 
 // The bytes of the key at a place. Every third is too long to stand in place.
-fn key_at(rt: &HostRuntime, place: u8) -> Vec<u8> {
+fn key_at(rt: &(impl Abort + AllocGlobal), place: u8) -> Vec<u8> {
     let mut key = Vec::from_slice(rt.alloc(), b"k").expect(rt, "room");
     key.push(b'a' + place % 26).expect(rt, "room");
     if place % 3 == 2 {
@@ -24,7 +25,12 @@ fn value_of(place: u8) -> i64 {
     }
 }
 
-fn put_at(rt: &HostRuntime, entries: &mut Entries<Bare>, place: u8, value: i64) -> Option<i64> {
+fn put_at(
+    rt: &(impl Abort + AllocGlobal),
+    entries: &mut Entries<Bare>,
+    place: u8,
+    value: i64,
+) -> Option<i64> {
     let key = key_at(rt, place);
     put(rt, entries, &key, integer(rt, value))
         .as_ref()
@@ -32,7 +38,7 @@ fn put_at(rt: &HostRuntime, entries: &mut Entries<Bare>, place: u8, value: i64) 
 }
 
 // Keys in order, and then every second of them once more.
-fn filled(rt: &HostRuntime, seed: &RandomState, count: u8) -> Entries<Bare> {
+fn filled(rt: &(impl Abort + AllocGlobal), seed: &RandomState, count: u8) -> Entries<Bare> {
     let mut entries = Entries::new(rt.alloc(), seed);
     for place in 0..count {
         assert_eq!(rt; put_at(rt, &mut entries, place, i64::from(place)), None);
@@ -46,7 +52,7 @@ fn filled(rt: &HostRuntime, seed: &RandomState, count: u8) -> Entries<Bare> {
     entries
 }
 
-fn look_up(rt: &HostRuntime, entries: &Entries<Bare>, count: u8) {
+fn look_up(rt: &(impl Abort + AllocGlobal), entries: &Entries<Bare>, count: u8) {
     assert_eq!(rt; entries.len(), usize::from(count));
     for place in 0..count {
         let key = key_at(rt, place);
@@ -60,7 +66,7 @@ fn look_up(rt: &HostRuntime, entries: &Entries<Bare>, count: u8) {
     assert!(rt; entries.get(&absent).is_none() && entries.at(usize::from(count)).is_none());
 }
 
-fn go_over(rt: &HostRuntime, entries: Entries<Bare>, count: u8) {
+fn go_over(rt: &(impl Abort + AllocGlobal), entries: Entries<Bare>, count: u8) {
     let mut place = 0;
     for (key, value) in &entries {
         assert_eq!(rt; key, key_at(rt, place).as_slice());
@@ -93,7 +99,12 @@ fn entries_of_each_count_are_the_same_pairs(rt: HostRuntime) {
 }
 
 // The keys in order with what each has at last, but for the one at a place.
-fn all_but(rt: &HostRuntime, seed: &RandomState, count: u8, left_out: Option<u8>) -> Entries<Bare> {
+fn all_but(
+    rt: &(impl Abort + AllocGlobal),
+    seed: &RandomState,
+    count: u8,
+    left_out: Option<u8>,
+) -> Entries<Bare> {
     let mut entries = Entries::new(rt.alloc(), seed);
     for place in 0..count {
         if Some(place) != left_out {
@@ -106,7 +117,7 @@ fn all_but(rt: &HostRuntime, seed: &RandomState, count: u8, left_out: Option<u8>
     entries
 }
 
-fn remove(rt: &HostRuntime, entries: &mut Entries<Bare>, place: u8) -> Option<i64> {
+fn remove(rt: &(impl Abort + AllocGlobal), entries: &mut Entries<Bare>, place: u8) -> Option<i64> {
     let key = key_at(rt, place);
     entries.remove(&key).as_ref().and_then(number_in)
 }
@@ -146,7 +157,7 @@ fn all_keys_are_taken_out_and_one_is_set(rt: HostRuntime) {
 }
 
 // Adds 1000 to what the key at a place has, and tells whether it has a value.
-fn raise(rt: &HostRuntime, entries: &mut Entries<Bare>, place: u8) -> bool {
+fn raise(rt: &(impl Abort + AllocGlobal), entries: &mut Entries<Bare>, place: u8) -> bool {
     let key = key_at(rt, place);
     match entries.get_mut(&key) {
         Some(value) => {
@@ -157,7 +168,7 @@ fn raise(rt: &HostRuntime, entries: &mut Entries<Bare>, place: u8) -> bool {
     }
 }
 
-fn look_up_raised(rt: &HostRuntime, entries: &Entries<Bare>, count: u8) {
+fn look_up_raised(rt: &(impl Abort + AllocGlobal), entries: &Entries<Bare>, count: u8) {
     for place in 0..count {
         let there = entries.at(usize::from(place));
         assert_eq!(rt; there.map(|e| e.0), Some(key_at(rt, place).as_slice()));

@@ -3,6 +3,7 @@ use crate::build;
 use crate::build::{bare, integer, key, seed, token, with};
 use sf_value::{Bare, Dict, Entries, Field, Inner, Int, Item, Key, List, Thousandths, Token};
 use std::hash::RandomState;
+use std::process::Abort;
 
 // Which of the eight look-ups of a bare item find something.
 fn found(bare: &Bare) -> [bool; 8] {
@@ -19,7 +20,7 @@ fn found(bare: &Bare) -> [bool; 8] {
 }
 
 // Which of the four that take the value out.
-fn taken(rt: &HostRuntime, index: usize) -> [bool; 4] {
+fn taken(rt: &(impl Abort + AllocGlobal), index: usize) -> [bool; 4] {
     [
         bare(rt, index).into_text().is_some(),
         bare(rt, index).into_token().is_some(),
@@ -41,12 +42,12 @@ fn bare_items_by_type(rt: HostRuntime) {
 }
 
 // The Item `a;q=1`.
-fn item(rt: &HostRuntime, seed: &RandomState) -> Item {
+fn item(rt: &(impl Abort + AllocGlobal), seed: &RandomState) -> Item {
     build::item(rt, seed, token(rt, b"a"), b"q", integer(rt, 1))
 }
 
 // The Inner List `(a;q=1);r`.
-fn inner(rt: &HostRuntime, seed: &RandomState) -> Inner {
+fn inner(rt: &(impl Abort + AllocGlobal), seed: &RandomState) -> Inner {
     let inner = Inner::new(rt.alloc(), seed).with_item(item(rt, seed));
     let inner = inner.expect(rt, "room");
     inner
@@ -55,7 +56,7 @@ fn inner(rt: &HostRuntime, seed: &RandomState) -> Inner {
 }
 
 // The Dictionary `b=a;q=1, c=(a;q=1);r`.
-fn dict(rt: &HostRuntime, seed: &RandomState) -> Dict {
+fn dict(rt: &(impl Abort + AllocGlobal), seed: &RandomState) -> Dict {
     let dict = Dict::new(rt.alloc(), seed);
     let dict = with(rt, dict, b"b", item(rt, seed).into());
     with(rt, dict, b"c", inner(rt, seed).into())

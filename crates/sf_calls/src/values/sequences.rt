@@ -1,5 +1,6 @@
 use crate::build::{integer, number_in, one_and_two, plain, seed};
 use sf_value::{Item, Part, Sequence};
+use std::process::Abort;
 
 #[test]
 fn sequences_are_copied(rt: HostRuntime) {
@@ -63,7 +64,7 @@ fn sequences_are_vecs(rt: HostRuntime) {
     assert_eq!(rt; items.into_vec().len(), 2);
 }
 
-fn letters(rt: &HostRuntime, bytes: &[u8]) -> Sequence<u8> {
+fn letters(rt: &(impl Abort + AllocGlobal), bytes: &[u8]) -> Sequence<u8> {
     Sequence::from_vec(Vec::from_slice(rt.alloc(), bytes).expect(rt, "room"))
 }
 
