@@ -1,6 +1,7 @@
 -- What joining the lines of a field does, one after another.
 use Rattle.std.specs.Prelude.{◌≡◌, ℕ, ◌+◌, ◌<◌, ◌≤◌, ◌↔◌, ◌==◌, if◌then◌else◌}
 use Rattle.std.specs.Prelude.{List, [], ◌∷◌, ◌++◌, length, take, drop, Option, Some}
+use Rattle.sf_value.specs.Ascii.{comma, space}
 use Rattle.sf_value.specs.Devices.{capped}
 use Rattle.sf_value.specs.Grammar.Lines.{join}
 use Rattle.sf_c.specs.declared.joining.Joined.{Joined}
@@ -14,7 +15,7 @@ pub record JoinRoom : Type 0 where
 
 -- nothing stands before the first line, and a comma and a space before each other one
 abbrev pub separator_of : Joined → List ℕ
-separator_of j = if j.begun == 0 then [] else 44 ∷ 32 ∷ []
+separator_of j = if j.begun == 0 then [] else comma ∷ space ∷ []
 
 -- what a line adds to the text
 abbrev pub added : Joined → List ℕ → List ℕ

@@ -1,6 +1,5 @@
 //! The hops of a path (RFC 9211 section 2) as flat structs.
 ghost use Rattle.std.specs.Prelude.{◌≡◌, ◌≤◌, ◌++◌, [], ◌∷◌, pos, length, map, unwrap_or, IfOk};
-ghost use Rattle.std.specs.Option.{option_and_then};
 ghost use Rattle.sf_use.specs.CacheStatus.Members.{passed_by};
 ghost use Rattle.sf_c.specs.Hops.{bytes_of, detail_bytes, hops_size, is_token, told_hop};
 ghost use Rattle.sf_c.specs.Hops.{detail_is_token, outcome_number, says_by, says_of};
@@ -66,6 +65,76 @@ pub struct HopNode {
     pub name_is_token: u8,
     /// 1 where `detail` is a Token, else 0.
     pub detail_is_token: u8,
+}
+
+// The structs of hops, and the bytes that they point into. Contracts see what the structs tell.
+#[derive(Drop)]
+pub(crate) struct FlatPath {
+    hops: Vec<HopNode>,
+    bytes: Vec<u8>,
+}
+
+impl Model for FlatPath {
+    ghost use Rattle.std.specs.Prelude.{List, map};
+    ghost use Rattle.sf_c.specs.Hops.{ToldHop, told_hop_by, HopsHoldUp};
+
+    ghost Value = { List ToldHop };
+
+    ghost view = { λ f. map (told_hop_by f.bytes.items) f.hops.items };
+
+    ghost invariant = { λ f. HopsHoldUp f.bytes.items f.hops.items };
+}
+
+impl FlatPath {
+    // No hops.
+    fn new(alloc: Global) -> FlatPath
+        ensures { result ≡ [] }
+    {
+        FlatPath {
+            hops: Vec::new(alloc),
+            bytes: Vec::new(alloc),
+        }
+    }
+
+    // How many hops there are.
+    pub(crate) fn count(&self) -> usize
+        ensures { result ≡ length self.now }
+    {
+        self.hops.as_slice().len()
+    }
+
+    // How many bytes they have.
+    pub(crate) fn size(&self) -> usize
+        ensures { result ≡ hops_size self.now }
+    {
+        self.bytes.as_slice().len()
+    }
+
+    // Puts the hops and the bytes at the fronts of rooms that are long enough.
+    pub(crate) fn write(&self, hops: &mut [HopNode], bytes: &mut [u8])
+        requires hops { length self.now ≤ length hops.old }
+        requires bytes { hops_size self.now ≤ length bytes.old }
+        ensures { HopsAtFront self.now hops.old hops.new bytes.old bytes.new }
+    {
+        put(hops, 0, self.hops.as_slice());
+        put(bytes, 0, self.bytes.as_slice());
+    }
+
+    // One more hop.
+    fn with(self, hop: &Hop) -> Result<FlatPath, OutOfMemory>
+        ensures { IfOk result (λ path. path ≡ self ++ told_hop hop.now ∷ []) }
+    {
+        let FlatPath {
+            mut hops,
+            mut bytes,
+        } = self;
+        let name = put_piece(&mut bytes, bytes_of(&hop.name))?;
+        let why = put_piece(&mut bytes, why_token(&hop.outcome))?;
+        let key = put_piece(&mut bytes, key_bytes(&hop.key))?;
+        let detail = put_piece(&mut bytes, detail_bytes(&hop.detail))?;
+        hops.push(node_of(hop, name, why, key, detail))?;
+        Ok(FlatPath { hops, bytes })
+    }
 }
 
 // A text behind the bytes.
@@ -167,24 +236,6 @@ fn why_number(outcome: &Outcome) -> u16
     }
 }
 
-fn status_of(outcome: &Outcome) -> Option<HopStatus>
-    ensures { result ≡ option_and_then (λ p. p.status) (passed_by outcome.now) }
-{
-    outcome.passed()?.status
-}
-
-fn stored_of(outcome: &Outcome) -> Option<bool>
-    ensures { result ≡ option_and_then (λ p. p.stored) (passed_by outcome.now) }
-{
-    outcome.passed()?.stored
-}
-
-fn collapsed_of(outcome: &Outcome) -> Option<bool>
-    ensures { result ≡ option_and_then (λ p. p.collapsed) (passed_by outcome.now) }
-{
-    outcome.passed()?.collapsed
-}
-
 fn code_of(status: Option<HopStatus>) -> u16
     ensures { result ≡ unwrap_or status 0 }
 {
@@ -211,9 +262,9 @@ fn node_of(hop: &Hop, name: Piece, why_token: Piece, key: Piece, detail: Piece) 
     ensures detail { result.detail ≡ detail }
     ensures says { says_by result ≡ says_of hop.now }
 {
-    let status = status_of(&hop.outcome);
-    let stored = stored_of(&hop.outcome);
-    let collapsed = collapsed_of(&hop.outcome);
+    let status = hop.outcome.status();
+    let stored = hop.outcome.stored();
+    let collapsed = hop.outcome.collapsed();
     HopNode {
         name,
         why_token,
@@ -233,76 +284,6 @@ fn node_of(hop: &Hop, name: Piece, why_token: Piece, key: Piece, detail: Piece) 
         says_detail: u8::from(hop.detail.is_some()),
         name_is_token: u8::from(is_token(&hop.name)),
         detail_is_token: u8::from(detail_is_token(&hop.detail)),
-    }
-}
-
-// The structs of hops, and the bytes that they point into. Contracts see what the structs tell.
-#[derive(Drop)]
-pub(crate) struct FlatPath {
-    hops: Vec<HopNode>,
-    bytes: Vec<u8>,
-}
-
-impl Model for FlatPath {
-    ghost use Rattle.std.specs.Prelude.{List, map};
-    ghost use Rattle.sf_c.specs.Hops.{ToldHop, told_hop_by, HopsHoldUp};
-
-    ghost Value = { List ToldHop };
-
-    ghost view = { λ f. map (told_hop_by f.bytes.items) f.hops.items };
-
-    ghost invariant = { λ f. HopsHoldUp f.bytes.items f.hops.items };
-}
-
-impl FlatPath {
-    // No hops.
-    fn new(alloc: Global) -> FlatPath
-        ensures { result ≡ [] }
-    {
-        FlatPath {
-            hops: Vec::new(alloc),
-            bytes: Vec::new(alloc),
-        }
-    }
-
-    // How many hops there are.
-    pub(crate) fn count(&self) -> usize
-        ensures { result ≡ length self.now }
-    {
-        self.hops.as_slice().len()
-    }
-
-    // How many bytes they have.
-    pub(crate) fn size(&self) -> usize
-        ensures { result ≡ hops_size self.now }
-    {
-        self.bytes.as_slice().len()
-    }
-
-    // Puts the hops and the bytes at the fronts of rooms that are long enough.
-    pub(crate) fn write(&self, hops: &mut [HopNode], bytes: &mut [u8])
-        requires hops { length self.now ≤ length hops.old }
-        requires bytes { hops_size self.now ≤ length bytes.old }
-        ensures { HopsAtFront self.now hops.old hops.new bytes.old bytes.new }
-    {
-        put(hops, 0, self.hops.as_slice());
-        put(bytes, 0, self.bytes.as_slice());
-    }
-
-    // One more hop.
-    fn with(self, hop: &Hop) -> Result<FlatPath, OutOfMemory>
-        ensures { IfOk result (λ path. path ≡ self ++ told_hop hop.now ∷ []) }
-    {
-        let FlatPath {
-            mut hops,
-            mut bytes,
-        } = self;
-        let name = put_piece(&mut bytes, bytes_of(&hop.name))?;
-        let why = put_piece(&mut bytes, why_token(&hop.outcome))?;
-        let key = put_piece(&mut bytes, key_bytes(&hop.key))?;
-        let detail = put_piece(&mut bytes, detail_bytes(&hop.detail))?;
-        hops.push(node_of(hop, name, why, key, detail))?;
-        Ok(FlatPath { hops, bytes })
     }
 }
 

@@ -51,6 +51,15 @@ pub(crate) struct Flat {
     bytes: Vec<u8>,
 }
 
+// What a node of its own says, without its key and its bytes.
+#[derive(Clone, Copy)]
+struct Part {
+    role: u32,
+    sort: u32,
+    number: i64,
+    span: usize,
+}
+
 impl Model for Flat {
     ghost use Rattle.std.specs.Prelude.{List, map};
     ghost use Rattle.sf_c.specs.Tellings.{Told, told_by, HoldsUp};
@@ -60,31 +69,6 @@ impl Model for Flat {
     ghost view = { λ f. map (told_by f.bytes.items) f.nodes.items };
 
     ghost invariant = { λ f. HoldsUp f.bytes.items f.nodes.items };
-}
-
-// A key and a text behind the bytes; or these as they were.
-fn extend(bytes: &mut Vec<u8>, key: &[u8], text: &[u8]) -> Result<(), OutOfMemory>
-    ensures { MatchResult result (λ _. bytes.new.items ≡ (bytes.old.items ++ key.now) ++ text.now)
-        (λ _. bytes.new.items ≡ bytes.old.items) }
-{
-    let length = bytes.as_slice().len();
-    if bytes.extend_from_slice(key).is_err() {
-        return Err(OutOfMemory);
-    }
-    if bytes.extend_from_slice(text).is_err() {
-        bytes.truncate(length);
-        return Err(OutOfMemory);
-    }
-    Ok(())
-}
-
-// What a node of its own says, without its key and its bytes.
-#[derive(Clone, Copy)]
-struct Part {
-    role: u32,
-    sort: u32,
-    number: i64,
-    span: usize,
 }
 
 impl Flat {
@@ -149,6 +133,22 @@ impl Flat {
         }
         Ok(())
     }
+}
+
+// A key and a text behind the bytes; or these as they were.
+fn extend(bytes: &mut Vec<u8>, key: &[u8], text: &[u8]) -> Result<(), OutOfMemory>
+    ensures { MatchResult result (λ _. bytes.new.items ≡ (bytes.old.items ++ key.now) ++ text.now)
+        (λ _. bytes.new.items ≡ bytes.old.items) }
+{
+    let length = bytes.as_slice().len();
+    if bytes.extend_from_slice(key).is_err() {
+        return Err(OutOfMemory);
+    }
+    if bytes.extend_from_slice(text).is_err() {
+        bytes.truncate(length);
+        return Err(OutOfMemory);
+    }
+    Ok(())
 }
 
 // A number, in the place of its bytes.
@@ -241,20 +241,14 @@ fn push_params(flat: &mut Flat, params: &Entries<Bare>) -> Result<(), OutOfMemor
 fn add(count: usize, more: usize) -> Result<usize, OutOfMemory>
     ensures { IfOk result (λ n. n ≡ count + more) }
 {
-    match count.checked_add(more) {
-        Some(n) => Ok(n),
-        None => Err(OutOfMemory),
-    }
+    count.checked_add(more).ok_or(OutOfMemory)
 }
 
 // How many nodes there are with one more.
 fn one_more(count: usize) -> Result<usize, OutOfMemory>
     ensures { IfOk result (λ n. n ≡ 1 + count) }
 {
-    match count.checked_add(1) {
-        Some(n) => Ok(n),
-        None => Err(OutOfMemory),
-    }
+    count.checked_add(1).ok_or(OutOfMemory)
 }
 
 // An Item.

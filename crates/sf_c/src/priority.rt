@@ -59,10 +59,7 @@ fn urgency_of(says: u8, urgency: u8) -> Option<Urgency>
     if says == 0 {
         return None;
     }
-    match Urgency::new(urgency) {
-        Ok(urgency) => Some(urgency),
-        Err(_) => None,
-    }
+    Urgency::new(urgency).ok()
 }
 
 // A flag that is said.

@@ -1,52 +1,39 @@
 //! Hops read from texts and written again. What is expected comes from RFC 9211: its sections 2 and
 //! 4, and what they say of parameters of other types.
+use crate::build::seed;
 use sf_field::{AskFault, Consumer, UseFault, ask};
-use sf_parse::{Refusal, parse_text};
+use sf_parse::{Refusal, parse_list};
 use sf_use::{CachePath, CacheStatus, Forward, Hop, HopStatus, Name, Outcome, Passed, append_hop};
-use sf_value::{Blob, Field, Kind, List, OutOfMemory, OutOfRange, Sequence, Token};
+use sf_value::{Blob, List, OutOfRange, Token};
 use sf_write::to_text;
-use std::alloc::Global;
 use std::hash::RandomState;
-use std::test::Fail;
+use std::process::Abort;
 
-fn read(alloc: Global, seed: &RandomState, text: &str) -> Result<CachePath, AskFault> {
-    let mut lines = Vec::new(alloc);
-    let Ok(line) = Blob::new(alloc, text.as_bytes()) else {
-        return Err(AskFault::Field(Refusal::OutOfMemory));
-    };
-    match lines.push(line) {
-        Ok(()) => ask(alloc, seed, &CacheStatus, lines.as_slice()),
-        Err(_) => Err(AskFault::Field(Refusal::OutOfMemory)),
-    }
+fn read(
+    rt: &(impl Abort + AllocGlobal),
+    seed: &RandomState,
+    text: &str,
+) -> Result<CachePath, AskFault> {
+    let line = Blob::new(rt.alloc(), text.as_bytes()).expect(rt, "room");
+    ask(rt.alloc(), seed, &CacheStatus, &[line])
 }
 
 // The text of the members that are appended for the hops.
-fn written(alloc: Global, seed: &RandomState, hops: &[Hop]) -> Result<Vec<u8>, OutOfMemory> {
-    let mut list = List {
-        members: Sequence::new(alloc),
-    };
+fn written(rt: &(impl Abort + AllocGlobal), seed: &RandomState, hops: &[Hop]) -> Vec<u8> {
+    let mut list = List::new(rt.alloc());
     for hop in hops {
-        append_hop(alloc, seed, &mut list, hop)?;
+        append_hop(rt.alloc(), seed, &mut list, hop).expect(rt, "room");
     }
-    to_text(alloc, &Field::List(list))
+    text_of(rt, list)
 }
 
-// The member that served, of a text, and the text of the members that are appended for its hops.
-fn read_and_written(
-    alloc: Global,
-    seed: &RandomState,
-    text: &str,
-) -> Result<(Option<usize>, Vec<u8>), Fail> {
-    match read(alloc, seed, text) {
-        Ok(path) => Ok((path.served_by(), written(alloc, seed, path.hops())?)),
-        Err(_) => Err(Fail::from("refused")),
-    }
+fn text_of(rt: &(impl Abort + AllocGlobal), list: List) -> Vec<u8> {
+    to_text(rt.alloc(), &list.into()).expect(rt, "room")
 }
 
 #[test]
-fn reads_and_writes(rt: HostRuntime) -> Result<(), Fail> {
-    let alloc = rt.alloc();
-    let seed = RandomState::new(&rt)?;
+fn reads_and_writes(rt: HostRuntime) {
+    let seed = seed(&rt);
     for (text, want, served) in [
         ("", "", None),
         ("ExampleCache; hit", "ExampleCache;hit", Some(0)),
@@ -96,39 +83,30 @@ fn reads_and_writes(rt: HostRuntime) -> Result<(), Fail> {
             None,
         ),
     ] {
-        let (by, again) = read_and_written(alloc, &seed, text)?;
-        assert_eq!(rt; by, served, "served by, of {text}");
+        let path = read(&rt, &seed, text).expect(&rt, "a List of caches");
+        assert_eq!(rt; path.served_by(), served, "served by, of {text}");
+        let again = written(&rt, &seed, path.hops());
         assert_eq!(rt; again.as_slice(), want.as_bytes(), "written, of {text}");
     }
-    Ok(())
 }
 
 #[test]
-fn refuses(rt: HostRuntime) -> Result<(), Fail> {
-    let alloc = rt.alloc();
-    let seed = RandomState::new(&rt)?;
+fn refuses(rt: HostRuntime) {
+    let seed = seed(&rt);
     for (text, want) in [("7;hit", 0), ("a, (b), 7", 1), ("a, \"b\", :YQ==:, ()", 2)] {
-        match read(alloc, &seed, text) {
-            Ok(_) => return Err(Fail::from("accepted")),
-            Err(fault) => {
-                let want = AskFault::Answer(UseFault::NotACache { index: want });
-                assert_eq!(rt; fault, want, "of {text}");
-            }
-        }
+        let want = AskFault::Answer(UseFault::NotACache { index: want });
+        assert_eq!(rt; read(&rt, &seed, text).err(), Some(want), "of {text}");
     }
-    match read(alloc, &seed, "(a") {
-        Err(
-            AskFault::Field(
-                Refusal::Syntax {
-                    place: 2,
-                    found: None,
-                    expected: _,
-                    may_end: false,
-                },
-            ),
-        ) => Ok(()),
-        _ => Err(Fail::from("another answer")),
-    }
+    let refused = matches!(
+        read(&rt, &seed, "(a"),
+        Err(AskFault::Field(Refusal::Syntax {
+            place: 2,
+            found: None,
+            may_end: false,
+            ..
+        }))
+    );
+    assert!(rt; refused);
 }
 
 fn reason_of(outcome: &Outcome) -> &str {
@@ -149,8 +127,8 @@ fn reason_of(outcome: &Outcome) -> &str {
 }
 
 #[test]
-fn tells_reasons(rt: HostRuntime) -> Result<(), Fail> {
-    let seed = RandomState::new(&rt)?;
+fn tells_reasons(rt: HostRuntime) {
+    let seed = seed(&rt);
     for (text, want) in [
         ("a;fwd=bypass", "bypass"),
         ("b;fwd=method", "method"),
@@ -164,30 +142,16 @@ fn tells_reasons(rt: HostRuntime) -> Result<(), Fail> {
         ("j;fwd=\"miss\"", "none"),
         ("k;hit", "none"),
     ] {
-        match read(rt.alloc(), &seed, text) {
-            Ok(path) => {
-                assert_eq!(rt; path.hops().len(), 1, "hops of {text}");
-                for hop in path.hops() {
-                    assert_eq!(rt; reason_of(&hop.outcome), want, "of {text}");
-                }
-            }
-            Err(_) => return Err(Fail::from("refused")),
+        let path = read(&rt, &seed, text).expect(&rt, "a List of caches");
+        assert_eq!(rt; path.hops().len(), 1, "hops of {text}");
+        for hop in path.hops() {
+            assert_eq!(rt; reason_of(&hop.outcome), want, "of {text}");
         }
     }
-    Ok(())
 }
 
-// The List of the path of two caches that RFC 9211 shows.
-fn two_caches(alloc: Global, seed: &RandomState) -> Result<List, Fail> {
-    let text = b"OriginCache; hit; ttl=1100, \"CDN Company Here\"; hit; ttl=545";
-    match parse_text(alloc, seed, Kind::List, text) {
-        Ok(Field::List(list)) => Ok(list),
-        _ => Err(Fail::from("refused")),
-    }
-}
-
-fn token_name(alloc: Global, text: &[u8]) -> Result<Name, Fail> {
-    Ok(Name::Token(Token::new(alloc, text)?))
+fn token_name(rt: &(impl Abort + AllocGlobal), text: &[u8]) -> Name {
+    Name::Token(Token::new(rt.alloc(), text).expect(rt, "a Token"))
 }
 
 fn stale_hop(name: Name, detail: Name, status: HopStatus) -> Hop {
@@ -206,52 +170,40 @@ fn stale_hop(name: Name, detail: Name, status: HopStatus) -> Hop {
     }
 }
 
-fn edge_hop(alloc: Global) -> Result<Hop, Fail> {
-    let status = HopStatus::new(304)?;
-    let edge = token_name(alloc, b"edge")?;
-    Ok(stale_hop(edge, token_name(alloc, b"x")?, status))
-}
-
-// The List of the two caches with the edge behind them.
-fn with_edge(alloc: Global, seed: &RandomState) -> Result<List, Fail> {
-    let mut list = two_caches(alloc, seed)?;
-    append_hop(alloc, seed, &mut list, &edge_hop(alloc)?)?;
-    Ok(list)
+// The List of the path of two caches that RFC 9211 shows, with a third one behind them.
+fn with_edge(rt: &(impl Abort + AllocGlobal), seed: &RandomState) -> List {
+    let text = b"OriginCache; hit; ttl=1100, \"CDN Company Here\"; hit; ttl=545";
+    let mut list = parse_list(rt.alloc(), seed, text).expect(rt, "a List");
+    let status = HopStatus::new(304).expect(rt, "a status");
+    let hop = stale_hop(token_name(rt, b"edge"), token_name(rt, b"x"), status);
+    append_hop(rt.alloc(), seed, &mut list, &hop).expect(rt, "room");
+    list
 }
 
 #[test]
-fn appends(rt: HostRuntime) -> Result<(), Fail> {
-    let seed = RandomState::new(&rt)?;
-    let list = with_edge(rt.alloc(), &seed)?;
-    let text = to_text(rt.alloc(), &Field::List(list))?;
+fn appends(rt: HostRuntime) {
+    let text = text_of(&rt, with_edge(&rt, &seed(&rt)));
     let want = "OriginCache;hit;ttl=1100, \"CDN Company Here\";hit;ttl=545, \
                 edge;fwd=stale;fwd-status=304;stored;detail=x";
     assert_eq!(rt; text.as_slice(), want.as_bytes());
-    Ok(())
-}
-
-fn served(alloc: Global, list: List) -> Option<usize> {
-    let path = CacheStatus.answer(alloc, &Field::List(list)).ok()?;
-    path.served_by()
 }
 
 #[test]
-fn appended_reads_back(rt: HostRuntime) -> Result<(), Fail> {
-    let seed = RandomState::new(&rt)?;
-    let list = with_edge(rt.alloc(), &seed)?;
-    assert_eq!(rt; served(rt.alloc(), list), Some(1));
-    Ok(())
+fn appended_reads_back(rt: HostRuntime) {
+    let field = with_edge(&rt, &seed(&rt)).into();
+    let path = CacheStatus.answer(rt.alloc(), &field);
+    assert_eq!(rt; path.expect(&rt, "a path").served_by(), Some(1));
 }
 
 #[test]
 fn statuses(rt: HostRuntime) {
     for (code, want) in [
-        (99, Err(OutOfRange)),
+        (99u16, Err(OutOfRange)),
         (100, Ok(100)),
         (999, Ok(999)),
         (1000, Err(OutOfRange)),
     ] {
-        let got = HopStatus::new(code).map(|status| status.get());
-        assert_eq!(rt; got, want);
+        assert_eq!(rt; HopStatus::new(code).map(|status| status.get()), want);
+        assert_eq!(rt; HopStatus::try_from(code).map(|status| status.get()), want);
     }
 }

@@ -7,6 +7,8 @@
 #![tactic(auto)]
 
 #[cfg(test)]
+mod build;
+#[cfg(test)]
 mod cache_status;
 #[cfg(test)]
 mod lines;

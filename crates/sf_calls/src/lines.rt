@@ -1,4 +1,5 @@
 //! Lines and header maps with their answers.
+use crate::build::seed;
 use http_header::{HeaderMap, HeaderName, HeaderValue};
 use sf_field::{
     from_headers, header_value, normalise_lines, parse_dict_lines, parse_item_lines, parse_lines,
@@ -7,17 +8,15 @@ use sf_field::{
 use sf_parse::{Parser, Refusal, parse_dict, parse_item, parse_list, parse_text};
 use sf_value::{Blob, Dialect, Field, Kind};
 use sf_write::to_text;
-use std::alloc::Global;
-use std::hash::RandomState;
 use std::process::Abort;
-use std::test::Fail;
 
-fn lines_of(alloc: Global, lines: &[&[u8]]) -> Result<Vec<Blob>, Fail> {
-    let mut blobs = Vec::new(alloc);
+fn lines_of(rt: &(impl Abort + AllocGlobal), lines: &[&[u8]]) -> Vec<Blob> {
+    let mut blobs = Vec::new(rt.alloc());
     for line in lines {
-        blobs.push(Blob::new(alloc, line)?)?;
+        let line = Blob::new(rt.alloc(), line).expect(rt, "room");
+        blobs.push(line).expect(rt, "room");
     }
-    Ok(blobs)
+    blobs
 }
 
 // The bits of these bytes and of those from first to last.
@@ -49,85 +48,44 @@ fn ended(place: u64, expected: u128) -> Refusal {
     }
 }
 
-fn text_of(alloc: Global, field: Field) -> Result<Vec<u8>, Refusal> {
-    let text = to_text(alloc, &field);
-    drop(field);
-    match text {
-        Ok(text) => Ok(text),
-        Err(_) => Err(Refusal::OutOfMemory),
+fn text_of(
+    rt: &(impl Abort + AllocGlobal),
+    field: Result<Field, Refusal>,
+) -> Result<Vec<u8>, Refusal> {
+    match field {
+        Ok(field) => Ok(to_text(rt.alloc(), &field).expect(rt, "room")),
+        Err(refusal) => Err(refusal),
     }
 }
 
 fn check(
-    rt: &impl Abort,
+    rt: &(impl Abort + AllocGlobal),
     answer: Result<Vec<u8>, Refusal>,
     want: Result<&str, Refusal>,
-) -> Result<(), Fail> {
-    match (answer, want) {
-        (Ok(text), Ok(want)) => assert_eq!(rt; text.as_slice(), want.as_bytes()),
-        (Err(refusal), Err(want)) => assert_eq!(rt; refusal, want),
-        _ => return Err(Fail::from("another answer")),
-    }
-    Ok(())
-}
-
-// The canonical text of what the lines spell in a dialect.
-fn spelled(
-    alloc: Global,
-    seed: &RandomState,
-    dialect: Dialect,
-    kind: Kind,
-    lines: &[Blob],
-) -> Result<Vec<u8>, Refusal> {
-    text_of(alloc, parse_lines_in(alloc, seed, dialect, kind, lines)?)
-}
-
-// The canonical text of what the lines spell.
-fn spelled_now(
-    alloc: Global,
-    seed: &RandomState,
-    kind: Kind,
-    lines: &[Blob],
-) -> Result<Vec<u8>, Refusal> {
-    text_of(alloc, parse_lines(alloc, seed, kind, lines)?)
-}
-
-// The canonical text of what the values of `priority` spell, or `absent`.
-fn spelled_under(
-    alloc: Global,
-    seed: &RandomState,
-    headers: &HeaderMap,
-) -> Result<Vec<u8>, Refusal> {
-    let priority = HeaderName::from_static("priority");
-    match from_headers(alloc, seed, Kind::Dict, headers, &priority)? {
-        Some(field) => text_of(alloc, field),
-        None => match Vec::from_slice(alloc, b"absent") {
-            Ok(text) => Ok(text),
-            Err(_) => Err(Refusal::OutOfMemory),
-        },
+) {
+    match answer {
+        Ok(text) => assert_eq!(rt; Ok(text.as_slice()), want.map(|want| want.as_bytes())),
+        Err(refusal) => assert_eq!(rt; Some(refusal), want.err()),
     }
 }
 
 // The values of the name behind a header of another name.
-fn headers_of(alloc: Global, name: &[u8], values: &[&[u8]]) -> Result<HeaderMap, Fail> {
-    let mut headers = HeaderMap::new(alloc);
-    headers.append(
-        HeaderName::from_static("server"),
-        HeaderValue::from_static("x"),
-    )?;
+fn headers_of(rt: &(impl Abort + AllocGlobal), name: &[u8], values: &[&[u8]]) -> HeaderMap {
+    let mut headers = HeaderMap::new(rt.alloc());
+    let server = HeaderName::from_static("server");
+    let first = HeaderValue::from_static("x");
+    headers.append(server, first).expect(rt, "room");
     for value in values {
-        headers.append(
-            HeaderName::from_bytes(alloc, name)?,
-            HeaderValue::from_bytes(alloc, value)?,
-        )?;
+        let name = HeaderName::from_bytes(rt.alloc(), name).expect(rt, "a name");
+        let value = HeaderValue::from_bytes(rt.alloc(), value).expect(rt, "a value");
+        headers.append(name, value).expect(rt, "room");
     }
-    Ok(headers)
+    headers
 }
 
 #[test]
-fn normal_texts(rt: HostRuntime) -> Result<(), Fail> {
-    let alloc = rt.alloc();
-    let seed = RandomState::new(&rt)?;
+fn normal_texts(rt: HostRuntime) {
+    let seed = seed(&rt);
     for (kind, lines, want) in [
         (
             Kind::List,
@@ -141,20 +99,14 @@ fn normal_texts(rt: HostRuntime) -> Result<(), Fail> {
         (Kind::List, &[b":YQ:,:YQ:"], Ok(":YQ==:, :YQ==:")),
         (Kind::List, &[b"a", b"b;x=?1", b"( c  )"], Ok("a, b;x, (c)")),
     ] {
-        let lines = lines_of(alloc, lines)?;
-        check(
-            &rt,
-            normalise_lines(alloc, &seed, kind, lines.as_slice()),
-            want,
-        )?;
+        let lines = lines_of(&rt, lines);
+        check(&rt, normalise_lines(rt.alloc(), &seed, kind, &lines), want);
     }
-    Ok(())
 }
 
 #[test]
-fn parses_lines(rt: HostRuntime) -> Result<(), Fail> {
-    let alloc = rt.alloc();
-    let seed = RandomState::new(&rt)?;
+fn parses_lines(rt: HostRuntime) {
+    let seed = seed(&rt);
     let refusal = Refusal::Syntax {
         place: 1,
         found: Some(b','),
@@ -169,17 +121,15 @@ fn parses_lines(rt: HostRuntime) -> Result<(), Fail> {
         ),
         (Kind::Item, &[b"1", b"2"], Err(refusal)),
     ] {
-        let lines = lines_of(alloc, lines)?;
-        check(&rt, spelled_now(alloc, &seed, kind, lines.as_slice()), want)?;
+        let field = parse_lines(rt.alloc(), &seed, kind, &lines_of(&rt, lines));
+        check(&rt, text_of(&rt, field), want);
     }
-    Ok(())
 }
 
 #[test]
-fn parses_lines_in_a_dialect(rt: HostRuntime) -> Result<(), Fail> {
-    let alloc = rt.alloc();
-    let seed = RandomState::new(&rt)?;
-    let lines = lines_of(alloc, &[b"@1"])?;
+fn parses_lines_in_a_dialect(rt: HostRuntime) {
+    let seed = seed(&rt);
+    let lines = lines_of(&rt, &[b"@1"]);
     let refusal = Refusal::Syntax {
         place: 0,
         found: Some(b'@'),
@@ -190,100 +140,96 @@ fn parses_lines_in_a_dialect(rt: HostRuntime) -> Result<(), Fail> {
         (Dialect::Rfc9651, Ok("@1")),
         (Dialect::Rfc8941, Err(refusal)),
     ] {
-        let text = spelled(alloc, &seed, dialect, Kind::Item, lines.as_slice());
-        check(&rt, text, want)?;
+        let field = parse_lines_in(rt.alloc(), &seed, dialect, Kind::Item, &lines);
+        check(&rt, text_of(&rt, field), want);
     }
-    Ok(())
 }
 
 #[test]
-fn parses_header_maps(rt: HostRuntime) -> Result<(), Fail> {
-    let alloc = rt.alloc();
-    let seed = RandomState::new(&rt)?;
+fn parses_header_maps(rt: HostRuntime) {
+    let seed = seed(&rt);
+    let priority = HeaderName::from_static("priority");
     let refusal = ended(5, bytes(b"\t *", &[(b'a', b'z')]));
-    for (name, values, want) in [
-        (
-            b"priority".as_slice(),
-            [b"u=1".as_slice(), b"i"],
-            Ok("u=1, i"),
-        ),
-        (b"priority", [b"u=1", b""], Err(refusal)),
-        (b"age", [b"1", b"2"], Ok("absent")),
+    for (values, want) in [
+        ([b"u=1".as_slice(), b"i"], Ok("u=1, i")),
+        ([b"u=1", b""], Err(refusal)),
     ] {
-        let headers = headers_of(alloc, name, &values)?;
-        check(&rt, spelled_under(alloc, &seed, &headers), want)?;
+        let headers = headers_of(&rt, b"priority", &values);
+        let found = match from_headers(rt.alloc(), &seed, Kind::Dict, &headers, &priority) {
+            Ok(field) => Ok(field.expect(&rt, "a field")),
+            Err(refusal) => Err(refusal),
+        };
+        check(&rt, text_of(&rt, found), want);
     }
-    Ok(())
+    let headers = headers_of(&rt, b"age", &[b"1", b"2"]);
+    let absent = from_headers(rt.alloc(), &seed, Kind::Dict, &headers, &priority);
+    assert!(rt; absent.expect(&rt, "no refusal").is_none());
 }
 
 #[test]
-fn texts_of_a_known_kind(rt: HostRuntime) -> Result<(), Fail> {
+fn texts_of_a_known_kind(rt: HostRuntime) {
     let alloc = rt.alloc();
-    let seed = RandomState::new(&rt)?;
-    let item = parse_item(alloc, &seed, b"a;q=1")?;
+    let seed = seed(&rt);
+    let item = parse_item(alloc, &seed, b"a;q=1").expect(&rt, "an Item");
     assert!(rt; item.param(b"q").is_some());
-    assert_eq!(rt; parse_list(alloc, &seed, b"a, (b c)")?.members.len(), 2);
-    assert_eq!(rt; parse_dict(alloc, &seed, b"u=1, i")?.members.len(), 2);
+    let list = parse_list(alloc, &seed, b"a, (b c)").expect(&rt, "a List");
+    assert_eq!(rt; list.members.len(), 2);
+    let dict = parse_dict(alloc, &seed, b"u=1, i").expect(&rt, "a Dictionary");
+    assert_eq!(rt; dict.members.len(), 2);
     assert!(rt; parse_item(alloc, &seed, b"a, b").is_err());
-    let lines = lines_of(alloc, &[b"a", b"b"])?;
-    assert_eq!(rt; parse_list_lines(alloc, &seed, &lines)?.members.len(), 2);
-    assert_eq!(rt; parse_dict_lines(alloc, &seed, &lines)?.members.len(), 2);
+}
+
+#[test]
+fn lines_of_a_known_kind(rt: HostRuntime) {
+    let alloc = rt.alloc();
+    let seed = seed(&rt);
+    let lines = lines_of(&rt, &[b"a", b"b"]);
+    let list = parse_list_lines(alloc, &seed, &lines).expect(&rt, "a List");
+    assert_eq!(rt; list.members.len(), 2);
+    let dict = parse_dict_lines(alloc, &seed, &lines).expect(&rt, "a Dictionary");
+    assert_eq!(rt; dict.members.len(), 2);
     assert!(rt; parse_item_lines(alloc, &seed, &lines).is_err());
-    Ok(())
 }
 
 #[test]
-fn lines_one_by_one(rt: HostRuntime) -> Result<(), Fail> {
-    let alloc = rt.alloc();
-    let seed = RandomState::new(&rt)?;
-    let mut parser = Parser::new(alloc, &seed, Kind::List, u64::MAX);
-    parser.feed_line(b"a")?;
-    parser.feed_line(b"b, c")?;
+fn lines_one_by_one(rt: HostRuntime) {
+    let seed = seed(&rt);
+    let mut parser = Parser::new(rt.alloc(), &seed, Kind::List, u64::MAX);
+    parser.feed_line(b"a").expect(&rt, "a line");
+    parser.feed_line(b"b, c").expect(&rt, "a line");
     assert_eq!(rt; parser.place(), 7);
-    let field = parser.finish()?;
-    assert!(rt; field == parse_text(alloc, &seed, Kind::List, b"a, b, c")?);
-    // an empty first line stands before a comma, and none may stand there
-    let mut parser = Parser::new(alloc, &seed, Kind::List, u64::MAX);
-    parser.feed_line(b"")?;
+    let field = parser.finish().expect(&rt, "a List");
+    let text = parse_text(rt.alloc(), &seed, Kind::List, b"a, b, c");
+    assert!(rt; field == text.expect(&rt, "a List"));
+}
+
+// An empty first line stands before a comma, and none may stand there.
+#[test]
+fn an_empty_first_line(rt: HostRuntime) {
+    let mut parser = Parser::new(rt.alloc(), &seed(&rt), Kind::List, u64::MAX);
+    parser.feed_line(b"").expect(&rt, "a line");
     assert!(rt; parser.feed_line(b"b").is_err());
-    Ok(())
+}
+
+fn set(rt: &(impl Abort + AllocGlobal), headers: &mut HeaderMap, field: &Field) {
+    let name = HeaderName::from_static("priority");
+    set_field(rt.alloc(), headers, name, field).expect(rt, "room");
 }
 
 #[test]
-fn a_field_that_is_set(rt: HostRuntime) -> Result<(), Fail> {
-    let alloc = rt.alloc();
-    let seed = RandomState::new(&rt)?;
+fn a_field_that_is_set(rt: HostRuntime) {
+    let seed = seed(&rt);
     let name = HeaderName::from_static("priority");
-    let mut headers = HeaderMap::new(alloc);
-    headers.append(
-        HeaderName::from_static("priority"),
-        HeaderValue::from_static("u=5"),
-    )?;
-    headers.append(
-        HeaderName::from_static("priority"),
-        HeaderValue::from_static("i"),
-    )?;
-    let field = parse_text(alloc, &seed, Kind::Dict, b"u=1,i")?;
-    assert_eq!(rt;
-        header_value(alloc, &field)?.as_bytes(),
-        b"u=1, i".as_slice()
-    );
-    set_field(
-        alloc,
-        &mut headers,
-        HeaderName::from_static("priority"),
-        &field,
-    )?;
+    let mut headers = headers_of(&rt, b"priority", &[b"u=5", b"i"]);
+    let field = parse_text(rt.alloc(), &seed, Kind::Dict, b"u=1,i");
+    let field = field.expect(&rt, "a Dictionary");
+    let value = header_value(rt.alloc(), &field).expect(&rt, "room");
+    assert_eq!(rt; value.as_bytes(), b"u=1, i".as_slice());
+    set(&rt, &mut headers, &field);
     assert_eq!(rt; headers.get_all(&name).iter().count(), 1);
-    let read = from_headers(alloc, &seed, Kind::Dict, &headers, &name)?;
-    assert!(rt; read.ok_or("absent")? == field);
-    let none = parse_text(alloc, &seed, Kind::Dict, b"")?;
-    set_field(
-        alloc,
-        &mut headers,
-        HeaderName::from_static("priority"),
-        &none,
-    )?;
+    let read = from_headers(rt.alloc(), &seed, Kind::Dict, &headers, &name);
+    assert!(rt; read == Ok(Some(field)));
+    let none = parse_text(rt.alloc(), &seed, Kind::Dict, b"");
+    set(&rt, &mut headers, &none.expect(&rt, "a Dictionary"));
     assert!(rt; !headers.contains_key(&name));
-    Ok(())
 }

@@ -1,36 +1,22 @@
 //! Targeted fields with what they say, and headers with the choice among targets.
+use crate::build::seed;
 use http_header::{HeaderMap, HeaderName, HeaderValue};
 use sf_field::ask;
 use sf_use::{Choice, Directives, Policy, select};
 use sf_value::Blob;
-use std::alloc::Global;
 use std::hash::RandomState;
-use std::test::Fail;
+use std::process::Abort;
 
 // What a targeted field of one line says.
-fn policy_of(alloc: Global, seed: &RandomState, line: &[u8]) -> Result<Policy, Fail> {
-    match ask(alloc, seed, &Directives, &[Blob::new(alloc, line)?]) {
-        Ok(policy) => Ok(policy),
-        Err(_) => Err(Fail::from("no Dictionary")),
-    }
-}
-
-fn nothing_said() -> Policy {
-    Policy {
-        max_age: None,
-        s_maxage: None,
-        must_revalidate: false,
-        no_store: false,
-        no_cache: false,
-        is_private: false,
-    }
+fn policy_of(rt: &(impl Abort + AllocGlobal), seed: &RandomState, line: &[u8]) -> Policy {
+    let line = Blob::new(rt.alloc(), line).expect(rt, "room");
+    ask(rt.alloc(), seed, &Directives, &[line]).expect(rt, "a Dictionary")
 }
 
 #[test]
-fn policies(rt: HostRuntime) -> Result<(), Fail> {
-    let alloc = rt.alloc();
-    let seed = RandomState::new(&rt)?;
-    let none = nothing_said();
+fn policies(rt: HostRuntime) {
+    let seed = seed(&rt);
+    let none = Policy::default();
     let aged = Policy {
         max_age: Some(60),
         ..none
@@ -68,44 +54,49 @@ fn policies(rt: HostRuntime) -> Result<(), Fail> {
         (b"none", none),
         (b"", none),
     ] {
-        assert_eq!(rt; policy_of(alloc, &seed, line)?, want);
+        assert_eq!(rt; policy_of(&rt, &seed, line), want);
     }
-    let shared_alone = policy_of(alloc, &seed, b"s-maxage=5")?;
+    let shared_alone = policy_of(&rt, &seed, b"s-maxage=5");
     assert_eq!(rt; shared_alone.lifetime(true), Some(5));
     assert_eq!(rt; shared_alone.lifetime(false), None);
     assert_eq!(rt; both.lifetime(true), Some(90));
     assert_eq!(rt; both.lifetime(false), Some(30));
     assert_eq!(rt; aged.lifetime(true), Some(60));
-    Ok(())
+}
+
+fn name_of(rt: &(impl Abort + AllocGlobal), name: &[u8]) -> HeaderName {
+    HeaderName::from_bytes(rt.alloc(), name).expect(rt, "a name")
+}
+
+fn headers_of(rt: &(impl Abort + AllocGlobal), fields: &[(&[u8], &[u8])]) -> HeaderMap {
+    let mut headers = HeaderMap::new(rt.alloc());
+    for (name, value) in fields {
+        let value = HeaderValue::from_bytes(rt.alloc(), value).expect(rt, "a value");
+        headers.append(name_of(rt, name), value).expect(rt, "room");
+    }
+    headers
 }
 
 fn choice_of(
-    alloc: Global,
+    rt: &(impl Abort + AllocGlobal),
     seed: &RandomState,
     targets: &[&[u8]],
     fields: &[(&[u8], &[u8])],
-) -> Result<Choice, Fail> {
-    let mut headers = HeaderMap::new(alloc);
-    for (name, value) in fields {
-        headers.append(
-            HeaderName::from_bytes(alloc, name)?,
-            HeaderValue::from_bytes(alloc, value)?,
-        )?;
-    }
-    let mut names = Vec::new(alloc);
+) -> Choice {
+    let mut names = Vec::new(rt.alloc());
     for target in targets {
-        names.push(HeaderName::from_bytes(alloc, target)?)?;
+        names.push(name_of(rt, target)).expect(rt, "room");
     }
-    Ok(select(alloc, seed, names.as_slice(), &headers)?)
+    let headers = headers_of(rt, fields);
+    select(rt.alloc(), seed, names.as_slice(), &headers).expect(rt, "room")
 }
 
 // The choice of the field of `cdn-cache-control` and of `x-cache-control`.
 #[test]
-fn choices(rt: HostRuntime) -> Result<(), Fail> {
-    let alloc = rt.alloc();
-    let seed = RandomState::new(&rt)?;
+fn choices(rt: HostRuntime) {
+    let seed = seed(&rt);
     let targets = [b"cdn-cache-control".as_slice(), b"x-cache-control"];
-    let none = nothing_said();
+    let none = Policy::default();
     let both = Policy {
         max_age: Some(30),
         s_maxage: Some(90),
@@ -172,8 +163,7 @@ fn choices(rt: HostRuntime) -> Result<(), Fail> {
         (&[general], Choice::Fallback),
         (&[], Choice::Fallback),
     ] {
-        assert_eq!(rt; choice_of(alloc, &seed, &targets, fields)?, want);
+        assert_eq!(rt; choice_of(&rt, &seed, &targets, fields), want);
     }
-    assert_eq!(rt; choice_of(alloc, &seed, &[], &[cdn])?, Choice::Fallback);
-    Ok(())
+    assert_eq!(rt; choice_of(&rt, &seed, &[], &[cdn]), Choice::Fallback);
 }

@@ -1,5 +1,4 @@
 //! Values that are made, put together, copied and compared.
-mod build;
 mod devices;
 mod entries;
 mod faults;

@@ -1,205 +1,36 @@
-//! Values with their texts, and a sink that takes one byte a call and fails at a stated call.
-ghost use Rattle.std.specs.Prelude.{Some};
-ghost use Rattle.sf_value.specs.Devices.{capped};
-
-use sf_value::{
-    Bare, Blob, Dict, Entries, Failed, Field, Inner, Int, Item, Key, List, Member, Sequence, Shown,
-    Sink, Text, Thousandths, Token, Writing,
+//! Values with their texts, and sinks that fail.
+use crate::build::{
+    blob, both, date, decimal, dict, flag, integer, item, key, plain, seed, shown, text, token,
+    two, with,
 };
+use sf_devices::Trickle;
+use sf_value::{Bare, Dict, Field, Inner, List, Text, Writing};
 use sf_write::{
-    WriteFault, bare_text, send_all, to_text, write_bare, write_bare_from, write_field,
-    write_field_from,
+    WriteFault, bare_text, put, put_bare, put_field, put_text, send_all, to_string, to_text,
+    write_bare, write_field,
 };
-use std::alloc::Global;
 use std::hash::RandomState;
 use std::process::Abort;
-use std::test::Fail;
 
-// Takes one byte a call; the calls are counted from 1.
-#[derive(Drop)]
-struct Trickle {
-    taken: Vec<u8>,
-    calls: u64,
-    fails_at: u64,
-    failures: u64,
-}
-
-impl Trickle {
-    fn new(alloc: Global, fails_at: u64) -> Trickle {
-        Trickle {
-            taken: Vec::new(alloc),
-            calls: 0,
-            fails_at,
-            failures: 0,
-        }
-    }
-}
-
-impl Sink for Trickle {
-    ghost state = { λ t. record { taken = Some t.taken.items; failures = t.failures } };
-
-    fn send(&mut self, bytes: &[u8]) -> Result<usize, Failed> {
-        self.calls = self.calls.saturating_add(1);
-        let Some(first) = bytes.first() else {
-            return Ok(0);
-        };
-        if self.calls == self.fails_at || self.taken.push(*first).is_err() {
-            self.failures = self.failures.saturating_add(1);
-            return Err(Failed);
-        }
-        Ok(1)
-    }
-}
-
-fn integer(n: i64) -> Result<Bare, Fail> {
-    Ok(Bare::Integer(Int::new(n)?))
-}
-
-fn decimal(thousandths: i64) -> Result<Bare, Fail> {
-    Ok(Bare::Decimal(Thousandths::new(thousandths)?))
-}
-
-fn date(seconds: i64) -> Result<Bare, Fail> {
-    Ok(Bare::Date(Int::new(seconds)?))
-}
-
-fn text(alloc: Global, bytes: &[u8]) -> Result<Bare, Fail> {
-    Ok(Bare::Text(Text::new(alloc, bytes)?))
-}
-
-fn token(alloc: Global, bytes: &[u8]) -> Result<Bare, Fail> {
-    Ok(Bare::Token(Token::new(alloc, bytes)?))
-}
-
-fn blob(alloc: Global, bytes: &[u8]) -> Result<Bare, Fail> {
-    Ok(Bare::Blob(Blob::new(alloc, bytes)?))
-}
-
-fn shown(alloc: Global, text: &str) -> Result<Bare, Fail> {
-    Ok(Bare::Shown(Shown::new(alloc, text)?))
-}
-
-// Puts a parameter.
-fn put(alloc: Global, params: &mut Entries<Bare>, key: &[u8], value: Bare) -> Result<(), Fail> {
-    match params.put(Key::new(alloc, key)?, value) {
-        Ok(_) => Ok(()),
-        Err(_) => Err(Fail::from("no memory")),
-    }
-}
-
-// An item with no parameters.
-fn plain(alloc: Global, seed: &RandomState, bare: Bare) -> Item {
-    Item {
-        bare,
-        params: Entries::new(alloc, seed),
-    }
-}
-
-// An item with one parameter.
-fn with_param(
-    alloc: Global,
-    seed: &RandomState,
-    bare: Bare,
-    key: &[u8],
-    value: Bare,
-) -> Result<Item, Fail> {
-    let mut params = Entries::new(alloc, seed);
-    put(alloc, &mut params, key, value)?;
-    Ok(Item { bare, params })
-}
-
-// Items in parentheses, with no parameters.
-fn inner(alloc: Global, seed: &RandomState, items: Vec<Item>) -> Member {
-    Member::Inner(Inner {
-        items: items.into(),
-        params: Entries::new(alloc, seed),
-    })
-}
-
-fn list(members: Vec<Member>) -> Field {
-    Field::List(List {
-        members: Sequence::from_vec(members),
-    })
-}
-
-// Puts a member of a dictionary.
-fn put_member(
-    alloc: Global,
-    members: &mut Entries<Member>,
-    key: &[u8],
-    member: Member,
-) -> Result<(), Fail> {
-    match members.put(Key::new(alloc, key)?, member) {
-        Ok(_) => Ok(()),
-        Err(_) => Err(Fail::from("no memory")),
-    }
-}
-
-fn put_item(
-    alloc: Global,
-    seed: &RandomState,
-    members: &mut Entries<Member>,
-    key: &[u8],
-    bare: Bare,
-) -> Result<(), Fail> {
-    put_member(alloc, members, key, Member::Item(plain(alloc, seed, bare)))
-}
-
-fn check(rt: &impl Abort, alloc: Global, field: Field, want: &str) -> Result<(), Fail> {
-    let text = to_text(alloc, &field)?;
+fn check(rt: &(impl Abort + AllocGlobal), field: Field, want: &str) {
+    let text = to_text(rt.alloc(), &field).expect(rt, "room");
     assert_eq!(rt; text.as_slice(), want.as_bytes());
-    Ok(())
 }
 
-fn check_bare(
-    rt: &impl Abort,
-    alloc: Global,
-    bare: Result<Bare, Fail>,
-    want: &str,
-) -> Result<(), Fail> {
-    let text = bare_text(alloc, &bare?)?;
+fn check_bare(rt: &(impl Abort + AllocGlobal), bare: Bare, want: &str) {
+    let text = bare_text(rt.alloc(), &bare).expect(rt, "room");
     assert_eq!(rt; text.as_slice(), want.as_bytes());
-    Ok(())
-}
-
-fn two<T: Drop>(alloc: Global, first: T, second: T) -> Result<Vec<T>, Fail> {
-    let mut both = Vec::new(alloc);
-    both.push(first)?;
-    both.push(second)?;
-    Ok(both)
-}
-
-// `(1 2);y=:YQ==:`
-fn one_and_two_inside(alloc: Global, seed: &RandomState) -> Result<Member, Fail> {
-    let mut params = Entries::new(alloc, seed);
-    put(alloc, &mut params, b"y", blob(alloc, b"a")?)?;
-    let one = plain(alloc, seed, integer(1)?);
-    let two_of_them = two(alloc, one, plain(alloc, seed, integer(2)?))?;
-    Ok(Member::Inner(Inner {
-        items: two_of_them.into(),
-        params,
-    }))
-}
-
-fn flag_with(alloc: Global, seed: &RandomState, key: &[u8], value: Bare) -> Result<Member, Fail> {
-    let item = with_param(alloc, seed, Bare::Boolean(true), key, value)?;
-    Ok(Member::Item(item))
-}
-
-// `a=(1 2);y=:YQ==:, b;x`, 21 bytes.
-fn example(alloc: Global, seed: &RandomState) -> Result<Field, Fail> {
-    let mut members = Entries::new(alloc, seed);
-    put_member(alloc, &mut members, b"a", one_and_two_inside(alloc, seed)?)?;
-    let flag = flag_with(alloc, seed, b"x", Bare::Boolean(true))?;
-    put_member(alloc, &mut members, b"b", flag)?;
-    Ok(Field::Dict(Dict { members }))
 }
 
 const EXAMPLE: &str = "a=(1 2);y=:YQ==:, b;x";
 
+// The Dictionary of that text, which has 21 bytes.
+fn example(rt: &(impl Abort + AllocGlobal), seed: &RandomState) -> Field {
+    dict(rt, seed, b"a", false)
+}
+
 #[test]
-fn numbers(rt: HostRuntime) -> Result<(), Fail> {
-    let alloc = rt.alloc();
+fn numbers(rt: HostRuntime) {
     for (n, want) in [
         (0, "0"),
         (-1, "-1"),
@@ -207,7 +38,7 @@ fn numbers(rt: HostRuntime) -> Result<(), Fail> {
         (999_999_999_999_999, "999999999999999"),
         (-999_999_999_999_999, "-999999999999999"),
     ] {
-        check_bare(&rt, alloc, integer(n), want)?;
+        check_bare(&rt, integer(&rt, n), want);
     }
     for (thousandths, want) in [
         (0, "0.0"),
@@ -220,39 +51,32 @@ fn numbers(rt: HostRuntime) -> Result<(), Fail> {
         (100_000, "100.0"),
         (-999_999_999_999_999, "-999999999999.999"),
     ] {
-        check_bare(&rt, alloc, decimal(thousandths), want)?;
+        check_bare(&rt, decimal(&rt, thousandths), want);
     }
-    check_bare(&rt, alloc, date(0), "@0")?;
-    check_bare(&rt, alloc, date(1_659_578_233), "@1659578233")?;
-    check_bare(&rt, alloc, date(-3), "@-3")
+    check_bare(&rt, date(&rt, 0), "@0");
+    check_bare(&rt, date(&rt, 1_659_578_233), "@1659578233");
+    check_bare(&rt, date(&rt, -3), "@-3");
 }
 
 #[test]
-fn texts(rt: HostRuntime) -> Result<(), Fail> {
-    let alloc = rt.alloc();
-    check_bare(&rt, alloc, text(alloc, b""), "\"\"")?;
-    check_bare(&rt, alloc, text(alloc, b"a\"b\\"), "\"a\\\"b\\\\\"")?;
-    check_bare(&rt, alloc, text(alloc, b"\\\\x y"), "\"\\\\\\\\x y\"")?;
-    check_bare(&rt, alloc, token(alloc, b"*a/b:c"), "*a/b:c")?;
-    check_bare(&rt, alloc, Ok(Bare::Boolean(true)), "?1")?;
-    check_bare(&rt, alloc, Ok(Bare::Boolean(false)), "?0")?;
-    check_bare(&rt, alloc, shown(alloc, ""), "%\"\"")?;
-    check_bare(&rt, alloc, shown(alloc, "fü"), "%\"f%c3%bc\"")?;
-    check_bare(&rt, alloc, shown(alloc, "%\"\n"), "%\"%25%22%0a\"")?;
-    check_bare(&rt, alloc, shown(alloc, "\x7f\0"), "%\"%7f%00\"")?;
-    check_bare(&rt, alloc, shown(alloc, "A\\"), "%\"A\\\"")?;
-    check_bare(&rt, alloc, shown(alloc, "\u{feff}a"), "%\"%ef%bb%bfa\"")?;
-    check_bare(
-        &rt,
-        alloc,
-        shown(alloc, "for ü users."),
-        "%\"for %c3%bc users.\"",
-    )
+fn texts(rt: HostRuntime) {
+    check_bare(&rt, text(&rt, b""), "\"\"");
+    check_bare(&rt, text(&rt, b"a\"b\\"), "\"a\\\"b\\\\\"");
+    check_bare(&rt, text(&rt, b"\\\\x y"), "\"\\\\\\\\x y\"");
+    check_bare(&rt, token(&rt, b"*a/b:c"), "*a/b:c");
+    check_bare(&rt, Bare::Boolean(true), "?1");
+    check_bare(&rt, Bare::Boolean(false), "?0");
+    check_bare(&rt, shown(&rt, ""), "%\"\"");
+    check_bare(&rt, shown(&rt, "fü"), "%\"f%c3%bc\"");
+    check_bare(&rt, shown(&rt, "%\"\n"), "%\"%25%22%0a\"");
+    check_bare(&rt, shown(&rt, "\x7f\0"), "%\"%7f%00\"");
+    check_bare(&rt, shown(&rt, "A\\"), "%\"A\\\"");
+    check_bare(&rt, shown(&rt, "\u{feff}a"), "%\"%ef%bb%bfa\"");
+    check_bare(&rt, shown(&rt, "for ü users."), "%\"for %c3%bc users.\"");
 }
 
 #[test]
-fn byte_sequences(rt: HostRuntime) -> Result<(), Fail> {
-    let alloc = rt.alloc();
+fn byte_sequences(rt: HostRuntime) {
     for (bytes, want) in [
         (b"".as_slice(), "::"),
         (b"a".as_slice(), ":YQ==:"),
@@ -262,16 +86,14 @@ fn byte_sequences(rt: HostRuntime) -> Result<(), Fail> {
         (b"\xfb\xff\xbf".as_slice(), ":+/+/:"),
         (b"\xc3\x9cbung\xc3\xa4rzte".as_slice(), ":w5xidW5nw6RyenRl:"),
     ] {
-        check_bare(&rt, alloc, blob(alloc, bytes), want)?;
+        check_bare(&rt, blob(&rt, bytes), want);
     }
-    Ok(())
 }
 
 // Byte sequences of n bytes, of one block and more. The first byte is n, and each further one is 7
 // more, by the low eight bits.
 #[test]
-fn long_byte_sequences(rt: HostRuntime) -> Result<(), Fail> {
-    let alloc = rt.alloc();
+fn long_byte_sequences(rt: HostRuntime) {
     for (n, want) in [
         (
             47u8,
@@ -292,96 +114,89 @@ fn long_byte_sequences(rt: HostRuntime) -> Result<(), Fail> {
              /xs3U2+Lp8Pf+BQwTGiEoLzY9REtSWWBnbnV8g4qRmJ+mrbS7wsnQ197l7PP6AQ==:",
         ),
     ] {
-        let mut bytes = Vec::new(alloc);
+        let mut bytes = Vec::new(rt.alloc());
         let mut byte = n;
         for _ in 0..n {
-            bytes.push(byte)?;
+            bytes.push(byte).expect(&rt, "room");
             byte = byte.wrapping_add(7);
         }
-        check_bare(&rt, alloc, blob(alloc, bytes.as_slice()), want)?;
+        check_bare(&rt, blob(&rt, bytes.as_slice()), want);
     }
-    Ok(())
 }
 
 // `1.5;q=?0;r=1`
-fn with_two_params(alloc: Global, seed: &RandomState) -> Result<Field, Fail> {
-    let mut item = with_param(alloc, seed, decimal(1500)?, b"q", Bare::Boolean(false))?;
-    put(alloc, &mut item.params, b"r", integer(1)?)?;
-    Ok(Field::Item(item))
-}
-
-// `?1;b`
-fn true_with_a_flag(alloc: Global, seed: &RandomState) -> Result<Field, Fail> {
-    let item = with_param(alloc, seed, Bare::Boolean(true), b"b", Bare::Boolean(true))?;
-    Ok(Field::Item(item))
+fn with_two_params(rt: &(impl Abort + AllocGlobal), seed: &RandomState) -> Field {
+    let item = item(rt, seed, decimal(rt, 1500), b"q", Bare::Boolean(false));
+    let item = item.with_param(key(rt, b"r"), integer(rt, 1));
+    item.expect(rt, "room").into()
 }
 
 #[test]
-fn items(rt: HostRuntime) -> Result<(), Fail> {
-    let alloc = rt.alloc();
-    let seed = RandomState::new(&rt)?;
-    check(&rt, alloc, with_two_params(alloc, &seed)?, "1.5;q=?0;r=1")?;
-    check(&rt, alloc, true_with_a_flag(alloc, &seed)?, "?1;b")
+fn items(rt: HostRuntime) {
+    let seed = seed(&rt);
+    check(&rt, with_two_params(&rt, &seed), "1.5;q=?0;r=1");
+    let flagged = item(&rt, &seed, Bare::Boolean(true), b"b", Bare::Boolean(true));
+    check(&rt, flagged.into(), "?1;b");
 }
 
 // Two members that are Items with no parameters.
-fn two_items(alloc: Global, seed: &RandomState, first: Bare, second: Bare) -> Result<Field, Fail> {
-    let first = Member::Item(plain(alloc, seed, first));
-    let second = Member::Item(plain(alloc, seed, second));
-    Ok(list(two(alloc, first, second)?))
+fn two_items(
+    rt: &(impl Abort + AllocGlobal),
+    seed: &RandomState,
+    first: Bare,
+    second: Bare,
+) -> Field {
+    let second = plain(rt, seed, second).into();
+    two(rt, plain(rt, seed, first).into(), second).into()
 }
 
 // `(a;b c)`
-fn two_tokens_inside(alloc: Global, seed: &RandomState) -> Result<Member, Fail> {
-    let first = with_param(alloc, seed, token(alloc, b"a")?, b"b", Bare::Boolean(true))?;
-    let second = plain(alloc, seed, token(alloc, b"c")?);
-    Ok(inner(alloc, seed, two(alloc, first, second)?))
+fn two_tokens_inside(rt: &(impl Abort + AllocGlobal), seed: &RandomState) -> Inner {
+    let first = item(rt, seed, token(rt, b"a"), b"b", Bare::Boolean(true));
+    both(rt, seed, first, plain(rt, seed, token(rt, b"c")))
 }
 
 // `(a;b c), (), "x, y"`
-fn members_of_both_forms(alloc: Global, seed: &RandomState) -> Result<Field, Fail> {
-    let first = two_tokens_inside(alloc, seed)?;
-    let mut members = two(alloc, first, inner(alloc, seed, Vec::new(alloc)))?;
-    members.push(Member::Item(plain(alloc, seed, text(alloc, b"x, y")?)))?;
-    Ok(list(members))
+fn members_of_both_forms(rt: &(impl Abort + AllocGlobal), seed: &RandomState) -> Field {
+    let none = Inner::new(rt.alloc(), seed).into();
+    let list = two(rt, two_tokens_inside(rt, seed).into(), none);
+    let last = plain(rt, seed, text(rt, b"x, y")).into();
+    list.with(last).expect(rt, "room").into()
 }
 
 #[test]
-fn lists(rt: HostRuntime) -> Result<(), Fail> {
-    let alloc = rt.alloc();
-    let seed = RandomState::new(&rt)?;
-    check(&rt, alloc, list(Vec::new(alloc)), "")?;
-    let twice = two_items(alloc, &seed, blob(alloc, b"a")?, blob(alloc, b"a")?)?;
-    check(&rt, alloc, twice, ":YQ==:, :YQ==:")?;
-    let field = members_of_both_forms(alloc, &seed)?;
-    check(&rt, alloc, field, "(a;b c), (), \"x, y\"")
+fn lists(rt: HostRuntime) {
+    let seed = seed(&rt);
+    check(&rt, List::new(rt.alloc()).into(), "");
+    let twice = two_items(&rt, &seed, blob(&rt, b"a"), blob(&rt, b"a"));
+    check(&rt, twice, ":YQ==:, :YQ==:");
+    check(
+        &rt,
+        members_of_both_forms(&rt, &seed),
+        "(a;b c), (), \"x, y\"",
+    );
 }
 
 // `a=?0, b, c;foo=bar`, whose last value was put in place of another.
-fn flags(alloc: Global, seed: &RandomState) -> Result<Field, Fail> {
-    let mut members = Entries::new(alloc, seed);
+fn flags(rt: &(impl Abort + AllocGlobal), seed: &RandomState) -> Field {
+    let mut dict = Dict::new(rt.alloc(), seed);
     for (key, value) in [
         (b"a".as_slice(), false),
         (b"b".as_slice(), true),
         (b"c".as_slice(), true),
     ] {
-        put_item(alloc, seed, &mut members, key, Bare::Boolean(value))?;
+        let member = plain(rt, seed, Bare::Boolean(value)).into();
+        dict = with(rt, dict, key, member);
     }
-    let last = flag_with(alloc, seed, b"foo", token(alloc, b"bar")?)?;
-    put_member(alloc, &mut members, b"c", last)?;
-    Ok(Field::Dict(Dict { members }))
+    with(rt, dict, b"c", flag(rt, seed, b"foo", token(rt, b"bar"))).into()
 }
 
 #[test]
-fn dictionaries(rt: HostRuntime) -> Result<(), Fail> {
-    let alloc = rt.alloc();
-    let seed = RandomState::new(&rt)?;
-    check(&rt, alloc, example(alloc, &seed)?, EXAMPLE)?;
-    check(&rt, alloc, flags(alloc, &seed)?, "a=?0, b, c;foo=bar")?;
-    let empty = Field::Dict(Dict {
-        members: Entries::new(alloc, &seed),
-    });
-    check(&rt, alloc, empty, "")
+fn dictionaries(rt: HostRuntime) {
+    let seed = seed(&rt);
+    check(&rt, example(&rt, &seed), EXAMPLE);
+    check(&rt, flags(&rt, &seed), "a=?0, b, c;foo=bar");
+    check(&rt, Dict::new(rt.alloc(), &seed).into(), "");
 }
 
 // What a sink took that takes one byte a call and fails at call `fails_at`, and the answer to it.
@@ -391,8 +206,8 @@ struct Sent {
     answer: Result<u64, WriteFault>,
 }
 
-fn send(alloc: Global, field: &Field, fails_at: u64) -> Sent {
-    let mut sink = Trickle::new(alloc, fails_at);
+fn send(rt: &(impl Abort + AllocGlobal), field: &Field, fails_at: u64) -> Sent {
+    let mut sink = Trickle::new(rt.alloc(), fails_at);
     let answer = write_field(field, &mut sink);
     Sent { sink, answer }
 }
@@ -414,53 +229,74 @@ fn check_front(rt: &impl Abort, sent: &Sent, written: u64, want: &[u8]) {
 }
 
 #[test]
-fn sends_that_fail(rt: HostRuntime) -> Result<(), Fail> {
-    let alloc = rt.alloc();
-    let seed = RandomState::new(&rt)?;
-    let one_and_two = two_items(alloc, &seed, integer(1)?, integer(2)?)?;
-    check_whole(&rt, &send(alloc, &one_and_two, 0), b"1, 2");
-    check_front(&rt, &send(alloc, &one_and_two, 3), 2, b"1, 2");
-    let field = example(alloc, &seed)?;
+fn sends_that_fail(rt: HostRuntime) {
+    let seed = seed(&rt);
+    let one_and_two = two_items(&rt, &seed, integer(&rt, 1), integer(&rt, 2));
+    check_whole(&rt, &send(&rt, &one_and_two, 0), b"1, 2");
+    check_front(&rt, &send(&rt, &one_and_two, 3), 2, b"1, 2");
+    let field = example(&rt, &seed);
     for written in 0..21u64 {
-        let sent = send(alloc, &field, written + 1);
+        let sent = send(&rt, &field, written + 1);
         check_front(&rt, &sent, written, EXAMPLE.as_bytes());
     }
-    check_whole(&rt, &send(alloc, &field, 22), EXAMPLE.as_bytes());
-    Ok(())
+    check_whole(&rt, &send(&rt, &field, 22), EXAMPLE.as_bytes());
 }
 
 #[test]
-fn a_fault_says_how_much_went_out(rt: HostRuntime) -> Result<(), Fail> {
+fn a_fault_says_how_much_went_out(rt: HostRuntime) {
     let fault = WriteFault { written: 2 };
-    let told = format!(in rt.alloc(); "{fault}")?;
+    let told = format!(in rt.alloc(); "{fault}").expect(&rt, "room");
     assert_eq!(rt; told.as_str(), "a write failed after 2 bytes");
-    Ok(())
 }
 
 #[test]
-fn counts_go_on(rt: HostRuntime) -> Result<(), Fail> {
-    let alloc = rt.alloc();
-    let seed = RandomState::new(&rt)?;
-    let mut out = Writing::new(Vec::new(alloc));
-    let field = example(alloc, &seed)?;
-    let written = write_field_from(&field, 0, &mut out)?;
-    assert_eq!(rt; written, 21);
-    let written = send_all(b"\n", written, &mut out)?;
-    assert_eq!(rt; written, 22);
+fn counts_go_on(rt: HostRuntime) {
+    let mut out = Writing::new(Vec::new(rt.alloc()));
+    let field = example(&rt, &seed(&rt));
+    let sent = put_field(&field, Ok(0), &mut out);
+    assert_eq!(rt; sent, Ok(21));
+    assert_eq!(rt; put(b"\n", sent, &mut out), Ok(22));
     let text = out.into_inner();
     assert_eq!(rt; text.as_slice(), b"a=(1 2);y=:YQ==:, b;x\n".as_slice());
-    Ok(())
 }
 
 #[test]
-fn counts_of_bare_items_go_on(rt: HostRuntime) -> Result<(), Fail> {
-    let alloc = rt.alloc();
-    let mut out = Writing::new(Vec::new(alloc));
-    let end = token(alloc, b"end")?;
-    assert_eq!(rt; write_bare_from(&end, 22, &mut out), Ok(25));
+fn counts_of_bare_items_go_on(rt: HostRuntime) {
+    let mut out = Writing::new(Vec::new(rt.alloc()));
+    assert_eq!(rt; put_bare(&token(&rt, b"end"), Ok(22), &mut out), Ok(25));
     assert_eq!(rt; send_all(b"..", u64::MAX - 1, &mut out), Ok(u64::MAX));
-    assert_eq!(rt; write_bare(&integer(7)?, &mut out), Ok(1));
+    assert_eq!(rt; write_bare(&integer(&rt, 7), &mut out), Ok(1));
+    let text = Text::new(rt.alloc(), b"a\"").expect(&rt, "a String");
+    assert_eq!(rt; put_text(&text, Ok(1), &mut out), Ok(6));
     let text = out.into_inner();
-    assert_eq!(rt; text.as_slice(), b"end..7".as_slice());
-    Ok(())
+    assert_eq!(rt; text.as_slice(), b"end..7\"a\\\"\"".as_slice());
+}
+
+// Behind a fault nothing is sent, and the fault stays.
+#[test]
+fn faults_go_on(rt: HostRuntime) {
+    let mut out = Trickle::new(rt.alloc(), 2);
+    let field = example(&rt, &seed(&rt));
+    let fault = Err(WriteFault { written: 1 });
+    assert_eq!(rt; put(b"ab", Ok(0), &mut out), fault);
+    assert_eq!(rt; put(b"c", fault, &mut out), fault);
+    assert_eq!(rt; put_field(&field, fault, &mut out), fault);
+    assert_eq!(rt; (out.taken.as_slice(), out.calls), (b"a".as_slice(), 2));
+}
+
+fn check_string(rt: &(impl Abort + AllocGlobal), field: Field, want: &str) {
+    let text = to_string(rt.alloc(), &field).expect(rt, "room");
+    assert_eq!(rt; text.as_str(), want);
+}
+
+#[test]
+fn texts_are_strings(rt: HostRuntime) {
+    let seed = seed(&rt);
+    check_string(&rt, example(&rt, &seed), EXAMPLE);
+    check_string(
+        &rt,
+        plain(&rt, &seed, shown(&rt, "fü")).into(),
+        "%\"f%c3%bc\"",
+    );
+    check_string(&rt, List::new(rt.alloc()).into(), "");
 }

@@ -1,6 +1,6 @@
 //! `show`, `check` and `normalise`.
-use crate::devices::{Paced, Tally};
 use crate::rows::{ACCEPTED, REFUSED, Row, expect_long, expect_rows};
+use sf_devices::{Paced, Tally};
 use sf_tool::{Request, run};
 use sf_value::{Dialect, Kind};
 use std::alloc::{AllocError, Global};

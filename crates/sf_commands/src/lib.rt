@@ -6,8 +6,6 @@
 #[cfg(test)]
 mod consumers;
 #[cfg(test)]
-mod devices;
-#[cfg(test)]
 mod fields;
 #[cfg(test)]
 mod rows;

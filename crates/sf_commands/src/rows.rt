@@ -1,5 +1,5 @@
 //! One row of a table, run in every way.
-use crate::devices::{Paced, Trickle};
+use sf_devices::{Paced, Trickle};
 use sf_tool::{Request, Status, run};
 use sf_value::{Reading, Writing};
 use std::alloc::Global;

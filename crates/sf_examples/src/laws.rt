@@ -20,6 +20,7 @@ fn laws_are_called(rt: HostRuntime) -> Result<(), Fail> {
     sf_field::laws::normalising_settles();
     sf_field::laws::equal_by_text();
     sf_field::laws::built_reads_back();
+    sf_field::laws::set_is_read();
     sf_use::laws::reads_back();
     sf_use::laws::one_choice();
     sf_use::laws::priority_is_kept();

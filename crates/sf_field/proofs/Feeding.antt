@@ -26,44 +26,44 @@ pub next_line : (after : Bool) (ls : List (List ℕ)) (i : ℕ) (l : List ℕ) �
 next_line after ls i l h e = ap (behind after) (drop-cons ls i l h) ∙ rw (add-one, ← e)
 
 -- a front of all was fed, and this is left
-pub record Leaves (o p : Progress) (all left : List ℕ) : Type 0 where
+pub record FedSoFar (o p : Progress) (all left : List ℕ) : Type 0 where
   pub front : List ℕ
   pub split : all ≡ front ++ left
   pub fed : Fed o p (Ok tt) front
 
 -- nothing was fed yet
-pub leaves_all : (o p : Progress) (all : List ℕ) → Fed o p (Ok tt) [] → Leaves o p all all
-leaves_all o p all f = record { front = []; split = refl; fed = f }
+pub fed_nothing : (o p : Progress) (all : List ℕ) → Fed o p (Ok tt) [] → FedSoFar o p all all
+fed_nothing o p all f = record { front = []; split = refl; fed = f }
 
 -- a further piece was fed
-pub leaves_less : (o p q : Progress) (all left piece more : List ℕ) → Leaves o p all left
-    → left ≡ piece ++ more → Fed p q (Ok tt) piece → Leaves o q all more
-leaves_less o p q all left piece more l e f = record {
+pub fed_piece : (o p q : Progress) (all left piece more : List ℕ) → FedSoFar o p all left
+    → left ≡ piece ++ more → Fed p q (Ok tt) piece → FedSoFar o q all more
+fed_piece o p q all left piece more l e f = record {
   front = l.front ++ piece;
   split = l.split ∙ ap (λ z. l.front ++ z) e ∙ sym (append_assoc l.front piece more);
   fed = fed_after o p q (Ok tt) l.front piece l.fed f;
 }
 
 -- a further line was fed
-pub leaves_line : (o p q : Progress) (all left line : List ℕ) (ls : List (List ℕ)) (after : Bool)
-    → q.after_line ≡ true → Leaves o p all left → left ≡ in_line after line ++ behind true ls
-    → Fed p q (Ok tt) (in_line after line) → Leaves o q all (behind q.after_line ls)
-leaves_line o p q all left line ls after t l e f =
-    subst (λ b. Leaves o q all (behind b ls)) (sym t)
-    (leaves_less o p q all left (in_line after line) (behind true ls) l e f)
+pub fed_line : (o p q : Progress) (all left line : List ℕ) (ls : List (List ℕ)) (after : Bool)
+    → q.after_line ≡ true → FedSoFar o p all left → left ≡ in_line after line ++ behind true ls
+    → Fed p q (Ok tt) (in_line after line) → FedSoFar o q all (behind q.after_line ls)
+fed_line o p q all left line ls after t l e f =
+    subst (λ b. FedSoFar o q all (behind b ls)) (sym t)
+    (fed_piece o p q all left (in_line after line) (behind true ls) l e f)
 
 -- a further piece was refused
-pub ends_early : (o p q : Progress) (e : Refusal) (all left piece more : List ℕ)
-    → Leaves o p all left → left ≡ piece ++ more → Fed p q (Err e) piece → Fed o q (Err e) all
-ends_early o p q e all left piece more l s f =
+pub fed_refused : (o p q : Progress) (e : Refusal) (all left piece more : List ℕ)
+    → FedSoFar o p all left → left ≡ piece ++ more → Fed p q (Err e) piece → Fed o q (Err e) all
+fed_refused o p q e all left piece more l s f =
     subst (Fed o q (Err e))
     (append_assoc l.front piece more ∙ sym (l.split ∙ ap (λ z. l.front ++ z) s))
     (fed_before o q e (l.front ++ piece) more (fed_after o p q (Err e) l.front piece l.fed f))
 
 -- nothing is left
-pub ends_done : (o p : Progress) (all left : List ℕ) → Leaves o p all left → left ≡ []
+pub fed_all : (o p : Progress) (all left : List ℕ) → FedSoFar o p all left → left ≡ []
     → Fed o p (Ok tt) all
-ends_done o p all left l e =
+fed_all o p all left l e =
     subst (Fed o p (Ok tt))
     (sym (l.split ∙ ap (λ z. l.front ++ z) e ∙ append-nil l.front)) l.fed
 

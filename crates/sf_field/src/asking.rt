@@ -78,7 +78,9 @@ pub fn ask<C: Consumer>(
     lines: &[Blob],
 ) -> Result<C::Answer, AskFault>
     ensures answers { Asks C.KIND (C.meaning consumer.now) lines.now result }
+    // accepted lines mean what their canonical text means
     ensures canonical { MeansAsCanonical C.KIND (C.meaning consumer.now) lines.now }
+    // a single line of spaces, `-` and digits is parsed without memory
     ensures plain { C.KIND ≡ kind_is.Item → (line : List ℕ) → lines.now ≡ line ∷ []
         → Every plain_byte line → ParsedOrRefused result }
 {

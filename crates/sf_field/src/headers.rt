@@ -14,22 +14,6 @@ use sf_value::{Field, Kind};
 use std::alloc::Global;
 use std::hash::RandomState;
 
-// Feeds the joined text of the values of the name, which is empty where there is none.
-fn feed_values(parser: &mut Parser, headers: &HeaderMap, name: &HeaderName) -> Result<(), Refusal>
-    requires { parser.old.after_line ≡ false }
-    ensures fed { Fed parser.old parser.new result (join (lines_under headers.now name.now)) }
-    ensures plain { IsPlain parser.old → (value : List ℕ)
-        → lines_under headers.now name.now ≡ value ∷ [] → Every plain_byte value
-        → KeptPlain parser.new result }
-{
-    parser.feed(b"")?;
-    let values = headers.get_all(name).iter();
-    for value in values {
-        parser.feed_line(value.as_bytes())?;
-    }
-    Ok(())
-}
-
 /// The value that the values of the name spell together, None where the name is absent. They are
 /// the field lines, as they stand and in the map's order, and are parsed as
 /// [`crate::parse_lines`] does. A single value of spaces, `-` and digits takes no memory where an
@@ -47,6 +31,7 @@ pub fn from_headers(
     name: &HeaderName,
 ) -> Result<Option<Field>, Refusal>
     ensures parses { ParsesHeaders kind headers.now name.now result }
+    // a single value of spaces, `-` and digits is never refused for want of memory
     ensures plain { kind ≡ kind_is.Item → (value : List ℕ)
         → lines_under headers.now name.now ≡ value ∷ [] → Every plain_byte value
         → IfErr result IsOther }
@@ -60,4 +45,21 @@ pub fn from_headers(
         Ok(field) => Ok(Some(field)),
         Err(refusal) => Err(refusal),
     }
+}
+
+// Feeds the joined text of the values of the name, which is empty where there is none.
+fn feed_values(parser: &mut Parser, headers: &HeaderMap, name: &HeaderName) -> Result<(), Refusal>
+    requires { parser.old.after_line ≡ false }
+    ensures fed { Fed parser.old parser.new result (join (lines_under headers.now name.now)) }
+    // a plain parser stays plain over a single value of spaces, `-` and digits
+    ensures plain { IsPlain parser.old → (value : List ℕ)
+        → lines_under headers.now name.now ≡ value ∷ [] → Every plain_byte value
+        → KeptPlain parser.new result }
+{
+    parser.feed(b"")?;
+    let values = headers.get_all(name).iter();
+    for value in values {
+        parser.feed_line(value.as_bytes())?;
+    }
+    Ok(())
 }

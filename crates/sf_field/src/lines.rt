@@ -16,20 +16,6 @@ use sf_write::to_text;
 use std::alloc::Global;
 use std::hash::RandomState;
 
-// Feeds the joined text of the lines, which is empty where there is none.
-fn feed_lines(parser: &mut Parser, lines: &[Blob]) -> Result<(), Refusal>
-    requires { parser.old.after_line ≡ false }
-    ensures fed { Fed parser.old parser.new result (join lines.now) }
-    ensures plain { IsPlain parser.old → (line : List ℕ) → lines.now ≡ line ∷ []
-        → Every plain_byte line → KeptPlain parser.new result }
-{
-    parser.feed(b"")?;
-    for line in lines {
-        parser.feed_line(line.as_bytes())?;
-    }
-    Ok(())
-}
-
 /// The value that the lines spell together, in this dialect: that of their text joined by a comma
 /// and a space, in which the places of a refusal are counted. It is TooLong only where that text
 /// has 2^64 bytes or more, and never ReadFault. A single line of spaces, `-` and digits takes no
@@ -46,6 +32,7 @@ pub fn parse_lines_in(
     lines: &[Blob],
 ) -> Result<Field, Refusal>
     ensures parses { ParsesLines dialect kind lines.now result }
+    // a single line of spaces, `-` and digits is never refused for want of memory
     ensures plain { kind ≡ kind_is.Item → (line : List ℕ) → lines.now ≡ line ∷ []
         → Every plain_byte line → NotForMemory result }
 {
@@ -67,6 +54,7 @@ pub fn parse_lines(
     lines: &[Blob],
 ) -> Result<Field, Refusal>
     ensures parses { ParsesLines Rfc9651 kind lines.now result }
+    // a single line of spaces, `-` and digits is never refused for want of memory
     ensures plain { kind ≡ kind_is.Item → (line : List ℕ) → lines.now ≡ line ∷ []
         → Every plain_byte line → NotForMemory result }
 {
@@ -86,14 +74,27 @@ pub fn normalise_lines(
     kind: Kind,
     lines: &[Blob],
 ) -> Result<Vec<u8>, Refusal>
+    // the canonical text of the value, or the refusal of the lines
     ensures { MatchResult result (λ text. NormalisesTo kind lines.now text.items)
         (λ e. ParsesLines Rfc9651 kind lines.now (Err e)) }
 {
     let field = parse_lines(alloc, seed, kind, lines)?;
     let text = to_text(alloc, &field);
     drop(field);
-    match text {
-        Ok(text) => Ok(text),
-        Err(_) => Err(Refusal::OutOfMemory),
+    Ok(text?)
+}
+
+// Feeds the joined text of the lines, which is empty where there is none.
+fn feed_lines(parser: &mut Parser, lines: &[Blob]) -> Result<(), Refusal>
+    requires { parser.old.after_line ≡ false }
+    ensures fed { Fed parser.old parser.new result (join lines.now) }
+    // a plain parser stays plain over a single line of spaces, `-` and digits
+    ensures plain { IsPlain parser.old → (line : List ℕ) → lines.now ≡ line ∷ []
+        → Every plain_byte line → KeptPlain parser.new result }
+{
+    parser.feed(b"")?;
+    for line in lines {
+        parser.feed_line(line.as_bytes())?;
     }
+    Ok(())
 }

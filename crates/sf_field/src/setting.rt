@@ -51,6 +51,7 @@ impl From<OutOfMemory> for SetFault {
 /// let value = header_value(alloc, &field)?;
 /// ```
 pub fn header_value(alloc: Global, field: &Field) -> Result<HeaderValue, OutOfMemory>
+    // the canonical text, which is not marked as sensitive
     ensures { IfOk result (λ value. value ≡ plain_value (canon field.now)) }
 {
     let text = to_text(alloc, field)?;
@@ -76,6 +77,7 @@ pub fn set_field(
     field: &Field,
 ) -> Result<(), SetFault>
     ensures set { OnOk result (headers.new ≡ set_text headers.old name (canon field.now)) }
+    // it is refused as full only where the map has no room for the name
     ensures full { IsErrOf result SetFault.Full → RefusesInsert headers.old name }
     ensures same { OnErr result (headers.new ≡ headers.old) }
 {

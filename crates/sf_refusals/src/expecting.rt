@@ -1,7 +1,7 @@
 //! What the tests of all layers share.
 use sf_parse::Refusal;
 use sf_scarce::{Seen, refusals, seen_without_memory};
-use sf_value::{Bare, Failed, Field, Source, same};
+use sf_value::{Field, same};
 use std::alloc::{AllocError, Global};
 use std::process::Abort;
 
@@ -65,13 +65,10 @@ pub(crate) fn seen_minus_seven(answer: Result<Field, Refusal>) -> Seen {
 }
 
 fn is_minus_seven(field: &Field) -> bool {
-    let Field::Item(item) = field else {
+    let Some(item) = field.as_item() else {
         return false;
     };
-    match &item.bare {
-        Bare::Integer(n) => n.get() == -7 && item.params.is_empty(),
-        _ => false,
-    }
+    item.bare.as_integer().map(|n| n.get()) == Some(-7) && item.params.is_empty()
 }
 
 /// 100,000 spaces and `-007`.
@@ -82,49 +79,4 @@ pub(crate) fn padded_number(alloc: Global) -> Result<Vec<u8>, AllocError> {
     }
     text.extend_from_slice(b"-007")?;
     Ok(text)
-}
-
-/// A source that gives one byte a call.
-#[derive(Drop)]
-pub(crate) struct Drip {
-    rest: &'static [u8],
-    given: u64,
-    ends: u64,
-}
-
-impl Drip {
-    /// The source of these bytes.
-    pub(crate) fn new(rest: &'static [u8]) -> Drip {
-        Drip {
-            rest,
-            given: 0,
-            ends: 0,
-        }
-    }
-}
-
-impl Source for Drip {
-    ghost use Rattle.std.specs.Prelude.{None};
-
-    ghost state = { λ s. record {
-      to_come = None;
-      given = s.given;
-      ends = s.ends;
-      failures = 0;
-    } };
-
-    fn pull(&mut self, block: &mut [u8]) -> Result<usize, Failed> {
-        let given = self.given.saturating_add(1);
-        let Some(place) = block.first_mut() else {
-            return Ok(0);
-        };
-        let Some((first, rest)) = self.rest.split_first() else {
-            self.ends = self.ends.saturating_add(1);
-            return Ok(0);
-        };
-        *place = *first;
-        self.rest = rest;
-        self.given = given;
-        Ok(1)
-    }
 }

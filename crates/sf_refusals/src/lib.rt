@@ -3,11 +3,14 @@
 //! has for it, and leaves behind what it must, or it answers as with ample memory. Calls that take
 //! no memory are made with none left.
 //!
-//! It has tests alone, a file for each layer below: `values` for the calls of `sf_value`, `writing`
-//! for `sf_write`, `parsing` for `sf_parse`, `lines` for `sf_field`, `consumers` for `sf_use`, `tool`
-//! for `sf_tool`. They run by `rt test` alone; `sf_scarce` says why, and what they can't see.
+//! It has tests alone, a file for each layer below: `values` for the calls of `sf_value`, `building`
+//! for those that build and for what is made of a value, `writing` for `sf_write`, `parsing` for
+//! `sf_parse`, `lines` for `sf_field`, `consumers` for `sf_use`, `tool` for `sf_tool`. They run by
+//! `rt test` alone; `sf_scarce` says why, and what they can't see.
 #![tactic(auto)]
 
+#[cfg(test)]
+mod building;
 #[cfg(test)]
 mod consumers;
 #[cfg(test)]

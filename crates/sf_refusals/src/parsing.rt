@@ -1,8 +1,9 @@
 // Texts that are parsed whole, from a reader and in pieces.
 use crate::expecting::{
-    Drip, LISTED, MEMBERS, SINGLE, expect_no_need, expect_refusals, padded_number, seen_field,
-    seen_if, seen_minus_seven, seen_syntax,
+    LISTED, MEMBERS, SINGLE, expect_no_need, expect_refusals, padded_number, seen_field, seen_if,
+    seen_minus_seven, seen_syntax,
 };
+use sf_devices::Paced;
 use sf_parse::{Parser, Refusal, parse_reader, parse_text, parse_text_in};
 use sf_scarce::{Scarcity, Seen, refusals};
 use sf_value::{Dialect, Field, Kind};
@@ -78,8 +79,10 @@ fn refused_texts(rt: HostRuntime) -> Result<(), Fail> {
     Ok(())
 }
 
-fn read(alloc: Global, seed: &RandomState, text: &'static [u8]) -> Result<Field, Refusal> {
-    parse_reader(alloc, seed, Kind::Dict, u64::MAX, &mut Drip::new(text))
+// The Dictionary of a text that a reader gives a byte a call.
+fn read(alloc: Global, seed: &RandomState, text: &[u8]) -> Result<Field, Refusal> {
+    let mut source = Paced::new(text, 1, 0, 0);
+    parse_reader(alloc, seed, Kind::Dict, u64::MAX, &mut source)
 }
 
 #[test]

@@ -1,6 +1,7 @@
 // The words of the command, and runs of it.
-use crate::expecting::{Drip, seen_if};
+use crate::expecting::seen_if;
 use http_header::HeaderName;
+use sf_devices::Paced;
 use sf_scarce::{Seen, refusals, seen_without_memory};
 use sf_tool::{Request, RequestFault, Status, read_request, run};
 use sf_value::{Dialect, Kind, Writing};
@@ -138,7 +139,8 @@ fn ran(alloc: Global, seed: &RandomState, request: &Request, row: Row, room: &mu
     let (input, text, status) = row;
     room.clear();
     let mut sink = Writing::new(&mut *room);
-    let answer = run(alloc, seed, request, &mut Drip::new(input), &mut sink);
+    let mut source = Paced::new(input, 1, 0, 0);
+    let answer = run(alloc, seed, request, &mut source, &mut sink);
     if answer == Status::Stopped && room.is_empty() {
         Seen::Refused
     } else {

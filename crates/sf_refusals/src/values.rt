@@ -113,22 +113,14 @@ fn number(byte: u8) -> Result<Bare, Fail> {
 }
 
 fn is_number(bare: &Bare, byte: u8) -> bool {
-    match bare {
-        Bare::Integer(n) => n.get() == i64::from(byte),
-        _ => false,
-    }
+    bare.as_integer().map(|n| n.get()) == Some(i64::from(byte))
 }
 
 // The entries of the first so many names.
 fn entries_of(alloc: Global, seed: &RandomState, count: usize) -> Result<Entries<Bare>, Fail> {
     let mut entries = Entries::new(alloc, seed);
     for name in NAMES.iter().take(count) {
-        if entries
-            .put(Key::new(alloc, &[*name])?, number(*name)?)
-            .is_err()
-        {
-            return Err(Fail::from("no memory"));
-        }
+        entries.set(Key::new(alloc, &[*name])?, number(*name)?)?;
     }
     Ok(entries)
 }
@@ -217,6 +209,37 @@ fn new_keys(rt: HostRuntime) -> Result<(), Fail> {
         }
     }
     assert!(rt; grew > 1, "{grew}");
+    Ok(())
+}
+
+// Sets a new key, of one byte, which takes no memory; a refusal leaves the entries as they were.
+fn set_new(alloc: Global, filled: &mut Vec<Entries<Bare>>, count: usize) -> Seen {
+    let (Some(mut entries), Ok(key)) = (filled.pop(), Key::new(alloc, b"z")) else {
+        return Seen::Wrong;
+    };
+    match entries.set(key, Bare::Boolean(true)) {
+        Ok(()) => seen_if(entries.len() > count && entries.contains_key(b"z")),
+        Err(OutOfMemory) => {
+            if are_first(&entries, count) && filled.push(entries).is_ok() {
+                Seen::Refused
+            } else {
+                Seen::Wrong
+            }
+        }
+    }
+}
+
+#[test]
+fn keys_that_are_set(rt: HostRuntime) -> Result<(), Fail> {
+    let alloc = rt.alloc();
+    let seed = RandomState::new(&rt)?;
+    for count in [0, 8usize] {
+        let mut filled = Vec::with_capacity(alloc, 2)?;
+        for _ in 0..2 {
+            filled.push(entries_of(alloc, &seed, count)?)?;
+        }
+        expect_refusals(&rt, || set_new(alloc, &mut filled, count));
+    }
     Ok(())
 }
 

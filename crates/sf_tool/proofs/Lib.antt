@@ -1,5 +1,5 @@
 pub mod Cuts
-pub mod Steps
+pub mod Walks
 pub mod Names
 pub mod Room
 pub mod LineByLine

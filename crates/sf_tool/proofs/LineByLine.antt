@@ -16,9 +16,9 @@ use Rattle.sf_field.specs.Headers.{Headers}
 use Rattle.sf_tool.specs.Lines.{lines_of}
 use Rattle.sf_tool.specs.Fields.{Targets, is_refused, is_of_listed, field_of, name_of}
 use Rattle.sf_tool.specs.Fields.{listed_fields}
-use Rattle.sf_tool.specs.Fields.{headers_of, IsOver, IsRefusedAt, AreTaken, AreFields}
+use Rattle.sf_tool.specs.Fields.{headers_of, IsOver, IsRefusedAt, NoneIsRefused, AreFields}
 use Rattle.sf_tool.specs.Fields.{IsFirstRefused}
-use Rattle.sf_tool.specs.OneLine.{Takes, FindsNoRoom}
+use Rattle.sf_tool.specs.OneLine.{AddsField, FindsNoRoom}
 
 -- the fields of one line more
 headers-more : (targets : Targets) (lines : List (List ℕ)) (line : List ℕ)
@@ -40,7 +40,7 @@ pub record ReadsOn (targets : Targets) (all left : List (List ℕ)) (n : ℕ) (h
   pub rest : left ≡ drop n all
   pub within : n ≤ length all
   pub held : headers ≡ headers_of targets (take n all)
-  pub taken : AreTaken targets all n
+  pub taken : NoneIsRefused targets all n
 
 pub reads_on-start : (targets : Targets) (all : List (List ℕ)) → ReadsOn targets all all 0 []
 reads_on-start targets all = record {
@@ -70,10 +70,10 @@ not-refused targets all line n old e h good room =
     ])
 
 -- a line is taken
-pub reads_on-takes : (targets : Targets) (all more : List (List ℕ)) (line : List ℕ) (n : ℕ)
-    (old new : Headers) → ReadsOn targets all (line ∷ more) n old → Takes targets line old new
+pub reads_on-adds : (targets : Targets) (all more : List (List ℕ)) (line : List ℕ) (n : ℕ)
+    (old new : Headers) → ReadsOn targets all (line ∷ more) n old → AddsField targets line old new
     → ReadsOn targets all more (n + 1) new
-reads_on-takes targets all more line n old new r t =
+reads_on-adds targets all more line n old new r t =
     let here = at all more line n r.rest r.within in
     let lt = here.0 in
     let longer : take (n + 1) all ≡ take n all ++ line ∷ [] =
@@ -121,7 +121,7 @@ reads_on-done targets input left n headers r e =
     let same : length left ≡ length (drop n all) = ap length r.rest in
     let w = r.within in
     let whole : n ≡ length all = omega (arith, length-drop n all) in (
-      subst (AreTaken targets all) whole r.taken,
+      subst (NoneIsRefused targets all) whole r.taken,
       r.held
           ∙ ap (λ k. headers_of targets (take k all)) whole
           ∙ ap (headers_of targets) (take-length all),

@@ -14,7 +14,7 @@ use Rattle.http_header.specs.HeaderMap.{Entry, Entries, keys, update, append}
 use Rattle.http_header.specs.HeaderMap.{value_count, RefusesAppend}
 use Rattle.sf_field.specs.Headers.{Headers}
 use Rattle.sf_tool.specs.Fields.{Targets, is_listed, is_of_listed, field_of, name_of, has_name}
-use Rattle.sf_tool.specs.OneLine.{Takes}
+use Rattle.sf_tool.specs.OneLine.{AddsField}
 
 module _ {X : Type 0} where
   -- a name of the map after an update was there, or is the new one
@@ -144,9 +144,9 @@ is_listed-of targets line h =
     ]
 
 -- the map after one line more
-pub IsListedMap-takes : (targets : Targets) (line : List ℕ) (old new : Headers) (n : ℕ)
-    → IsListedMap targets old n → Takes targets line old new → IsListedMap targets new (n + 1)
-IsListedMap-takes targets line old new n map taken =
+pub IsListedMap-adds : (targets : Targets) (line : List ℕ) (old new : Headers) (n : ℕ)
+    → IsListedMap targets old n → AddsField targets line old new → IsListedMap targets new (n + 1)
+IsListedMap-adds targets line old new n map taken =
     let P : Headers → Type 0 = λ m. IsListedMap targets m (n + 1) in
     subst P (sym taken.2)
     (elim (cases_Bool (is_of_listed targets line)) [

@@ -6,6 +6,7 @@ use Rattle.std.specs.Str.{bytes_eq}
 use Rattle.http_header.specs.Token.{lowercase}
 use Rattle.http_header.specs.FieldValue.{FieldValue, plain_value}
 use Rattle.http_header.specs.HeaderMap.{append_all, RefusesAppend}
+use Rattle.sf_value.specs.Ascii.{colon, del, space, tab}
 use Rattle.sf_value.specs.Grammar.Classes.{is_tchar}
 use Rattle.sf_field.specs.Headers.{Headers}
 use Rattle.sf_tool.specs.declared.fields.InputFault.{InputFault}
@@ -13,7 +14,7 @@ use Rattle.sf_tool.specs.declared.fields.InputFault.TheVariants.{Line, OutOfMemo
 use Rattle.sf_tool.specs.Lines.{lines_of, trim}
 
 abbrev pub is_colon : ℕ → Bool
-is_colon b = b == 58
+is_colon b = b == colon
 
 -- 1 to 65,535 tchars (RFC 9110 sections 5.1 and 5.6.2; the length is that of http_header)
 abbrev pub is_header_name : List ℕ → Bool
@@ -22,11 +23,11 @@ is_header_name word =
 
 -- 0x00 to 0x1F and 0x7F
 abbrev pub is_control : ℕ → Bool
-is_control b = nat_lt b 32 || b == 127
+is_control b = nat_lt b space || b == del
 
 -- no control byte but HTAB (RFC 9110 section 5.5)
 abbrev pub is_field_value : List ℕ → Bool
-is_field_value value = list_all (λ b. b == 9 || not (is_control b)) value
+is_field_value value = list_all (λ b. b == tab || not (is_control b)) value
 
 -- what stands before the first colon
 abbrev pub word_of : List ℕ → List ℕ
@@ -90,13 +91,13 @@ IsRefusedAt targets lines n =
     ⊎ IsOver targets (take n lines) (get_or lines n [])
 
 -- none of the first n lines is refused
-abbrev pub AreTaken : Targets → List (List ℕ) → ℕ → Type 0
-AreTaken targets lines n = (i : ℕ) → i < n → ¬ (IsRefusedAt targets lines i)
+abbrev pub NoneIsRefused : Targets → List (List ℕ) → ℕ → Type 0
+NoneIsRefused targets lines n = (i : ℕ) → i < n → ¬ (IsRefusedAt targets lines i)
 
 -- the listed fields of an input as a header map, where none of its lines is refused
 abbrev pub AreFields : Targets → List ℕ → Headers → Type 0
 AreFields targets input headers =
-    AreTaken targets (lines_of input) (length (lines_of input))
+    NoneIsRefused targets (lines_of input) (length (lines_of input))
     × (headers ≡ headers_of targets (lines_of input))
 
 -- the number of the first line that is refused, counted from 0 over all lines
@@ -104,7 +105,7 @@ abbrev pub IsFirstRefused : Targets → List ℕ → ℕ → Type 0
 IsFirstRefused targets input n =
     (n < length (lines_of input))
     × IsRefusedAt targets (lines_of input) n
-    × AreTaken targets (lines_of input) n
+    × NoneIsRefused targets (lines_of input) n
 
 -- the input is refused for this line; of want of memory nothing is told
 abbrev pub IsFaultOf : Targets → List ℕ → InputFault → Type 0

@@ -25,8 +25,8 @@ FindsNoRoom targets line headers =
     (is_of_listed targets line ≡ true) × RefusesAppend headers (name_of line)
 
 -- the line is not refused, and its field, if it is listed, is added
-abbrev pub Takes : Targets → List ℕ → Headers → Headers → Type 0
-Takes targets line old new =
+abbrev pub AddsField : Targets → List ℕ → Headers → Headers → Type 0
+AddsField targets line old new =
     (is_refused targets line ≡ false)
     × ¬ (FindsNoRoom targets line old)
     × (new ≡ append_all old (listed_fields targets (line ∷ [])))

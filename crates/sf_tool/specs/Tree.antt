@@ -2,6 +2,7 @@
 -- spaces.
 use Rattle.std.specs.Prelude.{ℕ, ◌+◌, ◌*◌, List as Seq, [], ◌∷◌, ◌++◌, length, replicate, codes}
 use Rattle.std.specs.Prelude.{decimal}
+use Rattle.sf_value.specs.Ascii.{space}
 use Rattle.sf_value.specs.declared.value.Bare.{Bare}
 use Rattle.sf_value.specs.declared.value.Bare.TheVariants.{Integer, Decimal, Text, Token}
 use Rattle.sf_value.specs.declared.value.Bare.TheVariants.{Blob, Boolean, Date, Shown}
@@ -16,7 +17,7 @@ use Rattle.sf_value.specs.Grammar.Canonical.{canon_bare}
 
 -- what stands before a line at this depth
 abbrev pub margin : ℕ → Seq ℕ
-margin depth = replicate (2 * depth) 32
+margin depth = replicate (2 * depth) space
 
 -- the word for the type of a bare item, and a space
 abbrev pub type_word : Bare → Seq ℕ

@@ -1,7 +1,8 @@
 //! Texts with their status, each written to its end. A text is whole before its first byte is
 //! written.
-ghost use Rattle.std.specs.Prelude.{◌≡◌, ◌⊎◌, codes};
-ghost use Rattle.sf_write.specs.Writing.{Writes};
+ghost use Rattle.std.specs.Prelude.{◌≡◌, ◌⊎◌, ℕ, List, Ok, codes};
+ghost use Rattle.sf_value.specs.Devices.{SinkState};
+ghost use Rattle.sf_write.specs.Writing.{Follows};
 ghost use Rattle.sf_tool.specs.declared.status.Status.TheVariants as status_is;
 ghost use Rattle.sf_tool.specs.ChoiceLines.{field_lines, refused_line};
 ghost use Rattle.sf_tool.specs.PathLines.{not_a_cache_line, path_lines};
@@ -11,23 +12,29 @@ ghost use Rattle.sf_tool.specs.Run.{canonical_line};
 ghost use Rattle.sf_tool.specs.Texts.{too_long_line};
 ghost use Rattle.sf_tool.specs.Tree.{tree};
 
-use crate::choice::{write_chosen, write_refused_line};
-use crate::path::{write_not_a_cache, write_path};
-use crate::priority::write_priority;
-use crate::refusing::write_refusal;
+use crate::choice::put_chosen;
+use crate::path::put_path;
+use crate::priority::put_priority;
+use crate::refusing::{put_count, put_refusal};
 use crate::status::Status;
-use crate::tree::write_tree;
+use crate::tree::put_tree;
 use sf_parse::Refusal;
 use sf_use::{CachePath, Policy, Priority};
 use sf_value::{Field, Sink};
-use sf_write::{WriteFault, send_all, write_field_from};
+use sf_write::{Sent, put, put_field};
 
-/// The canonical text of a field, and a line feed.
-fn write_canonical<W: Sink>(field: &Field, out: &mut W) -> Result<u64, WriteFault>
-    ensures { Writes (W.state out.old) (W.state out.new) 0 result (canonical_line field.now) }
+/// How it ends that a text was sent: with the status of the input that it tells, where all went
+/// out.
+fn ended(sent: Sent, status: Status) -> Status
+    requires { status ≡ status_is.Accepted ⊎ status ≡ status_is.Refused }
+    // whatever text was sent, from the beginning
+    ensures { (old new : SinkState) (text : List ℕ) → Follows old new (Ok 0) sent text
+        → TellsText text status old new result }
 {
-    let written = write_field_from(field, 0, out)?;
-    send_all(b"\n", written, out)
+    match sent {
+        Ok(_) => status,
+        Err(_) => Status::Stopped,
+    }
 }
 
 /// A text that was made before, and the status of the input that it tells.
@@ -35,22 +42,14 @@ pub(crate) fn answer_made<W: Sink>(text: &[u8], status: Status, sink: &mut W) ->
     requires { status ≡ status_is.Accepted ⊎ status ≡ status_is.Refused }
     ensures { TellsText text.now status (W.state sink.old) (W.state sink.new) result }
 {
-    match send_all(text, 0, sink) {
-        Ok(_) => status,
-        Err(_) => Status::Stopped,
-    }
+    ended(put(text, Ok(0), sink), status)
 }
 
 pub(crate) fn answer_tree<W: Sink>(field: Field, sink: &mut W) -> Status
     ensures { TellsText (tree field) status_is.Accepted
         (W.state sink.old) (W.state sink.new) result }
 {
-    let written = write_tree(&field, 0, sink);
-    drop(field);
-    match written {
-        Ok(_) => Status::Accepted,
-        Err(_) => Status::Stopped,
-    }
+    ended(put_tree(&field, Ok(0), sink), Status::Accepted)
 }
 
 pub(crate) fn answer_accepted<W: Sink>(field: Field, sink: &mut W) -> Status
@@ -58,22 +57,16 @@ pub(crate) fn answer_accepted<W: Sink>(field: Field, sink: &mut W) -> Status
         (W.state sink.old) (W.state sink.new) result }
 {
     drop(field);
-    match send_all(b"accepted\n", 0, sink) {
-        Ok(_) => Status::Accepted,
-        Err(_) => Status::Stopped,
-    }
+    ended(put(b"accepted\n", Ok(0), sink), Status::Accepted)
 }
 
+/// The canonical text of a field, and a line feed.
 pub(crate) fn answer_canonical<W: Sink>(field: Field, sink: &mut W) -> Status
     ensures { TellsText (canonical_line field) status_is.Accepted
         (W.state sink.old) (W.state sink.new) result }
 {
-    let written = write_canonical(&field, sink);
-    drop(field);
-    match written {
-        Ok(_) => Status::Accepted,
-        Err(_) => Status::Stopped,
-    }
+    let sent = put_field(&field, Ok(0), sink);
+    ended(put(b"\n", sent, sink), Status::Accepted)
 }
 
 pub(crate) fn answer_refusal<W: Sink>(refusal: Refusal, sink: &mut W) -> Status
@@ -86,13 +79,12 @@ pub(crate) fn answer_refusal<W: Sink>(refusal: Refusal, sink: &mut W) -> Status
             found,
             expected,
             may_end,
-        } => match write_refusal(place, found, expected, may_end, 0, sink) {
-            Ok(_) => Status::Refused,
-            Err(_) => Status::Stopped,
-        },
+        } => {
+            let sent = put_refusal(place, found, expected, may_end, Ok(0), sink);
+            ended(sent, Status::Refused)
+        }
         Refusal::OutOfMemory => Status::Stopped,
-        Refusal::TooLong { max: _ } => unreachable!(),
-        Refusal::ReadFault { place: _ } => unreachable!(),
+        Refusal::TooLong { .. } | Refusal::ReadFault { .. } => unreachable!(),
     }
 }
 
@@ -100,42 +92,33 @@ pub(crate) fn answer_too_long<W: Sink>(sink: &mut W) -> Status
     ensures { TellsText too_long_line status_is.Refused
         (W.state sink.old) (W.state sink.new) result }
 {
-    match send_all(b"refused too long 1048576\n", 0, sink) {
-        Ok(_) => Status::Refused,
-        Err(_) => Status::Stopped,
-    }
+    ended(
+        put(b"refused too long 1048576\n", Ok(0), sink),
+        Status::Refused,
+    )
 }
 
 pub(crate) fn answer_path<W: Sink>(path: CachePath, sink: &mut W) -> Status
     ensures { TellsText (path_lines path) status_is.Accepted
         (W.state sink.old) (W.state sink.new) result }
 {
-    let written = write_path(&path, 0, sink);
-    drop(path);
-    match written {
-        Ok(_) => Status::Accepted,
-        Err(_) => Status::Stopped,
-    }
+    ended(put_path(&path, Ok(0), sink), Status::Accepted)
 }
 
+/// The line of a refusal for the member at this place, which names no cache.
 pub(crate) fn answer_not_a_cache<W: Sink>(index: usize, sink: &mut W) -> Status
     ensures { TellsText (not_a_cache_line index) status_is.Refused
         (W.state sink.old) (W.state sink.new) result }
 {
-    match write_not_a_cache(index, 0, sink) {
-        Ok(_) => Status::Refused,
-        Err(_) => Status::Stopped,
-    }
+    let sent = put_count(b"refused not a cache ", index as u64, Ok(0), sink);
+    ended(sent, Status::Refused)
 }
 
 pub(crate) fn answer_priority<W: Sink>(priority: Priority, sink: &mut W) -> Status
     ensures { TellsText (priority_line priority) status_is.Accepted
         (W.state sink.old) (W.state sink.new) result }
 {
-    match write_priority(priority, 0, sink) {
-        Ok(_) => Status::Accepted,
-        Err(_) => Status::Stopped,
-    }
+    ended(put_priority(priority, Ok(0), sink), Status::Accepted)
 }
 
 pub(crate) fn answer_chosen<W: Sink>(
@@ -147,28 +130,26 @@ pub(crate) fn answer_chosen<W: Sink>(
     ensures { TellsText (field_lines index name.now policy.now) status_is.Accepted
         (W.state sink.old) (W.state sink.new) result }
 {
-    match write_chosen(index, name, policy, 0, sink) {
-        Ok(_) => Status::Accepted,
-        Err(_) => Status::Stopped,
-    }
+    ended(
+        put_chosen(index, name, policy, Ok(0), sink),
+        Status::Accepted,
+    )
 }
 
 pub(crate) fn answer_fallback<W: Sink>(sink: &mut W) -> Status
     ensures { TellsText (codes "fallback\n") status_is.Accepted
         (W.state sink.old) (W.state sink.new) result }
 {
-    match send_all(b"fallback\n", 0, sink) {
-        Ok(_) => Status::Accepted,
-        Err(_) => Status::Stopped,
-    }
+    ended(put(b"fallback\n", Ok(0), sink), Status::Accepted)
 }
 
+/// The line of a refusal for the line of this number.
 pub(crate) fn answer_refused_line<W: Sink>(number: u64, sink: &mut W) -> Status
     ensures { TellsText (refused_line number) status_is.Refused
         (W.state sink.old) (W.state sink.new) result }
 {
-    match write_refused_line(number, 0, sink) {
-        Ok(_) => Status::Refused,
-        Err(_) => Status::Stopped,
-    }
+    ended(
+        put_count(b"refused line ", number, Ok(0), sink),
+        Status::Refused,
+    )
 }

@@ -56,6 +56,7 @@ fn without_return(line: &[u8]) -> &[u8]
 
 /// What stands before the first of these bytes and after it, None where there is none.
 pub(crate) fn split_at_first(bytes: &[u8], separator: u8) -> Option<(&[u8], &[u8])>
+    // None where the byte does not stand there; else what is before its first place, and behind it
     ensures { MatchOption result (position_or_len (λ b. b == separator) bytes.now ≡ length
         bytes.now)
         (λ p. (position_or_len (λ b. b == separator) bytes.now < length bytes.now)
@@ -74,6 +75,7 @@ pub(crate) fn split_at_first(bytes: &[u8], separator: u8) -> Option<(&[u8], &[u8
 pub(crate) fn split_line(input: &[u8]) -> Option<(&[u8], &[u8])>
     ensures lines { MatchOption result (lines input.now ≡ [])
         (λ p. lines input.now ≡ p.0.now ∷ lines p.1.now) }
+    // a line is taken off, so that a loop over the lines ends
     ensures shorter { IfSome result (λ p. length p.1.now < length input.now) }
     ensures within { IfSome result (λ p. length p.0.now + length p.1.now ≤ length input.now) }
 {
@@ -91,6 +93,7 @@ pub(crate) fn split_line(input: &[u8]) -> Option<(&[u8], &[u8])>
 /// spaces and tabs at both ends of each line.
 pub(crate) fn lines_of(alloc: Global, input: &[u8]) -> Result<Vec<Blob>, OutOfMemory>
     ensures lines { IfOk result (λ lines. lines.items ≡ lines_of input.now) }
+    // the commas and spaces between two lines add at most two bytes for each byte of the input
     ensures short { IfOk result (λ lines. length (join lines.items) ≤ 3 * length input.now) }
 {
     let mut lines = Vec::new(alloc);

@@ -1,7 +1,7 @@
 //! The listed fields of an input of field lines.
 ghost use Rattle.std.specs.Prelude.{◌≡◌, IfOk, MatchResult};
 ghost use Rattle.sf_tool.specs.Fields.{is_listed, AreFields, IsFaultOf};
-ghost use Rattle.sf_tool.specs.OneLine.{IsLine, IsLineFault, Takes};
+ghost use Rattle.sf_tool.specs.OneLine.{IsLine, IsLineFault, AddsField};
 
 use crate::cutting::{split_at_first, split_line, trimmed};
 use http_header::{
@@ -79,7 +79,8 @@ fn take_line(
     line: &[u8],
     headers: &mut HeaderMap,
 ) -> Result<(), LineFault>
-    ensures { MatchResult result (λ _. Takes targets.now line.now headers.old headers.new)
+    // the line's field, if it is listed, was added, or this is why it was not
+    ensures { MatchResult result (λ _. AddsField targets.now line.now headers.old headers.new)
         (IsLineFault targets.now line.now headers.old) }
 {
     let read = match read_line(alloc, targets, line) {
@@ -111,6 +112,7 @@ pub(crate) fn read_fields(
     targets: &[HeaderName],
     input: &[u8],
 ) -> Result<HeaderMap, InputFault>
+    // the listed fields, where no line is refused; else the first line that is
     ensures { MatchResult result (AreFields targets.now input.now)
         (IsFaultOf targets.now input.now) }
 {

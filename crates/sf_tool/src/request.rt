@@ -225,6 +225,7 @@ fn header_name(alloc: Global, word: &str) -> Result<HeaderName, RequestFault>
 
 /// The request that has the words for its names.
 fn targeted(alloc: Global, words: &[&str]) -> Result<Request, RequestFault>
+    // the request for these names, or why there is none
     ensures { MatchResult result (IsTargetedOf (map (λ w. w.now) words.now))
         (IsNamesFault (map (λ w. w.now) words.now)) }
 {

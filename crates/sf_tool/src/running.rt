@@ -40,12 +40,11 @@ fn parse_input(
 ) -> Result<Field, Refusal>
     requires { length input.now ≤ 1048576 }
     ensures parses { ParsesLines dialect kind (lines_of input.now) result }
+    // it is refused for the text or for want of memory, and never as too long
     ensures of_text { IfErr result IsOfText }
 {
-    match lines_of(alloc, input) {
-        Ok(lines) => parse_lines_in(alloc, seed, dialect, kind, lines.as_slice()),
-        Err(_) => Err(Refusal::OutOfMemory),
-    }
+    let lines = lines_of(alloc, input)?;
+    parse_lines_in(alloc, seed, dialect, kind, lines.as_slice())
 }
 
 /// The tree of the input's field, or why it is refused.
@@ -114,6 +113,7 @@ fn ask_input<C: Consumer>(
 ) -> Result<C::Answer, AskFault>
     requires { length input.now ≤ 1048576 }
     ensures asks { Asks C.KIND (C.meaning consumer.now) (lines_of input.now) result }
+    // so is it here, or the value has no answer
     ensures of_text { IfErr result IsAskOfText }
 {
     match lines_of(alloc, input) {

@@ -42,6 +42,7 @@ impl Status {
     /// How the command ends that ran so and whose output was then flushed with this outcome: as it
     /// ran, but `Stopped` where the flush failed. It takes no memory.
     pub fn after_flush<E: Drop>(self, flushed: Result<(), E>) -> Status
+        // where the flush succeeded, and where it failed
         ensures { MatchResult flushed (λ _. result ≡ self) (λ _. result ≡ Stopped) }
     {
         match flushed {

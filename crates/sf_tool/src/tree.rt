@@ -1,13 +1,13 @@
 //! The indented tree of a field. Nothing here takes memory.
-ghost use Rattle.std.specs.Prelude.{◌≡◌, ◌≤◌, ◌++◌, codes, length};
-ghost use Rattle.sf_write.specs.Writing.{Writes};
-ghost use Rattle.sf_tool.specs.Tree.{margin, type_word, bare_line, count_line, param_lines};
+ghost use Rattle.std.specs.Prelude.{◌≡◌, ◌≤◌};
+ghost use Rattle.sf_write.specs.Writing.{Follows};
+ghost use Rattle.sf_tool.specs.Tree.{margin, type_word, bare_line, param_lines};
 ghost use Rattle.sf_tool.specs.Tree.{item_lines, items_lines, inner_lines, member_lines};
 ghost use Rattle.sf_tool.specs.Tree.{members_lines, entries_lines, tree};
 
-use crate::refusing::write_number;
-use sf_value::{Bare, Dict, Entries, Field, Inner, Item, List, Member, Sink};
-use sf_write::{WriteFault, send_all, write_bare_from};
+use crate::refusing::put_count;
+use sf_value::{Bare, Entries, Field, Inner, Item, Member, Sink};
+use sf_write::{Sent, put, put_bare};
 
 /// What stands before a line at this depth: two spaces for each parent. No line of a tree stands
 /// deeper than 3.
@@ -39,192 +39,128 @@ fn type_word(bare: &Bare) -> &'static [u8]
     }
 }
 
-fn write_margin<W: Sink>(depth: usize, before: u64, out: &mut W) -> Result<u64, WriteFault>
+fn put_margin<W: Sink>(depth: usize, before: Sent, out: &mut W) -> Sent
     requires { depth ≤ 3 }
-    ensures { Writes (W.state out.old) (W.state out.new) before result (margin depth) }
+    ensures { Follows (W.state out.old) (W.state out.new) before result (margin depth) }
 {
-    send_all(margin(depth), before, out)
-}
-
-fn write_type_word<W: Sink>(bare: &Bare, before: u64, out: &mut W) -> Result<u64, WriteFault>
-    ensures { Writes (W.state out.old) (W.state out.new) before result (type_word bare.now) }
-{
-    send_all(type_word(bare), before, out)
+    put(margin(depth), before, out)
 }
 
 /// A bare item, to the end of its line.
-fn write_bare_line<W: Sink>(bare: &Bare, before: u64, out: &mut W) -> Result<u64, WriteFault>
-    ensures { Writes (W.state out.old) (W.state out.new) before result (bare_line bare.now) }
+fn put_bare_line<W: Sink>(bare: &Bare, before: Sent, out: &mut W) -> Sent
+    ensures { Follows (W.state out.old) (W.state out.new) before result (bare_line bare.now) }
 {
-    let written = write_type_word(bare, before, out)?;
-    let written = write_bare_from(bare, written, out)?;
-    send_all(b"\n", written, out)
-}
-
-/// A word and a number, to the end of the line.
-fn write_count<W: Sink>(
-    word: &[u8],
-    count: usize,
-    before: u64,
-    out: &mut W,
-) -> Result<u64, WriteFault>
-    ensures { Writes (W.state out.old) (W.state out.new) before result
-        (count_line word.now count) }
-{
-    let written = send_all(word, before, out)?;
-    let written = write_number(count as u64, written, out)?;
-    send_all(b"\n", written, out)
+    let sent = put(type_word(bare), before, out);
+    let sent = put_bare(bare, sent, out);
+    put(b"\n", sent, out)
 }
 
 /// Parameters, a line each.
-fn write_params<W: Sink>(
-    depth: usize,
-    params: &Entries<Bare>,
-    before: u64,
-    out: &mut W,
-) -> Result<u64, WriteFault>
+fn put_params<W: Sink>(depth: usize, params: &Entries<Bare>, before: Sent, out: &mut W) -> Sent
     requires { depth ≤ 3 }
-    ensures { Writes (W.state out.old) (W.state out.new) before result
+    ensures { Follows (W.state out.old) (W.state out.new) before result
         (param_lines depth params.now) }
 {
-    let mut written = before;
+    let mut sent = before;
     for (key, value) in params {
-        written = write_margin(depth, written, out)?;
-        written = send_all(b"; ", written, out)?;
-        written = send_all(key, written, out)?;
-        written = send_all(b" ", written, out)?;
-        written = write_bare_line(value, written, out)?;
+        sent = put_margin(depth, sent, out);
+        sent = put(b"; ", sent, out);
+        sent = put(key, sent, out);
+        sent = put(b" ", sent, out);
+        sent = put_bare_line(value, sent, out);
     }
-    Ok(written)
+    sent
 }
 
 /// An Item, behind what stands before it in its line.
-fn write_item<W: Sink>(
-    depth: usize,
-    item: &Item,
-    before: u64,
-    out: &mut W,
-) -> Result<u64, WriteFault>
+fn put_item<W: Sink>(depth: usize, item: &Item, before: Sent, out: &mut W) -> Sent
     requires { depth ≤ 2 }
-    ensures { Writes (W.state out.old) (W.state out.new) before result (item_lines depth item.now) }
+    ensures { Follows (W.state out.old) (W.state out.new) before result (item_lines depth item.now) }
 {
-    let written = write_bare_line(&item.bare, before, out)?;
-    write_params(depth + 1, &item.params, written, out)
+    let sent = put_bare_line(&item.bare, before, out);
+    put_params(depth + 1, &item.params, sent, out)
 }
 
 /// The Items of an Inner List.
-fn write_items<W: Sink>(
-    depth: usize,
-    items: &[Item],
-    before: u64,
-    out: &mut W,
-) -> Result<u64, WriteFault>
+fn put_items<W: Sink>(depth: usize, items: &[Item], before: Sent, out: &mut W) -> Sent
     requires { depth ≤ 2 }
-    ensures { Writes (W.state out.old) (W.state out.new) before result
+    ensures { Follows (W.state out.old) (W.state out.new) before result
         (items_lines depth items.now) }
 {
-    let mut written = before;
+    let mut sent = before;
     for item in items {
-        written = write_margin(depth, written, out)?;
-        written = write_item(depth, item, written, out)?;
+        sent = put_margin(depth, sent, out);
+        sent = put_item(depth, item, sent, out);
     }
-    Ok(written)
+    sent
 }
 
 /// An Inner List, behind what stands before it in its line.
-fn write_inner<W: Sink>(
-    depth: usize,
-    inner: &Inner,
-    before: u64,
-    out: &mut W,
-) -> Result<u64, WriteFault>
+fn put_inner<W: Sink>(depth: usize, inner: &Inner, before: Sent, out: &mut W) -> Sent
     requires { depth ≤ 1 }
-    ensures { Writes (W.state out.old) (W.state out.new) before result
+    ensures { Follows (W.state out.old) (W.state out.new) before result
         (inner_lines depth inner.now) }
 {
-    let written = write_count(b"inner ", inner.items.len(), before, out)?;
-    let written = write_items(depth + 1, inner.items.as_slice(), written, out)?;
-    write_params(depth + 1, &inner.params, written, out)
+    let sent = put_count(b"inner ", inner.items.len() as u64, before, out);
+    let sent = put_items(depth + 1, inner.items.as_slice(), sent, out);
+    put_params(depth + 1, &inner.params, sent, out)
 }
 
 /// A member, behind what stands before it in its line.
-fn write_member<W: Sink>(member: &Member, before: u64, out: &mut W) -> Result<u64, WriteFault>
-    ensures { Writes (W.state out.old) (W.state out.new) before result (member_lines 1 member.now) }
+fn put_member<W: Sink>(member: &Member, before: Sent, out: &mut W) -> Sent
+    ensures { Follows (W.state out.old) (W.state out.new) before result (member_lines 1 member.now) }
 {
     match member {
-        Member::Item(item) => write_item(1, item, before, out),
-        Member::Inner(inner) => write_inner(1, inner, before, out),
+        Member::Item(item) => put_item(1, item, before, out),
+        Member::Inner(inner) => put_inner(1, inner, before, out),
     }
 }
 
 /// The members of a List.
-fn write_members<W: Sink>(members: &[Member], before: u64, out: &mut W) -> Result<u64, WriteFault>
-    ensures { Writes (W.state out.old) (W.state out.new) before result
+fn put_members<W: Sink>(members: &[Member], before: Sent, out: &mut W) -> Sent
+    ensures { Follows (W.state out.old) (W.state out.new) before result
         (members_lines members.now) }
 {
-    let mut written = before;
+    let mut sent = before;
     for member in members {
-        written = write_margin(1, written, out)?;
-        written = write_member(member, written, out)?;
+        sent = put_margin(1, sent, out);
+        sent = put_member(member, sent, out);
     }
-    Ok(written)
+    sent
 }
 
 /// The members of a Dictionary.
-fn write_entries<W: Sink>(
-    entries: &Entries<Member>,
-    before: u64,
-    out: &mut W,
-) -> Result<u64, WriteFault>
-    ensures { Writes (W.state out.old) (W.state out.new) before result
+fn put_entries<W: Sink>(entries: &Entries<Member>, before: Sent, out: &mut W) -> Sent
+    ensures { Follows (W.state out.old) (W.state out.new) before result
         (entries_lines entries.now) }
 {
-    let mut written = before;
+    let mut sent = before;
     for (key, member) in entries {
-        written = write_margin(1, written, out)?;
-        written = send_all(key, written, out)?;
-        written = send_all(b" = ", written, out)?;
-        written = write_member(member, written, out)?;
+        sent = put_margin(1, sent, out);
+        sent = put(key, sent, out);
+        sent = put(b" = ", sent, out);
+        sent = put_member(member, sent, out);
     }
-    Ok(written)
-}
-
-fn write_item_tree<W: Sink>(item: &Item, before: u64, out: &mut W) -> Result<u64, WriteFault>
-    ensures { Writes (W.state out.old) (W.state out.new) before result
-        (codes "item\n" ++ (margin 1 ++ item_lines 1 item.now)) }
-{
-    let written = send_all(b"item\n", before, out)?;
-    let written = write_margin(1, written, out)?;
-    write_item(1, item, written, out)
-}
-
-fn write_list_tree<W: Sink>(list: &List, before: u64, out: &mut W) -> Result<u64, WriteFault>
-    ensures { Writes (W.state out.old) (W.state out.new) before result
-        (count_line (codes "list ") (length list.now.members) ++ members_lines list.now.members) }
-{
-    let written = write_count(b"list ", list.members.len(), before, out)?;
-    write_members(list.members.as_slice(), written, out)
-}
-
-fn write_dict_tree<W: Sink>(dict: &Dict, before: u64, out: &mut W) -> Result<u64, WriteFault>
-    ensures { Writes (W.state out.old) (W.state out.new) before result
-        (count_line (codes "dict ") (length dict.now.members) ++ entries_lines dict.now.members) }
-{
-    let written = write_count(b"dict ", dict.members.len(), before, out)?;
-    write_entries(&dict.members, written, out)
+    sent
 }
 
 /// The tree of a field.
-pub(crate) fn write_tree<W: Sink>(
-    field: &Field,
-    before: u64,
-    out: &mut W,
-) -> Result<u64, WriteFault>
-    ensures { Writes (W.state out.old) (W.state out.new) before result (tree field.now) }
+pub(crate) fn put_tree<W: Sink>(field: &Field, before: Sent, out: &mut W) -> Sent
+    ensures { Follows (W.state out.old) (W.state out.new) before result (tree field.now) }
 {
     match field {
-        Field::Item(item) => write_item_tree(item, before, out),
-        Field::List(list) => write_list_tree(list, before, out),
-        Field::Dict(dict) => write_dict_tree(dict, before, out),
+        Field::Item(item) => {
+            let sent = put(b"item\n", before, out);
+            let sent = put_margin(1, sent, out);
+            put_item(1, item, sent, out)
+        }
+        Field::List(list) => {
+            let sent = put_count(b"list ", list.members.len() as u64, before, out);
+            put_members(list.members.as_slice(), sent, out)
+        }
+        Field::Dict(dict) => {
+            let sent = put_count(b"dict ", dict.members.len() as u64, before, out);
+            put_entries(&dict.members, sent, out)
+        }
     }
 }

@@ -3,12 +3,10 @@
 //! urgent a response is ([`priority`], RFC 9218).
 //!
 //! [`CacheStatus`], [`Directives`] and [`PriorityField`] are consumers ([`sf_field::Consumer`]),
-//! asked
-//! about field lines by [`sf_field::ask`]: any spelling of a value is answered alike. [`select`]
-//! finds
-//! the field of a target list that a cache obeys, and the [`Policy`] that it says. What a client
-//! and a
-//! server say of a priority is joined by [`merge`], and the defaults are filled in last.
+//! asked about field lines by [`sf_field::ask`]: any spelling of a value is answered alike.
+//! [`select`] finds the field of a target list that a cache obeys, and the [`Policy`] that it says.
+//! What a client and a server say of a priority is joined by [`merge`], and the defaults are filled
+//! in last.
 //!
 //! Contracts say of each answer that it is the meaning of the field, as `specs/` defines it in the
 //! words of the RFC.

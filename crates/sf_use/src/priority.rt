@@ -30,6 +30,37 @@ impl Model for Urgency {
     ghost inverse = { λ u. record { value = u } };
 }
 
+/// What a field asks for; `None` is a part that it does not say (RFC 9218 section 4). A client asks
+/// in a request, a server in a response.
+#[derive(Clone, Copy, Debug, Default, PartialEq, Eq)]
+pub struct Asked {
+    /// `u`: how urgent the response is.
+    pub urgency: Option<Urgency>,
+    /// `i`: whether the response is of use while it arrives.
+    pub incremental: Option<bool>,
+}
+
+/// A priority, with both its parts (RFC 9218 section 4).
+///
+/// ```
+/// let priority = Priority { urgency: Urgency::new(1)?, incremental: true }; // u=1, i
+/// ```
+#[derive(Clone, Copy, Debug, Default, PartialEq, Eq)]
+pub struct Priority {
+    /// How urgent the response is (section 4.1).
+    pub urgency: Urgency,
+    /// Whether the response is of use while it arrives (section 4.2).
+    pub incremental: bool,
+}
+
+/// Reads the Priority field (RFC 9218 section 5), a Dictionary. Its answer takes no memory.
+///
+/// ```
+/// let asked = ask(alloc, &seed, &PriorityField, lines.as_slice())?;
+/// ```
+#[derive(Clone, Copy, Debug, Default, PartialEq, Eq)]
+pub struct PriorityField;
+
 impl Urgency {
     /// The urgency of this number, from 0 to 7; `OutOfRange` exactly where it is greater. It takes
     /// no memory.
@@ -58,6 +89,43 @@ impl Urgency {
     }
 }
 
+impl Priority {
+    /// What a Dictionary asks for: `u` where it is an Integer from 0 to 7, `i` where it is a
+    /// Boolean. Other members are ignored, and so are values of another type or out of range, and
+    /// parameters (RFC 9218 section 4). It takes no memory.
+    ///
+    /// ```
+    /// // u=5, i
+    /// let asked = Priority::from_dict(&dict);
+    /// assert_eq!(rt; asked.with_defaults().incremental, true);
+    /// ```
+    pub fn from_dict(dict: &Dict) -> Asked
+        ensures { result ≡ asked dict.now }
+    {
+        Asked {
+            urgency: urgency_in(dict.get(b"u")),
+            incremental: boolean_in(dict.get(b"i")),
+        }
+    }
+}
+
+impl Asked {
+    /// The priority, with the defaults for the parts that are not said: urgency 3, not incremental
+    /// (RFC 9218 section 4). Fill them in after [`merge`]. It takes no memory.
+    ///
+    /// ```
+    /// Asked::default().with_defaults() // urgency 3, not incremental
+    /// ```
+    pub fn with_defaults(self) -> Priority
+        ensures { result ≡ filled self }
+    {
+        Priority {
+            urgency: self.urgency.unwrap_or_default(),
+            incremental: self.incremental.unwrap_or_default(),
+        }
+    }
+}
+
 /// The urgency of this number, as [`Urgency::new`] gives it.
 impl TryFrom<u8> for Urgency {
     type Error = OutOfRange;
@@ -81,122 +149,6 @@ impl Default for Urgency {
         Urgency { value: 3 }
     }
 }
-
-/// What a field asks for; `None` is a part that it does not say (RFC 9218 section 4). A client asks
-/// in a request, a server in a response.
-#[derive(Clone, Copy, Debug, Default, PartialEq, Eq)]
-pub struct Asked {
-    /// `u`: how urgent the response is.
-    pub urgency: Option<Urgency>,
-    /// `i`: whether the response is of use while it arrives.
-    pub incremental: Option<bool>,
-}
-
-/// A priority, with both its parts (RFC 9218 section 4).
-///
-/// ```
-/// let priority = Priority { urgency: Urgency::new(1)?, incremental: true }; // u=1, i
-/// ```
-#[derive(Clone, Copy, Debug, Default, PartialEq, Eq)]
-pub struct Priority {
-    /// How urgent the response is (section 4.1).
-    pub urgency: Urgency,
-    /// Whether the response is of use while it arrives (section 4.2).
-    pub incremental: bool,
-}
-
-// The urgency that a member says: an Integer from 0 to 7.
-fn urgency_in(member: Option<&Member>) -> Option<Urgency>
-    ensures { result ≡ urgency (option_copied member.entry) }
-{
-    let Some(Member::Item(item)) = member else {
-        return None;
-    };
-    let Bare::Integer(number) = &item.bare else {
-        return None;
-    };
-    let number = number.get();
-    if number < 0 || 7 < number {
-        return None;
-    }
-    Some(Urgency {
-        value: number as u8,
-    })
-}
-
-// The Boolean that a member says.
-fn boolean_in(member: Option<&Member>) -> Option<bool>
-    ensures { result ≡ incremental (option_copied member.entry) }
-{
-    let Some(Member::Item(item)) = member else {
-        return None;
-    };
-    match item.bare {
-        Bare::Boolean(incremental) => Some(incremental),
-        _ => None,
-    }
-}
-
-impl Priority {
-    /// What a Dictionary asks for: `u` where it is an Integer from 0 to 7, `i` where it is a
-    /// Boolean. Other members are ignored, and so are values of another type or out of range, and
-    /// parameters (RFC 9218 section 4). It takes no memory.
-    ///
-    /// ```
-    /// // u=5, i
-    /// let asked = Priority::from_dict(&dict);
-    /// assert_eq!(rt; asked.with_defaults().incremental, true);
-    /// ```
-    pub fn from_dict(dict: &Dict) -> Asked
-        ensures { result ≡ asked dict.now }
-    {
-        Asked {
-            urgency: urgency_in(dict.members.get(b"u")),
-            incremental: boolean_in(dict.members.get(b"i")),
-        }
-    }
-}
-
-impl Asked {
-    /// The priority, with the defaults for the parts that are not said: urgency 3, not incremental
-    /// (RFC 9218 section 4). Fill them in after [`merge`]. It takes no memory.
-    ///
-    /// ```
-    /// Asked::default().with_defaults() // urgency 3, not incremental
-    /// ```
-    pub fn with_defaults(self) -> Priority
-        ensures { result ≡ filled self }
-    {
-        Priority {
-            urgency: self.urgency.unwrap_or_default(),
-            incremental: self.incremental.unwrap_or_default(),
-        }
-    }
-}
-
-/// What a client and a server ask for together: each part as the server says it, where it does,
-/// else as the client does (RFC 9218 section 8). It takes no memory.
-///
-/// ```
-/// // the request said u=5, i and the response u=1
-/// let priority = merge(client, server).with_defaults(); // urgency 1, incremental
-/// ```
-pub fn merge(client: Asked, server: Asked) -> Asked
-    ensures { result ≡ merged client server }
-{
-    Asked {
-        urgency: server.urgency.or(client.urgency),
-        incremental: server.incremental.or(client.incremental),
-    }
-}
-
-/// Reads the Priority field (RFC 9218 section 5), a Dictionary. Its answer takes no memory.
-///
-/// ```
-/// let asked = ask(alloc, &seed, &PriorityField, lines.as_slice())?;
-/// ```
-#[derive(Clone, Copy, Debug, Default, PartialEq, Eq)]
-pub struct PriorityField;
 
 impl Consumer for PriorityField {
     ghost use Rattle.std.specs.Prelude.{◌≡◌, Ok, IsOk};
@@ -225,20 +177,20 @@ impl Consumer for PriorityField {
     }
 }
 
-// Puts an Item without parameters under the key of one letter.
-fn put_item(
-    alloc: Global,
-    seed: &RandomState,
-    members: &mut Entries<Member>,
-    letter: u8,
-    bare: Bare,
-) -> Result<(), OutOfMemory>
-    requires { is_key_start letter ≡ true }
-    ensures { IfOk result (λ _. members.new ≡ put members.old (letter ∷ []) (plain bare)) }
+/// What a client and a server ask for together: each part as the server says it, where it does,
+/// else as the client does (RFC 9218 section 8). It takes no memory.
+///
+/// ```
+/// // the request said u=5, i and the response u=1
+/// let priority = merge(client, server).with_defaults(); // urgency 1, incremental
+/// ```
+pub fn merge(client: Asked, server: Asked) -> Asked
+    ensures { result ≡ merged client server }
 {
-    let key = Key::first(alloc, letter)?;
-    let item = Item::new(alloc, seed, bare);
-    members.set(key, item.into())
+    Asked {
+        urgency: server.urgency.or(client.urgency),
+        incremental: server.incremental.or(client.incremental),
+    }
 }
 
 /// The Dictionary that asks for a priority: `u` where the urgency is not 3, then `i` where it is
@@ -255,17 +207,48 @@ pub fn priority_field(
     priority: Priority,
 ) -> Result<Dict, OutOfMemory>
     ensures written { IfOk result (λ dict. dict ≡ prio priority) }
+    // the default priority takes no memory
     ensures default { priority.urgency ≡ 3 → priority.incremental ≡ false → IsOk result }
 {
     let mut members = Entries::new(alloc, seed);
     if priority.urgency != Urgency::default() {
-        let Ok(number) = Int::new(i64::from(priority.urgency.get())) else {
-            unreachable!()
-        };
+        let number = Int::from(i32::from(priority.urgency.get()));
         put_item(alloc, seed, &mut members, b'u', Bare::Integer(number))?;
     }
     if priority.incremental {
         put_item(alloc, seed, &mut members, b'i', Bare::Boolean(true))?;
     }
     Ok(Dict { members })
+}
+
+// The urgency that a member says: an Integer from 0 to 7.
+fn urgency_in(member: Option<&Member>) -> Option<Urgency>
+    ensures { result ≡ urgency (option_copied member.entry) }
+{
+    let number = member?.as_item()?.bare.as_integer()?.get();
+    Urgency::new(u8::try_from(number).ok()?).ok()
+}
+
+// The Boolean that a member says.
+fn boolean_in(member: Option<&Member>) -> Option<bool>
+    ensures { result ≡ incremental (option_copied member.entry) }
+{
+    member?.as_item()?.bare.as_boolean()
+}
+
+// Puts an Item without parameters under the key of one letter.
+fn put_item(
+    alloc: Global,
+    seed: &RandomState,
+    members: &mut Entries<Member>,
+    letter: u8,
+    bare: Bare,
+) -> Result<(), OutOfMemory>
+    requires { is_key_start letter ≡ true }
+    // the Item is put under the key of this letter
+    ensures { IfOk result (λ _. members.new ≡ put members.old (letter ∷ []) (plain bare)) }
+{
+    let key = Key::first(alloc, letter)?;
+    let item = Item::new(alloc, seed, bare);
+    members.set(key, item.into())
 }

@@ -34,35 +34,26 @@ pub struct Policy {
     pub is_private: bool,
 }
 
-// How many seconds a member says: an Integer that is not negative.
-fn seconds(member: Option<&Member>) -> Option<u64>
-    ensures { result ≡ delta_seconds (option_copied member.entry) }
-{
-    let Some(Member::Item(item)) = member else {
-        return None;
-    };
-    let Bare::Integer(number) = &item.bare else {
-        return None;
-    };
-    let number = number.get();
-    if number < 0 {
-        return None;
-    }
-    Some(number as u64)
-}
+/// Reads a targeted field (RFC 9213 section 2.1), a Dictionary. Its answer takes no memory.
+///
+/// ```
+/// let policy = ask(alloc, &seed, &Directives, lines.as_slice())?;
+/// ```
+#[derive(Clone, Copy, Debug, Default, PartialEq, Eq)]
+pub struct Directives;
 
-// Whether a member is there that is no Item of Boolean false.
-fn sets(member: Option<&Member>) -> bool
-    ensures { result ≡ is_set (option_copied member.entry) }
-{
-    match member {
-        None => false,
-        Some(Member::Inner(_)) => true,
-        Some(Member::Item(item)) => match item.bare {
-            Bare::Boolean(set) => set,
-            _ => true,
-        },
-    }
+/// Which field of a target list a cache obeys (RFC 9213 section 2.2).
+#[derive(Clone, Copy, Debug, PartialEq, Eq)]
+pub enum Choice {
+    /// The field of a target.
+    Field {
+        /// The place of the target in the list, counted from 0.
+        index: usize,
+        /// What the field says.
+        policy: Policy,
+    },
+    /// No target has a field that can be used: `Cache-Control` and `Expires` decide.
+    Fallback,
 }
 
 impl Policy {
@@ -79,12 +70,12 @@ impl Policy {
         ensures { result ≡ policy dict.now }
     {
         Policy {
-            max_age: seconds(dict.members.get(b"max-age")),
-            s_maxage: seconds(dict.members.get(b"s-maxage")),
-            must_revalidate: sets(dict.members.get(b"must-revalidate")),
-            no_store: sets(dict.members.get(b"no-store")),
-            no_cache: sets(dict.members.get(b"no-cache")),
-            is_private: sets(dict.members.get(b"private")),
+            max_age: seconds(dict.get(b"max-age")),
+            s_maxage: seconds(dict.get(b"s-maxage")),
+            must_revalidate: sets(dict.get(b"must-revalidate")),
+            no_store: sets(dict.get(b"no-store")),
+            no_cache: sets(dict.get(b"no-cache")),
+            is_private: sets(dict.get(b"private")),
         }
     }
 
@@ -107,14 +98,6 @@ impl Policy {
         }
     }
 }
-
-/// Reads a targeted field (RFC 9213 section 2.1), a Dictionary. Its answer takes no memory.
-///
-/// ```
-/// let policy = ask(alloc, &seed, &Directives, lines.as_slice())?;
-/// ```
-#[derive(Clone, Copy, Debug, Default, PartialEq, Eq)]
-pub struct Directives;
 
 impl Consumer for Directives {
     ghost use Rattle.std.specs.Prelude.{◌≡◌, Ok, IsOk};
@@ -143,56 +126,8 @@ impl Consumer for Directives {
     }
 }
 
-/// Which field of a target list a cache obeys (RFC 9213 section 2.2).
-#[derive(Clone, Copy, Debug, PartialEq, Eq)]
-pub enum Choice {
-    /// The field of a target.
-    Field {
-        /// The place of the target in the list, counted from 0.
-        index: usize,
-        /// What the field says.
-        policy: Policy,
-    },
-    /// No target has a field that can be used: `Cache-Control` and `Expires` decide.
-    Fallback,
-}
-
-// What a field offers: a policy, where it has a member.
-fn policy_in(field: &Field) -> Option<Policy>
-    ensures { MayOffer field.now result }
-{
-    let Field::Dict(dict) = field else {
-        return None;
-    };
-    if dict.members.is_empty() {
-        return None;
-    }
-    Some(Policy::from_dict(dict))
-}
-
-// What the field of a name offers: nothing where it is absent, refused or empty.
-fn offered(
-    alloc: Global,
-    seed: &RandomState,
-    name: &HeaderName,
-    headers: &HeaderMap,
-) -> Result<Option<Policy>, OutOfMemory>
-    ensures offer { IfOk result (IsOffer headers.now name.now) }
-    ensures absent { ¬ (ContainsKey headers.now name.now) → result ≡ Ok None }
-{
-    match from_headers(alloc, seed, Kind::Dict, headers, name) {
-        Ok(Some(field)) => Ok(policy_in(&field)),
-        Ok(None) => Ok(None),
-        Err(Refusal::Syntax { .. }) => Ok(None),
-        Err(Refusal::OutOfMemory) => Err(OutOfMemory),
-        Err(Refusal::TooLong { max: _ }) => Err(OutOfMemory),
-        Err(Refusal::ReadFault { place: _ }) => unreachable!(),
-    }
-}
-
 /// The field that a cache obeys: that of the first target that is there, spells a Dictionary and is
-/// not empty (RFC 9213 section 2.2). Absent, refused and empty fields are passed over (section
-/// 2.1);
+/// not empty (RFC 9213 section 2.2). Absent, refused and empty fields are passed over (section 2.1);
 /// where none is left, the answer is `Fallback`. `OutOfMemory` says that memory was wanting to read
 /// a field, and then no later one is looked at; a field of 2^64 bytes or more, which no memory can
 /// hold, is answered so too. Where no target is there, it takes no memory.
@@ -211,6 +146,7 @@ pub fn select(
     headers: &HeaderMap,
 ) -> Result<Choice, OutOfMemory>
     ensures chosen { IfOk result (IsChosen targets.now headers.now) }
+    // where no target is there, no memory is wanting
     ensures absent { All (λ name. ¬ (ContainsKey headers.now name)) targets.now
         → result ≡ Ok Fallback }
 {
@@ -221,4 +157,57 @@ pub fn select(
         }
     }
     Ok(Choice::Fallback)
+}
+
+// How many seconds a member says: an Integer that is not negative.
+fn seconds(member: Option<&Member>) -> Option<u64>
+    ensures { result ≡ delta_seconds (option_copied member.entry) }
+{
+    let number = member?.as_item()?.bare.as_integer()?;
+    u64::try_from(number.get()).ok()
+}
+
+// Whether a member is there that is no Item of Boolean false.
+fn sets(member: Option<&Member>) -> bool
+    ensures { result ≡ is_set (option_copied member.entry) }
+{
+    match member {
+        None => false,
+        Some(Member::Inner(_)) => true,
+        Some(Member::Item(item)) => match item.bare {
+            Bare::Boolean(set) => set,
+            _ => true,
+        },
+    }
+}
+
+// What a field offers: a policy, where it has a member.
+fn policy_in(field: &Field) -> Option<Policy>
+    ensures { MayOffer field.now result }
+{
+    let dict = field.as_dict()?;
+    if dict.members.is_empty() {
+        return None;
+    }
+    Some(Policy::from_dict(dict))
+}
+
+// What the field of a name offers: nothing where it is absent, refused or empty.
+fn offered(
+    alloc: Global,
+    seed: &RandomState,
+    name: &HeaderName,
+    headers: &HeaderMap,
+) -> Result<Option<Policy>, OutOfMemory>
+    ensures offer { IfOk result (IsOffer headers.now name.now) }
+    // where the name is absent, no memory is wanting
+    ensures absent { ¬ (ContainsKey headers.now name.now) → result ≡ Ok None }
+{
+    match from_headers(alloc, seed, Kind::Dict, headers, name) {
+        Ok(Some(field)) => Ok(policy_in(&field)),
+        Ok(None) => Ok(None),
+        Err(Refusal::Syntax { .. }) => Ok(None),
+        Err(Refusal::OutOfMemory | Refusal::TooLong { .. }) => Err(OutOfMemory),
+        Err(Refusal::ReadFault { .. }) => unreachable!(),
+    }
 }

@@ -1,5 +1,6 @@
 -- The definitions that the contracts speak of. `Grammar` is what a reader must believe of texts
 -- and values; the others say what the calls of this crate do.
+pub mod Ascii
 pub mod Grammar
 pub mod Entries
 pub mod Stores

@@ -1,74 +1,23 @@
 //! Texts that a reader gives, a byte a read, with a read that fails.
+use sf_devices::Paced;
 use sf_parse::{Refusal, parse_reader, parse_text};
-use sf_value::{Failed, Field, Kind, Source, same};
+use sf_value::{Field, Kind, same};
 use std::alloc::Global;
 use std::hash::RandomState;
 use std::test::Fail;
-
-/// Gives a byte a read; the read after so many bytes fails, and every later one.
-#[derive(Drop)]
-struct Drip {
-    text: &'static [u8],
-    fails_at: u64,
-    given: u64,
-    ends: u64,
-    failures: u64,
-    reads: u64,
-}
-
-impl Source for Drip {
-    ghost use Rattle.std.specs.Prelude.{None};
-
-    ghost state = { λ s. record {
-      to_come = None;
-      given = s.given;
-      ends = s.ends;
-      failures = s.failures;
-    } };
-
-    fn pull(&mut self, block: &mut [u8]) -> Result<usize, Failed> {
-        let Some(place) = block.first_mut() else {
-            return Ok(0);
-        };
-        self.reads = self.reads.saturating_add(1);
-        if self.given == self.fails_at {
-            self.failures = self.failures.saturating_add(1);
-            return Err(Failed);
-        }
-        let Some((first, rest)) = self.text.split_first() else {
-            self.ends = self.ends.saturating_add(1);
-            return Ok(0);
-        };
-        *place = *first;
-        self.text = rest;
-        self.given = self.given.saturating_add(1);
-        Ok(1)
-    }
-}
-
-fn make_drip(text: &'static [u8], fails_at: u64) -> Drip {
-    Drip {
-        text,
-        fails_at,
-        given: 0,
-        ends: 0,
-        failures: 0,
-        reads: 0,
-    }
-}
 
 const MEMBERS: &[u8] = b"a=1,b;x, a=(1  2 );y=:YQ:";
 
 // The Dictionary of all its bytes, and how often was read.
 fn read_whole(alloc: Global, seed: &RandomState) -> Result<(Field, u64), Refusal> {
-    let mut source = make_drip(MEMBERS, u64::MAX);
+    let mut source = Paced::new(MEMBERS, 1, 0, 0);
     let field = parse_reader(alloc, seed, Kind::Dict, 25, &mut source)?;
-    Ok((field, source.reads))
+    Ok((field, source.calls))
 }
 
-// The refusal where the read after so many bytes fails, and how often one failed.
+// The refusal where the read of this number fails, and how often one failed.
 fn read_until(alloc: Global, seed: &RandomState, fails_at: u64) -> (Option<Refusal>, u64) {
-    let mut source = make_drip(MEMBERS, fails_at);
+    let mut source = Paced::new(MEMBERS, 1, 0, fails_at);
     let refusal = parse_reader(alloc, seed, Kind::Dict, 25, &mut source).err();
     (refusal, source.failures)
 }
@@ -91,7 +40,7 @@ fn each_read_fails(rt: HostRuntime) -> Result<(), Fail> {
     let seed = RandomState::new(&rt)?;
     for place in 0..=25u64 {
         let refusal = Some(Refusal::ReadFault { place });
-        assert_eq!(&rt; read_until(rt.alloc(), &seed, place), (refusal, 1));
+        assert_eq!(&rt; read_until(rt.alloc(), &seed, place + 1), (refusal, 1));
     }
     Ok(())
 }
@@ -121,7 +70,7 @@ fn read_with_limit(
     seed: &RandomState,
     kind: Kind,
     max: u64,
-    mut source: Drip,
+    mut source: Paced,
 ) -> Answer {
     answer_of(parse_reader(alloc, seed, kind, max, &mut source))
 }
@@ -143,7 +92,7 @@ fn limits(rt: HostRuntime) -> Result<(), Fail> {
         (Kind::Item, 0, b"a", Answer::TooLong(0)),
         (Kind::Item, 0, b"\t", Answer::TooLong(0)),
     ] {
-        let source = make_drip(text, u64::MAX);
+        let source = Paced::new(text, 1, 0, 0);
         assert_eq!(&rt;
             read_with_limit(rt.alloc(), &seed, kind, max, source),
             answer
@@ -155,7 +104,7 @@ fn limits(rt: HostRuntime) -> Result<(), Fail> {
 #[test]
 fn refused_before_a_fault(rt: HostRuntime) -> Result<(), Fail> {
     let seed = RandomState::new(&rt)?;
-    let source = make_drip(b"a,", 2);
+    let source = Paced::new(b"a,", 1, 0, 3);
     let answer = read_with_limit(rt.alloc(), &seed, Kind::Item, 9, source);
     assert_eq!(&rt; answer, Answer::Refused(1, Some(0x2c)));
     Ok(())

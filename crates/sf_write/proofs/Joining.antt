@@ -2,8 +2,6 @@
 use Rattle.std.proofs.Common.{◌≡◌, ℕ, ◌+◌, ◌-◌, ◌^◌, ◌<◌, min, List, [], ◌++◌, length}
 use Rattle.std.proofs.Common.{Result, Ok, Err, refl, sym, ap, ◌∙◌, arith, length-append}
 use Rattle.std.proofs.Common.{append_assoc, zero-add}
-use Rattle.std.specs.Prelude.{IsErrAnd}
-use Rattle.std.proofs.lemmas.Result.{err_from_is_err_and}
 use Rattle.std.proofs.KnownBytes.{Appends-nil, Appends-trans, Appends-kept}
 use Rattle.std.proofs.Math.Seq.{take-append_seam}
 use Rattle.sf_value.specs.Devices.{SinkState, TakesOnce, RefusesOnce}
@@ -75,44 +73,28 @@ WroteFront-longer u p = record {
 }
 
 -- from here on, to write what is left is to write all
-pub record Leaves (start now : SinkState) (before written : ℕ) (all left : List ℕ) : Type 0 where
+pub record Unwritten (start now : SinkState) (before written : ℕ) (all left : List ℕ) : Type 0 where
   pub counted : written < 2 ^ 64
   pub finish : (end : SinkState) (r : Result ℕ WriteFault) → Writes now end written r left
       → Writes start end before r all
 
 -- nothing was written yet
-pub leaves_all : (s : SinkState) (n : ℕ) (all : List ℕ) → n < 2 ^ 64 → Leaves s s n n all all
-leaves_all s n all h = record { counted = h; finish = λ end r w. w }
+pub unwritten_all : (s : SinkState) (n : ℕ) (all : List ℕ) → n < 2 ^ 64 → Unwritten s s n n all all
+unwritten_all s n all h = record { counted = h; finish = λ end r w. w }
 
 -- a piece went out
-pub leaves_less : {start now next : SinkState} {before written after : ℕ} {all left piece : List ℕ}
-    (more : List ℕ) → Leaves start now before written all left → left ≡ piece ++ more
-    → Wrote now next written after piece → Leaves start next before after all more
-leaves_less more l e w = record {
+pub unwritten_less : {start now next : SinkState} {before written after : ℕ} {all left piece : List ℕ}
+    (more : List ℕ) → Unwritten start now before written all left → left ≡ piece ++ more
+    → Wrote now next written after piece → Unwritten start next before after all more
+unwritten_less more l e w = record {
   counted = let count = w.count in omega arith;
   finish = λ end r h. l.finish end r (rw e (Writes-append end r more w h));
 }
 
--- writing a piece failed, and its fault is the answer
-pub ends_early : {start now end : SinkState} {before written : ℕ} {fault : WriteFault}
-    {all left piece : List ℕ} (r : Result ℕ WriteFault) (more : List ℕ)
-    → Leaves start now before written all left → left ≡ piece ++ more
-    → WroteFront now end written fault.written piece → IsErrAnd r (λ e. e ≡ fault)
-    → Writes start end before r all
-ends_early {end = end} {fault = fault} r more l e w h =
-    let answer = err_from_is_err_and r h in
-    rw (answer.1, answer.2) (l.finish end (Err fault) (rw e (WroteFront-longer more w)))
-
--- what is left goes out as the last piece
-pub ends_with : {start now : SinkState} {before written : ℕ} {all left piece : List ℕ}
-    (end : SinkState) (r : Result ℕ WriteFault) → Leaves start now before written all left
-    → left ≡ piece → Writes now end written r piece → Writes start end before r all
-ends_with end r l e w = l.finish end r (rw e w)
-
 -- nothing is left
-pub ends_done : {start now : SinkState} {before written : ℕ} {all left : List ℕ}
-    → Leaves start now before written all left → left ≡ [] → Wrote start now before written all
-ends_done {now = now} {written = written} l e =
+pub unwritten_none : {start now : SinkState} {before written : ℕ} {all left : List ℕ}
+    → Unwritten start now before written all left → left ≡ [] → Wrote start now before written all
+unwritten_none {now = now} {written = written} l e =
     l.finish now (Ok written) (rw e (Wrote-nil now written l.counted))
 
 -- a text from its beginning

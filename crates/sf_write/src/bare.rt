@@ -1,10 +1,10 @@
 //! Bare items (RFC 9651 section 4.1.3.1).
-ghost use Rattle.std.specs.Prelude.{◌≡◌, [], ◌∷◌, if◌then◌else◌, IfOk};
+ghost use Rattle.std.specs.Prelude.{◌≡◌, IfOk};
 ghost use Rattle.sf_value.specs.declared.dialect.Dialect.TheVariants.{Rfc9651};
 ghost use Rattle.sf_value.specs.declared.value.Bare.TheVariants as bare_is;
 ghost use Rattle.sf_value.specs.Grammar.Valid.{ValidBare};
 ghost use Rattle.sf_value.specs.Grammar.Canonical.{canon_bare};
-ghost use Rattle.sf_write.specs.Writing.{Follows, Writes, WritesText};
+ghost use Rattle.sf_write.specs.Writing.{Follows, WritesText};
 
 use crate::blobs::put_blob;
 use crate::length::bare_len;
@@ -15,24 +15,21 @@ use crate::strings::put_string;
 use sf_value::{Bare, OutOfMemory, Sink, Text, Writing};
 use std::alloc::Global;
 
-/// A Boolean: `?1` or `?0` (section 4.1.9).
-fn put_boolean<W: Sink>(value: bool, before: Sent, out: &mut W) -> Sent
-    ensures { Follows (W.state out.old) (W.state out.new) before result
-        (63 ∷ (if value then 49 else 48) ∷ []) }
-{
-    let text = if value { b"?1" } else { b"?0" };
-    put(text, before, out)
-}
-
-/// A bare item of any type.
-pub(crate) fn put_bare<W: Sink>(bare: &Bare, before: Sent, out: &mut W) -> Sent
+/// Writes the canonical text of a bare item, as [`write_bare`] does, behind what was sent before, as
+/// [`crate::put`] does. It takes no memory.
+///
+/// ```
+/// let sent = put(b"a;b=", Ok(0), &mut out);
+/// let count = put_bare(&Bare::Boolean(false), sent, &mut out)?; // 6
+/// ```
+pub fn put_bare<W: Sink>(bare: &Bare, before: Sent, out: &mut W) -> Sent
     ensures text { Follows (W.state out.old) (W.state out.new) before result (canon_bare bare.now) }
     ensures valid { ValidBare Rfc9651 bare.now }
 {
     match bare {
         Bare::Integer(number) => put_integer(number, before, out),
         Bare::Decimal(number) => put_decimal(number, before, out),
-        Bare::Text(text) => put_string(text.as_bytes(), before, out),
+        Bare::Text(string) => put_string(string.as_bytes(), before, out),
         Bare::Token(token) => put(token.as_bytes(), before, out),
         Bare::Blob(blob) => put_blob(blob.as_bytes(), before, out),
         Bare::Boolean(value) => put_boolean(*value, before, out),
@@ -41,32 +38,18 @@ pub(crate) fn put_bare<W: Sink>(bare: &Bare, before: Sent, out: &mut W) -> Sent
     }
 }
 
-/// Writes the canonical text of a bare item, as [`write_bare`] does, behind other bytes: the count
-/// of bytes goes on from `before`, and stays at 2^64 - 1. It takes no memory.
+/// Writes the canonical text of a String (RFC 9651 section 4.1.6) behind what was sent before, as
+/// [`put_bare`] does of the bare item that holds it. It takes no memory.
 ///
 /// ```
-/// let count = send_all(b"a;b=", 0, &mut out)?;
-/// let count = write_bare_from(&Bare::Boolean(false), count, &mut out)?; // 6
+/// let sent = put(b"key=", Ok(0), &mut out);
+/// let count = put_text(&text, sent, &mut out)?;
 /// ```
-pub fn write_bare_from<W: Sink>(bare: &Bare, before: u64, out: &mut W) -> Result<u64, WriteFault>
-    ensures text { Writes (W.state out.old) (W.state out.new) before result (canon_bare bare.now) }
-    ensures valid { ValidBare Rfc9651 bare.now }
-{
-    put_bare(bare, Ok(before), out)
-}
-
-/// Writes the canonical text of a String (RFC 9651 section 4.1.6) behind other bytes, as
-/// [`write_bare_from`] does of the bare item that holds it. It takes no memory.
-///
-/// ```
-/// let count = send_all(b"key=", 0, &mut out)?;
-/// let count = write_text_from(&text, count, &mut out)?;
-/// ```
-pub fn write_text_from<W: Sink>(text: &Text, before: u64, out: &mut W) -> Result<u64, WriteFault>
-    ensures { Writes (W.state out.old) (W.state out.new) before result
+pub fn put_text<W: Sink>(text: &Text, before: Sent, out: &mut W) -> Sent
+    ensures { Follows (W.state out.old) (W.state out.new) before result
         (canon_bare (bare_is.Text text.now)) }
 {
-    put_string(text.as_bytes(), Ok(before), out)
+    put_string(text.as_bytes(), before, out)
 }
 
 /// Writes the canonical text of a bare item (RFC 9651 section 4.1.3.1) into a sink, piece by piece.
@@ -79,7 +62,7 @@ pub fn write_bare<W: Sink>(bare: &Bare, out: &mut W) -> Result<u64, WriteFault>
     ensures text { WritesText (W.state out.old) (W.state out.new) result (canon_bare bare.now) }
     ensures valid { ValidBare Rfc9651 bare.now }
 {
-    write_bare_from(bare, 0, out)
+    put_bare(bare, Ok(0), out)
 }
 
 /// The canonical text of a bare item (RFC 9651 section 4.1.3.1). The only refusal is for want of
@@ -97,4 +80,13 @@ pub fn bare_text(alloc: Global, bare: &Bare) -> Result<Vec<u8>, OutOfMemory>
         Ok(_) => Ok(out.into_inner()),
         Err(_) => Err(OutOfMemory),
     }
+}
+
+/// A Boolean: `?1` or `?0` (section 4.1.9).
+fn put_boolean<W: Sink>(value: bool, before: Sent, out: &mut W) -> Sent
+    ensures { Follows (W.state out.old) (W.state out.new) before result
+        (canon_bare (bare_is.Boolean value)) }
+{
+    let text = if value { b"?1" } else { b"?0" };
+    put(text, before, out)
 }

@@ -1,5 +1,6 @@
 //! Byte Sequences (RFC 9651 section 4.1.8): base64 (RFC 4648 section 4), padded.
 ghost use Rattle.std.specs.Prelude.{◌∷◌};
+ghost use Rattle.sf_value.specs.Ascii.{colon};
 ghost use Rattle.sf_value.specs.Grammar.Canonical.{canon_base64};
 ghost use Rattle.sf_write.specs.Writing.{Follows};
 
@@ -17,7 +18,7 @@ const ENCODED: usize = 256;
 #[inline(never)]
 pub(crate) fn put_blob<W: Sink>(bytes: &[u8], before: Sent, out: &mut W) -> Sent
     ensures { Follows (W.state out.old) (W.state out.new) before result
-        (58 ∷ canon_base64 bytes.now) }
+        (colon ∷ canon_base64 bytes.now) }
 {
     let mut count = put(b":", before, out);
     let mut rest = bytes;

@@ -1,5 +1,6 @@
 //! Dictionaries (RFC 9651 section 4.1.2).
 ghost use Rattle.std.specs.Prelude.{◌∷◌};
+ghost use Rattle.sf_value.specs.Ascii.{equals};
 ghost use Rattle.sf_value.specs.declared.dialect.Dialect.TheVariants.{Rfc9651};
 ghost use Rattle.sf_value.specs.Grammar.Valid.{ValidItem, ValidInner, ValidMember, ValidEntries};
 ghost use Rattle.sf_value.specs.Grammar.Canonical.{canon_behind, canon_entry, canon_flag};
@@ -25,7 +26,7 @@ fn put_item_behind<W: Sink>(item: &Item, before: Sent, out: &mut W) -> Sent
 /// Behind a key an Inner List stands as `=` and its text.
 fn put_inner_behind<W: Sink>(inner: &Inner, before: Sent, out: &mut W) -> Sent
     ensures text { Follows (W.state out.old) (W.state out.new) before result
-        (61 ∷ canon_inner inner.now) }
+        (equals ∷ canon_inner inner.now) }
     ensures valid { ValidInner Rfc9651 inner.now }
 {
     let sent = put(b"=", before, out);

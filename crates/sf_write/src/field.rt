@@ -4,7 +4,7 @@ ghost use Rattle.sf_value.specs.declared.dialect.Dialect.TheVariants.{Rfc9651};
 ghost use Rattle.sf_value.specs.Grammar.Fields.{SpellsField, kind_of};
 ghost use Rattle.sf_value.specs.Grammar.Valid.{Valid};
 ghost use Rattle.sf_value.specs.Grammar.Canonical.{canon};
-ghost use Rattle.sf_write.specs.Writing.{Follows, Writes, WritesText};
+ghost use Rattle.sf_write.specs.Writing.{Follows, WritesText};
 
 use crate::dicts::put_entries;
 use crate::items::put_item;
@@ -14,8 +14,14 @@ use crate::send::{Sent, WriteFault};
 use sf_value::{Field, OutOfMemory, Sink, Writing};
 use std::alloc::Global;
 
-/// A field of any kind.
-fn put_field<W: Sink>(field: &Field, before: Sent, out: &mut W) -> Sent
+/// Writes the canonical text of a field, as [`write_field`] does, behind what was sent before, as
+/// [`crate::put`] does. It takes no memory.
+///
+/// ```
+/// let sent = put_field(&field, Ok(0), &mut out);
+/// let count = put(b"\n", sent, &mut out)?;
+/// ```
+pub fn put_field<W: Sink>(field: &Field, before: Sent, out: &mut W) -> Sent
     ensures text { Follows (W.state out.old) (W.state out.new) before result (canon field.now) }
     ensures valid { Valid Rfc9651 (kind_of field.now) field.now }
 {
@@ -24,20 +30,6 @@ fn put_field<W: Sink>(field: &Field, before: Sent, out: &mut W) -> Sent
         Field::List(list) => put_members(list.members.as_slice(), before, out),
         Field::Dict(dict) => put_entries(&dict.members, before, out),
     }
-}
-
-/// Writes the canonical text of a field, as [`write_field`] does, behind other bytes: the count of
-/// bytes goes on from `before`, and stays at 2^64 - 1. It takes no memory.
-///
-/// ```
-/// let count = write_field_from(&field, 0, &mut out)?;
-/// let count = send_all(b"\n", count, &mut out)?;
-/// ```
-pub fn write_field_from<W: Sink>(field: &Field, before: u64, out: &mut W) -> Result<u64, WriteFault>
-    ensures text { Writes (W.state out.old) (W.state out.new) before result (canon field.now) }
-    ensures valid { Valid Rfc9651 (kind_of field.now) field.now }
-{
-    put_field(field, Ok(before), out)
 }
 
 /// Writes the canonical text of a field (RFC 9651 section 4.1) into a sink, piece by piece. It
@@ -57,7 +49,7 @@ pub fn write_field<W: Sink>(field: &Field, out: &mut W) -> Result<u64, WriteFaul
     ensures text { WritesText (W.state out.old) (W.state out.new) result (canon field.now) }
     ensures valid { Valid Rfc9651 (kind_of field.now) field.now }
 {
-    write_field_from(field, 0, out)
+    put_field(field, Ok(0), out)
 }
 
 /// The canonical text of a field (RFC 9651 section 4.1). The text spells the field: parsed as one of

@@ -21,7 +21,7 @@ mod send;
 mod shown;
 mod strings;
 
-pub use bare::{bare_text, write_bare, write_bare_from, write_text_from};
+pub use bare::{bare_text, put_bare, put_text, write_bare};
 pub use display::to_string;
-pub use field::{to_text, write_field, write_field_from};
-pub use send::{WriteFault, send_all};
+pub use field::{put_field, to_text, write_field};
+pub use send::{Sent, WriteFault, put, send_all};

@@ -1,6 +1,7 @@
 //! Integers, Decimals and Dates (RFC 9651 sections 4.1.4, 4.1.5 and 4.1.10).
 ghost use Rattle.std.specs.Prelude.{◌≡◌, ◌/◌, ◌%◌, ◌^◌, ◌<◌, ◌∷◌, nat_abs};
 ghost use Rattle.std.specs.Fmt.{signed_decimal};
+ghost use Rattle.sf_value.specs.Ascii.{at_sign, point};
 ghost use Rattle.sf_value.specs.Grammar.Numbers.{sign};
 ghost use Rattle.sf_value.specs.Grammar.Canonical.{canon_decimal, fraction, is_negative};
 ghost use Rattle.sf_write.specs.Writing.{Follows};
@@ -21,7 +22,7 @@ pub(crate) fn put_integer<W: Sink>(number: &Int, before: Sent, out: &mut W) -> S
 /// A Date: `@` and the seconds.
 pub(crate) fn put_date<W: Sink>(seconds: &Int, before: Sent, out: &mut W) -> Sent
     ensures text { Follows (W.state out.old) (W.state out.new) before result
-        (64 ∷ signed_decimal seconds.now) }
+        (at_sign ∷ signed_decimal seconds.now) }
     ensures short { nat_abs seconds.now < 10 ^ 15 }
 {
     let sent = put(b"@", before, out);
@@ -41,7 +42,7 @@ fn put_sign<W: Sink>(is_negative: bool, before: Sent, out: &mut W) -> Sent
 /// The point and the digits behind it: at least one, and no needless zero at the end.
 fn put_fraction<W: Sink>(thousandths: u64, before: Sent, out: &mut W) -> Sent
     requires { thousandths < 1000 }
-    ensures { Follows (W.state out.old) (W.state out.new) before result (46 ∷ fraction thousandths) }
+    ensures { Follows (W.state out.old) (W.state out.new) before result (point ∷ fraction thousandths) }
 {
     let tenths = b'0' + (thousandths / 100) as u8;
     let hundredths = b'0' + (thousandths / 10 % 10) as u8;

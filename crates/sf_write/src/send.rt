@@ -20,6 +20,9 @@ pub struct WriteFault {
     pub written: u64,
 }
 
+/// How far a text came: the count of its bytes so far, or the fault that ended it.
+pub type Sent = Result<u64, WriteFault>;
+
 impl fmt::Display for WriteFault {
     ghost output = { λ fault. Some
         (codes "a write failed after " ++ decimal fault.written ++ codes " bytes") };
@@ -60,12 +63,14 @@ pub fn send_all<W: Sink>(bytes: &[u8], before: u64, out: &mut W) -> Result<u64, 
     Ok(written)
 }
 
-/// How far a text came: the count of its bytes so far, or the fault that ended it.
-pub(crate) type Sent = Result<u64, WriteFault>;
-
 /// Sends all the bytes behind those sent before, as [`send_all`] does. After a fault nothing more
 /// is sent and the fault stays, so that one piece is put behind another with no look at the answer.
-pub(crate) fn put<W: Sink>(bytes: &[u8], before: Sent, out: &mut W) -> Sent
+///
+/// ```
+/// let sent = put(b"a, ", Ok(0), &mut out);
+/// let count = put(b"b", sent, &mut out)?; // 4
+/// ```
+pub fn put<W: Sink>(bytes: &[u8], before: Sent, out: &mut W) -> Sent
     ensures { Follows (W.state out.old) (W.state out.new) before result bytes.now }
 {
     match before {

@@ -1,6 +1,7 @@
 //! Display Strings (RFC 9651 section 4.1.11).
 ghost use Rattle.std.specs.Prelude.{◌≡◌, ◌/◌, ◌%◌, ◌<◌, ◌≤◌, [], ◌∷◌, length};
 ghost use Rattle.std.specs.List.{prefix_len};
+ghost use Rattle.sf_value.specs.Ascii.{percent, quote};
 ghost use Rattle.sf_value.specs.Grammar.DisplayStrings.{hex, is_plain};
 ghost use Rattle.sf_value.specs.Grammar.Canonical.{canon_shown};
 ghost use Rattle.sf_write.specs.Writing.{Follows};
@@ -51,7 +52,7 @@ fn hex_digit(number: u8) -> u8
 
 /// `%` and the two digits of a byte.
 fn percent_escape(byte: u8) -> [u8; 3]
-    ensures { result ≡ 37 ∷ hex (byte / 16) ∷ hex (byte % 16) ∷ [] }
+    ensures { result ≡ percent ∷ hex (byte / 16) ∷ hex (byte % 16) ∷ [] }
 {
     [b'%', hex_digit(byte / 16), hex_digit(byte % 16)]
 }
@@ -61,7 +62,7 @@ fn percent_escape(byte: u8) -> [u8; 3]
 /// for themselves go out as one piece.
 pub(crate) fn put_display_string<W: Sink>(text: &[u8], before: Sent, out: &mut W) -> Sent
     ensures { Follows (W.state out.old) (W.state out.new) before result
-        (37 ∷ 34 ∷ canon_shown text.now) }
+        (percent ∷ quote ∷ canon_shown text.now) }
 {
     let mut sent = put(b"%\"", before, out);
     let mut rest = text;

@@ -1,6 +1,7 @@
 //! Strings (RFC 9651 section 4.1.6).
 ghost use Rattle.std.specs.Prelude.{◌≡◌, ◌≤◌, [], ◌∷◌, ◌++◌, not, length};
 ghost use Rattle.std.specs.List.{prefix_len};
+ghost use Rattle.sf_value.specs.Ascii.{quote};
 ghost use Rattle.sf_value.specs.Grammar.Strings.{escaped, is_escaped};
 ghost use Rattle.sf_write.specs.Writing.{Follows};
 
@@ -41,7 +42,7 @@ fn plain_len(bytes: &[u8]) -> usize
 /// bytes between two of these go out as one piece.
 pub(crate) fn put_string<W: Sink>(text: &[u8], before: Sent, out: &mut W) -> Sent
     ensures { Follows (W.state out.old) (W.state out.new) before result
-        (34 ∷ (escaped text.now ++ 34 ∷ [])) }
+        (quote ∷ (escaped text.now ++ quote ∷ [])) }
 {
     let mut sent = put(b"\"", before, out);
     let mut rest = text;

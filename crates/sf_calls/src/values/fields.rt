@@ -1,71 +1,77 @@
-use crate::values::build::{bare, dict, item, list, token_item, token_list};
-use sf_value::{Dialect, Field, Kind, Part, copy, same};
-use std::alloc::Global;
+use crate::build::{bare, dict, integer, item, list, plain, seed, token};
+use sf_value::{Dialect, Field, Item, Kind, List, Part, copy, same};
 use std::hash::RandomState;
-use std::test::Fail;
+use std::process::Abort;
 
-fn bares_are_same(alloc: Global, seed: &RandomState, i: usize, j: usize) -> Result<bool, Fail> {
-    let x = bare(alloc, i)?;
-    let y = bare(alloc, j)?.copy(alloc, seed)?;
-    Ok(x.same(&y))
+fn bares_are_same(rt: &(impl Abort + AllocGlobal), seed: &RandomState, i: usize, j: usize) -> bool {
+    let twin = bare(rt, j).copy(rt.alloc(), seed).expect(rt, "room");
+    bare(rt, i).same(&twin)
 }
 
-fn params_are_same(alloc: Global, seed: &RandomState, i: usize, j: usize) -> Result<bool, Fail> {
-    let x = item(alloc, seed, 5, bare(alloc, i)?)?;
-    let y = item(alloc, seed, 5, bare(alloc, j)?)?.copy(alloc, seed)?;
-    Ok(x.same(&y))
+// The Item `5` with a parameter of one of the eight types.
+fn five(rt: &(impl Abort + AllocGlobal), seed: &RandomState, i: usize) -> Item {
+    item(rt, seed, integer(rt, 5), b"y", bare(rt, i))
+}
+
+fn params_are_same(
+    rt: &(impl Abort + AllocGlobal),
+    seed: &RandomState,
+    i: usize,
+    j: usize,
+) -> bool {
+    let twin = five(rt, seed, j).copy(rt.alloc(), seed).expect(rt, "room");
+    five(rt, seed, i).same(&twin)
 }
 
 #[test]
-fn types_count(rt: HostRuntime) -> Result<(), Fail> {
-    let seed = RandomState::new(&rt)?;
+fn types_count(rt: HostRuntime) {
+    let seed = seed(&rt);
     for i in 0..8usize {
         for j in 0..8usize {
-            let bares = bares_are_same(rt.alloc(), &seed, i, j)?;
-            let params = params_are_same(rt.alloc(), &seed, i, j)?;
+            let bares = bares_are_same(&rt, &seed, i, j);
+            let params = params_are_same(&rt, &seed, i, j);
             assert_eq!(rt; (bares, params), (i == j, i == j), "{i} and {j}");
         }
     }
     assert!(rt; Dialect::Rfc8941 != Dialect::Rfc9651);
-    Ok(())
 }
 
-fn is_copied(alloc: Global, seed: &RandomState, field: &Field) -> Result<bool, Fail> {
-    let twin = copy(alloc, seed, field)?;
-    Ok(same(field, &twin))
+fn is_copied(rt: &(impl Abort + AllocGlobal), seed: &RandomState, field: &Field) -> bool {
+    let twin = copy(rt.alloc(), seed, field).expect(rt, "room");
+    same(field, &twin)
 }
 
 #[test]
-fn order_counts(rt: HostRuntime) -> Result<(), Fail> {
-    let seed = RandomState::new(&rt)?;
-    let value = dict(rt.alloc(), &seed, b"a", false)?;
+fn order_counts(rt: HostRuntime) {
+    let seed = seed(&rt);
+    let value = dict(&rt, &seed, b"a", false);
     assert_eq!(rt; value.kind(), Kind::Dict);
-    assert!(rt; is_copied(rt.alloc(), &seed, &value)?);
+    assert!(rt; is_copied(&rt, &seed, &value));
     for (param, turned) in [(b"a".as_slice(), true), (b"b".as_slice(), false)] {
-        let other = dict(rt.alloc(), &seed, param, turned)?;
-        assert!(rt; !same(&value, &other));
+        assert!(rt; !same(&value, &dict(&rt, &seed, param, turned)));
     }
-    Ok(())
 }
 
 #[test]
-fn members_count(rt: HostRuntime) -> Result<(), Fail> {
-    let seed = RandomState::new(&rt)?;
-    let value = list(rt.alloc(), &seed, 1)?;
+fn members_count(rt: HostRuntime) {
+    let seed = seed(&rt);
+    let value = list(&rt, &seed, 1);
     assert_eq!(rt; value.kind(), Kind::List);
-    assert!(rt; is_copied(rt.alloc(), &seed, &value)?);
-    let other = list(rt.alloc(), &seed, 2)?;
-    assert!(rt; !same(&value, &other));
-    Ok(())
+    assert!(rt; is_copied(&rt, &seed, &value));
+    assert!(rt; !same(&value, &list(&rt, &seed, 2)));
+}
+
+// The Item `a`.
+fn token_item(rt: &(impl Abort + AllocGlobal), seed: &RandomState) -> Item {
+    plain(rt, seed, token(rt, b"a"))
 }
 
 #[test]
-fn kinds_count(rt: HostRuntime) -> Result<(), Fail> {
-    let seed = RandomState::new(&rt)?;
-    let value = token_item(rt.alloc(), &seed)?;
+fn kinds_count(rt: HostRuntime) {
+    let seed = seed(&rt);
+    let value = Field::from(token_item(&rt, &seed));
     assert_eq!(rt; value.kind(), Kind::Item);
-    assert!(rt; is_copied(rt.alloc(), &seed, &value)?);
-    let other = token_list(rt.alloc(), &seed)?;
-    assert!(rt; !same(&value, &other));
-    Ok(())
+    assert!(rt; is_copied(&rt, &seed, &value));
+    let list = List::new(rt.alloc()).with(token_item(&rt, &seed).into());
+    assert!(rt; !same(&value, &list.expect(&rt, "room").into()));
 }

@@ -1,11 +1,9 @@
 //! Values that are looked up, by the calls for it and by a user's own matches.
-use crate::values::build::bare;
-use sf_value::{
-    Bare, Dict, Entries, Field, Inner, Int, Item, Key, List, Member, Thousandths, Token,
-};
-use std::alloc::Global;
+use crate::build;
+use crate::build::{bare, integer, key, seed, token, with};
+use sf_value::{Bare, Dict, Entries, Field, Inner, Int, Item, Key, List, Thousandths, Token};
 use std::hash::RandomState;
-use std::test::Fail;
+use std::process::Abort;
 
 // Which of the eight look-ups of a bare item find something.
 fn found(bare: &Bare) -> [bool; 8] {
@@ -22,77 +20,75 @@ fn found(bare: &Bare) -> [bool; 8] {
 }
 
 // Which of the four that take the value out.
-fn taken(alloc: Global, index: usize) -> Result<[bool; 4], Fail> {
-    Ok([
-        bare(alloc, index)?.into_text().is_some(),
-        bare(alloc, index)?.into_token().is_some(),
-        bare(alloc, index)?.into_blob().is_some(),
-        bare(alloc, index)?.into_shown().is_some(),
-    ])
+fn taken(rt: &(impl Abort + AllocGlobal), index: usize) -> [bool; 4] {
+    [
+        bare(rt, index).into_text().is_some(),
+        bare(rt, index).into_token().is_some(),
+        bare(rt, index).into_blob().is_some(),
+        bare(rt, index).into_shown().is_some(),
+    ]
 }
 
 #[test]
-fn bare_items_by_type(rt: HostRuntime) -> Result<(), Fail> {
+fn bare_items_by_type(rt: HostRuntime) {
     for index in 0..8usize {
-        let bare = bare(rt.alloc(), index)?;
-        let found = found(&bare);
+        let found = found(&bare(&rt, index));
         for other in 0..8usize {
             assert_eq!(rt; found[other], other == index, "{other} of {index}");
         }
         let wanted = [index == 2, index == 3, index == 4, index == 7];
-        assert_eq!(rt; taken(rt.alloc(), index)?, wanted, "{index}");
+        assert_eq!(rt; taken(&rt, index), wanted, "{index}");
     }
-    Ok(())
 }
 
 // The Item `a;q=1`.
-fn item(alloc: Global, seed: &RandomState) -> Result<Item, Fail> {
-    let token = Token::new(alloc, b"a")?;
-    let item = Item::new(alloc, seed, token.into());
-    Ok(item.with_param(Key::new(alloc, b"q")?, Bare::Integer(Int::from(1)))?)
+fn item(rt: &(impl Abort + AllocGlobal), seed: &RandomState) -> Item {
+    build::item(rt, seed, token(rt, b"a"), b"q", integer(rt, 1))
 }
 
 // The Inner List `(a;q=1);r`.
-fn inner(alloc: Global, seed: &RandomState) -> Result<Inner, Fail> {
-    let inner = Inner::new(alloc, seed).with_item(item(alloc, seed)?)?;
-    Ok(inner.with_param(Key::new(alloc, b"r")?, true.into())?)
+fn inner(rt: &(impl Abort + AllocGlobal), seed: &RandomState) -> Inner {
+    let inner = Inner::new(rt.alloc(), seed).with_item(item(rt, seed));
+    let inner = inner.expect(rt, "room");
+    inner
+        .with_param(key(rt, b"r"), true.into())
+        .expect(rt, "room")
 }
 
 // The Dictionary `b=a;q=1, c=(a;q=1);r`.
-fn dict(alloc: Global, seed: &RandomState) -> Result<Dict, Fail> {
-    let first = item(alloc, seed)?;
-    let dict = Dict::new(alloc, seed).with(Key::new(alloc, b"b")?, first.into())?;
-    let second = inner(alloc, seed)?;
-    Ok(dict.with(Key::new(alloc, b"c")?, second.into())?)
+fn dict(rt: &(impl Abort + AllocGlobal), seed: &RandomState) -> Dict {
+    let dict = Dict::new(rt.alloc(), seed);
+    let dict = with(rt, dict, b"b", item(rt, seed).into());
+    with(rt, dict, b"c", inner(rt, seed).into())
 }
 
-fn number_of(item: &Item, key: &[u8]) -> Option<i64> {
-    Some(item.param(key)?.as_integer()?.get())
+// What stands under `b`: the number of `q`, and whether there is an `r` or an Inner List.
+fn under_b(dict: &Dict) -> Option<(i64, bool, bool)> {
+    let member = dict.get(b"b")?;
+    let item = member.as_item()?;
+    let number = item.param(b"q")?.as_integer()?.get();
+    Some((
+        number,
+        item.param(b"r").is_some(),
+        member.as_inner().is_some(),
+    ))
+}
+
+// What stands under `c`: how many Items, the flag `r`, and whether there is an Item.
+fn under_c(dict: &Dict) -> Option<(usize, bool, bool)> {
+    let member = dict.get(b"c")?;
+    let inner = member.as_inner()?;
+    let flag = inner.param(b"r")?.as_boolean()?;
+    Some((inner.items.len(), flag, member.as_item().is_some()))
 }
 
 #[test]
-fn parts_by_key(rt: HostRuntime) -> Result<(), Fail> {
-    let seed = RandomState::new(&rt)?;
-    let dict = dict(rt.alloc(), &seed)?;
+fn parts_by_key(rt: HostRuntime) {
+    let dict = dict(&rt, &seed(&rt));
     assert_eq!(rt; dict.members.len(), 2);
-    let first = dict.get(b"b").ok_or("no b")?;
-    assert!(rt; first.as_inner().is_none());
-    assert_eq!(rt;
-        number_of(first.as_item().ok_or("an Inner List")?, b"q"),
-        Some(1)
-    );
-    assert_eq!(rt;
-        number_of(first.as_item().ok_or("an Inner List")?, b"r"),
-        None
-    );
-    let second = dict.get(b"c").ok_or("no c")?;
-    assert!(rt; second.as_item().is_none());
-    let inner = second.as_inner().ok_or("an Item")?;
-    assert_eq!(rt; inner.items.len(), 1);
-    let flag = inner.param(b"r").ok_or("no r")?;
-    assert_eq!(rt; flag.as_boolean(), Some(true));
+    assert_eq!(rt; under_b(&dict), Some((1, false, false)));
+    assert_eq!(rt; under_c(&dict), Some((1, true, false)));
     assert!(rt; dict.get(b"d").is_none());
-    Ok(())
 }
 
 fn cases(field: &Field) -> [bool; 3] {
@@ -104,53 +100,54 @@ fn cases(field: &Field) -> [bool; 3] {
 }
 
 #[test]
-fn fields_by_kind(rt: HostRuntime) -> Result<(), Fail> {
-    let seed = RandomState::new(&rt)?;
-    let field = Field::from(item(rt.alloc(), &seed)?);
+fn an_item_by_kind(rt: HostRuntime) {
+    let field = Field::from(item(&rt, &seed(&rt)));
     assert_eq!(rt; cases(&field), [true, false, false]);
     assert!(rt; field.into_item().is_some());
-    let list = List::new(rt.alloc()).with(item(rt.alloc(), &seed)?.into())?;
-    let field = Field::from(list);
+}
+
+#[test]
+fn a_list_by_kind(rt: HostRuntime) {
+    let list = List::new(rt.alloc()).with(item(&rt, &seed(&rt)).into());
+    let field = Field::from(list.expect(&rt, "room"));
     assert_eq!(rt; cases(&field), [false, true, false]);
     assert!(rt; field.into_dict().is_none());
-    let field = Field::from(dict(rt.alloc(), &seed)?);
+}
+
+#[test]
+fn a_dictionary_by_kind(rt: HostRuntime) {
+    let field = Field::from(dict(&rt, &seed(&rt)));
     assert_eq!(rt; cases(&field), [false, false, true]);
     assert!(rt; field.into_list().is_none());
-    Ok(())
 }
 
 #[test]
-fn values_with_equals(rt: HostRuntime) -> Result<(), Fail> {
-    let seed = RandomState::new(&rt)?;
+fn bare_items_with_equals(rt: HostRuntime) {
     for i in 0..8usize {
         for j in 0..8usize {
-            assert_eq!(rt;
-                bare(rt.alloc(), i)? == bare(rt.alloc(), j)?,
-                i == j,
-                "{i} and {j}"
-            );
+            assert_eq!(rt; bare(&rt, i) == bare(&rt, j), i == j, "{i} and {j}");
         }
     }
-    assert!(rt; item(rt.alloc(), &seed)? == item(rt.alloc(), &seed)?);
-    assert!(rt; inner(rt.alloc(), &seed)? == inner(rt.alloc(), &seed)?);
-    let first = Field::from(dict(rt.alloc(), &seed)?);
-    let second = Field::from(dict(rt.alloc(), &seed)?);
-    assert!(rt; first == second);
-    assert!(rt; first != Field::from(item(rt.alloc(), &seed)?));
-    Ok(())
 }
 
 #[test]
-fn numbers_of_numbers(rt: HostRuntime) -> Result<(), Fail> {
-    assert_eq!(rt;
-        Int::try_from(999_999_999_999_999i64)?.get(),
-        999_999_999_999_999
-    );
+fn values_with_equals(rt: HostRuntime) {
+    let seed = seed(&rt);
+    assert!(rt; item(&rt, &seed) == item(&rt, &seed));
+    assert!(rt; inner(&rt, &seed) == inner(&rt, &seed));
+    assert!(rt; Field::from(dict(&rt, &seed)) == dict(&rt, &seed).into());
+    assert!(rt; Field::from(dict(&rt, &seed)) != item(&rt, &seed).into());
+}
+
+#[test]
+fn numbers_of_numbers(rt: HostRuntime) {
+    let most = Int::try_from(999_999_999_999_999i64).map(|n| n.get());
+    assert_eq!(rt; most, Ok(999_999_999_999_999));
     assert!(rt; Int::try_from(1_000_000_000_000_000i64).is_err());
     assert_eq!(rt; i64::from(Int::from(-7)), -7);
-    assert_eq!(rt; i64::from(Thousandths::try_from(-1500i64)?), -1500);
-    assert_eq!(rt; Thousandths::from(1500).get(), 1500);
-    Ok(())
+    let decimal = Thousandths::try_from(-1500i64).map(|n| n.get());
+    assert_eq!(rt; decimal, Ok(-1500));
+    assert_eq!(rt; i64::from(Thousandths::from(1500)), 1500);
 }
 
 // A user's own matches. An Integer or a Date is `Copy`, so the toolchain wants what holds it matched
@@ -200,19 +197,16 @@ fn token_of(field: Field) -> Option<Token> {
 }
 
 #[test]
-fn matches_of_ones_own(rt: HostRuntime) -> Result<(), Fail> {
-    let alloc = rt.alloc();
-    let seed = RandomState::new(&rt)?;
-    let mut params = item(alloc, &seed)?.params;
+fn matches_of_ones_own(rt: HostRuntime) {
+    let seed = seed(&rt);
+    let mut params = item(&rt, &seed).params;
     assert_eq!(rt; looked_up(&params, b"q"), Some(1));
-    let two = Bare::Integer(Int::from(2));
-    assert_eq!(rt; replaced(&mut params, Key::new(alloc, b"q")?, two), Some(1));
-    let token = Token::new(alloc, b"t")?.into();
-    let key = Key::new(alloc, b"q")?;
-    assert_eq!(rt; replaced_by_reference(&mut params, key, token), Some(2));
-    let old = replaced_token(&mut params, Key::new(alloc, b"q")?, true.into());
-    assert_eq!(rt; old.ok_or("no Token")?.as_bytes(), b"t".as_slice());
-    let token = token_of(Field::from(item(alloc, &seed)?)).ok_or("no Token")?;
+    let old = replaced(&mut params, key(&rt, b"q"), integer(&rt, 2));
+    assert_eq!(rt; old, Some(1));
+    let old = replaced_by_reference(&mut params, key(&rt, b"q"), token(&rt, b"t"));
+    assert_eq!(rt; old, Some(2));
+    let old = replaced_token(&mut params, key(&rt, b"q"), true.into());
+    assert_eq!(rt; old.expect(&rt, "a Token").as_bytes(), b"t".as_slice());
+    let token = token_of(item(&rt, &seed).into()).expect(&rt, "a Token");
     assert_eq!(rt; token.as_bytes(), b"a".as_slice());
-    Ok(())
 }

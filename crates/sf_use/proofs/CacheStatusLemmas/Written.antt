@@ -107,26 +107,17 @@ unfolding IsDistinct
 all_put a b c d e f g h i hit fwd status ttl stored collapsed key detail
     a' b' c' d' e' f' g' h' i' =
     let t1 : Table = [] ++ (codes "hit", hit) ∷ [] in
-    let d1 : HasDistinctKeys t1 = search rules in
     let t2 : Table = t1 ++ (codes "fwd", fwd) ∷ [] in
-    let d2 : HasDistinctKeys t2 = search rules in
     let t3 : Table = t2 ++ (codes "fwd-status", status) ∷ [] in
-    let d3 : HasDistinctKeys t3 = search rules in
     let t4 : Table = t3 ++ (codes "ttl", ttl) ∷ [] in
-    let d4 : HasDistinctKeys t4 = search rules in
     let t5 : Table = t4 ++ (codes "stored", stored) ∷ [] in
-    let d5 : HasDistinctKeys t5 = search rules in
     let t6 : Table = t5 ++ (codes "collapsed", collapsed) ∷ [] in
-    let d6 : HasDistinctKeys t6 = search rules in
     let t7 : Table = t6 ++ (codes "key", key) ∷ [] in
-    let d7 : HasDistinctKeys t7 = search rules in
-    let t8 : Table = t7 ++ (codes "detail", detail) ∷ [] in
-    let d8 : HasDistinctKeys t8 = search rules in
-    let p1 = put_behind a b [] (codes "hit") hit d1 a' b' in
-    let p2 = put_behind b c t1 (codes "fwd") fwd d2 p1 c' in
-    let p3 = put_behind c d t2 (codes "fwd-status") status d3 p2 d' in
-    let p4 = put_behind d e t3 (codes "ttl") ttl d4 p3 e' in
-    let p5 = put_behind e f t4 (codes "stored") stored d5 p4 f' in
-    let p6 = put_behind f g t5 (codes "collapsed") collapsed d6 p5 g' in
-    let p7 = put_behind g h t6 (codes "key") key d7 p6 h' in
-    put_behind h i t7 (codes "detail") detail d8 p7 i'
+    let p1 = put_behind a b [] (codes "hit") hit (search rules) a' b' in
+    let p2 = put_behind b c t1 (codes "fwd") fwd (search rules) p1 c' in
+    let p3 = put_behind c d t2 (codes "fwd-status") status (search rules) p2 d' in
+    let p4 = put_behind d e t3 (codes "ttl") ttl (search rules) p3 e' in
+    let p5 = put_behind e f t4 (codes "stored") stored (search rules) p4 f' in
+    let p6 = put_behind f g t5 (codes "collapsed") collapsed (search rules) p5 g' in
+    let p7 = put_behind g h t6 (codes "key") key (search rules) p6 h' in
+    put_behind h i t7 (codes "detail") detail (search rules) p7 i'

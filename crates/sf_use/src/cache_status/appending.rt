@@ -27,15 +27,14 @@ pub fn append_hop(
     list: &mut List,
     hop: &Hop,
 ) -> Result<(), OutOfMemory>
+    // the hop's member stands at the end, or for want of memory the List is as it was
     ensures { MatchResult result
         (λ _. list.new.members ≡ list.old.members ++ entry hop.now ∷ [])
         (λ _. list.new ≡ list.old) }
 {
     let member = member_of(alloc, seed, hop)?;
-    match list.members.push(member) {
-        Ok(()) => Ok(()),
-        Err(_) => Err(OutOfMemory),
-    }
+    list.members.push(member)?;
+    Ok(())
 }
 
 fn member_of(alloc: Global, seed: &RandomState, hop: &Hop) -> Result<Member, OutOfMemory>
@@ -43,7 +42,7 @@ fn member_of(alloc: Global, seed: &RandomState, hop: &Hop) -> Result<Member, Out
 {
     let bare = bare_of(alloc, &hop.name)?;
     let params = params_of(alloc, seed, hop)?;
-    Ok(Member::Item(Item { bare, params }))
+    Ok(Item { bare, params }.into())
 }
 
 fn params_of(alloc: Global, seed: &RandomState, hop: &Hop) -> Result<Entries<Bare>, OutOfMemory>
@@ -73,6 +72,7 @@ fn put(
     value: Option<Bare>,
 ) -> Result<(), OutOfMemory>
     requires { IsKey key.now }
+    // the parameter is put where it has a value
     ensures { IfOk result (λ _. params.new ≡ added params.old key.now value) }
 {
     let Some(value) = value else {
@@ -82,22 +82,15 @@ fn put(
         Ok(key) => key,
         Err(TextFault::OutOfMemory) => return Err(OutOfMemory),
         Err(TextFault::Empty) => unreachable!(),
-        Err(TextFault::BadByte { place: _ }) => unreachable!(),
+        Err(TextFault::BadByte { .. }) => unreachable!(),
     };
-    match params.put(key, value) {
-        Ok(_) => Ok(()),
-        Err(_) => Err(OutOfMemory),
-    }
+    params.set(key, value)
 }
 
 fn hit_value(outcome: &Outcome) -> Option<Bare>
     ensures { result ≡ hit_value outcome.now }
 {
-    if outcome.says_hit() {
-        Some(Bare::Boolean(true))
-    } else {
-        None
-    }
+    outcome.says_hit().then_some(Bare::Boolean(true))
 }
 
 fn why_value(alloc: Global, outcome: &Outcome) -> Result<Option<Bare>, OutOfMemory>
@@ -116,18 +109,15 @@ fn token_of(alloc: Global, why: &Forward) -> Result<Token, OutOfMemory>
         Ok(token) => Ok(token),
         Err(TextFault::OutOfMemory) => Err(OutOfMemory),
         Err(TextFault::Empty) => unreachable!(),
-        Err(TextFault::BadByte { place: _ }) => unreachable!(),
+        Err(TextFault::BadByte { .. }) => unreachable!(),
     }
 }
 
 fn status_value(outcome: &Outcome) -> Option<Bare>
     ensures { result ≡ status_value (passed_by outcome.now) }
 {
-    let status = outcome.passed()?.status?;
-    match Int::new(status.get() as i64) {
-        Ok(code) => Some(Bare::Integer(code)),
-        Err(_) => unreachable!(),
-    }
+    let code = i32::from(outcome.status()?.get());
+    Some(Bare::Integer(Int::from(code)))
 }
 
 fn ttl_value(ttl: Option<Int>) -> Option<Bare>
@@ -139,13 +129,13 @@ fn ttl_value(ttl: Option<Int>) -> Option<Bare>
 fn stored_value(outcome: &Outcome) -> Option<Bare>
     ensures { result ≡ stored_value (passed_by outcome.now) }
 {
-    Some(Bare::Boolean(outcome.passed()?.stored?))
+    Some(Bare::Boolean(outcome.stored()?))
 }
 
 fn collapsed_value(outcome: &Outcome) -> Option<Bare>
     ensures { result ≡ collapsed_value (passed_by outcome.now) }
 {
-    Some(Bare::Boolean(outcome.passed()?.collapsed?))
+    Some(Bare::Boolean(outcome.collapsed()?))
 }
 
 fn key_value(alloc: Global, key: &Option<Text>) -> Result<Option<Bare>, OutOfMemory>

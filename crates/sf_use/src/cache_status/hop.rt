@@ -1,6 +1,6 @@
 //! The hops of a response, each a cache and what it did.
 ghost use Rattle.std.specs.Prelude.{◌≡◌};
-ghost use Rattle.std.specs.Option.{option_copied};
+ghost use Rattle.std.specs.Option.{option_and_then, option_copied};
 ghost use Rattle.sf_value.specs.Grammar.Tokens.{IsToken};
 ghost use Rattle.sf_use.specs.CacheStatus.Members.{is_hit, passed_by, says_hit};
 ghost use Rattle.sf_use.specs.CacheStatus.Reasons.{token_of};
@@ -135,11 +135,31 @@ impl Outcome {
         ensures { option_copied result ≡ passed_by self.now }
     {
         match self {
-            Outcome::Forwarded(passed) => Some(passed),
-            Outcome::Conflict(passed) => Some(passed),
-            Outcome::Hit => None,
-            Outcome::Unsaid => None,
+            Outcome::Forwarded(passed) | Outcome::Conflict(passed) => Some(passed),
+            Outcome::Hit | Outcome::Unsaid => None,
         }
+    }
+
+    /// The status that the next server answered; `None` where it is not said. It takes no memory.
+    pub fn status(&self) -> Option<HopStatus>
+        ensures { result ≡ option_and_then (λ p. p.status) (passed_by self.now) }
+    {
+        self.passed()?.status
+    }
+
+    /// Whether the response was stored; `None` where it is not said. It takes no memory.
+    pub fn stored(&self) -> Option<bool>
+        ensures { result ≡ option_and_then (λ p. p.stored) (passed_by self.now) }
+    {
+        self.passed()?.stored
+    }
+
+    /// Whether the request was collapsed with others; `None` where it is not said. It takes no
+    /// memory.
+    pub fn collapsed(&self) -> Option<bool>
+        ensures { result ≡ option_and_then (λ p. p.collapsed) (passed_by self.now) }
+    {
+        self.passed()?.collapsed
     }
 
     /// Whether `hit` is true in the field, as in a `Hit` and a `Conflict`. It takes no memory.

@@ -1,5 +1,7 @@
 //! The path of a response through caches.
 ghost use Rattle.std.specs.Prelude.{◌≡◌};
+ghost use Rattle.sf_field.specs.Meaning.{Gives};
+ghost use Rattle.sf_use.specs.CacheStatus.Hops.{hops_of};
 
 use crate::cache_status::hop::Hop;
 use crate::cache_status::reading::{first_nameless, read_hops};
@@ -31,6 +33,18 @@ impl Model for CachePath {
     ghost view = { λ p. p.hops.items };
 }
 
+/// Reads Cache-Status (RFC 9211 section 2), a List, as a [`CachePath`].
+///
+/// A parameter of another type than the RFC gives it counts as absent, and so does a `fwd-status`
+/// outside 100 to 999. Parameters that the RFC does not define are ignored. A `fwd` of another
+/// token is [`crate::Forward::Other`].
+///
+/// ```
+/// let path = ask(alloc, &seed, &CacheStatus, lines.as_slice())?;
+/// ```
+#[derive(Clone, Copy, Debug, PartialEq, Eq)]
+pub struct CacheStatus;
+
 impl CachePath {
     ghost use Rattle.sf_use.specs.CacheStatus.Served.{served, IsLastHit};
 
@@ -58,22 +72,9 @@ impl CachePath {
     }
 }
 
-/// Reads Cache-Status (RFC 9211 section 2), a List, as a [`CachePath`].
-///
-/// A parameter of another type than the RFC gives it counts as absent, and so does a `fwd-status`
-/// outside 100 to 999. Parameters that the RFC does not define are ignored. A `fwd` of another
-/// token is [`crate::Forward::Other`].
-///
-/// ```
-/// let path = ask(alloc, &seed, &CacheStatus, lines.as_slice())?;
-/// ```
-#[derive(Clone, Copy, Debug, PartialEq, Eq)]
-pub struct CacheStatus;
-
 impl Consumer for CacheStatus {
     ghost use Rattle.sf_value.specs.declared.value.Kind.TheVariants.{List};
     ghost use Rattle.sf_value.specs.Grammar.Fields.{kind_of};
-    ghost use Rattle.sf_field.specs.Meaning.{Gives};
     ghost use Rattle.sf_use.specs.CacheStatus.Hops.{hops};
 
     type Answer = CachePath;
@@ -93,14 +94,10 @@ impl Consumer for CacheStatus {
     {
         match field {
             Field::List(list) => read_path(alloc, list.members.as_slice()),
-            Field::Item(_) => unreachable!(),
-            Field::Dict(_) => unreachable!(),
+            Field::Item(_) | Field::Dict(_) => unreachable!(),
         }
     }
 }
-
-ghost use Rattle.sf_field.specs.Meaning.{Gives};
-ghost use Rattle.sf_use.specs.CacheStatus.Hops.{hops_of};
 
 fn read_path(alloc: Global, members: &[Member]) -> Result<CachePath, UseFault>
     ensures { Gives (hops_of members.now) result }
@@ -108,8 +105,6 @@ fn read_path(alloc: Global, members: &[Member]) -> Result<CachePath, UseFault>
     if let Some(index) = first_nameless(members) {
         return Err(UseFault::NotACache { index });
     }
-    match read_hops(alloc, members) {
-        Ok(hops) => Ok(CachePath { hops }),
-        Err(_) => Err(UseFault::OutOfMemory),
-    }
+    let hops = read_hops(alloc, members)?;
+    Ok(CachePath { hops })
 }

@@ -5,7 +5,7 @@ use Rattle.sf_value.specs.Grammar.Words.{Every}
 use Rattle.sf_parse.specs.Plain.{plain_byte}
 use Rattle.sf_parse.proofs.FedLines.{fed_before}
 use Rattle.sf_field.specs.Headers.{lines_under}
-use Rattle.sf_field.proofs.Feeding.{Leaves, leaves_all, leaves_line, ends_early}
+use Rattle.sf_field.proofs.Feeding.{FedSoFar, fed_nothing, fed_line, fed_refused}
 use Rattle.sf_field.proofs.Values.{values_joined, next_value, alone_first, alone_next}
 use Rattle.sf_field.proofs.headers.feed_values.Goals as goal
 
@@ -20,13 +20,13 @@ pub loop-value-init : goal.loop-value-init
 loop-value-init c =
     let flag = c.in_ok-feed.ensures.lines ∙ c.requires in
     rw c.into_iter-value-iterator.ensures.into_iter_gives (record {
-      leaves =
+      so_far =
           subst
-          (Leaves c.args.parser.now c.feed.new.self
+          (FedSoFar c.args.parser.now c.feed.new.self
           (join (lines_under c.args.headers.now c.args.name.now)))
           (values_joined c.args.headers.now c.args.name.now _ _ _ c.get_all.ensures.value
           c.iter-values.ensures flag)
-          (leaves_all _ _ _ c.in_ok-feed.ensures.fed);
+          (fed_nothing _ _ _ c.in_ok-feed.ensures.fed);
       plain = λ h value e w. c.in_ok-feed.ensures.plain h tt;
       alone = λ value e.
           alone_first c.args.headers.now c.args.name.now _ _ _ value c.get_all.ensures.value
@@ -38,9 +38,9 @@ loop-value-preserved c =
     let next = next_value c.loop-value.parser.after_line _ _ _ c.in-Some.ensures.steps in
     let after = c.in_ok-feed_line.ensures.lines in
     record {
-      leaves =
-          leaves_line _ _ c.feed_line.new.self _ _ c.in-Some.value.now.bytes _ c.loop-value.parser.after_line after
-          c.loop-value.invariant.leaves next
+      so_far =
+          fed_line _ _ c.feed_line.new.self _ _ c.in-Some.value.now.bytes _ c.loop-value.parser.after_line after
+          c.loop-value.invariant.so_far next
           (rw c.as_bytes.ensures.value at c.in_ok-feed_line.ensures.fed);
       plain = λ h value e w.
           let one = alone_next value c.loop-value.parser.after_line _ _ _ c.in-Some.ensures.steps
@@ -58,5 +58,5 @@ returns-in_err-feed_line-clause-fed c =
     c.from_residual-in_err-feed_line.ensures.1 in
     let next = next_value c.loop-value.parser.after_line _ _ _ c.in-Some.ensures.steps in
     rw (p.1, p.2)
-    (ends_early _ c.loop-value.parser _ _ _ _ _ _ c.loop-value.invariant.leaves next
+    (fed_refused _ c.loop-value.parser _ _ _ _ _ _ c.loop-value.invariant.so_far next
     (rw c.as_bytes.ensures.value at c.in_err-feed_line.ensures.fed))

@@ -5,8 +5,8 @@ use Rattle.sf_value.specs.Grammar.Words.{Every}
 use Rattle.sf_parse.specs.Plain.{plain_byte}
 use Rattle.sf_parse.specs.Parsers.{in_line}
 use Rattle.sf_parse.proofs.FedLines.{fed_before}
-use Rattle.sf_field.proofs.Feeding.{Leaves, behind, joined, next_line, leaves_all, leaves_line}
-use Rattle.sf_field.proofs.Feeding.{ends_early, only_line}
+use Rattle.sf_field.proofs.Feeding.{FedSoFar, behind, joined, next_line, fed_nothing, fed_line}
+use Rattle.sf_field.proofs.Feeding.{fed_refused, only_line}
 use Rattle.sf_field.proofs.lines.feed_lines.Goals as goal
 
 pub returns-in_err-feed-clause-fed : goal.returns-in_err-feed-clause-fed
@@ -20,10 +20,10 @@ pub loop-line-init : goal.loop-line-init
 loop-line-init c =
     let flag = c.in_ok-feed.ensures.lines ∙ c.requires in
     record {
-      leaves =
-          subst (Leaves c.args.parser.now c.feed.new.self (join c.args.lines.now))
+      so_far =
+          subst (FedSoFar c.args.parser.now c.feed.new.self (join c.args.lines.now))
           (joined c.args.lines.now ∙ ap (λ b. behind b c.args.lines.now) (sym flag))
-          (leaves_all _ _ _ c.in_ok-feed.ensures.fed);
+          (fed_nothing _ _ _ c.in_ok-feed.ensures.fed);
       first = λ e. flag;
       plain = λ h line e w. c.in_ok-feed.ensures.plain h tt;
     }
@@ -34,7 +34,7 @@ returns-in_err-feed_line-clause-fed c =
     c.from_residual-in_err-feed_line.ensures.1 in
     let next = next_line c.loop-line.parser.after_line _ _ _ c.loop-line-test.true c.line-item.is in
     rw (p.1, p.2)
-    (ends_early _ c.loop-line.parser _ _ _ _ _ _ c.loop-line.invariant.leaves next
+    (fed_refused _ c.loop-line.parser _ _ _ _ _ _ c.loop-line.invariant.so_far next
     (rw c.as_bytes.ensures.bytes at c.in_err-feed_line.ensures.fed))
 
 pub loop-line-preserved : goal.loop-line-preserved
@@ -42,9 +42,9 @@ loop-line-preserved c =
     let next = next_line c.loop-line.parser.after_line _ _ _ c.loop-line-test.true c.line-item.is in
     let after = c.in_ok-feed_line.ensures.lines in
     record {
-      leaves =
-          leaves_line _ _ c.feed_line.new.self _ _ c.line-item.result _ c.loop-line.parser.after_line after
-          c.loop-line.invariant.leaves next
+      so_far =
+          fed_line _ _ c.feed_line.new.self _ _ c.line-item.result _ c.loop-line.parser.after_line after
+          c.loop-line.invariant.so_far next
           (rw c.as_bytes.ensures.bytes at c.in_ok-feed_line.ensures.fed);
       first = λ e. absurd (omega arith);
       plain = λ h line e w.

@@ -4,8 +4,8 @@ use Rattle.std.specs.Str.Lines.{lines}
 use Rattle.sf_tool.specs.declared.fields.LineFault.{LineFault}
 use Rattle.sf_tool.specs.OneLine.{IsLineFault, FindsNoRoom}
 use Rattle.sf_tool.specs.Lines.{trim, lines_of}
-use Rattle.sf_tool.proofs.Room.{IsListedMap-empty, IsListedMap-takes, many-names}
-use Rattle.sf_tool.proofs.LineByLine.{ReadsOn, reads_on-start, reads_on-takes, reads_on-refused}
+use Rattle.sf_tool.proofs.Room.{IsListedMap-empty, IsListedMap-adds, many-names}
+use Rattle.sf_tool.proofs.LineByLine.{ReadsOn, reads_on-start, reads_on-adds, reads_on-refused}
 use Rattle.sf_tool.proofs.LineByLine.{reads_on-done}
 use Rattle.sf_tool.proofs.fields.read_fields.Goals as goal
 
@@ -58,8 +58,8 @@ loop-line-preserved c =
         c.in-Some.ensures.shorter,
         c.loop-line.invariant.number_fits,
       );
-      listed = IsListedMap-takes targets c.trimmed.result.now headers
+      listed = IsListedMap-adds targets c.trimmed.result.now headers
           c.take_line.new.headers number c.loop-line.invariant.listed taken;
-      reads = reads_on-takes targets (lines_of c.args.input.now) _ c.trimmed.result.now number
+      reads = reads_on-adds targets (lines_of c.args.input.now) _ c.trimmed.result.now number
           headers c.take_line.new.headers reads taken;
     }

@@ -1,15 +1,15 @@
 use Rattle.std.proofs.Common.{◌<◌, Err, rules, arith, length, length-take}
 use Rattle.std.proofs.lemmas.List.{nil_from_length}
-use Rattle.sf_write.proofs.Joining.{leaves_all, leaves_less, sent_once, refused_once, ends_done}
+use Rattle.sf_write.proofs.Joining.{unwritten_all, unwritten_less, sent_once, refused_once, unwritten_none}
 use Rattle.sf_write.proofs.send.send_all.Goals as goal
 
 pub loop-rest-init : goal.loop-rest-init
-loop-rest-init g c = leaves_all _ _ _ (omega arith)
+loop-rest-init g c = unwritten_all _ _ _ (omega arith)
 
 pub loop-rest-preserved : goal.loop-rest-preserved
 loop-rest-preserved g c =
     let sent = c.in-Ok.ensures in
-    leaves_less _ c.loop-rest.invariant (search rules)
+    unwritten_less _ c.loop-rest.invariant (search rules)
     (sent_once sent.2 (rw length-take (search rules)))
 
 pub returns-in-Err : goal.returns-in-Err
@@ -20,4 +20,4 @@ returns-in-Err g c =
     (refused_once left.counted some c.in-Err.ensures.1)
 
 pub returns : goal.returns
-returns g c = ends_done c.loop-rest.invariant (nil_from_length _ (search rules))
+returns g c = unwritten_none c.loop-rest.invariant (nil_from_length _ (search rules))

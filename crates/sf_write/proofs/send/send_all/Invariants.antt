@@ -1,10 +1,10 @@
 use Rattle.std.proofs.Common.{length}
-use Rattle.sf_write.proofs.Joining.{Leaves}
+use Rattle.sf_write.proofs.Joining.{Unwritten}
 use Rattle.sf_write.proofs.send.send_all.Given as goal
 
 abbrev pub invariant-loop-rest : goal.invariant-loop-rest
 invariant-loop-rest g l =
-    Leaves (g.W.Sink.state l.initial.out) (g.W.Sink.state l.out) l.before l.written
+    Unwritten (g.W.Sink.state l.initial.out) (g.W.Sink.state l.out) l.before l.written
     l.initial.rest l.rest
 
 abbrev pub decreases-loop-rest : goal.decreases-loop-rest

@@ -1,0 +1,103 @@
+//! Bytes that are taken at a pace.
+ghost use Rattle.std.specs.Prelude.{◌≡◌, [], Some};
+
+use sf_value::{Failed, Sink};
+use std::alloc::Global;
+
+/// Takes one byte a call. The calls are counted from 1, and one of them may fail; so does one for
+/// which memory is wanting.
+///
+/// ```
+/// let mut sink = Trickle::new(alloc, 3);
+/// let answer = write_field(&field, &mut sink); // Err(WriteFault { written: 2 }), of a longer text
+/// ```
+#[derive(Drop)]
+pub struct Trickle {
+    /// The bytes that were taken.
+    pub taken: Vec<u8>,
+    /// The number of the call that fails; 0 for none.
+    pub fails_at: u64,
+    /// How many calls were made.
+    pub calls: u64,
+    /// How many of them failed.
+    pub failures: u64,
+}
+
+impl Trickle {
+    /// The sink that took nothing yet. It takes no memory.
+    pub fn new(alloc: Global, fails_at: u64) -> Trickle
+        ensures taken { result.taken.items ≡ [] }
+        ensures calls { (result.calls ≡ 0) × (result.failures ≡ 0) }
+        ensures fails_at { result.fails_at ≡ fails_at }
+    {
+        Trickle {
+            taken: Vec::new(alloc),
+            fails_at,
+            calls: 0,
+            failures: 0,
+        }
+    }
+}
+
+impl Sink for Trickle {
+    ghost state = { λ t. record { taken = Some t.taken.items; failures = t.failures } };
+
+    fn send(&mut self, bytes: &[u8]) -> Result<usize, Failed> {
+        self.calls = self.calls.saturating_add(1);
+        let Some(first) = bytes.first() else {
+            return Ok(0);
+        };
+        if self.calls == self.fails_at || self.taken.push(*first).is_err() {
+            self.failures = self.failures.saturating_add(1);
+            return Err(Failed);
+        }
+        Ok(1)
+    }
+}
+
+/// Takes all bytes of a call, and counts the calls that bring some.
+///
+/// ```
+/// let mut sink = Tally::new(alloc);
+/// run(alloc, &seed, &request, &mut source, &mut sink);
+/// sink.calls // 1: the answer in one piece
+/// ```
+#[derive(Drop)]
+pub struct Tally {
+    /// The bytes that were taken.
+    pub taken: Vec<u8>,
+    /// How many calls brought bytes.
+    pub calls: u64,
+    /// How many of them failed, for want of memory.
+    pub failures: u64,
+}
+
+impl Tally {
+    /// The sink that took nothing yet. It takes no memory.
+    pub fn new(alloc: Global) -> Tally
+        ensures taken { result.taken.items ≡ [] }
+        ensures calls { (result.calls ≡ 0) × (result.failures ≡ 0) }
+    {
+        Tally {
+            taken: Vec::new(alloc),
+            calls: 0,
+            failures: 0,
+        }
+    }
+}
+
+impl Sink for Tally {
+    ghost state = { λ t. record { taken = Some t.taken.items; failures = t.failures } };
+
+    fn send(&mut self, bytes: &[u8]) -> Result<usize, Failed> {
+        if bytes.is_empty() {
+            return Ok(0);
+        }
+        self.calls = self.calls.saturating_add(1);
+        if self.taken.extend_from_slice(bytes).is_err() {
+            self.failures = self.failures.saturating_add(1);
+            return Err(Failed);
+        }
+        Ok(bytes.len())
+    }
+}

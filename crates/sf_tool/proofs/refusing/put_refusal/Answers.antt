@@ -1,0 +1,10 @@
+use Rattle.sf_write.proofs.Following.{then}
+use Rattle.sf_tool.proofs.refusing.put_refusal.Goals as goal
+
+pub returns : goal.returns
+returns g c =
+    then c.put-sent.ensures
+    (then c.put_number-sent.ensures
+    (then c.put_found-sent.ensures
+    (then c.put-sent-2.ensures
+    (then c.put_set-sent.ensures c.put_end.ensures))))

@@ -1,9 +1,0 @@
-use Rattle.std.proofs.Common.{drop}
-use Rattle.sf_tool.specs.Tree.{items_lines}
-use Rattle.sf_write.proofs.Joining.{Leaves}
-use Rattle.sf_tool.proofs.tree.write_items.Given as goal
-
-abbrev pub invariant-loop-item : goal.invariant-loop-item
-invariant-loop-item g l =
-    Leaves (g.W.Sink.state l.fn.out) (g.W.Sink.state l.out) l.fn.before l.written
-    (items_lines l.depth l.items) (items_lines l.depth (drop l.item-index l.items))

@@ -1,9 +1,0 @@
-use Rattle.std.proofs.Common.{drop}
-use Rattle.sf_tool.specs.Tree.{members_lines}
-use Rattle.sf_write.proofs.Joining.{Leaves}
-use Rattle.sf_tool.proofs.tree.write_members.Given as goal
-
-abbrev pub invariant-loop-member : goal.invariant-loop-member
-invariant-loop-member g l =
-    Leaves (g.W.Sink.state l.fn.out) (g.W.Sink.state l.out) l.fn.before l.written
-    (members_lines l.members) (members_lines (drop l.member-index l.members))

@@ -1,8 +1,0 @@
-use Rattle.sf_tool.specs.Tree.{param_lines}
-use Rattle.sf_write.proofs.Joining.{Leaves}
-use Rattle.sf_tool.proofs.tree.write_params.Given as goal
-
-abbrev pub invariant-loop-key : goal.invariant-loop-key
-invariant-loop-key g l =
-    Leaves (g.W.Sink.state l.fn.out) (g.W.Sink.state l.out) l.fn.before l.written
-    (param_lines l.depth l.params) (param_lines l.depth l.key-iterator)
