@@ -1,6 +1,6 @@
 use Rattle.std.proofs.Common.{ap}
-use Rattle.sf_parse.specs.ByteSets.{set_text}
 use Rattle.sf_write.proofs.Joining.{leaves_less, ends_early, ends_done}
+use Rattle.sf_tool.specs.Texts.{set_text}
 use Rattle.sf_tool.proofs.expected.write_set.Goals as goal
 
 pub returns-in_err-written : goal.returns-in_err-written

@@ -1,7 +1,7 @@
 use Rattle.std.proofs.Common.{◌++◌, arith, refl}
 use Rattle.sf_write.proofs.Joining.{leaves_all, leaves_less, ends_early, ends_with}
-use Rattle.sf_parse.specs.ByteSets.{set_text, runs_of}
-use Rattle.sf_tool.specs.Texts.{end_text}
+use Rattle.sf_parse.specs.ByteSets.{runs_of}
+use Rattle.sf_tool.specs.Texts.{set_text, end_text}
 use Rattle.sf_tool.proofs.refusing.write_expected.Goals as goal
 
 pub returns-in_err-written : goal.returns-in_err-written
