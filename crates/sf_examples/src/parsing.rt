@@ -106,8 +106,28 @@ fn a_refusal(rt: HostRuntime) -> Result<(), Fail> {
     };
     if let Err(refusal) = parse_text(alloc, &seed, Kind::Item, b"1 2") {
         assert_eq!(&rt; refusal, wanted);
-        let line = refusal.to_string(alloc)?;
-        assert_eq!(&rt; line.as_str(), "byte 32 at place 2, expected 20 or the end");
+        let words = refusal.to_string(alloc)?;
+        assert_eq!(&rt;
+            words.as_str(),
+            "byte 0x32 '2' at place 2, expected a space or the end"
+        );
+        return Ok(());
+    }
+    Err(Fail::from("accepted"))
+}
+
+#[test]
+fn a_refusal_in_its_line(rt: HostRuntime) -> Result<(), Fail> {
+    let alloc = rt.alloc();
+    let seed = RandomState::new(&rt)?;
+    let lines = [Blob::new(alloc, b"a")?, Blob::new(alloc, b"b c")?];
+    if let Err(refusal) = parse_lines(alloc, &seed, Kind::List, &lines) {
+        let shown = refusal.in_lines(&lines).to_string(alloc)?;
+        assert_eq!(&rt;
+            shown.as_str(),
+            "byte 0x63 'c' at place 5, expected `,`, a tab, a space or the end\n\
+             line 2, place 2:\nb c\n  ^"
+        );
         return Ok(());
     }
     Err(Fail::from("accepted"))

@@ -39,5 +39,6 @@ pub mod Readings
 pub mod PlainSteps
 pub mod RunSteps
 pub mod SetRuns
+pub mod Fitting
 pub mod HexDigits
 pub mod FedLines

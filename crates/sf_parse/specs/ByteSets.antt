@@ -1,7 +1,7 @@
 -- Sets of bytes below 128, as a refusal names them. A set is a number: byte b is in it if bit b is
 -- set. It is listed by its runs.
 use Rattle.std.specs.Prelude.{◌≡◌, ℕ, zero, suc, ◌+◌, ◌/◌, ◌%◌, ◌<◌, ◌≤◌, ◌⊎◌, ◌↔◌, Bool, true}
-use Rattle.std.specs.Prelude.{◌==◌, if◌then◌else◌, List, [], ◌∷◌, ◌++◌, ⊤}
+use Rattle.std.specs.Prelude.{◌==◌, if◌then◌else◌, List, [], ◌∷◌, ⊤}
 use Rattle.std.specs.Int.{bit_at}
 use Rattle.sf_value.specs.Grammar.DisplayStrings.{hex}
 
@@ -26,16 +26,6 @@ runs_from set b (suc n) =
 -- the runs of a set of bytes below 128
 abbrev pub runs_of : ℕ → List (ℕ × ℕ)
 runs_of set = runs_from set 0 128
-
--- one byte, or the first and the last of several
-abbrev pub run_text : ℕ × ℕ → List ℕ
-run_text run =
-    if run.0 == run.1 then hex_byte run.0 else hex_byte run.0 ++ 45 ∷ hex_byte run.1
-
--- each run behind a space
-abbrev pub set_text : List (ℕ × ℕ) → List ℕ
-set_text [] = []
-set_text (run ∷ runs) = (32 ∷ run_text run) ++ set_text runs
 
 -- a byte lies within one of the runs
 abbrev pub IsWithin : ℕ → List (ℕ × ℕ) → Type 0

@@ -12,7 +12,9 @@ pub mod Parsers
 pub mod Expected
 pub mod Taking
 pub mod Takes
+pub mod Names
 pub mod RefusalTexts
+pub mod Spots
 pub mod ByteSets
 pub mod PieceEnds
 pub mod SeriesView

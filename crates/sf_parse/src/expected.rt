@@ -4,7 +4,7 @@ ghost use Rattle.std.specs.Prelude.{MatchOption, IfSome};
 ghost use Rattle.std.specs.Iterator.{at_most};
 ghost use Rattle.std.specs.Map.Iter.{TakesFirst};
 ghost use Rattle.sf_parse.specs.ByteSets.{is_in, runs_from, runs_of};
-ghost use Rattle.sf_parse.specs.ByteSets.{hex_byte, run_text, set_text};
+ghost use Rattle.sf_parse.specs.ByteSets.{hex_byte};
 
 use std::fmt;
 use std::marker::Model;
@@ -102,43 +102,5 @@ impl fmt::Display for Hex {
         let high = self.byte / 16;
         let low = self.byte % 16;
         write!(f, "{high:x}{low:x}")
-    }
-}
-
-/// A run, shown as its byte, or as its first and its last byte with a `-` between.
-#[derive(Clone, Copy, Drop)]
-struct Run {
-    first: u8,
-    last: u8,
-}
-
-impl fmt::Display for Run {
-    ghost output = { λ run. Some (run_text (run.first, run.last)) };
-
-    fn fmt<W: fmt::Write>(&self, f: &mut fmt::Formatter<W>) -> fmt::Result {
-        let first = Hex { byte: self.first };
-        if self.first == self.last {
-            return write!(f, "{first}");
-        }
-        let last = Hex { byte: self.last };
-        write!(f, "{first}-{last}")
-    }
-}
-
-/// A set, shown as its runs, each behind a space.
-#[derive(Clone, Copy, Drop)]
-pub(crate) struct ByteSet {
-    pub set: u128,
-}
-
-impl fmt::Display for ByteSet {
-    ghost output = { λ bytes. Some (set_text (runs_of bytes.set)) };
-
-    fn fmt<W: fmt::Write>(&self, f: &mut fmt::Formatter<W>) -> fmt::Result {
-        for (first, last) in runs_of(self.set) {
-            let run = Run { first, last };
-            write!(f, " {run}")?;
-        }
-        Ok(())
     }
 }

@@ -61,8 +61,8 @@ pub fn what_may_follow()
     ensures some { SomeNext }
 {}
 
-/// The runs of a set, as [`crate::runs_of`] gives them and a refusal's line lists them, are just its
-/// bytes below 128, ascending, each run as long as it can be.
+/// The runs of a set, as [`crate::runs_of`] gives them, are just its bytes below 128, ascending, each
+/// run as long as it can be.
 pub fn runs_are_the_set()
     ensures set { RunsAreTheSet }
     ensures whole { RunsAreWhole }

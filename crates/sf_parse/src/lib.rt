@@ -3,7 +3,8 @@
 //! A [`Parser`] is handed a text in pieces and keeps none of it: beside the values built so far only
 //! the open construct. It refuses at the exact byte, with exactly the bytes that could have followed
 //! ([`Refusal::Syntax`]), whatever the pieces. [`parse_text`] parses a text at once, [`parse_reader`]
-//! what a reader gives, and [`runs_of`] lists the bytes that a refusal names.
+//! what a reader gives. A refusal says itself in words, alone or beside the line that it stands in
+//! ([`InLine`]), and [`runs_of`] lists the bytes that it names.
 //!
 //! ```text
 //! let mut parser = Parser::new(alloc, &seed, Kind::Item, u64::MAX);
@@ -30,6 +31,7 @@ mod item;
 pub mod laws;
 mod level;
 mod member;
+mod names;
 mod number;
 mod parameters;
 mod parse;
@@ -40,6 +42,7 @@ mod refusal;
 mod runs;
 mod sets;
 mod shown;
+mod spots;
 mod state;
 mod text;
 mod top;
@@ -50,3 +53,4 @@ pub use parse::{parse_dict, parse_item, parse_list, parse_text, parse_text_in};
 pub use parser::Parser;
 pub use reader::parse_reader;
 pub use refusal::Refusal;
+pub use spots::{InLine, Spot};

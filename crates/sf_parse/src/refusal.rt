@@ -1,10 +1,11 @@
 //! Why a text is refused.
 ghost use Rattle.std.specs.Prelude.{◌≡◌, Some};
-ghost use Rattle.sf_parse.specs.RefusalTexts.{refusal_text};
+ghost use Rattle.sf_parse.specs.RefusalTexts.{found_text, refusal_text};
 ghost use Rattle.sf_parse.specs.declared.refusal.Refusal.TheVariants as refusal_is;
 
-use crate::expected::{ByteSet, Hex};
-use sf_value::OutOfMemory;
+use crate::expected::Hex;
+use crate::names::Expected;
+use sf_value::{OutOfMemory, is_visible};
 use std::error::Error;
 use std::fmt;
 
@@ -46,8 +47,30 @@ pub enum Refusal {
     },
 }
 
-/// One line, as `byte 32 at place 2, expected 20 or the end`: bytes stand as two hexadecimal
-/// digits, runs of them as `30-39`, places and lengths in decimal.
+/// The byte that was found, shown as `0x32 '2'`, or without the character where it is not printable.
+#[derive(Clone, Copy, Drop)]
+struct Found {
+    byte: u8,
+}
+
+impl fmt::Display for Found {
+    ghost output = { λ found. Some (found_text found.byte) };
+
+    fn fmt<W: fmt::Write>(&self, f: &mut fmt::Formatter<W>) -> fmt::Result {
+        let hex = Hex { byte: self.byte };
+        if is_visible(self.byte) {
+            let character = char::from(self.byte);
+            return write!(f, "0x{hex} '{character}'");
+        }
+        write!(f, "0x{hex}")
+    }
+}
+
+/// In words, as ``byte 0x32 '2' at place 2, expected a space or the end``. Of the bytes that could
+/// have followed, each class that is there whole is named, the wider ones first (RFC 9651 sections
+/// 3.1.2, 3.3.3 and 3.3.4, RFC 4648 section 4, letters and digits), and then each byte that is left:
+/// `-` stands between backquotes, a space, a tab, a quote and a backquote are called so, and any
+/// other is hexadecimal. Places and lengths are decimal. It takes no memory.
 impl fmt::Display for Refusal {
     ghost output = { λ refusal. Some (refusal_text refusal) };
 
@@ -60,14 +83,16 @@ impl fmt::Display for Refusal {
                 expected,
                 may_end,
             } => {
-                let set = ByteSet { set: expected };
-                let end = if may_end { " or the end" } else { "" };
+                let expected = Expected {
+                    set: expected,
+                    may_end,
+                };
                 match found {
                     Some(byte) => {
-                        let byte = Hex { byte };
-                        write!(f, "byte {byte} at place {place}, expected{set}{end}")
+                        let byte = Found { byte };
+                        write!(f, "byte {byte} at place {place}, expected {expected}")
                     }
-                    None => write!(f, "the text ended at place {place}, expected{set}{end}"),
+                    None => write!(f, "the text ended at place {place}, expected {expected}"),
                 }
             }
             Refusal::TooLong { max } => write!(f, "more than {max} bytes"),

@@ -2,9 +2,11 @@
 //! that refusals name are put together of them.
 ghost use Rattle.std.specs.Prelude.{◌≡◌, cond};
 
-const LOWER: u128 = 0x3ff_ffff << b'a';
+pub const LOWER: u128 = 0x3ff_ffff << b'a';
 
-const LETTERS: u128 = LOWER | 0x3ff_ffff << b'A';
+pub const UPPER: u128 = 0x3ff_ffff << b'A';
+
+pub const LETTERS: u128 = LOWER | UPPER;
 
 pub const SPACE: u128 = 1 << b' ';
 
@@ -31,6 +33,9 @@ pub const MINUS: u128 = 1 << b'-';
 pub const POINT: u128 = 1 << b'.';
 
 pub const DIGITS: u128 = 0x3ff << b'0';
+
+/// The digits of the escapes of Display Strings (RFC 9651 section 3.3.8).
+pub const LOWER_HEX: u128 = DIGITS | 0x3f << b'a';
 
 /// The digits of a Boolean (RFC 9651 section 3.3.6).
 pub const BITS: u128 = 3 << b'0';

@@ -4,9 +4,9 @@
 //! no memory are made with none left.
 //!
 //! It has tests alone, a file for each layer below: `values` for the calls of `sf_value`, `building`
-//! for those that build and for what is made of a value, `writing` for `sf_write`, `parsing` for
-//! `sf_parse`, `lines` for `sf_field`, `consumers` for `sf_use`, `tool` for `sf_tool`. They run by
-//! `rt test` alone; `sf_scarce` says why, and what they can't see.
+//! for those that build and for what is made of a value, `writing` for `sf_write`, `parsing` and
+//! `words` for `sf_parse`, `lines` for `sf_field`, `consumers` for `sf_use`, `tool` for `sf_tool`.
+//! They run by `rt test` alone; `sf_scarce` says why, and what they can't see.
 #![tactic(auto)]
 
 #[cfg(test)]
@@ -23,5 +23,7 @@ mod parsing;
 mod tool;
 #[cfg(test)]
 mod values;
+#[cfg(test)]
+mod words;
 #[cfg(test)]
 mod writing;

@@ -1,6 +1,17 @@
 -- The lines that tell of a refusal.
-use Rattle.std.specs.Prelude.{ℕ, Bool, true, false, List, ◌++◌, Option, Some, None, codes, decimal}
-use Rattle.sf_parse.specs.ByteSets.{hex_byte, runs_of, set_text}
+use Rattle.std.specs.Prelude.{ℕ, Bool, true, false, ◌==◌, if◌then◌else◌, List, [], ◌∷◌, ◌++◌}
+use Rattle.std.specs.Prelude.{Option, Some, None, codes, decimal}
+use Rattle.sf_parse.specs.ByteSets.{hex_byte, runs_of}
+
+-- one byte, or the first and the last of several
+abbrev pub run_text : ℕ × ℕ → List ℕ
+run_text run =
+    if run.0 == run.1 then hex_byte run.0 else hex_byte run.0 ++ 45 ∷ hex_byte run.1
+
+-- each run behind a space
+abbrev pub set_text : List (ℕ × ℕ) → List ℕ
+set_text [] = []
+set_text (run ∷ runs) = (32 ∷ run_text run) ++ set_text runs
 
 abbrev pub found_text : Option ℕ → List ℕ
 found_text None = codes " ended"

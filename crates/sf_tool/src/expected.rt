@@ -2,7 +2,8 @@
 ghost use Rattle.std.specs.Prelude.{◌≡◌, ◌<◌, ◌++◌, codes};
 ghost use Rattle.sf_value.specs.Grammar.DisplayStrings.{hex};
 ghost use Rattle.sf_write.specs.Writing.{Follows};
-ghost use Rattle.sf_parse.specs.ByteSets.{hex_byte, run_text, set_text, runs_of};
+ghost use Rattle.sf_parse.specs.ByteSets.{hex_byte, runs_of};
+ghost use Rattle.sf_tool.specs.Texts.{run_text, set_text};
 
 use sf_parse::runs_of;
 use sf_value::Sink;

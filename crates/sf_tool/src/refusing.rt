@@ -1,8 +1,8 @@
 //! The lines that tell of a refusal.
 ghost use Rattle.std.specs.Prelude.{◌≡◌, ◌++◌, Some, decimal, codes};
 ghost use Rattle.sf_write.specs.Writing.{Follows};
-ghost use Rattle.sf_parse.specs.ByteSets.{set_text, runs_of};
-ghost use Rattle.sf_tool.specs.Texts.{found_text, end_text, refusal_line};
+ghost use Rattle.sf_parse.specs.ByteSets.{runs_of};
+ghost use Rattle.sf_tool.specs.Texts.{set_text, found_text, end_text, refusal_line};
 
 use crate::expected::{hex_digits, put_set};
 use itoa::Buffer;

@@ -1,5 +1,5 @@
 use Rattle.std.proofs.Common.{ap}
-use Rattle.sf_parse.specs.ByteSets.{set_text}
+use Rattle.sf_tool.specs.Texts.{set_text}
 use Rattle.sf_write.proofs.Following.{remains_less, remains_none}
 use Rattle.sf_tool.proofs.expected.put_set.Goals as goal
 

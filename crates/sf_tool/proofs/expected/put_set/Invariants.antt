@@ -1,5 +1,6 @@
 use Rattle.sf_write.proofs.Following.{Remains}
-use Rattle.sf_parse.specs.ByteSets.{runs_of, set_text}
+use Rattle.sf_parse.specs.ByteSets.{runs_of}
+use Rattle.sf_tool.specs.Texts.{set_text}
 use Rattle.sf_tool.proofs.expected.put_set.Given as goal
 
 abbrev pub invariant-loop-first : goal.invariant-loop-first

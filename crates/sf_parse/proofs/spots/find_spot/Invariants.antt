@@ -1,0 +1,12 @@
+use Rattle.std.proofs.Common.{◌≡◌, ◌+◌, length}
+use Rattle.sf_parse.specs.Spots.{place_in}
+use Rattle.sf_parse.proofs.spots.find_spot.Given as goal
+
+abbrev pub invariant-loop-first : goal.invariant-loop-first
+invariant-loop-first l = record {
+  same : place_in 1 l.fn.lines l.fn.place ≡ place_in l.line l.left l.rest;
+  counted : l.line + length l.left ≡ length l.fn.lines + 1;
+}
+
+abbrev pub decreases-loop-first : goal.decreases-loop-first
+decreases-loop-first l = length l.left

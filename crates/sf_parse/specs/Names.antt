@@ -1,0 +1,97 @@
+-- What a refusal calls the bytes that could have come. A class is named where all its bytes are
+-- expected; what no class takes is named byte by byte.
+use Rattle.std.specs.Prelude.{ℕ, zero, suc, ◌+◌, ◌-◌, ◌%◌, ◌^◌, ◌==◌, ◌&&◌, ◌||◌, not, nat_lt, Bool}
+use Rattle.std.specs.Prelude.{if◌then◌else◌, List, [], ◌∷◌, ◌++◌, codes, slice_index_or}
+use Rattle.std.specs.Prelude.{bit_and}
+use Rattle.sf_value.specs.Grammar.Classes.{is_digit, is_lower, is_alpha, is_key_rest}
+use Rattle.sf_value.specs.Grammar.Classes.{is_token_rest, is_visible, is_one_of}
+use Rattle.sf_parse.specs.ByteSets.{hex_byte}
+use Rattle.sf_parse.specs.declared.names.Name.{Name}
+use Rattle.sf_parse.specs.declared.names.Name.TheVariants.{Printable, Token, Base64, Key, Letter}
+use Rattle.sf_parse.specs.declared.names.Name.TheVariants.{Lower, Upper, LowerHex, Digit, Byte, End}
+use Rattle.sf_parse.specs.declared.names.Names.{Names}
+
+-- the set of the bytes below n that pass the test, a bit for each
+abbrev pub set_below : ℕ → (ℕ → Bool) → ℕ
+set_below zero test = 0
+set_below (suc n) test = if test n then 2 ^ n + set_below n test else set_below n test
+
+-- the bytes that a name stands for
+abbrev pub set_of : Name → ℕ
+set_of Printable = set_below 128 is_visible
+set_of Token = set_below 128 is_token_rest
+set_of Base64 = set_below 128 (λ b. is_alpha b || is_digit b || is_one_of (codes "+/") b)
+set_of Key = set_below 128 is_key_rest
+set_of Letter = set_below 128 is_alpha
+set_of Lower = set_below 128 is_lower
+set_of Upper = set_below 128 (λ b. is_alpha b && not (is_lower b))
+set_of LowerHex = set_below 128 (λ b. is_digit b || is_one_of (codes "abcdef") b)
+set_of Digit = set_below 128 is_digit
+set_of (Byte b) = if nat_lt b 128 then 2 ^ b else 0
+set_of End = 0
+
+-- the classes, the wider ones first
+abbrev pub classes : List Name
+classes =
+    Printable ∷ Token ∷ Base64 ∷ Key ∷ Letter ∷ Lower ∷ Upper ∷ LowerHex ∷ Digit ∷ []
+
+-- the names in order: the 9 classes, the bytes from 33 to 127, and those from 0 to 32
+abbrev pub name_at : ℕ → Name
+name_at n = slice_index_or classes n (Byte ((n - 9 + 33) % 128))
+
+-- of k names, from the nth on, those that fit: a name fits where the set has all its bytes, and
+-- takes them out
+unfoldable pub fitting : ℕ → ℕ → ℕ → List Name
+fitting set n zero = []
+fitting set n (suc k) =
+    if bit_and set (set_of (name_at n)) == set_of (name_at n)
+    then name_at n ∷ fitting (set - set_of (name_at n)) (suc n) k
+    else fitting set (suc n) k
+
+abbrev pub end_name : Bool → List Name
+end_name may_end = if may_end then End ∷ [] else []
+
+-- the names of a set of bytes below 128, and of the end
+abbrev pub names_of : ℕ → Bool → List Name
+names_of set may_end = fitting set 0 137 ++ end_name may_end
+
+-- those that an iteration has left
+abbrev pub names_left : Names → List Name
+names_left names = fitting names.set names.place (137 - names.place) ++ end_name names.may_end
+
+-- a byte: in a word, between backquotes, or in hexadecimal
+abbrev pub byte_text : ℕ → List ℕ
+byte_text b =
+    if b == 32 then codes "a space"
+    else if b == 9 then codes "a tab"
+    else if b == 34 then codes "a quote"
+    else if b == 96 then codes "a backquote"
+    else if is_visible b then 96 ∷ b ∷ 96 ∷ []
+    else codes "0x" ++ hex_byte b
+
+abbrev pub name_text : Name → List ℕ
+name_text Printable = codes "a printable character"
+name_text Token = codes "a token character"
+name_text Base64 = codes "a base64 character"
+name_text Key = codes "a key character"
+name_text Letter = codes "a letter"
+name_text Lower = codes "a lower-case letter"
+name_text Upper = codes "an upper-case letter"
+name_text LowerHex = codes "a lower-case hexadecimal digit"
+name_text Digit = codes "a digit"
+name_text (Byte b) = byte_text b
+name_text End = codes "the end"
+
+-- what stands before a further name, by those behind it
+abbrev pub joint : List Name → List ℕ
+joint [] = codes " or "
+joint (next ∷ names) = codes ", "
+
+abbrev pub and_more : List Name → List ℕ
+and_more [] = []
+and_more (name ∷ names) = joint names ++ (name_text name ++ and_more names)
+
+-- names with commas between them, and "or" before the last
+abbrev pub listed : List Name → List ℕ
+listed [] = codes "nothing"
+listed (name ∷ names) = name_text name ++ and_more names

@@ -1,0 +1,54 @@
+-- Where in the lines of a field a refusal stands.
+use Rattle.std.specs.Prelude.{ℕ, suc, ◌+◌, ◌-◌, min, nat_lt, if◌then◌else◌, List, [], ◌∷◌, ◌++◌, length}
+use Rattle.std.specs.Prelude.{map, replicate, codes, decimal, Option, Some, None}
+use Rattle.sf_value.specs.Grammar.Classes.{is_visible}
+use Rattle.sf_parse.specs.RefusalTexts.{refusal_text}
+use Rattle.sf_parse.specs.declared.refusal.Refusal.{Refusal}
+use Rattle.sf_parse.specs.declared.refusal.Refusal.TheVariants.{Syntax}
+use Rattle.sf_parse.specs.declared.spots.Spot.{Spot}
+use Rattle.sf_parse.specs.declared.spots.InLine.{InLine}
+
+-- a line by its number, a place in it, and its bytes
+pub record LinePlace : Type 0 where
+  pub line : ℕ
+  pub place : ℕ
+  pub text : List ℕ
+
+-- where in lines, numbered from n on, a place of their joined text stands: the comma and the space
+-- behind a line belong to its end, and so does what lies behind the last
+abbrev pub place_in : ℕ → List (List ℕ) → ℕ → Option LinePlace
+place_in n [] place = None
+place_in n (l ∷ []) place =
+    Some (record { line = n; place = min place (length l); text = l })
+place_in n (l ∷ m ∷ ls) place =
+    if nat_lt (place - length l) 2
+    then Some (record { line = n; place = min place (length l); text = l })
+    else place_in (suc n) (m ∷ ls) (place - length l - 2)
+
+-- where in the lines of a field a refusal stands, if it is one of their text; the first is line 1
+abbrev pub stands_at : Refusal → List (List ℕ) → Option LinePlace
+stands_at (Syntax place found expected may_end) lines = place_in 1 lines place
+stands_at _ lines = None
+
+-- what a spot shows
+abbrev pub line_place : Option Spot → Option LinePlace
+line_place None = None
+line_place (Some s) = Some (record { line = s.line; place = s.place; text = s.text.now })
+
+-- a byte of a line, or a question mark where it is not printable
+abbrev pub printed_byte : ℕ → ℕ
+printed_byte b = if is_visible b then b else 63
+
+abbrev pub printed : List ℕ → List ℕ
+printed text = map printed_byte text
+
+-- the line, and a caret under the place
+abbrev pub marked_text : Option LinePlace → List ℕ
+marked_text None = []
+marked_text (Some p) =
+    codes "\nline " ++ (decimal p.line ++ (codes ", place " ++ (decimal p.place ++ (codes ":\n"
+    ++ (printed p.text ++ (codes "\n" ++ (replicate p.place 32 ++ codes "^")))))))
+
+-- a refusal, and its line
+abbrev pub in_line_text : InLine → List ℕ
+in_line_text shown = refusal_text shown.refusal ++ marked_text (line_place shown.spot)
