@@ -4,7 +4,8 @@ ghost use Rattle.sf_value.specs.declared.value.Field.TheVariants as field_is;
 ghost use Rattle.sf_value.specs.declared.value.Kind.TheVariants as kind_is;
 ghost use Rattle.std.specs.Prelude.{◌≡◌, ℕ, List, [], ◌∷◌, IfErr};
 ghost use Rattle.sf_value.specs.Grammar.Words.{Every};
-ghost use Rattle.sf_parse.specs.Plain.{plain_byte, IsOther};
+ghost use Rattle.sf_parse.specs.Plain.{plain_byte};
+ghost use Rattle.sf_parse.specs.PlainParsers.{IsOther};
 ghost use Rattle.sf_field.specs.Lines.{ParsesLinesAs};
 
 use crate::lines::parse_lines;
