@@ -2,7 +2,7 @@
 //! itself.
 ghost use Rattle.sf_value.specs.declared.value.Field.TheVariants as field_is;
 ghost use Rattle.sf_value.specs.declared.value.Kind.TheVariants as kind_is;
-ghost use Rattle.std.specs.Prelude.{◌≡◌, ℕ, List, [], ◌∷◌, IfErr};
+ghost use Rattle.std.specs.Prelude.{◌≡◌, ℕ, List as Seq, [], ◌∷◌, IfErr};
 ghost use Rattle.sf_value.specs.Grammar.Words.{Every};
 ghost use Rattle.sf_parse.specs.Plain.{plain_byte};
 ghost use Rattle.sf_parse.specs.PlainParsers.{IsOther};
@@ -23,7 +23,7 @@ use std::hash::RandomState;
 pub fn parse_item_lines(alloc: Global, seed: &RandomState, lines: &[Blob]) -> Result<Item, Refusal>
     ensures parses { ParsesLinesAs field_is.Item kind_is.Item lines.now result }
     // one line of spaces, minus signs and digits takes no memory
-    ensures plain { (line : List ℕ) → lines.now ≡ line ∷ [] → Every plain_byte line → IfErr result IsOther }
+    ensures plain { (line : Seq ℕ) → lines.now ≡ line ∷ [] → Every plain_byte line → IfErr result IsOther }
 {
     match parse_lines(alloc, seed, Kind::Item, lines)? {
         Field::Item(item) => Ok(item),
