@@ -214,7 +214,10 @@ fn new_keys(rt: HostRuntime) -> Result<(), Fail> {
 
 // Sets a new key, of one byte, which takes no memory; a refusal leaves the entries as they were.
 fn set_new(alloc: Global, filled: &mut Vec<Entries<Bare>>, count: usize) -> Seen {
-    let (Some(mut entries), Ok(key)) = (filled.pop(), Key::new(alloc, b"z")) else {
+    let Some(mut entries) = filled.pop() else {
+        return Seen::Wrong;
+    };
+    let Ok(key) = Key::new(alloc, b"z") else {
         return Seen::Wrong;
     };
     match entries.set(key, Bare::Boolean(true)) {

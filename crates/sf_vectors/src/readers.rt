@@ -70,7 +70,7 @@ fn read_with_limit(
     seed: &RandomState,
     kind: Kind,
     max: u64,
-    mut source: Paced,
+    mut source: Paced<'_>,
 ) -> Answer {
     answer_of(parse_reader(alloc, seed, kind, max, &mut source))
 }
