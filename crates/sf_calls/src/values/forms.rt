@@ -161,7 +161,7 @@ fn raise(rt: &(impl Abort + AllocGlobal), entries: &mut Entries<Bare>, place: u8
     let key = key_at(rt, place);
     match entries.get_mut(&key) {
         Some(value) => {
-            *value = integer(rt, 1000 + value_of(place));
+            *value = integer(rt, value_of(place).saturating_add(1000));
             true
         }
         None => false,
@@ -172,7 +172,7 @@ fn look_up_raised(rt: &(impl Abort + AllocGlobal), entries: &Entries<Bare>, coun
     for place in 0..count {
         let there = entries.at(usize::from(place));
         assert_eq!(rt; there.map(|e| e.0), Some(key_at(rt, place).as_slice()));
-        let raised = Some(1000 + value_of(place));
+        let raised = Some(value_of(place).saturating_add(1000));
         assert_eq!(rt; there.and_then(|e| number_in(e.1)), raised);
     }
     assert_eq!(rt; entries.len(), usize::from(count));
