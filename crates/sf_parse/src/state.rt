@@ -38,7 +38,7 @@ impl FieldState {
     }
 
     /// Takes the longest front of the piece that the field can go on with, and gives back the rest.
-    #[inline(never)]
+    #[inline(always)]
     pub fn take<'a>(&mut self, context: &Context, piece: &'a [u8]) -> Result<&'a [u8], OutOfMemory>
         ensures front { IfOk result (λ rest. Front (step_of context.now.dialect)
             (state_of self.old) piece.now rest.now (state_of self.new)) }
@@ -46,9 +46,23 @@ impl FieldState {
     {
         if let Some((byte, more)) = piece.split_first() {
             if more.is_empty() {
-                return if self.push(context, *byte)? { Ok(more) } else { Ok(piece) };
+                return if self.push(context, *byte)? {
+                    Ok(more)
+                } else {
+                    Ok(piece)
+                };
             }
         }
+        self.take_run(context, piece)
+    }
+
+    // The same, down the levels that take runs.
+    #[inline(never)]
+    fn take_run<'a>(&mut self, context: &Context, piece: &'a [u8]) -> Result<&'a [u8], OutOfMemory>
+        ensures front { IfOk result (λ rest. Front (step_of context.now.dialect)
+            (state_of self.old) piece.now rest.now (state_of self.new)) }
+        ensures plain { PlainState (state_of self.old) → Every plain_byte piece.now → IsOk result }
+    {
         match self {
             FieldState::Item(top) => top.take(context, piece),
             FieldState::List(list) => list.take(context, piece),

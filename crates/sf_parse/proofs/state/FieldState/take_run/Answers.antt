@@ -8,7 +8,7 @@ use Rattle.sf_parse.specs.PieceEnds.{with_member, with_entry}
 use Rattle.sf_parse.specs.Wholes.{list_steps, dict_steps}
 use Rattle.sf_parse.proofs.Fronts.{all_above}
 use Rattle.sf_parse.proofs.PlainSteps.{plain_stays}
-use Rattle.sf_parse.proofs.state.FieldState.take.Goals as goal
+use Rattle.sf_parse.proofs.state.FieldState.take_run.Goals as goal
 
 pub returns-in-Item-clause-plain : goal.returns-in-Item-clause-plain
 returns-in-Item-clause-plain c =
