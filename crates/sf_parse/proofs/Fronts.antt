@@ -5,7 +5,7 @@ use Rattle.std.proofs.Common.{arith, append_assoc}
 use Rattle.std.specs.Borrow.{Bor}
 use Rattle.sf_value.specs.Grammar.Words.{Every}
 use Rattle.sf_parse.specs.Machine.Language.{seen, run, Steps}
-use Rattle.sf_parse.specs.Fronts.{Went, FirstIs, Halts, Front}
+use Rattle.sf_parse.specs.Fronts.{Went, FirstIs, Halts, Front, unless}
 use Rattle.sf_parse.proofs.Language.{and_then_cases}
 
 pub run_append : {S : Type 0} (next : S → ℕ → Option S) (s t : S) (p q : List ℕ)
@@ -210,3 +210,75 @@ pub all_above : {S T E : Type 0} (next : S → ℕ → Option S) (above : T → 
     → IfOk r (λ rest. Front above (into s) piece rest.now (into t))
 all_above next above into h s t piece (Ok rest) a = front_above next above into h s t piece rest.now a
 all_above next above into h s t piece (Err k) a = a
+
+-- nothing was taken of a byte
+pub went_none : {S : Type 0} (next : S → ℕ → Option S) (s t : S) (b : ℕ) → t ≡ s
+    → Went next s (b ∷ []) (b ∷ []) t
+went_none next s t b e = record { taken = []; split = refl; leads = ap Some (sym e) }
+
+-- a byte that a step took, or not
+pub went_step : {S : Type 0} (next : S → ℕ → Option S) (s t : S) (b : ℕ) (took : Bool)
+    → Steps took (next s b) s t → Went next s (b ∷ []) (unless took b) t
+went_step next s t b true e = went_one next s t b [] e
+went_step next s t b false e = went_none next s t b e.1
+
+-- the open part took the byte
+pub push_on : {S : Type 0} (next : S → ℕ → Option S) (s t : S) (b : ℕ) (took : Bool)
+    → Went next s (b ∷ []) (unless took b) t → took ≡ true → Front next s (b ∷ []) [] t
+push_on next s t b true w f = front_all next s t (b ∷ []) w
+push_on next s t b false w f = absurd cc
+
+-- the open part can't take the byte, and a step is tried
+pub push_turn : {S : Type 0} (next : S → ℕ → Option S) (P : ℕ → Type 0) (s t u : S) (b : ℕ)
+    (part took : Bool) → Went next s (b ∷ []) (unless part b) t → FirstIs P (unless part b)
+    → part ≡ false → (P b → Steps took (next t b) t u) → Front next s (b ∷ []) (unless took b) u
+push_turn next P s t u b true took w h f k = absurd cc
+push_turn next P s t u b false true w h f k =
+    front_all next s u (b ∷ []) (went_byte next s t u (b ∷ []) b [] w (k h))
+push_turn next P s t u b false false w h f k =
+    step_stop next s t u (b ∷ []) b [] false w refl (k h)
+
+-- the same of a piece that is one byte
+pub byte_taken : {S : Type 0} (next : S → ℕ → Option S) (s t : S) (piece more : List ℕ) (b : ℕ)
+    (took : Bool) → piece ≡ b ∷ more → more ≡ [] → took ≡ true
+    → Front next s (b ∷ []) (unless took b) t → Front next s piece more t
+byte_taken next s t piece more b true p m f a = rw (p, m) a
+byte_taken next s t piece more b false p m f a = absurd cc
+
+pub byte_left : {S : Type 0} (next : S → ℕ → Option S) (s t : S) (piece more : List ℕ) (b : ℕ)
+    (took : Bool) → piece ≡ b ∷ more → more ≡ [] → took ≡ false
+    → Front next s (b ∷ []) (unless took b) t → Front next s piece piece t
+byte_left next s t piece more b true p m f a = absurd cc
+byte_left next s t piece more b false p m f a = rw (p, m) a
+
+-- a byte, seen from a level that goes on with it wherever the part goes on itself
+pub byte_above : {S T E : Type 0} (next : S → ℕ → Option S) (above : T → ℕ → Option T) (into : S
+    → T)
+    → ((s t : S) (b : ℕ) → next s b ≡ Some t → above (into s) b ≡ Some (into t))
+    → (s t : S) (x : T) (b : ℕ) (r : Result Bool E) → into s ≡ x
+    → IfOk r (λ took. Front next s (b ∷ []) (unless took b) t)
+    → IfOk r (λ took. Went above x (b ∷ []) (unless took b) (into t))
+byte_above next above into h s t x b (Ok took) e a =
+    subst (λ y. Went above y (b ∷ []) (unless took b) (into t)) e
+    (went_above next above into h s t (b ∷ []) (unless took b) a.went)
+byte_above next above into h s t x b (Err k) e a = a
+
+-- the same, where the level above goes on exactly where the part does
+pub all_of_byte : {S T E : Type 0} (next : S → ℕ → Option S) (above : T → ℕ → Option T) (into : S
+    → T)
+    → ((s : S) (b : ℕ) → above (into s) b ≡ seen into (next s b))
+    → (s t : S) (b : ℕ) (r : Result Bool E)
+    → IfOk r (λ took. Front next s (b ∷ []) (unless took b) t)
+    → IfOk r (λ took. Front above (into s) (b ∷ []) (unless took b) (into t))
+all_of_byte next above into h s t b (Ok took) a =
+    front_above next above into h s t (b ∷ []) (unless took b) a
+all_of_byte next above into h s t b (Err k) a = a
+
+-- a step that is tried behind the open part
+pub push_tried : {S E : Type 0} (next : S → ℕ → Option S) (P : ℕ → Type 0) (s t u : S) (b : ℕ)
+    (part : Bool) (r : Result Bool E) → Went next s (b ∷ []) (unless part b) t
+    → FirstIs P (unless part b) → part ≡ false
+    → IfOk r (λ took. P b → Steps took (next t b) t u)
+    → IfOk r (λ took. Front next s (b ∷ []) (unless took b) u)
+push_tried next P s t u b part (Ok took) w h f k = push_turn next P s t u b part took w h f k
+push_tried next P s t u b part (Err k) w h f e = e

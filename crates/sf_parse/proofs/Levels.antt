@@ -1,5 +1,5 @@
 -- How each level goes on where its open part does.
-use Rattle.std.proofs.Common.{◌≡◌, ℕ, true, List, [], ◌∷◌, ◌++◌, Option, Some, None, Result, IfOk}
+use Rattle.std.proofs.Common.{◌≡◌, ℕ, Bool, true, List, [], ◌∷◌, ◌++◌, Option, Some, None, Result, IfOk}
 use Rattle.std.proofs.Common.{IsSome, refl, sym, ap, subst, ◌∙◌}
 use Rattle.std.specs.Borrow.{Bor}
 use Rattle.sf_value.specs.declared.dialect.Dialect.{Dialect}
@@ -20,12 +20,12 @@ use Rattle.sf_parse.specs.Machine.Entries.{InKey, InMember, InFlag, behind_key_s
 use Rattle.sf_parse.specs.Machine.States.{BeforeItem, InTop, AfterItem}
 use Rattle.sf_parse.specs.TopView.{after_of}
 use Rattle.sf_parse.specs.Machine.Fields.{step}
-use Rattle.sf_parse.specs.Fronts.{Went, Front}
+use Rattle.sf_parse.specs.Fronts.{Went, Front, unless}
 use Rattle.sf_parse.specs.ItemView.{with_params}
 use Rattle.sf_parse.specs.MemberView.{closing_of, IsInParams, member_stuck}
 use Rattle.sf_parse.specs.EntryView.{flag_at, IsFlag}
 use Rattle.sf_parse.proofs.Language.{and_then_cases, seen_cases}
-use Rattle.sf_parse.proofs.Fronts.{part_above, went_above}
+use Rattle.sf_parse.proofs.Fronts.{part_above, went_above, byte_above}
 
 pub space_in_params : (d : Dialect) (ps : Pairs Bare) (b : ℕ) → is_sp b ≡ true
     → params_step d (Opened ps) b ≡ Some (Opened ps)
@@ -73,6 +73,17 @@ params_part d (Some x) s p q piece r h a =
     part_above (params_step d) (item_step d) (InParams x) (λ s t b e. ap (seen (InParams x)) e) p q
     (InParams x p) piece r refl a
 params_part d None s p q piece r h a = absurd cc
+
+-- the same of one byte
+pub params_byte : {E : Type 0} (d : Dialect) (o : Option Bare) (s : BareState) (p q : ParamsState)
+    (b : ℕ) (r : Result Bool E) → IsSome o
+    → IfOk r (λ took. Front (params_step d) p (b ∷ []) (unless took b) q)
+    → IfOk r (λ took. Went (item_step d) (with_params o s p) (b ∷ []) (unless took b)
+    (with_params o s q))
+params_byte d (Some x) s p q b r h a =
+    byte_above (params_step d) (item_step d) (InParams x) (λ s t b e. ap (seen (InParams x)) e) p q
+    (InParams x p) b r refl a
+params_byte d None s p q b r h a = absurd cc
 
 pub space_in_member : (d : Dialect) (is : List Item) (b : ℕ) → is_sp b ≡ true
     → member_step d (InMany (Room is)) b ≡ Some (InMany (Room is))

@@ -15,6 +15,11 @@ abbrev pub FirstIs : (ℕ → Type 0) → List ℕ → Type 0
 FirstIs P [] = ⊤
 FirstIs P (b ∷ more) = P b
 
+-- what is left of one byte
+abbrev pub unless : Bool → ℕ → List ℕ
+unless true b = []
+unless false b = b ∷ []
+
 -- the machine can't go on with this byte
 abbrev pub Halts : {S : Type 0} → (S → ℕ → Option S) → S → ℕ → Type 0
 Halts next s b = next s b ≡ None

@@ -211,6 +211,14 @@ impl Level for BareReader {
         }
     }
 
+    fn push_part(&mut self, _context: &Context, byte: u8) -> Result<bool, OutOfMemory> {
+        match self.kind {
+            BareKind::Number => return Ok(self.number.step(byte)),
+            BareKind::Text | BareKind::Token | BareKind::Boolean => return Ok(false),
+            BareKind::Date | BareKind::Blob | BareKind::Shown => return Ok(false),
+        }
+    }
+
     fn turn(&mut self, _context: &Context, byte: u8) -> Result<bool, OutOfMemory> {
         match self.kind {
             // Its run is as long as it can be.

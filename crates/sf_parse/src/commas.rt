@@ -146,6 +146,13 @@ impl<P: Piece<G>, G: Drop> Level for SeriesReader<P, G> {
         }
     }
 
+    fn push_part(&mut self, context: &Context, byte: u8) -> Result<bool, OutOfMemory> {
+        match self.phase {
+            SeriesPhase::InPiece => return self.piece.push(context, byte),
+            SeriesPhase::Begin | SeriesPhase::Gap | SeriesPhase::Comma => return Ok(false),
+        }
+    }
+
     fn turn(&mut self, context: &Context, byte: u8) -> Result<bool, OutOfMemory> {
         match self.phase {
             SeriesPhase::Begin => {

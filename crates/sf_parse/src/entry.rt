@@ -164,6 +164,20 @@ impl Level for EntryReader {
         }
     }
 
+    fn push_part(&mut self, context: &Context, byte: u8) -> Result<bool, OutOfMemory> {
+        match self.phase {
+            EntryPhase::InKey | EntryPhase::Equals => return Ok(false),
+            EntryPhase::InMember => return self.member.push(context, byte),
+            EntryPhase::InFlag => match self.member.push(context, byte) {
+                Ok(took) => return Ok(took),
+                Err(refused) => {
+                    self.phase = EntryPhase::InMember;
+                    return Err(refused);
+                }
+            },
+        }
+    }
+
     fn turn(&mut self, context: &Context, byte: u8) -> Result<bool, OutOfMemory> {
         match self.phase {
             EntryPhase::InKey => {

@@ -160,6 +160,13 @@ impl Level for ItemReader {
         self.bare.take(context, piece)
     }
 
+    fn push_part(&mut self, context: &Context, byte: u8) -> Result<bool, OutOfMemory> {
+        if self.in_params {
+            return self.params.push(context, byte);
+        }
+        self.bare.push(context, byte)
+    }
+
     fn turn(&mut self, context: &Context, byte: u8) -> Result<bool, OutOfMemory> {
         if self.in_params || byte != b';' || !self.bare.may_end() {
             return Ok(false);

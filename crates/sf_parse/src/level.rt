@@ -1,10 +1,10 @@
 //! What every level of the grammar has in common: it takes the longest front of a piece.
-ghost use Rattle.std.specs.Prelude.{◌≡◌, ℕ, Bool, true, Option, Some, IfOk, IsOk};
+ghost use Rattle.std.specs.Prelude.{◌≡◌, ℕ, Bool, true, [], ◌∷◌, Option, Some, IfOk, IsOk};
 ghost use Rattle.sf_value.specs.Grammar.Words.{Every};
 ghost use Rattle.sf_value.specs.declared.dialect.Dialect.{Dialect};
 ghost use Rattle.sf_parse.specs.Plain.{plain_byte};
 ghost use Rattle.sf_parse.specs.Expected.{Marks};
-ghost use Rattle.sf_parse.specs.Fronts.{Went, FirstIs, Front};
+ghost use Rattle.sf_parse.specs.Fronts.{Went, FirstIs, Front, unless};
 ghost use Rattle.sf_parse.specs.Machine.Language.{Steps};
 
 use crate::context::Context;
@@ -40,6 +40,14 @@ pub trait Level {
             → Steps took (next context.now.dialect self.old byte) self.old self.new) }
         ensures plain { plain context.now.dialect self.old → plain_byte byte ≡ true → IsOk result };
 
+    /// Takes a byte that the part that is open goes on with, or tells that the part can't.
+    fn push_part(&mut self, context: &Context, byte: u8) -> Result<bool, OutOfMemory>
+        ensures went { IfOk result (λ took. Went (next context.now.dialect) self.old (byte ∷ [])
+            (unless took byte) self.new) }
+        ensures stuck { IfOk result (λ took. FirstIs (stuck context.now.dialect self.new)
+            (unless took byte)) }
+        ensures plain { plain context.now.dialect self.old → plain_byte byte ≡ true → IsOk result };
+
     /// The bytes below 128 that the level can go on with, a bit for each.
     fn expected(&self, dialect: Dialect) -> u128
         ensures { Marks result (takes dialect self.now) };
@@ -51,6 +59,20 @@ pub trait Level {
     // a plain byte leaves a plain state plain
     ghost keeps: { (d : Dialect) (s t : Self) (b : ℕ) → plain d s → plain_byte b ≡ true
         → next d s b ≡ Some t → plain d t };
+
+    /// Takes one byte, or tells that the level can't go on with it: as `take` does, with no look for
+    /// a run.
+    #[inline(always)]
+    final fn push(&mut self, context: &Context, byte: u8) -> Result<bool, OutOfMemory>
+        ensures front { IfOk result (λ took. Front (next context.now.dialect) self.old (byte ∷ [])
+            (unless took byte) self.new) }
+        ensures plain { plain context.now.dialect self.old → plain_byte byte ≡ true → IsOk result }
+    {
+        if self.push_part(context, byte)? {
+            return Ok(true);
+        }
+        self.turn(context, byte)
+    }
 
     /// Takes the longest front of the piece that the level can go on with, and gives back the rest.
     final fn take<'a>(

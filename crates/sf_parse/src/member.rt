@@ -212,6 +212,21 @@ impl Level for MemberReader {
         }
     }
 
+    fn push_part(&mut self, context: &Context, byte: u8) -> Result<bool, OutOfMemory> {
+        match self.phase {
+            MemberPhase::Room => return Ok(false),
+            MemberPhase::One => return self.item.push(context, byte),
+            MemberPhase::InItem => return self.item.push(context, byte),
+            MemberPhase::Closing => match self.item.push(context, byte) {
+                Ok(took) => return Ok(took),
+                Err(refused) => {
+                    self.phase = MemberPhase::Room;
+                    return Err(refused);
+                }
+            },
+        }
+    }
+
     fn turn(&mut self, context: &Context, byte: u8) -> Result<bool, OutOfMemory> {
         match self.phase {
             MemberPhase::One | MemberPhase::Closing => return Ok(false),

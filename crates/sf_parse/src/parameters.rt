@@ -157,6 +157,14 @@ impl Level for ParamsReader {
         }
     }
 
+    fn push_part(&mut self, context: &Context, byte: u8) -> Result<bool, OutOfMemory> {
+        match self.phase {
+            ParamsPhase::InValue => return self.value.push(context, byte),
+            ParamsPhase::Between | ParamsPhase::Opened => return Ok(false),
+            ParamsPhase::InKey | ParamsPhase::Equals => return Ok(false),
+        }
+    }
+
     fn turn(&mut self, context: &Context, byte: u8) -> Result<bool, OutOfMemory> {
         match self.phase {
             ParamsPhase::Between => {

@@ -1,11 +1,11 @@
 //! A field that is being read (RFC 9651 section 4.2).
-ghost use Rattle.std.specs.Prelude.{◌≡◌, IfOk, IsOk};
+ghost use Rattle.std.specs.Prelude.{◌≡◌, [], ◌∷◌, true, IfOk, IsOk};
 ghost use Rattle.sf_value.specs.Grammar.Words.{Every};
 ghost use Rattle.sf_parse.specs.Plain.{plain_byte};
 ghost use Rattle.sf_parse.specs.PlainParsers.{PlainState};
 ghost use Rattle.sf_parse.specs.Expected.{Marks};
 ghost use Rattle.sf_parse.specs.StateView.{state_of};
-ghost use Rattle.sf_parse.specs.Fronts.{Front};
+ghost use Rattle.sf_parse.specs.Fronts.{Front, unless};
 ghost use Rattle.sf_parse.specs.Machine.Fields.{begin as begin_at, step as step_of};
 ghost use Rattle.sf_parse.specs.Machine.Fields.{finish as finish_of};
 ghost use Rattle.sf_parse.specs.Machine.Takes.{takes as takes_at, may_end as may_end_at};
@@ -38,8 +38,27 @@ impl FieldState {
     }
 
     /// Takes the longest front of the piece that the field can go on with, and gives back the rest.
-    #[inline(never)]
+    #[inline(always)]
     pub fn take<'a>(&mut self, context: &Context, piece: &'a [u8]) -> Result<&'a [u8], OutOfMemory>
+        ensures front { IfOk result (λ rest. Front (step_of context.now.dialect)
+            (state_of self.old) piece.now rest.now (state_of self.new)) }
+        ensures plain { PlainState (state_of self.old) → Every plain_byte piece.now → IsOk result }
+    {
+        if let Some((byte, more)) = piece.split_first() {
+            if more.is_empty() {
+                return if self.push(context, *byte)? {
+                    Ok(more)
+                } else {
+                    Ok(piece)
+                };
+            }
+        }
+        self.take_run(context, piece)
+    }
+
+    // The same, down the levels that take runs.
+    #[inline(never)]
+    fn take_run<'a>(&mut self, context: &Context, piece: &'a [u8]) -> Result<&'a [u8], OutOfMemory>
         ensures front { IfOk result (λ rest. Front (step_of context.now.dialect)
             (state_of self.old) piece.now rest.now (state_of self.new)) }
         ensures plain { PlainState (state_of self.old) → Every plain_byte piece.now → IsOk result }
@@ -48,6 +67,20 @@ impl FieldState {
             FieldState::Item(top) => top.take(context, piece),
             FieldState::List(list) => list.take(context, piece),
             FieldState::Dict(dict) => dict.take(context, piece),
+        }
+    }
+
+    /// Takes one byte, or tells that the field can't go on with it.
+    #[inline(never)]
+    pub fn push(&mut self, context: &Context, byte: u8) -> Result<bool, OutOfMemory>
+        ensures front { IfOk result (λ took. Front (step_of context.now.dialect)
+            (state_of self.old) (byte ∷ []) (unless took byte) (state_of self.new)) }
+        ensures plain { PlainState (state_of self.old) → plain_byte byte ≡ true → IsOk result }
+    {
+        match self {
+            FieldState::Item(top) => top.push(context, byte),
+            FieldState::List(list) => list.push(context, byte),
+            FieldState::Dict(dict) => dict.push(context, byte),
         }
     }
 

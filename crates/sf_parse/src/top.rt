@@ -112,6 +112,13 @@ impl Level for TopReader {
         }
     }
 
+    fn push_part(&mut self, context: &Context, byte: u8) -> Result<bool, OutOfMemory> {
+        match self.phase {
+            TopPhase::Inside => return self.item.push(context, byte),
+            TopPhase::Before | TopPhase::Behind => return Ok(false),
+        }
+    }
+
     fn turn(&mut self, context: &Context, byte: u8) -> Result<bool, OutOfMemory> {
         match self.phase {
             TopPhase::Before => {
