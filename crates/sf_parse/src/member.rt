@@ -38,7 +38,7 @@ pub enum MemberPhase {
 
 /// What was read of a member: the whole items of an inner list, and the item that is open. The
 /// parameters behind a closing bracket are read by the reader of items.
-#[derive(Debug, Drop)]
+#[derive(Debug)]
 pub struct MemberReader {
     phase: MemberPhase,
     item: ItemReader,
@@ -55,6 +55,18 @@ impl Model for MemberReader {
     ghost view = { λ r. member_of r.phase r.item r.items };
 
     ghost invariant = { λ r. FitsMember r.phase r.item };
+}
+
+// Written out, so that a reader is let go where it stands and not moved first.
+impl Drop for MemberReader {
+    #[inline(always)]
+    fn drop(self) {
+        let MemberReader {
+            phase: _,
+            item: _,
+            items: _,
+        } = self;
+    }
 }
 
 impl MemberReader {
