@@ -49,6 +49,7 @@ impl<V> Model for Entries<V> {
 
 // Written out, so that proofs about what holds entries don't look into them where they are let go.
 impl<V: Drop> Drop for Entries<V> {
+    #[inline(always)]
     fn drop(self) {
         let Entries { store: _ } = self;
     }
