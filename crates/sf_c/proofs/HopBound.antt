@@ -1,5 +1,6 @@
 -- A path has at most as many hops as the value of its text has nodes, and at most as many bytes.
-use Rattle.std.proofs.Common.{◌≡◌, ℕ, ◌+◌, ◌*◌, ◌≤◌, Bool, true, false, List as Seq, [], ◌∷◌, length}
+use Rattle.std.proofs.Common.{◌≡◌, ℕ, ◌+◌, ◌*◌, ◌≤◌, Bool, true, false, List as Seq, [], ◌∷◌}
+use Rattle.std.proofs.Common.{length}
 use Rattle.std.proofs.Common.{map, Option, Some, None, Ok, Err, Result, refl, sym, ap, ◌∙◌, arith}
 use Rattle.std.proofs.Common.{codes, bytes_eq, length-append}
 use Rattle.std.proofs.lemmas.Bool.{false≢true}

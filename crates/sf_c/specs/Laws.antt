@@ -1,4 +1,5 @@
--- The laws of the nodes and of the hops. Each stands as the contract of a function in `src/laws.rt`.
+-- The laws of the nodes and of the hops. Each stands as the contract of a function in
+-- `src/laws.rt`.
 use Rattle.std.specs.Prelude.{◌≡◌, ℕ, ◌+◌, ◌*◌, ◌≤◌, List, length, map, Ok}
 use Rattle.sf_value.specs.declared.dialect.Dialect.{Dialect}
 use Rattle.sf_value.specs.declared.value.Field.{Field}

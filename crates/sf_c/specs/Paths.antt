@@ -1,5 +1,6 @@
 -- What the text of a Cache-Status field answers (RFC 9211 section 2).
-use Rattle.std.specs.Prelude.{◌≡◌, ℕ, ◌+◌, ◌*◌, ◌<◌, ◌≤◌, ◌⊎◌, List as Seq, length, map, is_some, unwrap_or}
+use Rattle.std.specs.Prelude.{◌≡◌, ℕ, ◌+◌, ◌*◌, ◌<◌, ◌≤◌, ◌⊎◌, List as Seq, length, map}
+use Rattle.std.specs.Prelude.{is_some, unwrap_or}
 use Rattle.std.specs.Prelude.{Option, Some, Ok, Err, ⊤}
 use Rattle.sf_value.specs.declared.dialect.Dialect.TheVariants.{Rfc9651}
 use Rattle.sf_value.specs.declared.value.Field.{Field}

@@ -23,7 +23,8 @@ use std::hash::RandomState;
 pub fn parse_item_lines(alloc: Global, seed: &RandomState, lines: &[Blob]) -> Result<Item, Refusal>
     ensures parses { ParsesLinesAs field_is.Item kind_is.Item lines.now result }
     // one line of spaces, minus signs and digits takes no memory
-    ensures plain { (line : Seq ℕ) → lines.now ≡ line ∷ [] → Every plain_byte line → IfErr result IsOther }
+    ensures plain { (line : Seq ℕ) → lines.now ≡ line ∷ [] → Every plain_byte line
+        → IfErr result IsOther }
 {
     match parse_lines(alloc, seed, Kind::Item, lines)? {
         Field::Item(item) => Ok(item),

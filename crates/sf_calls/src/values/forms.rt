@@ -1,4 +1,5 @@
-//! Entries of up to 8 stand in one form, more in another: both, and the change from one to the other.
+//! Entries of up to 8 stand in one form, more in another: both, and the change from one to the
+//! other.
 use crate::build::{integer, key, number_in, put, seed};
 use sf_value::{Bare, Entries, Item, Member, Part};
 use std::hash::RandomState;

@@ -150,9 +150,10 @@ fn numbers_of_numbers(rt: HostRuntime) {
     assert_eq!(rt; i64::from(Thousandths::from(1500)), 1500);
 }
 
-// A user's own matches. An Integer or a Date is `Copy`, so the toolchain wants what holds it matched
-// in two steps, or by reference: not as `Ok(Some(Bare::Integer(old)))` at once. Nor does it take one
-// pattern that moves fields out of several parts, as `Field::Item(Item { bare: Bare::Token(t), .. })`.
+// A user's own matches. An Integer or a Date is `Copy`, so the toolchain wants what holds it
+// matched in two steps, or by reference: not as `Ok(Some(Bare::Integer(old)))` at once. Nor does it
+// take one pattern that moves fields out of several parts, as
+// `Field::Item(Item { bare: Bare::Token(t), .. })`.
 
 fn replaced(params: &mut Entries<Bare>, key: Key, value: Bare) -> Option<i64> {
     let Ok(Some(old)) = params.put(key, value) else {
