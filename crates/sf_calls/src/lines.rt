@@ -126,20 +126,27 @@ fn parses_lines(rt: HostRuntime) {
     }
 }
 
+// The older dialect stops at a date, where these bytes, a digit, a colon or a letter could stand.
+fn no_date(place: u64, others: &[u8]) -> Refusal {
+    Refusal::Syntax {
+        place,
+        found: Some(b'@'),
+        expected: bytes(others, &[(b'0', b':'), (b'A', b'Z'), (b'a', b'z')]),
+        may_end: false,
+    }
+}
+
 #[test]
 fn parses_lines_in_a_dialect(rt: HostRuntime) {
     let seed = seed(&rt);
-    let lines = lines_of(&rt, &[b"@1"]);
-    let refusal = Refusal::Syntax {
-        place: 0,
-        found: Some(b'@'),
-        expected: bytes(b" \"*-?", &[(b'0', b':'), (b'A', b'Z'), (b'a', b'z')]),
-        may_end: false,
-    };
-    for (dialect, want) in [
-        (Dialect::Rfc9651, Ok("@1")),
-        (Dialect::Rfc8941, Err(refusal)),
+    for (line, dialect, want) in [
+        (b"@1".as_slice(), Dialect::Rfc9651, Ok("@1")),
+        (b"@1", Dialect::Rfc8941, Err(no_date(0, b" \"*-?"))),
+        // a date that a later value of the key takes the place of
+        (b"a;b=@1;b=1", Dialect::Rfc9651, Ok("a;b=1")),
+        (b"a;b=@1;b=1", Dialect::Rfc8941, Err(no_date(4, b"\"*-?"))),
     ] {
+        let lines = lines_of(&rt, &[line]);
         let field = parse_lines_in(rt.alloc(), &seed, dialect, Kind::Item, &lines);
         check(&rt, text_of(&rt, field), want);
     }

@@ -1,5 +1,5 @@
-//! Texts with their status, each written to its end. A text is whole before its first byte is
-//! written.
+//! Texts with their status, each written to its end. What is told is known before its first byte
+//! is written.
 ghost use Rattle.std.specs.Prelude.{◌≡◌, ◌⊎◌, ℕ, List, Ok, codes};
 ghost use Rattle.sf_value.specs.Devices.{SinkState};
 ghost use Rattle.sf_write.specs.Writing.{Follows};
