@@ -12,7 +12,7 @@ use Rattle.sf_parse.specs.declared.refusal.Refusal.{Refusal}
 use Rattle.sf_parse.specs.declared.refusal.Refusal.TheVariants.{OutOfMemory, Syntax, TooLong}
 use Rattle.sf_parse.specs.declared.refusal.Refusal.TheVariants.{ReadFault}
 use Rattle.sf_parse.specs.Parsers.{IsOnly, IsSyntax}
-use Rattle.sf_write.specs.Writing.{Follows}
+use Rattle.sf_write.specs.Writing.{Wrote}
 use Rattle.sf_field.specs.Asking.{Asks}
 use Rattle.sf_field.specs.Lines.{ParsesLines}
 use Rattle.sf_field.specs.declared.asking.AskFault.{AskFault}
@@ -59,10 +59,10 @@ tells_text request input text status old new Stopped o t = inr (record {
 
 -- all of a text went out
 pub tells_all : (old new : SinkState) (n : ℕ) (text : List ℕ) (status : Status)
-    → status ≡ Accepted ⊎ status ≡ Refused → Follows old new (Ok 0) (Ok n) text
+    → status ≡ Accepted ⊎ status ≡ Refused → Wrote old new 0 n text
     → TellsText text status old new status
-tells_all old new n text status (inl e) f = rw e (refl, (n, f.goes_on (omega arith)))
-tells_all old new n text status (inr e) f = rw e (refl, (n, f.goes_on (omega arith)))
+tells_all old new n text status (inl e) wrote = rw e (refl, (n, wrote))
+tells_all old new n text status (inr e) wrote = rw e (refl, (n, wrote))
 
 -- what a request answers where it tells this of a value
 abbrev pub RespondsTo : Request → Dialect → Kind → (Field → List ℕ) → List ℕ → Type 0

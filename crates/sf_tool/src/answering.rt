@@ -1,8 +1,8 @@
 //! Texts with their status, each written to its end. What is told is known before its first byte
 //! is written.
-ghost use Rattle.std.specs.Prelude.{◌≡◌, ◌⊎◌, ℕ, List, Ok, codes};
+ghost use Rattle.std.specs.Prelude.{◌≡◌, ◌⊎◌, ℕ, List, codes};
 ghost use Rattle.sf_value.specs.Devices.{SinkState};
-ghost use Rattle.sf_write.specs.Writing.{Follows};
+ghost use Rattle.sf_write.specs.Writing.{Writes};
 ghost use Rattle.sf_tool.specs.declared.status.Status.TheVariants as status_is;
 ghost use Rattle.sf_tool.specs.ChoiceLines.{field_lines, refused_line};
 ghost use Rattle.sf_tool.specs.PathLines.{not_a_cache_line, path_lines};
@@ -28,7 +28,7 @@ use sf_write::{Sent, put, put_field};
 fn ended(sent: Sent, status: Status) -> Status
     requires { status ≡ status_is.Accepted ⊎ status ≡ status_is.Refused }
     // whatever text was sent, from the beginning
-    ensures { (old new : SinkState) (text : List ℕ) → Follows old new (Ok 0) sent text
+    ensures { (old new : SinkState) (text : List ℕ) → Writes old new 0 sent text
         → TellsText text status old new result }
 {
     match sent {

@@ -11,7 +11,7 @@ use sf_write::{Sent, put};
 
 /// A lifetime in seconds, or `none`.
 fn put_lifetime<W: Sink>(lifetime: Option<u64>, before: Sent, out: &mut W) -> Sent
-    ensures { Follows (W.state out.old) (W.state out.new) before result (lifetime_text lifetime) }
+    ensures { Follows W.state W.send_gives out.old out.new before result (lifetime_text lifetime) }
 {
     match lifetime {
         Some(seconds) => put_number(seconds, before, out),
@@ -21,7 +21,8 @@ fn put_lifetime<W: Sink>(lifetime: Option<u64>, before: Sent, out: &mut W) -> Se
 
 /// The line of a directive, where it is set.
 fn put_flag<W: Sink>(line: &[u8], is_set: bool, before: Sent, out: &mut W) -> Sent
-    ensures { Follows (W.state out.old) (W.state out.new) before result (flag_line line.now is_set) }
+    ensures { Follows W.state W.send_gives out.old out.new before result
+        (flag_line line.now is_set) }
 {
     if is_set {
         put(line, before, out)
@@ -31,7 +32,7 @@ fn put_flag<W: Sink>(line: &[u8], is_set: bool, before: Sent, out: &mut W) -> Se
 }
 
 fn put_flags<W: Sink>(policy: &Policy, before: Sent, out: &mut W) -> Sent
-    ensures { Follows (W.state out.old) (W.state out.new) before result (flag_lines policy.now) }
+    ensures { Follows W.state W.send_gives out.old out.new before result (flag_lines policy.now) }
 {
     let sent = put_flag(b"must-revalidate\n", policy.must_revalidate, before, out);
     let sent = put_flag(b"no-store\n", policy.no_store, sent, out);
@@ -40,7 +41,7 @@ fn put_flags<W: Sink>(policy: &Policy, before: Sent, out: &mut W) -> Sent
 }
 
 fn put_policy<W: Sink>(policy: &Policy, before: Sent, out: &mut W) -> Sent
-    ensures { Follows (W.state out.old) (W.state out.new) before result (policy_lines policy.now) }
+    ensures { Follows W.state W.send_gives out.old out.new before result (policy_lines policy.now) }
 {
     let sent = put(b"lifetime shared ", before, out);
     let sent = put_lifetime(policy.lifetime(true), sent, out);
@@ -58,7 +59,7 @@ pub(crate) fn put_chosen<W: Sink>(
     before: Sent,
     out: &mut W,
 ) -> Sent
-    ensures { Follows (W.state out.old) (W.state out.new) before result
+    ensures { Follows W.state W.send_gives out.old out.new before result
         (field_lines index name.now policy.now) }
 {
     let sent = put(b"field ", before, out);

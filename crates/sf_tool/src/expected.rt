@@ -30,7 +30,7 @@ pub(crate) fn hex_digits(byte: u8) -> [u8; 2]
 
 /// A space and a run of the set: its byte, or its first and its last byte with a `-` between.
 fn put_run<W: Sink>(first: u8, last: u8, before: Sent, out: &mut W) -> Sent
-    ensures { Follows (W.state out.old) (W.state out.new) before result
+    ensures { Follows W.state W.send_gives out.old out.new before result
         (codes " " ++ run_text (first, last)) }
 {
     let [high, low] = hex_digits(first);
@@ -43,7 +43,7 @@ fn put_run<W: Sink>(first: u8, last: u8, before: Sent, out: &mut W) -> Sent
 
 /// The bytes of the set in ascending order, each run of it behind a space.
 pub(crate) fn put_set<W: Sink>(set: u128, before: Sent, out: &mut W) -> Sent
-    ensures { Follows (W.state out.old) (W.state out.new) before result (set_text (runs_of set)) }
+    ensures { Follows W.state W.send_gives out.old out.new before result (set_text (runs_of set)) }
 {
     let mut sent = before;
     for (first, last) in runs_of(set) {

@@ -13,7 +13,7 @@ use sf_write::{Sent, put, put_bare, put_text};
 
 /// A name, as its canonical text.
 fn put_name<W: Sink>(name: &Name, before: Sent, out: &mut W) -> Sent
-    ensures { Follows (W.state out.old) (W.state out.new) before result (name_text name.now) }
+    ensures { Follows W.state W.send_gives out.old out.new before result (name_text name.now) }
 {
     match name {
         Name::Text(text) => put_text(text, before, out),
@@ -23,7 +23,7 @@ fn put_name<W: Sink>(name: &Name, before: Sent, out: &mut W) -> Sent
 
 /// A word, and the token of a reason.
 fn put_reason<W: Sink>(word: &[u8], why: &Forward, before: Sent, out: &mut W) -> Sent
-    ensures { Follows (W.state out.old) (W.state out.new) before result
+    ensures { Follows W.state W.send_gives out.old out.new before result
         (word.now ++ token_of why.now) }
 {
     let sent = put(word, before, out);
@@ -32,7 +32,8 @@ fn put_reason<W: Sink>(word: &[u8], why: &Forward, before: Sent, out: &mut W) ->
 
 /// What the cache did.
 fn put_outcome<W: Sink>(outcome: &Outcome, before: Sent, out: &mut W) -> Sent
-    ensures { Follows (W.state out.old) (W.state out.new) before result (outcome_text outcome.now) }
+    ensures { Follows W.state W.send_gives out.old out.new before result
+        (outcome_text outcome.now) }
 {
     match outcome {
         Outcome::Hit => put(b" hit", before, out),
@@ -44,7 +45,7 @@ fn put_outcome<W: Sink>(outcome: &Outcome, before: Sent, out: &mut W) -> Sent
 
 /// The status with its label, where it is present; so are the parts below.
 fn put_status<W: Sink>(outcome: &Outcome, before: Sent, out: &mut W) -> Sent
-    ensures { Follows (W.state out.old) (W.state out.new) before result (status_part outcome.now) }
+    ensures { Follows W.state W.send_gives out.old out.new before result (status_part outcome.now) }
 {
     match outcome.status() {
         Some(status) => {
@@ -56,7 +57,7 @@ fn put_status<W: Sink>(outcome: &Outcome, before: Sent, out: &mut W) -> Sent
 }
 
 fn put_flag<W: Sink>(label: &[u8], flag: Option<bool>, before: Sent, out: &mut W) -> Sent
-    ensures { Follows (W.state out.old) (W.state out.new) before result
+    ensures { Follows W.state W.send_gives out.old out.new before result
         (part label.now boolean_text flag) }
 {
     match flag {
@@ -69,7 +70,7 @@ fn put_flag<W: Sink>(label: &[u8], flag: Option<bool>, before: Sent, out: &mut W
 }
 
 fn put_ttl<W: Sink>(hop: &Hop, before: Sent, out: &mut W) -> Sent
-    ensures { Follows (W.state out.old) (W.state out.new) before result (ttl_part hop.now) }
+    ensures { Follows W.state W.send_gives out.old out.new before result (ttl_part hop.now) }
 {
     match hop.ttl {
         Some(seconds) => {
@@ -81,7 +82,7 @@ fn put_ttl<W: Sink>(hop: &Hop, before: Sent, out: &mut W) -> Sent
 }
 
 fn put_key<W: Sink>(hop: &Hop, before: Sent, out: &mut W) -> Sent
-    ensures { Follows (W.state out.old) (W.state out.new) before result (key_part hop.now) }
+    ensures { Follows W.state W.send_gives out.old out.new before result (key_part hop.now) }
 {
     match &hop.key {
         Some(key) => {
@@ -93,7 +94,7 @@ fn put_key<W: Sink>(hop: &Hop, before: Sent, out: &mut W) -> Sent
 }
 
 fn put_detail<W: Sink>(hop: &Hop, before: Sent, out: &mut W) -> Sent
-    ensures { Follows (W.state out.old) (W.state out.new) before result (detail_part hop.now) }
+    ensures { Follows W.state W.send_gives out.old out.new before result (detail_part hop.now) }
 {
     match &hop.detail {
         Some(detail) => {
@@ -106,7 +107,7 @@ fn put_detail<W: Sink>(hop: &Hop, before: Sent, out: &mut W) -> Sent
 
 /// The parts behind the outcome, to the end of the line.
 fn put_parts<W: Sink>(hop: &Hop, before: Sent, out: &mut W) -> Sent
-    ensures { Follows (W.state out.old) (W.state out.new) before result (parts hop.now) }
+    ensures { Follows W.state W.send_gives out.old out.new before result (parts hop.now) }
 {
     let sent = put_status(&hop.outcome, before, out);
     let sent = put_flag(b" stored=", hop.outcome.stored(), sent, out);
@@ -119,7 +120,7 @@ fn put_parts<W: Sink>(hop: &Hop, before: Sent, out: &mut W) -> Sent
 
 /// The line of the hop at this place.
 fn put_hop<W: Sink>(place: usize, hop: &Hop, before: Sent, out: &mut W) -> Sent
-    ensures { Follows (W.state out.old) (W.state out.new) before result (hop_line place hop.now) }
+    ensures { Follows W.state W.send_gives out.old out.new before result (hop_line place hop.now) }
 {
     let sent = put(b"hop ", before, out);
     let sent = put_number(place as u64, sent, out);
@@ -130,7 +131,7 @@ fn put_hop<W: Sink>(place: usize, hop: &Hop, before: Sent, out: &mut W) -> Sent
 }
 
 fn put_hops<W: Sink>(hops: &[Hop], before: Sent, out: &mut W) -> Sent
-    ensures { Follows (W.state out.old) (W.state out.new) before result (hop_lines 0 hops.now) }
+    ensures { Follows W.state W.send_gives out.old out.new before result (hop_lines 0 hops.now) }
 {
     let mut sent = before;
     for (place, hop) in hops.iter().enumerate() {
@@ -140,7 +141,7 @@ fn put_hops<W: Sink>(hops: &[Hop], before: Sent, out: &mut W) -> Sent
 }
 
 fn put_served<W: Sink>(served: Option<usize>, before: Sent, out: &mut W) -> Sent
-    ensures { Follows (W.state out.old) (W.state out.new) before result (served_line served) }
+    ensures { Follows W.state W.send_gives out.old out.new before result (served_line served) }
 {
     match served {
         Some(place) => put_count(b"served ", place as u64, before, out),
@@ -150,7 +151,7 @@ fn put_served<W: Sink>(served: Option<usize>, before: Sent, out: &mut W) -> Sent
 
 /// The lines of a path.
 pub(crate) fn put_path<W: Sink>(path: &CachePath, before: Sent, out: &mut W) -> Sent
-    ensures { Follows (W.state out.old) (W.state out.new) before result (path_lines path.now) }
+    ensures { Follows W.state W.send_gives out.old out.new before result (path_lines path.now) }
 {
     let sent = put_hops(path.hops(), before, out);
     put_served(path.served_by(), sent, out)

@@ -9,7 +9,7 @@ use sf_value::Sink;
 use sf_write::{Sent, put};
 
 fn put_incremental<W: Sink>(incremental: bool, before: Sent, out: &mut W) -> Sent
-    ensures { Follows (W.state out.old) (W.state out.new) before result
+    ensures { Follows W.state W.send_gives out.old out.new before result
         (incremental_word incremental) }
 {
     if incremental {
@@ -21,7 +21,7 @@ fn put_incremental<W: Sink>(incremental: bool, before: Sent, out: &mut W) -> Sen
 
 /// The line of a priority.
 pub(crate) fn put_priority<W: Sink>(priority: Priority, before: Sent, out: &mut W) -> Sent
-    ensures { Follows (W.state out.old) (W.state out.new) before result (priority_line priority) }
+    ensures { Follows W.state W.send_gives out.old out.new before result (priority_line priority) }
 {
     let sent = put(b"urgency ", before, out);
     let sent = put_number(priority.urgency.get() as u64, sent, out);

@@ -11,14 +11,14 @@ use sf_write::{Sent, put};
 
 /// A number, in decimal.
 pub(crate) fn put_number<W: Sink>(number: u64, before: Sent, out: &mut W) -> Sent
-    ensures { Follows (W.state out.old) (W.state out.new) before result (decimal number) }
+    ensures { Follows W.state W.send_gives out.old out.new before result (decimal number) }
 {
     put(Buffer::new().format(number).as_bytes(), before, out)
 }
 
 /// A word and a number, to the end of the line.
 pub(crate) fn put_count<W: Sink>(word: &[u8], count: u64, before: Sent, out: &mut W) -> Sent
-    ensures { Follows (W.state out.old) (W.state out.new) before result
+    ensures { Follows W.state W.send_gives out.old out.new before result
         (word.now ++ (decimal count ++ codes "\n")) }
 {
     let sent = put(word, before, out);
@@ -28,7 +28,7 @@ pub(crate) fn put_count<W: Sink>(word: &[u8], count: u64, before: Sent, out: &mu
 
 /// The byte that was found, or that the text ended.
 fn put_found<W: Sink>(found: Option<u8>, before: Sent, out: &mut W) -> Sent
-    ensures { Follows (W.state out.old) (W.state out.new) before result (found_text found) }
+    ensures { Follows W.state W.send_gives out.old out.new before result (found_text found) }
 {
     match found {
         Some(byte) => {
@@ -41,7 +41,7 @@ fn put_found<W: Sink>(found: Option<u8>, before: Sent, out: &mut W) -> Sent
 
 /// Whether the text could have ended, and the end of the line.
 fn put_end<W: Sink>(may_end: bool, before: Sent, out: &mut W) -> Sent
-    ensures { Follows (W.state out.old) (W.state out.new) before result (end_text may_end) }
+    ensures { Follows W.state W.send_gives out.old out.new before result (end_text may_end) }
 {
     if may_end {
         put(b" end\n", before, out)
@@ -59,7 +59,7 @@ pub(crate) fn put_refusal<W: Sink>(
     before: Sent,
     out: &mut W,
 ) -> Sent
-    ensures { Follows (W.state out.old) (W.state out.new) before result
+    ensures { Follows W.state W.send_gives out.old out.new before result
         (refusal_line place found expected may_end) }
 {
     let sent = put(b"refused at ", before, out);

@@ -41,14 +41,14 @@ fn type_word(bare: &Bare) -> &'static [u8]
 
 fn put_margin<W: Sink>(depth: usize, before: Sent, out: &mut W) -> Sent
     requires { depth ≤ 3 }
-    ensures { Follows (W.state out.old) (W.state out.new) before result (margin depth) }
+    ensures { Follows W.state W.send_gives out.old out.new before result (margin depth) }
 {
     put(margin(depth), before, out)
 }
 
 /// A bare item, to the end of its line.
 fn put_bare_line<W: Sink>(bare: &Bare, before: Sent, out: &mut W) -> Sent
-    ensures { Follows (W.state out.old) (W.state out.new) before result (bare_line bare.now) }
+    ensures { Follows W.state W.send_gives out.old out.new before result (bare_line bare.now) }
 {
     let sent = put(type_word(bare), before, out);
     let sent = put_bare(bare, sent, out);
@@ -58,7 +58,7 @@ fn put_bare_line<W: Sink>(bare: &Bare, before: Sent, out: &mut W) -> Sent
 /// Parameters, a line each.
 fn put_params<W: Sink>(depth: usize, params: &Entries<Bare>, before: Sent, out: &mut W) -> Sent
     requires { depth ≤ 3 }
-    ensures { Follows (W.state out.old) (W.state out.new) before result
+    ensures { Follows W.state W.send_gives out.old out.new before result
         (param_lines depth params.now) }
 {
     let mut sent = before;
@@ -75,7 +75,8 @@ fn put_params<W: Sink>(depth: usize, params: &Entries<Bare>, before: Sent, out: 
 /// An Item, behind what stands before it in its line.
 fn put_item<W: Sink>(depth: usize, item: &Item, before: Sent, out: &mut W) -> Sent
     requires { depth ≤ 2 }
-    ensures { Follows (W.state out.old) (W.state out.new) before result (item_lines depth item.now) }
+    ensures { Follows W.state W.send_gives out.old out.new before result
+        (item_lines depth item.now) }
 {
     let sent = put_bare_line(&item.bare, before, out);
     put_params(depth + 1, &item.params, sent, out)
@@ -84,7 +85,7 @@ fn put_item<W: Sink>(depth: usize, item: &Item, before: Sent, out: &mut W) -> Se
 /// The Items of an Inner List.
 fn put_items<W: Sink>(depth: usize, items: &[Item], before: Sent, out: &mut W) -> Sent
     requires { depth ≤ 2 }
-    ensures { Follows (W.state out.old) (W.state out.new) before result
+    ensures { Follows W.state W.send_gives out.old out.new before result
         (items_lines depth items.now) }
 {
     let mut sent = before;
@@ -98,7 +99,7 @@ fn put_items<W: Sink>(depth: usize, items: &[Item], before: Sent, out: &mut W) -
 /// An Inner List, behind what stands before it in its line.
 fn put_inner<W: Sink>(depth: usize, inner: &Inner, before: Sent, out: &mut W) -> Sent
     requires { depth ≤ 1 }
-    ensures { Follows (W.state out.old) (W.state out.new) before result
+    ensures { Follows W.state W.send_gives out.old out.new before result
         (inner_lines depth inner.now) }
 {
     let sent = put_count(b"inner ", inner.items.len() as u64, before, out);
@@ -108,7 +109,8 @@ fn put_inner<W: Sink>(depth: usize, inner: &Inner, before: Sent, out: &mut W) ->
 
 /// A member, behind what stands before it in its line.
 fn put_member<W: Sink>(member: &Member, before: Sent, out: &mut W) -> Sent
-    ensures { Follows (W.state out.old) (W.state out.new) before result (member_lines 1 member.now) }
+    ensures { Follows W.state W.send_gives out.old out.new before result
+        (member_lines 1 member.now) }
 {
     match member {
         Member::Item(item) => put_item(1, item, before, out),
@@ -118,7 +120,7 @@ fn put_member<W: Sink>(member: &Member, before: Sent, out: &mut W) -> Sent
 
 /// The members of a List.
 fn put_members<W: Sink>(members: &[Member], before: Sent, out: &mut W) -> Sent
-    ensures { Follows (W.state out.old) (W.state out.new) before result
+    ensures { Follows W.state W.send_gives out.old out.new before result
         (members_lines members.now) }
 {
     let mut sent = before;
@@ -131,7 +133,7 @@ fn put_members<W: Sink>(members: &[Member], before: Sent, out: &mut W) -> Sent
 
 /// The members of a Dictionary.
 fn put_entries<W: Sink>(entries: &Entries<Member>, before: Sent, out: &mut W) -> Sent
-    ensures { Follows (W.state out.old) (W.state out.new) before result
+    ensures { Follows W.state W.send_gives out.old out.new before result
         (entries_lines entries.now) }
 {
     let mut sent = before;
@@ -146,7 +148,7 @@ fn put_entries<W: Sink>(entries: &Entries<Member>, before: Sent, out: &mut W) ->
 
 /// The tree of a field.
 pub(crate) fn put_tree<W: Sink>(field: &Field, before: Sent, out: &mut W) -> Sent
-    ensures { Follows (W.state out.old) (W.state out.new) before result (tree field.now) }
+    ensures { Follows W.state W.send_gives out.old out.new before result (tree field.now) }
 {
     match field {
         Field::Item(item) => {

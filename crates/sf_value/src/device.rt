@@ -1,6 +1,6 @@
 //! The devices that texts come from and go to. What reads a text asks for a [`Source`], what writes
 //! one for a [`Sink`]; [`Reading`] and [`Writing`] make them of any reader and writer.
-ghost use Rattle.std.specs.Prelude.{◌≡◌, ℕ, List, ◌+◌, ◌≤◌, Some, codes};
+ghost use Rattle.std.specs.Prelude.{◌≡◌, ℕ, List, ◌+◌, ◌≤◌, Some, IfOk, codes, take};
 ghost use Rattle.sf_value.specs.Devices.{SourceState, SinkState, Pulls, Sends};
 ghost use Rattle.sf_value.specs.Devices.{reader_of, writer_of};
 
@@ -48,7 +48,8 @@ pub trait Source {
 /// What bytes go to.
 ///
 /// A device of your own is seen by contracts through its `state`: the bytes taken, or that it does
-/// not tell them; how many calls failed, a count that stays at 2^64 - 1 once it is there.
+/// not tell them; how many calls failed, a count that stays at 2^64 - 1 once it is there. A device
+/// that does not tell its bytes may say by `send_gives` how a call that took some changed it.
 ///
 /// ```
 /// let count = sink.send(b"a, b")?; // how many of the four bytes went out
@@ -57,10 +58,14 @@ pub trait Sink {
     // The bytes taken, where it tells them, and how many calls failed.
     ghost state: { Self → SinkState };
 
+    // How a call that took these bytes changed the sink, beyond its state: by default nothing is said.
+    ghost send_gives: { Self → List ℕ → Self → Type 0 } = { λ _ _ _. Unit {0} };
+
     /// Takes bytes from the front of those handed in, and answers how many: at least one, where any
     /// were handed in; where none were, it does not fail. After `Failed` no byte was taken.
     fn send(&mut self, bytes: &[u8]) -> Result<usize, Failed>
-        ensures { Sends (state self.old) (state self.new) result bytes.now };
+        ensures sends { Sends (state self.old) (state self.new) result bytes.now }
+        ensures gives { IfOk result (λ n. send_gives self.old (take n bytes.now) self.new) };
 }
 
 /// Any reader as a source. No call is repeated, whatever its error, and none is made for an empty

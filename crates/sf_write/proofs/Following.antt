@@ -1,6 +1,9 @@
 -- Texts put one behind another: a fault of an earlier one is the answer of all.
 use Rattle.std.proofs.Common.{◌≡◌, ℕ, List, [], ◌++◌}
 use Rattle.std.proofs.Common.{Result, Ok, Err, refl, ◌∙◌, arith}
+use Rattle.std.specs.Fmt.{WritesInCalls}
+use Rattle.std.specs.Prelude.{IfOk}
+use Rattle.core.proofs.fmt.Output.{writes_in_calls_nil, writes_in_calls_append}
 use Rattle.sf_value.specs.Devices.{SinkState}
 use Rattle.sf_write.specs.Writing.{Follows, Wrote}
 use Rattle.sf_write.specs.declared.send.WriteFault.{WriteFault}
@@ -9,54 +12,69 @@ use Rattle.sf_write.proofs.Joining.{Wrote-nil, Writes-append, WroteFront-longer}
 abbrev Sent : Type 0
 Sent = Result ℕ WriteFault
 
-nothing_at : (s : SinkState) (x : Sent) → Follows s s x x []
-nothing_at s (Ok n) = record { goes_on = Wrote-nil s n; stays = tt }
-nothing_at s (Err e) = record { goes_on = tt; stays = (refl, refl) }
+module _ {S : Type 0} {state : S → SinkState} {gives : S → List ℕ → S → Type 0} where
+  nothing_at : (s : S) (x : Sent) → Follows state gives s s x x []
+  nothing_at s (Ok n) = record {
+    goes_on = Wrote-nil (state s) n;
+    stays = tt;
+    calls = writes_in_calls_nil gives s;
+  }
+  nothing_at s (Err e) = record { goes_on = tt; stays = (refl, refl); calls = tt }
 
--- no text
-pub nothing : {s : SinkState} {x : Sent} → Follows s s x x []
-nothing {s = s} {x = x} = nothing_at s x
+  -- no text
+  pub nothing : {s : S} {x : Sent} → Follows state gives s s x x []
+  nothing {s = s} {x = x} = nothing_at s x
 
-then_at : (a b c : SinkState) (x y z : Sent) (t u : List ℕ) → Follows a b x y t
-    → Follows b c y z u → Follows a c x z (t ++ u)
-then_at a b c (Ok n) (Ok m) z t u p q = record {
-  goes_on = λ h. let w : Wrote a b n m t = p.goes_on h in
-      let count = w.count in
-      Writes-append c z u w (q.goes_on (omega arith));
-  stays = tt;
-}
-then_at a b c (Ok n) (Err e) z t u p q = record {
-  goes_on = λ h. rw (q.stays.0, q.stays.1) (WroteFront-longer u (p.goes_on h));
-  stays = tt;
-}
-then_at a b c (Err e) y z t u p q =
-    let kept = p.stays in
-    let same = rw kept.1 at q.stays in
-    record { goes_on = tt; stays = (same.0 ∙ kept.0, same.1) }
+  calls_then : (a b c : S) (z : Sent) (t u : List ℕ) → WritesInCalls gives a t b
+      → IfOk z (λ _. WritesInCalls gives b u c) → IfOk z (λ _. WritesInCalls gives a (t ++ u) c)
+  calls_then a b c (Ok k) t u p q = writes_in_calls_append gives a t b u c p q
+  calls_then a b c (Err e) t u p q = tt
 
--- one text and then another
-pub then : {a b c : SinkState} {x y z : Sent} {t u : List ℕ} → Follows a b x y t
-    → Follows b c y z u → Follows a c x z (t ++ u)
-then {a = a} {b = b} {c = c} {x = x} {y = y} {z = z} {t = t} {u = u} p q =
-    then_at a b c x y z t u p q
+  then_at : (a b c : S) (x y z : Sent) (t u : List ℕ) → Follows state gives a b x y t
+      → Follows state gives b c y z u → Follows state gives a c x z (t ++ u)
+  then_at a b c (Ok n) (Ok m) z t u p q = record {
+    goes_on = λ h. let w : Wrote (state a) (state b) n m t = p.goes_on h in
+        let count = w.count in
+        Writes-append (state c) z u w (q.goes_on (omega arith));
+    stays = tt;
+    calls = calls_then a b c z t u p.calls q.calls;
+  }
+  then_at a b c (Ok n) (Err e) z t u p q = record {
+    goes_on = λ h. rw (q.stays.0, q.stays.1) (WroteFront-longer u (p.goes_on h));
+    stays = tt;
+    calls = rw q.stays.1 tt;
+  }
+  then_at a b c (Err e) y z t u p q =
+      let kept = p.stays in
+      let same = rw kept.1 at q.stays in
+      record { goes_on = tt; stays = (same.0 ∙ kept.0, same.1); calls = rw same.1 tt }
+
+  -- one text and then another
+  pub then : {a b c : S} {x y z : Sent} {t u : List ℕ} → Follows state gives a b x y t
+      → Follows state gives b c y z u → Follows state gives a c x z (t ++ u)
+  then {a = a} {b = b} {c = c} {x = x} {y = y} {z = z} {t = t} {u = u} p q =
+      then_at a b c x y z t u p q
 
 -- from here on, to put what is left is to put all
-pub record Remains (start now : SinkState) (before sent : Sent) (all left : List ℕ) : Type 0 where
-  pub finish : (end : SinkState) (r : Sent) → Follows now end sent r left
-      → Follows start end before r all
+pub record Remains {S : Type 0} (state : S → SinkState) (gives : S → List ℕ → S → Type 0)
+    (start now : S) (before sent : Sent) (all left : List ℕ) : Type 0 where
+  pub finish : (end : S) (r : Sent) → Follows state gives now end sent r left
+      → Follows state gives start end before r all
 
--- nothing was put yet
-pub remains_all : {s : SinkState} {x : Sent} {all : List ℕ} → Remains s s x x all all
-remains_all = record { finish = λ end r p. p }
+module _ {S : Type 0} {state : S → SinkState} {gives : S → List ℕ → S → Type 0} where
+  -- nothing was put yet
+  pub remains_all : {s : S} {x : Sent} {all : List ℕ} → Remains state gives s s x x all all
+  remains_all = record { finish = λ end r p. p }
 
--- a piece was put
-pub remains_less : {start now next : SinkState} {before sent after : Sent}
-    {all left piece more : List ℕ} → Remains start now before sent all left
-    → left ≡ piece ++ more → Follows now next sent after piece
-    → Remains start next before after all more
-remains_less l e p = record { finish = λ end r q. l.finish end r (rw e (then p q)) }
+  -- a piece was put
+  pub remains_less : {start now next : S} {before sent after : Sent}
+      {all left piece more : List ℕ} → Remains state gives start now before sent all left
+      → left ≡ piece ++ more → Follows state gives now next sent after piece
+      → Remains state gives start next before after all more
+  remains_less l e p = record { finish = λ end r q. l.finish end r (rw e (then p q)) }
 
--- nothing is left
-pub remains_none : {start now : SinkState} {before sent : Sent} {all left : List ℕ}
-    → Remains start now before sent all left → left ≡ [] → Follows start now before sent all
-remains_none l e = l.finish _ _ (rw e nothing)
+  -- nothing is left
+  pub remains_none : {start now : S} {before sent : Sent} {all left : List ℕ}
+      → Remains state gives start now before sent all left → left ≡ []
+      → Follows state gives start now before sent all
+  remains_none l e = l.finish _ _ (rw e nothing)

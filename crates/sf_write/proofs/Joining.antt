@@ -2,6 +2,9 @@
 use Rattle.std.proofs.Common.{◌≡◌, ℕ, ◌+◌, ◌-◌, ◌^◌, ◌<◌, min, List, [], ◌++◌, length}
 use Rattle.std.proofs.Common.{Result, Ok, Err, refl, sym, ap, ◌∙◌, arith, length-append}
 use Rattle.std.proofs.Common.{append_assoc, zero-add}
+use Rattle.std.specs.Fmt.{WritesInCalls}
+use Rattle.core.proofs.fmt.Output.{writes_in_calls_nil, writes_in_calls_single}
+use Rattle.core.proofs.fmt.Output.{writes_in_calls_append}
 use Rattle.std.proofs.KnownBytes.{Appends-nil, Appends-trans, Appends-kept}
 use Rattle.std.proofs.Math.Seq.{take-append_seam}
 use Rattle.sf_value.specs.Devices.{SinkState, TakesOnce, RefusesOnce}
@@ -117,3 +120,27 @@ from_beginning a c (Err e) text p =
       short = omega arith;
       failures = p.failed.failures ∙ ap (λ f. min (f + 1) (2 ^ 64 - 1)) p.wrote.failures;
     }
+
+-- from here on, that calls take what is left is that they take all
+pub record Uncalled {S : Type 0} (gives : S → List ℕ → S → Type 0) (start now : S)
+    (all left : List ℕ) : Type 0 where
+  pub finish : (end : S) → WritesInCalls gives now left end → WritesInCalls gives start all end
+
+module _ {S : Type 0} {gives : S → List ℕ → S → Type 0} where
+  -- no call was made yet
+  pub uncalled_all : {s : S} {all : List ℕ} → Uncalled gives s s all all
+  uncalled_all = record { finish = λ end p. p }
+
+  -- a call took a piece
+  pub uncalled_less : {start now next : S} {all left piece more : List ℕ}
+      → Uncalled gives start now all left → left ≡ piece ++ more → gives now piece next
+      → Uncalled gives start next all more
+  uncalled_less {now = now} {next = next} {piece = piece} {more = more} l e p = record {
+    finish = λ end q. l.finish end (rw e (writes_in_calls_append gives now piece next more end
+        (writes_in_calls_single gives now piece next p) q));
+  }
+
+  -- nothing is left
+  pub uncalled_none : {start now : S} {all left : List ℕ} → Uncalled gives start now all left
+      → left ≡ [] → WritesInCalls gives start all now
+  uncalled_none {now = now} l e = l.finish now (rw e (writes_in_calls_nil gives now))

@@ -1,6 +1,7 @@
 -- What several calls of a sink write together.
 use Rattle.std.specs.Prelude.{◌≡◌, ℕ, ◌+◌, ◌-◌, ◌^◌, ◌<◌, List, ◌++◌, length, take, Result, Ok, Err}
 use Rattle.std.specs.Prelude.{IfOk, IfErr}
+use Rattle.std.specs.Fmt.{WritesInCalls}
 use Rattle.std.specs.Io.KnownBytes.{Appends}
 use Rattle.sf_value.specs.Devices.{SinkState, RefusesOnce, capped}
 use Rattle.sf_write.specs.declared.send.WriteFault.{WriteFault}
@@ -27,11 +28,12 @@ Writes old new before (Ok after) text = Wrote old new before after text
 Writes old new before (Err fault) text = WroteFront old new before fault.written text
 
 -- the text is put behind earlier ones: it goes out where none of these failed, and their count goes
--- on; behind a fault nothing goes out, and the fault stays
-pub record Follows (old new : SinkState) (before after : Result ℕ WriteFault) (text : List ℕ)
-    : Type 0 where
-  pub goes_on : IfOk before (λ n. n < 2 ^ 64 → Writes old new n after text)
-  pub stays : IfErr before (λ _. (new ≡ old) × (after ≡ before))
+-- on; behind a fault nothing goes out, and the fault stays. Where all went out, calls of send took it
+pub record Follows {S : Type 0} (state : S → SinkState) (gives : S → List ℕ → S → Type 0)
+    (old new : S) (before after : Result ℕ WriteFault) (text : List ℕ) : Type 0 where
+  pub goes_on : IfOk before (λ n. n < 2 ^ 64 → Writes (state old) (state new) n after text)
+  pub stays : IfErr before (λ _. (state new ≡ state old) × (after ≡ before))
+  pub calls : IfOk after (λ _. WritesInCalls gives old text new)
 
 -- all of the text went out and no call failed; n is its length, or 2^64 - 1 where it is longer
 pub record WritesAll (old new : SinkState) (n : ℕ) (text : List ℕ) : Type 0 where

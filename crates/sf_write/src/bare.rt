@@ -23,7 +23,8 @@ use std::alloc::Global;
 /// let count = put_bare(&Bare::Boolean(false), sent, &mut out)?; // 6
 /// ```
 pub fn put_bare<W: Sink>(bare: &Bare, before: Sent, out: &mut W) -> Sent
-    ensures text { Follows (W.state out.old) (W.state out.new) before result (canon_bare bare.now) }
+    ensures text { Follows W.state W.send_gives out.old out.new before result
+        (canon_bare bare.now) }
     ensures valid { ValidBare Rfc9651 bare.now }
 {
     match bare {
@@ -46,7 +47,7 @@ pub fn put_bare<W: Sink>(bare: &Bare, before: Sent, out: &mut W) -> Sent
 /// let count = put_text(&text, sent, &mut out)?;
 /// ```
 pub fn put_text<W: Sink>(text: &Text, before: Sent, out: &mut W) -> Sent
-    ensures { Follows (W.state out.old) (W.state out.new) before result
+    ensures { Follows W.state W.send_gives out.old out.new before result
         (canon_bare (bare_is.Text text.now)) }
 {
     put_string(text.as_bytes(), before, out)
@@ -84,7 +85,7 @@ pub fn bare_text(alloc: Global, bare: &Bare) -> Result<Vec<u8>, OutOfMemory>
 
 /// A Boolean: `?1` or `?0` (section 4.1.9).
 fn put_boolean<W: Sink>(value: bool, before: Sent, out: &mut W) -> Sent
-    ensures { Follows (W.state out.old) (W.state out.new) before result
+    ensures { Follows W.state W.send_gives out.old out.new before result
         (canon_bare (bare_is.Boolean value)) }
 {
     let text = if value { b"?1" } else { b"?0" };

@@ -17,7 +17,7 @@ const ENCODED: usize = 256;
 /// A Byte Sequence: its base64 between colons. It goes out by blocks of 256 characters.
 #[inline(never)]
 pub(crate) fn put_blob<W: Sink>(bytes: &[u8], before: Sent, out: &mut W) -> Sent
-    ensures { Follows (W.state out.old) (W.state out.new) before result
+    ensures { Follows W.state W.send_gives out.old out.new before result
         (colon ∷ canon_base64 bytes.now) }
 {
     let mut count = put(b":", before, out);

@@ -15,7 +15,7 @@ use sf_value::{Entries, Inner, Item, Member, Sink};
 /// Behind a key an Item of Boolean true stands as its parameters alone, and any other as `=` and
 /// its text.
 fn put_item_behind<W: Sink>(item: &Item, before: Sent, out: &mut W) -> Sent
-    ensures text { Follows (W.state out.old) (W.state out.new) before result
+    ensures text { Follows W.state W.send_gives out.old out.new before result
         (canon_flag item.now.bare item.now.params) }
     ensures valid { ValidItem Rfc9651 item.now }
 {
@@ -25,7 +25,7 @@ fn put_item_behind<W: Sink>(item: &Item, before: Sent, out: &mut W) -> Sent
 
 /// Behind a key an Inner List stands as `=` and its text.
 fn put_inner_behind<W: Sink>(inner: &Inner, before: Sent, out: &mut W) -> Sent
-    ensures text { Follows (W.state out.old) (W.state out.new) before result
+    ensures text { Follows W.state W.send_gives out.old out.new before result
         (equals ∷ canon_inner inner.now) }
     ensures valid { ValidInner Rfc9651 inner.now }
 {
@@ -34,7 +34,7 @@ fn put_inner_behind<W: Sink>(inner: &Inner, before: Sent, out: &mut W) -> Sent
 }
 
 fn put_behind<W: Sink>(member: &Member, before: Sent, out: &mut W) -> Sent
-    ensures text { Follows (W.state out.old) (W.state out.new) before result
+    ensures text { Follows W.state W.send_gives out.old out.new before result
         (canon_behind member.now) }
     ensures valid { ValidMember Rfc9651 member.now }
 {
@@ -46,7 +46,7 @@ fn put_behind<W: Sink>(member: &Member, before: Sent, out: &mut W) -> Sent
 
 /// A member of a Dictionary: its key and what stands behind it.
 fn put_entry<W: Sink>(key: &[u8], member: &Member, before: Sent, out: &mut W) -> Sent
-    ensures text { Follows (W.state out.old) (W.state out.new) before result
+    ensures text { Follows W.state W.send_gives out.old out.new before result
         (canon_entry (key.now, member.now)) }
     ensures valid { ValidMember Rfc9651 member.now }
 {
@@ -56,7 +56,7 @@ fn put_entry<W: Sink>(key: &[u8], member: &Member, before: Sent, out: &mut W) ->
 
 /// A Dictionary: its members with a comma and a space between two.
 pub(crate) fn put_entries<W: Sink>(entries: &Entries<Member>, before: Sent, out: &mut W) -> Sent
-    ensures text { Follows (W.state out.old) (W.state out.new) before result
+    ensures text { Follows W.state W.send_gives out.old out.new before result
         (canon_series canon_entry entries.now) }
     ensures valid { ValidEntries Rfc9651 entries.now }
 {

@@ -22,7 +22,7 @@ use std::alloc::Global;
 /// let count = put(b"\n", sent, &mut out)?;
 /// ```
 pub fn put_field<W: Sink>(field: &Field, before: Sent, out: &mut W) -> Sent
-    ensures text { Follows (W.state out.old) (W.state out.new) before result (canon field.now) }
+    ensures text { Follows W.state W.send_gives out.old out.new before result (canon field.now) }
     ensures valid { Valid Rfc9651 (kind_of field.now) field.now }
 {
     match field {

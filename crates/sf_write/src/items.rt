@@ -13,7 +13,8 @@ use sf_value::{Inner, Item, Sink};
 
 /// An Item: its bare item and its parameters.
 pub(crate) fn put_item<W: Sink>(item: &Item, before: Sent, out: &mut W) -> Sent
-    ensures text { Follows (W.state out.old) (W.state out.new) before result (canon_item item.now) }
+    ensures text { Follows W.state W.send_gives out.old out.new before result
+        (canon_item item.now) }
     ensures valid { ValidItem Rfc9651 item.now }
 {
     let sent = put_bare(&item.bare, before, out);
@@ -22,7 +23,8 @@ pub(crate) fn put_item<W: Sink>(item: &Item, before: Sent, out: &mut W) -> Sent
 
 /// Items with one space between two.
 fn put_items<W: Sink>(items: &[Item], before: Sent, out: &mut W) -> Sent
-    ensures text { Follows (W.state out.old) (W.state out.new) before result (canon_items items.now) }
+    ensures text { Follows W.state W.send_gives out.old out.new before result
+        (canon_items items.now) }
     ensures valid { Each (ValidItem Rfc9651) items.now }
 {
     let Some((first, others)) = items.split_first() else {
@@ -38,7 +40,8 @@ fn put_items<W: Sink>(items: &[Item], before: Sent, out: &mut W) -> Sent
 
 /// An Inner List: its Items in parentheses, and its parameters.
 pub(crate) fn put_inner<W: Sink>(inner: &Inner, before: Sent, out: &mut W) -> Sent
-    ensures text { Follows (W.state out.old) (W.state out.new) before result (canon_inner inner.now) }
+    ensures text { Follows W.state W.send_gives out.old out.new before result
+        (canon_inner inner.now) }
     ensures valid { ValidInner Rfc9651 inner.now }
 {
     let sent = put(b"(", before, out);

@@ -11,7 +11,7 @@ use sf_value::{Member, Sink};
 
 /// A member of a List: an Item or an Inner List.
 fn put_member<W: Sink>(member: &Member, before: Sent, out: &mut W) -> Sent
-    ensures text { Follows (W.state out.old) (W.state out.new) before result
+    ensures text { Follows W.state W.send_gives out.old out.new before result
         (canon_member member.now) }
     ensures valid { ValidMember Rfc9651 member.now }
 {
@@ -23,7 +23,7 @@ fn put_member<W: Sink>(member: &Member, before: Sent, out: &mut W) -> Sent
 
 /// A List: its members with a comma and a space between two.
 pub(crate) fn put_members<W: Sink>(members: &[Member], before: Sent, out: &mut W) -> Sent
-    ensures text { Follows (W.state out.old) (W.state out.new) before result
+    ensures text { Follows W.state W.send_gives out.old out.new before result
         (canon_series canon_member members.now) }
     ensures valid { Each (ValidMember Rfc9651) members.now }
 {

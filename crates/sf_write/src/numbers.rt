@@ -12,7 +12,7 @@ use sf_value::{Int, Sink, Thousandths};
 
 /// An Integer: its digits, behind a `-` where it is below 0.
 pub(crate) fn put_integer<W: Sink>(number: &Int, before: Sent, out: &mut W) -> Sent
-    ensures text { Follows (W.state out.old) (W.state out.new) before result
+    ensures text { Follows W.state W.send_gives out.old out.new before result
         (signed_decimal number.now) }
     ensures short { nat_abs number.now < 10 ^ 15 }
 {
@@ -21,7 +21,7 @@ pub(crate) fn put_integer<W: Sink>(number: &Int, before: Sent, out: &mut W) -> S
 
 /// A Date: `@` and the seconds.
 pub(crate) fn put_date<W: Sink>(seconds: &Int, before: Sent, out: &mut W) -> Sent
-    ensures text { Follows (W.state out.old) (W.state out.new) before result
+    ensures text { Follows W.state W.send_gives out.old out.new before result
         (at_sign ∷ signed_decimal seconds.now) }
     ensures short { nat_abs seconds.now < 10 ^ 15 }
 {
@@ -30,7 +30,7 @@ pub(crate) fn put_date<W: Sink>(seconds: &Int, before: Sent, out: &mut W) -> Sen
 }
 
 fn put_sign<W: Sink>(is_negative: bool, before: Sent, out: &mut W) -> Sent
-    ensures { Follows (W.state out.old) (W.state out.new) before result (sign is_negative) }
+    ensures { Follows W.state W.send_gives out.old out.new before result (sign is_negative) }
 {
     if is_negative {
         put(b"-", before, out)
@@ -42,7 +42,8 @@ fn put_sign<W: Sink>(is_negative: bool, before: Sent, out: &mut W) -> Sent
 /// The point and the digits behind it: at least one, and no needless zero at the end.
 fn put_fraction<W: Sink>(thousandths: u64, before: Sent, out: &mut W) -> Sent
     requires { thousandths < 1000 }
-    ensures { Follows (W.state out.old) (W.state out.new) before result (point ∷ fraction thousandths) }
+    ensures { Follows W.state W.send_gives out.old out.new before result
+        (point ∷ fraction thousandths) }
 {
     let tenths = b'0' + (thousandths / 100) as u8;
     let hundredths = b'0' + (thousandths / 10 % 10) as u8;
@@ -70,7 +71,7 @@ fn parts(number: &Thousandths) -> (bool, u64, u64)
 
 /// A Decimal: its sign, whole part, point and fraction.
 pub(crate) fn put_decimal<W: Sink>(number: &Thousandths, before: Sent, out: &mut W) -> Sent
-    ensures text { Follows (W.state out.old) (W.state out.new) before result
+    ensures text { Follows W.state W.send_gives out.old out.new before result
         (canon_decimal number.now) }
     ensures short { nat_abs number.now < 10 ^ 15 }
 {

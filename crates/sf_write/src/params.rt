@@ -19,7 +19,8 @@ pub(crate) fn is_true(bare: &Bare) -> bool
 
 /// What stands behind a key: nothing for Boolean true, and else `=` and the bare item.
 pub(crate) fn put_value<W: Sink>(value: &Bare, before: Sent, out: &mut W) -> Sent
-    ensures text { Follows (W.state out.old) (W.state out.new) before result (canon_value value.now) }
+    ensures text { Follows W.state W.send_gives out.old out.new before result
+        (canon_value value.now) }
     ensures valid { ValidBare Rfc9651 value.now }
 {
     if is_true(value) {
@@ -31,7 +32,7 @@ pub(crate) fn put_value<W: Sink>(value: &Bare, before: Sent, out: &mut W) -> Sen
 
 /// Parameters: for each a `;`, its key and its value.
 pub(crate) fn put_params<W: Sink>(params: &Entries<Bare>, before: Sent, out: &mut W) -> Sent
-    ensures text { Follows (W.state out.old) (W.state out.new) before result
+    ensures text { Follows W.state W.send_gives out.old out.new before result
         (canon_params params.now) }
     ensures valid { ValidParams Rfc9651 params.now }
 {

@@ -1,5 +1,6 @@
 //! Bytes sent to a sink.
-ghost use Rattle.std.specs.Prelude.{◌++◌, Some, codes, decimal};
+ghost use Rattle.std.specs.Prelude.{◌++◌, IfOk, Some, codes, decimal};
+ghost use Rattle.std.specs.Fmt.{WritesInCalls};
 ghost use Rattle.sf_write.specs.Writing.{Follows, Writes};
 
 use sf_value::Sink;
@@ -46,7 +47,9 @@ impl Error for WriteFault {}
 /// let count = send_all(b"b", count, &mut out)?; // 4
 /// ```
 pub fn send_all<W: Sink>(bytes: &[u8], before: u64, out: &mut W) -> Result<u64, WriteFault>
-    ensures { Writes (W.state out.old) (W.state out.new) before result bytes.now }
+    ensures writes { Writes (W.state out.old) (W.state out.new) before result bytes.now }
+    // all that is known of the sink where it doesn't tell its bytes: calls of send took them
+    ensures calls { IfOk result (λ _. WritesInCalls W.send_gives out.old bytes.now out.new) }
 {
     let mut rest = bytes;
     let mut written = before;
@@ -71,7 +74,7 @@ pub fn send_all<W: Sink>(bytes: &[u8], before: u64, out: &mut W) -> Result<u64, 
 /// let count = put(b"b", sent, &mut out)?; // 4
 /// ```
 pub fn put<W: Sink>(bytes: &[u8], before: Sent, out: &mut W) -> Sent
-    ensures { Follows (W.state out.old) (W.state out.new) before result bytes.now }
+    ensures { Follows W.state W.send_gives out.old out.new before result bytes.now }
 {
     match before {
         Ok(count) => send_all(bytes, count, out),

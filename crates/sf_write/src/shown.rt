@@ -61,7 +61,7 @@ fn percent_escape(byte: u8) -> [u8; 3]
 /// `"` and `%` as itself, and every other one as `%` and two lower-case digits. Bytes that stand
 /// for themselves go out as one piece.
 pub(crate) fn put_display_string<W: Sink>(text: &[u8], before: Sent, out: &mut W) -> Sent
-    ensures { Follows (W.state out.old) (W.state out.new) before result
+    ensures { Follows W.state W.send_gives out.old out.new before result
         (percent ∷ quote ∷ canon_shown text.now) }
 {
     let mut sent = put(b"%\"", before, out);

@@ -41,7 +41,7 @@ fn plain_len(bytes: &[u8]) -> usize
 /// A String: quotes around its bytes, with a backslash before each quote and each backslash. The
 /// bytes between two of these go out as one piece.
 pub(crate) fn put_string<W: Sink>(text: &[u8], before: Sent, out: &mut W) -> Sent
-    ensures { Follows (W.state out.old) (W.state out.new) before result
+    ensures { Follows W.state W.send_gives out.old out.new before result
         (quote ∷ (escaped text.now ++ quote ∷ [])) }
 {
     let mut sent = put(b"\"", before, out);

@@ -1,4 +1,3 @@
-use Rattle.std.proofs.Common.{arith}
 use Rattle.sf_tool.proofs.Tells.{tells_all}
 use Rattle.sf_tool.proofs.answering.ended.Goals as goal
 
@@ -7,6 +6,4 @@ returns-in-Ok c = λ old new text sent.
     tells_all _ _ _ _ _ c.requires (rw c.in-Ok.is at sent)
 
 pub returns-in-Err : goal.returns-in-Err
-returns-in-Err c = λ old new text sent.
-    let front = rw c.in-Err.is at sent in
-    (_, front.goes_on (omega arith))
+returns-in-Err c = λ old new text sent. let front = rw c.in-Err.is at sent in (_, front)

@@ -5,5 +5,5 @@ use Rattle.sf_tool.proofs.expected.put_set.Given as goal
 
 abbrev pub invariant-loop-first : goal.invariant-loop-first
 invariant-loop-first g l =
-    Remains (g.W.Sink.state l.fn.out) (g.W.Sink.state l.out) l.fn.before l.sent
+    Remains g.W.Sink.state g.W.Sink.send_gives l.fn.out l.out l.fn.before l.sent
     (set_text (runs_of l.set)) (set_text l.first-iterator)

@@ -5,5 +5,5 @@ use Rattle.sf_tool.proofs.path.put_hops.Given as goal
 
 abbrev pub invariant-loop-place : goal.invariant-loop-place
 invariant-loop-place g l =
-    Remains (g.W.Sink.state l.fn.out) (g.W.Sink.state l.out) l.fn.before l.sent
+    Remains g.W.Sink.state g.W.Sink.send_gives l.fn.out l.out l.fn.before l.sent
     (hop_lines 0 l.hops) (hop_lines l.place (drop l.place l.hops))

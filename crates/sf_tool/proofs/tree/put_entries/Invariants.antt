@@ -4,5 +4,5 @@ use Rattle.sf_tool.proofs.tree.put_entries.Given as goal
 
 abbrev pub invariant-loop-key : goal.invariant-loop-key
 invariant-loop-key g l =
-    Remains (g.W.Sink.state l.fn.out) (g.W.Sink.state l.out) l.fn.before l.sent
+    Remains g.W.Sink.state g.W.Sink.send_gives l.fn.out l.out l.fn.before l.sent
     (entries_lines l.entries) (entries_lines l.key-iterator)

@@ -5,7 +5,7 @@ use Rattle.sf_write.proofs.blobs.put_blob.Given as goal
 
 abbrev pub invariant-loop-rest : goal.invariant-loop-rest
 invariant-loop-rest g l =
-    Remains (g.W.Sink.state l.fn.out) (g.W.Sink.state l.out) l.fn.before l.count
+    Remains g.W.Sink.state g.W.Sink.send_gives l.fn.out l.out l.fn.before l.count
     (58 ∷ canon_base64 l.bytes) (canon_base64 l.rest)
 
 abbrev pub decreases-loop-rest : goal.decreases-loop-rest

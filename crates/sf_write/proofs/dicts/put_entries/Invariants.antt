@@ -7,7 +7,7 @@ use Rattle.sf_write.proofs.dicts.put_entries.Given as goal
 
 abbrev pub invariant-loop-key : goal.invariant-loop-key
 invariant-loop-key g l = record {
-  text : Remains (g.W.Sink.state l.fn.out) (g.W.Sink.state l.out) l.fn.before l.sent
+  text : Remains g.W.Sink.state g.W.Sink.send_gives l.fn.out l.out l.fn.before l.sent
       (canon_series canon_entry l.entries) (canon_commas canon_entry l.key-iterator);
   valid : Awaits (λ p. ValidMember Rfc9651 p.1) l.entries l.key-iterator;
 }

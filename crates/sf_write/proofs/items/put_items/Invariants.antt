@@ -8,7 +8,7 @@ use Rattle.sf_write.proofs.items.put_items.Given as goal
 
 abbrev pub invariant-loop-item : goal.invariant-loop-item
 invariant-loop-item g l = record {
-  text : Remains (g.W.Sink.state l.fn.out) (g.W.Sink.state l.out) l.fn.before l.sent
+  text : Remains g.W.Sink.state g.W.Sink.send_gives l.fn.out l.out l.fn.before l.sent
       (canon_items l.items) (canon_more (drop l.item-index l.others));
   valid : Awaits (ValidItem Rfc9651) l.items (drop l.item-index l.others);
 }

@@ -7,7 +7,7 @@ use Rattle.sf_write.proofs.params.put_params.Given as goal
 
 abbrev pub invariant-loop-key : goal.invariant-loop-key
 invariant-loop-key g l = record {
-  text : Remains (g.W.Sink.state l.fn.out) (g.W.Sink.state l.out) l.fn.before l.sent
+  text : Remains g.W.Sink.state g.W.Sink.send_gives l.fn.out l.out l.fn.before l.sent
       (canon_params l.params) (canon_params l.key-iterator);
   valid : Awaits (λ p. ValidBare Rfc9651 p.1) l.params l.key-iterator;
 }

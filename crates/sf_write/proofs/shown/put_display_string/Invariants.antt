@@ -5,7 +5,7 @@ use Rattle.sf_write.proofs.shown.put_display_string.Given as goal
 
 abbrev pub invariant-loop-byte : goal.invariant-loop-byte
 invariant-loop-byte g l =
-    Remains (g.W.Sink.state l.fn.out) (g.W.Sink.state l.out) l.fn.before l.sent
+    Remains g.W.Sink.state g.W.Sink.send_gives l.fn.out l.out l.fn.before l.sent
     (37 ∷ 34 ∷ canon_shown l.text) (canon_shown l.rest)
 
 abbrev pub decreases-loop-byte : goal.decreases-loop-byte

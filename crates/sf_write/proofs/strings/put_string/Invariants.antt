@@ -5,7 +5,7 @@ use Rattle.sf_write.proofs.strings.put_string.Given as goal
 
 abbrev pub invariant-loop-byte : goal.invariant-loop-byte
 invariant-loop-byte g l =
-    Remains (g.W.Sink.state l.fn.out) (g.W.Sink.state l.out) l.fn.before l.sent
+    Remains g.W.Sink.state g.W.Sink.send_gives l.fn.out l.out l.fn.before l.sent
     (34 ∷ (escaped l.text ++ 34 ∷ [])) (escaped l.rest ++ 34 ∷ [])
 
 abbrev pub decreases-loop-byte : goal.decreases-loop-byte

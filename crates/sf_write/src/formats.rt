@@ -1,0 +1,132 @@
+//! Canonical texts for `{}`: what `print!`, `write!` and `format!` put in place of a value.
+ghost use Rattle.std.specs.Prelude.{◌≡◌, ℕ, List, None, Some};
+ghost use Rattle.std.specs.Fmt.{HasWritten, IsPlainFormatter};
+ghost use Rattle.sf_value.specs.Grammar.Canonical.{canon, canon_bare, canon_inner, canon_item};
+ghost use Rattle.sf_value.specs.Grammar.Canonical.{canon_member};
+ghost use Rattle.sf_write.specs.Writing.{Follows};
+
+use crate::bare::put_bare;
+use crate::field::put_field;
+use crate::items::{put_inner, put_item};
+use crate::lists::put_member;
+use crate::send::Sent;
+use sf_value::{Bare, Failed, Field, Inner, Item, Member, Sink};
+use std::fmt;
+
+/// A value that has a canonical text (RFC 9651 section 4.1).
+pub trait Canonical {
+    // The canonical text.
+    ghost text: { Self → List ℕ };
+
+    /// Writes the canonical text behind what was sent before, as [`crate::put`] does. It takes no
+    /// memory.
+    ///
+    /// ```
+    /// let sent = item.put(Ok(0), &mut out);
+    /// ```
+    fn put<W: Sink>(&self, before: Sent, out: &mut W) -> Sent
+        ensures { Follows W.state W.send_gives out.old out.new before result (text self.now) };
+}
+
+impl Canonical for Field {
+    ghost text = { canon };
+
+    fn put<W: Sink>(&self, before: Sent, out: &mut W) -> Sent {
+        put_field(self, before, out)
+    }
+}
+
+impl Canonical for Member {
+    ghost text = { canon_member };
+
+    fn put<W: Sink>(&self, before: Sent, out: &mut W) -> Sent {
+        put_member(self, before, out)
+    }
+}
+
+impl Canonical for Inner {
+    ghost text = { canon_inner };
+
+    fn put<W: Sink>(&self, before: Sent, out: &mut W) -> Sent {
+        put_inner(self, before, out)
+    }
+}
+
+impl Canonical for Item {
+    ghost text = { canon_item };
+
+    fn put<W: Sink>(&self, before: Sent, out: &mut W) -> Sent {
+        put_item(self, before, out)
+    }
+}
+
+impl Canonical for Bare {
+    ghost text = { canon_bare };
+
+    fn put<W: Sink>(&self, before: Sent, out: &mut W) -> Sent {
+        put_bare(self, before, out)
+    }
+}
+
+/// A value whose `Display` is its canonical text: what [`display`] gives.
+#[derive(Clone, Copy, Drop)]
+pub struct Displayed<'a, T> {
+    value: &'a T,
+}
+
+/// The value for `{}`, which then stands for its canonical text (RFC 9651 section 4.1). Neither this
+/// nor the formatting takes memory; what it is printed into may fail, and then so does the call.
+///
+/// ```
+/// println!(rt; "parsed: {}", display(&field))?; // parsed: a;q=1
+/// ```
+pub fn display<T: Canonical>(value: &T) -> Displayed<'_, T>
+    ensures { result.value ≡ value }
+{
+    Displayed { value }
+}
+
+impl<T: Canonical> fmt::Display for Displayed<'_, T> {
+    ghost output = { λ shown. Some (T.text shown.value.now) };
+
+    fn fmt<W: fmt::Write>(&self, f: &mut fmt::Formatter<W>) -> fmt::Result {
+        let mut out = Formatting { f, failures: 0 };
+        match self.value.put(Ok(0), &mut out) {
+            Ok(_) => Ok(()),
+            Err(_) => Err(fmt::Error),
+        }
+    }
+}
+
+/// A formatter as a sink. It does not tell its bytes, but what each call wrote.
+#[derive(Drop)]
+struct Formatting<'a, W> {
+    f: &'a mut fmt::Formatter<W>,
+    failures: u64,
+}
+
+impl<W: fmt::Write> Sink for Formatting<'_, W> {
+    ghost state = { λ out. record { taken = None; failures = out.failures } };
+
+    // it is the same formatter, and where it formats plainly, the bytes were written to it
+    ghost send_gives = { λ old bytes new. (new.f.exit ≡ old.f.exit)
+        × (IsPlainFormatter old.f.entry
+            → HasWritten W.write_str_gives old.f.entry bytes new.f.entry) };
+
+    fn send(&mut self, bytes: &[u8]) -> Result<usize, Failed> {
+        if bytes.is_empty() {
+            return Ok(0);
+        }
+        // A canonical text is ASCII, so that each of its pieces is a string.
+        let written = str::from_utf8(bytes)
+            .map_err(|_| fmt::Error)
+            .and_then(|text| self.f.write_str(text));
+        match written {
+            Ok(()) => Ok(bytes.len()),
+            Err(_) => {
+                self.failures = self.failures.saturating_add(1);
+                Err(Failed)
+            }
+        }
+    }
+}
