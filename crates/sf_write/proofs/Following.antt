@@ -3,7 +3,7 @@ use Rattle.std.proofs.Common.{◌≡◌, ℕ, List, [], ◌++◌}
 use Rattle.std.proofs.Common.{Result, Ok, Err, refl, ◌∙◌, arith}
 use Rattle.std.specs.Fmt.{WritesInCalls}
 use Rattle.std.specs.Prelude.{IfOk}
-use Rattle.core.proofs.fmt.Output.{writes_in_calls_nil, writes_in_calls_append}
+use Rattle.std.proofs.Output.{writes_in_calls_nil, writes_in_calls_append}
 use Rattle.sf_value.specs.Devices.{SinkState}
 use Rattle.sf_write.specs.Writing.{Follows, Wrote}
 use Rattle.sf_write.specs.declared.send.WriteFault.{WriteFault}
@@ -11,6 +11,12 @@ use Rattle.sf_write.proofs.Joining.{Wrote-nil, Writes-append, WroteFront-longer}
 
 abbrev Sent : Type 0
 Sent = Result ℕ WriteFault
+
+module _ {S : Type 0} {gives : S → List ℕ → S → Type 0} where
+  calls_then : (a b c : S) (z : Sent) (t u : List ℕ) → WritesInCalls gives a t b
+      → IfOk z (λ _. WritesInCalls gives b u c) → IfOk z (λ _. WritesInCalls gives a (t ++ u) c)
+  calls_then a b c (Ok k) t u p q = writes_in_calls_append gives a t b u c p q
+  calls_then a b c (Err e) t u p q = tt
 
 module _ {S : Type 0} {state : S → SinkState} {gives : S → List ℕ → S → Type 0} where
   nothing_at : (s : S) (x : Sent) → Follows state gives s s x x []
@@ -24,11 +30,6 @@ module _ {S : Type 0} {state : S → SinkState} {gives : S → List ℕ → S �
   -- no text
   pub nothing : {s : S} {x : Sent} → Follows state gives s s x x []
   nothing {s = s} {x = x} = nothing_at s x
-
-  calls_then : (a b c : S) (z : Sent) (t u : List ℕ) → WritesInCalls gives a t b
-      → IfOk z (λ _. WritesInCalls gives b u c) → IfOk z (λ _. WritesInCalls gives a (t ++ u) c)
-  calls_then a b c (Ok k) t u p q = writes_in_calls_append gives a t b u c p q
-  calls_then a b c (Err e) t u p q = tt
 
   then_at : (a b c : S) (x y z : Sent) (t u : List ℕ) → Follows state gives a b x y t
       → Follows state gives b c y z u → Follows state gives a c x z (t ++ u)

@@ -3,8 +3,8 @@ use Rattle.std.proofs.Common.{◌≡◌, ℕ, ◌+◌, ◌-◌, ◌^◌, ◌<◌
 use Rattle.std.proofs.Common.{Result, Ok, Err, refl, sym, ap, ◌∙◌, arith, length-append}
 use Rattle.std.proofs.Common.{append_assoc, zero-add}
 use Rattle.std.specs.Fmt.{WritesInCalls}
-use Rattle.core.proofs.fmt.Output.{writes_in_calls_nil, writes_in_calls_single}
-use Rattle.core.proofs.fmt.Output.{writes_in_calls_append}
+use Rattle.std.proofs.Output.{writes_in_calls_nil, writes_in_calls_single}
+use Rattle.std.proofs.Output.{writes_in_calls_append}
 use Rattle.std.proofs.KnownBytes.{Appends-nil, Appends-trans, Appends-kept}
 use Rattle.std.proofs.Math.Seq.{take-append_seam}
 use Rattle.sf_value.specs.Devices.{SinkState, TakesOnce, RefusesOnce}

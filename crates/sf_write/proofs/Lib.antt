@@ -5,3 +5,4 @@ pub mod Base64Text
 pub mod CanonSteps
 pub mod ValidParts
 pub mod AsciiTexts
+pub mod FormattedTexts

@@ -1,16 +1,17 @@
-//! Canonical texts for `{}`: what `print!`, `write!` and `format!` put in place of a value.
-ghost use Rattle.std.specs.Prelude.{◌≡◌, ℕ, List, None, Some};
-ghost use Rattle.std.specs.Fmt.{HasWritten, IsPlainFormatter};
+//! Canonical texts to be printed: as strings, and as what `{}` stands for.
+ghost use Rattle.std.specs.Prelude.{◌≡◌, ℕ, List, None, Some, IfOk, string_bytes};
 ghost use Rattle.sf_value.specs.Grammar.Canonical.{canon, canon_bare, canon_inner, canon_item};
 ghost use Rattle.sf_value.specs.Grammar.Canonical.{canon_member};
+ghost use Rattle.sf_write.specs.Formats.{WritesPiece};
 ghost use Rattle.sf_write.specs.Writing.{Follows};
 
 use crate::bare::put_bare;
-use crate::field::put_field;
+use crate::field::{put_field, to_text};
 use crate::items::{put_inner, put_item};
 use crate::lists::put_member;
 use crate::send::Sent;
-use sf_value::{Bare, Failed, Field, Inner, Item, Member, Sink};
+use sf_value::{Bare, Failed, Field, Inner, Item, Member, OutOfMemory, Sink};
+use std::alloc::Global;
 use std::fmt;
 
 /// A value that has a canonical text (RFC 9651 section 4.1).
@@ -81,7 +82,7 @@ pub struct Displayed<'a, T> {
 /// println!(rt; "parsed: {}", display(&field))?; // parsed: a;q=1
 /// ```
 pub fn display<T: Canonical>(value: &T) -> Displayed<'_, T>
-    ensures { result.value ≡ value }
+    ensures { result.value.now ≡ value.now }
 {
     Displayed { value }
 }
@@ -99,34 +100,50 @@ impl<T: Canonical> fmt::Display for Displayed<'_, T> {
 }
 
 /// A formatter as a sink. It does not tell its bytes, but what each call wrote.
-#[derive(Drop)]
 struct Formatting<'a, W> {
     f: &'a mut fmt::Formatter<W>,
     failures: u64,
 }
 
-impl<W: fmt::Write> Sink for Formatting<'_, W> {
+impl<'a, W> Drop for Formatting<'a, W> {
+    fn drop(self)
+        ensures { self.exit.0.now ≡ self.entry.f.now }
+    {
+        let Self { f: _, failures: _ } = self;
+    }
+}
+
+impl<'a, W: fmt::Write> Sink for Formatting<'a, W> {
     ghost state = { λ out. record { taken = None; failures = out.failures } };
 
-    // it is the same formatter, and where it formats plainly, the bytes were written to it
-    ghost send_gives = { λ old bytes new. (new.f.exit ≡ old.f.exit)
-        × (IsPlainFormatter old.f.entry
-            → HasWritten W.write_str_gives old.f.entry bytes new.f.entry) };
+    ghost send_gives = { WritesPiece W.write_str_gives };
 
     fn send(&mut self, bytes: &[u8]) -> Result<usize, Failed> {
         if bytes.is_empty() {
             return Ok(0);
         }
         // A canonical text is ASCII, so that each of its pieces is a string.
-        let written = str::from_utf8(bytes)
-            .map_err(|_| fmt::Error)
-            .and_then(|text| self.f.write_str(text));
-        match written {
-            Ok(()) => Ok(bytes.len()),
-            Err(_) => {
-                self.failures = self.failures.saturating_add(1);
-                Err(Failed)
+        if let Ok(text) = str::from_utf8(bytes) {
+            if self.f.write_str(text).is_ok() {
+                return Ok(bytes.len());
             }
         }
+        self.failures = self.failures.saturating_add(1);
+        Err(Failed)
     }
+}
+
+/// The canonical text of a field (RFC 9651 section 4.1) as a string. Each such text is ASCII, so the
+/// only refusal is for want of memory.
+///
+/// ```
+/// let text = to_string(alloc, &field)?;
+/// println!(rt; "{text}")?; // a;q=1
+/// ```
+pub fn to_string(alloc: Global, field: &Field) -> Result<String, OutOfMemory>
+    ensures { IfOk result (λ text. string_bytes text ≡ canon field.now) }
+{
+    let text = to_text(alloc, field)?;
+    // That a canonical text is ASCII is proved and not tested.
+    Ok(unsafe { String::from_utf8_unchecked(text) })
 }

@@ -10,7 +10,6 @@
 mod bare;
 mod blobs;
 mod dicts;
-mod display;
 mod field;
 mod formats;
 mod items;
@@ -23,7 +22,6 @@ mod shown;
 mod strings;
 
 pub use bare::{bare_text, put_bare, put_text, write_bare};
-pub use display::to_string;
 pub use field::{put_field, to_text, write_field};
-pub use formats::{Canonical, Displayed, display};
+pub use formats::{Canonical, Displayed, display, to_string};
 pub use send::{Sent, WriteFault, put, send_all};

@@ -10,7 +10,7 @@ use crate::send::{Sent, put};
 use sf_value::{Member, Sink};
 
 /// A member of a List: an Item or an Inner List.
-fn put_member<W: Sink>(member: &Member, before: Sent, out: &mut W) -> Sent
+pub(crate) fn put_member<W: Sink>(member: &Member, before: Sent, out: &mut W) -> Sent
     ensures text { Follows W.state W.send_gives out.old out.new before result
         (canon_member member.now) }
     ensures valid { ValidMember Rfc9651 member.now }

@@ -2,7 +2,7 @@ use Rattle.std.proofs.Common.{◌≡◌}
 use Rattle.sf_value.specs.declared.dialect.Dialect.TheVariants.{Rfc9651}
 use Rattle.sf_value.specs.Grammar.Fields.{kind_of}
 use Rattle.sf_write.proofs.AsciiTexts.{spelled_utf8}
-use Rattle.sf_write.proofs.display.to_string.Goals as goal
+use Rattle.sf_write.proofs.formats.to_string.Goals as goal
 
 pub from_utf8_unchecked-requires : goal.from_utf8_unchecked-requires
 from_utf8_unchecked-requires c =
