@@ -24,7 +24,7 @@ pub struct Joined {
 /// `joined.length` is greater than the room.
 #[unsafe(no_mangle)]
 pub extern "C" fn sf_join(line: &[u8], room: &mut [u8], joined: &mut Joined) -> u32
-    // the line is joined, or the room is too small for it, or shorter than the text that it holds
+    // the line is joined, or the room is too small for it, or for the text said to stand in it
     ensures { PutsLine (record { room = room.old; joined = joined.old })
         (record { room = room.new; joined = joined.new }) line.now (status_at result) }
 {
@@ -40,7 +40,7 @@ fn separator(joined: &Joined) -> &'static [u8]
 
 /// Puts the line behind those that are joined, where there is room.
 fn join(line: &[u8], room: &mut [u8], joined: &mut Joined) -> Status
-    // the line is joined, or the room is too small for it, or shorter than the text that it holds
+    // the line is joined, or the room is too small for it, or for the text said to stand in it
     ensures { PutsLine (record { room = room.old; joined = joined.old })
         (record { room = room.new; joined = joined.new }) line.now (Some result) }
 {
