@@ -38,6 +38,7 @@ fn kind_named(name: u8) -> Option<Kind>
 
 /// Whether the text is accepted; `false` also for want of memory.
 fn is_accepted(alloc: Global, seed: &RandomState, kind: Kind, text: &[u8]) -> bool
+    // only a text that spells a value of the kind is accepted
     ensures { IsTrue result → IsAccepted kind text.now }
 {
     match parse_text(alloc, seed, kind, text) {
@@ -49,6 +50,7 @@ fn is_accepted(alloc: Global, seed: &RandomState, kind: Kind, text: &[u8]) -> bo
 /// The length of the canonical text of the value that the text spells; `None` where it is refused,
 /// and for want of memory.
 fn canonical_len(alloc: Global, seed: &RandomState, kind: Kind, text: &[u8]) -> Option<usize>
+    // so long is the canonical text of the value that the text spells
     ensures { IfSome result (HasCanonical kind text.now) }
 {
     let Ok(field) = parse_text(alloc, seed, kind, text) else {
@@ -70,6 +72,7 @@ fn canonical_len(alloc: Global, seed: &RandomState, kind: Kind, text: &[u8]) -> 
 #[unsafe(no_mangle)]
 pub extern "C" fn sf_bench_parse(alloc: Global, name: u8, text: &[u8], times: usize) -> usize
     ensures bit { result ≤ 1 }
+    // 1 only where the text spells a value of the kind that the letter names
     ensures accepted { 0 < result → (k : Kind) × (letter k ≡ name) × IsAccepted k text.now }
 {
     let (Some(kind), Ok(seed)) = (kind_named(name), RandomState::new(&SameSeed)) else {
@@ -90,6 +93,7 @@ pub extern "C" fn sf_bench_parse(alloc: Global, name: u8, text: &[u8], times: us
 /// ```
 #[unsafe(no_mangle)]
 pub extern "C" fn sf_bench_normalise(alloc: Global, name: u8, text: &[u8], times: usize) -> usize
+    // a number above 0 is the length of the canonical text, by the kind that the letter names
     ensures { 0 < result → (k : Kind) × (letter k ≡ name) × HasCanonical k text.now result }
 {
     let (Some(kind), Ok(seed)) = (kind_named(name), RandomState::new(&SameSeed)) else {

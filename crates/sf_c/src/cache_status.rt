@@ -31,7 +31,34 @@ pub struct Path {
     pub is_served: u32,
 }
 
-// As [`sf_cache_status`] answers.
+/// The path of a response by the text of its Cache-Status field (RFC 9211 section 2), the cache
+/// nearest the origin first: `Answered` and the first `path.hops` hops and the first `path.bytes`
+/// bytes tell it, and the others are left as they were; `Short` where one of the rooms is smaller
+/// than `path` says, and both are left as they were; `NotACache` where a member names no cache, and
+/// then `path.nameless` is the place of the first such member; `Refused` where the text spells no
+/// List, and then `refusal` says where and why; or `OutOfMemory`.
+#[unsafe(no_mangle)]
+pub extern "C" fn sf_cache_status(
+    alloc: Global,
+    seed: &Seed,
+    text: &[u8],
+    hops: &mut [HopNode],
+    bytes: &mut [u8],
+    path: &mut Path,
+    refusal: &mut SyntaxRefusal,
+) -> u32
+    // the rooms tell the hops of the List, or the status says why not; all else is left as it was
+    ensures tells { TellsPath
+        (record { hops = hops.old; bytes = bytes.old; path = path.old; refusal = refusal.old })
+        (record { hops = hops.new; bytes = bytes.new; path = path.new; refusal = refusal.new })
+        text.now (status_at result) }
+    // where they are told: bytes at most eight fifths of the text's length, hops at most one more
+    ensures few { SaysFew text.now path.new (status_at result) }
+{
+    path_of(alloc, seed, text, hops, bytes, path, refusal).code()
+}
+
+/// As [`sf_cache_status`] answers.
 fn path_of(
     alloc: Global,
     seed: &Seed,
@@ -41,10 +68,12 @@ fn path_of(
     path: &mut Path,
     refusal: &mut SyntaxRefusal,
 ) -> Status
+    // the rooms tell the hops of the List, or the status says why not; all else is left as it was
     ensures tells { TellsPath
         (record { hops = hops.old; bytes = bytes.old; path = path.old; refusal = refusal.old })
         (record { hops = hops.new; bytes = bytes.new; path = path.new; refusal = refusal.new })
         text.now (Some result) }
+    // where they are told: bytes at most eight fifths of the text's length, hops at most one more
     ensures few { SaysFew text.now path.new (Some result) }
 {
     let field = match parse(alloc, seed, Dialect::Rfc9651, Kind::List, text, refusal) {
@@ -76,29 +105,4 @@ fn path_of(
     }
     flat.write(hops, bytes);
     Status::Answered
-}
-
-/// The path of a response by the text of its Cache-Status field (RFC 9211 section 2), the cache
-/// nearest the origin first: `Answered` and the first `path.hops` hops and the first `path.bytes`
-/// bytes tell it, and the others are left as they were; `Short` where one of the rooms is smaller
-/// than `path` says, and both are left as they were; `NotACache` where a member names no cache, and
-/// then `path.nameless` is the place of the first such member; `Refused` where the text spells no
-/// List, and then `refusal` says where and why; or `OutOfMemory`.
-#[unsafe(no_mangle)]
-pub extern "C" fn sf_cache_status(
-    alloc: Global,
-    seed: &Seed,
-    text: &[u8],
-    hops: &mut [HopNode],
-    bytes: &mut [u8],
-    path: &mut Path,
-    refusal: &mut SyntaxRefusal,
-) -> u32
-    ensures tells { TellsPath
-        (record { hops = hops.old; bytes = bytes.old; path = path.old; refusal = refusal.old })
-        (record { hops = hops.new; bytes = bytes.new; path = path.new; refusal = refusal.new })
-        text.now (status_at result) }
-    ensures few { SaysFew text.now path.new (status_at result) }
-{
-    path_of(alloc, seed, text, hops, bytes, path, refusal).code()
 }

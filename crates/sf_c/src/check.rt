@@ -10,23 +10,6 @@ use crate::status::Status;
 use sf_value::{Dialect, Kind};
 use std::alloc::Global;
 
-// As [`sf_check`] answers, of a dialect and a kind.
-fn check(
-    alloc: Global,
-    seed: &Seed,
-    dialect: Dialect,
-    kind: Kind,
-    text: &[u8],
-    refusal: &mut SyntaxRefusal,
-) -> Status
-    ensures { Checks refusal.old refusal.new text.now dialect kind result }
-{
-    match parse(alloc, seed, dialect, kind, text, refusal) {
-        Ok(_) => Status::Answered,
-        Err(status) => status,
-    }
-}
-
 /// Whether the text spells a value of the kind in the dialect (RFC 9651 section 4.2): `Answered`
 /// where it does; `Refused` where not, and then `refusal` says where and why, and is else left as
 /// it was; `OutOfMemory`; or `BadCall` for a number that is no kind or no dialect.
@@ -39,6 +22,7 @@ pub extern "C" fn sf_check(
     text: &[u8],
     refusal: &mut SyntaxRefusal,
 ) -> u32
+    // BadCall just for a number that names nothing; else whether the text spells a value
     ensures { Called (dialect_at dialect) (kind_at kind) (status_at result)
         (Checks refusal.old refusal.new text.now) }
 {
@@ -46,4 +30,22 @@ pub extern "C" fn sf_check(
         return Status::BadCall.code();
     };
     check(alloc, seed, dialect, kind, text, refusal).code()
+}
+
+/// As [`sf_check`] answers, of a dialect and a kind.
+fn check(
+    alloc: Global,
+    seed: &Seed,
+    dialect: Dialect,
+    kind: Kind,
+    text: &[u8],
+    refusal: &mut SyntaxRefusal,
+) -> Status
+    // whether the text spells a value; where it is Refused, the struct says why
+    ensures { Checks refusal.old refusal.new text.now dialect kind result }
+{
+    match parse(alloc, seed, dialect, kind, text, refusal) {
+        Ok(_) => Status::Answered,
+        Err(status) => status,
+    }
 }

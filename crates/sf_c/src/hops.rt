@@ -1,9 +1,12 @@
 //! The hops of a path (RFC 9211 section 2) as flat structs.
 ghost use Rattle.std.specs.Prelude.{◌≡◌, ◌≤◌, ◌++◌, [], ◌∷◌, pos, length, map, unwrap_or, IfOk};
 ghost use Rattle.sf_use.specs.CacheStatus.Members.{passed_by};
-ghost use Rattle.sf_c.specs.Hops.{bytes_of, detail_bytes, hops_size, is_token, told_hop};
-ghost use Rattle.sf_c.specs.Hops.{detail_is_token, outcome_number, says_by, says_of};
-ghost use Rattle.sf_c.specs.Hops.{reason_number, why_number, why_token, HopsAtFront, PutsPiece};
+ghost use Rattle.sf_c.specs.Hops.{bytes_of as bytes_of_name, detail_bytes as bytes_of_detail};
+ghost use Rattle.sf_c.specs.Hops.{is_token as is_name_token, detail_is_token as is_detail_token};
+ghost use Rattle.sf_c.specs.Hops.{outcome_number as number_of_outcome};
+ghost use Rattle.sf_c.specs.Hops.{reason_number as number_of_reason, why_number as number_of_why};
+ghost use Rattle.sf_c.specs.Hops.{why_token as token_of_why, hops_size, told_hop, says_by, says_of};
+ghost use Rattle.sf_c.specs.Hops.{HopsAtFront, PutsPiece};
 
 use crate::room::put;
 use sf_use::{Forward, Hop, HopStatus, Name, Outcome};
@@ -67,7 +70,7 @@ pub struct HopNode {
     pub detail_is_token: u8,
 }
 
-// The structs of hops, and the bytes that they point into. Contracts see what the structs tell.
+/// The structs of hops, and the bytes that they point into. Contracts see what the structs tell.
 #[derive(Drop)]
 pub(crate) struct FlatPath {
     hops: Vec<HopNode>,
@@ -86,7 +89,7 @@ impl Model for FlatPath {
 }
 
 impl FlatPath {
-    // No hops.
+    /// No hops.
     fn new(alloc: Global) -> FlatPath
         ensures { result ≡ [] }
     {
@@ -96,31 +99,32 @@ impl FlatPath {
         }
     }
 
-    // How many hops there are.
+    /// How many hops there are.
     pub(crate) fn count(&self) -> usize
         ensures { result ≡ length self.now }
     {
         self.hops.as_slice().len()
     }
 
-    // How many bytes they have.
+    /// How many bytes they have.
     pub(crate) fn size(&self) -> usize
         ensures { result ≡ hops_size self.now }
     {
         self.bytes.as_slice().len()
     }
 
-    // Puts the hops and the bytes at the fronts of rooms that are long enough.
+    /// Puts the hops and the bytes at the fronts of rooms that are long enough.
     pub(crate) fn write(&self, hops: &mut [HopNode], bytes: &mut [u8])
         requires hops { length self.now ≤ length hops.old }
         requires bytes { hops_size self.now ≤ length bytes.old }
+        // the fronts of the rooms tell the hops, and what stands behind them is left as it was
         ensures { HopsAtFront self.now hops.old hops.new bytes.old bytes.new }
     {
         put(hops, 0, self.hops.as_slice());
         put(bytes, 0, self.bytes.as_slice());
     }
 
-    // One more hop.
+    /// One more hop.
     fn with(self, hop: &Hop) -> Result<FlatPath, OutOfMemory>
         ensures { IfOk result (λ path. path ≡ self ++ told_hop hop.now ∷ []) }
     {
@@ -137,8 +141,9 @@ impl FlatPath {
     }
 }
 
-// A text behind the bytes.
+/// A text behind the bytes.
 fn put_piece(bytes: &mut Vec<u8>, text: &[u8]) -> Result<Piece, OutOfMemory>
+    // the text stands behind the bytes that were there, and the piece is that of it
     ensures { IfOk result (λ piece. PutsPiece bytes.old.items bytes.new.items text.now piece) }
 {
     let at = bytes.as_slice().len();
@@ -149,8 +154,9 @@ fn put_piece(bytes: &mut Vec<u8>, text: &[u8]) -> Result<Piece, OutOfMemory>
     })
 }
 
+/// The bytes of a name.
 fn bytes_of(name: &Name) -> &[u8]
-    ensures { result.now ≡ bytes_of name.now }
+    ensures { result.now ≡ bytes_of_name name.now }
 {
     match name {
         Name::Text(text) => text.as_bytes(),
@@ -158,12 +164,14 @@ fn bytes_of(name: &Name) -> &[u8]
     }
 }
 
+/// Whether a name is a Token.
 fn is_token(name: &Name) -> bool
-    ensures { result ≡ is_token name.now }
+    ensures { result ≡ is_name_token name.now }
 {
     matches!(name, Name::Token(_))
 }
 
+/// The bytes of a cache key; none where it is not said.
 fn key_bytes(key: &Option<Text>) -> &[u8]
     ensures { result.now ≡ unwrap_or key.now [] }
 {
@@ -173,8 +181,9 @@ fn key_bytes(key: &Option<Text>) -> &[u8]
     }
 }
 
+/// The bytes of a detail; none where it is not said.
 fn detail_bytes(detail: &Option<Name>) -> &[u8]
-    ensures { result.now ≡ detail_bytes detail.now }
+    ensures { result.now ≡ bytes_of_detail detail.now }
 {
     match detail {
         Some(detail) => bytes_of(detail),
@@ -182,8 +191,9 @@ fn detail_bytes(detail: &Option<Name>) -> &[u8]
     }
 }
 
+/// Whether a detail is said and is a Token.
 fn detail_is_token(detail: &Option<Name>) -> bool
-    ensures { result ≡ detail_is_token detail.now }
+    ensures { result ≡ is_detail_token detail.now }
 {
     match detail {
         Some(detail) => is_token(detail),
@@ -191,8 +201,9 @@ fn detail_is_token(detail: &Option<Name>) -> bool
     }
 }
 
+/// The token of the reason for forwarding; empty where it is not said.
 fn why_token(outcome: &Outcome) -> &[u8]
-    ensures { result.now ≡ why_token (passed_by outcome.now) }
+    ensures { result.now ≡ token_of_why (passed_by outcome.now) }
 {
     match outcome.passed() {
         Some(passed) => passed.why.as_bytes(),
@@ -200,8 +211,9 @@ fn why_token(outcome: &Outcome) -> &[u8]
     }
 }
 
+/// The number of what the cache did.
 fn outcome_number(outcome: &Outcome) -> u16
-    ensures { result ≡ outcome_number outcome.now }
+    ensures { result ≡ number_of_outcome outcome.now }
 {
     match outcome {
         Outcome::Unsaid => 0,
@@ -211,8 +223,9 @@ fn outcome_number(outcome: &Outcome) -> u16
     }
 }
 
+/// The number of a reason, from 1 on.
 fn reason_number(why: &Forward) -> u16
-    ensures { result ≡ reason_number why.now }
+    ensures { result ≡ number_of_reason why.now }
 {
     match why {
         Forward::Bypass => 1,
@@ -227,8 +240,9 @@ fn reason_number(why: &Forward) -> u16
     }
 }
 
+/// The number of the reason for forwarding; 0 where it is not said.
 fn why_number(outcome: &Outcome) -> u16
-    ensures { result ≡ why_number (passed_by outcome.now) }
+    ensures { result ≡ number_of_why (passed_by outcome.now) }
 {
     match outcome.passed() {
         Some(passed) => reason_number(&passed.why),
@@ -236,6 +250,7 @@ fn why_number(outcome: &Outcome) -> u16
     }
 }
 
+/// A status code; 0 where it is not said.
 fn code_of(status: Option<HopStatus>) -> u16
     ensures { result ≡ unwrap_or status 0 }
 {
@@ -245,6 +260,7 @@ fn code_of(status: Option<HopStatus>) -> u16
     }
 }
 
+/// The seconds of a `ttl`; 0 where it is not said.
 fn seconds_of(ttl: Option<Int>) -> i64
     ensures { result ≡ unwrap_or ttl (pos 0) }
 {
@@ -254,7 +270,7 @@ fn seconds_of(ttl: Option<Int>) -> i64
     }
 }
 
-// The struct of a hop whose bytes stand in these pieces.
+/// The struct of a hop whose bytes stand in these pieces.
 fn node_of(hop: &Hop, name: Piece, why_token: Piece, key: Piece, detail: Piece) -> HopNode
     ensures name { result.name ≡ name }
     ensures why_token { result.why_token ≡ why_token }
@@ -287,7 +303,7 @@ fn node_of(hop: &Hop, name: Piece, why_token: Piece, key: Piece, detail: Piece) 
     }
 }
 
-// The structs of hops.
+/// The structs of hops.
 pub(crate) fn flatten_hops(alloc: Global, hops: &[Hop]) -> Result<FlatPath, OutOfMemory>
     ensures { IfOk result (λ path. path ≡ map told_hop hops.now) }
 {

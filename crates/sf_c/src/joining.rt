@@ -18,15 +18,29 @@ pub struct Joined {
     pub begun: u32,
 }
 
-// What stands before the next line.
+/// Puts one more line of a field behind those that are joined in the room, with a comma and a space
+/// between two (RFC 9651 section 4.2): `Answered`; `Short` where the room is too small, and then
+/// `joined.wanted` says how long it must be, and the room is left as it was; or `BadCall` where
+/// `joined.length` is greater than the room.
+#[unsafe(no_mangle)]
+pub extern "C" fn sf_join(line: &[u8], room: &mut [u8], joined: &mut Joined) -> u32
+    // the line is joined, or the room is too small for it, or for the text said to stand in it
+    ensures { PutsLine (record { room = room.old; joined = joined.old })
+        (record { room = room.new; joined = joined.new }) line.now (status_at result) }
+{
+    join(line, room, joined).code()
+}
+
+/// What stands before the next line.
 fn separator(joined: &Joined) -> &'static [u8]
     ensures { result.now ≡ separator_of joined.now }
 {
     if joined.begun == 0 { b"" } else { b", " }
 }
 
-// Puts the line behind those that are joined, where there is room.
+/// Puts the line behind those that are joined, where there is room.
 fn join(line: &[u8], room: &mut [u8], joined: &mut Joined) -> Status
+    // the line is joined, or the room is too small for it, or for the text said to stand in it
     ensures { PutsLine (record { room = room.old; joined = joined.old })
         (record { room = room.new; joined = joined.new }) line.now (Some result) }
 {
@@ -47,16 +61,4 @@ fn join(line: &[u8], room: &mut [u8], joined: &mut Joined) -> Status
     joined.length += comma.len() + line.len();
     joined.begun = 1;
     Status::Answered
-}
-
-/// Puts one more line of a field behind those that are joined in the room, with a comma and a space
-/// between two (RFC 9651 section 4.2): `Answered`; `Short` where the room is too small, and then
-/// `joined.wanted` says how long it must be, and the room is left as it was; or `BadCall` where
-/// `joined.length` is greater than the room.
-#[unsafe(no_mangle)]
-pub extern "C" fn sf_join(line: &[u8], room: &mut [u8], joined: &mut Joined) -> u32
-    ensures { PutsLine (record { room = room.old; joined = joined.old })
-        (record { room = room.new; joined = joined.new }) line.now (status_at result) }
-{
-    join(line, room, joined).code()
 }

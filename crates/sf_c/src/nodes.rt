@@ -44,14 +44,14 @@ pub struct Sizes {
     pub bytes: usize,
 }
 
-// The nodes of a value, and the bytes that they point into. Contracts see what the nodes tell.
+/// The nodes of a value, and the bytes that they point into. Contracts see what the nodes tell.
 #[derive(Drop)]
 pub(crate) struct Flat {
     nodes: Vec<Node>,
     bytes: Vec<u8>,
 }
 
-// What a node of its own says, without its key and its bytes.
+/// What a node of its own says, without its key and its bytes.
 #[derive(Clone, Copy)]
 struct Part {
     role: u32,
@@ -72,7 +72,7 @@ impl Model for Flat {
 }
 
 impl Flat {
-    // No nodes.
+    /// No nodes.
     pub(crate) fn new(alloc: Global) -> Flat
         ensures { result ≡ [] }
     {
@@ -82,7 +82,7 @@ impl Flat {
         }
     }
 
-    // How many nodes and bytes there are.
+    /// How many nodes and bytes there are.
     pub(crate) fn sizes(&self) -> Sizes
         ensures nodes { result.nodes ≡ length self.now }
         ensures bytes { result.bytes ≡ told_size self.now }
@@ -93,17 +93,18 @@ impl Flat {
         }
     }
 
-    // Puts the nodes and the bytes at the fronts of rooms that are long enough.
+    /// Puts the nodes and the bytes at the fronts of rooms that are long enough.
     pub(crate) fn write(&self, nodes: &mut [Node], bytes: &mut [u8])
         requires nodes { length self.now ≤ length nodes.old }
         requires bytes { told_size self.now ≤ length bytes.old }
+        // the fronts of the rooms tell the nodes, and what stands behind them is left as it was
         ensures { TellAtFront self.now nodes.old nodes.new bytes.old bytes.new }
     {
         put(nodes, 0, self.nodes.as_slice());
         put(bytes, 0, self.bytes.as_slice());
     }
 
-    // One more node, with its key and its bytes; or all as it was.
+    /// One more node, with its key and its bytes; or all as it was.
     fn push(&mut self, part: Part, key: &[u8], text: &[u8]) -> Result<(), OutOfMemory>
         ensures { IfOk result (λ _. self.new ≡ self.old ++ record {
           role = part.role;
@@ -135,7 +136,7 @@ impl Flat {
     }
 }
 
-// A key and a text behind the bytes; or these as they were.
+/// A key and a text behind the bytes; or these as they were.
 fn extend(bytes: &mut Vec<u8>, key: &[u8], text: &[u8]) -> Result<(), OutOfMemory>
     ensures { MatchResult result (λ _. bytes.new.items ≡ (bytes.old.items ++ key.now) ++ text.now)
         (λ _. bytes.new.items ≡ bytes.old.items) }
@@ -151,7 +152,7 @@ fn extend(bytes: &mut Vec<u8>, key: &[u8], text: &[u8]) -> Result<(), OutOfMemor
     Ok(())
 }
 
-// A number, in the place of its bytes.
+/// A number, in the place of its bytes.
 fn push_number(
     flat: &mut Flat,
     role: u32,
@@ -178,7 +179,7 @@ fn push_number(
     flat.push(part, key, b"")
 }
 
-// Bytes, in the place of a number.
+/// Bytes, in the place of a number.
 fn push_text(
     flat: &mut Flat,
     role: u32,
@@ -205,7 +206,7 @@ fn push_text(
     flat.push(part, key, text)
 }
 
-// A bare item.
+/// A bare item.
 fn push_bare(
     flat: &mut Flat,
     role: u32,
@@ -227,7 +228,7 @@ fn push_bare(
     }
 }
 
-// Parameters.
+/// Parameters.
 fn push_params(flat: &mut Flat, params: &Entries<Bare>) -> Result<(), OutOfMemory>
     ensures { IfOk result (λ _. flat.new ≡ flat.old ++ told_params params.now) }
 {
@@ -237,21 +238,21 @@ fn push_params(flat: &mut Flat, params: &Entries<Bare>) -> Result<(), OutOfMemor
     Ok(())
 }
 
-// The sum; what is counted is less than 2^64 in all memory.
+/// The sum; what is counted is less than 2^64 in all memory.
 fn add(count: usize, more: usize) -> Result<usize, OutOfMemory>
     ensures { IfOk result (λ n. n ≡ count + more) }
 {
     count.checked_add(more).ok_or(OutOfMemory)
 }
 
-// How many nodes there are with one more.
+/// How many nodes there are with one more.
 fn one_more(count: usize) -> Result<usize, OutOfMemory>
     ensures { IfOk result (λ n. n ≡ 1 + count) }
 {
     count.checked_add(1).ok_or(OutOfMemory)
 }
 
-// An Item.
+/// An Item.
 fn push_item(flat: &mut Flat, role: u32, key: &[u8], item: &Item) -> Result<(), OutOfMemory>
     ensures { IfOk result (λ _. flat.new ≡ flat.old ++ told_item role key.now item.now) }
 {
@@ -260,7 +261,7 @@ fn push_item(flat: &mut Flat, role: u32, key: &[u8], item: &Item) -> Result<(), 
     push_params(flat, &item.params)
 }
 
-// The Items of an Inner List.
+/// The Items of an Inner List.
 fn push_items(flat: &mut Flat, items: &[Item]) -> Result<(), OutOfMemory>
     ensures { IfOk result (λ _. flat.new ≡ flat.old ++ told_items items.now) }
 {
@@ -270,7 +271,7 @@ fn push_items(flat: &mut Flat, items: &[Item]) -> Result<(), OutOfMemory>
     Ok(())
 }
 
-// How many nodes the Items have, and so many more.
+/// How many nodes the Items have, and so many more.
 fn count_items(items: &[Item], more: usize) -> Result<usize, OutOfMemory>
     ensures { IfOk result (λ n. n ≡ more + length (told_items items.now)) }
 {
@@ -282,7 +283,7 @@ fn count_items(items: &[Item], more: usize) -> Result<usize, OutOfMemory>
     Ok(count)
 }
 
-// How many nodes are inside an Inner List.
+/// How many nodes are inside an Inner List.
 fn count_inside(inner: &Inner) -> Result<usize, OutOfMemory>
     ensures { IfOk result (λ n. n ≡ length (told_inside inner.now)) }
 {
@@ -290,7 +291,7 @@ fn count_inside(inner: &Inner) -> Result<usize, OutOfMemory>
     Ok(count)
 }
 
-// What is inside an Inner List.
+/// What is inside an Inner List.
 fn push_inside(flat: &mut Flat, inner: &Inner) -> Result<(), OutOfMemory>
     ensures { IfOk result (λ _. flat.new ≡ flat.old ++ told_inside inner.now) }
 {
@@ -298,7 +299,7 @@ fn push_inside(flat: &mut Flat, inner: &Inner) -> Result<(), OutOfMemory>
     push_params(flat, &inner.params)
 }
 
-// An Inner List.
+/// An Inner List.
 fn push_inner(flat: &mut Flat, key: &[u8], inner: &Inner) -> Result<(), OutOfMemory>
     ensures { IfOk result (λ _. flat.new ≡ flat.old ++ told_inner key.now inner.now) }
 {
@@ -308,7 +309,7 @@ fn push_inner(flat: &mut Flat, key: &[u8], inner: &Inner) -> Result<(), OutOfMem
     push_inside(flat, inner)
 }
 
-// A member, with its key in a Dictionary.
+/// A member, with its key in a Dictionary.
 fn push_member(flat: &mut Flat, key: &[u8], member: &Member) -> Result<(), OutOfMemory>
     ensures { IfOk result (λ _. flat.new ≡ flat.old ++ told_member key.now member.now) }
 {
@@ -318,7 +319,7 @@ fn push_member(flat: &mut Flat, key: &[u8], member: &Member) -> Result<(), OutOf
     }
 }
 
-// The members of a List.
+/// The members of a List.
 fn push_members(flat: &mut Flat, members: &[Member]) -> Result<(), OutOfMemory>
     ensures { IfOk result (λ _. flat.new ≡ flat.old ++ told_members members.now) }
 {
@@ -328,7 +329,7 @@ fn push_members(flat: &mut Flat, members: &[Member]) -> Result<(), OutOfMemory>
     Ok(())
 }
 
-// The members of a Dictionary.
+/// The members of a Dictionary.
 fn push_entries(flat: &mut Flat, entries: &Entries<Member>) -> Result<(), OutOfMemory>
     ensures { IfOk result (λ _. flat.new ≡ flat.old ++ told_entries entries.now) }
 {
@@ -338,7 +339,7 @@ fn push_entries(flat: &mut Flat, entries: &Entries<Member>) -> Result<(), OutOfM
     Ok(())
 }
 
-// The nodes of a field.
+/// The nodes of a field.
 pub(crate) fn flatten(alloc: Global, field: &Field) -> Result<Flat, OutOfMemory>
     ensures { IfOk result (λ flat. flat ≡ told_field field.now) }
 {

@@ -13,7 +13,62 @@ use sf_value::{Dialect, Kind, same};
 use sf_write::to_text;
 use std::alloc::Global;
 
-// As [`sf_normalise`] answers, of a dialect and a kind.
+/// The canonical text (RFC 9651 section 4.1) of the value that the text spells: `Answered` and the
+/// text stands at the front of the room, `wanted` bytes of it, and the rest of the room is left as
+/// it was; `Short` where the room has less than `wanted` bytes; `Refused` where no value is
+/// spelled, and then `refusal` says where and why; `OutOfMemory`; or `BadCall`. A room of eight
+/// fifths of the text's length is never short.
+#[unsafe(no_mangle)]
+pub extern "C" fn sf_normalise(
+    alloc: Global,
+    seed: &Seed,
+    dialect: u32,
+    kind: u32,
+    text: &[u8],
+    room: &mut [u8],
+    wanted: &mut usize,
+    refusal: &mut SyntaxRefusal,
+) -> u32
+    // BadCall just for a number that names nothing; else the canonical text, or why there is none
+    ensures { Called (dialect_at dialect) (kind_at kind) (status_at result)
+        (Normalises (record { room = room.old; wanted = wanted.old; refusal = refusal.old })
+        (record { room = room.new; wanted = wanted.new; refusal = refusal.new }) text.now) }
+{
+    let (Some(dialect), Some(kind)) = (dialect_of(dialect), kind_of(kind)) else {
+        return Status::BadCall.code();
+    };
+    normalise(alloc, seed, dialect, kind, text, room, wanted, refusal).code()
+}
+
+/// Whether the two texts spell equal values (RFC 9651 section 2; order counts): `Answered` and
+/// `equal` is 1 or 0; `Refused` where the first spells no value, `SecondRefused` where the second
+/// doesn't, and then `refusal` says where and why; `OutOfMemory`; or `BadCall`.
+#[unsafe(no_mangle)]
+pub extern "C" fn sf_equal(
+    alloc: Global,
+    seed: &Seed,
+    dialect: u32,
+    kind: u32,
+    first: &[u8],
+    second: &[u8],
+    equal_out: &mut u32,
+    refusal: &mut SyntaxRefusal,
+) -> u32
+    // BadCall just for a number that names nothing; else whether the texts spell equal values
+    ensures { Called (dialect_at dialect) (kind_at kind) (status_at result)
+        (Equals (record { equal = equal_out.old; refusal = refusal.old })
+        (record { equal = equal_out.new; refusal = refusal.new }) first.now second.now) }
+{
+    let (Some(dialect), Some(kind)) = (dialect_of(dialect), kind_of(kind)) else {
+        return Status::BadCall.code();
+    };
+    equal(
+        alloc, seed, dialect, kind, first, second, equal_out, refusal,
+    )
+    .code()
+}
+
+/// As [`sf_normalise`] answers, of a dialect and a kind.
 fn normalise(
     alloc: Global,
     seed: &Seed,
@@ -24,6 +79,7 @@ fn normalise(
     wanted: &mut usize,
     refusal: &mut SyntaxRefusal,
 ) -> Status
+    // the canonical text stands at the front of the room, or the status says why not
     ensures { Normalises (record { room = room.old; wanted = wanted.old; refusal = refusal.old })
         (record { room = room.new; wanted = wanted.new; refusal = refusal.new })
         text.now dialect kind result }
@@ -44,33 +100,7 @@ fn normalise(
     Status::Answered
 }
 
-/// The canonical text (RFC 9651 section 4.1) of the value that the text spells: `Answered` and the
-/// text stands at the front of the room, `wanted` bytes of it, and the rest of the room is left as
-/// it was; `Short` where the room has less than `wanted` bytes; `Refused` where no value is
-/// spelled, and then `refusal` says where and why; `OutOfMemory`; or `BadCall`. A room of eight
-/// fifths of the text's length is never short.
-#[unsafe(no_mangle)]
-pub extern "C" fn sf_normalise(
-    alloc: Global,
-    seed: &Seed,
-    dialect: u32,
-    kind: u32,
-    text: &[u8],
-    room: &mut [u8],
-    wanted: &mut usize,
-    refusal: &mut SyntaxRefusal,
-) -> u32
-    ensures { Called (dialect_at dialect) (kind_at kind) (status_at result)
-        (Normalises (record { room = room.old; wanted = wanted.old; refusal = refusal.old })
-        (record { room = room.new; wanted = wanted.new; refusal = refusal.new }) text.now) }
-{
-    let (Some(dialect), Some(kind)) = (dialect_of(dialect), kind_of(kind)) else {
-        return Status::BadCall.code();
-    };
-    normalise(alloc, seed, dialect, kind, text, room, wanted, refusal).code()
-}
-
-// As [`sf_equal`] answers, of a dialect and a kind.
+/// As [`sf_equal`] answers, of a dialect and a kind.
 fn equal(
     alloc: Global,
     seed: &Seed,
@@ -81,6 +111,7 @@ fn equal(
     equal: &mut u32,
     refusal: &mut SyntaxRefusal,
 ) -> Status
+    // whether the texts spell equal values; or which of them spells none, and the struct says why
     ensures { Equals (record { equal = equal.old; refusal = refusal.old })
         (record { equal = equal.new; refusal = refusal.new })
         first.now second.now dialect kind result }
@@ -96,31 +127,4 @@ fn equal(
     };
     *equal = u32::from(same(&field, &other));
     Status::Answered
-}
-
-/// Whether the two texts spell equal values (RFC 9651 section 2; order counts): `Answered` and
-/// `equal` is 1 or 0; `Refused` where the first spells no value, `SecondRefused` where the second
-/// doesn't, and then `refusal` says where and why; `OutOfMemory`; or `BadCall`.
-#[unsafe(no_mangle)]
-pub extern "C" fn sf_equal(
-    alloc: Global,
-    seed: &Seed,
-    dialect: u32,
-    kind: u32,
-    first: &[u8],
-    second: &[u8],
-    equal_out: &mut u32,
-    refusal: &mut SyntaxRefusal,
-) -> u32
-    ensures { Called (dialect_at dialect) (kind_at kind) (status_at result)
-        (Equals (record { equal = equal_out.old; refusal = refusal.old })
-        (record { equal = equal_out.new; refusal = refusal.new }) first.now second.now) }
-{
-    let (Some(dialect), Some(kind)) = (dialect_of(dialect), kind_of(kind)) else {
-        return Status::BadCall.code();
-    };
-    equal(
-        alloc, seed, dialect, kind, first, second, equal_out, refusal,
-    )
-    .code()
 }

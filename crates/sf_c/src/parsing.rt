@@ -12,7 +12,38 @@ use crate::status::Status;
 use sf_value::{Dialect, Kind};
 use std::alloc::Global;
 
-// As [`sf_parse`] answers, of a dialect and a kind.
+/// The value that the text spells, as nodes: `Answered` and the first `sizes.nodes` nodes and the
+/// first `sizes.bytes` bytes tell it, and the others are left as they were; `Short` where one of
+/// the rooms is smaller than `sizes` says, and both are left as they were; `Refused` where no value
+/// is spelled, and then `refusal` says where and why; `OutOfMemory`; or `BadCall`.
+#[unsafe(no_mangle)]
+pub extern "C" fn sf_parse(
+    alloc: Global,
+    seed: &Seed,
+    dialect: u32,
+    kind: u32,
+    text: &[u8],
+    nodes: &mut [Node],
+    bytes: &mut [u8],
+    sizes: &mut Sizes,
+    refusal: &mut SyntaxRefusal,
+) -> u32
+    // BadCall just for a number that names nothing; else the value as nodes, or why there is none
+    ensures { Called (dialect_at dialect) (kind_at kind) (status_at result) (Flattens
+        (record { nodes = nodes.old; bytes = bytes.old; sizes = sizes.old; refusal = refusal.old })
+        (record { nodes = nodes.new; bytes = bytes.new; sizes = sizes.new; refusal = refusal.new })
+        text.now) }
+{
+    let (Some(dialect), Some(kind)) = (dialect_of(dialect), kind_of(kind)) else {
+        return Status::BadCall.code();
+    };
+    parse_flat(
+        alloc, seed, dialect, kind, text, nodes, bytes, sizes, refusal,
+    )
+    .code()
+}
+
+/// As [`sf_parse`] answers, of a dialect and a kind.
 fn parse_flat(
     alloc: Global,
     seed: &Seed,
@@ -24,6 +55,7 @@ fn parse_flat(
     sizes: &mut Sizes,
     refusal: &mut SyntaxRefusal,
 ) -> Status
+    // the rooms tell the value that the text spells, or the status says why not
     ensures { Flattens
         (record { nodes = nodes.old; bytes = bytes.old; sizes = sizes.old; refusal = refusal.old })
         (record { nodes = nodes.new; bytes = bytes.new; sizes = sizes.new; refusal = refusal.new })
@@ -46,34 +78,4 @@ fn parse_flat(
     }
     flat.write(nodes, bytes);
     Status::Answered
-}
-
-/// The value that the text spells, as nodes: `Answered` and the first `sizes.nodes` nodes and the
-/// first `sizes.bytes` bytes tell it, and the others are left as they were; `Short` where one of
-/// the rooms is smaller than `sizes` says, and both are left as they were; `Refused` where no value
-/// is spelled, and then `refusal` says where and why; `OutOfMemory`; or `BadCall`.
-#[unsafe(no_mangle)]
-pub extern "C" fn sf_parse(
-    alloc: Global,
-    seed: &Seed,
-    dialect: u32,
-    kind: u32,
-    text: &[u8],
-    nodes: &mut [Node],
-    bytes: &mut [u8],
-    sizes: &mut Sizes,
-    refusal: &mut SyntaxRefusal,
-) -> u32
-    ensures { Called (dialect_at dialect) (kind_at kind) (status_at result) (Flattens
-        (record { nodes = nodes.old; bytes = bytes.old; sizes = sizes.old; refusal = refusal.old })
-        (record { nodes = nodes.new; bytes = bytes.new; sizes = sizes.new; refusal = refusal.new })
-        text.now) }
-{
-    let (Some(dialect), Some(kind)) = (dialect_of(dialect), kind_of(kind)) else {
-        return Status::BadCall.code();
-    };
-    parse_flat(
-        alloc, seed, dialect, kind, text, nodes, bytes, sizes, refusal,
-    )
-    .code()
 }

@@ -28,8 +28,9 @@ pub struct PriorityFlags {
 }
 
 impl PriorityFlags {
-    // The struct of what is asked for.
+    /// The struct of what is asked for.
     fn of(asked: Asked) -> PriorityFlags
+        // which parts are asked for, with the defaults for the others
         ensures { SaysAsked result asked }
     {
         let filled = asked.with_defaults();
@@ -41,7 +42,7 @@ impl PriorityFlags {
         }
     }
 
-    // What the struct asks for.
+    /// What the struct asks for.
     fn asked(&self) -> Asked
         ensures { result ≡ asked_by self.now }
     {
@@ -49,50 +50,6 @@ impl PriorityFlags {
             urgency: urgency_of(self.says_urgency, self.urgency),
             incremental: flag_of(self.says_incremental, self.incremental),
         }
-    }
-}
-
-// An urgency that is said and is one.
-fn urgency_of(says: u8, urgency: u8) -> Option<Urgency>
-    ensures { result ≡ urgency_at says urgency }
-{
-    if says == 0 {
-        return None;
-    }
-    Urgency::new(urgency).ok()
-}
-
-// A flag that is said.
-fn flag_of(says: u8, flag: u8) -> Option<bool>
-    ensures { result ≡ flag_at says flag }
-{
-    if says == 0 {
-        return None;
-    }
-    Some(flag != 0)
-}
-
-// What a text asks for.
-fn asked_of(
-    alloc: Global,
-    seed: &Seed,
-    text: &[u8],
-    priority: &mut PriorityFlags,
-    refusal: &mut SyntaxRefusal,
-) -> Status
-    ensures { AsksFor (record { priority = priority.old; refusal = refusal.old })
-        (record { priority = priority.new; refusal = refusal.new }) text.now (Some result) }
-{
-    let field = match parse(alloc, seed, Dialect::Rfc9651, Kind::Dict, text, refusal) {
-        Ok(field) => field,
-        Err(status) => return status,
-    };
-    match &field {
-        Field::Dict(dict) => {
-            *priority = PriorityFlags::of(Priority::from_dict(dict));
-            Status::Answered
-        }
-        _ => unreachable!(),
     }
 }
 
@@ -107,6 +64,7 @@ pub extern "C" fn sf_priority(
     priority: &mut PriorityFlags,
     refusal: &mut SyntaxRefusal,
 ) -> u32
+    // what the Dictionary asks for, or the other struct says why the text spells none
     ensures { AsksFor (record { priority = priority.old; refusal = refusal.old })
         (record { priority = priority.new; refusal = refusal.new }) text.now (status_at result) }
 {
@@ -118,7 +76,53 @@ pub extern "C" fn sf_priority(
 /// is not 0, and an urgency above 7 as not said.
 #[unsafe(no_mangle)]
 pub extern "C" fn sf_priority_merge(client: &PriorityFlags, server: &PriorityFlags) -> PriorityFlags
+    // each part as the server says it, where it does, else as the client does; else the default
     ensures { SaysAsked result (merged (asked_by client.now) (asked_by server.now)) }
 {
     PriorityFlags::of(merge(client.asked(), server.asked()))
+}
+
+/// An urgency that is said and is one.
+fn urgency_of(says: u8, urgency: u8) -> Option<Urgency>
+    ensures { result ≡ urgency_at says urgency }
+{
+    if says == 0 {
+        return None;
+    }
+    Urgency::new(urgency).ok()
+}
+
+/// A flag that is said.
+fn flag_of(says: u8, flag: u8) -> Option<bool>
+    ensures { result ≡ flag_at says flag }
+{
+    if says == 0 {
+        return None;
+    }
+    Some(flag != 0)
+}
+
+/// What a text asks for.
+fn asked_of(
+    alloc: Global,
+    seed: &Seed,
+    text: &[u8],
+    priority: &mut PriorityFlags,
+    refusal: &mut SyntaxRefusal,
+) -> Status
+    // what the Dictionary asks for, or the other struct says why the text spells none
+    ensures { AsksFor (record { priority = priority.old; refusal = refusal.old })
+        (record { priority = priority.new; refusal = refusal.new }) text.now (Some result) }
+{
+    let field = match parse(alloc, seed, Dialect::Rfc9651, Kind::Dict, text, refusal) {
+        Ok(field) => field,
+        Err(status) => return status,
+    };
+    match &field {
+        Field::Dict(dict) => {
+            *priority = PriorityFlags::of(Priority::from_dict(dict));
+            Status::Answered
+        }
+        _ => unreachable!(),
+    }
 }

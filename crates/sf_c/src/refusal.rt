@@ -19,19 +19,10 @@ pub struct SyntaxRefusal {
     pub may_end: u32,
 }
 
-// The byte that was found, or -1.
-fn number_of(found: Option<u8>) -> i32
-    ensures { result ≡ found_number found }
-{
-    match found {
-        Some(byte) => i32::from(byte),
-        None => -1,
-    }
-}
-
 impl SyntaxRefusal {
-    // The refusal with these parts.
+    /// The refusal with these parts.
     pub(crate) fn of(place: u64, found: Option<u8>, expected: u128, may_end: bool) -> SyntaxRefusal
+        // these parts as numbers, and the set of bytes in two halves
         ensures { SaysSyntax result place found expected may_end }
     {
         SyntaxRefusal {
@@ -41,5 +32,15 @@ impl SyntaxRefusal {
             found: number_of(found),
             may_end: u32::from(may_end),
         }
+    }
+}
+
+/// The byte that was found, or -1.
+fn number_of(found: Option<u8>) -> i32
+    ensures { result ≡ found_number found }
+{
+    match found {
+        Some(byte) => i32::from(byte),
+        None => -1,
     }
 }

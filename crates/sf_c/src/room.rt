@@ -1,7 +1,7 @@
 //! The caller's room.
 ghost use Rattle.std.specs.Prelude.{◌≡◌, ◌+◌, ◌≤◌, ◌++◌, length, take, drop};
 
-// Puts items at a place of the room.
+/// Puts items at a place of the room.
 pub(crate) fn put<T: Copy>(room: &mut [T], at: usize, items: &[T])
     requires { at + length items.now ≤ length room.old }
     ensures { room.new

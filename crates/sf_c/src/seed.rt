@@ -23,7 +23,7 @@ impl RandomSource for Seed {
 }
 
 impl Seed {
-    // The state that the hashes of keys begin with. `None` is never met: to fill it can't fail.
+    /// The state that the hashes of keys begin with. `None` is never met: to fill it can't fail.
     pub(crate) fn state(&self) -> Option<RandomState> {
         RandomState::new(self).ok()
     }

@@ -35,8 +35,9 @@ pub struct PolicyFlags {
 }
 
 impl PolicyFlags {
-    // The struct of a policy.
+    /// The struct of a policy.
     fn of(policy: Policy) -> PolicyFlags
+        // the policy as numbers, with 0 for seconds that are not said
         ensures { SaysPolicy result policy }
     {
         PolicyFlags {
@@ -51,7 +52,7 @@ impl PolicyFlags {
         }
     }
 
-    // The policy of the struct.
+    /// The policy of the struct.
     fn policy(&self) -> Policy
         ensures { result ≡ policy_by self.now }
     {
@@ -63,45 +64,6 @@ impl PolicyFlags {
             no_cache: self.no_cache != 0,
             is_private: self.is_private != 0,
         }
-    }
-}
-
-// Seconds that are said.
-fn seconds_of(says: u8, seconds: u64) -> Option<u64>
-    ensures { result ≡ seconds_at says seconds }
-{
-    if says == 0 { None } else { Some(seconds) }
-}
-
-// What a Dictionary says, which may have no member.
-fn directed(dict: &Dict, policy: &mut PolicyFlags) -> Status
-    ensures { Directs policy.old policy.new dict.now result }
-{
-    if dict.members.is_empty() {
-        return Status::Empty;
-    }
-    *policy = PolicyFlags::of(Policy::from_dict(dict));
-    Status::Answered
-}
-
-// What a text says.
-fn direct(
-    alloc: Global,
-    seed: &Seed,
-    text: &[u8],
-    policy: &mut PolicyFlags,
-    refusal: &mut SyntaxRefusal,
-) -> Status
-    ensures { SaysToCache (record { policy = policy.old; refusal = refusal.old })
-        (record { policy = policy.new; refusal = refusal.new }) text.now (Some result) }
-{
-    let field = match parse(alloc, seed, Dialect::Rfc9651, Kind::Dict, text, refusal) {
-        Ok(field) => field,
-        Err(status) => return status,
-    };
-    match &field {
-        Field::Dict(dict) => directed(dict, policy),
-        _ => unreachable!(),
     }
 }
 
@@ -117,6 +79,7 @@ pub extern "C" fn sf_cache_control(
     policy: &mut PolicyFlags,
     refusal: &mut SyntaxRefusal,
 ) -> u32
+    // the policy of a Dictionary; Empty where it has no member; or why the text spells none
     ensures { SaysToCache (record { policy = policy.old; refusal = refusal.old })
         (record { policy = policy.new; refusal = refusal.new }) text.now (status_at result) }
 {
@@ -128,6 +91,7 @@ pub extern "C" fn sf_cache_control(
 /// policy does not say, and then `seconds` is left as it was.
 #[unsafe(no_mangle)]
 pub extern "C" fn sf_lifetime(policy: &PolicyFlags, shared: u32, seconds: &mut u64) -> u32
+    // 1 and the lifetime by the policy, or 0 where it says none
     ensures { LifeIs (policy_by policy.now) shared seconds.old seconds.new result }
 {
     match policy.policy().lifetime(shared != 0) {
@@ -136,5 +100,46 @@ pub extern "C" fn sf_lifetime(policy: &PolicyFlags, shared: u32, seconds: &mut u
             1
         }
         None => 0,
+    }
+}
+
+/// Seconds that are said.
+fn seconds_of(says: u8, seconds: u64) -> Option<u64>
+    ensures { result ≡ seconds_at says seconds }
+{
+    if says == 0 { None } else { Some(seconds) }
+}
+
+/// What a Dictionary says, which may have no member.
+fn directed(dict: &Dict, policy: &mut PolicyFlags) -> Status
+    // Empty where there is no member; else the struct says the policy
+    ensures { Directs policy.old policy.new dict.now result }
+{
+    if dict.members.is_empty() {
+        return Status::Empty;
+    }
+    *policy = PolicyFlags::of(Policy::from_dict(dict));
+    Status::Answered
+}
+
+/// What a text says.
+fn direct(
+    alloc: Global,
+    seed: &Seed,
+    text: &[u8],
+    policy: &mut PolicyFlags,
+    refusal: &mut SyntaxRefusal,
+) -> Status
+    // the policy of a Dictionary; Empty where it has no member; or why the text spells none
+    ensures { SaysToCache (record { policy = policy.old; refusal = refusal.old })
+        (record { policy = policy.new; refusal = refusal.new }) text.now (Some result) }
+{
+    let field = match parse(alloc, seed, Dialect::Rfc9651, Kind::Dict, text, refusal) {
+        Ok(field) => field,
+        Err(status) => return status,
+    };
+    match &field {
+        Field::Dict(dict) => directed(dict, policy),
+        _ => unreachable!(),
     }
 }

@@ -23,6 +23,23 @@ pub struct Trickle {
     pub failures: u64,
 }
 
+/// Takes all bytes of a call, and counts the calls that bring some.
+///
+/// ```
+/// let mut sink = Tally::new(alloc);
+/// run(alloc, &seed, &request, &mut source, &mut sink);
+/// sink.calls // 1: the answer in one piece
+/// ```
+#[derive(Drop)]
+pub struct Tally {
+    /// The bytes that were taken.
+    pub taken: Vec<u8>,
+    /// How many calls brought bytes.
+    pub calls: u64,
+    /// How many of them failed, for want of memory.
+    pub failures: u64,
+}
+
 impl Trickle {
     /// The sink that took nothing yet. It takes no memory.
     pub fn new(alloc: Global, fails_at: u64) -> Trickle
@@ -33,6 +50,20 @@ impl Trickle {
         Trickle {
             taken: Vec::new(alloc),
             fails_at,
+            calls: 0,
+            failures: 0,
+        }
+    }
+}
+
+impl Tally {
+    /// The sink that took nothing yet. It takes no memory.
+    pub fn new(alloc: Global) -> Tally
+        ensures taken { result.taken.items ≡ [] }
+        ensures calls { (result.calls ≡ 0) × (result.failures ≡ 0) }
+    {
+        Tally {
+            taken: Vec::new(alloc),
             calls: 0,
             failures: 0,
         }
@@ -52,37 +83,6 @@ impl Sink for Trickle {
             return Err(Failed);
         }
         Ok(1)
-    }
-}
-
-/// Takes all bytes of a call, and counts the calls that bring some.
-///
-/// ```
-/// let mut sink = Tally::new(alloc);
-/// run(alloc, &seed, &request, &mut source, &mut sink);
-/// sink.calls // 1: the answer in one piece
-/// ```
-#[derive(Drop)]
-pub struct Tally {
-    /// The bytes that were taken.
-    pub taken: Vec<u8>,
-    /// How many calls brought bytes.
-    pub calls: u64,
-    /// How many of them failed, for want of memory.
-    pub failures: u64,
-}
-
-impl Tally {
-    /// The sink that took nothing yet. It takes no memory.
-    pub fn new(alloc: Global) -> Tally
-        ensures taken { result.taken.items ≡ [] }
-        ensures calls { (result.calls ≡ 0) × (result.failures ≡ 0) }
-    {
-        Tally {
-            taken: Vec::new(alloc),
-            calls: 0,
-            failures: 0,
-        }
     }
 }
 

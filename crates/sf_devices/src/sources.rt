@@ -51,7 +51,7 @@ impl<'a> Paced<'a> {
         }
     }
 
-    // How many bytes the next call gives at most.
+    /// How many bytes the next call gives at most.
     fn most(&self) -> usize
         ensures { 0 < result }
     {

@@ -77,6 +77,7 @@ pub fn ask<C: Consumer>(
     consumer: &C,
     lines: &[Blob],
 ) -> Result<C::Answer, AskFault>
+    // the answer is what the lines mean; a fault is what they mean, their refusal or want of memory
     ensures answers { Asks C.KIND (C.meaning consumer.now) lines.now result }
     // accepted lines mean what their canonical text means
     ensures canonical { MeansAsCanonical C.KIND (C.meaning consumer.now) lines.now }

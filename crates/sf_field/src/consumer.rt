@@ -25,27 +25,6 @@ pub enum UseFault {
     OutOfMemory,
 }
 
-impl fmt::Display for UseFault {
-    ghost output = { λ fault. Some (use_fault_text fault) };
-
-    fn fmt<W: fmt::Write>(&self, f: &mut fmt::Formatter<W>) -> fmt::Result {
-        match self {
-            UseFault::NotACache { index } => write!(f, "member {index} names no cache"),
-            UseFault::OutOfMemory => write!(f, "out of memory"),
-        }
-    }
-}
-
-impl Error for UseFault {}
-
-impl From<OutOfMemory> for UseFault {
-    ghost from_gives = { λ _ e. e ≡ fault_is.OutOfMemory };
-
-    fn from(_fault: OutOfMemory) -> UseFault {
-        UseFault::OutOfMemory
-    }
-}
-
 /// What reads a field of one kind, and answers what it means.
 ///
 /// An implementation states its meaning, a function from values to an answer or to the place of
@@ -67,5 +46,27 @@ pub trait Consumer {
     /// What the field means. It must be of the kind that is read.
     fn answer(&self, alloc: Global, field: &Field) -> Result<Self::Answer, UseFault>
         requires { kind_of field.now ≡ KIND }
+        // the meaning of the field or its fault; memory is wanting only where it has an answer
         ensures { Gives (meaning self.now field.now) result };
+}
+
+impl fmt::Display for UseFault {
+    ghost output = { λ fault. Some (use_fault_text fault) };
+
+    fn fmt<W: fmt::Write>(&self, f: &mut fmt::Formatter<W>) -> fmt::Result {
+        match self {
+            UseFault::NotACache { index } => write!(f, "member {index} names no cache"),
+            UseFault::OutOfMemory => write!(f, "out of memory"),
+        }
+    }
+}
+
+impl Error for UseFault {}
+
+impl From<OutOfMemory> for UseFault {
+    ghost from_gives = { λ _ e. e ≡ fault_is.OutOfMemory };
+
+    fn from(_fault: OutOfMemory) -> UseFault {
+        UseFault::OutOfMemory
+    }
 }

@@ -30,6 +30,7 @@ pub fn from_headers(
     headers: &HeaderMap,
     name: &HeaderName,
 ) -> Result<Option<Field>, Refusal>
+    // None where the name is absent; else its values are parsed as field lines
     ensures parses { ParsesHeaders kind headers.now name.now result }
     // a single value of spaces, `-` and digits is never refused for want of memory
     ensures plain { kind ≡ kind_is.Item → (value : List ℕ)
@@ -47,9 +48,10 @@ pub fn from_headers(
     }
 }
 
-// Feeds the joined text of the values of the name, which is empty where there is none.
+/// Feeds the joined text of the values of the name, which is empty where there is none.
 fn feed_values(parser: &mut Parser, headers: &HeaderMap, name: &HeaderName) -> Result<(), Refusal>
     requires { parser.old.after_line ≡ false }
+    // the joined text of the values is fed; a refusal stands whatever comes behind it
     ensures fed { Fed parser.old parser.new result (join (lines_under headers.now name.now)) }
     // a plain parser stays plain over a single value of spaces, `-` and digits
     ensures plain { IsPlain parser.old → (value : List ℕ)

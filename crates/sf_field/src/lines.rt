@@ -31,6 +31,7 @@ pub fn parse_lines_in(
     kind: Kind,
     lines: &[Blob],
 ) -> Result<Field, Refusal>
+    // the lines together spell this value alone, or this is their exact refusal, memory aside
     ensures parses { ParsesLines dialect kind lines.now result }
     // a single line of spaces, `-` and digits is never refused for want of memory
     ensures plain { kind ≡ kind_is.Item → (line : List ℕ) → lines.now ≡ line ∷ []
@@ -53,6 +54,7 @@ pub fn parse_lines(
     kind: Kind,
     lines: &[Blob],
 ) -> Result<Field, Refusal>
+    // the lines together spell this value alone, or this is their exact refusal, memory aside
     ensures parses { ParsesLines Rfc9651 kind lines.now result }
     // a single line of spaces, `-` and digits is never refused for want of memory
     ensures plain { kind ≡ kind_is.Item → (line : List ℕ) → lines.now ≡ line ∷ []
@@ -84,9 +86,10 @@ pub fn normalise_lines(
     Ok(text?)
 }
 
-// Feeds the joined text of the lines, which is empty where there is none.
+/// Feeds the joined text of the lines, which is empty where there is none.
 fn feed_lines(parser: &mut Parser, lines: &[Blob]) -> Result<(), Refusal>
     requires { parser.old.after_line ≡ false }
+    // the joined text of the lines is fed; a refusal stands whatever comes behind it
     ensures fed { Fed parser.old parser.new result (join lines.now) }
     // a plain parser stays plain over a single line of spaces, `-` and digits
     ensures plain { IsPlain parser.old → (line : List ℕ) → lines.now ≡ line ∷ []

@@ -21,6 +21,7 @@ use std::hash::RandomState;
 /// let item = parse_item_lines(alloc, &seed, lines.as_slice())?;
 /// ```
 pub fn parse_item_lines(alloc: Global, seed: &RandomState, lines: &[Blob]) -> Result<Item, Refusal>
+    // the lines together spell this Item alone, or this is their exact refusal, memory aside
     ensures parses { ParsesLinesAs field_is.Item kind_is.Item lines.now result }
     // one line of spaces, minus signs and digits takes no memory
     ensures plain { (line : Seq ℕ) → lines.now ≡ line ∷ [] → Every plain_byte line
@@ -40,6 +41,7 @@ pub fn parse_item_lines(alloc: Global, seed: &RandomState, lines: &[Blob]) -> Re
 /// let list = parse_list_lines(alloc, &seed, lines.as_slice())?;
 /// ```
 pub fn parse_list_lines(alloc: Global, seed: &RandomState, lines: &[Blob]) -> Result<List, Refusal>
+    // the lines together spell this List alone, or this is their exact refusal, memory aside
     ensures { ParsesLinesAs field_is.List kind_is.List lines.now result }
 {
     match parse_lines(alloc, seed, Kind::List, lines)? {
@@ -56,6 +58,7 @@ pub fn parse_list_lines(alloc: Global, seed: &RandomState, lines: &[Blob]) -> Re
 /// let dict = parse_dict_lines(alloc, &seed, lines.as_slice())?;
 /// ```
 pub fn parse_dict_lines(alloc: Global, seed: &RandomState, lines: &[Blob]) -> Result<Dict, Refusal>
+    // the lines together spell this Dictionary alone, or this is their exact refusal, memory aside
     ensures { ParsesLinesAs field_is.Dict kind_is.Dict lines.now result }
 {
     match parse_lines(alloc, seed, Kind::Dict, lines)? {

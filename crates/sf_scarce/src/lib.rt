@@ -19,8 +19,7 @@
 //! costs 50 to 100 MB and less than a second. To leave a budget it gives a spare back and takes all
 //! but the budget of it again. What a call then asks for is cut from that rest, and refused where
 //! the rest is too small. The budgets grow by 16 bytes, the step in which the C library hands
-//! memory
-//! out, so no smaller step would show more.
+//! memory out, so no smaller step would show more.
 //!
 //! # What it can't see
 //!

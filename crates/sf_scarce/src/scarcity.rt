@@ -38,17 +38,9 @@ impl Model for Scarcity {
     ghost view = { λ s. length s.blocks.items };
 }
 
-/// Uses 300,000 bytes of the stack, which then stay the process's.
-#[inline(never)]
-fn touch_stack(byte: u8) -> usize {
-    let block = [byte; 300_000];
-    block.iter().filter(|b| **b == 0).count()
-}
-
 impl Scarcity {
     /// Makes the spares and room for the blocks, some 280 MB of addresses of which nearly nothing
-    /// is
-    /// touched, and takes nothing yet. It is refused where there is no memory for them.
+    /// is touched, and takes nothing yet. It is refused where there is no memory for them.
     pub fn new(alloc: Global) -> Result<Scarcity, AllocError>
         ensures { IfOk result (λ s. s ≡ 0) }
     {
@@ -63,7 +55,7 @@ impl Scarcity {
         Ok(Scarcity { blocks, spares })
     }
 
-    // Takes blocks of this size until one is refused.
+    /// Takes blocks of this size until one is refused.
     fn take_all(&mut self, alloc: Global, size: usize)
         ensures { self.old ≤ self.new }
     {
@@ -77,7 +69,7 @@ impl Scarcity {
         }
     }
 
-    // Takes what there is, large blocks first.
+    /// Takes what there is, large blocks first.
     fn take_everything(&mut self, alloc: Global)
         ensures { self.old ≤ self.new }
     {
@@ -89,9 +81,10 @@ impl Scarcity {
         }
     }
 
-    // Gives a spare back, but for a budget of it.
+    /// Gives a spare back, but for a budget of it.
     fn leave_of_spare(&mut self, alloc: Global, budget: usize) -> bool
         ensures kept { self.old ≤ self.new }
+        // where it answers true, it holds more blocks than before
         ensures more { IsTrue result → self.old < self.new }
     {
         if budget > SPARE_SIZE {
@@ -111,6 +104,7 @@ impl Scarcity {
     /// times. Answers whether it did: false says that memory may not be scarce.
     pub fn leave(&mut self, alloc: Global, budget: usize) -> bool
         ensures kept { self.old ≤ self.new }
+        // where it answers true, it holds more blocks than before
         ensures more { IsTrue result → self.old < self.new }
     {
         self.take_everything(alloc);
@@ -125,4 +119,11 @@ impl Scarcity {
         self.blocks.clear();
         self.spares.clear();
     }
+}
+
+/// Uses 300,000 bytes of the stack, which then stay the process's.
+#[inline(never)]
+fn touch_stack(byte: u8) -> usize {
+    let block = [byte; 300_000];
+    block.iter().filter(|b| **b == 0).count()
 }

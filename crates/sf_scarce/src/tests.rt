@@ -1,9 +1,9 @@
-// Blocks of known sizes under budgets.
+//! Blocks of known sizes under budgets.
 use crate::{Scarcity, Seen, refusals, seen_without_memory};
 use std::alloc::Global;
 use std::test::Fail;
 
-// Whether a block of so many bytes can be had.
+/// Whether a block of so many bytes can be had.
 fn can_have(alloc: Global, size: usize) -> bool {
     Vec::<u8>::with_capacity(alloc, size).is_ok()
 }
@@ -16,7 +16,7 @@ fn take(alloc: Global, size: usize) -> Seen {
     }
 }
 
-// Blocks of which each is held when the next is taken.
+/// Blocks of which each is held when the next is taken.
 fn take_two(alloc: Global, first: usize, second: usize) -> Seen {
     match Vec::<u8>::with_capacity(alloc, first) {
         Ok(_held) => take(alloc, second),

@@ -8,8 +8,9 @@ use Rattle.std.specs.Str.Lines.{lines, lines_of_parts, strip_carriage_return}
 use Rattle.std.proofs.lemmas.List.Splits.{slice_split_first, slice_split_none, length-slice_split}
 use Rattle.std.proofs.lemmas.List.Sums.{fails_before_first}
 use Rattle.std.proofs.Math.Dec.{eqb-suc-zero}
+use Rattle.sf_value.specs.Grammar.Classes.{is_ows}
 use Rattle.sf_value.specs.Grammar.Lines.{join}
-use Rattle.sf_tool.specs.Lines.{is_line_feed, is_blank, without_lead, trim}
+use Rattle.sf_tool.specs.Lines.{is_line_feed, without_lead, trim}
 
 -- before a further part, the first part is a line
 lines_of_parts-first : (part : List ℕ) (parts : List (List ℕ)) → 0 < length parts
@@ -58,6 +59,6 @@ pub length-trim : (l : List ℕ) → length (trim l) ≤ length l
 length-trim l =
     omega (
       arith,
-      length-drop (prefix_len is_blank l) l,
-      length-take (length (without_lead l) - suffix_len is_blank (without_lead l)) (without_lead l),
+      length-drop (prefix_len is_ows l) l,
+      length-take (length (without_lead l) - suffix_len is_ows (without_lead l)) (without_lead l),
     )

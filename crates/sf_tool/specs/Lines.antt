@@ -1,23 +1,20 @@
 -- The field lines of an input.
-use Rattle.std.specs.Prelude.{ℕ, ◌-◌, Bool, ◌||◌, List, map, length, take, drop, ◌==◌}
+use Rattle.std.specs.Prelude.{ℕ, ◌-◌, Bool, List, map, length, take, drop, ◌==◌}
 use Rattle.std.specs.List.{prefix_len, suffix_len}
 use Rattle.std.specs.Str.Lines.{lines}
-use Rattle.sf_value.specs.Ascii.{line_feed, space, tab}
+use Rattle.sf_value.specs.Ascii.{line_feed}
+use Rattle.sf_value.specs.Grammar.Classes.{is_ows}
 
 abbrev pub is_line_feed : ℕ → Bool
 is_line_feed b = b == line_feed
 
--- a space or a tab
-abbrev pub is_blank : ℕ → Bool
-is_blank b = b == space || b == tab
-
 abbrev pub without_lead : List ℕ → List ℕ
-without_lead bytes = drop (prefix_len is_blank bytes) bytes
+without_lead bytes = drop (prefix_len is_ows bytes) bytes
 
 abbrev pub without_trail : List ℕ → List ℕ
-without_trail bytes = take (length bytes - suffix_len is_blank bytes) bytes
+without_trail bytes = take (length bytes - suffix_len is_ows bytes) bytes
 
--- the bytes without the blanks at both ends
+-- the bytes without the blanks, spaces and tabs, at both ends
 abbrev pub trim : List ℕ → List ℕ
 trim bytes = without_trail (without_lead bytes)
 

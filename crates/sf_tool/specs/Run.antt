@@ -1,5 +1,5 @@
 -- What a run of the command reads, answers and writes.
-use Rattle.std.specs.Prelude.{◌≡◌, ℕ, ◌<◌, ◌≤◌, ◌⊎◌, Bool, false, List, ◌++◌, length}
+use Rattle.std.specs.Prelude.{◌≡◌, ℕ, ◌+◌, ◌<◌, ◌≤◌, ◌⊎◌, Bool, false, List, ◌++◌, length}
 use Rattle.std.specs.Prelude.{Option, None, Ok, Err, codes, ⊤}
 use Rattle.sf_value.specs.declared.dialect.Dialect.{Dialect}
 use Rattle.sf_value.specs.declared.dialect.Dialect.TheVariants.{Rfc9651}
@@ -37,6 +37,10 @@ use Rattle.sf_tool.specs.PathLines.{path_lines, not_a_cache_line}
 use Rattle.sf_tool.specs.Fields.{AreFields, IsFirstRefused}
 use Rattle.sf_tool.specs.ChoiceLines.{choice_lines, refused_line}
 use Rattle.sf_tool.specs.PriorityLine.{priority_line}
+
+-- the length in bytes of the longest input that is read
+abbrev pub input_limit : ℕ
+input_limit = 1048576
 
 -- the field lines of an input, joined
 abbrev pub joined : List ℕ → List ℕ
@@ -140,20 +144,19 @@ TellsText text status old new Refused =
 TellsText text status old new Usage = ⊥
 TellsText text status old new Stopped = (after : ℕ) × WroteFront old new 0 after text
 
--- the input is all that the source gave to its end, which was asked for once, at most 1,048,576
--- bytes
+-- the input is all that the source gave to its end, which was asked for once, within the limit
 abbrev pub IsWhole : SourceState → SourceState → List ℕ → Type 0
-IsWhole old new input = GaveAndEnded old new input × (length input ≤ 1048576)
+IsWhole old new input = GaveAndEnded old new input × (length input ≤ input_limit)
 
--- the source gave 1,048,577 bytes, and no further one was asked for
+-- the source gave one byte more than the limit, and no further one was asked for
 abbrev pub IsTooLong : SourceState → SourceState → Type 0
-IsTooLong old new = (bytes : List ℕ) × Gave old new bytes × (length bytes ≡ 1048577)
+IsTooLong old new = (bytes : List ℕ) × Gave old new bytes × (length bytes ≡ input_limit + 1)
 
--- at most 1,048,576 bytes were read: for some of them memory was wanting, or a read failed and was
+-- bytes within the limit were read: for some of them memory was wanting, or a read failed and was
 -- the last
 pub record ReadInPart (old new : SourceState) : Type 0 where
   pub bytes : List ℕ
-  pub within : length bytes ≤ 1048576
+  pub within : length bytes ≤ input_limit
   pub given : (Gave old new bytes × (0 < length bytes)) ⊎ GaveAndFailed old new bytes
 
 -- the whole input was read and then answered; or it was too long, and that was told, whatever

@@ -40,19 +40,24 @@ fn ended(sent: Sent, status: Status) -> Status
 /// A text that was made before, and the status of the input that it tells.
 pub(crate) fn answer_made<W: Sink>(text: &[u8], status: Status, sink: &mut W) -> Status
     requires { status ≡ status_is.Accepted ⊎ status ≡ status_is.Refused }
+    // this status where the whole text went out; Stopped where a write failed behind a front of it
     ensures { TellsText text.now status (W.state sink.old) (W.state sink.new) result }
 {
     ended(put(text, Ok(0), sink), status)
 }
 
+/// The tree of a field.
 pub(crate) fn answer_tree<W: Sink>(field: Field, sink: &mut W) -> Status
+    // Accepted where the whole tree went out; Stopped where a write failed behind a front of it
     ensures { TellsText (tree field) status_is.Accepted
         (W.state sink.old) (W.state sink.new) result }
 {
     ended(put_tree(&field, Ok(0), sink), Status::Accepted)
 }
 
+/// The line for a field that is accepted.
 pub(crate) fn answer_accepted<W: Sink>(field: Field, sink: &mut W) -> Status
+    // Accepted where the whole line went out; Stopped where a write failed behind a front of it
     ensures { TellsText (accepted_line field) status_is.Accepted
         (W.state sink.old) (W.state sink.new) result }
 {
@@ -62,6 +67,7 @@ pub(crate) fn answer_accepted<W: Sink>(field: Field, sink: &mut W) -> Status
 
 /// The canonical text of a field, and a line feed.
 pub(crate) fn answer_canonical<W: Sink>(field: Field, sink: &mut W) -> Status
+    // Accepted where the whole line went out; Stopped where a write failed behind a front of it
     ensures { TellsText (canonical_line field) status_is.Accepted
         (W.state sink.old) (W.state sink.new) result }
 {
@@ -69,8 +75,11 @@ pub(crate) fn answer_canonical<W: Sink>(field: Field, sink: &mut W) -> Status
     ended(put(b"\n", sent, sink), Status::Accepted)
 }
 
+/// The line of a refusal; none for want of memory.
 pub(crate) fn answer_refusal<W: Sink>(refusal: Refusal, sink: &mut W) -> Status
+    // the refusal is for the text or for want of memory
     requires { IsOfText refusal }
+    // the line of the refusal goes out, or a front of it; for want of memory nothing is written
     ensures { TellsRefusal refusal (W.state sink.old) (W.state sink.new) result }
 {
     match refusal {
@@ -88,7 +97,9 @@ pub(crate) fn answer_refusal<W: Sink>(refusal: Refusal, sink: &mut W) -> Status
     }
 }
 
+/// The line for an input that is too long.
 pub(crate) fn answer_too_long<W: Sink>(sink: &mut W) -> Status
+    // Refused where the whole line went out; Stopped where a write failed behind a front of it
     ensures { TellsText too_long_line status_is.Refused
         (W.state sink.old) (W.state sink.new) result }
 {
@@ -98,7 +109,9 @@ pub(crate) fn answer_too_long<W: Sink>(sink: &mut W) -> Status
     )
 }
 
+/// The lines of a path of caches.
 pub(crate) fn answer_path<W: Sink>(path: CachePath, sink: &mut W) -> Status
+    // Accepted where all the lines went out; Stopped where a write failed behind a front of them
     ensures { TellsText (path_lines path) status_is.Accepted
         (W.state sink.old) (W.state sink.new) result }
 {
@@ -107,6 +120,7 @@ pub(crate) fn answer_path<W: Sink>(path: CachePath, sink: &mut W) -> Status
 
 /// The line of a refusal for the member at this place, which names no cache.
 pub(crate) fn answer_not_a_cache<W: Sink>(index: usize, sink: &mut W) -> Status
+    // Refused where the whole line went out; Stopped where a write failed behind a front of it
     ensures { TellsText (not_a_cache_line index) status_is.Refused
         (W.state sink.old) (W.state sink.new) result }
 {
@@ -114,19 +128,23 @@ pub(crate) fn answer_not_a_cache<W: Sink>(index: usize, sink: &mut W) -> Status
     ended(sent, Status::Refused)
 }
 
+/// The line of a priority.
 pub(crate) fn answer_priority<W: Sink>(priority: Priority, sink: &mut W) -> Status
+    // Accepted where the whole line went out; Stopped where a write failed behind a front of it
     ensures { TellsText (priority_line priority) status_is.Accepted
         (W.state sink.old) (W.state sink.new) result }
 {
     ended(put_priority(priority, Ok(0), sink), Status::Accepted)
 }
 
+/// The lines of the chosen field, which has this name.
 pub(crate) fn answer_chosen<W: Sink>(
     index: usize,
     name: &[u8],
     policy: &Policy,
     sink: &mut W,
 ) -> Status
+    // Accepted where all the lines went out; Stopped where a write failed behind a front of them
     ensures { TellsText (field_lines index name.now policy.now) status_is.Accepted
         (W.state sink.old) (W.state sink.new) result }
 {
@@ -136,7 +154,9 @@ pub(crate) fn answer_chosen<W: Sink>(
     )
 }
 
+/// The line that no field was chosen.
 pub(crate) fn answer_fallback<W: Sink>(sink: &mut W) -> Status
+    // Accepted where the whole line went out; Stopped where a write failed behind a front of it
     ensures { TellsText (codes "fallback\n") status_is.Accepted
         (W.state sink.old) (W.state sink.new) result }
 {
@@ -145,6 +165,7 @@ pub(crate) fn answer_fallback<W: Sink>(sink: &mut W) -> Status
 
 /// The line of a refusal for the line of this number.
 pub(crate) fn answer_refused_line<W: Sink>(number: u64, sink: &mut W) -> Status
+    // Refused where the whole line went out; Stopped where a write failed behind a front of it
     ensures { TellsText (refused_line number) status_is.Refused
         (W.state sink.old) (W.state sink.new) result }
 {

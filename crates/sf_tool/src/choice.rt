@@ -1,4 +1,5 @@
-//! The lines of the choice of a targeted field. Nothing here takes memory.
+//! The lines of the choice of a targeted field. Nothing here takes memory. Each text stands behind
+//! what was sent before.
 ghost use Rattle.std.specs.Prelude.{◌≡◌};
 ghost use Rattle.sf_write.specs.Writing.{Follows};
 ghost use Rattle.sf_tool.specs.ChoiceLines.{lifetime_text, flag_line, flag_lines, policy_lines};
@@ -31,6 +32,7 @@ fn put_flag<W: Sink>(line: &[u8], is_set: bool, before: Sent, out: &mut W) -> Se
     }
 }
 
+/// The lines of the directives that are set.
 fn put_flags<W: Sink>(policy: &Policy, before: Sent, out: &mut W) -> Sent
     ensures { Follows W.state W.send_gives out.old out.new before result (flag_lines policy.now) }
 {
@@ -40,6 +42,7 @@ fn put_flags<W: Sink>(policy: &Policy, before: Sent, out: &mut W) -> Sent
     put_flag(b"private\n", policy.is_private, sent, out)
 }
 
+/// The lines of a policy: its lifetimes, then the directives that are set.
 fn put_policy<W: Sink>(policy: &Policy, before: Sent, out: &mut W) -> Sent
     ensures { Follows W.state W.send_gives out.old out.new before result (policy_lines policy.now) }
 {

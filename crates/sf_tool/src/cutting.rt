@@ -3,21 +3,24 @@ ghost use Rattle.std.specs.Prelude.{◌≡◌, ◌<◌, ◌≤◌, ◌+◌, ◌*
 ghost use Rattle.std.specs.Prelude.{MatchOption, IfSome, IfOk};
 ghost use Rattle.std.specs.List.{position_or_len, before_first, after_first};
 ghost use Rattle.std.specs.Str.Lines.{lines, strip_carriage_return};
+ghost use Rattle.sf_value.specs.Grammar.Classes.{is_ows};
 ghost use Rattle.sf_value.specs.Grammar.Lines.{join};
-ghost use Rattle.sf_tool.specs.Lines.{is_blank, without_lead, without_trail, trim};
-ghost use Rattle.sf_tool.specs.Lines.{lines_of};
+ghost use Rattle.sf_tool.specs.Lines.{without_lead as all_but_lead, trim};
+ghost use Rattle.sf_tool.specs.Lines.{without_trail as all_but_trail, lines_of as lines_in};
 
 use sf_value::{Blob, OutOfMemory};
 use std::alloc::Global;
 
+/// Whether the byte is a space or a tab.
 fn is_blank(byte: u8) -> bool
-    ensures { result ≡ is_blank byte }
+    ensures { result ≡ is_ows byte }
 {
     byte == b' ' || byte == b'\t'
 }
 
+/// The bytes without the spaces and tabs at their front.
 fn without_lead(bytes: &[u8]) -> &[u8]
-    ensures { result.now ≡ without_lead bytes.now }
+    ensures { result.now ≡ all_but_lead bytes.now }
 {
     let mut start = 0;
     while start < bytes.len() && is_blank(bytes[start]) {
@@ -26,8 +29,9 @@ fn without_lead(bytes: &[u8]) -> &[u8]
     &bytes[start..]
 }
 
+/// The bytes without the spaces and tabs at their end.
 fn without_trail(bytes: &[u8]) -> &[u8]
-    ensures { result.now ≡ without_trail bytes.now }
+    ensures { result.now ≡ all_but_trail bytes.now }
 {
     let mut end = bytes.len();
     while end > 0 && is_blank(bytes[end - 1]) {
@@ -43,6 +47,7 @@ pub(crate) fn trimmed(bytes: &[u8]) -> &[u8]
     without_trail(without_lead(bytes))
 }
 
+/// The line without a carriage return at its end.
 fn without_return(line: &[u8]) -> &[u8]
     ensures { result.now ≡ strip_carriage_return line.now }
 {
@@ -92,7 +97,7 @@ pub(crate) fn split_line(input: &[u8]) -> Option<(&[u8], &[u8])>
 /// unless it is empty. A carriage return directly before a line feed is dropped, and then the
 /// spaces and tabs at both ends of each line.
 pub(crate) fn lines_of(alloc: Global, input: &[u8]) -> Result<Vec<Blob>, OutOfMemory>
-    ensures lines { IfOk result (λ lines. lines.items ≡ lines_of input.now) }
+    ensures lines { IfOk result (λ lines. lines.items ≡ lines_in input.now) }
     // the commas and spaces between two lines add at most two bytes for each byte of the input
     ensures short { IfOk result (λ lines. length (join lines.items) ≤ 3 * length input.now) }
 {

@@ -1,4 +1,4 @@
-//! Sets of bytes, as the lines of refusals list them.
+//! Sets of bytes, as the lines of refusals list them. Each text stands behind what was sent before.
 ghost use Rattle.std.specs.Prelude.{◌≡◌, ◌<◌, ◌++◌, codes};
 ghost use Rattle.sf_value.specs.Grammar.DisplayStrings.{hex};
 ghost use Rattle.sf_write.specs.Writing.{Follows};

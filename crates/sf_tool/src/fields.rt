@@ -1,6 +1,6 @@
 //! The listed fields of an input of field lines.
 ghost use Rattle.std.specs.Prelude.{◌≡◌, IfOk, MatchResult};
-ghost use Rattle.sf_tool.specs.Fields.{is_listed, AreFields, IsFaultOf};
+ghost use Rattle.sf_tool.specs.Fields.{is_listed as is_listed_in, AreFields, IsFaultOf};
 ghost use Rattle.sf_tool.specs.OneLine.{IsLine, IsLineFault, AddsField};
 
 use crate::cutting::{split_at_first, split_line, trimmed};
@@ -39,14 +39,16 @@ enum LineFault {
     OutOfMemory,
 }
 
+/// Whether the name is one of those listed.
 fn is_listed(targets: &[HeaderName], name: &HeaderName) -> bool
-    ensures { result ≡ is_listed targets.now name.now }
+    ensures { result ≡ is_listed_in targets.now name.now }
 {
     targets.contains(name)
 }
 
 /// What the line is. There are no blanks at its ends.
 fn read_line(alloc: Global, targets: &[HeaderName], line: &[u8]) -> Result<FieldLine, OutOfMemory>
+    // what the line is: refused, dropped, or a listed field, with its name and its value
     ensures { IfOk result (IsLine targets.now line.now) }
 {
     if line.is_empty() {

@@ -1,4 +1,5 @@
-//! The lines of a path of caches. Nothing here takes memory.
+//! The lines of a path of caches. Nothing here takes memory. Each text stands behind what was
+//! sent before.
 ghost use Rattle.std.specs.Prelude.{◌++◌};
 ghost use Rattle.sf_use.specs.CacheStatus.Reasons.{token_of};
 ghost use Rattle.sf_write.specs.Writing.{Follows};
@@ -56,6 +57,7 @@ fn put_status<W: Sink>(outcome: &Outcome, before: Sent, out: &mut W) -> Sent
     }
 }
 
+/// A flag behind its label.
 fn put_flag<W: Sink>(label: &[u8], flag: Option<bool>, before: Sent, out: &mut W) -> Sent
     ensures { Follows W.state W.send_gives out.old out.new before result
         (part label.now boolean_text flag) }
@@ -69,6 +71,7 @@ fn put_flag<W: Sink>(label: &[u8], flag: Option<bool>, before: Sent, out: &mut W
     }
 }
 
+/// The lifetime in seconds.
 fn put_ttl<W: Sink>(hop: &Hop, before: Sent, out: &mut W) -> Sent
     ensures { Follows W.state W.send_gives out.old out.new before result (ttl_part hop.now) }
 {
@@ -81,6 +84,7 @@ fn put_ttl<W: Sink>(hop: &Hop, before: Sent, out: &mut W) -> Sent
     }
 }
 
+/// The cache key.
 fn put_key<W: Sink>(hop: &Hop, before: Sent, out: &mut W) -> Sent
     ensures { Follows W.state W.send_gives out.old out.new before result (key_part hop.now) }
 {
@@ -93,6 +97,7 @@ fn put_key<W: Sink>(hop: &Hop, before: Sent, out: &mut W) -> Sent
     }
 }
 
+/// The detail.
 fn put_detail<W: Sink>(hop: &Hop, before: Sent, out: &mut W) -> Sent
     ensures { Follows W.state W.send_gives out.old out.new before result (detail_part hop.now) }
 {
@@ -130,6 +135,7 @@ fn put_hop<W: Sink>(place: usize, hop: &Hop, before: Sent, out: &mut W) -> Sent
     put_parts(hop, sent, out)
 }
 
+/// The lines of the hops, whose places are counted from 0.
 fn put_hops<W: Sink>(hops: &[Hop], before: Sent, out: &mut W) -> Sent
     ensures { Follows W.state W.send_gives out.old out.new before result (hop_lines 0 hops.now) }
 {
@@ -140,6 +146,7 @@ fn put_hops<W: Sink>(hops: &[Hop], before: Sent, out: &mut W) -> Sent
     sent
 }
 
+/// The last line: the place of the cache that the response came from.
 fn put_served<W: Sink>(served: Option<usize>, before: Sent, out: &mut W) -> Sent
     ensures { Follows W.state W.send_gives out.old out.new before result (served_line served) }
 {

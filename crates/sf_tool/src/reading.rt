@@ -29,6 +29,7 @@ pub(crate) fn read_all<R: Source>(
     source: &mut R,
 ) -> Result<Vec<u8>, ReadAllFault>
     requires { max < 2 ^ 64 - 1 }
+    // all that the source gave to its end, within the limit; or why reading stopped before that
     ensures { MatchResult result
         (λ all. ReadToEnd (R.state source.old) (R.state source.new) max all.items)
         (λ fault. StoppedFor (R.state source.old) (R.state source.new) max fault) }

@@ -1,4 +1,4 @@
-//! The lines that tell of a refusal.
+//! The lines that tell of a refusal. Each text stands behind what was sent before.
 ghost use Rattle.std.specs.Prelude.{◌≡◌, ◌++◌, Some, decimal, codes};
 ghost use Rattle.sf_write.specs.Writing.{Follows};
 ghost use Rattle.sf_parse.specs.ByteSets.{runs_of};

@@ -98,8 +98,10 @@ impl Error for RequestFault {}
 /// let request = read_request(alloc, words.as_slice())?; // sf targeted CDN-Cache-Control
 /// ```
 pub fn read_request(alloc: Global, words: &[String]) -> Result<Request, RequestFault>
+    // the request that the words ask for; Usage only where they ask for none
     ensures request { MatchResult result (IsRequestOf (map string_bytes words.now))
         (IsUsageOf (map string_bytes words.now)) }
+    // a request that has names has from 1 to 64
     ensures few { IfOk result HasFewNames }
 {
     let Ok(command) = make_command(alloc) else {
@@ -115,6 +117,7 @@ pub fn read_request(alloc: Global, words: &[String]) -> Result<Request, RequestF
     }
 }
 
+/// Why there is no request where clap found a fault of this kind.
 fn fault_of(kind: ErrorKind) -> RequestFault
     ensures { (result ≡ Usage) ↔ (kind ≢ ErrorKind.OutOfMemory) }
 {
@@ -126,6 +129,7 @@ fn fault_of(kind: ErrorKind) -> RequestFault
 
 /// The program, with its six commands.
 fn make_command<'a>(alloc: Global) -> Result<Command<'a>, AllocError>
+    // it is the program as defined: one of six commands must be named
     ensures { IfOk result (λ c. app_of c ≡ command_line) }
 {
     Command::new(alloc, "sf")
@@ -140,7 +144,9 @@ fn make_command<'a>(alloc: Global) -> Result<Command<'a>, AllocError>
 
 /// A command that takes a kind, and a dialect.
 fn with_kind<'a>(alloc: Global, name: &'a str) -> Result<Command<'a>, AllocError>
-    ensures { IfOk result (λ c. app_of c ≡ record { top = kind_command name.entry.now; subs = [] }) }
+    // it takes `--kind`, which must be given, and `--dialect`, and has no commands of its own
+    ensures { IfOk result
+        (λ c. app_of c ≡ record { top = kind_command name.entry.now; subs = [] }) }
 {
     let kind = Arg::new(alloc, "kind").long("kind").required(true);
     let dialect = Arg::new(alloc, "dialect")
@@ -151,7 +157,9 @@ fn with_kind<'a>(alloc: Global, name: &'a str) -> Result<Command<'a>, AllocError
 
 /// A command that takes one name or more.
 fn with_names<'a>(alloc: Global, name: &'a str) -> Result<Command<'a>, AllocError>
-    ensures { IfOk result (λ c. app_of c ≡ record { top = names_command name.entry.now; subs = [] }) }
+    // it takes one name or more, and has no commands of its own
+    ensures { IfOk result
+        (λ c. app_of c ≡ record { top = names_command name.entry.now; subs = [] }) }
 {
     let names = Arg::new(alloc, "name")
         .required(true)
@@ -162,6 +170,7 @@ fn with_names<'a>(alloc: Global, name: &'a str) -> Result<Command<'a>, AllocErro
 
 /// The request that a command and what was given with it ask for.
 fn request_of(alloc: Global, name: &str, given: &ArgMatches<'_>) -> Result<Request, RequestFault>
+    // the request they ask for; Usage only where there is none; memory is wanting for names alone
     ensures { MatchResult result (AsksFor name.now (rows_of (found_of given.now)))
         (IsCommandFault name.now (rows_of (found_of given.now))) }
 {
@@ -179,7 +188,9 @@ fn request_of(alloc: Global, name: &str, given: &ArgMatches<'_>) -> Result<Reque
     }
 }
 
+/// The dialect that was given, or the default.
 fn dialect_of(given: &ArgMatches<'_>) -> Result<Dialect, RequestFault>
+    // the dialect that is named; Usage where none is
     ensures { MatchResult result (NamesDialect (rows_of (found_of given.now)))
         (λ fault. (fault ≡ Usage)
         × ((d : Dialect) → ¬ (NamesDialect (rows_of (found_of given.now)) d))) }
@@ -194,7 +205,9 @@ fn dialect_of(given: &ArgMatches<'_>) -> Result<Dialect, RequestFault>
     }
 }
 
+/// The kind that was given.
 fn kind_of(given: &ArgMatches<'_>) -> Result<Kind, RequestFault>
+    // the kind that is named; Usage where none is
     ensures { MatchResult result (NamesKind (rows_of (found_of given.now)))
         (λ fault. (fault ≡ Usage)
         × ((k : Kind) → ¬ (NamesKind (rows_of (found_of given.now)) k))) }
@@ -212,6 +225,7 @@ fn kind_of(given: &ArgMatches<'_>) -> Result<Kind, RequestFault>
 
 /// A header name as a word of the command line gives it.
 fn header_name(alloc: Global, word: &str) -> Result<HeaderName, RequestFault>
+    // the word in lower case, where it is a header name; Usage only where it is none
     ensures { MatchResult result
         (λ name. (is_header_name word.now ≡ true) × (name ≡ lowercase word.now))
         (λ fault. fault ≡ Usage → is_header_name word.now ≡ false) }

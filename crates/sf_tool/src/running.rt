@@ -4,10 +4,10 @@ ghost use Rattle.sf_field.specs.Asking.{Asks};
 ghost use Rattle.sf_field.specs.Lines.{ParsesLines};
 ghost use Rattle.sf_tool.specs.declared.request.Request.TheVariants as request_is;
 ghost use Rattle.sf_tool.specs.declared.status.Status.TheVariants as status_is;
-ghost use Rattle.sf_tool.specs.Lines.{lines_of};
+ghost use Rattle.sf_tool.specs.Lines.{lines_of as lines_in};
 ghost use Rattle.sf_tool.specs.ChoiceLines.{choice_lines, IsPlaceOf};
 ghost use Rattle.sf_tool.specs.Run.{Ran, Tells, TellsInputFault, TellsText};
-ghost use Rattle.sf_tool.specs.Run.{IsOfText, IsAskOfText};
+ghost use Rattle.sf_tool.specs.Run.{input_limit, IsOfText, IsAskOfText};
 
 use crate::answering::{
     answer_accepted, answer_canonical, answer_chosen, answer_fallback, answer_made,
@@ -29,230 +29,6 @@ use std::hash::RandomState;
 
 /// The length in bytes of the longest input that is read; a longer one is refused.
 pub const INPUT_LIMIT: u64 = 1_048_576;
-
-/// The value of the input's field lines, read as one field.
-fn parse_input(
-    alloc: Global,
-    seed: &RandomState,
-    dialect: Dialect,
-    kind: Kind,
-    input: &[u8],
-) -> Result<Field, Refusal>
-    requires { length input.now ≤ 1048576 }
-    ensures parses { ParsesLines dialect kind (lines_of input.now) result }
-    // it is refused for the text or for want of memory, and never as too long
-    ensures of_text { IfErr result IsOfText }
-{
-    let lines = lines_of(alloc, input)?;
-    parse_lines_in(alloc, seed, dialect, kind, lines.as_slice())
-}
-
-/// The tree of the input's field, or why it is refused.
-fn show<W: Sink>(
-    alloc: Global,
-    seed: &RandomState,
-    dialect: Dialect,
-    kind: Kind,
-    input: &[u8],
-    sink: &mut W,
-) -> Status
-    requires { length input.now ≤ 1048576 }
-    ensures { Tells (request_is.Show dialect kind) input.now
-        (W.state sink.old) (W.state sink.new) result }
-{
-    match parse_input(alloc, seed, dialect, kind, input) {
-        Ok(field) => answer_tree(field, sink),
-        Err(refusal) => answer_refusal(refusal, sink),
-    }
-}
-
-/// That the input's field is accepted, or why it is refused.
-fn check<W: Sink>(
-    alloc: Global,
-    seed: &RandomState,
-    dialect: Dialect,
-    kind: Kind,
-    input: &[u8],
-    sink: &mut W,
-) -> Status
-    requires { length input.now ≤ 1048576 }
-    ensures { Tells (request_is.Check dialect kind) input.now
-        (W.state sink.old) (W.state sink.new) result }
-{
-    match parse_input(alloc, seed, dialect, kind, input) {
-        Ok(field) => answer_accepted(field, sink),
-        Err(refusal) => answer_refusal(refusal, sink),
-    }
-}
-
-/// The canonical text of the input's field, or why it is refused.
-fn normalise<W: Sink>(
-    alloc: Global,
-    seed: &RandomState,
-    dialect: Dialect,
-    kind: Kind,
-    input: &[u8],
-    sink: &mut W,
-) -> Status
-    requires { length input.now ≤ 1048576 }
-    ensures { Tells (request_is.Normalise dialect kind) input.now
-        (W.state sink.old) (W.state sink.new) result }
-{
-    match parse_input(alloc, seed, dialect, kind, input) {
-        Ok(field) => answer_canonical(field, sink),
-        Err(refusal) => answer_refusal(refusal, sink),
-    }
-}
-
-/// What the input's field lines mean to a consumer.
-fn ask_input<C: Consumer>(
-    alloc: Global,
-    seed: &RandomState,
-    consumer: &C,
-    input: &[u8],
-) -> Result<C::Answer, AskFault>
-    requires { length input.now ≤ 1048576 }
-    ensures asks { Asks C.KIND (C.meaning consumer.now) (lines_of input.now) result }
-    // so is it here, or the value has no answer
-    ensures of_text { IfErr result IsAskOfText }
-{
-    match lines_of(alloc, input) {
-        Ok(lines) => ask(alloc, seed, consumer, lines.as_slice()),
-        Err(_) => Err(AskFault::Field(Refusal::OutOfMemory)),
-    }
-}
-
-/// The hops of the input's Cache-Status field, or why it is refused.
-fn cache_status<W: Sink>(alloc: Global, seed: &RandomState, input: &[u8], sink: &mut W) -> Status
-    requires { length input.now ≤ 1048576 }
-    ensures { Tells request_is.CacheStatus input.now (W.state sink.old) (W.state sink.new) result }
-{
-    match ask_input(alloc, seed, &CacheStatus, input) {
-        Ok(path) => answer_path(path, sink),
-        Err(AskFault::Field(refusal)) => answer_refusal(refusal, sink),
-        Err(AskFault::Answer(UseFault::NotACache { index })) => answer_not_a_cache(index, sink),
-        Err(AskFault::Answer(UseFault::OutOfMemory)) => Status::Stopped,
-    }
-}
-
-/// What the input's Priority field asks for, or why it is refused.
-fn priority<W: Sink>(alloc: Global, seed: &RandomState, input: &[u8], sink: &mut W) -> Status
-    requires { length input.now ≤ 1048576 }
-    ensures { Tells request_is.Priority input.now (W.state sink.old) (W.state sink.new) result }
-{
-    match ask_input(alloc, seed, &PriorityField, input) {
-        Ok(asked) => answer_priority(asked.with_defaults(), sink),
-        Err(AskFault::Field(refusal)) => answer_refusal(refusal, sink),
-        Err(AskFault::Answer(UseFault::NotACache { index: _ })) => unreachable!(),
-        Err(AskFault::Answer(UseFault::OutOfMemory)) => Status::Stopped,
-    }
-}
-
-/// The lines of a choice among these names.
-fn answer_choice<W: Sink>(names: &[HeaderName], choice: Choice, sink: &mut W) -> Status
-    requires { IsPlaceOf names.now choice }
-    ensures { TellsText (choice_lines names.now choice) status_is.Accepted
-        (W.state sink.old) (W.state sink.new) result }
-{
-    match choice {
-        Choice::Field { index, policy } => {
-            answer_chosen(index, names[index].as_str().as_bytes(), &policy, sink)
-        }
-        Choice::Fallback => answer_fallback(sink),
-    }
-}
-
-/// The line of a refusal for a line of the input.
-fn answer_input_fault<W: Sink>(fault: InputFault, sink: &mut W) -> Status
-    ensures { TellsInputFault fault (W.state sink.old) (W.state sink.new) result }
-{
-    match fault {
-        InputFault::Line(number) => answer_refused_line(number, sink),
-        InputFault::OutOfMemory => Status::Stopped,
-    }
-}
-
-/// Which of the fields of these names a cache obeys, or which line of the input is refused.
-fn targeted<W: Sink>(
-    alloc: Global,
-    seed: &RandomState,
-    names: &Vec<HeaderName>,
-    input: &[u8],
-    sink: &mut W,
-) -> Status
-    ensures { Tells (request_is.Targeted names.now) input.now
-        (W.state sink.old) (W.state sink.new) result }
-{
-    let names = names.as_slice();
-    let headers = match read_fields(alloc, seed, names, input) {
-        Ok(headers) => headers,
-        Err(fault) => return answer_input_fault(fault, sink),
-    };
-    match select(alloc, seed, names, &headers) {
-        Ok(choice) => answer_choice(names, choice, sink),
-        Err(_) => Status::Stopped,
-    }
-}
-
-fn answer<W: Sink>(
-    alloc: Global,
-    seed: &RandomState,
-    request: &Request,
-    input: &[u8],
-    sink: &mut W,
-) -> Status
-    requires { length input.now ≤ 1048576 }
-    ensures { Tells request.now input.now (W.state sink.old) (W.state sink.new) result }
-{
-    match request {
-        Request::Show(dialect, kind) => show(alloc, seed, *dialect, *kind, input, sink),
-        Request::Check(dialect, kind) => check(alloc, seed, *dialect, *kind, input, sink),
-        Request::Normalise(dialect, kind) => normalise(alloc, seed, *dialect, *kind, input, sink),
-        Request::CacheStatus => cache_status(alloc, seed, input, sink),
-        Request::Targeted(names) => targeted(alloc, seed, names, input, sink),
-        Request::Priority => priority(alloc, seed, input, sink),
-    }
-}
-
-/// An empty text with room for most answers to so many bytes, or for none where memory is wanting.
-fn room_for(alloc: Global, length: usize) -> Vec<u8>
-    requires { length ≤ 1048576 }
-    ensures { result.items ≡ [] }
-{
-    match Vec::with_capacity(alloc, 2 * length) {
-        Ok(text) => text,
-        Err(_) => Vec::new(alloc),
-    }
-}
-
-/// Answers in one piece: the text is made whole in memory, and then sent. Where no memory is left
-/// for that, the request is answered anew, and its text is sent as it is made.
-fn answer_at_once<W: Sink>(
-    alloc: Global,
-    seed: &RandomState,
-    request: &Request,
-    input: &[u8],
-    sink: &mut W,
-) -> Status
-    requires { length input.now ≤ 1048576 }
-    ensures { Tells request.now input.now (W.state sink.old) (W.state sink.new) result }
-{
-    let mut made = Writing::new(room_for(alloc, input.len()));
-    match answer(alloc, seed, request, input, &mut made) {
-        Status::Accepted => {
-            let text = made.into_inner();
-            answer_made(text.as_slice(), Status::Accepted, sink)
-        }
-        Status::Refused => {
-            let text = made.into_inner();
-            answer_made(text.as_slice(), Status::Refused, sink)
-        }
-        _ => {
-            drop(made);
-            answer(alloc, seed, request, input, sink)
-        }
-    }
-}
 
 /// Answers a request: reads the whole input from the source, computes, and then writes to the sink.
 ///
@@ -277,6 +53,7 @@ pub fn run<R: Source, W: Sink>(
     source: &mut R,
     sink: &mut W,
 ) -> Status
+    // the whole input is read and answered, or it is told to be too long; else nothing is written
     ensures { Ran request.now (R.state source.old) (R.state source.new)
         (W.state sink.old) (W.state sink.new) result }
 {
@@ -284,5 +61,243 @@ pub fn run<R: Source, W: Sink>(
         Ok(input) => answer_at_once(alloc, seed, request, input.as_slice(), sink),
         Err(ReadAllFault::TooLong { max: _ }) => answer_too_long(sink),
         Err(_) => Status::Stopped,
+    }
+}
+
+/// The value of the input's field lines, read as one field.
+fn parse_input(
+    alloc: Global,
+    seed: &RandomState,
+    dialect: Dialect,
+    kind: Kind,
+    input: &[u8],
+) -> Result<Field, Refusal>
+    requires { length input.now ≤ input_limit }
+    // the input's lines spell this value alone, or this is their exact refusal, memory aside
+    ensures parses { ParsesLines dialect kind (lines_in input.now) result }
+    // it is refused for the text or for want of memory, and never as too long
+    ensures of_text { IfErr result IsOfText }
+{
+    let lines = lines_of(alloc, input)?;
+    parse_lines_in(alloc, seed, dialect, kind, lines.as_slice())
+}
+
+/// The tree of the input's field, or why it is refused.
+fn show<W: Sink>(
+    alloc: Global,
+    seed: &RandomState,
+    dialect: Dialect,
+    kind: Kind,
+    input: &[u8],
+    sink: &mut W,
+) -> Status
+    requires { length input.now ≤ input_limit }
+    // the whole answer went out; or a front of it, and a write failed; or nothing was written
+    ensures { Tells (request_is.Show dialect kind) input.now
+        (W.state sink.old) (W.state sink.new) result }
+{
+    match parse_input(alloc, seed, dialect, kind, input) {
+        Ok(field) => answer_tree(field, sink),
+        Err(refusal) => answer_refusal(refusal, sink),
+    }
+}
+
+/// That the input's field is accepted, or why it is refused.
+fn check<W: Sink>(
+    alloc: Global,
+    seed: &RandomState,
+    dialect: Dialect,
+    kind: Kind,
+    input: &[u8],
+    sink: &mut W,
+) -> Status
+    requires { length input.now ≤ input_limit }
+    // the whole answer went out; or a front of it, and a write failed; or nothing was written
+    ensures { Tells (request_is.Check dialect kind) input.now
+        (W.state sink.old) (W.state sink.new) result }
+{
+    match parse_input(alloc, seed, dialect, kind, input) {
+        Ok(field) => answer_accepted(field, sink),
+        Err(refusal) => answer_refusal(refusal, sink),
+    }
+}
+
+/// The canonical text of the input's field, or why it is refused.
+fn normalise<W: Sink>(
+    alloc: Global,
+    seed: &RandomState,
+    dialect: Dialect,
+    kind: Kind,
+    input: &[u8],
+    sink: &mut W,
+) -> Status
+    requires { length input.now ≤ input_limit }
+    // the whole answer went out; or a front of it, and a write failed; or nothing was written
+    ensures { Tells (request_is.Normalise dialect kind) input.now
+        (W.state sink.old) (W.state sink.new) result }
+{
+    match parse_input(alloc, seed, dialect, kind, input) {
+        Ok(field) => answer_canonical(field, sink),
+        Err(refusal) => answer_refusal(refusal, sink),
+    }
+}
+
+/// What the input's field lines mean to a consumer.
+fn ask_input<C: Consumer>(
+    alloc: Global,
+    seed: &RandomState,
+    consumer: &C,
+    input: &[u8],
+) -> Result<C::Answer, AskFault>
+    requires { length input.now ≤ input_limit }
+    // the answer is what the lines mean; a fault is what they mean, their refusal or want of memory
+    ensures asks { Asks C.KIND (C.meaning consumer.now) (lines_in input.now) result }
+    // so is it here, or the value has no answer
+    ensures of_text { IfErr result IsAskOfText }
+{
+    match lines_of(alloc, input) {
+        Ok(lines) => ask(alloc, seed, consumer, lines.as_slice()),
+        Err(_) => Err(AskFault::Field(Refusal::OutOfMemory)),
+    }
+}
+
+/// The hops of the input's Cache-Status field, or why it is refused.
+fn cache_status<W: Sink>(alloc: Global, seed: &RandomState, input: &[u8], sink: &mut W) -> Status
+    requires { length input.now ≤ input_limit }
+    // the whole answer went out; or a front of it, and a write failed; or nothing was written
+    ensures { Tells request_is.CacheStatus input.now (W.state sink.old) (W.state sink.new) result }
+{
+    match ask_input(alloc, seed, &CacheStatus, input) {
+        Ok(path) => answer_path(path, sink),
+        Err(AskFault::Field(refusal)) => answer_refusal(refusal, sink),
+        Err(AskFault::Answer(UseFault::NotACache { index })) => answer_not_a_cache(index, sink),
+        Err(AskFault::Answer(UseFault::OutOfMemory)) => Status::Stopped,
+    }
+}
+
+/// What the input's Priority field asks for, or why it is refused.
+fn priority<W: Sink>(alloc: Global, seed: &RandomState, input: &[u8], sink: &mut W) -> Status
+    requires { length input.now ≤ input_limit }
+    // the whole answer went out; or a front of it, and a write failed; or nothing was written
+    ensures { Tells request_is.Priority input.now (W.state sink.old) (W.state sink.new) result }
+{
+    match ask_input(alloc, seed, &PriorityField, input) {
+        Ok(asked) => answer_priority(asked.with_defaults(), sink),
+        Err(AskFault::Field(refusal)) => answer_refusal(refusal, sink),
+        Err(AskFault::Answer(UseFault::NotACache { index: _ })) => unreachable!(),
+        Err(AskFault::Answer(UseFault::OutOfMemory)) => Status::Stopped,
+    }
+}
+
+/// The lines of a choice among these names.
+fn answer_choice<W: Sink>(names: &[HeaderName], choice: Choice, sink: &mut W) -> Status
+    // a chosen field is one of these names
+    requires { IsPlaceOf names.now choice }
+    // Accepted where all the lines went out; Stopped where a write failed behind a front of them
+    ensures { TellsText (choice_lines names.now choice) status_is.Accepted
+        (W.state sink.old) (W.state sink.new) result }
+{
+    match choice {
+        Choice::Field { index, policy } => {
+            answer_chosen(index, names[index].as_str().as_bytes(), &policy, sink)
+        }
+        Choice::Fallback => answer_fallback(sink),
+    }
+}
+
+/// The line of a refusal for a line of the input.
+fn answer_input_fault<W: Sink>(fault: InputFault, sink: &mut W) -> Status
+    // the line with this number goes out, or a front of it; for want of memory nothing is written
+    ensures { TellsInputFault fault (W.state sink.old) (W.state sink.new) result }
+{
+    match fault {
+        InputFault::Line(number) => answer_refused_line(number, sink),
+        InputFault::OutOfMemory => Status::Stopped,
+    }
+}
+
+/// Which of the fields of these names a cache obeys, or which line of the input is refused.
+fn targeted<W: Sink>(
+    alloc: Global,
+    seed: &RandomState,
+    names: &Vec<HeaderName>,
+    input: &[u8],
+    sink: &mut W,
+) -> Status
+    // the whole answer went out; or a front of it, and a write failed; or nothing was written
+    ensures { Tells (request_is.Targeted names.now) input.now
+        (W.state sink.old) (W.state sink.new) result }
+{
+    let names = names.as_slice();
+    let headers = match read_fields(alloc, seed, names, input) {
+        Ok(headers) => headers,
+        Err(fault) => return answer_input_fault(fault, sink),
+    };
+    match select(alloc, seed, names, &headers) {
+        Ok(choice) => answer_choice(names, choice, sink),
+        Err(_) => Status::Stopped,
+    }
+}
+
+/// Answers the input as the request asks.
+fn answer<W: Sink>(
+    alloc: Global,
+    seed: &RandomState,
+    request: &Request,
+    input: &[u8],
+    sink: &mut W,
+) -> Status
+    requires { length input.now ≤ input_limit }
+    // the whole answer went out; or a front of it, and a write failed; or nothing was written
+    ensures { Tells request.now input.now (W.state sink.old) (W.state sink.new) result }
+{
+    match request {
+        Request::Show(dialect, kind) => show(alloc, seed, *dialect, *kind, input, sink),
+        Request::Check(dialect, kind) => check(alloc, seed, *dialect, *kind, input, sink),
+        Request::Normalise(dialect, kind) => normalise(alloc, seed, *dialect, *kind, input, sink),
+        Request::CacheStatus => cache_status(alloc, seed, input, sink),
+        Request::Targeted(names) => targeted(alloc, seed, names, input, sink),
+        Request::Priority => priority(alloc, seed, input, sink),
+    }
+}
+
+/// An empty text with room for most answers to so many bytes, or for none where memory is wanting.
+fn room_for(alloc: Global, length: usize) -> Vec<u8>
+    requires { length ≤ input_limit }
+    ensures { result.items ≡ [] }
+{
+    match Vec::with_capacity(alloc, 2 * length) {
+        Ok(text) => text,
+        Err(_) => Vec::new(alloc),
+    }
+}
+
+/// Answers in one piece: the text is made whole in memory, and then sent. Where no memory is left
+/// for that, the request is answered anew, and its text is sent as it is made.
+fn answer_at_once<W: Sink>(
+    alloc: Global,
+    seed: &RandomState,
+    request: &Request,
+    input: &[u8],
+    sink: &mut W,
+) -> Status
+    requires { length input.now ≤ input_limit }
+    // the whole answer went out; or a front of it, and a write failed; or nothing was written
+    ensures { Tells request.now input.now (W.state sink.old) (W.state sink.new) result }
+{
+    let mut made = Writing::new(room_for(alloc, input.len()));
+    match answer(alloc, seed, request, input, &mut made) {
+        Status::Accepted => {
+            let text = made.into_inner();
+            answer_made(text.as_slice(), Status::Accepted, sink)
+        }
+        Status::Refused => {
+            let text = made.into_inner();
+            answer_made(text.as_slice(), Status::Refused, sink)
+        }
+        _ => {
+            drop(made);
+            answer(alloc, seed, request, input, sink)
+        }
     }
 }

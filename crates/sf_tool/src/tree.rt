@@ -1,7 +1,9 @@
-//! The indented tree of a field. Nothing here takes memory.
+//! The indented tree of a field. Nothing here takes memory. Each text stands behind what was
+//! sent before.
 ghost use Rattle.std.specs.Prelude.{◌≡◌, ◌≤◌};
 ghost use Rattle.sf_write.specs.Writing.{Follows};
-ghost use Rattle.sf_tool.specs.Tree.{margin, type_word, bare_line, param_lines};
+ghost use Rattle.sf_tool.specs.Tree.{margin as margin_at, type_word as type_word_of};
+ghost use Rattle.sf_tool.specs.Tree.{bare_line, param_lines};
 ghost use Rattle.sf_tool.specs.Tree.{item_lines, items_lines, inner_lines, member_lines};
 ghost use Rattle.sf_tool.specs.Tree.{members_lines, entries_lines, tree};
 
@@ -13,7 +15,7 @@ use sf_write::{Sent, put, put_bare};
 /// deeper than 3.
 fn margin(depth: usize) -> &'static [u8]
     requires { depth ≤ 3 }
-    ensures { result.now ≡ margin depth }
+    ensures { result.now ≡ margin_at depth }
 {
     match depth {
         0 => b"",
@@ -25,7 +27,7 @@ fn margin(depth: usize) -> &'static [u8]
 
 /// The word for the type of a bare item, and a space.
 fn type_word(bare: &Bare) -> &'static [u8]
-    ensures { result.now ≡ type_word bare.now }
+    ensures { result.now ≡ type_word_of bare.now }
 {
     match bare {
         Bare::Integer(_) => b"integer ",
@@ -39,9 +41,10 @@ fn type_word(bare: &Bare) -> &'static [u8]
     }
 }
 
+/// What stands before a line at this depth.
 fn put_margin<W: Sink>(depth: usize, before: Sent, out: &mut W) -> Sent
     requires { depth ≤ 3 }
-    ensures { Follows W.state W.send_gives out.old out.new before result (margin depth) }
+    ensures { Follows W.state W.send_gives out.old out.new before result (margin_at depth) }
 {
     put(margin(depth), before, out)
 }

@@ -167,6 +167,7 @@ impl Consumer for PriorityField {
 
     fn answer(&self, _alloc: Global, field: &Field) -> Result<Asked, UseFault>
         requires { kind_of field.now ≡ kind_is.Dict }
+        // the answer is what the Dictionary asks for
         ensures gives { Gives (Ok (asked_in field.now)) result }
         ensures succeeds { IsOk result }
     {
@@ -221,7 +222,7 @@ pub fn priority_field(
     Ok(Dict { members })
 }
 
-// The urgency that a member says: an Integer from 0 to 7.
+/// The urgency that a member says: an Integer from 0 to 7.
 fn urgency_in(member: Option<&Member>) -> Option<Urgency>
     ensures { result ≡ urgency (option_copied member.entry) }
 {
@@ -229,14 +230,14 @@ fn urgency_in(member: Option<&Member>) -> Option<Urgency>
     Urgency::new(u8::try_from(number).ok()?).ok()
 }
 
-// The Boolean that a member says.
+/// The Boolean that a member says.
 fn boolean_in(member: Option<&Member>) -> Option<bool>
     ensures { result ≡ incremental (option_copied member.entry) }
 {
     member?.as_item()?.bare.as_boolean()
 }
 
-// Puts an Item without parameters under the key of one letter.
+/// Puts an Item without parameters under the key of one letter.
 fn put_item(
     alloc: Global,
     seed: &RandomState,

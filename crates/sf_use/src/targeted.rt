@@ -116,6 +116,7 @@ impl Consumer for Directives {
 
     fn answer(&self, _alloc: Global, field: &Field) -> Result<Policy, UseFault>
         requires { kind_of field.now ≡ kind_is.Dict }
+        // the answer is what the Dictionary says
         ensures gives { Gives (Ok (directives field.now)) result }
         ensures succeeds { IsOk result }
     {
@@ -127,10 +128,10 @@ impl Consumer for Directives {
 }
 
 /// The field that a cache obeys: that of the first target that is there, spells a Dictionary and is
-/// not empty (RFC 9213 section 2.2). Absent, refused and empty fields are passed over (section 2.1);
-/// where none is left, the answer is `Fallback`. `OutOfMemory` says that memory was wanting to read
-/// a field, and then no later one is looked at; a field of 2^64 bytes or more, which no memory can
-/// hold, is answered so too. Where no target is there, it takes no memory.
+/// not empty (RFC 9213 section 2.2). Absent, refused and empty fields are passed over (section
+/// 2.1); where none is left, the answer is `Fallback`. `OutOfMemory` says that memory was wanting
+/// to read a field, and then no later one is looked at; a field of 2^64 bytes or more, which no
+/// memory can hold, is answered so too. Where no target is there, it takes no memory.
 ///
 /// ```
 /// let targets = [HeaderName::from_static("cdn-cache-control")];
@@ -145,6 +146,7 @@ pub fn select(
     targets: &[HeaderName],
     headers: &HeaderMap,
 ) -> Result<Choice, OutOfMemory>
+    // the first target of the list whose field can be used; Fallback where there is none
     ensures chosen { IfOk result (IsChosen targets.now headers.now) }
     // where no target is there, no memory is wanting
     ensures absent { All (λ name. ¬ (ContainsKey headers.now name)) targets.now
@@ -159,7 +161,7 @@ pub fn select(
     Ok(Choice::Fallback)
 }
 
-// How many seconds a member says: an Integer that is not negative.
+/// How many seconds a member says: an Integer that is not negative.
 fn seconds(member: Option<&Member>) -> Option<u64>
     ensures { result ≡ delta_seconds (option_copied member.entry) }
 {
@@ -167,7 +169,7 @@ fn seconds(member: Option<&Member>) -> Option<u64>
     u64::try_from(number.get()).ok()
 }
 
-// Whether a member is there that is no Item of Boolean false.
+/// Whether a member is there that is no Item of Boolean false.
 fn sets(member: Option<&Member>) -> bool
     ensures { result ≡ is_set (option_copied member.entry) }
 {
@@ -181,8 +183,9 @@ fn sets(member: Option<&Member>) -> bool
     }
 }
 
-// What a field offers: a policy, where it has a member.
+/// What a field offers: a policy, where it has a member.
 fn policy_in(field: &Field) -> Option<Policy>
+    // the policy of a Dictionary with a member, else nothing
     ensures { MayOffer field.now result }
 {
     let dict = field.as_dict()?;
@@ -192,13 +195,14 @@ fn policy_in(field: &Field) -> Option<Policy>
     Some(Policy::from_dict(dict))
 }
 
-// What the field of a name offers: nothing where it is absent, refused or empty.
+/// What the field of a name offers: nothing where it is absent, refused or empty.
 fn offered(
     alloc: Global,
     seed: &RandomState,
     name: &HeaderName,
     headers: &HeaderMap,
 ) -> Result<Option<Policy>, OutOfMemory>
+    // the policy that the name's field says where it can be used, else nothing
     ensures offer { IfOk result (IsOffer headers.now name.now) }
     // where the name is absent, no memory is wanting
     ensures absent { ¬ (ContainsKey headers.now name.now) → result ≡ Ok None }

@@ -3,10 +3,13 @@ ghost use Rattle.std.specs.Prelude.{◌≡◌, [], ◌∷◌, ◌++◌, IfOk, Ma
 ghost use Rattle.std.specs.Option.{option_map};
 ghost use Rattle.sf_value.specs.declared.value.Bare.TheVariants as bare;
 ghost use Rattle.sf_value.specs.Grammar.Tokens.{IsKey};
-ghost use Rattle.sf_use.specs.CacheStatus.Members.{added, bare_of, entry, parameters_of};
-ghost use Rattle.sf_use.specs.CacheStatus.Members.{collapsed_value, hit_value, passed_by};
-ghost use Rattle.sf_use.specs.CacheStatus.Members.{status_value, stored_value, why_value};
-ghost use Rattle.sf_use.specs.CacheStatus.Reasons.{token_of};
+ghost use Rattle.sf_use.specs.CacheStatus.Members.{added, entry, parameters_of, passed_by};
+ghost use Rattle.sf_use.specs.CacheStatus.Members.{bare_of as bare_name, hit_value as value_of_hit};
+ghost use Rattle.sf_use.specs.CacheStatus.Members.{why_value as value_of_why};
+ghost use Rattle.sf_use.specs.CacheStatus.Members.{status_value as value_of_status};
+ghost use Rattle.sf_use.specs.CacheStatus.Members.{stored_value as value_of_stored};
+ghost use Rattle.sf_use.specs.CacheStatus.Members.{collapsed_value as value_of_collapsed};
+ghost use Rattle.sf_use.specs.CacheStatus.Reasons.{token_of as token_for};
 
 use crate::cache_status::hop::{Forward, Hop, Name, Outcome};
 use sf_value::{Bare, Entries, Int, Item, Key, List, Member, OutOfMemory, Text, TextFault, Token};
@@ -37,6 +40,7 @@ pub fn append_hop(
     Ok(())
 }
 
+/// The member of a hop.
 fn member_of(alloc: Global, seed: &RandomState, hop: &Hop) -> Result<Member, OutOfMemory>
     ensures { IfOk result (λ member. member ≡ entry hop.now) }
 {
@@ -45,6 +49,7 @@ fn member_of(alloc: Global, seed: &RandomState, hop: &Hop) -> Result<Member, Out
     Ok(Item { bare, params }.into())
 }
 
+/// The parameters of a hop, in the order in which they are written.
 fn params_of(alloc: Global, seed: &RandomState, hop: &Hop) -> Result<Entries<Bare>, OutOfMemory>
     ensures { IfOk result (λ params. params ≡ parameters_of hop.now) }
 {
@@ -64,7 +69,7 @@ fn params_of(alloc: Global, seed: &RandomState, hop: &Hop) -> Result<Entries<Bar
     Ok(params)
 }
 
-// Puts the parameter, where there is a value.
+/// Puts the parameter, where there is a value.
 fn put(
     alloc: Global,
     params: &mut Entries<Bare>,
@@ -87,14 +92,16 @@ fn put(
     params.set(key, value)
 }
 
+/// The value of `hit`, where it is written.
 fn hit_value(outcome: &Outcome) -> Option<Bare>
-    ensures { result ≡ hit_value outcome.now }
+    ensures { result ≡ value_of_hit outcome.now }
 {
     outcome.says_hit().then_some(Bare::Boolean(true))
 }
 
+/// The value of `fwd`, where it is written.
 fn why_value(alloc: Global, outcome: &Outcome) -> Result<Option<Bare>, OutOfMemory>
-    ensures { IfOk result (λ value. value ≡ why_value (passed_by outcome.now)) }
+    ensures { IfOk result (λ value. value ≡ value_of_why (passed_by outcome.now)) }
 {
     match outcome.passed() {
         Some(passed) => Ok(Some(Bare::Token(token_of(alloc, &passed.why)?))),
@@ -102,8 +109,9 @@ fn why_value(alloc: Global, outcome: &Outcome) -> Result<Option<Bare>, OutOfMemo
     }
 }
 
+/// The token of a reason.
 fn token_of(alloc: Global, why: &Forward) -> Result<Token, OutOfMemory>
-    ensures { IfOk result (λ token. token ≡ token_of why.now) }
+    ensures { IfOk result (λ token. token ≡ token_for why.now) }
 {
     match Token::new(alloc, why.as_bytes()) {
         Ok(token) => Ok(token),
@@ -113,31 +121,36 @@ fn token_of(alloc: Global, why: &Forward) -> Result<Token, OutOfMemory>
     }
 }
 
+/// The value of `fwd-status`, where it is written.
 fn status_value(outcome: &Outcome) -> Option<Bare>
-    ensures { result ≡ status_value (passed_by outcome.now) }
+    ensures { result ≡ value_of_status (passed_by outcome.now) }
 {
     let code = i32::from(outcome.status()?.get());
     Some(Bare::Integer(Int::from(code)))
 }
 
+/// The value of `ttl`, where it is written.
 fn ttl_value(ttl: Option<Int>) -> Option<Bare>
     ensures { result ≡ option_map bare.Integer ttl }
 {
     Some(Bare::Integer(ttl?))
 }
 
+/// The value of `stored`, where it is written.
 fn stored_value(outcome: &Outcome) -> Option<Bare>
-    ensures { result ≡ stored_value (passed_by outcome.now) }
+    ensures { result ≡ value_of_stored (passed_by outcome.now) }
 {
     Some(Bare::Boolean(outcome.stored()?))
 }
 
+/// The value of `collapsed`, where it is written.
 fn collapsed_value(outcome: &Outcome) -> Option<Bare>
-    ensures { result ≡ collapsed_value (passed_by outcome.now) }
+    ensures { result ≡ value_of_collapsed (passed_by outcome.now) }
 {
     Some(Bare::Boolean(outcome.collapsed()?))
 }
 
+/// The value of `key`, where it is written.
 fn key_value(alloc: Global, key: &Option<Text>) -> Result<Option<Bare>, OutOfMemory>
     ensures { IfOk result (λ value. value ≡ option_map bare.Text key.now) }
 {
@@ -147,8 +160,9 @@ fn key_value(alloc: Global, key: &Option<Text>) -> Result<Option<Bare>, OutOfMem
     }
 }
 
+/// The value of `detail`, where it is written.
 fn detail_value(alloc: Global, detail: &Option<Name>) -> Result<Option<Bare>, OutOfMemory>
-    ensures { IfOk result (λ value. value ≡ option_map bare_of detail.now) }
+    ensures { IfOk result (λ value. value ≡ option_map bare_name detail.now) }
 {
     match detail {
         Some(detail) => Ok(Some(bare_of(alloc, detail)?)),
@@ -156,8 +170,9 @@ fn detail_value(alloc: Global, detail: &Option<Name>) -> Result<Option<Bare>, Ou
     }
 }
 
+/// A name as a bare item.
 fn bare_of(alloc: Global, name: &Name) -> Result<Bare, OutOfMemory>
-    ensures { IfOk result (λ bare. bare ≡ bare_of name.now) }
+    ensures { IfOk result (λ bare. bare ≡ bare_name name.now) }
 {
     match name {
         Name::Text(text) => Ok(Bare::Text(text.copy(alloc)?)),

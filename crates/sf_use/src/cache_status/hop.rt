@@ -2,7 +2,8 @@
 ghost use Rattle.std.specs.Prelude.{◌≡◌};
 ghost use Rattle.std.specs.Option.{option_and_then, option_copied};
 ghost use Rattle.sf_value.specs.Grammar.Tokens.{IsToken};
-ghost use Rattle.sf_use.specs.CacheStatus.Members.{is_hit, passed_by, says_hit};
+ghost use Rattle.sf_use.specs.CacheStatus.Members.{is_hit as is_hit_of, says_hit as says_hit_of};
+ghost use Rattle.sf_use.specs.CacheStatus.Members.{passed_by};
 ghost use Rattle.sf_use.specs.CacheStatus.Reasons.{token_of};
 
 use crate::cache_status::status::HopStatus;
@@ -125,7 +126,7 @@ impl Outcome {
     /// Whether the cache answered from its store and asked no server nearer the origin. It takes no
     /// memory.
     pub fn is_hit(&self) -> bool
-        ensures { result ≡ is_hit self.now }
+        ensures { result ≡ is_hit_of self.now }
     {
         matches!(self, Outcome::Hit)
     }
@@ -164,7 +165,7 @@ impl Outcome {
 
     /// Whether `hit` is true in the field, as in a `Hit` and a `Conflict`. It takes no memory.
     pub fn says_hit(&self) -> bool
-        ensures { result ≡ says_hit self.now }
+        ensures { result ≡ says_hit_of self.now }
     {
         matches!(self, Outcome::Hit | Outcome::Conflict(_))
     }

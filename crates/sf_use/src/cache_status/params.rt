@@ -1,37 +1,43 @@
 //! Parameters by key and type: one of another type counts as absent.
 ghost use Rattle.std.specs.Prelude.{◌≡◌, IfOk};
 ghost use Rattle.std.specs.Option.{option_copied};
-ghost use Rattle.sf_use.specs.CacheStatus.Parameters.{as_name, boolean_at, integer_at};
-ghost use Rattle.sf_use.specs.CacheStatus.Parameters.{name_at, text_at, token_at};
+ghost use Rattle.sf_use.specs.CacheStatus.Parameters.{as_name, boolean_at as boolean_under};
+ghost use Rattle.sf_use.specs.CacheStatus.Parameters.{integer_at as integer_under};
+ghost use Rattle.sf_use.specs.CacheStatus.Parameters.{name_at as name_under, text_at as text_under};
+ghost use Rattle.sf_use.specs.CacheStatus.Parameters.{token_at as token_under};
 
 use crate::cache_status::hop::Name;
 use sf_value::{Bare, Entries, Int, OutOfMemory, Text, Token};
 use std::alloc::Global;
 
+/// The Boolean under the key, where one is there.
 pub(crate) fn boolean_at(params: &Entries<Bare>, key: &[u8]) -> Option<bool>
-    ensures { result ≡ boolean_at key.now params.now }
+    ensures { result ≡ boolean_under key.now params.now }
 {
     params.get(key)?.as_boolean()
 }
 
+/// The Integer under the key, where one is there.
 pub(crate) fn integer_at(params: &Entries<Bare>, key: &[u8]) -> Option<Int>
-    ensures { result ≡ integer_at key.now params.now }
+    ensures { result ≡ integer_under key.now params.now }
 {
     params.get(key)?.as_integer()
 }
 
+/// The Token under the key, where one is there.
 pub(crate) fn token_at<'a>(params: &'a Entries<Bare>, key: &[u8]) -> Option<&'a Token>
-    ensures { option_copied result ≡ token_at key.now params.now }
+    ensures { option_copied result ≡ token_under key.now params.now }
 {
     params.get(key)?.as_token()
 }
 
+/// A copy of the String under the key, where one is there.
 pub(crate) fn text_at(
     alloc: Global,
     params: &Entries<Bare>,
     key: &[u8],
 ) -> Result<Option<Text>, OutOfMemory>
-    ensures { IfOk result (λ text. text ≡ text_at key.now params.now) }
+    ensures { IfOk result (λ text. text ≡ text_under key.now params.now) }
 {
     match params.get(key) {
         Some(Bare::Text(text)) => Ok(Some(text.copy(alloc)?)),
@@ -39,12 +45,13 @@ pub(crate) fn text_at(
     }
 }
 
+/// A copy of the String or the Token under the key, where one is there.
 pub(crate) fn name_at(
     alloc: Global,
     params: &Entries<Bare>,
     key: &[u8],
 ) -> Result<Option<Name>, OutOfMemory>
-    ensures { IfOk result (λ name. name ≡ name_at key.now params.now) }
+    ensures { IfOk result (λ name. name ≡ name_under key.now params.now) }
 {
     match params.get(key) {
         Some(bare) => name_of(alloc, bare),
@@ -52,6 +59,7 @@ pub(crate) fn name_at(
     }
 }
 
+/// A copy of a bare item as a name, where it is a String or a Token.
 pub(crate) fn name_of(alloc: Global, bare: &Bare) -> Result<Option<Name>, OutOfMemory>
     ensures { IfOk result (λ name. name ≡ as_name bare.now) }
 {

@@ -60,6 +60,7 @@ impl CachePath {
     /// from the origin or the field does not tell. It takes no memory.
     pub fn served_by(&self) -> Option<usize>
         ensures place { result ≡ served self.now }
+        // the hop at this place is a hit and none behind it is; None where no hop is one
         ensures last { IsLastHit self.now result }
     {
         let mut last = None;
@@ -75,7 +76,7 @@ impl CachePath {
 impl Consumer for CacheStatus {
     ghost use Rattle.sf_value.specs.declared.value.Kind.TheVariants.{List};
     ghost use Rattle.sf_value.specs.Grammar.Fields.{kind_of};
-    ghost use Rattle.sf_use.specs.CacheStatus.Hops.{hops};
+    ghost use Rattle.sf_use.specs.CacheStatus.Hops.{hops as hops_in};
 
     type Answer = CachePath;
 
@@ -83,14 +84,15 @@ impl Consumer for CacheStatus {
 
     ghost KIND = { List };
 
-    ghost meaning = { λ _ field. hops field };
+    ghost meaning = { λ _ field. hops_in field };
 
     /// The hops of the List. Refused as `NotACache`, with the place of the first such member, where
     /// a member is not an Item of a String or a Token, else as `OutOfMemory`: the names are all
     /// looked at first, and that takes no memory.
     fn answer(&self, alloc: Global, field: &Field) -> Result<CachePath, UseFault>
         requires { kind_of field.now ≡ List }
-        ensures { Gives (hops field.now) result }
+        // a hop for each member, or the place of the first that names no cache; else want of memory
+        ensures { Gives (hops_in field.now) result }
     {
         match field {
             Field::List(list) => read_path(alloc, list.members.as_slice()),
@@ -99,7 +101,9 @@ impl Consumer for CacheStatus {
     }
 }
 
+/// The path that the members of a List tell.
 fn read_path(alloc: Global, members: &[Member]) -> Result<CachePath, UseFault>
+    // a hop for each member, or the place of the first that names no cache; else want of memory
     ensures { Gives (hops_of members.now) result }
 {
     if let Some(index) = first_nameless(members) {

@@ -2,7 +2,7 @@
 ghost use Rattle.std.specs.Prelude.{◌≡◌, ℤ, position, is_none, IfOk};
 ghost use Rattle.std.specs.List.{filter_map};
 ghost use Rattle.sf_use.specs.CacheStatus.Hops.{member_hop, hop_of, outcome_of, passed_at};
-ghost use Rattle.sf_use.specs.CacheStatus.Hops.{status_of};
+ghost use Rattle.sf_use.specs.CacheStatus.Hops.{status_of as status_in};
 ghost use Rattle.sf_use.specs.CacheStatus.Reasons.{forward_of, reasons};
 ghost use Rattle.sf_value.specs.Grammar.Pairs.{value_at};
 
@@ -12,13 +12,15 @@ use crate::cache_status::status::HopStatus;
 use sf_value::{Bare, Entries, Int, Item, Member, OutOfMemory, Token};
 use std::alloc::Global;
 
-// The first member that names no cache.
+/// The first member that names no cache.
 pub(crate) fn first_nameless(members: &[Member]) -> Option<usize>
+    // the place of the first member that has no hop
     ensures { result ≡ position (λ m. is_none (member_hop m)) members.now }
 {
     members.iter().position(|member| is_nameless(member))
 }
 
+/// Whether a member names no cache.
 fn is_nameless(member: &Member) -> bool
     ensures { result ≡ is_none (member_hop member.now) }
 {
@@ -28,8 +30,9 @@ fn is_nameless(member: &Member) -> bool
     }
 }
 
-// The hops of the members that name a cache.
+/// The hops of the members that name a cache.
 pub(crate) fn read_hops(alloc: Global, members: &[Member]) -> Result<Vec<Hop>, OutOfMemory>
+    // the hops of the members that have one, in their order
     ensures { IfOk result (λ hops. hops.items ≡ filter_map member_hop members.now) }
 {
     let mut hops = Vec::new(alloc);
@@ -42,6 +45,7 @@ pub(crate) fn read_hops(alloc: Global, members: &[Member]) -> Result<Vec<Hop>, O
     Ok(hops)
 }
 
+/// The hop of a member, where it names a cache.
 fn read_member(alloc: Global, member: &Member) -> Result<Option<Hop>, OutOfMemory>
     ensures { IfOk result (λ hop. hop ≡ member_hop member.now) }
 {
@@ -51,6 +55,7 @@ fn read_member(alloc: Global, member: &Member) -> Result<Option<Hop>, OutOfMemor
     }
 }
 
+/// The hop of an Item, where it names a cache.
 fn read_hop(alloc: Global, item: &Item) -> Result<Option<Hop>, OutOfMemory>
     ensures { IfOk result (λ hop. hop ≡ hop_of item.now) }
 {
@@ -71,6 +76,7 @@ fn read_hop(alloc: Global, item: &Item) -> Result<Option<Hop>, OutOfMemory>
     }))
 }
 
+/// What the cache did, by its parameters.
 fn read_outcome(alloc: Global, params: &Entries<Bare>) -> Result<Outcome, OutOfMemory>
     ensures { IfOk result (λ outcome. outcome ≡ outcome_of params.now) }
 {
@@ -83,6 +89,7 @@ fn read_outcome(alloc: Global, params: &Entries<Bare>) -> Result<Outcome, OutOfM
     }
 }
 
+/// What is said of a forwarded request, where `fwd` is there.
 fn read_passed(alloc: Global, params: &Entries<Bare>) -> Result<Option<Passed>, OutOfMemory>
     ensures { IfOk result (λ passed. passed ≡ passed_at params.now) }
 {
@@ -97,6 +104,7 @@ fn read_passed(alloc: Global, params: &Entries<Bare>) -> Result<Option<Passed>, 
     }
 }
 
+/// The reason that a token stands for.
 fn read_forward(alloc: Global, token: &Token) -> Result<Forward, OutOfMemory>
     ensures { IfOk result (λ why. why ≡ forward_of token.now) }
 {
@@ -106,7 +114,7 @@ fn read_forward(alloc: Global, token: &Token) -> Result<Forward, OutOfMemory>
     }
 }
 
-// The reason that one of the defined tokens stands for.
+/// The reason that one of the defined tokens stands for.
 fn named_forward(token: &[u8]) -> Option<Forward>
     ensures { result ≡ value_at token.now reasons }
 {
@@ -131,9 +139,9 @@ fn named_forward(token: &[u8]) -> Option<Forward>
     }
 }
 
-// The code of three digits, where it is one.
+/// The code of three digits, where it is one.
 fn status_of(integer: Option<Int>) -> Option<HopStatus>
-    ensures { result ≡ status_of integer }
+    ensures { result ≡ status_in integer }
 {
     let code = u16::try_from(integer?.get()).ok()?;
     HopStatus::new(code).ok()

@@ -1,12 +1,12 @@
 use Rattle.std.proofs.Common.{◌≡◌, ◌+◌, ◌-◌, ◌≤◌, drop, length}
 use Rattle.std.specs.List.{prefix_len}
-use Rattle.sf_tool.specs.Lines.{is_blank}
+use Rattle.sf_value.specs.Grammar.Classes.{is_ows}
 use Rattle.sf_tool.proofs.cutting.without_lead.Given as goal
 
 abbrev pub invariant-loop-start : goal.invariant-loop-start
 invariant-loop-start l =
     (l.start ≤ length l.bytes)
-    × (prefix_len is_blank l.bytes ≡ l.start + prefix_len is_blank (drop l.start l.bytes))
+    × (prefix_len is_ows l.bytes ≡ l.start + prefix_len is_ows (drop l.start l.bytes))
 
 abbrev pub decreases-loop-start : goal.decreases-loop-start
 decreases-loop-start l = length l.bytes - l.start
