@@ -88,7 +88,7 @@ module _ {V : Type 0} where
   set-past (s ∷ ss) zero w e = absurd cc
   set-past (s ∷ ss) (suc i) w e = ap (λ ps. (s.key, s.value) ∷ ps) (set-past ss i w e)
 
-  stored-set : (st : Store V) (i : ℕ) (w : V)
+  pub stored-set : (st : Store V) (i : ℕ) (w : V)
       → stored (with_stored st i w) ≡ set_value_at (stored st) i w
   stored-set (Fresh alloc seed) i w = refl
   stored-set (Few slots) i w = by (slice_get slots.items i) refl
@@ -98,6 +98,21 @@ module _ {V : Type 0} where
       by None e = rw e (set-past slots.items i w e)
       by (Some s) e = rw e (slots-set slots.items i s w e)
   stored-set (Many m) i w = refl
+
+  -- a value that is written at an index leaves the keys
+  pub entries-set : (ps qs : Pairs V) (i : ℕ) (w : V) → AreEntries ps → qs ≡ set_value_at ps i w
+      → AreEntries qs
+  entries-set ps qs i w h is =
+      let kept : keys_of qs ≡ keys_of ps = ap keys_of is ∙ keys ps i in
+      record {
+        keys = subst (Each IsKey) (sym kept) h.keys;
+        distinct = subst (IsDistinct bytes_eq) (sym kept) h.distinct;
+      }
+    where
+      keys : (rs : Pairs V) (j : ℕ) → keys_of (set_value_at rs j w) ≡ keys_of rs
+      keys [] j = refl
+      keys (r ∷ rs) zero = refl
+      keys (r ∷ rs) (suc j) = ap (λ ks. r.0 ∷ ks) (keys rs j)
 
   pub seed-set : (st : Store V) (i : ℕ) (w : V) → HasSeed st → HasSeed (with_stored st i w)
   seed-set (Fresh alloc seed) i w h = h

@@ -7,6 +7,7 @@ use Rattle.std.specs.Option.{option_map_or}
 use Rattle.std.specs.Str.{bytes_eq}
 use Rattle.std.specs.Vec.{with_item}
 use Rattle.indexmap.specs.IndexMap as map
+use Rattle.indexmap.specs.Layout.{set_value_at}
 use Rattle.sf_value.specs.declared.store.Slot.{Slot}
 use Rattle.sf_value.specs.declared.store.Store.{Store}
 use Rattle.sf_value.specs.declared.store.Store.TheVariants.{Fresh, Few, Many}
@@ -44,3 +45,8 @@ LendsStored V s i r = LendsIf (store_row V) V s r (with_stored s.now i) s.now
 abbrev pub LendsValue : (V : RattleType) → MutBor (Pairs V.Denot) → List ℕ
     → Option (MutBor V.Denot) → Fml
 LendsValue V e k r = LendsIf (entries_row V) V e r (set_value (bytes_eq k) e.now) e.now
+
+-- the same of the place i
+abbrev pub LendsValueAt : (V : RattleType) → MutBor (Pairs V.Denot) → ℕ → Option (MutBor V.Denot)
+    → Fml
+LendsValueAt V e i r = LendsIf (entries_row V) V e r (set_value_at e.now i) e.now

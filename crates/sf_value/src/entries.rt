@@ -3,7 +3,7 @@ ghost use Rattle.std.specs.Prelude.{◌≡◌, ℕ, List, [], ◌∷◌, ◌++�
 ghost use Rattle.std.specs.Prelude.{IsTrue, IsSome, IfOk, IfErr, OnOk, OnErr};
 ghost use Rattle.std.specs.Option.{option_map, option_copied, option_copied_mut};
 ghost use Rattle.std.specs.Borrow.{sem};
-ghost use Rattle.sf_value.specs.Lending.{LendsValue};
+ghost use Rattle.sf_value.specs.Lending.{LendsValue, LendsValueAt};
 ghost use Rattle.sf_value.specs.Grammar.Pairs.{settle, without, value_at};
 ghost use Rattle.sf_value.specs.Entries.{deref_entry, AreEntries};
 ghost use Rattle.std.specs.Iterator.{at_most};
@@ -117,6 +117,25 @@ impl<V> Entries<V> {
         ensures { option_map deref_entry result ≡ slice_get self.now index }
     {
         self.store.at(index)
+    }
+
+    /// The value at a place, counted from 0, to be changed; `None` past the end. Its key is the one
+    /// that [`Entries::at`] tells, and no call changes it. It takes no memory.
+    ///
+    /// ```
+    /// for place in 0..entries.len() {
+    ///     if let Some(value) = entries.at_mut(place) {
+    ///         *value = Bare::Boolean(true);
+    ///     }
+    /// }
+    /// ```
+    pub fn at_mut(&mut self, index: usize) -> Option<&mut V>
+        // what it ends as is the value at the place; all else is as it was
+        ensures* writes_back { sem 𝓛 (LendsValueAt V.row self.entry index result) }
+        ensures value { option_copied_mut result
+            ≡ option_map (λ entry. entry.1) (slice_get self.old index) }
+    {
+        self.store.value_mut(index)
     }
 
     /// The entries in order, each as its key's bytes and its value. It takes no memory.
