@@ -86,8 +86,10 @@ pub struct Reading<R> {
 impl<R: Read> Reading<R> {
     /// The source of this reader's bytes, with its counts at 0. It takes no memory.
     pub fn new(reader: R) -> Reading<R>
+        // the bytes to come are the reader's, and nothing is counted yet
         ensures state { ⟦<Reading<R> as Source>⟧.state result
             ≡ record { to_come = R.remaining reader; given = 0; ends = 0; failures = 0 } }
+        // the reader within is the one handed in, as it was
         ensures reader { reader_of result ≡ reader }
     {
         Reading {
@@ -121,7 +123,9 @@ impl<R: Read> Reading<R> {
 
     /// The reader back, as the calls so far left it. It takes no memory.
     pub fn into_inner(self) -> R
+        // its bytes to come are those of the source
         ensures to_come { R.remaining result ≡ (⟦<Reading<R> as Source>⟧.state self).to_come }
+        // it is the reader that stood within
         ensures reader { result ≡ reader_of self }
     {
         let Reading {
@@ -181,8 +185,10 @@ impl<W: Write> Writing<W> {
     /// The sink that hands its bytes to this writer, with the count of failed calls at 0. It takes
     /// no memory.
     pub fn new(writer: W) -> Writing<W>
+        // the bytes taken are those that the writer holds, and no failure is counted yet
         ensures state { ⟦<Writing<W> as Sink>⟧.state result
             ≡ record { taken = W.contents writer; failures = 0 } }
+        // the writer within is the one handed in, as it was
         ensures writer { writer_of result ≡ writer }
     {
         Writing {
@@ -200,7 +206,9 @@ impl<W: Write> Writing<W> {
 
     /// The writer back, as the calls so far left it. It takes no memory.
     pub fn into_inner(self) -> W
+        // the writer holds the bytes taken
         ensures taken { W.contents result ≡ (⟦<Writing<W> as Sink>⟧.state self).taken }
+        // it is the writer that stood within
         ensures writer { result ≡ writer_of self }
     {
         let Writing {

@@ -25,13 +25,16 @@ pub fn can_be_in_key(byte: u8) -> bool
     matches!(byte, b'a'..=b'z' | b'0'..=b'9' | b'_' | b'-' | b'.' | b'*')
 }
 
+/// The place of the first of these bytes that a key does not go on with.
 fn bad_byte_after_first(bytes: &[u8]) -> Option<usize>
     ensures { result ≡ bad_place is_key_rest bytes.now }
 {
     bytes.iter().position(|b| !can_be_in_key(*b))
 }
 
+/// The place of the first byte that is bad where it stands; `None` also where there is no byte.
 fn bad_byte(bytes: &[u8]) -> Option<usize>
+    // the least place whose byte a key does not have there
     ensures { result ≡ bad_word_place is_key_start is_key_rest bytes.now }
 {
     let (first, rest) = bytes.split_first()?;
@@ -68,6 +71,7 @@ impl Key {
     /// at the first byte that may not stand in its place, else as `OutOfMemory`.
     #[tactic(auto, using(crate::proofs::Words::word_from_place))]
     pub fn new(alloc: Global, bytes: &[u8]) -> Result<Key, TextFault>
+        // these bytes; or the cause: no byte, the first bad one, or a key and no memory for it
         ensures exact { MatchResult result (λ key. key ≡ bytes.now) (IsKeyFault bytes.now) }
         ensures key { IfOk result (λ key. IsKey key) }
     {
@@ -93,7 +97,7 @@ impl Key {
     }
 
     /// The key of one byte, one that [`can_start_key`] accepts. Others are added by `push`: a
-    /// parser builds a key so.
+    /// parser builds a key so. The only refusal is for want of memory.
     pub fn first(alloc: Global, byte: u8) -> Result<Key, OutOfMemory>
         requires { is_key_start byte ≡ true }
         ensures { IfOk result (λ key. key ≡ byte ∷ []) }
@@ -115,7 +119,7 @@ impl Key {
         Ok(())
     }
 
-    /// Another key, equal to this one.
+    /// Another key, equal to this one. The only refusal is for want of memory.
     pub fn copy(&self, alloc: Global) -> Result<Key, OutOfMemory>
         ensures { IfOk result (λ copy. copy ≡ self.now) }
     {

@@ -8,7 +8,7 @@ use smallvec::SmallVec;
 use std::alloc::Global;
 use std::marker::Model;
 
-// How many bytes stand in place.
+/// How many bytes stand in place.
 const ROOM: usize = 16;
 
 /// Bytes that are gathered: up to 16 stand in the value itself and take no memory, more than that
@@ -32,7 +32,8 @@ impl Model for ShortBytes {
     ghost view = { λ b. b.bytes.items };
 }
 
-// Written out, so that proofs about what holds such bytes don't look into them where they are let go.
+// Written out, so that proofs about what holds such bytes don't look into them where they are let
+// go.
 impl Drop for ShortBytes {
     fn drop(self) {
         let ShortBytes { bytes: _ } = self;
@@ -60,7 +61,7 @@ impl ShortBytes {
         ShortBytes { bytes }
     }
 
-    /// These bytes. Up to 16 take no memory.
+    /// These bytes. Up to 16 take no memory. The only refusal is for want of memory.
     #[inline]
     pub fn from_slice(alloc: Global, bytes: &[u8]) -> Result<ShortBytes, OutOfMemory>
         ensures { IfOk result (λ short. short ≡ bytes.now) }
@@ -109,7 +110,7 @@ impl ShortBytes {
         self.bytes.is_empty()
     }
 
-    // The bytes of a vector, whose memory is kept where they don't fit in place. It takes none.
+    /// The bytes of a vector, whose memory is kept where they don't fit in place. It takes none.
     pub(crate) fn from_vec(bytes: Vec<u8>) -> ShortBytes
         ensures { result ≡ bytes.items }
     {
@@ -118,7 +119,7 @@ impl ShortBytes {
         }
     }
 
-    // The bytes as a vector, or as they were for want of memory.
+    /// The bytes as a vector, or as they were for want of memory.
     pub(crate) fn into_vec(self) -> Result<Vec<u8>, ShortBytes>
         ensures { MatchResult result (λ v. v.items ≡ self) (λ b. b ≡ self) }
     {

@@ -17,6 +17,7 @@ pub fn is_visible(byte: u8) -> bool
     matches!(byte, b' '..=b'~')
 }
 
+/// The place of the first byte that no string holds.
 fn bad_byte(bytes: &[u8]) -> Option<usize>
     ensures { result ≡ bad_place is_visible_byte bytes.now }
 {
@@ -48,6 +49,7 @@ impl Text {
     /// that no string holds, else as `OutOfMemory`, and never as `Empty`.
     #[tactic(auto, using(crate::proofs::Words::every_from_place))]
     pub fn new(alloc: Global, bytes: &[u8]) -> Result<Text, TextFault>
+        // these bytes; or the cause: the first bad one, or a string and no memory for it
         ensures exact { MatchResult result (λ text. text ≡ bytes.now) (IsStringFault bytes.now) }
         ensures text { IfOk result (λ text. Every is_visible_byte text) }
     {
@@ -90,7 +92,7 @@ impl Text {
         Ok(())
     }
 
-    /// Another string, equal to this one.
+    /// Another string, equal to this one. The only refusal is for want of memory.
     pub fn copy(&self, alloc: Global) -> Result<Text, OutOfMemory>
         ensures { IfOk result (λ copy. copy ≡ self.now) }
     {

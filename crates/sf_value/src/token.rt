@@ -29,13 +29,16 @@ pub fn can_be_in_token(byte: u8) -> bool
     )
 }
 
+/// The place of the first of these bytes that a token does not go on with.
 fn bad_byte_after_first(bytes: &[u8]) -> Option<usize>
     ensures { result ≡ bad_place is_token_rest bytes.now }
 {
     bytes.iter().position(|b| !can_be_in_token(*b))
 }
 
+/// The place of the first byte that is bad where it stands; `None` also where there is no byte.
 fn bad_byte(bytes: &[u8]) -> Option<usize>
+    // the least place whose byte a token does not have there
     ensures { result ≡ bad_word_place is_token_start is_token_rest bytes.now }
 {
     let (first, rest) = bytes.split_first()?;
@@ -71,6 +74,7 @@ impl Token {
     /// at the first byte that may not stand in its place, else as `OutOfMemory`.
     #[tactic(auto, using(crate::proofs::Words::word_from_place))]
     pub fn new(alloc: Global, bytes: &[u8]) -> Result<Token, TextFault>
+        // these bytes; or the cause: no byte, the first bad one, or a token and no memory for it
         ensures exact { MatchResult result (λ token. token ≡ bytes.now) (IsTokenFault bytes.now) }
         ensures token { IfOk result (λ token. IsToken token) }
     {
@@ -96,7 +100,7 @@ impl Token {
     }
 
     /// The token of one byte, one that [`can_start_token`] accepts. Others are added by `push`: a
-    /// parser builds a token so.
+    /// parser builds a token so. The only refusal is for want of memory.
     pub fn first(alloc: Global, byte: u8) -> Result<Token, OutOfMemory>
         requires { is_token_start byte ≡ true }
         ensures { IfOk result (λ token. token ≡ byte ∷ []) }
@@ -118,7 +122,7 @@ impl Token {
         Ok(())
     }
 
-    /// Another token, equal to this one.
+    /// Another token, equal to this one. The only refusal is for want of memory.
     pub fn copy(&self, alloc: Global) -> Result<Token, OutOfMemory>
         ensures { IfOk result (λ copy. copy ≡ self.now) }
     {

@@ -6,8 +6,8 @@ use crate::field::to_text;
 use sf_value::{Field, OutOfMemory};
 use std::alloc::Global;
 
-/// The canonical text of a field (RFC 9651 section 4.1) as a string. Each such text is ASCII, so the
-/// only refusal is for want of memory.
+/// The canonical text of a field (RFC 9651 section 4.1) as a string. Each such text is ASCII, so
+/// the only refusal is for want of memory.
 ///
 /// ```
 /// let text = to_string(alloc, &field)?;
