@@ -12,16 +12,6 @@ use std::io::{Read, Write};
 #[derive(Clone, Copy, Debug, PartialEq, Eq)]
 pub struct Failed;
 
-impl fmt::Display for Failed {
-    ghost output = { λ _. Some (codes "a device failed") };
-
-    fn fmt<W: fmt::Write>(&self, f: &mut fmt::Formatter<W>) -> fmt::Result {
-        write!(f, "a device failed")
-    }
-}
-
-impl Error for Failed {}
-
 /// What bytes come from.
 ///
 /// A device of your own is seen by contracts through its `state`: the bytes still to come, or that
@@ -83,6 +73,20 @@ pub struct Reading<R> {
     failures: u64,
 }
 
+/// Any writer as a sink. No call is repeated, whatever its error, and none is made for no bytes; a
+/// write that takes no byte of some is `Failed`. It does not flush.
+///
+/// ```
+/// let mut out = Writing::new(Vec::new(alloc));
+/// write_field(&field, &mut out)?;
+/// let text = out.into_inner();
+/// ```
+#[derive(Debug, Drop)]
+pub struct Writing<W> {
+    writer: W,
+    failures: u64,
+}
+
 impl<R: Read> Reading<R> {
     /// The source of this reader's bytes, with its counts at 0. It takes no memory.
     pub fn new(reader: R) -> Reading<R>
@@ -138,49 +142,6 @@ impl<R: Read> Reading<R> {
     }
 }
 
-impl<R: Read> Source for Reading<R> {
-    ghost state = { λ r. record {
-      to_come = R.remaining r.reader;
-      given = r.given;
-      ends = r.ends;
-      failures = r.failures;
-    } };
-
-    fn pull(&mut self, block: &mut [u8]) -> Result<usize, Failed> {
-        if block.is_empty() {
-            return Ok(0);
-        }
-        match self.reader.read(block) {
-            Ok(0) => {
-                self.ends = self.ends.saturating_add(1);
-                Ok(0)
-            }
-            Ok(n) => {
-                self.given = self.given.saturating_add(n as u64);
-                Ok(n)
-            }
-            Err(_) => {
-                self.failures = self.failures.saturating_add(1);
-                Err(Failed)
-            }
-        }
-    }
-}
-
-/// Any writer as a sink. No call is repeated, whatever its error, and none is made for no bytes; a
-/// write that takes no byte of some is `Failed`. It does not flush.
-///
-/// ```
-/// let mut out = Writing::new(Vec::new(alloc));
-/// write_field(&field, &mut out)?;
-/// let text = out.into_inner();
-/// ```
-#[derive(Debug, Drop)]
-pub struct Writing<W> {
-    writer: W,
-    failures: u64,
-}
-
 impl<W: Write> Writing<W> {
     /// The sink that hands its bytes to this writer, with the count of failed calls at 0. It takes
     /// no memory.
@@ -216,6 +177,45 @@ impl<W: Write> Writing<W> {
             failures: _,
         } = self;
         writer
+    }
+}
+
+impl fmt::Display for Failed {
+    ghost output = { λ _. Some (codes "a device failed") };
+
+    fn fmt<W: fmt::Write>(&self, f: &mut fmt::Formatter<W>) -> fmt::Result {
+        write!(f, "a device failed")
+    }
+}
+
+impl Error for Failed {}
+
+impl<R: Read> Source for Reading<R> {
+    ghost state = { λ r. record {
+      to_come = R.remaining r.reader;
+      given = r.given;
+      ends = r.ends;
+      failures = r.failures;
+    } };
+
+    fn pull(&mut self, block: &mut [u8]) -> Result<usize, Failed> {
+        if block.is_empty() {
+            return Ok(0);
+        }
+        match self.reader.read(block) {
+            Ok(0) => {
+                self.ends = self.ends.saturating_add(1);
+                Ok(0)
+            }
+            Ok(n) => {
+                self.given = self.given.saturating_add(n as u64);
+                Ok(n)
+            }
+            Err(_) => {
+                self.failures = self.failures.saturating_add(1);
+                Err(Failed)
+            }
+        }
     }
 }
 

@@ -47,12 +47,39 @@ impl<V> Model for Entries<V> {
     ghost invariant = { λ e. AreEntries (stored e.store) × HasSeed e.store };
 }
 
-// Written out, so that proofs about what holds entries don't look into them where they are let go.
-impl<V: Drop> Drop for Entries<V> {
-    #[inline(always)]
-    fn drop(self) {
-        let Entries { store: _ } = self;
-    }
+/// The entries that an iteration by reference has left, each as its key's bytes and its value.
+#[derive(Drop)]
+pub struct Iter<'a, V> {
+    lent: Lent<'a, V>,
+}
+
+impl<'a, V> Model for Iter<'a, V> {
+    ghost use Rattle.std.specs.Prelude.{List, ℕ};
+    ghost use Rattle.sf_value.specs.Stores.{lent_pairs};
+
+    ghost Value = { List (List ℕ × V) };
+
+    ghost view = { λ a. lent_pairs a.lent };
+}
+
+/// The entries that an iteration by value has left, each as its key and its value.
+#[derive(Drop)]
+pub struct IntoIter<V> {
+    left: Left<V>,
+}
+
+impl<V> Model for IntoIter<V> {
+    ghost use Rattle.std.specs.Prelude.{List, ℕ};
+    ghost use Rattle.std.specs.Map.{keys_of};
+    ghost use Rattle.sf_value.specs.Grammar.Words.{Each};
+    ghost use Rattle.sf_value.specs.Grammar.Tokens.{IsKey};
+    ghost use Rattle.sf_value.specs.Stores.{left_pairs};
+
+    ghost Value = { List (List ℕ × V) };
+
+    ghost view = { λ a. left_pairs a.left };
+
+    ghost invariant = { λ a. Each IsKey (keys_of (left_pairs a.left)) };
 }
 
 impl<V> Entries<V> {
@@ -179,19 +206,12 @@ impl<V: Drop> Entries<V> {
     }
 }
 
-/// The entries that an iteration by reference has left, each as its key's bytes and its value.
-#[derive(Drop)]
-pub struct Iter<'a, V> {
-    lent: Lent<'a, V>,
-}
-
-impl<'a, V> Model for Iter<'a, V> {
-    ghost use Rattle.std.specs.Prelude.{List, ℕ};
-    ghost use Rattle.sf_value.specs.Stores.{lent_pairs};
-
-    ghost Value = { List (List ℕ × V) };
-
-    ghost view = { λ a. lent_pairs a.lent };
+// Written out, so that proofs about what holds entries don't look into them where they are let go.
+impl<V: Drop> Drop for Entries<V> {
+    #[inline(always)]
+    fn drop(self) {
+        let Entries { store: _ } = self;
+    }
 }
 
 impl<'a, V> Iterator for Iter<'a, V> {
@@ -226,26 +246,6 @@ impl<'a, V> IntoIterator for &'a Entries<V> {
     fn into_iter(self) -> Iter<'a, V> {
         self.iter()
     }
-}
-
-/// The entries that an iteration by value has left, each as its key and its value.
-#[derive(Drop)]
-pub struct IntoIter<V> {
-    left: Left<V>,
-}
-
-impl<V> Model for IntoIter<V> {
-    ghost use Rattle.std.specs.Prelude.{List, ℕ};
-    ghost use Rattle.std.specs.Map.{keys_of};
-    ghost use Rattle.sf_value.specs.Grammar.Words.{Each};
-    ghost use Rattle.sf_value.specs.Grammar.Tokens.{IsKey};
-    ghost use Rattle.sf_value.specs.Stores.{left_pairs};
-
-    ghost Value = { List (List ℕ × V) };
-
-    ghost view = { λ a. left_pairs a.left };
-
-    ghost invariant = { λ a. Each IsKey (keys_of (left_pairs a.left)) };
 }
 
 impl<V: Drop> Iterator for IntoIter<V> {

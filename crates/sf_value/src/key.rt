@@ -9,42 +9,6 @@ use crate::short::ShortBytes;
 use std::alloc::Global;
 use std::marker::Model;
 
-/// Whether a key may begin with this byte: `a` to `z` and `*` (RFC 9651 section 3.1.2). It takes no
-/// memory.
-pub fn can_start_key(byte: u8) -> bool
-    ensures { result ≡ is_key_start byte }
-{
-    matches!(byte, b'a'..=b'z' | b'*')
-}
-
-/// Whether a key may go on with this byte: `a` to `z`, `0` to `9`, `_`, `-`, `.` and `*` (RFC 9651
-/// section 3.1.2). It takes no memory.
-pub fn can_be_in_key(byte: u8) -> bool
-    ensures { result ≡ is_key_rest byte }
-{
-    matches!(byte, b'a'..=b'z' | b'0'..=b'9' | b'_' | b'-' | b'.' | b'*')
-}
-
-/// The place of the first of these bytes that a key does not go on with.
-fn bad_byte_after_first(bytes: &[u8]) -> Option<usize>
-    ensures { result ≡ bad_place is_key_rest bytes.now }
-{
-    bytes.iter().position(|b| !can_be_in_key(*b))
-}
-
-/// The place of the first byte that is bad where it stands; `None` also where there is no byte.
-fn bad_byte(bytes: &[u8]) -> Option<usize>
-    // the least place whose byte a key does not have there
-    ensures { result ≡ bad_word_place is_key_start is_key_rest bytes.now }
-{
-    let (first, rest) = bytes.split_first()?;
-    if !can_start_key(*first) {
-        return Some(0);
-    }
-    let place = bad_byte_after_first(rest)?;
-    Some(place + 1)
-}
-
 /// The key of a parameter or of a member of a dictionary (RFC 9651 section 3.1.2): a byte that may
 /// start one ([`can_start_key`]), then any number of bytes that may be in one ([`can_be_in_key`]).
 /// Upper case is never in one. Contracts see the list of its bytes.
@@ -135,4 +99,40 @@ impl Key {
     {
         self.bytes.as_bytes()
     }
+}
+
+/// Whether a key may begin with this byte: `a` to `z` and `*` (RFC 9651 section 3.1.2). It takes no
+/// memory.
+pub fn can_start_key(byte: u8) -> bool
+    ensures { result ≡ is_key_start byte }
+{
+    matches!(byte, b'a'..=b'z' | b'*')
+}
+
+/// Whether a key may go on with this byte: `a` to `z`, `0` to `9`, `_`, `-`, `.` and `*` (RFC 9651
+/// section 3.1.2). It takes no memory.
+pub fn can_be_in_key(byte: u8) -> bool
+    ensures { result ≡ is_key_rest byte }
+{
+    matches!(byte, b'a'..=b'z' | b'0'..=b'9' | b'_' | b'-' | b'.' | b'*')
+}
+
+/// The place of the first of these bytes that a key does not go on with.
+fn bad_byte_after_first(bytes: &[u8]) -> Option<usize>
+    ensures { result ≡ bad_place is_key_rest bytes.now }
+{
+    bytes.iter().position(|b| !can_be_in_key(*b))
+}
+
+/// The place of the first byte that is bad where it stands; `None` also where there is no byte.
+fn bad_byte(bytes: &[u8]) -> Option<usize>
+    // the least place whose byte a key does not have there
+    ensures { result ≡ bad_word_place is_key_start is_key_rest bytes.now }
+{
+    let (first, rest) = bytes.split_first()?;
+    if !can_start_key(*first) {
+        return Some(0);
+    }
+    let place = bad_byte_after_first(rest)?;
+    Some(place + 1)
 }

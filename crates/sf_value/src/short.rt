@@ -32,14 +32,6 @@ impl Model for ShortBytes {
     ghost view = { λ b. b.bytes.items };
 }
 
-// Written out, so that proofs about what holds such bytes don't look into them where they are let
-// go.
-impl Drop for ShortBytes {
-    fn drop(self) {
-        let ShortBytes { bytes: _ } = self;
-    }
-}
-
 impl ShortBytes {
     /// No bytes. It takes no memory.
     #[inline]
@@ -130,5 +122,13 @@ impl ShortBytes {
                 bytes: refused.value,
             }),
         }
+    }
+}
+
+// Written out, so that proofs about what holds such bytes don't look into them where they are let
+// go.
+impl Drop for ShortBytes {
+    fn drop(self) {
+        let ShortBytes { bytes: _ } = self;
     }
 }

@@ -60,14 +60,6 @@ pub(crate) enum Left<V> {
     Many(map::IntoIter<Key, V>),
 }
 
-/// The place of the key of these bytes among a few.
-fn place_of<V>(slots: &[Slot<V>], key: &[u8]) -> Option<usize>
-    // the first place whose key has these bytes
-    ensures { result ≡ position (λ slot. bytes_eq key.now slot.key) slots.now }
-{
-    slots.iter().position(|slot| key == slot.key.as_bytes())
-}
-
 impl<V> Store<V> {
     /// How many entries there are.
     pub(crate) fn len(&self) -> usize
@@ -149,57 +141,6 @@ impl<V> Store<V> {
             Store::Fresh(_, _) => Lent::Nothing,
             Store::Few(slots) => Lent::Few(slots.iter()),
             Store::Many(map) => Lent::Many(map.iter()),
-        }
-    }
-}
-
-/// Puts the entries into an empty map that has room for them.
-fn fill<V: Drop>(map: &mut Many<V>, slots: Vec<Slot<V>>)
-    // no key stands twice
-    requires distinct { HasDistinctKeys (slot_pairs slots.items) }
-    requires empty { map.old.entries ≡ [] }
-    // so many more entries fit with no more memory
-    requires room { vec_len slots ≤ spare map.old }
-    ensures { map.new.entries ≡ slot_pairs slots.items }
-{
-    for slot in slots {
-        let Slot { key, value, .. } = slot;
-        let Ok(_) = map.insert(key, value) else {
-            unreachable!()
-        };
-    }
-}
-
-/// The map of these entries, which leave the vector. For want of memory they stay.
-fn grown<V: Drop>(slots: &mut Vec<Slot<V>>) -> Result<Box<Many<V>>, OutOfMemory>
-    requires some { 0 < vec_len slots.old }
-    // no key stands twice
-    requires distinct { HasDistinctKeys (slot_pairs slots.old.items) }
-    ensures all { IfOk result (λ map. map.value.entries ≡ slot_pairs slots.old.items) }
-    ensures same { OnErr result (slots.new.items ≡ slots.old.items) }
-{
-    let seed = slots[0].seed;
-    let alloc = *slots.allocator();
-    let map = IndexMap::with_capacity_and_hasher(alloc, slots.len() + 1, seed)?;
-    let Ok(mut map) = Box::new(alloc, map) else {
-        return Err(OutOfMemory);
-    };
-    let few = mem::replace(slots, Vec::new(alloc));
-    fill(&mut map, few);
-    Ok(map)
-}
-
-/// Adds a new entry to a few.
-fn push<V>(slots: &mut Vec<Slot<V>>, slot: Slot<V>) -> Result<(), (Key, V)>
-    ensures added { IfOk result (λ _. slots.new.items ≡ slots.old.items ++ slot ∷ []) }
-    ensures same { OnErr result (slots.new.items ≡ slots.old.items) }
-    ensures back { IfErr result (λ pair. pair ≡ (slot.key, slot.value)) }
-{
-    match slots.push(slot) {
-        Ok(()) => return Ok(()),
-        Err(refused) => {
-            let Slot { key, value, .. } = refused.value;
-            return Err((key, value));
         }
     }
 }
@@ -319,6 +260,65 @@ impl<V: Drop> Store<V> {
                 return Some(value);
             }
             Store::Many(map) => return map.shift_remove(Name { bytes: key }),
+        }
+    }
+}
+
+/// The place of the key of these bytes among a few.
+fn place_of<V>(slots: &[Slot<V>], key: &[u8]) -> Option<usize>
+    // the first place whose key has these bytes
+    ensures { result ≡ position (λ slot. bytes_eq key.now slot.key) slots.now }
+{
+    slots.iter().position(|slot| key == slot.key.as_bytes())
+}
+
+/// Puts the entries into an empty map that has room for them.
+fn fill<V: Drop>(map: &mut Many<V>, slots: Vec<Slot<V>>)
+    // no key stands twice
+    requires distinct { HasDistinctKeys (slot_pairs slots.items) }
+    requires empty { map.old.entries ≡ [] }
+    // so many more entries fit with no more memory
+    requires room { vec_len slots ≤ spare map.old }
+    ensures { map.new.entries ≡ slot_pairs slots.items }
+{
+    for slot in slots {
+        let Slot { key, value, .. } = slot;
+        let Ok(_) = map.insert(key, value) else {
+            unreachable!()
+        };
+    }
+}
+
+/// The map of these entries, which leave the vector. For want of memory they stay.
+fn grown<V: Drop>(slots: &mut Vec<Slot<V>>) -> Result<Box<Many<V>>, OutOfMemory>
+    requires some { 0 < vec_len slots.old }
+    // no key stands twice
+    requires distinct { HasDistinctKeys (slot_pairs slots.old.items) }
+    ensures all { IfOk result (λ map. map.value.entries ≡ slot_pairs slots.old.items) }
+    ensures same { OnErr result (slots.new.items ≡ slots.old.items) }
+{
+    let seed = slots[0].seed;
+    let alloc = *slots.allocator();
+    let map = IndexMap::with_capacity_and_hasher(alloc, slots.len() + 1, seed)?;
+    let Ok(mut map) = Box::new(alloc, map) else {
+        return Err(OutOfMemory);
+    };
+    let few = mem::replace(slots, Vec::new(alloc));
+    fill(&mut map, few);
+    Ok(map)
+}
+
+/// Adds a new entry to a few.
+fn push<V>(slots: &mut Vec<Slot<V>>, slot: Slot<V>) -> Result<(), (Key, V)>
+    ensures added { IfOk result (λ _. slots.new.items ≡ slots.old.items ++ slot ∷ []) }
+    ensures same { OnErr result (slots.new.items ≡ slots.old.items) }
+    ensures back { IfErr result (λ pair. pair ≡ (slot.key, slot.value)) }
+{
+    match slots.push(slot) {
+        Ok(()) => return Ok(()),
+        Err(refused) => {
+            let Slot { key, value, .. } = refused.value;
+            return Err((key, value));
         }
     }
 }

@@ -10,20 +10,6 @@ use crate::short::ShortBytes;
 use std::alloc::Global;
 use std::marker::Model;
 
-/// Whether a string may hold this byte: 0x20 to 0x7E (RFC 9651 section 3.3.3). It takes no memory.
-pub fn is_visible(byte: u8) -> bool
-    ensures { result ≡ is_visible_byte byte }
-{
-    matches!(byte, b' '..=b'~')
-}
-
-/// The place of the first byte that no string holds.
-fn bad_byte(bytes: &[u8]) -> Option<usize>
-    ensures { result ≡ bad_place is_visible_byte bytes.now }
-{
-    bytes.iter().position(|b| !is_visible(*b))
-}
-
 /// A string (RFC 9651 section 3.3.3): any number of bytes from 0x20 to 0x7E, as they are, with no
 /// quotes round them and no escapes. Contracts see the list of its bytes.
 ///
@@ -115,4 +101,18 @@ impl Text {
     {
         self.bytes.is_empty()
     }
+}
+
+/// Whether a string may hold this byte: 0x20 to 0x7E (RFC 9651 section 3.3.3). It takes no memory.
+pub fn is_visible(byte: u8) -> bool
+    ensures { result ≡ is_visible_byte byte }
+{
+    matches!(byte, b' '..=b'~')
+}
+
+/// The place of the first byte that no string holds.
+fn bad_byte(bytes: &[u8]) -> Option<usize>
+    ensures { result ≡ bad_place is_visible_byte bytes.now }
+{
+    bytes.iter().position(|b| !is_visible(*b))
 }

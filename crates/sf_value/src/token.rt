@@ -9,46 +9,6 @@ use crate::short::ShortBytes;
 use std::alloc::Global;
 use std::marker::Model;
 
-/// Whether a token may begin with this byte: a letter or `*` (RFC 9651 section 3.3.4). It takes no
-/// memory.
-pub fn can_start_token(byte: u8) -> bool
-    ensures { result ≡ is_token_start byte }
-{
-    matches!(byte, b'a'..=b'z' | b'A'..=b'Z' | b'*')
-}
-
-/// Whether a token may go on with this byte: a letter, a digit, `:`, `/` or one of
-/// ``!#$%&'*+-.^_`|~`` (RFC 9651 section 3.3.4). It takes no memory.
-pub fn can_be_in_token(byte: u8) -> bool
-    ensures { result ≡ is_token_rest byte }
-{
-    matches!(
-        byte,
-        b'a'..=b'z' | b'A'..=b'Z' | b'0'..=b'9' | b'!' | b'#'..=b'\'' | b'*' | b'+' | b'-'..=b':'
-            | b'^'..=b'`' | b'|' | b'~'
-    )
-}
-
-/// The place of the first of these bytes that a token does not go on with.
-fn bad_byte_after_first(bytes: &[u8]) -> Option<usize>
-    ensures { result ≡ bad_place is_token_rest bytes.now }
-{
-    bytes.iter().position(|b| !can_be_in_token(*b))
-}
-
-/// The place of the first byte that is bad where it stands; `None` also where there is no byte.
-fn bad_byte(bytes: &[u8]) -> Option<usize>
-    // the least place whose byte a token does not have there
-    ensures { result ≡ bad_word_place is_token_start is_token_rest bytes.now }
-{
-    let (first, rest) = bytes.split_first()?;
-    if !can_start_token(*first) {
-        return Some(0);
-    }
-    let place = bad_byte_after_first(rest)?;
-    Some(place + 1)
-}
-
 /// A token (RFC 9651 section 3.3.4): a byte that may start one ([`can_start_token`]), then any
 /// number of bytes that may be in one ([`can_be_in_token`]). Contracts see the list of its bytes.
 ///
@@ -138,4 +98,44 @@ impl Token {
     {
         self.bytes.as_bytes()
     }
+}
+
+/// Whether a token may begin with this byte: a letter or `*` (RFC 9651 section 3.3.4). It takes no
+/// memory.
+pub fn can_start_token(byte: u8) -> bool
+    ensures { result ≡ is_token_start byte }
+{
+    matches!(byte, b'a'..=b'z' | b'A'..=b'Z' | b'*')
+}
+
+/// Whether a token may go on with this byte: a letter, a digit, `:`, `/` or one of
+/// ``!#$%&'*+-.^_`|~`` (RFC 9651 section 3.3.4). It takes no memory.
+pub fn can_be_in_token(byte: u8) -> bool
+    ensures { result ≡ is_token_rest byte }
+{
+    matches!(
+        byte,
+        b'a'..=b'z' | b'A'..=b'Z' | b'0'..=b'9' | b'!' | b'#'..=b'\'' | b'*' | b'+' | b'-'..=b':'
+            | b'^'..=b'`' | b'|' | b'~'
+    )
+}
+
+/// The place of the first of these bytes that a token does not go on with.
+fn bad_byte_after_first(bytes: &[u8]) -> Option<usize>
+    ensures { result ≡ bad_place is_token_rest bytes.now }
+{
+    bytes.iter().position(|b| !can_be_in_token(*b))
+}
+
+/// The place of the first byte that is bad where it stands; `None` also where there is no byte.
+fn bad_byte(bytes: &[u8]) -> Option<usize>
+    // the least place whose byte a token does not have there
+    ensures { result ≡ bad_word_place is_token_start is_token_rest bytes.now }
+{
+    let (first, rest) = bytes.split_first()?;
+    if !can_start_token(*first) {
+        return Some(0);
+    }
+    let place = bad_byte_after_first(rest)?;
+    Some(place + 1)
 }
