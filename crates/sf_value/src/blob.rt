@@ -26,7 +26,7 @@ impl Model for Blob {
 }
 
 impl Blob {
-    /// The byte sequence of these bytes, which may be none.
+    /// The byte sequence of these bytes, which may be none. The only refusal is for want of memory.
     pub fn new(alloc: Global, bytes: &[u8]) -> Result<Blob, OutOfMemory>
         ensures { IfOk result (λ blob. blob ≡ bytes.now) }
     {
@@ -60,7 +60,7 @@ impl Blob {
         self.bytes.extend(bytes)
     }
 
-    /// Another byte sequence, equal to this one.
+    /// Another byte sequence, equal to this one. The only refusal is for want of memory.
     pub fn copy(&self, alloc: Global) -> Result<Blob, OutOfMemory>
         ensures { IfOk result (λ copy. copy ≡ self.now) }
     {

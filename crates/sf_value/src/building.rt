@@ -35,7 +35,9 @@ impl Item {
     ///     .with_param(Key::new(alloc, b"r")?, Bare::Boolean(true))?; // a;q=1;r
     /// ```
     pub fn with_param(self, key: Key, value: Bare) -> Result<Item, OutOfMemory>
+        // a key that is there keeps its place and is overwritten; a new one goes last
         ensures new { IfOk result (λ more. more ≡ item self.bare (put self.params key value)) }
+        // it is refused only where the key is new
         ensures absent { OnErr result (value_at key self.params ≡ None) }
     {
         let Item { bare, mut params } = self;
@@ -60,7 +62,7 @@ impl Inner {
         }
     }
 
-    /// The Inner List with one more Item at its end.
+    /// The Inner List with one more Item at its end. The only refusal is for want of memory.
     ///
     /// ```
     /// let inner = Inner::new(alloc, &seed).with_item(first)?.with_item(second)?;
@@ -76,7 +78,9 @@ impl Inner {
     /// The Inner List with one more parameter of the whole. The value of a key that is there is
     /// replaced in its place, which takes no memory.
     pub fn with_param(self, key: Key, value: Bare) -> Result<Inner, OutOfMemory>
+        // a key that is there keeps its place and is overwritten; a new one goes last
         ensures new { IfOk result (λ more. more ≡ inner self.items (put self.params key value)) }
+        // it is refused only where the key is new
         ensures absent { OnErr result (value_at key self.params ≡ None) }
     {
         let Inner { items, mut params } = self;
@@ -95,7 +99,7 @@ impl List {
         }
     }
 
-    /// The List with one more member at its end.
+    /// The List with one more member at its end. The only refusal is for want of memory.
     ///
     /// ```
     /// let list = List::new(alloc).with(Member::Item(item))?.with(Member::Inner(inner))?;
@@ -127,7 +131,10 @@ impl Dict {
     /// let dict = Dict::new(alloc, &seed).with(Key::new(alloc, b"u")?, Member::Item(item))?;
     /// ```
     pub fn with(self, key: Key, member: Member) -> Result<Dict, OutOfMemory>
-        ensures new { IfOk result (λ more. more ≡ record { members = put self.members key member }) }
+        // a key that is there keeps its place and is overwritten; a new one goes last
+        ensures new { IfOk result (λ more. more
+            ≡ record { members = put self.members key member }) }
+        // it is refused only where the key is new
         ensures absent { OnErr result (value_at key self.members ≡ None) }
     {
         let Dict { mut members } = self;

@@ -12,16 +12,6 @@ use std::io::{Read, Write};
 #[derive(Clone, Copy, Debug, PartialEq, Eq)]
 pub struct Failed;
 
-impl fmt::Display for Failed {
-    ghost output = { λ _. Some (codes "a device failed") };
-
-    fn fmt<W: fmt::Write>(&self, f: &mut fmt::Formatter<W>) -> fmt::Result {
-        write!(f, "a device failed")
-    }
-}
-
-impl Error for Failed {}
-
 /// What bytes come from.
 ///
 /// A device of your own is seen by contracts through its `state`: the bytes still to come, or that
@@ -83,11 +73,27 @@ pub struct Reading<R> {
     failures: u64,
 }
 
+/// Any writer as a sink. No call is repeated, whatever its error, and none is made for no bytes; a
+/// write that takes no byte of some is `Failed`. It does not flush.
+///
+/// ```
+/// let mut out = Writing::new(Vec::new(alloc));
+/// write_field(&field, &mut out)?;
+/// let text = out.into_inner();
+/// ```
+#[derive(Debug, Drop)]
+pub struct Writing<W> {
+    writer: W,
+    failures: u64,
+}
+
 impl<R: Read> Reading<R> {
     /// The source of this reader's bytes, with its counts at 0. It takes no memory.
     pub fn new(reader: R) -> Reading<R>
+        // the bytes to come are the reader's, and nothing is counted yet
         ensures state { ⟦<Reading<R> as Source>⟧.state result
             ≡ record { to_come = R.remaining reader; given = 0; ends = 0; failures = 0 } }
+        // the reader within is the one handed in, as it was
         ensures reader { reader_of result ≡ reader }
     {
         Reading {
@@ -121,7 +127,9 @@ impl<R: Read> Reading<R> {
 
     /// The reader back, as the calls so far left it. It takes no memory.
     pub fn into_inner(self) -> R
+        // its bytes to come are those of the source
         ensures to_come { R.remaining result ≡ (⟦<Reading<R> as Source>⟧.state self).to_come }
+        // it is the reader that stood within
         ensures reader { result ≡ reader_of self }
     {
         let Reading {
@@ -133,6 +141,54 @@ impl<R: Read> Reading<R> {
         reader
     }
 }
+
+impl<W: Write> Writing<W> {
+    /// The sink that hands its bytes to this writer, with the count of failed calls at 0. It takes
+    /// no memory.
+    pub fn new(writer: W) -> Writing<W>
+        // the bytes taken are those that the writer holds, and no failure is counted yet
+        ensures state { ⟦<Writing<W> as Sink>⟧.state result
+            ≡ record { taken = W.contents writer; failures = 0 } }
+        // the writer within is the one handed in, as it was
+        ensures writer { writer_of result ≡ writer }
+    {
+        Writing {
+            writer,
+            failures: 0,
+        }
+    }
+
+    /// How many calls failed so far, up to 2^64 - 1. It takes no memory.
+    pub fn failures(&self) -> u64
+        ensures { result ≡ (⟦<Writing<W> as Sink>⟧.state self.now).failures }
+    {
+        self.failures
+    }
+
+    /// The writer back, as the calls so far left it. It takes no memory.
+    pub fn into_inner(self) -> W
+        // the writer holds the bytes taken
+        ensures taken { W.contents result ≡ (⟦<Writing<W> as Sink>⟧.state self).taken }
+        // it is the writer that stood within
+        ensures writer { result ≡ writer_of self }
+    {
+        let Writing {
+            writer,
+            failures: _,
+        } = self;
+        writer
+    }
+}
+
+impl fmt::Display for Failed {
+    ghost output = { λ _. Some (codes "a device failed") };
+
+    fn fmt<W: fmt::Write>(&self, f: &mut fmt::Formatter<W>) -> fmt::Result {
+        write!(f, "a device failed")
+    }
+}
+
+impl Error for Failed {}
 
 impl<R: Read> Source for Reading<R> {
     ghost state = { λ r. record {
@@ -160,54 +216,6 @@ impl<R: Read> Source for Reading<R> {
                 Err(Failed)
             }
         }
-    }
-}
-
-/// Any writer as a sink. No call is repeated, whatever its error, and none is made for no bytes; a
-/// write that takes no byte of some is `Failed`. It does not flush.
-///
-/// ```
-/// let mut out = Writing::new(Vec::new(alloc));
-/// write_field(&field, &mut out)?;
-/// let text = out.into_inner();
-/// ```
-#[derive(Debug, Drop)]
-pub struct Writing<W> {
-    writer: W,
-    failures: u64,
-}
-
-impl<W: Write> Writing<W> {
-    /// The sink that hands its bytes to this writer, with the count of failed calls at 0. It takes
-    /// no memory.
-    pub fn new(writer: W) -> Writing<W>
-        ensures state { ⟦<Writing<W> as Sink>⟧.state result
-            ≡ record { taken = W.contents writer; failures = 0 } }
-        ensures writer { writer_of result ≡ writer }
-    {
-        Writing {
-            writer,
-            failures: 0,
-        }
-    }
-
-    /// How many calls failed so far, up to 2^64 - 1. It takes no memory.
-    pub fn failures(&self) -> u64
-        ensures { result ≡ (⟦<Writing<W> as Sink>⟧.state self.now).failures }
-    {
-        self.failures
-    }
-
-    /// The writer back, as the calls so far left it. It takes no memory.
-    pub fn into_inner(self) -> W
-        ensures taken { W.contents result ≡ (⟦<Writing<W> as Sink>⟧.state self).taken }
-        ensures writer { result ≡ writer_of self }
-    {
-        let Writing {
-            writer,
-            failures: _,
-        } = self;
-        writer
     }
 }
 

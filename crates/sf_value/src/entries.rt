@@ -47,12 +47,39 @@ impl<V> Model for Entries<V> {
     ghost invariant = { λ e. AreEntries (stored e.store) × HasSeed e.store };
 }
 
-// Written out, so that proofs about what holds entries don't look into them where they are let go.
-impl<V: Drop> Drop for Entries<V> {
-    #[inline(always)]
-    fn drop(self) {
-        let Entries { store: _ } = self;
-    }
+/// The entries that an iteration by reference has left, each as its key's bytes and its value.
+#[derive(Drop)]
+pub struct Iter<'a, V> {
+    lent: Lent<'a, V>,
+}
+
+impl<'a, V> Model for Iter<'a, V> {
+    ghost use Rattle.std.specs.Prelude.{List, ℕ};
+    ghost use Rattle.sf_value.specs.Stores.{lent_pairs};
+
+    ghost Value = { List (List ℕ × V) };
+
+    ghost view = { λ a. lent_pairs a.lent };
+}
+
+/// The entries that an iteration by value has left, each as its key and its value.
+#[derive(Drop)]
+pub struct IntoIter<V> {
+    left: Left<V>,
+}
+
+impl<V> Model for IntoIter<V> {
+    ghost use Rattle.std.specs.Prelude.{List, ℕ};
+    ghost use Rattle.std.specs.Map.{keys_of};
+    ghost use Rattle.sf_value.specs.Grammar.Words.{Each};
+    ghost use Rattle.sf_value.specs.Grammar.Tokens.{IsKey};
+    ghost use Rattle.sf_value.specs.Stores.{left_pairs};
+
+    ghost Value = { List (List ℕ × V) };
+
+    ghost view = { λ a. left_pairs a.left };
+
+    ghost invariant = { λ a. Each IsKey (keys_of (left_pairs a.left)) };
 }
 
 impl<V> Entries<V> {
@@ -69,6 +96,7 @@ impl<V> Entries<V> {
     /// How many entries there are. It takes no memory.
     pub fn len(&self) -> usize
         ensures len { result ≡ length self.now }
+        // each key is one, and none stands twice
         ensures entries { AreEntries self.now }
     {
         self.store.len()
@@ -98,6 +126,7 @@ impl<V> Entries<V> {
     /// }
     /// ```
     pub fn get_mut(&mut self, key: &[u8]) -> Option<&mut V>
+        // what the reference ends as is the key's value; all else is as it was
         ensures* writes_back { sem 𝓛 (LendsValue V.row self.entry key.now result) }
         ensures value { option_copied_mut result ≡ value_at key.now self.old }
     {
@@ -141,6 +170,7 @@ impl<V> Entries<V> {
     /// The entries in order, each as its key's bytes and its value. It takes no memory.
     pub fn iter(&self) -> Iter<'_, V>
         ensures rest { result ≡ self.now }
+        // a loop takes them in order from the front, and a whole loop takes them all
         ensures runs { ShowsInOrder (deref_entry {V = V}) }
     {
         Iter {
@@ -154,10 +184,12 @@ impl<V: Drop> Entries<V> {
     /// that is there is replaced in its place, and the old one is the answer; this takes no memory.
     /// For want of memory the entries stay as they were, and the key and the value come back.
     pub fn put(&mut self, key: Key, value: V) -> Result<Option<V>, (Key, V)>
+        // a key that is there keeps its place and is overwritten; a new one goes last
         ensures new { IfOk result (λ _. self.new ≡ settle (self.old ++ (key, value) ∷ [])) }
         ensures old { IfOk result (λ old. old ≡ value_at key self.old) }
         ensures same { IfErr result (λ _. self.new ≡ self.old) }
         ensures back { IfErr result (λ pair. pair ≡ (key, value)) }
+        // it is refused only where the key is new
         ensures absent { IfErr result (λ _. value_at key self.old ≡ None) }
     {
         self.store.put(key, value)
@@ -170,8 +202,10 @@ impl<V: Drop> Entries<V> {
     /// entries.set(Key::new(alloc, b"q")?, Bare::Integer(Int::new(1)?))?;
     /// ```
     pub fn set(&mut self, key: Key, value: V) -> Result<(), OutOfMemory>
+        // a key that is there keeps its place and is overwritten; a new one goes last
         ensures new { OnOk result (self.new ≡ settle (self.old ++ (key, value) ∷ [])) }
         ensures same { OnErr result (self.new ≡ self.old) }
+        // it is refused only where the key is new
         ensures absent { OnErr result (value_at key self.old ≡ None) }
     {
         self.store.set(key, value)
@@ -191,19 +225,12 @@ impl<V: Drop> Entries<V> {
     }
 }
 
-/// The entries that an iteration by reference has left, each as its key's bytes and its value.
-#[derive(Drop)]
-pub struct Iter<'a, V> {
-    lent: Lent<'a, V>,
-}
-
-impl<'a, V> Model for Iter<'a, V> {
-    ghost use Rattle.std.specs.Prelude.{List, ℕ};
-    ghost use Rattle.sf_value.specs.Stores.{lent_pairs};
-
-    ghost Value = { List (List ℕ × V) };
-
-    ghost view = { λ a. lent_pairs a.lent };
+// Written out, so that proofs about what holds entries don't look into them where they are let go.
+impl<V: Drop> Drop for Entries<V> {
+    #[inline(always)]
+    fn drop(self) {
+        let Entries { store: _ } = self;
+    }
 }
 
 impl<'a, V> Iterator for Iter<'a, V> {
@@ -238,26 +265,6 @@ impl<'a, V> IntoIterator for &'a Entries<V> {
     fn into_iter(self) -> Iter<'a, V> {
         self.iter()
     }
-}
-
-/// The entries that an iteration by value has left, each as its key and its value.
-#[derive(Drop)]
-pub struct IntoIter<V> {
-    left: Left<V>,
-}
-
-impl<V> Model for IntoIter<V> {
-    ghost use Rattle.std.specs.Prelude.{List, ℕ};
-    ghost use Rattle.std.specs.Map.{keys_of};
-    ghost use Rattle.sf_value.specs.Grammar.Words.{Each};
-    ghost use Rattle.sf_value.specs.Grammar.Tokens.{IsKey};
-    ghost use Rattle.sf_value.specs.Stores.{left_pairs};
-
-    ghost Value = { List (List ℕ × V) };
-
-    ghost view = { λ a. left_pairs a.left };
-
-    ghost invariant = { λ a. Each IsKey (keys_of (left_pairs a.left)) };
 }
 
 impl<V: Drop> Iterator for IntoIter<V> {

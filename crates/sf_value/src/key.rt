@@ -9,39 +9,6 @@ use crate::short::ShortBytes;
 use std::alloc::Global;
 use std::marker::Model;
 
-/// Whether a key may begin with this byte: `a` to `z` and `*` (RFC 9651 section 3.1.2). It takes no
-/// memory.
-pub fn can_start_key(byte: u8) -> bool
-    ensures { result ≡ is_key_start byte }
-{
-    matches!(byte, b'a'..=b'z' | b'*')
-}
-
-/// Whether a key may go on with this byte: `a` to `z`, `0` to `9`, `_`, `-`, `.` and `*` (RFC 9651
-/// section 3.1.2). It takes no memory.
-pub fn can_be_in_key(byte: u8) -> bool
-    ensures { result ≡ is_key_rest byte }
-{
-    matches!(byte, b'a'..=b'z' | b'0'..=b'9' | b'_' | b'-' | b'.' | b'*')
-}
-
-fn bad_byte_after_first(bytes: &[u8]) -> Option<usize>
-    ensures { result ≡ bad_place is_key_rest bytes.now }
-{
-    bytes.iter().position(|b| !can_be_in_key(*b))
-}
-
-fn bad_byte(bytes: &[u8]) -> Option<usize>
-    ensures { result ≡ bad_word_place is_key_start is_key_rest bytes.now }
-{
-    let (first, rest) = bytes.split_first()?;
-    if !can_start_key(*first) {
-        return Some(0);
-    }
-    let place = bad_byte_after_first(rest)?;
-    Some(place + 1)
-}
-
 /// The key of a parameter or of a member of a dictionary (RFC 9651 section 3.1.2): a byte that may
 /// start one ([`can_start_key`]), then any number of bytes that may be in one ([`can_be_in_key`]).
 /// Upper case is never in one. Contracts see the list of its bytes.
@@ -68,6 +35,7 @@ impl Key {
     /// at the first byte that may not stand in its place, else as `OutOfMemory`.
     #[tactic(auto, using(crate::proofs::Words::word_from_place))]
     pub fn new(alloc: Global, bytes: &[u8]) -> Result<Key, TextFault>
+        // these bytes; or the cause: no byte, the first bad one, or a key and no memory for it
         ensures exact { MatchResult result (λ key. key ≡ bytes.now) (IsKeyFault bytes.now) }
         ensures key { IfOk result (λ key. IsKey key) }
     {
@@ -93,7 +61,7 @@ impl Key {
     }
 
     /// The key of one byte, one that [`can_start_key`] accepts. Others are added by `push`: a
-    /// parser builds a key so.
+    /// parser builds a key so. The only refusal is for want of memory.
     pub fn first(alloc: Global, byte: u8) -> Result<Key, OutOfMemory>
         requires { is_key_start byte ≡ true }
         ensures { IfOk result (λ key. key ≡ byte ∷ []) }
@@ -115,7 +83,7 @@ impl Key {
         Ok(())
     }
 
-    /// Another key, equal to this one.
+    /// Another key, equal to this one. The only refusal is for want of memory.
     pub fn copy(&self, alloc: Global) -> Result<Key, OutOfMemory>
         ensures { IfOk result (λ copy. copy ≡ self.now) }
     {
@@ -131,4 +99,40 @@ impl Key {
     {
         self.bytes.as_bytes()
     }
+}
+
+/// Whether a key may begin with this byte: `a` to `z` and `*` (RFC 9651 section 3.1.2). It takes no
+/// memory.
+pub fn can_start_key(byte: u8) -> bool
+    ensures { result ≡ is_key_start byte }
+{
+    matches!(byte, b'a'..=b'z' | b'*')
+}
+
+/// Whether a key may go on with this byte: `a` to `z`, `0` to `9`, `_`, `-`, `.` and `*` (RFC 9651
+/// section 3.1.2). It takes no memory.
+pub fn can_be_in_key(byte: u8) -> bool
+    ensures { result ≡ is_key_rest byte }
+{
+    matches!(byte, b'a'..=b'z' | b'0'..=b'9' | b'_' | b'-' | b'.' | b'*')
+}
+
+/// The place of the first of these bytes that a key does not go on with.
+fn bad_byte_after_first(bytes: &[u8]) -> Option<usize>
+    ensures { result ≡ bad_place is_key_rest bytes.now }
+{
+    bytes.iter().position(|b| !can_be_in_key(*b))
+}
+
+/// The place of the first byte that is bad where it stands; `None` also where there is no byte.
+fn bad_byte(bytes: &[u8]) -> Option<usize>
+    // the least place whose byte a key does not have there
+    ensures { result ≡ bad_word_place is_key_start is_key_rest bytes.now }
+{
+    let (first, rest) = bytes.split_first()?;
+    if !can_start_key(*first) {
+        return Some(0);
+    }
+    let place = bad_byte_after_first(rest)?;
+    Some(place + 1)
 }

@@ -16,10 +16,10 @@
 //!
 //! ```text
 //! let seed = RandomState::new(&rt)?;
-//! let mut params = Entries::new(alloc, &seed);
-//! params.set(Key::new(alloc, b"q")?, Bare::Integer(Int::new(1)?))?;
 //! let bare = Bare::Token(Token::new(alloc, b"a")?);
-//! let field = Field::Item(Item { bare, params });
+//! let item = Item::new(alloc, &seed, bare)
+//!     .with_param(Key::new(alloc, b"q")?, Bare::Integer(Int::from(1)))?;
+//! let field = Field::Item(item);
 //! ```
 //!
 //! [`Source`] and [`Sink`] are the devices that texts come from and go to; [`Reading`] and

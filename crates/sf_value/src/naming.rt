@@ -9,6 +9,12 @@ use crate::key::Key;
 use indexmap::Equivalent;
 use std::hash::{Hash, Hasher};
 
+/// The bytes by which a map is asked for a key, whether or not they are one.
+#[derive(Clone, Copy)]
+pub(crate) struct Name<'a> {
+    pub(crate) bytes: &'a [u8],
+}
+
 /// A key feeds its bytes to a hasher in one piece, and nothing else.
 impl Hash for Key {
     ghost hash_input = { λ key. key ∷ [] };
@@ -18,12 +24,6 @@ impl Hash for Key {
     fn hash<H: Hasher>(&self, state: &mut H) {
         state.write(self.as_bytes());
     }
-}
-
-/// The bytes by which a map is asked for a key, whether or not they are one.
-#[derive(Clone, Copy)]
-pub(crate) struct Name<'a> {
-    pub(crate) bytes: &'a [u8],
 }
 
 impl<'a> PartialEq for Name<'a> {

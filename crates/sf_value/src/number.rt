@@ -31,29 +31,6 @@ impl Model for Int {
     ghost inverse = { λ n. record { value = n } };
 }
 
-impl Int {
-    /// The number, where it has at most 15 digits; `OutOfRange` exactly where it has more. It takes
-    /// no memory.
-    pub fn new(value: i64) -> Result<Int, OutOfRange>
-        ensures short { IsOk result ↔ (nat_abs value < 10 ^ 15) }
-        ensures value { IfOk result (λ n. n ≡ value) }
-    {
-        if -LARGEST <= value && value <= LARGEST {
-            Ok(Int { value })
-        } else {
-            Err(OutOfRange)
-        }
-    }
-
-    /// The number that it was made of. It takes no memory.
-    pub fn get(&self) -> i64
-        ensures value { result ≡ self.now }
-        ensures short { nat_abs self.now < 10 ^ 15 }
-    {
-        self.value
-    }
-}
-
 /// A whole number of thousandths, of at most 15 digits, from -999,999,999,999,999 to
 /// 999,999,999,999,999: the value of a Decimal (RFC 9651 section 3.3.2), which has at most 12
 /// digits before the point and 3 behind it. So 1500 stands for 1.5. Contracts see the number of
@@ -76,6 +53,29 @@ impl Model for Thousandths {
     ghost invariant = { λ n. nat_abs n.thousandths < 10 ^ 15 };
 
     ghost inverse = { λ n. record { thousandths = n } };
+}
+
+impl Int {
+    /// The number, where it has at most 15 digits; `OutOfRange` exactly where it has more. It takes
+    /// no memory.
+    pub fn new(value: i64) -> Result<Int, OutOfRange>
+        ensures short { IsOk result ↔ (nat_abs value < 10 ^ 15) }
+        ensures value { IfOk result (λ n. n ≡ value) }
+    {
+        if -LARGEST <= value && value <= LARGEST {
+            Ok(Int { value })
+        } else {
+            Err(OutOfRange)
+        }
+    }
+
+    /// The number that it was made of. It takes no memory.
+    pub fn get(&self) -> i64
+        ensures value { result ≡ self.now }
+        ensures short { nat_abs self.now < 10 ^ 15 }
+    {
+        self.value
+    }
 }
 
 impl Thousandths {

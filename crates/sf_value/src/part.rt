@@ -17,7 +17,8 @@ pub trait Part: Drop {
     fn same(&self, other: &Self) -> bool
         ensures { IsTrue result ↔ (self.now ≡ other.now) };
 
-    /// Another value, equal to this one. The seed is that of its entries.
+    /// Another value, equal to this one. The seed is that of its entries. The only refusal is for
+    /// want of memory.
     fn copy(&self, alloc: Global, seed: &RandomState) -> Result<Self, OutOfMemory>
         ensures { IfOk result (λ copy. copy ≡ self.now) };
 }
@@ -147,7 +148,8 @@ pub fn same(a: &Field, b: &Field) -> bool
     }
 }
 
-/// Another field, equal to its source. The seed is that of its entries.
+/// Another field, equal to its source. The seed is that of its entries. The only refusal is for
+/// want of memory.
 ///
 /// ```
 /// let twin = copy(alloc, &seed, &field)?;

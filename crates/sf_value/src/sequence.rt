@@ -1,6 +1,7 @@
 //! Values in order.
 ghost use Rattle.std.specs.Prelude.{◌≡◌, List, [], ◌∷◌, ◌++◌, ◌↔◌, IsTrue, length, slice_get};
-ghost use Rattle.std.specs.Prelude.{◌+◌, ◌<◌, ◌≤◌, take, drop, Some, IfOk, IfErr, OnErr, MatchOption};
+ghost use Rattle.std.specs.Prelude.{◌+◌, ◌<◌, ◌≤◌, take, drop, Some};
+ghost use Rattle.std.specs.Prelude.{IfOk, IfErr, OnErr, MatchOption};
 ghost use Rattle.std.specs.Slice.Iter.{iter_rest};
 ghost use Rattle.std.specs.Vec.Iter.{into_iter_items, into_iter_steps};
 ghost use Rattle.std.specs.Iterator.Runs.{EveryRun, ItemsAre};
@@ -88,6 +89,7 @@ impl<T> Sequence<T> {
     /// The values in order. It takes no memory.
     pub fn iter(&self) -> slice::Iter<'_, T>
         ensures rest { iter_rest result ≡ self.now }
+        // a loop takes them in order from the front, and a whole loop takes them all
         ensures runs { IterYieldsInOrder T }
     {
         self.items.iter()
@@ -113,6 +115,7 @@ impl<T> Sequence<T> {
     /// members.pop() // Some(member)
     /// ```
     pub fn pop(&mut self) -> Option<T>
+        // none where there was none; else the last one, and the others stay
         ensures { MatchOption result ((self.old ≡ []) × (self.new ≡ []))
             (λ last. self.old ≡ self.new ++ last ∷ []) }
     {
@@ -135,8 +138,8 @@ impl<T> Sequence<T> {
         self.items.insert(index, item)
     }
 
-    /// Takes out the value at a place, counted from 0 and less than the length; those behind it move
-    /// down. It takes no memory.
+    /// Takes out the value at a place, counted from 0 and less than the length; those behind it
+    /// move down. It takes no memory.
     ///
     /// ```
     /// let first = members.remove(0);
@@ -157,6 +160,7 @@ impl<T> Sequence<T> {
     /// }
     /// ```
     pub fn as_mut_slice(&mut self) -> &mut [T]
+        // what the slice ends as are the values, as many as they were
         ensures* writes_back { sem 𝓛 (LendsItems T.row self.entry result) }
         ensures value { result.now ≡ self.old }
     {

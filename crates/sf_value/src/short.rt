@@ -8,7 +8,7 @@ use smallvec::SmallVec;
 use std::alloc::Global;
 use std::marker::Model;
 
-// How many bytes stand in place.
+/// How many bytes stand in place.
 const ROOM: usize = 16;
 
 /// Bytes that are gathered: up to 16 stand in the value itself and take no memory, more than that
@@ -32,13 +32,6 @@ impl Model for ShortBytes {
     ghost view = { λ b. b.bytes.items };
 }
 
-// Written out, so that proofs about what holds such bytes don't look into them where they are let go.
-impl Drop for ShortBytes {
-    fn drop(self) {
-        let ShortBytes { bytes: _ } = self;
-    }
-}
-
 impl ShortBytes {
     /// No bytes. It takes no memory.
     #[inline]
@@ -60,7 +53,7 @@ impl ShortBytes {
         ShortBytes { bytes }
     }
 
-    /// These bytes. Up to 16 take no memory.
+    /// These bytes. Up to 16 take no memory. The only refusal is for want of memory.
     #[inline]
     pub fn from_slice(alloc: Global, bytes: &[u8]) -> Result<ShortBytes, OutOfMemory>
         ensures { IfOk result (λ short. short ≡ bytes.now) }
@@ -109,7 +102,7 @@ impl ShortBytes {
         self.bytes.is_empty()
     }
 
-    // The bytes of a vector, whose memory is kept where they don't fit in place. It takes none.
+    /// The bytes of a vector, whose memory is kept where they don't fit in place. It takes none.
     pub(crate) fn from_vec(bytes: Vec<u8>) -> ShortBytes
         ensures { result ≡ bytes.items }
     {
@@ -118,7 +111,7 @@ impl ShortBytes {
         }
     }
 
-    // The bytes as a vector, or as they were for want of memory.
+    /// The bytes as a vector, or as they were for want of memory.
     pub(crate) fn into_vec(self) -> Result<Vec<u8>, ShortBytes>
         ensures { MatchResult result (λ v. v.items ≡ self) (λ b. b ≡ self) }
     {
@@ -129,5 +122,13 @@ impl ShortBytes {
                 bytes: refused.value,
             }),
         }
+    }
+}
+
+// Written out, so that proofs about what holds such bytes don't look into them where they are let
+// go.
+impl Drop for ShortBytes {
+    fn drop(self) {
+        let ShortBytes { bytes: _ } = self;
     }
 }

@@ -30,7 +30,7 @@ impl Model for Shown {
 }
 
 impl Shown {
-    /// The display string of this text, which may be empty.
+    /// The display string of this text, which may be empty. The only refusal is for want of memory.
     #[tactic(auto, using(crate::proofs::Utf8Table::from_utf8))]
     pub fn new(alloc: Global, text: &str) -> Result<Shown, OutOfMemory>
         ensures { IfOk result (λ shown. shown ≡ text.now) }
@@ -49,7 +49,7 @@ impl Shown {
         Shown { bytes }
     }
 
-    /// Another display string, equal to this one.
+    /// Another display string, equal to this one. The only refusal is for want of memory.
     pub fn copy(&self, alloc: Global) -> Result<Shown, OutOfMemory>
         ensures { IfOk result (λ copy. copy ≡ self.now) }
     {

@@ -23,7 +23,7 @@ use std::alloc::Global;
 use std::hash::RandomState;
 use std::{mem, slice, vec};
 
-// How many entries a vector holds at most.
+/// How many entries a vector holds at most.
 const FEW: usize = 8;
 
 /// One of a few entries.
@@ -31,8 +31,8 @@ const FEW: usize = 8;
 pub(crate) struct Slot<V> {
     pub(crate) key: Key,
     pub(crate) value: V,
-    // That of the map which takes the place of the vector when there are more than a few. It stands
-    // here, in the memory of the vector, so that entries are no larger than one.
+    /// That of the map which takes the place of the vector when there are more than a few. It
+    /// stands here, in the memory of the vector, so that entries are no larger than one.
     seed: RandomState,
 }
 
@@ -58,13 +58,6 @@ pub(crate) enum Left<V> {
     Nothing,
     Few(vec::IntoIter<Slot<V>>),
     Many(map::IntoIter<Key, V>),
-}
-
-// The place of the key of these bytes among a few.
-fn place_of<V>(slots: &[Slot<V>], key: &[u8]) -> Option<usize>
-    ensures { result ≡ position (λ slot. bytes_eq key.now slot.key) slots.now }
-{
-    slots.iter().position(|slot| key == slot.key.as_bytes())
 }
 
 impl<V> Store<V> {
@@ -112,6 +105,7 @@ impl<V> Store<V> {
 
     /// The place of the key of these bytes.
     pub(crate) fn place(&self, key: &[u8]) -> Option<usize>
+        // the first place whose key has these bytes
         ensures { result ≡ position (bytes_eq key.now) (keys_of (stored self.now)) }
     {
         match self {
@@ -123,7 +117,9 @@ impl<V> Store<V> {
 
     /// The value at a place, to be changed.
     pub(crate) fn value_mut(&mut self, place: usize) -> Option<&mut V>
+        // what the reference ends as is the value there; all else is as it was
         ensures* writes_back { sem 𝓛 (LendsStored V.row self.entry place result) }
+        // at first it is the value of the entry at the place, if there is one
         ensures value { option_copied_mut result
             ≡ option_map (λ entry. entry.1) (slice_get (stored self.old) place) }
     {
@@ -149,54 +145,6 @@ impl<V> Store<V> {
     }
 }
 
-// Puts the entries into an empty map that has room for them.
-fn fill<V: Drop>(map: &mut Many<V>, slots: Vec<Slot<V>>)
-    requires distinct { HasDistinctKeys (slot_pairs slots.items) }
-    requires empty { map.old.entries ≡ [] }
-    requires room { vec_len slots ≤ spare map.old }
-    ensures { map.new.entries ≡ slot_pairs slots.items }
-{
-    for slot in slots {
-        let Slot { key, value, .. } = slot;
-        let Ok(_) = map.insert(key, value) else {
-            unreachable!()
-        };
-    }
-}
-
-// The map of these entries, which leave the vector. For want of memory they stay.
-fn grown<V: Drop>(slots: &mut Vec<Slot<V>>) -> Result<Box<Many<V>>, OutOfMemory>
-    requires some { 0 < vec_len slots.old }
-    requires distinct { HasDistinctKeys (slot_pairs slots.old.items) }
-    ensures all { IfOk result (λ map. map.value.entries ≡ slot_pairs slots.old.items) }
-    ensures same { OnErr result (slots.new.items ≡ slots.old.items) }
-{
-    let seed = slots[0].seed;
-    let alloc = *slots.allocator();
-    let map = IndexMap::with_capacity_and_hasher(alloc, slots.len() + 1, seed)?;
-    let Ok(mut map) = Box::new(alloc, map) else {
-        return Err(OutOfMemory);
-    };
-    let few = mem::replace(slots, Vec::new(alloc));
-    fill(&mut map, few);
-    Ok(map)
-}
-
-// Adds a new entry to a few.
-fn push<V>(slots: &mut Vec<Slot<V>>, slot: Slot<V>) -> Result<(), (Key, V)>
-    ensures added { IfOk result (λ _. slots.new.items ≡ slots.old.items ++ slot ∷ []) }
-    ensures same { OnErr result (slots.new.items ≡ slots.old.items) }
-    ensures back { IfErr result (λ pair. pair ≡ (slot.key, slot.value)) }
-{
-    match slots.push(slot) {
-        Ok(()) => return Ok(()),
-        Err(refused) => {
-            let Slot { key, value, .. } = refused.value;
-            return Err((key, value));
-        }
-    }
-}
-
 impl<V: Drop> Store<V> {
     /// All entries in order, by value.
     pub(crate) fn into_iter(self) -> Left<V>
@@ -211,15 +159,20 @@ impl<V: Drop> Store<V> {
 
     /// Puts a value at a key, as `Entries::put` does. Only a new key takes memory.
     pub(crate) fn put(&mut self, key: Key, value: V) -> Result<Option<V>, (Key, V)>
+        // each key is one, and none stands twice
         requires entries { AreEntries (stored self.old) }
+        // the seed is at hand: a vector has a slot, which holds it
         requires seed { HasSeed self.old }
+        // and both stay so
         ensures entries { AreEntries (stored self.new) }
         ensures seed { HasSeed self.new }
+        // a key that is there keeps its place and is overwritten; a new one goes last
         ensures new { IfOk result (λ _. stored self.new
             ≡ settle (stored self.old ++ (key, value) ∷ [])) }
         ensures old { IfOk result (λ old. old ≡ value_at key (stored self.old)) }
         ensures same { IfErr result (λ _. stored self.new ≡ stored self.old) }
         ensures back { IfErr result (λ pair. pair ≡ (key, value)) }
+        // it is refused only where the key is new
         ensures absent { IfErr result (λ _. value_at key (stored self.old) ≡ None) }
     {
         match self {
@@ -255,12 +208,18 @@ impl<V: Drop> Store<V> {
     /// Puts a value at a key, as `Entries::set` does. Only a new key takes memory.
     #[inline(never)]
     pub(crate) fn set(&mut self, key: Key, value: V) -> Result<(), OutOfMemory>
+        // each key is one, and none stands twice
         requires entries { AreEntries (stored self.old) }
+        // the seed is at hand: a vector has a slot, which holds it
         requires seed { HasSeed self.old }
+        // and both stay so
         ensures entries { AreEntries (stored self.new) }
         ensures seed { HasSeed self.new }
-        ensures new { OnOk result (stored self.new ≡ settle (stored self.old ++ (key, value) ∷ [])) }
+        // a key that is there keeps its place and is overwritten; a new one goes last
+        ensures new { OnOk result (stored self.new
+            ≡ settle (stored self.old ++ (key, value) ∷ [])) }
         ensures same { OnErr result (stored self.new ≡ stored self.old) }
+        // it is refused only where the key is new
         ensures absent { OnErr result (value_at key (stored self.old) ≡ None) }
     {
         if let Store::Many(map) = self {
@@ -274,8 +233,11 @@ impl<V: Drop> Store<V> {
 
     /// Takes out the key of these bytes, and answers its value. The others keep their order.
     pub(crate) fn remove(&mut self, key: &[u8]) -> Option<V>
+        // each key is one, and none stands twice
         requires entries { AreEntries (stored self.old) }
+        // the seed is at hand: a vector has a slot, which holds it
         requires seed { HasSeed self.old }
+        // and both stay so
         ensures entries { AreEntries (stored self.new) }
         ensures seed { HasSeed self.new }
         ensures value { result ≡ value_at key.now (stored self.old) }
@@ -298,6 +260,65 @@ impl<V: Drop> Store<V> {
                 return Some(value);
             }
             Store::Many(map) => return map.shift_remove(Name { bytes: key }),
+        }
+    }
+}
+
+/// The place of the key of these bytes among a few.
+fn place_of<V>(slots: &[Slot<V>], key: &[u8]) -> Option<usize>
+    // the first place whose key has these bytes
+    ensures { result ≡ position (λ slot. bytes_eq key.now slot.key) slots.now }
+{
+    slots.iter().position(|slot| key == slot.key.as_bytes())
+}
+
+/// Puts the entries into an empty map that has room for them.
+fn fill<V: Drop>(map: &mut Many<V>, slots: Vec<Slot<V>>)
+    // no key stands twice
+    requires distinct { HasDistinctKeys (slot_pairs slots.items) }
+    requires empty { map.old.entries ≡ [] }
+    // so many more entries fit with no more memory
+    requires room { vec_len slots ≤ spare map.old }
+    ensures { map.new.entries ≡ slot_pairs slots.items }
+{
+    for slot in slots {
+        let Slot { key, value, .. } = slot;
+        let Ok(_) = map.insert(key, value) else {
+            unreachable!()
+        };
+    }
+}
+
+/// The map of these entries, which leave the vector. For want of memory they stay.
+fn grown<V: Drop>(slots: &mut Vec<Slot<V>>) -> Result<Box<Many<V>>, OutOfMemory>
+    requires some { 0 < vec_len slots.old }
+    // no key stands twice
+    requires distinct { HasDistinctKeys (slot_pairs slots.old.items) }
+    ensures all { IfOk result (λ map. map.value.entries ≡ slot_pairs slots.old.items) }
+    ensures same { OnErr result (slots.new.items ≡ slots.old.items) }
+{
+    let seed = slots[0].seed;
+    let alloc = *slots.allocator();
+    let map = IndexMap::with_capacity_and_hasher(alloc, slots.len() + 1, seed)?;
+    let Ok(mut map) = Box::new(alloc, map) else {
+        return Err(OutOfMemory);
+    };
+    let few = mem::replace(slots, Vec::new(alloc));
+    fill(&mut map, few);
+    Ok(map)
+}
+
+/// Adds a new entry to a few.
+fn push<V>(slots: &mut Vec<Slot<V>>, slot: Slot<V>) -> Result<(), (Key, V)>
+    ensures added { IfOk result (λ _. slots.new.items ≡ slots.old.items ++ slot ∷ []) }
+    ensures same { OnErr result (slots.new.items ≡ slots.old.items) }
+    ensures back { IfErr result (λ pair. pair ≡ (slot.key, slot.value)) }
+{
+    match slots.push(slot) {
+        Ok(()) => return Ok(()),
+        Err(refused) => {
+            let Slot { key, value, .. } = refused.value;
+            return Err((key, value));
         }
     }
 }

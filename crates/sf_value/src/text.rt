@@ -10,19 +10,6 @@ use crate::short::ShortBytes;
 use std::alloc::Global;
 use std::marker::Model;
 
-/// Whether a string may hold this byte: 0x20 to 0x7E (RFC 9651 section 3.3.3). It takes no memory.
-pub fn is_visible(byte: u8) -> bool
-    ensures { result ≡ is_visible_byte byte }
-{
-    matches!(byte, b' '..=b'~')
-}
-
-fn bad_byte(bytes: &[u8]) -> Option<usize>
-    ensures { result ≡ bad_place is_visible_byte bytes.now }
-{
-    bytes.iter().position(|b| !is_visible(*b))
-}
-
 /// A string (RFC 9651 section 3.3.3): any number of bytes from 0x20 to 0x7E, as they are, with no
 /// quotes round them and no escapes. Contracts see the list of its bytes.
 ///
@@ -48,6 +35,7 @@ impl Text {
     /// that no string holds, else as `OutOfMemory`, and never as `Empty`.
     #[tactic(auto, using(crate::proofs::Words::every_from_place))]
     pub fn new(alloc: Global, bytes: &[u8]) -> Result<Text, TextFault>
+        // these bytes; or the cause: the first bad one, or a string and no memory for it
         ensures exact { MatchResult result (λ text. text ≡ bytes.now) (IsStringFault bytes.now) }
         ensures text { IfOk result (λ text. Every is_visible_byte text) }
     {
@@ -90,7 +78,7 @@ impl Text {
         Ok(())
     }
 
-    /// Another string, equal to this one.
+    /// Another string, equal to this one. The only refusal is for want of memory.
     pub fn copy(&self, alloc: Global) -> Result<Text, OutOfMemory>
         ensures { IfOk result (λ copy. copy ≡ self.now) }
     {
@@ -113,4 +101,18 @@ impl Text {
     {
         self.bytes.is_empty()
     }
+}
+
+/// Whether a string may hold this byte: 0x20 to 0x7E (RFC 9651 section 3.3.3). It takes no memory.
+pub fn is_visible(byte: u8) -> bool
+    ensures { result ≡ is_visible_byte byte }
+{
+    matches!(byte, b' '..=b'~')
+}
+
+/// The place of the first byte that no string holds.
+fn bad_byte(bytes: &[u8]) -> Option<usize>
+    ensures { result ≡ bad_place is_visible_byte bytes.now }
+{
+    bytes.iter().position(|b| !is_visible(*b))
 }

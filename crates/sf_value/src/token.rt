@@ -9,43 +9,6 @@ use crate::short::ShortBytes;
 use std::alloc::Global;
 use std::marker::Model;
 
-/// Whether a token may begin with this byte: a letter or `*` (RFC 9651 section 3.3.4). It takes no
-/// memory.
-pub fn can_start_token(byte: u8) -> bool
-    ensures { result ≡ is_token_start byte }
-{
-    matches!(byte, b'a'..=b'z' | b'A'..=b'Z' | b'*')
-}
-
-/// Whether a token may go on with this byte: a letter, a digit, `:`, `/` or one of
-/// ``!#$%&'*+-.^_`|~`` (RFC 9651 section 3.3.4). It takes no memory.
-pub fn can_be_in_token(byte: u8) -> bool
-    ensures { result ≡ is_token_rest byte }
-{
-    matches!(
-        byte,
-        b'a'..=b'z' | b'A'..=b'Z' | b'0'..=b'9' | b'!' | b'#'..=b'\'' | b'*' | b'+' | b'-'..=b':'
-            | b'^'..=b'`' | b'|' | b'~'
-    )
-}
-
-fn bad_byte_after_first(bytes: &[u8]) -> Option<usize>
-    ensures { result ≡ bad_place is_token_rest bytes.now }
-{
-    bytes.iter().position(|b| !can_be_in_token(*b))
-}
-
-fn bad_byte(bytes: &[u8]) -> Option<usize>
-    ensures { result ≡ bad_word_place is_token_start is_token_rest bytes.now }
-{
-    let (first, rest) = bytes.split_first()?;
-    if !can_start_token(*first) {
-        return Some(0);
-    }
-    let place = bad_byte_after_first(rest)?;
-    Some(place + 1)
-}
-
 /// A token (RFC 9651 section 3.3.4): a byte that may start one ([`can_start_token`]), then any
 /// number of bytes that may be in one ([`can_be_in_token`]). Contracts see the list of its bytes.
 ///
@@ -71,6 +34,7 @@ impl Token {
     /// at the first byte that may not stand in its place, else as `OutOfMemory`.
     #[tactic(auto, using(crate::proofs::Words::word_from_place))]
     pub fn new(alloc: Global, bytes: &[u8]) -> Result<Token, TextFault>
+        // these bytes; or the cause: no byte, the first bad one, or a token and no memory for it
         ensures exact { MatchResult result (λ token. token ≡ bytes.now) (IsTokenFault bytes.now) }
         ensures token { IfOk result (λ token. IsToken token) }
     {
@@ -96,7 +60,7 @@ impl Token {
     }
 
     /// The token of one byte, one that [`can_start_token`] accepts. Others are added by `push`: a
-    /// parser builds a token so.
+    /// parser builds a token so. The only refusal is for want of memory.
     pub fn first(alloc: Global, byte: u8) -> Result<Token, OutOfMemory>
         requires { is_token_start byte ≡ true }
         ensures { IfOk result (λ token. token ≡ byte ∷ []) }
@@ -118,7 +82,7 @@ impl Token {
         Ok(())
     }
 
-    /// Another token, equal to this one.
+    /// Another token, equal to this one. The only refusal is for want of memory.
     pub fn copy(&self, alloc: Global) -> Result<Token, OutOfMemory>
         ensures { IfOk result (λ copy. copy ≡ self.now) }
     {
@@ -134,4 +98,44 @@ impl Token {
     {
         self.bytes.as_bytes()
     }
+}
+
+/// Whether a token may begin with this byte: a letter or `*` (RFC 9651 section 3.3.4). It takes no
+/// memory.
+pub fn can_start_token(byte: u8) -> bool
+    ensures { result ≡ is_token_start byte }
+{
+    matches!(byte, b'a'..=b'z' | b'A'..=b'Z' | b'*')
+}
+
+/// Whether a token may go on with this byte: a letter, a digit, `:`, `/` or one of
+/// ``!#$%&'*+-.^_`|~`` (RFC 9651 section 3.3.4). It takes no memory.
+pub fn can_be_in_token(byte: u8) -> bool
+    ensures { result ≡ is_token_rest byte }
+{
+    matches!(
+        byte,
+        b'a'..=b'z' | b'A'..=b'Z' | b'0'..=b'9' | b'!' | b'#'..=b'\'' | b'*' | b'+' | b'-'..=b':'
+            | b'^'..=b'`' | b'|' | b'~'
+    )
+}
+
+/// The place of the first of these bytes that a token does not go on with.
+fn bad_byte_after_first(bytes: &[u8]) -> Option<usize>
+    ensures { result ≡ bad_place is_token_rest bytes.now }
+{
+    bytes.iter().position(|b| !can_be_in_token(*b))
+}
+
+/// The place of the first byte that is bad where it stands; `None` also where there is no byte.
+fn bad_byte(bytes: &[u8]) -> Option<usize>
+    // the least place whose byte a token does not have there
+    ensures { result ≡ bad_word_place is_token_start is_token_rest bytes.now }
+{
+    let (first, rest) = bytes.split_first()?;
+    if !can_start_token(*first) {
+        return Some(0);
+    }
+    let place = bad_byte_after_first(rest)?;
+    Some(place + 1)
 }

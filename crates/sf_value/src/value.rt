@@ -45,7 +45,8 @@ pub enum Bare {
 /// An Item: a bare item with parameters (RFC 9651 section 3.3).
 ///
 /// ```
-/// let item = Item { bare: Bare::Boolean(true), params: Entries::new(alloc, &seed) }; // ?1
+/// let item = Item::new(alloc, &seed, Bare::Token(Token::new(alloc, b"a")?))
+///     .with_param(Key::new(alloc, b"q")?, Bare::Integer(Int::from(1)))?; // a;q=1
 /// ```
 #[derive(Debug, Drop)]
 pub struct Item {
@@ -58,7 +59,7 @@ pub struct Item {
 /// An Inner List: Items in parentheses, with parameters (RFC 9651 section 3.1.1).
 ///
 /// ```
-/// let inner = Inner { items: Sequence::new(alloc), params: Entries::new(alloc, &seed) }; // ()
+/// let inner = Inner::new(alloc, &seed).with_item(item)?; // (a;q=1)
 /// ```
 #[derive(Debug, Drop)]
 pub struct Inner {

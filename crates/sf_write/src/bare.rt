@@ -15,8 +15,8 @@ use crate::strings::put_string;
 use sf_value::{Bare, OutOfMemory, Sink, Text, Writing};
 use std::alloc::Global;
 
-/// Writes the canonical text of a bare item, as [`write_bare`] does, behind what was sent before, as
-/// [`crate::put`] does. It takes no memory.
+/// Writes the canonical text of a bare item, as [`write_bare`] does, behind what was sent before,
+/// as [`crate::put`] does. It takes no memory.
 ///
 /// ```
 /// let sent = put(b"a;b=", Ok(0), &mut out);
@@ -60,6 +60,8 @@ pub fn put_text<W: Sink>(text: &Text, before: Sent, out: &mut W) -> Sent
 /// let length = write_bare(&Bare::Boolean(true), &mut out)?; // 2: ?1
 /// ```
 pub fn write_bare<W: Sink>(bare: &Bare, out: &mut W) -> Result<u64, WriteFault>
+    // all of it went out; or its first bytes did, as many as told, and then a send failed: a count
+    // that is at its end leaves open which
     ensures text { WritesText (W.state out.old) (W.state out.new) result (canon_bare bare.now) }
     ensures valid { ValidBare Rfc9651 bare.now }
 {

@@ -33,6 +33,7 @@ fn put_inner_behind<W: Sink>(inner: &Inner, before: Sent, out: &mut W) -> Sent
     put_inner(inner, sent, out)
 }
 
+/// What stands behind the key of a member.
 fn put_behind<W: Sink>(member: &Member, before: Sent, out: &mut W) -> Sent
     ensures text { Follows W.state W.send_gives out.old out.new before result
         (canon_behind member.now) }

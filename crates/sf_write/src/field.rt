@@ -46,14 +46,16 @@ pub fn put_field<W: Sink>(field: &Field, before: Sent, out: &mut W) -> Sent
 /// let length = write_field(&field, &mut out)?;
 /// ```
 pub fn write_field<W: Sink>(field: &Field, out: &mut W) -> Result<u64, WriteFault>
+    // all of it went out; or its first bytes did, as many as told, and then a send failed: a count
+    // that is at its end leaves open which
     ensures text { WritesText (W.state out.old) (W.state out.new) result (canon field.now) }
     ensures valid { Valid Rfc9651 (kind_of field.now) field.now }
 {
     put_field(field, Ok(0), out)
 }
 
-/// The canonical text of a field (RFC 9651 section 4.1). The text spells the field: parsed as one of
-/// its kind it gives that field again, also where the field was built and never parsed. The only
+/// The canonical text of a field (RFC 9651 section 4.1). The text spells the field: parsed as one
+/// of its kind it gives that field again, also where the field was built and never parsed. The only
 /// refusal is for want of memory.
 ///
 /// ```

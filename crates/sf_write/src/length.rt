@@ -47,6 +47,7 @@ fn shown_len(text: &[u8]) -> usize {
         .saturating_add(3)
 }
 
+/// A bare item, by its type.
 pub(crate) fn bare_len(bare: &Bare) -> usize {
     match bare {
         Bare::Integer(number) => integer_len(number.get()),
@@ -69,6 +70,7 @@ fn value_len(value: &Bare) -> usize {
     }
 }
 
+/// Parameters: for each a `;`, its key and what stands behind it.
 fn params_len(params: &Entries<Bare>) -> usize {
     let mut len = 0usize;
     for (key, value) in params {
@@ -80,6 +82,7 @@ fn params_len(params: &Entries<Bare>) -> usize {
     len
 }
 
+/// An Item: its bare item and its parameters.
 fn item_len(item: &Item) -> usize {
     bare_len(&item.bare).saturating_add(params_len(&item.params))
 }
@@ -94,6 +97,7 @@ fn inner_len(inner: &Inner) -> usize {
     len.saturating_add(params_len(&inner.params))
 }
 
+/// A member of a List: an Item or an Inner List.
 fn member_len(member: &Member) -> usize {
     match member {
         Member::Item(item) => item_len(item),

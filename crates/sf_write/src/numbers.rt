@@ -29,6 +29,7 @@ pub(crate) fn put_date<W: Sink>(seconds: &Int, before: Sent, out: &mut W) -> Sen
     put_integer(seconds, sent, out)
 }
 
+/// The sign of a number: `-` for one below 0, and else nothing.
 fn put_sign<W: Sink>(is_negative: bool, before: Sent, out: &mut W) -> Sent
     ensures { Follows W.state W.send_gives out.old out.new before result (sign is_negative) }
 {

@@ -74,6 +74,7 @@ pub fn send_all<W: Sink>(bytes: &[u8], before: u64, out: &mut W) -> Result<u64, 
 /// let count = put(b"b", sent, &mut out)?; // 4
 /// ```
 pub fn put<W: Sink>(bytes: &[u8], before: Sent, out: &mut W) -> Sent
+    // it stands behind what was sent before; behind a fault nothing is sent, and the fault stays
     ensures { Follows W.state W.send_gives out.old out.new before result bytes.now }
 {
     match before {

@@ -10,6 +10,7 @@ use crate::send::{Sent, put};
 use crate::strings::CHUNK;
 use sf_value::Sink;
 
+/// Whether a byte goes out as itself: each from 0x20 to 0x7E but `"` and `%`.
 fn stands_for_itself(byte: u8) -> bool
     ensures { result ≡ is_plain byte }
 {
@@ -32,6 +33,7 @@ pub(crate) fn escaped_count(bytes: &[u8]) -> usize {
 
 /// How many bytes at the front stand for themselves.
 fn plain_len(bytes: &[u8]) -> usize
+    // as many as stand before the first one that does not go out as itself
     ensures len { result ≡ prefix_len is_plain bytes.now }
     ensures within { result ≤ length bytes.now }
 {

@@ -11,6 +11,7 @@ use sf_value::Sink;
 /// How many bytes are counted together: few enough for a byte to hold the count.
 pub(crate) const CHUNK: usize = 128;
 
+/// Whether a backslash goes out before this byte: `"` and `\`.
 fn needs_backslash(byte: u8) -> bool
     ensures { result ≡ is_escaped byte }
 {
@@ -32,6 +33,7 @@ pub(crate) fn escaped_count(bytes: &[u8]) -> usize {
 
 /// How many bytes at the front need no backslash.
 fn plain_len(bytes: &[u8]) -> usize
+    // as many as stand before the first one that needs a backslash
     ensures len { result ≡ prefix_len (λ b. not (is_escaped b)) bytes.now }
     ensures within { result ≤ length bytes.now }
 {

@@ -1,6 +1,7 @@
 -- The texts of Byte Sequences: base64 (RFC 4648 section 4).
 use Rattle.std.specs.Prelude.{◌≡◌, ℕ, ◌+◌, ◌*◌, ◌/◌, ◌%◌, ◌<◌, ◌≤◌, List, [], ◌∷◌, ◌++◌}
 use Rattle.std.specs.Prelude.{replicate, codes, slice_index}
+use Rattle.sf_value.specs.Ascii.{colon, equals}
 use Rattle.sf_value.specs.Grammar.Words.{Every}
 use Rattle.sf_value.specs.Grammar.Classes.{is_byte}
 
@@ -39,7 +40,7 @@ needed (a ∷ b ∷ c ∷ s) = needed s
 
 -- at most so many =, and the colon
 abbrev pub Pads : ℕ → List ℕ → Type 0
-Pads n t = (m : ℕ) × (m ≤ n) × (t ≡ replicate m 61 ++ 58 ∷ [])
+Pads n t = (m : ℕ) × (m ≤ n) × (t ≡ replicate m equals ++ colon ∷ [])
 
 -- base64 of s with any pad bits and any number of = up to what is needed, then the colon
 abbrev pub Sextets : List ℕ → List ℕ → Type 0
@@ -52,4 +53,4 @@ Sextets t s =
 
 -- a Byte Sequence (3.3.5, 4.2.7): a colon, base64, a colon
 abbrev pub SpellsByteSequence : List ℕ → List ℕ → Type 0
-SpellsByteSequence t s = (back : List ℕ) × (t ≡ 58 ∷ back) × Sextets back s
+SpellsByteSequence t s = (back : List ℕ) × (t ≡ colon ∷ back) × Sextets back s

@@ -11,6 +11,9 @@ use Rattle.sf_value.specs.declared.value.Member.{Member}
 use Rattle.sf_value.specs.declared.value.Member.TheVariants as member
 use Rattle.sf_value.specs.declared.value.Field.{Field}
 use Rattle.sf_value.specs.declared.value.Field.TheVariants as field
+use Rattle.sf_value.specs.Ascii.{space, quote, percent, open_bracket, close_bracket, comma, point}
+use Rattle.sf_value.specs.Ascii.{digit_zero, digit_one, colon, semicolon, equals, question_mark}
+use Rattle.sf_value.specs.Ascii.{at_sign}
 use Rattle.sf_value.specs.Grammar.Pairs.{Pairs}
 use Rattle.sf_value.specs.Grammar.Numbers.{sign}
 use Rattle.sf_value.specs.Grammar.Strings.{escaped}
@@ -25,45 +28,45 @@ is_negative (negsuc n) = true
 -- the digits behind the point: at least one, and no needless zero at the end
 abbrev pub fraction : ℕ → Seq ℕ
 fraction f =
-    if f % 100 == 0 then (48 + f / 100) ∷ []
-    else (if f % 10 == 0 then (48 + f / 100) ∷ (48 + f / 10 % 10) ∷ []
-    else (48 + f / 100) ∷ (48 + f / 10 % 10) ∷ (48 + f % 10) ∷ [])
+    if f % 100 == 0 then (digit_zero + f / 100) ∷ []
+    else (if f % 10 == 0 then (digit_zero + f / 100) ∷ (digit_zero + f / 10 % 10) ∷ []
+    else (digit_zero + f / 100) ∷ (digit_zero + f / 10 % 10) ∷ (digit_zero + f % 10) ∷ [])
 
 -- a Decimal (4.1.5)
 abbrev pub canon_decimal : ℤ → Seq ℕ
 canon_decimal m =
-    sign (is_negative m) ++ (decimal (nat_abs m / 1000) ++ 46 ∷ fraction (nat_abs m % 1000))
+    sign (is_negative m) ++ (decimal (nat_abs m / 1000) ++ point ∷ fraction (nat_abs m % 1000))
 
 -- base64 with padding and zero pad bits, and the colon (4.1.8)
 abbrev pub canon_base64 : Seq ℕ → Seq ℕ
-canon_base64 s = unpadded 0 s ++ (replicate (needed s) 61 ++ 58 ∷ [])
+canon_base64 s = unpadded 0 s ++ (replicate (needed s) equals ++ colon ∷ [])
 
 -- the pieces of a Display String, and the quote (4.1.11)
 abbrev pub canon_shown : Seq ℕ → Seq ℕ
-canon_shown [] = 34 ∷ []
+canon_shown [] = quote ∷ []
 canon_shown (c ∷ s) =
-    if is_plain c then c ∷ canon_shown s else 37 ∷ hex (c / 16) ∷ hex (c % 16) ∷ canon_shown s
+    if is_plain c then c ∷ canon_shown s else percent ∷ hex (c / 16) ∷ hex (c % 16) ∷ canon_shown s
 
 -- a bare item (4.1.3.1, 4.1.4 to 4.1.11)
 abbrev pub canon_bare : Bare → Seq ℕ
 canon_bare (Integer n) = signed_decimal n
 canon_bare (Decimal m) = canon_decimal m
-canon_bare (Text s) = 34 ∷ (escaped s ++ 34 ∷ [])
+canon_bare (Text s) = quote ∷ (escaped s ++ quote ∷ [])
 canon_bare (Token s) = s
-canon_bare (Blob s) = 58 ∷ canon_base64 s
-canon_bare (Boolean b) = 63 ∷ (if b then 49 else 48) ∷ []
-canon_bare (Date n) = 64 ∷ signed_decimal n
-canon_bare (Shown s) = 37 ∷ 34 ∷ canon_shown s
+canon_bare (Blob s) = colon ∷ canon_base64 s
+canon_bare (Boolean b) = question_mark ∷ (if b then digit_one else digit_zero) ∷ []
+canon_bare (Date n) = at_sign ∷ signed_decimal n
+canon_bare (Shown s) = percent ∷ quote ∷ canon_shown s
 
 -- a parameter's value: nothing for Boolean true
 abbrev pub canon_value : Bare → Seq ℕ
 canon_value (Boolean true) = []
-canon_value x = 61 ∷ canon_bare x
+canon_value x = equals ∷ canon_bare x
 
 -- parameters (4.1.1.2)
 abbrev pub canon_params : Pairs Bare → Seq ℕ
 canon_params [] = []
-canon_params (p ∷ ps) = 59 ∷ (p.0 ++ (canon_value p.1 ++ canon_params ps))
+canon_params (p ∷ ps) = semicolon ∷ (p.0 ++ (canon_value p.1 ++ canon_params ps))
 
 -- an Item (4.1.3)
 abbrev pub canon_item : Item → Seq ℕ
@@ -72,7 +75,7 @@ canon_item i = canon_bare i.bare ++ canon_params i.params
 -- the Items with a space before each
 abbrev pub canon_more : Seq Item → Seq ℕ
 canon_more [] = []
-canon_more (i ∷ is) = 32 ∷ (canon_item i ++ canon_more is)
+canon_more (i ∷ is) = space ∷ (canon_item i ++ canon_more is)
 
 -- the Items of an Inner List
 abbrev pub canon_items : Seq Item → Seq ℕ
@@ -81,7 +84,7 @@ canon_items (i ∷ is) = canon_item i ++ canon_more is
 
 -- an Inner List (4.1.1.1)
 abbrev pub canon_inner : Inner → Seq ℕ
-canon_inner l = 40 ∷ (canon_items l.items ++ 41 ∷ canon_params l.params)
+canon_inner l = open_bracket ∷ (canon_items l.items ++ close_bracket ∷ canon_params l.params)
 
 -- a member (4.1.1)
 abbrev pub canon_member : Member → Seq ℕ
@@ -91,12 +94,12 @@ canon_member (member.Inner l) = canon_inner l
 -- behind the key of an Item: for Boolean true the parameters alone
 abbrev pub canon_flag : Bare → Pairs Bare → Seq ℕ
 canon_flag (Boolean true) ps = canon_params ps
-canon_flag x ps = 61 ∷ (canon_bare x ++ canon_params ps)
+canon_flag x ps = equals ∷ (canon_bare x ++ canon_params ps)
 
 -- behind a key (4.1.2)
 abbrev pub canon_behind : Member → Seq ℕ
 canon_behind (member.Item i) = canon_flag i.bare i.params
-canon_behind (member.Inner l) = 61 ∷ canon_inner l
+canon_behind (member.Inner l) = equals ∷ canon_inner l
 
 -- a member of a Dictionary (4.1.2)
 abbrev pub canon_entry : Seq ℕ × Member → Seq ℕ
@@ -105,7 +108,7 @@ canon_entry p = p.0 ++ canon_behind p.1
 -- a comma and a space before each
 abbrev pub canon_commas : {X : Type 0} → (X → Seq ℕ) → Seq X → Seq ℕ
 canon_commas f [] = []
-canon_commas f (x ∷ xs) = 44 ∷ 32 ∷ (f x ++ canon_commas f xs)
+canon_commas f (x ∷ xs) = comma ∷ space ∷ (f x ++ canon_commas f xs)
 
 -- a comma and a space between two
 abbrev pub canon_series : {X : Type 0} → (X → Seq ℕ) → Seq X → Seq ℕ

@@ -1,6 +1,8 @@
 -- The byte classes (section 3 and its ABNF; tchar is that of RFC 9110 section 5.6.2).
 use Rattle.std.specs.Prelude.{ℕ, Bool, false, List, [], ◌∷◌, ◌==◌, nat_le, nat_lt, ◌&&◌, ◌||◌}
 use Rattle.std.specs.Prelude.{codes}
+use Rattle.sf_value.specs.Ascii.{tab, space, asterisk, slash, digit_zero, digit_nine, colon}
+use Rattle.sf_value.specs.Ascii.{upper_a, upper_z, lower_a, lower_z, tilde}
 
 -- one of a list
 abbrev pub is_one_of : List ℕ → ℕ → Bool
@@ -9,27 +11,27 @@ is_one_of (c ∷ cs) b = b == c || is_one_of cs b
 
 -- SP
 abbrev pub is_sp : ℕ → Bool
-is_sp b = b == 32
+is_sp b = b == space
 
 -- OWS: SP or HTAB
 abbrev pub is_ows : ℕ → Bool
-is_ows b = b == 32 || b == 9
+is_ows b = b == space || b == tab
 
 -- DIGIT: 0 to 9
 abbrev pub is_digit : ℕ → Bool
-is_digit b = nat_le 48 b && nat_le b 57
+is_digit b = nat_le digit_zero b && nat_le b digit_nine
 
 -- lcalpha: a to z
 abbrev pub is_lower : ℕ → Bool
-is_lower b = nat_le 97 b && nat_le b 122
+is_lower b = nat_le lower_a b && nat_le b lower_z
 
 -- ALPHA: a to z and A to Z
 abbrev pub is_alpha : ℕ → Bool
-is_alpha b = is_lower b || (nat_le 65 b && nat_le b 90)
+is_alpha b = is_lower b || (nat_le upper_a b && nat_le b upper_z)
 
 -- the first byte of a key (3.1.2): lcalpha or *
 abbrev pub is_key_start : ℕ → Bool
-is_key_start b = is_lower b || b == 42
+is_key_start b = is_lower b || b == asterisk
 
 -- a further byte of a key (3.1.2)
 abbrev pub is_key_rest : ℕ → Bool
@@ -41,15 +43,15 @@ is_tchar b = is_alpha b || is_digit b || is_one_of (codes "!#$%&'*+-.^_`|~") b
 
 -- the first byte of a Token (3.3.4): ALPHA or *
 abbrev pub is_token_start : ℕ → Bool
-is_token_start b = is_alpha b || b == 42
+is_token_start b = is_alpha b || b == asterisk
 
 -- a further byte of a Token (3.3.4): tchar, : or /
 abbrev pub is_token_rest : ℕ → Bool
-is_token_rest b = is_tchar b || b == 58 || b == 47
+is_token_rest b = is_tchar b || b == colon || b == slash
 
 -- 0x20 to 0x7E, the bytes of a String (3.3.3)
 abbrev pub is_visible : ℕ → Bool
-is_visible b = nat_le 32 b && nat_le b 126
+is_visible b = nat_le space b && nat_le b tilde
 
 -- what any byte is: a number below 256
 abbrev pub is_byte : ℕ → Bool

@@ -9,6 +9,7 @@ use Rattle.sf_value.specs.declared.value.Field.{Field}
 use Rattle.sf_value.specs.declared.value.Field.TheVariants as field
 use Rattle.sf_value.specs.declared.value.Kind.{Kind}
 use Rattle.sf_value.specs.declared.value.Kind.TheVariants as kind
+use Rattle.sf_value.specs.Ascii.{equals}
 use Rattle.sf_value.specs.Grammar.Words.{Every}
 use Rattle.sf_value.specs.Grammar.Classes.{is_sp}
 use Rattle.sf_value.specs.Grammar.Pairs.{Pairs, settle}
@@ -34,7 +35,7 @@ abbrev pub SpellsEntry : Dialect → Seq ℕ → Seq ℕ × Member → Type 0
 SpellsEntry d t p =
     (back : Seq ℕ)
     × IsKey p.0
-    × (((t ≡ p.0 ++ 61 ∷ back) × SpellsMember d back p.1)
+    × (((t ≡ p.0 ++ equals ∷ back) × SpellsMember d back p.1)
     ⊎ ((ps : Pairs Bare) × (p.1 ≡ flag ps) × (t ≡ p.0 ++ back) × SpellsParams d back ps))
 
 -- a List by its members, as a field

@@ -6,6 +6,7 @@ use Rattle.sf_value.specs.declared.value.Item.{Item}
 use Rattle.sf_value.specs.declared.value.Inner.{Inner}
 use Rattle.sf_value.specs.declared.value.Member.{Member}
 use Rattle.sf_value.specs.declared.value.Member.TheVariants as member
+use Rattle.sf_value.specs.Ascii.{open_bracket, close_bracket}
 use Rattle.sf_value.specs.Grammar.Words.{Every}
 use Rattle.sf_value.specs.Grammar.Classes.{is_sp}
 use Rattle.sf_value.specs.Grammar.Pairs.{Pairs}
@@ -32,7 +33,7 @@ SpellsItems d least t (i ∷ is) =
 abbrev pub SpellsInner : Dialect → List ℕ → Inner → Type 0
 SpellsInner d t l =
     (body back : List ℕ)
-    × (t ≡ 40 ∷ (body ++ 41 ∷ back))
+    × (t ≡ open_bracket ∷ (body ++ close_bracket ∷ back))
     × SpellsItems d 0 body l.items
     × SpellsParams d back l.params
 

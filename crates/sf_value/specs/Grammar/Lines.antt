@@ -3,13 +3,14 @@ use Rattle.std.specs.Prelude.{ℕ, ◌<◌, ◌≤◌, List, [], ◌∷◌, ◌+
 use Rattle.sf_value.specs.declared.dialect.Dialect.{Dialect}
 use Rattle.sf_value.specs.declared.value.Field.{Field}
 use Rattle.sf_value.specs.declared.value.Kind.{Kind}
+use Rattle.sf_value.specs.Ascii.{space, comma}
 use Rattle.sf_value.specs.Grammar.Fields.{SpellsField}
 
 -- the lines in order with a comma and a space between two (4.2; RFC 9110 section 5.3)
 abbrev pub join : List (List ℕ) → List ℕ
 join [] = []
 join (l ∷ []) = l
-join (l ∷ m ∷ ls) = l ++ 44 ∷ 32 ∷ join (m ∷ ls)
+join (l ∷ m ∷ ls) = l ++ comma ∷ space ∷ join (m ∷ ls)
 
 -- the lines are accepted: their joined text spells some value
 abbrev pub Accepted : Dialect → Kind → List (List ℕ) → Type 0

@@ -1,6 +1,7 @@
 -- The texts of Integers, Decimals and Dates.
 use Rattle.std.specs.Prelude.{◌≡◌, ℕ, ◌+◌, ◌-◌, ◌*◌, ◌^◌, ◌≤◌, ℤ, pos, neg_ℤ, Bool, true, false}
 use Rattle.std.specs.Prelude.{List, [], ◌∷◌, ◌++◌, length}
+use Rattle.sf_value.specs.Ascii.{minus, point, digit_zero, at_sign}
 use Rattle.sf_value.specs.Grammar.Words.{Every}
 use Rattle.sf_value.specs.Grammar.Classes.{is_digit}
 
@@ -12,12 +13,12 @@ signed true n = neg_ℤ (pos n)
 -- the text of a sign
 abbrev pub sign : Bool → List ℕ
 sign false = []
-sign true = 45 ∷ []
+sign true = minus ∷ []
 
 -- the value of the digits w behind digits of value a
 abbrev pub value_from : ℕ → List ℕ → ℕ
 value_from a [] = a
-value_from a (d ∷ w) = value_from (10 * a + (d - 48)) w
+value_from a (d ∷ w) = value_from (10 * a + (d - digit_zero)) w
 
 -- digits that make, with so many before them, from low to high
 pub record AreDigits (low high : ℕ) (before : ℕ) (w : List ℕ) : Type 0 where
@@ -41,11 +42,11 @@ SpellsInteger t n =
 abbrev pub SpellsDecimal : List ℕ → ℤ → Type 0
 SpellsDecimal t m =
     (neg : Bool) × (w f : List ℕ)
-    × (t ≡ sign neg ++ (w ++ 46 ∷ f))
+    × (t ≡ sign neg ++ (w ++ point ∷ f))
     × AreDigits 1 12 0 w
     × AreDigits 1 3 0 f
     × (m ≡ thousandths neg (value_from 0 w) (length f) (value_from 0 f))
 
 -- a Date (3.3.7, 4.2.9): @ and an Integer
 abbrev pub SpellsDate : List ℕ → ℤ → Type 0
-SpellsDate t n = (back : List ℕ) × (t ≡ 64 ∷ back) × SpellsInteger back n
+SpellsDate t n = (back : List ℕ) × (t ≡ at_sign ∷ back) × SpellsInteger back n

@@ -3,6 +3,7 @@ use Rattle.std.specs.Prelude.{◌≡◌, ℕ, true, List, [], ◌∷◌, ◌++�
 use Rattle.sf_value.specs.declared.dialect.Dialect.{Dialect}
 use Rattle.sf_value.specs.declared.value.Bare.{Bare}
 use Rattle.sf_value.specs.declared.value.Bare.TheVariants.{Boolean}
+use Rattle.sf_value.specs.Ascii.{semicolon, equals}
 use Rattle.sf_value.specs.Grammar.Words.{Every}
 use Rattle.sf_value.specs.Grammar.Classes.{is_sp}
 use Rattle.sf_value.specs.Grammar.Pairs.{Pairs, settle}
@@ -13,13 +14,13 @@ use Rattle.sf_value.specs.Grammar.BareItems.{SpellsBare}
 abbrev pub SpellsValue : Dialect → List ℕ → Bare → Type 0
 SpellsValue d t x =
     ((x ≡ Boolean true) × (t ≡ []))
-    ⊎ ((back : List ℕ) × (t ≡ 61 ∷ back) × SpellsBare d back x)
+    ⊎ ((back : List ℕ) × (t ≡ equals ∷ back) × SpellsBare d back x)
 
 -- a parameter (4.2.3.2): a semicolon, spaces, the key, the value
 abbrev pub SpellsParam : Dialect → List ℕ → List ℕ → Bare → Type 0
 SpellsParam d t k x =
     (gap value : List ℕ)
-    × (t ≡ 59 ∷ (gap ++ (k ++ value)))
+    × (t ≡ semicolon ∷ (gap ++ (k ++ value)))
     × Every is_sp gap
     × IsKey k
     × SpellsValue d value x

@@ -1,5 +1,6 @@
 -- Pieces with commas between them: what Lists and Dictionaries have in common.
 use Rattle.std.specs.Prelude.{◌≡◌, ℕ, List, [], ◌∷◌, ◌++◌}
+use Rattle.sf_value.specs.Ascii.{comma}
 use Rattle.sf_value.specs.Grammar.Words.{Every}
 use Rattle.sf_value.specs.Grammar.Classes.{is_sp, is_ows}
 
@@ -8,7 +9,7 @@ abbrev pub SpellsCommas : {X : Type 0} → (List ℕ → X → Type 0) → List 
 SpellsCommas P t [] = t ≡ []
 SpellsCommas P t (x ∷ xs) =
     (before behind front back : List ℕ)
-    × (t ≡ before ++ 44 ∷ (behind ++ (front ++ back)))
+    × (t ≡ before ++ comma ∷ (behind ++ (front ++ back)))
     × Every is_ows before
     × Every is_ows behind
     × P front x
