@@ -6,7 +6,7 @@ ghost use Rattle.sf_parse.specs.Fronts.{Starts};
 ghost use Rattle.sf_parse.specs.BareView.{bare_stuck};
 ghost use Rattle.sf_parse.specs.Machine.Bares.{InBoolean, bare_start, bare_step, bare_finish};
 ghost use Rattle.sf_parse.specs.declared.boolean.BooleanState.TheVariants.{Told};
-ghost use Rattle.sf_parse.specs.Machine.Takes.{bare_begins, bare_takes, bare_ends};
+ghost use Rattle.sf_parse.specs.Machine.Tests.{bare_begins, bare_takes, bare_ends};
 ghost use Rattle.sf_parse.specs.Plainness.{plain_bare_step};
 
 use crate::blob::{BlobPhase, Held};

@@ -7,7 +7,7 @@ ghost use Rattle.sf_parse.specs.Views.{held_of, blob_of, FitsHeld, FitsBlob};
 ghost use Rattle.sf_parse.specs.Machine.Language.{Steps, run};
 ghost use Rattle.sf_parse.specs.Machine.Blobs.{sextet as sextet_of, H0, Group, Padded, grown};
 ghost use Rattle.sf_parse.specs.Machine.Blobs.{pad_step, end_step, blob_step, is_last, lacking};
-ghost use Rattle.sf_parse.specs.Machine.Takes.{blob_takes, blob_ends, pad_takes};
+ghost use Rattle.sf_parse.specs.Machine.Tests.{blob_takes, blob_ends, pad_takes};
 
 use crate::sets::{BASE64, COLON, EQUALS, set_if};
 use sf_value::{OutOfMemory, ShortBytes};

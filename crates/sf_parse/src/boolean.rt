@@ -3,7 +3,7 @@ ghost use Rattle.std.specs.Prelude.{◌≡◌};
 ghost use Rattle.sf_parse.specs.Expected.{Marks};
 ghost use Rattle.sf_parse.specs.Machine.Language.{Steps};
 ghost use Rattle.sf_parse.specs.Machine.Texts.{boolean_step, boolean_finish};
-ghost use Rattle.sf_parse.specs.Machine.Takes.{boolean_takes, boolean_ends};
+ghost use Rattle.sf_parse.specs.Machine.Tests.{boolean_takes, boolean_ends};
 
 use crate::sets::BITS;
 

@@ -4,7 +4,7 @@ ghost use Rattle.sf_parse.specs.Expected.{Marks};
 ghost use Rattle.sf_parse.specs.Fronts.{Went};
 ghost use Rattle.sf_parse.specs.Machine.Language.{Steps};
 ghost use Rattle.sf_parse.specs.Machine.Numbers.{Sign, date_step, date_finish};
-ghost use Rattle.sf_parse.specs.Machine.Takes.{date_takes, date_ends};
+ghost use Rattle.sf_parse.specs.Machine.Tests.{date_takes, date_ends};
 
 use crate::number::with_sign;
 use crate::sets::{DIGITS, MINUS, set_if};

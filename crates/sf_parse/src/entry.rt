@@ -1,12 +1,13 @@
 //! A member of a Dictionary that is being read (RFC 9651 section 4.2.2).
 ghost use Rattle.std.specs.Prelude.{◌≡◌, [], ◌∷◌, false, IfOk};
+ghost use Rattle.sf_value.specs.Ascii.{asterisk};
 ghost use Rattle.sf_value.specs.Grammar.Fields.{flag as flag_member};
 ghost use Rattle.sf_parse.specs.Fronts.{Starts};
 ghost use Rattle.sf_parse.specs.EntryView.{entry_stuck};
 ghost use Rattle.sf_parse.specs.PieceEnds.{with_entry};
 ghost use Rattle.sf_parse.specs.SeriesView.{Ends};
 ghost use Rattle.sf_parse.specs.Machine.Entries.{entry_start, entry_step};
-ghost use Rattle.sf_parse.specs.Machine.Takes.{entry_takes, entry_ends};
+ghost use Rattle.sf_parse.specs.Machine.Tests.{entry_takes, entry_ends};
 
 use crate::context::Context;
 use crate::level::Level;
@@ -53,7 +54,7 @@ impl Model for EntryReader {
 
 // The key of a reader in which no member was begun.
 fn no_key(context: &Context) -> ShortBytes
-    ensures { result ≡ 42 ∷ [] }
+    ensures { result ≡ asterisk ∷ [] }
 {
     ShortBytes::one(context.alloc, b'*')
 }

@@ -10,7 +10,7 @@ ghost use Rattle.sf_parse.specs.SeriesView.{Ends};
 ghost use Rattle.sf_parse.specs.Machine.Language.{seen};
 ghost use Rattle.sf_parse.specs.Machine.Params.{ParamsState, Between, Opened, params_finish};
 ghost use Rattle.sf_parse.specs.Machine.Items.{InParams, item_start, item_step, item_finish};
-ghost use Rattle.sf_parse.specs.Machine.Takes.{item_takes, item_ends};
+ghost use Rattle.sf_parse.specs.Machine.Tests.{item_takes, item_ends};
 
 use crate::bare::BareReader;
 use crate::context::Context;

@@ -11,7 +11,7 @@ ghost use Rattle.sf_parse.specs.SeriesView.{Ends};
 ghost use Rattle.sf_parse.specs.PieceEnds.{with_member};
 ghost use Rattle.sf_parse.specs.Machine.Inners.{InnerState, inner_finish};
 ghost use Rattle.sf_parse.specs.Machine.Members.{InOne, InMany, member_start, member_step, member_finish};
-ghost use Rattle.sf_parse.specs.Machine.Takes.{member_begins, member_takes, member_ends};
+ghost use Rattle.sf_parse.specs.Machine.Tests.{member_begins, member_takes, member_ends};
 
 use crate::bare::BareReader;
 use crate::context::Context;

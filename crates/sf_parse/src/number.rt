@@ -5,7 +5,7 @@ ghost use Rattle.sf_parse.specs.Expected.{Marks};
 ghost use Rattle.sf_parse.specs.Fronts.{Went, FirstIs, Halts, Starts};
 ghost use Rattle.sf_parse.specs.Machine.Language.{Steps};
 ghost use Rattle.sf_parse.specs.Machine.Numbers.{number_start, number_step, number_finish};
-ghost use Rattle.sf_parse.specs.Machine.Takes.{number_takes, number_ends};
+ghost use Rattle.sf_parse.specs.Machine.Tests.{number_takes, number_ends};
 
 use crate::sets::{DIGITS, POINT, set_if};
 use sf_value::{Bare, Int, Thousandths};

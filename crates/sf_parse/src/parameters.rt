@@ -3,7 +3,7 @@ ghost use Rattle.std.specs.Prelude.{◌≡◌, [], IfOk, IfNone, OnOk};
 ghost use Rattle.sf_value.specs.Grammar.Pairs.{put as put_pair};
 ghost use Rattle.sf_value.specs.Grammar.Tokens.{IsKey};
 ghost use Rattle.sf_parse.specs.Machine.Params.{Between, Opened, params_step, params_finish};
-ghost use Rattle.sf_parse.specs.Machine.Takes.{params_takes, params_ends};
+ghost use Rattle.sf_parse.specs.Machine.Tests.{params_takes, params_ends};
 ghost use Rattle.sf_parse.specs.ParamsView.{params_stuck};
 
 use crate::bare::BareReader;

@@ -10,7 +10,7 @@ ghost use Rattle.sf_parse.specs.Feeding.{FedTo, TakenPlain};
 ghost use Rattle.sf_parse.specs.Plain.{plain_byte};
 ghost use Rattle.sf_parse.specs.PlainParsers.{IsPlain, IsOther, KeptPlain, NotForMemory};
 ghost use Rattle.sf_parse.specs.Machine.Fields.{step as step_of};
-ghost use Rattle.sf_parse.specs.Machine.Takes.{may_end};
+ghost use Rattle.sf_parse.specs.Machine.Tests.{may_end};
 
 use crate::context::Context;
 use crate::refusal::Refusal;

@@ -1,6 +1,7 @@
 //! A Display String that is being read (RFC 9651 section 4.2.10).
 ghost use Rattle.std.specs.Prelude.{◌≡◌, ℕ, ◌<◌, ◌≤◌, List, [], ◌∷◌, ◌++◌, Some, IfOk, IfSome, take};
 ghost use Rattle.std.specs.Option.{option_map};
+ghost use Rattle.sf_value.specs.Ascii.{percent as percent_sign};
 ghost use Rattle.sf_value.specs.Grammar.Utf8.{Utf8, wants, rows, look_up, utf8_step};
 ghost use Rattle.sf_parse.specs.Expected.{Marks};
 ghost use Rattle.sf_parse.specs.Fronts.{Went};
@@ -9,7 +10,7 @@ ghost use Rattle.sf_parse.specs.Machine.Language.{Steps, run};
 ghost use Rattle.sf_parse.specs.Machine.Showns.{Plain, pushed, unhex as unhex_of};
 ghost use Rattle.sf_parse.specs.Machine.Showns.{can_begin as can_begin_at, shown_step};
 ghost use Rattle.sf_parse.specs.Machine.Showns.{GoodUtf8};
-ghost use Rattle.sf_parse.specs.Machine.Takes.{shown_takes, shown_ends};
+ghost use Rattle.sf_parse.specs.Machine.Tests.{shown_takes, shown_ends};
 ghost use Rattle.sf_parse.specs.Expected.{digit_takes};
 
 use crate::runs::{ShownPlain, long_front};
@@ -145,7 +146,7 @@ fn unhex(byte: u8) -> Option<u8>
 #[inline]
 fn escaped(high: u8, low: u8) -> Option<u8>
     ensures { IfSome result (λ c. (bs : List ℕ) (x y : Utf8) → utf8_step x c ≡ Some y
-        → run shown_step (Plain bs x) (37 ∷ high ∷ low ∷ []) ≡ Some (Plain (bs ++ c ∷ []) y)) }
+        → run shown_step (Plain bs x) (percent_sign ∷ high ∷ low ∷ []) ≡ Some (Plain (bs ++ c ∷ []) y)) }
 {
     let high = unhex(high)?;
     let low = unhex(low)?;

@@ -1,6 +1,7 @@
 //! Where in the lines of a field a refusal stands.
 ghost use Rattle.std.specs.Prelude.{◌≡◌, [], ◌∷◌, Some, replicate};
 ghost use Rattle.std.specs.Char.{encode_utf8};
+ghost use Rattle.sf_value.specs.Ascii.{space};
 ghost use Rattle.sf_parse.specs.Spots.{stands_at, place_in, line_place};
 ghost use Rattle.sf_parse.specs.Spots.{printed_byte, printed, in_line_text};
 
@@ -146,7 +147,7 @@ struct Spaces {
 }
 
 impl fmt::Display for Spaces {
-    ghost output = { λ spaces. Some (replicate spaces.count 32) };
+    ghost output = { λ spaces. Some (replicate spaces.count space) };
 
     fn fmt<W: fmt::Write>(&self, f: &mut fmt::Formatter<W>) -> fmt::Result {
         for _i in 0..self.count {

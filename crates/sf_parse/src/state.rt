@@ -8,7 +8,7 @@ ghost use Rattle.sf_parse.specs.StateView.{state_of};
 ghost use Rattle.sf_parse.specs.Fronts.{Front, unless};
 ghost use Rattle.sf_parse.specs.Machine.Fields.{begin as begin_at, step as step_of};
 ghost use Rattle.sf_parse.specs.Machine.Fields.{finish as finish_of};
-ghost use Rattle.sf_parse.specs.Machine.Takes.{takes as takes_at, may_end as may_end_at};
+ghost use Rattle.sf_parse.specs.Machine.Tests.{takes as takes_at, may_end as may_end_at};
 
 use crate::context::Context;
 use crate::level::Level;

@@ -7,7 +7,7 @@ ghost use Rattle.sf_parse.specs.Fronts.{Went};
 ghost use Rattle.sf_parse.specs.Views.{text_of};
 ghost use Rattle.sf_parse.specs.Machine.Language.{Steps};
 ghost use Rattle.sf_parse.specs.Machine.Texts.{text_step};
-ghost use Rattle.sf_parse.specs.Machine.Takes.{text_takes, text_ends};
+ghost use Rattle.sf_parse.specs.Machine.Tests.{text_takes, text_ends};
 
 use crate::runs::{Unescaped, long_front};
 use crate::sets::{ESCAPED, VISIBLE};
