@@ -2,10 +2,11 @@
 //! bytes that refusals name. Each is the contract of a function that does nothing.
 ghost use Rattle.sf_parse.specs.Laws.{OneValue, IsRead, IsRest, IsViable, IsNext, IsEnd, StopsAt};
 ghost use Rattle.sf_parse.specs.Laws.{CanonOne, AnyPieces, OnlyNew, LinesOne};
-ghost use Rattle.sf_parse.specs.Reached.{ReachedNothing, ReachesMore, ReachedViable, ReachedNext, ReachedEnd};
-ghost use Rattle.sf_parse.specs.Reached.{ReachedStops, ReachedAll};
+ghost use Rattle.sf_parse.specs.Reached.{ReachedNothing, ReachesMore, ReachedViable, ReachedNext};
+ghost use Rattle.sf_parse.specs.Reached.{ReachedEnd, ReachedStops, ReachedAll};
 ghost use Rattle.sf_parse.specs.ByteSets.{RunsAreTheSet, RunsAreWhole};
-ghost use Rattle.sf_parse.specs.StateTests.{TakesStep, MayEnd, TakesNext, EndsText, NextBelow, SomeNext};
+ghost use Rattle.sf_parse.specs.StateTests.{TakesStep, MayEnd, TakesNext, EndsText, NextBelow};
+ghost use Rattle.sf_parse.specs.StateTests.{SomeNext};
 
 /// A text spells at most one value of a kind; valid values with one canonical text are one; lines
 /// that are accepted have one value, and its canonical text as the only line is accepted as that
@@ -61,8 +62,8 @@ pub fn what_may_follow()
     ensures some { SomeNext }
 {}
 
-/// The runs of a set, as [`crate::runs_of`] gives them, are just its bytes below 128, ascending, each
-/// run as long as it can be.
+/// The runs of a set, as [`crate::runs_of`] gives them, are just its bytes below 128, ascending,
+/// each run as long as it can be.
 pub fn runs_are_the_set()
     ensures set { RunsAreTheSet }
     ensures whole { RunsAreWhole }

@@ -63,7 +63,9 @@ impl TopReader {
 
     /// The item, if the field may end here. What is left is the reader alone.
     pub fn finish(&mut self, context: &Context) -> Result<Option<Item>, OutOfMemory>
+        // The item is the value that the state has at the end, if it has one.
         ensures value { IfOk result (λ item. seen field.Item item ≡ finish_of self.old) }
+        // In a plain state of an Item the end takes no memory.
         ensures plain { PlainState self.old → IsOk result }
     {
         match self.phase {
