@@ -12,7 +12,7 @@ use Rattle.sf_parse.specs.declared.refusal.Refusal.{Refusal}
 use Rattle.sf_parse.specs.declared.refusal.Refusal.TheVariants.{Syntax, TooLong}
 use Rattle.sf_parse.specs.Machine.Fields.{Rest, step, finish, begin}
 use Rattle.sf_parse.specs.Machine.Tests.{takes, may_end}
-use Rattle.sf_parse.specs.Reached as taking
+use Rattle.sf_parse.specs.Reached.{Reached}
 use Rattle.sf_parse.specs.Expected.{Marks}
 use Rattle.sf_parse.specs.Parsers.{Progress, Took, Sound, IsSyntax, RefusedFor}
 use Rattle.sf_parse.specs.Parsers.{SameSettings, Fed, FedAnswer, Finishes}
@@ -21,7 +21,7 @@ use Rattle.sf_parse.proofs.Refusals.{stops_exact, ends_exact, ends_only}
 
 -- what a sound parser took, as the machine's laws say it
 pub taken : (p : Progress) (s : List ℕ) → Sound p.refusal p.state p.count p.max → Took p s
-    → taking.Took p.dialect p.kind p.state s
+    → Reached p.dialect p.kind p.state s
 taken p s g t = record {
   good = (subst (λ r. Sound r p.state p.count p.max) t.unrefused g).0;
   rest = t.rest;

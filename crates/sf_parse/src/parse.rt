@@ -37,7 +37,7 @@ pub fn parse_text(
     parse_text_in(alloc, seed, Dialect::Rfc9651, kind, text)
 }
 
-/// The value that the text spells in this dialect, refused as [`parse_text`] refuses.
+/// The value that the text spells in the dialect of the call, refused as [`parse_text`] refuses.
 ///
 /// ```
 /// parse_text_in(alloc, &seed, Dialect::Rfc8941, Kind::Item, b"@1") // refused: no Dates

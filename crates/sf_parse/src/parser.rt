@@ -47,9 +47,15 @@ impl Model for Parser {
 
     ghost Value = { Progress };
 
-    ghost view = { λ p. record { dialect = p.context.dialect; kind = p.kind; max = p.max;
-        state = state_of p.state; count = p.count; refusal = p.refusal;
-        after_line = p.after_line } };
+    ghost view = { λ p. record {
+      dialect = p.context.dialect;
+      kind = p.kind;
+      max = p.max;
+      state = state_of p.state;
+      count = p.count;
+      refusal = p.refusal;
+      after_line = p.after_line;
+    } };
 
     ghost invariant = { λ p. Sound p.refusal (state_of p.state) p.count p.max };
 }
