@@ -15,7 +15,7 @@ use Rattle.sf_parse.specs.declared.refusal.Refusal.{Refusal}
 use Rattle.sf_parse.specs.declared.refusal.Refusal.TheVariants.{OutOfMemory, Syntax, TooLong}
 use Rattle.sf_parse.specs.declared.refusal.Refusal.TheVariants.{ReadFault}
 use Rattle.sf_parse.specs.Parsers.{IsOnly, Parses}
-use Rattle.sf_parse.proofs.Theorems.{one_value, canon_one}
+use Rattle.sf_parse.proofs.GrammarLaws.{one_value, canon_one}
 use Rattle.sf_field.specs.Asking.{MeansAsCanonical}
 use Rattle.sf_field.specs.Normal.{NormalisesTo}
 use Rattle.sf_field.specs.Lines.{ParsesLines}

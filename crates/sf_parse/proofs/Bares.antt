@@ -238,8 +238,8 @@ number_apart c b s t e n = let k = seen_cases InNumber (number_start b) s e in
     others c b t (number_first b k.0 k.1) n
 
 -- the texts of the eight types, as one language
-abbrev Starts : Bool → List ℕ → Bare → Type 0
-Starts c =
+abbrev BareTexts : Bool → List ℕ → Bare → Type 0
+BareTexts c =
     Either SpellsNumber
     (Either (Seen Text SpellsString)
     (Either (Seen Token (SpellsWord is_token_start is_token_rest))
@@ -249,13 +249,13 @@ Starts c =
     (Where c (Seen Shown SpellsDisplayString)))))))
 
 module _ (d : Dialect) where
-  starts_both : (t : List ℕ) (v : Bare) → Starts (is_rfc9651 d) t v ↔ SpellsBare d t v
-  starts_both t v = (to, from v)
+  texts_both : (t : List ℕ) (v : Bare) → BareTexts (is_rfc9651 d) t v ↔ SpellsBare d t v
+  texts_both t v = (to, from v)
     where
       at : (x : Bare) → v ≡ x → SpellsBare d t x → SpellsBare d t v
       at x e h = subst (SpellsBare d t) (sym e) h
 
-      to : Starts (is_rfc9651 d) t v → SpellsBare d t v
+      to : BareTexts (is_rfc9651 d) t v → SpellsBare d t v
       to = ⊎_elim
           (⊎_elim (λ h. at (Integer h.0) h.1 h.2) (λ h. at (Decimal h.0) h.1 h.2))
           (⊎_elim (λ h. at (Text h.0) h.2 h.1)
@@ -265,7 +265,7 @@ module _ (d : Dialect) where
           (⊎_elim (λ h. at (Blob h.0) h.2 h.1)
           (λ (on, (s, h, e)). at (Shown s) e (on, h)))))))
 
-      from : (v : Bare) → SpellsBare d t v → Starts (is_rfc9651 d) t v
+      from : (v : Bare) → SpellsBare d t v → BareTexts (is_rfc9651 d) t v
       from (Integer n) h = inl (inl (n, refl, h))
       from (Decimal n) h = inl (inr (n, refl, h))
       from (Text s) h = inr (inl (s, h, refl))
@@ -276,7 +276,7 @@ module _ (d : Dialect) where
       from (Shown s) h = inr (inr (inr (inr (inr (inr (h.0, (s, h.1, refl)))))))
 
   pub bare_starts : Reads BareState Bare GoodBare RestBare (SpellsBare d) (bare_start d) None
-  bare_starts = let c = is_rfc9651 d in reads_iff starts_both
+  bare_starts = let c = is_rfc9651 d in reads_iff texts_both
       (reads_either (reads_into InNumber (λ s g. g) (λ s t v. same) number_starts)
       (reads_either
       (reads_seen {GoodS = AnyState} InText Text (λ s g. tt) (λ s t v. same)

@@ -35,16 +35,16 @@ use Rattle.sf_parse.specs.Machine.States.{State}
 use Rattle.sf_parse.specs.Machine.States.{BeforeItem, InTop, AfterItem, InList}
 use Rattle.sf_parse.specs.Machine.States.{InDict}
 use Rattle.sf_parse.specs.Machine.Fields.{Rest, begin}
-use Rattle.sf_parse.specs.Machine.Takes.{number_takes, date_takes, text_takes, boolean_takes}
-use Rattle.sf_parse.specs.Machine.Takes.{pad_takes, blob_takes, utf8_takes, passes, shown_takes}
-use Rattle.sf_parse.specs.Machine.Takes.{bare_begins, bare_takes, params_takes, item_takes}
-use Rattle.sf_parse.specs.Machine.Takes.{item_ends, inner_takes, member_begins, member_takes}
-use Rattle.sf_parse.specs.Machine.Takes.{entry_takes, series_takes, series_ends, takes, may_end}
-use Rattle.sf_parse.specs.Takes.{NextBelow, SomeNext}
+use Rattle.sf_parse.specs.Machine.Tests.{number_takes, date_takes, text_takes, boolean_takes}
+use Rattle.sf_parse.specs.Machine.Tests.{pad_takes, blob_takes, utf8_takes, passes, shown_takes}
+use Rattle.sf_parse.specs.Machine.Tests.{bare_begins, bare_takes, params_takes, item_takes}
+use Rattle.sf_parse.specs.Machine.Tests.{item_ends, inner_takes, member_begins, member_takes}
+use Rattle.sf_parse.specs.Machine.Tests.{entry_takes, series_takes, series_ends, takes, may_end}
+use Rattle.sf_parse.specs.StateTests.{NextBelow, SomeNext}
 use Rattle.sf_parse.proofs.Fields.{machine}
-use Rattle.sf_parse.proofs.Theorems.{is_viable}
-use Rattle.sf_parse.proofs.Taking.{took_nothing, takes_more}
-use Rattle.sf_parse.proofs.Takes.{takes_step, may_end_is, takes_next}
+use Rattle.sf_parse.proofs.GrammarLaws.{is_viable}
+use Rattle.sf_parse.proofs.Reached.{reached_nothing, reaches_more}
+use Rattle.sf_parse.proofs.StateTests.{takes_step, may_end_is, takes_next}
 
 neither : (x y : Bool) → x ≡ false → y ≡ false → (x || y) ≡ false
 neither x y e k = ap₂ (λ x y. x || y) e k
@@ -266,7 +266,7 @@ pub next_below : NextBelow
 next_below d kind p b h =
     let a = (is_viable d kind p).0
     (Machines.viable_front (machine d) (SpellsField d kind) p (b ∷ []) h) in
-    let k = takes_more d kind (begin kind) a.0 [] p (took_nothing d kind) a.1 in
+    let k = reaches_more d kind (begin kind) a.0 [] p (reached_nothing d kind) a.1 in
     below d a.0 b ((takes_next d kind a.0 p b k).0 h)
 
 -- where the text may end, a space may come

@@ -2,8 +2,9 @@
 use Rattle.std.proofs.Common.{◌≡◌, ℕ, true, Option, Some, None, refl, ap, ◌∙◌}
 use Rattle.sf_value.specs.Grammar.Classes.{is_sp, is_ows}
 use Rattle.sf_parse.specs.Machine.Language.{onward, seen, and_then}
-use Rattle.sf_parse.specs.Machine.Series.{SeriesState, Begin, InPiece, Gap, Comma, series_finish}
-use Rattle.sf_parse.specs.SeriesView.{behind_step, series_next, series_end}
+use Rattle.sf_parse.specs.Machine.Series.{SeriesState, Begin, InPiece, Gap, Comma, gap_step}
+use Rattle.sf_parse.specs.Machine.Series.{series_finish}
+use Rattle.sf_parse.specs.SeriesView.{series_next, series_end}
 
 module _ {S V : Type 0} (first : ℕ → Option S) (next : S → ℕ → Option S)
     (added : S → V → Option V) (none : V) where
@@ -21,7 +22,7 @@ module _ {S V : Type 0} (first : ℕ → Option S) (next : S → ℕ → Option 
   pub piece_goes_on : (given : V) (s t : S) (b : ℕ) → next s b ≡ Some t
       → series_next first next added none (InPiece given s) b ≡ Some (InPiece given t)
   piece_goes_on given s t b e =
-      ap (λ o. onward (InPiece given) o (added s given) (λ more. behind_step more b)) e
+      ap (λ o. onward (InPiece given) o (added s given) (λ more. gap_step more b)) e
 
 seen_is : {X Y : Type 0} (f : X → Y) (o : Option X) → seen f o ≡ and_then o (λ x. Some (f x))
 seen_is f None = refl

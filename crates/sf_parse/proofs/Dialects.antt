@@ -40,7 +40,7 @@ use Rattle.sf_parse.specs.Machine.Fields.{list_series, dict_series, step}
 use Rattle.sf_parse.specs.Machine.Fields.{finish, begin}
 use Rattle.sf_parse.specs.Laws.{At, OnlyNew}
 use Rattle.sf_parse.proofs.Language.{and_then_cases}
-use Rattle.sf_parse.proofs.Theorems.{is_read, stops_at}
+use Rattle.sf_parse.proofs.GrammarLaws.{is_read, stops_at}
 use Rattle.sf_parse.specs.Machine.Members.{member_start, member_step, member_finish}
 use Rattle.sf_parse.specs.Machine.Entries.{entry_step, entry_finish}
 
@@ -175,8 +175,8 @@ list_near Begin b = near_second (allow (is_sp b) Begin)
     (mark_none (λ b. allow (is_sp b) Begin) refl refl b)
     (near_seen (InPiece []) (member_start_near b))
 list_near (InPiece given s) b = near_onward (InPiece given) (member_finish s)
-    (λ x. gap_step (list_series Rfc8941) (given
-    ++ x ∷ []) b) (λ x. mark_none (gap_step (list_series Rfc8941) (given
+    (λ x. gap_step (given
+    ++ x ∷ []) b) (λ x. mark_none (gap_step (given
     ++ x ∷ [])) refl refl b) (member_near s b)
 list_near (Gap given) b = inl refl
 list_near (Comma given) b = near_second (allow (is_ows b) (Comma given))
@@ -187,8 +187,8 @@ dict_near : (s : SeriesState EntryState (Pairs Member)) (b : ℕ)
     → Near b (series_step (dict_series Rfc8941) s b) (series_step (dict_series Rfc9651) s b)
 dict_near Begin b = inl refl
 dict_near (InPiece given s) b = near_onward (InPiece given) (entry_finish s)
-    (λ p. gap_step (dict_series Rfc8941) (put given p.0 p.1) b)
-    (λ p. mark_none (gap_step (dict_series Rfc8941) (put given p.0 p.1)) refl refl b)
+    (λ p. gap_step (put given p.0 p.1) b)
+    (λ p. mark_none (gap_step (put given p.0 p.1)) refl refl b)
     (entry_near s b)
 dict_near (Gap given) b = inl refl
 dict_near (Comma given) b = inl refl

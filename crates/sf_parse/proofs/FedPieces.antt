@@ -11,17 +11,17 @@ use Rattle.sf_value.specs.Grammar.Lines.{Viable}
 use Rattle.sf_parse.specs.declared.refusal.Refusal.{Refusal}
 use Rattle.sf_parse.specs.declared.refusal.Refusal.TheVariants.{Syntax, TooLong}
 use Rattle.sf_parse.specs.Machine.Fields.{Rest, step, finish, begin}
-use Rattle.sf_parse.specs.Machine.Takes.{takes, may_end}
-use Rattle.sf_parse.specs.Taking as taking
+use Rattle.sf_parse.specs.Machine.Tests.{takes, may_end}
+use Rattle.sf_parse.specs.Reached.{Reached}
 use Rattle.sf_parse.specs.Expected.{Marks}
 use Rattle.sf_parse.specs.Parsers.{Progress, Took, Sound, IsSyntax, RefusedFor}
 use Rattle.sf_parse.specs.Parsers.{SameSettings, Fed, FedAnswer, Finishes}
-use Rattle.sf_parse.proofs.Taking.{took_nothing, took_viable}
+use Rattle.sf_parse.proofs.Reached.{reached_nothing, reached_viable}
 use Rattle.sf_parse.proofs.Refusals.{stops_exact, ends_exact, ends_only}
 
 -- what a sound parser took, as the machine's laws say it
 pub taken : (p : Progress) (s : List ℕ) → Sound p.refusal p.state p.count p.max → Took p s
-    → taking.Took p.dialect p.kind p.state s
+    → Reached p.dialect p.kind p.state s
 taken p s g t = record {
   good = (subst (λ r. Sound r p.state p.count p.max) t.unrefused g).0;
   rest = t.rest;
@@ -36,7 +36,7 @@ new_took p e c r = record {
   count = c;
   rest = λ u v.
       subst (λ s. Rest p.dialect s u v ↔ SpellsField p.dialect p.kind ([] ++ u) v) (sym e)
-      ((took_nothing p.dialect p.kind).rest u v);
+      ((reached_nothing p.dialect p.kind).rest u v);
   unrefused = r;
 }
 
@@ -81,7 +81,7 @@ fed_past p q b g h same c r = record {
           refl,
           omega (arith, length-append (s ++ b ∷ []) more, length-append s (b ∷ [])),
           subst (Viable p.dialect p.kind) (sym front)
-              (took_viable p.dialect p.kind p.state s (taken p s g t)),
+              (reached_viable p.dialect p.kind p.state s (taken p s g t)),
         ),
   );
 }

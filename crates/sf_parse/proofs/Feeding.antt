@@ -19,7 +19,7 @@ use Rattle.sf_parse.proofs.Machines
 use Rattle.sf_parse.proofs.Fields.{machine}
 use Rattle.sf_parse.proofs.Fronts.{kept_by_front}
 use Rattle.sf_parse.proofs.PlainSteps.{plain_step}
-use Rattle.sf_parse.proofs.Taking.{takes_more, took_viable}
+use Rattle.sf_parse.proofs.Reached.{reaches_more, reached_viable}
 use Rattle.sf_parse.proofs.FedPieces.{FedFront, taken, stopped_in}
 
 -- a text was taken behind another
@@ -27,7 +27,7 @@ took_run : (p q : Progress) (s t : List ℕ) → Sound p.refusal p.state p.count
     → run (step p.dialect) p.state t ≡ Some q.state → SameSettings p q
     → q.count ≡ p.count + length t → q.refusal ≡ None → Took q (s ++ t)
 took_run p q s t g k e same c r =
-    let more = takes_more p.dialect p.kind p.state q.state s t (taken p s g k) e in
+    let more = reaches_more p.dialect p.kind p.state q.state s t (taken p s g k) e in
     record {
       count = let n : p.count ≡ length s = k.count in omega (arith, length-append s t);
       rest = λ u v.
@@ -49,9 +49,9 @@ fed_run p q t g h e same c r = record {
     r,
     λ s k.
         let n : p.count ≡ length s = k.count in
-        let m = takes_more p.dialect p.kind p.state q.state s t (taken p s g k) e in (
+        let m = reaches_more p.dialect p.kind p.state q.state s t (taken p s g k) e in (
           omega (arith, length-append s t),
-          took_viable p.dialect p.kind q.state (s ++ t) m,
+          reached_viable p.dialect p.kind q.state (s ++ t) m,
           took_run p q s t g k e same c (r ∙ k.unrefused),
         ),
   );

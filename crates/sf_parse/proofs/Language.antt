@@ -1,4 +1,4 @@
--- The laws of the words in specs/Language.
+-- The laws of the words in specs/Machine/Language.
 use Rattle.std.proofs.Common.{◌≡◌, ℕ, Bool, true, false, ◌==◌, List, [], ◌∷◌, ◌++◌, Option, Some}
 use Rattle.std.proofs.Common.{None, ⊎_elim, refl, sym, ap, ◌∙◌, subst, ◌↔◌, ◌⊎◌, inl, inr, eqb-true}
 use Rattle.std.proofs.Common.{eq-eqb}

@@ -8,7 +8,7 @@ use Rattle.sf_value.specs.Grammar.Utf8.{Utf8, Start, Wants, within, utf8_step, W
 use Rattle.sf_parse.specs.Machine.Language.{run, seen}
 use Rattle.sf_parse.specs.Machine.Showns.{Plain, Hex, unhex, pushed, shown_step}
 use Rattle.sf_value.specs.Grammar.Classes.{is_visible}
-use Rattle.sf_parse.specs.Machine.Takes.{shown_ends}
+use Rattle.sf_parse.specs.Machine.Tests.{shown_ends}
 use Rattle.sf_parse.specs.Views.{utf8_of, shown_of, FitsShown, Leads}
 use Rattle.sf_parse.specs.declared.shown.Utf8State.{Utf8State}
 use Rattle.sf_parse.specs.declared.shown.ShownPhase.{ShownPhase}

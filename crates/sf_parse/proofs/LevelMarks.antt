@@ -14,8 +14,8 @@ use Rattle.sf_parse.specs.Machine.Bares.{BareState}
 use Rattle.sf_parse.specs.Machine.Params.{ParamsState}
 use Rattle.sf_parse.specs.Machine.Items.{ItemState, InBare, InParams}
 use Rattle.sf_parse.specs.Machine.Members.{MemberState, InOne, InMany}
-use Rattle.sf_parse.specs.Machine.Takes.{shown_takes, utf8_takes, params_takes, item_takes}
-use Rattle.sf_parse.specs.Machine.Takes.{member_takes, entry_takes, takes}
+use Rattle.sf_parse.specs.Machine.Tests.{shown_takes, utf8_takes, params_takes, item_takes}
+use Rattle.sf_parse.specs.Machine.Tests.{member_takes, entry_takes, takes}
 use Rattle.sf_parse.specs.ItemView.{with_params}
 use Rattle.sf_parse.specs.MemberView.{closing_of, IsInParams}
 use Rattle.sf_parse.specs.EntryView.{flag_at, IsFlag}

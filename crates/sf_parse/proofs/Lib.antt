@@ -27,9 +27,9 @@ pub mod Items
 pub mod Inners
 pub mod Series
 pub mod Fields
-pub mod Theorems
-pub mod Taking
-pub mod Takes
+pub mod GrammarLaws
+pub mod Reached
+pub mod StateTests
 pub mod Below
 pub mod Dialects
 pub mod Refusals

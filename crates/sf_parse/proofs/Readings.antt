@@ -18,11 +18,11 @@ use Rattle.sf_parse.specs.Parsers.{Progress, Took, Fed, RefusedFor, Finishes}
 use Rattle.sf_parse.specs.Plain.{plain_byte}
 use Rattle.sf_parse.specs.PlainParsers.{IsPlain, IsOther, NotForMemory}
 use Rattle.sf_parse.specs.Reading.{GaveAll, IsPlainText, Wanted, ReadAndParsed}
-use Rattle.sf_parse.proofs.Taking.{took_nothing, took_viable}
+use Rattle.sf_parse.proofs.Reached.{reached_nothing, reached_viable}
 use Rattle.sf_value.proofs.Gives.{gave_none, gave_more}
 
 -- what was given so far, and taken by the parser
-pub record Reads (old now : SourceState) (kind : Kind) (max given : ℕ) (p : Progress) : Type 0 where
+pub record ReadSoFar (old now : SourceState) (kind : Kind) (max given : ℕ) (p : Progress) : Type 0 where
   pub text : List ℕ
   pub gave : Gave old now text
   pub took : Took p text
@@ -47,7 +47,7 @@ plain_front kind a b h = (h.0, every_front plain_byte a b h.1)
 
 pub reads_start : (s : SourceState) (kind : Kind) (max : ℕ) (p : Progress) → Took p []
     → p.dialect ≡ Rfc9651 → p.kind ≡ kind → p.max ≡ max → (kind ≡ kind_is.Item → IsPlain p)
-    → Reads s s kind max 0 p
+    → ReadSoFar s s kind max 0 p
 reads_start s kind max p t d k m plain = record {
   text = [];
   gave = gave_none s;
@@ -57,14 +57,14 @@ reads_start s kind max p t d k m plain = record {
   same_kind = k;
   same_max = m;
   within = omega arith;
-  viable = took_viable Rfc9651 kind (begin kind) [] (took_nothing Rfc9651 kind);
+  viable = reached_viable Rfc9651 kind (begin kind) [] (reached_nothing Rfc9651 kind);
   plain = λ h. plain h.0;
 }
 
 pub reads_more : (old a b : SourceState) (kind : Kind) (max given n : ℕ) (p q : Progress)
-    (ys : List ℕ) → Reads old a kind max given p → GivesOnce a b ys → length ys ≡ n
+    (ys : List ℕ) → ReadSoFar old a kind max given p → GivesOnce a b ys → length ys ≡ n
     → Fed p q (Ok tt) ys → (IsPlain p → Every plain_byte ys → IsPlain q)
-    → Reads old b kind max (given + n) q
+    → ReadSoFar old b kind max (given + n) q
 reads_more old a b kind max given n p q ys r g e f plain =
     let fed = f.answer.1 r.text r.took in
     let same = f.settings in
@@ -90,7 +90,7 @@ at_most : (m n k given top : ℕ) → m ≡ given → k ≡ m + n → given + n 
 at_most m n k given top c e l = omega arith
 
 pub reads_refused : (old a b : SourceState) (kind : Kind) (max given : ℕ) (p q : Progress)
-    (ys : List ℕ) (e : Refusal) → Reads old a kind max given p → GivesOnce a b ys
+    (ys : List ℕ) (e : Refusal) → ReadSoFar old a kind max given p → GivesOnce a b ys
     → given + length ys ≤ capped (max + 1) → Fed p q (Err e) ys
     → (IsPlain p → Every plain_byte ys → IsOther e)
     → ReadAndParsed Rfc9651 kind old b max (Err e)
@@ -130,7 +130,7 @@ reads_refused old a b kind max given p q ys e r g l f plain = at e refused other
     at (ReadFault place) h o = absurd (h [])
 
 pub reads_failed : (old a b : SourceState) (kind : Kind) (max given : ℕ) (p : Progress)
-    → Reads old a kind max given p → FailsOnce a b
+    → ReadSoFar old a kind max given p → FailsOnce a b
     → ReadAndParsed Rfc9651 kind old b max (Err (ReadFault given))
 reads_failed old a b kind max given p r f =
     (r.text, record { mid = a; gave = r.gave; failed = f }, r.count, r.within, r.viable)
@@ -152,7 +152,7 @@ ended old b kind max text (Err (TooLong limit)) g l m n f = absurd f
 ended old b kind max text (Err (ReadFault place)) g l m n f = absurd f
 
 finished : (kind : Kind) (max given : ℕ) (old a : SourceState) (p : Progress)
-    (r : Result Field Refusal) (k : Reads old a kind max given p)
+    (r : Result Field Refusal) (k : ReadSoFar old a kind max given p)
     → ((s : List ℕ) → Took p s → Finishes p.dialect p.kind s r) → Finishes Rfc9651 kind k.text r
 finished kind max given old a p r k f =
     subst (λ y. Finishes Rfc9651 y k.text r) k.same_kind
@@ -160,7 +160,7 @@ finished kind max given old a p r k f =
 
 -- as many bytes were given as a count holds
 pub reads_full : (old a : SourceState) (kind : Kind) (max given limit : ℕ) (p : Progress)
-    (r : Result Field Refusal) → Reads old a kind max given p → max < 2 ^ 64
+    (r : Result Field Refusal) → ReadSoFar old a kind max given p → max < 2 ^ 64
     → limit ≡ capped (max + 1) → limit ≤ given → (IsPlain p → NotForMemory r)
     → ((s : List ℕ) → Took p s → Finishes p.dialect p.kind s r)
     → ReadAndParsed Rfc9651 kind old a max r
@@ -172,7 +172,7 @@ reads_full old a kind max given limit p r k m e l n f =
 
 -- the reader came to its end
 pub reads_ended : (old a b : SourceState) (kind : Kind) (max given : ℕ) (p : Progress)
-    (r : Result Field Refusal) → Reads old a kind max given p → max < 2 ^ 64 → EndsOnce a b
+    (r : Result Field Refusal) → ReadSoFar old a kind max given p → max < 2 ^ 64 → EndsOnce a b
     → (IsPlain p → NotForMemory r) → ((s : List ℕ) → Took p s → Finishes p.dialect p.kind s r)
     → ReadAndParsed Rfc9651 kind old b max r
 reads_ended old a b kind max given p r k m e n f =

@@ -140,13 +140,13 @@ module _ {S X V : Type 0} (k : Series S X V) (law : SeriesLaws S X V k) where
   not_comma b e n = let n' : is_ows 44 ≡ true = rw (eqb-true b 44 n) at e in cc
 
   gap_reads : (given : V) → k.Settled given
-      → ReadsSeries (MorePieces k given) (gap_step k given) (Some given)
+      → ReadsSeries (MorePieces k given) (gap_step given) (Some given)
   gap_reads given g = reads_iff (behind_both given g)
       (reads_past is_ows (Gap given) g (behind_both given g)
       (λ b t e n. not_comma b e (allow_cases (b == 44) (Comma given) t n).0)
       (reads_maybe 44 (Comma given) given g))
 
-  gap_after : (given : V) (b : ℕ) (t : SeriesState S V) → gap_step k given b ≡ Some t
+  gap_after : (given : V) (b : ℕ) (t : SeriesState S V) → gap_step given b ≡ Some t
       → is_after b ≡ true
   gap_after given b t n = ⊎_elim
       (λ e. ows_after b (allow_cases (is_ows b) (Gap given) t e).0)

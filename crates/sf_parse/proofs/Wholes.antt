@@ -11,22 +11,22 @@ use Rattle.sf_value.specs.Grammar.Words.{Every}
 use Rattle.sf_parse.specs.declared.refusal.Refusal.TheVariants.{Syntax}
 use Rattle.sf_parse.specs.Machine.States.{State}
 use Rattle.sf_parse.specs.Machine.Fields.{step, finish, begin}
-use Rattle.sf_parse.specs.Machine.Takes.{takes, may_end}
+use Rattle.sf_parse.specs.Machine.Tests.{takes, may_end}
 use Rattle.sf_parse.specs.Expected.{Marks}
 use Rattle.sf_parse.specs.Fronts.{Front}
-use Rattle.sf_parse.specs.Taking.{Took}
+use Rattle.sf_parse.specs.Reached.{Reached}
 use Rattle.sf_parse.specs.Parsers.{IsSyntax, IsOnly, Parses}
 use Rattle.sf_parse.specs.Plain.{plain_byte}
 use Rattle.sf_parse.specs.PlainParsers.{PlainState}
 use Rattle.sf_parse.proofs.Feeding.{plain_taken}
-use Rattle.sf_parse.proofs.Taking.{took_nothing, takes_more}
+use Rattle.sf_parse.proofs.Reached.{reached_nothing, reaches_more}
 use Rattle.sf_parse.proofs.Refusals.{stops_exact, ends_exact, ends_only}
 
 front_took : (d : Dialect) (kind : Kind) (s t : State) (text rest : List ℕ) → s ≡ begin kind
-    → (a : Front (step d) s text rest t) → Took d kind t a.went.taken
+    → (a : Front (step d) s text rest t) → Reached d kind t a.went.taken
 front_took d kind s t text rest e a =
-    takes_more d kind s t [] a.went.taken
-    (subst (λ y. Took d kind y []) (sym e) (took_nothing d kind)) a.went.leads
+    reaches_more d kind s t [] a.went.taken
+    (subst (λ y. Reached d kind y []) (sym e) (reached_nothing d kind)) a.went.leads
 
 -- the place is what was taken
 place_is : (taken rest text : List ℕ) → text ≡ taken ++ rest → length text - length rest ≡ length taken

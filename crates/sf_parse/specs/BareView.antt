@@ -11,6 +11,7 @@ use Rattle.sf_parse.specs.declared.bare.BareKind.{BareKind}
 use Rattle.sf_parse.specs.declared.bare.BareKind.TheVariants as kind
 use Rattle.sf_parse.specs.declared.bare.BareReader.TheInside.{Inside}
 
+-- the state of a bare item of this kind
 abbrev pub bare_at : BareKind → Inside → BareState
 bare_at kind.Number r = InNumber r.number
 bare_at kind.Text r = InText (text_of r.text r.bytes)
@@ -24,6 +25,7 @@ bare_at kind.Shown r = InShown (shown_of r.shown.phase r.bytes r.shown.chars)
 abbrev pub bare_of : Inside → BareState
 bare_of r = bare_at r.kind r
 
+-- the bytes are some of what this kind is made of
 abbrev pub FitsAt : BareKind → Inside → Type 0
 FitsAt kind.Number r = Unit {0}
 FitsAt kind.Text r = Every is_visible r.bytes
@@ -43,6 +45,6 @@ bare_stuck (InDate s) b = ⊤
 bare_stuck (InBlob s) b = ⊤
 bare_stuck (InShown s) b = ⊤
 
--- the bytes are some of what the kind is made of
+-- the same, of the kind that is open
 abbrev pub FitsBare : Inside → Type 0
 FitsBare r = FitsAt r.kind r

@@ -9,6 +9,7 @@ use Rattle.sf_value.specs.Grammar.DisplayStrings.{hex}
 abbrev pub hex_byte : ℕ → List ℕ
 hex_byte b = hex (b / 16) ∷ hex (b % 16) ∷ []
 
+-- the byte is in the set
 abbrev pub is_in : ℕ → ℕ → Bool
 is_in set b = bit_at set b == 1
 

@@ -16,17 +16,20 @@ flag_at k (InOne (InBare s)) = InKey k
 flag_at k (InOne (InParams x s)) = InFlag k s
 flag_at k (InMany s) = InKey k
 
+-- the phase says whether the key or the member is open
 abbrev pub entry_of : EntryPhase → List ℕ → MemberState → EntryState
 entry_of phase.InKey k m = InKey k
 entry_of phase.Equals k m = Equals k
 entry_of phase.InMember k m = InMember k m
 entry_of phase.InFlag k m = flag_at k m
 
+-- the parameters of Boolean true are open
 abbrev pub IsFlag : MemberState → Type 0
 IsFlag (InOne (InBare s)) = ⊥
 IsFlag (InOne (InParams x s)) = x ≡ bare.Boolean true
 IsFlag (InMany s) = ⊥
 
+-- in the phase of a flag its parameters are open
 abbrev pub FitsFlag : EntryPhase → MemberState → Type 0
 FitsFlag phase.InKey m = ⊤
 FitsFlag phase.Equals m = ⊤

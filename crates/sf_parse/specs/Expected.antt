@@ -3,7 +3,7 @@ use Rattle.std.specs.Prelude.{◌≡◌, ℕ, Bool, false, ◌+◌, ◌*◌, nat
 use Rattle.std.specs.Int.{bit_at}
 use Rattle.sf_parse.specs.Machine.Showns.{unhex, can_begin, ShownState, Quote, Plain, Percent, Hex}
 use Rattle.sf_parse.specs.Machine.Showns.{Done}
-use Rattle.sf_parse.specs.Machine.Takes.{passes, utf8_takes}
+use Rattle.sf_parse.specs.Machine.Tests.{passes, utf8_takes}
 
 -- the bits of the bytes below a bound that pass the test
 abbrev pub MarksBelow : ℕ → ℕ → (ℕ → Bool) → Type 0

@@ -11,6 +11,7 @@ abbrev pub with_params : Option Bare → BareState → ParamsState → ItemState
 with_params (Some x) s ps = InParams x ps
 with_params None s ps = InBare s
 
+-- in parameters, or still in the bare item
 abbrev pub item_of : Bool → BareState → ParamsState → ItemState
 item_of true s ps = with_params (bare_finish s) s ps
 item_of false s ps = InBare s

@@ -1,6 +1,7 @@
 -- The laws of the grammar that follow from its machine. Each stands as the contract of a function
 -- in `src/laws.rt`.
 use Rattle.std.specs.Prelude.{◌≡◌, ℕ, ◌↔◌, List, [], ◌∷◌, ◌++◌, length, Some, None, ◌⊎◌}
+use Rattle.sf_value.specs.Ascii.{percent, at_sign}
 use Rattle.sf_value.specs.declared.dialect.Dialect.{Dialect}
 use Rattle.sf_value.specs.declared.dialect.Dialect.TheVariants.{Rfc8941, Rfc9651}
 use Rattle.sf_value.specs.declared.value.Field.{Field}
@@ -82,7 +83,7 @@ OnlyNew =
     (kind : Kind) (t : List ℕ) (v : Field)
     → SpellsField Rfc9651 kind t v
     → ((w : Field) → SpellsField Rfc8941 kind t w → ⊥)
-    → (n : ℕ) → IsPlace Rfc8941 kind t n → At t n 64 ⊎ At t n 37
+    → (n : ℕ) → IsPlace Rfc8941 kind t n → At t n at_sign ⊎ At t n percent
 
 -- lines that are accepted have one value, and its canonical text as the only line is accepted as
 -- that value

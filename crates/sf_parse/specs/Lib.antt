@@ -10,8 +10,8 @@ pub mod TopView
 pub mod PlainParsers
 pub mod Parsers
 pub mod Expected
-pub mod Taking
-pub mod Takes
+pub mod Reached
+pub mod StateTests
 pub mod Names
 pub mod RefusalTexts
 pub mod Spots

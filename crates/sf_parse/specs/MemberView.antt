@@ -14,12 +14,14 @@ abbrev pub closing_of : List Item → ItemState → InnerState
 closing_of is (InBare s) = Room is
 closing_of is (InParams x s) = Closing is s
 
+-- the phase says whether the member is an Item, and where an Inner List is open
 abbrev pub member_of : MemberPhase → ItemState → List Item → MemberState
 member_of phase.One s is = InOne s
 member_of phase.Room s is = InMany (Room is)
 member_of phase.InItem s is = InMany (InItem is s)
 member_of phase.Closing s is = InMany (closing_of is s)
 
+-- parameters are open
 abbrev pub IsInParams : ItemState → Type 0
 IsInParams (InBare s) = ⊥
 IsInParams (InParams x s) = ⊤
@@ -31,6 +33,7 @@ FitsMember phase.Room s = ⊤
 FitsMember phase.InItem s = ⊤
 FitsMember phase.Closing s = IsInParams s
 
+-- the part of an Inner List that is open can't go on with this byte
 abbrev pub inner_stuck : Dialect → InnerState → ℕ → Type 0
 inner_stuck d (Room is) b = ⊤
 inner_stuck d (InItem is s) b = item_step d s b ≡ None

@@ -3,6 +3,7 @@
 use Rattle.std.specs.Prelude.{ℕ, zero, suc, ◌+◌, ◌-◌, ◌%◌, ◌^◌, ◌==◌, ◌&&◌, ◌||◌, not, nat_lt, Bool}
 use Rattle.std.specs.Prelude.{if◌then◌else◌, List, [], ◌∷◌, ◌++◌, codes, slice_index_or}
 use Rattle.std.specs.Prelude.{bit_and}
+use Rattle.sf_value.specs.Ascii.{tab, space, quote, backquote}
 use Rattle.sf_value.specs.Grammar.Classes.{is_digit, is_lower, is_alpha, is_key_rest}
 use Rattle.sf_value.specs.Grammar.Classes.{is_token_rest, is_visible, is_one_of}
 use Rattle.sf_parse.specs.ByteSets.{hex_byte}
@@ -48,6 +49,7 @@ fitting set n (suc k) =
     then name_at n ∷ fitting (set - set_of (name_at n)) (suc n) k
     else fitting set (suc n) k
 
+-- the end, where the text may end
 abbrev pub end_name : Bool → List Name
 end_name may_end = if may_end then End ∷ [] else []
 
@@ -62,13 +64,14 @@ names_left names = fitting names.set names.place (137 - names.place) ++ end_name
 -- a byte: in a word, between backquotes, or in hexadecimal
 abbrev pub byte_text : ℕ → List ℕ
 byte_text b =
-    if b == 32 then codes "a space"
-    else if b == 9 then codes "a tab"
-    else if b == 34 then codes "a quote"
-    else if b == 96 then codes "a backquote"
-    else if is_visible b then 96 ∷ b ∷ 96 ∷ []
+    if b == space then codes "a space"
+    else if b == tab then codes "a tab"
+    else if b == quote then codes "a quote"
+    else if b == backquote then codes "a backquote"
+    else if is_visible b then backquote ∷ b ∷ backquote ∷ []
     else codes "0x" ++ hex_byte b
 
+-- a name in words
 abbrev pub name_text : Name → List ℕ
 name_text Printable = codes "a printable character"
 name_text Token = codes "a token character"
@@ -87,6 +90,7 @@ abbrev pub joint : List Name → List ℕ
 joint [] = codes " or "
 joint (next ∷ names) = codes ", "
 
+-- the names behind the first, each behind its joint
 abbrev pub and_more : List Name → List ℕ
 and_more [] = []
 and_more (name ∷ names) = joint names ++ (name_text name ++ and_more names)

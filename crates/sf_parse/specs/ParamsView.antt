@@ -9,6 +9,7 @@ use Rattle.sf_parse.specs.Machine.Params.{InValue}
 use Rattle.sf_parse.specs.declared.parameters.ParamsPhase.{ParamsPhase}
 use Rattle.sf_parse.specs.declared.parameters.ParamsPhase.TheVariants as phase
 
+-- the phase says whether a parameter is open, and which part of it
 abbrev pub params_of : ParamsPhase → List ℕ → BareState → Pairs Bare → ParamsState
 params_of phase.Between k s ps = Between ps
 params_of phase.Opened k s ps = Opened ps

@@ -2,6 +2,7 @@
 use Rattle.std.specs.Prelude.{◌≡◌, ℕ, ◌+◌, ◌<◌, ◌≤◌, ◌↔◌, Bool, true, false, List, [], ◌∷◌, ◌++◌}
 use Rattle.std.specs.Prelude.{length, take, Option, Some, None, Result, Ok, Err, slice_get, ⊤}
 use Rattle.std.specs.Int.{bit_at}
+use Rattle.sf_value.specs.Ascii.{comma, space}
 use Rattle.sf_value.specs.declared.dialect.Dialect.{Dialect}
 use Rattle.sf_value.specs.declared.value.Field.{Field}
 use Rattle.sf_value.specs.declared.value.Kind.{Kind}
@@ -98,7 +99,7 @@ pub record Fed (old new : Progress) (result : Result (Unit {0}) Refusal) (x : Li
 
 -- a field line as it stands in the joined text: behind another one a comma and a space come first
 abbrev pub in_line : Bool → List ℕ → List ℕ
-in_line true line = 44 ∷ 32 ∷ line
+in_line true line = comma ∷ space ∷ line
 in_line false line = line
 
 -- the text s is ended

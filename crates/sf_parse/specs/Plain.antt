@@ -1,5 +1,6 @@
 -- The states of spaces and numbers, which take no memory.
 use Rattle.std.specs.Prelude.{ℕ, Bool, ◌==◌, ◌||◌, ⊤}
+use Rattle.sf_value.specs.Ascii.{minus}
 use Rattle.sf_value.specs.Grammar.Classes.{is_sp, is_digit}
 use Rattle.sf_parse.specs.Machine.Bares.{BareState}
 use Rattle.sf_parse.specs.Machine.Bares.{InNumber, InText, InToken, InBoolean}
@@ -9,8 +10,9 @@ use Rattle.sf_parse.specs.Machine.Items.{InBare, InParams}
 
 -- a space, a minus sign or a digit
 abbrev pub plain_byte : ℕ → Bool
-plain_byte b = is_sp b || b == 45 || is_digit b
+plain_byte b = is_sp b || b == minus || is_digit b
 
+-- the bare item is a number, which takes no memory
 abbrev pub PlainBare : BareState → Type 0
 PlainBare (InNumber s) = ⊤
 PlainBare (InText s) = ⊥
@@ -20,6 +22,7 @@ PlainBare (InDate s) = ⊥
 PlainBare (InBlob s) = ⊥
 PlainBare (InShown s) = ⊥
 
+-- the item is a number, and no parameter was begun
 abbrev pub PlainItem : ItemState → Type 0
 PlainItem (InBare s) = PlainBare s
 PlainItem (InParams x s) = ⊥

@@ -8,6 +8,7 @@ use Rattle.sf_parse.specs.declared.refusal.Refusal.{Refusal}
 use Rattle.sf_parse.specs.declared.refusal.Refusal.TheVariants.{OutOfMemory, Syntax, TooLong}
 use Rattle.sf_parse.specs.declared.refusal.Refusal.TheVariants.{ReadFault}
 
+-- of an Item: before it, in a number, or among the spaces behind it
 abbrev pub PlainState : State → Type 0
 PlainState BeforeItem = ⊤
 PlainState (InTop s) = PlainItem s
@@ -27,10 +28,12 @@ IsOther (Syntax place found expected may_end) = ⊤
 IsOther (TooLong max) = ⊤
 IsOther (ReadFault place) = ⊤
 
+-- the parser is plain still, or refused for another reason than want of memory
 abbrev pub KeptPlain : Progress → Result (Unit {0}) Refusal → Type 0
 KeptPlain p (Ok u) = IsPlain p
 KeptPlain p (Err e) = IsOther e
 
+-- there is a value, or a refusal for another reason than want of memory
 abbrev pub NotForMemory : Result Field Refusal → Type 0
 NotForMemory (Ok v) = ⊤
 NotForMemory (Err e) = IsOther e

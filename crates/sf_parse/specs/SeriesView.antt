@@ -1,21 +1,19 @@
 -- What is read of pieces with commas between them, as a state of the machine, and the machine in
 -- the words of a reader that adds a piece to what was given where it ends.
-use Rattle.std.specs.Prelude.{◌≡◌, ℕ, Bool, true, false, ◌==◌, Option, Some, None, ⊤}
+use Rattle.std.specs.Prelude.{◌≡◌, ℕ, Bool, true, false, Option, Some, None, ⊤}
 use Rattle.sf_value.specs.Grammar.Words.{allow, otherwise}
 use Rattle.sf_value.specs.Grammar.Classes.{is_sp, is_ows}
 use Rattle.sf_parse.specs.Machine.Language.{onward, seen}
-use Rattle.sf_parse.specs.Machine.Series.{SeriesState, Begin, InPiece, Gap, Comma}
+use Rattle.sf_parse.specs.Machine.Series.{SeriesState, Begin, InPiece, Gap, Comma, gap_step}
 use Rattle.sf_parse.specs.declared.commas.SeriesPhase.{SeriesPhase}
 use Rattle.sf_parse.specs.declared.commas.SeriesPhase.TheVariants as phase
 
+-- the phase says whether a piece is open
 abbrev pub series_of : {S V : Type 0} → SeriesPhase → V → S → SeriesState S V
 series_of phase.Begin given s = Begin
 series_of phase.InPiece given s = InPiece given s
 series_of phase.Gap given s = Gap given
 series_of phase.Comma given s = Comma given
-
-abbrev pub behind_step : {S V : Type 0} → V → ℕ → Option (SeriesState S V)
-behind_step given b = otherwise (allow (is_ows b) (Gap given)) (allow (b == 44) (Comma given))
 
 -- first is what a byte begins, added what was given with a piece that may end
 abbrev pub series_next : {S V : Type 0} → (ℕ → Option S) → (S → ℕ → Option S)
@@ -23,11 +21,12 @@ abbrev pub series_next : {S V : Type 0} → (ℕ → Option S) → (S → ℕ �
 series_next first next added none Begin b = otherwise (allow (is_sp b) Begin)
     (seen (InPiece none) (first b))
 series_next first next added none (InPiece given s) b = onward (InPiece given) (next s b)
-    (added s given) (λ more. behind_step more b)
-series_next first next added none (Gap given) b = behind_step given b
+    (added s given) (λ more. gap_step more b)
+series_next first next added none (Gap given) b = gap_step given b
 series_next first next added none (Comma given) b = otherwise (allow (is_ows b) (Comma given))
     (seen (InPiece given) (first b))
 
+-- what the pieces gave, where they may end
 abbrev pub series_end : {S V : Type 0} → (S → V → Option V) → V → SeriesState S V → Option V
 series_end added none Begin = Some none
 series_end added none (InPiece given s) = added s given

@@ -1,6 +1,7 @@
 -- Where in the lines of a field a refusal stands.
 use Rattle.std.specs.Prelude.{ℕ, suc, ◌+◌, ◌-◌, min, nat_lt, if◌then◌else◌, List, [], ◌∷◌, ◌++◌, length}
 use Rattle.std.specs.Prelude.{map, replicate, codes, decimal, Option, Some, None}
+use Rattle.sf_value.specs.Ascii.{space, question_mark}
 use Rattle.sf_value.specs.Grammar.Classes.{is_visible}
 use Rattle.sf_parse.specs.RefusalTexts.{refusal_text}
 use Rattle.sf_parse.specs.declared.refusal.Refusal.{Refusal}
@@ -37,8 +38,9 @@ line_place (Some s) = Some (record { line = s.line; place = s.place; text = s.te
 
 -- a byte of a line, or a question mark where it is not printable
 abbrev pub printed_byte : ℕ → ℕ
-printed_byte b = if is_visible b then b else 63
+printed_byte b = if is_visible b then b else question_mark
 
+-- a line, one character for each of its bytes
 abbrev pub printed : List ℕ → List ℕ
 printed text = map printed_byte text
 
@@ -47,7 +49,7 @@ abbrev pub marked_text : Option LinePlace → List ℕ
 marked_text None = []
 marked_text (Some p) =
     codes "\nline " ++ (decimal p.line ++ (codes ", place " ++ (decimal p.place ++ (codes ":\n"
-    ++ (printed p.text ++ (codes "\n" ++ (replicate p.place 32 ++ codes "^")))))))
+    ++ (printed p.text ++ (codes "\n" ++ (replicate p.place space ++ codes "^")))))))
 
 -- a refusal, and its line
 abbrev pub in_line_text : InLine → List ℕ

@@ -18,6 +18,7 @@ abbrev pub after_of : Option Item → State
 after_of (Some i) = AfterItem i
 after_of None = BeforeItem
 
+-- before the item, in it, or among the spaces behind it
 abbrev pub top_of : TopPhase → ItemState → Option Item → State
 top_of phase.Before s whole = BeforeItem
 top_of phase.Inside s whole = InTop s
@@ -42,6 +43,7 @@ abbrev pub StaysPlain : Dialect → State → Type 0
 StaysPlain d s = (xs : List ℕ) (t : State) → Every plain_byte xs → run (step d) s xs ≡ Some t
     → PlainState t
 
+-- and so does the state that a plain byte leads to
 pub stays_plain_step : (d : Dialect) (s t : State) (b : ℕ) → StaysPlain d s → plain_byte b ≡ true
     → step d s b ≡ Some t → StaysPlain d t
 stays_plain_step d s t b h p e =

@@ -20,6 +20,7 @@ use Rattle.sf_parse.specs.declared.shown.Utf8State.TheVariants as utf8
 use Rattle.sf_parse.specs.declared.shown.ShownPhase.{ShownPhase}
 use Rattle.sf_parse.specs.declared.shown.ShownPhase.TheVariants as shown_phase
 
+-- behind the point there is a whole part
 abbrev pub number_of : Bool → Option ℕ → ℕ → ℕ → NumberState
 number_of negative None digits value = Whole negative digits value
 number_of negative (Some whole) digits value = Fraction negative whole digits value
@@ -33,6 +34,7 @@ FitsWhole (Some whole) digits = (digits ≤ 3) × (whole < 10 ^ 12)
 abbrev pub FitsNumber : Option ℕ → ℕ → ℕ → Type 0
 FitsNumber whole digits value = (digits ≤ 15) × (value < 10 ^ digits) × FitsWhole whole digits
 
+-- a date that was begun has a sign or a digit
 abbrev pub date_of : Bool → Bool → ℕ → ℕ → DateState
 date_of false negative digits value = Sign
 date_of true negative digits value = Digits negative digits value
@@ -42,21 +44,25 @@ abbrev pub FitsSign : Bool → Bool → ℕ → Type 0
 FitsSign false negative digits = (negative ≡ false) × (digits ≡ 0)
 FitsSign true negative digits = Unit {0}
 
+-- so many digits bound the value
 abbrev pub FitsDate : Bool → Bool → ℕ → ℕ → Type 0
 FitsDate begun negative digits value =
     (digits ≤ 15) × (value < 10 ^ digits) × FitsSign begun negative digits
 
+-- a String
 abbrev pub text_of : TextPhase → List ℕ → TextState
 text_of text_phase.Inside bytes = Inside bytes
 text_of text_phase.Escaped bytes = Escaped bytes
 text_of text_phase.Closed bytes = Closed bytes
 
+-- an open group of a Byte Sequence
 abbrev pub held_of : Held → machine.Held
 held_of held.H0 = machine.H0
 held_of (held.H1 x) = machine.H1 x
 held_of (held.H2 x y) = machine.H2 x y
 held_of (held.H3 x y z) = machine.H3 x y z
 
+-- a Byte Sequence
 abbrev pub blob_of : BlobPhase → List ℕ → BlobState
 blob_of (blob_phase.Group h) bytes = Group bytes (held_of h)
 blob_of (blob_phase.Padded more) bytes = Padded bytes more
@@ -69,15 +75,18 @@ FitsHeld (held.H1 x) = x < 64
 FitsHeld (held.H2 x y) = (x < 64) × (y < 64)
 FitsHeld (held.H3 x y z) = (x < 64) × (y < 64) × (z < 64)
 
+-- so they are in the group that is open
 abbrev pub FitsBlob : BlobPhase → Type 0
 FitsBlob (blob_phase.Group h) = FitsHeld h
 FitsBlob (blob_phase.Padded more) = Unit {0}
 FitsBlob blob_phase.Ended = Unit {0}
 
+-- a place in a character
 abbrev pub utf8_of : Utf8State → Utf8
 utf8_of utf8.Start = Start
 utf8_of (utf8.Wants more low high) = Wants more low high
 
+-- a Display String
 abbrev pub shown_of : ShownPhase → List ℕ → Utf8State → ShownState
 shown_of shown_phase.Quote bytes chars = Quote
 shown_of shown_phase.Plain bytes chars = Plain bytes (utf8_of chars)
@@ -97,6 +106,7 @@ FitsPhase shown_phase.Percent bytes chars = Unit {0}
 FitsPhase (shown_phase.Hex high) bytes chars = high < 16
 FitsPhase shown_phase.Done bytes chars = chars ≡ utf8.Start
 
+-- the bytes lead to the place in a character, and fit the phase
 abbrev pub FitsShown : ShownPhase → List ℕ → Utf8State → Type 0
 FitsShown phase bytes chars = Leads bytes (utf8_of chars) × FitsPhase phase bytes chars
 

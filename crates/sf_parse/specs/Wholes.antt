@@ -6,14 +6,15 @@ use Rattle.sf_value.specs.declared.value.Member.{Member}
 use Rattle.sf_value.specs.Grammar.Pairs.{Pairs}
 use Rattle.sf_parse.specs.Machine.Language.{onward, seen}
 use Rattle.sf_parse.specs.Machine.Series.{Series, SeriesState, Begin, InPiece, Gap, Comma}
-use Rattle.sf_parse.specs.Machine.Series.{series_step}
+use Rattle.sf_parse.specs.Machine.Series.{gap_step, series_step}
 use Rattle.sf_parse.specs.Machine.Members.{MemberState, member_start, member_step}
 use Rattle.sf_parse.specs.Machine.Entries.{EntryState, entry_start, entry_step}
 use Rattle.sf_parse.specs.Machine.States.{State, InList, InDict}
 use Rattle.sf_parse.specs.Machine.Fields.{step, list_series, dict_series}
-use Rattle.sf_parse.specs.SeriesView.{behind_step, series_next}
+use Rattle.sf_parse.specs.SeriesView.{series_next}
 use Rattle.sf_parse.specs.PieceEnds.{with_member, with_entry}
 
+-- a value may be seen before the machine goes on or after
 onward_seen : {S T X V : Type 0} (into : S → T) (o : Option S) (f : X → V) (e : Option X)
     (after : V → Option T) → onward into o (seen f e) after ≡ onward into o e (λ x. after (f x))
 onward_seen into (Some s) f e after = refl
@@ -27,9 +28,9 @@ series_is : {S X V : Type 0} (k : Series S X V) (added : S → V → Option V)
     → series_next k.start k.step added k.none s b ≡ series_step k s b
 series_is k added h Begin b = refl
 series_is k added h (InPiece given s) b =
-    ap (λ e. onward (InPiece given) (k.step s b) e (λ more. behind_step more b)) (h s given)
+    ap (λ e. onward (InPiece given) (k.step s b) e (λ more. gap_step more b)) (h s given)
     ∙ onward_seen (InPiece given) (k.step s b) (k.add given) (k.finish s)
-    (λ more. behind_step more b)
+    (λ more. gap_step more b)
 series_is k added h (Gap given) b = refl
 series_is k added h (Comma given) b = refl
 

@@ -6,7 +6,7 @@ ghost use Rattle.sf_parse.specs.Fronts.{Starts};
 ghost use Rattle.sf_parse.specs.BareView.{bare_stuck};
 ghost use Rattle.sf_parse.specs.Machine.Bares.{InBoolean, bare_start, bare_step, bare_finish};
 ghost use Rattle.sf_parse.specs.declared.boolean.BooleanState.TheVariants.{Told};
-ghost use Rattle.sf_parse.specs.Machine.Takes.{bare_begins, bare_takes, bare_ends};
+ghost use Rattle.sf_parse.specs.Machine.Tests.{bare_begins, bare_takes, bare_ends};
 ghost use Rattle.sf_parse.specs.Plainness.{plain_bare_step};
 
 use crate::blob::{BlobPhase, Held};
@@ -78,8 +78,10 @@ impl BareReader {
 
     /// Begins a bare item with this byte, or tells that none begins with it.
     pub fn start(&mut self, context: &Context, byte: u8) -> Result<bool, OutOfMemory>
+        // The new state is the one that the byte begins, or none begins with it.
         ensures start { IfOk result (λ took. Starts took (bare_start context.now.dialect byte)
             self.new) }
+        // A space, `-` or a digit takes no memory.
         ensures plain { plain_byte byte ≡ true → IsOk result }
     {
         if self.number.start(byte) {
@@ -144,7 +146,9 @@ impl BareReader {
 
     /// The bare item, if it is whole. What is left is the reader alone.
     pub fn finish(&mut self, context: &Context) -> Option<Bare>
+        // It is the value that the state has at the end, if it has one.
         ensures value { result ≡ bare_finish self.old }
+        // Without one the reader stays as it is.
         ensures kept { IfNone result (self.new ≡ self.old) }
     {
         if !self.may_end() {

@@ -1,13 +1,13 @@
 //! A Byte Sequence that is being read (RFC 9651 section 4.2.7).
-ghost use Rattle.std.specs.Prelude.{◌≡◌, ℕ, ◌<◌, ◌≤◌, List, [], ◌∷◌, ◌++◌, ◌&&◌, Some, IfOk, IfSome};
-ghost use Rattle.std.specs.Prelude.{take};
+ghost use Rattle.std.specs.Prelude.{◌≡◌, ℕ, ◌<◌, ◌≤◌, List, [], ◌∷◌, ◌++◌, ◌&&◌, Some, IfOk};
+ghost use Rattle.std.specs.Prelude.{IfSome, take};
 ghost use Rattle.sf_parse.specs.Expected.{Marks};
 ghost use Rattle.sf_parse.specs.Fronts.{Went};
 ghost use Rattle.sf_parse.specs.Views.{held_of, blob_of, FitsHeld, FitsBlob};
 ghost use Rattle.sf_parse.specs.Machine.Language.{Steps, run};
 ghost use Rattle.sf_parse.specs.Machine.Blobs.{sextet as sextet_of, H0, Group, Padded, grown};
 ghost use Rattle.sf_parse.specs.Machine.Blobs.{pad_step, end_step, blob_step, is_last, lacking};
-ghost use Rattle.sf_parse.specs.Machine.Takes.{blob_takes, blob_ends, pad_takes};
+ghost use Rattle.sf_parse.specs.Machine.Tests.{blob_takes, blob_ends, pad_takes};
 
 use crate::sets::{BASE64, COLON, EQUALS, set_if};
 use sf_value::{OutOfMemory, ShortBytes};
@@ -32,10 +32,10 @@ pub enum BlobPhase {
     Ended,
 }
 
-// How many bytes are decoded at a time: those of 32 groups.
+/// How many bytes are decoded at a time: those of 32 groups.
 const BLOCK: usize = 96;
 
-// The value of each byte as a character of base64 (RFC 4648 section 4); 64 where it is none.
+/// The value of each byte as a character of base64 (RFC 4648 section 4); 64 where it is none.
 #[rattlefmt::skip]
 static SEXTETS: [u8; 256] = [
     64, 64, 64, 64, 64, 64, 64, 64, 64, 64, 64, 64, 64, 64, 64, 64,
@@ -60,15 +60,17 @@ static SEXTETS: [u8; 256] = [
 #[inline]
 fn sextet(byte: u8) -> Option<u8>
     ensures value { result ≡ sextet_of byte }
+    // It is below 64.
     ensures small { IfSome result (λ value. value < 64) }
 {
     let value = SEXTETS[byte as usize];
     if value < 64 { Some(value) } else { None }
 }
 
-// The bytes of a whole group of four characters.
+/// The bytes of a whole group of four characters.
 #[inline]
 fn group_bytes(a: u8, b: u8, c: u8, d: u8) -> Option<(u8, u8, u8)>
+    // Where no group is open, the four characters lead to a state with these three bytes more.
     ensures { IfSome result (λ out. (bs : List ℕ) → run blob_step (Group bs H0)
         (a ∷ b ∷ c ∷ d ∷ []) ≡ Some (Group (bs ++ out.0 ∷ out.1 ∷ out.2 ∷ []) H0)) }
 {
@@ -79,9 +81,11 @@ fn group_bytes(a: u8, b: u8, c: u8, d: u8) -> Option<(u8, u8, u8)>
     Some((x * 4 + y / 16, y % 16 * 16 + z / 4, z % 4 * 64 + w))
 }
 
-// Decodes whole groups into the block until it is full: how many bytes they are of, and the rest.
+/// Decodes whole groups into the block until it is full: how many bytes they are of, and the rest.
 fn decode_groups<'a>(piece: &'a [u8], block: &mut [u8; BLOCK]) -> (usize, &'a [u8])
     ensures within { result.0 ≤ 96 }
+    // Where no group is open, the characters before the rest lead to a state with the bytes of the
+    // block behind those so far.
     ensures went { (bs : List ℕ) → Went blob_step (Group bs H0) piece.now result.1.now
         (Group (bs ++ take result.0 block.new) H0) }
 {
@@ -103,8 +107,9 @@ fn decode_groups<'a>(piece: &'a [u8], block: &mut [u8; BLOCK]) -> (usize, &'a [u
     (count, rest)
 }
 
-// Takes whole groups, behind a whole one, a block by one growth.
+/// Takes whole groups, behind a whole one, a block by one growth.
 fn take_groups<'a>(bytes: &mut ShortBytes, piece: &'a [u8]) -> Result<&'a [u8], OutOfMemory>
+    // The bytes before the rest lead the machine from the old state to the new one.
     ensures { IfOk result (λ rest. Went blob_step (Group bytes.old H0) piece.now rest.now
         (Group bytes.new H0)) }
 {
@@ -125,9 +130,12 @@ impl BlobPhase {
     /// Takes one more byte, or tells that the byte sequence can't go on with it and stays as it is.
     /// Its bytes so far are `bytes`.
     pub fn step(&mut self, bytes: &mut ShortBytes, byte: u8) -> Result<bool, OutOfMemory>
+        // The values of the open group are below 64.
         requires { FitsBlob self.old }
+        // The byte leads the machine on, or can't and the state stays.
         ensures step { IfOk result (λ took. Steps took (blob_step (blob_of self.old bytes.old) byte)
             (blob_of self.old bytes.old) (blob_of self.new bytes.new)) }
+        // So are those of the new one.
         ensures fits { FitsBlob self.new }
     {
         match *self {
@@ -143,18 +151,23 @@ impl BlobPhase {
         }
     }
 
-    // A byte that is no character: the open group is the last one, or the byte is not taken.
+    /// A byte that is no character: the open group is the last one, or the byte is not taken.
     fn end_group(
         &mut self,
         held: Held,
         bytes: &mut ShortBytes,
         byte: u8,
     ) -> Result<bool, OutOfMemory>
+        // The values of the open group are below 64.
         requires held { FitsHeld held }
+        // This group is open.
         requires open { blob_of self.old bytes.old ≡ Group bytes.old (held_of held) }
+        // What the phase holds is below 64 too.
         requires fits { FitsBlob self.old }
+        // The byte ends the group, or can't and the state stays.
         ensures step { IfOk result (λ took. Steps took (end_step bytes.old (held_of held) byte)
             (blob_of self.old bytes.old) (blob_of self.new bytes.new)) }
+        // What the new phase holds is below 64.
         ensures fits { FitsBlob self.new }
     {
         match held {
@@ -167,7 +180,7 @@ impl BlobPhase {
         }
     }
 
-    // The bytes of the last group, and the first byte behind it.
+    /// The bytes of the last group, and the first byte behind it.
     fn close(
         &mut self,
         tail: &[u8],
@@ -175,9 +188,12 @@ impl BlobPhase {
         bytes: &mut ShortBytes,
         byte: u8,
     ) -> Result<bool, OutOfMemory>
+        // The values of the open group are below 64.
         requires fits { FitsBlob self.old }
+        // Behind the last group the byte leads the machine on, or can't and the state stays.
         ensures step { IfOk result (λ took. Steps took (pad_step (bytes.old ++ tail.now) more byte)
             (blob_of self.old bytes.old) (blob_of self.new bytes.new)) }
+        // So are those of the new one.
         ensures fits { FitsBlob self.new }
     {
         if byte == b':' {
@@ -193,12 +209,15 @@ impl BlobPhase {
         Ok(false)
     }
 
-    // A byte where so many `=` may still come.
+    /// A byte where so many `=` may still come.
     fn pad(&mut self, more: u8, byte: u8) -> bool
+        // The values of the open group are below 64.
         requires { FitsBlob self.old }
+        // Where so many `=` may come, the byte leads the machine on, or can't and the state stays.
         ensures step { (bytes : List ℕ) → blob_of self.old bytes ≡ Padded bytes more
             → Steps result (pad_step bytes more byte) (blob_of self.old bytes)
             (blob_of self.new bytes) }
+        // So are those of the new one.
         ensures fits { FitsBlob self.new }
     {
         if byte == b':' {
@@ -218,6 +237,7 @@ impl BlobPhase {
         bytes: &mut ShortBytes,
         piece: &'a [u8],
     ) -> Result<&'a [u8], OutOfMemory>
+        // The bytes before the rest lead the machine from the old state to the new one.
         ensures { IfOk result (λ rest. Went blob_step (blob_of self bytes.old) piece.now rest.now
             (blob_of self bytes.new)) }
     {
@@ -229,6 +249,7 @@ impl BlobPhase {
 
     /// The bytes that the byte sequence can go on with.
     pub fn expected(self) -> u128
+        // The bits are those of the bytes that may come, whatever was read before.
         ensures { (bytes : List ℕ) → Marks result (blob_takes (blob_of self bytes)) }
     {
         match self {
@@ -240,18 +261,22 @@ impl BlobPhase {
 
     /// Whether the byte sequence is closed.
     pub fn may_end(self) -> bool
+        // The byte sequence may end exactly then, whatever was read before.
         ensures { (bytes : List ℕ) → result ≡ blob_ends (blob_of self bytes) }
     {
         self == BlobPhase::Ended
     }
 }
 
-// One more character of the open group.
+/// One more character of the open group.
 fn grow(held: Held, bytes: &mut ShortBytes, value: u8) -> Result<Held, OutOfMemory>
+    // The values of the open group are below 64.
     requires held { FitsHeld held }
     requires value { value < 64 }
+    // The group has the value more; four of them are three bytes of the byte sequence.
     ensures grown { IfOk result (λ h. Group bytes.new (held_of h)
         ≡ grown bytes.old (held_of held) value) }
+    // The values of the new group are below 64.
     ensures fits { IfOk result FitsHeld }
 {
     match held {
@@ -265,15 +290,17 @@ fn grow(held: Held, bytes: &mut ShortBytes, value: u8) -> Result<Held, OutOfMemo
     }
 }
 
-// What may follow where so many `=` may still come.
+/// What may follow where so many `=` may still come.
 fn expected_pad(more: u8) -> u128
+    // The bits are those of the bytes that may come.
     ensures { Marks result (pad_takes more) }
 {
     COLON | set_if(more > 0, EQUALS)
 }
 
-// What may follow an open group beside a character.
+/// What may follow an open group beside a character.
 fn expected_end(held: Held) -> u128
+    // The bits are those of the bytes that may come where this group is the last one.
     ensures { Marks result (λ b. is_last (held_of held) && pad_takes (lacking (held_of held)) b) }
 {
     match held {

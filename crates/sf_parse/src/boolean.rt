@@ -3,7 +3,7 @@ ghost use Rattle.std.specs.Prelude.{◌≡◌};
 ghost use Rattle.sf_parse.specs.Expected.{Marks};
 ghost use Rattle.sf_parse.specs.Machine.Language.{Steps};
 ghost use Rattle.sf_parse.specs.Machine.Texts.{boolean_step, boolean_finish};
-ghost use Rattle.sf_parse.specs.Machine.Takes.{boolean_takes, boolean_ends};
+ghost use Rattle.sf_parse.specs.Machine.Tests.{boolean_takes, boolean_ends};
 
 use crate::sets::BITS;
 
@@ -19,6 +19,7 @@ pub enum BooleanState {
 impl BooleanState {
     /// Takes one more byte, or tells that the boolean can't go on with it and stays as it is.
     pub fn step(&mut self, byte: u8) -> bool
+        // The byte leads the machine on, or can't and the state stays.
         ensures { Steps result (boolean_step self.old byte) self.old self.new }
     {
         match (*self, byte) {
@@ -31,6 +32,7 @@ impl BooleanState {
 
     /// The bytes that the boolean can go on with.
     pub fn expected(self) -> u128
+        // The bits are those of the bytes that may come.
         ensures { Marks result (boolean_takes self) }
     {
         match self {
@@ -48,6 +50,7 @@ impl BooleanState {
 
     /// The boolean, if it is whole.
     pub fn finish(self) -> Option<bool>
+        // It is the value that the state has at the end, if it has one.
         ensures { result ≡ boolean_finish self }
     {
         match self {

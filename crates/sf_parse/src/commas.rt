@@ -6,7 +6,7 @@ ghost use Rattle.sf_parse.specs.Expected.{Marks};
 ghost use Rattle.sf_parse.specs.Fronts.{Starts};
 ghost use Rattle.sf_parse.specs.SeriesView.{series_next, series_end, series_stuck, Ends};
 ghost use Rattle.sf_parse.specs.Machine.Series.{Begin};
-ghost use Rattle.sf_parse.specs.Machine.Takes.{series_takes, series_ends};
+ghost use Rattle.sf_parse.specs.Machine.Tests.{series_takes, series_ends};
 
 use crate::context::Context;
 use crate::level::Level;
@@ -39,12 +39,15 @@ pub trait Piece<G>: Level {
 
     /// Begins a piece with this byte, or tells that none begins with it.
     fn start(&mut self, context: &Context, byte: u8) -> Result<bool, OutOfMemory>
+        // The new state is the one that the byte begins, or none begins with it.
         ensures { IfOk result (λ took. Starts took (first context.now.dialect byte) self.new) };
 
     /// Adds the piece, if it is whole, or tells that it is not, and changes nothing.
     fn end(&mut self, context: &Context, given: &mut G) -> Result<bool, OutOfMemory>
+        // The piece was added to what was given, or may not end and nothing was added.
         ensures ended { IfOk result (λ ended. Ends ended (added self.old given.old) given.old
             given.new) }
+        // Where nothing was added the reader stays as it is.
         ensures kept { IfOk result (λ ended. ended ≡ false → self.new ≡ self.old) };
 }
 
@@ -93,6 +96,7 @@ impl<P: Piece<G>, G: Drop> SeriesReader<P, G> {
 
     /// What the pieces gave, if the last one is whole. What is left is the reader alone.
     pub fn finish(&mut self, context: &Context) -> Result<Option<G>, OutOfMemory>
+        // It is what the pieces gave, if they may end.
         ensures { IfOk result (λ given. given ≡ series_end P.added P.none self.old) }
     {
         match self.phase {

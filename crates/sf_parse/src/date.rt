@@ -4,7 +4,7 @@ ghost use Rattle.sf_parse.specs.Expected.{Marks};
 ghost use Rattle.sf_parse.specs.Fronts.{Went};
 ghost use Rattle.sf_parse.specs.Machine.Language.{Steps};
 ghost use Rattle.sf_parse.specs.Machine.Numbers.{Sign, date_step, date_finish};
-ghost use Rattle.sf_parse.specs.Machine.Takes.{date_takes, date_ends};
+ghost use Rattle.sf_parse.specs.Machine.Tests.{date_takes, date_ends};
 
 use crate::number::with_sign;
 use crate::sets::{DIGITS, MINUS, set_if};
@@ -48,6 +48,7 @@ impl DateReader {
     /// Takes one more byte, or tells that the date can't go on with it and stays as it is.
     #[tactic(auto, using(crate::proofs::Numerals::room, crate::proofs::Numerals::next_digit))]
     pub fn step(&mut self, byte: u8) -> bool
+        // The byte leads the machine on, or can't and the state stays.
         ensures { Steps result (date_step self.old byte) self.old self.new }
     {
         if !self.begun && byte == b'-' {
@@ -66,6 +67,7 @@ impl DateReader {
 
     /// Takes the bytes that the date goes on with, and gives back the rest.
     pub fn take_run<'a>(&mut self, piece: &'a [u8]) -> &'a [u8]
+        // The bytes before the rest lead the machine from the old state to the new one.
         ensures { Went date_step self.old piece.now result.now self.new }
     {
         let mut rest = piece;
@@ -80,6 +82,7 @@ impl DateReader {
 
     /// The bytes that the date can go on with.
     pub fn expected(&self) -> u128
+        // The bits are those of the bytes that may come.
         ensures { Marks result (date_takes self.now) }
     {
         if !self.begun {
@@ -98,6 +101,7 @@ impl DateReader {
     /// The date, if it is one already.
     #[tactic(auto, using(crate::proofs::Numerals::short))]
     pub fn finish(&self) -> Option<Int>
+        // It is the value that the state has at the end, if it has one.
         ensures { result ≡ date_finish self.now }
     {
         if self.digits == 0 {

@@ -1,12 +1,13 @@
 //! A member of a Dictionary that is being read (RFC 9651 section 4.2.2).
 ghost use Rattle.std.specs.Prelude.{◌≡◌, [], ◌∷◌, false, IfOk};
+ghost use Rattle.sf_value.specs.Ascii.{asterisk};
 ghost use Rattle.sf_value.specs.Grammar.Fields.{flag as flag_member};
 ghost use Rattle.sf_parse.specs.Fronts.{Starts};
 ghost use Rattle.sf_parse.specs.EntryView.{entry_stuck};
 ghost use Rattle.sf_parse.specs.PieceEnds.{with_entry};
 ghost use Rattle.sf_parse.specs.SeriesView.{Ends};
 ghost use Rattle.sf_parse.specs.Machine.Entries.{entry_start, entry_step};
-ghost use Rattle.sf_parse.specs.Machine.Takes.{entry_takes, entry_ends};
+ghost use Rattle.sf_parse.specs.Machine.Tests.{entry_takes, entry_ends};
 
 use crate::context::Context;
 use crate::level::Level;
@@ -51,14 +52,14 @@ impl Model for EntryReader {
     ghost invariant = { λ r. FitsEntry r.phase r.key r.member };
 }
 
-// The key of a reader in which no member was begun.
+/// The key of a reader in which no member was begun.
 fn no_key(context: &Context) -> ShortBytes
-    ensures { result ≡ 42 ∷ [] }
+    ensures { result ≡ asterisk ∷ [] }
 {
     ShortBytes::one(context.alloc, b'*')
 }
 
-// Boolean true with parameters.
+/// Boolean true with parameters.
 fn flag(params: Entries<Bare>) -> Member
     ensures { result ≡ flag_member params }
 {
@@ -80,6 +81,7 @@ impl EntryReader {
 
     /// Begins a member with this byte, or tells that none begins with it.
     pub fn start(&mut self, context: &Context, byte: u8) -> Result<bool, OutOfMemory>
+        // The new state is the one that the byte begins, or none begins with it.
         ensures { IfOk result (λ took. Starts took (entry_start byte) self.new) }
     {
         if !can_start_key(byte) {
@@ -90,15 +92,17 @@ impl EntryReader {
         Ok(true)
     }
 
-    /// Puts the member at its key, if it is whole, or tells that it is not, and changes nothing. What
-    /// is left is the reader alone.
+    /// Puts the member at its key, if it is whole, or tells that it is not, and changes nothing.
+    /// What is left is the reader alone.
     pub fn end(
         &mut self,
         context: &Context,
         given: &mut Entries<Member>,
     ) -> Result<bool, OutOfMemory>
+        // The member was put at its key, or may not end and nothing was put.
         ensures ended { IfOk result (λ ended. Ends ended (with_entry self.old given.old) given.old
             given.new) }
+        // Where nothing was put the reader stays as it is.
         ensures kept { IfOk result (λ ended. ended ≡ false → self.new ≡ self.old) }
     {
         match self.phase {

@@ -15,7 +15,9 @@ pub trait Gather<T> {
 
     /// Adds a part at the end.
     fn add(&mut self, part: T) -> Result<(), OutOfMemory>
+        // There is one part more.
         ensures added { OnOk result (self.new ≡ with self.old part) }
+        // Where a part more takes no memory, none is wanting.
         ensures free { free → IsOk result };
 }
 

@@ -10,7 +10,7 @@ ghost use Rattle.sf_parse.specs.SeriesView.{Ends};
 ghost use Rattle.sf_parse.specs.Machine.Language.{seen};
 ghost use Rattle.sf_parse.specs.Machine.Params.{ParamsState, Between, Opened, params_finish};
 ghost use Rattle.sf_parse.specs.Machine.Items.{InParams, item_start, item_step, item_finish};
-ghost use Rattle.sf_parse.specs.Machine.Takes.{item_takes, item_ends};
+ghost use Rattle.sf_parse.specs.Machine.Tests.{item_takes, item_ends};
 
 use crate::bare::BareReader;
 use crate::context::Context;
@@ -66,8 +66,10 @@ impl ItemReader {
 
     /// Begins an item with this byte, or tells that none begins with it.
     pub fn start(&mut self, context: &Context, byte: u8) -> Result<bool, OutOfMemory>
+        // The new state is the one that the byte begins, or none begins with it.
         ensures start { IfOk result (λ took. Starts took (item_start context.now.dialect byte)
             self.new) }
+        // A space, `-` or a digit takes no memory.
         ensures plain { plain_byte byte ≡ true → IsOk result }
     {
         self.in_params = false;
@@ -76,6 +78,7 @@ impl ItemReader {
 
     /// Begins the parameters of Boolean true, behind the first semicolon.
     pub fn open_flag(&mut self, context: &Context)
+        // The parameters of Boolean true are open, and none is whole.
         ensures { self.new ≡ InParams (bare_is.Boolean true) (Opened []) }
     {
         self.in_params = false;
@@ -86,6 +89,7 @@ impl ItemReader {
 
     /// Begins parameters that belong to no bare item: those behind a closing bracket.
     pub fn begin_params(&mut self, context: &Context)
+        // They are those of Boolean true, which stands for no bare item here, and none was begun.
         ensures { self.new ≡ InParams (bare_is.Boolean true) (Between []) }
     {
         self.in_params = false;
@@ -96,8 +100,10 @@ impl ItemReader {
 
     /// The parameters alone, if the last one is whole. What is left is the reader alone.
     pub fn finish_params(&mut self, context: &Context) -> Result<Option<Entries<Bare>>, OutOfMemory>
+        // In parameters, they are the value that the state has at the end, if it has one.
         ensures value { IfOk result (λ params. (x : Bare) (s : ParamsState)
             → self.old ≡ InParams x s → params ≡ params_finish s) }
+        // Without them the reader stays as it is.
         ensures kept { IfOk result (λ params. IfNone params (self.new ≡ self.old)) }
     {
         self.params.finish(context)
@@ -111,9 +117,12 @@ impl ItemReader {
         context: &Context,
         given: &mut G,
     ) -> Result<bool, OutOfMemory>
+        // The item was added to what was given, or may not end and nothing was added.
         ensures ended { IfOk result (λ ended. Ends ended (seen (G.with given.old)
             (item_finish self.old)) given.old given.new) }
+        // Where nothing was added the reader stays as it is.
         ensures kept { IfOk result (λ ended. ended ≡ false → self.new ≡ self.old) }
+        // A number takes no memory where adding it takes none.
         ensures plain { G.free → PlainItem self.old → IsOk result }
     {
         if !self.in_params {

@@ -2,10 +2,11 @@
 //! bytes that refusals name. Each is the contract of a function that does nothing.
 ghost use Rattle.sf_parse.specs.Laws.{OneValue, IsRead, IsRest, IsViable, IsNext, IsEnd, StopsAt};
 ghost use Rattle.sf_parse.specs.Laws.{CanonOne, AnyPieces, OnlyNew, LinesOne};
-ghost use Rattle.sf_parse.specs.Taking.{TookNothing, TakesMore, TookViable, TookNext, TookEnd};
-ghost use Rattle.sf_parse.specs.Taking.{TookStops, TookAll};
+ghost use Rattle.sf_parse.specs.Reached.{ReachedNothing, ReachesMore, ReachedViable, ReachedNext};
+ghost use Rattle.sf_parse.specs.Reached.{ReachedEnd, ReachedStops, ReachedAll};
 ghost use Rattle.sf_parse.specs.ByteSets.{RunsAreTheSet, RunsAreWhole};
-ghost use Rattle.sf_parse.specs.Takes.{TakesStep, MayEnd, TakesNext, EndsText, NextBelow, SomeNext};
+ghost use Rattle.sf_parse.specs.StateTests.{TakesStep, MayEnd, TakesNext, EndsText, NextBelow};
+ghost use Rattle.sf_parse.specs.StateTests.{SomeNext};
 
 /// A text spells at most one value of a kind; valid values with one canonical text are one; lines
 /// that are accepted have one value, and its canonical text as the only line is accepted as that
@@ -41,13 +42,13 @@ pub fn only_new_types_differ()
 
 /// What a state says of the bytes that a parser took, however it came about.
 pub fn what_was_taken()
-    ensures nothing { TookNothing }
-    ensures more { TakesMore }
-    ensures viable { TookViable }
-    ensures next { TookNext }
-    ensures end { TookEnd }
-    ensures stops { TookStops }
-    ensures all { TookAll }
+    ensures nothing { ReachedNothing }
+    ensures more { ReachesMore }
+    ensures viable { ReachedViable }
+    ensures next { ReachedNext }
+    ensures end { ReachedEnd }
+    ensures stops { ReachedStops }
+    ensures all { ReachedAll }
 {}
 
 /// The tests on a state tell which bytes may come next and whether the text may end; those bytes
@@ -61,8 +62,8 @@ pub fn what_may_follow()
     ensures some { SomeNext }
 {}
 
-/// The runs of a set, as [`crate::runs_of`] gives them, are just its bytes below 128, ascending, each
-/// run as long as it can be.
+/// The runs of a set, as [`crate::runs_of`] gives them, are just its bytes below 128, ascending,
+/// each run as long as it can be.
 pub fn runs_are_the_set()
     ensures set { RunsAreTheSet }
     ensures whole { RunsAreWhole }

@@ -28,24 +28,34 @@ pub trait Level {
 
     /// Takes what the part that is open can go on with, and gives back the rest.
     fn take_part<'a>(&mut self, context: &Context, piece: &'a [u8]) -> Result<&'a [u8], OutOfMemory>
+        // The bytes before the rest lead the machine from the old state to the new one.
         ensures went { IfOk result (λ rest. Went (next context.now.dialect) self.old piece.now
             rest.now self.new) }
-        ensures stuck { IfOk result (λ rest. FirstIs (stuck context.now.dialect self.new) rest.now) }
-        ensures plain { plain context.now.dialect self.old → Every plain_byte piece.now → IsOk result };
+        // The part that is open can't go on with the first byte of the rest.
+        ensures stuck { IfOk result (λ rest. FirstIs (stuck context.now.dialect self.new)
+            rest.now) }
+        // In a plain state spaces, `-` and digits take no memory.
+        ensures plain { plain context.now.dialect self.old → Every plain_byte piece.now
+            → IsOk result };
 
     /// Takes a byte with which the part that is open can't go on, or tells that the level can't
     /// either, and stays as it is.
     fn turn(&mut self, context: &Context, byte: u8) -> Result<bool, OutOfMemory>
+        // A byte that the part can't take leads the machine on, or can't and the state stays.
         ensures step { IfOk result (λ took. stuck context.now.dialect self.old byte
             → Steps took (next context.now.dialect self.old byte) self.old self.new) }
+        // In a plain state spaces, `-` and digits take no memory.
         ensures plain { plain context.now.dialect self.old → plain_byte byte ≡ true → IsOk result };
 
     /// Takes a byte that the part that is open goes on with, or tells that the part can't.
     fn push_part(&mut self, context: &Context, byte: u8) -> Result<bool, OutOfMemory>
+        // The byte, where it is taken, leads the machine on; else the state stays.
         ensures went { IfOk result (λ took. Went (next context.now.dialect) self.old (byte ∷ [])
             (unless took byte) self.new) }
+        // With a byte that is not taken the part that is open can't go on.
         ensures stuck { IfOk result (λ took. FirstIs (stuck context.now.dialect self.new)
             (unless took byte)) }
+        // In a plain state spaces, `-` and digits take no memory.
         ensures plain { plain context.now.dialect self.old → plain_byte byte ≡ true → IsOk result };
 
     /// The bytes below 128 that the level can go on with, a bit for each.
@@ -60,12 +70,14 @@ pub trait Level {
     ghost keeps: { (d : Dialect) (s t : Self) (b : ℕ) → plain d s → plain_byte b ≡ true
         → next d s b ≡ Some t → plain d t };
 
-    /// Takes one byte, or tells that the level can't go on with it: as `take` does, with no look for
-    /// a run.
+    /// Takes one byte, or tells that the level can't go on with it: as `take` does, with no look
+    /// for a run.
     #[inline(always)]
     final fn push(&mut self, context: &Context, byte: u8) -> Result<bool, OutOfMemory>
+        // A byte that is taken leads the machine on; with any other it can't go on, and stays.
         ensures front { IfOk result (λ took. Front (next context.now.dialect) self.old (byte ∷ [])
             (unless took byte) self.new) }
+        // In a plain state spaces, `-` and digits take no memory.
         ensures plain { plain context.now.dialect self.old → plain_byte byte ≡ true → IsOk result }
     {
         if self.push_part(context, byte)? {
@@ -80,9 +92,12 @@ pub trait Level {
         context: &Context,
         piece: &'a [u8],
     ) -> Result<&'a [u8], OutOfMemory>
+        // The bytes before the rest lead to the new state, which can't take the first of the rest.
         ensures front { IfOk result (λ rest. Front (next context.now.dialect) self.old piece.now
             rest.now self.new) }
-        ensures plain { plain context.now.dialect self.old → Every plain_byte piece.now → IsOk result }
+        // In a plain state spaces, `-` and digits take no memory.
+        ensures plain { plain context.now.dialect self.old → Every plain_byte piece.now
+            → IsOk result }
     {
         let mut rest = piece;
         while !rest.is_empty() {

@@ -1,10 +1,10 @@
 //! The push parser of structured fields (RFC 9651 section 4.2).
 //!
-//! A [`Parser`] is handed a text in pieces and keeps none of it: beside the values built so far only
-//! the open construct. It refuses at the exact byte, with exactly the bytes that could have followed
-//! ([`Refusal::Syntax`]), whatever the pieces. [`parse_text`] parses a text at once, [`parse_reader`]
-//! what a reader gives. A refusal says itself in words, alone or beside the line that it stands in
-//! ([`InLine`]), and [`runs_of`] lists the bytes that it names.
+//! A [`Parser`] is handed a text in pieces and keeps none of it: beside the values built so far
+//! only the open construct. It refuses at the exact byte, with exactly the bytes that could have
+//! followed ([`Refusal::Syntax`]), whatever the pieces. [`parse_text`] parses a text at once,
+//! [`parse_reader`] what a reader gives. A refusal says itself in words, alone or beside the line
+//! that it stands in ([`InLine`]), and [`runs_of`] lists the bytes that it names.
 //!
 //! ```text
 //! let mut parser = Parser::new(alloc, &seed, Kind::Item, u64::MAX);
@@ -13,9 +13,9 @@
 //! let field = parser.finish()?; // the Decimal 1.5, with the parameter q
 //! ```
 //!
-//! The contracts speak of texts and values by the grammar of `sf_value`; `specs/Parsers` says what a
-//! parser took and answers. [`laws`] says what follows from the machine by which it is proved, and
-//! what the runs of a set are.
+//! The contracts speak of texts and values by the grammar of `sf_value`; `specs/Parsers` says what
+//! a parser took and answers. [`laws`] says what follows from the machine by which it is proved,
+//! and what the runs of a set are.
 #![tactic(auto)]
 
 mod bare;

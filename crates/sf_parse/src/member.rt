@@ -10,8 +10,9 @@ ghost use Rattle.sf_parse.specs.Machine.Items.{InParams};
 ghost use Rattle.sf_parse.specs.SeriesView.{Ends};
 ghost use Rattle.sf_parse.specs.PieceEnds.{with_member};
 ghost use Rattle.sf_parse.specs.Machine.Inners.{InnerState, inner_finish};
-ghost use Rattle.sf_parse.specs.Machine.Members.{InOne, InMany, member_start, member_step, member_finish};
-ghost use Rattle.sf_parse.specs.Machine.Takes.{member_begins, member_takes, member_ends};
+ghost use Rattle.sf_parse.specs.Machine.Members.{InOne, InMany, member_start, member_step};
+ghost use Rattle.sf_parse.specs.Machine.Members.{member_finish};
+ghost use Rattle.sf_parse.specs.Machine.Tests.{member_begins, member_takes, member_ends};
 
 use crate::bare::BareReader;
 use crate::context::Context;
@@ -81,6 +82,7 @@ impl MemberReader {
 
     /// Begins a member with this byte, or tells that none begins with it.
     pub fn start(&mut self, context: &Context, byte: u8) -> Result<bool, OutOfMemory>
+        // The new state is the one that the byte begins, or none begins with it.
         ensures { IfOk result (λ took. Starts took (member_start context.now.dialect byte)
             self.new) }
     {
@@ -95,6 +97,7 @@ impl MemberReader {
 
     /// Begins the parameters of Boolean true, behind the first semicolon.
     pub fn open_flag(&mut self, context: &Context)
+        // The parameters of Boolean true are open, and none is whole.
         ensures { self.new ≡ InOne (InParams (bare_is.Boolean true) (Opened [])) }
     {
         self.phase = MemberPhase::One;
@@ -108,11 +111,13 @@ impl MemberReader {
         BareReader::first_bytes(dialect) | OPEN
     }
 
-    // The inner list behind whose bracket the text is, if its last parameter is whole.
+    /// The inner list behind whose bracket the text is, if its last parameter is whole.
     #[inline(never)]
     fn finish_inner(&mut self, context: &Context) -> Result<Option<Inner>, OutOfMemory>
+        // In an inner list, it is the value that the state has at the end, if it has one.
         ensures value { IfOk result (λ inner. (s : InnerState) → self.old ≡ InMany s
             → inner ≡ inner_finish s) }
+        // Without one the reader stays as it is.
         ensures kept { IfOk result (λ inner. IfNone inner (self.new ≡ self.old)) }
     {
         match self.phase {
@@ -131,7 +136,9 @@ impl MemberReader {
 
     /// The member, if it is whole. What is left is the reader alone.
     pub fn finish(&mut self, context: &Context) -> Result<Option<Member>, OutOfMemory>
+        // The member is the value that the state has at the end, if it has one.
         ensures value { IfOk result (λ member. member ≡ member_finish self.old) }
+        // Without one the reader stays as it is.
         ensures kept { IfOk result (λ member. IfNone member (self.new ≡ self.old)) }
     {
         match self.phase {
@@ -157,8 +164,10 @@ impl MemberReader {
         context: &Context,
         given: &mut Sequence<Member>,
     ) -> Result<bool, OutOfMemory>
+        // The member was added to what was given, or may not end and nothing was added.
         ensures ended { IfOk result (λ ended. Ends ended (with_member self.old given.old) given.old
             given.new) }
+        // Where nothing was added the reader stays as it is.
         ensures kept { IfOk result (λ ended. ended ≡ false → self.new ≡ self.old) }
     {
         match self.phase {
@@ -168,15 +177,17 @@ impl MemberReader {
         }
     }
 
-    // The same of the inner list behind whose bracket the text is.
+    /// The same of the inner list behind whose bracket the text is.
     #[inline(never)]
     fn end_inner(
         &mut self,
         context: &Context,
         given: &mut Sequence<Member>,
     ) -> Result<bool, OutOfMemory>
+        // The inner list was added to what was given, or may not end and nothing was added.
         ensures ended { IfOk result (λ ended. (s : InnerState) → self.old ≡ InMany s
             → Ends ended (with_member (InMany s) given.old) given.old given.new) }
+        // Where nothing was added the reader stays as it is.
         ensures kept { IfOk result (λ ended. ended ≡ false → self.new ≡ self.old) }
     {
         let Some(inner) = self.finish_inner(context)? else {

@@ -82,6 +82,7 @@ struct Names {
 impl Names {
     /// Takes the first of them.
     fn next(&mut self) -> Option<Name>
+        // It is the first of the names left, and the others are left then; None where none is left.
         ensures { MatchOption result (names_left self.old ≡ [])
             (λ name. names_left self.old ≡ name ∷ names_left self.new) }
     {

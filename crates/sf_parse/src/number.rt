@@ -5,7 +5,7 @@ ghost use Rattle.sf_parse.specs.Expected.{Marks};
 ghost use Rattle.sf_parse.specs.Fronts.{Went, FirstIs, Halts, Starts};
 ghost use Rattle.sf_parse.specs.Machine.Language.{Steps};
 ghost use Rattle.sf_parse.specs.Machine.Numbers.{number_start, number_step, number_finish};
-ghost use Rattle.sf_parse.specs.Machine.Takes.{number_takes, number_ends};
+ghost use Rattle.sf_parse.specs.Machine.Tests.{number_takes, number_ends};
 
 use crate::sets::{DIGITS, POINT, set_if};
 use sf_value::{Bare, Int, Thousandths};
@@ -35,8 +35,10 @@ impl Model for NumberReader {
 
 /// The number with its sign.
 pub fn with_sign(negative: bool, value: u64) -> i64
+    // It has at most 15 digits.
     requires { value ≤ 999999999999999 }
     ensures value { result ≡ signed negative value }
+    // So has the number.
     ensures short { nat_abs result < 10 ^ 15 }
 {
     if negative {
@@ -59,7 +61,9 @@ impl NumberReader {
 
     /// Begins a number with this byte, or tells that none begins with it, and stays as it is.
     pub fn start(&mut self, byte: u8) -> bool
+        // The new state is the one that the byte begins, or none begins with it.
         ensures start { Starts result (number_start byte) self.new }
+        // Where none begins, the reader stays as it is.
         ensures kept { result ≡ false → self.new ≡ self.old }
     {
         match byte {
@@ -84,6 +88,7 @@ impl NumberReader {
     /// Takes one more byte, or tells that the number can't go on with it and stays as it is.
     #[tactic(auto, using(crate::proofs::Numerals::room, crate::proofs::Numerals::whole_fits, crate::proofs::Numerals::next_digit))]
     pub fn step(&mut self, byte: u8) -> bool
+        // The byte leads the machine on, or can't and the state stays.
         ensures { Steps result (number_step self.old byte) self.old self.new }
     {
         match self.whole {
@@ -116,7 +121,9 @@ impl NumberReader {
 
     /// Takes the bytes that the number goes on with, and gives back the rest.
     pub fn take_run<'a>(&mut self, piece: &'a [u8]) -> &'a [u8]
+        // The bytes before the rest lead the machine from the old state to the new one.
         ensures went { Went number_step self.old piece.now result.now self.new }
+        // The number can't go on with the first byte of the rest.
         ensures stop { FirstIs (Halts number_step self.new) result.now }
     {
         let mut rest = piece;
@@ -131,6 +138,7 @@ impl NumberReader {
 
     /// The bytes that the number can go on with.
     pub fn expected(&self) -> u128
+        // The bits are those of the bytes that may come.
         ensures { Marks result (number_takes self.now) }
     {
         match self.whole {
@@ -152,6 +160,7 @@ impl NumberReader {
     /// The number, if it is one already.
     #[tactic(auto, using(crate::proofs::Numerals::short))]
     pub fn finish(&self) -> Option<Bare>
+        // It is the value that the state has at the end, if it has one.
         ensures { result ≡ number_finish self.now }
     {
         if self.digits == 0 {

@@ -3,7 +3,7 @@ ghost use Rattle.std.specs.Prelude.{◌≡◌, [], IfOk, IfNone, OnOk};
 ghost use Rattle.sf_value.specs.Grammar.Pairs.{put as put_pair};
 ghost use Rattle.sf_value.specs.Grammar.Tokens.{IsKey};
 ghost use Rattle.sf_parse.specs.Machine.Params.{Between, Opened, params_step, params_finish};
-ghost use Rattle.sf_parse.specs.Machine.Takes.{params_takes, params_ends};
+ghost use Rattle.sf_parse.specs.Machine.Tests.{params_takes, params_ends};
 ghost use Rattle.sf_parse.specs.ParamsView.{params_stuck};
 
 use crate::bare::BareReader;
@@ -82,7 +82,9 @@ impl ParamsReader {
 
     /// The parameters, if the last one is whole. What is left is the reader alone.
     pub fn finish(&mut self, context: &Context) -> Result<Option<Entries<Bare>>, OutOfMemory>
+        // They are the value that the state has at the end, if it has one.
         ensures value { IfOk result (λ params. params ≡ params_finish self.old) }
+        // Without them the reader stays as it is.
         ensures kept { IfOk result (λ params. IfNone params (self.new ≡ self.old)) }
     {
         match self.phase {
@@ -110,7 +112,8 @@ impl ParamsReader {
     }
 }
 
-// Puts a value at the key that was read. A later value of a key takes the place of the earlier one.
+/// Puts a value at the key that was read. A later value of a key takes the place of the earlier
+/// one.
 fn put(
     params: &mut Entries<Bare>,
     key: &mut ShortBytes,

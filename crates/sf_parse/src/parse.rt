@@ -16,8 +16,9 @@ use sf_value::{Dialect, Dict, Field, Item, Kind, List};
 use std::alloc::Global;
 use std::hash::RandomState;
 
-/// The value that the text spells, in the dialect of RFC 9651 (section 4.2). It is never TooLong or
-/// ReadFault. A text of spaces, `-` and digits takes no memory.
+/// The value that the text spells, in the dialect of RFC 9651 (section 4.2). A text that spells
+/// none is refused with Syntax, and want of memory with OutOfMemory; it is never TooLong or
+/// ReadFault. Where an Item is asked for, a text of spaces, `-` and digits takes no memory.
 ///
 /// ```
 /// let field = parse_text(alloc, &seed, Kind::Dict, b"u=1, i")?;
@@ -28,13 +29,15 @@ pub fn parse_text(
     kind: Kind,
     text: &[u8],
 ) -> Result<Field, Refusal>
+    // The text spells just this value, or this is its exact refusal; else memory was wanting.
     ensures parses { Parses Rfc9651 kind text.now result }
+    // Of an Item, spaces, `-` and digits are not refused for want of memory.
     ensures plain { kind ≡ kind_is.Item → Every plain_byte text.now → NotForMemory result }
 {
     parse_text_in(alloc, seed, Dialect::Rfc9651, kind, text)
 }
 
-/// The value that the text spells in this dialect.
+/// The value that the text spells in the dialect of the call, refused as [`parse_text`] refuses.
 ///
 /// ```
 /// parse_text_in(alloc, &seed, Dialect::Rfc8941, Kind::Item, b"@1") // refused: no Dates
@@ -46,7 +49,9 @@ pub fn parse_text_in(
     kind: Kind,
     text: &[u8],
 ) -> Result<Field, Refusal>
+    // The text spells just this value, or this is its exact refusal; else memory was wanting.
     ensures parses { Parses dialect kind text.now result }
+    // Of an Item, spaces, `-` and digits are not refused for want of memory.
     ensures plain { kind ≡ kind_is.Item → Every plain_byte text.now → NotForMemory result }
 {
     let context = Context {
@@ -62,14 +67,17 @@ pub fn parse_text_in(
 }
 
 /// The Item that the text spells, in the dialect of RFC 9651 (section 4.2), as [`parse_text`] gives
-/// it where an Item is asked for. A text of spaces, `-` and digits takes no memory.
+/// it where an Item is asked for, and refused as it refuses. A text of spaces, `-` and digits takes
+/// no memory.
 ///
 /// ```
 /// let item = parse_item(alloc, &seed, b"a;q=1")?;
 /// item.param(b"q")?.as_integer() // Some(1)
 /// ```
 pub fn parse_item(alloc: Global, seed: &RandomState, text: &[u8]) -> Result<Item, Refusal>
+    // The text spells just this Item, or this is its exact refusal; else memory was wanting.
     ensures parses { ParsesAs field_is.Item Rfc9651 kind_is.Item text.now result }
+    // Spaces, `-` and digits are not refused for want of memory.
     ensures plain { Every plain_byte text.now → IfErr result IsOther }
 {
     match parse_text(alloc, seed, Kind::Item, text)? {
@@ -80,13 +88,14 @@ pub fn parse_item(alloc: Global, seed: &RandomState, text: &[u8]) -> Result<Item
 }
 
 /// The List that the text spells, in the dialect of RFC 9651 (section 4.2), as [`parse_text`] gives
-/// it where a List is asked for.
+/// it where a List is asked for, and refused as it refuses: with Syntax, or for want of memory.
 ///
 /// ```
 /// let list = parse_list(alloc, &seed, b"a, (b c)")?;
 /// list.members.len() // 2
 /// ```
 pub fn parse_list(alloc: Global, seed: &RandomState, text: &[u8]) -> Result<List, Refusal>
+    // The text spells just this List, or this is its exact refusal; else memory was wanting.
     ensures { ParsesAs field_is.List Rfc9651 kind_is.List text.now result }
 {
     match parse_text(alloc, seed, Kind::List, text)? {
@@ -97,13 +106,15 @@ pub fn parse_list(alloc: Global, seed: &RandomState, text: &[u8]) -> Result<List
 }
 
 /// The Dictionary that the text spells, in the dialect of RFC 9651 (section 4.2), as [`parse_text`]
-/// gives it where a Dictionary is asked for.
+/// gives it where a Dictionary is asked for, and refused as it refuses: with Syntax, or for want of
+/// memory.
 ///
 /// ```
 /// let dict = parse_dict(alloc, &seed, b"u=1, i")?;
 /// dict.get(b"u") // Some(Member::Item(1))
 /// ```
 pub fn parse_dict(alloc: Global, seed: &RandomState, text: &[u8]) -> Result<Dict, Refusal>
+    // The text spells just this Dictionary, or this is its exact refusal; else memory was wanting.
     ensures { ParsesAs field_is.Dict Rfc9651 kind_is.Dict text.now result }
 {
     match parse_text(alloc, seed, Kind::Dict, text)? {

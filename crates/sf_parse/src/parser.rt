@@ -10,7 +10,7 @@ ghost use Rattle.sf_parse.specs.Feeding.{FedTo, TakenPlain};
 ghost use Rattle.sf_parse.specs.Plain.{plain_byte};
 ghost use Rattle.sf_parse.specs.PlainParsers.{IsPlain, IsOther, KeptPlain, NotForMemory};
 ghost use Rattle.sf_parse.specs.Machine.Fields.{step as step_of};
-ghost use Rattle.sf_parse.specs.Machine.Takes.{may_end};
+ghost use Rattle.sf_parse.specs.Machine.Tests.{may_end};
 
 use crate::context::Context;
 use crate::refusal::Refusal;
@@ -47,7 +47,15 @@ impl Model for Parser {
 
     ghost Value = { Progress };
 
-    ghost view = { λ p. record { dialect = p.context.dialect; kind = p.kind; max = p.max; state = state_of p.state; count = p.count; refusal = p.refusal; after_line = p.after_line } };
+    ghost view = { λ p. record {
+      dialect = p.context.dialect;
+      kind = p.kind;
+      max = p.max;
+      state = state_of p.state;
+      count = p.count;
+      refusal = p.refusal;
+      after_line = p.after_line;
+    } };
 
     ghost invariant = { λ p. Sound p.refusal (state_of p.state) p.count p.max };
 }
@@ -86,8 +94,11 @@ impl Parser {
         ensures dialect { result.dialect ≡ dialect_is.Rfc9651 }
         ensures kind { result.kind ≡ kind }
         ensures max { result.max ≡ max }
+        // It took the empty text and refused nothing.
         ensures took { Took result [] }
+        // No field line came before.
         ensures lines { result.after_line ≡ false }
+        // A parser for an Item takes no memory while only spaces, `-` and digits come.
         ensures plain { kind ≡ kind_is.Item → IsPlain result }
     {
         Parser::new_in(alloc, seed, Dialect::Rfc9651, kind, max)
@@ -105,8 +116,11 @@ impl Parser {
         ensures dialect { result.dialect ≡ dialect }
         ensures kind { result.kind ≡ kind }
         ensures max { result.max ≡ max }
+        // It took the empty text and refused nothing.
         ensures took { Took result [] }
+        // No field line came before.
         ensures lines { result.after_line ≡ false }
+        // A parser for an Item takes no memory while only spaces, `-` and digits come.
         ensures plain { kind ≡ kind_is.Item → IsPlain result }
     {
         let context = Context {
@@ -128,22 +142,28 @@ impl Parser {
     /// How many bytes were taken: after a Syntax refusal its place, after TooLong the limit.
     pub fn place(&self) -> u64
         ensures count { result ≡ self.now.count }
+        // It is the place of a Syntax refusal, and the limit after TooLong.
         ensures refused { IfSome self.now.refusal (λ e. StandsAt e result self.now.max) }
     {
         self.count
     }
 
-    // Takes what the field can go on with of bytes within the limit, and gives back the rest.
+    /// Takes what the field can go on with of bytes within the limit, and gives back the rest.
     fn take<'a>(&mut self, front: &'a [u8]) -> Result<&'a [u8], Refusal>
         requires unrefused { self.old.refusal ≡ None }
+        // The front lies within the limit.
         requires room { self.old.count + length front.now ≤ self.old.max }
+        // Ok took the bytes before the rest; a refusal stands whatever comes behind the front.
         ensures fed { MatchResult result (λ rest. FedTo self.old self.new front.now rest.now)
             (λ e. Fed self.old self.new (Err e) front.now) }
+        // The count goes up by the bytes before the rest.
         ensures counted { IfOk result (λ rest. self.new.count + length rest.now
             ≡ self.old.count + length front.now) }
         ensures lines { self.new.after_line ≡ self.old.after_line }
+        // The field can't go on with the first byte of the rest.
         ensures stops { IfOk result (λ rest. FirstIs (Halts (step_of self.new.dialect)
             self.new.state) rest.now) }
+        // While only spaces, `-` and digits of an Item come, none is refused for want of memory.
         ensures plain { IsPlain self.old → Every plain_byte front.now → TakenPlain self.new result }
     {
         let rest = match self.state.take(&self.context, front) {
@@ -157,13 +177,16 @@ impl Parser {
         Ok(rest)
     }
 
-    // Refuses this byte: it is past the limit, or the field can't go on with it.
+    /// Refuses this byte: it is past the limit, or the field can't go on with it.
     fn refuse(&mut self, byte: u8) -> Refusal
         requires unrefused { self.old.refusal ≡ None }
+        // Below the limit the field can't go on with the byte.
         requires stops { self.old.count < self.old.max
             → Halts (step_of self.old.dialect) self.old.state byte }
+        // The refusal stands whatever comes behind the byte.
         ensures fed { Fed self.old self.new (Err result) (byte ∷ []) }
         ensures lines { self.new.after_line ≡ self.old.after_line }
+        // It is not for want of memory.
         ensures other { IsOther result }
     {
         if self.count >= self.max {
@@ -184,9 +207,13 @@ impl Parser {
     /// Takes the next piece, or refuses the text. A parser that refused once gives the same refusal
     /// to every later call, whatever the piece.
     pub fn feed(&mut self, piece: &[u8]) -> Result<(), Refusal>
+        // Ok took the piece; a refusal stands whatever comes behind it.
         ensures fed { Fed self.old self.new result piece.now }
+        // A piece is no field line.
         ensures lines { self.new.after_line ≡ self.old.after_line }
+        // A parser that refused gives the same refusal and stays as it is.
         ensures again { IfSome self.old.refusal (λ e. (result ≡ Err e) × (self.new ≡ self.old)) }
+        // While only spaces, `-` and digits of an Item come, none is refused for want of memory.
         ensures plain { IsPlain self.old → Every plain_byte piece.now → KeptPlain self.new result }
     {
         if let Some(refusal) = self.refusal {
@@ -204,6 +231,7 @@ impl Parser {
         Ok(())
     }
 
+    /// Notes that a field line was fed.
     fn mark_line(&mut self)
         ensures { self.new ≡ record self.old { after_line = true } }
     {
@@ -220,9 +248,14 @@ impl Parser {
     /// parser.finish()? // the List a, b, c
     /// ```
     pub fn feed_line(&mut self, line: &[u8]) -> Result<(), Refusal>
+        // Ok took the line, behind a comma and a space where a line came before; a refusal stands
+        // whatever comes behind it.
         ensures fed { Fed self.old self.new result (in_line self.old.after_line line.now) }
+        // Once a line was taken, the next one is joined to it.
         ensures lines { OnOk result (self.new.after_line ≡ true) }
+        // A parser that refused gives the same refusal and stays as it is.
         ensures again { IfSome self.old.refusal (λ e. (result ≡ Err e) × (self.new ≡ self.old)) }
+        // A first line of spaces, `-` and digits of an Item is not refused for want of memory.
         ensures plain { IsPlain self.old → self.old.after_line ≡ false → Every plain_byte line.now
             → KeptPlain self.new result }
     {
@@ -235,13 +268,17 @@ impl Parser {
         Ok(())
     }
 
-    // Why the text may not end here, if it may not.
+    /// Why the text may not end here, if it may not.
     fn refusal_at_end(&self) -> Option<Refusal>
+        // A parser that refused gives the same refusal.
         ensures again { IfSome self.now.refusal (λ e. result ≡ Some e) }
+        // Where all bytes were taken, the refusal is right at their end.
         ensures ended { IfSome result (λ e. (s : List ℕ) → Took self.now s
             → Finishes self.now.dialect self.now.kind s (Err e)) }
         ensures unrefused { IfNone result (self.now.refusal ≡ None) }
+        // Without a refusal the text may end.
         ensures whole { IfNone result (may_end self.now.state ≡ true) }
+        // After only spaces, `-` and digits of an Item, the refusal is not for want of memory.
         ensures plain { IsPlain self.now → IfSome result IsOther }
     {
         if let Some(refusal) = self.refusal {
@@ -258,10 +295,14 @@ impl Parser {
         })
     }
 
-    /// The value of what was taken, or why it is none.
+    /// The value of what was taken. It fails with the refusal that a call before gave, with Syntax
+    /// where the text may not end here, and with OutOfMemory for want of memory.
     pub fn finish(self) -> Result<Field, Refusal>
+        // It is the one value of all bytes taken, or Syntax at their end; else memory was wanting.
         ensures ended { (s : List ℕ) → Took self s → Finishes self.dialect self.kind s result }
+        // A parser that refused gives the same refusal.
         ensures again { IfSome self.refusal (λ e. result ≡ Err e) }
+        // After only spaces, `-` and digits of an Item, the end is not refused for want of memory.
         ensures plain { IsPlain self → NotForMemory result }
     {
         if let Some(refusal) = self.refusal_at_end() {

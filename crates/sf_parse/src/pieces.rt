@@ -1,6 +1,6 @@
 //! The pieces of a List and of a Dictionary (RFC 9651 sections 4.2.1 and 4.2.2).
 ghost use Rattle.std.specs.Prelude.{[]};
-ghost use Rattle.sf_parse.specs.Machine.Takes.{member_begins};
+ghost use Rattle.sf_parse.specs.Machine.Tests.{member_begins};
 ghost use Rattle.sf_parse.specs.Machine.Members.{member_start};
 ghost use Rattle.sf_parse.specs.Machine.Entries.{entry_start};
 ghost use Rattle.sf_parse.specs.PieceEnds.{with_member, with_entry};

@@ -26,6 +26,7 @@ pub fn parse_reader<R: Source>(
     max: u64,
     reader: &mut R,
 ) -> Result<Field, Refusal>
+    // The answer is that of the bytes given, of which there is at most one more than the limit.
     ensures { ReadAndParsed Rfc9651 kind (R.state reader.old) (R.state reader.new) max result }
 {
     let limit = max.saturating_add(1);

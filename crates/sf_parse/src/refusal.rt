@@ -47,7 +47,8 @@ pub enum Refusal {
     },
 }
 
-/// The byte that was found, shown as `0x32 '2'`, or without the character where it is not printable.
+/// The byte that was found, shown as `0x32 '2'`, or without the character where it is not
+/// printable.
 #[derive(Clone, Copy, Drop)]
 struct Found {
     byte: u8,
@@ -68,9 +69,9 @@ impl fmt::Display for Found {
 
 /// In words, as ``byte 0x32 '2' at place 2, expected a space or the end``. Of the bytes that could
 /// have followed, each class that is there whole is named, the wider ones first (RFC 9651 sections
-/// 3.1.2, 3.3.3 and 3.3.4, RFC 4648 section 4, letters and digits), and then each byte that is left:
-/// `-` stands between backquotes, a space, a tab, a quote and a backquote are called so, and any
-/// other is hexadecimal. Places and lengths are decimal. It takes no memory.
+/// 3.1.2, 3.3.3 and 3.3.4, RFC 4648 section 4, letters and digits), and then each byte that is
+/// left: `-` stands between backquotes, a space, a tab, a quote and a backquote are called so, and
+/// any other is hexadecimal. Places and lengths are decimal. It takes no memory.
 impl fmt::Display for Refusal {
     ghost output = { λ refusal. Some (refusal_text refusal) };
 

@@ -7,12 +7,13 @@ ghost use Rattle.sf_parse.specs.ByteRuns.{is_unescaped, is_shown_plain};
 
 use sf_value::{can_be_in_key, can_be_in_token, is_visible};
 
-// The flags of the bytes that keys and tokens go on with.
+/// The flag of the bytes that keys go on with.
 const KEY: u8 = 1;
 
+/// The flag of the bytes that tokens go on with.
 const TOKEN: u8 = 2;
 
-// The flags of each byte.
+/// The flags of each byte.
 #[rattlefmt::skip]
 static CLASSES: [u8; 256] = [
     0, 0, 0, 0, 0, 0, 0, 0, 0, 0, 0, 0, 0, 0, 0, 0,
@@ -157,7 +158,7 @@ impl ByteClass for Ows {
     }
 }
 
-// Whether all bytes are of the class. It looks at each, which a processor does many at a time.
+/// Whether all bytes are of the class. It looks at each, which a processor does many at a time.
 #[inline]
 fn all_of<C: ByteClass>(bytes: &[u8]) -> bool
     ensures { result ≡ true → Every C.test bytes.now }
@@ -169,11 +170,13 @@ fn all_of<C: ByteClass>(bytes: &[u8]) -> bool
     all
 }
 
-/// The bytes of the class that the piece begins with, and the rest. Behind the first 16 bytes blocks of
-/// 16 are looked at.
+/// The bytes of the class that the piece begins with, and the rest. Behind the first 16 bytes
+/// blocks of 16 are looked at.
 #[inline]
 pub fn long_front<C: ByteClass>(piece: &[u8]) -> (&[u8], &[u8])
+    // Together they are the piece.
     ensures whole { piece.now ≡ result.0.now ++ result.1.now }
+    // All bytes of the first are of the class.
     ensures every { Every C.test result.0.now }
 {
     let mut run = 0;
@@ -195,7 +198,9 @@ pub fn long_front<C: ByteClass>(piece: &[u8]) -> (&[u8], &[u8])
 /// The same, for runs that are mostly short.
 #[inline]
 pub fn short_front<C: ByteClass>(piece: &[u8]) -> (&[u8], &[u8])
+    // Together they are the piece.
     ensures whole { piece.now ≡ result.0.now ++ result.1.now }
+    // All bytes of the first are of the class.
     ensures every { Every C.test result.0.now }
 {
     let mut run = 0;

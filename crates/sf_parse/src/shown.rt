@@ -1,6 +1,8 @@
 //! A Display String that is being read (RFC 9651 section 4.2.10).
-ghost use Rattle.std.specs.Prelude.{◌≡◌, ℕ, ◌<◌, ◌≤◌, List, [], ◌∷◌, ◌++◌, Some, IfOk, IfSome, take};
+ghost use Rattle.std.specs.Prelude.{◌≡◌, ℕ, ◌<◌, ◌≤◌, List, [], ◌∷◌, ◌++◌, Some, IfOk, IfSome};
+ghost use Rattle.std.specs.Prelude.{take};
 ghost use Rattle.std.specs.Option.{option_map};
+ghost use Rattle.sf_value.specs.Ascii.{percent as percent_sign};
 ghost use Rattle.sf_value.specs.Grammar.Utf8.{Utf8, wants, rows, look_up, utf8_step};
 ghost use Rattle.sf_parse.specs.Expected.{Marks};
 ghost use Rattle.sf_parse.specs.Fronts.{Went};
@@ -9,7 +11,7 @@ ghost use Rattle.sf_parse.specs.Machine.Language.{Steps, run};
 ghost use Rattle.sf_parse.specs.Machine.Showns.{Plain, pushed, unhex as unhex_of};
 ghost use Rattle.sf_parse.specs.Machine.Showns.{can_begin as can_begin_at, shown_step};
 ghost use Rattle.sf_parse.specs.Machine.Showns.{GoodUtf8};
-ghost use Rattle.sf_parse.specs.Machine.Takes.{shown_takes, shown_ends};
+ghost use Rattle.sf_parse.specs.Machine.Tests.{shown_takes, shown_ends};
 ghost use Rattle.sf_parse.specs.Expected.{digit_takes};
 
 use crate::runs::{ShownPlain, long_front};
@@ -49,6 +51,7 @@ pub struct ShownPlace {
 impl Utf8State {
     /// Behind one more byte of well-formed UTF-8 (RFC 3629 section 4).
     pub fn after(self, byte: u8) -> Option<Utf8State>
+        // It is the next place in a character, if the byte may come there.
         ensures { option_map utf8_of result ≡ utf8_step (utf8_of self) byte }
     {
         match self {
@@ -74,8 +77,9 @@ impl Utf8State {
     }
 }
 
-// Behind a byte of a character that so many bytes complete.
+/// Behind a byte of a character that so many bytes complete.
 fn wanted(more: u8) -> Utf8State
+    // It is the place in a character that the grammar has there.
     ensures { utf8_of result ≡ wants more }
 {
     if more == 0 {
@@ -88,8 +92,9 @@ fn wanted(more: u8) -> Utf8State
     }
 }
 
-// Behind the first byte of a character.
+/// Behind the first byte of a character.
 fn first_byte(byte: u8) -> Option<Utf8State>
+    // It is what the table of well-formed UTF-8 says of the byte.
     ensures { option_map utf8_of result ≡ look_up rows byte }
 {
     let (more, low, high) = match byte {
@@ -107,10 +112,10 @@ fn first_byte(byte: u8) -> Option<Utf8State>
     Some(Utf8State::Wants { more, low, high })
 }
 
-// How many escapes are read at a time.
+/// How many escapes are read at a time.
 const BLOCK: usize = 64;
 
-// The value of each byte as a lower-case hexadecimal digit; 16 where it is none.
+/// The value of each byte as a lower-case hexadecimal digit; 16 where it is none.
 #[rattlefmt::skip]
 static DIGITS: [u8; 256] = [
     16, 16, 16, 16, 16, 16, 16, 16, 16, 16, 16, 16, 16, 16, 16, 16,
@@ -131,37 +136,43 @@ static DIGITS: [u8; 256] = [
     16, 16, 16, 16, 16, 16, 16, 16, 16, 16, 16, 16, 16, 16, 16, 16,
 ];
 
-// The value of a lower-case hexadecimal digit.
+/// The value of a lower-case hexadecimal digit.
 #[inline]
 fn unhex(byte: u8) -> Option<u8>
     ensures value { result ≡ unhex_of byte }
+    // It is below 16.
     ensures small { IfSome result (λ value. value < 16) }
 {
     let value = DIGITS[byte as usize];
     if value < 16 { Some(value) } else { None }
 }
 
-// The byte that an escape of these digits stands for.
+/// The byte that an escape of these digits stands for.
 #[inline]
 fn escaped(high: u8, low: u8) -> Option<u8>
+    // Where this byte may come in a character, the escape leads to a state with the byte more.
     ensures { IfSome result (λ c. (bs : List ℕ) (x y : Utf8) → utf8_step x c ≡ Some y
-        → run shown_step (Plain bs x) (37 ∷ high ∷ low ∷ []) ≡ Some (Plain (bs ++ c ∷ []) y)) }
+        → run shown_step (Plain bs x) (percent_sign ∷ high ∷ low ∷ [])
+        ≡ Some (Plain (bs ++ c ∷ []) y)) }
 {
     let high = unhex(high)?;
     let low = unhex(low)?;
     Some(high * 16 + low)
 }
 
-// Reads whole escapes into the block until it is full: how many they are, where in a character they
-// lead, and the rest.
+/// Reads whole escapes into the block until it is full: how many they are, where in a character
+/// they lead, and the rest.
 fn read_escapes<'a>(
     from: Utf8State,
     piece: &'a [u8],
     block: &mut [u8; BLOCK],
 ) -> (usize, Utf8State, &'a [u8])
     ensures within { result.0 ≤ 64 }
+    // The escapes before the rest lead to a state with the bytes of the block behind those so far.
     ensures went { (bs : List ℕ) → Went shown_step (Plain bs (utf8_of from)) piece.now result.2.now
         (Plain (bs ++ take result.0 block.new) (utf8_of result.1)) }
+    // Where the bytes so far lead to the first place in a character, they and the block lead to the
+    // last.
     ensures leads { (bs : List ℕ) → Leads bs (utf8_of from)
         → Leads (bs ++ take result.0 block.new) (utf8_of result.1) }
 {
@@ -189,15 +200,18 @@ fn read_escapes<'a>(
     (count, chars, rest)
 }
 
-// Takes whole escapes, a block by one growth, and gives back the rest.
+/// Takes whole escapes, a block by one growth, and gives back the rest.
 fn take_escapes<'a>(
     chars: &mut Utf8State,
     bytes: &mut ShortBytes,
     piece: &'a [u8],
 ) -> Result<&'a [u8], OutOfMemory>
+    // The bytes so far lead to the place in a character.
     requires { Leads bytes.old (utf8_of chars.old) }
-    ensures went { IfOk result (λ rest. Went shown_step (Plain bytes.old (utf8_of chars.old)) piece.now
-        rest.now (Plain bytes.new (utf8_of chars.new))) }
+    // The bytes before the rest lead the machine from the old state to the new one.
+    ensures went { IfOk result (λ rest. Went shown_step (Plain bytes.old (utf8_of chars.old))
+        piece.now rest.now (Plain bytes.new (utf8_of chars.new))) }
+    // So do they then to the new place, even where memory was wanting.
     ensures leads { Leads bytes.new (utf8_of chars.new) }
 {
     let mut block = [0; BLOCK];
@@ -207,15 +221,18 @@ fn take_escapes<'a>(
     Ok(rest)
 }
 
-// Takes the bytes that stand for themselves, where no character is open, and gives back the rest.
+/// Takes the bytes that stand for themselves, where no character is open, and gives back the rest.
 fn take_plain<'a>(
     chars: Utf8State,
     bytes: &mut ShortBytes,
     piece: &'a [u8],
 ) -> Result<&'a [u8], OutOfMemory>
+    // The bytes so far lead to the place in a character.
     requires { Leads bytes.old (utf8_of chars) }
-    ensures went { IfOk result (λ rest. Went shown_step (Plain bytes.old (utf8_of chars)) piece.now
-        rest.now (Plain bytes.new (utf8_of chars))) }
+    // The bytes before the rest lead the machine from the old state to the new one.
+    ensures went { IfOk result (λ rest. Went shown_step (Plain bytes.old (utf8_of chars))
+        piece.now rest.now (Plain bytes.new (utf8_of chars))) }
+    // So do they then, even where memory was wanting.
     ensures leads { Leads bytes.new (utf8_of chars) }
 {
     match chars {
@@ -228,15 +245,18 @@ fn take_plain<'a>(
     }
 }
 
-// Takes bytes that stand for themselves and whole escapes, and gives back the rest.
+/// Takes bytes that stand for themselves and whole escapes, and gives back the rest.
 fn take_chars<'a>(
     chars: &mut Utf8State,
     bytes: &mut ShortBytes,
     piece: &'a [u8],
 ) -> Result<&'a [u8], OutOfMemory>
+    // The bytes so far lead to the place in a character.
     requires { Leads bytes.old (utf8_of chars.old) }
-    ensures went { IfOk result (λ rest. Went shown_step (Plain bytes.old (utf8_of chars.old)) piece.now
-        rest.now (Plain bytes.new (utf8_of chars.new))) }
+    // The bytes before the rest lead the machine from the old state to the new one.
+    ensures went { IfOk result (λ rest. Went shown_step (Plain bytes.old (utf8_of chars.old))
+        piece.now rest.now (Plain bytes.new (utf8_of chars.new))) }
+    // So do they then to the new place, even where memory was wanting.
     ensures leads { Leads bytes.new (utf8_of chars.new) }
 {
     let mut rest = piece;
@@ -261,14 +281,17 @@ impl ShownPlace {
         chars: Utf8State::Start,
     };
 
-    // One more byte of the text, in what was read of characters.
+    /// One more byte of the text, in what was read of characters.
     #[tactic(auto, using(crate::proofs::Leading::leads_push))]
     fn push(&mut self, bytes: &mut ShortBytes, byte: u8) -> Result<bool, OutOfMemory>
+        // The bytes so far lead to the place in a character, and fit the phase.
         requires { FitsShown self.old.phase bytes.old self.old.chars }
+        // The byte of the text leads the machine on, or can't and the state stays.
         ensures step { IfOk result (λ took. Steps took
             (pushed (shown_of self.old.phase bytes.old self.old.chars) byte)
             (shown_of self.old.phase bytes.old self.old.chars)
             (shown_of self.new.phase bytes.new self.new.chars)) }
+        // So they do then.
         ensures fits { FitsShown self.new.phase bytes.new self.new.chars }
     {
         if matches!(self.phase, ShownPhase::Quote | ShownPhase::Done) {
@@ -286,11 +309,14 @@ impl ShownPlace {
     /// Takes one more byte, or tells that the display string can't go on with it and stays as it
     /// is. Its bytes so far are `bytes`.
     pub fn step(&mut self, bytes: &mut ShortBytes, byte: u8) -> Result<bool, OutOfMemory>
+        // The bytes so far lead to the place in a character, and fit the phase.
         requires { FitsShown self.old.phase bytes.old self.old.chars }
+        // The byte leads the machine on, or can't and the state stays.
         ensures step { IfOk result (λ took. Steps took
             (shown_step (shown_of self.old.phase bytes.old self.old.chars) byte)
             (shown_of self.old.phase bytes.old self.old.chars)
             (shown_of self.new.phase bytes.new self.new.chars)) }
+        // So they do then.
         ensures fits { FitsShown self.new.phase bytes.new self.new.chars }
     {
         match self.phase {
@@ -338,17 +364,20 @@ impl ShownPlace {
         }
     }
 
-    /// Takes bytes that stand for themselves and whole escapes, many by one growth, and gives back the
-    /// rest.
+    /// Takes bytes that stand for themselves and whole escapes, many by one growth, and gives back
+    /// the rest.
     pub fn take_run<'a>(
         &mut self,
         bytes: &mut ShortBytes,
         piece: &'a [u8],
     ) -> Result<&'a [u8], OutOfMemory>
+        // The bytes so far lead to the place in a character, and fit the phase.
         requires { FitsShown self.old.phase bytes.old self.old.chars }
+        // The bytes before the rest lead the machine from the old state to the new one.
         ensures went { IfOk result (λ rest. Went shown_step
             (shown_of self.old.phase bytes.old self.old.chars) piece.now rest.now
             (shown_of self.new.phase bytes.new self.new.chars)) }
+        // So they do then.
         ensures fits { FitsShown self.new.phase bytes.new self.new.chars }
     {
         match self.phase {
@@ -357,9 +386,11 @@ impl ShownPlace {
         }
     }
 
-    // Whether an escape can go on with this byte.
+    /// Whether an escape can go on with this byte.
     fn takes_digit(self, byte: u8) -> bool
+        // The first digit of an escape that is open is below 16.
         requires { IsDigitPhase self.phase }
+        // It can exactly where the machine can, whatever was read before.
         ensures { (bytes : List ℕ) → result ≡ digit_takes (shown_of self.phase bytes self.chars)
             byte }
     {
@@ -373,9 +404,11 @@ impl ShownPlace {
         }
     }
 
-    // The digits that an escape can go on with.
+    /// The digits that an escape can go on with.
     fn expected_digits(self) -> u128
+        // The first digit of an escape that is open is below 16.
         requires { IsDigitPhase self.phase }
+        // The bits are those of the digits that may come, whatever was read before.
         ensures { (bytes : List ℕ) → Marks result (digit_takes (shown_of self.phase bytes
             self.chars)) }
     {
@@ -395,8 +428,11 @@ impl ShownPlace {
 
     /// The bytes that the display string can go on with.
     pub fn expected(self) -> u128
+        // The first digit of an escape that is open is below 16.
         requires digit { IsDigitPhase self.phase }
+        // The next byte of a character that is open lies from 0x80 to 0xbf.
         requires good { GoodUtf8 (utf8_of self.chars) }
+        // The bits are those of the bytes that may come, whatever was read before.
         ensures { (bytes : List ℕ) → Marks result (shown_takes (shown_of self.phase bytes
             self.chars)) }
     {
@@ -413,6 +449,7 @@ impl ShownPlace {
 
     /// Whether the display string is closed.
     pub fn may_end(self) -> bool
+        // The display string may end exactly then, whatever was read before.
         ensures { (bytes : List ℕ) → result ≡ shown_ends (shown_of self.phase bytes self.chars) }
     {
         self.phase == ShownPhase::Done

@@ -1,6 +1,7 @@
 //! Where in the lines of a field a refusal stands.
 ghost use Rattle.std.specs.Prelude.{◌≡◌, [], ◌∷◌, Some, replicate};
 ghost use Rattle.std.specs.Char.{encode_utf8};
+ghost use Rattle.sf_value.specs.Ascii.{space};
 ghost use Rattle.sf_parse.specs.Spots.{stands_at, place_in, line_place};
 ghost use Rattle.sf_parse.specs.Spots.{printed_byte, printed, in_line_text};
 
@@ -21,6 +22,7 @@ pub struct Spot<'a> {
 
 /// The spot of a place of the joined text, counted in bytes from 0; None where there is no line.
 fn find_spot<'a>(lines: &'a [Blob], place: u64) -> Option<Spot<'a>>
+    // It is where the place of the joined lines stands in them; the first is line 1.
     ensures { line_place result ≡ place_in 1 lines.now place }
 {
     let mut left = lines;
@@ -61,9 +63,9 @@ pub struct InLine<'a> {
 }
 
 impl Refusal {
-    /// The refusal in the lines that were refused, of which one is shown. They are joined by a comma
-    /// and a space (RFC 9651 section 4.2), and a place that falls on these belongs to the end of the
-    /// line before them. It takes no memory, nor does showing it.
+    /// The refusal in the lines that were refused, of which one is shown. They are joined by a
+    /// comma and a space (RFC 9651 section 4.2), and a place that falls on these belongs to the end
+    /// of the line before them. It takes no memory, nor does showing it.
     ///
     /// ```
     /// if let Err(refusal) = parse_lines(alloc, &seed, Kind::List, &lines) {
@@ -72,6 +74,7 @@ impl Refusal {
     /// ```
     pub fn in_lines<'a>(&self, lines: &'a [Blob]) -> InLine<'a>
         ensures refusal { result.refusal ≡ self.now }
+        // The spot is where the refusal stands in the lines.
         ensures spot { line_place result.spot ≡ stands_at self.now lines.now }
     {
         let spot = match *self {
@@ -93,6 +96,7 @@ impl Refusal {
     /// ```
     pub fn in_text<'a>(&self, text: &'a [u8]) -> InLine<'a>
         ensures refusal { result.refusal ≡ self.now }
+        // The spot is where the refusal stands in the text as the only line.
         ensures spot { line_place result.spot ≡ stands_at self.now (text.now ∷ []) }
     {
         let spot = match *self {
@@ -146,7 +150,7 @@ struct Spaces {
 }
 
 impl fmt::Display for Spaces {
-    ghost output = { λ spaces. Some (replicate spaces.count 32) };
+    ghost output = { λ spaces. Some (replicate spaces.count space) };
 
     fn fmt<W: fmt::Write>(&self, f: &mut fmt::Formatter<W>) -> fmt::Result {
         for _i in 0..self.count {

@@ -8,7 +8,7 @@ ghost use Rattle.sf_parse.specs.StateView.{state_of};
 ghost use Rattle.sf_parse.specs.Fronts.{Front, unless};
 ghost use Rattle.sf_parse.specs.Machine.Fields.{begin as begin_at, step as step_of};
 ghost use Rattle.sf_parse.specs.Machine.Fields.{finish as finish_of};
-ghost use Rattle.sf_parse.specs.Machine.Takes.{takes as takes_at, may_end as may_end_at};
+ghost use Rattle.sf_parse.specs.Machine.Tests.{takes as takes_at, may_end as may_end_at};
 
 use crate::context::Context;
 use crate::level::Level;
@@ -28,6 +28,7 @@ impl FieldState {
     /// Before the first byte of a field of this kind. It takes no memory.
     #[inline(never)]
     pub fn begin(context: &Context, kind: Kind) -> FieldState
+        // Its state is the first one of the kind.
         ensures { state_of result ≡ begin_at kind }
     {
         match kind {
@@ -40,8 +41,10 @@ impl FieldState {
     /// Takes the longest front of the piece that the field can go on with, and gives back the rest.
     #[inline(always)]
     pub fn take<'a>(&mut self, context: &Context, piece: &'a [u8]) -> Result<&'a [u8], OutOfMemory>
+        // The bytes before the rest lead to the new state, which can't take the first of the rest.
         ensures front { IfOk result (λ rest. Front (step_of context.now.dialect)
             (state_of self.old) piece.now rest.now (state_of self.new)) }
+        // In a plain state of an Item spaces, `-` and digits take no memory.
         ensures plain { PlainState (state_of self.old) → Every plain_byte piece.now → IsOk result }
     {
         if let Some((byte, more)) = piece.split_first() {
@@ -56,11 +59,13 @@ impl FieldState {
         self.take_run(context, piece)
     }
 
-    // The same, down the levels that take runs.
+    /// The same, down the levels that take runs.
     #[inline(never)]
     fn take_run<'a>(&mut self, context: &Context, piece: &'a [u8]) -> Result<&'a [u8], OutOfMemory>
+        // The bytes before the rest lead to the new state, which can't take the first of the rest.
         ensures front { IfOk result (λ rest. Front (step_of context.now.dialect)
             (state_of self.old) piece.now rest.now (state_of self.new)) }
+        // In a plain state of an Item spaces, `-` and digits take no memory.
         ensures plain { PlainState (state_of self.old) → Every plain_byte piece.now → IsOk result }
     {
         match self {
@@ -73,8 +78,10 @@ impl FieldState {
     /// Takes one byte, or tells that the field can't go on with it.
     #[inline(never)]
     pub fn push(&mut self, context: &Context, byte: u8) -> Result<bool, OutOfMemory>
+        // A byte that is taken leads the machine on; with any other it can't go on, and stays.
         ensures front { IfOk result (λ took. Front (step_of context.now.dialect)
             (state_of self.old) (byte ∷ []) (unless took byte) (state_of self.new)) }
+        // In a plain state of an Item spaces, `-` and digits take no memory.
         ensures plain { PlainState (state_of self.old) → plain_byte byte ≡ true → IsOk result }
     {
         match self {
@@ -87,6 +94,7 @@ impl FieldState {
     /// The bytes below 128 that the field can go on with, a bit for each.
     #[inline(never)]
     pub fn expected(&self, dialect: Dialect) -> u128
+        // The bits are those of the bytes that the state takes.
         ensures { Marks result (takes_at dialect (state_of self.now)) }
     {
         match self {
@@ -110,7 +118,9 @@ impl FieldState {
     /// The field, if it may end here. What is left is the reader alone.
     #[inline(never)]
     pub fn finish(&mut self, context: &Context) -> Result<Option<Field>, OutOfMemory>
+        // The field is the value that the state has at the end, if it has one.
         ensures value { IfOk result (λ field. field ≡ finish_of (state_of self.old)) }
+        // In a plain state of an Item the end takes no memory.
         ensures plain { PlainState (state_of self.old) → IsOk result }
     {
         match self {

@@ -7,7 +7,7 @@ ghost use Rattle.sf_parse.specs.Fronts.{Went};
 ghost use Rattle.sf_parse.specs.Views.{text_of};
 ghost use Rattle.sf_parse.specs.Machine.Language.{Steps};
 ghost use Rattle.sf_parse.specs.Machine.Texts.{text_step};
-ghost use Rattle.sf_parse.specs.Machine.Takes.{text_takes, text_ends};
+ghost use Rattle.sf_parse.specs.Machine.Tests.{text_takes, text_ends};
 
 use crate::runs::{Unescaped, long_front};
 use crate::sets::{ESCAPED, VISIBLE};
@@ -29,8 +29,10 @@ impl TextPhase {
     /// bytes of the string so far are `text`.
     #[tactic(auto, using(sf_value::proofs::Words::every_push))]
     pub fn step(&mut self, text: &mut ShortBytes, byte: u8) -> Result<bool, OutOfMemory>
+        // The byte leads the machine on, or can't and the state stays.
         ensures step { IfOk result (λ took. Steps took (text_step (text_of self.old text.old) byte)
             (text_of self.old text.old) (text_of self.new text.new)) }
+        // The bytes so far stay visible ones.
         ensures visible { Every is_visible_byte text.old → Every is_visible_byte text.new }
     {
         match *self {
@@ -67,8 +69,10 @@ impl TextPhase {
         text: &mut ShortBytes,
         piece: &'a [u8],
     ) -> Result<&'a [u8], OutOfMemory>
+        // The bytes before the rest lead the machine from the old state to the new one.
         ensures went { IfOk result (λ rest. Went text_step (text_of self text.old) piece.now
             rest.now (text_of self text.new)) }
+        // The bytes so far stay visible ones.
         ensures visible { Every is_visible_byte text.old → Every is_visible_byte text.new }
     {
         match self {
@@ -83,6 +87,7 @@ impl TextPhase {
 
     /// The bytes that the string can go on with.
     pub fn expected(self) -> u128
+        // The bits are those of the bytes that may come, whatever was read before.
         ensures { (bytes : List ℕ) → Marks result (text_takes (text_of self bytes)) }
     {
         match self {
@@ -94,6 +99,7 @@ impl TextPhase {
 
     /// Whether the string is closed.
     pub fn may_end(self) -> bool
+        // The string may end exactly then, whatever was read before.
         ensures { (bytes : List ℕ) → result ≡ text_ends (text_of self bytes) }
     {
         self == TextPhase::Closed

@@ -6,7 +6,7 @@ ghost use Rattle.sf_parse.specs.PlainParsers.{PlainState};
 ghost use Rattle.sf_parse.specs.Machine.Language.{seen};
 ghost use Rattle.sf_parse.specs.Machine.States.{BeforeItem};
 ghost use Rattle.sf_parse.specs.Machine.Fields.{step as step_of, finish as finish_of};
-ghost use Rattle.sf_parse.specs.Machine.Takes.{takes as takes_at, may_end as may_end_at};
+ghost use Rattle.sf_parse.specs.Machine.Tests.{takes as takes_at, may_end as may_end_at};
 
 use crate::bare::BareReader;
 use crate::context::Context;
@@ -63,7 +63,9 @@ impl TopReader {
 
     /// The item, if the field may end here. What is left is the reader alone.
     pub fn finish(&mut self, context: &Context) -> Result<Option<Item>, OutOfMemory>
+        // The item is the value that the state has at the end, if it has one.
         ensures value { IfOk result (λ item. seen field.Item item ≡ finish_of self.old) }
+        // In a plain state of an Item the end takes no memory.
         ensures plain { PlainState self.old → IsOk result }
     {
         match self.phase {

@@ -12,7 +12,7 @@ ghost use Rattle.sf_parse.specs.Machine.Language.{seen};
 ghost use Rattle.sf_parse.specs.Machine.States.{State, InList, InDict};
 ghost use Rattle.sf_parse.specs.Machine.Fields.{begin as begin_at, step as step_of};
 ghost use Rattle.sf_parse.specs.Machine.Fields.{finish as finish_of};
-ghost use Rattle.sf_parse.specs.Machine.Takes.{takes as takes_at, may_end as may_end_at};
+ghost use Rattle.sf_parse.specs.Machine.Tests.{takes as takes_at, may_end as may_end_at};
 
 use crate::commas::SeriesReader;
 use crate::context::Context;
@@ -39,12 +39,16 @@ pub trait WholeField: Level + Drop {
 
     /// Before the first byte. It takes no memory.
     fn begin(context: &Context) -> Self
+        // Its state is the first one of its kind.
         ensures begin { state result ≡ begin_at kind }
+        // Where that is a plain state of an Item, it is one of the level too.
         ensures plain { PlainState (state result) → Self.plain context.now.dialect result };
 
     /// The field, if it may end here. What is left is the reader alone.
     fn finish_field(&mut self, context: &Context) -> Result<Option<Field>, OutOfMemory>
+        // The field is the value that the state has at the end, if it has one.
         ensures value { IfOk result (λ field. field ≡ finish_of (state self.old)) }
+        // In a plain state of an Item the end takes no memory.
         ensures plain { PlainState (state self.old) → IsOk result };
 
     // the machine of fields goes on just as the level does, and its tests tell the same
@@ -127,22 +131,28 @@ impl WholeField for DictReader {
 
 /// The value that the text spells as a field of this kind, or its exact refusal.
 pub fn parse_whole<W: WholeField>(context: &Context, text: &[u8]) -> Result<Field, Refusal>
+    // The text spells just this value, or this is its exact refusal; else memory was wanting.
     ensures parses { Parses context.now.dialect W.kind text.now result }
+    // Of an Item, spaces, `-` and digits are not refused for want of memory.
     ensures plain { W.kind ≡ kind_is.Item → Every plain_byte text.now → NotForMemory result }
 {
     let mut field = W::begin(context);
     read_whole(&mut field, context, text)
 }
 
-// Reads the text into a field that nothing was read of. What is left is the reader alone.
+/// Reads the text into a field that nothing was read of. What is left is the reader alone.
 fn read_whole<W: WholeField>(
     field: &mut W,
     context: &Context,
     text: &[u8],
 ) -> Result<Field, Refusal>
+    // Nothing was read.
     requires begin { W.state field.old ≡ begin_at W.kind }
+    // A plain state of an Item is one of the level too.
     requires plain { PlainState (W.state field.old) → W.plain context.now.dialect field.old }
+    // The text spells just this value, or this is its exact refusal; else memory was wanting.
     ensures parses { Parses context.now.dialect W.kind text.now result }
+    // Of an Item, spaces, `-` and digits are not refused for want of memory.
     ensures plain { W.kind ≡ kind_is.Item → Every plain_byte text.now → NotForMemory result }
 {
     let rest = field.take(context, text)?;

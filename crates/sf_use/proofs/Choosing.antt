@@ -17,7 +17,7 @@ use Rattle.sf_value.specs.Grammar.Lines.{join}
 use Rattle.sf_value.proofs.CanonicalTexts.{canon_spells}
 use Rattle.sf_value.proofs.Validity.{spelled_valid}
 use Rattle.sf_parse.specs.declared.refusal.Refusal.TheVariants.{Syntax}
-use Rattle.sf_parse.proofs.Theorems.{one_value}
+use Rattle.sf_parse.proofs.GrammarLaws.{one_value}
 use Rattle.sf_field.specs.Headers.{Headers, lines_under, ParsesHeaders}
 use Rattle.sf_use.specs.Targeted.{policy}
 use Rattle.sf_use.specs.TargetedChoice.{Usable, IsOffer, IsChosenFrom, MayOffer}

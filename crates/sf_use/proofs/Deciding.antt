@@ -14,7 +14,7 @@ use Rattle.sf_value.specs.Grammar.Fields.{SpellsField}
 use Rattle.sf_value.specs.Grammar.Lines.{join}
 use Rattle.sf_parse.specs.Machine.Language.{and_then, run}
 use Rattle.sf_parse.specs.Machine.Fields.{step, finish, begin}
-use Rattle.sf_parse.proofs.Theorems.{is_read, one_value}
+use Rattle.sf_parse.proofs.GrammarLaws.{is_read, one_value}
 use Rattle.sf_field.specs.Headers.{Headers, lines_under}
 use Rattle.sf_use.specs.Targeted.{policy}
 use Rattle.sf_use.specs.TargetedChoice.{IsOffer, IsChosenFrom}

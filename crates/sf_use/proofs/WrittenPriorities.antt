@@ -10,7 +10,7 @@ use Rattle.sf_value.specs.declared.value.Kind.TheVariants as kind
 use Rattle.sf_value.specs.Grammar.Canonical.{canon}
 use Rattle.sf_value.specs.Grammar.Valid.{ValidEntries}
 use Rattle.sf_value.proofs.CanonicalTexts.{canon_spells}
-use Rattle.sf_parse.proofs.Theorems.{one_value}
+use Rattle.sf_parse.proofs.GrammarLaws.{one_value}
 use Rattle.sf_use.specs.Priority.{incremental_written, plain, prio}
 use Rattle.sf_use.specs.PriorityLaws.{ReadFromText}
 

@@ -56,15 +56,16 @@ GoodSeries Good Settled (InPiece given s) = Settled given × Good s
 GoodSeries Good Settled (Gap given) = Settled given
 GoodSeries Good Settled (Comma given) = Settled given
 
-abbrev pub gap_step : {S X V : Type 0} → Series S X V → V → ℕ → Option (SeriesState S V)
-gap_step k given b = otherwise (allow (is_ows b) (Gap given)) (allow (b == 44) (Comma given))
+-- behind a piece: a comma, or white space before it
+abbrev pub gap_step : {S V : Type 0} → V → ℕ → Option (SeriesState S V)
+gap_step given b = otherwise (allow (is_ows b) (Gap given)) (allow (b == 44) (Comma given))
 
 abbrev pub series_step : {S X V : Type 0} → Series S X V → SeriesState S V → ℕ
     → Option (SeriesState S V)
 series_step k Begin b = otherwise (allow (is_sp b) Begin) (seen (InPiece k.none) (k.start b))
 series_step k (InPiece given s) b = onward (InPiece given) (k.step s b) (k.finish s)
-    (λ x. gap_step k (k.add given x) b)
-series_step k (Gap given) b = gap_step k given b
+    (λ x. gap_step (k.add given x) b)
+series_step k (Gap given) b = gap_step given b
 series_step k (Comma given) b = otherwise (allow (is_ows b) (Comma given))
     (seen (InPiece given) (k.start b))
 

@@ -1,5 +1,5 @@
 use Rattle.std.proofs.Common.{refl}
-use Rattle.sf_parse.specs.Machine.Takes.{pad_takes}
+use Rattle.sf_parse.specs.Machine.Tests.{pad_takes}
 use Rattle.sf_parse.proofs.Marks.{marks_table}
 use Rattle.sf_parse.proofs.blob.expected_end.Goals as goal
 

@@ -1,4 +1,4 @@
-use Rattle.sf_parse.proofs.Theorems.{is_read, is_rest, any_pieces}
+use Rattle.sf_parse.proofs.GrammarLaws.{is_read, is_rest, any_pieces}
 use Rattle.sf_parse.proofs.laws.machine_reads.Goals as goal
 
 pub returns-clause-read : goal.returns-clause-read

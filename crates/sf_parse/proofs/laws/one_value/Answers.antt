@@ -1,4 +1,4 @@
-use Rattle.sf_parse.proofs.Theorems.{one_value, canon_one, lines_one}
+use Rattle.sf_parse.proofs.GrammarLaws.{one_value, canon_one, lines_one}
 use Rattle.sf_parse.proofs.laws.one_value.Goals as goal
 
 pub returns-clause-one : goal.returns-clause-one

@@ -1,4 +1,4 @@
-use Rattle.sf_parse.proofs.Theorems.{is_viable, is_next, is_end, stops_at}
+use Rattle.sf_parse.proofs.GrammarLaws.{is_viable, is_next, is_end, stops_at}
 use Rattle.sf_parse.proofs.laws.refusals_are_exact.Goals as goal
 
 pub returns-clause-viable : goal.returns-clause-viable

@@ -1,5 +1,5 @@
 use Rattle.sf_parse.proofs.laws.what_may_follow.Goals as goal
-use Rattle.sf_parse.proofs.Takes.{takes_step, may_end_is, takes_next, ends_text}
+use Rattle.sf_parse.proofs.StateTests.{takes_step, may_end_is, takes_next, ends_text}
 use Rattle.sf_parse.proofs.Below.{next_below, some_next}
 
 pub returns-clause-step : goal.returns-clause-step

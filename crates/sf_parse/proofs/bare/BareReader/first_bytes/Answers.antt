@@ -1,6 +1,6 @@
 use Rattle.std.proofs.Common.{refl}
 use Rattle.sf_value.specs.declared.dialect.Dialect.TheVariants.{Rfc8941, Rfc9651}
-use Rattle.sf_parse.specs.Machine.Takes.{bare_begins}
+use Rattle.sf_parse.specs.Machine.Tests.{bare_begins}
 use Rattle.sf_parse.proofs.Marks.{marks_table}
 use Rattle.sf_parse.proofs.bare.BareReader.first_bytes.Goals as goal
 

@@ -1,7 +1,7 @@
 use Rattle.std.proofs.Common.{refl}
 use Rattle.sf_value.specs.Grammar.Classes.{is_digit}
 use Rattle.sf_parse.specs.Machine.Numbers.{Sign}
-use Rattle.sf_parse.specs.Machine.Takes.{date_takes}
+use Rattle.sf_parse.specs.Machine.Tests.{date_takes}
 use Rattle.sf_parse.proofs.Marks.{marks_where, marks_table}
 use Rattle.sf_parse.proofs.date.DateReader.expected.Goals as goal
 

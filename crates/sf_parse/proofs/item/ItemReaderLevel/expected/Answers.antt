@@ -1,5 +1,5 @@
 use Rattle.std.proofs.Common.{refl, ◌&&◌, ◌==◌}
-use Rattle.sf_parse.specs.Machine.Takes.{bare_takes, bare_ends}
+use Rattle.sf_parse.specs.Machine.Tests.{bare_takes, bare_ends}
 use Rattle.sf_parse.proofs.Marks.{marks_or, marks_if, marks_table}
 use Rattle.sf_parse.proofs.LevelMarks.{marks_params}
 use Rattle.sf_parse.proofs.item.ItemReaderLevel.expected.Goals as goal

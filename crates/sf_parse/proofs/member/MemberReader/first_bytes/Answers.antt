@@ -1,5 +1,5 @@
 use Rattle.std.proofs.Common.{refl, ◌==◌}
-use Rattle.sf_parse.specs.Machine.Takes.{bare_begins}
+use Rattle.sf_parse.specs.Machine.Tests.{bare_begins}
 use Rattle.sf_parse.proofs.Marks.{marks_or, marks_table}
 use Rattle.sf_parse.proofs.member.MemberReader.first_bytes.Goals as goal
 

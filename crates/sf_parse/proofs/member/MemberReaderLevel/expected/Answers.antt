@@ -1,6 +1,6 @@
 use Rattle.std.proofs.Common.{refl, ◌&&◌, ◌||◌, ◌==◌, ◌^◌}
 use Rattle.sf_value.specs.Grammar.Classes.{is_sp}
-use Rattle.sf_parse.specs.Machine.Takes.{bare_begins, item_takes, item_ends}
+use Rattle.sf_parse.specs.Machine.Tests.{bare_begins, item_takes, item_ends}
 use Rattle.sf_parse.proofs.Marks.{marks_or, marks_if, marks_table}
 use Rattle.sf_parse.proofs.LevelMarks.{marks_closing}
 use Rattle.sf_parse.proofs.member.MemberReaderLevel.expected.Goals as goal

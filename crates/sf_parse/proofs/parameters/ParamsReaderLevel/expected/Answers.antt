@@ -1,6 +1,6 @@
 use Rattle.std.proofs.Common.{refl, ◌&&◌, ◌||◌, ◌==◌}
 use Rattle.sf_value.specs.Grammar.Classes.{is_sp, is_key_start, is_key_rest}
-use Rattle.sf_parse.specs.Machine.Takes.{bare_takes, bare_ends}
+use Rattle.sf_parse.specs.Machine.Tests.{bare_takes, bare_ends}
 use Rattle.sf_parse.proofs.Marks.{marks_or, marks_if, marks_table}
 use Rattle.sf_parse.proofs.parameters.ParamsReaderLevel.expected.Goals as goal
 

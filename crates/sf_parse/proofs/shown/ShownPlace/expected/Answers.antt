@@ -1,7 +1,7 @@
 use Rattle.std.proofs.Common.{refl}
 use Rattle.sf_value.specs.Grammar.Utf8.{Start}
 use Rattle.sf_parse.specs.Machine.Showns.{Quote, Plain, Percent}
-use Rattle.sf_parse.specs.Machine.Takes.{shown_takes}
+use Rattle.sf_parse.specs.Machine.Tests.{shown_takes}
 use Rattle.sf_parse.proofs.Marks.{marks_table}
 use Rattle.sf_parse.proofs.LevelMarks.{marks_wants}
 use Rattle.sf_parse.proofs.shown.ShownPlace.expected.Goals as goal

@@ -1,6 +1,6 @@
 use Rattle.std.proofs.Common.{refl}
 use Rattle.sf_parse.specs.Machine.Texts.{Inside, Escaped}
-use Rattle.sf_parse.specs.Machine.Takes.{text_takes}
+use Rattle.sf_parse.specs.Machine.Tests.{text_takes}
 use Rattle.sf_parse.proofs.Marks.{marks_table}
 use Rattle.sf_parse.proofs.text.TextPhase.expected.Goals as goal
 

@@ -47,16 +47,16 @@ use Rattle.sf_parse.specs.Machine.States.{State}
 use Rattle.sf_parse.specs.Machine.States.{BeforeItem, InTop, AfterItem, InList}
 use Rattle.sf_parse.specs.Machine.States.{InDict}
 use Rattle.sf_parse.specs.Machine.Fields.{list_series, dict_series, step, finish}
-use Rattle.sf_parse.specs.Machine.Takes.{number_takes, number_ends, date_takes, date_ends}
-use Rattle.sf_parse.specs.Machine.Takes.{text_takes, text_ends, boolean_takes, boolean_ends}
-use Rattle.sf_parse.specs.Machine.Takes.{pad_takes, blob_takes, blob_ends, utf8_takes, is_whole}
-use Rattle.sf_parse.specs.Machine.Takes.{passes, shown_takes, shown_ends, bare_begins, bare_takes}
-use Rattle.sf_parse.specs.Machine.Takes.{bare_ends, params_takes, params_ends, item_takes}
-use Rattle.sf_parse.specs.Machine.Takes.{item_ends, inner_takes, inner_ends, member_begins}
-use Rattle.sf_parse.specs.Machine.Takes.{member_takes, member_ends, entry_takes, entry_ends}
-use Rattle.sf_parse.specs.Machine.Takes.{series_takes, series_ends, takes, may_end}
-use Rattle.sf_parse.specs.Takes.{TakesStep, MayEnd, TakesNext, EndsText}
-use Rattle.sf_parse.proofs.Taking.{took_next, took_end}
+use Rattle.sf_parse.specs.Machine.Tests.{number_takes, number_ends, date_takes, date_ends}
+use Rattle.sf_parse.specs.Machine.Tests.{text_takes, text_ends, boolean_takes, boolean_ends}
+use Rattle.sf_parse.specs.Machine.Tests.{pad_takes, blob_takes, blob_ends, utf8_takes, is_whole}
+use Rattle.sf_parse.specs.Machine.Tests.{passes, shown_takes, shown_ends, bare_begins, bare_takes}
+use Rattle.sf_parse.specs.Machine.Tests.{bare_ends, params_takes, params_ends, item_takes}
+use Rattle.sf_parse.specs.Machine.Tests.{item_ends, inner_takes, inner_ends, member_begins}
+use Rattle.sf_parse.specs.Machine.Tests.{member_takes, member_ends, entry_takes, entry_ends}
+use Rattle.sf_parse.specs.Machine.Tests.{series_takes, series_ends, takes, may_end}
+use Rattle.sf_parse.specs.StateTests.{TakesStep, MayEnd, TakesNext, EndsText}
+use Rattle.sf_parse.proofs.Reached.{reached_next, reached_end}
 use Rattle.sf_parse.specs.Machine.Members.{member_start, member_step, member_finish}
 use Rattle.sf_parse.specs.Machine.Entries.{behind_key_step, entry_start, entry_step, entry_finish}
 
@@ -317,7 +317,7 @@ entry_end (InFlag k s) = some_seen _ (params_finish s) ∙ params_end s
 module _ {S X V : Type 0} (k : Series S X V) (begins : ℕ → Bool) (more : S → ℕ → Bool) (ends : S
     → Bool) (start_is : (b : ℕ) → is_some (k.start b) ≡ begins b) (step_is : (s : S) (b : ℕ)
     → is_some (k.step s b) ≡ more s b) (end_is : (s : S) → is_some (k.finish s) ≡ ends s) where
-  gap_is : (given : V) (b : ℕ) → is_some (gap_step k given b) ≡ (is_ows b || b == 44)
+  gap_is : (given : V) (b : ℕ) → is_some (gap_step {S = S} given b) ≡ (is_ows b || b == 44)
   gap_is given b = simp (some_or, some_allow)
 
   series_is : (s : SeriesState S V) (b : ℕ)
@@ -326,7 +326,7 @@ module _ {S X V : Type 0} (k : Series S X V) (begins : ℕ → Bool) (more : S �
       (is_sp b) (begins b) (some_allow (is_sp b) Begin) (some_seen (InPiece k.none) (k.start b)
       ∙ start_is b)
   series_is (InPiece given s) b = some_onward (InPiece given) (k.step s b) (k.finish s)
-      (λ x. gap_step k (k.add given x) b) _ _ (is_ows b || b == 44) (step_is s b) (end_is s)
+      (λ x. gap_step (k.add given x) b) _ _ (is_ows b || b == 44) (step_is s b) (end_is s)
       (λ x. gap_is (k.add given x) b)
   series_is (Gap given) b = gap_is given b
   series_is (Comma given) b = some_otherwise (allow (is_ows b) (Comma given))
@@ -392,16 +392,16 @@ some_is None c e = (λ k. absurd (cc (k.1)), λ k. absurd cc)
 
 pub takes_next : TakesNext
 takes_next d kind s p b k =
-    let a = took_next d kind s p b k in
+    let a = reached_next d kind s p b k in
     let c = some_is (step d s b) (takes d s b) (takes_step d s b) in
     (λ h. c.0 (a.0 h), λ h. a.1 (c.1 h))
 
 pub ends_text : EndsText
 ends_text d kind s p k =
     let c = some_is (finish s) (may_end s) (ends d s) in (
-      λ (v, h). c.0 (v, (took_end d kind s p v k).0 h),
+      λ (v, h). c.0 (v, (reached_end d kind s p v k).0 h),
       λ h. let f = c.1 h in
-          (f.0, (took_end d kind s p f.0 k).1 f.1),
+          (f.0, (reached_end d kind s p f.0 k).1 f.1),
     )
 
 pub may_end_is : MayEnd

@@ -1,4 +1,4 @@
--- What a parser in this state took: from the machine's laws.
+-- What a state tells of the text by which it was reached: from the machine's laws.
 use Rattle.std.proofs.Common.{◌≡◌, ℕ, suc, ◌<◌, ◌-◌, List, [], ◌∷◌, ◌++◌, length, take, Option}
 use Rattle.std.proofs.Common.{Some, None, ⊎_elim, refl, sym, subst, ◌↔◌, append_assoc, append-nil}
 use Rattle.std.proofs.Common.{arith, length-append, take_all}
@@ -10,15 +10,15 @@ use Rattle.sf_value.specs.declared.dialect.Dialect.{Dialect}
 use Rattle.sf_value.specs.declared.value.Kind.{Kind}
 use Rattle.sf_parse.specs.Machine.States.{State}
 use Rattle.sf_parse.specs.Machine.Fields.{Rest, step}
-use Rattle.sf_parse.specs.Taking.{Took, TookNothing, TakesMore, TookViable, TookNext, TookEnd}
-use Rattle.sf_parse.specs.Taking.{TookStops, TookAll}
+use Rattle.sf_parse.specs.Reached.{Reached, ReachedNothing, ReachesMore, ReachedViable, ReachedNext, ReachedEnd}
+use Rattle.sf_parse.specs.Reached.{ReachedStops, ReachedAll}
 use Rattle.sf_parse.proofs.Fields.{machine, begin_good, begins}
 
-pub took_nothing : TookNothing
-took_nothing d kind = record { good = begin_good kind; rest = begins d kind }
+pub reached_nothing : ReachedNothing
+reached_nothing d kind = record { good = begin_good kind; rest = begins d kind }
 
-pub takes_more : TakesMore
-takes_more d kind s t p x k e = record {
+pub reaches_more : ReachesMore
+reaches_more d kind s t p x k e = record {
   good = Machines.run_good (machine d) s t x k.good e;
   rest = λ u v.
       let a = Machines.took (machine d) s t x k.good e u v in
@@ -29,9 +29,9 @@ takes_more d kind s t p x k e = record {
       );
 }
 
-took_front : (d : Dialect) (kind : Kind) (s : State) (p x : List ℕ) → Took d kind s p
+reached_front : (d : Dialect) (kind : Kind) (s : State) (p x : List ℕ) → Reached d kind s p
     → Continues (SpellsField d kind) (p ++ x) ↔ Continues (Rest d s) x
-took_front d kind s p x k = (
+reached_front d kind s p x k = (
   λ (u, v, h). (
     u,
     v,
@@ -44,28 +44,28 @@ took_front d kind s p x k = (
   ),
 )
 
-pub took_viable : TookViable
-took_viable d kind s p k = let l = (machine d).lives s k.good in
+pub reached_viable : ReachedViable
+reached_viable d kind s p k = let l = (machine d).lives s k.good in
     (l.text, l.value, (k.rest l.text l.value).0 l.whole)
 
-pub took_next : TookNext
-took_next d kind s p b k =
+pub reached_next : ReachedNext
+reached_next d kind s p b k =
     let a = Machines.next (machine d) s s [] b k.good refl in
-    let f = took_front d kind s p (b ∷ []) k in
+    let f = reached_front d kind s p (b ∷ []) k in
     (λ h. a.0 (f.0 h), λ h. f.1 (a.1 h))
 
-pub took_end : TookEnd
-took_end d kind s p v k =
+pub reached_end : ReachedEnd
+reached_end d kind s p v k =
     let r = (machine d).reads s k.good in (
       λ h. r.ends v ((k.rest [] v).1 (subst (λ y. SpellsField d kind y v) (sym (append-nil p)) h)),
       λ e. subst (λ y. SpellsField d kind y v) (append-nil p) ((k.rest [] v).0 (r.ended v e)),
     )
 
-pub took_stops : TookStops
-took_stops d kind s p q b k n = record {
+pub reached_stops : ReachedStops
+reached_stops d kind s p q b k n = record {
   within = omega (arith, length-append p (b ∷ q));
   viable = subst (Continues (SpellsField d kind)) (sym (take-append_seam p (b ∷ q)))
-      (took_viable d kind s p k);
+      (reached_viable d kind s p k);
   longest = λ m within h. ⊎_elim (λ l. l) (λ l. absurd (beyond m l h))
       (Machines.cases_le m (length p));
 }
@@ -78,13 +78,13 @@ took_stops d kind s p q b k n = record {
         let cut = Machines.take_past p q b m l in
         let f = Machines.viable_front (machine d) (SpellsField d kind) (p
         ++ b ∷ []) (take (m - suc (length p)) q) (subst (Continues (SpellsField d kind)) cut h) in
-        let r = (took_next d kind s p b k).0 f in
+        let r = (reached_next d kind s p b k).0 f in
         clash (step d s b) r.0 n r.1
 
-pub took_all : TookAll
-took_all d kind s p k = record {
+pub reached_all : ReachedAll
+reached_all d kind s p k = record {
   within = omega arith;
   viable = subst (Continues (SpellsField d kind)) (sym (take_all (length p) p (omega arith)))
-      (took_viable d kind s p k);
+      (reached_viable d kind s p k);
   longest = λ m within h. within;
 }

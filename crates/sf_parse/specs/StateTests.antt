@@ -7,29 +7,32 @@ use Rattle.sf_value.specs.declared.value.Field.{Field}
 use Rattle.sf_value.specs.declared.value.Kind.{Kind}
 use Rattle.sf_parse.specs.Machine.States.{State}
 use Rattle.sf_parse.specs.Machine.Fields.{step, finish}
-use Rattle.sf_parse.specs.Machine.Takes.{takes, may_end}
-use Rattle.sf_parse.specs.Taking.{Took}
+use Rattle.sf_parse.specs.Machine.Tests.{takes, may_end}
+use Rattle.sf_parse.specs.Reached.{Reached}
 
 -- the test tells whether the step takes the byte
 abbrev pub TakesStep : Type 0
 TakesStep = (d : Dialect) (s : State) (b : ℕ) → is_some (step d s b) ≡ takes d s b
 
+-- the test tells whether the state has a value at the end
 abbrev pub MayEnd : Type 0
 MayEnd = (s : State) → is_some (finish s) ≡ may_end s
 
--- and so whether the byte may come, and whether the text may end
+-- and so whether the byte may come
 abbrev pub TakesNext : Type 0
-TakesNext = (d : Dialect) (kind : Kind) (s : State) (p : List ℕ) (b : ℕ) → Took d kind s p
+TakesNext = (d : Dialect) (kind : Kind) (s : State) (p : List ℕ) (b : ℕ) → Reached d kind s p
     → Viable d kind (p ++ b ∷ []) ↔ (takes d s b ≡ true)
 
+-- and so whether the text may end
 abbrev pub EndsText : Type 0
-EndsText = (d : Dialect) (kind : Kind) (s : State) (p : List ℕ) → Took d kind s p → ((v : Field)
+EndsText = (d : Dialect) (kind : Kind) (s : State) (p : List ℕ) → Reached d kind s p → ((v : Field)
     × SpellsField d kind p v) ↔ (may_end s ≡ true)
 
--- a byte that may come is below 128, and after what was taken some byte may come
+-- a byte that may come is below 128
 abbrev pub NextBelow : Type 0
 NextBelow = (d : Dialect) (kind : Kind) (p : List ℕ) (b : ℕ) → Viable d kind (p ++ b ∷ []) → b < 128
 
+-- behind a text that reached a state some byte may come
 abbrev pub SomeNext : Type 0
-SomeNext = (d : Dialect) (kind : Kind) (s : State) (p : List ℕ) → Took d kind s p → (b : ℕ)
+SomeNext = (d : Dialect) (kind : Kind) (s : State) (p : List ℕ) → Reached d kind s p → (b : ℕ)
     × Next d kind p b

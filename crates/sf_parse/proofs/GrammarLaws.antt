@@ -1,4 +1,4 @@
--- The theorems, from the machine's laws.
+-- The laws of the grammar, from those of the machine.
 use Rattle.std.proofs.Common.{ℕ, List, [], ◌∷◌, ◌++◌, length, take, ◌↔◌, subst, sym}
 use Rattle.sf_parse.proofs.Machines
 use Rattle.sf_value.specs.Grammar.Fields.{SpellsField}

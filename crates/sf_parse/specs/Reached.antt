@@ -1,0 +1,50 @@
+-- What a state tells of the text by which it was reached.
+use Rattle.std.specs.Prelude.{◌≡◌, ℕ, ◌↔◌, List, [], ◌∷◌, ◌++◌, length, Some, None}
+use Rattle.sf_value.specs.Grammar.Fields.{SpellsField}
+use Rattle.sf_value.specs.Grammar.Lines.{Viable, IsPlace}
+use Rattle.sf_value.specs.declared.dialect.Dialect.{Dialect}
+use Rattle.sf_value.specs.declared.value.Field.{Field}
+use Rattle.sf_value.specs.declared.value.Kind.{Kind}
+use Rattle.sf_parse.specs.Machine.Language.{run}
+use Rattle.sf_parse.specs.Machine.States.{State}
+use Rattle.sf_parse.specs.Machine.Fields.{Rest, Good, step, finish, begin}
+
+-- what completes the state completes the text
+pub record Reached (d : Dialect) (kind : Kind) (s : State) (p : List ℕ) : Type 0 where
+  pub good : Good s
+  pub rest : (u : List ℕ) (v : Field) → Rest d s u v ↔ SpellsField d kind (p ++ u) v
+
+-- the first state is reached by the empty text
+abbrev pub ReachedNothing : Type 0
+ReachedNothing = (d : Dialect) (kind : Kind) → Reached d kind (begin kind) []
+
+-- a state to which further bytes lead is reached by the text with them behind it
+abbrev pub ReachesMore : Type 0
+ReachesMore = (d : Dialect) (kind : Kind) (s t : State) (p x : List ℕ) → Reached d kind s p
+    → run (step d) s x ≡ Some t → Reached d kind t (p ++ x)
+
+-- the text is viable
+abbrev pub ReachedViable : Type 0
+ReachedViable = (d : Dialect) (kind : Kind) (s : State) (p : List ℕ) → Reached d kind s p
+    → Viable d kind p
+
+-- a byte may come next exactly if the step takes it
+abbrev pub ReachedNext : Type 0
+ReachedNext = (d : Dialect) (kind : Kind) (s : State) (p : List ℕ) (b : ℕ) → Reached d kind s p
+    → Viable d kind (p ++ b ∷ []) ↔ ((t : State)
+    × (step d s b ≡ Some t))
+
+-- the text spells exactly the value that the state has at the end
+abbrev pub ReachedEnd : Type 0
+ReachedEnd = (d : Dialect) (kind : Kind) (s : State) (p : List ℕ) (v : Field) → Reached d kind s p
+    → SpellsField d kind p v ↔ (finish s ≡ Some v)
+
+-- where the step can't take the next byte, the refusal stands behind the text
+abbrev pub ReachedStops : Type 0
+ReachedStops = (d : Dialect) (kind : Kind) (s : State) (p q : List ℕ) (b : ℕ) → Reached d kind s p
+    → step d s b ≡ None → IsPlace d kind (p ++ b ∷ q) (length p)
+
+-- where no byte is left, it stands at the end of the text
+abbrev pub ReachedAll : Type 0
+ReachedAll = (d : Dialect) (kind : Kind) (s : State) (p : List ℕ) → Reached d kind s p
+    → IsPlace d kind p (length p)
