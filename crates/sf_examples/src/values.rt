@@ -64,7 +64,8 @@ fn a_value_that_is_printed(rt: HostRuntime) -> Result<(), Fail> {
 
 /// The Item with `q`, at the end of the List.
 fn change(alloc: Global, mut item: Item, mut list: List) -> Result<List, Fail> {
-    item.params.set(Key::new(alloc, b"q")?, Bare::Boolean(true))?;
+    item.params
+        .set(Key::new(alloc, b"q")?, Bare::Boolean(true))?;
     list.members.push(item.into())?;
     Ok(list)
 }
