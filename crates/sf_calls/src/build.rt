@@ -43,7 +43,7 @@ pub(crate) fn key(rt: &(impl Abort + AllocGlobal), bytes: &[u8]) -> Key {
     Key::new(rt.alloc(), bytes).expect(rt, "a key")
 }
 
-// One of each of the eight types of bare items, by its place.
+/// One of each of the eight types of bare items, by its place.
 pub(crate) fn bare(rt: &(impl Abort + AllocGlobal), index: usize) -> Bare {
     match index {
         0 => integer(rt, 1),
@@ -61,7 +61,7 @@ pub(crate) fn number_in(bare: &Bare) -> Option<i64> {
     Some(bare.as_integer()?.get())
 }
 
-// Puts a value at the key of these bytes.
+/// Puts a value at the key of these bytes.
 pub(crate) fn put<V: Drop>(
     rt: &(impl Abort + AllocGlobal),
     entries: &mut Entries<V>,
@@ -75,7 +75,7 @@ pub(crate) fn plain(rt: &impl AllocGlobal, seed: &RandomState, bare: Bare) -> It
     Item::new(rt.alloc(), seed, bare)
 }
 
-// An Item with one parameter.
+/// An Item with one parameter.
 pub(crate) fn item(
     rt: &(impl Abort + AllocGlobal),
     seed: &RandomState,
@@ -87,7 +87,7 @@ pub(crate) fn item(
     item.with_param(key(rt, bytes), value).expect(rt, "room")
 }
 
-// The Inner List of two Items.
+/// The Inner List of two Items.
 pub(crate) fn both(
     rt: &(impl Abort + AllocGlobal),
     seed: &RandomState,
@@ -99,13 +99,13 @@ pub(crate) fn both(
     inner.with_item(second).expect(rt, "room")
 }
 
-// The Inner List `(1 2)`.
+/// The Inner List `(1 2)`.
 pub(crate) fn one_and_two(rt: &(impl Abort + AllocGlobal), seed: &RandomState) -> Inner {
     let one = plain(rt, seed, integer(rt, 1));
     both(rt, seed, one, plain(rt, seed, integer(rt, 2)))
 }
 
-// The Inner List `(1 2)` with the parameter `y`.
+/// The Inner List `(1 2)` with the parameter `y`.
 pub(crate) fn inner(rt: &(impl Abort + AllocGlobal), seed: &RandomState, param: Bare) -> Member {
     let inner = one_and_two(rt, seed);
     inner
@@ -114,7 +114,7 @@ pub(crate) fn inner(rt: &(impl Abort + AllocGlobal), seed: &RandomState, param: 
         .into()
 }
 
-// The Item `?1` with one parameter.
+/// The Item `?1` with one parameter.
 pub(crate) fn flag(
     rt: &(impl Abort + AllocGlobal),
     seed: &RandomState,
@@ -124,7 +124,7 @@ pub(crate) fn flag(
     item(rt, seed, Bare::Boolean(true), bytes, value).into()
 }
 
-// A Dictionary with one more member.
+/// A Dictionary with one more member.
 pub(crate) fn with(
     rt: &(impl Abort + AllocGlobal),
     dict: Dict,
@@ -134,7 +134,7 @@ pub(crate) fn with(
     dict.with(key(rt, bytes), member).expect(rt, "room")
 }
 
-// The Dictionary `a=(1 2);y=PARAM, b;x`, or with its members the other way round.
+/// The Dictionary `a=(1 2);y=PARAM, b;x`, or with its members the other way round.
 pub(crate) fn dict(
     rt: &(impl Abort + AllocGlobal),
     seed: &RandomState,
@@ -152,13 +152,13 @@ pub(crate) fn dict(
     both.into()
 }
 
-// The List of two members.
+/// The List of two members.
 pub(crate) fn two(rt: &(impl Abort + AllocGlobal), first: Member, second: Member) -> List {
     let list = List::new(rt.alloc()).with(first).expect(rt, "room");
     list.with(second).expect(rt, "room")
 }
 
-// The List `N;y, (1 2);y=?0`.
+/// The List `N;y, (1 2);y=?0`.
 pub(crate) fn list(rt: &(impl Abort + AllocGlobal), seed: &RandomState, n: i64) -> Field {
     let first = item(rt, seed, integer(rt, n), b"y", Bare::Boolean(true));
     let second = inner(rt, seed, Bare::Boolean(false));

@@ -18,7 +18,7 @@ fn read(
     ask(rt.alloc(), seed, &CacheStatus, &[line])
 }
 
-// The text of the members that are appended for the hops.
+/// The text of the members that are appended for the hops.
 fn written(rt: &(impl Abort + AllocGlobal), seed: &RandomState, hops: &[Hop]) -> Vec<u8> {
     let mut list = List::new(rt.alloc());
     for hop in hops {
@@ -170,7 +170,7 @@ fn stale_hop(name: Name, detail: Name, status: HopStatus) -> Hop {
     }
 }
 
-// The List of the path of two caches that RFC 9211 shows, with a third one behind them.
+/// The List of the path of two caches that RFC 9211 shows, with a third one behind them.
 fn with_edge(rt: &(impl Abort + AllocGlobal), seed: &RandomState) -> List {
     let text = b"OriginCache; hit; ttl=1100, \"CDN Company Here\"; hit; ttl=545";
     let mut list = parse_list(rt.alloc(), seed, text).expect(rt, "a List");

@@ -19,7 +19,7 @@ fn lines_of(rt: &(impl Abort + AllocGlobal), lines: &[&[u8]]) -> Vec<Blob> {
     blobs
 }
 
-// The bits of these bytes and of those from first to last.
+/// The bits of these bytes and of those from first to last.
 fn bytes(others: &[u8], ranges: &[(u8, u8)]) -> u128 {
     let mut set = 0u128;
     for byte in 0..128u8 {
@@ -34,7 +34,7 @@ fn bytes(others: &[u8], ranges: &[(u8, u8)]) -> u128 {
     set
 }
 
-// What may follow a comma in a List.
+/// What may follow a comma in a List.
 fn after_comma() -> u128 {
     bytes(b"\t \"%(*-", &[(b'0', b':'), (b'?', b'Z'), (b'a', b'z')])
 }
@@ -69,7 +69,7 @@ fn check(
     }
 }
 
-// The values of the name behind a header of another name.
+/// The values of the name behind a header of another name.
 fn headers_of(rt: &(impl Abort + AllocGlobal), name: &[u8], values: &[&[u8]]) -> HeaderMap {
     let mut headers = HeaderMap::new(rt.alloc());
     let server = HeaderName::from_static("server");
@@ -126,7 +126,7 @@ fn parses_lines(rt: HostRuntime) {
     }
 }
 
-// The older dialect stops at a date, where these bytes, a digit, a colon or a letter could stand.
+/// The older dialect stops at a date, where these bytes, a digit, a colon or a letter could stand.
 fn no_date(place: u64, others: &[u8]) -> Refusal {
     Refusal::Syntax {
         place,
@@ -210,7 +210,7 @@ fn lines_one_by_one(rt: HostRuntime) {
     assert!(rt; field == text.expect(&rt, "a List"));
 }
 
-// An empty first line stands before a comma, and none may stand there.
+/// An empty first line stands before a comma, and none may stand there.
 #[test]
 fn an_empty_first_line(rt: HostRuntime) {
     let mut parser = Parser::new(rt.alloc(), &seed(&rt), Kind::List, u64::MAX);

@@ -13,20 +13,20 @@ fn parts(asked: Asked) -> (u8, bool) {
     (priority.urgency.get(), priority.incremental)
 }
 
-// What the field of a request comes to.
+/// What the field of a request comes to.
 fn alone(rt: &(impl Abort + AllocGlobal), seed: &RandomState, line: &[u8]) -> (u8, bool) {
     let line = Blob::new(rt.alloc(), line).expect(rt, "room");
     let asked = ask(rt.alloc(), seed, &PriorityField, &[line]);
     parts(asked.expect(rt, "a Dictionary"))
 }
 
-// What a field asks for.
+/// What a field asks for.
 fn asked(rt: &(impl Abort + AllocGlobal), seed: &RandomState, text: &[u8]) -> Asked {
     let dict = parse_dict(rt.alloc(), seed, text).expect(rt, "a Dictionary");
     Priority::from_dict(&dict)
 }
 
-// The text of the field that asks for a priority.
+/// The text of the field that asks for a priority.
 fn written(
     rt: &(impl Abort + AllocGlobal),
     seed: &RandomState,
@@ -62,7 +62,7 @@ fn priorities(rt: HostRuntime) {
     }
 }
 
-// What a request and a response ask for, and what both come to.
+/// What a request and a response ask for, and what both come to.
 #[test]
 fn merging(rt: HostRuntime) {
     let seed = seed(&rt);

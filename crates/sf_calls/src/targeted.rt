@@ -7,7 +7,7 @@ use sf_value::Blob;
 use std::hash::RandomState;
 use std::process::Abort;
 
-// What a targeted field of one line says.
+/// What a targeted field of one line says.
 fn policy_of(rt: &(impl Abort + AllocGlobal), seed: &RandomState, line: &[u8]) -> Policy {
     let line = Blob::new(rt.alloc(), line).expect(rt, "room");
     ask(rt.alloc(), seed, &Directives, &[line]).expect(rt, "a Dictionary")
@@ -91,7 +91,7 @@ fn choice_of(
     select(rt.alloc(), seed, names.as_slice(), &headers).expect(rt, "room")
 }
 
-// The choice of the field of `cdn-cache-control` and of `x-cache-control`.
+/// The choice of the field of `cdn-cache-control` and of `x-cache-control`.
 #[test]
 fn choices(rt: HostRuntime) {
     let seed = seed(&rt);

@@ -4,10 +4,10 @@ use crate::build::{
     two, with,
 };
 use sf_devices::Trickle;
-use sf_value::{Bare, Dict, Field, Inner, List, Text, Writing};
+use sf_value::{Bare, Dict, Field, Inner, List, Member, Text, Writing};
 use sf_write::{
-    WriteFault, bare_text, put, put_bare, put_field, put_text, send_all, to_string, to_text,
-    write_bare, write_field,
+    Canonical, WriteFault, bare_text, display, put, put_bare, put_field, put_text, send_all,
+    to_string, to_text, write_bare, write_field,
 };
 use std::hash::RandomState;
 use std::process::Abort;
@@ -24,7 +24,7 @@ fn check_bare(rt: &(impl Abort + AllocGlobal), bare: Bare, want: &str) {
 
 const EXAMPLE: &str = "a=(1 2);y=:YQ==:, b;x";
 
-// The Dictionary of that text, which has 21 bytes.
+/// The Dictionary of that text, which has 21 bytes.
 fn example(rt: &(impl Abort + AllocGlobal), seed: &RandomState) -> Field {
     dict(rt, seed, b"a", false)
 }
@@ -90,8 +90,8 @@ fn byte_sequences(rt: HostRuntime) {
     }
 }
 
-// Byte sequences of n bytes, of one block and more. The first byte is n, and each further one is 7
-// more, by the low eight bits.
+/// Byte sequences of n bytes, of one block and more. The first byte is n, and each further one is 7
+/// more, by the low eight bits.
 #[test]
 fn long_byte_sequences(rt: HostRuntime) {
     for (n, want) in [
@@ -124,7 +124,7 @@ fn long_byte_sequences(rt: HostRuntime) {
     }
 }
 
-// `1.5;q=?0;r=1`
+/// `1.5;q=?0;r=1`
 fn with_two_params(rt: &(impl Abort + AllocGlobal), seed: &RandomState) -> Field {
     let item = item(rt, seed, decimal(rt, 1500), b"q", Bare::Boolean(false));
     let item = item.with_param(key(rt, b"r"), integer(rt, 1));
@@ -139,7 +139,7 @@ fn items(rt: HostRuntime) {
     check(&rt, flagged.into(), "?1;b");
 }
 
-// Two members that are Items with no parameters.
+/// Two members that are Items with no parameters.
 fn two_items(
     rt: &(impl Abort + AllocGlobal),
     seed: &RandomState,
@@ -150,13 +150,13 @@ fn two_items(
     two(rt, plain(rt, seed, first).into(), second).into()
 }
 
-// `(a;b c)`
+/// `(a;b c)`
 fn two_tokens_inside(rt: &(impl Abort + AllocGlobal), seed: &RandomState) -> Inner {
     let first = item(rt, seed, token(rt, b"a"), b"b", Bare::Boolean(true));
     both(rt, seed, first, plain(rt, seed, token(rt, b"c")))
 }
 
-// `(a;b c), (), "x, y"`
+/// `(a;b c), (), "x, y"`
 fn members_of_both_forms(rt: &(impl Abort + AllocGlobal), seed: &RandomState) -> Field {
     let none = Inner::new(rt.alloc(), seed).into();
     let list = two(rt, two_tokens_inside(rt, seed).into(), none);
@@ -177,7 +177,7 @@ fn lists(rt: HostRuntime) {
     );
 }
 
-// `a=?0, b, c;foo=bar`, whose last value was put in place of another.
+/// `a=?0, b, c;foo=bar`, whose last value was put in place of another.
 fn flags(rt: &(impl Abort + AllocGlobal), seed: &RandomState) -> Field {
     let mut dict = Dict::new(rt.alloc(), seed);
     for (key, value) in [
@@ -219,7 +219,7 @@ fn check_whole(rt: &impl Abort, sent: &Sent, want: &[u8]) {
     assert_eq!(rt; sent.sink.calls, want.len() as u64);
 }
 
-// One byte went out for each call before the one that failed, which was the last.
+/// One byte went out for each call before the one that failed, which was the last.
 fn check_front(rt: &impl Abort, sent: &Sent, written: u64, want: &[u8]) {
     assert_eq!(rt; sent.answer, Err(WriteFault { written }), "after {written}");
     assert!(rt; written as usize <= want.len());
@@ -272,7 +272,7 @@ fn counts_of_bare_items_go_on(rt: HostRuntime) {
     assert_eq!(rt; text.as_slice(), b"end..7\"a\\\"\"".as_slice());
 }
 
-// Behind a fault nothing is sent, and the fault stays.
+/// Behind a fault nothing is sent, and the fault stays.
 #[test]
 fn faults_go_on(rt: HostRuntime) {
     let mut out = Trickle::new(rt.alloc(), 2);
@@ -299,4 +299,56 @@ fn texts_are_strings(rt: HostRuntime) {
         "%\"f%c3%bc\"",
     );
     check_string(&rt, List::new(rt.alloc()).into(), "");
+}
+
+/// What `{}` shows of a value.
+fn check_display(rt: &(impl Abort + AllocGlobal), value: &impl Canonical, want: &str) {
+    let text = display(value).to_string(rt.alloc()).expect(rt, "room");
+    assert_eq!(rt; text.as_str(), want);
+}
+
+#[test]
+fn bare_items_are_displayed(rt: HostRuntime) {
+    check_display(&rt, &date(&rt, 1_659_578_233), "@1659578233");
+    check_display(
+        &rt,
+        &shown(&rt, "This is intended for display to ü users."),
+        "%\"This is intended for display to %c3%bc users.\"",
+    );
+}
+
+#[test]
+fn an_item_is_displayed(rt: HostRuntime) {
+    let value = item(&rt, &seed(&rt), integer(&rt, 5), b"foo", token(&rt, b"bar"));
+    check_display(&rt, &value, "5;foo=bar");
+}
+
+#[test]
+fn an_inner_list_is_displayed(rt: HostRuntime) {
+    let seed = seed(&rt);
+    let foo = plain(&rt, &seed, text(&rt, b"foo"));
+    let value = both(&rt, &seed, foo, plain(&rt, &seed, text(&rt, b"bar")));
+    check_display(&rt, &value, "(\"foo\" \"bar\")");
+}
+
+#[test]
+fn a_member_is_displayed(rt: HostRuntime) {
+    let value = item(&rt, &seed(&rt), integer(&rt, 4), b"aa", token(&rt, b"bb"));
+    check_display(&rt, &Member::from(value), "4;aa=bb");
+}
+
+#[test]
+fn fields_are_displayed(rt: HostRuntime) {
+    let seed = seed(&rt);
+    let list = two_items(&rt, &seed, token(&rt, b"sugar"), token(&rt, b"tea"));
+    check_display(&rt, &list, "sugar, tea");
+    check_display(&rt, &flags(&rt, &seed), "a=?0, b, c;foo=bar");
+    check_display(&rt, &Field::from(List::new(rt.alloc())), "");
+}
+
+#[test]
+fn a_value_is_displayed_among_words(rt: HostRuntime) {
+    let value = decimal(&rt, 4500);
+    let told = format!(in rt.alloc(); "q is {}.", display(&value)).expect(&rt, "room");
+    assert_eq!(rt; told.as_str(), "q is 4.5.");
 }

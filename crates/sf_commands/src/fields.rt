@@ -196,7 +196,7 @@ fn long_inputs(rt: HostRuntime) -> Result<(), Fail> {
     Ok(())
 }
 
-// 1,001 tokens, and spaces before the last one: 1,048,575 bytes.
+/// 1,001 tokens, and spaces before the last one: 1,048,575 bytes.
 fn members(alloc: Global) -> Result<Vec<u8>, AllocError> {
     let mut bytes = Vec::new(alloc);
     for _ in 0..1_000u32 {

@@ -1,6 +1,6 @@
-//! Tests of the command: its words with the requests that they are, and [`sf_tool::run`] on inputs
-//! whose answer is known, read whole, a byte at a time and in every cutting into two reads, with each
-//! read and each write failing in turn. It has tests alone.
+//! Tests of the command. It has tests alone: `words` for its words, `fields`, `consumers` and
+//! `targeted` for inputs of [`sf_tool::run`] whose answer is known; in how many ways each input is
+//! read says the README.
 #![tactic(auto)]
 
 #[cfg(test)]

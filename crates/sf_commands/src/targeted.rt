@@ -97,7 +97,7 @@ fn fields_of_one_name(rt: HostRuntime) -> Result<(), Fail> {
     Ok(())
 }
 
-// Lines of the names `cdn-cache-control` and `a`, which are listed, and of others.
+/// Lines of the names `cdn-cache-control` and `a`, which are listed, and of others.
 #[test]
 fn lines_that_are_read(rt: HostRuntime) -> Result<(), Fail> {
     let seed = RandomState::new(&rt)?;
@@ -163,7 +163,7 @@ fn lines_that_are_refused(rt: HostRuntime) -> Result<(), Fail> {
     Ok(())
 }
 
-// Lines of which none has a listed name.
+/// Lines of which none has a listed name.
 #[test]
 fn lines_of_other_names(rt: HostRuntime) -> Result<(), Fail> {
     let seed = RandomState::new(&rt)?;
@@ -176,7 +176,7 @@ fn lines_of_other_names(rt: HostRuntime) -> Result<(), Fail> {
     Ok(())
 }
 
-// A request of so many names `a` and one other behind them.
+/// A request of so many names `a` and one other behind them.
 fn of_many(alloc: Global, count: usize, last: HeaderName) -> Result<Request, AllocError> {
     let mut names = Vec::new(alloc);
     for _ in 0..count {
@@ -186,7 +186,7 @@ fn of_many(alloc: Global, count: usize, last: HeaderName) -> Result<Request, All
     Ok(Request::Targeted(names))
 }
 
-// The last of 64 names is there, as in a command line of the most names.
+/// The last of 64 names is there, as in a command line of the most names.
 #[test]
 fn the_last_of_64_names(rt: HostRuntime) -> Result<(), Fail> {
     let seed = RandomState::new(&rt)?;
@@ -200,7 +200,7 @@ fn the_last_of_64_names(rt: HostRuntime) -> Result<(), Fail> {
     Ok(())
 }
 
-// More names than a header map has room for are answered as any others.
+/// More names than a header map has room for are answered as any others.
 #[test]
 fn more_names_than_a_map_holds(rt: HostRuntime) -> Result<(), Fail> {
     let seed = RandomState::new(&rt)?;

@@ -5,7 +5,7 @@ use std::alloc::{AllocError, Global};
 use std::process::Abort;
 use std::test::Fail;
 
-// A request by its `Debug` text, since it is not compared.
+/// A request by its `Debug` text, since it is not compared.
 fn expect(rt: &(impl Abort + AllocGlobal), words: &[&str], wanted: &str) -> Result<(), AllocError> {
     let mut owned = Vec::new(rt.alloc());
     for word in words {

@@ -1,1 +1,1 @@
--- This crate has tests alone.
+pub mod AgentCluster

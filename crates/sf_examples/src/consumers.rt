@@ -1,8 +1,9 @@
 //! What fields mean to caches and servers.
 use http_header::{HeaderMap, HeaderName, HeaderValue};
-use sf_field::ask;
-use sf_use::{CacheStatus, Choice, PriorityField, merge, select};
+use sf_field::{AskFault, ask};
+use sf_use::{CacheStatus, Choice, Priority, PriorityField, merge, select};
 use sf_value::{Blob, Int};
+use std::alloc::Global;
 use std::hash::RandomState;
 use std::test::Fail;
 
@@ -45,21 +46,25 @@ fn the_field_that_a_cache_obeys(rt: HostRuntime) -> Result<(), Fail> {
     Ok(())
 }
 
+/// What the request and the response ask for together.
+fn merged(
+    alloc: Global,
+    seed: &RandomState,
+    request: &[Blob],
+    response: &[Blob],
+) -> Result<Priority, AskFault> {
+    let client = ask(alloc, seed, &PriorityField, request)?;
+    let server = ask(alloc, seed, &PriorityField, response)?;
+    Ok(merge(client, server).with_defaults())
+}
+
 #[test]
 fn the_priority_of_a_response(rt: HostRuntime) -> Result<(), Fail> {
     let alloc = rt.alloc();
     let seed = RandomState::new(&rt)?;
     let request = [Blob::new(alloc, b"u=5, i")?];
     let response = [Blob::new(alloc, b"u=1")?];
-    let client = match ask(alloc, &seed, &PriorityField, &request) {
-        Ok(asked) => asked,
-        Err(fault) => return Err(fault.into()),
-    };
-    let server = match ask(alloc, &seed, &PriorityField, &response) {
-        Ok(asked) => asked,
-        Err(fault) => return Err(fault.into()),
-    };
-    let priority = merge(client, server).with_defaults();
+    let priority = merged(alloc, &seed, &request, &response)?;
     assert_eq!(&rt; priority.urgency.get(), 1);
     assert!(&rt; priority.incremental);
     Ok(())

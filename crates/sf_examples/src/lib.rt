@@ -3,6 +3,8 @@
 #![tactic(auto)]
 
 #[cfg(test)]
+mod agent_cluster;
+#[cfg(test)]
 mod consumers;
 #[cfg(test)]
 mod laws;

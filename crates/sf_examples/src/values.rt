@@ -1,7 +1,7 @@
 //! Values that are built, compared and written.
-use sf_parse::parse_text;
-use sf_value::{Bare, Field, Int, Item, Key, Kind, Token, Writing};
-use sf_write::write_field;
+use sf_parse::{parse_item, parse_list, parse_text};
+use sf_value::{Bare, Field, Int, Item, Key, Kind, List, Token, Writing};
+use sf_write::{display, to_string, write_field};
 use std::alloc::Global;
 use std::hash::RandomState;
 use std::test::Fail;
@@ -39,6 +39,44 @@ fn a_value(rt: HostRuntime) -> Result<(), Fail> {
     let length = write_field(&field, &mut out)?;
     assert_eq!(&rt; length, 5);
     assert_eq!(&rt; out.into_inner().as_slice(), b"a;q=1".as_slice());
+    Ok(())
+}
+
+#[test]
+fn a_text_to_be_printed(rt: HostRuntime) -> Result<(), Fail> {
+    let alloc = rt.alloc();
+    let seed = RandomState::new(&rt)?;
+    let field = build(alloc, &seed)?;
+    let text = to_string(alloc, &field)?;
+    assert_eq!(&rt; text.as_str(), "a;q=1");
+    Ok(())
+}
+
+#[test]
+fn a_value_that_is_printed(rt: HostRuntime) -> Result<(), Fail> {
+    let alloc = rt.alloc();
+    let seed = RandomState::new(&rt)?;
+    let field = build(alloc, &seed)?;
+    println!(&rt; "{}", display(&field))?;
+    assert_eq!(&rt; display(&field).to_string(alloc)?.as_str(), "a;q=1");
+    Ok(())
+}
+
+/// The Item with `q`, at the end of the List.
+fn change(alloc: Global, mut item: Item, mut list: List) -> Result<List, Fail> {
+    item.params
+        .set(Key::new(alloc, b"q")?, Bare::Boolean(true))?;
+    list.members.push(item.into())?;
+    Ok(list)
+}
+
+#[test]
+fn a_value_that_is_changed(rt: HostRuntime) -> Result<(), Fail> {
+    let alloc = rt.alloc();
+    let seed = RandomState::new(&rt)?;
+    let item = parse_item(alloc, &seed, b"a;q=1")?;
+    let list = change(alloc, item, parse_list(alloc, &seed, b"b")?)?;
+    assert_eq!(&rt; to_string(alloc, &list.into())?.as_str(), "b, a;q");
     Ok(())
 }
 

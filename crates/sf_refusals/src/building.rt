@@ -10,7 +10,7 @@ use std::alloc::Global;
 use std::hash::RandomState;
 use std::test::Fail;
 
-// The Inner List `(a;q);r`.
+/// The Inner List `(a;q);r`.
 fn inner(alloc: Global, seed: &RandomState) -> Result<Inner, TextFault> {
     let item = Item::new(alloc, seed, Token::new(alloc, b"a")?.into());
     let item = item.with_param(Key::new(alloc, b"q")?, true.into())?;
@@ -18,7 +18,7 @@ fn inner(alloc: Global, seed: &RandomState) -> Result<Inner, TextFault> {
     Ok(inner.with_param(Key::new(alloc, b"r")?, true.into())?)
 }
 
-// The Dictionary `b=(a;q);r`.
+/// The Dictionary `b=(a;q);r`.
 fn dict(alloc: Global, seed: &RandomState) -> Result<Dict, TextFault> {
     let member = inner(alloc, seed)?.into();
     Ok(Dict::new(alloc, seed).with(Key::new(alloc, b"b")?, member)?)
@@ -63,7 +63,7 @@ fn value_of(alloc: Global, field: &Field) -> Seen {
     }
 }
 
-// Sets the field in a map without names, which a refusal leaves as it was.
+/// Sets the field in a map without names, which a refusal leaves as it was.
 fn set(alloc: Global, field: &Field) -> Seen {
     let mut headers = HeaderMap::new(alloc);
     let name = HeaderName::from_static("x");

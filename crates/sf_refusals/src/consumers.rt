@@ -78,7 +78,7 @@ fn is_company(hop: &Hop) -> bool {
         && hop.ttl.is_none()
 }
 
-// Whether these are the hops of `HOPS`.
+/// Whether these are the hops of `HOPS`.
 fn is_path(path: &CachePath) -> bool {
     match (path.hops().first(), path.hops().last()) {
         (Some(first), Some(last)) => {
@@ -97,7 +97,7 @@ fn is_urgent(asked: Asked) -> bool {
     asked.urgency.get() == 1 && asked.incremental
 }
 
-// Whether want of memory was answered.
+/// Whether want of memory was answered.
 fn seen_fault(fault: AskFault) -> Seen {
     match fault {
         AskFault::Field(Refusal::OutOfMemory) => Seen::Refused,
@@ -161,7 +161,7 @@ enum Call {
     WritePriority,
 }
 
-// Makes a call on the lines of a field, or on the field.
+/// Makes a call on the lines of a field, or on the field.
 fn made(alloc: Global, seed: &RandomState, call: Call, lines: &[Blob], field: &Field) -> Seen {
     match call {
         Call::AskHops => ask_hops(alloc, seed, lines),
@@ -200,7 +200,7 @@ fn answers(rt: HostRuntime) -> Result<(), Fail> {
     Ok(())
 }
 
-// The field of the first target alone is right: want of memory is not absence.
+/// The field of the first target alone is right: want of memory is not absence.
 fn choose(alloc: Global, seed: &RandomState, targets: &[HeaderName], headers: &HeaderMap) -> Seen {
     match select(alloc, seed, targets, headers) {
         Ok(Choice::Field { index, policy }) => { seen_if(index == 0 && policy.max_age == Some(60)) }
@@ -258,7 +258,7 @@ fn makes_numbers() -> bool {
         && Urgency::new(8).is_err()
 }
 
-// Calls that take no memory, by the field that they are made on.
+/// Calls that take no memory, by the field that they are made on.
 fn answers_field(alloc: Global, field: &Field) -> bool {
     match field {
         Field::List(_) => is_no_cache(alloc, field),
@@ -324,8 +324,8 @@ fn lists_of(alloc: Global, seed: &RandomState, texts: [&[u8]; 2]) -> Result<Vec<
     Ok(lists)
 }
 
-// Adds the hop to the last List; one that a refusal left as it was is to be used again. Wanted is
-// the List without the hop, and the one with it.
+/// Adds the hop to the last List; one that a refusal left as it was is to be used again. Wanted is
+/// the List without the hop, and the one with it.
 fn appended(
     alloc: Global,
     seed: &RandomState,
@@ -353,7 +353,7 @@ fn appended(
     }
 }
 
-// One List is for the call with ample memory, and one for those with little.
+/// One List is for the call with ample memory, and one for those with little.
 fn append_refusals(
     alloc: Global,
     seed: &RandomState,
@@ -368,7 +368,7 @@ fn append_refusals(
     }))
 }
 
-// The second List is full, so that it has to grow.
+/// The second List is full, so that it has to grow.
 #[test]
 fn appends(rt: HostRuntime) -> Result<(), Fail> {
     let seed = RandomState::new(&rt)?;

@@ -68,7 +68,7 @@ fn texts_in_a_dialect(rt: HostRuntime) -> Result<(), Fail> {
 /// Refused for its last byte, at 31.
 const REFUSED: &[u8] = b"a=(1 \"x y\" *t :YQ==:);y=tok, b=#";
 
-// Want of memory ends a parse before a bad byte that stands behind it.
+/// Want of memory ends a parse before a bad byte that stands behind it.
 #[test]
 fn refused_texts(rt: HostRuntime) -> Result<(), Fail> {
     let alloc = rt.alloc();
@@ -79,7 +79,7 @@ fn refused_texts(rt: HostRuntime) -> Result<(), Fail> {
     Ok(())
 }
 
-// The Dictionary of a text that a reader gives a byte a call.
+/// The Dictionary of a text that a reader gives a byte a call.
 fn read(alloc: Global, seed: &RandomState, text: &[u8]) -> Result<Field, Refusal> {
     let mut source = Paced::new(text, 1, 0, 0);
     parse_reader(alloc, seed, Kind::Dict, u64::MAX, &mut source)
@@ -99,7 +99,7 @@ fn ends_for_memory(parser: Parser) -> bool {
     parser.finish().err() == Some(Refusal::OutOfMemory)
 }
 
-// Whether each later call wants memory, too, after so many bytes were handed in.
+/// Whether each later call wants memory, too, after so many bytes were handed in.
 fn stays_refused(mut parser: Parser, handed: usize) -> bool {
     let place = parser.place();
     let first = parser.feed(b"");
@@ -111,8 +111,8 @@ fn stays_refused(mut parser: Parser, handed: usize) -> bool {
     refused && ended && place <= handed as u64
 }
 
-// Feeds the text in pieces of so many bytes, at least one, up to the first piece that is refused,
-// and answers with its refusal how many bytes were handed in.
+/// Feeds the text in pieces of so many bytes, at least one, up to the first piece that is refused,
+/// and answers with its refusal how many bytes were handed in.
 fn feed_all(parser: &mut Parser, text: &[u8], size: usize) -> Result<(), (Refusal, usize)> {
     let mut handed = 0usize;
     for piece in text.chunks(size.max(1)) {
@@ -150,7 +150,7 @@ fn pieces(rt: HostRuntime) -> Result<(), Fail> {
     Ok(())
 }
 
-// A parser that was refused with no memory left; there is memory again when it is given.
+/// A parser that was refused with no memory left; there is memory again when it is given.
 fn refused_parser(alloc: Global, seed: &RandomState) -> Option<Parser> {
     let mut scarcity = Scarcity::new(alloc).ok()?;
     let mut parser = Parser::new(alloc, seed, Kind::Dict, u64::MAX);
@@ -173,7 +173,7 @@ fn refused_for_good(rt: HostRuntime) -> Result<(), Fail> {
     Ok(())
 }
 
-// Parsers that took the text.
+/// Parsers that took the text.
 fn fed_parsers(
     alloc: Global,
     seed: &RandomState,

@@ -134,7 +134,7 @@ fn other_words(rt: HostRuntime) -> Result<(), Fail> {
 // An input, and the text and the status that it is answered with.
 type Row = (&'static [u8], &'static [u8], Status);
 
-// Runs over a reader that gives a byte a call, into the room that is there.
+/// Runs over a reader that gives a byte a call, into the room that is there.
 fn ran(alloc: Global, seed: &RandomState, request: &Request, row: Row, room: &mut Vec<u8>) -> Seen {
     let (input, text, status) = row;
     room.clear();
@@ -257,7 +257,7 @@ fn runs_of_a_consumer(rt: HostRuntime) -> Result<(), Fail> {
     Ok(())
 }
 
-// An answer goes out where no memory is left for its text.
+/// An answer goes out where no memory is left for its text.
 #[test]
 fn answers_without_memory(rt: HostRuntime) -> Result<(), Fail> {
     let alloc = rt.alloc();

@@ -81,7 +81,7 @@ fn words(rt: HostRuntime) {
     }
 }
 
-// What is refused for its bytes is refused for them with no memory, too.
+/// What is refused for its bytes is refused for them with no memory, too.
 fn make_bad(alloc: Global) -> Seen {
     let bad = Some(TextFault::BadByte { place: 1 });
     let key = Key::new(alloc, b"aB").err();
@@ -116,7 +116,7 @@ fn is_number(bare: &Bare, byte: u8) -> bool {
     bare.as_integer().map(|n| n.get()) == Some(i64::from(byte))
 }
 
-// The entries of the first so many names.
+/// The entries of the first so many names.
 fn entries_of(alloc: Global, seed: &RandomState, count: usize) -> Result<Entries<Bare>, Fail> {
     let mut entries = Entries::new(alloc, seed);
     for name in NAMES.iter().take(count) {
@@ -132,7 +132,7 @@ fn stands_at(entries: &Entries<Bare>, index: usize, name: u8) -> bool {
     }
 }
 
-// Whether the entries are those of the first so many names.
+/// Whether the entries are those of the first so many names.
 fn are_first(entries: &Entries<Bare>, count: usize) -> bool {
     for i in 0..count {
         let Some(name) = NAMES.get(i) else {
@@ -145,7 +145,7 @@ fn are_first(entries: &Entries<Bare>, count: usize) -> bool {
     entries.len() == count
 }
 
-// Two equal puts of a key: one with ample memory, and one with little.
+/// Two equal puts of a key: one with ample memory, and one with little.
 fn puts_of(alloc: Global, seed: &RandomState, count: usize, name: u8) -> Result<Vec<Put>, Fail> {
     let mut puts = Vec::with_capacity(alloc, 2)?;
     for _ in 0..2 {
@@ -158,7 +158,7 @@ fn puts_of(alloc: Global, seed: &RandomState, count: usize, name: u8) -> Result<
     Ok(puts)
 }
 
-// Puts a new key; a refused put is to be made again.
+/// Puts a new key; a refused put is to be made again.
 fn put_new(puts: &mut Vec<Put>, count: usize) -> Seen {
     let Some(put) = puts.pop() else {
         return Seen::Wrong;
@@ -190,7 +190,7 @@ fn put_new(puts: &mut Vec<Put>, count: usize) -> Seen {
     }
 }
 
-// How often a put behind so many entries was refused.
+/// How often a put behind so many entries was refused.
 fn put_refusals(alloc: Global, seed: &RandomState, count: usize) -> Result<usize, Fail> {
     let mut puts = puts_of(alloc, seed, count, b'z')?;
     match refusals(alloc, || put_new(&mut puts, count)) {
@@ -212,7 +212,7 @@ fn new_keys(rt: HostRuntime) -> Result<(), Fail> {
     Ok(())
 }
 
-// Sets a new key, of one byte, which takes no memory; a refusal leaves the entries as they were.
+/// Sets a new key, of one byte, which takes no memory; a refusal leaves the entries as they were.
 fn set_new(alloc: Global, filled: &mut Vec<Entries<Bare>>, count: usize) -> Seen {
     let Some(mut entries) = filled.pop() else {
         return Seen::Wrong;
@@ -246,7 +246,7 @@ fn keys_that_are_set(rt: HostRuntime) -> Result<(), Fail> {
     Ok(())
 }
 
-// Puts the key that stands first.
+/// Puts the key that stands first.
 fn put_first(puts: &mut Vec<Put>, count: usize) -> Seen {
     let Some(put) = puts.pop() else {
         return Seen::Wrong;

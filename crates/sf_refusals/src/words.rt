@@ -256,7 +256,7 @@ fn spot_in(lines: &[Blob], place: u64) -> Option<(usize, usize)> {
     Some((spot.line, spot.place))
 }
 
-// The joined text is `ab, , c`.
+/// The joined text is `ab, , c`.
 #[test]
 fn places_in_lines(rt: HostRuntime) -> Result<(), Fail> {
     let alloc = rt.alloc();

@@ -39,7 +39,7 @@ fn texts(rt: HostRuntime) -> Result<(), Fail> {
     Ok(())
 }
 
-// Writes into the room that is there.
+/// Writes into the room that is there.
 fn written(field: &Field, room: &mut Vec<u8>, want: &[u8]) -> Seen {
     room.clear();
     let mut sink = Writing::new(&mut *room);

@@ -96,7 +96,7 @@ fn check_pieces(
     check_value(rt, alloc, field, kind, canonical)
 }
 
-// Whether the text has a byte that Dates and Display Strings begin with.
+/// Whether the text has a byte that Dates and Display Strings begin with.
 pub(crate) fn has_new_types(text: &[u8]) -> bool {
     text.iter().any(|byte| *byte == b'@' || *byte == b'%')
 }

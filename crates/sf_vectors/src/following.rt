@@ -25,7 +25,7 @@ fn parser_behind(
     }
 }
 
-// What the byte 0xFF, which no text has, is refused with.
+/// What the byte 0xFF, which no text has, is refused with.
 fn told(parser: &mut Parser) -> Option<Told> {
     match parser.feed(&[0xff]) {
         Err(
@@ -39,7 +39,7 @@ fn told(parser: &mut Parser) -> Option<Told> {
     }
 }
 
-// Whether the byte is taken where it was told, and refused in the same words where it was not.
+/// Whether the byte is taken where it was told, and refused in the same words where it was not.
 fn byte_is_as_told(parser: &mut Parser, place: u64, byte: u8, told: Told) -> bool {
     let (expected, may_end) = told;
     let may_follow = byte < 128 && expected >> (byte & 127) & 1 == 1;
@@ -55,7 +55,7 @@ fn byte_is_as_told(parser: &mut Parser, place: u64, byte: u8, told: Told) -> boo
     }
 }
 
-// Whether the front may be followed by just what is told; false also where it is refused.
+/// Whether the front may be followed by just what is told; false also where it is refused.
 fn front_is_as_told(
     alloc: Global,
     seed: &RandomState,
@@ -83,7 +83,7 @@ fn front_is_as_told(
     parser.finish().is_ok() == told.1
 }
 
-// How many bytes of the text are taken.
+/// How many bytes of the text are taken.
 fn taken(alloc: Global, seed: &RandomState, dialect: Dialect, kind: Kind, text: &[u8]) -> usize {
     let mut parser = Parser::new_in(alloc, seed, dialect, kind, u64::MAX);
     match parser.feed(text) {

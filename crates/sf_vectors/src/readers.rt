@@ -8,14 +8,14 @@ use std::test::Fail;
 
 const MEMBERS: &[u8] = b"a=1,b;x, a=(1  2 );y=:YQ:";
 
-// The Dictionary of all its bytes, and how often was read.
+/// The Dictionary of all its bytes, and how often was read.
 fn read_whole(alloc: Global, seed: &RandomState) -> Result<(Field, u64), Refusal> {
     let mut source = Paced::new(MEMBERS, 1, 0, 0);
     let field = parse_reader(alloc, seed, Kind::Dict, 25, &mut source)?;
     Ok((field, source.calls))
 }
 
-// The refusal where the read of this number fails, and how often one failed.
+/// The refusal where the read of this number fails, and how often one failed.
 fn read_until(alloc: Global, seed: &RandomState, fails_at: u64) -> (Option<Refusal>, u64) {
     let mut source = Paced::new(MEMBERS, 1, 0, fails_at);
     let refusal = parse_reader(alloc, seed, Kind::Dict, 25, &mut source).err();

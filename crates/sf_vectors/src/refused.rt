@@ -24,7 +24,7 @@ fn hex(text: &str, at: usize) -> Option<u8> {
     u8::from_str_radix(digits, 16).ok()
 }
 
-// Whether a part of the set, as `30-39` or `2d`, has the byte.
+/// Whether a part of the set, as `30-39` or `2d`, has the byte.
 fn part_has(part: &str, byte: u8) -> bool {
     match (hex(part, 0), part.len()) {
         (Some(low), 2) => byte == low,
@@ -54,13 +54,13 @@ fn set_ends(set: &str) -> bool {
     false
 }
 
-// Whether it is the set of what a bare item begins with, perhaps with more: it has the first bytes
-// of Dates and Display Strings, and not all that a string may go on with.
+/// Whether it is the set of what a bare item begins with, perhaps with more: it has the first bytes
+/// of Dates and Display Strings, and not all that a string may go on with.
 fn begins_item(set: &str) -> bool {
     set_has(set, b'@') && !set_has(set, b'!')
 }
 
-// Whether the byte is in the set, in this dialect: the old one has no Dates and Display Strings.
+/// Whether the byte is in the set, in this dialect: the old one has no Dates and Display Strings.
 fn set_has_in(dialect: Dialect, set: &str, byte: u8) -> bool {
     match dialect {
         Dialect::Rfc9651 => set_has(set, byte),
@@ -143,7 +143,7 @@ fn refusal_bytewise(
     }
 }
 
-// The row whole, in every cutting into two pieces and a byte at a time.
+/// The row whole, in every cutting into two pieces and a byte at a time.
 fn check_row(
     rt: &impl Abort,
     alloc: Global,
@@ -166,7 +166,7 @@ fn check_row(
     Ok(())
 }
 
-// The rows, and in the dialect of RFC 8941 those without a byte that only the new types begin with.
+/// The rows; in the dialect of RFC 8941 those without a byte that only the new types begin with.
 fn check_rows(
     rt: &impl Abort,
     alloc: Global,
@@ -335,7 +335,7 @@ fn old_dialect(rt: HostRuntime) -> Result<(), Fail> {
     Ok(())
 }
 
-// What a parser of one byte answers to two, to none behind them and at the end, and its place.
+/// What a parser of one byte answers to two, to none behind them and at the end, and its place.
 fn past_the_limit(alloc: Global, seed: &RandomState) -> ([Option<Refusal>; 3], u64) {
     let mut parser = Parser::new(alloc, seed, Kind::Item, 1);
     let fed = parser.feed(b"ab").err();
@@ -354,7 +354,7 @@ fn limits(rt: HostRuntime) -> Result<(), Fail> {
     Ok(())
 }
 
-// The places behind each of three pieces.
+/// The places behind each of three pieces.
 fn places(alloc: Global, seed: &RandomState, pieces: [&[u8]; 3]) -> Result<[u64; 3], Refusal> {
     let mut parser = Parser::new(alloc, seed, Kind::Item, u64::MAX);
     let mut places = [0; 3];

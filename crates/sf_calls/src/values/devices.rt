@@ -114,7 +114,7 @@ fn failed_writes_are_counted(rt: HostRuntime) {
     );
 }
 
-// Neither a pull into an empty block nor a send of no bytes is a call of the device.
+/// Neither a pull into an empty block nor a send of no bytes is a call of the device.
 #[test]
 fn nothing_is_no_call(rt: HostRuntime) {
     let mut source = Reading::new(Halting {

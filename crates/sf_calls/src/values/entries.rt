@@ -3,7 +3,7 @@ use sf_value::{Bare, Entries};
 use std::hash::RandomState;
 use std::process::Abort;
 
-// `a` is put as 1, `b` as 2, and `a` again as 3.
+/// `a` is put as 1, `b` as 2, and `a` again as 3.
 fn put_again(rt: &(impl Abort + AllocGlobal), seed: &RandomState) -> Entries<Bare> {
     let mut entries = Entries::new(rt.alloc(), seed);
     for (key, value, old) in [
@@ -46,7 +46,7 @@ fn entries_may_be_none(rt: HostRuntime) {
     assert!(rt; !put_again(&rt, &seed(&rt)).is_empty());
 }
 
-// The key, and then `3` or `2`.
+/// The key, and then `3` or `2`.
 fn list_entry(rt: &impl Abort, listed: &mut Vec<u8>, key: &[u8], value: &Bare) {
     let digit = if number_in(value) == Some(3) {
         b'3'

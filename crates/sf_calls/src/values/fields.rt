@@ -8,7 +8,7 @@ fn bares_are_same(rt: &(impl Abort + AllocGlobal), seed: &RandomState, i: usize,
     bare(rt, i).same(&twin)
 }
 
-// The Item `5` with a parameter of one of the eight types.
+/// The Item `5` with a parameter of one of the eight types.
 fn five(rt: &(impl Abort + AllocGlobal), seed: &RandomState, i: usize) -> Item {
     item(rt, seed, integer(rt, 5), b"y", bare(rt, i))
 }
@@ -61,7 +61,7 @@ fn members_count(rt: HostRuntime) {
     assert!(rt; !same(&value, &list(&rt, &seed, 2)));
 }
 
-// The Item `a`.
+/// The Item `a`.
 fn token_item(rt: &(impl Abort + AllocGlobal), seed: &RandomState) -> Item {
     plain(rt, seed, token(rt, b"a"))
 }

@@ -6,7 +6,7 @@ use std::hash::RandomState;
 use std::mem;
 use std::process::Abort;
 
-// The bytes of the key at a place. Every third is too long to stand in place.
+/// The bytes of the key at a place. Every third is too long to stand in place.
 fn key_at(rt: &(impl Abort + AllocGlobal), place: u8) -> Vec<u8> {
     let mut key = Vec::from_slice(rt.alloc(), b"k").expect(rt, "room");
     key.push(b'a' + place % 26).expect(rt, "room");
@@ -17,7 +17,7 @@ fn key_at(rt: &(impl Abort + AllocGlobal), place: u8) -> Vec<u8> {
     key
 }
 
-// What the key at a place has at last: every second is put again.
+/// What the key at a place has at last: every second is put again.
 fn value_of(place: u8) -> i64 {
     if place % 2 == 0 {
         100 + i64::from(place)
@@ -38,7 +38,7 @@ fn put_at(
         .and_then(number_in)
 }
 
-// Keys in order, and then every second of them once more.
+/// Keys in order, and then every second of them once more.
 fn filled(rt: &(impl Abort + AllocGlobal), seed: &RandomState, count: u8) -> Entries<Bare> {
     let mut entries = Entries::new(rt.alloc(), seed);
     for place in 0..count {
@@ -99,7 +99,7 @@ fn entries_of_each_count_are_the_same_pairs(rt: HostRuntime) {
     }
 }
 
-// The keys in order with what each has at last, but for the one at a place.
+/// The keys in order with what each has at last, but for the one at a place.
 fn all_but(
     rt: &(impl Abort + AllocGlobal),
     seed: &RandomState,
@@ -157,7 +157,7 @@ fn all_keys_are_taken_out_and_one_is_set(rt: HostRuntime) {
     }
 }
 
-// Adds 1000 to what the key at a place has, and tells whether it has a value.
+/// Adds 1000 to what the key at a place has, and tells whether it has a value.
 fn raise(rt: &(impl Abort + AllocGlobal), entries: &mut Entries<Bare>, place: u8) -> bool {
     let key = key_at(rt, place);
     match entries.get_mut(&key) {

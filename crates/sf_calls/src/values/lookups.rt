@@ -5,7 +5,7 @@ use sf_value::{Bare, Dict, Entries, Field, Inner, Int, Item, Key, List, Thousand
 use std::hash::RandomState;
 use std::process::Abort;
 
-// Which of the eight look-ups of a bare item find something.
+/// Which of the eight look-ups of a bare item find something.
 fn found(bare: &Bare) -> [bool; 8] {
     [
         bare.as_integer().is_some(),
@@ -19,7 +19,7 @@ fn found(bare: &Bare) -> [bool; 8] {
     ]
 }
 
-// Which of the four that take the value out.
+/// Which of the four that take the value out.
 fn taken(rt: &(impl Abort + AllocGlobal), index: usize) -> [bool; 4] {
     [
         bare(rt, index).into_text().is_some(),
@@ -41,12 +41,12 @@ fn bare_items_by_type(rt: HostRuntime) {
     }
 }
 
-// The Item `a;q=1`.
+/// The Item `a;q=1`.
 fn item(rt: &(impl Abort + AllocGlobal), seed: &RandomState) -> Item {
     build::item(rt, seed, token(rt, b"a"), b"q", integer(rt, 1))
 }
 
-// The Inner List `(a;q=1);r`.
+/// The Inner List `(a;q=1);r`.
 fn inner(rt: &(impl Abort + AllocGlobal), seed: &RandomState) -> Inner {
     let inner = Inner::new(rt.alloc(), seed).with_item(item(rt, seed));
     let inner = inner.expect(rt, "room");
@@ -55,14 +55,14 @@ fn inner(rt: &(impl Abort + AllocGlobal), seed: &RandomState) -> Inner {
         .expect(rt, "room")
 }
 
-// The Dictionary `b=a;q=1, c=(a;q=1);r`.
+/// The Dictionary `b=a;q=1, c=(a;q=1);r`.
 fn dict(rt: &(impl Abort + AllocGlobal), seed: &RandomState) -> Dict {
     let dict = Dict::new(rt.alloc(), seed);
     let dict = with(rt, dict, b"b", item(rt, seed).into());
     with(rt, dict, b"c", inner(rt, seed).into())
 }
 
-// What stands under `b`: the number of `q`, and whether there is an `r` or an Inner List.
+/// What stands under `b`: the number of `q`, and whether there is an `r` or an Inner List.
 fn under_b(dict: &Dict) -> Option<(i64, bool, bool)> {
     let member = dict.get(b"b")?;
     let item = member.as_item()?;
@@ -74,7 +74,7 @@ fn under_b(dict: &Dict) -> Option<(i64, bool, bool)> {
     ))
 }
 
-// What stands under `c`: how many Items, the flag `r`, and whether there is an Item.
+/// What stands under `c`: how many Items, the flag `r`, and whether there is an Item.
 fn under_c(dict: &Dict) -> Option<(usize, bool, bool)> {
     let member = dict.get(b"c")?;
     let inner = member.as_inner()?;
