@@ -1,5 +1,6 @@
 -- How each level goes on where its open part does.
-use Rattle.std.proofs.Common.{◌≡◌, ℕ, Bool, true, List, [], ◌∷◌, ◌++◌, Option, Some, None, Result, IfOk}
+use Rattle.std.proofs.Common.{◌≡◌, ℕ, Bool, true, List, [], ◌∷◌, ◌++◌, Option, Some, None, Result}
+use Rattle.std.proofs.Common.{IfOk}
 use Rattle.std.proofs.Common.{IsSome, refl, sym, ap, subst, ◌∙◌}
 use Rattle.std.specs.Borrow.{Bor}
 use Rattle.sf_value.specs.declared.dialect.Dialect.{Dialect}
@@ -11,7 +12,8 @@ use Rattle.sf_value.specs.Grammar.Pairs.{Pairs, put}
 use Rattle.sf_parse.specs.Machine.Language.{seen, onward, and_then, run}
 use Rattle.sf_parse.specs.Machine.Texts.{word_step}
 use Rattle.sf_parse.specs.Machine.Bares.{BareState, bare_step, bare_finish}
-use Rattle.sf_parse.specs.Machine.Params.{ParamsState, Opened, InParamKey, InValue, between_step, key_step}
+use Rattle.sf_parse.specs.Machine.Params.{ParamsState, Opened, InParamKey, InValue, between_step}
+use Rattle.sf_parse.specs.Machine.Params.{key_step}
 use Rattle.sf_parse.specs.Machine.Params.{params_step}
 use Rattle.sf_parse.specs.Machine.Items.{ItemState, InBare, InParams, item_step, item_finish}
 use Rattle.sf_parse.specs.Machine.Inners.{Room, InItem, Closing, behind_step, inner_step}

@@ -10,7 +10,8 @@ use Rattle.sf_value.specs.declared.dialect.Dialect.{Dialect}
 use Rattle.sf_value.specs.declared.value.Kind.{Kind}
 use Rattle.sf_parse.specs.Machine.States.{State}
 use Rattle.sf_parse.specs.Machine.Fields.{Rest, step}
-use Rattle.sf_parse.specs.Reached.{Reached, ReachedNothing, ReachesMore, ReachedViable, ReachedNext, ReachedEnd}
+use Rattle.sf_parse.specs.Reached.{Reached, ReachedNothing, ReachesMore, ReachedViable, ReachedNext}
+use Rattle.sf_parse.specs.Reached.{ReachedEnd}
 use Rattle.sf_parse.specs.Reached.{ReachedStops, ReachedAll}
 use Rattle.sf_parse.proofs.Fields.{machine, begin_good, begins}
 

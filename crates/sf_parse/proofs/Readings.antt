@@ -22,7 +22,8 @@ use Rattle.sf_parse.proofs.Reached.{reached_nothing, reached_viable}
 use Rattle.sf_value.proofs.Gives.{gave_none, gave_more}
 
 -- what was given so far, and taken by the parser
-pub record ReadSoFar (old now : SourceState) (kind : Kind) (max given : ℕ) (p : Progress) : Type 0 where
+pub record ReadSoFar (old now : SourceState) (kind : Kind) (max given : ℕ) (p : Progress)
+    : Type 0 where
   pub text : List ℕ
   pub gave : Gave old now text
   pub took : Took p text

@@ -1,6 +1,7 @@
 -- A whole text of which the reader of its kind took a front: its exact refusal, or its only value.
 use Rattle.std.proofs.Common.{◌≡◌, ℕ, ◌-◌, Bool, true, false, List, [], ◌∷◌, ◌++◌, length}
-use Rattle.std.proofs.Common.{◌⊎◌, inl, inr, Option, Some, None, is_some, Err, refl, sym, ap, ◌∙◌, subst, append-nil}
+use Rattle.std.proofs.Common.{◌⊎◌, inl, inr, Option, Some, None, is_some, Err, refl, sym, ap, ◌∙◌}
+use Rattle.std.proofs.Common.{subst, append-nil}
 use Rattle.std.proofs.Common.{length-append, arith}
 use Rattle.std.specs.List.{slice_get}
 use Rattle.sf_value.specs.declared.dialect.Dialect.{Dialect}

@@ -1,5 +1,6 @@
 -- Where in the lines of a field a refusal stands.
-use Rattle.std.specs.Prelude.{ℕ, suc, ◌+◌, ◌-◌, min, nat_lt, if◌then◌else◌, List, [], ◌∷◌, ◌++◌, length}
+use Rattle.std.specs.Prelude.{ℕ, suc, ◌+◌, ◌-◌, min, nat_lt, if◌then◌else◌, List, [], ◌∷◌, ◌++◌}
+use Rattle.std.specs.Prelude.{length}
 use Rattle.std.specs.Prelude.{map, replicate, codes, decimal, Option, Some, None}
 use Rattle.sf_value.specs.Ascii.{space, question_mark}
 use Rattle.sf_value.specs.Grammar.Classes.{is_visible}

@@ -32,100 +32,6 @@ pub enum BlobPhase {
     Ended,
 }
 
-/// How many bytes are decoded at a time: those of 32 groups.
-const BLOCK: usize = 96;
-
-/// The value of each byte as a character of base64 (RFC 4648 section 4); 64 where it is none.
-#[rattlefmt::skip]
-static SEXTETS: [u8; 256] = [
-    64, 64, 64, 64, 64, 64, 64, 64, 64, 64, 64, 64, 64, 64, 64, 64,
-    64, 64, 64, 64, 64, 64, 64, 64, 64, 64, 64, 64, 64, 64, 64, 64,
-    64, 64, 64, 64, 64, 64, 64, 64, 64, 64, 64, 62, 64, 64, 64, 63,
-    52, 53, 54, 55, 56, 57, 58, 59, 60, 61, 64, 64, 64, 64, 64, 64,
-    64, 0, 1, 2, 3, 4, 5, 6, 7, 8, 9, 10, 11, 12, 13, 14,
-    15, 16, 17, 18, 19, 20, 21, 22, 23, 24, 25, 64, 64, 64, 64, 64,
-    64, 26, 27, 28, 29, 30, 31, 32, 33, 34, 35, 36, 37, 38, 39, 40,
-    41, 42, 43, 44, 45, 46, 47, 48, 49, 50, 51, 64, 64, 64, 64, 64,
-    64, 64, 64, 64, 64, 64, 64, 64, 64, 64, 64, 64, 64, 64, 64, 64,
-    64, 64, 64, 64, 64, 64, 64, 64, 64, 64, 64, 64, 64, 64, 64, 64,
-    64, 64, 64, 64, 64, 64, 64, 64, 64, 64, 64, 64, 64, 64, 64, 64,
-    64, 64, 64, 64, 64, 64, 64, 64, 64, 64, 64, 64, 64, 64, 64, 64,
-    64, 64, 64, 64, 64, 64, 64, 64, 64, 64, 64, 64, 64, 64, 64, 64,
-    64, 64, 64, 64, 64, 64, 64, 64, 64, 64, 64, 64, 64, 64, 64, 64,
-    64, 64, 64, 64, 64, 64, 64, 64, 64, 64, 64, 64, 64, 64, 64, 64,
-    64, 64, 64, 64, 64, 64, 64, 64, 64, 64, 64, 64, 64, 64, 64, 64,
-];
-
-/// The value of a base64 character.
-#[inline]
-fn sextet(byte: u8) -> Option<u8>
-    ensures value { result ≡ sextet_of byte }
-    // It is below 64.
-    ensures small { IfSome result (λ value. value < 64) }
-{
-    let value = SEXTETS[byte as usize];
-    if value < 64 { Some(value) } else { None }
-}
-
-/// The bytes of a whole group of four characters.
-#[inline]
-fn group_bytes(a: u8, b: u8, c: u8, d: u8) -> Option<(u8, u8, u8)>
-    // Where no group is open, the four characters lead to a state with these three bytes more.
-    ensures { IfSome result (λ out. (bs : List ℕ) → run blob_step (Group bs H0)
-        (a ∷ b ∷ c ∷ d ∷ []) ≡ Some (Group (bs ++ out.0 ∷ out.1 ∷ out.2 ∷ []) H0)) }
-{
-    let x = sextet(a)?;
-    let y = sextet(b)?;
-    let z = sextet(c)?;
-    let w = sextet(d)?;
-    Some((x * 4 + y / 16, y % 16 * 16 + z / 4, z % 4 * 64 + w))
-}
-
-/// Decodes whole groups into the block until it is full: how many bytes they are of, and the rest.
-fn decode_groups<'a>(piece: &'a [u8], block: &mut [u8; BLOCK]) -> (usize, &'a [u8])
-    ensures within { result.0 ≤ 96 }
-    // Where no group is open, the characters before the rest lead to a state with the bytes of the
-    // block behind those so far.
-    ensures went { (bs : List ℕ) → Went blob_step (Group bs H0) piece.now result.1.now
-        (Group (bs ++ take result.0 block.new) H0) }
-{
-    let mut count = 0;
-    let mut rest = piece;
-    while let [a, b, c, d, more @ ..] = rest {
-        if count + 3 > BLOCK {
-            return (count, rest);
-        }
-        let Some(bytes) = group_bytes(*a, *b, *c, *d) else {
-            return (count, rest);
-        };
-        block[count] = bytes.0;
-        block[count + 1] = bytes.1;
-        block[count + 2] = bytes.2;
-        count += 3;
-        rest = more;
-    }
-    (count, rest)
-}
-
-/// Takes whole groups, behind a whole one, a block by one growth.
-fn take_groups<'a>(bytes: &mut ShortBytes, piece: &'a [u8]) -> Result<&'a [u8], OutOfMemory>
-    // The bytes before the rest lead the machine from the old state to the new one.
-    ensures { IfOk result (λ rest. Went blob_step (Group bytes.old H0) piece.now rest.now
-        (Group bytes.new H0)) }
-{
-    let mut rest = piece;
-    while let [_, ..] = rest {
-        let mut block = [0; BLOCK];
-        let (count, more) = decode_groups(rest, &mut block);
-        bytes.extend(&block[..count])?;
-        if more.len() >= rest.len() {
-            return Ok(more);
-        }
-        rest = more;
-    }
-    Ok(rest)
-}
-
 impl BlobPhase {
     /// Takes one more byte, or tells that the byte sequence can't go on with it and stays as it is.
     /// Its bytes so far are `bytes`.
@@ -266,6 +172,100 @@ impl BlobPhase {
     {
         self == BlobPhase::Ended
     }
+}
+
+/// How many bytes are decoded at a time: those of 32 groups.
+const BLOCK: usize = 96;
+
+/// The value of each byte as a character of base64 (RFC 4648 section 4); 64 where it is none.
+#[rattlefmt::skip]
+static SEXTETS: [u8; 256] = [
+    64, 64, 64, 64, 64, 64, 64, 64, 64, 64, 64, 64, 64, 64, 64, 64,
+    64, 64, 64, 64, 64, 64, 64, 64, 64, 64, 64, 64, 64, 64, 64, 64,
+    64, 64, 64, 64, 64, 64, 64, 64, 64, 64, 64, 62, 64, 64, 64, 63,
+    52, 53, 54, 55, 56, 57, 58, 59, 60, 61, 64, 64, 64, 64, 64, 64,
+    64, 0, 1, 2, 3, 4, 5, 6, 7, 8, 9, 10, 11, 12, 13, 14,
+    15, 16, 17, 18, 19, 20, 21, 22, 23, 24, 25, 64, 64, 64, 64, 64,
+    64, 26, 27, 28, 29, 30, 31, 32, 33, 34, 35, 36, 37, 38, 39, 40,
+    41, 42, 43, 44, 45, 46, 47, 48, 49, 50, 51, 64, 64, 64, 64, 64,
+    64, 64, 64, 64, 64, 64, 64, 64, 64, 64, 64, 64, 64, 64, 64, 64,
+    64, 64, 64, 64, 64, 64, 64, 64, 64, 64, 64, 64, 64, 64, 64, 64,
+    64, 64, 64, 64, 64, 64, 64, 64, 64, 64, 64, 64, 64, 64, 64, 64,
+    64, 64, 64, 64, 64, 64, 64, 64, 64, 64, 64, 64, 64, 64, 64, 64,
+    64, 64, 64, 64, 64, 64, 64, 64, 64, 64, 64, 64, 64, 64, 64, 64,
+    64, 64, 64, 64, 64, 64, 64, 64, 64, 64, 64, 64, 64, 64, 64, 64,
+    64, 64, 64, 64, 64, 64, 64, 64, 64, 64, 64, 64, 64, 64, 64, 64,
+    64, 64, 64, 64, 64, 64, 64, 64, 64, 64, 64, 64, 64, 64, 64, 64,
+];
+
+/// The value of a base64 character.
+#[inline]
+fn sextet(byte: u8) -> Option<u8>
+    ensures value { result ≡ sextet_of byte }
+    // It is below 64.
+    ensures small { IfSome result (λ value. value < 64) }
+{
+    let value = SEXTETS[byte as usize];
+    if value < 64 { Some(value) } else { None }
+}
+
+/// The bytes of a whole group of four characters.
+#[inline]
+fn group_bytes(a: u8, b: u8, c: u8, d: u8) -> Option<(u8, u8, u8)>
+    // Where no group is open, the four characters lead to a state with these three bytes more.
+    ensures { IfSome result (λ out. (bs : List ℕ) → run blob_step (Group bs H0)
+        (a ∷ b ∷ c ∷ d ∷ []) ≡ Some (Group (bs ++ out.0 ∷ out.1 ∷ out.2 ∷ []) H0)) }
+{
+    let x = sextet(a)?;
+    let y = sextet(b)?;
+    let z = sextet(c)?;
+    let w = sextet(d)?;
+    Some((x * 4 + y / 16, y % 16 * 16 + z / 4, z % 4 * 64 + w))
+}
+
+/// Decodes whole groups into the block until it is full: how many bytes they are of, and the rest.
+fn decode_groups<'a>(piece: &'a [u8], block: &mut [u8; BLOCK]) -> (usize, &'a [u8])
+    ensures within { result.0 ≤ 96 }
+    // Where no group is open, the characters before the rest lead to a state with the bytes of the
+    // block behind those so far.
+    ensures went { (bs : List ℕ) → Went blob_step (Group bs H0) piece.now result.1.now
+        (Group (bs ++ take result.0 block.new) H0) }
+{
+    let mut count = 0;
+    let mut rest = piece;
+    while let [a, b, c, d, more @ ..] = rest {
+        if count + 3 > BLOCK {
+            return (count, rest);
+        }
+        let Some(bytes) = group_bytes(*a, *b, *c, *d) else {
+            return (count, rest);
+        };
+        block[count] = bytes.0;
+        block[count + 1] = bytes.1;
+        block[count + 2] = bytes.2;
+        count += 3;
+        rest = more;
+    }
+    (count, rest)
+}
+
+/// Takes whole groups, behind a whole one, a block by one growth.
+fn take_groups<'a>(bytes: &mut ShortBytes, piece: &'a [u8]) -> Result<&'a [u8], OutOfMemory>
+    // The bytes before the rest lead the machine from the old state to the new one.
+    ensures { IfOk result (λ rest. Went blob_step (Group bytes.old H0) piece.now rest.now
+        (Group bytes.new H0)) }
+{
+    let mut rest = piece;
+    while let [_, ..] = rest {
+        let mut block = [0; BLOCK];
+        let (count, more) = decode_groups(rest, &mut block);
+        bytes.extend(&block[..count])?;
+        if more.len() >= rest.len() {
+            return Ok(more);
+        }
+        rest = more;
+    }
+    Ok(rest)
 }
 
 /// One more character of the open group.

@@ -52,23 +52,6 @@ impl Model for EntryReader {
     ghost invariant = { λ r. FitsEntry r.phase r.key r.member };
 }
 
-/// The key of a reader in which no member was begun.
-fn no_key(context: &Context) -> ShortBytes
-    ensures { result ≡ asterisk ∷ [] }
-{
-    ShortBytes::one(context.alloc, b'*')
-}
-
-/// Boolean true with parameters.
-fn flag(params: Entries<Bare>) -> Member
-    ensures { result ≡ flag_member params }
-{
-    Member::Item(Item {
-        bare: Bare::Boolean(true),
-        params,
-    })
-}
-
 impl EntryReader {
     /// A reader that no member was begun in. It takes no memory.
     pub fn new(context: &Context) -> EntryReader {
@@ -227,4 +210,21 @@ impl Level for EntryReader {
             EntryPhase::InMember | EntryPhase::InFlag => self.member.may_end(),
         }
     }
+}
+
+/// The key of a reader in which no member was begun.
+fn no_key(context: &Context) -> ShortBytes
+    ensures { result ≡ asterisk ∷ [] }
+{
+    ShortBytes::one(context.alloc, b'*')
+}
+
+/// Boolean true with parameters.
+fn flag(params: Entries<Bare>) -> Member
+    ensures { result ≡ flag_member params }
+{
+    Member::Item(Item {
+        bare: Bare::Boolean(true),
+        params,
+    })
 }

@@ -9,47 +9,6 @@ ghost use Rattle.sf_parse.specs.ByteSets.{hex_byte};
 use std::fmt;
 use std::marker::Model;
 
-/// Whether the byte is in the set.
-fn is_in(set: u128, byte: u8) -> bool
-    requires { byte < 128 }
-    ensures { result ≡ is_in set byte }
-{
-    (set >> byte) & 1 == 1
-}
-
-/// The last byte of the run that begins at this byte of the set.
-fn run_end(set: u128, first: u8) -> u8
-    requires within { first < 128 }
-    // The byte is in the set.
-    requires set { is_in set first ≡ true }
-    // The runs from this byte on are the one that ends here, and those behind it.
-    ensures run { runs_from set first (128 - first)
-        ≡ (first, result) ∷ runs_from set (result + 1) (128 - (result + 1)) }
-    ensures forward { first ≤ result }
-    ensures within { result < 128 }
-{
-    let mut last = first;
-    while last < 127 && is_in(set, last + 1) {
-        last += 1;
-    }
-    last
-}
-
-/// The first run of the set from this byte on.
-fn next_run(set: u128, from: u8) -> Option<(u8, u8)>
-    // The runs from this byte on are this one and those behind it, or none.
-    ensures run { MatchOption result (runs_from set from (128 - from) ≡ [])
-        (λ r. runs_from set from (128 - from) ≡ r ∷ runs_from set (r.1 + 1) (128 - (r.1 + 1))) }
-    ensures within { IfSome result (λ r. r.1 < 128) }
-{
-    for byte in from..128 {
-        if is_in(set, byte) {
-            return Some((byte, run_end(set, byte)));
-        }
-    }
-    None
-}
-
 /// The runs that an iteration over a set of bytes has left: see [`runs_of`].
 #[derive(Debug, Drop)]
 pub struct Runs {
@@ -107,4 +66,45 @@ impl fmt::Display for Hex {
         let low = self.byte % 16;
         write!(f, "{high:x}{low:x}")
     }
+}
+
+/// Whether the byte is in the set.
+fn is_in(set: u128, byte: u8) -> bool
+    requires { byte < 128 }
+    ensures { result ≡ is_in set byte }
+{
+    (set >> byte) & 1 == 1
+}
+
+/// The last byte of the run that begins at this byte of the set.
+fn run_end(set: u128, first: u8) -> u8
+    requires within { first < 128 }
+    // The byte is in the set.
+    requires set { is_in set first ≡ true }
+    // The runs from this byte on are the one that ends here, and those behind it.
+    ensures run { runs_from set first (128 - first)
+        ≡ (first, result) ∷ runs_from set (result + 1) (128 - (result + 1)) }
+    ensures forward { first ≤ result }
+    ensures within { result < 128 }
+{
+    let mut last = first;
+    while last < 127 && is_in(set, last + 1) {
+        last += 1;
+    }
+    last
+}
+
+/// The first run of the set from this byte on.
+fn next_run(set: u128, from: u8) -> Option<(u8, u8)>
+    // The runs from this byte on are this one and those behind it, or none.
+    ensures run { MatchOption result (runs_from set from (128 - from) ≡ [])
+        (λ r. runs_from set from (128 - from) ≡ r ∷ runs_from set (r.1 + 1) (128 - (r.1 + 1))) }
+    ensures within { IfSome result (λ r. r.1 < 128) }
+{
+    for byte in from..128 {
+        if is_in(set, byte) {
+            return Some((byte, run_end(set, byte)));
+        }
+    }
+    None
 }

@@ -31,45 +31,6 @@ enum Name {
 /// How many names are tried.
 const COUNT: u8 = 137;
 
-/// The name that is tried at this place: the classes, the bytes from `!` on, and those below it.
-fn name_at(place: u8) -> Name
-    requires { place < 137 }
-    ensures { result ≡ nth_name place }
-{
-    match place {
-        0 => Name::Printable,
-        1 => Name::Token,
-        2 => Name::Base64,
-        3 => Name::Key,
-        4 => Name::Letter,
-        5 => Name::Lower,
-        6 => Name::Upper,
-        7 => Name::LowerHex,
-        8 => Name::Digit,
-        _ => Name::Byte((place - 9 + b'!') % 128),
-    }
-}
-
-/// The bytes below 128 that a name stands for.
-fn bytes_of(name: Name) -> u128
-    ensures { result ≡ set_of name }
-{
-    match name {
-        Name::Printable => VISIBLE,
-        Name::Token => TOKEN,
-        Name::Base64 => BASE64,
-        Name::Key => KEY,
-        Name::Letter => LETTERS,
-        Name::Lower => LOWER,
-        Name::Upper => UPPER,
-        Name::LowerHex => LOWER_HEX,
-        Name::Digit => DIGITS,
-        Name::Byte(byte) if byte < 128 => 1 << byte,
-        Name::Byte(_) => 0,
-        Name::End => 0,
-    }
-}
-
 /// The names that an iteration has left: those of a set, of which names from a place on are tried,
 /// and of the end.
 #[derive(Clone, Copy)]
@@ -194,5 +155,44 @@ impl fmt::Display for Expected {
             write!(f, "{joint}{name}")?;
         }
         Ok(())
+    }
+}
+
+/// The name that is tried at this place: the classes, the bytes from `!` on, and those below it.
+fn name_at(place: u8) -> Name
+    requires { place < 137 }
+    ensures { result ≡ nth_name place }
+{
+    match place {
+        0 => Name::Printable,
+        1 => Name::Token,
+        2 => Name::Base64,
+        3 => Name::Key,
+        4 => Name::Letter,
+        5 => Name::Lower,
+        6 => Name::Upper,
+        7 => Name::LowerHex,
+        8 => Name::Digit,
+        _ => Name::Byte((place - 9 + b'!') % 128),
+    }
+}
+
+/// The bytes below 128 that a name stands for.
+fn bytes_of(name: Name) -> u128
+    ensures { result ≡ set_of name }
+{
+    match name {
+        Name::Printable => VISIBLE,
+        Name::Token => TOKEN,
+        Name::Base64 => BASE64,
+        Name::Key => KEY,
+        Name::Letter => LETTERS,
+        Name::Lower => LOWER,
+        Name::Upper => UPPER,
+        Name::LowerHex => LOWER_HEX,
+        Name::Digit => DIGITS,
+        Name::Byte(byte) if byte < 128 => 1 << byte,
+        Name::Byte(_) => 0,
+        Name::End => 0,
     }
 }

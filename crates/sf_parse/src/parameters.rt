@@ -112,21 +112,6 @@ impl ParamsReader {
     }
 }
 
-/// Puts a value at the key that was read. A later value of a key takes the place of the earlier
-/// one.
-fn put(
-    params: &mut Entries<Bare>,
-    key: &mut ShortBytes,
-    context: &Context,
-    value: Bare,
-) -> Result<(), OutOfMemory>
-    requires { IsKey key.old }
-    ensures { OnOk result (params.new ≡ put_pair params.old key.old value) }
-{
-    let key = mem::replace(key, ShortBytes::new(context.alloc));
-    params.set(Key::from_bytes(key), value)
-}
-
 impl Level for ParamsReader {
     ghost next = { params_step };
 
@@ -249,4 +234,19 @@ impl Level for ParamsReader {
             ParamsPhase::InValue => self.value.may_end(),
         }
     }
+}
+
+/// Puts a value at the key that was read. A later value of a key takes the place of the earlier
+/// one.
+fn put(
+    params: &mut Entries<Bare>,
+    key: &mut ShortBytes,
+    context: &Context,
+    value: Bare,
+) -> Result<(), OutOfMemory>
+    requires { IsKey key.old }
+    ensures { OnOk result (params.new ≡ put_pair params.old key.old value) }
+{
+    let key = mem::replace(key, ShortBytes::new(context.alloc));
+    params.set(Key::from_bytes(key), value)
 }

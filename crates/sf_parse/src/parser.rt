@@ -204,8 +204,9 @@ impl Parser {
         refusal
     }
 
-    /// Takes the next piece, or refuses the text. A parser that refused once gives the same refusal
-    /// to every later call, whatever the piece.
+    /// Takes the next piece, or refuses the text: with Syntax at a byte that can't follow, with
+    /// TooLong behind the limit, or with OutOfMemory for want of memory. A parser that refused once
+    /// gives the same refusal to every later call, whatever the piece.
     pub fn feed(&mut self, piece: &[u8]) -> Result<(), Refusal>
         // Ok took the piece; a refusal stands whatever comes behind it.
         ensures fed { Fed self.old self.new result piece.now }

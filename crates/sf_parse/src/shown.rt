@@ -77,6 +77,188 @@ impl Utf8State {
     }
 }
 
+impl ShownPlace {
+    /// Behind the first `%`.
+    pub const OPEN: ShownPlace = ShownPlace {
+        phase: ShownPhase::Quote,
+        chars: Utf8State::Start,
+    };
+
+    /// One more byte of the text, in what was read of characters.
+    #[tactic(auto, using(crate::proofs::Leading::leads_push))]
+    fn push(&mut self, bytes: &mut ShortBytes, byte: u8) -> Result<bool, OutOfMemory>
+        // The bytes so far lead to the place in a character, and fit the phase.
+        requires { FitsShown self.old.phase bytes.old self.old.chars }
+        // The byte of the text leads the machine on, or can't and the state stays.
+        ensures step { IfOk result (λ took. Steps took
+            (pushed (shown_of self.old.phase bytes.old self.old.chars) byte)
+            (shown_of self.old.phase bytes.old self.old.chars)
+            (shown_of self.new.phase bytes.new self.new.chars)) }
+        // So they do then.
+        ensures fits { FitsShown self.new.phase bytes.new self.new.chars }
+    {
+        if matches!(self.phase, ShownPhase::Quote | ShownPhase::Done) {
+            return Ok(false);
+        }
+        let Some(chars) = self.chars.after(byte) else {
+            return Ok(false);
+        };
+        bytes.push(byte)?;
+        self.chars = chars;
+        self.phase = ShownPhase::Plain;
+        Ok(true)
+    }
+
+    /// Takes one more byte, or tells that the display string can't go on with it and stays as it
+    /// is. Its bytes so far are `bytes`.
+    pub fn step(&mut self, bytes: &mut ShortBytes, byte: u8) -> Result<bool, OutOfMemory>
+        // The bytes so far lead to the place in a character, and fit the phase.
+        requires { FitsShown self.old.phase bytes.old self.old.chars }
+        // The byte leads the machine on, or can't and the state stays.
+        ensures step { IfOk result (λ took. Steps took
+            (shown_step (shown_of self.old.phase bytes.old self.old.chars) byte)
+            (shown_of self.old.phase bytes.old self.old.chars)
+            (shown_of self.new.phase bytes.new self.new.chars)) }
+        // So they do then.
+        ensures fits { FitsShown self.new.phase bytes.new self.new.chars }
+    {
+        match self.phase {
+            ShownPhase::Quote => {
+                if byte != b'"' {
+                    return Ok(false);
+                }
+                self.phase = ShownPhase::Plain;
+                Ok(true)
+            }
+            ShownPhase::Plain => {
+                if byte == b'"' {
+                    if self.chars != Utf8State::Start {
+                        return Ok(false);
+                    }
+                    self.phase = ShownPhase::Done;
+                    return Ok(true);
+                }
+                if byte == b'%' {
+                    self.phase = ShownPhase::Percent;
+                    return Ok(true);
+                }
+                if !is_visible(byte) {
+                    return Ok(false);
+                }
+                self.push(bytes, byte)
+            }
+            ShownPhase::Percent => {
+                let Some(high) = unhex(byte) else {
+                    return Ok(false);
+                };
+                if !self.chars.can_begin(high) {
+                    return Ok(false);
+                }
+                self.phase = ShownPhase::Hex(high);
+                Ok(true)
+            }
+            ShownPhase::Hex(high) => {
+                let Some(low) = unhex(byte) else {
+                    return Ok(false);
+                };
+                self.push(bytes, high * 16 + low)
+            }
+            ShownPhase::Done => Ok(false),
+        }
+    }
+
+    /// Takes bytes that stand for themselves and whole escapes, many by one growth, and gives back
+    /// the rest.
+    pub fn take_run<'a>(
+        &mut self,
+        bytes: &mut ShortBytes,
+        piece: &'a [u8],
+    ) -> Result<&'a [u8], OutOfMemory>
+        // The bytes so far lead to the place in a character, and fit the phase.
+        requires { FitsShown self.old.phase bytes.old self.old.chars }
+        // The bytes before the rest lead the machine from the old state to the new one.
+        ensures went { IfOk result (λ rest. Went shown_step
+            (shown_of self.old.phase bytes.old self.old.chars) piece.now rest.now
+            (shown_of self.new.phase bytes.new self.new.chars)) }
+        // So they do then.
+        ensures fits { FitsShown self.new.phase bytes.new self.new.chars }
+    {
+        match self.phase {
+            ShownPhase::Plain => return take_chars(&mut self.chars, bytes, piece),
+            _ => return Ok(piece),
+        }
+    }
+
+    /// Whether an escape can go on with this byte.
+    fn takes_digit(self, byte: u8) -> bool
+        // The first digit of an escape that is open is below 16.
+        requires { IsDigitPhase self.phase }
+        // It can exactly where the machine can, whatever was read before.
+        ensures { (bytes : List ℕ) → result ≡ digit_takes (shown_of self.phase bytes self.chars)
+            byte }
+    {
+        let Some(digit) = unhex(byte) else {
+            return false;
+        };
+        match self.phase {
+            ShownPhase::Percent => self.chars.can_begin(digit),
+            ShownPhase::Hex(high) => self.chars.after(high * 16 + digit).is_some(),
+            ShownPhase::Quote | ShownPhase::Plain | ShownPhase::Done => false,
+        }
+    }
+
+    /// The digits that an escape can go on with.
+    fn expected_digits(self) -> u128
+        // The first digit of an escape that is open is below 16.
+        requires { IsDigitPhase self.phase }
+        // The bits are those of the digits that may come, whatever was read before.
+        ensures { (bytes : List ℕ) → Marks result (digit_takes (shown_of self.phase bytes
+            self.chars)) }
+    {
+        let mut expected = 0;
+        for byte in b'0'..=b'9' {
+            if self.takes_digit(byte) {
+                expected |= 1u128 << byte;
+            }
+        }
+        for byte in b'a'..=b'f' {
+            if self.takes_digit(byte) {
+                expected |= 1u128 << byte;
+            }
+        }
+        expected
+    }
+
+    /// The bytes that the display string can go on with.
+    pub fn expected(self) -> u128
+        // The first digit of an escape that is open is below 16.
+        requires digit { IsDigitPhase self.phase }
+        // The next byte of a character that is open lies from 0x80 to 0xbf.
+        requires good { GoodUtf8 (utf8_of self.chars) }
+        // The bits are those of the bytes that may come, whatever was read before.
+        ensures { (bytes : List ℕ) → Marks result (shown_takes (shown_of self.phase bytes
+            self.chars)) }
+    {
+        match (self.phase, self.chars) {
+            (ShownPhase::Quote, _) => return QUOTE,
+            (ShownPhase::Plain, Utf8State::Start) => return VISIBLE,
+            (ShownPhase::Plain, Utf8State::Wants { .. }) => return PERCENT,
+            (ShownPhase::Percent, Utf8State::Start) => return FIRST_DIGITS,
+            (ShownPhase::Percent, Utf8State::Wants { .. }) => return self.expected_digits(),
+            (ShownPhase::Hex(_), _) => return self.expected_digits(),
+            (ShownPhase::Done, _) => return 0,
+        }
+    }
+
+    /// Whether the display string is closed.
+    pub fn may_end(self) -> bool
+        // The display string may end exactly then, whatever was read before.
+        ensures { (bytes : List ℕ) → result ≡ shown_ends (shown_of self.phase bytes self.chars) }
+    {
+        self.phase == ShownPhase::Done
+    }
+}
+
 /// Behind a byte of a character that so many bytes complete.
 fn wanted(more: u8) -> Utf8State
     // It is the place in a character that the grammar has there.
@@ -272,186 +454,4 @@ fn take_chars<'a>(
         }
     }
     Ok(rest)
-}
-
-impl ShownPlace {
-    /// Behind the first `%`.
-    pub const OPEN: ShownPlace = ShownPlace {
-        phase: ShownPhase::Quote,
-        chars: Utf8State::Start,
-    };
-
-    /// One more byte of the text, in what was read of characters.
-    #[tactic(auto, using(crate::proofs::Leading::leads_push))]
-    fn push(&mut self, bytes: &mut ShortBytes, byte: u8) -> Result<bool, OutOfMemory>
-        // The bytes so far lead to the place in a character, and fit the phase.
-        requires { FitsShown self.old.phase bytes.old self.old.chars }
-        // The byte of the text leads the machine on, or can't and the state stays.
-        ensures step { IfOk result (λ took. Steps took
-            (pushed (shown_of self.old.phase bytes.old self.old.chars) byte)
-            (shown_of self.old.phase bytes.old self.old.chars)
-            (shown_of self.new.phase bytes.new self.new.chars)) }
-        // So they do then.
-        ensures fits { FitsShown self.new.phase bytes.new self.new.chars }
-    {
-        if matches!(self.phase, ShownPhase::Quote | ShownPhase::Done) {
-            return Ok(false);
-        }
-        let Some(chars) = self.chars.after(byte) else {
-            return Ok(false);
-        };
-        bytes.push(byte)?;
-        self.chars = chars;
-        self.phase = ShownPhase::Plain;
-        Ok(true)
-    }
-
-    /// Takes one more byte, or tells that the display string can't go on with it and stays as it
-    /// is. Its bytes so far are `bytes`.
-    pub fn step(&mut self, bytes: &mut ShortBytes, byte: u8) -> Result<bool, OutOfMemory>
-        // The bytes so far lead to the place in a character, and fit the phase.
-        requires { FitsShown self.old.phase bytes.old self.old.chars }
-        // The byte leads the machine on, or can't and the state stays.
-        ensures step { IfOk result (λ took. Steps took
-            (shown_step (shown_of self.old.phase bytes.old self.old.chars) byte)
-            (shown_of self.old.phase bytes.old self.old.chars)
-            (shown_of self.new.phase bytes.new self.new.chars)) }
-        // So they do then.
-        ensures fits { FitsShown self.new.phase bytes.new self.new.chars }
-    {
-        match self.phase {
-            ShownPhase::Quote => {
-                if byte != b'"' {
-                    return Ok(false);
-                }
-                self.phase = ShownPhase::Plain;
-                Ok(true)
-            }
-            ShownPhase::Plain => {
-                if byte == b'"' {
-                    if self.chars != Utf8State::Start {
-                        return Ok(false);
-                    }
-                    self.phase = ShownPhase::Done;
-                    return Ok(true);
-                }
-                if byte == b'%' {
-                    self.phase = ShownPhase::Percent;
-                    return Ok(true);
-                }
-                if !is_visible(byte) {
-                    return Ok(false);
-                }
-                self.push(bytes, byte)
-            }
-            ShownPhase::Percent => {
-                let Some(high) = unhex(byte) else {
-                    return Ok(false);
-                };
-                if !self.chars.can_begin(high) {
-                    return Ok(false);
-                }
-                self.phase = ShownPhase::Hex(high);
-                Ok(true)
-            }
-            ShownPhase::Hex(high) => {
-                let Some(low) = unhex(byte) else {
-                    return Ok(false);
-                };
-                self.push(bytes, high * 16 + low)
-            }
-            ShownPhase::Done => Ok(false),
-        }
-    }
-
-    /// Takes bytes that stand for themselves and whole escapes, many by one growth, and gives back
-    /// the rest.
-    pub fn take_run<'a>(
-        &mut self,
-        bytes: &mut ShortBytes,
-        piece: &'a [u8],
-    ) -> Result<&'a [u8], OutOfMemory>
-        // The bytes so far lead to the place in a character, and fit the phase.
-        requires { FitsShown self.old.phase bytes.old self.old.chars }
-        // The bytes before the rest lead the machine from the old state to the new one.
-        ensures went { IfOk result (λ rest. Went shown_step
-            (shown_of self.old.phase bytes.old self.old.chars) piece.now rest.now
-            (shown_of self.new.phase bytes.new self.new.chars)) }
-        // So they do then.
-        ensures fits { FitsShown self.new.phase bytes.new self.new.chars }
-    {
-        match self.phase {
-            ShownPhase::Plain => return take_chars(&mut self.chars, bytes, piece),
-            _ => return Ok(piece),
-        }
-    }
-
-    /// Whether an escape can go on with this byte.
-    fn takes_digit(self, byte: u8) -> bool
-        // The first digit of an escape that is open is below 16.
-        requires { IsDigitPhase self.phase }
-        // It can exactly where the machine can, whatever was read before.
-        ensures { (bytes : List ℕ) → result ≡ digit_takes (shown_of self.phase bytes self.chars)
-            byte }
-    {
-        let Some(digit) = unhex(byte) else {
-            return false;
-        };
-        match self.phase {
-            ShownPhase::Percent => self.chars.can_begin(digit),
-            ShownPhase::Hex(high) => self.chars.after(high * 16 + digit).is_some(),
-            ShownPhase::Quote | ShownPhase::Plain | ShownPhase::Done => false,
-        }
-    }
-
-    /// The digits that an escape can go on with.
-    fn expected_digits(self) -> u128
-        // The first digit of an escape that is open is below 16.
-        requires { IsDigitPhase self.phase }
-        // The bits are those of the digits that may come, whatever was read before.
-        ensures { (bytes : List ℕ) → Marks result (digit_takes (shown_of self.phase bytes
-            self.chars)) }
-    {
-        let mut expected = 0;
-        for byte in b'0'..=b'9' {
-            if self.takes_digit(byte) {
-                expected |= 1u128 << byte;
-            }
-        }
-        for byte in b'a'..=b'f' {
-            if self.takes_digit(byte) {
-                expected |= 1u128 << byte;
-            }
-        }
-        expected
-    }
-
-    /// The bytes that the display string can go on with.
-    pub fn expected(self) -> u128
-        // The first digit of an escape that is open is below 16.
-        requires digit { IsDigitPhase self.phase }
-        // The next byte of a character that is open lies from 0x80 to 0xbf.
-        requires good { GoodUtf8 (utf8_of self.chars) }
-        // The bits are those of the bytes that may come, whatever was read before.
-        ensures { (bytes : List ℕ) → Marks result (shown_takes (shown_of self.phase bytes
-            self.chars)) }
-    {
-        match (self.phase, self.chars) {
-            (ShownPhase::Quote, _) => return QUOTE,
-            (ShownPhase::Plain, Utf8State::Start) => return VISIBLE,
-            (ShownPhase::Plain, Utf8State::Wants { .. }) => return PERCENT,
-            (ShownPhase::Percent, Utf8State::Start) => return FIRST_DIGITS,
-            (ShownPhase::Percent, Utf8State::Wants { .. }) => return self.expected_digits(),
-            (ShownPhase::Hex(_), _) => return self.expected_digits(),
-            (ShownPhase::Done, _) => return 0,
-        }
-    }
-
-    /// Whether the display string is closed.
-    pub fn may_end(self) -> bool
-        // The display string may end exactly then, whatever was read before.
-        ensures { (bytes : List ℕ) → result ≡ shown_ends (shown_of self.phase bytes self.chars) }
-    {
-        self.phase == ShownPhase::Done
-    }
 }

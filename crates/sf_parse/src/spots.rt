@@ -20,28 +20,6 @@ pub struct Spot<'a> {
     pub text: &'a [u8],
 }
 
-/// The spot of a place of the joined text, counted in bytes from 0; None where there is no line.
-fn find_spot<'a>(lines: &'a [Blob], place: u64) -> Option<Spot<'a>>
-    // It is where the place of the joined lines stands in them; the first is line 1.
-    ensures { line_place result ≡ place_in 1 lines.now place }
-{
-    let mut left = lines;
-    let mut line = 1usize;
-    let mut rest = place;
-    while let Some((first, more)) = left.split_first() {
-        let text = first.as_bytes();
-        let length = text.len() as u64;
-        if more.is_empty() || rest.saturating_sub(length) < 2 {
-            let place = rest.min(length) as usize;
-            return Some(Spot { line, place, text });
-        }
-        rest = rest - length - 2;
-        line += 1;
-        left = more;
-    }
-    None
-}
-
 /// A refusal and the field line that it stands in, shown together: the refusal in words, the number
 /// of the line and the place in it, the line, and a caret under that place. Each byte of the line
 /// is one character, a question mark where it is not printable.
@@ -114,17 +92,6 @@ impl Refusal {
     }
 }
 
-/// The character that stands for a byte of a line.
-fn printed_char(byte: u8) -> char
-    ensures { encode_utf8 result ≡ printed_byte byte ∷ [] }
-{
-    if is_visible(byte) {
-        char::from(byte)
-    } else {
-        '?'
-    }
-}
-
 /// A line, shown as one character for each of its bytes.
 #[derive(Clone, Copy, Drop)]
 struct Printed<'a> {
@@ -172,5 +139,38 @@ impl fmt::Display for InLine<'_> {
             write!(f, "\nline {line}, place {place}:\n{text}\n{spaces}^")?;
         }
         Ok(())
+    }
+}
+
+/// The spot of a place of the joined text, counted in bytes from 0; None where there is no line.
+fn find_spot<'a>(lines: &'a [Blob], place: u64) -> Option<Spot<'a>>
+    // It is where the place of the joined lines stands in them; the first is line 1.
+    ensures { line_place result ≡ place_in 1 lines.now place }
+{
+    let mut left = lines;
+    let mut line = 1usize;
+    let mut rest = place;
+    while let Some((first, more)) = left.split_first() {
+        let text = first.as_bytes();
+        let length = text.len() as u64;
+        if more.is_empty() || rest.saturating_sub(length) < 2 {
+            let place = rest.min(length) as usize;
+            return Some(Spot { line, place, text });
+        }
+        rest = rest - length - 2;
+        line += 1;
+        left = more;
+    }
+    None
+}
+
+/// The character that stands for a byte of a line.
+fn printed_char(byte: u8) -> char
+    ensures { encode_utf8 result ≡ printed_byte byte ∷ [] }
+{
+    if is_visible(byte) {
+        char::from(byte)
+    } else {
+        '?'
     }
 }

@@ -10,7 +10,8 @@ use Rattle.sf_parse.specs.Machine.Language.{Seen, seen, only}
 use Rattle.sf_parse.specs.Machine.Numbers.{NumberState, RestNumber, GoodNumber, number_start}
 use Rattle.sf_parse.specs.Machine.Numbers.{number_step, number_finish, DateState, Sign, RestDate}
 use Rattle.sf_parse.specs.Machine.Numbers.{GoodDate, date_step, date_finish}
-use Rattle.sf_parse.specs.Machine.Texts.{TextState, Inside, RestText, text_step, text_finish, RestWord}
+use Rattle.sf_parse.specs.Machine.Texts.{TextState, Inside, RestText, text_step, text_finish}
+use Rattle.sf_parse.specs.Machine.Texts.{RestWord}
 use Rattle.sf_parse.specs.Machine.Texts.{word_start, word_step, RestBoolean, boolean_step}
 use Rattle.sf_parse.specs.Machine.Texts.{boolean_finish}
 use Rattle.sf_parse.specs.declared.boolean.BooleanState.{BooleanState}

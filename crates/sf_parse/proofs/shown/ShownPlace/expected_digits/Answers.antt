@@ -2,7 +2,8 @@ use Rattle.std.proofs.Common.{sym, ◌∙◌, arith}
 use Rattle.sf_parse.specs.Expected.{digit_takes}
 use Rattle.sf_parse.specs.Views.{shown_of}
 use Rattle.sf_parse.proofs.Marks.{mark_set, mark_clear}
-use Rattle.sf_parse.proofs.shown.ShownPlace.expected_digits.Goals.{then-takes_digit, else-takes_digit}
+use Rattle.sf_parse.proofs.shown.ShownPlace.expected_digits.Goals.{then-takes_digit}
+use Rattle.sf_parse.proofs.shown.ShownPlace.expected_digits.Goals.{else-takes_digit}
 use Rattle.sf_parse.proofs.shown.ShownPlace.expected_digits.Goals.{then-takes_digit-2}
 use Rattle.sf_parse.proofs.shown.ShownPlace.expected_digits.Goals.{else-takes_digit-2}
 use Rattle.sf_parse.proofs.shown.ShownPlace.expected_digits.Goals as goal
