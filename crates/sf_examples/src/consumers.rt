@@ -1,9 +1,8 @@
 //! What fields mean to caches and servers.
 use http_header::{HeaderMap, HeaderName, HeaderValue};
-use sf_field::{AskFault, ask};
-use sf_use::{CacheStatus, Choice, Priority, PriorityField, merge, select};
+use sf_field::ask;
+use sf_use::{CacheStatus, Choice, PriorityField, merge, select};
 use sf_value::{Blob, Int};
-use std::alloc::Global;
 use std::hash::RandomState;
 use std::test::Fail;
 
@@ -46,25 +45,16 @@ fn the_field_that_a_cache_obeys(rt: HostRuntime) -> Result<(), Fail> {
     Ok(())
 }
 
-/// What the request and the response ask for together.
-fn merged(
-    alloc: Global,
-    seed: &RandomState,
-    request: &[Blob],
-    response: &[Blob],
-) -> Result<Priority, AskFault> {
-    let client = ask(alloc, seed, &PriorityField, request)?;
-    let server = ask(alloc, seed, &PriorityField, response)?;
-    Ok(merge(client, server).with_defaults())
-}
-
 #[test]
 fn the_priority_of_a_response(rt: HostRuntime) -> Result<(), Fail> {
     let alloc = rt.alloc();
     let seed = RandomState::new(&rt)?;
     let request = [Blob::new(alloc, b"u=5, i")?];
     let response = [Blob::new(alloc, b"u=1")?];
-    let priority = merged(alloc, &seed, &request, &response)?;
+    let client = ask(alloc, &seed, &PriorityField, &request)?;
+    let server = ask(alloc, &seed, &PriorityField, &response)?;
+    assert_eq!(&rt; client.incremental, Some(true));
+    let priority = merge(client, server).with_defaults();
     assert_eq!(&rt; priority.urgency.get(), 1);
     assert!(&rt; priority.incremental);
     Ok(())
