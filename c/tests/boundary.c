@@ -15,6 +15,7 @@
 #include <stdio.h>
 #include <stdlib.h>
 #include <string.h>
+#include <sys/wait.h>
 #include <unistd.h>
 
 /* The library's memory. Each thread counts its own. */
@@ -147,7 +148,7 @@ static int is_set(const sf_refusal *refusal, const char *set) {
          refusal->may_end == may_end;
 }
 
-/* The structs have the layout of those in the archive, and in rust/src/raw.rs, by the same numbers. */
+/* The structs have the layout of those in the archive; rust/src/raw.rs has the same numbers. */
 #define SIZE(type, size) CHECK(sizeof(type) == (size))
 #define AT(type, member, place) CHECK(offsetof(type, member) == (place))
 
@@ -245,8 +246,8 @@ static void macros(void) {
     CHECK(SF_CANONICAL_ROOM(length) == length * 8 / 5);
 }
 
-/* The nodes of a text and of its canonical text are the same, in rooms of exactly their size; a room
- * that is one short, or empty, is answered with what is wanted. */
+/* The nodes of a text and of its canonical text are the same, in rooms of exactly their size; a
+ * room that is one short, or empty, is answered with what is wanted. */
 static void same_value(uint32_t dialect, uint32_t kind, const char *about, const void *text,
                        size_t length, const void *canonical, size_t canonical_length) {
   uint32_t status;
@@ -1174,12 +1175,33 @@ static void all(void) {
   scarce_texts();
 }
 
+/* A length that is one more than that of the text, or of the room, ends the program: a byte past
+ * the end can't be touched unseen. */
+static void past_the_end(size_t text_length, size_t room_length) {
+  const char *about = "past the end";
+  pid_t child = fork();
+  if (child == 0) {
+    fclose(stderr);
+    sf_refusal refusal;
+    size_t wanted;
+    void *text = take_room("a,b", 3), *room = take_room(NULL, 3);
+    sf_normalise(&seed, SF_RFC9651, SF_LIST, text, text_length, room, room_length, &wanted,
+                 &refusal);
+    _exit(0);
+  }
+  int status = 0;
+  CHECK(child > 0 && waitpid(child, &status, 0) == child);
+  CHECK(!WIFEXITED(status) || WEXITSTATUS(status) != 0);
+}
+
 static void *run(void *unused) {
   all();
   return unused;
 }
 
 int main(void) {
+  past_the_end(4, 3);
+  past_the_end(3, 4);
   all();
   enum { MOST = 64 };
   pthread_t threads[MOST];

@@ -22,8 +22,8 @@ enum {
 };
 
 typedef struct room {
-  unsigned char *pages; /* the last of them is the one that can't be read; NULL where there is none */
-  size_t size;          /* of the others */
+  unsigned char *pages; /* the last can't be read; NULL where there are none */
+  size_t size;          /* in bytes, of the others */
   unsigned char *front; /* NULL where the room is free */
 } room;
 
