@@ -1,10 +1,10 @@
-/* A fuzz target over the archive, for libFuzzer. The first byte of an input says the kind and the
- * dialect, and what pointer stands beside a length of 0; the rest is a text. A text that is accepted is normalised, parsed again and compared;
- * its nodes and those of its canonical text are the same, and so is its path of caches; rooms that
- * are one short are answered with what is wanted; the lines of the text, joined one by one, are the
- * text again; the text is accepted exactly where pieces of it are that are cut at some of its
- * commas, and then it is equal to their canonical texts, joined; a refusal agrees with the front of
- * the text that it names.
+/* A fuzz target over the archive, for libFuzzer. The first byte of an input says the kind, the
+ * dialect and what pointer stands beside a length of 0; the rest is a text. A text that is
+ * accepted is normalised, parsed again and compared; its nodes and those of its canonical text are
+ * the same, and so is its path of caches; rooms that are one short are answered with what is
+ * wanted; the lines of the text, joined one by one, are the text again; the text is accepted
+ * exactly where pieces of it are that are cut at some of its commas, and then it is equal to their
+ * canonical texts, joined; a refusal agrees with the front of the text that it names.
  *
  * The archive is not instrumented: the sanitizers see this file, and of the archive only what it
  * calls, as memcpy. So texts and rooms end where a page begins that can't be read (tests/rooms.h).
