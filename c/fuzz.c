@@ -54,11 +54,11 @@ static int is_expected(const sf_refusal *refusal, unsigned byte) {
 static void refused(uint32_t dialect, uint32_t kind, const uint8_t *text, size_t length,
                     const sf_refusal *refusal) {
   CHECK(refusal->place <= length);
-  CHECK((refusal->found == -1) == (refusal->place == length));
-  CHECK(refusal->found == -1 || refusal->found == text[refusal->place]);
+  CHECK((refusal->found == SF_ENDED) == (refusal->place == length));
+  CHECK(refusal->found == SF_ENDED || refusal->found == text[refusal->place]);
   CHECK(refusal->found < 0 || !is_expected(refusal, (unsigned)refusal->found));
   CHECK(refusal->expected_low != 0 || refusal->expected_high != 0);
-  CHECK(refusal->may_end <= 1);
+  CHECK(refusal->may_end <= (refusal->found != SF_ENDED));
   shape(refusal->place < 16 ? refusal->place : 16, refusal->expected_low, refusal->expected_high);
 
   size_t place = (size_t)refusal->place;

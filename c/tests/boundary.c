@@ -338,7 +338,8 @@ static void refused(uint32_t dialect, uint32_t kind, const char *from, size_t le
   CHECK(refusal.place == place);
   CHECK(refusal.found == found);
   CHECK(is_set(&refusal, set));
-  CHECK((refusal.found == -1) == (refusal.place == length));
+  CHECK((refusal.found == SF_ENDED) == (refusal.place == length));
+  CHECK(refusal.found != SF_ENDED || refusal.may_end == 0);
 
   sf_refusal same = untouched;
   unsigned char out[4];
@@ -524,6 +525,16 @@ static void parsed(uint32_t kind, const char *from, const row *rows, size_t coun
 static void nodes_of_values(void) {
   static const row integer[] = {{SF_MEMBER, SF_INTEGER, -7, "", "", 1}};
   PARSED(SF_ITEM, " -007 ", integer, 0);
+  static const row most[] = {{SF_MEMBER, SF_INTEGER, SF_NUMBER_MAX, "", "", 1},
+                             {SF_MEMBER, SF_INTEGER, -SF_NUMBER_MAX, "", "", 1},
+                             {SF_MEMBER, SF_DECIMAL, SF_NUMBER_MAX, "", "", 1},
+                             {SF_MEMBER, SF_DECIMAL, -SF_NUMBER_MAX, "", "", 1},
+                             {SF_MEMBER, SF_DATE, SF_NUMBER_MAX, "", "", 1},
+                             {SF_MEMBER, SF_DATE, -SF_NUMBER_MAX, "", "", 1}};
+  PARSED(SF_LIST,
+         "999999999999999, -999999999999999, 999999999999.999, -999999999999.999, "
+         "@999999999999999, @-999999999999999",
+         most, 0);
   static const row decimal[] = {{SF_MEMBER, SF_DECIMAL, 1500, "", "", 3},
                                 {SF_PARAMETER, SF_BOOLEAN, 0, "q", "", 1},
                                 {SF_PARAMETER, SF_INTEGER, 1, "r", "", 1}};
@@ -568,6 +579,9 @@ static void priorities(void) {
       {"", {3, 0, 0, 0}},      {"u=1, i", {1, 1, 1, 1}}, {"u=8, i", {3, 1, 0, 1}},
       {"u=1.0", {3, 0, 0, 0}}, {"u=-0", {0, 0, 1, 0}},   {"u=1, u=9", {3, 0, 0, 0}},
       {"i=1", {3, 0, 0, 0}},   {"i=?0", {3, 0, 0, 1}},   {"u=3;x", {3, 0, 1, 0}},
+      {"u=0", {SF_URGENCY_FIRST, 0, 1, 0}},
+      {"u=7", {SF_URGENCY_LAST, 0, 1, 0}},
+      {"u=-1", {SF_URGENCY_DEFAULT, 0, 0, 0}},
   };
   uint32_t status;
   for (size_t i = 0; i < sizeof rows / sizeof *rows; ++i) {
@@ -757,6 +771,15 @@ static void paths(void) {
   static const hop_row odd[] = {
       {"c", 1, SF_FORWARDED, SF_OTHER, "odd", -1, 1, -1, "-3", NULL, NULL, 0}};
   TOLD("c;hit=?0;fwd=odd;fwd-status=99;stored;ttl=-3", odd, 4, -1);
+  static const hop_row least[] = {{"c", 1, SF_FORWARDED, SF_MISS, "miss", SF_FWD_STATUS_MIN, -1, -1,
+                                   NULL, NULL, NULL, 0}};
+  TOLD("c;fwd=miss;fwd-status=100", least, 5, -1);
+  static const hop_row greatest[] = {{"c", 1, SF_FORWARDED, SF_MISS, "miss", SF_FWD_STATUS_MAX, -1,
+                                      -1, NULL, NULL, NULL, 0}};
+  TOLD("c;fwd=miss;fwd-status=999", greatest, 5, -1);
+  static const hop_row over[] = {
+      {"c", 1, SF_FORWARDED, SF_MISS, "miss", -1, -1, -1, NULL, NULL, NULL, 0}};
+  TOLD("c;fwd=miss;fwd-status=1000", over, 5, -1);
   /* parameters of another type, and what counts beside fwd alone */
   static const hop_row none[] = {{"c", 1, SF_UNSAID, 0, NULL, -1, -1, -1, NULL, NULL, NULL, 0}};
   TOLD("c;hit=\"x\";fwd=1;ttl=1.0;key=k;detail=1", none, 1, -1);
@@ -922,6 +945,7 @@ static void joining(void) {
   joined.begun = 9; /* any number but 0 says that it has begun */
   CALL(sf_join("a", 1, room, sizeof room, &joined));
   CHECK(status == SF_OK && joined.length == 3 && memcmp(room, ", a", 3) == 0 && room[3] == 0xa5);
+  CHECK(joined.begun == 1 && joined.wanted == 6);
 }
 
 /* Malloc refused at its n-th call, alone or from there on, for each n: the answer is the right one
