@@ -1,6 +1,6 @@
-//! The functions of `include/sf.h`, as they stand there. The layouts are asserted below and, by the
-//! same numbers, in `tests/boundary.c` of the folder above; of the arguments nothing compares the two
-//! but the tests that call them.
+//! The functions of `include/sf.h`, as they stand there. The sizes of the structs are asserted below
+//! and the places of their members tested, by the numbers that `tests/boundary.c` of the folder above
+//! has for the header. That the arguments are the same shows in the tests that call them.
 use std::ffi::c_void;
 use std::mem::size_of;
 
