@@ -102,7 +102,7 @@ typedef struct sf_refusal {
   uint64_t expected_low;  /* bit b: byte b could have stood at that place, b from 0 to 63 */
   uint64_t expected_high; /* bit b: byte 64 + b could have */
   int32_t found;          /* the byte at that place, or SF_ENDED where the text ended */
-  uint32_t may_end;       /* 1 where the text could have ended there; else 0, and so where it did */
+  uint32_t may_end;       /* 1 where the text could have ended there; else, and where it did, 0 */
 } sf_refusal;
 
 /*
