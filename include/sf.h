@@ -256,10 +256,10 @@ typedef struct sf_policy {
   uint64_t s_maxage;       /* s-maxage in seconds; 0 where it is not said */
   uint8_t says_max_age;    /* 1 where it is said, as an Integer that is not negative; else 0 */
   uint8_t says_s_maxage;   /* the same of s-maxage */
-  uint8_t must_revalidate; /* 1 where the directive is set, else 0; so the next three */
-  uint8_t no_store;
-  uint8_t no_cache;
-  uint8_t is_private;
+  uint8_t must_revalidate; /* 1 where the directive is set, else 0 */
+  uint8_t no_store;        /* the same of no-store */
+  uint8_t no_cache;        /* the same of no-cache */
+  uint8_t is_private;      /* the same of private */
 } sf_policy;
 
 /*
@@ -332,14 +332,14 @@ typedef struct sf_hop {
   uint16_t outcome;        /* an sf_outcome */
   uint16_t why;            /* fwd: an sf_forward (2.2) */
   uint16_t status;         /* fwd-status: what the next server answered (2.3) */
-  uint8_t says_status;     /* 1 where it is said, else 0; so the other says_ */
+  uint8_t says_status;     /* 1 where fwd-status is said, else 0 */
   uint8_t stored;          /* stored: 1 where the cache stored the response (2.5) */
-  uint8_t says_stored;
+  uint8_t says_stored;     /* 1 where stored is said, else 0 */
   uint8_t collapsed;       /* collapsed: 1 where the request was made one with others (2.6) */
-  uint8_t says_collapsed;
-  uint8_t says_ttl;
-  uint8_t says_key;
-  uint8_t says_detail;
+  uint8_t says_collapsed;  /* 1 where collapsed is said, else 0 */
+  uint8_t says_ttl;        /* 1 where ttl is said, else 0 */
+  uint8_t says_key;        /* 1 where key is said, else 0 */
+  uint8_t says_detail;     /* 1 where detail is said, else 0 */
   uint8_t name_is_token;   /* 1 where the name is a Token, 0 where it is a String */
   uint8_t detail_is_token; /* 1 where the detail is a Token, else 0 */
 } sf_hop;
