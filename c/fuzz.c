@@ -1,11 +1,16 @@
-/* A fuzz target over the archive, for libFuzzer. The first byte of an input says the kind and the
- * dialect, the rest is a text. A text that is accepted is normalised, parsed again and compared;
- * its nodes and those of its canonical text are the same, and so is its path of caches; rooms that
- * are one short are answered with what is wanted; the lines of the text, joined one by one, are the
- * text again; the text is accepted exactly where pieces of it are that are cut at some of its
- * commas, and then it is equal to their canonical texts, joined; a refusal agrees with the front of
- * the text that it names. Rooms are blocks of exactly their length, for the address sanitizer.
+/* A fuzz target over the archive, for libFuzzer. The first byte of an input says the kind, the
+ * dialect and what pointer stands beside a length of 0; the rest is a text. A text that is
+ * accepted is normalised, parsed again and compared; its nodes and those of its canonical text are
+ * the same, and so is its path of caches; rooms that are one short are answered with what is
+ * wanted; the lines of the text, joined one by one, are the text again; the text is accepted
+ * exactly where pieces of it are that are cut at some of its commas, and then it is equal to their
+ * canonical texts, joined; a refusal agrees with the front of the text that it names.
+ *
+ * The archive is not instrumented: the sanitizers see this file, and of the archive only what it
+ * calls, as memcpy. So texts and rooms end where a page begins that can't be read (tests/rooms.h).
  */
+#define _DEFAULT_SOURCE
+#include "tests/rooms.h"
 #include <sf.h>
 #include <stddef.h>
 #include <stdint.h>
@@ -34,24 +39,9 @@ static void shape(uint64_t a, uint64_t b, uint64_t c) {
 
 static const sf_seed seed = {{2, 7, 1, 8, 2, 8, 1, 8, 2, 8, 4, 5, 9, 0, 4, 5}};
 
-static void *block(size_t size) {
-  if (size == 0)
-    return NULL;
-  void *block = malloc(size);
-  CHECK(block != NULL);
-  return block;
-}
-
-static uint8_t *copy(const uint8_t *text, size_t length) {
-  uint8_t *bytes = block(length);
-  if (length > 0)
-    memcpy(bytes, text, length);
-  return bytes;
-}
-
 /* The bytes of a text between two places. */
 static uint8_t *part(const uint8_t *text, size_t from, size_t to) {
-  return from < to ? copy(text + from, to - from) : NULL;
+  return from < to ? take_room(text + from, to - from) : NULL;
 }
 
 static int is_expected(const sf_refusal *refusal, unsigned byte) {
@@ -64,15 +54,15 @@ static int is_expected(const sf_refusal *refusal, unsigned byte) {
 static void refused(uint32_t dialect, uint32_t kind, const uint8_t *text, size_t length,
                     const sf_refusal *refusal) {
   CHECK(refusal->place <= length);
-  CHECK((refusal->found == -1) == (refusal->place == length));
-  CHECK(refusal->found == -1 || refusal->found == text[refusal->place]);
+  CHECK((refusal->found == SF_ENDED) == (refusal->place == length));
+  CHECK(refusal->found == SF_ENDED || refusal->found == text[refusal->place]);
   CHECK(refusal->found < 0 || !is_expected(refusal, (unsigned)refusal->found));
   CHECK(refusal->expected_low != 0 || refusal->expected_high != 0);
-  CHECK(refusal->may_end <= 1);
+  CHECK(refusal->may_end <= (refusal->found != SF_ENDED));
   shape(refusal->place < 16 ? refusal->place : 16, refusal->expected_low, refusal->expected_high);
 
   size_t place = (size_t)refusal->place;
-  uint8_t *front = block(place + 1);
+  uint8_t *front = take_room(NULL, place + 1);
   if (place > 0)
     memcpy(front, text, place);
   sf_refusal other;
@@ -85,7 +75,7 @@ static void refused(uint32_t dialect, uint32_t kind, const uint8_t *text, size_t
     int fits = status == SF_OK || other.place == place + 1;
     CHECK(fits == is_expected(refusal, byte));
   }
-  free(front);
+  give_room(front);
 }
 
 typedef struct value {
@@ -102,8 +92,8 @@ static value parse(uint32_t dialect, uint32_t kind, const uint8_t *text, size_t 
                              &refusal);
   CHECK(status == (v.sizes.nodes == 0 && v.sizes.bytes == 0 ? SF_OK : SF_SHORT));
   CHECK(v.sizes.nodes <= SF_PARSE_ROOM(length) && v.sizes.bytes <= SF_PARSE_ROOM(length));
-  v.nodes = block(v.sizes.nodes * sizeof *v.nodes);
-  v.bytes = block(v.sizes.bytes);
+  v.nodes = take_room(NULL, v.sizes.nodes * sizeof *v.nodes);
+  v.bytes = take_room(NULL, v.sizes.bytes);
   sf_sizes sizes = {0, 0};
   if (v.sizes.nodes > 0) {
     status = sf_parse(&seed, dialect, kind, text, length, v.nodes, v.sizes.nodes - 1, v.bytes,
@@ -122,8 +112,8 @@ static value parse(uint32_t dialect, uint32_t kind, const uint8_t *text, size_t 
 }
 
 static void drop(value v) {
-  free(v.nodes);
-  free(v.bytes);
+  give_room(v.nodes);
+  give_room(v.bytes);
 }
 
 static int same_piece(const uint8_t *a, size_t a_at, const uint8_t *b, size_t b_at, size_t length) {
@@ -157,7 +147,7 @@ static void accepted(uint32_t dialect, uint32_t kind, const uint8_t *text, size_
       sf_normalise(&seed, dialect, kind, text, length, NULL, 0, &wanted, &refusal);
   CHECK(status == (wanted == 0 ? SF_OK : SF_SHORT));
   CHECK(wanted <= SF_CANONICAL_ROOM(length));
-  uint8_t *canonical = block(wanted);
+  uint8_t *canonical = take_room(NULL, wanted);
   if (wanted > 0) {
     status = sf_normalise(&seed, dialect, kind, text, length, canonical, wanted - 1, &again,
                           &refusal);
@@ -167,7 +157,7 @@ static void accepted(uint32_t dialect, uint32_t kind, const uint8_t *text, size_
   CHECK(status == SF_OK && again == wanted);
 
   /* the canonical text is its own, and an equal value */
-  uint8_t *twice = block(wanted);
+  uint8_t *twice = take_room(NULL, wanted);
   status = sf_normalise(&seed, dialect, kind, canonical, wanted, twice, wanted, &again, &refusal);
   CHECK(status == SF_OK && again == wanted && same_piece(twice, 0, canonical, 0, wanted));
   status = sf_equal(&seed, dialect, kind, text, length, canonical, wanted, &equal, &refusal);
@@ -177,13 +167,13 @@ static void accepted(uint32_t dialect, uint32_t kind, const uint8_t *text, size_
   same_nodes(&v, &w);
   drop(v);
   drop(w);
-  free(twice);
-  free(canonical);
+  give_room(twice);
+  give_room(canonical);
 }
 
 /* The pieces of a text between its commas with a space, joined again, are the text. */
 static void joining(const uint8_t *text, size_t length) {
-  uint8_t *room = block(length);
+  uint8_t *room = take_room(NULL, length);
   sf_joined joined = {0, 0, 0};
   size_t from = 0;
   for (size_t i = 0; i <= length; ++i) {
@@ -192,24 +182,24 @@ static void joining(const uint8_t *text, size_t length) {
       continue;
     uint8_t *line = part(text, from, i);
     CHECK(sf_join(line, i - from, room, length, &joined) == SF_OK);
-    free(line);
+    give_room(line);
     from = i + 2;
     i += 1;
   }
   CHECK(joined.length == length && same_piece(room, 0, text, 0, length));
   CHECK(sf_join("a", 1, room, length, &joined) == SF_SHORT && joined.wanted == length + 3);
-  free(room);
+  give_room(room);
 }
 
-/* The text against pieces of it. It is cut behind a piece that is accepted and not empty, at a comma
- * that its bytes choose, and the spaces behind the comma are left away. */
+/* The text against pieces of it. It is cut behind a piece that is accepted and not empty, at a
+ * comma that its bytes choose, and the spaces behind the comma are left away. */
 static void pieces(uint32_t dialect, uint32_t kind, const uint8_t *text, size_t length,
                    int is_some) {
   uint32_t bits = 2166136261u;
   for (size_t i = 0; i < length; ++i)
     bits = (bits ^ text[i]) * 16777619u;
   size_t room = SF_CANONICAL_ROOM(length) + 2 * length, line_room = SF_CANONICAL_ROOM(length);
-  uint8_t *whole = block(room), *line = block(line_room);
+  uint8_t *whole = take_room(NULL, room), *line = take_room(NULL, line_room);
   sf_joined joined = {0, 0, 0};
   sf_refusal refusal;
   size_t from = 0;
@@ -222,7 +212,7 @@ static void pieces(uint32_t dialect, uint32_t kind, const uint8_t *text, size_t 
     size_t wanted = 0;
     uint32_t status = sf_normalise(&seed, dialect, kind, piece, i - from, line, line_room, &wanted,
                                    &refusal);
-    free(piece);
+    give_room(piece);
     CHECK(status == SF_OK || status == SF_REFUSED);
     if (status == SF_REFUSED || wanted == 0)
       continue;
@@ -239,8 +229,8 @@ static void pieces(uint32_t dialect, uint32_t kind, const uint8_t *text, size_t 
           SF_OK);
     CHECK(equal == 1);
   }
-  free(line);
-  free(whole);
+  give_room(line);
+  give_room(whole);
 }
 
 typedef struct caches {
@@ -259,8 +249,8 @@ static caches tell(const uint8_t *text, size_t length) {
     return c;
   CHECK(status == (c.path.hops == 0 ? SF_OK : SF_SHORT));
   CHECK(c.path.hops <= SF_PARSE_ROOM(length) && c.path.bytes <= SF_PARSE_ROOM(length));
-  c.hops = block(c.path.hops * sizeof *c.hops);
-  c.bytes = block(c.path.bytes);
+  c.hops = take_room(NULL, c.path.hops * sizeof *c.hops);
+  c.bytes = take_room(NULL, c.path.bytes);
   sf_path path = {0, 0, 0, 0, 0};
   if (c.path.hops > 0) {
     status = sf_cache_status(&seed, text, length, c.hops, c.path.hops - 1, c.bytes, c.path.bytes,
@@ -303,7 +293,7 @@ static void one_hop(const sf_hop *hop, size_t size) {
 static void paths(const uint8_t *text, size_t length) {
   sf_refusal refusal;
   size_t wanted = SF_CANONICAL_ROOM(length);
-  uint8_t *canonical = block(wanted);
+  uint8_t *canonical = take_room(NULL, wanted);
   CHECK(sf_normalise(&seed, SF_RFC9651, SF_LIST, text, length, canonical, wanted, &wanted,
                      &refusal) == SF_OK);
   caches c = tell(text, length), d = tell(canonical, wanted);
@@ -318,11 +308,11 @@ static void paths(const uint8_t *text, size_t length) {
   }
   CHECK(c.path.is_served == (served >= 0));
   CHECK(c.path.served == (served < 0 ? 0 : (size_t)served));
-  free(c.hops);
-  free(c.bytes);
-  free(d.hops);
-  free(d.bytes);
-  free(canonical);
+  give_room(c.hops);
+  give_room(c.bytes);
+  give_room(d.hops);
+  give_room(d.bytes);
+  give_room(canonical);
 }
 
 static void consumers(const uint8_t *text, size_t length, int is_dict) {
@@ -360,7 +350,8 @@ int LLVMFuzzerTestOneInput(const uint8_t *data, size_t size) {
     return 0;
   uint32_t kind = data[0] % 3, dialect = data[0] / 3 % 2;
   size_t length = size - 1;
-  uint8_t *text = copy(data + 1, length);
+  none_is_a_place = data[0] / 6 % 2;
+  uint8_t *text = take_room(data + 1, length);
   sf_refusal refusal;
   uint32_t status = sf_check(&seed, dialect, kind, text, length, &refusal);
   CHECK(status == SF_OK || status == SF_REFUSED);
@@ -370,11 +361,12 @@ int LLVMFuzzerTestOneInput(const uint8_t *data, size_t size) {
     refused(dialect, kind, text, length, &refusal);
   joining(text, length);
   if (kind != SF_ITEM)
-    pieces(dialect, kind, text, length, status == SF_OK && has_members(dialect, kind, text, length));
+    pieces(dialect, kind, text, length,
+           status == SF_OK && has_members(dialect, kind, text, length));
   if (kind == SF_LIST && dialect == SF_RFC9651 && status == SF_OK)
     paths(text, length);
   if (kind == SF_DICT && dialect == SF_RFC9651)
     consumers(text, length, status == SF_OK);
-  free(text);
+  give_room(text);
   return 0;
 }

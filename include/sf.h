@@ -16,7 +16,12 @@
  * signal handler, nor in the child of a fork of a program with threads. The program's malloc and
  * realloc give memory that is aligned as C asks.
  *
- * Bytes are octets and texts have no NUL at the end. A place is counted in bytes from 0.
+ * What a call answers is an sf_status, but for sf_priority_merge and sf_lifetime; dialect is an
+ * sf_dialect and kind an sf_kind. They are numbers of a fixed width, since that of an enum is not
+ * fixed and any number may be given.
+ *
+ * Bytes are octets and texts have no NUL at the end. A place is counted in bytes from 0. It is all
+ * for machines where a size_t has 64 bits.
  */
 #ifndef SF_H
 #define SF_H
@@ -24,21 +29,44 @@
 #include <stddef.h>
 #include <stdint.h>
 
+#if SIZE_MAX < UINT64_MAX
+#error "libsf.a is for machines where a size_t has 64 bits"
+#endif
+
 /* The version of this header and of the archive beside it. */
 #define SF_VERSION_MAJOR 0
 #define SF_VERSION_MINOR 1
 #define SF_VERSION_PATCH 0
 #define SF_VERSION "0.1.0"
 
+/* The same as one number, which grows with the version: 100 is 0.1.0, and 10203 is 1.2.3. */
+#define SF_VERSION_NUMBER                                                                          \
+  (SF_VERSION_MAJOR * 10000 + SF_VERSION_MINOR * 100 + SF_VERSION_PATCH)
+
 #ifdef __cplusplus
 extern "C" {
 #endif
+
+/* Numbers with a meaning of their own. */
+enum {
+  SF_ENDED = -1,           /* no byte: what a refusal found where the text ended */
+  SF_SEED_SIZE = 16,       /* the bytes of a seed */
+  SF_URGENCY_FIRST = 0,    /* the most urgent (RFC 9218 section 4.1) */
+  SF_URGENCY_DEFAULT = 3,  /* the urgency where it is not said */
+  SF_URGENCY_LAST = 7,     /* the least urgent */
+  SF_FWD_STATUS_MIN = 100, /* the least fwd-status that counts (RFC 9211 section 2.3) */
+  SF_FWD_STATUS_MAX = 999  /* the greatest */
+};
+
+/* Integers, Dates and, in thousandths, Decimals go from -SF_NUMBER_MAX to SF_NUMBER_MAX (RFC 9651
+ * sections 3.3.1, 3.3.7 and 3.3.2). */
+#define SF_NUMBER_MAX INT64_C(999999999999999)
 
 /* How a call came out. */
 typedef enum sf_status {
   SF_OK = 0,             /* it was answered */
   SF_REFUSED = 1,        /* the text spells no value: sf_refusal says where and why */
-  SF_SECOND_REFUSED = 2, /* the second of two texts spells no value */
+  SF_SECOND_REFUSED = 2, /* the first of two texts spells a value, and the second none */
   SF_SHORT = 3,          /* a room is too small */
   SF_NO_MEMORY = 4,      /* malloc or realloc gave none */
   SF_EMPTY = 5,          /* the field has no member, so it says nothing */
@@ -55,8 +83,8 @@ typedef enum sf_kind {
 
 /* By which RFC a text is read. What RFC 8941 accepts has the same value by RFC 9651. */
 typedef enum sf_dialect {
-  SF_RFC9651 = 0,
-  SF_RFC8941 = 1 /* without Dates and Display Strings */
+  SF_RFC9651 = 0, /* all types of sf_type */
+  SF_RFC8941 = 1  /* the older one, without Dates and Display Strings */
 } sf_dialect;
 
 /*
@@ -65,7 +93,7 @@ typedef enum sf_dialect {
  * with hashes that they foresee a long Dictionary takes quadratic time. No answer depends on it.
  */
 typedef struct sf_seed {
-  uint8_t bytes[16];
+  uint8_t bytes[SF_SEED_SIZE];
 } sf_seed;
 
 /* Where and why a text is refused (RFC 9651 section 4.2). */
@@ -73,25 +101,28 @@ typedef struct sf_refusal {
   uint64_t place;         /* how long the longest front is that some text of the kind begins with */
   uint64_t expected_low;  /* bit b: byte b could have stood at that place, b from 0 to 63 */
   uint64_t expected_high; /* bit b: byte 64 + b could have */
-  int32_t found;          /* the byte at that place, or -1 where the text ended */
-  uint32_t may_end;       /* 1 where the text could have ended there, else 0 */
+  int32_t found;          /* the byte at that place, or SF_ENDED where the text ended */
+  uint32_t may_end;       /* 1 where the text could have ended there; else, and where it did, 0 */
 } sf_refusal;
 
 /*
- * Whether the text spells a value of the kind.
+ * Whether the text spells a value of the kind (RFC 9651 section 4.2).
  *
  *   SF_OK         it does
  *   SF_REFUSED    it does not, and refusal says where and why
  *   SF_NO_MEMORY, SF_BAD_CALL
  *
- * Where the answer is not SF_REFUSED, refusal is left as it was; so it is in each function below.
+ * Where the answer is neither SF_REFUSED nor SF_SECOND_REFUSED, refusal is left as it was; so it is
+ * in each function below.
  */
 uint32_t sf_check(const sf_seed *seed, uint32_t dialect, uint32_t kind, const void *text,
                   size_t text_length, sf_refusal *refusal);
 
 /* A room of so many bytes is never too small for the canonical text of a text of this length. It is
- * eight fifths, as SF_CANONICAL_ROOM(5) is 8; for lengths up to SIZE_MAX / 8. */
-#define SF_CANONICAL_ROOM(length) ((length) * 8 / 5)
+ * eight fifths, as SF_CANONICAL_ROOM(5) is 8, and a size_t, whatever integer type the length has;
+ * for lengths up to SIZE_MAX / 8 * 5. It names the length twice. */
+#define SF_CANONICAL_ROOM(length)                                                                  \
+  (sizeof(char) * (length) / 5 * 8 + sizeof(char) * (length) % 5 * 8 / 5)
 
 /*
  * The canonical text (RFC 9651 section 4.1) of the value that the text spells. Two texts of a kind
@@ -110,8 +141,8 @@ uint32_t sf_normalise(const sf_seed *seed, uint32_t dialect, uint32_t kind, cons
                       sf_refusal *refusal);
 
 /*
- * Whether two texts of a kind spell equal values. The order of members, items and parameters
- * counts.
+ * Whether two texts of a kind spell equal values (RFC 9651 sections 3 and 4.2). The order of
+ * members, items and parameters counts.
  *
  *   SF_OK              *equal is 1 or 0
  *   SF_REFUSED         the first text spells no value, and refusal says where and why
@@ -126,21 +157,21 @@ uint32_t sf_equal(const sf_seed *seed, uint32_t dialect, uint32_t kind, const vo
 
 /* What a node of a parsed value is. */
 typedef enum sf_role {
-  SF_MEMBER = 0,    /* the Item of an Item field, or a member of a List or a Dictionary */
+  SF_MEMBER = 0,     /* the Item of an Item field, or a member of a List or a Dictionary */
   SF_INNER_ITEM = 1, /* an Item of an Inner List */
-  SF_PARAMETER = 2  /* a parameter of the Item or the Inner List before it */
+  SF_PARAMETER = 2   /* a parameter of the Item or the Inner List before it */
 } sf_role;
 
 /* The type of a node (RFC 9651 section 3). */
 typedef enum sf_type {
   SF_INNER_LIST = 0,     /* 3.1.1: number 0, no bytes */
-  SF_INTEGER = 1,        /* 3.3.1: number */
-  SF_DECIMAL = 2,        /* 3.3.2: number, in thousandths */
+  SF_INTEGER = 1,        /* 3.3.1: number, from -SF_NUMBER_MAX to SF_NUMBER_MAX */
+  SF_DECIMAL = 2,        /* 3.3.2: number, in thousandths, in the same range */
   SF_STRING = 3,         /* 3.3.3: bytes, without quotes and escapes */
   SF_TOKEN = 4,          /* 3.3.4: bytes */
   SF_BYTE_SEQUENCE = 5,  /* 3.3.5: bytes, decoded */
   SF_BOOLEAN = 6,        /* 3.3.6: number, 1 for true and 0 for false */
-  SF_DATE = 7,           /* 3.3.7: number, in seconds from 1970-01-01T00:00:00Z on */
+  SF_DATE = 7,           /* 3.3.7: number, in seconds from 1970-01-01T00:00:00Z on, in that range */
   SF_DISPLAY_STRING = 8  /* 3.3.8: bytes, UTF-8, decoded */
 } sf_type;
 
@@ -162,8 +193,8 @@ typedef struct sf_node {
 } sf_node;
 
 /* A room of so many nodes or hops, or of so many bytes, is never too small for the value of a text
- * of this length; for lengths up to SIZE_MAX / 8. */
-#define SF_PARSE_ROOM(length) ((length) * 8 / 5 + 1)
+ * of this length. It is one more than SF_CANONICAL_ROOM, and like it else. */
+#define SF_PARSE_ROOM(length) (SF_CANONICAL_ROOM(length) + 1)
 
 /* How many nodes and bytes a value has. */
 typedef struct sf_sizes {
@@ -189,10 +220,10 @@ uint32_t sf_parse(const sf_seed *seed, uint32_t dialect, uint32_t kind, const vo
                   size_t text_length, sf_node *nodes, size_t nodes_room, void *bytes,
                   size_t bytes_room, sf_sizes *sizes, sf_refusal *refusal);
 
-/* What a Priority field asks for (RFC 9218 section 4), with the defaults for what it does not say.
- * */
+/* What a Priority field asks for (RFC 9218 section 4), with defaults for what it does not say. */
 typedef struct sf_priority_flags {
-  uint8_t urgency;          /* from 0, the most urgent, to 7; 3 where it is not said (4.1) */
+  uint8_t urgency;          /* from SF_URGENCY_FIRST to SF_URGENCY_LAST; SF_URGENCY_DEFAULT where it
+                               is not said (4.1) */
   uint8_t incremental;      /* 1 where the response is of use while it arrives; else 0 (4.2) */
   uint8_t says_urgency;     /* 1 where the field says the urgency, else 0 */
   uint8_t says_incremental; /* 1 where the field says whether it is incremental, else 0 */
@@ -214,7 +245,7 @@ uint32_t sf_priority(const sf_seed *seed, const void *text, size_t text_length,
 /*
  * What a client and a server ask for together (RFC 9218 section 8): each part as the server says
  * it, where it does, else as the client does; defaults are filled in. Only what is said counts. Any
- * number but 0 sets a flag, and an urgency above 7 counts as not said.
+ * number but 0 sets a flag, and an urgency above SF_URGENCY_LAST counts as not said.
  */
 sf_priority_flags sf_priority_merge(const sf_priority_flags *client,
                                     const sf_priority_flags *server);
@@ -225,10 +256,10 @@ typedef struct sf_policy {
   uint64_t s_maxage;       /* s-maxage in seconds; 0 where it is not said */
   uint8_t says_max_age;    /* 1 where it is said, as an Integer that is not negative; else 0 */
   uint8_t says_s_maxage;   /* the same of s-maxage */
-  uint8_t must_revalidate; /* 1 where the directive is set, else 0; so the next three */
-  uint8_t no_store;
-  uint8_t no_cache;
-  uint8_t is_private;
+  uint8_t must_revalidate; /* 1 where the directive is set, else 0 */
+  uint8_t no_store;        /* the same of no-store */
+  uint8_t no_cache;        /* the same of no-cache */
+  uint8_t is_private;      /* the same of private */
 } sf_policy;
 
 /*
@@ -248,8 +279,12 @@ uint32_t sf_cache_control(const sf_seed *seed, const void *text, size_t text_len
 /*
  * For how many seconds a response is fresh by this policy, in a shared cache where shared is not 0,
  * else in a private one: in a shared one s-maxage stands before max-age (RFC 9111 section 4.2.1),
- * in a private one max-age alone counts. 1 and *seconds is that; 0 where the policy does not say,
- * and then *seconds is left as it was. In policy any number but 0 sets a flag.
+ * in a private one max-age alone counts. In policy any number but 0 sets a flag.
+ *
+ *   1  *seconds is that
+ *   0  the policy does not say, and *seconds is left as it was
+ *
+ * This is no sf_status: do not compare it with SF_OK, which is 0.
  */
 uint32_t sf_lifetime(const sf_policy *policy, uint32_t shared, uint64_t *seconds);
 
@@ -274,36 +309,37 @@ typedef enum sf_forward {
   SF_METHOD = 2,     /* method: the request's method requires it */
   SF_URI_MISS = 3,   /* uri-miss: no response of the URI was stored */
   SF_VARY_MISS = 4,  /* vary-miss: one was, and none that matches the request's headers */
-  SF_MISS = 5,       /* miss: one of these two or both */
+  SF_MISS = 5,       /* miss: one of the two above, and the cache does not tell which */
   SF_REQUEST = 6,    /* request: a fresh one was, and the request's directives forbade its use */
   SF_STALE = 7,      /* stale: the stored response was stale */
   SF_PARTIAL = 8,    /* partial: it did not have all the ranges that were asked for */
-  SF_OTHER = 9       /* another token: why_token has it */
+  SF_OTHER = 9       /* another token, which why_token has */
 } sf_forward;
 
 /*
  * A cache on the path of a response, and what it did (RFC 9211 section 2). Pieces are of the
  * caller's bytes. A number or a piece that is not said is 0 or empty. A parameter of another type
- * than the RFC gives it counts as not said, and so does a fwd-status outside 100 to 999.
+ * than the RFC gives it counts as not said, and so does a fwd-status below SF_FWD_STATUS_MIN or
+ * above SF_FWD_STATUS_MAX.
  */
 typedef struct sf_hop {
   sf_piece name;           /* the cache's name */
-  sf_piece why_token;      /* the token of fwd */
+  sf_piece why_token;      /* the token of fwd, whether why names it or not */
   sf_piece key;            /* key: the cache key (2.7) */
   sf_piece detail;         /* detail: what else the cache tells (2.8) */
   int64_t ttl;             /* ttl: for how many seconds the response is still fresh; where negative,
-                              since how many it is stale (2.4) */
+                              since how many it is stale (2.4); in the range of an Integer */
   uint16_t outcome;        /* an sf_outcome */
   uint16_t why;            /* fwd: an sf_forward (2.2) */
-  uint16_t status;         /* fwd-status: what the next server answered, from 100 to 999 (2.3) */
-  uint8_t says_status;     /* 1 where it is said, else 0; so the other says_ */
+  uint16_t status;         /* fwd-status: what the next server answered (2.3) */
+  uint8_t says_status;     /* 1 where fwd-status is said, else 0 */
   uint8_t stored;          /* stored: 1 where the cache stored the response (2.5) */
-  uint8_t says_stored;
+  uint8_t says_stored;     /* 1 where stored is said, else 0 */
   uint8_t collapsed;       /* collapsed: 1 where the request was made one with others (2.6) */
-  uint8_t says_collapsed;
-  uint8_t says_ttl;
-  uint8_t says_key;
-  uint8_t says_detail;
+  uint8_t says_collapsed;  /* 1 where collapsed is said, else 0 */
+  uint8_t says_ttl;        /* 1 where ttl is said, else 0 */
+  uint8_t says_key;        /* 1 where key is said, else 0 */
+  uint8_t says_detail;     /* 1 where detail is said, else 0 */
   uint8_t name_is_token;   /* 1 where the name is a Token, 0 where it is a String */
   uint8_t detail_is_token; /* 1 where the detail is a Token, else 0 */
 } sf_hop;
@@ -343,7 +379,7 @@ uint32_t sf_cache_status(const sf_seed *seed, const void *text, size_t text_leng
 typedef struct sf_joined {
   size_t length;  /* how many bytes of joined text stand at the front of the room */
   size_t wanted;  /* how long the room must be for the line that was too long for it */
-  uint32_t begun; /* 0 before the first line, else 1 */
+  uint32_t begun; /* 0 before the first line; any other number counts as 1 */
 } sf_joined;
 
 /*
@@ -351,10 +387,12 @@ typedef struct sf_joined {
  * two (RFC 9651 section 4.2), the text that the calls above take. Call it for each line in order.
  * With no line the text is the empty one.
  *
- *   SF_OK        the first joined->length bytes of the room are the text with this line
- *   SF_SHORT     the room must be joined->wanted bytes long; it is left as it was. Call again with
- *                a longer room that begins with the same bytes
- *   SF_BAD_CALL  joined->length is greater than the room
+ *   SF_OK        the first joined->length bytes of the room are the text with this line, and the
+ *                others are left as they were; joined->begun is 1, and joined->wanted is left
+ *   SF_SHORT     the room must be joined->wanted bytes long, SIZE_MAX where that is more than a
+ *                size_t can tell; all else is left as it was. Call again with a longer room that
+ *                begins with the same bytes
+ *   SF_BAD_CALL  joined->length is greater than the room; all is left as it was
  */
 uint32_t sf_join(const void *line, size_t line_length, void *room, size_t room_length,
                  sf_joined *joined);

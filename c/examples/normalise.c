@@ -1,6 +1,9 @@
 /* The canonical text of the field on standard input, a line of the field a line.
  *
  *   printf 'u=1,  i=?1\n' | normalise dict        u=1, i
+ *
+ * Ends with status 0, or 1 where the field is refused, 2 for other words, and 3 where memory, the
+ * input or the output fails.
  */
 #define _POSIX_C_SOURCE 200809L
 #include <sf.h>
@@ -64,6 +67,10 @@ int main(int argc, char **argv) {
     }
   }
   free(line);
+  if (!feof(stdin)) {
+    fprintf(stderr, "normalise: the input can't be read, or out of memory\n");
+    return 3;
+  }
 
   size_t wanted = SF_CANONICAL_ROOM(joined.length); /* never too small */
   char *canonical = malloc(wanted + 1);
@@ -76,7 +83,8 @@ int main(int argc, char **argv) {
   switch (sf_normalise(&seed, SF_RFC9651, kind, text, joined.length, canonical, wanted, &wanted,
                        &refusal)) {
   case SF_OK:
-    printf("%.*s\n", (int)wanted, canonical);
+    fwrite(canonical, 1, wanted, stdout);
+    printf("\n");
     break;
   case SF_REFUSED:
     if (refusal.found < 0)
@@ -92,5 +100,9 @@ int main(int argc, char **argv) {
   }
   free(canonical);
   free(text);
+  if (fflush(stdout) != 0 || ferror(stdout)) {
+    fprintf(stderr, "normalise: the answer can't be written\n");
+    return 3;
+  }
   return answer;
 }

@@ -7,6 +7,9 @@
  *   origin forwarded: stale, status 304, collapsed
  *   "edge" hit, ttl 30
  *   served by "edge"
+ *
+ * Ends with status 0, or 1 where the field is refused or a member names no cache, 2 for other
+ * words, and 3 where memory or the output fails.
  */
 #include <sf.h>
 #include <stdio.h>
@@ -16,11 +19,14 @@
 /* A name or a detail: in quotes where it is a String. */
 static void print_name(const char *bytes, sf_piece piece, int is_token) {
   const char *quote = is_token ? "" : "\"";
-  printf("%s%.*s%s", quote, (int)piece.length, bytes + piece.at, quote);
+  printf("%s", quote);
+  fwrite(bytes + piece.at, 1, piece.length, stdout);
+  printf("%s", quote);
 }
 
 static void print_piece(const char *before, const char *bytes, sf_piece piece) {
-  printf("%s%.*s", before, (int)piece.length, bytes + piece.at);
+  printf("%s", before);
+  fwrite(bytes + piece.at, 1, piece.length, stdout);
 }
 
 static void print_flag(const char *word, int says, int set) {
@@ -88,16 +94,19 @@ int main(int argc, char **argv) {
 
   sf_path path;
   sf_refusal refusal;
+  int answer = 1;
   switch (print_path(&seed, argv[1], strlen(argv[1]), &path, &refusal)) {
   case SF_OK:
-    return 0;
+    answer = 0;
+    break;
   case SF_NOT_A_CACHE:
     printf("member %llu names no cache\n", (unsigned long long)path.nameless);
-    return 1;
+    break;
   case SF_REFUSED:
     printf("refused at %llu\n", (unsigned long long)refusal.place);
-    return 1;
+    break;
   default:
-    return 3;
+    answer = 3;
   }
+  return fflush(stdout) != 0 || ferror(stdout) ? 3 : answer;
 }

@@ -1,6 +1,8 @@
 /* The priority of a response (RFC 9218): what the request asks for, and what the response says.
  *
  *   priority 'u=5, i' 'u=1'        urgency 1 incremental 1
+ *
+ * Ends with status 0, or 2 for other words, and 3 where memory or the output fails.
  */
 #include <sf.h>
 #include <stdio.h>
@@ -24,11 +26,11 @@ int main(int argc, char **argv) {
     if (status == SF_NO_MEMORY)
       return 3;
     if (status == SF_REFUSED) { /* a field that is refused says nothing */
-      static const sf_priority_flags nothing = {3, 0, 0, 0};
+      static const sf_priority_flags nothing = {SF_URGENCY_DEFAULT, 0, 0, 0};
       said[i] = nothing;
     }
   }
   sf_priority_flags both = sf_priority_merge(&said[0], &said[1]);
   printf("urgency %d incremental %d\n", both.urgency, both.incremental);
-  return 0;
+  return fflush(stdout) != 0 || ferror(stdout) ? 3 : 0;
 }

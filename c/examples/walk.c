@@ -1,4 +1,5 @@
-/* The value of a text as a tree, a part a line.
+/* The value of a text as a tree, a part a line. Of its bytes a backslash, and those that are no
+ * character, stand as a backslash with two digits, as \0a for the end of a line.
  *
  *   walk list 'a;q=1, ("b" 1.5)'
  *
@@ -9,6 +10,9 @@
  *   inner list
  *     string b
  *     decimal 1.500
+ *
+ * Ends with status 0, or 1 where the text is refused, 2 for other words, and 3 where memory or the
+ * output fails.
  */
 #include <sf.h>
 #include <stdio.h>
@@ -18,13 +22,27 @@
 static const char *const types[] = {"inner list", "integer", "decimal", "string", "token",
                                     "bytes",      "boolean", "date",    "display"};
 
+/* A String, a Token or a Display String on one line: each of them may be long, and the last may
+ * hold any character. */
+static void print_text(const char *text, size_t length) {
+  for (size_t i = 0; i < length; ++i) {
+    unsigned char byte = (unsigned char)text[i];
+    if (byte < 0x20 || byte == 0x7f || byte == '\\')
+      printf("\\%02x", byte);
+    else
+      putchar(byte);
+  }
+}
+
 /* What a node itself says: its key, its type, and its number or its bytes. */
 static void print(const sf_node *node, const char *bytes, int depth) {
   printf("%*s", 2 * depth, "");
   if (node->role == SF_PARAMETER)
     printf(";");
-  if (node->key_length > 0)
-    printf("%.*s ", (int)node->key_length, bytes + node->key_at);
+  if (node->key_length > 0) {
+    print_text(bytes + node->key_at, node->key_length);
+    printf(" ");
+  }
   printf("%s", types[node->type]);
   switch (node->type) {
   case SF_INTEGER:
@@ -44,7 +62,8 @@ static void print(const sf_node *node, const char *bytes, int depth) {
   case SF_INNER_LIST:
     break;
   default:
-    printf(" %.*s", (int)node->text_length, bytes + node->text_at);
+    printf(" ");
+    print_text(bytes + node->text_at, node->text_length);
   }
   printf("\n");
 }
@@ -87,5 +106,7 @@ int main(int argc, char **argv) {
     printf("refused at %llu\n", (unsigned long long)refusal.place);
   free(nodes);
   free(bytes);
+  if (fflush(stdout) != 0 || ferror(stdout))
+    return 3;
   return status == SF_OK ? 0 : status == SF_REFUSED ? 1 : 3;
 }

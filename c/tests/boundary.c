@@ -1,11 +1,13 @@
-/* Every function of sf.h, called as C calls it: the worked texts, rooms of exactly the size that is
- * wanted, one short and empty, NULL with length 0, numbers that are no kind, malloc refused at each
- * call in turn, and a thread for each processor. Each room is a block of its own, so that the
- * address sanitizer sees a byte that is read or written past its end.
+/* Every function of sf.h, called as C calls it: the worked texts in both dialects, rooms of exactly
+ * the size that is wanted, one short and empty, length 0 with NULL and with a pointer one past a
+ * block, numbers that are no kind, malloc refused at each call in turn, and a thread for each
+ * processor. Texts and rooms end where a page begins that can't be read (rooms.h).
  *
  * Prints 'N passed, M failed'. It is linked with --wrap=malloc and --wrap=realloc and --wrap=free,
  * and counts blocks that the library takes and gives back. */
+#define _DEFAULT_SOURCE
 #define _POSIX_C_SOURCE 200809L
+#include "rooms.h"
 #include "texts.h"
 #include <inttypes.h>
 #include <pthread.h>
@@ -13,6 +15,7 @@
 #include <stdio.h>
 #include <stdlib.h>
 #include <string.h>
+#include <sys/wait.h>
 #include <unistd.h>
 
 /* The library's memory. Each thread counts its own. */
@@ -96,20 +99,6 @@ static void check(int holds, const char *what, int line, const char *about) {
 
 static const sf_seed seed = {{3, 1, 4, 1, 5, 9, 2, 6, 5, 3, 5, 8, 9, 7, 9, 3}};
 
-/* A block of exactly so many bytes, with a copy of a text; NULL for none. */
-static unsigned char *block_of(const void *text, size_t length) {
-  if (length == 0)
-    return NULL;
-  unsigned char *block = malloc(length);
-  if (block == NULL)
-    abort();
-  if (text == NULL)
-    memset(block, 0xa5, length);
-  else
-    memcpy(block, text, length);
-  return block;
-}
-
 /* What a refusal holds before a call that does not write it. */
 static const sf_refusal untouched = {77, 78, 79, 80, 81};
 
@@ -119,7 +108,7 @@ static int is_untouched(const sf_refusal *refusal) {
 
 static int all_are(const unsigned char *bytes, size_t length) {
   for (size_t i = 0; i < length; ++i)
-    if (bytes[i] != 0xa5)
+    if (bytes[i] != ROOM_BYTE)
       return 0;
   return 1;
 }
@@ -159,8 +148,106 @@ static int is_set(const sf_refusal *refusal, const char *set) {
          refusal->may_end == may_end;
 }
 
-/* The nodes of a text and of its canonical text are the same, in rooms of exactly their size; a room
- * that is one short, or empty, is answered with what is wanted. */
+/* The structs have the layout of those in the archive; rust/src/raw.rs has the same numbers. */
+#define SIZE(type, size) CHECK(sizeof(type) == (size))
+#define AT(type, member, place) CHECK(offsetof(type, member) == (place))
+
+static void layouts(void) {
+  const char *about = "layout";
+  SIZE(sf_seed, 16);
+  SIZE(sf_refusal, 32);
+  AT(sf_refusal, place, 0);
+  AT(sf_refusal, expected_low, 8);
+  AT(sf_refusal, expected_high, 16);
+  AT(sf_refusal, found, 24);
+  AT(sf_refusal, may_end, 28);
+  SIZE(sf_node, 56);
+  AT(sf_node, number, 0);
+  AT(sf_node, key_at, 8);
+  AT(sf_node, key_length, 16);
+  AT(sf_node, text_at, 24);
+  AT(sf_node, text_length, 32);
+  AT(sf_node, span, 40);
+  AT(sf_node, role, 48);
+  AT(sf_node, type, 52);
+  SIZE(sf_sizes, 16);
+  AT(sf_sizes, nodes, 0);
+  AT(sf_sizes, bytes, 8);
+  SIZE(sf_priority_flags, 4);
+  AT(sf_priority_flags, urgency, 0);
+  AT(sf_priority_flags, incremental, 1);
+  AT(sf_priority_flags, says_urgency, 2);
+  AT(sf_priority_flags, says_incremental, 3);
+  SIZE(sf_policy, 24);
+  AT(sf_policy, max_age, 0);
+  AT(sf_policy, s_maxage, 8);
+  AT(sf_policy, says_max_age, 16);
+  AT(sf_policy, says_s_maxage, 17);
+  AT(sf_policy, must_revalidate, 18);
+  AT(sf_policy, no_store, 19);
+  AT(sf_policy, no_cache, 20);
+  AT(sf_policy, is_private, 21);
+  SIZE(sf_piece, 16);
+  AT(sf_piece, at, 0);
+  AT(sf_piece, length, 8);
+  SIZE(sf_hop, 88);
+  AT(sf_hop, name, 0);
+  AT(sf_hop, why_token, 16);
+  AT(sf_hop, key, 32);
+  AT(sf_hop, detail, 48);
+  AT(sf_hop, ttl, 64);
+  AT(sf_hop, outcome, 72);
+  AT(sf_hop, why, 74);
+  AT(sf_hop, status, 76);
+  AT(sf_hop, says_status, 78);
+  AT(sf_hop, stored, 79);
+  AT(sf_hop, says_stored, 80);
+  AT(sf_hop, collapsed, 81);
+  AT(sf_hop, says_collapsed, 82);
+  AT(sf_hop, says_ttl, 83);
+  AT(sf_hop, says_key, 84);
+  AT(sf_hop, says_detail, 85);
+  AT(sf_hop, name_is_token, 86);
+  AT(sf_hop, detail_is_token, 87);
+  SIZE(sf_path, 40);
+  AT(sf_path, hops, 0);
+  AT(sf_path, bytes, 8);
+  AT(sf_path, served, 16);
+  AT(sf_path, nameless, 24);
+  AT(sf_path, is_served, 32);
+  SIZE(sf_joined, 24);
+  AT(sf_joined, length, 0);
+  AT(sf_joined, wanted, 8);
+  AT(sf_joined, begun, 16);
+}
+
+/* What the header computes. */
+static void macros(void) {
+  const char *about = "version";
+  char version[32];
+  sprintf(version, "%d.%d.%d", SF_VERSION_MAJOR, SF_VERSION_MINOR, SF_VERSION_PATCH);
+  CHECK(strcmp(version, SF_VERSION) == 0);
+#if SF_VERSION_NUMBER < 100 || SF_VERSION_NUMBER >= 1000000
+  CHECK(0);
+#endif
+
+  about = "room";
+  int number = 2000000000;
+  uint32_t word = UINT32_MAX;
+  unsigned char byte = 255;
+  size_t most = SIZE_MAX / 8 * 5;
+  CHECK(SF_CANONICAL_ROOM(number) == 3200000000u);
+  CHECK(SF_PARSE_ROOM(number) == 3200000001u);
+  CHECK(SF_CANONICAL_ROOM(word) == UINT64_C(6871947672));
+  CHECK(SF_CANONICAL_ROOM(byte) == 408 && SF_PARSE_ROOM(byte) == 409);
+  CHECK(SF_CANONICAL_ROOM(most) == SIZE_MAX / 8 * 8 && SF_PARSE_ROOM(most) == SIZE_MAX / 8 * 8 + 1);
+  CHECK(SF_CANONICAL_ROOM(number - 1999999999 + 1) == 3); /* the length is an expression */
+  for (size_t length = 0; length < 100; ++length)
+    CHECK(SF_CANONICAL_ROOM(length) == length * 8 / 5);
+}
+
+/* The nodes of a text and of its canonical text are the same, in rooms of exactly their size; a
+ * room that is one short, or empty, is answered with what is wanted. */
 static void same_value(uint32_t dialect, uint32_t kind, const char *about, const void *text,
                        size_t length, const void *canonical, size_t canonical_length) {
   uint32_t status;
@@ -171,9 +258,9 @@ static void same_value(uint32_t dialect, uint32_t kind, const char *about, const
   CHECK(sizes.nodes <= SF_PARSE_ROOM(length) && sizes.bytes <= SF_PARSE_ROOM(length));
 
   size_t size = sizes.nodes * sizeof(sf_node);
-  unsigned char *bytes = block_of(NULL, sizes.bytes), *other = block_of(NULL, sizes.bytes);
-  sf_node *nodes = (sf_node *)(void *)block_of(NULL, size);
-  sf_node *others = (sf_node *)(void *)block_of(NULL, size);
+  unsigned char *bytes = take_room(NULL, sizes.bytes), *other = take_room(NULL, sizes.bytes);
+  sf_node *nodes = take_room(NULL, size);
+  sf_node *others = take_room(NULL, size);
   if (sizes.nodes > 0) {
     CALL(sf_parse(&seed, dialect, kind, text, length, nodes, sizes.nodes - 1, bytes, sizes.bytes,
                   &again, &refusal));
@@ -194,17 +281,17 @@ static void same_value(uint32_t dialect, uint32_t kind, const char *about, const
   CHECK(size == 0 || memcmp(nodes, others, size) == 0);
   CHECK(sizes.bytes == 0 || memcmp(bytes, other, sizes.bytes) == 0);
   CHECK(is_untouched(&refusal));
-  free(nodes);
-  free(others);
-  free(bytes);
-  free(other);
+  give_room(nodes);
+  give_room(others);
+  give_room(bytes);
+  give_room(other);
 }
 
 static void accepted(uint32_t dialect, uint32_t kind, const char *from, size_t length,
                      const char *canonical, size_t canonical_length) {
   const char *about = from;
   uint32_t status;
-  unsigned char *text = block_of(from, length);
+  unsigned char *text = take_room(from, length);
   sf_refusal refusal = untouched;
 
   CALL(sf_check(&seed, dialect, kind, text, length, &refusal));
@@ -212,7 +299,7 @@ static void accepted(uint32_t dialect, uint32_t kind, const char *from, size_t l
 
   /* A room of exactly the size, a longer one, and each shorter one. */
   for (size_t room = 0; room <= canonical_length + 3; ++room) {
-    unsigned char *out = block_of(NULL, room);
+    unsigned char *out = take_room(NULL, room);
     size_t wanted = 4711;
     CALL(sf_normalise(&seed, dialect, kind, text, length, out, room, &wanted, &refusal));
     CHECK(wanted == canonical_length);
@@ -224,26 +311,26 @@ static void accepted(uint32_t dialect, uint32_t kind, const char *from, size_t l
       CHECK(canonical_length == 0 || memcmp(out, canonical, canonical_length) == 0);
       CHECK(room == canonical_length || all_are(out + canonical_length, room - canonical_length));
     }
-    free(out);
+    give_room(out);
   }
   CHECK(canonical_length <= SF_CANONICAL_ROOM(length));
 
   /* It is equal to its canonical text. */
-  unsigned char *other = block_of(canonical, canonical_length);
+  unsigned char *other = take_room(canonical, canonical_length);
   uint32_t equal = 4711;
   CALL(sf_equal(&seed, dialect, kind, text, length, other, canonical_length, &equal, &refusal));
   CHECK(status == SF_OK && equal == 1);
   same_value(dialect, kind, about, text, length, other, canonical_length);
-  free(other);
+  give_room(other);
   CHECK(is_untouched(&refusal));
-  free(text);
+  give_room(text);
 }
 
 static void refused(uint32_t dialect, uint32_t kind, const char *from, size_t length,
                     uint64_t place, int32_t found, const char *set) {
   const char *about = from;
   uint32_t status;
-  unsigned char *text = block_of(from, length);
+  unsigned char *text = take_room(from, length);
 
   sf_refusal refusal = untouched;
   CALL(sf_check(&seed, dialect, kind, text, length, &refusal));
@@ -251,7 +338,8 @@ static void refused(uint32_t dialect, uint32_t kind, const char *from, size_t le
   CHECK(refusal.place == place);
   CHECK(refusal.found == found);
   CHECK(is_set(&refusal, set));
-  CHECK((refusal.found == -1) == (refusal.place == length));
+  CHECK((refusal.found == SF_ENDED) == (refusal.place == length));
+  CHECK(refusal.found != SF_ENDED || refusal.may_end == 0);
 
   sf_refusal same = untouched;
   unsigned char out[4];
@@ -280,16 +368,45 @@ static void refused(uint32_t dialect, uint32_t kind, const char *from, size_t le
   CHECK(status == SF_REFUSED && memcmp(&same, &refusal, sizeof same) == 0);
   CHECK(all_are((unsigned char *)&node, sizeof node) && byte == 0xa5);
   CHECK(sizes.nodes == 4711 && sizes.bytes == 4712);
-  free(text);
+  give_room(text);
+}
+
+/* A text that RFC 9651 accepts, by RFC 8941: it has the same value, or it is refused at the first
+ * Date or Display String, which in the worked texts stands where the first @ or % does. */
+static void older(uint32_t kind, const char *text, size_t length, const char *canonical,
+                  size_t canonical_length) {
+  const char *about = text;
+  size_t place = 0;
+  while (place < length && text[place] != '@' && text[place] != '%')
+    ++place;
+  if (place == length) {
+    accepted(SF_RFC8941, kind, text, length, canonical, canonical_length);
+    return;
+  }
+  sf_refusal refusal = untouched;
+  uint32_t status;
+  CALL(sf_check(&seed, SF_RFC8941, kind, text, length, &refusal));
+  CHECK(status == SF_REFUSED && refusal.place == place && refusal.found == text[place]);
+}
+
+/* A text that RFC 9651 refuses, by RFC 8941. */
+static void refused_too(uint32_t kind, const char *text, size_t length) {
+  const char *about = text;
+  sf_refusal refusal = untouched;
+  uint32_t status;
+  CALL(sf_check(&seed, SF_RFC8941, kind, text, length, &refusal));
+  CHECK(status == SF_REFUSED && refusal.place <= length);
 }
 
 static void worked_texts(void) {
 #define ROW(kind, text, canonical)                                                                 \
-  accepted(SF_RFC9651, kind, text, sizeof text - 1, canonical, sizeof canonical - 1);
+  accepted(SF_RFC9651, kind, text, sizeof text - 1, canonical, sizeof canonical - 1);              \
+  older(kind, text, sizeof text - 1, canonical, sizeof canonical - 1);
   ACCEPTED(ROW)
 #undef ROW
 #define ROW(kind, text, place, found, set)                                                         \
-  refused(SF_RFC9651, kind, text, sizeof text - 1, place, found, set);
+  refused(SF_RFC9651, kind, text, sizeof text - 1, place, found, set);                             \
+  refused_too(kind, text, sizeof text - 1);
   REFUSED(ROW)
 #undef ROW
 #define ROW(kind, text, place, found, set)                                                         \
@@ -307,15 +424,20 @@ static void bad_calls(void) {
     sf_refusal refusal = untouched;
     size_t wanted = 4711;
     sf_sizes sizes = {4711, 4712};
+    unsigned char *bytes = take_room(NULL, 4);
+    sf_node *nodes = take_room(NULL, 2 * sizeof *nodes);
     CALL(sf_check(&seed, dialect, kind, "a", 1, &refusal));
     CHECK(status == SF_BAD_CALL);
-    CALL(sf_normalise(&seed, dialect, kind, "a", 1, NULL, 0, &wanted, &refusal));
+    CALL(sf_normalise(&seed, dialect, kind, "a", 1, bytes, 4, &wanted, &refusal));
     CHECK(status == SF_BAD_CALL && wanted == 4711);
     CALL(sf_equal(&seed, dialect, kind, "a", 1, "a", 1, &equal, &refusal));
     CHECK(status == SF_BAD_CALL && equal == 4711);
-    CALL(sf_parse(&seed, dialect, kind, "a", 1, NULL, 0, NULL, 0, &sizes, &refusal));
+    CALL(sf_parse(&seed, dialect, kind, "a", 1, nodes, 2, bytes, 4, &sizes, &refusal));
     CHECK(status == SF_BAD_CALL && sizes.nodes == 4711 && sizes.bytes == 4712);
+    CHECK(all_are(bytes, 4) && all_are((unsigned char *)nodes, 2 * sizeof *nodes));
     CHECK(is_untouched(&refusal));
+    give_room(bytes);
+    give_room(nodes);
   }
 }
 
@@ -362,14 +484,14 @@ static void parsed(uint32_t kind, const char *from, const row *rows, size_t coun
   const char *about = from;
   uint32_t status;
   size_t length = strlen(from);
-  unsigned char *text = block_of(from, length);
+  unsigned char *text = take_room(from, length);
   sf_refusal refusal = untouched;
 
   /* each room that is too small, and one that is longer */
   for (size_t n = 0; n <= count + 1; ++n) {
     for (size_t b = 0; b <= size + 1; ++b) {
-      sf_node *nodes = (sf_node *)(void *)block_of(NULL, n * sizeof *nodes);
-      unsigned char *bytes = block_of(NULL, b);
+      sf_node *nodes = take_room(NULL, n * sizeof *nodes);
+      unsigned char *bytes = take_room(NULL, b);
       sf_sizes sizes = {4711, 4712};
       CALL(sf_parse(&seed, SF_RFC9651, kind, text, length, nodes, n, bytes, b, &sizes, &refusal));
       CHECK(sizes.nodes == count && sizes.bytes == size);
@@ -389,13 +511,13 @@ static void parsed(uint32_t kind, const char *from, const row *rows, size_t coun
         CHECK(n == count || all_are((unsigned char *)(nodes + count), sizeof *nodes));
         CHECK(b == size || bytes[size] == 0xa5);
       }
-      free(nodes);
-      free(bytes);
+      give_room(nodes);
+      give_room(bytes);
     }
   }
   CHECK(count <= SF_PARSE_ROOM(length) && size <= SF_PARSE_ROOM(length));
   CHECK(is_untouched(&refusal));
-  free(text);
+  give_room(text);
 }
 
 #define PARSED(kind, text, rows, size) parsed(kind, text, rows, sizeof rows / sizeof *rows, size)
@@ -403,6 +525,16 @@ static void parsed(uint32_t kind, const char *from, const row *rows, size_t coun
 static void nodes_of_values(void) {
   static const row integer[] = {{SF_MEMBER, SF_INTEGER, -7, "", "", 1}};
   PARSED(SF_ITEM, " -007 ", integer, 0);
+  static const row most[] = {{SF_MEMBER, SF_INTEGER, SF_NUMBER_MAX, "", "", 1},
+                             {SF_MEMBER, SF_INTEGER, -SF_NUMBER_MAX, "", "", 1},
+                             {SF_MEMBER, SF_DECIMAL, SF_NUMBER_MAX, "", "", 1},
+                             {SF_MEMBER, SF_DECIMAL, -SF_NUMBER_MAX, "", "", 1},
+                             {SF_MEMBER, SF_DATE, SF_NUMBER_MAX, "", "", 1},
+                             {SF_MEMBER, SF_DATE, -SF_NUMBER_MAX, "", "", 1}};
+  PARSED(SF_LIST,
+         "999999999999999, -999999999999999, 999999999999.999, -999999999999.999, "
+         "@999999999999999, @-999999999999999",
+         most, 0);
   static const row decimal[] = {{SF_MEMBER, SF_DECIMAL, 1500, "", "", 3},
                                 {SF_PARAMETER, SF_BOOLEAN, 0, "q", "", 1},
                                 {SF_PARAMETER, SF_INTEGER, 1, "r", "", 1}};
@@ -447,18 +579,21 @@ static void priorities(void) {
       {"", {3, 0, 0, 0}},      {"u=1, i", {1, 1, 1, 1}}, {"u=8, i", {3, 1, 0, 1}},
       {"u=1.0", {3, 0, 0, 0}}, {"u=-0", {0, 0, 1, 0}},   {"u=1, u=9", {3, 0, 0, 0}},
       {"i=1", {3, 0, 0, 0}},   {"i=?0", {3, 0, 0, 1}},   {"u=3;x", {3, 0, 1, 0}},
+      {"u=0", {SF_URGENCY_FIRST, 0, 1, 0}},
+      {"u=7", {SF_URGENCY_LAST, 0, 1, 0}},
+      {"u=-1", {SF_URGENCY_DEFAULT, 0, 0, 0}},
   };
   uint32_t status;
   for (size_t i = 0; i < sizeof rows / sizeof *rows; ++i) {
     const char *about = rows[i].text;
     size_t length = strlen(about);
-    unsigned char *text = block_of(about, length);
+    unsigned char *text = take_room(about, length);
     sf_priority_flags priority = {9, 9, 9, 9};
     sf_refusal refusal = untouched;
     CALL(sf_priority(&seed, text, length, &priority, &refusal));
     CHECK(status == SF_OK && memcmp(&priority, &rows[i].says, sizeof priority) == 0);
     CHECK(is_untouched(&refusal));
-    free(text);
+    give_room(text);
   }
   const char *about = "u=1, ";
   sf_priority_flags priority = {9, 9, 9, 9}, nines = {9, 9, 9, 9};
@@ -505,7 +640,7 @@ static void policies(void) {
   for (size_t i = 0; i < sizeof rows / sizeof *rows; ++i) {
     const char *about = rows[i].text;
     size_t length = strlen(about);
-    unsigned char *text = block_of(about, length);
+    unsigned char *text = take_room(about, length);
     sf_policy policy;
     memset(&policy, 0, sizeof policy);
     sf_refusal refusal = untouched;
@@ -525,15 +660,17 @@ static void policies(void) {
     seconds = 4711;
     CHECK(sf_lifetime(&policy, 0, &seconds) == (rows[i].alone >= 0));
     CHECK(seconds == (rows[i].alone >= 0 ? (uint64_t)rows[i].alone : 4711));
-    free(text);
+    give_room(text);
   }
   const char *about = "no policy";
   sf_policy policy, ones;
   memset(&policy, 1, sizeof policy);
   memset(&ones, 1, sizeof ones);
   sf_refusal refusal = untouched;
-  CALL(sf_cache_control(&seed, NULL, 0, &policy, &refusal));
+  unsigned char *none = take_room(NULL, 0);
+  CALL(sf_cache_control(&seed, none, 0, &policy, &refusal));
   CHECK(status == SF_EMPTY && is_untouched(&refusal));
+  give_room(none);
   CALL(sf_cache_control(&seed, "max-age=60,", 11, &policy, &refusal));
   CHECK(status == SF_REFUSED && refusal.place == 11 && refusal.found == -1);
   CHECK(is_set(&refusal, "09 20 2a 61-7a"));
@@ -586,12 +723,12 @@ static void told(const char *from, const hop_row *rows, size_t count, size_t siz
   const char *about = from;
   uint32_t status;
   size_t length = strlen(from);
-  unsigned char *text = block_of(from, length);
+  unsigned char *text = take_room(from, length);
   sf_refusal refusal = untouched;
   for (size_t n = 0; n <= count + 1; ++n) {
     for (size_t b = 0; b <= size + 1; ++b) {
-      sf_hop *hops = (sf_hop *)(void *)block_of(NULL, n * sizeof *hops);
-      unsigned char *bytes = block_of(NULL, b);
+      sf_hop *hops = take_room(NULL, n * sizeof *hops);
+      unsigned char *bytes = take_room(NULL, b);
       sf_path path = {4711, 4712, 4713, 4714, 4715};
       CALL(sf_cache_status(&seed, text, length, hops, n, bytes, b, &path, &refusal));
       CHECK(path.hops == count && path.bytes == size && path.nameless == 4714);
@@ -606,13 +743,13 @@ static void told(const char *from, const hop_row *rows, size_t count, size_t siz
         CHECK(n == count || all_are((unsigned char *)(hops + count), sizeof *hops));
         CHECK(b == size || bytes[size] == 0xa5);
       }
-      free(hops);
-      free(bytes);
+      give_room(hops);
+      give_room(bytes);
     }
   }
   CHECK(count <= SF_PARSE_ROOM(length) && size <= SF_PARSE_ROOM(length));
   CHECK(is_untouched(&refusal));
-  free(text);
+  give_room(text);
 }
 
 #define TOLD(text, rows, size, served) told(text, rows, sizeof rows / sizeof *rows, size, served)
@@ -634,6 +771,15 @@ static void paths(void) {
   static const hop_row odd[] = {
       {"c", 1, SF_FORWARDED, SF_OTHER, "odd", -1, 1, -1, "-3", NULL, NULL, 0}};
   TOLD("c;hit=?0;fwd=odd;fwd-status=99;stored;ttl=-3", odd, 4, -1);
+  static const hop_row least[] = {{"c", 1, SF_FORWARDED, SF_MISS, "miss", SF_FWD_STATUS_MIN, -1, -1,
+                                   NULL, NULL, NULL, 0}};
+  TOLD("c;fwd=miss;fwd-status=100", least, 5, -1);
+  static const hop_row greatest[] = {{"c", 1, SF_FORWARDED, SF_MISS, "miss", SF_FWD_STATUS_MAX, -1,
+                                      -1, NULL, NULL, NULL, 0}};
+  TOLD("c;fwd=miss;fwd-status=999", greatest, 5, -1);
+  static const hop_row over[] = {
+      {"c", 1, SF_FORWARDED, SF_MISS, "miss", -1, -1, -1, NULL, NULL, NULL, 0}};
+  TOLD("c;fwd=miss;fwd-status=1000", over, 5, -1);
   /* parameters of another type, and what counts beside fwd alone */
   static const hop_row none[] = {{"c", 1, SF_UNSAID, 0, NULL, -1, -1, -1, NULL, NULL, NULL, 0}};
   TOLD("c;hit=\"x\";fwd=1;ttl=1.0;key=k;detail=1", none, 1, -1);
@@ -664,11 +810,11 @@ static void paths(void) {
   for (size_t i = 0; i < sizeof rows / sizeof *rows; ++i) {
     const char *about = rows[i].text;
     size_t length = strlen(about);
-    unsigned char *text = block_of(about, length);
+    unsigned char *text = take_room(about, length);
     CALL(sf_cache_status(&seed, text, length, &hop, 1, &byte, 1, &path, &refusal));
     CHECK(status == SF_NOT_A_CACHE && path.nameless == rows[i].place);
     CHECK(path.hops == 4711 && path.bytes == 4712 && path.served == 4713 && path.is_served == 4715);
-    free(text);
+    give_room(text);
   }
   const char *about = "a,";
   CHECK(is_untouched(&refusal));
@@ -677,6 +823,73 @@ static void paths(void) {
   CHECK(status == SF_REFUSED && refusal.place == 2 && refusal.found == -1);
   CHECK(path.hops == 4711 && path.bytes == 4712 && path.served == 4713 && path.nameless == 4714);
   CHECK(path.is_served == 4715 && byte == 0xa5 && all_are((unsigned char *)&hop, sizeof hop));
+}
+
+/* Each struct that a call is given, in a room of its own, as the answers are. */
+static void structs(void) {
+  static const struct {
+    uint32_t kind;
+    const char *text;
+  } rows[] = {
+      {SF_ITEM, "a;q=1"}, {SF_ITEM, "a,"}, {SF_LIST, "a;hit;ttl=1"}, {SF_LIST, "a, "},
+      {SF_LIST, "7"},     {SF_LIST, ""},   {SF_DICT, "u=1, i"},      {SF_DICT, "max-age=5,"},
+      {SF_DICT, ""},
+  };
+  sf_seed *secret = take_room(&seed, sizeof seed);
+  for (size_t i = 0; i < sizeof rows / sizeof *rows; ++i) {
+    const char *about = rows[i].text;
+    uint32_t kind = rows[i].kind, status, right;
+    size_t length = strlen(about);
+    unsigned char *text = take_room(about, length);
+    sf_refusal *refusal = take_room(&untouched, sizeof untouched);
+    size_t *wanted = take_room(NULL, sizeof *wanted);
+    uint32_t *equal = take_room(NULL, sizeof *equal);
+    sf_sizes *sizes = take_room(NULL, sizeof *sizes);
+    sf_path *path = take_room(NULL, sizeof *path);
+    sf_policy *policy = take_room(NULL, sizeof *policy);
+    sf_priority_flags *priority = take_room(NULL, sizeof *priority);
+    uint64_t *seconds = take_room(NULL, sizeof *seconds);
+    unsigned char *bytes = take_room(NULL, 40);
+    sf_node *nodes = take_room(NULL, 4 * sizeof *nodes);
+    sf_hop *hops = take_room(NULL, 4 * sizeof *hops);
+
+    CALL(sf_check(secret, SF_RFC9651, kind, text, length, refusal));
+    right = status;
+    CHECK(right == SF_OK || right == SF_REFUSED);
+    CALL(sf_normalise(secret, SF_RFC9651, kind, text, length, bytes, 40, wanted, refusal));
+    CHECK(status == right);
+    CALL(sf_equal(secret, SF_RFC9651, kind, text, length, text, length, equal, refusal));
+    CHECK(status == right);
+    CALL(sf_parse(secret, SF_RFC9651, kind, text, length, nodes, 4, bytes, 40, sizes, refusal));
+    CHECK(status == right);
+    if (kind == SF_LIST) {
+      CALL(sf_cache_status(secret, text, length, hops, 4, bytes, 40, path, refusal));
+      CHECK(status == right || (right == SF_OK && status == SF_NOT_A_CACHE));
+    }
+    if (kind == SF_DICT) {
+      CALL(sf_priority(secret, text, length, priority, refusal));
+      CHECK(status == right);
+      *priority = sf_priority_merge(priority, priority);
+      CALL(sf_cache_control(secret, text, length, policy, refusal));
+      CHECK(status == right || (right == SF_OK && status == SF_EMPTY));
+      CHECK(sf_lifetime(policy, 1, seconds) <= 1 && sf_lifetime(policy, 0, seconds) <= 1);
+    }
+    CHECK(memcmp(secret, &seed, sizeof seed) == 0);
+    CHECK(length == 0 || memcmp(text, about, length) == 0);
+    give_room(text);
+    give_room(refusal);
+    give_room(wanted);
+    give_room(equal);
+    give_room(sizes);
+    give_room(path);
+    give_room(policy);
+    give_room(priority);
+    give_room(seconds);
+    give_room(bytes);
+    give_room(nodes);
+    give_room(hops);
+  }
+  give_room(secret);
 }
 
 /* Lines, joined into a room that is exactly as long as the text, or one short for some line. */
@@ -694,13 +907,13 @@ static void joining(void) {
     const char *about = rows[i].text;
     size_t whole = strlen(about);
     for (size_t room = 0; room <= whole + 2; ++room) {
-      unsigned char *text = block_of(NULL, room);
+      unsigned char *text = take_room(NULL, room);
       sf_joined joined = {0, 0, 0};
       size_t length = 0;
       int fits = 1;
       for (size_t l = 0; fits && rows[i].lines[l] != NULL; ++l) {
         size_t line_length = strlen(rows[i].lines[l]);
-        unsigned char *line = block_of(rows[i].lines[l], line_length);
+        unsigned char *line = take_room(rows[i].lines[l], line_length);
         size_t next = length + (l > 0 ? 2 : 0) + line_length;
         fits = next <= room;
         CALL(sf_join(line, line_length, text, room, &joined));
@@ -712,10 +925,10 @@ static void joining(void) {
         CHECK(joined.length == length && joined.begun == (l > 0 || fits));
         CHECK(length == 0 || memcmp(text, about, length) == 0);
         CHECK(room == length || all_are(text + length, room - length));
-        free(line);
+        give_room(line);
       }
       CHECK(!fits || length == whole);
-      free(text);
+      give_room(text);
     }
   }
   const char *about = "joined before";
@@ -724,12 +937,15 @@ static void joining(void) {
   CALL(sf_join("a", 1, room, sizeof room, &joined));
   CHECK(status == SF_BAD_CALL && joined.length == 5 && joined.wanted == 6 && joined.begun == 1);
   joined.length = SIZE_MAX;
-  CALL(sf_join(NULL, 0, NULL, 0, &joined));
+  unsigned char *none = take_room(NULL, 0);
+  CALL(sf_join(none, 0, none, 0, &joined));
   CHECK(status == SF_BAD_CALL && joined.length == SIZE_MAX);
+  give_room(none);
   joined.length = 0;
   joined.begun = 9; /* any number but 0 says that it has begun */
   CALL(sf_join("a", 1, room, sizeof room, &joined));
   CHECK(status == SF_OK && joined.length == 3 && memcmp(room, ", a", 3) == 0 && room[3] == 0xa5);
+  CHECK(joined.begun == 1 && joined.wanted == 6);
 }
 
 /* Malloc refused at its n-th call, alone or from there on, for each n: the answer is the right one
@@ -760,6 +976,128 @@ static const char directives[] = "max-age=30, s-maxage=90, a;b;c, d=(e f), g=\"h
       CHECK(met > 0);                                                                              \
     }                                                                                              \
   } while (0)
+
+/* All that one call may write. */
+typedef struct answer {
+  sf_refusal refusal;
+  size_t wanted;
+  uint32_t equal;
+  sf_sizes sizes;
+  sf_priority_flags priority;
+  sf_policy policy;
+  sf_path path;
+  sf_node nodes[32];
+  sf_hop hops[8];
+  unsigned char bytes[128];
+} answer;
+
+typedef enum question {
+  TO_CHECK,
+  TO_NORMALISE,
+  TO_COMPARE,        /* with itself */
+  TO_COMPARE_SECOND, /* with a text that is accepted before it */
+  TO_PARSE,
+  TO_ASK_PRIORITY,
+  TO_ASK_POLICY,
+  TO_ASK_PATH,
+  QUESTIONS
+} question;
+
+static int is_for(question asked, uint32_t dialect, uint32_t kind) {
+  if (asked < TO_ASK_PRIORITY)
+    return 1;
+  return dialect == SF_RFC9651 && kind == (asked == TO_ASK_PATH ? SF_LIST : SF_DICT);
+}
+
+static uint32_t ask(question asked, uint32_t dialect, uint32_t kind, const void *text,
+                    size_t length, answer *a) {
+  switch (asked) {
+  case TO_CHECK:
+    return sf_check(&seed, dialect, kind, text, length, &a->refusal);
+  case TO_NORMALISE:
+    return sf_normalise(&seed, dialect, kind, text, length, a->bytes, sizeof a->bytes, &a->wanted,
+                        &a->refusal);
+  case TO_COMPARE:
+    return sf_equal(&seed, dialect, kind, text, length, text, length, &a->equal, &a->refusal);
+  case TO_COMPARE_SECOND:
+    return sf_equal(&seed, dialect, kind, "a;b", 3, text, length, &a->equal, &a->refusal);
+  case TO_PARSE:
+    return sf_parse(&seed, dialect, kind, text, length, a->nodes, 32, a->bytes, sizeof a->bytes,
+                    &a->sizes, &a->refusal);
+  case TO_ASK_PRIORITY:
+    return sf_priority(&seed, text, length, &a->priority, &a->refusal);
+  case TO_ASK_POLICY:
+    return sf_cache_control(&seed, text, length, &a->policy, &a->refusal);
+  default:
+    return sf_cache_status(&seed, text, length, a->hops, 8, a->bytes, sizeof a->bytes, &a->path,
+                           &a->refusal);
+  }
+}
+
+/* Whether two answers are the same, but for what stands between members. */
+static int is_same(const answer *a, const answer *b) {
+  return memcmp(&a->refusal, &b->refusal, sizeof a->refusal) == 0 && a->wanted == b->wanted &&
+         a->equal == b->equal && memcmp(&a->sizes, &b->sizes, sizeof a->sizes) == 0 &&
+         memcmp(&a->priority, &b->priority, sizeof a->priority) == 0 &&
+         memcmp(&a->policy, &b->policy, offsetof(sf_policy, is_private) + 1) == 0 &&
+         memcmp(&a->path, &b->path, offsetof(sf_path, is_served) + sizeof a->path.is_served) == 0 &&
+         memcmp(a->nodes, b->nodes, sizeof a->nodes) == 0 &&
+         memcmp(a->hops, b->hops, sizeof a->hops) == 0 &&
+         memcmp(a->bytes, b->bytes, sizeof a->bytes) == 0;
+}
+
+/* How many answers a text got that were SF_NO_MEMORY; each of the others is the one that it gets
+ * with memory, a refusal too. */
+static long scarce(uint32_t dialect, uint32_t kind, const char *text, size_t length) {
+  const char *about = text;
+  uint32_t status, with_memory;
+  answer blank, right, got;
+  long met = 0;
+  memset(&blank, 0xa5, sizeof blank);
+  for (question asked = TO_CHECK; asked < QUESTIONS; ++asked) {
+    if (!is_for(asked, dialect, kind))
+      continue;
+    memcpy(&right, &blank, sizeof right);
+    CALL(ask(asked, dialect, kind, text, length, &right));
+    with_memory = status;
+    CHECK(status != SF_SHORT && status != SF_NO_MEMORY && status != SF_BAD_CALL);
+    for (int once = 0; once < 2; ++once) {
+      for (long n = 1; n < 10000; ++n) {
+        memcpy(&got, &blank, sizeof got);
+        calls = refusals = 0;
+        refused_once = once;
+        refused_from = n;
+        CALL(ask(asked, dialect, kind, text, length, &got));
+        refused_from = 0;
+        met += status == SF_NO_MEMORY;
+        CHECK(status == SF_NO_MEMORY ? refusals > 0 && is_same(&got, &blank)
+                                     : status == with_memory && is_same(&got, &right));
+        if (refusals == 0)
+          break;
+      }
+    }
+  }
+  return met;
+}
+
+static void scarce_texts(void) {
+  const char *about = "worked texts, no memory";
+  long met = 0;
+#define ROW(kind, text, canonical)                                                                 \
+  met += scarce(SF_RFC9651, kind, text, sizeof text - 1);                                          \
+  met += scarce(SF_RFC8941, kind, text, sizeof text - 1);
+  ACCEPTED(ROW)
+#undef ROW
+  CHECK(met > 0);
+  met = 0;
+#define ROW(kind, text, place, found, set) met += scarce(SF_RFC9651, kind, text, sizeof text - 1);
+  REFUSED(ROW)
+#undef ROW
+#define ROW(kind, text, place, found, set) met += scarce(SF_RFC8941, kind, text, sizeof text - 1);
+  REFUSED_8941(ROW)
+#undef ROW
+  CHECK(met > 0);
+}
 
 static void want_of_memory(void) {
   uint32_t status;
@@ -841,16 +1179,43 @@ static void want_of_memory(void) {
   refused_from = 0;
 }
 
+/* All of it, with length 0 beside NULL, and beside a pointer one past a block. */
 static void all(void) {
-  worked_texts();
-  bad_calls();
-  comparing();
-  nodes_of_values();
-  priorities();
-  policies();
-  paths();
-  joining();
+  layouts();
+  macros();
+  for (none_is_a_place = 0; none_is_a_place < 2; ++none_is_a_place) {
+    worked_texts();
+    bad_calls();
+    comparing();
+    nodes_of_values();
+    priorities();
+    policies();
+    paths();
+    structs();
+    joining();
+  }
+  none_is_a_place = 0;
   want_of_memory();
+  scarce_texts();
+}
+
+/* A length that is one more than that of the text, or of the room, ends the program: a byte past
+ * the end can't be touched unseen. */
+static void past_the_end(size_t text_length, size_t room_length) {
+  const char *about = "past the end";
+  pid_t child = fork();
+  if (child == 0) {
+    fclose(stderr);
+    sf_refusal refusal;
+    size_t wanted;
+    void *text = take_room("a,b", 3), *room = take_room(NULL, 3);
+    sf_normalise(&seed, SF_RFC9651, SF_LIST, text, text_length, room, room_length, &wanted,
+                 &refusal);
+    _exit(0);
+  }
+  int status = 0;
+  CHECK(child > 0 && waitpid(child, &status, 0) == child);
+  CHECK(!WIFEXITED(status) || WEXITSTATUS(status) != 0);
 }
 
 static void *run(void *unused) {
@@ -859,6 +1224,8 @@ static void *run(void *unused) {
 }
 
 int main(void) {
+  past_the_end(4, 3);
+  past_the_end(3, 4);
   all();
   enum { MOST = 64 };
   pthread_t threads[MOST];

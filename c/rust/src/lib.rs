@@ -74,7 +74,7 @@ pub enum Fault {
     SecondRefused(Refusal),
     /// This member of a Cache-Status List, counted from 0, is the first that names no cache.
     NotACache(usize),
-    /// Memory was wanting.
+    /// Memory was wanting, the library's or that of an answer.
     OutOfMemory,
 }
 
@@ -127,9 +127,20 @@ fn start(text: &[u8]) -> *const c_void {
     text.as_ptr().cast()
 }
 
-/// The lines of a field as one text, with a comma and a space between two (RFC 9651 section 4.2).
-#[must_use]
-pub fn join(lines: &[&[u8]]) -> Vec<u8> {
+// A room of so many elements, whatever it held.
+fn grow<T: Clone>(room: &mut Vec<T>, length: usize, filler: T) -> Result<(), Fault> {
+    if length > room.len() {
+        let more = length - room.len();
+        room.try_reserve_exact(more)
+            .map_err(|_| Fault::OutOfMemory)?;
+    }
+    room.resize(length, filler);
+    Ok(())
+}
+
+/// The lines of a field as one text, with a comma and a space between two (RFC 9651 section 4.2). It
+/// fails for want of memory alone.
+pub fn join(lines: &[&[u8]]) -> Result<Vec<u8>, Fault> {
     let mut room = Vec::new();
     let mut joined = raw::Joined {
         length: 0,
@@ -151,11 +162,11 @@ pub fn join(lines: &[&[u8]]) -> Vec<u8> {
             if status == raw::OK {
                 break;
             }
-            room.resize(joined.wanted, 0u8);
+            grow(&mut room, joined.wanted, 0u8)?;
         }
     }
     room.truncate(joined.length);
-    room
+    Ok(room)
 }
 
 /// Whether the text spells a value of the kind, by RFC 9651.
@@ -184,10 +195,21 @@ pub fn check_in(seed: &Seed, dialect: Dialect, kind: Kind, text: &[u8]) -> Resul
     }
 }
 
-/// The canonical text of the value that the text spells (RFC 9651 section 4.1). Two texts of a kind
-/// spell equal values exactly where these are equal.
+/// The canonical text of the value that the text spells (RFC 9651 section 4.1), by RFC 9651. Two
+/// texts of a kind spell equal values exactly where these are equal.
 pub fn normalise(seed: &Seed, kind: Kind, text: &[u8]) -> Result<Vec<u8>, Fault> {
-    let mut room = vec![0; text.len() + text.len() / 8 * 5 + 8];
+    normalise_in(seed, Dialect::Rfc9651, kind, text)
+}
+
+/// The canonical text of the value that the text spells in the dialect.
+pub fn normalise_in(
+    seed: &Seed,
+    dialect: Dialect,
+    kind: Kind,
+    text: &[u8],
+) -> Result<Vec<u8>, Fault> {
+    let mut room = Vec::new();
+    grow(&mut room, text.len(), 0u8)?; // most canonical texts are no longer
     loop {
         let mut refusal = NO_REFUSAL;
         let mut wanted = 0;
@@ -195,7 +217,7 @@ pub fn normalise(seed: &Seed, kind: Kind, text: &[u8]) -> Result<Vec<u8>, Fault>
         let status = unsafe {
             raw::sf_normalise(
                 &seed.bytes,
-                Dialect::Rfc9651 as u32,
+                dialect as u32,
                 kind as u32,
                 start(text),
                 text.len(),
@@ -210,21 +232,32 @@ pub fn normalise(seed: &Seed, kind: Kind, text: &[u8]) -> Result<Vec<u8>, Fault>
                 room.truncate(wanted);
                 return Ok(room);
             }
-            raw::SHORT => room.resize(wanted, 0),
+            raw::SHORT => grow(&mut room, wanted, 0)?,
             status => return Err(fault(status, refusal)),
         }
     }
 }
 
-/// Whether two texts of a kind spell equal values; order counts.
+/// Whether two texts of a kind spell equal values by RFC 9651; order counts.
 pub fn equal(seed: &Seed, kind: Kind, first: &[u8], second: &[u8]) -> Result<bool, Fault> {
+    equal_in(seed, Dialect::Rfc9651, kind, first, second)
+}
+
+/// Whether two texts of a kind spell equal values in the dialect; order counts.
+pub fn equal_in(
+    seed: &Seed,
+    dialect: Dialect,
+    kind: Kind,
+    first: &[u8],
+    second: &[u8],
+) -> Result<bool, Fault> {
     let mut refusal = NO_REFUSAL;
     let mut equal = 0;
     // SAFETY: as in `check_in`.
     let status = unsafe {
         raw::sf_equal(
             &seed.bytes,
-            Dialect::Rfc9651 as u32,
+            dialect as u32,
             kind as u32,
             start(first),
             first.len(),
@@ -280,6 +313,12 @@ pub struct Value {
     bytes: Vec<u8>,
 }
 
+impl fmt::Debug for Value {
+    fn fmt(&self, f: &mut fmt::Formatter<'_>) -> fmt::Result {
+        f.debug_tuple("Value").field(&self.members()).finish()
+    }
+}
+
 /// A part of a value.
 #[derive(Clone, Copy)]
 pub struct Part<'a> {
@@ -295,8 +334,30 @@ pub struct Parts<'a> {
     end: usize,
 }
 
+impl fmt::Debug for Part<'_> {
+    fn fmt(&self, f: &mut fmt::Formatter<'_>) -> fmt::Result {
+        f.debug_struct("Part")
+            .field("role", &self.role())
+            .field("key", &self.key())
+            .field("type", &self.get())
+            .field("parts", &self.parts())
+            .finish()
+    }
+}
+
+impl fmt::Debug for Parts<'_> {
+    fn fmt(&self, f: &mut fmt::Formatter<'_>) -> fmt::Result {
+        f.debug_list().entries(self.clone()).finish()
+    }
+}
+
 /// The value that the text spells, by RFC 9651.
 pub fn parse(seed: &Seed, kind: Kind, text: &[u8]) -> Result<Value, Fault> {
+    parse_in(seed, Dialect::Rfc9651, kind, text)
+}
+
+/// The value that the text spells in the dialect.
+pub fn parse_in(seed: &Seed, dialect: Dialect, kind: Kind, text: &[u8]) -> Result<Value, Fault> {
     let mut value = Value {
         nodes: Vec::new(),
         bytes: Vec::new(),
@@ -308,7 +369,7 @@ pub fn parse(seed: &Seed, kind: Kind, text: &[u8]) -> Result<Value, Fault> {
         let status = unsafe {
             raw::sf_parse(
                 &seed.bytes,
-                Dialect::Rfc9651 as u32,
+                dialect as u32,
                 kind as u32,
                 start(text),
                 text.len(),
@@ -323,8 +384,8 @@ pub fn parse(seed: &Seed, kind: Kind, text: &[u8]) -> Result<Value, Fault> {
         match status {
             raw::OK => return Ok(value),
             raw::SHORT => {
-                value.nodes.resize(sizes.nodes, NO_NODE);
-                value.bytes.resize(sizes.bytes, 0);
+                grow(&mut value.nodes, sizes.nodes, NO_NODE)?;
+                grow(&mut value.bytes, sizes.bytes, 0)?;
             }
             status => return Err(fault(status, refusal)),
         }

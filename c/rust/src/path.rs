@@ -1,6 +1,7 @@
 //! Cache-Status: the path of a response (RFC 9211).
 
-use crate::{fault, raw, start, Fault, Seed, NO_REFUSAL};
+use crate::{fault, grow, raw, start, Fault, Seed, NO_REFUSAL};
+use std::fmt;
 
 /// A name of a cache, or a detail. The String `a` and the Token `a` are two names.
 #[derive(Clone, Copy, Debug, PartialEq, Eq)]
@@ -22,7 +23,7 @@ pub enum Forward<'a> {
     UriMiss,
     /// `vary-miss`: one was, and none that matches the request's headers.
     VaryMiss,
-    /// `miss`: one of these two or both.
+    /// `miss`: one of the two above, and the cache does not tell which.
     Miss,
     /// `request`: a fresh one was, and the request's directives forbade its use.
     Request,
@@ -81,6 +82,24 @@ pub struct Path {
     hops: Vec<raw::Hop>,
     bytes: Vec<u8>,
     served: Option<usize>,
+}
+
+// The hops, for `Debug`.
+struct Hops<'a>(&'a Path);
+
+impl fmt::Debug for Hops<'_> {
+    fn fmt(&self, f: &mut fmt::Formatter<'_>) -> fmt::Result {
+        f.debug_list().entries(self.0.hops()).finish()
+    }
+}
+
+impl fmt::Debug for Path {
+    fn fmt(&self, f: &mut fmt::Formatter<'_>) -> fmt::Result {
+        f.debug_struct("Path")
+            .field("hops", &Hops(self))
+            .field("served_by", &self.served)
+            .finish()
+    }
 }
 
 const NO_PIECE: raw::Piece = raw::Piece { at: 0, length: 0 };
@@ -142,8 +161,8 @@ pub fn cache_status(seed: &Seed, text: &[u8]) -> Result<Path, Fault> {
                 return Ok(path);
             }
             raw::SHORT => {
-                path.hops.resize(told.hops, NO_HOP);
-                path.bytes.resize(told.bytes, 0);
+                grow(&mut path.hops, told.hops, NO_HOP)?;
+                grow(&mut path.bytes, told.bytes, 0)?;
             }
             raw::NOT_A_CACHE => return Err(Fault::NotACache(told.nameless)),
             status => return Err(fault(status, refusal)),

@@ -1,5 +1,8 @@
-//! The functions of `include/sf.h`, as they stand there. Nothing compares the two.
+//! The functions of `include/sf.h`, as they stand there. The sizes of the structs are asserted below
+//! and the places of their members tested, by the numbers that `tests/boundary.c` of the folder above
+//! has for the header. That the arguments are the same shows in the tests that call them.
 use std::ffi::c_void;
+use std::mem::size_of;
 
 #[repr(C)]
 pub struct Refusal {
@@ -96,6 +99,19 @@ pub struct Joined {
     pub begun: u32,
 }
 
+// The sizes; where the members stand is tested below.
+const _: () = {
+    assert!(size_of::<Refusal>() == 32);
+    assert!(size_of::<Node>() == 56);
+    assert!(size_of::<Sizes>() == 16);
+    assert!(size_of::<PriorityFlags>() == 4);
+    assert!(size_of::<Policy>() == 24);
+    assert!(size_of::<Piece>() == 16);
+    assert!(size_of::<Hop>() == 88);
+    assert!(size_of::<Path>() == 40);
+    assert!(size_of::<Joined>() == 24);
+};
+
 pub const OK: u32 = 0;
 pub const REFUSED: u32 = 1;
 pub const SECOND_REFUSED: u32 = 2;
@@ -184,4 +200,79 @@ extern "C" {
         joined: *mut Joined,
     ) -> u32;
     pub fn sf_lifetime(policy: *const Policy, shared: u32, seconds: *mut u64) -> u32;
+}
+
+#[cfg(test)]
+mod tests {
+    use super::*;
+    use std::mem::MaybeUninit;
+    use std::ptr::addr_of;
+
+    macro_rules! at {
+        ($struct:ident, $member:ident) => {{
+            let it = MaybeUninit::<$struct>::uninit();
+            // SAFETY: the address is of memory that is there, and nothing is read.
+            let member = unsafe { addr_of!((*it.as_ptr()).$member) };
+            member as usize - it.as_ptr() as usize
+        }};
+    }
+
+    #[test]
+    fn members_stand_where_the_header_has_them() {
+        assert_eq!(at!(Refusal, place), 0);
+        assert_eq!(at!(Refusal, expected_low), 8);
+        assert_eq!(at!(Refusal, expected_high), 16);
+        assert_eq!(at!(Refusal, found), 24);
+        assert_eq!(at!(Refusal, may_end), 28);
+        assert_eq!(at!(Node, number), 0);
+        assert_eq!(at!(Node, key_at), 8);
+        assert_eq!(at!(Node, key_length), 16);
+        assert_eq!(at!(Node, text_at), 24);
+        assert_eq!(at!(Node, text_length), 32);
+        assert_eq!(at!(Node, span), 40);
+        assert_eq!(at!(Node, role), 48);
+        assert_eq!(at!(Node, kind), 52);
+        assert_eq!(at!(Sizes, nodes), 0);
+        assert_eq!(at!(Sizes, bytes), 8);
+        assert_eq!(at!(PriorityFlags, urgency), 0);
+        assert_eq!(at!(PriorityFlags, incremental), 1);
+        assert_eq!(at!(PriorityFlags, says_urgency), 2);
+        assert_eq!(at!(PriorityFlags, says_incremental), 3);
+        assert_eq!(at!(Policy, max_age), 0);
+        assert_eq!(at!(Policy, s_maxage), 8);
+        assert_eq!(at!(Policy, says_max_age), 16);
+        assert_eq!(at!(Policy, says_s_maxage), 17);
+        assert_eq!(at!(Policy, must_revalidate), 18);
+        assert_eq!(at!(Policy, no_store), 19);
+        assert_eq!(at!(Policy, no_cache), 20);
+        assert_eq!(at!(Policy, is_private), 21);
+        assert_eq!(at!(Piece, at), 0);
+        assert_eq!(at!(Piece, length), 8);
+        assert_eq!(at!(Hop, name), 0);
+        assert_eq!(at!(Hop, why_token), 16);
+        assert_eq!(at!(Hop, key), 32);
+        assert_eq!(at!(Hop, detail), 48);
+        assert_eq!(at!(Hop, ttl), 64);
+        assert_eq!(at!(Hop, outcome), 72);
+        assert_eq!(at!(Hop, why), 74);
+        assert_eq!(at!(Hop, status), 76);
+        assert_eq!(at!(Hop, says_status), 78);
+        assert_eq!(at!(Hop, stored), 79);
+        assert_eq!(at!(Hop, says_stored), 80);
+        assert_eq!(at!(Hop, collapsed), 81);
+        assert_eq!(at!(Hop, says_collapsed), 82);
+        assert_eq!(at!(Hop, says_ttl), 83);
+        assert_eq!(at!(Hop, says_key), 84);
+        assert_eq!(at!(Hop, says_detail), 85);
+        assert_eq!(at!(Hop, name_is_token), 86);
+        assert_eq!(at!(Hop, detail_is_token), 87);
+        assert_eq!(at!(Path, hops), 0);
+        assert_eq!(at!(Path, bytes), 8);
+        assert_eq!(at!(Path, served), 16);
+        assert_eq!(at!(Path, nameless), 24);
+        assert_eq!(at!(Path, is_served), 32);
+        assert_eq!(at!(Joined, length), 0);
+        assert_eq!(at!(Joined, wanted), 8);
+        assert_eq!(at!(Joined, begun), 16);
+    }
 }

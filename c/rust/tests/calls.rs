@@ -1,9 +1,9 @@
 //! The wrapper from safe Rust: what each call answers.
 
 use sf::{
-    cache_control, cache_status, check, check_in, equal, join, merge, normalise, parse, priority,
-    Dialect, Fault, Forward, Hop, Kind, Name, Outcome, Passed, Policy, Priority, Refusal, Role,
-    Seed, Type,
+    cache_control, cache_status, check, check_in, equal, equal_in, join, merge, normalise,
+    normalise_in, parse, parse_in, priority, Dialect, Fault, Forward, Hop, Kind, Name, Outcome,
+    Passed, Policy, Priority, Refusal, Role, Seed, Type,
 };
 
 const SEED: [u8; 16] = *b"sixteen bytes of";
@@ -52,11 +52,58 @@ fn texts_are_normalised_and_compared() {
 }
 
 #[test]
+fn a_dialect_is_asked_for() {
+    let (old, new) = (Dialect::Rfc8941, Dialect::Rfc9651);
+    assert_eq!(
+        normalise_in(&seed(), new, Kind::Item, b"@01").unwrap(),
+        b"@1"
+    );
+    assert_eq!(normalise_in(&seed(), old, Kind::Item, b"01").unwrap(), b"1");
+    assert!(matches!(
+        normalise_in(&seed(), old, Kind::Item, b"@01"),
+        Err(Fault::Refused(refusal)) if refusal.place == 0 && refusal.found == Some(b'@')
+    ));
+    assert_eq!(equal_in(&seed(), new, Kind::List, b"@1", b"@01"), Ok(true));
+    assert_eq!(equal_in(&seed(), old, Kind::List, b"1", b"01"), Ok(true));
+    assert!(matches!(
+        equal_in(&seed(), old, Kind::List, b"1", b"1, @1"),
+        Err(Fault::SecondRefused(refusal)) if refusal.place == 3
+    ));
+    let text = b"a=%\"b\"";
+    let value = parse_in(&seed(), new, Kind::Dict, text).unwrap();
+    assert_eq!(
+        value.members().next().unwrap().get(),
+        Type::DisplayString(b"b")
+    );
+    let value = parse_in(&seed(), old, Kind::Dict, b"a").unwrap();
+    assert_eq!(value.members().next().unwrap().get(), Type::Boolean(true));
+    let refused = parse_in(&seed(), old, Kind::Dict, text);
+    assert!(matches!(refused, Err(Fault::Refused(refusal)) if refusal.place == 2));
+}
+
+#[test]
+fn a_fault_is_told_in_words() {
+    let fault = check(&seed(), Kind::Item, b"1 2").unwrap_err();
+    assert_eq!(fault.to_string(), "the text is refused at 2: byte 32");
+    let fault = equal(&seed(), Kind::Item, b"1", b"").unwrap_err();
+    assert_eq!(
+        fault.to_string(),
+        "the second text is refused at 0: it ended"
+    );
+    let fault = cache_status(&seed(), b"7").unwrap_err();
+    assert_eq!(fault.to_string(), "member 0 names no cache");
+    assert_eq!(Fault::OutOfMemory.to_string(), "out of memory");
+}
+
+#[test]
 fn lines_are_joined() {
-    assert_eq!(join(&[]), b"");
-    assert_eq!(join(&[b""]), b"");
-    assert_eq!(join(&[b"", b""]), b", ");
-    assert_eq!(join(&[b"a;q=1.0,b", b"(c  d)"]), b"a;q=1.0,b, (c  d)");
+    assert_eq!(join(&[]).unwrap(), b"");
+    assert_eq!(join(&[b""]).unwrap(), b"");
+    assert_eq!(join(&[b"", b""]).unwrap(), b", ");
+    assert_eq!(
+        join(&[b"a;q=1.0,b", b"(c  d)"]).unwrap(),
+        b"a;q=1.0,b, (c  d)"
+    );
 }
 
 #[test]
@@ -85,6 +132,43 @@ fn a_value_is_walked() {
     assert_eq!(
         parse(&seed(), Kind::List, b"").unwrap().members().count(),
         0
+    );
+}
+
+#[test]
+fn each_type_is_told() {
+    let text = b"(1), -2, 3.5, \"s\", t, :Yg==:, ?0, @-7, %\"%c3%bc\"";
+    let value = parse(&seed(), Kind::List, text).unwrap();
+    let types: Vec<_> = value.members().map(|member| member.get()).collect();
+    assert_eq!(
+        types,
+        [
+            Type::InnerList,
+            Type::Integer(-2),
+            Type::Decimal(3500),
+            Type::String(b"s"),
+            Type::Token(b"t"),
+            Type::ByteSequence(b"b"),
+            Type::Boolean(false),
+            Type::Date(-7),
+            Type::DisplayString("\u{fc}".as_bytes()),
+        ]
+    );
+}
+
+#[test]
+fn answers_are_shown() {
+    let value = parse(&seed(), Kind::Item, b"1;a").unwrap();
+    assert_eq!(
+        format!("{:?}", value),
+        "Value([Part { role: Member, key: [], type: Integer(1), parts: [Part { role: Parameter, \
+         key: [97], type: Boolean(true), parts: [] }] }])"
+    );
+    let path = cache_status(&seed(), b"a;hit").unwrap();
+    assert_eq!(
+        format!("{:?}", path),
+        "Path { hops: [Hop { name: Token([97]), outcome: Hit, ttl: None, key: None, \
+         detail: None }], served_by: Some(0) }"
     );
 }
 
@@ -142,6 +226,26 @@ fn a_path_is_told() {
     };
     assert_eq!(path.hops().collect::<Vec<_>>(), [origin, edge]);
     assert_eq!(path.served_by(), Some(1));
+
+    let reasons: [(&str, Forward<'_>); 9] = [
+        ("bypass", Forward::Bypass),
+        ("method", Forward::Method),
+        ("uri-miss", Forward::UriMiss),
+        ("vary-miss", Forward::VaryMiss),
+        ("miss", Forward::Miss),
+        ("request", Forward::Request),
+        ("stale", Forward::Stale),
+        ("partial", Forward::Partial),
+        ("odd", Forward::Other(b"odd")),
+    ];
+    for (word, why) in reasons {
+        let text = format!("c;fwd={word}");
+        let path = cache_status(&seed(), text.as_bytes()).unwrap();
+        let hop = path.hops().next().unwrap();
+        assert!(matches!(hop.outcome, Outcome::Forwarded(passed) if passed.why == why));
+    }
+    let path = cache_status(&seed(), b"c").unwrap();
+    assert_eq!(path.hops().next().unwrap().outcome, Outcome::Unsaid);
 
     let path = cache_status(&seed(), b"c;hit;fwd=odd;detail=d").unwrap();
     let hop = path.hops().next().unwrap();
