@@ -1,7 +1,7 @@
 -- What the structs of hops tell stays when more bytes and more hops come.
 use Rattle.std.proofs.Common.{◌≡◌, ℕ, ◌+◌, ◌≤◌, List, [], ◌∷◌, ◌++◌, length, drop, map, refl}
-use Rattle.std.proofs.Common.{ap, ◌∙◌, arith, length-append}
-use Rattle.std.proofs.lemmas.List.{length-map, map-append}
+use Rattle.std.proofs.Common.{ap, ◌∙◌, sym, arith, length-append, append_assoc}
+use Rattle.std.proofs.lemmas.List.{append-nil, length-map, map-append}
 use Rattle.sf_use.specs.declared.cache_status.hop.Hop.{Hop}
 use Rattle.sf_use.specs.CacheStatus.Members.{passed_by}
 use Rattle.sf_c.specs.declared.hops.Piece.{Piece}
@@ -9,6 +9,7 @@ use Rattle.sf_c.specs.declared.hops.HopNode.{HopNode}
 use Rattle.sf_c.specs.Hops.{ToldHop, piece_of, says_by, says_of, told_hop_by, told_hop}
 use Rattle.sf_c.specs.Hops.{bytes_of, detail_bytes, why_token, hops_size, IsPieceWithin}
 use Rattle.sf_c.specs.Hops.{IsHopWithin, AreHopsWithin, HopsHoldUp, PutsPiece, HopsAtFront}
+use Rattle.sf_c.specs.Hops.{hop_bytes, hops_bytes, end_of, AreHopsInOrder}
 use Rattle.sf_c.proofs.TellingLemmas.{piece-append, piece_last}
 use Rattle.std.specs.Prelude.{unwrap_or}
 
@@ -160,13 +161,61 @@ hops_size-append : (ts us : List ToldHop) → hops_size (ts ++ us) ≡ hops_size
 hops_size-append [] us = omega arith
 hops_size-append (t ∷ ts) us = let e = hops_size-append ts us in omega arith
 
+-- where the pieces of the last hop stand
+hops_order_more : (at : ℕ) (b0 b1 b2 b3 b4 n w k d : List ℕ) (x : HopNode) (ns : List HopNode)
+    → PutsHop b0 b1 b2 b3 b4 n w k d x → AreHopsInOrder at ns (length b0)
+    → AreHopsInOrder at (ns ++ x ∷ []) (length b4)
+hops_order_more at b0 b1 b2 b3 b4 n w k d x [] p h =
+    let here : at ≡ length b0 = h in
+    let l1 = ap length p.name.0 in
+    let l2 = ap length p.why.0 in
+    let l3 = ap length p.key.0 in
+    let l4 = ap length p.detail.0 in
+    let a1 = length-append b0 n in
+    let a2 = length-append b1 w in
+    let a3 = length-append b2 k in
+    let a4 = length-append b3 d in
+    let s1 = p.name.1 in
+    let s2 = p.why.1 in
+    let s3 = p.key.1 in
+    let s4 = p.detail.1 in
+    let t1 = p.name.2 in
+    let t2 = p.why.2 in
+    let t3 = p.key.2 in
+    let t4 = p.detail.2 in
+    ((omega arith, omega arith, omega arith, omega arith), omega arith)
+hops_order_more at b0 b1 b2 b3 b4 n w k d x (m ∷ ns) p h =
+    (h.0, hops_order_more (end_of m.detail) b0 b1 b2 b3 b4 n w k d x ns p h.1)
+
+-- the bytes with those of one more hop
+hops_bytes-push : (ts : List ToldHop) (t : ToldHop)
+    → hops_bytes (ts ++ t ∷ []) ≡ hops_bytes ts ++ hop_bytes t
+hops_bytes-push [] t = append-nil (hop_bytes t)
+hops_bytes-push (u ∷ ts) t =
+    ap (λ z. hop_bytes u ++ z) (hops_bytes-push ts t)
+    ∙ sym (append_assoc (hop_bytes u) (hops_bytes ts) (hop_bytes t))
+
+hop_bytes_are : (n w k d : List ℕ) (h : Hop) → TextsOf h n w k d
+    → n ++ (w ++ (k ++ d)) ≡ hop_bytes (told_hop h)
+hop_bytes_are n w k d h t = rw (t.name, t.why, t.key, t.detail) refl
+
+put_behind : (b0 b1 b2 b3 b4 n w k d : List ℕ) (x : HopNode) → PutsHop b0 b1 b2 b3 b4 n w k d x
+    → b4 ≡ b0 ++ (n ++ (w ++ (k ++ d)))
+put_behind b0 b1 b2 b3 b4 n w k d x p =
+    p.detail.0
+    ∙ ap (λ z. z ++ d) (p.key.0 ∙ ap (λ z. z ++ k) (p.why.0 ∙ ap (λ z. z ++ w) p.name.0))
+    ∙ append_assoc ((b0 ++ n) ++ w) k d
+    ∙ append_assoc (b0 ++ n) w (k ++ d)
+    ∙ append_assoc b0 n (w ++ (k ++ d))
+
 pub hop_held : (b0 b1 b2 b3 b4 n w k d : List ℕ) (x : HopNode) (h : Hop) (ns ms : List HopNode)
     → PutsHop b0 b1 b2 b3 b4 n w k d x → TextsOf h n w k d → says_by x ≡ says_of h
     → ms ≡ ns ++ x ∷ [] → HopsHoldUp b0 ns → HopsHoldUp b4 ms
 hop_held b0 b1 b2 b3 b4 n w k d x h ns ms p t s e a =
     let before = hops_there b0 b1 b2 b3 b4 n w k d x ns p a.0 in
     let there = pieces_there b0 b1 b2 b3 b4 n w k d x p in
-    let told = ap hops_size (hop_told b0 b1 b2 b3 b4 n w k d x h ns ms p t s e a.0) in
+    let all = hop_told b0 b1 b2 b3 b4 n w k d x h ns ms p t s e a.0 in
+    let told = ap hops_size all in
     let sum = hops_size-append (map (told_hop_by b0) ns) (told_hop h ∷ []) in
     let l1 = ap length p.name.0 in
     let l2 = ap length p.why.0 in
@@ -181,7 +230,16 @@ hop_held b0 b1 b2 b3 b4 n w k d x h ns ms p t s e a =
     let t3 = ap length t.key in
     let t4 = ap length t.detail in
     let size = a.1 in
-    (rw e (hops_within_push b4 ns x before.0 there.0), omega arith)
+    let whole : b4 ≡ hops_bytes (map (told_hop_by b4) ms) =
+    put_behind b0 b1 b2 b3 b4 n w k d x p
+    ∙ ap (λ z. z ++ (n ++ (w ++ (k ++ d)))) a.3
+    ∙ ap (λ z. hops_bytes (map (told_hop_by b0) ns) ++ z) (hop_bytes_are n w k d h t)
+    ∙ sym (hops_bytes-push (map (told_hop_by b0) ns) (told_hop h)) ∙ sym (ap hops_bytes all) in (
+      rw e (hops_within_push b4 ns x before.0 there.0),
+      omega arith,
+      rw e (hops_order_more 0 b0 b1 b2 b3 b4 n w k d x ns p a.2),
+      whole,
+    )
 
 -- hops and bytes that are put into rooms which are long enough
 pub hops_at_front : (ts : List ToldHop) (hops new_hops some_hops : List HopNode)
@@ -200,6 +258,8 @@ hops_at_front ts hops new_hops some_hops bytes new_bytes some_bytes tells h n b 
       tells = tells;
       within = h.0;
       size = size;
+      order = h.2;
+      whole = h.3 ∙ ap hops_bytes tells;
       hops_fit = omega arith;
       bytes_fit = omega arith;
       hops_there = e ∙ ap (λ k. some_hops ++ drop k hops) (omega arith);

@@ -1,14 +1,14 @@
 -- What nodes tell stays when more bytes and more nodes come.
 use Rattle.std.proofs.Common.{◌≡◌, ℕ, ◌+◌, ◌≤◌, List, [], ◌∷◌, ◌++◌, length, take, drop, map, refl}
-use Rattle.std.proofs.Common.{ap, ◌∙◌, arith, length-append}
+use Rattle.std.proofs.Common.{ap, ◌∙◌, sym, arith, length-append, append_assoc}
 use Rattle.std.proofs.Common.{cond, true, false, Result, Ok, Err}
 use Rattle.std.specs.Prelude.{is_ok, is_err}
 use Rattle.std.proofs.lemmas.List.{take-append-le, drop-append-le, length-drop, map-append}
-use Rattle.std.proofs.lemmas.List.{length-map}
+use Rattle.std.proofs.lemmas.List.{append-nil, length-map}
 use Rattle.std.proofs.Math.Seq.{take-length, take-append_seam, drop-append_seam}
 use Rattle.sf_c.specs.declared.nodes.Node.{Node}
 use Rattle.sf_c.specs.Tellings.{Told, piece, told_by, told_size, IsWithin, AreWithin, HoldsUp}
-use Rattle.sf_c.specs.Tellings.{TellAtFront}
+use Rattle.sf_c.specs.Tellings.{TellAtFront, AreInOrder, told_bytes}
 
 -- bytes that are there stay where they are when more come behind them
 pub piece-append : (at count : ℕ) (bytes more : List ℕ) → at + count ≤ length bytes
@@ -128,6 +128,33 @@ pub told_size-append : (ts us : List Told) → told_size (ts ++ us) ≡ told_siz
 told_size-append [] us = omega arith
 told_size-append (t ∷ ts) us = let e = told_size-append ts us in omega arith
 
+-- where the last node stands
+in_order_more : (at : ℕ) (bytes now key text : List ℕ) (ns : List Node) (n : Node)
+    → now ≡ (bytes ++ key) ++ text → Points bytes key text n → AreInOrder at ns (length bytes)
+    → AreInOrder at (ns ++ n ∷ []) (length now)
+in_order_more at bytes now key text [] n e p h =
+    let a = p.key_at in
+    let b = p.key_length in
+    let c = p.text_at in
+    let d = p.text_length in
+    let first = length-append bytes key in
+    let second = length-append (bytes ++ key) text in
+    let longer = ap length e in
+    let here : at ≡ length bytes = h in
+    (omega arith, omega arith, omega arith)
+in_order_more at bytes now key text (m ∷ ns) n e p h =
+    (h.0, h.1, in_order_more (m.text_at + m.text_length) bytes now key text ns n e p h.2)
+
+-- the bytes with those of one more part
+told_bytes-push : (ts : List Told) (t : Told)
+    → told_bytes (ts ++ t ∷ []) ≡ told_bytes ts ++ (t.key ++ t.text)
+told_bytes-push [] t = ap (λ z. t.key ++ z) (append-nil t.text)
+told_bytes-push (u ∷ ts) t =
+    ap (λ z. u.key ++ (u.text ++ z)) (told_bytes-push ts t)
+    ∙ sym
+    (append_assoc u.key (u.text ++ told_bytes ts) (t.key ++ t.text)
+    ∙ ap (λ z. u.key ++ z) (append_assoc u.text (told_bytes ts) (t.key ++ t.text)))
+
 pub holds_more : (bytes now key text : List ℕ) (ns ms : List Node) (n : Node)
     → now ≡ (bytes ++ key) ++ text → ms ≡ ns ++ n ∷ [] → Points bytes key text n
     → HoldsUp bytes ns → HoldsUp now ms
@@ -136,16 +163,26 @@ holds_more bytes now key text ns ms n e f p h =
     let longer = ap length e in
     let first = length-append bytes key in
     let second = length-append (bytes ++ key) text in
-    let size = ap told_size (told_more bytes now key text ns ms n e f p h.0) in
-    let sizes = told_size-append (map (told_by bytes) ns) (record {
+    let last : Told = record {
       role = n.role;
       sort = n.sort;
       number = n.number;
       key = key;
       text = text;
       span = n.span;
-    } ∷ []) in
-    (within_more bytes now key text ns ms n e f p h.0, omega arith)
+    } in
+    let told : map (told_by now) ms ≡ map (told_by bytes) ns ++ last ∷ []
+    = told_more bytes now key text ns ms n e f p h.0 in
+    let size = ap told_size told in
+    let sizes = told_size-append (map (told_by bytes) ns) (last ∷ []) in
+    let whole : now ≡ told_bytes (map (told_by now) ms) =
+    e ∙ append_assoc bytes key text ∙ ap (λ z. z ++ (key ++ text)) h.3
+    ∙ sym (told_bytes-push (map (told_by bytes) ns) last) ∙ sym (ap told_bytes told) in (
+      within_more bytes now key text ns ms n e f p h.0,
+      omega arith,
+      rw f (in_order_more 0 bytes now key text ns n e p h.2),
+      whole,
+    )
 
 -- where nothing changed
 pub holds_still : (bytes now : List ℕ) (ns ms : List Node) → now ≡ bytes → ms ≡ ns
@@ -180,6 +217,8 @@ tell_at_front ts nodes new_nodes some_nodes bytes new_bytes some_bytes tells h n
       tells = tells;
       within = h.0;
       size = size;
+      order = h.2;
+      whole = h.3 ∙ ap told_bytes tells;
       nodes_fit = omega arith;
       bytes_fit = omega arith;
       nodes_there = e ∙ ap (λ k. some_nodes ++ drop k nodes) (omega arith);

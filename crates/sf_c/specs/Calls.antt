@@ -18,11 +18,11 @@ kind_at n =
     else (if n == 1 then Some List
     else (if n == 2 then Some Dict else None))
 
--- the status is that of a call by this dialect and kind; where there is no such kind or dialect it
--- is BadCall
-abbrev pub Called : Option Dialect → Option Kind → Option Status
-    → (Dialect → Kind → Status → Type 0) → Type 0
-Called (Some d) (Some k) (Some s) P = P d k s
-Called (Some d) (Some k) None P = ⊥
-Called (Some d) None s P = s ≡ Some BadCall
-Called None k s P = s ≡ Some BadCall
+-- the status and what is there afterwards are those of a call by this dialect and kind; where there
+-- is no such kind or dialect the status is BadCall, and all is left as it was
+abbrev pub Called : {Room : Type 0} → Option Dialect → Option Kind → Option Status
+    → (Room → Room → Dialect → Kind → Status → Type 0) → Room → Room → Type 0
+Called (Some d) (Some k) (Some s) P old new = P old new d k s
+Called (Some d) (Some k) None P old new = ⊥
+Called (Some d) None s P old new = (s ≡ Some BadCall) × (new ≡ old)
+Called None k s P old new = (s ≡ Some BadCall) × (new ≡ old)

@@ -175,18 +175,46 @@ abbrev pub hops_size : List ToldHop → ℕ
 hops_size [] = 0
 hops_size (t ∷ ts) = hop_size t + hops_size ts
 
--- the structs point to bytes that are there, and no byte is in vain
+-- these bytes, in the order of the struct
+abbrev pub hop_bytes : ToldHop → List ℕ
+hop_bytes t = t.name ++ (t.why_token ++ (t.key ++ t.detail))
+
+abbrev pub hops_bytes : List ToldHop → List ℕ
+hops_bytes [] = []
+hops_bytes (t ∷ ts) = hop_bytes t ++ hops_bytes ts
+
+-- where a piece ends
+abbrev pub end_of : Piece → ℕ
+end_of p = p.at + p.length
+
+-- the pieces of a hop stand one behind another, the first at this place
+abbrev pub IsHopInOrder : ℕ → HopNode → Type 0
+IsHopInOrder at n =
+    (n.name.at ≡ at)
+    × (n.why_token.at ≡ end_of n.name)
+    × (n.key.at ≡ end_of n.why_token)
+    × (n.detail.at ≡ end_of n.key)
+
+-- those of hops stand one behind another from this place on, and end at that one
+abbrev pub AreHopsInOrder : ℕ → List HopNode → ℕ → Type 0
+AreHopsInOrder at [] end = at ≡ end
+AreHopsInOrder at (n ∷ ns) end = IsHopInOrder at n × AreHopsInOrder (end_of n.detail) ns end
+
+-- the structs point to bytes that are there, one piece behind another, and no byte is in vain
 abbrev pub HopsHoldUp : List ℕ → List HopNode → Type 0
 HopsHoldUp bytes ns =
-    AreHopsWithin bytes ns × (length bytes ≡ hops_size (map (told_hop_by bytes) ns))
+    AreHopsWithin bytes ns
+    × (length bytes ≡ hops_size (map (told_hop_by bytes) ns))
+    × AreHopsInOrder 0 ns (length bytes)
+    × (bytes ≡ hops_bytes (map (told_hop_by bytes) ns))
 
 -- the text stands behind the bytes that were there, and the piece is that of it
 abbrev pub PutsPiece : List ℕ → List ℕ → List ℕ → Piece → Type 0
 PutsPiece old new text p =
     (new ≡ old ++ text) × (p.at ≡ length old) × (p.length ≡ length text)
 
--- the structs and the bytes at the fronts of two rooms tell these hops, and what stands behind them
--- is left as it was
+-- the structs and the bytes at the fronts of two rooms tell these hops: the bytes are their pieces
+-- in order, and no other. What stands behind them is left as it was
 pub record HopsAtFront (ts : List ToldHop) (hops new_hops : List HopNode)
     (bytes new_bytes : List ℕ) : Type 0 where
   pub some_hops : List HopNode
@@ -194,6 +222,8 @@ pub record HopsAtFront (ts : List ToldHop) (hops new_hops : List HopNode)
   pub tells : map (told_hop_by some_bytes) some_hops ≡ ts
   pub within : AreHopsWithin some_bytes some_hops
   pub size : length some_bytes ≡ hops_size ts
+  pub order : AreHopsInOrder 0 some_hops (length some_bytes)
+  pub whole : some_bytes ≡ hops_bytes ts
   pub hops_fit : length some_hops ≤ length hops
   pub bytes_fit : length some_bytes ≤ length bytes
   pub hops_there : new_hops ≡ some_hops ++ drop (length some_hops) hops

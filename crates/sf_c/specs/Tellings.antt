@@ -42,13 +42,29 @@ abbrev pub told_size : List Told → ℕ
 told_size [] = 0
 told_size (t ∷ ts) = length t.key + length t.text + told_size ts
 
--- the nodes point to bytes that are there, and no byte is in vain
+-- these bytes: of each part its key, and then its text
+abbrev pub told_bytes : List Told → List ℕ
+told_bytes [] = []
+told_bytes (t ∷ ts) = t.key ++ (t.text ++ told_bytes ts)
+
+-- the keys and texts of nodes stand one behind another from this place on, and end at that one
+abbrev pub AreInOrder : ℕ → List Node → ℕ → Type 0
+AreInOrder at [] end = at ≡ end
+AreInOrder at (n ∷ ns) end =
+    (n.key_at ≡ at)
+    × (n.text_at ≡ at + n.key_length)
+    × AreInOrder (n.text_at + n.text_length) ns end
+
+-- the nodes point to bytes that are there, one piece behind another, and no byte is in vain
 abbrev pub HoldsUp : List ℕ → List Node → Type 0
 HoldsUp bytes ns =
-    AreWithin bytes ns × (length bytes ≡ told_size (map (told_by bytes) ns))
+    AreWithin bytes ns
+    × (length bytes ≡ told_size (map (told_by bytes) ns))
+    × AreInOrder 0 ns (length bytes)
+    × (bytes ≡ told_bytes (map (told_by bytes) ns))
 
--- the nodes and the bytes at the fronts of two rooms tell these parts, and what stands behind them
--- is left as it was
+-- the nodes and the bytes at the fronts of two rooms tell these parts: the bytes are the keys and
+-- texts in their order, and no other. What stands behind them is left as it was
 pub record TellAtFront (ts : List Told) (nodes new_nodes : List Node) (bytes new_bytes : List ℕ)
     : Type 0 where
   pub some_nodes : List Node
@@ -56,6 +72,8 @@ pub record TellAtFront (ts : List Told) (nodes new_nodes : List Node) (bytes new
   pub tells : map (told_by some_bytes) some_nodes ≡ ts
   pub within : AreWithin some_bytes some_nodes
   pub size : length some_bytes ≡ told_size ts
+  pub order : AreInOrder 0 some_nodes (length some_bytes)
+  pub whole : some_bytes ≡ told_bytes ts
   pub nodes_fit : length some_nodes ≤ length nodes
   pub bytes_fit : length some_bytes ≤ length bytes
   pub nodes_there : new_nodes ≡ some_nodes ++ drop (length some_nodes) nodes

@@ -24,7 +24,7 @@ pub extern "C" fn sf_check(
 ) -> u32
     // BadCall just for a number that names nothing; else whether the text spells a value
     ensures { Called (dialect_at dialect) (kind_at kind) (status_at result)
-        (Checks refusal.old refusal.new text.now) }
+        (λ old new. Checks old new text.now) refusal.old refusal.new }
 {
     let (Some(dialect), Some(kind)) = (dialect_of(dialect), kind_of(kind)) else {
         return Status::BadCall.code();

@@ -31,8 +31,9 @@ pub extern "C" fn sf_normalise(
 ) -> u32
     // BadCall just for a number that names nothing; else the canonical text, or why there is none
     ensures { Called (dialect_at dialect) (kind_at kind) (status_at result)
-        (Normalises (record { room = room.old; wanted = wanted.old; refusal = refusal.old })
-        (record { room = room.new; wanted = wanted.new; refusal = refusal.new }) text.now) }
+        (λ old new. Normalises old new text.now)
+        (record { room = room.old; wanted = wanted.old; refusal = refusal.old })
+        (record { room = room.new; wanted = wanted.new; refusal = refusal.new }) }
 {
     let (Some(dialect), Some(kind)) = (dialect_of(dialect), kind_of(kind)) else {
         return Status::BadCall.code();
@@ -56,8 +57,9 @@ pub extern "C" fn sf_equal(
 ) -> u32
     // BadCall just for a number that names nothing; else whether the texts spell equal values
     ensures { Called (dialect_at dialect) (kind_at kind) (status_at result)
-        (Equals (record { equal = equal_out.old; refusal = refusal.old })
-        (record { equal = equal_out.new; refusal = refusal.new }) first.now second.now) }
+        (λ old new. Equals old new first.now second.now)
+        (record { equal = equal_out.old; refusal = refusal.old })
+        (record { equal = equal_out.new; refusal = refusal.new }) }
 {
     let (Some(dialect), Some(kind)) = (dialect_of(dialect), kind_of(kind)) else {
         return Status::BadCall.code();

@@ -29,10 +29,15 @@ pub extern "C" fn sf_parse(
     refusal: &mut SyntaxRefusal,
 ) -> u32
     // BadCall just for a number that names nothing; else the value as nodes, or why there is none
-    ensures { Called (dialect_at dialect) (kind_at kind) (status_at result) (Flattens
+    ensures { Called (dialect_at dialect) (kind_at kind) (status_at result)
+        (λ old new. Flattens old new text.now)
         (record { nodes = nodes.old; bytes = bytes.old; sizes = sizes.old; refusal = refusal.old })
-        (record { nodes = nodes.new; bytes = bytes.new; sizes = sizes.new; refusal = refusal.new })
-        text.now) }
+        (record {
+          nodes = nodes.new;
+          bytes = bytes.new;
+          sizes = sizes.new;
+          refusal = refusal.new;
+        }) }
 {
     let (Some(dialect), Some(kind)) = (dialect_of(dialect), kind_of(kind)) else {
         return Status::BadCall.code();
