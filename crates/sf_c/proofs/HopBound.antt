@@ -275,7 +275,7 @@ path_few (field.Dict d) hs e =
 
 -- the same of numbers that say how many there are
 pub count_few : (n m : ℕ) (ts : Seq ToldHop) (js hs : Seq Hop) → n ≡ length ts
-    → ts ≡ map told_hop js → js ≡ hs → 5 * length hs ≤ m → 5 * n ≤ m
+    → ts ≡ map told_hop js → js ≡ hs → 10 * length hs ≤ m → 10 * n ≤ m
 count_few n m ts js hs e f g h =
     let told = ap length f in
     let each = length-map js told_hop in

@@ -1,6 +1,11 @@
--- A value has at most one node more than its canonical text has bytes, and at most as many bytes.
+-- A valid value has at most half as many nodes as its canonical text with one byte more has bytes,
+-- and at most as many bytes as its canonical text.
 use Rattle.std.proofs.Common.{◌≡◌, ℕ, ◌+◌, ◌*◌, ◌≤◌, Bool, true, false, List as Seq, [], ◌∷◌, ◌++◌}
-use Rattle.std.proofs.Common.{length, refl, arith, length-append}
+use Rattle.std.proofs.Common.{length, refl, arith, length-append, ◌<◌, ◌^◌, ◌/◌, ◌%◌, ℤ, pos}
+use Rattle.std.proofs.Common.{negsuc, nat_abs, replicate, decimal}
+use Rattle.std.specs.Fmt.{signed_decimal}
+use Rattle.std.proofs.lemmas.Fmt.{decimal_nonempty}
+use Rattle.sf_value.specs.declared.dialect.Dialect.{Dialect}
 use Rattle.sf_value.specs.declared.value.Bare.{Bare}
 use Rattle.sf_value.specs.declared.value.Bare.TheVariants.{Integer, Decimal, Text, Token}
 use Rattle.sf_value.specs.declared.value.Bare.TheVariants.{Blob, Boolean, Date, Shown}
@@ -10,15 +15,21 @@ use Rattle.sf_value.specs.declared.value.Member.{Member}
 use Rattle.sf_value.specs.declared.value.Member.TheVariants as member
 use Rattle.sf_value.specs.declared.value.Field.{Field}
 use Rattle.sf_value.specs.declared.value.Field.TheVariants as field
+use Rattle.sf_value.specs.declared.value.Kind.{Kind}
+use Rattle.sf_value.specs.declared.value.Kind.TheVariants as kind
+use Rattle.sf_value.specs.Grammar.Words.{Each}
+use Rattle.sf_value.specs.Grammar.Numbers.{sign}
 use Rattle.sf_value.specs.Grammar.Pairs.{Pairs}
+use Rattle.sf_value.specs.Grammar.Tokens.{IsKey, IsToken}
+use Rattle.sf_value.specs.Grammar.Valid.{ValidBare, ValidItem, ValidInner, ValidMember, Valid}
 use Rattle.sf_value.specs.Grammar.Strings.{escaped, is_escaped}
 use Rattle.sf_value.specs.Grammar.ByteSequences.{unpadded, needed}
 use Rattle.sf_value.specs.Grammar.DisplayStrings.{is_plain}
 use Rattle.sf_value.specs.Grammar.Canonical.{canon_bare, canon_value, canon_params, canon_item}
 use Rattle.sf_value.specs.Grammar.Canonical.{canon_more, canon_items, canon_inner, canon_member}
 use Rattle.sf_value.specs.Grammar.Canonical.{canon_flag, canon_entry, canon_commas}
-use Rattle.sf_value.specs.Grammar.Canonical.{canon_series, canon, canon_shown}
-use Rattle.std.proofs.Common.{replicate}
+use Rattle.sf_value.specs.Grammar.Canonical.{canon_series, canon, canon_shown, fraction}
+use Rattle.sf_value.specs.Grammar.Canonical.{is_negative}
 use Rattle.sf_c.specs.Tellings.{Told, told_size}
 use Rattle.sf_c.specs.Nodes.{text_of, told_params, told_item, told_items, told_inner}
 use Rattle.sf_c.specs.Nodes.{told_member, told_members, told_entries, told_field}
@@ -76,9 +87,44 @@ value_long (Blob s) = let h = text_long (Blob s) in omega arith
 value_long (Date n) = omega arith
 value_long (Shown s) = let h = text_long (Shown s) in omega arith
 
--- at most so many parts, with at most so many bytes
-record Small (ts : Seq Told) (nodes bytes : ℕ) : Type 0 where
-  parts : length ts ≤ nodes
+-- a key has a byte, and so has the text of a bare item
+key_long : (k : Seq ℕ) → IsKey k → 1 ≤ length k
+key_long [] h = absurd h
+key_long (b ∷ k) h = omega arith
+
+token_long : (s : Seq ℕ) → IsToken s → 1 ≤ length s
+token_long [] h = absurd h
+token_long (b ∷ s) h = omega arith
+
+integer_long : (n : ℤ) → nat_abs n < 10 ^ 15 → 1 ≤ length (signed_decimal n)
+integer_long (pos n) h = let some = decimal_nonempty n (omega arith) in omega arith
+integer_long (negsuc n) h = omega arith
+
+bare_long : (d : Dialect) (x : Bare) → ValidBare d x → 1 ≤ length (canon_bare x)
+bare_long d (Integer n) h = integer_long n h
+bare_long d (Decimal m) h =
+    let e = length-append (sign (is_negative m))
+    (decimal (nat_abs m / 1000) ++ 46 ∷ fraction (nat_abs m % 1000)) in
+    let f = length-append (decimal (nat_abs m / 1000)) (46 ∷ fraction (nat_abs m % 1000)) in
+    omega arith
+bare_long d (Text s) h = omega arith
+bare_long d (Token s) h = token_long s h
+bare_long d (Blob s) h = omega arith
+bare_long d (Boolean b) h = omega arith
+bare_long d (Date n) h = omega arith
+bare_long d (Shown s) h = omega arith
+
+-- valid parameters, whether or not a key stands twice
+abbrev AreParams : Dialect → Pairs Bare → Type 0
+AreParams d = Each (λ p. IsKey p.0 × ValidBare d p.1)
+
+-- and valid members with keys
+abbrev AreEntries : Dialect → Pairs Member → Type 0
+AreEntries d = Each (λ p. IsKey p.0 × ValidMember d p.1)
+
+-- at most half so many parts, with at most so many bytes
+record Small (ts : Seq Told) (twice bytes : ℕ) : Type 0 where
+  parts : 2 * length ts ≤ twice
   size : told_size ts ≤ bytes
 
 small_append : (ts us : Seq Told) (a b c d : ℕ) → Small ts a b → Small us c d
@@ -92,64 +138,66 @@ small_append ts us a b c d h k =
     let s = k.size in
     record { parts = omega arith; size = omega arith }
 
-params_small : (ps : Pairs Bare)
+params_small : (d : Dialect) (ps : Pairs Bare) → AreParams d ps
     → Small (told_params ps) (length (canon_params ps)) (length (canon_params ps))
-params_small [] = record { parts = omega arith; size = omega arith }
-params_small (p ∷ ps) =
-    let h = params_small ps in
+params_small d [] valid = record { parts = omega arith; size = omega arith }
+params_small d (p ∷ ps) valid =
+    let h = params_small d ps valid.1 in
     let a = h.parts in
     let b = h.size in
+    let key = key_long p.0 valid.0.0 in
     let value = value_long p.1 in
     let e = length-append p.0 (canon_value p.1 ++ canon_params ps) in
     let f = length-append (canon_value p.1) (canon_params ps) in
     record { parts = omega arith; size = omega arith }
 
-item_small : (role : ℕ) (key : Seq ℕ) (i : Item)
+item_small : (d : Dialect) (role : ℕ) (key : Seq ℕ) (i : Item) → ValidItem d i
     → Small (told_item role key i) (1 + length (canon_item i)) (length key + length (canon_item i))
-item_small role key i =
-    let h = params_small i.params in
+item_small d role key i valid =
+    let h = params_small d i.params valid.1.0 in
     let a = h.parts in
     let b = h.size in
+    let bare = bare_long d i.bare valid.0 in
     let text = text_long i.bare in
     let e = length-append (canon_bare i.bare) (canon_params i.params) in
     record { parts = omega arith; size = omega arith }
 
-more_small : (is : Seq Item)
+more_small : (d : Dialect) (is : Seq Item) → Each (ValidItem d) is
     → Small (told_items is) (length (canon_more is)) (length (canon_more is))
-more_small [] = record { parts = omega arith; size = omega arith }
-more_small (i ∷ is) =
-    let h = small_append (told_item 1 [] i) (told_items is) _ _ _ _ (item_small 1 [] i)
-    (more_small is) in
+more_small d [] valid = record { parts = omega arith; size = omega arith }
+more_small d (i ∷ is) valid =
+    let h = small_append (told_item 1 [] i) (told_items is) _ _ _ _
+    (item_small d 1 [] i valid.0) (more_small d is valid.1) in
     let a = h.parts in
     let b = h.size in
     let e = length-append (canon_item i) (canon_more is) in
     record { parts = omega arith; size = omega arith }
 
-items_small : (is : Seq Item)
+items_small : (d : Dialect) (is : Seq Item) → Each (ValidItem d) is
     → Small (told_items is) (1 + length (canon_items is)) (length (canon_items is))
-items_small [] = record { parts = omega arith; size = omega arith }
-items_small (i ∷ is) =
-    let h = small_append (told_item 1 [] i) (told_items is) _ _ _ _ (item_small 1 [] i)
-    (more_small is) in
+items_small d [] valid = record { parts = omega arith; size = omega arith }
+items_small d (i ∷ is) valid =
+    let h = small_append (told_item 1 [] i) (told_items is) _ _ _ _
+    (item_small d 1 [] i valid.0) (more_small d is valid.1) in
     let a = h.parts in
     let b = h.size in
     let e = length-append (canon_item i) (canon_more is) in
     record { parts = omega arith; size = omega arith }
 
-inner_small : (key : Seq ℕ) (l : Inner)
+inner_small : (d : Dialect) (key : Seq ℕ) (l : Inner) → ValidInner d l
     → Small (told_inner key l) (1 + length (canon_inner l)) (length key + length (canon_inner l))
-inner_small key l =
+inner_small d key l valid =
     let h = small_append (told_items l.items) (told_params l.params) _ _ _ _
-    (items_small l.items) (params_small l.params) in
+    (items_small d l.items valid.0) (params_small d l.params valid.1.0) in
     let a = h.parts in
     let b = h.size in
     let e = length-append (canon_items l.items) (41 ∷ canon_params l.params) in
     record { parts = omega arith; size = omega arith }
 
-member_small : (key : Seq ℕ) (m : Member)
+member_small : (d : Dialect) (key : Seq ℕ) (m : Member) → ValidMember d m
     → Small (told_member key m) (1 + length (canon_member m)) (length key + length (canon_member m))
-member_small key (member.Item i) = item_small 0 key i
-member_small key (member.Inner l) = inner_small key l
+member_small d key (member.Item i) valid = item_small d 0 key i valid
+member_small d key (member.Inner l) valid = inner_small d key l valid
 
 -- behind a key of a Dictionary
 flag_long : (x : Bare) (ps : Pairs Bare)
@@ -177,84 +225,92 @@ flag_long (Shown s) ps =
     let h = text_long (Shown s) in
     omega arith
 
-entry_small : (key : Seq ℕ) (m : Member)
+entry_small : (d : Dialect) (key : Seq ℕ) (m : Member) → IsKey key → ValidMember d m
     → Small (told_member key m) (1 + length (canon_entry (key, m))) (length (canon_entry (key, m)))
-entry_small key (member.Item i) =
-    let h = params_small i.params in
+entry_small d key (member.Item i) named valid =
+    let h = params_small d i.params valid.1.0 in
     let a = h.parts in
     let b = h.size in
+    let long = key_long key named in
     let flag = flag_long i.bare i.params in
     let e = length-append key (canon_flag i.bare i.params) in
     record { parts = omega arith; size = omega arith }
-entry_small key (member.Inner l) =
-    let h = inner_small key l in
+entry_small d key (member.Inner l) named valid =
+    let h = inner_small d key l valid in
     let a = h.parts in
     let b = h.size in
     let e = length-append key (61 ∷ canon_inner l) in
     record { parts = omega arith; size = omega arith }
 
-members_behind : (ms : Seq Member)
+members_behind : (d : Dialect) (ms : Seq Member) → Each (ValidMember d) ms
     → Small (told_members ms) (length (canon_commas canon_member ms))
     (length (canon_commas canon_member ms))
-members_behind [] = record { parts = omega arith; size = omega arith }
-members_behind (m ∷ ms) =
-    let h = small_append (told_member [] m) (told_members ms) _ _ _ _ (member_small [] m)
-    (members_behind ms) in
+members_behind d [] valid = record { parts = omega arith; size = omega arith }
+members_behind d (m ∷ ms) valid =
+    let h = small_append (told_member [] m) (told_members ms) _ _ _ _
+    (member_small d [] m valid.0) (members_behind d ms valid.1) in
     let a = h.parts in
     let b = h.size in
     let e = length-append (canon_member m) (canon_commas canon_member ms) in
     record { parts = omega arith; size = omega arith }
 
-members_small : (ms : Seq Member)
+members_small : (d : Dialect) (ms : Seq Member) → Each (ValidMember d) ms
     → Small (told_members ms) (1 + length (canon_series canon_member ms))
     (length (canon_series canon_member ms))
-members_small [] = record { parts = omega arith; size = omega arith }
-members_small (m ∷ ms) =
-    let h = small_append (told_member [] m) (told_members ms) _ _ _ _ (member_small [] m)
-    (members_behind ms) in
+members_small d [] valid = record { parts = omega arith; size = omega arith }
+members_small d (m ∷ ms) valid =
+    let h = small_append (told_member [] m) (told_members ms) _ _ _ _
+    (member_small d [] m valid.0) (members_behind d ms valid.1) in
     let a = h.parts in
     let b = h.size in
     let e = length-append (canon_member m) (canon_commas canon_member ms) in
     record { parts = omega arith; size = omega arith }
 
-entries_behind : (ps : Pairs Member)
+entries_behind : (d : Dialect) (ps : Pairs Member) → AreEntries d ps
     → Small (told_entries ps) (length (canon_commas canon_entry ps))
     (length (canon_commas canon_entry ps))
-entries_behind [] = record { parts = omega arith; size = omega arith }
-entries_behind (p ∷ ps) =
-    let h = small_append (told_member p.0 p.1) (told_entries ps) _ _ _ _ (entry_small p.0 p.1)
-    (entries_behind ps) in
+entries_behind d [] valid = record { parts = omega arith; size = omega arith }
+entries_behind d (p ∷ ps) valid =
+    let h = small_append (told_member p.0 p.1) (told_entries ps) _ _ _ _
+    (entry_small d p.0 p.1 valid.0.0 valid.0.1) (entries_behind d ps valid.1) in
     let a = h.parts in
     let b = h.size in
     let e = length-append (canon_entry p) (canon_commas canon_entry ps) in
     record { parts = omega arith; size = omega arith }
 
-entries_small : (ps : Pairs Member)
+entries_small : (d : Dialect) (ps : Pairs Member) → AreEntries d ps
     → Small (told_entries ps) (1 + length (canon_series canon_entry ps))
     (length (canon_series canon_entry ps))
-entries_small [] = record { parts = omega arith; size = omega arith }
-entries_small (p ∷ ps) =
-    let h = small_append (told_member p.0 p.1) (told_entries ps) _ _ _ _ (entry_small p.0 p.1)
-    (entries_behind ps) in
+entries_small d [] valid = record { parts = omega arith; size = omega arith }
+entries_small d (p ∷ ps) valid =
+    let h = small_append (told_member p.0 p.1) (told_entries ps) _ _ _ _
+    (entry_small d p.0 p.1 valid.0.0 valid.0.1) (entries_behind d ps valid.1) in
     let a = h.parts in
     let b = h.size in
     let e = length-append (canon_entry p) (canon_commas canon_entry ps) in
     record { parts = omega arith; size = omega arith }
 
-field_small : (v : Field) → Small (told_field v) (1 + length (canon v)) (length (canon v))
-field_small (field.Item i) =
-    let h = item_small 0 [] i in
+field_small : (d : Dialect) (k : Kind) (v : Field) → Valid d k v
+    → Small (told_field v) (1 + length (canon v)) (length (canon v))
+field_small d kind.Item (field.Item i) valid =
+    let h = item_small d 0 [] i valid in
     let a = h.parts in
     let b = h.size in
     record { parts = omega arith; size = omega arith }
-field_small (field.List l) = members_small l.members
-field_small (field.Dict d) = entries_small d.members
+field_small d kind.List (field.List l) valid = members_small d l.members valid
+field_small d kind.Dict (field.Dict m) valid = entries_small d m.members valid.0
+field_small d kind.Item (field.List l) valid = absurd valid
+field_small d kind.Item (field.Dict m) valid = absurd valid
+field_small d kind.List (field.Item i) valid = absurd valid
+field_small d kind.List (field.Dict m) valid = absurd valid
+field_small d kind.Dict (field.Item i) valid = absurd valid
+field_small d kind.Dict (field.List l) valid = absurd valid
 
 -- by the bound of the canonical text
-pub nodes_bound : (v : Field) (n : ℕ) → 5 * length (canon v) ≤ 8 * n
-    → 5 * length (told_field v) ≤ 8 * n + 5
-nodes_bound v n h = let p = (field_small v).parts in omega arith
+pub nodes_bound : (d : Dialect) (k : Kind) (v : Field) (n : ℕ) → Valid d k v
+    → 5 * length (canon v) ≤ 8 * n → 10 * length (told_field v) ≤ 8 * n + 5
+nodes_bound d k v n valid h = let p = (field_small d k v valid).parts in omega arith
 
-pub bytes_bound : (v : Field) (n : ℕ) → 5 * length (canon v) ≤ 8 * n
-    → 5 * told_size (told_field v) ≤ 8 * n
-bytes_bound v n h = let s = (field_small v).size in omega arith
+pub bytes_bound : (d : Dialect) (k : Kind) (v : Field) (n : ℕ) → Valid d k v
+    → 5 * length (canon v) ≤ 8 * n → 5 * told_size (told_field v) ≤ 8 * n
+bytes_bound d k v n valid h = let s = (field_small d k v valid).size in omega arith

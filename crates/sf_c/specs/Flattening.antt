@@ -20,13 +20,13 @@ pub record NodeRoom : Type 0 where
   pub sizes : Sizes
   pub refusal : SyntaxRefusal
 
--- how many nodes and bytes the value of the text t has: nodes at most one more than eight fifths of
--- its length, bytes at most eight fifths
+-- how many nodes and bytes the value of the text t has: nodes at most four fifths of its length,
+-- rounded to the nearest number, and bytes at most eight fifths
 abbrev pub AreSizes : List ℕ → Sizes → Field → Type 0
 AreSizes t sizes v =
     (sizes.nodes ≡ length (told_field v))
     × (sizes.bytes ≡ told_size (told_field v))
-    × (5 * sizes.nodes ≤ 8 * length t + 5)
+    × (10 * sizes.nodes ≤ 8 * length t + 5)
     × (5 * sizes.bytes ≤ 8 * length t)
 
 -- the fronts of the rooms tell the value that the text t spells, the only one; or a room is too

@@ -23,7 +23,7 @@ TellOneValue =
 abbrev pub NodesAreFew : Type 0
 NodesAreFew =
     (d : Dialect) (kind : Kind) (t : List ℕ) (v : Field)
-    → SpellsField d kind t v → 5 * length (told_field v) ≤ 8 * length t + 5
+    → SpellsField d kind t v → 10 * length (told_field v) ≤ 8 * length t + 5
 
 -- how many bytes it may have
 abbrev pub BytesAreFew : Type 0
@@ -42,7 +42,7 @@ TellOnePath =
 abbrev pub HopsAreFew : Type 0
 HopsAreFew =
     (d : Dialect) (kind : Kind) (t : List ℕ) (v : Field) (hs : List Hop)
-    → SpellsField d kind t v → hops v ≡ Ok hs → 5 * length hs ≤ 8 * length t + 5
+    → SpellsField d kind t v → hops v ≡ Ok hs → 10 * length hs ≤ 8 * length t + 5
 
 -- how many bytes it may have
 abbrev pub HopBytesAreFew : Type 0

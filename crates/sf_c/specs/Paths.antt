@@ -74,10 +74,10 @@ TellsPath old new t (Some Refused) =
 TellsPath old new t (Some OutOfMemory) = new ≡ old
 TellsPath old new t status = ⊥
 
--- of a text t hops are at most one more than eight fifths of its length, and bytes at most eight
--- fifths
+-- of a text t hops are at most four fifths of its length, rounded to the nearest number, and bytes
+-- at most eight fifths
 abbrev pub IsShort : Seq ℕ → Path → Type 0
-IsShort t p = (5 * p.hops ≤ 8 * length t + 5) × (5 * p.bytes ≤ 8 * length t)
+IsShort t p = (10 * p.hops ≤ 8 * length t + 5) × (5 * p.bytes ≤ 8 * length t)
 
 -- so are they where the struct says how many there are
 abbrev pub SaysFew : Seq ℕ → Path → Option Status → Type 0

@@ -2,20 +2,21 @@
 ghost use Rattle.sf_c.specs.Laws.{BytesAreFew, NodesAreFew, TellOneValue};
 ghost use Rattle.sf_c.specs.Laws.{HopBytesAreFew, HopsAreFew, TellOnePath};
 
-use sf_value::laws::canon_is_short;
+use sf_value::laws::{canon_is_short, spelled_is_valid};
 
 /// Nodes, with the bytes that they point into, tell at most one value of a kind.
 pub fn nodes_tell_one_value()
     ensures { TellOneValue }
 {}
 
-/// The value of a text has at most one node more than eight fifths of the text's length, and at
-/// most eight fifths of it in bytes.
+/// The value of a text has at most four fifths of the text's length in nodes, rounded to the
+/// nearest number, and at most eight fifths of it in bytes.
 pub fn nodes_are_few()
     ensures nodes { NodesAreFew }
     ensures bytes { BytesAreFew }
 {
     canon_is_short();
+    spelled_is_valid();
 }
 
 /// Structs of hops, with the bytes that they point into, tell at most one path.
@@ -23,8 +24,8 @@ pub fn hops_tell_one_path()
     ensures { TellOnePath }
 {}
 
-/// The path that a text tells has at most one hop more than eight fifths of the text's length, and
-/// at most eight fifths of it in bytes.
+/// The path that a text tells has at most four fifths of the text's length in hops, rounded to the
+/// nearest number, and at most eight fifths of it in bytes.
 pub fn hops_are_few()
     ensures hops { HopsAreFew }
     ensures bytes { HopBytesAreFew }

@@ -13,7 +13,7 @@ use sf_value::{Dialect, Field, Kind};
 use std::alloc::Global;
 
 /// What a Priority field asks for, with the defaults for what it does not say (RFC 9218 section 4).
-/// In C an `sf_priority`.
+/// In C an `sf_priority_flags`.
 #[repr(C)]
 #[derive(Clone, Copy, Debug, Drop)]
 pub struct PriorityFlags {
