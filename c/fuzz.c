@@ -91,7 +91,7 @@ static value parse(uint32_t dialect, uint32_t kind, const uint8_t *text, size_t 
   uint32_t status = sf_parse(&seed, dialect, kind, text, length, NULL, 0, NULL, 0, &v.sizes,
                              &refusal);
   CHECK(status == (v.sizes.nodes == 0 && v.sizes.bytes == 0 ? SF_OK : SF_SHORT));
-  CHECK(v.sizes.nodes <= SF_PARSE_ROOM(length) && v.sizes.bytes <= SF_PARSE_ROOM(length));
+  CHECK(v.sizes.nodes <= SF_NODES_ROOM(length) && v.sizes.bytes <= SF_BYTES_ROOM(length));
   v.nodes = take_room(NULL, v.sizes.nodes * sizeof *v.nodes);
   v.bytes = take_room(NULL, v.sizes.bytes);
   sf_sizes sizes = {0, 0};
@@ -248,7 +248,7 @@ static caches tell(const uint8_t *text, size_t length) {
   if (status == SF_NOT_A_CACHE)
     return c;
   CHECK(status == (c.path.hops == 0 ? SF_OK : SF_SHORT));
-  CHECK(c.path.hops <= SF_PARSE_ROOM(length) && c.path.bytes <= SF_PARSE_ROOM(length));
+  CHECK(c.path.hops <= SF_NODES_ROOM(length) && c.path.bytes <= SF_BYTES_ROOM(length));
   c.hops = take_room(NULL, c.path.hops * sizeof *c.hops);
   c.bytes = take_room(NULL, c.path.bytes);
   sf_path path = {0, 0, 0, 0, 0};

@@ -182,9 +182,11 @@ typedef enum sf_type {
  */
 typedef struct sf_node {
   int64_t number;     /* of a number, a Boolean or a Date; else 0 */
-  size_t key_at;      /* where the key stands, of a parameter or of a member of a Dictionary */
+  size_t key_at;      /* where the key stands, of a parameter or of a member of a Dictionary; where
+                         there is none, where it would */
   size_t key_length;  /* its length; 0 where there is no key */
-  size_t text_at;     /* where the bytes stand, of a String, a Token, a Byte Sequence, .. */
+  size_t text_at;     /* where the bytes stand, of a String, a Token, a Byte Sequence, ..; where
+                         there are none, where they would */
   size_t text_length; /* their length; 0 for another type */
   size_t span;        /* how many nodes the part has, this one included: nodes + span is the next
                          sibling, or where its parent ends */
@@ -192,9 +194,12 @@ typedef struct sf_node {
   uint32_t type;      /* an sf_type */
 } sf_node;
 
-/* A room of so many nodes or hops, or of so many bytes, is never too small for the value of a text
- * of this length. It is one more than SF_CANONICAL_ROOM, and like it else. */
-#define SF_PARSE_ROOM(length) (SF_CANONICAL_ROOM(length) + 1)
+/* Rooms of so many nodes or hops and of so many bytes are never too small for the value of a text of
+ * this length: four fifths of it, rounded to the nearest number, and eight fifths. Both are like
+ * SF_CANONICAL_ROOM else. */
+#define SF_NODES_ROOM(length)                                                                      \
+  (sizeof(char) * (length) / 5 * 4 + (sizeof(char) * (length) % 5 * 8 + 5) / 10)
+#define SF_BYTES_ROOM(length) SF_CANONICAL_ROOM(length)
 
 /* How many nodes and bytes a value has. */
 typedef struct sf_sizes {
@@ -214,7 +219,10 @@ typedef struct sf_sizes {
  *   SF_REFUSED    no value is spelled, and refusal says where and why
  *   SF_NO_MEMORY, SF_BAD_CALL
  *
- * Where the answer is neither SF_OK nor SF_SHORT, both rooms and sizes are left as they were.
+ * The bytes are the keys and the bytes of the nodes, in the order of the nodes, a key before its
+ * bytes, with nothing between them. Rooms of SF_NODES_ROOM(text_length) nodes and of
+ * SF_BYTES_ROOM(text_length) bytes are never too small. Where the answer is neither SF_OK nor
+ * SF_SHORT, both rooms and sizes are left as they were.
  */
 uint32_t sf_parse(const sf_seed *seed, uint32_t dialect, uint32_t kind, const void *text,
                   size_t text_length, sf_node *nodes, size_t nodes_room, void *bytes,
@@ -367,9 +375,11 @@ typedef struct sf_path {
  *   SF_REFUSED      the text spells no List, and refusal says where and why
  *   SF_NO_MEMORY
  *
- * Rooms of SF_PARSE_ROOM(text_length) hops and bytes are never too small. Where the answer is
- * neither SF_OK nor SF_SHORT, both rooms are left as they were, and so is path but for nameless,
- * which is written exactly where the answer is SF_NOT_A_CACHE.
+ * The bytes are the pieces of the hops, in the order of the hops and in each name, why_token, key,
+ * detail, with nothing between them; an empty piece stands where it would. Rooms of
+ * SF_NODES_ROOM(text_length) hops and of SF_BYTES_ROOM(text_length) bytes are never too small. Where
+ * the answer is neither SF_OK nor SF_SHORT, both rooms are left as they were, and so is path but for
+ * nameless, which is written exactly where the answer is SF_NOT_A_CACHE.
  */
 uint32_t sf_cache_status(const sf_seed *seed, const void *text, size_t text_length, sf_hop *hops,
                          size_t hops_room, void *bytes, size_t bytes_room, sf_path *path,

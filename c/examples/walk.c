@@ -92,7 +92,7 @@ int main(int argc, char **argv) {
   fclose(random);
 
   size_t length = strlen(argv[2]);
-  sf_sizes sizes = {SF_PARSE_ROOM(length), SF_PARSE_ROOM(length)}; /* never too small */
+  sf_sizes sizes = {SF_NODES_ROOM(length), SF_BYTES_ROOM(length)}; /* never too small */
   sf_node *nodes = malloc(sizes.nodes * sizeof *nodes + 1);
   char *bytes = malloc(sizes.bytes + 1);
   if (nodes == NULL || bytes == NULL)

@@ -237,13 +237,14 @@ static void macros(void) {
   unsigned char byte = 255;
   size_t most = SIZE_MAX / 8 * 5;
   CHECK(SF_CANONICAL_ROOM(number) == 3200000000u);
-  CHECK(SF_PARSE_ROOM(number) == 3200000001u);
+  CHECK(SF_NODES_ROOM(number) == 1600000000u && SF_BYTES_ROOM(number) == 3200000000u);
   CHECK(SF_CANONICAL_ROOM(word) == UINT64_C(6871947672));
-  CHECK(SF_CANONICAL_ROOM(byte) == 408 && SF_PARSE_ROOM(byte) == 409);
-  CHECK(SF_CANONICAL_ROOM(most) == SIZE_MAX / 8 * 8 && SF_PARSE_ROOM(most) == SIZE_MAX / 8 * 8 + 1);
+  CHECK(SF_CANONICAL_ROOM(byte) == 408 && SF_NODES_ROOM(byte) == 204);
+  CHECK(SF_CANONICAL_ROOM(most) == SIZE_MAX / 8 * 8 && SF_NODES_ROOM(most) == SIZE_MAX / 8 * 4);
   CHECK(SF_CANONICAL_ROOM(number - 1999999999 + 1) == 3); /* the length is an expression */
   for (size_t length = 0; length < 100; ++length)
-    CHECK(SF_CANONICAL_ROOM(length) == length * 8 / 5);
+    CHECK(SF_CANONICAL_ROOM(length) == length * 8 / 5 &&
+          SF_NODES_ROOM(length) == (length * 8 + 5) / 10);
 }
 
 /* The nodes of a text and of its canonical text are the same, in rooms of exactly their size; a
@@ -255,7 +256,7 @@ static void same_value(uint32_t dialect, uint32_t kind, const char *about, const
   sf_sizes sizes = {4711, 4712}, again = {4711, 4712};
   CALL(sf_parse(&seed, dialect, kind, text, length, NULL, 0, NULL, 0, &sizes, &refusal));
   CHECK(status == (sizes.nodes == 0 && sizes.bytes == 0 ? SF_OK : SF_SHORT));
-  CHECK(sizes.nodes <= SF_PARSE_ROOM(length) && sizes.bytes <= SF_PARSE_ROOM(length));
+  CHECK(sizes.nodes <= SF_NODES_ROOM(length) && sizes.bytes <= SF_BYTES_ROOM(length));
 
   size_t size = sizes.nodes * sizeof(sf_node);
   unsigned char *bytes = take_room(NULL, sizes.bytes), *other = take_room(NULL, sizes.bytes);
@@ -515,7 +516,7 @@ static void parsed(uint32_t kind, const char *from, const row *rows, size_t coun
       give_room(bytes);
     }
   }
-  CHECK(count <= SF_PARSE_ROOM(length) && size <= SF_PARSE_ROOM(length));
+  CHECK(count <= SF_NODES_ROOM(length) && size <= SF_BYTES_ROOM(length));
   CHECK(is_untouched(&refusal));
   give_room(text);
 }
@@ -747,7 +748,7 @@ static void told(const char *from, const hop_row *rows, size_t count, size_t siz
       give_room(bytes);
     }
   }
-  CHECK(count <= SF_PARSE_ROOM(length) && size <= SF_PARSE_ROOM(length));
+  CHECK(count <= SF_NODES_ROOM(length) && size <= SF_BYTES_ROOM(length));
   CHECK(is_untouched(&refusal));
   give_room(text);
 }
