@@ -52,7 +52,8 @@ pub extern "C" fn sf_cache_status(
         (record { hops = hops.old; bytes = bytes.old; path = path.old; refusal = refusal.old })
         (record { hops = hops.new; bytes = bytes.new; path = path.new; refusal = refusal.new })
         text.now (status_at result) }
-    // where they are told: bytes at most eight fifths of the text's length, hops at most one more
+    // where they are told: hops at most four fifths of the text's length, rounded to the nearest
+    // number, and bytes at most eight fifths
     ensures few { SaysFew text.now path.new (status_at result) }
 {
     path_of(alloc, seed, text, hops, bytes, path, refusal).code()
@@ -73,7 +74,8 @@ fn path_of(
         (record { hops = hops.old; bytes = bytes.old; path = path.old; refusal = refusal.old })
         (record { hops = hops.new; bytes = bytes.new; path = path.new; refusal = refusal.new })
         text.now (Some result) }
-    // where they are told: bytes at most eight fifths of the text's length, hops at most one more
+    // where they are told: hops at most four fifths of the text's length, rounded to the nearest
+    // number, and bytes at most eight fifths
     ensures few { SaysFew text.now path.new (Some result) }
 {
     let field = match parse(alloc, seed, Dialect::Rfc9651, Kind::List, text, refusal) {
