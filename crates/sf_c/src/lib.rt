@@ -10,12 +10,12 @@
 
 mod cache_status;
 mod call;
+mod canonical_text;
 mod check;
 mod hops;
 mod joining;
 pub mod laws;
 mod nodes;
-mod normalise;
 mod parsing;
 mod priority;
 mod refusal;
@@ -25,11 +25,11 @@ mod status;
 mod targeted;
 
 pub use cache_status::{Path, sf_cache_status};
+pub use canonical_text::{sf_equal, sf_normalise};
 pub use check::sf_check;
 pub use hops::{HopNode, Piece};
 pub use joining::{Joined, sf_join};
 pub use nodes::{Node, Sizes};
-pub use normalise::{sf_equal, sf_normalise};
 pub use parsing::sf_parse;
 pub use priority::{PriorityFlags, sf_priority, sf_priority_merge};
 pub use refusal::SyntaxRefusal;

@@ -1,6 +1,6 @@
 //! Hops read from texts and written again. What is expected comes from RFC 9211: its sections 2 and
 //! 4, and what they say of parameters of other types.
-use crate::build::seed;
+use crate::building::seed;
 use sf_field::{AskFault, Consumer, UseFault, ask};
 use sf_parse::{Refusal, parse_list};
 use sf_use::{CachePath, CacheStatus, Forward, Hop, HopStatus, Name, Outcome, Passed, append_hop};

@@ -7,7 +7,7 @@
 #![tactic(auto)]
 
 #[cfg(test)]
-mod build;
+mod building;
 #[cfg(test)]
 mod cache_status;
 #[cfg(test)]

@@ -1,5 +1,5 @@
 //! Lines and header maps with their answers.
-use crate::build::seed;
+use crate::building::seed;
 use http_header::{HeaderMap, HeaderName, HeaderValue};
 use sf_field::{
     from_headers, header_value, normalise_lines, parse_dict_lines, parse_item_lines, parse_lines,

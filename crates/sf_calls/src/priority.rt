@@ -1,5 +1,5 @@
 //! Priority fields with what they come to, and priorities with their fields.
-use crate::build::seed;
+use crate::building::seed;
 use sf_field::ask;
 use sf_parse::parse_dict;
 use sf_use::{Asked, Priority, PriorityField, Urgency, merge, priority_field};

@@ -1,5 +1,5 @@
 //! Targeted fields with what they say, and headers with the choice among targets.
-use crate::build::seed;
+use crate::building::seed;
 use http_header::{HeaderMap, HeaderName, HeaderValue};
 use sf_field::ask;
 use sf_use::{Choice, Directives, Policy, select};

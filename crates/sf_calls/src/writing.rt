@@ -1,5 +1,5 @@
 //! Values with their texts, and sinks that fail.
-use crate::build::{
+use crate::building::{
     blob, both, date, decimal, dict, flag, integer, item, key, plain, seed, shown, text, token,
     two, with,
 };

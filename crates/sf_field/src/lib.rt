@@ -8,14 +8,14 @@
 mod asking;
 mod consumer;
 mod headers;
+mod kinds;
 pub mod laws;
 mod lines;
 mod setting;
-mod typed;
 
 pub use asking::{AskFault, ask};
 pub use consumer::{Consumer, UseFault};
 pub use headers::from_headers;
+pub use kinds::{parse_dict_lines, parse_item_lines, parse_list_lines};
 pub use lines::{normalise_lines, parse_lines, parse_lines_in};
 pub use setting::{SetFault, header_value, set_field};
-pub use typed::{parse_dict_lines, parse_item_lines, parse_list_lines};

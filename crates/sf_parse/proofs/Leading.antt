@@ -10,9 +10,9 @@ use Rattle.sf_parse.specs.Machine.Showns.{Plain, Hex, unhex, pushed, shown_step}
 use Rattle.sf_value.specs.Grammar.Classes.{is_visible}
 use Rattle.sf_parse.specs.Machine.Tests.{shown_ends}
 use Rattle.sf_parse.specs.Views.{utf8_of, shown_of, FitsShown, Leads}
-use Rattle.sf_parse.specs.declared.shown.Utf8State.{Utf8State}
-use Rattle.sf_parse.specs.declared.shown.ShownPhase.{ShownPhase}
-use Rattle.sf_parse.specs.declared.shown.ShownPhase.TheVariants as shown_phase
+use Rattle.sf_parse.specs.declared.display_string.Utf8State.{Utf8State}
+use Rattle.sf_parse.specs.declared.display_string.ShownPhase.{ShownPhase}
+use Rattle.sf_parse.specs.declared.display_string.ShownPhase.TheVariants as shown_phase
 use Rattle.sf_parse.proofs.Language.{and_then_cases}
 
 run_push : (x y z : Utf8) (bytes : List ℕ) (b : ℕ) → run utf8_step x bytes ≡ Some y

@@ -15,10 +15,10 @@ use Rattle.sf_parse.specs.declared.blob.Held.{Held}
 use Rattle.sf_parse.specs.declared.blob.Held.TheVariants as held
 use Rattle.sf_parse.specs.declared.blob.BlobPhase.{BlobPhase}
 use Rattle.sf_parse.specs.declared.blob.BlobPhase.TheVariants as blob_phase
-use Rattle.sf_parse.specs.declared.shown.Utf8State.{Utf8State}
-use Rattle.sf_parse.specs.declared.shown.Utf8State.TheVariants as utf8
-use Rattle.sf_parse.specs.declared.shown.ShownPhase.{ShownPhase}
-use Rattle.sf_parse.specs.declared.shown.ShownPhase.TheVariants as shown_phase
+use Rattle.sf_parse.specs.declared.display_string.Utf8State.{Utf8State}
+use Rattle.sf_parse.specs.declared.display_string.Utf8State.TheVariants as utf8
+use Rattle.sf_parse.specs.declared.display_string.ShownPhase.{ShownPhase}
+use Rattle.sf_parse.specs.declared.display_string.ShownPhase.TheVariants as shown_phase
 
 -- behind the point there is a whole part
 abbrev pub number_of : Bool → Option ℕ → ℕ → ℕ → NumberState

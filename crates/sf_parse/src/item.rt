@@ -14,7 +14,7 @@ ghost use Rattle.sf_parse.specs.Machine.Tests.{item_takes, item_ends};
 
 use crate::bare::BareReader;
 use crate::context::Context;
-use crate::gather::Gather;
+use crate::gathering::Gather;
 use crate::level::Level;
 use crate::parameters::ParamsReader;
 use crate::sets::{SEMICOLON, set_if};

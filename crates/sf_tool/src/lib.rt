@@ -7,7 +7,6 @@
 mod answering;
 mod choice;
 mod cutting;
-mod expected;
 mod fields;
 mod path;
 mod priority;
@@ -15,6 +14,7 @@ mod reading;
 mod refusing;
 mod request;
 mod running;
+mod sets;
 mod status;
 mod tree;
 

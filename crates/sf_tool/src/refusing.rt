@@ -4,7 +4,7 @@ ghost use Rattle.sf_write.specs.Writing.{Follows};
 ghost use Rattle.sf_parse.specs.ByteSets.{runs_of};
 ghost use Rattle.sf_tool.specs.Texts.{set_text, found_text, end_text, refusal_line};
 
-use crate::expected::{hex_digits, put_set};
+use crate::sets::{hex_digits, put_set};
 use itoa::Buffer;
 use sf_value::Sink;
 use sf_write::{Sent, put};

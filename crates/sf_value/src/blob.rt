@@ -3,8 +3,8 @@ ghost use Rattle.std.specs.Prelude.{◌≡◌, ℕ, List, [], ◌++◌, ◌↔�
 ghost use Rattle.sf_value.specs.Grammar.Words.{Every};
 ghost use Rattle.sf_value.specs.Grammar.Classes.{is_byte};
 
+use crate::bytes::ShortBytes;
 use crate::fault::OutOfMemory;
-use crate::short::ShortBytes;
 use std::alloc::Global;
 use std::marker::Model;
 

@@ -6,8 +6,8 @@ ghost use Rattle.sf_value.specs.declared.value.Field.TheVariants as field_is;
 ghost use Rattle.sf_value.specs.declared.value.Member.TheVariants as member_is;
 
 use crate::blob::Blob;
+use crate::display_string::Shown;
 use crate::number::Thousandths;
-use crate::shown::Shown;
 use crate::text::Text;
 use crate::token::Token;
 use crate::value::{Bare, Dict, Field, Inner, Item, List, Member};

@@ -9,10 +9,10 @@ ghost use Rattle.sf_value.specs.Entries.{deref_entry, AreEntries};
 ghost use Rattle.std.specs.Iterator.{at_most};
 ghost use Rattle.std.specs.Map.Iter.{TakesFirst, ShowsInOrder};
 
+use crate::bytes::ShortBytes;
 use crate::fault::OutOfMemory;
 use crate::key::Key;
 use crate::part::Part;
-use crate::short::ShortBytes;
 use crate::store::{Left, Lent, Slot, Store};
 use std::alloc::Global;
 use std::hash::RandomState;

@@ -9,9 +9,9 @@ ghost use Rattle.sf_value.specs.Deciding.{bare_equiv, dict_equiv, field_equiv, i
 ghost use Rattle.sf_value.specs.Deciding.{item_equiv, list_equiv, member_equiv};
 
 use crate::blob::Blob;
+use crate::display_string::Shown;
 use crate::key::Key;
 use crate::part::{Part, same};
-use crate::shown::Shown;
 use crate::text::Text;
 use crate::token::Token;
 use crate::value::{Bare, Dict, Field, Inner, Item, List, Member};

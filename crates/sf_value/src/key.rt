@@ -4,8 +4,8 @@ ghost use Rattle.sf_value.specs.Grammar.Classes.{is_key_start, is_key_rest};
 ghost use Rattle.sf_value.specs.Grammar.Tokens.{IsKey};
 ghost use Rattle.sf_value.specs.Faults.{bad_place, bad_word_place, IsKeyFault};
 
+use crate::bytes::ShortBytes;
 use crate::fault::{OutOfMemory, TextFault};
-use crate::short::ShortBytes;
 use std::alloc::Global;
 use std::marker::Model;
 

@@ -3,14 +3,16 @@
 ghost use Rattle.std.specs.Prelude.{◌≡◌};
 ghost use Rattle.std.specs.Option.{option_copied};
 ghost use Rattle.sf_value.specs.Grammar.Pairs.{value_at};
-ghost use Rattle.sf_value.specs.Lookups.{as_blob, as_boolean, as_date, as_decimal, as_integer};
-ghost use Rattle.sf_value.specs.Lookups.{as_shown, as_text, as_token};
+ghost use Rattle.sf_value.specs.Lookups.{as_blob as blob_of, as_boolean as boolean_of};
+ghost use Rattle.sf_value.specs.Lookups.{as_date as date_of, as_decimal as decimal_of};
+ghost use Rattle.sf_value.specs.Lookups.{as_integer as integer_of, as_shown as shown_of};
+ghost use Rattle.sf_value.specs.Lookups.{as_text as text_of, as_token as token_of};
 ghost use Rattle.sf_value.specs.Lookups.{field_dict, field_item, field_list};
 ghost use Rattle.sf_value.specs.Lookups.{member_inner, member_item};
 
 use crate::blob::Blob;
+use crate::display_string::Shown;
 use crate::number::{Int, Thousandths};
-use crate::shown::Shown;
 use crate::text::Text;
 use crate::token::Token;
 use crate::value::{Bare, Dict, Field, Inner, Item, List, Member};
@@ -23,7 +25,7 @@ impl Bare {
     /// Bare::Date(Int::new(7)?).as_integer()    // None
     /// ```
     pub fn as_integer(&self) -> Option<Int>
-        ensures { result ≡ as_integer self.now }
+        ensures { result ≡ integer_of self.now }
     {
         match self {
             Bare::Integer(number) => Some(*number),
@@ -33,7 +35,7 @@ impl Bare {
 
     /// The number of a Decimal; `None` where it is of another type.
     pub fn as_decimal(&self) -> Option<Thousandths>
-        ensures { result ≡ as_decimal self.now }
+        ensures { result ≡ decimal_of self.now }
     {
         match self {
             Bare::Decimal(number) => Some(*number),
@@ -43,7 +45,7 @@ impl Bare {
 
     /// The string of a String; `None` where it is of another type.
     pub fn as_text(&self) -> Option<&Text>
-        ensures { option_copied result ≡ as_text self.now }
+        ensures { option_copied result ≡ text_of self.now }
     {
         match self {
             Bare::Text(text) => Some(text),
@@ -53,7 +55,7 @@ impl Bare {
 
     /// The token of a Token; `None` where it is of another type.
     pub fn as_token(&self) -> Option<&Token>
-        ensures { option_copied result ≡ as_token self.now }
+        ensures { option_copied result ≡ token_of self.now }
     {
         match self {
             Bare::Token(token) => Some(token),
@@ -63,7 +65,7 @@ impl Bare {
 
     /// The bytes of a Byte Sequence; `None` where it is of another type.
     pub fn as_blob(&self) -> Option<&Blob>
-        ensures { option_copied result ≡ as_blob self.now }
+        ensures { option_copied result ≡ blob_of self.now }
     {
         match self {
             Bare::Blob(blob) => Some(blob),
@@ -73,7 +75,7 @@ impl Bare {
 
     /// The truth of a Boolean; `None` where it is of another type.
     pub fn as_boolean(&self) -> Option<bool>
-        ensures { result ≡ as_boolean self.now }
+        ensures { result ≡ boolean_of self.now }
     {
         match self {
             Bare::Boolean(boolean) => Some(*boolean),
@@ -83,7 +85,7 @@ impl Bare {
 
     /// The seconds of a Date, from 1970-01-01T00:00:00Z on; `None` where it is of another type.
     pub fn as_date(&self) -> Option<Int>
-        ensures { result ≡ as_date self.now }
+        ensures { result ≡ date_of self.now }
     {
         match self {
             Bare::Date(seconds) => Some(*seconds),
@@ -93,7 +95,7 @@ impl Bare {
 
     /// The text of a Display String; `None` where it is of another type.
     pub fn as_shown(&self) -> Option<&Shown>
-        ensures { option_copied result ≡ as_shown self.now }
+        ensures { option_copied result ≡ shown_of self.now }
     {
         match self {
             Bare::Shown(shown) => Some(shown),
@@ -103,7 +105,7 @@ impl Bare {
 
     /// The string of a String, taken out; `None` where it is of another type.
     pub fn into_text(self) -> Option<Text>
-        ensures { result ≡ as_text self }
+        ensures { result ≡ text_of self }
     {
         match self {
             Bare::Text(text) => Some(text),
@@ -113,7 +115,7 @@ impl Bare {
 
     /// The token of a Token, taken out; `None` where it is of another type.
     pub fn into_token(self) -> Option<Token>
-        ensures { result ≡ as_token self }
+        ensures { result ≡ token_of self }
     {
         match self {
             Bare::Token(token) => Some(token),
@@ -123,7 +125,7 @@ impl Bare {
 
     /// The bytes of a Byte Sequence, taken out; `None` where it is of another type.
     pub fn into_blob(self) -> Option<Blob>
-        ensures { result ≡ as_blob self }
+        ensures { result ≡ blob_of self }
     {
         match self {
             Bare::Blob(blob) => Some(blob),
@@ -133,7 +135,7 @@ impl Bare {
 
     /// The text of a Display String, taken out; `None` where it is of another type.
     pub fn into_shown(self) -> Option<Shown>
-        ensures { result ≡ as_shown self }
+        ensures { result ≡ shown_of self }
     {
         match self {
             Bare::Shown(shown) => Some(shown),

@@ -15,9 +15,9 @@ ghost use Rattle.sf_value.specs.Stores.{slot_pairs, stored, HasSeed, lent_pairs,
 
 use crate::fault::OutOfMemory;
 use crate::key::Key;
-use crate::many;
-use crate::many::Many;
 use crate::naming::Name;
+use crate::table;
+use crate::table::Many;
 use indexmap::{IndexMap, map};
 use std::alloc::Global;
 use std::hash::RandomState;
@@ -197,11 +197,11 @@ impl<V: Drop> Store<V> {
                 let Ok(mut map) = grown(slots) else {
                     return Err((key, value));
                 };
-                let put = many::put(&mut map, key, value);
+                let put = table::put(&mut map, key, value);
                 *self = Store::Many(map);
                 return put;
             }
-            Store::Many(map) => return many::put(map, key, value),
+            Store::Many(map) => return table::put(map, key, value),
         }
     }
 
@@ -223,7 +223,7 @@ impl<V: Drop> Store<V> {
         ensures absent { OnErr result (value_at key (stored self.old) ≡ None) }
     {
         if let Store::Many(map) = self {
-            return many::set(map, key, value);
+            return table::set(map, key, value);
         }
         match self.put(key, value) {
             Ok(_) => return Ok(()),

@@ -5,8 +5,8 @@ ghost use Rattle.sf_value.specs.Grammar.Words.{Every};
 ghost use Rattle.sf_value.specs.Grammar.Classes.{is_visible as is_visible_byte};
 ghost use Rattle.sf_value.specs.Faults.{bad_place, IsStringFault};
 
+use crate::bytes::ShortBytes;
 use crate::fault::{OutOfMemory, TextFault};
-use crate::short::ShortBytes;
 use std::alloc::Global;
 use std::marker::Model;
 

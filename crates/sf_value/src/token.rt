@@ -4,8 +4,8 @@ ghost use Rattle.sf_value.specs.Grammar.Classes.{is_token_start, is_token_rest};
 ghost use Rattle.sf_value.specs.Grammar.Tokens.{IsToken};
 ghost use Rattle.sf_value.specs.Faults.{bad_place, bad_word_place, IsTokenFault};
 
+use crate::bytes::ShortBytes;
 use crate::fault::{OutOfMemory, TextFault};
-use crate::short::ShortBytes;
 use std::alloc::Global;
 use std::marker::Model;
 

@@ -3,10 +3,10 @@ ghost use Rattle.std.specs.Prelude.{◌≡◌};
 ghost use Rattle.sf_value.specs.Grammar.Fields.{kind_of};
 
 use crate::blob::Blob;
+use crate::display_string::Shown;
 use crate::entries::Entries;
 use crate::number::{Int, Thousandths};
 use crate::sequence::Sequence;
-use crate::shown::Shown;
 use crate::text::Text;
 use crate::token::Token;
 

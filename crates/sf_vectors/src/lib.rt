@@ -4,10 +4,10 @@
 #![tactic(auto)]
 
 #[cfg(test)]
-mod accepted;
+mod acceptances;
 #[cfg(test)]
-mod following;
+mod followers;
 #[cfg(test)]
 mod readers;
 #[cfg(test)]
-mod refused;
+mod refusals;

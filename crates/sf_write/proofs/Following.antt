@@ -6,7 +6,7 @@ use Rattle.std.specs.Prelude.{IfOk}
 use Rattle.std.proofs.Output.{writes_in_calls_nil, writes_in_calls_append}
 use Rattle.sf_value.specs.Devices.{SinkState}
 use Rattle.sf_write.specs.Writing.{Follows, Wrote}
-use Rattle.sf_write.specs.declared.send.WriteFault.{WriteFault}
+use Rattle.sf_write.specs.declared.sending.WriteFault.{WriteFault}
 use Rattle.sf_write.proofs.Joining.{Wrote-nil, Writes-append, WroteFront-longer}
 
 abbrev Sent : Type 0

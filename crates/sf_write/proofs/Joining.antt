@@ -9,7 +9,7 @@ use Rattle.std.proofs.KnownBytes.{Appends-nil, Appends-trans, Appends-kept}
 use Rattle.std.proofs.Math.Seq.{take-append_seam}
 use Rattle.sf_value.specs.Devices.{SinkState, TakesOnce, RefusesOnce}
 use Rattle.sf_write.specs.Writing.{Wrote, WroteFront, Writes, WritesText}
-use Rattle.sf_write.specs.declared.send.WriteFault.{WriteFault}
+use Rattle.sf_write.specs.declared.sending.WriteFault.{WriteFault}
 
 -- no text
 pub Wrote-nil : (s : SinkState) (n : ℕ) → n < 2 ^ 64 → Wrote s s n n []

@@ -4,7 +4,7 @@ use Rattle.std.specs.Prelude.{IfOk, IfErr}
 use Rattle.std.specs.Fmt.{WritesInCalls}
 use Rattle.std.specs.Io.KnownBytes.{Appends}
 use Rattle.sf_value.specs.Devices.{SinkState, RefusesOnce, capped}
-use Rattle.sf_write.specs.declared.send.WriteFault.{WriteFault}
+use Rattle.sf_write.specs.declared.sending.WriteFault.{WriteFault}
 
 -- calls took these bytes, and none failed; a count of bytes went on from before to after
 pub record Wrote (old new : SinkState) (before after : ℕ) (text : List ℕ) : Type 0 where

@@ -7,10 +7,10 @@ ghost use Rattle.sf_value.specs.Grammar.Canonical.{canon_bare};
 ghost use Rattle.sf_write.specs.Writing.{Follows, WritesText};
 
 use crate::blobs::put_blob;
+use crate::display_string::put_display_string;
 use crate::length::bare_len;
 use crate::numbers::{put_date, put_decimal, put_integer};
-use crate::send::{Sent, WriteFault, put};
-use crate::shown::put_display_string;
+use crate::sending::{Sent, WriteFault, put};
 use crate::strings::put_string;
 use sf_value::{Bare, OutOfMemory, Sink, Text, Writing};
 use std::alloc::Global;

@@ -4,7 +4,7 @@ ghost use Rattle.sf_value.specs.Ascii.{colon};
 ghost use Rattle.sf_value.specs.Grammar.Canonical.{canon_base64};
 ghost use Rattle.sf_write.specs.Writing.{Follows};
 
-use crate::send::{Sent, put};
+use crate::sending::{Sent, put};
 use base64::engine::general_purpose::STANDARD;
 use sf_value::Sink;
 

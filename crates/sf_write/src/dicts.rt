@@ -9,7 +9,7 @@ ghost use Rattle.sf_write.specs.Writing.{Follows};
 
 use crate::items::put_inner;
 use crate::params::{put_params, put_value};
-use crate::send::{Sent, put};
+use crate::sending::{Sent, put};
 use sf_value::{Entries, Inner, Item, Member, Sink};
 
 /// Behind a key an Item of Boolean true stands as its parameters alone, and any other as `=` and

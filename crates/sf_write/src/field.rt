@@ -10,7 +10,7 @@ use crate::dicts::put_entries;
 use crate::items::put_item;
 use crate::length::field_len;
 use crate::lists::put_members;
-use crate::send::{Sent, WriteFault};
+use crate::sending::{Sent, WriteFault};
 use sf_value::{Field, OutOfMemory, Sink, Writing};
 use std::alloc::Global;
 

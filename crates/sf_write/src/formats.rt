@@ -9,7 +9,7 @@ use crate::bare::put_bare;
 use crate::field::{put_field, to_text};
 use crate::items::{put_inner, put_item};
 use crate::lists::put_member;
-use crate::send::Sent;
+use crate::sending::Sent;
 use sf_value::{Bare, Failed, Field, Inner, Item, Member, OutOfMemory, Sink};
 use std::alloc::Global;
 use std::fmt;

@@ -8,7 +8,7 @@ ghost use Rattle.sf_write.specs.Writing.{Follows};
 
 use crate::bare::put_bare;
 use crate::params::put_params;
-use crate::send::{Sent, put};
+use crate::sending::{Sent, put};
 use sf_value::{Inner, Item, Sink};
 
 /// An Item: its bare item and its parameters.

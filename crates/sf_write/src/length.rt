@@ -43,7 +43,7 @@ fn blob_len(bytes: &[u8]) -> usize {
 /// A Display String: `%` and two quotes, and each byte as one or three characters.
 fn shown_len(text: &[u8]) -> usize {
     text.len()
-        .saturating_add(shown::escaped_count(text).saturating_mul(2))
+        .saturating_add(display_string::escaped_count(text).saturating_mul(2))
         .saturating_add(3)
 }
 

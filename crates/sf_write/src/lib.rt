@@ -10,6 +10,7 @@
 mod bare;
 mod blobs;
 mod dicts;
+mod display_string;
 mod field;
 mod formats;
 mod items;
@@ -17,11 +18,10 @@ mod length;
 mod lists;
 mod numbers;
 mod params;
-mod send;
-mod shown;
+mod sending;
 mod strings;
 
 pub use bare::{bare_text, put_bare, put_text, write_bare};
 pub use field::{put_field, to_text, write_field};
 pub use formats::{Canonical, Displayed, display, to_string};
-pub use send::{Sent, WriteFault, put, send_all};
+pub use sending::{Sent, WriteFault, put, send_all};

@@ -6,7 +6,7 @@ ghost use Rattle.sf_value.specs.Grammar.Canonical.{canon_member, canon_series};
 ghost use Rattle.sf_write.specs.Writing.{Follows};
 
 use crate::items::{put_inner, put_item};
-use crate::send::{Sent, put};
+use crate::sending::{Sent, put};
 use sf_value::{Member, Sink};
 
 /// A member of a List: an Item or an Inner List.

@@ -6,7 +6,7 @@ ghost use Rattle.sf_value.specs.Grammar.Numbers.{sign};
 ghost use Rattle.sf_value.specs.Grammar.Canonical.{canon_decimal, fraction, is_negative};
 ghost use Rattle.sf_write.specs.Writing.{Follows};
 
-use crate::send::{Sent, put};
+use crate::sending::{Sent, put};
 use itoa::Buffer;
 use sf_value::{Int, Sink, Thousandths};
 

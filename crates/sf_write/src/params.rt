@@ -7,7 +7,7 @@ ghost use Rattle.sf_value.specs.Grammar.Canonical.{canon_params, canon_value};
 ghost use Rattle.sf_write.specs.Writing.{Follows};
 
 use crate::bare::put_bare;
-use crate::send::{Sent, put};
+use crate::sending::{Sent, put};
 use sf_value::{Bare, Entries, Sink};
 
 /// Whether a value stands behind its key by nothing at all.

@@ -5,7 +5,7 @@ ghost use Rattle.sf_value.specs.Ascii.{quote};
 ghost use Rattle.sf_value.specs.Grammar.Strings.{escaped, is_escaped};
 ghost use Rattle.sf_write.specs.Writing.{Follows};
 
-use crate::send::{Sent, put};
+use crate::sending::{Sent, put};
 use sf_value::Sink;
 
 /// How many bytes are counted together: few enough for a byte to hold the count.

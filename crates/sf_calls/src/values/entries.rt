@@ -1,4 +1,4 @@
-use crate::build::{integer, number_in, put, seed};
+use crate::building::{integer, number_in, put, seed};
 use sf_value::{Bare, Entries};
 use std::hash::RandomState;
 use std::process::Abort;

@@ -1,4 +1,4 @@
-use crate::build::{bare, dict, integer, item, list, plain, seed, token};
+use crate::building::{bare, dict, integer, item, list, plain, seed, token};
 use sf_value::{Dialect, Field, Item, Kind, List, Part, copy, same};
 use std::hash::RandomState;
 use std::process::Abort;

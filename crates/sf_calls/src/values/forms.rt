@@ -1,6 +1,6 @@
 //! Entries of up to 8 stand in one form, more in another: both, and the change from one to the
 //! other.
-use crate::build::{integer, key, number_in, put, seed};
+use crate::building::{integer, key, number_in, put, seed};
 use sf_value::{Bare, Entries, Item, Member, Part};
 use std::hash::RandomState;
 use std::mem;

@@ -1,6 +1,6 @@
 //! Values that are looked up, by the calls for it and by a user's own matches.
-use crate::build;
-use crate::build::{bare, integer, key, seed, token, with};
+use crate::building;
+use crate::building::{bare, integer, key, seed, token, with};
 use sf_value::{Bare, Dict, Entries, Field, Inner, Int, Item, Key, List, Thousandths, Token};
 use std::hash::RandomState;
 use std::process::Abort;
@@ -43,7 +43,7 @@ fn bare_items_by_type(rt: HostRuntime) {
 
 /// The Item `a;q=1`.
 fn item(rt: &(impl Abort + AllocGlobal), seed: &RandomState) -> Item {
-    build::item(rt, seed, token(rt, b"a"), b"q", integer(rt, 1))
+    building::item(rt, seed, token(rt, b"a"), b"q", integer(rt, 1))
 }
 
 /// The Inner List `(a;q=1);r`.

@@ -1,4 +1,4 @@
-use crate::build::{integer, number_in, one_and_two, plain, seed};
+use crate::building::{integer, number_in, one_and_two, plain, seed};
 use sf_value::{Item, Part, Sequence};
 use std::process::Abort;
 

@@ -1,5 +1,6 @@
 -- The machine that reads bare items.
 use Rattle.std.specs.Prelude.{ℕ, ◌==◌, List, [], Option, Some}
+use Rattle.sf_value.specs.Ascii.{quote, percent, colon, question_mark, at_sign}
 use Rattle.sf_value.specs.Grammar.Words.{allow, otherwise}
 use Rattle.sf_value.specs.Grammar.Classes.{is_token_start, is_token_rest}
 use Rattle.sf_value.specs.Grammar.Dialects.{is_rfc9651}
@@ -52,12 +53,12 @@ GoodBare (InShown s) = GoodShown s
 abbrev pub bare_start : Dialect → ℕ → Option BareState
 bare_start d b =
     otherwise (seen InNumber (number_start b))
-    (otherwise (seen InText (allow (b == 34) (Inside [])))
+    (otherwise (seen InText (allow (b == quote) (Inside [])))
     (otherwise (seen InToken (word_start is_token_start b))
-    (otherwise (seen InBoolean (allow (b == 63) Asked))
-    (otherwise (only (is_rfc9651 d) (seen InDate (allow (b == 64) Sign)))
-    (otherwise (seen InBlob (allow (b == 58) (Group [] H0)))
-    (only (is_rfc9651 d) (seen InShown (allow (b == 37) Quote))))))))
+    (otherwise (seen InBoolean (allow (b == question_mark) Asked))
+    (otherwise (only (is_rfc9651 d) (seen InDate (allow (b == at_sign) Sign)))
+    (otherwise (seen InBlob (allow (b == colon) (Group [] H0)))
+    (only (is_rfc9651 d) (seen InShown (allow (b == percent) Quote))))))))
 
 abbrev pub bare_step : BareState → ℕ → Option BareState
 bare_step (InNumber s) b = seen InNumber (number_step s b)

@@ -1,16 +1,17 @@
 -- The machine that reads Byte Sequences.
 use Rattle.std.specs.Prelude.{◌≡◌, ℕ, ◌+◌, ◌-◌, ◌*◌, ◌/◌, ◌%◌, ◌<◌, Bool, true, false, ◌==◌, nat_lt}
 use Rattle.std.specs.Prelude.{nat_le, ◌&&◌, if◌then◌else◌, List, [], ◌∷◌, ◌++◌, Option, Some, None}
+use Rattle.sf_value.specs.Ascii.{plus, slash, colon, equals, upper_a, upper_z}
 use Rattle.sf_value.specs.Grammar.Words.{allow, otherwise}
 use Rattle.sf_value.specs.Grammar.Classes.{is_digit, is_lower}
 use Rattle.sf_value.specs.Grammar.ByteSequences.{letter, Pads, Sextets}
 
 -- the value of a character
 abbrev pub sextet : ℕ → Option ℕ
-sextet b = if nat_le 65 b && nat_le b 90 then Some (b - 65) else
+sextet b = if nat_le upper_a b && nat_le b upper_z then Some (b - upper_a) else
     (if is_lower b then Some (b - 71) else
     (if is_digit b then Some (b + 4) else
-    (if b == 43 then Some 62 else (if b == 47 then Some 63 else None))))
+    (if b == plus then Some 62 else (if b == slash then Some 63 else None))))
 
 -- the values of an open group
 pub data Held : Type 0 where
@@ -72,8 +73,8 @@ grown bytes (H3 x y z) w = Group (bytes
     ++ ((x * 4 + y / 16) ∷ (y % 16 * 16 + z / 4) ∷ (z % 4 * 64 + w) ∷ [])) H0
 
 abbrev pub pad_step : List ℕ → ℕ → ℕ → Option BlobState
-pad_step bytes n b = otherwise (allow (b == 58) (Ended bytes))
-    (allow (b == 61 && nat_lt 0 n) (Padded bytes (n - 1)))
+pad_step bytes n b = otherwise (allow (b == colon) (Ended bytes))
+    (allow (b == equals && nat_lt 0 n) (Padded bytes (n - 1)))
 
 abbrev pub end_step : List ℕ → Held → ℕ → Option BlobState
 end_step bytes h b = if is_last h then pad_step (bytes ++ last_bytes h) (lacking h) b else None

@@ -1,5 +1,6 @@
 -- The machine that reads members of Dictionaries.
 use Rattle.std.specs.Prelude.{ℕ, ◌==◌, List, [], Option, Some, None}
+use Rattle.sf_value.specs.Ascii.{equals}
 use Rattle.sf_value.specs.declared.dialect.Dialect.{Dialect}
 use Rattle.sf_value.specs.declared.value.Bare.{Bare}
 use Rattle.sf_value.specs.declared.value.Member.{Member}
@@ -31,7 +32,7 @@ abbrev pub flag_of : List ℕ → Pairs Bare → List ℕ × Member
 flag_of k ps = (k, flag ps)
 
 abbrev pub BehindKey : Dialect → List ℕ → List ℕ → List ℕ × Member → Type 0
-BehindKey d k = Either (After 61 (Seen (with_key k) (SpellsMember d)))
+BehindKey d k = Either (After equals (Seen (with_key k) (SpellsMember d)))
     (Seen (flag_of k) (MoreParams d []))
 
 abbrev pub RestEntry : Dialect → EntryState → List ℕ → List ℕ × Member → Type 0
@@ -50,7 +51,8 @@ abbrev pub entry_start : ℕ → Option EntryState
 entry_start b = seen InKey (word_start is_key_start b)
 
 abbrev pub behind_key_step : List ℕ → ℕ → Option EntryState
-behind_key_step k b = otherwise (allow (b == 61) (Equals k)) (seen (InFlag k) (between_step [] b))
+behind_key_step k b = otherwise (allow (b == equals) (Equals k))
+    (seen (InFlag k) (between_step [] b))
 
 abbrev pub entry_step : Dialect → EntryState → ℕ → Option EntryState
 entry_step d (InKey k) b = onward InKey (word_step is_key_rest k b) (Some k)

@@ -1,5 +1,6 @@
 -- The machine that reads Inner Lists.
 use Rattle.std.specs.Prelude.{◌≡◌, ℕ, ◌==◌, List, [], ◌∷◌, ◌++◌, Option, None}
+use Rattle.sf_value.specs.Ascii.{space, close_bracket}
 use Rattle.sf_value.specs.Grammar.Words.{allow, otherwise}
 use Rattle.sf_value.specs.Grammar.Classes.{is_sp}
 use Rattle.sf_value.specs.Grammar.Pairs.{Pairs, Pairs}
@@ -25,7 +26,7 @@ pub data InnerState : Type 0 where
 -- further items, a bracket and parameters
 abbrev pub MoreItems : Dialect → ℕ → List Item → List ℕ → Inner → Type 0
 MoreItems d least is u v = (more : List Item) × (ps : Pairs Bare) × (body back : List ℕ)
-    × (u ≡ body ++ 41 ∷ back) × SpellsItems d least body more × SpellsParams d back ps
+    × (u ≡ body ++ close_bracket ∷ back) × SpellsItems d least body more × SpellsParams d back ps
     × (v ≡ inner (is ++ more) ps)
 
 abbrev pub RestInner : Dialect → InnerState → List ℕ → Inner → Type 0
@@ -39,11 +40,13 @@ GoodInner (InItem is s) = GoodItem s
 GoodInner (Closing is s) = GoodParams s
 
 abbrev pub behind_step : List Item → ℕ → Option InnerState
-behind_step is b = otherwise (allow (b == 32) (Room is)) (allow (b == 41) (Closing is (Between [])))
+behind_step is b = otherwise (allow (b == space) (Room is))
+    (allow (b == close_bracket) (Closing is (Between [])))
 
 abbrev pub inner_step : Dialect → InnerState → ℕ → Option InnerState
 inner_step d (Room is) b = otherwise (allow (is_sp b) (Room is))
-    (otherwise (allow (b == 41) (Closing is (Between []))) (seen (InItem is) (item_start d b)))
+    (otherwise (allow (b == close_bracket) (Closing is (Between [])))
+    (seen (InItem is) (item_start d b)))
 inner_step d (InItem is s) b = onward (InItem is) (item_step d s b) (item_finish s)
     (λ i. behind_step (is
     ++ i ∷ []) b)

@@ -1,6 +1,7 @@
 -- Words on languages, and on machines that read them a byte at a time.
 use Rattle.std.specs.Prelude.{◌≡◌, ℕ, Bool, true, false, List, [], ◌∷◌, ◌++◌, Option, Some, None}
 use Rattle.std.specs.Prelude.{◌⊎◌}
+use Rattle.sf_value.specs.Ascii.{tab, space, close_bracket, comma, semicolon}
 use Rattle.sf_value.specs.Grammar.Words.{Every}
 use Rattle.sf_value.specs.Grammar.Classes.{is_one_of}
 
@@ -88,8 +89,8 @@ Steps false next old new = (next ≡ None) × (new ≡ old)
 
 -- what may stand behind a bare item
 abbrev pub is_follow : ℕ → Bool
-is_follow b = is_one_of (9 ∷ 32 ∷ 41 ∷ 44 ∷ 59 ∷ []) b
+is_follow b = is_one_of (tab ∷ space ∷ close_bracket ∷ comma ∷ semicolon ∷ []) b
 
 -- what may stand behind an item
 abbrev pub is_after : ℕ → Bool
-is_after b = is_one_of (9 ∷ 32 ∷ 41 ∷ 44 ∷ []) b
+is_after b = is_one_of (tab ∷ space ∷ close_bracket ∷ comma ∷ []) b

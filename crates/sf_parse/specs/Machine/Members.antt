@@ -1,5 +1,6 @@
 -- The machine that reads members of Lists and Dictionaries.
 use Rattle.std.specs.Prelude.{ℕ, ◌==◌, List, [], Option}
+use Rattle.sf_value.specs.Ascii.{open_bracket}
 use Rattle.sf_value.specs.declared.dialect.Dialect.{Dialect}
 use Rattle.sf_value.specs.declared.value.Member.{Member}
 use Rattle.sf_value.specs.declared.value.Member.TheVariants as member
@@ -24,7 +25,8 @@ GoodMember (InOne s) = GoodItem s
 GoodMember (InMany s) = GoodInner s
 
 abbrev pub member_start : Dialect → ℕ → Option MemberState
-member_start d b = otherwise (seen InOne (item_start d b)) (seen InMany (allow (b == 40) (Room [])))
+member_start d b = otherwise (seen InOne (item_start d b))
+    (seen InMany (allow (b == open_bracket) (Room [])))
 
 abbrev pub member_step : Dialect → MemberState → ℕ → Option MemberState
 member_step d (InOne s) b = seen InOne (item_step d s b)

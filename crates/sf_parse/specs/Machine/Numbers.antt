@@ -1,6 +1,7 @@
 -- The machine that reads Integers, Decimals and Dates.
 use Rattle.std.specs.Prelude.{◌≡◌, ℕ, ◌+◌, ◌-◌, ◌*◌, ◌<◌, ◌≤◌, ◌^◌, ℤ, Bool, true, false, ◌==◌}
 use Rattle.std.specs.Prelude.{nat_le, nat_lt, ◌&&◌, List, ◌∷◌, ◌++◌, length, Option, None, ◌⊎◌}
+use Rattle.sf_value.specs.Ascii.{minus, point, digit_zero}
 use Rattle.sf_value.specs.Grammar.Words.{allow, otherwise}
 use Rattle.sf_value.specs.Grammar.Classes.{is_digit}
 use Rattle.sf_value.specs.Grammar.Numbers.{signed, value_from, AreDigits, thousandths}
@@ -21,7 +22,7 @@ RestFraction neg whole count a u m = AreDigits 1 3 count u
     × (m ≡ thousandths neg whole (count + length u) (value_from a u))
 
 abbrev pub RestDecimal : Bool → ℕ → ℕ → List ℕ → ℤ → Type 0
-RestDecimal neg count a u m = (w f : List ℕ) × (u ≡ w ++ 46 ∷ f) × AreDigits 1 12 count w
+RestDecimal neg count a u m = (w f : List ℕ) × (u ≡ w ++ point ∷ f) × AreDigits 1 12 count w
     × RestFraction neg (value_from a w) 0 0 f m
 
 abbrev pub RestNumber : NumberState → List ℕ → Bare → Type 0
@@ -40,10 +41,10 @@ GoodNumber (Fraction neg whole count a) = Counted 3 count a × (whole < 10 ^ 12)
 
 abbrev pub number_step : NumberState → ℕ → Option NumberState
 number_step (Whole neg count a) b = otherwise
-    (allow (is_digit b && nat_lt count 15) (Whole neg (count + 1) (10 * a + (b - 48))))
-    (allow (b == 46 && (nat_le 1 count && nat_le count 12)) (Fraction neg a 0 0))
+    (allow (is_digit b && nat_lt count 15) (Whole neg (count + 1) (10 * a + (b - digit_zero))))
+    (allow (b == point && (nat_le 1 count && nat_le count 12)) (Fraction neg a 0 0))
 number_step (Fraction neg whole count a) b = allow (is_digit b && nat_lt count 3)
-    (Fraction neg whole (count + 1) (10 * a + (b - 48)))
+    (Fraction neg whole (count + 1) (10 * a + (b - digit_zero)))
 
 abbrev pub number_finish : NumberState → Option Bare
 number_finish (Whole neg count a) = allow (nat_le 1 count) (Integer (signed neg a))
@@ -56,7 +57,7 @@ SpellsNumber t v = ((n : ℤ) × (v ≡ Integer n) × SpellsInteger t n) ⊎ ((m
     × SpellsDecimal t m)
 
 abbrev pub number_start : ℕ → Option NumberState
-number_start b = otherwise (allow (b == 45) (Whole true 0 0)) (number_step (Whole false 0 0) b)
+number_start b = otherwise (allow (b == minus) (Whole true 0 0)) (number_step (Whole false 0 0) b)
 
 -- the digits of a date so far
 pub data DateState : Type 0 where
@@ -73,11 +74,11 @@ GoodDate Sign = Unit {0}
 
 abbrev pub digits_step : Bool → ℕ → ℕ → ℕ → Option DateState
 digits_step neg count a b = allow (is_digit b && nat_lt count 15)
-    (Digits neg (count + 1) (10 * a + (b - 48)))
+    (Digits neg (count + 1) (10 * a + (b - digit_zero)))
 
 abbrev pub date_step : DateState → ℕ → Option DateState
 date_step (Digits neg count a) b = digits_step neg count a b
-date_step Sign b = otherwise (allow (b == 45) (Digits true 0 0)) (digits_step false 0 0 b)
+date_step Sign b = otherwise (allow (b == minus) (Digits true 0 0)) (digits_step false 0 0 b)
 
 abbrev pub date_finish : DateState → Option ℤ
 date_finish (Digits neg count a) = allow (nat_le 1 count) (signed neg a)

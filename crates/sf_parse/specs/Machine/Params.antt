@@ -1,5 +1,6 @@
 -- The machine that reads parameters.
 use Rattle.std.specs.Prelude.{◌≡◌, ℕ, true, ◌==◌, List, ◌++◌, Option, Some, None}
+use Rattle.sf_value.specs.Ascii.{semicolon, equals}
 use Rattle.sf_value.specs.Grammar.Words.{allow, otherwise}
 use Rattle.sf_value.specs.Grammar.Classes.{is_sp, is_key_start, is_key_rest}
 use Rattle.sf_value.specs.Grammar.Pairs.{Pairs, settle, put, Pairs}
@@ -40,7 +41,7 @@ ValueParams d ps k = Then (SpellsBare d) (PutParams d ps k)
 
 -- what stands behind a key
 abbrev pub KeyParams : Dialect → Pairs Bare → List ℕ → List ℕ → Pairs Bare → Type 0
-KeyParams d ps k = Either (After 61 (ValueParams d ps k)) (PutParams d ps k (Boolean true))
+KeyParams d ps k = Either (After equals (ValueParams d ps k)) (PutParams d ps k (Boolean true))
 
 abbrev pub RestParams : Dialect → ParamsState → List ℕ → Pairs Bare → Type 0
 RestParams d (Between ps) = MoreParams d ps
@@ -57,10 +58,10 @@ GoodParams (EqualsParam ps k) = settle ps ≡ ps
 GoodParams (InValue ps k s) = (settle ps ≡ ps) × GoodBare s
 
 abbrev pub between_step : Pairs Bare → ℕ → Option ParamsState
-between_step ps b = allow (b == 59) (Opened ps)
+between_step ps b = allow (b == semicolon) (Opened ps)
 
 abbrev pub key_step : Pairs Bare → List ℕ → ℕ → Option ParamsState
-key_step ps k b = otherwise (allow (b == 61) (EqualsParam ps k))
+key_step ps k b = otherwise (allow (b == equals) (EqualsParam ps k))
     (between_step (put ps k (Boolean true)) b)
 
 abbrev pub params_step : Dialect → ParamsState → ℕ → Option ParamsState

@@ -1,5 +1,6 @@
 -- The machine that reads pieces with commas between them.
 use Rattle.std.specs.Prelude.{◌≡◌, ℕ, ◌==◌, List, ◌++◌, Option, Some, None}
+use Rattle.sf_value.specs.Ascii.{comma}
 use Rattle.sf_value.specs.Grammar.Words.{Every, allow, otherwise}
 use Rattle.sf_value.specs.Grammar.Classes.{is_sp, is_ows}
 use Rattle.sf_value.specs.Grammar.Series.{SpellsCommas}
@@ -58,7 +59,7 @@ GoodSeries Good Settled (Comma given) = Settled given
 
 -- behind a piece: a comma, or white space before it
 abbrev pub gap_step : {S V : Type 0} → V → ℕ → Option (SeriesState S V)
-gap_step given b = otherwise (allow (is_ows b) (Gap given)) (allow (b == 44) (Comma given))
+gap_step given b = otherwise (allow (is_ows b) (Gap given)) (allow (b == comma) (Comma given))
 
 abbrev pub series_step : {S X V : Type 0} → Series S X V → SeriesState S V → ℕ
     → Option (SeriesState S V)

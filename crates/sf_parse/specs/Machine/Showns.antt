@@ -2,6 +2,7 @@
 use Rattle.std.specs.Prelude.{◌≡◌, ℕ, ◌+◌, ◌-◌, ◌*◌, ◌/◌, ◌%◌, ◌<◌, ◌≤◌, Bool, true, ◌==◌, nat_lt}
 use Rattle.std.specs.Prelude.{nat_le, ◌&&◌, ◌||◌, if◌then◌else◌, List, [], ◌∷◌, ◌++◌, Option, Some}
 use Rattle.std.specs.Prelude.{None}
+use Rattle.sf_value.specs.Ascii.{quote, percent, digit_zero, lower_a, lower_f}
 use Rattle.sf_value.specs.Grammar.Words.{allow}
 use Rattle.sf_value.specs.Grammar.Classes.{is_digit, is_visible, is_byte}
 use Rattle.sf_value.specs.Grammar.Utf8.{Utf8, Start, Wants, within, utf8_step, WellFormed}
@@ -9,7 +10,8 @@ use Rattle.sf_value.specs.Grammar.DisplayStrings.{hex, Pieces}
 use Rattle.sf_parse.specs.Machine.Language.{and_then, seen}
 
 abbrev pub unhex : ℕ → Option ℕ
-unhex b = if is_digit b then Some (b - 48) else (if within 97 102 b then Some (b - 87) else None)
+unhex b = if is_digit b then Some (b - digit_zero) else
+    (if within lower_a lower_f b then Some (b - 87) else None)
 
 pub data ShownState : Type 0 where
   Quote : ShownState
@@ -27,7 +29,7 @@ RestEscape bytes x c back v = (s : List ℕ) × (is_byte c ≡ true) × Pieces b
     × WellFormed x (c ∷ s) × (v ≡ bytes ++ c ∷ s)
 
 abbrev pub RestShown : ShownState → List ℕ → List ℕ → Type 0
-RestShown Quote u v = (back : List ℕ) × (u ≡ 34 ∷ back) × RestPlain [] Start back v
+RestShown Quote u v = (back : List ℕ) × (u ≡ quote ∷ back) × RestPlain [] Start back v
 RestShown (Plain bytes x) u v = RestPlain bytes x u v
 RestShown (Percent bytes x) u v = (c : ℕ) × (back : List ℕ)
     × (u ≡ hex (c / 16) ∷ hex (c % 16) ∷ back) × RestEscape bytes x c back v
@@ -64,9 +66,9 @@ quote_step bytes Start = Some (Done bytes)
 quote_step bytes (Wants n low high) = None
 
 abbrev pub shown_step : ShownState → ℕ → Option ShownState
-shown_step Quote b = allow (b == 34) (Plain [] Start)
-shown_step (Plain bytes x) b = if b == 34 then quote_step bytes x else
-    (if b == 37 then Some (Percent bytes x) else (if is_visible b then seen (Plain (bytes
+shown_step Quote b = allow (b == quote) (Plain [] Start)
+shown_step (Plain bytes x) b = if b == quote then quote_step bytes x else
+    (if b == percent then Some (Percent bytes x) else (if is_visible b then seen (Plain (bytes
     ++ b ∷ [])) (utf8_step x b) else None))
 shown_step (Percent bytes x) b = and_then (unhex b) (λ h. allow (can_begin x h) (Hex bytes x h))
 shown_step (Hex bytes x h) b = and_then (unhex b) (λ l. seen (Plain (bytes

@@ -1,6 +1,9 @@
 -- Which bytes a state takes and whether the text may end there, as tests that build no state.
 use Rattle.std.specs.Prelude.{ℕ, ◌+◌, ◌*◌, Bool, true, false, ◌==◌, nat_le, nat_lt, ◌&&◌, ◌||◌}
 use Rattle.std.specs.Prelude.{if◌then◌else◌, List, Option, Some, None, is_some}
+use Rattle.sf_value.specs.Ascii.{space, quote, percent, open_bracket, close_bracket, comma, minus}
+use Rattle.sf_value.specs.Ascii.{point, digit_zero, digit_one, colon, semicolon, equals}
+use Rattle.sf_value.specs.Ascii.{question_mark, at_sign, backslash}
 use Rattle.sf_value.specs.Grammar.Classes.{is_sp, is_ows, is_digit, is_key_start, is_key_rest}
 use Rattle.sf_value.specs.Grammar.Classes.{is_token_start, is_token_rest, is_visible}
 use Rattle.sf_value.specs.Grammar.Dialects.{is_rfc9651}
@@ -35,7 +38,7 @@ use Rattle.sf_value.specs.Grammar.Pairs.{Pairs}
 
 abbrev pub number_takes : NumberState → ℕ → Bool
 number_takes (Whole neg count a) b = (is_digit b && nat_lt count 15) ||
-    (b == 46 && (nat_le 1 count && nat_le count 12))
+    (b == point && (nat_le 1 count && nat_le count 12))
 number_takes (Fraction neg whole count a) b = is_digit b && nat_lt count 3
 
 abbrev pub number_ends : NumberState → Bool
@@ -44,14 +47,14 @@ number_ends (Fraction neg whole count a) = nat_le 1 count
 
 abbrev pub date_takes : DateState → ℕ → Bool
 date_takes (Digits neg count a) b = is_digit b && nat_lt count 15
-date_takes Sign b = b == 45 || (is_digit b && nat_lt 0 15)
+date_takes Sign b = b == minus || (is_digit b && nat_lt 0 15)
 
 abbrev pub date_ends : DateState → Bool
 date_ends (Digits neg count a) = nat_le 1 count
 date_ends Sign = false
 
 abbrev pub text_takes : TextState → ℕ → Bool
-text_takes (Inside bytes) b = b == 34 || (b == 92 || is_visible b)
+text_takes (Inside bytes) b = b == quote || (b == backslash || is_visible b)
 text_takes (Escaped bytes) b = is_escaped b
 text_takes (Closed bytes) b = false
 
@@ -61,7 +64,7 @@ text_ends (Escaped bytes) = false
 text_ends (Closed bytes) = true
 
 abbrev pub boolean_takes : BooleanState → ℕ → Bool
-boolean_takes Asked b = b == 48 || b == 49
+boolean_takes Asked b = b == digit_zero || b == digit_one
 boolean_takes (Told c) b = false
 
 abbrev pub boolean_ends : BooleanState → Bool
@@ -69,7 +72,7 @@ boolean_ends Asked = false
 boolean_ends (Told c) = true
 
 abbrev pub pad_takes : ℕ → ℕ → Bool
-pad_takes n b = b == 58 || (b == 61 && nat_lt 0 n)
+pad_takes n b = b == colon || (b == equals && nat_lt 0 n)
 
 abbrev pub blob_takes : BlobState → ℕ → Bool
 blob_takes (Group bytes h) b = is_some (sextet b) || (is_last h && pad_takes (lacking h) b)
@@ -94,9 +97,9 @@ passes p None = false
 passes p (Some h) = p h
 
 abbrev pub shown_takes : ShownState → ℕ → Bool
-shown_takes Quote b = b == 34
-shown_takes (Plain bytes x) b = if b == 34 then is_whole x else
-    (if b == 37 then true else (if is_visible b then utf8_takes x b else false))
+shown_takes Quote b = b == quote
+shown_takes (Plain bytes x) b = if b == quote then is_whole x else
+    (if b == percent then true else (if is_visible b then utf8_takes x b else false))
 shown_takes (Percent bytes x) b = passes (can_begin x) (unhex b)
 shown_takes (Hex bytes x h) b = passes (λ l. utf8_takes x (h * 16 + l)) (unhex b)
 shown_takes (Done bytes) b = false
@@ -110,10 +113,11 @@ shown_ends (Done bytes) = true
 
 -- the first bytes of bare items
 abbrev pub bare_begins : Dialect → ℕ → Bool
-bare_begins d b = (b == 45 || number_takes (Whole false 0 0) b) ||
-    (b == 34 ||
+bare_begins d b = (b == minus || number_takes (Whole false 0 0) b) ||
+    (b == quote ||
     (is_token_start b ||
-    (b == 63 || ((is_rfc9651 d && b == 64) || (b == 58 || (is_rfc9651 d && b == 37))))))
+    (b == question_mark || ((is_rfc9651 d && b == at_sign) ||
+    (b == colon || (is_rfc9651 d && b == percent))))))
 
 abbrev pub bare_takes : BareState → ℕ → Bool
 bare_takes (InNumber s) b = number_takes s b
@@ -134,11 +138,11 @@ bare_ends (InBlob s) = blob_ends s
 bare_ends (InShown s) = shown_ends s
 
 abbrev pub params_takes : Dialect → ParamsState → ℕ → Bool
-params_takes d (Between ps) b = b == 59
+params_takes d (Between ps) b = b == semicolon
 params_takes d (Opened ps) b = is_sp b || is_key_start b
-params_takes d (InParamKey ps k) b = is_key_rest b || (b == 61 || b == 59)
+params_takes d (InParamKey ps k) b = is_key_rest b || (b == equals || b == semicolon)
 params_takes d (EqualsParam ps k) b = bare_begins d b
-params_takes d (InValue ps k s) b = bare_takes s b || (bare_ends s && b == 59)
+params_takes d (InValue ps k s) b = bare_takes s b || (bare_ends s && b == semicolon)
 
 abbrev pub params_ends : ParamsState → Bool
 params_ends (Between ps) = true
@@ -148,7 +152,7 @@ params_ends (EqualsParam ps k) = false
 params_ends (InValue ps k s) = bare_ends s
 
 abbrev pub item_takes : Dialect → ItemState → ℕ → Bool
-item_takes d (InBare s) b = bare_takes s b || (bare_ends s && b == 59)
+item_takes d (InBare s) b = bare_takes s b || (bare_ends s && b == semicolon)
 item_takes d (InParams x s) b = params_takes d s b
 
 abbrev pub item_ends : ItemState → Bool
@@ -156,8 +160,9 @@ item_ends (InBare s) = bare_ends s
 item_ends (InParams x s) = params_ends s
 
 abbrev pub inner_takes : Dialect → InnerState → ℕ → Bool
-inner_takes d (Room is) b = is_sp b || (b == 41 || bare_begins d b)
-inner_takes d (InItem is s) b = item_takes d s b || (item_ends s && (b == 32 || b == 41))
+inner_takes d (Room is) b = is_sp b || (b == close_bracket || bare_begins d b)
+inner_takes d (InItem is s) b = item_takes d s b ||
+    (item_ends s && (b == space || b == close_bracket))
 inner_takes d (Closing is s) b = params_takes d s b
 
 abbrev pub inner_ends : InnerState → Bool
@@ -166,7 +171,7 @@ inner_ends (InItem is s) = false
 inner_ends (Closing is s) = params_ends s
 
 abbrev pub member_begins : Dialect → ℕ → Bool
-member_begins d b = bare_begins d b || b == 40
+member_begins d b = bare_begins d b || b == open_bracket
 
 abbrev pub member_takes : Dialect → MemberState → ℕ → Bool
 member_takes d (InOne s) b = item_takes d s b
@@ -177,7 +182,7 @@ member_ends (InOne s) = item_ends s
 member_ends (InMany s) = inner_ends s
 
 abbrev pub entry_takes : Dialect → EntryState → ℕ → Bool
-entry_takes d (InKey k) b = is_key_rest b || (b == 61 || b == 59)
+entry_takes d (InKey k) b = is_key_rest b || (b == equals || b == semicolon)
 entry_takes d (Equals k) b = member_begins d b
 entry_takes d (InMember k s) b = member_takes d s b
 entry_takes d (InFlag k s) b = params_takes d s b
@@ -191,8 +196,8 @@ entry_ends (InFlag k s) = params_ends s
 abbrev pub series_takes : {S V : Type 0} → (ℕ → Bool) → (S → ℕ → Bool) → (S → Bool)
     → SeriesState S V → ℕ → Bool
 series_takes begins more ends Begin b = is_sp b || begins b
-series_takes begins more ends (InPiece given s) b = more s b || (ends s && (is_ows b || b == 44))
-series_takes begins more ends (Gap given) b = is_ows b || b == 44
+series_takes begins more ends (InPiece given s) b = more s b || (ends s && (is_ows b || b == comma))
+series_takes begins more ends (Gap given) b = is_ows b || b == comma
 series_takes begins more ends (Comma given) b = is_ows b || begins b
 
 abbrev pub series_ends : {S V : Type 0} → (S → Bool) → SeriesState S V → Bool

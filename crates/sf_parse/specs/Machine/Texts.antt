@@ -1,6 +1,7 @@
 -- The machines that read keys, Tokens, Strings and Booleans.
 use Rattle.std.specs.Prelude.{◌≡◌, ℕ, Bool, true, false, ◌==◌, if◌then◌else◌, List, [], ◌∷◌, ◌++◌}
 use Rattle.std.specs.Prelude.{Option, Some, None}
+use Rattle.sf_value.specs.Ascii.{quote, digit_zero, digit_one, backslash}
 use Rattle.sf_value.specs.Grammar.Words.{Every, allow, otherwise}
 use Rattle.sf_value.specs.Grammar.Classes.{is_visible}
 use Rattle.sf_value.specs.Grammar.Strings.{is_escaped, escaped}
@@ -22,15 +23,15 @@ pub data TextState : Type 0 where
   Closed : (bytes : List ℕ) → TextState
 
 abbrev pub RestText : TextState → List ℕ → List ℕ → Type 0
-RestText (Inside bytes) u v = (s : List ℕ) × (u ≡ escaped s ++ 34 ∷ []) × Every is_visible s
+RestText (Inside bytes) u v = (s : List ℕ) × (u ≡ escaped s ++ quote ∷ []) × Every is_visible s
     × (v ≡ bytes ++ s)
-RestText (Escaped bytes) u v = (c : ℕ) × (s : List ℕ) × (u ≡ c ∷ (escaped s ++ 34 ∷ []))
+RestText (Escaped bytes) u v = (c : ℕ) × (s : List ℕ) × (u ≡ c ∷ (escaped s ++ quote ∷ []))
     × (is_escaped c ≡ true) × Every is_visible s × (v ≡ bytes ++ c ∷ s)
 RestText (Closed bytes) u v = (u ≡ []) × (v ≡ bytes)
 
 abbrev pub text_step : TextState → ℕ → Option TextState
-text_step (Inside bytes) b = otherwise (allow (b == 34) (Closed bytes))
-    (otherwise (allow (b == 92) (Escaped bytes)) (allow (is_visible b) (Inside (bytes
+text_step (Inside bytes) b = otherwise (allow (b == quote) (Closed bytes))
+    (otherwise (allow (b == backslash) (Escaped bytes)) (allow (is_visible b) (Inside (bytes
     ++ b ∷ []))))
 text_step (Escaped bytes) b = allow (is_escaped b) (Inside (bytes ++ b ∷ []))
 text_step (Closed bytes) b = None
@@ -41,11 +42,12 @@ text_finish (Escaped bytes) = None
 text_finish (Closed bytes) = Some bytes
 
 abbrev pub RestBoolean : BooleanState → List ℕ → Bool → Type 0
-RestBoolean Asked u b = u ≡ (if b then 49 else 48) ∷ []
+RestBoolean Asked u b = u ≡ (if b then digit_one else digit_zero) ∷ []
 RestBoolean (Told c) u b = (u ≡ []) × (b ≡ c)
 
 abbrev pub boolean_step : BooleanState → ℕ → Option BooleanState
-boolean_step Asked b = otherwise (allow (b == 48) (Told false)) (allow (b == 49) (Told true))
+boolean_step Asked b = otherwise (allow (b == digit_zero) (Told false))
+    (allow (b == digit_one) (Told true))
 boolean_step (Told c) b = None
 
 abbrev pub boolean_finish : BooleanState → Option Bool

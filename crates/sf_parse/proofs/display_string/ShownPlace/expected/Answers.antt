@@ -1,0 +1,36 @@
+use Rattle.std.proofs.Common.{refl}
+use Rattle.sf_value.specs.Grammar.Utf8.{Start}
+use Rattle.sf_parse.specs.Machine.Showns.{Quote, Plain, Percent}
+use Rattle.sf_parse.specs.Machine.Tests.{shown_takes}
+use Rattle.sf_parse.proofs.Marks.{marks_table}
+use Rattle.sf_parse.proofs.LevelMarks.{marks_wants}
+use Rattle.sf_parse.proofs.display_string.ShownPlace.expected.Goals as goal
+
+pub returns-in-Quote-default : goal.returns-in-Quote-default
+returns-in-Quote-default c =
+    rw c.in-Quote-default.is-0 (λ bytes. marks_table _ (shown_takes Quote) refl)
+
+pub returns-in-Plain-Start : goal.returns-in-Plain-Start
+returns-in-Plain-Start c =
+    rw (c.in-Plain-Start.is-0, c.in-Plain-Start.is-1)
+    (λ bytes. marks_table _ (shown_takes (Plain bytes Start)) refl)
+
+pub returns-in-Plain-Wants : goal.returns-in-Plain-Wants
+returns-in-Plain-Wants c =
+    let good = rw c.in-Plain-Wants.is-1 at c.requires.good in
+    rw (c.in-Plain-Wants.is-0, c.in-Plain-Wants.is-1) (λ bytes. marks_wants bytes _ _ _ good)
+
+pub returns-in-Percent-Start : goal.returns-in-Percent-Start
+returns-in-Percent-Start c =
+    rw (c.in-Percent-Start.is-0, c.in-Percent-Start.is-1)
+    (λ bytes. marks_table _ (shown_takes (Percent bytes Start)) refl)
+
+pub returns-in-Percent-Wants : goal.returns-in-Percent-Wants
+returns-in-Percent-Wants c =
+    let digits = rw c.in-Percent-Wants.is-0 at c.expected_digits.ensures in
+    rw c.in-Percent-Wants.is-0 (λ bytes. digits bytes)
+
+pub returns-in-Hex-default : goal.returns-in-Hex-default
+returns-in-Hex-default c =
+    let digits = rw c.in-Hex-default.is-0 at c.expected_digits-in-Hex-default.ensures in
+    rw c.in-Hex-default.is-0 (λ bytes. digits bytes)

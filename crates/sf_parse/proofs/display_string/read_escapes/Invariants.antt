@@ -1,0 +1,20 @@
+use Rattle.std.proofs.Common.{ℕ, List, length, take, ◌++◌, ◌≤◌}
+use Rattle.sf_parse.specs.Fronts.{Went}
+use Rattle.sf_parse.specs.Views.{utf8_of, Leads}
+use Rattle.sf_parse.specs.Machine.Showns.{Plain, shown_step}
+use Rattle.sf_parse.proofs.display_string.read_escapes.Given as goal
+
+abbrev pub invariant-loop-rest : goal.invariant-loop-rest
+invariant-loop-rest l = record {
+  within : l.count ≤ 64;
+  went :
+      (bs : List ℕ)
+      → Went shown_step (Plain bs (utf8_of l.fn.from)) l.piece l.rest
+      (Plain (bs ++ take l.count l.block) (utf8_of l.chars));
+  leads :
+      (bs : List ℕ) → Leads bs (utf8_of l.fn.from)
+      → Leads (bs ++ take l.count l.block) (utf8_of l.chars);
+}
+
+abbrev pub decreases-loop-rest : goal.decreases-loop-rest
+decreases-loop-rest l = length l.rest

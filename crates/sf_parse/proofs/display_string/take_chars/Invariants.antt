@@ -1,0 +1,16 @@
+use Rattle.std.proofs.Common.{length}
+use Rattle.sf_parse.specs.Fronts.{Went}
+use Rattle.sf_parse.specs.Views.{utf8_of, Leads}
+use Rattle.sf_parse.specs.Machine.Showns.{Plain, shown_step}
+use Rattle.sf_parse.proofs.display_string.take_chars.Given as goal
+
+abbrev pub invariant-loop-byte : goal.invariant-loop-byte
+invariant-loop-byte l = record {
+  went :
+      Went shown_step (Plain l.initial.bytes (utf8_of l.initial.chars)) l.piece l.rest
+      (Plain l.bytes (utf8_of l.chars));
+  leads : Leads l.bytes (utf8_of l.chars);
+}
+
+abbrev pub decreases-loop-byte : goal.decreases-loop-byte
+decreases-loop-byte l = length l.rest

@@ -1,0 +1,109 @@
+//! The bytes that could have followed: sets of bytes below 128, and their runs.
+ghost use Rattle.std.specs.Prelude.{◌≡◌, ◌+◌, ◌-◌, ◌<◌, ◌≤◌, [], ◌∷◌, true, Some, length};
+ghost use Rattle.std.specs.Prelude.{MatchOption, IfSome};
+ghost use Rattle.std.specs.Iterator.{at_most};
+ghost use Rattle.std.specs.Map.Iter.{TakesFirst};
+ghost use Rattle.sf_parse.specs.ByteSets.{is_in, hex_byte, runs_from, runs_of as runs_in};
+
+use std::fmt;
+use std::marker::Model;
+
+/// The runs that an iteration over a set of bytes has left: see [`runs_of`].
+#[derive(Debug, Drop)]
+pub struct Runs {
+    set: u128,
+    from: u8,
+}
+
+impl Model for Runs {
+    ghost use Rattle.std.specs.Prelude.{ℕ, List, ◌-◌};
+    ghost use Rattle.sf_parse.specs.ByteSets.{runs_from};
+
+    ghost Value = { List (ℕ × ℕ) };
+
+    ghost view = { λ r. runs_from r.set r.from (128 - r.from) };
+}
+
+/// The runs of a set of bytes below 128, such as the `expected` of [`crate::Refusal::Syntax`]: byte
+/// b is in the set if bit b is set. Each run is its first and its last byte; they ascend, and each
+/// is as long as it can be. It takes no memory.
+///
+/// ```
+/// runs_of(0x3ff << 48).next() // Some((b'0', b'9'))
+/// ```
+pub fn runs_of(set: u128) -> Runs
+    ensures { result ≡ runs_in set }
+{
+    Runs { set, from: 0 }
+}
+
+impl Iterator for Runs {
+    type Item = (u8, u8);
+
+    ghost next_gives = { TakesFirst (λ run. run) };
+
+    ghost remaining = { λ runs. at_most (length runs) };
+
+    fn next(&mut self) -> Option<(u8, u8)> {
+        let (first, last) = next_run(self.set, self.from)?;
+        self.from = last + 1;
+        Some((first, last))
+    }
+}
+
+/// A byte, shown as its two lower-case hexadecimal digits.
+#[derive(Clone, Copy, Drop)]
+pub(crate) struct Hex {
+    pub byte: u8,
+}
+
+impl fmt::Display for Hex {
+    ghost output = { λ hex. Some (hex_byte hex.byte) };
+
+    fn fmt<W: fmt::Write>(&self, f: &mut fmt::Formatter<W>) -> fmt::Result {
+        let high = self.byte / 16;
+        let low = self.byte % 16;
+        write!(f, "{high:x}{low:x}")
+    }
+}
+
+/// Whether the byte is in the set.
+fn is_in(set: u128, byte: u8) -> bool
+    requires { byte < 128 }
+    ensures { result ≡ is_in set byte }
+{
+    (set >> byte) & 1 == 1
+}
+
+/// The last byte of the run that begins at this byte of the set.
+fn run_end(set: u128, first: u8) -> u8
+    requires within { first < 128 }
+    // The byte is in the set.
+    requires set { is_in set first ≡ true }
+    // The runs from this byte on are the one that ends here, and those behind it.
+    ensures run { runs_from set first (128 - first)
+        ≡ (first, result) ∷ runs_from set (result + 1) (128 - (result + 1)) }
+    ensures forward { first ≤ result }
+    ensures within { result < 128 }
+{
+    let mut last = first;
+    while last < 127 && is_in(set, last + 1) {
+        last += 1;
+    }
+    last
+}
+
+/// The first run of the set from this byte on.
+fn next_run(set: u128, from: u8) -> Option<(u8, u8)>
+    // The runs from this byte on are this one and those behind it, or none.
+    ensures run { MatchOption result (runs_from set from (128 - from) ≡ [])
+        (λ r. runs_from set from (128 - from) ≡ r ∷ runs_from set (r.1 + 1) (128 - (r.1 + 1))) }
+    ensures within { IfSome result (λ r. r.1 < 128) }
+{
+    for byte in from..128 {
+        if is_in(set, byte) {
+            return Some((byte, run_end(set, byte)));
+        }
+    }
+    None
+}

@@ -1,0 +1,125 @@
+//! Whole texts.
+ghost use Rattle.std.specs.Prelude.{◌≡◌, IfErr};
+ghost use Rattle.sf_value.specs.Grammar.Words.{Every};
+ghost use Rattle.sf_value.specs.declared.dialect.Dialect.TheVariants.{Rfc9651};
+ghost use Rattle.sf_value.specs.declared.value.Field.TheVariants as field_is;
+ghost use Rattle.sf_value.specs.declared.value.Kind.TheVariants as kind_is;
+ghost use Rattle.sf_parse.specs.Parsers.{Parses, ParsesAs};
+ghost use Rattle.sf_parse.specs.Plain.{plain_byte};
+ghost use Rattle.sf_parse.specs.PlainParsers.{IsOther, NotForMemory};
+
+use crate::context::Context;
+use crate::refusal::Refusal;
+use crate::top::TopReader;
+use crate::wholes::{DictReader, ListReader, parse_whole};
+use sf_value::{Dialect, Dict, Field, Item, Kind, List};
+use std::alloc::Global;
+use std::hash::RandomState;
+
+/// The value that the text spells, in the dialect of RFC 9651 (section 4.2). A text that spells
+/// none is refused with Syntax, and want of memory with OutOfMemory; it is never TooLong or
+/// ReadFault. Where an Item is asked for, a text of spaces, `-` and digits takes no memory.
+///
+/// ```
+/// let field = parse_text(alloc, &seed, Kind::Dict, b"u=1, i")?;
+/// ```
+pub fn parse_text(
+    alloc: Global,
+    seed: &RandomState,
+    kind: Kind,
+    text: &[u8],
+) -> Result<Field, Refusal>
+    // The text spells just this value, or this is its exact refusal; else memory was wanting.
+    ensures parses { Parses Rfc9651 kind text.now result }
+    // Of an Item, spaces, `-` and digits are not refused for want of memory.
+    ensures plain { kind ≡ kind_is.Item → Every plain_byte text.now → NotForMemory result }
+{
+    parse_text_in(alloc, seed, Dialect::Rfc9651, kind, text)
+}
+
+/// The value that the text spells in the dialect of the call, refused as [`parse_text`] refuses.
+///
+/// ```
+/// parse_text_in(alloc, &seed, Dialect::Rfc8941, Kind::Item, b"@1") // refused: no Dates
+/// ```
+pub fn parse_text_in(
+    alloc: Global,
+    seed: &RandomState,
+    dialect: Dialect,
+    kind: Kind,
+    text: &[u8],
+) -> Result<Field, Refusal>
+    // The text spells just this value, or this is its exact refusal; else memory was wanting.
+    ensures parses { Parses dialect kind text.now result }
+    // Of an Item, spaces, `-` and digits are not refused for want of memory.
+    ensures plain { kind ≡ kind_is.Item → Every plain_byte text.now → NotForMemory result }
+{
+    let context = Context {
+        alloc,
+        seed: *seed,
+        dialect,
+    };
+    match kind {
+        Kind::Item => parse_whole::<TopReader>(&context, text),
+        Kind::List => parse_whole::<ListReader>(&context, text),
+        Kind::Dict => parse_whole::<DictReader>(&context, text),
+    }
+}
+
+/// The Item that the text spells, in the dialect of RFC 9651 (section 4.2), as [`parse_text`] gives
+/// it where an Item is asked for, and refused as it refuses. A text of spaces, `-` and digits takes
+/// no memory.
+///
+/// ```
+/// let item = parse_item(alloc, &seed, b"a;q=1")?;
+/// item.param(b"q")?.as_integer() // Some(1)
+/// ```
+pub fn parse_item(alloc: Global, seed: &RandomState, text: &[u8]) -> Result<Item, Refusal>
+    // The text spells just this Item, or this is its exact refusal; else memory was wanting.
+    ensures parses { ParsesAs field_is.Item Rfc9651 kind_is.Item text.now result }
+    // Spaces, `-` and digits are not refused for want of memory.
+    ensures plain { Every plain_byte text.now → IfErr result IsOther }
+{
+    match parse_text(alloc, seed, Kind::Item, text)? {
+        Field::Item(item) => Ok(item),
+        Field::List(_) => unreachable!(),
+        Field::Dict(_) => unreachable!(),
+    }
+}
+
+/// The List that the text spells, in the dialect of RFC 9651 (section 4.2), as [`parse_text`] gives
+/// it where a List is asked for, and refused as it refuses: with Syntax, or for want of memory.
+///
+/// ```
+/// let list = parse_list(alloc, &seed, b"a, (b c)")?;
+/// list.members.len() // 2
+/// ```
+pub fn parse_list(alloc: Global, seed: &RandomState, text: &[u8]) -> Result<List, Refusal>
+    // The text spells just this List, or this is its exact refusal; else memory was wanting.
+    ensures { ParsesAs field_is.List Rfc9651 kind_is.List text.now result }
+{
+    match parse_text(alloc, seed, Kind::List, text)? {
+        Field::List(list) => Ok(list),
+        Field::Item(_) => unreachable!(),
+        Field::Dict(_) => unreachable!(),
+    }
+}
+
+/// The Dictionary that the text spells, in the dialect of RFC 9651 (section 4.2), as [`parse_text`]
+/// gives it where a Dictionary is asked for, and refused as it refuses: with Syntax, or for want of
+/// memory.
+///
+/// ```
+/// let dict = parse_dict(alloc, &seed, b"u=1, i")?;
+/// dict.get(b"u") // Some(Member::Item(1))
+/// ```
+pub fn parse_dict(alloc: Global, seed: &RandomState, text: &[u8]) -> Result<Dict, Refusal>
+    // The text spells just this Dictionary, or this is its exact refusal; else memory was wanting.
+    ensures { ParsesAs field_is.Dict Rfc9651 kind_is.Dict text.now result }
+{
+    match parse_text(alloc, seed, Kind::Dict, text)? {
+        Field::Dict(dict) => Ok(dict),
+        Field::Item(_) => unreachable!(),
+        Field::List(_) => unreachable!(),
+    }
+}
