@@ -2,7 +2,7 @@
 use Rattle.std.proofs.Common.{◌≡◌, ℕ, ◌+◌, ◌*◌, ◌==◌, true, false, List, [], ◌∷◌, ◌++◌, Some}
 use Rattle.std.proofs.Common.{refl, sym, ap, ◌∙◌, subst, arith, append-nil, append_assoc}
 use Rattle.sf_value.specs.Grammar.Words.{Every}
-use Rattle.sf_parse.specs.ByteRuns.{is_shown_plain}
+use Rattle.sf_value.specs.Grammar.DisplayStrings.{is_plain}
 use Rattle.sf_parse.specs.Fronts.{Went}
 use Rattle.sf_value.specs.Grammar.Utf8.{Utf8, Start, Wants, within, utf8_step, WellFormed}
 use Rattle.sf_parse.specs.Machine.Language.{run, seen}
@@ -56,24 +56,24 @@ pub hex_pushed : (bytes : List ℕ) (x : Utf8) (h b l : ℕ) → unhex b ≡ Som
 hex_pushed bytes x h b l e = rw e refl
 
 -- a byte that stands for itself between characters leads to between characters again
-plain_low : (b : ℕ) → is_shown_plain b ≡ true → within 0 127 b ≡ true
+plain_low : (b : ℕ) → is_plain b ≡ true → within 0 127 b ≡ true
 plain_low b h = grind arith
 
-plain_after : (b : ℕ) → is_shown_plain b ≡ true → utf8_step Start b ≡ Some Start
+plain_after : (b : ℕ) → is_plain b ≡ true → utf8_step Start b ≡ Some Start
 plain_after b h = rw (plain_low b h) refl
 
-plain_tests : (b : ℕ) → is_shown_plain b ≡ true
+plain_tests : (b : ℕ) → is_plain b ≡ true
     → ((b == 34) ≡ false) × ((b == 37) ≡ false) × (is_visible b ≡ true)
 plain_tests b h = (grind arith, grind arith, grind arith)
 
-plain_taken : (bytes : List ℕ) (b : ℕ) → is_shown_plain b ≡ true
+plain_taken : (bytes : List ℕ) (b : ℕ) → is_plain b ≡ true
     → shown_step (Plain bytes Start) b ≡ Some (Plain (bytes ++ b ∷ []) Start)
 plain_taken bytes b h =
     let k = plain_tests b h in
     plain_pushed bytes Start b k.0 k.1 k.2
     ∙ ap (seen (Plain (bytes ++ b ∷ []))) (plain_after b h)
 
-plain_run : (bytes xs : List ℕ) → Every is_shown_plain xs
+plain_run : (bytes xs : List ℕ) → Every is_plain xs
     → run shown_step (Plain bytes Start) xs ≡ Some (Plain (bytes ++ xs) Start)
 plain_run bytes [] h = ap (λ y. Some (Plain y Start)) (sym (append-nil bytes))
 plain_run bytes (b ∷ xs) h =
@@ -83,7 +83,7 @@ plain_run bytes (b ∷ xs) h =
 
 -- a run of such bytes
 pub plain_went : (bytes xs rest piece more : List ℕ) → piece ≡ xs ++ rest
-    → Every is_shown_plain xs → more ≡ bytes ++ xs
+    → Every is_plain xs → more ≡ bytes ++ xs
     → Went shown_step (Plain bytes Start) piece rest (Plain more Start)
 plain_went bytes xs rest piece more e h f = record {
   taken = xs;
@@ -92,11 +92,11 @@ plain_went bytes xs rest piece more e h f = record {
 }
 
 pub leads_run : (bytes xs more : List ℕ) → run utf8_step Start bytes ≡ Some Start
-    → Every is_shown_plain xs → more ≡ bytes ++ xs → run utf8_step Start more ≡ Some Start
+    → Every is_plain xs → more ≡ bytes ++ xs → run utf8_step Start more ≡ Some Start
 leads_run bytes xs more l h f =
     subst (λ y. run utf8_step Start y ≡ Some Start) (sym f) (by bytes xs l h)
   where
-    by : (bytes xs : List ℕ) → run utf8_step Start bytes ≡ Some Start → Every is_shown_plain xs
+    by : (bytes xs : List ℕ) → run utf8_step Start bytes ≡ Some Start → Every is_plain xs
         → run utf8_step Start (bytes ++ xs) ≡ Some Start
     by bytes [] l h = rw (append-nil bytes) l
     by bytes (b ∷ xs) l h =

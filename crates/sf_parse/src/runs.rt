@@ -3,9 +3,10 @@ ghost use Rattle.std.specs.Prelude.{◌≡◌, ◌++◌, ℕ, Bool, true};
 ghost use Rattle.sf_value.specs.Grammar.Words.{Every};
 ghost use Rattle.sf_value.specs.Grammar.Classes.{is_key_rest, is_token_rest, is_sp};
 ghost use Rattle.sf_value.specs.Grammar.Classes.{is_ows as is_ows_byte};
-ghost use Rattle.sf_parse.specs.ByteRuns.{is_unescaped, is_shown_plain};
+ghost use Rattle.sf_value.specs.Grammar.DisplayStrings.{is_plain};
+ghost use Rattle.sf_parse.specs.ByteRuns.{is_unescaped};
 
-use sf_value::{can_be_in_key, can_be_in_token, is_visible};
+use sf_value::{can_be_in_key, can_be_in_token, is_visible, stands_for_itself};
 
 /// The flag of the bytes that keys go on with.
 const KEY: u8 = 1;
@@ -117,11 +118,11 @@ impl ByteClass for InKey {
 }
 
 impl ByteClass for ShownPlain {
-    ghost test = { is_shown_plain };
+    ghost test = { is_plain };
 
     #[inline]
     fn has(byte: u8) -> bool {
-        is_visible(byte) && byte != b'"' && byte != b'%'
+        stands_for_itself(byte)
     }
 
     #[inline]

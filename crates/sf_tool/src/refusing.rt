@@ -4,10 +4,10 @@ ghost use Rattle.sf_write.specs.Writing.{Follows};
 ghost use Rattle.sf_parse.specs.ByteSets.{runs_of};
 ghost use Rattle.sf_tool.specs.Texts.{set_text, found_text, end_text, refusal_line};
 
-use crate::sets::{hex_digits, put_set};
+use crate::sets::put_set;
 use itoa::Buffer;
 use sf_value::Sink;
-use sf_write::{Sent, put};
+use sf_write::{Sent, hex_digits, put};
 
 /// A number, in decimal.
 pub(crate) fn put_number<W: Sink>(number: u64, before: Sent, out: &mut W) -> Sent

@@ -1,32 +1,12 @@
 //! Sets of bytes, as the lines of refusals list them. Each text stands behind what was sent before.
-ghost use Rattle.std.specs.Prelude.{◌≡◌, ◌<◌, ◌++◌, codes};
-ghost use Rattle.sf_value.specs.Grammar.DisplayStrings.{hex};
+ghost use Rattle.std.specs.Prelude.{◌++◌, codes};
 ghost use Rattle.sf_write.specs.Writing.{Follows};
-ghost use Rattle.sf_parse.specs.ByteSets.{hex_byte, runs_of};
+ghost use Rattle.sf_parse.specs.ByteSets.{runs_of as runs_in};
 ghost use Rattle.sf_tool.specs.Texts.{run_text, set_text};
 
 use sf_parse::runs_of;
 use sf_value::Sink;
-use sf_write::{Sent, put};
-
-/// The lower-case hexadecimal digit of a number below 16.
-fn hex_digit(number: u8) -> u8
-    requires { number < 16 }
-    ensures { result ≡ hex number }
-{
-    if number < 10 {
-        b'0' + number
-    } else {
-        b'a' + (number - 10)
-    }
-}
-
-/// The two digits of a byte.
-pub(crate) fn hex_digits(byte: u8) -> [u8; 2]
-    ensures { result ≡ hex_byte byte }
-{
-    [hex_digit(byte / 16), hex_digit(byte % 16)]
-}
+use sf_write::{Sent, hex_digits, put};
 
 /// A space and a run of the set: its byte, or its first and its last byte with a `-` between.
 fn put_run<W: Sink>(first: u8, last: u8, before: Sent, out: &mut W) -> Sent
@@ -43,7 +23,7 @@ fn put_run<W: Sink>(first: u8, last: u8, before: Sent, out: &mut W) -> Sent
 
 /// The bytes of the set in ascending order, each run of it behind a space.
 pub(crate) fn put_set<W: Sink>(set: u128, before: Sent, out: &mut W) -> Sent
-    ensures { Follows W.state W.send_gives out.old out.new before result (set_text (runs_of set)) }
+    ensures { Follows W.state W.send_gives out.old out.new before result (set_text (runs_in set)) }
 {
     let mut sent = before;
     for (first, last) in runs_of(set) {

@@ -8,14 +8,7 @@ ghost use Rattle.sf_write.specs.Writing.{Follows};
 
 use crate::sending::{Sent, put};
 use crate::strings::CHUNK;
-use sf_value::Sink;
-
-/// Whether a byte goes out as itself: each from 0x20 to 0x7E but `"` and `%`.
-fn stands_for_itself(byte: u8) -> bool
-    ensures { result ≡ is_plain byte }
-{
-    matches!(byte, b' '..=b'~') && byte != b'"' && byte != b'%'
-}
+use sf_value::{Sink, stands_for_itself};
 
 /// How many of the bytes do not stand for themselves. Each chunk's count is a sum of vectors of
 /// bytes.
@@ -52,11 +45,23 @@ fn hex_digit(number: u8) -> u8
     }
 }
 
+/// The two lower-case hexadecimal digits of a byte. It takes no memory.
+///
+/// ```
+/// hex_digits(0xfc) // [b'f', b'c']
+/// ```
+pub fn hex_digits(byte: u8) -> [u8; 2]
+    ensures { result ≡ hex (byte / 16) ∷ hex (byte % 16) ∷ [] }
+{
+    [hex_digit(byte / 16), hex_digit(byte % 16)]
+}
+
 /// `%` and the two digits of a byte.
 fn percent_escape(byte: u8) -> [u8; 3]
     ensures { result ≡ percent ∷ hex (byte / 16) ∷ hex (byte % 16) ∷ [] }
 {
-    [b'%', hex_digit(byte / 16), hex_digit(byte % 16)]
+    let [high, low] = hex_digits(byte);
+    [b'%', high, low]
 }
 
 /// A Display String by its UTF-8 bytes: `%`, then between quotes each byte from 0x20 to 0x7E but

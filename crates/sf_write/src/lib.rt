@@ -22,6 +22,7 @@ mod sending;
 mod strings;
 
 pub use bare::{bare_text, put_bare, put_text, write_bare};
+pub use display_string::hex_digits;
 pub use field::{put_field, to_text, write_field};
 pub use formats::{Canonical, Displayed, display, to_string};
 pub use sending::{Sent, WriteFault, put, send_all};
