@@ -62,7 +62,7 @@ bare_itself (Shown a) = (bytes_decides a a).1 refl
 pub bare_decides : (a b : Bare) → Decides (bare_eq a b) (a ≡ b)
 bare_decides = decides_by bare_eq same_bare bare_itself
 
-pub entry_decides : {V : Type 0} (test : V → V → Bool)
+entry_decides : {V : Type 0} (test : V → V → Bool)
     → ((a b : V) → Decides (test a b) (a ≡ b))
     → (a b : Seq ℕ × V) → Decides (entry_eq test a b) (a ≡ b)
 entry_decides {V} test d =
@@ -76,8 +76,13 @@ entry_decides {V} test d =
     both (bytes_eq a.0 a.0) (test a.1 a.1) ((bytes_decides a.0 a.0).1 refl)
     ((d a.1 a.1).1 refl))
 
+pub pairs_decide : {V : Type 0} (test : V → V → Bool)
+    → ((a b : V) → Decides (test a b) (a ≡ b))
+    → (a b : Pairs V) → Decides (pointwise (entry_eq test) a b) (a ≡ b)
+pairs_decide test d = pointwise_decides (entry_decides test d)
+
 pub params_decides : (a b : Pairs Bare) → Decides (pointwise (entry_eq bare_eq) a b) (a ≡ b)
-params_decides = pointwise_decides (entry_decides bare_eq bare_decides)
+params_decides = pairs_decide bare_eq bare_decides
 
 pub item_decides : (a b : Item) → Decides (item_eq a b) (a ≡ b)
 item_decides =
@@ -124,7 +129,7 @@ pub members_decide : (a b : Seq Member) → Decides (pointwise member_eq a b) (a
 members_decide = pointwise_decides member_decides
 
 pub entries_decide : (a b : Pairs Member) → Decides (pointwise (entry_eq member_eq) a b) (a ≡ b)
-entries_decide = pointwise_decides (entry_decides member_eq member_decides)
+entries_decide = pairs_decide member_eq member_decides
 
 list : Seq Member → List
 list ms = record { members = ms }

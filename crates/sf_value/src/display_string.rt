@@ -3,10 +3,12 @@ ghost use Rattle.std.specs.Prelude.{◌≡◌, ℕ, List, [], ◌↔◌, IsTrue,
 ghost use Rattle.std.specs.Str.{IsUtf8};
 ghost use Rattle.sf_value.specs.Grammar.Words.{Every};
 ghost use Rattle.sf_value.specs.Grammar.Classes.{is_byte};
+ghost use Rattle.sf_value.specs.Grammar.DisplayStrings.{is_plain};
 ghost use Rattle.sf_value.specs.Grammar.Utf8.{WellFormed, Start};
 
 use crate::bytes::ShortBytes;
 use crate::fault::OutOfMemory;
+use crate::text::is_visible;
 use std::alloc::Global;
 use std::marker::Model;
 
@@ -83,4 +85,12 @@ impl Shown {
     {
         self.bytes.is_empty()
     }
+}
+
+/// Whether a byte of a display string is written as itself: each from 0x20 to 0x7E but `"` and `%`
+/// (RFC 9651 section 4.1.11). It takes no memory.
+pub fn stands_for_itself(byte: u8) -> bool
+    ensures { result ≡ is_plain byte }
+{
+    is_visible(byte) && byte != b'"' && byte != b'%'
 }

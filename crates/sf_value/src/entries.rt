@@ -6,6 +6,7 @@ ghost use Rattle.std.specs.Borrow.{sem};
 ghost use Rattle.sf_value.specs.Lending.{LendsValue, LendsValueAt};
 ghost use Rattle.sf_value.specs.Grammar.Pairs.{settle, without, value_at};
 ghost use Rattle.sf_value.specs.Entries.{deref_entry, AreEntries};
+ghost use Rattle.sf_value.specs.Deciding.{pairs_decide};
 ghost use Rattle.std.specs.Iterator.{at_most};
 ghost use Rattle.std.specs.Map.Iter.{TakesFirst, ShowsInOrder};
 
@@ -304,6 +305,8 @@ impl<V: Drop> IntoIterator for Entries<V> {
 }
 
 impl<V: Part> Part for Entries<V> {
+    ghost decides = { pairs_decide V.eq V.decides };
+
     fn same(&self, other: &Entries<V>) -> bool {
         if self.len() != other.len() {
             return false;

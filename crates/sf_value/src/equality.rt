@@ -1,17 +1,19 @@
 //! `==` on values: equality of trees, in which order counts, as [`crate::same`] tells it. It takes
 //! no memory.
 ghost use Rattle.std.specs.Prelude.{◌≡◌, ◌↔◌, IsTrue, nat_eq};
-ghost use Rattle.std.specs.Cmp.{partial_equiv_from_equiv};
-ghost use Rattle.std.specs.Cmp.Lexicographic.{pointwise, nat_list_eq_equiv};
+ghost use Rattle.std.specs.Cmp.{decided, partial_equiv_from_equiv};
+ghost use Rattle.std.specs.Cmp.Lexicographic.{pointwise, pointwise_decides, nat_list_eq_equiv};
 ghost use Rattle.sf_value.specs.Equality.{bare_eq, dict_eq, field_eq, inner_eq, item_eq, list_eq};
-ghost use Rattle.sf_value.specs.Equality.{member_eq};
+ghost use Rattle.sf_value.specs.Equality.{entry_eq, member_eq};
 ghost use Rattle.sf_value.specs.Deciding.{bare_equiv, dict_equiv, field_equiv, inner_equiv};
-ghost use Rattle.sf_value.specs.Deciding.{item_equiv, list_equiv, member_equiv};
+ghost use Rattle.sf_value.specs.Deciding.{item_equiv, list_equiv, member_equiv, pairs_decide};
 
 use crate::blob::Blob;
 use crate::display_string::Shown;
+use crate::entries::Entries;
 use crate::key::Key;
 use crate::part::{Part, same};
+use crate::sequence::Sequence;
 use crate::text::Text;
 use crate::token::Token;
 use crate::value::{Bare, Dict, Field, Inner, Item, List, Member};
@@ -203,4 +205,40 @@ impl PartialEq for Field {
 
 impl Eq for Field {
     ghost laws = { field_equiv };
+}
+
+impl<V: Part> PartialEq for Entries<V> {
+    ghost eq = { pointwise (entry_eq V.eq) };
+
+    ghost laws = { partial_equiv_from_equiv
+        (decided (pointwise (entry_eq V.eq)) (pairs_decide V.eq V.decides)) };
+
+    fn eq(&self, other: &Entries<V>) -> bool
+        ensures eq { result ≡ pointwise (entry_eq V.eq) self.now other.now }
+        ensures same { IsTrue result ↔ (self.now ≡ other.now) }
+    {
+        self.same(other)
+    }
+}
+
+impl<V: Part> Eq for Entries<V> {
+    ghost laws = { decided (pointwise (entry_eq V.eq)) (pairs_decide V.eq V.decides) };
+}
+
+impl<T: Part> PartialEq for Sequence<T> {
+    ghost eq = { pointwise T.eq };
+
+    ghost laws = { partial_equiv_from_equiv
+        (decided (pointwise T.eq) (pointwise_decides T.decides)) };
+
+    fn eq(&self, other: &Sequence<T>) -> bool
+        ensures eq { result ≡ pointwise T.eq self.now other.now }
+        ensures same { IsTrue result ↔ (self.now ≡ other.now) }
+    {
+        self.same(other)
+    }
+}
+
+impl<T: Part> Eq for Sequence<T> {
+    ghost laws = { decided (pointwise T.eq) (pointwise_decides T.decides) };
 }

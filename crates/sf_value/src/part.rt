@@ -1,6 +1,9 @@
 //! Parts of values, which are compared and copied: equality is that of trees, in which order
 //! counts.
 ghost use Rattle.std.specs.Prelude.{◌≡◌, ◌↔◌, IsTrue, IfOk};
+ghost use Rattle.std.specs.Bool.{Decides};
+ghost use Rattle.sf_value.specs.Deciding.{bare_decides, inner_decides, item_decides};
+ghost use Rattle.sf_value.specs.Deciding.{member_decides};
 
 use crate::entries::Entries;
 use crate::fault::OutOfMemory;
@@ -11,7 +14,7 @@ use std::hash::RandomState;
 
 /// A part of a value: a bare item, an Item, an Inner List, a member, and entries and sequences of
 /// such. Whole fields are compared and copied by [`same`] and [`copy`].
-pub trait Part: Drop {
+pub trait Part: PartialEq + Drop {
     /// Whether the two are equal: the same type, the same bytes or numbers, and the same parts in
     /// the same order. It takes no memory.
     fn same(&self, other: &Self) -> bool
@@ -21,9 +24,14 @@ pub trait Part: Drop {
     /// want of memory.
     fn copy(&self, alloc: Global, seed: &RandomState) -> Result<Self, OutOfMemory>
         ensures { IfOk result (λ copy. copy ≡ self.now) };
+
+    // `==` holds of equal parts, and of no others
+    ghost decides: { (a b : Self) → Decides (Self.eq a b) (a ≡ b) };
 }
 
 impl Part for Bare {
+    ghost decides = { bare_decides };
+
     fn same(&self, other: &Bare) -> bool {
         match self {
             Bare::Integer(x) => match other {
@@ -76,6 +84,8 @@ impl Part for Bare {
 }
 
 impl Part for Item {
+    ghost decides = { item_decides };
+
     fn same(&self, other: &Item) -> bool {
         self.bare.same(&other.bare) && self.params.same(&other.params)
     }
@@ -89,6 +99,8 @@ impl Part for Item {
 }
 
 impl Part for Inner {
+    ghost decides = { inner_decides };
+
     fn same(&self, other: &Inner) -> bool {
         self.items.same(&other.items) && self.params.same(&other.params)
     }
@@ -102,6 +114,8 @@ impl Part for Inner {
 }
 
 impl Part for Member {
+    ghost decides = { member_decides };
+
     fn same(&self, other: &Member) -> bool {
         match self {
             Member::Item(x) => match other {

@@ -9,6 +9,7 @@ ghost use Rattle.std.specs.declared.alloc.Global.{Global};
 ghost use Rattle.std.specs.Iterator.Adapters.{IterYieldsInOrder};
 ghost use Rattle.std.specs.Borrow.{sem};
 ghost use Rattle.sf_value.specs.Lending.{LendsItems};
+ghost use Rattle.std.specs.Cmp.Lexicographic.{pointwise_decides};
 
 use crate::fault::OutOfMemory;
 use crate::part::Part;
@@ -224,6 +225,8 @@ impl<T> DerefSlice for Sequence<T> {
 }
 
 impl<T: Part> Part for Sequence<T> {
+    ghost decides = { pointwise_decides T.decides };
+
     fn same(&self, other: &Sequence<T>) -> bool {
         let xs = self.as_slice();
         let ys = other.as_slice();
