@@ -27,9 +27,3 @@ abbrev pub ParsesLines : Dialect → Kind → List (List ℕ) → Result Field R
 ParsesLines d kind lines (Err (TooLong limit)) =
     (limit ≡ 2 ^ 64 - 1) × (limit < length (join lines)) × Viable d kind (take limit (join lines))
 ParsesLines d kind lines r = Parses d kind (join lines) r × IsCounted (length (join lines)) r
-
--- the lines are parsed as a field of one kind, and the answer is what the field is made of
-abbrev pub ParsesLinesAs : {A : Type 0} → (A → Field) → Kind → List (List ℕ) → Result A Refusal
-    → Type 0
-ParsesLinesAs make kind lines (Ok v) = ParsesLines Rfc9651 kind lines (Ok (make v))
-ParsesLinesAs make kind lines (Err e) = ParsesLines Rfc9651 kind lines (Err e)

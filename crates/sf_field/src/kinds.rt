@@ -1,12 +1,14 @@
 //! Field lines of a field whose kind is known: the answer is the Item, the List or the Dictionary
 //! itself.
+ghost use Rattle.sf_value.specs.declared.dialect.Dialect.TheVariants.{Rfc9651};
 ghost use Rattle.sf_value.specs.declared.value.Field.TheVariants as field_is;
 ghost use Rattle.sf_value.specs.declared.value.Kind.TheVariants as kind_is;
 ghost use Rattle.std.specs.Prelude.{◌≡◌, ℕ, List as Seq, [], ◌∷◌, IfErr};
 ghost use Rattle.sf_value.specs.Grammar.Words.{Every};
 ghost use Rattle.sf_parse.specs.Plain.{plain_byte};
 ghost use Rattle.sf_parse.specs.PlainParsers.{IsOther};
-ghost use Rattle.sf_field.specs.Lines.{ParsesLinesAs};
+ghost use Rattle.sf_parse.specs.Parsers.{Makes};
+ghost use Rattle.sf_field.specs.Lines.{ParsesLines};
 
 use crate::lines::parse_lines;
 use sf_parse::Refusal;
@@ -22,7 +24,7 @@ use std::hash::RandomState;
 /// ```
 pub fn parse_item_lines(alloc: Global, seed: &RandomState, lines: &[Blob]) -> Result<Item, Refusal>
     // the lines together spell this Item alone, or this is their exact refusal, memory aside
-    ensures parses { ParsesLinesAs field_is.Item kind_is.Item lines.now result }
+    ensures parses { Makes field_is.Item (ParsesLines Rfc9651 kind_is.Item lines.now) result }
     // one line of spaces, minus signs and digits takes no memory
     ensures plain { (line : Seq ℕ) → lines.now ≡ line ∷ [] → Every plain_byte line
         → IfErr result IsOther }
@@ -42,7 +44,7 @@ pub fn parse_item_lines(alloc: Global, seed: &RandomState, lines: &[Blob]) -> Re
 /// ```
 pub fn parse_list_lines(alloc: Global, seed: &RandomState, lines: &[Blob]) -> Result<List, Refusal>
     // the lines together spell this List alone, or this is their exact refusal, memory aside
-    ensures { ParsesLinesAs field_is.List kind_is.List lines.now result }
+    ensures { Makes field_is.List (ParsesLines Rfc9651 kind_is.List lines.now) result }
 {
     match parse_lines(alloc, seed, Kind::List, lines)? {
         Field::List(list) => Ok(list),
@@ -59,7 +61,7 @@ pub fn parse_list_lines(alloc: Global, seed: &RandomState, lines: &[Blob]) -> Re
 /// ```
 pub fn parse_dict_lines(alloc: Global, seed: &RandomState, lines: &[Blob]) -> Result<Dict, Refusal>
     // the lines together spell this Dictionary alone, or this is their exact refusal, memory aside
-    ensures { ParsesLinesAs field_is.Dict kind_is.Dict lines.now result }
+    ensures { Makes field_is.Dict (ParsesLines Rfc9651 kind_is.Dict lines.now) result }
 {
     match parse_lines(alloc, seed, Kind::Dict, lines)? {
         Field::Dict(dict) => Ok(dict),

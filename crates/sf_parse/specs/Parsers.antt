@@ -123,8 +123,8 @@ Parses d kind t (Err (Syntax place (Some b) expected may_end)) =
 Parses d kind t (Err (TooLong limit)) = ⊥
 Parses d kind t (Err (ReadFault place)) = ⊥
 
--- the whole text t is parsed as a field of one kind, and the answer is what the field is made of
-abbrev pub ParsesAs : {A : Type 0} → (A → Field) → Dialect → Kind → List ℕ → Result A Refusal
-    → Type 0
-ParsesAs make d kind t (Ok v) = IsOnly d kind t (make v)
-ParsesAs make d kind t (Err e) = Parses d kind t (Err e)
+-- P holds of the field that is made of the answer, and of a refusal as it is
+abbrev pub Makes : {A : Type 0} → (A → Field) → (Result Field Refusal → Type 0)
+    → Result A Refusal → Type 0
+Makes make P (Ok v) = P (Ok (make v))
+Makes make P (Err e) = P (Err e)

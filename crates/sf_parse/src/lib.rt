@@ -27,6 +27,7 @@ mod date;
 mod display_string;
 mod entry;
 mod expectation;
+mod field;
 mod gathering;
 mod item;
 pub mod laws;
@@ -46,7 +47,6 @@ mod spots;
 mod state;
 mod text;
 mod top;
-mod wholes;
 
 pub use expectation::{Runs, runs_of};
 pub use parser::Parser;

@@ -4,14 +4,14 @@ ghost use Rattle.sf_value.specs.Grammar.Words.{Every};
 ghost use Rattle.sf_value.specs.declared.dialect.Dialect.TheVariants.{Rfc9651};
 ghost use Rattle.sf_value.specs.declared.value.Field.TheVariants as field_is;
 ghost use Rattle.sf_value.specs.declared.value.Kind.TheVariants as kind_is;
-ghost use Rattle.sf_parse.specs.Parsers.{Parses, ParsesAs};
+ghost use Rattle.sf_parse.specs.Parsers.{Parses, Makes};
 ghost use Rattle.sf_parse.specs.Plain.{plain_byte};
 ghost use Rattle.sf_parse.specs.PlainParsers.{IsOther, NotForMemory};
 
 use crate::context::Context;
+use crate::field::{DictReader, ListReader, parse_whole};
 use crate::refusal::Refusal;
 use crate::top::TopReader;
-use crate::wholes::{DictReader, ListReader, parse_whole};
 use sf_value::{Dialect, Dict, Field, Item, Kind, List};
 use std::alloc::Global;
 use std::hash::RandomState;
@@ -76,7 +76,7 @@ pub fn parse_text_in(
 /// ```
 pub fn parse_item(alloc: Global, seed: &RandomState, text: &[u8]) -> Result<Item, Refusal>
     // The text spells just this Item, or this is its exact refusal; else memory was wanting.
-    ensures parses { ParsesAs field_is.Item Rfc9651 kind_is.Item text.now result }
+    ensures parses { Makes field_is.Item (Parses Rfc9651 kind_is.Item text.now) result }
     // Spaces, `-` and digits are not refused for want of memory.
     ensures plain { Every plain_byte text.now → IfErr result IsOther }
 {
@@ -96,7 +96,7 @@ pub fn parse_item(alloc: Global, seed: &RandomState, text: &[u8]) -> Result<Item
 /// ```
 pub fn parse_list(alloc: Global, seed: &RandomState, text: &[u8]) -> Result<List, Refusal>
     // The text spells just this List, or this is its exact refusal; else memory was wanting.
-    ensures { ParsesAs field_is.List Rfc9651 kind_is.List text.now result }
+    ensures { Makes field_is.List (Parses Rfc9651 kind_is.List text.now) result }
 {
     match parse_text(alloc, seed, Kind::List, text)? {
         Field::List(list) => Ok(list),
@@ -115,7 +115,7 @@ pub fn parse_list(alloc: Global, seed: &RandomState, text: &[u8]) -> Result<List
 /// ```
 pub fn parse_dict(alloc: Global, seed: &RandomState, text: &[u8]) -> Result<Dict, Refusal>
     // The text spells just this Dictionary, or this is its exact refusal; else memory was wanting.
-    ensures { ParsesAs field_is.Dict Rfc9651 kind_is.Dict text.now result }
+    ensures { Makes field_is.Dict (Parses Rfc9651 kind_is.Dict text.now) result }
 {
     match parse_text(alloc, seed, Kind::Dict, text)? {
         Field::Dict(dict) => Ok(dict),

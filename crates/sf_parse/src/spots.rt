@@ -10,7 +10,7 @@ use sf_value::{Blob, is_visible};
 use std::fmt;
 
 /// A place in a field line. A text that came in one piece counts as one line.
-#[derive(Clone, Copy, Drop)]
+#[derive(Clone, Copy, Debug, Drop)]
 pub struct Spot<'a> {
     /// Which line of the field it is. The first is line 1.
     pub line: usize,
@@ -31,7 +31,7 @@ pub struct Spot<'a> {
 /// // 1 2
 /// //   ^
 /// ```
-#[derive(Clone, Copy, Drop)]
+#[derive(Clone, Copy, Debug, Drop)]
 pub struct InLine<'a> {
     /// Why the text was refused.
     pub refusal: Refusal,

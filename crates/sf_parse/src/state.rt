@@ -11,9 +11,9 @@ ghost use Rattle.sf_parse.specs.Machine.Fields.{finish as finish_of};
 ghost use Rattle.sf_parse.specs.Machine.Tests.{takes as takes_at, may_end as may_end_at};
 
 use crate::context::Context;
+use crate::field::{DictReader, ListReader, WholeField};
 use crate::level::Level;
 use crate::top::TopReader;
-use crate::wholes::{DictReader, ListReader, WholeField};
 use sf_value::{Dialect, Field, Kind, OutOfMemory};
 
 /// What was read of a field, by its kind.

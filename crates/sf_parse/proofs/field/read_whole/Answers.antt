@@ -3,7 +3,7 @@ use Rattle.sf_parse.specs.Expected.{Marks}
 use Rattle.sf_parse.specs.Machine.Fields.{step, begin}
 use Rattle.sf_parse.proofs.Fronts.{front_above, never}
 use Rattle.sf_parse.proofs.Wholes.{whole_refused, whole_value, whole_plain}
-use Rattle.sf_parse.proofs.wholes.read_whole.Goals as goal
+use Rattle.sf_parse.proofs.field.read_whole.Goals as goal
 
 pub returns-then-is_some-clause-parses : goal.returns-then-is_some-clause-parses
 returns-then-is_some-clause-parses g c =
