@@ -10,9 +10,9 @@ ghost use Rattle.sf_parse.specs.Machine.Tests.{series_takes, series_ends};
 
 use crate::context::Context;
 use crate::level::Level;
-use crate::runs::{Ows, Space, is_ows, short_front};
+use crate::runs::{Ows, Space, short_front};
 use crate::sets::{COMMA, OWS, SPACE, set_if};
-use sf_value::{Dialect, OutOfMemory};
+use sf_value::{Dialect, OutOfMemory, is_ows};
 use std::marker::Model;
 use std::mem;
 

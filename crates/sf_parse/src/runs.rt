@@ -6,7 +6,7 @@ ghost use Rattle.sf_value.specs.Grammar.Classes.{is_ows as is_ows_byte};
 ghost use Rattle.sf_value.specs.Grammar.DisplayStrings.{is_plain};
 ghost use Rattle.sf_parse.specs.ByteRuns.{is_unescaped};
 
-use sf_value::{can_be_in_key, can_be_in_token, is_visible, stands_for_itself};
+use sf_value::{can_be_in_key, can_be_in_token, is_ows, is_visible, stands_for_itself};
 
 /// The flag of the bytes that keys go on with.
 const KEY: u8 = 1;
@@ -66,14 +66,6 @@ pub struct Space;
 
 /// Optional white space (RFC 9110 section 5.6.3).
 pub struct Ows;
-
-/// Whether a byte is a space or a tab.
-#[inline]
-pub fn is_ows(byte: u8) -> bool
-    ensures { result ≡ is_ows_byte byte }
-{
-    byte == b' ' || byte == b'\t'
-}
 
 impl ByteClass for Unescaped {
     ghost test = { is_unescaped };

@@ -3,27 +3,19 @@ ghost use Rattle.std.specs.Prelude.{◌≡◌, ◌<◌, ◌≤◌, ◌+◌, ◌*
 ghost use Rattle.std.specs.Prelude.{MatchOption, IfSome, IfOk};
 ghost use Rattle.std.specs.List.{position_or_len, before_first, after_first};
 ghost use Rattle.std.specs.Str.Lines.{lines, strip_carriage_return};
-ghost use Rattle.sf_value.specs.Grammar.Classes.{is_ows};
 ghost use Rattle.sf_value.specs.Grammar.Lines.{join};
 ghost use Rattle.sf_tool.specs.Lines.{without_lead as all_but_lead, trim};
 ghost use Rattle.sf_tool.specs.Lines.{without_trail as all_but_trail, lines_of as lines_in};
 
-use sf_value::{Blob, OutOfMemory};
+use sf_value::{Blob, OutOfMemory, is_ows};
 use std::alloc::Global;
-
-/// Whether the byte is a space or a tab.
-fn is_blank(byte: u8) -> bool
-    ensures { result ≡ is_ows byte }
-{
-    byte == b' ' || byte == b'\t'
-}
 
 /// The bytes without the spaces and tabs at their front.
 fn without_lead(bytes: &[u8]) -> &[u8]
     ensures { result.now ≡ all_but_lead bytes.now }
 {
     let mut start = 0;
-    while start < bytes.len() && is_blank(bytes[start]) {
+    while start < bytes.len() && is_ows(bytes[start]) {
         start += 1;
     }
     &bytes[start..]
@@ -34,7 +26,7 @@ fn without_trail(bytes: &[u8]) -> &[u8]
     ensures { result.now ≡ all_but_trail bytes.now }
 {
     let mut end = bytes.len();
-    while end > 0 && is_blank(bytes[end - 1]) {
+    while end > 0 && is_ows(bytes[end - 1]) {
         end -= 1;
     }
     &bytes[..end]

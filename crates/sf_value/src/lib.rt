@@ -50,6 +50,7 @@ mod table;
 mod text;
 mod token;
 mod value;
+mod white_space;
 
 pub use blob::Blob;
 pub use bytes::ShortBytes;
@@ -65,3 +66,4 @@ pub use sequence::Sequence;
 pub use text::{Text, is_visible};
 pub use token::{Token, can_be_in_token, can_start_token};
 pub use value::{Bare, Dict, Field, Inner, Item, Kind, List, Member};
+pub use white_space::is_ows;
