@@ -9,7 +9,6 @@ use Rattle.std.proofs.lemmas.List.Splits.{slice_split_first, slice_split_none, l
 use Rattle.std.proofs.lemmas.List.Sums.{fails_before_first}
 use Rattle.std.proofs.Math.Dec.{eqb-suc-zero}
 use Rattle.sf_value.specs.Grammar.Classes.{is_ows}
-use Rattle.sf_value.specs.Grammar.Lines.{join}
 use Rattle.sf_tool.specs.Lines.{is_line_feed, without_lead, trim}
 
 -- before a further part, the first part is a line
@@ -40,19 +39,6 @@ lines-last text some none =
     let fails : All (λ x. is_line_feed x ≡ false) text =
     λ k d h. fails_before_first is_line_feed text k d (omega arith) in
     ap lines_of_parts (slice_split_none is_line_feed text fails) ∙ last_part text some
-
--- one line more adds at most itself and what stands before it
-pub length-join-push : (ls : List (List ℕ)) (l : List ℕ)
-    → length (join (ls ++ l ∷ [])) ≤ length (join ls) + 2 + length l
-length-join-push [] l = omega arith
-length-join-push (a ∷ []) l = omega (arith, length-append a (44 ∷ 32 ∷ l))
-length-join-push (a ∷ b ∷ ls) l =
-    omega (
-      arith,
-      length-join-push (b ∷ ls) l,
-      length-append a (44 ∷ 32 ∷ join (b ∷ ls)),
-      length-append a (44 ∷ 32 ∷ join (b ∷ (ls ++ l ∷ []))),
-    )
 
 -- the blanks at the ends of a line add nothing
 pub length-trim : (l : List ℕ) → length (trim l) ≤ length l

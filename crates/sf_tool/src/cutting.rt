@@ -1,14 +1,15 @@
 //! The field lines of an input.
-ghost use Rattle.std.specs.Prelude.{◌≡◌, ◌<◌, ◌≤◌, ◌+◌, ◌*◌, [], ◌∷◌, length, ◌==◌};
-ghost use Rattle.std.specs.Prelude.{MatchOption, IfSome, IfOk};
+ghost use Rattle.std.specs.Prelude.{◌≡◌, ◌<◌, ◌≤◌, ◌+◌, [], ◌∷◌, false, length, ◌==◌};
+ghost use Rattle.std.specs.Prelude.{MatchOption, IfSome};
 ghost use Rattle.std.specs.List.{position_or_len, before_first, after_first};
 ghost use Rattle.std.specs.Str.Lines.{lines, strip_carriage_return};
 ghost use Rattle.sf_value.specs.Grammar.Lines.{join};
+ghost use Rattle.sf_parse.specs.Parsers.{Fed};
 ghost use Rattle.sf_tool.specs.Lines.{without_lead as all_but_lead, trim};
 ghost use Rattle.sf_tool.specs.Lines.{without_trail as all_but_trail, lines_of as lines_in};
 
-use sf_value::{Blob, OutOfMemory, is_ows};
-use std::alloc::Global;
+use sf_parse::{Parser, Refusal};
+use sf_value::is_ows;
 
 /// The bytes without the spaces and tabs at their front.
 fn without_lead(bytes: &[u8]) -> &[u8]
@@ -85,19 +86,19 @@ pub(crate) fn split_line(input: &[u8]) -> Option<(&[u8], &[u8])>
     }
 }
 
-/// The field lines of an input: it is cut at each line feed, and a last part without one is a line
-/// unless it is empty. A carriage return directly before a line feed is dropped, and then the
-/// spaces and tabs at both ends of each line.
-pub(crate) fn lines_of(alloc: Global, input: &[u8]) -> Result<Vec<Blob>, OutOfMemory>
-    ensures lines { IfOk result (λ lines. lines.items ≡ lines_in input.now) }
-    // the commas and spaces between two lines add at most two bytes for each byte of the input
-    ensures short { IfOk result (λ lines. length (join lines.items) ≤ 3 * length input.now) }
+/// Feeds the field lines of an input to a parser, of which none is copied. The input is cut at each
+/// line feed, and a last part without one is a line unless it is empty. A carriage return directly
+/// before a line feed is dropped, and then the spaces and tabs at both ends of each line.
+pub(crate) fn feed_input(parser: &mut Parser, input: &[u8]) -> Result<(), Refusal>
+    requires { parser.old.after_line ≡ false }
+    // the joined text of the lines is fed; a refusal stands whatever comes behind it
+    ensures { Fed parser.old parser.new result (join (lines_in input.now)) }
 {
-    let mut lines = Vec::new(alloc);
+    parser.feed(b"")?;
     let mut rest = input;
     while let Some((line, more)) = split_line(rest) {
-        lines.push(Blob::new(alloc, trimmed(line))?)?;
+        parser.feed_line(trimmed(line))?;
         rest = more;
     }
-    Ok(lines)
+    Ok(())
 }

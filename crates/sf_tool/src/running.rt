@@ -14,14 +14,14 @@ use crate::answering::{
     answer_not_a_cache, answer_path, answer_priority, answer_refusal, answer_refused_line,
     answer_too_long, answer_tree,
 };
-use crate::cutting::lines_of;
+use crate::cutting::feed_input;
 use crate::fields::{InputFault, read_fields};
 use crate::reading::{ReadAllFault, read_all};
 use crate::request::Request;
 use crate::status::Status;
 use http_header::HeaderName;
-use sf_field::{AskFault, Consumer, UseFault, ask, parse_lines_in};
-use sf_parse::Refusal;
+use sf_field::{AskFault, Consumer, UseFault};
+use sf_parse::{Parser, Refusal};
 use sf_use::{CacheStatus, Choice, PriorityField, select};
 use sf_value::{Dialect, Field, Kind, Sink, Source, Writing};
 use std::alloc::Global;
@@ -78,8 +78,9 @@ fn parse_input(
     // it is refused for the text or for want of memory, and never as too long
     ensures of_text { IfErr result IsOfText }
 {
-    let lines = lines_of(alloc, input)?;
-    parse_lines_in(alloc, seed, dialect, kind, lines.as_slice())
+    let mut parser = Parser::new_in(alloc, seed, dialect, kind, u64::MAX);
+    feed_input(&mut parser, input)?;
+    parser.finish()
 }
 
 /// The tree of the input's field, or why it is refused.
@@ -155,10 +156,10 @@ fn ask_input<C: Consumer>(
     // so is it here, or the value has no answer
     ensures of_text { IfErr result IsAskOfText }
 {
-    match lines_of(alloc, input) {
-        Ok(lines) => ask(alloc, seed, consumer, lines.as_slice()),
-        Err(_) => Err(AskFault::Field(Refusal::OutOfMemory)),
-    }
+    let field = parse_input(alloc, seed, Dialect::Rfc9651, C::KIND, input)?;
+    let answer = consumer.answer(alloc, &field);
+    drop(field);
+    Ok(answer?)
 }
 
 /// The hops of the input's Cache-Status field, or why it is refused.
