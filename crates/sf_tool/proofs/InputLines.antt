@@ -1,69 +1,95 @@
 -- The lines of an input as they are fed one by one, and how long they are together.
-use Rattle.std.proofs.Common.{◌≡◌, ℕ, ◌+◌, ◌*◌, ◌<◌, ◌≤◌, suc, zero, true, List, [], ◌∷◌, ◌++◌, length}
-use Rattle.std.proofs.Common.{inl, inr, ◌⊎◌, map, refl, ap, ◌∙◌, subst, sym, arith, drop, take}
-use Rattle.std.proofs.Common.{length-append, length-drop, length-take}
+use Rattle.std.proofs.Common.{◌≡◌, ℕ, ◌+◌, ◌*◌, ◌<◌, ◌≤◌, ◌⊎◌, inl, inr, suc, zero, true, false}
+use Rattle.std.proofs.Common.{List, [], ◌∷◌, ◌++◌, length, map, Result, Ok, Err, subst, sym, ap}
+use Rattle.std.proofs.Common.{◌-◌, not, arith, length-append, length-drop, length-take}
+use Rattle.std.specs.Prelude.{IfErr}
 use Rattle.std.proofs.lemmas.Bool.{cases_lt}
 use Rattle.std.proofs.lemmas.List.Sums.{prefix_len-le-length}
 use Rattle.std.specs.List.{position_or_len, before_first, after_first}
 use Rattle.std.specs.Str.Lines.{lines, strip_carriage_return}
+use Rattle.sf_value.specs.declared.dialect.Dialect.{Dialect}
+use Rattle.sf_value.specs.declared.value.Field.{Field}
+use Rattle.sf_value.specs.declared.value.Kind.{Kind}
 use Rattle.sf_value.specs.Grammar.Lines.{join}
+use Rattle.sf_parse.specs.declared.refusal.Refusal.{Refusal}
+use Rattle.sf_field.specs.Lines.{ParsesLines}
 use Rattle.sf_field.proofs.Feeding.{behind, joined}
 use Rattle.sf_tool.specs.Lines.{is_line_feed, trim, lines_of}
+use Rattle.sf_tool.specs.Run.{IsOfText}
 use Rattle.sf_tool.proofs.Cuts.{lines-first, lines-last, length-trim}
+use Rattle.sf_tool.proofs.Tells.{is_of_text}
 
 length-strip : (l : List ℕ) → length (strip_carriage_return l) ≤ length l
-length-strip l = grind (arith, length-take)
+length-strip l = grind (arith, length-take (length l - 1) l)
 
--- each line of a text takes at most three bytes for each byte that it is cut from, with the comma
--- and the space before it
+
+-- with the comma and the space before each, lines take at most three bytes for each byte that they
+-- are cut from: of a text with a line feed, if what stands behind the first does
+cut_short : (text : List ℕ) → position_or_len is_line_feed text < length text
+    → length (behind true (lines_of (after_first is_line_feed text)))
+    ≤ 3 * length (after_first is_line_feed text)
+    → length (behind true (lines_of text)) ≤ 3 * length text
+cut_short text some rest =
+    let line = strip_carriage_return (before_first is_line_feed text) in
+    let at = position_or_len is_line_feed text in
+    rw (lines-first text some)
+    (omega (
+      arith,
+      rest,
+      some,
+      length-drop (at + 1) text,
+      length-take at text,
+      length-trim line,
+      length-strip (before_first is_line_feed text),
+      length-append (trim line) (behind true (lines_of (after_first is_line_feed text))),
+    ))
+
+-- of a text without one
+uncut_short : (text : List ℕ) → 0 < length text
+    → length text ≤ position_or_len is_line_feed text
+    → length (behind true (lines_of text)) ≤ 3 * length text
+uncut_short text some none =
+    let all : position_or_len is_line_feed text ≡ length text =
+    omega (arith, none, prefix_len-le-length (λ b. not (is_line_feed b)) text) in
+    rw (lines-last text some all)
+    (omega (arith, some, length-trim text, length-append (trim text) []))
+
+-- of any text
 length-behind : (n : ℕ) (text : List ℕ) → length text ≤ n
     → length (behind true (lines_of text)) ≤ 3 * length text
 length-behind n [] h = omega arith
 length-behind zero (x ∷ xs) h = absurd (omega arith)
 length-behind (suc n) (x ∷ xs) h =
     at (cases_lt (position_or_len is_line_feed (x ∷ xs)) (length (x ∷ xs)))
+    (λ t s. length-behind n t s)
   where
-    text : List ℕ
-    text = x ∷ xs
-    front : List ℕ
-    front = before_first is_line_feed text
-    rest : List ℕ
-    rest = after_first is_line_feed text
     at : (position_or_len is_line_feed (x ∷ xs) < length (x ∷ xs))
         ⊎ (length (x ∷ xs) ≤ position_or_len is_line_feed (x ∷ xs))
+        → ((t : List ℕ) → length t ≤ n → length (behind true (lines_of t)) ≤ 3 * length t)
         → length (behind true (lines_of (x ∷ xs))) ≤ 3 * length (x ∷ xs)
-    at (inl some) =
-        rw (lines-first (x ∷ xs) some)
-        (omega (
+    at (inl some) shorter =
+        cut_short (x ∷ xs) some
+        (shorter (after_first is_line_feed (x ∷ xs)) (omega (
           arith,
-          length-behind n (after_first is_line_feed (x ∷ xs)) (omega (
-            arith,
-            length-drop (position_or_len is_line_feed (x ∷ xs) + 1) (x ∷ xs),
-          )),
+          h,
           length-drop (position_or_len is_line_feed (x ∷ xs) + 1) (x ∷ xs),
-          length-take (position_or_len is_line_feed (x ∷ xs)) (x ∷ xs),
-          length-trim (strip_carriage_return (before_first is_line_feed (x ∷ xs))),
-          length-strip (before_first is_line_feed (x ∷ xs)),
-          length-append (trim (strip_carriage_return (before_first is_line_feed (x ∷ xs))))
-            (behind true (lines_of (after_first is_line_feed (x ∷ xs)))),
-        ))
-    at (inr none) =
-        let all : position_or_len is_line_feed (x ∷ xs) ≡ length (x ∷ xs) =
-            omega (arith, prefix_len-le-length (λ b. not (is_line_feed b)) (x ∷ xs)) in
-        rw (lines-last (x ∷ xs) (omega arith) all)
-        (omega (
-          arith,
-          length-trim (x ∷ xs),
-          length-append (trim (x ∷ xs)) [],
-        ))
+        )))
+    at (inr none) shorter = uncut_short (x ∷ xs) (omega arith) none
+
+unbegun : (ls : List (List ℕ)) → length (behind false ls) ≤ length (behind true ls)
+unbegun [] = omega arith
+unbegun (l ∷ ls) = omega arith
 
 -- the joined lines take at most three bytes for each byte of the input
 pub length-joined : (input : List ℕ) → length (join (lines_of input)) ≤ 3 * length input
 length-joined input =
+    let short = length-behind (length input) input (omega arith) in
     subst (λ t. length t ≤ 3 * length input) (sym (joined (lines_of input)))
-    (first (lines_of input) (length-behind (length input) input (omega arith)))
-  where
-    first : (ls : List (List ℕ)) → length (behind true ls) ≤ 3 * length input
-        → length (behind false ls) ≤ 3 * length input
-    first [] h = h
-    first (l ∷ ls) h = omega arith
+    (omega (arith, short, unbegun (lines_of input)))
+
+-- an input within the limit is refused for its text or for want of memory, never as too long
+pub of_text : (d : Dialect) (kind : Kind) (input : List ℕ) (r : Result Field Refusal)
+    → length input ≤ 1048576 → ParsesLines d kind (lines_of input) r → IfErr r IsOfText
+of_text d kind input (Ok v) small p = tt
+of_text d kind input (Err e) small p =
+    is_of_text d kind input (lines_of input) e (length-joined input) small p

@@ -2,6 +2,7 @@ pub mod Cuts
 pub mod Walks
 pub mod Names
 pub mod Room
+pub mod InputLines
 pub mod LineByLine
 pub mod CommandLine
 pub mod SomeWords

@@ -2,7 +2,7 @@
 //! a length here were wrong, memory would be taken again, or too much of it.
 
 use crate::params::is_true;
-use crate::{shown, strings};
+use crate::{display_string, strings};
 use sf_value::{Bare, Entries, Field, Inner, Item, Member};
 
 /// The digits of a number.
