@@ -18,6 +18,9 @@ use Rattle.sf_value.specs.declared.value.Member.TheVariants as member
 use Rattle.sf_value.specs.declared.value.Field.{Field}
 use Rattle.sf_value.specs.declared.value.Field.TheVariants as field
 use Rattle.sf_value.specs.Grammar.Pairs.{Pairs, value_at}
+use Rattle.sf_value.specs.declared.dialect.Dialect.TheVariants.{Rfc9651}
+use Rattle.sf_value.specs.declared.value.Kind.TheVariants.{List}
+use Rattle.sf_value.specs.Grammar.Fields.{SpellsField}
 use Rattle.sf_value.specs.Lookups.{as_text, as_token}
 use Rattle.sf_use.specs.declared.cache_status.hop.Name.{Name}
 use Rattle.sf_use.specs.declared.cache_status.hop.Name.TheVariants as name
@@ -31,6 +34,7 @@ use Rattle.sf_use.specs.CacheStatus.Hops.{hop_named, hops, member_hop, outcome_b
 use Rattle.sf_use.specs.CacheStatus.Hops.{passed_by_token, unless}
 use Rattle.sf_use.specs.CacheStatus.Members.{passed_by}
 use Rattle.sf_c.specs.Nodes.{text_of, told_field, told_member, told_members, told_params}
+use Rattle.sf_c.specs.Laws.{HopsAreFew, HopBytesAreFew}
 use Rattle.sf_c.specs.Tellings.{told_size}
 use Rattle.sf_c.specs.Hops.{ToldHop, bytes_of, detail_bytes, hop_size, hops_size, told_hop}
 use Rattle.sf_c.specs.Hops.{why_token}
@@ -274,7 +278,7 @@ path_few (field.Dict d) hs e =
     (omega arith, omega arith)
 
 -- the same of numbers that say how many there are
-pub count_few : (n m : ℕ) (ts : Seq ToldHop) (js hs : Seq Hop) → n ≡ length ts
+count_few : (n m : ℕ) (ts : Seq ToldHop) (js hs : Seq Hop) → n ≡ length ts
     → ts ≡ map told_hop js → js ≡ hs → 10 * length hs ≤ m → 10 * n ≤ m
 count_few n m ts js hs e f g h =
     let told = ap length f in
@@ -282,9 +286,19 @@ count_few n m ts js hs e f g h =
     let same = ap length g in
     omega arith
 
-pub size_few : (n m : ℕ) (ts : Seq ToldHop) (js hs : Seq Hop) → n ≡ hops_size ts
+size_few : (n m : ℕ) (ts : Seq ToldHop) (js hs : Seq Hop) → n ≡ hops_size ts
     → ts ≡ map told_hop js → js ≡ hs → 5 * hops_size (map told_hop hs) ≤ m → 5 * n ≤ m
 size_few n m ts js hs e f g h =
     let told = ap hops_size f in
     let same = ap (λ z. hops_size (map told_hop z)) g in
     omega arith
+
+-- and of the two together, of the path of a text
+pub told_few : (n size : ℕ) (t : Seq ℕ) (v : Field) (ts : Seq ToldHop) (js hs : Seq Hop)
+    → n ≡ length ts → size ≡ hops_size ts → ts ≡ map told_hop js → js ≡ hs
+    → HopsAreFew → HopBytesAreFew → SpellsField Rfc9651 List t v → hops v ≡ Ok hs
+    → (10 * n ≤ 8 * length t + 5) × (5 * size ≤ 8 * length t)
+told_few n size t v ts js hs e s f g few small spelled told = (
+  count_few n (8 * length t + 5) ts js hs e f g (few Rfc9651 List t v hs spelled told),
+  size_few size (8 * length t) ts js hs s f g (small Rfc9651 List t v hs spelled told),
+)
