@@ -22,7 +22,6 @@ use Rattle.sf_tool.proofs.Tells.{is_of_text}
 length-strip : (l : List ℕ) → length (strip_carriage_return l) ≤ length l
 length-strip l = grind (arith, length-take (length l - 1) l)
 
-
 -- with the comma and the space before each, lines take at most three bytes for each byte that they
 -- are cut from: of a text with a line feed, if what stands behind the first does
 cut_short : (text : List ℕ) → position_or_len is_line_feed text < length text
