@@ -1,8 +1,8 @@
 //! Texts, pieces and lines.
 use http_header::{HeaderMap, HeaderName, HeaderValue};
-use sf_field::{from_headers, normalise_lines, parse_lines};
+use sf_field::{from_headers, normalise_lines, parse_from, parse_lines};
 use sf_parse::{Parser, Refusal, parse_reader, parse_text, runs_of};
-use sf_value::{Blob, Kind, Reading};
+use sf_value::{Blob, Dialect, Kind, Reading};
 use sf_write::to_text;
 use std::hash::RandomState;
 use std::test::Fail;
@@ -55,6 +55,9 @@ fn lines_of_a_field(rt: HostRuntime) -> Result<(), Fail> {
         to_text(alloc, &field)?.as_slice(),
         b"a;q=1.0, b, (c d)".as_slice()
     );
+    let lines: [&[u8]; 2] = [b"a;q=1.0,b", b"(c  d)"];
+    let same = parse_from(alloc, &seed, Dialect::Rfc9651, Kind::List, lines.iter())?;
+    assert!(&rt; same == field);
     Ok(())
 }
 

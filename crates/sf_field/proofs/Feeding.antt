@@ -1,7 +1,6 @@
 -- Feeding a text piece by piece, and lines one by one.
-use Rattle.std.proofs.Common.{◌≡◌, ℕ, ◌+◌, ◌<◌, Bool, true, false, List, [], ◌∷◌, ◌++◌, length}
-use Rattle.std.proofs.Common.{drop, get_or, Ok, Err, refl, sym, ap, ◌∙◌, subst, arith, append-nil}
-use Rattle.std.proofs.Common.{append_assoc, drop-cons, add-one}
+use Rattle.std.proofs.Common.{◌≡◌, ℕ, Bool, true, false, List, [], ◌∷◌, ◌++◌, ◌⊎◌, inl, inr}
+use Rattle.std.proofs.Common.{Ok, Err, refl, sym, ap, ◌∙◌, subst, append-nil, append_assoc}
 use Rattle.sf_value.specs.Grammar.Lines.{join}
 use Rattle.sf_parse.specs.declared.refusal.Refusal.{Refusal}
 use Rattle.sf_parse.specs.Parsers.{Progress, Fed, in_line}
@@ -19,11 +18,6 @@ join_behind l (m ∷ ls) = ap (λ t. l ++ 44 ∷ 32 ∷ t) (join_behind m ls)
 pub joined : (ls : List (List ℕ)) → join ls ≡ behind false ls
 joined [] = refl
 joined (l ∷ ls) = join_behind l ls
-
-pub next_line : (after : Bool) (ls : List (List ℕ)) (i : ℕ) (l : List ℕ) → i < length ls
-    → l ≡ get_or ls i l
-    → behind after (drop i ls) ≡ in_line after l ++ behind true (drop (i + 1) ls)
-next_line after ls i l h e = ap (behind after) (drop-cons ls i l h) ∙ rw (add-one, ← e)
 
 -- a front of all was fed, and this is left
 pub record FedSoFar (o p : Progress) (all left : List ℕ) : Type 0 where
@@ -67,10 +61,16 @@ fed_all o p all left l e =
     subst (Fed o p (Ok tt))
     (sym (l.split ∙ ap (λ z. l.front ++ z) e ∙ append-nil l.front)) l.fed
 
--- of one line the first is that line, and there is no second
-pub only_line : (lines : List (List ℕ)) (i : ℕ) (item line : List ℕ) → lines ≡ line ∷ []
-    → i < length lines → item ≡ get_or lines i item → (i ≡ 0) × (item ≡ line)
-only_line lines i item line e h g =
-    let n : length lines ≡ 1 = ap length e in
-    let z : i ≡ 0 = omega arith in
-    (z, g ∙ ap (λ k. get_or lines k item) z ∙ ap (λ ls. get_or ls 0 item) e)
+-- of one line, it is still to come and no line was fed; or none is left
+abbrev pub Alone : List ℕ → Bool → List (List ℕ) → Type 0
+Alone line after left = ((left ≡ line ∷ []) × (after ≡ false)) ⊎ (left ≡ [])
+
+-- the next one is that line, no line was fed before, and none is left behind it
+pub alone_next : (line : List ℕ) (after : Bool) (left : List (List ℕ)) (next : List ℕ)
+    (more : List (List ℕ)) → left ≡ next ∷ more → Alone line after left
+    → (next ≡ line) × (after ≡ false) × (more ≡ [])
+alone_next line after left next more s (inl (e, f)) =
+    let here : next ∷ more ≡ line ∷ [] = sym s ∙ e in
+    (cc, f, cc)
+alone_next line after left next more s (inr e) =
+    let never : next ∷ more ≡ [] = sym s ∙ e in cc

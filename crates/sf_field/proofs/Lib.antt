@@ -1,5 +1,4 @@
 pub mod Feeding
 pub mod Answered
 pub mod Normals
-pub mod Values
 pub mod HeaderTexts

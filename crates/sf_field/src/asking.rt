@@ -8,9 +8,9 @@ ghost use Rattle.sf_field.specs.declared.asking.AskFault.TheVariants as fault_is
 ghost use Rattle.sf_field.specs.Asking.{Asks, MeansAsCanonical, ParsedOrRefused};
 
 use crate::consumer::{Consumer, UseFault};
-use crate::lines::parse_lines;
+use crate::lines::{FieldLines, parse_from};
 use sf_parse::Refusal;
-use sf_value::Blob;
+use sf_value::{Blob, Dialect};
 use std::alloc::Global;
 use std::error::Error;
 use std::fmt;
@@ -63,10 +63,36 @@ impl From<UseFault> for AskFault {
     }
 }
 
-/// What the lines mean to a consumer: they are parsed as its kind, as [`crate::parse_lines`] does,
+/// What the lines mean to a consumer: they are parsed as its kind, as [`crate::parse_from`] does,
 /// and the value is answered. Accepted lines and their canonical text, as one line, mean the same.
 /// Want of memory for the answer is told only where the value has one. A single line of spaces, `-`
 /// and digits takes no memory to parse where the consumer reads an Item.
+///
+/// ```
+/// let values = headers.get_all(&name).iter();
+/// let policy = ask_from(alloc, &seed, &Directives, values)?;
+/// ```
+pub fn ask_from<'a, C: Consumer, L: FieldLines<'a>>(
+    alloc: Global,
+    seed: &RandomState,
+    consumer: &C,
+    lines: L,
+) -> Result<C::Answer, AskFault>
+    // the answer is what the lines mean; a fault is what they mean, their refusal or want of memory
+    ensures answers { Asks C.KIND (C.meaning consumer.now) (L.lines lines) result }
+    // accepted lines mean what their canonical text means
+    ensures canonical { MeansAsCanonical C.KIND (C.meaning consumer.now) (L.lines lines) }
+    // a single line of spaces, `-` and digits is parsed without memory
+    ensures plain { C.KIND ≡ kind_is.Item → (line : List ℕ) → L.lines lines ≡ line ∷ []
+        → Every plain_byte line → ParsedOrRefused result }
+{
+    let field = parse_from(alloc, seed, Dialect::Rfc9651, C::KIND, lines)?;
+    let answer = consumer.answer(alloc, &field);
+    drop(field);
+    Ok(answer?)
+}
+
+/// What the lines mean to a consumer, as [`ask_from`] gives it.
 ///
 /// ```
 /// let policy = ask(alloc, &seed, &Directives, lines.as_slice())?;
@@ -85,8 +111,5 @@ pub fn ask<C: Consumer>(
     ensures plain { C.KIND ≡ kind_is.Item → (line : List ℕ) → lines.now ≡ line ∷ []
         → Every plain_byte line → ParsedOrRefused result }
 {
-    let field = parse_lines(alloc, seed, C::KIND, lines)?;
-    let answer = consumer.answer(alloc, &field);
-    drop(field);
-    Ok(answer?)
+    ask_from(alloc, seed, consumer, lines.iter())
 }

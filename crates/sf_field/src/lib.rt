@@ -2,7 +2,8 @@
 //! values of one name in a header map, are parsed as their text joined by a comma and a space. That
 //! joined text is never held.
 //!
-//! A line is a [`sf_value::Blob`], any bytes. Places in a refusal are counted in the joined text.
+//! A line is any bytes, and stands in whatever holds [`FieldLines`]. Places in a refusal are counted
+//! in the joined text.
 #![tactic(auto)]
 
 mod asking;
@@ -13,9 +14,9 @@ pub mod laws;
 mod lines;
 mod setting;
 
-pub use asking::{AskFault, ask};
+pub use asking::{AskFault, ask, ask_from};
 pub use consumer::{Consumer, UseFault};
 pub use headers::from_headers;
 pub use kinds::{parse_dict_lines, parse_item_lines, parse_list_lines};
-pub use lines::{normalise_lines, parse_lines, parse_lines_in};
+pub use lines::{FieldLines, normalise_lines, parse_from, parse_lines, parse_lines_in};
 pub use setting::{SetFault, header_value, set_field};

@@ -3,9 +3,10 @@ use crate::expecting::{LISTED, MEMBERS, SINGLE, seen_if};
 use sf_parse::{Refusal, parse_text};
 use sf_scarce::{Seen, refusals, seen_without_memory};
 use sf_value::{Field, Kind, OutOfMemory, Writing};
-use sf_write::{to_text, write_field};
+use sf_write::{display, to_text, write_field};
 use std::alloc::Global;
 use std::hash::RandomState;
+use std::io::Write;
 use std::test::Fail;
 
 fn text_of(alloc: Global, field: &Field, want: &[u8]) -> Seen {
@@ -39,12 +40,15 @@ fn texts(rt: HostRuntime) -> Result<(), Fail> {
     Ok(())
 }
 
-/// Writes into the room that is there.
+/// Writes and displays into the room that is there.
 fn written(field: &Field, room: &mut Vec<u8>, want: &[u8]) -> Seen {
     room.clear();
     let mut sink = Writing::new(&mut *room);
     let count = write_field(field, &mut sink);
-    seen_if(count == Ok(want.len() as u64) && room.as_slice() == want)
+    let written = count == Ok(want.len() as u64) && room.as_slice() == want;
+    room.clear();
+    let shown = write!(&mut *room, "{}", display(field)).is_ok() && room.as_slice() == want;
+    seen_if(written && shown)
 }
 
 fn written_without_memory(

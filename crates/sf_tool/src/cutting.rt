@@ -1,15 +1,14 @@
 //! The field lines of an input.
-ghost use Rattle.std.specs.Prelude.{◌≡◌, ◌<◌, ◌≤◌, ◌+◌, [], ◌∷◌, false, length, ◌==◌};
+ghost use Rattle.std.specs.Prelude.{◌≡◌, ◌<◌, ◌≤◌, ◌+◌, [], ◌∷◌, length, ◌==◌};
 ghost use Rattle.std.specs.Prelude.{MatchOption, IfSome};
 ghost use Rattle.std.specs.List.{position_or_len, before_first, after_first};
 ghost use Rattle.std.specs.Str.Lines.{lines, strip_carriage_return};
-ghost use Rattle.sf_value.specs.Grammar.Lines.{join};
-ghost use Rattle.sf_parse.specs.Parsers.{Fed};
 ghost use Rattle.sf_tool.specs.Lines.{without_lead as all_but_lead, trim};
 ghost use Rattle.sf_tool.specs.Lines.{without_trail as all_but_trail, lines_of as lines_in};
 
-use sf_parse::{Parser, Refusal};
+use sf_field::FieldLines;
 use sf_value::is_ows;
+use std::marker::Model;
 
 /// The bytes without the spaces and tabs at their front.
 fn without_lead(bytes: &[u8]) -> &[u8]
@@ -86,19 +85,38 @@ pub(crate) fn split_line(input: &[u8]) -> Option<(&[u8], &[u8])>
     }
 }
 
-/// Feeds the field lines of an input to a parser, of which none is copied. The input is cut at each
-/// line feed, and a last part without one is a line unless it is empty. A carriage return directly
-/// before a line feed is dropped, and then the spaces and tabs at both ends of each line.
-pub(crate) fn feed_input(parser: &mut Parser, input: &[u8]) -> Result<(), Refusal>
-    requires { parser.old.after_line ≡ false }
-    // the joined text of the lines is fed; a refusal stands whatever comes behind it
-    ensures { Fed parser.old parser.new result (join (lines_in input.now)) }
-{
-    parser.feed(b"")?;
-    let mut rest = input;
-    while let Some((line, more)) = split_line(rest) {
-        parser.feed_line(trimmed(line))?;
-        rest = more;
+/// The field lines of an input, of which none is copied. The input is cut at each line feed, and a
+/// last part without one is a line unless it is empty. A carriage return directly before a line
+/// feed is dropped, and then the spaces and tabs at both ends of each line.
+#[derive(Drop)]
+pub(crate) struct InputLines<'a> {
+    rest: &'a [u8],
+}
+
+impl<'a> Model for InputLines<'a> {
+    ghost use Rattle.std.specs.Prelude.{List, ℕ};
+    ghost use Rattle.sf_tool.specs.Lines.{lines_of as lines_in};
+
+    ghost Value = { List (List ℕ) };
+
+    ghost view = { λ l. lines_in l.rest.now };
+}
+
+impl<'a> InputLines<'a> {
+    /// The lines of this input.
+    pub(crate) fn new(input: &'a [u8]) -> InputLines<'a>
+        ensures { result ≡ lines_in input.now }
+    {
+        InputLines { rest: input }
     }
-    Ok(())
+}
+
+impl<'a> FieldLines<'a> for InputLines<'a> {
+    ghost lines = { λ lines. lines };
+
+    fn next_line(&mut self) -> Option<&'a [u8]> {
+        let (line, rest) = split_line(self.rest)?;
+        self.rest = rest;
+        Some(trimmed(line))
+    }
 }

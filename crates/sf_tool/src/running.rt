@@ -14,14 +14,14 @@ use crate::answering::{
     answer_not_a_cache, answer_path, answer_priority, answer_refusal, answer_refused_line,
     answer_too_long, answer_tree,
 };
-use crate::cutting::feed_input;
+use crate::cutting::InputLines;
 use crate::fields::{InputFault, read_fields};
 use crate::reading::{ReadAllFault, read_all};
 use crate::request::Request;
 use crate::status::Status;
 use http_header::HeaderName;
-use sf_field::{AskFault, Consumer, UseFault};
-use sf_parse::{Parser, Refusal};
+use sf_field::{AskFault, Consumer, UseFault, ask_from, parse_from};
+use sf_parse::Refusal;
 use sf_use::{CacheStatus, Choice, PriorityField, select};
 use sf_value::{Dialect, Field, Kind, Sink, Source, Writing};
 use std::alloc::Global;
@@ -78,9 +78,7 @@ fn parse_input(
     // it is refused for the text or for want of memory, and never as too long
     ensures of_text { IfErr result IsOfText }
 {
-    let mut parser = Parser::new_in(alloc, seed, dialect, kind, u64::MAX);
-    feed_input(&mut parser, input)?;
-    parser.finish()
+    parse_from(alloc, seed, dialect, kind, InputLines::new(input))
 }
 
 /// The tree of the input's field, or why it is refused.
@@ -156,10 +154,7 @@ fn ask_input<C: Consumer>(
     // so is it here, or the value has no answer
     ensures of_text { IfErr result IsAskOfText }
 {
-    let field = parse_input(alloc, seed, Dialect::Rfc9651, C::KIND, input)?;
-    let answer = consumer.answer(alloc, &field);
-    drop(field);
-    Ok(answer?)
+    ask_from(alloc, seed, consumer, InputLines::new(input))
 }
 
 /// The hops of the input's Cache-Status field, or why it is refused.

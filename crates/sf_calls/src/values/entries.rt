@@ -40,6 +40,18 @@ fn entries_are_looked_up(rt: HostRuntime) {
 }
 
 #[test]
+fn equal_entries_are_in_one_order(rt: HostRuntime) {
+    let seed = seed(&rt);
+    let entries = put_again(&rt, &seed);
+    assert!(rt; entries == put_again(&rt, &seed));
+    let mut turned = Entries::new(rt.alloc(), &seed);
+    put(&rt, &mut turned, b"b", integer(&rt, 2));
+    assert!(rt; entries != turned);
+    put(&rt, &mut turned, b"a", integer(&rt, 3));
+    assert!(rt; entries != turned);
+}
+
+#[test]
 fn entries_may_be_none(rt: HostRuntime) {
     let entries = Entries::<Bare>::new(rt.alloc(), &seed(&rt));
     assert!(rt; entries.is_empty());

@@ -6,12 +6,14 @@ use std::process::Abort;
 fn sequences_are_copied(rt: HostRuntime) {
     let seed = seed(&rt);
     let items = one_and_two(&rt, &seed).items;
-    let twin = items.copy(rt.alloc(), &seed).expect(&rt, "room");
-    assert!(rt; items.same(&twin));
+    let mut twin = items.copy(rt.alloc(), &seed).expect(&rt, "room");
+    assert!(rt; items.same(&twin) && items == twin);
     assert_eq!(rt;
         (twin.len(), twin.as_slice().len(), twin.is_empty()),
         (2, 2, false)
     );
+    assert_eq!(rt; twin.pop().as_ref().map(number_of), Some(2));
+    assert!(rt; items != twin);
 }
 
 fn number_of(item: &Item) -> i64 {

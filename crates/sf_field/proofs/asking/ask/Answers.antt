@@ -1,11 +1,5 @@
 use Rattle.sf_field.proofs.Normals.{means_as_canonical}
 use Rattle.sf_field.proofs.asking.ask.Goals as goal
 
-pub returns-in_err-field-clause-canonical : goal.returns-in_err-field-clause-canonical
-returns-in_err-field-clause-canonical g c = means_as_canonical _ _ c.args.lines.now
-
-pub returns-in_err-answer-clause-canonical : goal.returns-in_err-answer-clause-canonical
-returns-in_err-answer-clause-canonical g c = means_as_canonical _ _ c.args.lines.now
-
 pub returns-clause-canonical : goal.returns-clause-canonical
 returns-clause-canonical g c = means_as_canonical _ _ c.args.lines.now
