@@ -6,7 +6,6 @@ use Rattle.sf_tool.specs.OneLine.{IsLineFault, FindsNoRoom}
 use Rattle.sf_tool.specs.Lines.{trim, lines_of}
 use Rattle.sf_tool.proofs.Room.{IsListedMap-empty, IsListedMap-adds, many-names}
 use Rattle.sf_tool.proofs.LineByLine.{ReadsOn, reads_on-start, reads_on-adds, reads_on-refused}
-use Rattle.sf_tool.proofs.LineByLine.{reads_on-done}
 use Rattle.sf_tool.proofs.fields.read_fields.Goals as goal
 
 -- the lines from the first on

@@ -1,6 +1,6 @@
 use Rattle.std.proofs.Common.{ap, refl}
 use Rattle.sf_tool.specs.Tree.{param_lines}
-use Rattle.sf_write.proofs.Following.{then, remains_less, remains_none}
+use Rattle.sf_write.proofs.Following.{remains_less, remains_none}
 use Rattle.sf_tool.proofs.tree.put_params.Goals as goal
 
 pub loop-key-preserved : goal.loop-key-preserved
