@@ -1,6 +1,6 @@
 -- The first line of a text, and how long lines are.
-use Rattle.std.proofs.Common.{◌≡◌, ℕ, ◌+◌, ◌<◌, ◌≤◌, false, List, [], ◌∷◌, ◌++◌, length}
-use Rattle.std.proofs.Common.{◌-◌, length-drop, length-take, refl, ◌∙◌, ap, arith, length-append}
+use Rattle.std.proofs.Common.{◌≡◌, ℕ, ◌<◌, ◌≤◌, false, List, [], ◌∷◌, length}
+use Rattle.std.proofs.Common.{◌-◌, length-drop, length-take, refl, ◌∙◌, ap, arith}
 use Rattle.std.specs.Prelude.{All}
 use Rattle.std.specs.List.{prefix_len, suffix_len, slice_split, position_or_len}
 use Rattle.std.specs.List.{before_first, after_first}

@@ -11,7 +11,7 @@ use Rattle.sf_value.specs.Grammar.Lines.{join}
 use Rattle.sf_parse.specs.declared.refusal.Refusal.{Refusal}
 use Rattle.sf_parse.specs.declared.refusal.Refusal.TheVariants.{OutOfMemory, Syntax, TooLong}
 use Rattle.sf_parse.specs.declared.refusal.Refusal.TheVariants.{ReadFault}
-use Rattle.sf_parse.specs.Parsers.{IsOnly, IsSyntax}
+use Rattle.sf_parse.specs.Parsers.{IsSyntax}
 use Rattle.sf_write.specs.Writing.{Wrote}
 use Rattle.sf_field.specs.Asking.{Asks}
 use Rattle.sf_field.specs.Lines.{ParsesLines}

@@ -1,5 +1,5 @@
 -- What the steps of reading the words tell of a command that clap found in them.
-use Rattle.std.specs.Prelude.{◌≡◌, ◌≤◌, List, length, Some, codes, ⊤}
+use Rattle.std.specs.Prelude.{◌≡◌, ◌≤◌, List, length, Some, codes}
 use Rattle.clap.specs.Walk.{Row, Text, all_of}
 use Rattle.sf_tool.specs.declared.request.Request.{Request}
 use Rattle.sf_tool.specs.declared.request.Request.TheVariants.{Show, Check, Normalise, CacheStatus}
