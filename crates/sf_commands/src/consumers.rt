@@ -43,7 +43,8 @@ fn cache_status(rt: HostRuntime) -> Result<(), Fail> {
         ),
         (
             b"e;fwd=miss;detail=\"d\";key=\"k\\\"\";ttl=7;collapsed;stored=?0;fwd-status=200",
-            b"hop 0 e forwarded miss status=200 stored=?0 collapsed=?1 ttl=7 key=\"k\\\"\" detail=\"d\"\nserved none\n",
+            b"hop 0 e forwarded miss status=200 stored=?0 collapsed=?1 ttl=7 key=\"k\\\"\" detail=\"d\"\n\
+              served none\n",
             ACCEPTED,
         ),
         (b"7;hit", b"refused not a cache 0\n", REFUSED),

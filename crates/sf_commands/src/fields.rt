@@ -141,7 +141,8 @@ fn shows(rt: HostRuntime) -> Result<(), Fail> {
     let dicts: [Row; 2] = [
         (
             b"a=1,b;x, a=(1  2 );y=:YQ:",
-            b"dict 2\n  a = inner 2\n    integer 1\n    integer 2\n    ; y bytes :YQ==:\n  b = boolean ?1\n    ; x boolean ?1\n",
+            b"dict 2\n  a = inner 2\n    integer 1\n    integer 2\n    ; y bytes :YQ==:\n  \
+              b = boolean ?1\n    ; x boolean ?1\n",
             ACCEPTED,
         ),
         (
@@ -163,7 +164,8 @@ fn shows(rt: HostRuntime) -> Result<(), Fail> {
         (b"", b"list 0\n", ACCEPTED),
         (
             b"\"s\", (tok;p @1);r=%\"f%c3%bc\", ?0",
-            b"list 3\n  string \"s\"\n  inner 2\n    token tok\n      ; p boolean ?1\n    date @1\n    ; r display %\"f%c3%bc\"\n  boolean ?0\n",
+            b"list 3\n  string \"s\"\n  inner 2\n    token tok\n      ; p boolean ?1\n    date @1\n    \
+              ; r display %\"f%c3%bc\"\n  boolean ?0\n",
             ACCEPTED,
         ),
     ];

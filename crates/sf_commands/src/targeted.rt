@@ -58,7 +58,8 @@ fn fields_of_one_name(rt: HostRuntime) -> Result<(), Fail> {
         ),
         (
             b"cdn-cache-control: must-revalidate, no-store, no-cache=\"x\", private=(a b), max-age=1",
-            b"field 0 cdn-cache-control\nlifetime shared 1\nlifetime private 1\nmust-revalidate\nno-store\nno-cache\nprivate\n",
+            b"field 0 cdn-cache-control\nlifetime shared 1\nlifetime private 1\n\
+              must-revalidate\nno-store\nno-cache\nprivate\n",
             ACCEPTED,
         ),
     ];
