@@ -2,8 +2,8 @@
 use crate::building::seed;
 use http_header::{HeaderMap, HeaderName, HeaderValue};
 use sf_field::{
-    from_headers, header_value, normalise_lines, parse_dict_lines, parse_from, parse_item_lines,
-    parse_lines, parse_lines_in, parse_list_lines, set_field,
+    from_headers, header_value, normalise_lines, parse_dict_lines, parse_item_lines, parse_lines,
+    parse_lines_in, parse_list_lines, set_field,
 };
 use sf_parse::{Parser, Refusal, parse_dict, parse_item, parse_list, parse_text};
 use sf_value::{Blob, Dialect, Field, Kind};
@@ -122,8 +122,6 @@ fn parses_lines(rt: HostRuntime) {
         (Kind::Item, &[b"1", b"2"], Err(refusal)),
     ] {
         let field = parse_lines(rt.alloc(), &seed, kind, &lines_of(&rt, lines));
-        check(&rt, text_of(&rt, field), want);
-        let field = parse_from(rt.alloc(), &seed, Dialect::Rfc9651, kind, lines.iter());
         check(&rt, text_of(&rt, field), want);
     }
 }
