@@ -54,13 +54,6 @@ fed_refused o p q e all left piece more l s f =
     (append_assoc l.front piece more ∙ sym (l.split ∙ ap (λ z. l.front ++ z) s))
     (fed_before o q e (l.front ++ piece) more (fed_after o p q (Err e) l.front piece l.fed f))
 
--- nothing is left
-pub fed_all : (o p : Progress) (all left : List ℕ) → FedSoFar o p all left → left ≡ []
-    → Fed o p (Ok tt) all
-fed_all o p all left l e =
-    subst (Fed o p (Ok tt))
-    (sym (l.split ∙ ap (λ z. l.front ++ z) e ∙ append-nil l.front)) l.fed
-
 -- of one line, it is still to come and no line was fed; or none is left
 abbrev pub Alone : List ℕ → Bool → List (List ℕ) → Type 0
 Alone line after left = ((left ≡ line ∷ []) × (after ≡ false)) ⊎ (left ≡ [])

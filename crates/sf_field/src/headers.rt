@@ -1,10 +1,10 @@
 //! Field lines in a header map.
-ghost use Rattle.std.specs.Prelude.{◌≡◌, ℕ, List, [], ◌∷◌, map, IfErr};
+ghost use Rattle.std.specs.Prelude.{◌≡◌, ℕ, List, [], ◌∷◌, IfErr};
 ghost use Rattle.sf_value.specs.Grammar.Words.{Every};
 ghost use Rattle.sf_value.specs.declared.value.Kind.TheVariants as kind_is;
 ghost use Rattle.sf_parse.specs.Plain.{plain_byte};
 ghost use Rattle.sf_parse.specs.PlainParsers.{IsOther};
-ghost use Rattle.sf_field.specs.Headers.{ParsesHeaders, lines_under};
+ghost use Rattle.sf_field.specs.Headers.{ParsesHeaders, lines_under, value_lines};
 
 use crate::lines::{FieldLines, parse_from};
 use http_header::{HeaderMap, HeaderName, HeaderValue, ValueIter};
@@ -15,7 +15,7 @@ use std::hash::RandomState;
 
 /// The values of a name, which a header map keeps, are field lines.
 impl<'a> FieldLines<'a> for ValueIter<'a, HeaderValue> {
-    ghost lines = { λ values. map (λ v. v.bytes) values };
+    ghost lines = { value_lines };
 
     fn next_line(&mut self) -> Option<&'a [u8]> {
         let value = self.next()?;

@@ -1,14 +1,15 @@
 -- Lemmas on a value that is changed in its place.
 use Rattle.std.proofs.Common.{◌≡◌, ℕ, suc, Bool, true, false, cond, List, [], ◌∷◌, map, Vec, refl}
 use Rattle.std.proofs.Common.{Option, Some, None, sym, ap, ◌∙◌, subst, slice_get, zero}
+use Rattle.std.proofs.Common.{arith, ◌+◌, ◌-◌, ◌<◌, length, MutBor}
 use Rattle.std.proofs.Math.ListN.{length-set}
 use Rattle.std.specs.List.{IsDistinct, position, slice_set}
 use Rattle.std.specs.Map.{keys_of, values_of, set_value}
 use Rattle.std.specs.Vec.{with_item}
 use Rattle.std.specs.declared.alloc.Global.{Global}
-use Rattle.std.specs.Option.{option_map}
+use Rattle.std.specs.Option.{option_map, option_copied_mut}
 use Rattle.std.specs.Str.{bytes_eq}
-use Rattle.indexmap.specs.Layout.{set_value_at}
+use Rattle.indexmap.specs.Layout.{set_value_at, length-set_value_at}
 use Rattle.sf_value.specs.declared.store.Slot.{Slot}
 use Rattle.sf_value.specs.declared.store.Store.{Store}
 use Rattle.sf_value.specs.declared.store.Store.TheVariants.{Fresh, Few, Many}
@@ -122,6 +123,24 @@ module _ {V : Type 0} where
       by None e = rw e h
       by (Some s) e = rw (e, length-set {A = Slot V}) h
   seed-set (Many m) i w h = h
+
+  -- the reference that was lent
+  pub record IsLent (r : Option (MutBor V)) : Type 0 where
+    pub value : MutBor V
+    pub is : r ≡ Some value
+
+  -- within the entries a value is lent
+  pub lent-within : (r : Option (MutBor V)) (ps : Pairs V) (i : ℕ) → i < length ps
+      → option_copied_mut r ≡ option_map (λ e. e.1) (slice_get ps i) → IsLent r
+  lent-within (Some x) ps i h e = record { value = x; is = refl }
+  lent-within None [] i h e = absurd (omega (arith, h))
+  lent-within None (p ∷ ps) zero h e = absurd cc
+  lent-within None (p ∷ ps) (suc i) h e = lent-within None ps i (omega (arith, h)) e
+
+  -- and one fewer is left behind it
+  pub fewer-left : (ps : Pairs V) (i : ℕ) (w : V) → i < length ps
+      → length (set_value_at ps i w) - (i + 1) < length ps - i
+  fewer-left ps i w h = omega (arith, h, length-set_value_at ps i w)
 
   -- the values at an index, in a vector and in a map
   pub few-set : (slots : Vec (Slot V) Global) (i : ℕ) (s : Slot V) (w : V)

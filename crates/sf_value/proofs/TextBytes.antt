@@ -24,7 +24,7 @@ use Rattle.sf_value.specs.Grammar.Numbers.{sign, SpellsInteger, SpellsDecimal}
 use Rattle.sf_value.specs.Grammar.Strings.{is_escaped, escaped}
 use Rattle.sf_value.specs.Grammar.Tokens.{IsKey}
 use Rattle.sf_value.specs.Grammar.ByteSequences.{alphabet, letter, unpadded, spare}
-use Rattle.sf_value.specs.Grammar.DisplayStrings.{hex, is_plain, Pieces}
+use Rattle.sf_value.specs.Grammar.DisplayStrings.{hex, Pieces}
 use Rattle.sf_value.specs.Grammar.BareItems.{SpellsBare}
 use Rattle.sf_value.specs.Grammar.Parameters.{SpellsValue, SpellsRaw, SpellsParams}
 use Rattle.sf_value.specs.Grammar.Items.{SpellsItem}

@@ -1,5 +1,6 @@
 -- What a value ends as whose parts were lent to be changed.
-use Rattle.std.specs.Prelude.{ℕ, List, ◌++◌, length, take, drop, slice_get, Option}
+use mir.Syntax.{named}
+use Rattle.std.specs.Prelude.{ℕ, List, [], ◌++◌, ◌+◌, ◌-◌, length, take, drop, slice_get, Option}
 use Rattle.std.specs.Borrow.{Lends, LendsIf, Fml, RattleType, MutBor, Array}
 use Rattle.std.specs.Box.{with_value}
 use Rattle.std.specs.Map.{set_value}
@@ -11,6 +12,8 @@ use Rattle.indexmap.specs.Layout.{set_value_at}
 use Rattle.sf_value.specs.declared.store.Slot.{Slot}
 use Rattle.sf_value.specs.declared.store.Store.{Store}
 use Rattle.sf_value.specs.declared.store.Store.TheVariants.{Fresh, Few, Many}
+use Rattle.sf_value.specs.declared.entries.IterMut.{IterMut}
+use Rattle.sf_value.specs.contracts.entries.IterMut.{the_row as iter_mut_row}
 use Rattle.sf_value.specs.contracts.store.Store.{the_row as store_row}
 use Rattle.sf_value.specs.contracts.entries.Entries.{the_row as entries_row}
 use Rattle.sf_value.specs.contracts.sequence.Sequence.{the_row as sequence_row}
@@ -50,3 +53,28 @@ LendsValue V e k r = LendsIf (entries_row V) V e r (set_value (bytes_eq k) e.now
 abbrev pub LendsValueAt : (V : RattleType) → MutBor (Pairs V.Denot) → ℕ → Option (MutBor V.Denot)
     → Fml
 LendsValueAt V e i r = LendsIf (entries_row V) V e r (set_value_at e.now i) e.now
+
+module _ {V : Type 0} where
+  -- the entries whose values are lent one after another
+  abbrev pub lent_entries : IterMut V → MutBor (Pairs V)
+  lent_entries values = values.entries
+
+  -- the place of the value that comes next
+  abbrev pub lent_index : IterMut V → ℕ
+  lent_index values = values.index
+
+  -- how many values are still to come
+  abbrev pub values_left : IterMut V → ℕ
+  values_left values = length values.entries.now - values.index
+
+  -- that value is w, and the one behind it comes next
+  abbrev pub with_lent : IterMut V → V → IterMut V
+  with_lent values w = record {
+    entries = record values.entries { now = set_value_at values.entries.now values.index w };
+    index = values.index + 1;
+  }
+
+-- once the borrow r ends, the value that came next is what r shows last; at `None` nothing changes
+abbrev pub LendsNext : (V : RattleType) → MutBor (IterMut V.Denot) → Option (MutBor V.Denot) → Fml
+LendsNext V s r =
+    LendsIf (iter_mut_row (record { mir = named 1; lft = [] }) V) V s r (with_lent s.now) s.now

@@ -1,9 +1,10 @@
 //! Entries in order, by key (RFC 9651 sections 3.1.2 and 3.2).
 ghost use Rattle.std.specs.Prelude.{◌≡◌, ℕ, List, [], ◌∷◌, ◌++◌, None, length, slice_get, ◌↔◌};
-ghost use Rattle.std.specs.Prelude.{IsTrue, IsSome, IfOk, IfErr, OnOk, OnErr};
+ghost use Rattle.std.specs.Prelude.{IsTrue, IsSome, IfSome, IfOk, IfErr, OnOk, OnErr, ◌<◌};
 ghost use Rattle.std.specs.Option.{option_map, option_copied, option_copied_mut};
 ghost use Rattle.std.specs.Borrow.{sem};
-ghost use Rattle.sf_value.specs.Lending.{LendsValue, LendsValueAt};
+ghost use Rattle.sf_value.specs.Lending.{LendsValue, LendsValueAt, LendsNext};
+ghost use Rattle.sf_value.specs.Lending.{lent_entries, lent_index, with_lent, values_left};
 ghost use Rattle.sf_value.specs.Grammar.Pairs.{settle, without, value_at};
 ghost use Rattle.sf_value.specs.Entries.{deref_entry, AreEntries};
 ghost use Rattle.sf_value.specs.Deciding.{pairs_decide};
@@ -16,6 +17,7 @@ use crate::key::Key;
 use crate::part::Part;
 use crate::store::{Left, Lent, Slot, Store};
 use std::alloc::Global;
+use std::fmt;
 use std::hash::RandomState;
 use std::marker::Model;
 
@@ -49,7 +51,7 @@ impl<V> Model for Entries<V> {
 }
 
 /// The entries that an iteration by reference has left, each as its key's bytes and its value.
-#[derive(Drop)]
+#[derive(Debug, Drop)]
 pub struct Iter<'a, V> {
     lent: Lent<'a, V>,
 }
@@ -61,6 +63,15 @@ impl<'a, V> Model for Iter<'a, V> {
     ghost Value = { List (List ℕ × V) };
 
     ghost view = { λ a. lent_pairs a.lent };
+}
+
+/// Lends the values of entries in order, each to be changed. One is lent at a time, so that it is
+/// known what became of the entries. A loop is `while let Some(value) = values.next()`, and what
+/// gets less each time is `values_left`, in `specs/Lending`.
+#[derive(Debug, Drop)]
+pub struct IterMut<'a, V> {
+    entries: &'a mut Entries<V>,
+    index: usize,
 }
 
 /// The entries that an iteration by value has left, each as its key and its value.
@@ -178,6 +189,56 @@ impl<V> Entries<V> {
             lent: self.store.iter(),
         }
     }
+
+    /// The values in order, to be changed one after another. It takes no memory.
+    ///
+    /// ```
+    /// let mut values = entries.iter_mut();
+    /// while let Some(value) = values.next() {
+    ///     *value = Bare::Boolean(true);
+    /// }
+    /// ```
+    pub fn iter_mut(&mut self) -> IterMut<'_, V>
+        // what is changed through it is changed in these entries
+        ensures same { (lent_entries result).ghost_name ≡ self.entry.ghost_name }
+        ensures entries { (lent_entries result).now ≡ self.old }
+        ensures first { lent_index result ≡ 0 }
+    {
+        IterMut {
+            entries: self,
+            index: 0,
+        }
+    }
+}
+
+impl<'a, V> IterMut<'a, V> {
+    /// The bytes of the key whose value comes next; `None` behind the last. It takes no memory.
+    pub fn key(&self) -> Option<&[u8]>
+        ensures { option_copied result ≡ option_map (λ entry. entry.0)
+            (slice_get (lent_entries self.now).now (lent_index self.now)) }
+    {
+        let (key, _) = self.entries.at(self.index)?;
+        Some(key)
+    }
+
+    /// The next value, to be changed; `None` behind the last. It takes no memory.
+    pub fn next(&mut self) -> Option<&mut V>
+        // what it ends as is the value of its key, and the one behind it comes next; all else is as
+        // it was
+        ensures* writes_back { sem 𝓛 (LendsNext V.row self.entry result) }
+        ensures value { option_copied_mut result ≡ option_map (λ entry. entry.1)
+            (slice_get (lent_entries self.old).now (lent_index self.old)) }
+        // whatever it ends as, fewer are left: so a loop ends
+        ensures fewer { IfSome result (λ _. (w : V)
+            → values_left (with_lent self.old w) < values_left self.old) }
+    {
+        let index = self.index;
+        if index >= self.entries.len() {
+            return None;
+        }
+        self.index = index + 1;
+        self.entries.at_mut(index)
+    }
 }
 
 impl<V: Drop> Entries<V> {
@@ -286,6 +347,13 @@ impl<V: Drop> Iterator for IntoIter<V> {
                 return entries.next();
             }
         }
+    }
+}
+
+// What is left in a map can't be looked at without being taken.
+impl<V> fmt::Debug for IntoIter<V> {
+    fn fmt<W: fmt::Write>(&self, f: &mut fmt::Formatter<W>) -> fmt::Result {
+        f.write_str("IntoIter { .. }")
     }
 }
 

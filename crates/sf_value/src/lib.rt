@@ -57,7 +57,7 @@ pub use bytes::ShortBytes;
 pub use device::{Failed, Reading, Sink, Source, Writing};
 pub use dialect::Dialect;
 pub use display_string::{Shown, stands_for_itself};
-pub use entries::{Entries, IntoIter, Iter};
+pub use entries::{Entries, IntoIter, Iter, IterMut};
 pub use fault::{OutOfMemory, OutOfRange, TextFault};
 pub use key::{Key, can_be_in_key, can_start_key};
 pub use number::{Int, Thousandths};

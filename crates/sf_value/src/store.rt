@@ -45,7 +45,7 @@ pub(crate) enum Store<V> {
 }
 
 /// The entries that an iteration by reference has left.
-#[derive(Drop)]
+#[derive(Debug, Drop)]
 pub(crate) enum Lent<'a, V> {
     Nothing,
     Few(slice::Iter<'a, Slot<V>>),

@@ -70,7 +70,7 @@ impl Canonical for Bare {
 }
 
 /// A value whose `Display` is its canonical text: what [`display`] gives.
-#[derive(Clone, Copy, Drop)]
+#[derive(Clone, Copy, Debug, Drop)]
 pub struct Displayed<'a, T> {
     value: &'a T,
 }

@@ -191,6 +191,50 @@ fn each_value_is_changed_in_place(rt: HostRuntime) {
     }
 }
 
+/// Adds 1000 to each value in turn, behind a look at its key.
+fn raise_all(rt: &(impl Abort + AllocGlobal), entries: &mut Entries<Bare>, count: u8) {
+    let mut values = entries.iter_mut();
+    for place in 0..count {
+        assert_eq!(rt; values.key(), Some(key_at(rt, place).as_slice()));
+        match values.next() {
+            Some(value) => *value = integer(rt, value_of(place).saturating_add(1000)),
+            None => panic!(rt; "no value"),
+        }
+    }
+    assert!(rt; values.key().is_none());
+    assert!(rt; values.next().is_none());
+    assert!(rt; values.next().is_none());
+}
+
+#[test]
+fn values_are_lent_in_turn(rt: HostRuntime) {
+    let seed = seed(&rt);
+    for count in 0..21u8 {
+        let mut entries = all_but(&rt, &seed, count, None);
+        raise_all(&rt, &mut entries, count);
+        look_up_raised(&rt, &entries, count);
+    }
+}
+
+/// Puts a value in the place of each.
+fn fill_with(rt: &(impl Abort + AllocGlobal), entries: &mut Entries<Bare>, number: i64) {
+    let mut values = entries.iter_mut();
+    while let Some(value) = values.next() {
+        *value = integer(rt, number);
+    }
+}
+
+#[test]
+fn a_loop_changes_all_values(rt: HostRuntime) {
+    let seed = seed(&rt);
+    for count in 0..21u8 {
+        let mut entries = all_but(&rt, &seed, count, None);
+        fill_with(&rt, &mut entries, 7);
+        assert!(rt; entries.iter().all(|entry| number_in(entry.1) == Some(7)));
+        assert_eq!(rt; entries.len(), usize::from(count));
+    }
+}
+
 #[test]
 fn values_are_small(rt: HostRuntime) {
     assert_eq!(rt; mem::size_of::<Entries<Bare>>(), 32);
