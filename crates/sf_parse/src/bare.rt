@@ -24,7 +24,7 @@ use std::marker::Model;
 use std::mem;
 
 /// The types of bare items; a number is an Integer or a Decimal.
-#[derive(Clone, Copy, Debug, PartialEq, Eq)]
+#[derive(Clone, Copy)]
 pub enum BareKind {
     Number,
     Text,
@@ -37,7 +37,7 @@ pub enum BareKind {
 
 /// What was read of a bare item. Its kind says which of the other fields count; all that is made of
 /// bytes gathers them in `bytes`.
-#[derive(Debug, Drop)]
+#[derive(Drop)]
 pub struct BareReader {
     kind: BareKind,
     number: NumberReader,

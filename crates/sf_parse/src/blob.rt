@@ -13,7 +13,7 @@ use crate::sets::{BASE64, COLON, EQUALS, set_if};
 use sf_value::{OutOfMemory, ShortBytes};
 
 /// The values of the characters of an open group of base64.
-#[derive(Clone, Copy, Debug, PartialEq, Eq)]
+#[derive(Clone, Copy)]
 pub enum Held {
     H0,
     H1(u8),
@@ -22,7 +22,7 @@ pub enum Held {
 }
 
 /// Where in a byte sequence the text is, behind its opening colon.
-#[derive(Clone, Copy, Debug, PartialEq, Eq)]
+#[derive(Clone, Copy)]
 pub enum BlobPhase {
     /// In a group.
     Group(Held),
@@ -170,7 +170,7 @@ impl BlobPhase {
         // The byte sequence may end exactly then, whatever was read before.
         ensures { (bytes : List ℕ) → result ≡ blob_ends (blob_of self bytes) }
     {
-        self == BlobPhase::Ended
+        matches!(self, BlobPhase::Ended)
     }
 }
 

@@ -8,7 +8,7 @@ ghost use Rattle.sf_parse.specs.Machine.Tests.{boolean_takes, boolean_ends};
 use crate::sets::BITS;
 
 /// What was read of a boolean.
-#[derive(Clone, Copy, Debug, PartialEq, Eq)]
+#[derive(Clone, Copy)]
 pub enum BooleanState {
     /// Behind the question mark.
     Asked,

@@ -52,7 +52,7 @@ pub trait Piece<G>: Level {
 }
 
 /// Where in pieces with commas the text is.
-#[derive(Clone, Copy, Debug, PartialEq, Eq)]
+#[derive(Clone, Copy)]
 pub enum SeriesPhase {
     /// Before the first piece.
     Begin,
@@ -65,7 +65,7 @@ pub enum SeriesPhase {
 }
 
 /// What was read of pieces with commas: what the whole ones gave, and the piece that is open.
-#[derive(Debug, Drop)]
+#[derive(Drop)]
 pub struct SeriesReader<P, G> {
     phase: SeriesPhase,
     given: G,

@@ -12,7 +12,7 @@ use sf_value::Int;
 use std::marker::Model;
 
 /// What was read of a date behind its `@`: the sign, and the digits.
-#[derive(Debug, Drop)]
+#[derive(Drop)]
 pub struct DateReader {
     begun: bool,
     negative: bool,

@@ -20,14 +20,14 @@ use sf_value::{OutOfMemory, ShortBytes, is_visible};
 
 /// Between two characters, or within one of which `more` bytes come after the next, which lies
 /// from `low` to `high`.
-#[derive(Clone, Copy, Debug, PartialEq, Eq)]
+#[derive(Clone, Copy)]
 pub enum Utf8State {
     Start,
     Wants { more: u8, low: u8, high: u8 },
 }
 
 /// Where in a display string the text is.
-#[derive(Clone, Copy, Debug, PartialEq, Eq)]
+#[derive(Clone, Copy)]
 pub enum ShownPhase {
     /// Behind the `%` before the opening quote.
     Quote,
@@ -42,7 +42,7 @@ pub enum ShownPhase {
 }
 
 /// Where in a display string the text is, and where in a character its bytes so far.
-#[derive(Clone, Copy, Debug, PartialEq, Eq)]
+#[derive(Clone, Copy)]
 pub struct ShownPlace {
     pub phase: ShownPhase,
     pub chars: Utf8State,
@@ -132,7 +132,7 @@ impl ShownPlace {
             }
             ShownPhase::Plain => {
                 if byte == b'"' {
-                    if self.chars != Utf8State::Start {
+                    if !matches!(self.chars, Utf8State::Start) {
                         return Ok(false);
                     }
                     self.phase = ShownPhase::Done;
@@ -255,7 +255,7 @@ impl ShownPlace {
         // The display string may end exactly then, whatever was read before.
         ensures { (bytes : List ℕ) → result ≡ shown_ends (shown_of self.phase bytes self.chars) }
     {
-        self.phase == ShownPhase::Done
+        matches!(self.phase, ShownPhase::Done)
     }
 }
 

@@ -19,7 +19,7 @@ use std::marker::Model;
 use std::mem;
 
 /// Where in a dictionary's member the text is.
-#[derive(Clone, Copy, Debug, PartialEq, Eq)]
+#[derive(Clone, Copy)]
 pub enum EntryPhase {
     /// In its key.
     InKey,
@@ -33,7 +33,7 @@ pub enum EntryPhase {
 
 /// What was read of a dictionary's member. The parameters behind a key alone are read as those of
 /// an item of Boolean true.
-#[derive(Debug, Drop)]
+#[derive(Drop)]
 pub struct EntryReader {
     phase: EntryPhase,
     key: ShortBytes,

@@ -23,7 +23,6 @@ use std::marker::Model;
 
 /// What was read of an item: its bare item, which stays in its reader until the item ends, and its
 /// parameters.
-#[derive(Debug)]
 pub struct ItemReader {
     in_params: bool,
     bare: BareReader,

@@ -25,7 +25,7 @@ use std::marker::Model;
 use std::mem;
 
 /// Where in a member the text is.
-#[derive(Clone, Copy, Debug, PartialEq, Eq)]
+#[derive(Clone, Copy)]
 pub enum MemberPhase {
     /// In an item that is the member.
     One,
@@ -39,7 +39,6 @@ pub enum MemberPhase {
 
 /// What was read of a member: the whole items of an inner list, and the item that is open. The
 /// parameters behind a closing bracket are read by the reader of items.
-#[derive(Debug)]
 pub struct MemberReader {
     phase: MemberPhase,
     item: ItemReader,

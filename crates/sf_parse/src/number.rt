@@ -13,7 +13,7 @@ use std::marker::Model;
 
 /// What was read of a number: the digits of its whole part, or, once the point came, those of its
 /// fraction.
-#[derive(Debug, Drop)]
+#[derive(Drop)]
 pub struct NumberReader {
     negative: bool,
     whole: Option<u64>,

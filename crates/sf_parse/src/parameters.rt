@@ -16,7 +16,7 @@ use std::marker::Model;
 use std::mem;
 
 /// Where in parameters the text is.
-#[derive(Clone, Copy, Debug, PartialEq, Eq)]
+#[derive(Clone, Copy)]
 pub enum ParamsPhase {
     /// Behind a bare item or a parameter.
     Between,
@@ -31,7 +31,7 @@ pub enum ParamsPhase {
 }
 
 /// What was read of parameters: the whole ones, and the key and the value of the one that is open.
-#[derive(Debug, Drop)]
+#[derive(Drop)]
 pub struct ParamsReader {
     phase: ParamsPhase,
     key: ShortBytes,

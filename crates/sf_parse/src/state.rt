@@ -17,7 +17,7 @@ use crate::top::TopReader;
 use sf_value::{Dialect, Field, Kind, OutOfMemory};
 
 /// What was read of a field, by its kind.
-#[derive(Debug, Drop)]
+#[derive(Drop)]
 pub enum FieldState {
     Item(TopReader),
     List(ListReader),

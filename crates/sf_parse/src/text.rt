@@ -14,7 +14,7 @@ use crate::sets::{ESCAPED, VISIBLE};
 use sf_value::{OutOfMemory, ShortBytes, is_visible};
 
 /// Where in a string the text is, behind its opening quote.
-#[derive(Clone, Copy, Debug, PartialEq, Eq)]
+#[derive(Clone, Copy)]
 pub enum TextPhase {
     /// Between the quotes.
     Inside,
@@ -102,6 +102,6 @@ impl TextPhase {
         // The string may end exactly then, whatever was read before.
         ensures { (bytes : List ℕ) → result ≡ text_ends (text_of self bytes) }
     {
-        self == TextPhase::Closed
+        matches!(self, TextPhase::Closed)
     }
 }

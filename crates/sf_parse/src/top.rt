@@ -19,7 +19,7 @@ use std::marker::Model;
 use std::mem;
 
 /// Where around an item the text is.
-#[derive(Clone, Copy, Debug, PartialEq, Eq)]
+#[derive(Clone, Copy)]
 pub enum TopPhase {
     /// Before the item.
     Before,
@@ -30,7 +30,7 @@ pub enum TopPhase {
 }
 
 /// What was read of an item between spaces: the item that is open, and the one that is whole.
-#[derive(Debug, Drop)]
+#[derive(Drop)]
 pub struct TopReader {
     phase: TopPhase,
     item: ItemReader,

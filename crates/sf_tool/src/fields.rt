@@ -12,7 +12,7 @@ use std::alloc::Global;
 use std::hash::RandomState;
 
 /// Why an input gives no header map.
-#[derive(Clone, Copy, Debug, PartialEq, Eq)]
+#[derive(Clone, Copy)]
 pub(crate) enum InputFault {
     /// The line of this number is refused, and none before it. Lines are counted from 0, the empty
     /// ones among them.
@@ -33,7 +33,7 @@ enum FieldLine {
 }
 
 /// Why a line was not taken.
-#[derive(Clone, Copy, Debug, PartialEq, Eq)]
+#[derive(Clone, Copy)]
 enum LineFault {
     Refused,
     OutOfMemory,

@@ -9,7 +9,7 @@ use std::alloc::Global;
 const BLOCK: usize = 262_144;
 
 /// Why not all that a source gives was read.
-#[derive(Clone, Copy, Debug, PartialEq, Eq)]
+#[derive(Clone, Copy)]
 pub(crate) enum ReadAllFault {
     /// No memory was left for the bytes.
     OutOfMemory,
