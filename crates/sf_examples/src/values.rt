@@ -80,6 +80,24 @@ fn a_value_that_is_changed(rt: HostRuntime) -> Result<(), Fail> {
     Ok(())
 }
 
+/// The Item with each of its parameters true.
+fn change_all(mut item: Item) -> Item {
+    let mut values = item.params.iter_mut();
+    while let Some(value) = values.next() {
+        *value = Bare::Boolean(true);
+    }
+    item
+}
+
+#[test]
+fn values_that_are_changed_in_turn(rt: HostRuntime) -> Result<(), Fail> {
+    let alloc = rt.alloc();
+    let seed = RandomState::new(&rt)?;
+    let item = change_all(parse_item(alloc, &seed, b"a;q=1;r=x")?);
+    assert_eq!(&rt; to_string(alloc, &item.into())?.as_str(), "a;q;r");
+    Ok(())
+}
+
 #[test]
 fn equal_values(rt: HostRuntime) -> Result<(), Fail> {
     let alloc = rt.alloc();

@@ -216,25 +216,6 @@ fn values_are_lent_in_turn(rt: HostRuntime) {
     }
 }
 
-/// Puts a value in the place of each.
-fn fill_with(rt: &(impl Abort + AllocGlobal), entries: &mut Entries<Bare>, number: i64) {
-    let mut values = entries.iter_mut();
-    while let Some(value) = values.next() {
-        *value = integer(rt, number);
-    }
-}
-
-#[test]
-fn a_loop_changes_all_values(rt: HostRuntime) {
-    let seed = seed(&rt);
-    for count in 0..21u8 {
-        let mut entries = all_but(&rt, &seed, count, None);
-        fill_with(&rt, &mut entries, 7);
-        assert!(rt; entries.iter().all(|entry| number_in(entry.1) == Some(7)));
-        assert_eq!(rt; entries.len(), usize::from(count));
-    }
-}
-
 #[test]
 fn values_are_small(rt: HostRuntime) {
     assert_eq!(rt; mem::size_of::<Entries<Bare>>(), 32);

@@ -1,5 +1,5 @@
 use Rattle.sf_value.specs.Lending.{values_left}
-use Rattle.sf_calls.proofs.values.forms.fill_with.Given as goal
+use Rattle.sf_examples.proofs.values.change_all.Given as goal
 
 abbrev pub decreases-loop-value : goal.decreases-loop-value
 decreases-loop-value g l = values_left l.values
