@@ -2,22 +2,31 @@
  *
  * usage: bench [SHAPE..]     all shapes, or those named
  *
- * For each shape and size n the time of a text of about n bytes and of one of about 2n: ns a text,
- * the least of five rounds, and the second over the first. A ratio near 2 says that the time grows
- * with the length alone.
+ * For each shape and size n the time of a text of about n bytes and of one of about 2n, ns a text,
+ * and the second over the first. A ratio near 2 says that the time grows with the length alone.
+ *
+ * Each text is timed twice, each time in processes of its own, so that no figure depends on what
+ * malloc kept of the texts before:
+ *
+ *   loop   parsed again and again, the least of five rounds. Small texts find the memory that the
+ *          one before gave back; where malloc gives it back to the system, each takes it anew.
+ *   fresh  parsed once in a process that has parsed only a short text of the shape, the least of
+ *          15 processes. Each text takes all its memory from the system.
  */
 #define _POSIX_C_SOURCE 200809L
 #include <stdint.h>
 #include <stdio.h>
 #include <stdlib.h>
 #include <string.h>
+#include <sys/wait.h>
 #include <time.h>
+#include <unistd.h>
 
 /* Of crates/sf_bench. The kind is 'i', 'l' or 'd'. */
 size_t sf_bench_parse(uint8_t kind, const uint8_t *text, size_t len, size_t times);
 size_t sf_bench_normalise(uint8_t kind, const uint8_t *text, size_t len, size_t times);
 
-enum { ROUNDS = 5, KIB = 1024, LARGEST = 512 * KIB };
+enum { ROUNDS = 5, PROCESSES = 15, KIB = 1024, SHORT = 256, LARGEST = 512 * KIB };
 
 /* A round lasts about as long as this. */
 static const double ROUND_NS = 5e6;
@@ -202,19 +211,55 @@ static double now(void) {
 
 typedef size_t (*call)(uint8_t, const uint8_t *, size_t, size_t);
 
-static double once(call f, uint8_t kind, const uint8_t *text, size_t len, size_t times) {
+static double ns_of(call f, uint8_t kind, const struct text *t, size_t times) {
   double start = now();
-  f(kind, text, len, times);
+  f(kind, (const uint8_t *)t->bytes, t->len, times);
   return (now() - start) / (double)times;
 }
 
 /* ns of a call, the least of the rounds. */
-static double least(call f, uint8_t kind, const uint8_t *text, size_t len) {
-  double guess = once(f, kind, text, len, 3);
-  size_t times = (size_t)(ROUND_NS / (guess + 1)) + 1;
-  double best = guess;
+static double in_a_loop(call f, uint8_t kind, const struct text *t) {
+  double best = ns_of(f, kind, t, 3);
+  size_t times = (size_t)(ROUND_NS / (best + 1)) + 1;
   for (int i = 0; i < ROUNDS; ++i) {
-    double spent = once(f, kind, text, len, times);
+    double spent = ns_of(f, kind, t, times);
+    if (spent < best) best = spent;
+  }
+  return best;
+}
+
+static double once(call f, uint8_t kind, const struct text *t) { return ns_of(f, kind, t, 1); }
+
+/* Not a time: what the call answers. */
+static double answer(call f, uint8_t kind, const struct text *t) {
+  return (double)f(kind, (const uint8_t *)t->bytes, t->len, 1);
+}
+
+/* What is measured in a process of its own, behind a call for the short text. */
+static double apart(double (*measure)(call, uint8_t, const struct text *), call f, uint8_t kind,
+                    const struct text *before, const struct text *t) {
+  double measured = 0;
+  int ends[2];
+  if (pipe(ends)) abort();
+  pid_t child = fork();
+  if (child < 0) abort();
+  if (child == 0) {
+    once(f, kind, before);
+    measured = measure(f, kind, t);
+    _exit(write(ends[1], &measured, sizeof measured) != sizeof measured);
+  }
+  close(ends[1]);
+  if (read(ends[0], &measured, sizeof measured) != sizeof measured) abort();
+  close(ends[0]);
+  waitpid(child, NULL, 0);
+  return measured;
+}
+
+/* ns of a call that takes all its memory anew, the least of the processes. */
+static double fresh(call f, uint8_t kind, const struct text *before, const struct text *t) {
+  double best = apart(once, f, kind, before, t);
+  for (int i = 1; i < PROCESSES; ++i) {
+    double spent = apart(once, f, kind, before, t);
     if (spent < best) best = spent;
   }
   return best;
@@ -226,46 +271,61 @@ static int is_chosen(const char *name, int argc, char **argv) {
   return argc < 2;
 }
 
-static double figures(call f, uint8_t kind, const struct text *one, const struct text *two) {
-  double first = least(f, kind, (const uint8_t *)one->bytes, one->len);
-  double second = least(f, kind, (const uint8_t *)two->bytes, two->len);
-  printf(" %11.0f %11.0f %6.2f", first, second, second / first);
-  return second / first;
+/* The largest ratio of 2n to n so far. */
+struct largest {
+  double loop, fresh;
+};
+
+static void note(double *largest, double ratio) {
+  if (ratio > *largest) *largest = ratio;
+}
+
+static void figures(call f, uint8_t kind, const struct text *before, const struct text *one,
+                    const struct text *two, struct largest *largest) {
+  double first = apart(in_a_loop, f, kind, before, one);
+  double second = apart(in_a_loop, f, kind, before, two);
+  double ratio = fresh(f, kind, before, two) / fresh(f, kind, before, one);
+  printf(" %11.0f %11.0f %5.2f %5.2f", first, second, second / first, ratio);
+  note(&largest->loop, second / first);
+  note(&largest->fresh, ratio);
+}
+
+static void row(const struct shape *shape, size_t size, struct largest *largest) {
+  struct text before = text_new(), one = text_new(), two = text_new();
+  shape->make(&before, SHORT);
+  shape->make(&one, size);
+  shape->make(&two, 2 * size);
+  double accepted = apart(answer, sf_bench_parse, shape->kind, &before, &two);
+  printf("%-18s %6zu %-8s", shape->name, size / KIB, accepted > 0 ? "accepted" : "refused");
+  figures(sf_bench_parse, shape->kind, &before, &one, &two, largest);
+  figures(sf_bench_normalise, shape->kind, &before, &one, &two, largest);
+  printf("\n");
+  free(before.bytes);
+  free(one.bytes);
+  free(two.bytes);
 }
 
 int main(int argc, char **argv) {
-  static const size_t sizes[] = {4 * KIB, 32 * KIB, 128 * KIB, 256 * KIB, LARGEST};
-  double largest = 0;
+  static const size_t sizes[] = {4 * KIB,  8 * KIB,   16 * KIB,  32 * KIB,
+                                 64 * KIB, 128 * KIB, 256 * KIB, LARGEST};
+  struct largest largest = {0, 0};
 
-  printf("%-18s %6s %-8s %11s %11s %6s %11s %11s %6s\n", "ns a text", "n KiB", "answer", "parse n",
-         "2n", "2n/n", "normalise n", "2n", "2n/n");
+  printf("%-18s %6s %-8s %11s %11s %5s %5s %11s %11s %5s %5s\n", "ns a text", "n KiB", "answer",
+         "parse n", "2n", "loop", "fresh", "normalise n", "2n", "loop", "fresh");
   for (size_t s = 0; s < sizeof shapes / sizeof *shapes; ++s) {
-    const struct shape *shape = &shapes[s];
-    if (!is_chosen(shape->name, argc, argv)) continue;
-    for (size_t i = 0; i < sizeof sizes / sizeof *sizes; ++i) {
-      struct text one = text_new(), two = text_new();
-      shape->make(&one, sizes[i]);
-      shape->make(&two, 2 * sizes[i]);
-      size_t accepted = sf_bench_parse(shape->kind, (const uint8_t *)two.bytes, two.len, 1);
-      printf("%-18s %6zu %-8s", shape->name, sizes[i] / KIB, accepted ? "accepted" : "refused");
-      double parse = figures(sf_bench_parse, shape->kind, &one, &two);
-      double normalise = figures(sf_bench_normalise, shape->kind, &one, &two);
-      printf("\n");
-      if (parse > largest) largest = parse;
-      if (normalise > largest) largest = normalise;
-      free(one.bytes);
-      free(two.bytes);
-    }
+    if (!is_chosen(shapes[s].name, argc, argv)) continue;
+    for (size_t i = 0; i < sizeof sizes / sizeof *sizes; ++i) row(&shapes[s], sizes[i], &largest);
   }
-  if (largest > 0) printf("the largest ratio of 2n to n: %.2f\n", largest);
+  if (largest.loop > 0)
+    printf("the largest ratio of 2n to n: %.2f in a loop, %.2f in fresh processes\n", largest.loop,
+           largest.fresh);
 
   if (is_chosen("messages", argc, argv)) {
     printf("\n%-18s %8s %9s  %s\n", "messages: ns a text", "parse", "normalise", "text");
     for (size_t m = 0; m < sizeof messages / sizeof *messages; ++m) {
-      const uint8_t *text = (const uint8_t *)messages[m].text;
-      size_t len = strlen(messages[m].text);
-      double parse = least(sf_bench_parse, messages[m].kind, text, len);
-      double normalise = least(sf_bench_normalise, messages[m].kind, text, len);
+      struct text text = {(char *)messages[m].text, strlen(messages[m].text)};
+      double parse = in_a_loop(sf_bench_parse, messages[m].kind, &text);
+      double normalise = in_a_loop(sf_bench_normalise, messages[m].kind, &text);
       printf("%19c %8.0f %9.0f  %s\n", messages[m].kind, parse, normalise, messages[m].text);
     }
   }
