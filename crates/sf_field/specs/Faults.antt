@@ -3,9 +3,9 @@ use Rattle.std.specs.Prelude.{ℕ, List, ◌++◌, codes, decimal}
 use Rattle.sf_parse.specs.RefusalTexts.{refusal_text}
 use Rattle.sf_field.specs.declared.consumer.UseFault.{UseFault}
 use Rattle.sf_field.specs.declared.consumer.UseFault.TheVariants.{NotACache, OutOfMemory}
-use Rattle.sf_field.specs.declared.setting.SetFault.{SetFault}
-use Rattle.sf_field.specs.declared.setting.SetFault.TheVariants.{Full}
-use Rattle.sf_field.specs.declared.setting.SetFault.TheVariants as set_fault
+use Rattle.sf_field.specs.declared.header_update.SetFault.{SetFault}
+use Rattle.sf_field.specs.declared.header_update.SetFault.TheVariants.{Full}
+use Rattle.sf_field.specs.declared.header_update.SetFault.TheVariants as set_fault
 use Rattle.sf_field.specs.declared.asking.AskFault.{AskFault}
 use Rattle.sf_field.specs.declared.asking.AskFault.TheVariants.{Field, Answer}
 

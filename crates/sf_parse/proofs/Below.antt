@@ -41,7 +41,7 @@ use Rattle.sf_parse.specs.Machine.Tests.{bare_begins, bare_takes, params_takes, 
 use Rattle.sf_parse.specs.Machine.Tests.{item_ends, inner_takes, member_begins, member_takes}
 use Rattle.sf_parse.specs.Machine.Tests.{entry_takes, series_takes, series_ends, takes, may_end}
 use Rattle.sf_parse.specs.StateTests.{NextBelow, SomeNext}
-use Rattle.sf_parse.proofs.Fields.{machine}
+use Rattle.sf_parse.proofs.Machine.Fields.{machine}
 use Rattle.sf_parse.proofs.GrammarLaws.{is_viable}
 use Rattle.sf_parse.proofs.Reached.{reached_nothing, reaches_more}
 use Rattle.sf_parse.proofs.StateTests.{takes_step, may_end_is, takes_next}

@@ -39,7 +39,7 @@ use Rattle.sf_parse.specs.Machine.States.{InDict}
 use Rattle.sf_parse.specs.Machine.Fields.{list_series, dict_series, step}
 use Rattle.sf_parse.specs.Machine.Fields.{finish, begin}
 use Rattle.sf_parse.specs.Laws.{At, OnlyNew}
-use Rattle.sf_parse.proofs.Language.{and_then_cases}
+use Rattle.sf_parse.proofs.Machine.Language.{and_then_cases}
 use Rattle.sf_parse.proofs.GrammarLaws.{is_read, stops_at}
 use Rattle.sf_parse.specs.Machine.Members.{member_start, member_step, member_finish}
 use Rattle.sf_parse.specs.Machine.Entries.{entry_step, entry_finish}

@@ -16,7 +16,7 @@ use Rattle.sf_parse.specs.PlainParsers.{PlainState}
 use Rattle.sf_parse.specs.Fronts.{Front, Went}
 use Rattle.sf_parse.specs.Feeding.{FedTo}
 use Rattle.sf_parse.proofs.Machines
-use Rattle.sf_parse.proofs.Fields.{machine}
+use Rattle.sf_parse.proofs.Machine.Fields.{machine}
 use Rattle.sf_parse.proofs.Fronts.{kept_by_front}
 use Rattle.sf_parse.proofs.PlainSteps.{plain_step}
 use Rattle.sf_parse.proofs.Reached.{reaches_more, reached_viable}

@@ -6,7 +6,7 @@ use Rattle.std.specs.Borrow.{Bor}
 use Rattle.sf_value.specs.Grammar.Words.{Every}
 use Rattle.sf_parse.specs.Machine.Language.{seen, run, Steps}
 use Rattle.sf_parse.specs.Fronts.{Went, FirstIs, Halts, Front, unless}
-use Rattle.sf_parse.proofs.Language.{and_then_cases}
+use Rattle.sf_parse.proofs.Machine.Language.{and_then_cases}
 
 pub run_append : {S : Type 0} (next : S → ℕ → Option S) (s t : S) (p q : List ℕ)
     → run next s p ≡ Some t → run next s (p ++ q) ≡ run next t q

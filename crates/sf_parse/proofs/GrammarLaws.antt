@@ -11,7 +11,7 @@ use Rattle.sf_parse.specs.Laws.{OneValue, IsRead, IsRest, IsViable, IsNext, IsEn
 use Rattle.sf_parse.specs.Laws.{CanonOne, AnyPieces, LinesOne}
 use Rattle.sf_value.proofs.CanonicalTexts.{canon_spells}
 use Rattle.sf_value.proofs.Validity.{spelled_valid}
-use Rattle.sf_parse.proofs.Fields.{machine, begin_good, begins}
+use Rattle.sf_parse.proofs.Machine.Fields.{machine, begin_good, begins}
 
 pub one_value : OneValue
 one_value d kind t v w h k = Machines.unique (machine d) (begin kind) t v w (begin_good kind)

@@ -13,7 +13,7 @@ use Rattle.sf_parse.specs.Views.{utf8_of, shown_of, FitsShown, Leads}
 use Rattle.sf_parse.specs.declared.display_string.Utf8State.{Utf8State}
 use Rattle.sf_parse.specs.declared.display_string.ShownPhase.{ShownPhase}
 use Rattle.sf_parse.specs.declared.display_string.ShownPhase.TheVariants as shown_phase
-use Rattle.sf_parse.proofs.Language.{and_then_cases}
+use Rattle.sf_parse.proofs.Machine.Language.{and_then_cases}
 
 run_push : (x y z : Utf8) (bytes : List ℕ) (b : ℕ) → run utf8_step x bytes ≡ Some y
     → utf8_step y b ≡ Some z → run utf8_step x (bytes ++ b ∷ []) ≡ Some z

@@ -26,7 +26,7 @@ use Rattle.sf_parse.specs.Fronts.{Went, Front, unless}
 use Rattle.sf_parse.specs.ItemView.{with_params}
 use Rattle.sf_parse.specs.MemberView.{closing_of, IsInParams, member_stuck}
 use Rattle.sf_parse.specs.EntryView.{flag_at, IsFlag}
-use Rattle.sf_parse.proofs.Language.{and_then_cases, seen_cases}
+use Rattle.sf_parse.proofs.Machine.Language.{and_then_cases, seen_cases}
 use Rattle.sf_parse.proofs.Fronts.{part_above, went_above, byte_above}
 
 pub space_in_params : (d : Dialect) (ps : Pairs Bare) (b : ℕ) → is_sp b ≡ true

@@ -6,7 +6,7 @@ use Rattle.std.proofs.Math.Seq.{take-append_seam, take-append-add}
 use Rattle.std.proofs.lemmas.Bool.{cases_lt}
 use Rattle.sf_value.specs.Grammar.Lines.{Continues, IsLongest}
 use Rattle.sf_parse.specs.Machine.Language.{and_then, run, Machine}
-use Rattle.sf_parse.proofs.Language.{and_then_cases}
+use Rattle.sf_parse.proofs.Machine.Language.{and_then_cases}
 
 pub take_past : (p q : List ℕ) (b m : ℕ) → length p < m
     → take m (p ++ b ∷ q) ≡ (p ++ b ∷ []) ++ take (m - suc (length p)) q

@@ -26,7 +26,7 @@ use Rattle.sf_parse.specs.Plain.{plain_byte, PlainItem, PlainBare}
 use Rattle.sf_parse.specs.PlainParsers.{PlainState}
 use Rattle.sf_parse.specs.TopView.{StaysPlain}
 use Rattle.sf_parse.proofs.Fronts.{kept_by_run}
-use Rattle.sf_parse.proofs.Language.{seen_cases, onward_cases}
+use Rattle.sf_parse.proofs.Machine.Language.{seen_cases, onward_cases}
 
 -- a plain byte begins no bare item but a number
 no_rest : Dialect → ℕ → Option BareState

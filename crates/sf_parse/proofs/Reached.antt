@@ -13,7 +13,7 @@ use Rattle.sf_parse.specs.Machine.Fields.{Rest, step}
 use Rattle.sf_parse.specs.Reached.{Reached, ReachedNothing, ReachesMore, ReachedViable, ReachedNext}
 use Rattle.sf_parse.specs.Reached.{ReachedEnd}
 use Rattle.sf_parse.specs.Reached.{ReachedStops, ReachedAll}
-use Rattle.sf_parse.proofs.Fields.{machine, begin_good, begins}
+use Rattle.sf_parse.proofs.Machine.Fields.{machine, begin_good, begins}
 
 pub reached_nothing : ReachedNothing
 reached_nothing d kind = record { good = begin_good kind; rest = begins d kind }

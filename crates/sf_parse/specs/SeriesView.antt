@@ -5,8 +5,8 @@ use Rattle.sf_value.specs.Grammar.Words.{allow, otherwise}
 use Rattle.sf_value.specs.Grammar.Classes.{is_sp, is_ows}
 use Rattle.sf_parse.specs.Machine.Language.{onward, seen}
 use Rattle.sf_parse.specs.Machine.Series.{SeriesState, Begin, InPiece, Gap, Comma, gap_step}
-use Rattle.sf_parse.specs.declared.commas.SeriesPhase.{SeriesPhase}
-use Rattle.sf_parse.specs.declared.commas.SeriesPhase.TheVariants as phase
+use Rattle.sf_parse.specs.declared.series.SeriesPhase.{SeriesPhase}
+use Rattle.sf_parse.specs.declared.series.SeriesPhase.TheVariants as phase
 
 -- the phase says whether a piece is open
 abbrev pub series_of : {S V : Type 0} → SeriesPhase → V → S → SeriesState S V

@@ -10,8 +10,8 @@ use Rattle.sf_parse.specs.Machine.Language.{run, and_then}
 use Rattle.sf_parse.specs.Machine.Items.{ItemState, item_step}
 use Rattle.sf_parse.specs.Machine.States.{State, BeforeItem, InTop, AfterItem, InList, InDict}
 use Rattle.sf_parse.specs.Machine.Fields.{step}
-use Rattle.sf_parse.specs.declared.top.TopPhase.{TopPhase}
-use Rattle.sf_parse.specs.declared.top.TopPhase.TheVariants as phase
+use Rattle.sf_parse.specs.declared.item_field.TopPhase.{TopPhase}
+use Rattle.sf_parse.specs.declared.item_field.TopPhase.TheVariants as phase
 
 -- there is one behind a space
 abbrev pub after_of : Option Item → State

@@ -14,13 +14,13 @@ ghost use Rattle.sf_parse.specs.Machine.Fields.{begin as begin_at, step as step_
 ghost use Rattle.sf_parse.specs.Machine.Fields.{finish as finish_of};
 ghost use Rattle.sf_parse.specs.Machine.Tests.{takes as takes_at, may_end as may_end_at};
 
-use crate::commas::SeriesReader;
+use crate::series::SeriesReader;
 use crate::context::Context;
 use crate::entry::EntryReader;
 use crate::level::Level;
 use crate::member::MemberReader;
 use crate::refusal::Refusal;
-use crate::top::TopReader;
+use crate::item_field::TopReader;
 use sf_value::{Dict, Entries, Field, List, Member, OutOfMemory, Sequence};
 
 /// The members of a List that are being read.

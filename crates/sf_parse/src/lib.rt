@@ -21,12 +21,12 @@
 mod bare;
 mod blob;
 mod boolean;
-mod commas;
+mod series;
 mod context;
 mod date;
 mod display_string;
 mod entry;
-mod expectation;
+mod byte_runs;
 mod field;
 mod gathering;
 mod item;
@@ -46,9 +46,9 @@ mod sets;
 mod spots;
 mod state;
 mod text;
-mod top;
+mod item_field;
 
-pub use expectation::{Runs, runs_of};
+pub use byte_runs::{Runs, runs_of};
 pub use parser::Parser;
 pub use parsing::{parse_dict, parse_item, parse_list, parse_text, parse_text_in};
 pub use reader::parse_reader;

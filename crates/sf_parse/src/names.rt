@@ -3,7 +3,7 @@ ghost use Rattle.std.specs.Prelude.{◌≡◌, ◌<◌, [], ◌∷◌, Some, Mat
 ghost use Rattle.sf_parse.specs.Names.{name_at as nth_name, set_of, names_left, names_of};
 ghost use Rattle.sf_parse.specs.Names.{byte_text, name_text, listed, joint as joint_of};
 
-use crate::expectation::Hex;
+use crate::byte_runs::Hex;
 use crate::sets::{BASE64, DIGITS, KEY, LETTERS, LOWER, LOWER_HEX, TOKEN, UPPER, VISIBLE};
 use std::fmt;
 

@@ -11,7 +11,7 @@ ghost use Rattle.sf_parse.specs.PlainParsers.{IsOther, NotForMemory};
 use crate::context::Context;
 use crate::field::{DictReader, ListReader, parse_whole};
 use crate::refusal::Refusal;
-use crate::top::TopReader;
+use crate::item_field::TopReader;
 use sf_value::{Dialect, Dict, Field, Item, Kind, List};
 use std::alloc::Global;
 use std::hash::RandomState;

@@ -6,7 +6,7 @@ ghost use Rattle.sf_parse.specs.Machine.Entries.{entry_start};
 ghost use Rattle.sf_parse.specs.PieceEnds.{with_member, with_entry};
 ghost use Rattle.sf_value.specs.Grammar.Classes.{is_key_start};
 
-use crate::commas::Piece;
+use crate::series::Piece;
 use crate::context::Context;
 use crate::entry::EntryReader;
 use crate::level::Level;

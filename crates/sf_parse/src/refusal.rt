@@ -3,7 +3,7 @@ ghost use Rattle.std.specs.Prelude.{◌≡◌, Some};
 ghost use Rattle.sf_parse.specs.RefusalTexts.{found_text, refusal_text};
 ghost use Rattle.sf_parse.specs.declared.refusal.Refusal.TheVariants as refusal_is;
 
-use crate::expectation::Hex;
+use crate::byte_runs::Hex;
 use crate::names::Expected;
 use sf_value::{OutOfMemory, is_visible};
 use std::error::Error;

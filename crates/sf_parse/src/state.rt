@@ -13,7 +13,7 @@ ghost use Rattle.sf_parse.specs.Machine.Tests.{takes as takes_at, may_end as may
 use crate::context::Context;
 use crate::field::{DictReader, ListReader, WholeField};
 use crate::level::Level;
-use crate::top::TopReader;
+use crate::item_field::TopReader;
 use sf_value::{Dialect, Field, Kind, OutOfMemory};
 
 /// What was read of a field, by its kind.

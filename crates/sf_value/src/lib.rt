@@ -41,7 +41,7 @@ mod fault;
 mod key;
 pub mod laws;
 mod lookup;
-mod naming;
+mod key_hash;
 mod number;
 mod part;
 mod sequence;

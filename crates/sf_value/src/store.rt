@@ -15,7 +15,7 @@ ghost use Rattle.sf_value.specs.Stores.{slot_pairs, stored, HasSeed, lent_pairs,
 
 use crate::fault::OutOfMemory;
 use crate::key::Key;
-use crate::naming::Name;
+use crate::key_hash::Name;
 use crate::table;
 use crate::table::Many;
 use indexmap::{IndexMap, map};

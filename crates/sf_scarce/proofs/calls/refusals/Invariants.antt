@@ -1,8 +1,0 @@
-use Rattle.std.specs.List.{FoldsTo}
-use Rattle.sf_scarce.specs.Calls.{right_then_refused}
-use Rattle.sf_scarce.proofs.calls.refusals.Given as goal
-
-abbrev pub invariant-loop-step : goal.invariant-loop-step
-invariant-loop-step g l =
-    goal.F-IsAlwaysCallable g l.call
-    × FoldsTo (goal.F-step g) l.fn.call (right_then_refused l.step) l.call

@@ -1,0 +1,72 @@
+//! Calls with little memory.
+ghost use Rattle.std.specs.Prelude.{[], ◌∷◌, ◌++◌, IfSome};
+ghost use Rattle.std.specs.List.{FoldsTo};
+ghost use Rattle.sf_test_alloc.specs.declared.calls.Seen.TheVariants as seen_is;
+ghost use Rattle.sf_test_alloc.specs.Calls.{right_then_refused};
+
+use crate::scarcity::{SPARES, STEP, Scarcity};
+use std::alloc::Global;
+
+/// What one call showed.
+#[derive(Clone, Copy, PartialEq, Eq, Debug)]
+pub enum Seen {
+    /// It answered as it does with ample memory.
+    Right,
+    /// It answered want of memory by the name that it has for it, and left behind what it must.
+    Refused,
+    /// Neither.
+    Wrong,
+}
+
+/// Calls once with ample memory and then with ever larger budgets, from none on and each 16 bytes
+/// larger than the one before, and answers how many were refused before one was right. None where
+/// the first call or the one after the refusals was not right, where 65,520 bytes were not enough,
+/// or where memory could not be made scarce. What it took is given back when it returns.
+pub fn refusals<F: FnMut() -> Seen>(alloc: Global, mut call: F) -> Option<usize>
+    // the call can be made again, whatever it did before
+    requires { F.IsAlwaysCallable call }
+    // the calls showed Right, then Refused so many times as is answered, and then Right
+    ensures { IfSome result (λ n. (last : F)
+        × FoldsTo F.step call (right_then_refused n ++ seen_is.Right ∷ []) last) }
+{
+    if call() != Seen::Right {
+        return None;
+    }
+    let Ok(mut scarcity) = Scarcity::new(alloc) else {
+        return None;
+    };
+    for step in 0..SPARES {
+        if !scarcity.leave(alloc, STEP * step) {
+            return None;
+        }
+        match call() {
+            Seen::Refused => {}
+            Seen::Right => return Some(step),
+            Seen::Wrong => return None,
+        }
+    }
+    None
+}
+
+/// Calls once with ample memory and once with none left, and answers what the second call showed.
+/// None where the first was not right, or where memory could not be made scarce. What it took is
+/// given back when it returns.
+pub fn seen_without_memory<F: FnMut() -> Seen>(alloc: Global, mut call: F) -> Option<Seen>
+    // the call can be made again, whatever it did before
+    requires { F.IsAlwaysCallable call }
+    // two calls were made: the first showed Right, the second what is answered
+    ensures { IfSome result (λ seen. (last : F)
+        × FoldsTo F.step call (seen_is.Right ∷ seen ∷ []) last) }
+{
+    if call() != Seen::Right {
+        return None;
+    }
+    let Ok(mut scarcity) = Scarcity::new(alloc) else {
+        return None;
+    };
+    if !scarcity.leave(alloc, 0) {
+        return None;
+    }
+    let seen = call();
+    Some(seen)
+}

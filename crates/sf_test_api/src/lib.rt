@@ -1,0 +1,22 @@
+//! Calls of the libraries on what they are for: values that are made, put together, copied and
+//! written, lines and header maps that are read, and what consumers read of them. What is expected
+//! comes from the RFCs. It has tests alone, a module for each subject: so the libraries are proved
+//! once, and not again with tests of their own.
+//!
+//! Texts that are parsed stand in `sf_test_vectors`, runs of the command in `sf_test_cli`.
+#![tactic(auto)]
+
+#[cfg(test)]
+mod building;
+#[cfg(test)]
+mod cache_status;
+#[cfg(test)]
+mod lines;
+#[cfg(test)]
+mod priority;
+#[cfg(test)]
+mod targeted;
+#[cfg(test)]
+mod values;
+#[cfg(test)]
+mod writing;

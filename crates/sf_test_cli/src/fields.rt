@@ -1,0 +1,232 @@
+//! `show`, `check` and `normalise`.
+use crate::rows::{ACCEPTED, REFUSED, Row, expect_long, expect_rows};
+use sf_test_io::{Paced, Tally};
+use sf_tool::{Request, run};
+use sf_value::{Dialect, Kind};
+use std::alloc::{AllocError, Global};
+use std::hash::RandomState;
+use std::test::Fail;
+
+#[test]
+fn normalises(rt: HostRuntime) -> Result<(), Fail> {
+    let seed = RandomState::new(&rt)?;
+    let items: [Row; 15] = [
+        (b" -0 \n", b"0\n", ACCEPTED),
+        (b"007", b"7\n", ACCEPTED),
+        (b"a/b:c\n", b"a/b:c\n", ACCEPTED),
+        (b"1\r\n", b"1\n", ACCEPTED),
+        (b"\t1 \t\r\n", b"1\n", ACCEPTED),
+        (b":iZ==:", b":iQ==:\n", ACCEPTED),
+        (b"@1", b"@1\n", ACCEPTED),
+        (
+            b"",
+            b"refused at 0 ended expected 20 22 25 2a 2d 30-3a 3f-5a 61-7a\n",
+            REFUSED,
+        ),
+        (b"-", b"refused at 1 ended expected 30-39\n", REFUSED),
+        (b"?2", b"refused at 1 found 0x32 expected 30-31\n", REFUSED),
+        (
+            b"9999999999999999",
+            b"refused at 15 found 0x39 expected 20 3b end\n",
+            REFUSED,
+        ),
+        (
+            b"1\n2\n",
+            b"refused at 1 found 0x2c expected 20 2e 30-39 3b end\n",
+            REFUSED,
+        ),
+        (
+            b"1 2",
+            b"refused at 2 found 0x32 expected 20 end\n",
+            REFUSED,
+        ),
+        (
+            b"a\r",
+            b"refused at 1 found 0x0d expected 20-21 23-27 2a-2b 2d-3b 41-5a 5e-7a 7c 7e end\n",
+            REFUSED,
+        ),
+        (
+            b"\"\xc3\"",
+            b"refused at 1 found 0xc3 expected 20-7e\n",
+            REFUSED,
+        ),
+    ];
+    let request = Request::Normalise(Dialect::Rfc9651, Kind::Item);
+    expect_rows(&rt, &seed, &request, &items);
+    Ok(())
+}
+
+#[test]
+fn normalises_lines(rt: HostRuntime) -> Result<(), Fail> {
+    let seed = RandomState::new(&rt)?;
+    let lists: [Row; 9] = [
+        (b"a\r\n\tb \r\n", b"a, b\n", ACCEPTED),
+        (b"", b"\n", ACCEPTED),
+        (b"\"a\nb\"", b"\"a, b\"\n", ACCEPTED),
+        (b":YQ:,:YQ:", b":YQ==:, :YQ==:\n", ACCEPTED),
+        (
+            b"a\n\n",
+            b"refused at 3 ended expected 09 20 22 25 28 2a 2d 30-3a 3f-5a 61-7a\n",
+            REFUSED,
+        ),
+        (
+            b"a\n ",
+            b"refused at 3 ended expected 09 20 22 25 28 2a 2d 30-3a 3f-5a 61-7a\n",
+            REFUSED,
+        ),
+        (
+            b"a\r",
+            b"refused at 1 found 0x0d expected 09 20-21 23-27 2a-3b 41-5a 5e-7a 7c 7e end\n",
+            REFUSED,
+        ),
+        (
+            b"a\r\r\n",
+            b"refused at 1 found 0x0d expected 09 20-21 23-27 2a-3b 41-5a 5e-7a 7c 7e end\n",
+            REFUSED,
+        ),
+        (
+            b"a\r \n",
+            b"refused at 1 found 0x0d expected 09 20-21 23-27 2a-3b 41-5a 5e-7a 7c 7e end\n",
+            REFUSED,
+        ),
+    ];
+    let request = Request::Normalise(Dialect::Rfc9651, Kind::List);
+    expect_rows(&rt, &seed, &request, &lists);
+    let dicts: [Row; 2] = [
+        (
+            b"a=1,b;x, a=(1  2 );y=:YQ:\n",
+            b"a=(1 2);y=:YQ==:, b;x\n",
+            ACCEPTED,
+        ),
+        (b"", b"\n", ACCEPTED),
+    ];
+    let request = Request::Normalise(Dialect::Rfc9651, Kind::Dict);
+    expect_rows(&rt, &seed, &request, &dicts);
+    Ok(())
+}
+
+#[test]
+fn checks(rt: HostRuntime) -> Result<(), Fail> {
+    let seed = RandomState::new(&rt)?;
+    let items: [Row; 3] = [
+        (b"1", b"accepted\n", ACCEPTED),
+        (b"@1", b"accepted\n", ACCEPTED),
+        (
+            b"1 2",
+            b"refused at 2 found 0x32 expected 20 end\n",
+            REFUSED,
+        ),
+    ];
+    let request = Request::Check(Dialect::Rfc9651, Kind::Item);
+    expect_rows(&rt, &seed, &request, &items);
+    let old_items: [Row; 2] = [
+        (b"1", b"accepted\n", ACCEPTED),
+        (
+            b"@1",
+            b"refused at 0 found 0x40 expected 20 22 2a 2d 30-3a 3f 41-5a 61-7a\n",
+            REFUSED,
+        ),
+    ];
+    let request = Request::Check(Dialect::Rfc8941, Kind::Item);
+    expect_rows(&rt, &seed, &request, &old_items);
+    let old_lists: [Row; 1] = [(b"a\nb\n", b"a, b\n", ACCEPTED)];
+    let request = Request::Normalise(Dialect::Rfc8941, Kind::List);
+    expect_rows(&rt, &seed, &request, &old_lists);
+    Ok(())
+}
+
+#[test]
+fn shows(rt: HostRuntime) -> Result<(), Fail> {
+    let seed = RandomState::new(&rt)?;
+    let dicts: [Row; 2] = [
+        (
+            b"a=1,b;x, a=(1  2 );y=:YQ:",
+            b"dict 2\n  a = inner 2\n    integer 1\n    integer 2\n    ; y bytes :YQ==:\n  \
+              b = boolean ?1\n    ; x boolean ?1\n",
+            ACCEPTED,
+        ),
+        (
+            b"a=",
+            b"refused at 2 ended expected 22 25 28 2a 2d 30-3a 3f-5a 61-7a\n",
+            REFUSED,
+        ),
+    ];
+    let request = Request::Show(Dialect::Rfc9651, Kind::Dict);
+    expect_rows(&rt, &seed, &request, &dicts);
+    let items: [Row; 1] = [(
+        b"5;q=0.5",
+        b"item\n  integer 5\n    ; q decimal 0.5\n",
+        ACCEPTED,
+    )];
+    let request = Request::Show(Dialect::Rfc9651, Kind::Item);
+    expect_rows(&rt, &seed, &request, &items);
+    let lists: [Row; 2] = [
+        (b"", b"list 0\n", ACCEPTED),
+        (
+            b"\"s\", (tok;p @1);r=%\"f%c3%bc\", ?0",
+            b"list 3\n  string \"s\"\n  inner 2\n    token tok\n      ; p boolean ?1\n    date @1\n    \
+              ; r display %\"f%c3%bc\"\n  boolean ?0\n",
+            ACCEPTED,
+        ),
+    ];
+    let request = Request::Show(Dialect::Rfc9651, Kind::List);
+    expect_rows(&rt, &seed, &request, &lists);
+    Ok(())
+}
+
+fn spaces(alloc: Global, count: u64) -> Result<Vec<u8>, AllocError> {
+    let mut bytes = Vec::new(alloc);
+    for _ in 0..count {
+        bytes.push(b' ')?;
+    }
+    Ok(bytes)
+}
+
+#[test]
+fn long_inputs(rt: HostRuntime) -> Result<(), Fail> {
+    let seed = RandomState::new(&rt)?;
+    let longest = spaces(rt.alloc(), 1_048_576)?;
+    let longer = spaces(rt.alloc(), 1_048_577)?;
+    let item = Request::Normalise(Dialect::Rfc9651, Kind::Item);
+    let ended = b"refused at 0 ended expected 20 22 25 2a 2d 30-3a 3f-5a 61-7a\n";
+    expect_long(&rt, &seed, &item, longest.as_slice(), ended, REFUSED);
+    let list = Request::Normalise(Dialect::Rfc9651, Kind::List);
+    expect_long(&rt, &seed, &list, longest.as_slice(), b"\n", ACCEPTED);
+    let too_long = b"refused too long 1048576\n";
+    expect_long(&rt, &seed, &item, longer.as_slice(), too_long, REFUSED);
+    expect_long(&rt, &seed, &list, longer.as_slice(), too_long, REFUSED);
+    Ok(())
+}
+
+/// 1,001 tokens, and spaces before the last one: 1,048,575 bytes.
+fn members(alloc: Global) -> Result<Vec<u8>, AllocError> {
+    let mut bytes = Vec::new(alloc);
+    for _ in 0..1_000u32 {
+        bytes.extend_from_slice(b"a,")?;
+    }
+    let spaces = spaces(alloc, 1_046_574)?;
+    bytes.extend_from_slice(spaces.as_slice())?;
+    bytes.push(b'a')?;
+    Ok(bytes)
+}
+
+#[test]
+fn few_calls(rt: HostRuntime) -> Result<(), Fail> {
+    let seed = RandomState::new(&rt)?;
+    let input = members(rt.alloc())?;
+    assert_eq!(&rt; input.len(), 1_048_575);
+    for (request, written) in [
+        (Request::Check(Dialect::Rfc9651, Kind::List), 9),
+        (Request::Normalise(Dialect::Rfc9651, Kind::List), 3_002),
+        (Request::Show(Dialect::Rfc9651, Kind::List), 10_020),
+    ] {
+        let mut source = Paced::new(input.as_slice(), 1_048_576, 0, 0);
+        let mut sink = Tally::new(rt.alloc());
+        let answer = run(rt.alloc(), &seed, &request, &mut source, &mut sink);
+        assert_eq!(&rt; answer, ACCEPTED);
+        assert_eq!(&rt; sink.taken.len(), written);
+        assert_eq!(&rt; sink.calls, 1);
+        assert_eq!(&rt; source.calls, 5);
+    }
+    Ok(())
+}

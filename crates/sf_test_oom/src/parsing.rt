@@ -1,0 +1,252 @@
+// Texts that are parsed whole, from a reader and in pieces.
+use crate::expecting::{
+    LISTED, MEMBERS, SINGLE, expect_no_need, expect_refusals, padded_number, seen_field, seen_if,
+    seen_minus_seven, seen_syntax,
+};
+use sf_test_io::Paced;
+use sf_parse::{Parser, Refusal, parse_reader, parse_text, parse_text_in};
+use sf_test_alloc::{Scarcity, Seen, refusals};
+use sf_value::{Dialect, Field, Kind};
+use std::alloc::Global;
+use std::hash::RandomState;
+use std::test::Fail;
+
+fn text_refusals(
+    alloc: Global,
+    seed: &RandomState,
+    kind: Kind,
+    text: &[u8],
+) -> Result<Option<usize>, Refusal> {
+    let want = parse_text(alloc, seed, kind, text)?;
+    Ok(refusals(alloc, || {
+        seen_field(parse_text(alloc, seed, kind, text), &want)
+    }))
+}
+
+#[test]
+fn texts(rt: HostRuntime) -> Result<(), Fail> {
+    let seed = RandomState::new(&rt)?;
+    for (kind, text) in [
+        (Kind::Item, SINGLE),
+        (Kind::List, LISTED),
+        (Kind::Dict, MEMBERS),
+    ] {
+        let found = text_refusals(rt.alloc(), &seed, kind, text)?;
+        assert!(rt; found > Some(0), "{found:?}");
+    }
+    Ok(())
+}
+
+fn dialect_refusals(
+    alloc: Global,
+    seed: &RandomState,
+    dialect: Dialect,
+    text: &[u8],
+) -> Result<Option<usize>, Refusal> {
+    let want = parse_text(alloc, seed, Kind::Dict, text)?;
+    Ok(refusals(alloc, || {
+        seen_field(parse_text_in(alloc, seed, dialect, Kind::Dict, text), &want)
+    }))
+}
+
+#[test]
+fn texts_in_a_dialect(rt: HostRuntime) -> Result<(), Fail> {
+    let seed = RandomState::new(&rt)?;
+    for (dialect, text) in [
+        (Dialect::Rfc9651, MEMBERS),
+        (
+            Dialect::Rfc8941,
+            b"a=(1 \"x y\" *t :YQ==:);y=tok, b".as_slice(),
+        ),
+    ] {
+        let found = dialect_refusals(rt.alloc(), &seed, dialect, text)?;
+        assert!(rt; found > Some(0), "{found:?}");
+    }
+    Ok(())
+}
+
+/// Refused for its last byte, at 31.
+const REFUSED: &[u8] = b"a=(1 \"x y\" *t :YQ==:);y=tok, b=#";
+
+/// Want of memory ends a parse before a bad byte that stands behind it.
+#[test]
+fn refused_texts(rt: HostRuntime) -> Result<(), Fail> {
+    let alloc = rt.alloc();
+    let seed = RandomState::new(&rt)?;
+    expect_refusals(&rt, || {
+        seen_syntax(parse_text(alloc, &seed, Kind::Dict, REFUSED), 31, b'#')
+    });
+    Ok(())
+}
+
+/// The Dictionary of a text that a reader gives a byte a call.
+fn read(alloc: Global, seed: &RandomState, text: &[u8]) -> Result<Field, Refusal> {
+    let mut source = Paced::new(text, 1, 0, 0);
+    parse_reader(alloc, seed, Kind::Dict, u64::MAX, &mut source)
+}
+
+#[test]
+fn readers(rt: HostRuntime) -> Result<(), Fail> {
+    let alloc = rt.alloc();
+    let seed = RandomState::new(&rt)?;
+    let want = parse_text(alloc, &seed, Kind::Dict, MEMBERS)?;
+    expect_refusals(&rt, || seen_field(read(alloc, &seed, MEMBERS), &want));
+    expect_refusals(&rt, || seen_syntax(read(alloc, &seed, REFUSED), 31, b'#'));
+    Ok(())
+}
+
+fn ends_for_memory(parser: Parser) -> bool {
+    parser.finish().err() == Some(Refusal::OutOfMemory)
+}
+
+/// Whether each later call wants memory, too, after so many bytes were handed in.
+fn stays_refused(mut parser: Parser, handed: usize) -> bool {
+    let place = parser.place();
+    let first = parser.feed(b"");
+    let second = parser.feed(b"1");
+    let third = parser.feed(b"");
+    let again = Err(Refusal::OutOfMemory);
+    let refused = first == again && second == again && third == again;
+    let ended = ends_for_memory(parser);
+    refused && ended && place <= handed as u64
+}
+
+/// Feeds the text in pieces of so many bytes, at least one, up to the first piece that is refused,
+/// and answers with its refusal how many bytes were handed in.
+fn feed_all(parser: &mut Parser, text: &[u8], size: usize) -> Result<(), (Refusal, usize)> {
+    let mut handed = 0usize;
+    for piece in text.chunks(size.max(1)) {
+        handed = handed.saturating_add(piece.len());
+        if let Err(refusal) = parser.feed(piece) {
+            return Err((refusal, handed));
+        }
+    }
+    Ok(())
+}
+
+fn fed(alloc: Global, seed: &RandomState, size: usize, want: &Field) -> Seen {
+    let mut parser = Parser::new(alloc, seed, Kind::Dict, u64::MAX);
+    match feed_all(&mut parser, MEMBERS, size) {
+        Ok(()) => seen_field(parser.finish(), want),
+        Err((Refusal::OutOfMemory, handed)) => {
+            if stays_refused(parser, handed) {
+                Seen::Refused
+            } else {
+                Seen::Wrong
+            }
+        }
+        Err(_) => Seen::Wrong,
+    }
+}
+
+#[test]
+fn pieces(rt: HostRuntime) -> Result<(), Fail> {
+    let alloc = rt.alloc();
+    let seed = RandomState::new(&rt)?;
+    let want = parse_text(alloc, &seed, Kind::Dict, MEMBERS)?;
+    for size in [1, 7, 1000usize] {
+        expect_refusals(&rt, || fed(alloc, &seed, size, &want));
+    }
+    Ok(())
+}
+
+/// A parser that was refused with no memory left; there is memory again when it is given.
+fn refused_parser(alloc: Global, seed: &RandomState) -> Option<Parser> {
+    let mut scarcity = Scarcity::new(alloc).ok()?;
+    let mut parser = Parser::new(alloc, seed, Kind::Dict, u64::MAX);
+    let scarce = scarcity.leave(alloc, 0);
+    let answer = parser.feed(MEMBERS);
+    scarcity.end();
+    if scarce && answer == Err(Refusal::OutOfMemory) {
+        Some(parser)
+    } else {
+        None
+    }
+}
+
+#[test]
+fn refused_for_good(rt: HostRuntime) -> Result<(), Fail> {
+    let alloc = rt.alloc();
+    let seed = RandomState::new(&rt)?;
+    let parser = refused_parser(alloc, &seed).ok_or("not refused")?;
+    assert!(rt; stays_refused(parser, MEMBERS.len()));
+    Ok(())
+}
+
+/// Parsers that took the text.
+fn fed_parsers(
+    alloc: Global,
+    seed: &RandomState,
+    kind: Kind,
+    text: &[u8],
+) -> Result<Vec<Parser>, Fail> {
+    let mut parsers = Vec::new(alloc);
+    for _ in 0..300u32 {
+        let mut parser = Parser::new(alloc, seed, kind, u64::MAX);
+        parser.feed(text)?;
+        parsers.push(parser)?;
+    }
+    Ok(parsers)
+}
+
+fn finish_next(parsers: &mut Vec<Parser>, want: &Field) -> Seen {
+    match parsers.pop() {
+        Some(parser) => seen_field(parser.finish(), want),
+        None => Seen::Wrong,
+    }
+}
+
+fn finish_refusals(
+    alloc: Global,
+    seed: &RandomState,
+    kind: Kind,
+    text: &[u8],
+) -> Result<Option<usize>, Fail> {
+    let want = parse_text(alloc, seed, kind, text)?;
+    let mut parsers = fed_parsers(alloc, seed, kind, text)?;
+    Ok(refusals(alloc, || finish_next(&mut parsers, &want)))
+}
+
+#[test]
+fn ends(rt: HostRuntime) -> Result<(), Fail> {
+    let seed = RandomState::new(&rt)?;
+    for (kind, text) in [
+        (Kind::Item, b"a;b=c".as_slice()),
+        (Kind::List, b"(1 2);p"),
+        (Kind::Dict, b"a=(1 2);p"),
+    ] {
+        let found = finish_refusals(rt.alloc(), &seed, kind, text)?;
+        assert!(rt; found > Some(0), "{found:?}");
+    }
+    Ok(())
+}
+
+fn feed_number(parser: &mut Parser) -> Result<(), Refusal> {
+    for _ in 0..100_000u32 {
+        parser.feed(b" ")?;
+    }
+    for byte in b"-007" {
+        parser.feed(&[*byte])?;
+    }
+    Ok(())
+}
+
+fn number_in_pieces(alloc: Global, seed: &RandomState) -> Seen {
+    let mut parser = Parser::new(alloc, seed, Kind::Item, u64::MAX);
+    if parser.place() != 0 || feed_number(&mut parser).is_err() {
+        return Seen::Wrong;
+    }
+    seen_minus_seven(parser.finish())
+}
+
+#[test]
+fn numbers_take_none(rt: HostRuntime) -> Result<(), Fail> {
+    let alloc = rt.alloc();
+    let seed = RandomState::new(&rt)?;
+    let text = padded_number(alloc)?;
+    expect_no_need(&rt, || number_in_pieces(alloc, &seed));
+    expect_no_need(&rt, || {
+        seen_minus_seven(parse_text(alloc, &seed, Kind::Item, text.as_slice()))
+    });
+    Ok(())
+}

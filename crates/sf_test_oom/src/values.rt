@@ -1,0 +1,332 @@
+// Values that are made, put and copied.
+use crate::expecting::{LISTED, MEMBERS, SINGLE, expect_no_need, expect_refusals, seen_if};
+use sf_parse::{Refusal, parse_text};
+use sf_test_alloc::{Seen, refusals};
+use sf_value::{
+    Bare, Blob, Entries, Field, Int, Key, Kind, OutOfMemory, Reading, Shown, Text, TextFault,
+    Token, Writing, copy, same,
+};
+use std::alloc::Global;
+use std::hash::RandomState;
+use std::test::Fail;
+
+const LONG: &[u8] =
+    b"abcdefghijklmnopqrstuvwxyzabcdefghijklmnopqrstuvwxyzabcdefghijklmnopqrstuvwxyz";
+
+const LONG_TEXT: &str = "abcdefghijklmnopqrstuvwxyz\u{fc}\u{20ac}abcdefghijklmnopqrstuvwxyz";
+
+fn make_key(alloc: Global) -> Seen {
+    match Key::new(alloc, LONG) {
+        Ok(key) => seen_if(key.as_bytes() == LONG),
+        Err(TextFault::OutOfMemory) => Seen::Refused,
+        Err(_) => Seen::Wrong,
+    }
+}
+
+fn make_token(alloc: Global) -> Seen {
+    match Token::new(alloc, LONG) {
+        Ok(token) => seen_if(token.as_bytes() == LONG),
+        Err(TextFault::OutOfMemory) => Seen::Refused,
+        Err(_) => Seen::Wrong,
+    }
+}
+
+fn make_text(alloc: Global) -> Seen {
+    match Text::new(alloc, LONG) {
+        Ok(text) => seen_if(text.as_bytes() == LONG),
+        Err(TextFault::OutOfMemory) => Seen::Refused,
+        Err(_) => Seen::Wrong,
+    }
+}
+
+fn make_blob(alloc: Global) -> Seen {
+    match Blob::new(alloc, LONG) {
+        Ok(blob) => seen_if(blob.as_bytes() == LONG),
+        Err(OutOfMemory) => Seen::Refused,
+    }
+}
+
+fn make_shown(alloc: Global) -> Seen {
+    match Shown::new(alloc, LONG_TEXT) {
+        Ok(shown) => seen_if(shown.as_str() == LONG_TEXT),
+        Err(OutOfMemory) => Seen::Refused,
+    }
+}
+
+// The words that take memory.
+#[derive(Clone, Copy)]
+enum Word {
+    Key,
+    Token,
+    Text,
+    Blob,
+    Shown,
+}
+
+fn make(alloc: Global, word: Word) -> Seen {
+    match word {
+        Word::Key => make_key(alloc),
+        Word::Token => make_token(alloc),
+        Word::Text => make_text(alloc),
+        Word::Blob => make_blob(alloc),
+        Word::Shown => make_shown(alloc),
+    }
+}
+
+#[test]
+fn words(rt: HostRuntime) {
+    let alloc = rt.alloc();
+    for word in [Word::Key, Word::Token, Word::Text, Word::Blob, Word::Shown] {
+        expect_refusals(&rt, || make(alloc, word));
+    }
+}
+
+/// What is refused for its bytes is refused for them with no memory, too.
+fn make_bad(alloc: Global) -> Seen {
+    let bad = Some(TextFault::BadByte { place: 1 });
+    let key = Key::new(alloc, b"aB").err();
+    let token = Token::new(alloc, b"a\"").err();
+    let text = Text::new(alloc, b"a\x7f").err();
+    let empty = Key::new(alloc, b"").err();
+    seen_if(key == bad && token == bad && text == bad && empty == Some(TextFault::Empty))
+}
+
+#[test]
+fn bad_words(rt: HostRuntime) {
+    let alloc = rt.alloc();
+    expect_no_need(&rt, || make_bad(alloc));
+}
+
+/// The keys of the entries before a put, in order, a byte each; the value of each is its byte.
+const NAMES: &[u8] = b"abcdefghijklmnop";
+
+// Entries, and the pair that is to be put.
+#[derive(Drop)]
+struct Put {
+    entries: Entries<Bare>,
+    key: Key,
+    value: Bare,
+}
+
+fn number(byte: u8) -> Result<Bare, Fail> {
+    Ok(Bare::Integer(Int::new(i64::from(byte))?))
+}
+
+fn is_number(bare: &Bare, byte: u8) -> bool {
+    bare.as_integer().map(|n| n.get()) == Some(i64::from(byte))
+}
+
+/// The entries of the first so many names.
+fn entries_of(alloc: Global, seed: &RandomState, count: usize) -> Result<Entries<Bare>, Fail> {
+    let mut entries = Entries::new(alloc, seed);
+    for name in NAMES.iter().take(count) {
+        entries.set(Key::new(alloc, &[*name])?, number(*name)?)?;
+    }
+    Ok(entries)
+}
+
+fn stands_at(entries: &Entries<Bare>, index: usize, name: u8) -> bool {
+    match entries.at(index) {
+        Some((key, value)) => key == [name].as_slice() && is_number(value, name),
+        None => false,
+    }
+}
+
+/// Whether the entries are those of the first so many names.
+fn are_first(entries: &Entries<Bare>, count: usize) -> bool {
+    for i in 0..count {
+        let Some(name) = NAMES.get(i) else {
+            return false;
+        };
+        if !stands_at(entries, i, *name) {
+            return false;
+        }
+    }
+    entries.len() == count
+}
+
+/// Two equal puts of a key: one with ample memory, and one with little.
+fn puts_of(alloc: Global, seed: &RandomState, count: usize, name: u8) -> Result<Vec<Put>, Fail> {
+    let mut puts = Vec::with_capacity(alloc, 2)?;
+    for _ in 0..2 {
+        puts.push(Put {
+            entries: entries_of(alloc, seed, count)?,
+            key: Key::new(alloc, &[name])?,
+            value: number(name)?,
+        })?;
+    }
+    Ok(puts)
+}
+
+/// Puts a new key; a refused put is to be made again.
+fn put_new(puts: &mut Vec<Put>, count: usize) -> Seen {
+    let Some(put) = puts.pop() else {
+        return Seen::Wrong;
+    };
+    let Put {
+        mut entries,
+        key,
+        value,
+    } = put;
+    match entries.put(key, value) {
+        Ok(old) => seen_if(
+            old.is_none() && entries.len() > count && stands_at(&entries, count, b'z'),
+        ),
+        Err((key, value)) => {
+            let unchanged = key.as_bytes() == b"z".as_slice()
+                && is_number(&value, b'z')
+                && are_first(&entries, count);
+            let again = Put {
+                entries,
+                key,
+                value,
+            };
+            if unchanged && puts.push(again).is_ok() {
+                Seen::Refused
+            } else {
+                Seen::Wrong
+            }
+        }
+    }
+}
+
+/// How often a put behind so many entries was refused.
+fn put_refusals(alloc: Global, seed: &RandomState, count: usize) -> Result<usize, Fail> {
+    let mut puts = puts_of(alloc, seed, count, b'z')?;
+    match refusals(alloc, || put_new(&mut puts, count)) {
+        Some(refused) => Ok(refused),
+        None => Err(Fail::from("another answer")),
+    }
+}
+
+#[test]
+fn new_keys(rt: HostRuntime) -> Result<(), Fail> {
+    let seed = RandomState::new(&rt)?;
+    let mut grew = 0u32;
+    for count in 0..16usize {
+        if put_refusals(rt.alloc(), &seed, count)? > 0 {
+            grew = grew.saturating_add(1);
+        }
+    }
+    assert!(rt; grew > 1, "{grew}");
+    Ok(())
+}
+
+/// Sets a new key, of one byte, which takes no memory; a refusal leaves the entries as they were.
+fn set_new(alloc: Global, filled: &mut Vec<Entries<Bare>>, count: usize) -> Seen {
+    let Some(mut entries) = filled.pop() else {
+        return Seen::Wrong;
+    };
+    let Ok(key) = Key::new(alloc, b"z") else {
+        return Seen::Wrong;
+    };
+    match entries.set(key, Bare::Boolean(true)) {
+        Ok(()) => seen_if(entries.len() > count && entries.contains_key(b"z")),
+        Err(OutOfMemory) => {
+            if are_first(&entries, count) && filled.push(entries).is_ok() {
+                Seen::Refused
+            } else {
+                Seen::Wrong
+            }
+        }
+    }
+}
+
+#[test]
+fn keys_that_are_set(rt: HostRuntime) -> Result<(), Fail> {
+    let alloc = rt.alloc();
+    let seed = RandomState::new(&rt)?;
+    for count in [0, 8usize] {
+        let mut filled = Vec::with_capacity(alloc, 2)?;
+        for _ in 0..2 {
+            filled.push(entries_of(alloc, &seed, count)?)?;
+        }
+        expect_refusals(&rt, || set_new(alloc, &mut filled, count));
+    }
+    Ok(())
+}
+
+/// Puts the key that stands first.
+fn put_first(puts: &mut Vec<Put>, count: usize) -> Seen {
+    let Some(put) = puts.pop() else {
+        return Seen::Wrong;
+    };
+    let Put {
+        mut entries,
+        key,
+        value,
+    } = put;
+    match entries.put(key, value) {
+        Ok(Some(old)) => seen_if(is_number(&old, b'a') && are_first(&entries, count)),
+        _ => Seen::Wrong,
+    }
+}
+
+#[test]
+fn present_keys(rt: HostRuntime) -> Result<(), Fail> {
+    let seed = RandomState::new(&rt)?;
+    for count in [1, 3, 4, 7, 8usize] {
+        let mut puts = puts_of(rt.alloc(), &seed, count, b'a')?;
+        expect_no_need(&rt, || put_first(&mut puts, count));
+    }
+    Ok(())
+}
+
+fn copied(alloc: Global, seed: &RandomState, field: &Field) -> Seen {
+    match copy(alloc, seed, field) {
+        Ok(other) => seen_if(same(&other, field)),
+        Err(OutOfMemory) => Seen::Refused,
+    }
+}
+
+fn copy_refusals(
+    alloc: Global,
+    seed: &RandomState,
+    kind: Kind,
+    text: &[u8],
+) -> Result<Option<usize>, Refusal> {
+    let field = parse_text(alloc, seed, kind, text)?;
+    Ok(refusals(alloc, || copied(alloc, seed, &field)))
+}
+
+#[test]
+fn copies(rt: HostRuntime) -> Result<(), Fail> {
+    let seed = RandomState::new(&rt)?;
+    for (kind, text) in [
+        (Kind::Item, SINGLE),
+        (Kind::List, LISTED),
+        (Kind::Dict, MEMBERS),
+    ] {
+        let found = copy_refusals(rt.alloc(), &seed, kind, text)?;
+        assert!(rt; found > Some(0), "{found:?}");
+    }
+    Ok(())
+}
+
+#[test]
+fn comparing_takes_none(rt: HostRuntime) -> Result<(), Fail> {
+    let seed = RandomState::new(&rt)?;
+    let field = parse_text(rt.alloc(), &seed, Kind::Dict, MEMBERS)?;
+    let equal = parse_text(rt.alloc(), &seed, Kind::Dict, MEMBERS)?;
+    let other = parse_text(rt.alloc(), &seed, Kind::List, LISTED)?;
+    expect_no_need(
+        &rt,
+        || seen_if(same(&field, &equal) && !same(&field, &other)),
+    );
+    Ok(())
+}
+
+fn make_empty(alloc: Global, seed: &RandomState) -> Seen {
+    let entries = Entries::<Bare>::new(alloc, seed);
+    let source = Reading::new(b"".as_slice());
+    let sink = Writing::new(Vec::<u8>::new(alloc));
+    seen_if(entries.is_empty() && source.given() == 0 && sink.failures() == 0)
+}
+
+#[test]
+fn making_empty_takes_none(rt: HostRuntime) -> Result<(), Fail> {
+    let alloc = rt.alloc();
+    let seed = RandomState::new(&rt)?;
+    expect_no_need(&rt, || make_empty(alloc, &seed));
+    Ok(())
+}
