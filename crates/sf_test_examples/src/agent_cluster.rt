@@ -1,4 +1,4 @@
-//! Origin-Agent-Cluster, an Item: `?1` asks that the origin has an agent cluster of its own.
+//! Origin-Agent-Cluster, an Item: `?1` requests an agent cluster for the origin alone.
 use sf_field::{Consumer, UseFault, ask};
 use sf_value::{Bare, Blob, Field, Kind};
 use std::alloc::Global;
