@@ -24,7 +24,7 @@ use Rattle.sf_value.specs.Grammar.Tokens.{IsKey, IsToken}
 use Rattle.sf_value.specs.Grammar.Valid.{ValidBare, ValidItem, ValidInner, ValidMember, Valid}
 use Rattle.sf_value.specs.Grammar.Strings.{escaped, is_escaped}
 use Rattle.sf_value.specs.Grammar.ByteSequences.{unpadded, needed}
-use Rattle.sf_value.specs.Grammar.DisplayStrings.{is_plain}
+use Rattle.sf_value.specs.Grammar.DisplayStrings.{is_unencoded}
 use Rattle.sf_value.specs.Grammar.Canonical.{canon_bare, canon_value, canon_params, canon_item}
 use Rattle.sf_value.specs.Grammar.Canonical.{canon_more, canon_items, canon_inner, canon_member}
 use Rattle.sf_value.specs.Grammar.Canonical.{canon_flag, canon_entry, canon_commas}
@@ -53,9 +53,9 @@ blob_long (a ∷ b ∷ c ∷ s) = let h = blob_long s in omega arith
 
 shown_long : (s : Seq ℕ) → length s ≤ length (canon_shown s)
 shown_long [] = omega arith
-shown_long (c ∷ s) = go (is_plain c) refl (shown_long s)
+shown_long (c ∷ s) = go (is_unencoded c) refl (shown_long s)
   where
-    go : (e : Bool) → is_plain c ≡ e → length s ≤ length (canon_shown s)
+    go : (e : Bool) → is_unencoded c ≡ e → length s ≤ length (canon_shown s)
         → length (c ∷ s) ≤ length (canon_shown (c ∷ s))
     go true h k = rw h (omega arith)
     go false h k = rw h (omega arith)

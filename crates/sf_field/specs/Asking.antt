@@ -7,7 +7,7 @@ use Rattle.sf_value.specs.Grammar.Canonical.{canon}
 use Rattle.sf_value.specs.Grammar.Fields.{SpellsField}
 use Rattle.sf_value.specs.Grammar.Lines.{join}
 use Rattle.sf_parse.specs.Parsers.{IsOnly}
-use Rattle.sf_parse.specs.PlainParsers.{IsOther}
+use Rattle.sf_parse.specs.AllocationFreeParsers.{IsOther}
 use Rattle.sf_field.specs.Lines.{ParsesLines}
 use Rattle.sf_field.specs.declared.consumer.UseFault.TheVariants.{NotACache, OutOfMemory}
 use Rattle.sf_field.specs.declared.asking.AskFault.{AskFault}

@@ -2,7 +2,7 @@
 ghost use Rattle.std.specs.Prelude.{◌≡◌, ℕ, List, [], ◌∷◌, Some};
 ghost use Rattle.sf_value.specs.Grammar.Words.{Every};
 ghost use Rattle.sf_value.specs.declared.value.Kind.TheVariants as kind_is;
-ghost use Rattle.sf_parse.specs.Plain.{plain_byte};
+ghost use Rattle.sf_parse.specs.AllocationFree.{number_byte};
 ghost use Rattle.sf_field.specs.Faults.{ask_fault_text};
 ghost use Rattle.sf_field.specs.declared.asking.AskFault.TheVariants as fault_is;
 ghost use Rattle.sf_field.specs.Asking.{Asks, MeansAsCanonical, ParsedOrRefused};
@@ -83,8 +83,8 @@ pub fn ask_from<'a, C: Consumer, L: FieldLines<'a>>(
     // accepted lines mean what their canonical text means
     ensures canonical { MeansAsCanonical C.KIND (C.meaning consumer.now) (L.lines lines) }
     // a single line of spaces, `-` and digits is parsed without memory
-    ensures plain { C.KIND ≡ kind_is.Item → (line : List ℕ) → L.lines lines ≡ line ∷ []
-        → Every plain_byte line → ParsedOrRefused result }
+    ensures allocation_free { C.KIND ≡ kind_is.Item → (line : List ℕ) → L.lines lines ≡ line ∷ []
+        → Every number_byte line → ParsedOrRefused result }
 {
     let field = parse_from(alloc, seed, Dialect::Rfc9651, C::KIND, lines)?;
     let answer = consumer.answer(alloc, &field);
@@ -108,8 +108,8 @@ pub fn ask<C: Consumer>(
     // accepted lines mean what their canonical text means
     ensures canonical { MeansAsCanonical C.KIND (C.meaning consumer.now) lines.now }
     // a single line of spaces, `-` and digits is parsed without memory
-    ensures plain { C.KIND ≡ kind_is.Item → (line : List ℕ) → lines.now ≡ line ∷ []
-        → Every plain_byte line → ParsedOrRefused result }
+    ensures allocation_free { C.KIND ≡ kind_is.Item → (line : List ℕ) → lines.now ≡ line ∷ []
+        → Every number_byte line → ParsedOrRefused result }
 {
     ask_from(alloc, seed, consumer, lines.iter())
 }

@@ -2,8 +2,8 @@
 ghost use Rattle.std.specs.Prelude.{◌≡◌, ℕ, List, [], ◌∷◌, IfErr};
 ghost use Rattle.sf_value.specs.Grammar.Words.{Every};
 ghost use Rattle.sf_value.specs.declared.value.Kind.TheVariants as kind_is;
-ghost use Rattle.sf_parse.specs.Plain.{plain_byte};
-ghost use Rattle.sf_parse.specs.PlainParsers.{IsOther};
+ghost use Rattle.sf_parse.specs.AllocationFree.{number_byte};
+ghost use Rattle.sf_parse.specs.AllocationFreeParsers.{IsOther};
 ghost use Rattle.sf_field.specs.Headers.{ParsesHeaders, lines_under, value_lines};
 
 use crate::lines::{FieldLines, parse_from};
@@ -42,8 +42,8 @@ pub fn from_headers(
     // None where the name is absent; else its values are parsed as field lines
     ensures parses { ParsesHeaders kind headers.now name.now result }
     // a single value of spaces, `-` and digits is never refused for want of memory
-    ensures plain { kind ≡ kind_is.Item → (value : List ℕ)
-        → lines_under headers.now name.now ≡ value ∷ [] → Every plain_byte value
+    ensures allocation_free { kind ≡ kind_is.Item → (value : List ℕ)
+        → lines_under headers.now name.now ≡ value ∷ [] → Every number_byte value
         → IfErr result IsOther }
 {
     if !headers.contains_key(name) {

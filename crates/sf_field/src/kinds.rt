@@ -5,8 +5,8 @@ ghost use Rattle.sf_value.specs.declared.value.Field.TheVariants as field_is;
 ghost use Rattle.sf_value.specs.declared.value.Kind.TheVariants as kind_is;
 ghost use Rattle.std.specs.Prelude.{◌≡◌, ℕ, List as Seq, [], ◌∷◌, IfErr};
 ghost use Rattle.sf_value.specs.Grammar.Words.{Every};
-ghost use Rattle.sf_parse.specs.Plain.{plain_byte};
-ghost use Rattle.sf_parse.specs.PlainParsers.{IsOther};
+ghost use Rattle.sf_parse.specs.AllocationFree.{number_byte};
+ghost use Rattle.sf_parse.specs.AllocationFreeParsers.{IsOther};
 ghost use Rattle.sf_parse.specs.Parsers.{Makes};
 ghost use Rattle.sf_field.specs.Lines.{ParsesLines};
 
@@ -26,7 +26,7 @@ pub fn parse_item_lines(alloc: Global, seed: &RandomState, lines: &[Blob]) -> Re
     // the lines together spell this Item alone, or this is their exact refusal, memory aside
     ensures parses { Makes field_is.Item (ParsesLines Rfc9651 kind_is.Item lines.now) result }
     // one line of spaces, minus signs and digits takes no memory
-    ensures plain { (line : Seq ℕ) → lines.now ≡ line ∷ [] → Every plain_byte line
+    ensures allocation_free { (line : Seq ℕ) → lines.now ≡ line ∷ [] → Every number_byte line
         → IfErr result IsOther }
 {
     match parse_lines(alloc, seed, Kind::Item, lines)? {

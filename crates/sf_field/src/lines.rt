@@ -1,13 +1,15 @@
 //! Field lines.
-ghost use Rattle.std.specs.Prelude.{◌≡◌, ℕ, List, [], ◌∷◌, false, map, MatchOption, MatchResult, Err};
+ghost use Rattle.std.specs.Prelude.{◌≡◌, ℕ, List, [], ◌∷◌, false, map, MatchOption, MatchResult};
+ghost use Rattle.std.specs.Prelude.{Err};
 ghost use Rattle.std.specs.Slice.Iter.{iter_rest};
 ghost use Rattle.sf_value.specs.Grammar.Lines.{join};
 ghost use Rattle.sf_value.specs.Grammar.Words.{Every};
 ghost use Rattle.sf_value.specs.declared.dialect.Dialect.TheVariants.{Rfc9651};
 ghost use Rattle.sf_value.specs.declared.value.Kind.TheVariants as kind_is;
 ghost use Rattle.sf_parse.specs.Parsers.{Fed};
-ghost use Rattle.sf_parse.specs.Plain.{plain_byte};
-ghost use Rattle.sf_parse.specs.PlainParsers.{IsPlain, KeptPlain, NotForMemory};
+ghost use Rattle.sf_parse.specs.AllocationFree.{number_byte};
+ghost use Rattle.sf_parse.specs.AllocationFreeParsers.{IsAllocationFree, KeptAllocationFree};
+ghost use Rattle.sf_parse.specs.AllocationFreeParsers.{NotForMemory};
 ghost use Rattle.sf_field.specs.Lines.{ParsesLines};
 ghost use Rattle.sf_field.specs.Normal.{NormalisesTo};
 
@@ -79,8 +81,8 @@ pub fn parse_from<'a, L: FieldLines<'a>>(
     // the lines together spell this value alone, or this is their exact refusal, memory aside
     ensures parses { ParsesLines dialect kind (L.lines lines) result }
     // a single line of spaces, `-` and digits is never refused for want of memory
-    ensures plain { kind ≡ kind_is.Item → (line : List ℕ) → L.lines lines ≡ line ∷ []
-        → Every plain_byte line → NotForMemory result }
+    ensures allocation_free { kind ≡ kind_is.Item → (line : List ℕ) → L.lines lines ≡ line ∷ []
+        → Every number_byte line → NotForMemory result }
 {
     let mut parser = Parser::new_in(alloc, seed, dialect, kind, u64::MAX);
     feed_lines(&mut parser, lines)?;
@@ -102,8 +104,8 @@ pub fn parse_lines_in(
     // the lines together spell this value alone, or this is their exact refusal, memory aside
     ensures parses { ParsesLines dialect kind lines.now result }
     // a single line of spaces, `-` and digits is never refused for want of memory
-    ensures plain { kind ≡ kind_is.Item → (line : List ℕ) → lines.now ≡ line ∷ []
-        → Every plain_byte line → NotForMemory result }
+    ensures allocation_free { kind ≡ kind_is.Item → (line : List ℕ) → lines.now ≡ line ∷ []
+        → Every number_byte line → NotForMemory result }
 {
     parse_from(alloc, seed, dialect, kind, lines.iter())
 }
@@ -123,8 +125,8 @@ pub fn parse_lines(
     // the lines together spell this value alone, or this is their exact refusal, memory aside
     ensures parses { ParsesLines Rfc9651 kind lines.now result }
     // a single line of spaces, `-` and digits is never refused for want of memory
-    ensures plain { kind ≡ kind_is.Item → (line : List ℕ) → lines.now ≡ line ∷ []
-        → Every plain_byte line → NotForMemory result }
+    ensures allocation_free { kind ≡ kind_is.Item → (line : List ℕ) → lines.now ≡ line ∷ []
+        → Every number_byte line → NotForMemory result }
 {
     parse_from(alloc, seed, Dialect::Rfc9651, kind, lines.iter())
 }
@@ -158,8 +160,9 @@ fn feed_lines<'a, L: FieldLines<'a>>(parser: &mut Parser, mut lines: L) -> Resul
     // the joined text of the lines is fed; a refusal stands whatever comes behind it
     ensures fed { Fed parser.old parser.new result (join (L.lines lines)) }
     // a plain parser stays plain over a single line of spaces, `-` and digits
-    ensures plain { IsPlain parser.old → (line : List ℕ) → L.lines lines ≡ line ∷ []
-        → Every plain_byte line → KeptPlain parser.new result }
+    ensures allocation_free
+    { IsAllocationFree parser.old → (line : List ℕ) → L.lines lines ≡ line ∷ []
+        → Every number_byte line → KeptAllocationFree parser.new result }
 {
     parser.feed(b"")?;
     while let Some(line) = lines.next_line() {

@@ -5,7 +5,7 @@ use Rattle.std.proofs.Common.{arith}
 use Rattle.sf_parse.proofs.Machines
 use Rattle.sf_value.specs.Grammar.Words.{Every}
 use Rattle.sf_value.specs.Grammar.Classes.{is_alpha, is_digit, is_tchar, is_one_of, is_sp, is_ows}
-use Rattle.sf_value.specs.Grammar.Classes.{is_key_start, is_key_rest, is_token_start, is_token_rest}
+use Rattle.sf_value.specs.Grammar.Classes.{is_key_start, is_in_key, is_token_start, is_in_token}
 use Rattle.sf_value.specs.Grammar.Dialects.{is_rfc9651}
 use Rattle.sf_value.specs.Grammar.Fields.{SpellsField}
 use Rattle.sf_value.specs.Grammar.Lines.{Next}
@@ -14,9 +14,10 @@ use Rattle.sf_value.specs.declared.value.Field.{Field}
 use Rattle.sf_parse.specs.Machine.Numbers.{NumberState, Whole, Fraction, DateState, Digits, Sign}
 use Rattle.sf_parse.specs.Machine.Texts.{TextState, Inside, Escaped, Closed}
 use Rattle.sf_parse.specs.declared.boolean.BooleanState.{BooleanState}
-use Rattle.sf_parse.specs.declared.boolean.BooleanState.TheVariants.{Asked, Told}
+use Rattle.sf_parse.specs.declared.boolean.BooleanState.TheVariants.{QuestionMark, WithValue}
 use Rattle.sf_parse.specs.Machine.Blobs.{sextet, is_last, lacking, BlobState, Group, Padded, Ended}
-use Rattle.sf_parse.specs.Machine.Showns.{unhex, can_begin, ShownState, Quote, Plain, Percent, Hex}
+use Rattle.sf_parse.specs.Machine.Showns.{unhex, can_begin, ShownState, Quote, Unencoded, Percent}
+use Rattle.sf_parse.specs.Machine.Showns.{Hex}
 use Rattle.sf_parse.specs.Machine.Showns.{Done}
 use Rattle.sf_parse.specs.Machine.Bares.{BareState}
 use Rattle.sf_parse.specs.Machine.Bares.{InNumber, InText, InToken, InBoolean}
@@ -28,13 +29,13 @@ use Rattle.sf_parse.specs.Machine.Items.{InBare, InParams}
 use Rattle.sf_parse.specs.Machine.Inners.{InnerState, Room, InItem, Closing}
 use Rattle.sf_parse.specs.Machine.Members.{MemberState}
 use Rattle.sf_parse.specs.Machine.Members.{InOne, InMany}
-use Rattle.sf_parse.specs.Machine.Series.{SeriesState, Begin, InPiece, Gap, Comma}
+use Rattle.sf_parse.specs.Machine.Series.{SeriesState, Begin, InMember, Gap, Comma}
 use Rattle.sf_parse.specs.Machine.Entries.{EntryState}
-use Rattle.sf_parse.specs.Machine.Entries.{InKey, Equals, InMember, InFlag}
+use Rattle.sf_parse.specs.Machine.Entries.{InKey, Equals, InMemberValue, InFlag}
 use Rattle.sf_parse.specs.Machine.States.{State}
 use Rattle.sf_parse.specs.Machine.States.{BeforeItem, InTop, AfterItem, InList}
 use Rattle.sf_parse.specs.Machine.States.{InDict}
-use Rattle.sf_parse.specs.Machine.Fields.{Rest, begin}
+use Rattle.sf_parse.specs.Machine.Fields.{Residual, begin}
 use Rattle.sf_parse.specs.Machine.Tests.{number_takes, date_takes, text_takes, boolean_takes}
 use Rattle.sf_parse.specs.Machine.Tests.{pad_takes, blob_takes, utf8_takes, passes, shown_takes}
 use Rattle.sf_parse.specs.Machine.Tests.{bare_begins, bare_takes, params_takes, item_takes}
@@ -60,8 +61,8 @@ module _ (b : ℕ) (h : 128 ≤ b) where
   not_key_start : is_key_start b ≡ false
   not_key_start = grind arith
 
-  not_key_rest : is_key_rest b ≡ false
-  not_key_rest = grind arith
+  not_in_key : is_in_key b ≡ false
+  not_in_key = grind arith
 
   not_token_start : is_token_start b ≡ false
   not_token_start = grind arith
@@ -114,8 +115,8 @@ module _ (b : ℕ) (h : 128 ≤ b) where
         ),
       ))
 
-  not_token_rest : is_token_rest b ≡ false
-  not_token_rest = neither (is_tchar b || b == 58) (b == 47)
+  not_in_token : is_in_token b ≡ false
+  not_in_token = neither (is_tchar b || b == 58) (b == 47)
       (neither (is_tchar b) (b == 58) not_tchar (not_equal 58 (omega arith)))
       (not_equal 47 (omega arith))
 
@@ -142,8 +143,8 @@ module _ (b : ℕ) (h : 128 ≤ b) where
   text_below (Closed bytes) = refl
 
   boolean_below : (s : BooleanState) → boolean_takes s b ≡ false
-  boolean_below Asked = grind arith
-  boolean_below (Told c) = refl
+  boolean_below QuestionMark = grind arith
+  boolean_below (WithValue c) = refl
 
   pad_below : (n : ℕ) → pad_takes n b ≡ false
   pad_below n = grind arith
@@ -156,7 +157,7 @@ module _ (b : ℕ) (h : 128 ≤ b) where
 
   shown_below : (s : ShownState) → shown_takes s b ≡ false
   shown_below Quote = not_equal 34 (omega arith)
-  shown_below (Plain bytes x) = grind arith
+  shown_below (Unencoded bytes x) = grind arith
   shown_below (Percent bytes x) = ap (passes (can_begin x)) no_hex
   shown_below (Hex bytes x g) = ap (passes (λ l. utf8_takes x (g * 16 + l))) no_hex
   shown_below (Done bytes) = refl
@@ -186,7 +187,7 @@ module _ (b : ℕ) (h : 128 ≤ b) where
   bare_below : (s : BareState) → bare_takes s b ≡ false
   bare_below (InNumber s) = number_below s
   bare_below (InText s) = text_below s
-  bare_below (InToken bytes) = not_token_rest
+  bare_below (InToken bytes) = not_in_token
   bare_below (InBoolean s) = boolean_below s
   bare_below (InDate s) = date_below s
   bare_below (InBlob s) = blob_below s
@@ -199,7 +200,7 @@ module _ (b : ℕ) (h : 128 ≤ b) where
   params_below d (Between ps) = not_equal 59 (omega arith)
   params_below d (Opened ps) = neither (is_sp b) (is_key_start b)
       (not_equal 32 (omega arith)) not_key_start
-  params_below d (InParamKey ps k) = neither (is_key_rest b) (b == 61 || b == 59) not_key_rest
+  params_below d (InParamKey ps k) = neither (is_in_key b) (b == 61 || b == 59) not_in_key
       (two_below 61 59 (omega arith) (omega arith))
   params_below d (EqualsParam ps k) = begins_below d
   params_below d (InValue ps k s) = neither _ _ (bare_below s)
@@ -227,10 +228,10 @@ module _ (b : ℕ) (h : 128 ≤ b) where
   member_below d (InMany s) = inner_below d s
 
   entry_below : (d : Dialect) (s : EntryState) → entry_takes d s b ≡ false
-  entry_below d (InKey k) = neither (is_key_rest b) (b == 61 || b == 59) not_key_rest
+  entry_below d (InKey k) = neither (is_in_key b) (b == 61 || b == 59) not_in_key
       (two_below 61 59 (omega arith) (omega arith))
   entry_below d (Equals k) = member_begins_below d
-  entry_below d (InMember k s) = member_below d s
+  entry_below d (InMemberValue k s) = member_below d s
   entry_below d (InFlag k s) = params_below d s
 
   gap_below : (is_ows b || b == 44) ≡ false
@@ -241,7 +242,7 @@ module _ (b : ℕ) (h : 128 ≤ b) where
       → series_takes begins more ends s b ≡ false
   series_below begins more ends e k Begin = neither (is_sp b) (begins b)
       (not_equal 32 (omega arith)) e
-  series_below begins more ends e k (InPiece given s) = neither (more s b)
+  series_below begins more ends e k (InMember given s) = neither (more s b)
       (ends s && (is_ows b || b == 44)) (k s) (not_both (ends s) (is_ows b || b == 44) gap_below)
   series_below begins more ends e k (Gap given) = gap_below
   series_below begins more ends e k (Comma given) = neither (is_ows b) (begins b) not_ows e
@@ -265,7 +266,7 @@ below d s b e = ⊎_elim (λ k. absurd (clash (takes d s b) (takes_below b k d s
 pub next_below : NextBelow
 next_below d kind p b h =
     let a = (is_viable d kind p).0
-    (Machines.viable_front (machine d) (SpellsField d kind) p (b ∷ []) h) in
+    (Machines.viable_prefix (machine d) (SpellsField d kind) p (b ∷ []) h) in
     let k = reaches_more d kind (begin kind) a.0 [] p (reached_nothing d kind) a.1 in
     below d a.0 b ((takes_next d kind a.0 p b k).0 h)
 
@@ -279,7 +280,7 @@ series_space : {S V : Type 0} (begins : ℕ → Bool) (more : S → ℕ → Bool
     → Bool) (s : SeriesState S V)
     → series_ends ends s ≡ true → series_takes begins more ends s 32 ≡ true
 series_space begins more ends Begin e = refl
-series_space begins more ends (InPiece given s) e = or_true (more s 32) (ends s) e
+series_space begins more ends (InMember given s) e = or_true (more s 32) (ends s) e
 series_space begins more ends (Gap given) e = refl
 series_space begins more ends (Comma given) e = refl
 
@@ -296,7 +297,7 @@ some_next d kind s p k = let l = (machine d).lives s k.good in go l.text l.value
     found : (b : ℕ) → takes d s b ≡ true → (b : ℕ) × Next d kind p b
     found b e = (b, (below d s b e, (takes_next d kind s p b k).1 e))
 
-    go : (u : List ℕ) (v : Field) → Rest d s u v → (b : ℕ) × Next d kind p b
+    go : (u : List ℕ) (v : Field) → Residual d s u v → (b : ℕ) × Next d kind p b
     go [] v r = found 32 (space d s (sym (may_end_is s)
         ∙ ap is_some (((machine d).reads s k.good).ends v r)))
     go (b ∷ u) v r = let t = ((machine d).reads s k.good).taken b u v r in

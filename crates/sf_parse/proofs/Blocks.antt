@@ -4,12 +4,12 @@ use Rattle.std.proofs.Common.{length, take, drop}
 use Rattle.std.proofs.Common.{set, get_or, Some, refl, sym, ap, ◌∙◌, subst, arith, append_assoc}
 use Rattle.std.proofs.lemmas.List.{take_rest, take_more_set, length-set}
 use Rattle.sf_value.specs.Grammar.Utf8.{Utf8, utf8_step}
-use Rattle.sf_parse.specs.Fronts.{Went}
+use Rattle.sf_parse.specs.Prefixes.{Went}
 use Rattle.sf_parse.specs.Views.{Leads}
 use Rattle.sf_parse.specs.Machine.Language.{run}
 use Rattle.sf_parse.specs.Machine.Blobs.{H0, Group, blob_step}
-use Rattle.sf_parse.specs.Machine.Showns.{Plain, unhex, can_begin, shown_step}
-use Rattle.sf_parse.proofs.Fronts.{went_more}
+use Rattle.sf_parse.specs.Machine.Showns.{Unencoded, unhex, can_begin, shown_step}
+use Rattle.sf_parse.proofs.Prefixes.{went_more}
 use Rattle.sf_parse.proofs.HighDigits.{utf8_begins, read_hex}
 use Rattle.sf_parse.proofs.Leading.{leads_push}
 use Rattle.sf_parse.proofs.BlobGroups.{group_on}
@@ -36,31 +36,32 @@ store_three l i x y z h =
     ∙ append_assoc (take i l) (x ∷ []) (y ∷ z ∷ []))
 
 -- one group of base64 more
-pub decoded_on : (bs block piece xs : List ℕ) (n x y z : ℕ) → n + 3 ≤ length block
-    → 4 ≤ length xs → Went blob_step (Group bs H0) piece xs (Group (bs ++ take n block) H0)
+pub decoded_on : (bs block chunk xs : List ℕ) (n x y z : ℕ) → n + 3 ≤ length block
+    → 4 ≤ length xs → Went blob_step (Group bs H0) chunk xs (Group (bs ++ take n block) H0)
     → ((bs : List ℕ) → run blob_step (Group bs H0)
     (get_or xs 0 0 ∷ get_or xs 1 0 ∷ get_or xs 2 0 ∷ get_or xs 3 0 ∷ [])
     ≡ Some (Group (bs ++ x ∷ y ∷ z ∷ []) H0))
-    → Went blob_step (Group bs H0) piece (take (length xs - 4) (drop 4 xs))
+    → Went blob_step (Group bs H0) chunk (take (length xs - 4) (drop 4 xs))
     (Group (bs ++ take (n + 3) (set (set (set block n x) (n + 1) y) (n + 2) z)) H0)
-decoded_on bs block piece xs n x y z h k w r =
-    group_on bs (bs ++ take n block) _ (x ∷ y ∷ z ∷ []) piece xs w k r
+decoded_on bs block chunk xs n x y z h k w r =
+    group_on bs (bs ++ take n block) _ (x ∷ y ∷ z ∷ []) chunk xs w k r
     (ap (λ l. bs ++ l) (store_three block n x y z h)
     ∙ sym (append_assoc bs (take n block) (x ∷ y ∷ z ∷ [])))
 
 -- a block of groups more
-pub block_on : (first bytes more out piece xs rest : List ℕ)
-    → Went blob_step (Group first H0) piece xs (Group bytes H0)
+pub block_on : (first bytes more out chunk xs rest : List ℕ)
+    → Went blob_step (Group first H0) chunk xs (Group bytes H0)
     → ((bs : List ℕ) → Went blob_step (Group bs H0) xs rest (Group (bs ++ out) H0))
-    → more ≡ bytes ++ out → Went blob_step (Group first H0) piece rest (Group more H0)
-block_on first bytes more out piece xs rest w h e =
-    went_more blob_step (Group first H0) (Group bytes H0) (Group more H0) piece xs rest w
+    → more ≡ bytes ++ out → Went blob_step (Group first H0) chunk rest (Group more H0)
+block_on first bytes more out chunk xs rest w h e =
+    went_more blob_step (Group first H0) (Group bytes H0) (Group more H0) chunk xs rest w
     (subst (λ y. Went blob_step (Group bytes H0) xs rest (Group y H0)) (sym e) (h bytes))
 
 -- an escape is three steps of the machine
 pub escape_run : (high low h l : ℕ) → unhex high ≡ Some h → unhex low ≡ Some l → (bs : List ℕ)
     (x y : Utf8) → utf8_step x (h * 16 + l) ≡ Some y
-    → run shown_step (Plain bs x) (37 ∷ high ∷ low ∷ []) ≡ Some (Plain (bs ++ (h * 16 + l) ∷ []) y)
+    → run shown_step (Unencoded bs x) (37 ∷ high ∷ low ∷ [])
+    ≡ Some (Unencoded (bs ++ (h * 16 + l) ∷ []) y)
 escape_run high low h l e f bs x y g =
     let small = (read_hex low l f).1 in
     let same : (h * 16 + l) / 16 ≡ h = omega arith in
@@ -76,24 +77,25 @@ three (a ∷ b ∷ []) h = absurd (let k : ⊥ = omega arith in k)
 three (a ∷ b ∷ c ∷ xs) h = refl
 
 -- one escape more
-pub escape_on : (x y z : Utf8) (bs block piece xs : List ℕ) (n c : ℕ) → n < length block
+pub escape_on : (x y z : Utf8) (bs block chunk xs : List ℕ) (n c : ℕ) → n < length block
     → 3 ≤ length xs → get_or xs 0 0 ≡ 37
-    → Went shown_step (Plain bs x) piece xs (Plain (bs ++ take n block) y)
-    → run shown_step (Plain (bs ++ take n block) y)
-    (37 ∷ get_or xs 1 0 ∷ get_or xs 2 0 ∷ []) ≡ Some (Plain ((bs ++ take n block) ++ c ∷ []) z)
-    → Went shown_step (Plain bs x) piece (take (length xs - 3) (drop 3 xs))
-    (Plain (bs ++ take (n + 1) (set block n c)) z)
-escape_on x y z bs block piece xs n c h k e w r =
+    → Went shown_step (Unencoded bs x) chunk xs (Unencoded (bs ++ take n block) y)
+    → run shown_step (Unencoded (bs ++ take n block) y)
+    (37 ∷ get_or xs 1 0 ∷ get_or xs 2 0 ∷ []) ≡ Some (Unencoded ((bs ++ take n block) ++ c ∷ []) z)
+    → Went shown_step (Unencoded bs x) chunk (take (length xs - 3) (drop 3 xs))
+    (Unencoded (bs ++ take (n + 1) (set block n c)) z)
+escape_on x y z bs block chunk xs n c h k e w r =
     let stored : bs ++ take (n + 1) (set block n c) ≡ (bs ++ take n block) ++ c ∷ [] =
     ap (λ l. bs ++ l) (take_more_set block n c h) ∙ sym (append_assoc bs (take n block) (c ∷ [])) in
-    subst (λ q. Went shown_step (Plain bs x) piece q (Plain (bs ++ take (n + 1) (set block n c)) z))
+    subst (λ q. Went shown_step (Unencoded bs x) chunk q
+    (Unencoded (bs ++ take (n + 1) (set block n c)) z))
     (sym (take_rest xs 3))
-    (went_more shown_step (Plain bs x) (Plain (bs ++ take n block) y)
-    (Plain (bs ++ take (n + 1) (set block n c)) z) piece xs (drop 3 xs) w
+    (went_more shown_step (Unencoded bs x) (Unencoded (bs ++ take n block) y)
+    (Unencoded (bs ++ take (n + 1) (set block n c)) z) chunk xs (drop 3 xs) w
     (record {
       taken = 37 ∷ get_or xs 1 0 ∷ get_or xs 2 0 ∷ [];
       split = three xs k ∙ ap (λ b. b ∷ get_or xs 1 0 ∷ get_or xs 2 0 ∷ drop 3 xs) e;
-      leads = r ∙ ap (λ l. Some (Plain l z)) (sym stored);
+      leads = r ∙ ap (λ l. Some (Unencoded l z)) (sym stored);
     }))
 
 pub escape_leads : (x y z : Utf8) (bs block : List ℕ) (n c : ℕ) → n < length block

@@ -1,8 +1,9 @@
 -- The two dialects: one machine but for the first bytes of Dates and Display Strings.
+use Rattle.std.specs.Option.{option_map, option_or}
 use Rattle.std.proofs.Common.{◌≡◌, ℕ, Bool, true, false, ◌==◌, List, [], ◌∷◌, ◌++◌, length, Option}
 use Rattle.std.proofs.Common.{Some, None, refl, sym, ap, ◌∙◌, subst, ◌⊎◌, inl, inr, ⊎_elim}
 use Rattle.std.proofs.Common.{eqb-true, arith}
-use Rattle.sf_value.specs.Grammar.Words.{allow, otherwise}
+use Rattle.sf_value.specs.Grammar.Words.{allow}
 use Rattle.sf_value.specs.Grammar.Classes.{is_sp, is_ows, is_token_start}
 use Rattle.sf_value.specs.Grammar.Pairs.{Pairs, put, Pairs}
 use Rattle.sf_value.specs.Grammar.Fields.{SpellsField}
@@ -10,10 +11,10 @@ use Rattle.sf_value.specs.Grammar.Lines.{IsLongest}
 use Rattle.sf_value.specs.declared.dialect.Dialect.TheVariants.{Rfc8941, Rfc9651}
 use Rattle.sf_value.specs.declared.value.Member.{Member}
 use Rattle.sf_value.specs.declared.value.Field.{Field}
-use Rattle.sf_parse.specs.Machine.Language.{seen, onward, run}
+use Rattle.sf_parse.specs.Machine.Language.{onward, run}
 use Rattle.sf_parse.specs.Machine.Numbers.{number_start, Sign}
 use Rattle.sf_parse.specs.Machine.Texts.{Inside, word_start}
-use Rattle.sf_parse.specs.declared.boolean.BooleanState.TheVariants.{Asked}
+use Rattle.sf_parse.specs.declared.boolean.BooleanState.TheVariants.{QuestionMark}
 use Rattle.sf_parse.specs.Machine.Blobs.{Group, H0}
 use Rattle.sf_parse.specs.Machine.Showns.{Quote}
 use Rattle.sf_parse.specs.Machine.Bares.{BareState}
@@ -29,10 +30,10 @@ use Rattle.sf_parse.specs.Machine.Inners.{InnerState, Room, InItem, Closing, beh
 use Rattle.sf_parse.specs.Machine.Inners.{inner_step}
 use Rattle.sf_parse.specs.Machine.Members.{MemberState}
 use Rattle.sf_parse.specs.Machine.Members.{InOne, InMany}
-use Rattle.sf_parse.specs.Machine.Series.{SeriesState, Begin, InPiece, Gap, Comma, gap_step}
+use Rattle.sf_parse.specs.Machine.Series.{SeriesState, Begin, InMember, Gap, Comma, gap_step}
 use Rattle.sf_parse.specs.Machine.Series.{series_step}
 use Rattle.sf_parse.specs.Machine.Entries.{EntryState}
-use Rattle.sf_parse.specs.Machine.Entries.{InKey, Equals, InMember, InFlag}
+use Rattle.sf_parse.specs.Machine.Entries.{InKey, Equals, InMemberValue, InFlag}
 use Rattle.sf_parse.specs.Machine.States.{State}
 use Rattle.sf_parse.specs.Machine.States.{BeforeItem, InTop, AfterItem, InList}
 use Rattle.sf_parse.specs.Machine.States.{InDict}
@@ -57,20 +58,20 @@ mark_none f h k b (inr e) = ap f e ∙ k
 abbrev Near : {S : Type 0} → ℕ → Option S → Option S → Type 0
 Near b old new = (old ≡ new) ⊎ ((old ≡ None) × Mark b)
 
-near_seen : {S T : Type 0} {b : ℕ} {o n : Option S} (f : S → T) → Near b o n
-    → Near b (seen f o) (seen f n)
-near_seen f (inl e) = inl (ap (seen f) e)
-near_seen f (inr (e, m)) = inr (ap (seen f) e, m)
+near_map : {S T : Type 0} {b : ℕ} {o n : Option S} (f : S → T) → Near b o n
+    → Near b (option_map f o) (option_map f n)
+near_map f (inl e) = inl (ap (option_map f) e)
+near_map f (inr (e, m)) = inr (ap (option_map f) e, m)
 
 near_second : {S : Type 0} {b : ℕ} {o n : Option S} (a : Option S) → (Mark b → a ≡ None)
-    → Near b o n → Near b (otherwise a o) (otherwise a n)
-near_second a h (inl e) = inl (ap (otherwise a) e)
-near_second {o = o} a h (inr (e, m)) = inr (ap (λ y. otherwise y o) (h m) ∙ e, m)
+    → Near b o n → Near b (option_or a o) (option_or a n)
+near_second a h (inl e) = inl (ap (option_or a) e)
+near_second {o = o} a h (inr (e, m)) = inr (ap (λ y. option_or y o) (h m) ∙ e, m)
 
 near_first : {S : Type 0} {b : ℕ} {o n : Option S} (a : Option S) → (Mark b → a ≡ None) → Near b o n
-    → Near b (otherwise o a) (otherwise n a)
-near_first a h (inl e) = inl (ap (λ y. otherwise y a) e)
-near_first a h (inr (e, m)) = inr (ap (λ y. otherwise y a) e ∙ h m, m)
+    → Near b (option_or o a) (option_or n a)
+near_first a h (inl e) = inl (ap (λ y. option_or y a) e)
+near_first a h (inr (e, m)) = inr (ap (λ y. option_or y a) e ∙ h m, m)
 
 near_onward : {S T X : Type 0} {b : ℕ} {o n : Option S} (into : S → T) (end : Option X) (after : X
     → Option T)
@@ -88,105 +89,105 @@ near_onward {X = X} into end after h (inr (e, m)) = inr (
     go None = refl
 
 last_near : (b : ℕ)
-    → Near b (seen InBlob (allow (b == 58) (Group [] H0)))
-    (otherwise (seen InDate (allow (b == 64) Sign))
-    (otherwise (seen InBlob (allow (b == 58) (Group [] H0)))
-    (seen InShown (allow (b == 37) Quote))))
+    → Near b (option_map InBlob (allow (b == 58) (Group [] H0)))
+    (option_or (option_map InDate (allow (b == 64) Sign))
+    (option_or (option_map InBlob (allow (b == 58) (Group [] H0)))
+    (option_map InShown (allow (b == 37) Quote))))
 last_near b = go (b == 64) (b == 37) refl refl
   where
-    alone : (o : Option BareState) → o ≡ otherwise o None
+    alone : (o : Option BareState) → o ≡ option_or o None
     alone (Some s) = refl
     alone None = refl
 
     go : (x y : Bool) → (b == 64) ≡ x → (b == 37) ≡ y
-        → Near b (seen InBlob (allow (b == 58) (Group [] H0)))
-        (otherwise (seen InDate (allow (b == 64) Sign))
-        (otherwise (seen InBlob (allow (b == 58) (Group [] H0)))
-        (seen InShown (allow (b == 37) Quote))))
+        → Near b (option_map InBlob (allow (b == 58) (Group [] H0)))
+        (option_or (option_map InDate (allow (b == 64) Sign))
+        (option_or (option_map InBlob (allow (b == 58) (Group [] H0)))
+        (option_map InShown (allow (b == 37) Quote))))
     go true y e k = let m : Mark b = inl (eqb-true b 64 e) in
-        inr (mark_none (λ b. seen InBlob (allow (b == 58) (Group [] H0))) refl refl b m, m)
+        inr (mark_none (λ b. option_map InBlob (allow (b == 58) (Group [] H0))) refl refl b m, m)
     go false true e k = let m : Mark b = inr (eqb-true b 37 k) in
-        inr (mark_none (λ b. seen InBlob (allow (b == 58) (Group [] H0))) refl refl b m, m)
-    go false false e k = inl (rw (e, k) (alone (seen InBlob (allow (b == 58) (Group [] H0)))))
+        inr (mark_none (λ b. option_map InBlob (allow (b == 58) (Group [] H0))) refl refl b m, m)
+    go false false e k = inl (rw (e, k) (alone (option_map InBlob (allow (b == 58) (Group [] H0)))))
 
 old_last : (b : ℕ)
-    → otherwise (seen InBlob (allow (b == 58) (Group [] H0))) None
-    ≡ seen InBlob (allow (b == 58) (Group [] H0))
-old_last b = go (seen InBlob (allow (b == 58) (Group [] H0)))
+    → option_or (option_map InBlob (allow (b == 58) (Group [] H0))) None
+    ≡ option_map InBlob (allow (b == 58) (Group [] H0))
+old_last b = go (option_map InBlob (allow (b == 58) (Group [] H0)))
   where
-    go : (o : Option BareState) → otherwise o None ≡ o
+    go : (o : Option BareState) → option_or o None ≡ o
     go (Some s) = refl
     go None = refl
 
 bare_near : (b : ℕ) → Near b (bare_start Rfc8941 b) (bare_start Rfc9651 b)
 bare_near b =
-    near_second (seen InNumber (number_start b))
-    (mark_none (λ b. seen InNumber (number_start b)) refl refl b)
-    (near_second (seen InText (allow (b == 34) (Inside [])))
-    (mark_none (λ b. seen InText (allow (b == 34) (Inside []))) refl refl b)
-    (near_second (seen InToken (word_start is_token_start b))
-    (mark_none (λ b. seen InToken (word_start is_token_start b)) refl refl b)
-    (near_second (seen InBoolean (allow (b == 63) Asked))
-    (mark_none (λ b. seen InBoolean (allow (b == 63) Asked)) refl refl b)
+    near_second (option_map InNumber (number_start b))
+    (mark_none (λ b. option_map InNumber (number_start b)) refl refl b)
+    (near_second (option_map InText (allow (b == 34) (Inside [])))
+    (mark_none (λ b. option_map InText (allow (b == 34) (Inside []))) refl refl b)
+    (near_second (option_map InToken (word_start is_token_start b))
+    (mark_none (λ b. option_map InToken (word_start is_token_start b)) refl refl b)
+    (near_second (option_map InBoolean (allow (b == 63) QuestionMark))
+    (mark_none (λ b. option_map InBoolean (allow (b == 63) QuestionMark)) refl refl b)
     (⊎_elim (λ e. inl (old_last b ∙ e)) (λ e. inr (old_last b ∙ e.0, e.1)) (last_near b)))))
 
 params_near : (s : ParamsState) (b : ℕ) → Near b (params_step Rfc8941 s b) (params_step Rfc9651 s b)
 params_near (Between ps) b = inl refl
 params_near (Opened ps) b = inl refl
 params_near (InParamKey ps k) b = inl refl
-params_near (EqualsParam ps k) b = near_seen (InValue ps k) (bare_near b)
+params_near (EqualsParam ps k) b = near_map (InValue ps k) (bare_near b)
 params_near (InValue ps k s) b = inl refl
 
 item_start_near : (b : ℕ) → Near b (item_start Rfc8941 b) (item_start Rfc9651 b)
-item_start_near b = near_seen InBare (bare_near b)
+item_start_near b = near_map InBare (bare_near b)
 
 item_near : (s : ItemState) (b : ℕ) → Near b (item_step Rfc8941 s b) (item_step Rfc9651 s b)
 item_near (InBare s) b = inl refl
-item_near (InParams x s) b = near_seen (InParams x) (params_near s b)
+item_near (InParams x s) b = near_map (InParams x) (params_near s b)
 
 inner_near : (s : InnerState) (b : ℕ) → Near b (inner_step Rfc8941 s b) (inner_step Rfc9651 s b)
 inner_near (Room is) b =
     near_second (allow (is_sp b) (Room is)) (mark_none (λ b. allow (is_sp b) (Room is)) refl refl b)
     (near_second (allow (b == 41) (Closing is (Between [])))
     (mark_none (λ b. allow (b == 41) (Closing is (Between []))) refl refl b)
-    (near_seen (InItem is) (item_start_near b)))
+    (near_map (InItem is) (item_start_near b)))
 inner_near (InItem is s) b = near_onward (InItem is) (item_finish s) (λ i. behind_step (is
     ++ i ∷ []) b) (λ i. mark_none (behind_step (is ++ i ∷ [])) refl refl b) (item_near s b)
-inner_near (Closing is s) b = near_seen (Closing is) (params_near s b)
+inner_near (Closing is s) b = near_map (Closing is) (params_near s b)
 
 member_start_near : (b : ℕ) → Near b (member_start Rfc8941 b) (member_start Rfc9651 b)
-member_start_near b = near_first (seen InMany (allow (b == 40) (Room [])))
-    (mark_none (λ b. seen InMany (allow (b == 40) (Room []))) refl refl b)
-    (near_seen InOne (item_start_near b))
+member_start_near b = near_first (option_map InMany (allow (b == 40) (Room [])))
+    (mark_none (λ b. option_map InMany (allow (b == 40) (Room []))) refl refl b)
+    (near_map InOne (item_start_near b))
 
 member_near : (s : MemberState) (b : ℕ) → Near b (member_step Rfc8941 s b) (member_step Rfc9651 s b)
-member_near (InOne s) b = near_seen InOne (item_near s b)
-member_near (InMany s) b = near_seen InMany (inner_near s b)
+member_near (InOne s) b = near_map InOne (item_near s b)
+member_near (InMany s) b = near_map InMany (inner_near s b)
 
 entry_near : (s : EntryState) (b : ℕ) → Near b (entry_step Rfc8941 s b) (entry_step Rfc9651 s b)
 entry_near (InKey k) b = inl refl
-entry_near (Equals k) b = near_seen (InMember k) (member_start_near b)
-entry_near (InMember k s) b = near_seen (InMember k) (member_near s b)
-entry_near (InFlag k s) b = near_seen (InFlag k) (params_near s b)
+entry_near (Equals k) b = near_map (InMemberValue k) (member_start_near b)
+entry_near (InMemberValue k s) b = near_map (InMemberValue k) (member_near s b)
+entry_near (InFlag k s) b = near_map (InFlag k) (params_near s b)
 
 list_near : (s : SeriesState MemberState (List Member)) (b : ℕ)
     → Near b (series_step (list_series Rfc8941) s b) (series_step (list_series Rfc9651) s b)
 list_near Begin b = near_second (allow (is_sp b) Begin)
     (mark_none (λ b. allow (is_sp b) Begin) refl refl b)
-    (near_seen (InPiece []) (member_start_near b))
-list_near (InPiece given s) b = near_onward (InPiece given) (member_finish s)
+    (near_map (InMember []) (member_start_near b))
+list_near (InMember given s) b = near_onward (InMember given) (member_finish s)
     (λ x. gap_step (given
     ++ x ∷ []) b) (λ x. mark_none (gap_step (given
     ++ x ∷ [])) refl refl b) (member_near s b)
 list_near (Gap given) b = inl refl
 list_near (Comma given) b = near_second (allow (is_ows b) (Comma given))
     (mark_none (λ b. allow (is_ows b) (Comma given)) refl refl b)
-    (near_seen (InPiece given) (member_start_near b))
+    (near_map (InMember given) (member_start_near b))
 
 dict_near : (s : SeriesState EntryState (Pairs Member)) (b : ℕ)
     → Near b (series_step (dict_series Rfc8941) s b) (series_step (dict_series Rfc9651) s b)
 dict_near Begin b = inl refl
-dict_near (InPiece given s) b = near_onward (InPiece given) (entry_finish s)
+dict_near (InMember given s) b = near_onward (InMember given) (entry_finish s)
     (λ p. gap_step (put given p.0 p.1) b)
     (λ p. mark_none (gap_step (put given p.0 p.1)) refl refl b)
     (entry_near s b)
@@ -195,12 +196,12 @@ dict_near (Comma given) b = inl refl
 
 pub step_near : (s : State) (b : ℕ) → Near b (step Rfc8941 s b) (step Rfc9651 s b)
 step_near BeforeItem b = near_second (allow (is_sp b) BeforeItem)
-    (mark_none (λ b. allow (is_sp b) BeforeItem) refl refl b) (near_seen InTop (item_start_near b))
+    (mark_none (λ b. allow (is_sp b) BeforeItem) refl refl b) (near_map InTop (item_start_near b))
 step_near (InTop s) b = near_onward InTop (item_finish s) (λ i. allow (is_sp b) (AfterItem i))
     (λ i. mark_none (λ b. allow (is_sp b) (AfterItem i)) refl refl b) (item_near s b)
 step_near (AfterItem i) b = inl refl
-step_near (InList s) b = near_seen InList (list_near s b)
-step_near (InDict s) b = near_seen InDict (dict_near s b)
+step_near (InList s) b = near_map InList (list_near s b)
+step_near (InDict s) b = near_map InDict (dict_near s b)
 
 -- what the old machine runs through the new one does
 pub run_more : (s : State) (t : List ℕ) (r : State) → run (step Rfc8941) s t ≡ Some r

@@ -1,4 +1,4 @@
--- One piece fed behind another, and a field line behind another.
+-- One chunk fed behind another, and a field line behind another.
 use Rattle.std.proofs.Common.{◌≡◌, ℕ, ◌+◌, ◌≤◌, Bool, true, false, List, ◌∷◌, ◌++◌, [], length}
 use Rattle.std.proofs.Common.{Result}
 use Rattle.std.proofs.Common.{Ok, Err, sym, ap, ◌∙◌, subst, arith, append_assoc, length-append}
@@ -27,7 +27,7 @@ same_viable : (o p : Progress) (t : List ℕ) → SameSettings o p
 same_viable o p t k x =
     subst (λ y. Viable y o.kind t) k.dialect (subst (λ y. Viable p.dialect y t) k.kind x)
 
--- one piece after another
+-- one chunk after another
 pub fed_after : (o p q : Progress) (r : Result (Unit {0}) Refusal) (x y : List ℕ)
     → Fed o p (Ok tt) x → Fed p q r y → Fed o q r (x ++ y)
 fed_after o p q r x y a f = record {

@@ -1,4 +1,4 @@
--- What a parser took at once, and one piece behind another.
+-- What a parser took at once, and one chunk behind another.
 use Rattle.std.proofs.Common.{◌≡◌, ℕ, ◌+◌, ◌-◌, ◌≤◌, ◌↔◌, List, [], ◌∷◌, ◌++◌, length}
 use Rattle.std.proofs.Common.{get_or, Option, Some, None, Ok, Err, refl, sym, ap, ◌∙◌, subst}
 use Rattle.std.proofs.Common.{append_assoc, append-nil, length-append, arith}
@@ -9,18 +9,18 @@ use Rattle.sf_value.specs.declared.dialect.Dialect.{Dialect}
 use Rattle.sf_parse.specs.declared.refusal.Refusal.{Refusal}
 use Rattle.sf_parse.specs.Machine.States.{State}
 use Rattle.sf_parse.specs.Machine.Language.{run}
-use Rattle.sf_parse.specs.Machine.Fields.{Rest, step}
+use Rattle.sf_parse.specs.Machine.Fields.{Residual, step}
 use Rattle.sf_parse.specs.Parsers.{Progress, Took, Sound, RefusedFor, SameSettings, Fed}
-use Rattle.sf_parse.specs.Plain.{plain_byte}
-use Rattle.sf_parse.specs.PlainParsers.{PlainState}
-use Rattle.sf_parse.specs.Fronts.{Front, Went}
+use Rattle.sf_parse.specs.AllocationFree.{number_byte}
+use Rattle.sf_parse.specs.AllocationFreeParsers.{AllocationFreeState}
+use Rattle.sf_parse.specs.Prefixes.{LongestPrefix, Went}
 use Rattle.sf_parse.specs.Feeding.{FedTo}
 use Rattle.sf_parse.proofs.Machines
 use Rattle.sf_parse.proofs.Machine.Fields.{machine}
-use Rattle.sf_parse.proofs.Fronts.{kept_by_front}
-use Rattle.sf_parse.proofs.PlainSteps.{plain_step}
+use Rattle.sf_parse.proofs.Prefixes.{kept_by_prefix}
+use Rattle.sf_parse.proofs.AllocationFreeSteps.{allocation_free_step}
 use Rattle.sf_parse.proofs.Reached.{reaches_more, reached_viable}
-use Rattle.sf_parse.proofs.FedPieces.{FedFront, taken, stopped_in}
+use Rattle.sf_parse.proofs.FedChunks.{FedPrefix, taken, stopped_in}
 
 -- a text was taken behind another
 took_run : (p q : Progress) (s t : List ℕ) → Sound p.refusal p.state p.count p.max → Took p s
@@ -31,9 +31,9 @@ took_run p q s t g k e same c r =
     record {
       count = let n : p.count ≡ length s = k.count in omega (arith, length-append s t);
       rest = λ u v.
-          subst (λ d. Rest d q.state u v ↔ SpellsField d q.kind ((s ++ t) ++ u) v)
+          subst (λ d. Residual d q.state u v ↔ SpellsField d q.kind ((s ++ t) ++ u) v)
           (sym same.dialect)
-          (subst (λ k. Rest p.dialect q.state u v ↔ SpellsField p.dialect k ((s ++ t) ++ u) v)
+          (subst (λ k. Residual p.dialect q.state u v ↔ SpellsField p.dialect k ((s ++ t) ++ u) v)
           (sym same.kind) (more.rest u v));
       unrefused = r;
     }
@@ -57,63 +57,65 @@ fed_run p q t g h e same c r = record {
   );
 }
 
-went_length : {S : Type 0} (next : S → ℕ → Option S) (s t : S) (piece rest : List ℕ)
-    (w : Went next s piece rest t) → length piece ≡ length w.taken + length rest
-went_length next s t piece rest w = ap length w.split ∙ length-append w.taken rest
+went_length : {S : Type 0} (next : S → ℕ → Option S) (s t : S) (chunk rest : List ℕ)
+    (w : Went next s chunk rest t) → length chunk ≡ length w.taken + length rest
+went_length next s t chunk rest w = ap length w.split ∙ length-append w.taken rest
 
-pub sound_taken : (r : Option Refusal) (d : Dialect) (s u : State) (piece rest : List ℕ)
-    (count max : ℕ) → Sound r s count max → r ≡ None → count + length piece ≤ max
-    → Front (step d) s piece rest u → Sound r u (count + (length piece - length rest)) max
-sound_taken r d s u piece rest count max g n h a =
-    let l = went_length (step d) s u piece rest a.went in
-    subst (λ y. Sound y u (count + (length piece - length rest)) max) (sym n) (
+pub sound_taken : (r : Option Refusal) (d : Dialect) (s u : State) (chunk rest : List ℕ)
+    (count max : ℕ) → Sound r s count max → r ≡ None → count + length chunk ≤ max
+    → LongestPrefix (step d) s chunk rest u → Sound r u (count + (length chunk - length rest)) max
+sound_taken r d s u chunk rest count max g n h a =
+    let l = went_length (step d) s u chunk rest a.went in
+    subst (λ y. Sound y u (count + (length chunk - length rest)) max) (sym n) (
       Machines.run_good (machine d) s u a.went.taken
           (subst (λ y. Sound y s count max) n g).0 a.went.leads,
       omega arith,
     )
 
-pub fed_taken : (p q : Progress) (piece rest : List ℕ) → Sound p.refusal p.state p.count p.max
-    → p.count + length piece ≤ p.max → Front (step p.dialect) p.state piece rest q.state
-    → SameSettings p q → q.count ≡ p.count + (length piece - length rest)
-    → q.refusal ≡ p.refusal → FedTo p q piece rest
-fed_taken p q piece rest g h a same c r =
-    let l = went_length (step p.dialect) p.state q.state piece rest a.went in (
+pub fed_taken : (p q : Progress) (chunk rest : List ℕ) → Sound p.refusal p.state p.count p.max
+    → p.count + length chunk ≤ p.max → LongestPrefix (step p.dialect) p.state chunk rest q.state
+    → SameSettings p q → q.count ≡ p.count + (length chunk - length rest)
+    → q.refusal ≡ p.refusal → FedTo p q chunk rest
+fed_taken p q chunk rest g h a same c r =
+    let l = went_length (step p.dialect) p.state q.state chunk rest a.went in (
       a.went.taken,
       a.went.split,
       fed_run p q a.went.taken g (omega arith) a.went.leads same (omega arith) r,
     )
 
-pub plain_taken : (d : Dialect) (s u : State) (piece rest : List ℕ) → PlainState s
-    → Every plain_byte piece → Front (step d) s piece rest u → PlainState u
-plain_taken d s u piece rest h w a =
-    kept_by_front (step d) PlainState plain_byte (plain_step d) s u piece rest h w a.went
+pub allocation_free_taken : (d : Dialect) (s u : State) (chunk rest : List ℕ)
+    → AllocationFreeState s
+    → Every number_byte chunk → LongestPrefix (step d) s chunk rest u → AllocationFreeState u
+allocation_free_taken d s u chunk rest h w a =
+    kept_by_prefix (step d) AllocationFreeState number_byte (allocation_free_step d) s u chunk rest
+    h w a.went
 
 at_seam : (xs : List ℕ) (b : ℕ) (more : List ℕ) → get_or (xs ++ b ∷ more) (length xs) 0 ≡ b
 at_seam [] b more = refl
 at_seam (x ∷ xs) b more = at_seam xs b more
 
--- a byte is refused behind a front
-pub refused_behind : (o p q : Progress) (x : List ℕ) (b : ℕ) (more piece : List ℕ) (e : Refusal)
-    → Fed o p (Ok tt) x → Fed p q (Err e) (b ∷ []) → piece ≡ x ++ b ∷ more → Fed o q (Err e) piece
-refused_behind o p q x b more piece e a f s =
+-- a byte is refused behind a prefix
+pub refused_behind : (o p q : Progress) (x : List ℕ) (b : ℕ) (more chunk : List ℕ) (e : Refusal)
+    → Fed o p (Ok tt) x → Fed p q (Err e) (b ∷ []) → chunk ≡ x ++ b ∷ more → Fed o q (Err e) chunk
+refused_behind o p q x b more chunk e a f s =
     subst (Fed o q (Err e)) (sym s)
     (stopped_in o p q (x ++ b ∷ more) (length x) e (omega (arith, length-append x (b ∷ more)))
-    (subst (FedFront o p) (sym (take-append_seam x (b ∷ more)))
+    (subst (FedPrefix o p) (sym (take-append_seam x (b ∷ more)))
     (record { settings = a.settings; counted = a.counted; answer = a.answer }))
     (subst (λ y. Fed p q (Err e) (y ∷ [])) (sym (at_seam x b more)) f))
 
--- what is refused in a front is refused in the piece
-pub refused_before : (o q : Progress) (x back piece : List ℕ) (e : Refusal) → Fed o q (Err e) x
-    → piece ≡ x ++ back → Fed o q (Err e) piece
-refused_before o q x back piece e f s = subst (Fed o q (Err e)) (sym s) (record {
+-- what is refused in a prefix is refused in the chunk
+pub refused_before : (o q : Progress) (x suffix chunk : List ℕ) (e : Refusal) → Fed o q (Err e) x
+    → chunk ≡ x ++ suffix → Fed o q (Err e) chunk
+refused_before o q x suffix chunk e f s = subst (Fed o q (Err e)) (sym s) (record {
   settings = f.settings;
-  counted = let k = f.counted in omega (arith, length-append x back);
+  counted = let k = f.counted in omega (arith, length-append x suffix);
   answer = (
     f.answer.0,
     λ t k more.
         subst (λ y. RefusedFor o.dialect o.kind o.max y e)
-        (sym (append_assoc (t ++ x) back more) ∙ ap (λ y. y ++ more) (append_assoc t x back))
-        (f.answer.1 t k (back ++ more)),
+        (sym (append_assoc (t ++ x) suffix more) ∙ ap (λ y. y ++ more) (append_assoc t x suffix))
+        (f.answer.1 t k (suffix ++ more)),
   );
 })
 
@@ -121,13 +123,13 @@ pub all_taken : (x rest : List ℕ) → length rest ≡ 0 → x ++ rest ≡ x
 all_taken x [] e = append-nil x
 all_taken x (b ∷ rest) e = absurd (let k : ⊥ = omega arith in k)
 
--- where a byte behind a front stands: before the limit, and behind it
-pub front_split : (piece f back x rest : List ℕ) (b : ℕ) (more : List ℕ) → piece ≡ f ++ back
-    → f ≡ x ++ rest → rest ≡ b ∷ more → piece ≡ x ++ b ∷ (more ++ back)
-front_split piece f back x rest b more e s k =
-    e ∙ ap (λ y. y ++ back) (s ∙ ap (λ y. x ++ y) k) ∙ append_assoc x (b ∷ more) back
+-- where a byte behind a prefix stands: before the limit, and behind it
+pub prefix_split : (chunk f suffix x rest : List ℕ) (b : ℕ) (more : List ℕ) → chunk ≡ f ++ suffix
+    → f ≡ x ++ rest → rest ≡ b ∷ more → chunk ≡ x ++ b ∷ (more ++ suffix)
+prefix_split chunk f suffix x rest b more e s k =
+    e ∙ ap (λ y. y ++ suffix) (s ∙ ap (λ y. x ++ y) k) ∙ append_assoc x (b ∷ more) suffix
 
-pub back_split : (piece f back x rest : List ℕ) (b : ℕ) (more : List ℕ) → piece ≡ f ++ back
-    → f ≡ x ++ rest → length rest ≡ 0 → back ≡ b ∷ more → piece ≡ x ++ b ∷ more
-back_split piece f back x rest b more e s k n =
-    e ∙ ap (λ y. y ++ back) (s ∙ all_taken x rest k) ∙ ap (λ y. x ++ y) n
+pub suffix_split : (chunk f suffix x rest : List ℕ) (b : ℕ) (more : List ℕ) → chunk ≡ f ++ suffix
+    → f ≡ x ++ rest → length rest ≡ 0 → suffix ≡ b ∷ more → chunk ≡ x ++ b ∷ more
+suffix_split chunk f suffix x rest b more e s k n =
+    e ∙ ap (λ y. y ++ suffix) (s ∙ all_taken x rest k) ∙ ap (λ y. x ++ y) n

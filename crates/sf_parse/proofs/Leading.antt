@@ -1,12 +1,13 @@
 -- Bytes that lead to a place in a character.
+use Rattle.std.specs.Option.{option_map}
 use Rattle.std.proofs.Common.{◌≡◌, ℕ, ◌+◌, ◌*◌, ◌==◌, true, false, List, [], ◌∷◌, ◌++◌, Some}
 use Rattle.std.proofs.Common.{refl, sym, ap, ◌∙◌, subst, arith, append-nil, append_assoc}
 use Rattle.sf_value.specs.Grammar.Words.{Every}
-use Rattle.sf_value.specs.Grammar.DisplayStrings.{is_plain}
-use Rattle.sf_parse.specs.Fronts.{Went}
+use Rattle.sf_value.specs.Grammar.DisplayStrings.{is_unencoded}
+use Rattle.sf_parse.specs.Prefixes.{Went}
 use Rattle.sf_value.specs.Grammar.Utf8.{Utf8, Start, Wants, within, utf8_step, WellFormed}
-use Rattle.sf_parse.specs.Machine.Language.{run, seen}
-use Rattle.sf_parse.specs.Machine.Showns.{Plain, Hex, unhex, pushed, shown_step}
+use Rattle.sf_parse.specs.Machine.Language.{run}
+use Rattle.sf_parse.specs.Machine.Showns.{Unencoded, Hex, unhex, pushed, shown_step}
 use Rattle.sf_value.specs.Grammar.Classes.{is_visible}
 use Rattle.sf_parse.specs.Machine.Tests.{shown_ends}
 use Rattle.sf_parse.specs.Views.{utf8_of, shown_of, FitsShown, Leads}
@@ -46,68 +47,68 @@ pub whole_when_led : (bytes : List ℕ) → run utf8_step Start bytes ≡ Some S
     → WellFormed Start bytes
 whole_when_led = whole_from Start
 
--- a plain byte, and the second digit of an escape, are one more byte of the text
-pub plain_pushed : (bytes : List ℕ) (x : Utf8) (b : ℕ) → (b == 34) ≡ false → (b == 37) ≡ false
-    → is_visible b ≡ true → shown_step (Plain bytes x) b ≡ pushed (Plain bytes x) b
-plain_pushed bytes x b q p v = rw (q, p, v) refl
+-- an unencoded byte, and the second digit of an escape, are one more byte of the text
+pub unencoded_pushed : (bytes : List ℕ) (x : Utf8) (b : ℕ) → (b == 34) ≡ false → (b == 37) ≡ false
+    → is_visible b ≡ true → shown_step (Unencoded bytes x) b ≡ pushed (Unencoded bytes x) b
+unencoded_pushed bytes x b q p v = rw (q, p, v) refl
 
 pub hex_pushed : (bytes : List ℕ) (x : Utf8) (h b l : ℕ) → unhex b ≡ Some l
     → shown_step (Hex bytes x h) b ≡ pushed (Hex bytes x h) (h * 16 + l)
 hex_pushed bytes x h b l e = rw e refl
 
 -- a byte that stands for itself between characters leads to between characters again
-plain_low : (b : ℕ) → is_plain b ≡ true → within 0 127 b ≡ true
-plain_low b h = grind arith
+unencoded_low : (b : ℕ) → is_unencoded b ≡ true → within 0 127 b ≡ true
+unencoded_low b h = grind arith
 
-plain_after : (b : ℕ) → is_plain b ≡ true → utf8_step Start b ≡ Some Start
-plain_after b h = rw (plain_low b h) refl
+unencoded_after : (b : ℕ) → is_unencoded b ≡ true → utf8_step Start b ≡ Some Start
+unencoded_after b h = rw (unencoded_low b h) refl
 
-plain_tests : (b : ℕ) → is_plain b ≡ true
+unencoded_tests : (b : ℕ) → is_unencoded b ≡ true
     → ((b == 34) ≡ false) × ((b == 37) ≡ false) × (is_visible b ≡ true)
-plain_tests b h = (grind arith, grind arith, grind arith)
+unencoded_tests b h = (grind arith, grind arith, grind arith)
 
-plain_taken : (bytes : List ℕ) (b : ℕ) → is_plain b ≡ true
-    → shown_step (Plain bytes Start) b ≡ Some (Plain (bytes ++ b ∷ []) Start)
-plain_taken bytes b h =
-    let k = plain_tests b h in
-    plain_pushed bytes Start b k.0 k.1 k.2
-    ∙ ap (seen (Plain (bytes ++ b ∷ []))) (plain_after b h)
+unencoded_taken : (bytes : List ℕ) (b : ℕ) → is_unencoded b ≡ true
+    → shown_step (Unencoded bytes Start) b ≡ Some (Unencoded (bytes ++ b ∷ []) Start)
+unencoded_taken bytes b h =
+    let k = unencoded_tests b h in
+    unencoded_pushed bytes Start b k.0 k.1 k.2
+    ∙ ap (option_map (Unencoded (bytes ++ b ∷ []))) (unencoded_after b h)
 
-plain_run : (bytes xs : List ℕ) → Every is_plain xs
-    → run shown_step (Plain bytes Start) xs ≡ Some (Plain (bytes ++ xs) Start)
-plain_run bytes [] h = ap (λ y. Some (Plain y Start)) (sym (append-nil bytes))
-plain_run bytes (b ∷ xs) h =
-    rw (plain_taken bytes b h.0)
-    (plain_run (bytes ++ b ∷ []) xs h.1
-    ∙ ap (λ y. Some (Plain y Start)) (append_assoc bytes (b ∷ []) xs))
+unencoded_run : (bytes xs : List ℕ) → Every is_unencoded xs
+    → run shown_step (Unencoded bytes Start) xs ≡ Some (Unencoded (bytes ++ xs) Start)
+unencoded_run bytes [] h = ap (λ y. Some (Unencoded y Start)) (sym (append-nil bytes))
+unencoded_run bytes (b ∷ xs) h =
+    rw (unencoded_taken bytes b h.0)
+    (unencoded_run (bytes ++ b ∷ []) xs h.1
+    ∙ ap (λ y. Some (Unencoded y Start)) (append_assoc bytes (b ∷ []) xs))
 
 -- a run of such bytes
-pub plain_went : (bytes xs rest piece more : List ℕ) → piece ≡ xs ++ rest
-    → Every is_plain xs → more ≡ bytes ++ xs
-    → Went shown_step (Plain bytes Start) piece rest (Plain more Start)
-plain_went bytes xs rest piece more e h f = record {
+pub unencoded_went : (bytes xs rest chunk more : List ℕ) → chunk ≡ xs ++ rest
+    → Every is_unencoded xs → more ≡ bytes ++ xs
+    → Went shown_step (Unencoded bytes Start) chunk rest (Unencoded more Start)
+unencoded_went bytes xs rest chunk more e h f = record {
   taken = xs;
   split = e;
-  leads = plain_run bytes xs h ∙ ap (λ y. Some (Plain y Start)) (sym f);
+  leads = unencoded_run bytes xs h ∙ ap (λ y. Some (Unencoded y Start)) (sym f);
 }
 
 pub leads_run : (bytes xs more : List ℕ) → run utf8_step Start bytes ≡ Some Start
-    → Every is_plain xs → more ≡ bytes ++ xs → run utf8_step Start more ≡ Some Start
+    → Every is_unencoded xs → more ≡ bytes ++ xs → run utf8_step Start more ≡ Some Start
 leads_run bytes xs more l h f =
     subst (λ y. run utf8_step Start y ≡ Some Start) (sym f) (by bytes xs l h)
   where
-    by : (bytes xs : List ℕ) → run utf8_step Start bytes ≡ Some Start → Every is_plain xs
+    by : (bytes xs : List ℕ) → run utf8_step Start bytes ≡ Some Start → Every is_unencoded xs
         → run utf8_step Start (bytes ++ xs) ≡ Some Start
     by bytes [] l h = rw (append-nil bytes) l
     by bytes (b ∷ xs) l h =
         subst (λ y. run utf8_step Start y ≡ Some Start) (append_assoc bytes (b ∷ []) xs)
-        (by (bytes ++ b ∷ []) xs (leads_push bytes b Start Start l (plain_after b h.0)) h.1)
+        (by (bytes ++ b ∷ []) xs (leads_push bytes b Start Start l (unencoded_after b h.0)) h.1)
 
 -- a closed display string is whole characters
 pub shown_whole : (p : ShownPhase) (bytes : List ℕ) (chars : Utf8State) → FitsShown p bytes chars
     → shown_ends (shown_of p bytes chars) ≡ true → WellFormed Start bytes
 shown_whole shown_phase.Quote bytes chars f e = absurd cc
-shown_whole shown_phase.Plain bytes chars f e = absurd cc
+shown_whole shown_phase.Unencoded bytes chars f e = absurd cc
 shown_whole shown_phase.Percent bytes chars f e = absurd cc
 shown_whole (shown_phase.Hex high) bytes chars f e = absurd cc
 shown_whole shown_phase.Done bytes chars f e =

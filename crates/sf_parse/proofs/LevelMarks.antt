@@ -10,7 +10,7 @@ use Rattle.sf_value.specs.Grammar.Classes.{is_sp, is_visible}
 use Rattle.sf_value.specs.Grammar.Utf8.{Utf8, Wants, within, utf8_step}
 use Rattle.sf_parse.specs.Expected.{Marks}
 use Rattle.sf_parse.specs.Machine.Language.{run}
-use Rattle.sf_parse.specs.Machine.Showns.{Plain, GoodUtf8}
+use Rattle.sf_parse.specs.Machine.Showns.{Unencoded, GoodUtf8}
 use Rattle.sf_parse.specs.Machine.Bares.{BareState}
 use Rattle.sf_parse.specs.Machine.Params.{ParamsState}
 use Rattle.sf_parse.specs.Machine.Items.{ItemState, InBare, InParams}
@@ -62,7 +62,7 @@ no_quote : (b : ℕ) → (b == 34) ≡ true → false ≡ (b == 37)
 no_quote b e = grind arith
 
 only_escapes : (bytes : List ℕ) (n low high b : ℕ) → 128 ≤ low
-    → shown_takes (Plain bytes (Wants n low high)) b ≡ (b == 37)
+    → shown_takes (Unencoded bytes (Wants n low high)) b ≡ (b == 37)
 only_escapes bytes n low high b l = go (b == 34) (b == 37) (is_visible b) refl refl refl
   where
     go : (p q r : Bool) → (b == 34) ≡ p → (b == 37) ≡ q → is_visible b ≡ r
@@ -74,7 +74,7 @@ only_escapes bytes n low high b l = go (b == 34) (b == 37) (is_visible b) refl r
     go false false false e f g = sym f
 
 pub marks_wants : (bytes : List ℕ) (n low high : ℕ) → GoodUtf8 (Wants n low high)
-    → Marks 137438953472 (shown_takes (Plain bytes (Wants n low high)))
+    → Marks 137438953472 (shown_takes (Unencoded bytes (Wants n low high)))
 marks_wants bytes n low high g b =
     marks_table 137438953472 (λ b. b == 37) refl b
     ∙ ap (λ y. cond (nat_lt b 128 && y) 1 0) (sym (only_escapes bytes n low high b g.0))

@@ -99,7 +99,7 @@ pub quad_from : (x y z w : ℕ) (u s : List ℕ) → x < 64 → y < 64 → z < 6
 unfolding quad
 quad_from x y z w u [] gx gy gz gw (
   low,
-  back,
+  suffix,
   lt,
   e,
   f,
@@ -107,29 +107,29 @@ quad_from x y z w u [] gx gy gz gw (
 ) = absurd (pads_letter 0 x (letter y ∷ letter z ∷ letter w ∷ u) gx (subst (Pads 0) (sym e) p))
 quad_from x y z w u (a ∷ []) gx gy gz gw (
   low,
-  back,
+  suffix,
   lt,
   e,
   f,
   p,
-) = absurd (pads_letter 2 z (letter w ∷ u) gz (subst (Pads 2) (let e' : back
+) = absurd (pads_letter 2 z (letter w ∷ u) gz (subst (Pads 2) (let e' : suffix
     ≡ letter z ∷ letter w ∷ u = cc in
     e') p))
 quad_from x y z w u (a ∷ c ∷ []) gx gy gz gw (
   low,
-  back,
+  suffix,
   lt,
   e,
   f,
   p,
-) = absurd (pads_letter 1 w u gw (subst (Pads 1) (let e' : back ≡ letter w ∷ u = cc in
+) = absurd (pads_letter 1 w u gw (subst (Pads 1) (let e' : suffix ≡ letter w ∷ u = cc in
     e') p))
-quad_from x y z w u (a ∷ c ∷ d ∷ s) gx gy gz gw (low, back, lt, e, f, p) =
+quad_from x y z w u (a ∷ c ∷ d ∷ s) gx gy gz gw (low, suffix, lt, e, f, p) =
     let e1 : letter (a / 4) ≡ letter x = cc in
     let e2 : letter (a % 4 * 16 + c / 16) ≡ letter y = cc in
     let e3 : letter (c % 16 * 4 + d / 64) ≡ letter z = cc in
     let e4 : letter (d % 64) ≡ letter w = cc in
-    let e5 : u ≡ unpadded low s ++ back = cc in
+    let e5 : u ≡ unpadded low s ++ suffix = cc in
     let fc = byte_small c f.1.0 in
     let fd = byte_small d f.1.1.0 in
     let k = three_bytes a c d x y z w fc fd
@@ -137,7 +137,7 @@ quad_from x y z w u (a ∷ c ∷ d ∷ s) gx gy gz gw (low, back, lt, e, f, p) =
     (letter_same (a % 4 * 16 + c / 16) y (second_small a c fc) gy e2)
     (letter_same (c % 16 * 4 + d / 64) z (third_small c d fd) gz e3)
     (letter_same (d % 64) w (fourth_small d) gw e4) in
-    (s, (low, back, lt, e5, f.1.1.1, p), go k.0 k.1 k.2)
+    (s, (low, suffix, lt, e5, f.1.1.1, p), go k.0 k.1 k.2)
   where
     go : a ≡ x * 4 + y / 16 → c ≡ y % 16 * 16 + z / 4 → d ≡ z % 4 * 64 + w
         → a ∷ c ∷ d ∷ s ≡ (x * 4 + y / 16) ∷ (y % 16 * 16 + z / 4) ∷ (z % 4 * 64 + w) ∷ s
@@ -155,11 +155,11 @@ quad_bytes x y z w gx gy gz gw = (omega arith, omega arith, omega arith)
 pub quad_gives : (x y z w : ℕ) (u r : List ℕ) → x < 64 → y < 64 → z < 64 → w < 64 → Sextets u r
     → Sextets (letter x ∷ letter y ∷ letter z ∷ letter w ∷ u) (quad x y z w ++ r)
 unfolding quad
-quad_gives x y z w u r gx gy gz gw (low, back, lt, e, f, p) =
+quad_gives x y z w u r gx gy gz gw (low, suffix, lt, e, f, p) =
     let k = quad_digits x y z w gx gy gz gw in
     let b = quad_bytes x y z w gx gy gz gw in (
       low,
-      back,
+      suffix,
       lt,
       ap₂ (λ p q. letter p ∷ q) (sym k.0)
           (ap₂ (λ p q. letter p ∷ q) (sym k.1)

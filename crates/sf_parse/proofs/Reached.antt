@@ -9,7 +9,7 @@ use Rattle.sf_value.specs.Grammar.Lines.{Continues}
 use Rattle.sf_value.specs.declared.dialect.Dialect.{Dialect}
 use Rattle.sf_value.specs.declared.value.Kind.{Kind}
 use Rattle.sf_parse.specs.Machine.States.{State}
-use Rattle.sf_parse.specs.Machine.Fields.{Rest, step}
+use Rattle.sf_parse.specs.Machine.Fields.{Residual, step}
 use Rattle.sf_parse.specs.Reached.{Reached, ReachedNothing, ReachesMore, ReachedViable, ReachedNext}
 use Rattle.sf_parse.specs.Reached.{ReachedEnd}
 use Rattle.sf_parse.specs.Reached.{ReachedStops, ReachedAll}
@@ -30,9 +30,9 @@ reaches_more d kind s t p x k e = record {
       );
 }
 
-reached_front : (d : Dialect) (kind : Kind) (s : State) (p x : List ℕ) → Reached d kind s p
-    → Continues (SpellsField d kind) (p ++ x) ↔ Continues (Rest d s) x
-reached_front d kind s p x k = (
+reached_prefix : (d : Dialect) (kind : Kind) (s : State) (p x : List ℕ) → Reached d kind s p
+    → Continues (SpellsField d kind) (p ++ x) ↔ Continues (Residual d s) x
+reached_prefix d kind s p x k = (
   λ (u, v, h). (
     u,
     v,
@@ -52,7 +52,7 @@ reached_viable d kind s p k = let l = (machine d).lives s k.good in
 pub reached_next : ReachedNext
 reached_next d kind s p b k =
     let a = Machines.next (machine d) s s [] b k.good refl in
-    let f = reached_front d kind s p (b ∷ []) k in
+    let f = reached_prefix d kind s p (b ∷ []) k in
     (λ h. a.0 (f.0 h), λ h. f.1 (a.1 h))
 
 pub reached_end : ReachedEnd
@@ -77,7 +77,7 @@ reached_stops d kind s p q b k n = record {
     beyond : (m : ℕ) → length p < m → Continues (SpellsField d kind) (take m (p ++ b ∷ q)) → ⊥
     beyond m l h =
         let cut = Machines.take_past p q b m l in
-        let f = Machines.viable_front (machine d) (SpellsField d kind) (p
+        let f = Machines.viable_prefix (machine d) (SpellsField d kind) (p
         ++ b ∷ []) (take (m - suc (length p)) q) (subst (Continues (SpellsField d kind)) cut h) in
         let r = (reached_next d kind s p b k).0 f in
         clash (step d s b) r.0 n r.1

@@ -15,9 +15,9 @@ use Rattle.sf_parse.specs.declared.refusal.Refusal.TheVariants.{OutOfMemory, Syn
 use Rattle.sf_parse.specs.declared.refusal.Refusal.TheVariants.{ReadFault}
 use Rattle.sf_parse.specs.Machine.Fields.{begin}
 use Rattle.sf_parse.specs.Parsers.{Progress, Took, Fed, RefusedFor, Finishes}
-use Rattle.sf_parse.specs.Plain.{plain_byte}
-use Rattle.sf_parse.specs.PlainParsers.{IsPlain, IsOther, NotForMemory}
-use Rattle.sf_parse.specs.Reading.{GaveAll, IsPlainText, Wanted, ReadAndParsed}
+use Rattle.sf_parse.specs.AllocationFree.{number_byte}
+use Rattle.sf_parse.specs.AllocationFreeParsers.{IsAllocationFree, IsOther, NotForMemory}
+use Rattle.sf_parse.specs.Reading.{GaveAll, IsNumberText, Wanted, ReadAndParsed}
 use Rattle.sf_parse.proofs.Reached.{reached_nothing, reached_viable}
 use Rattle.sf_value.proofs.Gives.{gave_none, gave_more}
 
@@ -33,23 +33,24 @@ pub record ReadSoFar (old now : SourceState) (kind : Kind) (max given : ℕ) (p 
   pub same_max : p.max ≡ max
   pub within : given ≤ max
   pub viable : Viable Rfc9651 kind text
-  pub plain : IsPlainText kind text → IsPlain p
+  pub allocation_free : IsNumberText kind text → IsAllocationFree p
 
-every_front : (t : ℕ → Bool) (a b : List ℕ) → Every t (a ++ b) → Every t a
-every_front t [] b h = tt
-every_front t (x ∷ a) b h = (h.0, every_front t a b h.1)
+every_prefix : (t : ℕ → Bool) (a b : List ℕ) → Every t (a ++ b) → Every t a
+every_prefix t [] b h = tt
+every_prefix t (x ∷ a) b h = (h.0, every_prefix t a b h.1)
 
 every_behind : (t : ℕ → Bool) (a b : List ℕ) → Every t (a ++ b) → Every t b
 every_behind t [] b h = h
 every_behind t (x ∷ a) b h = every_behind t a b h.1
 
-plain_front : (kind : Kind) (a b : List ℕ) → IsPlainText kind (a ++ b) → IsPlainText kind a
-plain_front kind a b h = (h.0, every_front plain_byte a b h.1)
+allocation_free_prefix : (kind : Kind) (a b : List ℕ) → IsNumberText kind (a ++ b)
+    → IsNumberText kind a
+allocation_free_prefix kind a b h = (h.0, every_prefix number_byte a b h.1)
 
 pub reads_start : (s : SourceState) (kind : Kind) (max : ℕ) (p : Progress) → Took p []
-    → p.dialect ≡ Rfc9651 → p.kind ≡ kind → p.max ≡ max → (kind ≡ kind_is.Item → IsPlain p)
+    → p.dialect ≡ Rfc9651 → p.kind ≡ kind → p.max ≡ max → (kind ≡ kind_is.Item → IsAllocationFree p)
     → ReadSoFar s s kind max 0 p
-reads_start s kind max p t d k m plain = record {
+reads_start s kind max p t d k m allocation_free = record {
   text = [];
   gave = gave_none s;
   took = t;
@@ -59,14 +60,14 @@ reads_start s kind max p t d k m plain = record {
   same_max = m;
   within = omega arith;
   viable = reached_viable Rfc9651 kind (begin kind) [] (reached_nothing Rfc9651 kind);
-  plain = λ h. plain h.0;
+  allocation_free = λ h. allocation_free h.0;
 }
 
 pub reads_more : (old a b : SourceState) (kind : Kind) (max given n : ℕ) (p q : Progress)
     (ys : List ℕ) → ReadSoFar old a kind max given p → GivesOnce a b ys → length ys ≡ n
-    → Fed p q (Ok tt) ys → (IsPlain p → Every plain_byte ys → IsPlain q)
+    → Fed p q (Ok tt) ys → (IsAllocationFree p → Every number_byte ys → IsAllocationFree q)
     → ReadSoFar old b kind max (given + n) q
-reads_more old a b kind max given n p q ys r g e f plain =
+reads_more old a b kind max given n p q ys r g e f allocation_free =
     let fed = f.answer.1 r.text r.took in
     let same = f.settings in
     let count : length (r.text ++ ys) ≡ given + n =
@@ -83,8 +84,9 @@ reads_more old a b kind max given n p q ys r g e f plain =
       viable =
           subst (λ k. Viable Rfc9651 k (r.text ++ ys)) r.same_kind
           (subst (λ d. Viable d p.kind (r.text ++ ys)) r.dialect fed.1);
-      plain = λ h.
-          plain (r.plain (plain_front kind r.text ys h)) (every_behind plain_byte r.text ys h.1);
+      allocation_free = λ h.
+          allocation_free (r.allocation_free (allocation_free_prefix kind r.text ys h))
+          (every_behind number_byte r.text ys h.1);
     }
 
 at_most : (m n k given top : ℕ) → m ≡ given → k ≡ m + n → given + n ≤ top → k ≤ top
@@ -93,9 +95,9 @@ at_most m n k given top c e l = omega arith
 pub reads_refused : (old a b : SourceState) (kind : Kind) (max given : ℕ) (p q : Progress)
     (ys : List ℕ) (e : Refusal) → ReadSoFar old a kind max given p → GivesOnce a b ys
     → given + length ys ≤ capped (max + 1) → Fed p q (Err e) ys
-    → (IsPlain p → Every plain_byte ys → IsOther e)
+    → (IsAllocationFree p → Every number_byte ys → IsOther e)
     → ReadAndParsed Rfc9651 kind old b max (Err e)
-reads_refused old a b kind max given p q ys e r g l f plain = at e refused other
+reads_refused old a b kind max given p q ys e r g l f allocation_free = at e refused other
   where
     text : List ℕ
     text = r.text ++ ys
@@ -114,12 +116,13 @@ reads_refused old a b kind max given p q ys e r g l f plain = at e refused other
         (subst (λ m. RefusedFor p.dialect p.kind m (text ++ more) e) r.same_max
         (f.answer.1 r.text r.took more)))
 
-    other : IsPlainText kind text → IsOther e
+    other : IsNumberText kind text → IsOther e
     other h =
-        plain (r.plain (plain_front kind r.text ys h)) (every_behind plain_byte r.text ys h.1)
+        allocation_free (r.allocation_free (allocation_free_prefix kind r.text ys h))
+        (every_behind number_byte r.text ys h.1)
 
     at : (e : Refusal) → ((more : List ℕ) → RefusedFor Rfc9651 kind max (text ++ more) e)
-        → (IsPlainText kind text → IsOther e) → ReadAndParsed Rfc9651 kind old b max (Err e)
+        → (IsNumberText kind text → IsOther e) → ReadAndParsed Rfc9651 kind old b max (Err e)
     at OutOfMemory h o = (text, (o, inl (gave, bound)))
     at (Syntax place None expected may) h o = absurd (h [])
     at (Syntax place (Some c) expected may) h o =
@@ -137,13 +140,13 @@ reads_failed old a b kind max given p r f =
     (r.text, record { mid = a; gave = r.gave; failed = f }, r.count, r.within, r.viable)
 
 wanted : (old b : SourceState) (kind : Kind) (max : ℕ) (text : List ℕ) → GaveAll old b text
-    → length text ≤ max → max < 2 ^ 64 → ¬ (IsPlainText kind text) → Wanted kind old b max text
+    → length text ≤ max → max < 2 ^ 64 → ¬ (IsNumberText kind text) → Wanted kind old b max text
 wanted old b kind max text g l m n =
     elim g [ inl e ↦ (n, inr (e, l)) | inr f ↦ (n, inl (f.0, omega arith)) ]
 
 ended : (old b : SourceState) (kind : Kind) (max : ℕ) (text : List ℕ) (r : Result Field Refusal)
     → GaveAll old b text → length text ≤ max → max < 2 ^ 64
-    → (IsPlainText kind text → NotForMemory r)
+    → (IsNumberText kind text → NotForMemory r)
     → Finishes Rfc9651 kind text r → ReadAndParsed Rfc9651 kind old b max r
 ended old b kind max text (Ok v) g l m n f = (text, g, l, f)
 ended old b kind max text (Err OutOfMemory) g l m n f = (text, wanted old b kind max text g l m n)
@@ -162,22 +165,23 @@ finished kind max given old a p r k f =
 -- as many bytes were given as a count holds
 pub reads_full : (old a : SourceState) (kind : Kind) (max given limit : ℕ) (p : Progress)
     (r : Result Field Refusal) → ReadSoFar old a kind max given p → max < 2 ^ 64
-    → limit ≡ capped (max + 1) → limit ≤ given → (IsPlain p → NotForMemory r)
+    → limit ≡ capped (max + 1) → limit ≤ given → (IsAllocationFree p → NotForMemory r)
     → ((s : List ℕ) → Took p s → Finishes p.dialect p.kind s r)
     → ReadAndParsed Rfc9651 kind old a max r
 reads_full old a kind max given limit p r k m e l n f =
     let c = k.count in
     let w = k.within in
     ended old a kind max k.text r (inr (k.gave, omega arith)) (omega arith) m
-    (λ h. n (k.plain h)) (finished kind max given old a p r k f)
+    (λ h. n (k.allocation_free h)) (finished kind max given old a p r k f)
 
 -- the reader came to its end
 pub reads_ended : (old a b : SourceState) (kind : Kind) (max given : ℕ) (p : Progress)
     (r : Result Field Refusal) → ReadSoFar old a kind max given p → max < 2 ^ 64 → EndsOnce a b
-    → (IsPlain p → NotForMemory r) → ((s : List ℕ) → Took p s → Finishes p.dialect p.kind s r)
+    → (IsAllocationFree p → NotForMemory r)
+    → ((s : List ℕ) → Took p s → Finishes p.dialect p.kind s r)
     → ReadAndParsed Rfc9651 kind old b max r
 reads_ended old a b kind max given p r k m e n f =
     let c = k.count in
     let w = k.within in
     ended old b kind max k.text r (inl (record { mid = a; gave = k.gave; ended = e }))
-    (omega arith) m (λ h. n (k.plain h)) (finished kind max given old a p r k f)
+    (omega arith) m (λ h. n (k.allocation_free h)) (finished kind max given old a p r k f)

@@ -57,17 +57,17 @@ exact : (d : Dialect) (kind : Kind) (state : State) (s t : List ℕ) (place : �
     → may ≡ may_end state → take place t ≡ s → IsPlace d kind t place → found ≡ slice_get t place
     → ((v : Field) → SpellsField d kind t v → ⊥)
     → IsSyntax d kind t place found bits may
-exact d kind state s t place found bits may k m e front at f none = record {
+exact d kind state s t place found bits may k m e prefix at f none = record {
   unspelled = none;
   is_place = at;
   byte = f;
   next = λ b h.
-      subst (λ y. (bit_at bits b ≡ 1) ↔ Viable d kind (y ++ b ∷ [])) (sym front)
+      subst (λ y. (bit_at bits b ≡ 1) ↔ Viable d kind (y ++ b ∷ [])) (sym prefix)
       (marks_next d kind state s bits b k m h);
   some = marks_some d kind state s bits k m;
   ends =
       let ends = ends_text d kind state s k in
-      subst (λ y. (may ≡ true) ↔ ((v : Field) × SpellsField d kind y v)) (sym front)
+      subst (λ y. (may ≡ true) ↔ ((v : Field) × SpellsField d kind y v)) (sym prefix)
       (λ i. ends.1 (sym e ∙ i), λ i. e ∙ ends.0 i);
 }
 
@@ -93,7 +93,8 @@ no_value d kind t n at h v k =
     omega arith
 
 -- at a byte that the state can't go on with
-pub stops_exact : (d : Dialect) (kind : Kind) (state : State) (s q : List ℕ) (b bits : ℕ) (may : Bool)
+pub stops_exact : (d : Dialect) (kind : Kind) (state : State) (s q : List ℕ) (b bits : ℕ)
+    (may : Bool)
     → Reached d kind state s → step d state b ≡ None → Marks bits (takes d state)
     → may ≡ may_end state
     → IsSyntax d kind (s ++ b ∷ q) (length s) (Some b) bits may

@@ -42,13 +42,13 @@ pub runs_are_whole : RunsAreWhole
 runs_are_whole set = runs_ascend set 0 128
 
 -- within the runs with a byte in front lie that byte and what lies within the runs
-front_within : (b k : ℕ) (rs : List (ℕ × ℕ)) → Ascends (suc b) rs
+prefix_within : (b k : ℕ) (rs : List (ℕ × ℕ)) → Ascends (suc b) rs
     → IsWithin k (in_front b rs) ↔ ((k ≡ b) ⊎ IsWithin k rs)
-front_within b k [] p = (
+prefix_within b k [] p = (
   λ h. elim h [ inl w ↦ inl (omega (arith, w.0, w.1)) | inr w ↦ absurd w ],
   λ h. elim h [ inl e ↦ inl (omega (arith, e), omega (arith, e)) | inr w ↦ absurd w ],
 )
-front_within b k (r ∷ rs) p =
+prefix_within b k (r ∷ rs) p =
     let long = p.1 in
     elim (cases_Bool (r.0 == suc b)) [
       | inl t ↦ (
@@ -92,22 +92,22 @@ runs_within set b (suc n) k =
     let later = runs_within set (suc b) n k in
     elim (cases_Bool (is_in set b)) [
       | inl t ↦
-          let front = front_within b k (runs_from set (suc b) n) (runs_ascend set (suc b) n) in
+          let prefix = prefix_within b k (runs_from set (suc b) n) (runs_ascend set (suc b) n) in
           rw (runs-in set b n t) (
-            λ h. front.1 (elim (cases_Bool (k == b)) [
+            λ h. prefix.1 (elim (cases_Bool (k == b)) [
               | inl same ↦ inl (search (rules, same))
               | inr other ↦
                   let low = h.0 in
                   let above : suc b ≤ k = search (rules, other, low) in
                   inr (later.0 (above, omega (arith, h.1), h.2))
             ]),
-            λ h. elim (front.0 h) [
+            λ h. elim (prefix.0 h) [
               | inl e ↦
                   let P : ℕ → Type 0 = λ x. is_in set x ≡ true in
                   (omega (arith, e), omega (arith, e), subst P (sym e) t)
               | inr w ↦
-                  let back = later.1 w in
-                  (omega (arith, back.0), omega (arith, back.1), back.2)
+                  let suffix = later.1 w in
+                  (omega (arith, suffix.0), omega (arith, suffix.1), suffix.2)
             ],
           )
       | inr f ↦
@@ -123,8 +123,8 @@ runs_within set b (suc n) k =
                   later.0 (above, omega (arith, h.1), h.2)
             ],
             λ w.
-                let back = later.1 w in
-                (omega (arith, back.0), omega (arith, back.1), back.2),
+                let suffix = later.1 w in
+                (omega (arith, suffix.0), omega (arith, suffix.1), suffix.2),
           )
     ]
 
@@ -132,5 +132,5 @@ pub runs_are_the_set : RunsAreTheSet
 runs_are_the_set set b =
     let both = runs_within set 0 128 b in (
       λ h. both.0 (omega arith, h.0, h.1),
-      λ w. let back = both.1 w in (back.1, back.2),
+      λ w. let suffix = both.1 w in (suffix.1, suffix.2),
     )

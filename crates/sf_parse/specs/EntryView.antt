@@ -6,7 +6,7 @@ use Rattle.sf_value.specs.Grammar.Tokens.{IsKey}
 use Rattle.sf_parse.specs.Machine.Params.{params_step}
 use Rattle.sf_parse.specs.Machine.Items.{InBare, InParams}
 use Rattle.sf_parse.specs.Machine.Members.{MemberState, InOne, InMany, member_step}
-use Rattle.sf_parse.specs.Machine.Entries.{EntryState, InKey, Equals, InMember, InFlag}
+use Rattle.sf_parse.specs.Machine.Entries.{EntryState, InKey, Equals, InMemberValue, InFlag}
 use Rattle.sf_parse.specs.declared.entry.EntryPhase.{EntryPhase}
 use Rattle.sf_parse.specs.declared.entry.EntryPhase.TheVariants as phase
 
@@ -20,7 +20,7 @@ flag_at k (InMany s) = InKey k
 abbrev pub entry_of : EntryPhase → List ℕ → MemberState → EntryState
 entry_of phase.InKey k m = InKey k
 entry_of phase.Equals k m = Equals k
-entry_of phase.InMember k m = InMember k m
+entry_of phase.InMemberValue k m = InMemberValue k m
 entry_of phase.InFlag k m = flag_at k m
 
 -- the parameters of Boolean true are open
@@ -33,7 +33,7 @@ IsFlag (InMany s) = ⊥
 abbrev pub FitsFlag : EntryPhase → MemberState → Type 0
 FitsFlag phase.InKey m = ⊤
 FitsFlag phase.Equals m = ⊤
-FitsFlag phase.InMember m = ⊤
+FitsFlag phase.InMemberValue m = ⊤
 FitsFlag phase.InFlag m = IsFlag m
 
 -- the key is one, and a flag is Boolean true
@@ -44,5 +44,5 @@ FitsEntry p k m = IsKey k × FitsFlag p m
 abbrev pub entry_stuck : Dialect → EntryState → ℕ → Type 0
 entry_stuck d (InKey k) b = ⊤
 entry_stuck d (Equals k) b = ⊤
-entry_stuck d (InMember k s) b = member_step d s b ≡ None
+entry_stuck d (InMemberValue k s) b = member_step d s b ≡ None
 entry_stuck d (InFlag k s) b = params_step d s b ≡ None

@@ -1,5 +1,6 @@
 -- The laws of the grammar that follow from its machine. Each stands as the contract of a function
 -- in `src/laws.rt`.
+use Rattle.std.specs.Option.{option_and_then}
 use Rattle.std.specs.Prelude.{◌≡◌, ℕ, ◌↔◌, List, [], ◌∷◌, ◌++◌, length, Some, None, ◌⊎◌}
 use Rattle.sf_value.specs.Ascii.{percent, at_sign}
 use Rattle.sf_value.specs.declared.dialect.Dialect.{Dialect}
@@ -11,8 +12,8 @@ use Rattle.sf_value.specs.Grammar.Valid.{Valid}
 use Rattle.sf_value.specs.Grammar.Canonical.{canon}
 use Rattle.sf_value.specs.Grammar.Lines.{join, Viable, IsPlace}
 use Rattle.sf_parse.specs.Machine.States.{State}
-use Rattle.sf_parse.specs.Machine.Language.{and_then, run}
-use Rattle.sf_parse.specs.Machine.Fields.{Rest, step, finish, begin}
+use Rattle.sf_parse.specs.Machine.Language.{run}
+use Rattle.sf_parse.specs.Machine.Fields.{Residual, step, finish, begin}
 
 -- a text spells one value of a kind
 abbrev pub OneValue : Type 0
@@ -24,16 +25,16 @@ OneValue =
 abbrev pub IsRead : Type 0
 IsRead =
     (d : Dialect) (kind : Kind) (t : List ℕ) (v : Field)
-    → SpellsField d kind t v ↔ (and_then (run (step d) (begin kind) t) finish ≡ Some v)
+    → SpellsField d kind t v ↔ (option_and_then finish (run (step d) (begin kind) t) ≡ Some v)
 
 -- what completes a state completes the bytes that led there
-abbrev pub IsRest : Type 0
-IsRest =
+abbrev pub IsResidual : Type 0
+IsResidual =
     (d : Dialect) (kind : Kind) (p : List ℕ) (s : State)
     → run (step d) (begin kind) p ≡ Some s
-    → (u : List ℕ) (v : Field) → Rest d s u v ↔ SpellsField d kind (p ++ u) v
+    → (u : List ℕ) (v : Field) → Residual d s u v ↔ SpellsField d kind (p ++ u) v
 
--- a front is viable exactly if the machine is not stuck on it
+-- a prefix is viable exactly if the machine is not stuck on it
 abbrev pub IsViable : Type 0
 IsViable =
     (d : Dialect) (kind : Kind) (p : List ℕ)
@@ -67,11 +68,11 @@ CanonOne =
     (d : Dialect) (kind : Kind) (v w : Field)
     → Valid d kind v → Valid d kind w → canon v ≡ canon w → v ≡ w
 
--- the outcome hangs on the joined pieces alone
-abbrev pub AnyPieces : Type 0
-AnyPieces =
+-- the outcome hangs on the joined chunks alone
+abbrev pub AnyChunks : Type 0
+AnyChunks =
     (d : Dialect) (s : State) (p q : List ℕ)
-    → run (step d) s (p ++ q) ≡ and_then (run (step d) s p) (λ t. run (step d) t q)
+    → run (step d) s (p ++ q) ≡ option_and_then (λ t. run (step d) t q) (run (step d) s p)
 
 -- the byte b stands at place n
 abbrev pub At : List ℕ → ℕ → ℕ → Type 0

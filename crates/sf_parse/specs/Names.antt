@@ -4,8 +4,8 @@ use Rattle.std.specs.Prelude.{ℕ, zero, suc, ◌+◌, ◌-◌, ◌%◌, ◌^◌
 use Rattle.std.specs.Prelude.{if◌then◌else◌, List, [], ◌∷◌, ◌++◌, codes, slice_index_or}
 use Rattle.std.specs.Prelude.{bit_and}
 use Rattle.sf_value.specs.Ascii.{tab, space, quote, backquote}
-use Rattle.sf_value.specs.Grammar.Classes.{is_digit, is_lower, is_alpha, is_key_rest}
-use Rattle.sf_value.specs.Grammar.Classes.{is_token_rest, is_visible, is_one_of}
+use Rattle.sf_value.specs.Grammar.Classes.{is_digit, is_lower, is_alpha, is_in_key}
+use Rattle.sf_value.specs.Grammar.Classes.{is_in_token, is_visible, is_one_of}
 use Rattle.sf_parse.specs.ByteSets.{hex_byte}
 use Rattle.sf_parse.specs.declared.names.Name.{Name}
 use Rattle.sf_parse.specs.declared.names.Name.TheVariants.{Printable, Token, Base64, Key, Letter}
@@ -20,9 +20,9 @@ set_below (suc n) test = if test n then 2 ^ n + set_below n test else set_below 
 -- the bytes that a name stands for
 abbrev pub set_of : Name → ℕ
 set_of Printable = set_below 128 is_visible
-set_of Token = set_below 128 is_token_rest
+set_of Token = set_below 128 is_in_token
 set_of Base64 = set_below 128 (λ b. is_alpha b || is_digit b || is_one_of (codes "+/") b)
-set_of Key = set_below 128 is_key_rest
+set_of Key = set_below 128 is_in_key
 set_of Letter = set_below 128 is_alpha
 set_of Lower = set_below 128 is_lower
 set_of Upper = set_below 128 (λ b. is_alpha b && not (is_lower b))

@@ -12,7 +12,7 @@ use Rattle.sf_parse.specs.declared.refusal.Refusal.{Refusal}
 use Rattle.sf_parse.specs.declared.refusal.Refusal.TheVariants.{OutOfMemory, Syntax, TooLong}
 use Rattle.sf_parse.specs.declared.refusal.Refusal.TheVariants.{ReadFault}
 use Rattle.sf_parse.specs.Machine.States.{State}
-use Rattle.sf_parse.specs.Machine.Fields.{Rest, Good}
+use Rattle.sf_parse.specs.Machine.Fields.{Residual, Good}
 
 -- what contracts see of a parser
 pub record Progress : Type 0 where
@@ -29,7 +29,7 @@ pub record Progress : Type 0 where
 -- state completes s
 pub record Took (p : Progress) (s : List ℕ) : Type 0 where
   pub count : p.count ≡ length s
-  pub rest : (u : List ℕ) (v : Field) → Rest p.dialect p.state u v
+  pub rest : (u : List ℕ) (v : Field) → Residual p.dialect p.state u v
       ↔ SpellsField p.dialect p.kind (s ++ u) v
   pub unrefused : p.refusal ≡ None
 
@@ -50,13 +50,13 @@ pub record IsSyntax (d : Dialect) (kind : Kind) (t : List ℕ) (place : ℕ) (fo
     (expected : ℕ) (may_end : Bool) : Type 0 where
   -- no value is spelled
   pub unspelled : (v : Field) → SpellsField d kind t v → ⊥
-  -- the place is the length of the longest viable front
+  -- the place is the length of the longest viable prefix
   pub is_place : IsPlace d kind t place
   pub byte : found ≡ slice_get t place
-  -- bit b is set exactly if byte b may follow that front
+  -- bit b is set exactly if byte b may follow that prefix
   pub next : (b : ℕ) → b < 128 → (bit_at expected b ≡ 1) ↔ Viable d kind (take place t ++ b ∷ [])
   pub some : 0 < expected
-  -- whether that front is itself a text
+  -- whether that prefix is itself a text
   pub ends : (may_end ≡ true) ↔ ((v : Field) × SpellsField d kind (take place t) v)
 
 -- the text spells this value, and no other

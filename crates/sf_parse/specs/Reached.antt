@@ -7,12 +7,12 @@ use Rattle.sf_value.specs.declared.value.Field.{Field}
 use Rattle.sf_value.specs.declared.value.Kind.{Kind}
 use Rattle.sf_parse.specs.Machine.Language.{run}
 use Rattle.sf_parse.specs.Machine.States.{State}
-use Rattle.sf_parse.specs.Machine.Fields.{Rest, Good, step, finish, begin}
+use Rattle.sf_parse.specs.Machine.Fields.{Residual, Good, step, finish, begin}
 
 -- what completes the state completes the text
 pub record Reached (d : Dialect) (kind : Kind) (s : State) (p : List ℕ) : Type 0 where
   pub good : Good s
-  pub rest : (u : List ℕ) (v : Field) → Rest d s u v ↔ SpellsField d kind (p ++ u) v
+  pub rest : (u : List ℕ) (v : Field) → Residual d s u v ↔ SpellsField d kind (p ++ u) v
 
 -- the first state is reached by the empty text
 abbrev pub ReachedNothing : Type 0

@@ -12,7 +12,7 @@ use Rattle.sf_parse.specs.declared.refusal.Refusal.{Refusal}
 use Rattle.sf_parse.specs.declared.refusal.Refusal.TheVariants.{OutOfMemory, Syntax, TooLong}
 use Rattle.sf_parse.specs.declared.refusal.Refusal.TheVariants.{ReadFault}
 use Rattle.sf_parse.specs.Parsers.{IsSyntax, Finishes}
-use Rattle.sf_parse.specs.Plain.{plain_byte}
+use Rattle.sf_parse.specs.AllocationFree.{number_byte}
 
 -- calls gave these bytes to the source's end, which one call answered; or these are as many as a
 -- count holds, and no further one was asked for
@@ -21,13 +21,13 @@ GaveAll old new bytes =
     GaveAndEnded old new bytes ⊎ (Gave old new bytes × (2 ^ 64 - 1 ≤ length bytes))
 
 -- spaces, `-` and digits alone for an Item, which take no memory
-abbrev pub IsPlainText : Kind → List ℕ → Type 0
-IsPlainText kind text = (kind ≡ kind_is.Item) × Every plain_byte text
+abbrev pub IsNumberText : Kind → List ℕ → Type 0
+IsNumberText kind text = (kind ≡ kind_is.Item) × Every number_byte text
 
 -- memory was wanting on the way, or when the text was ended
 abbrev pub Wanted : Kind → SourceState → SourceState → ℕ → List ℕ → Type 0
 Wanted kind old new max text =
-    ¬ (IsPlainText kind text)
+    ¬ (IsNumberText kind text)
     × ((Gave old new text × (length text ≤ capped (max + 1)))
     ⊎ (GaveAndEnded old new text × (length text ≤ max)))
 
@@ -41,8 +41,8 @@ ReadToEnd d kind old new max r =
     × Finishes d kind text r
 
 -- The answer over the bytes given: a byte below the limit that no text of the kind goes on with,
--- whatever comes behind; a failed read behind a viable front; more bytes than the limit, so many of
--- which are viable; or the end of the reader's text, which is asked for once.
+-- whatever comes behind; a failed read behind a viable prefix; more bytes than the limit, so many
+-- of which are viable; or the end of the reader's text, which is asked for once.
 abbrev pub ReadAndParsed : Dialect → Kind → SourceState → SourceState → ℕ → Result Field Refusal
     → Type 0
 ReadAndParsed d kind old new max (Ok v) = ReadToEnd d kind old new max (Ok v)

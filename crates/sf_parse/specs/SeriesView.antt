@@ -1,46 +1,47 @@
--- What is read of pieces with commas between them, as a state of the machine, and the machine in
--- the words of a reader that adds a piece to what was given where it ends.
+-- What is read of members with commas between them, as a state of the machine, and the machine in
+-- the words of a reader that adds a member to what was given where it ends.
+use Rattle.std.specs.Option.{option_map, option_or}
 use Rattle.std.specs.Prelude.{◌≡◌, ℕ, Bool, true, false, Option, Some, None, ⊤}
-use Rattle.sf_value.specs.Grammar.Words.{allow, otherwise}
+use Rattle.sf_value.specs.Grammar.Words.{allow}
 use Rattle.sf_value.specs.Grammar.Classes.{is_sp, is_ows}
-use Rattle.sf_parse.specs.Machine.Language.{onward, seen}
-use Rattle.sf_parse.specs.Machine.Series.{SeriesState, Begin, InPiece, Gap, Comma, gap_step}
+use Rattle.sf_parse.specs.Machine.Language.{onward}
+use Rattle.sf_parse.specs.Machine.Series.{SeriesState, Begin, InMember, Gap, Comma, gap_step}
 use Rattle.sf_parse.specs.declared.series.SeriesPhase.{SeriesPhase}
 use Rattle.sf_parse.specs.declared.series.SeriesPhase.TheVariants as phase
 
--- the phase says whether a piece is open
+-- the phase says whether a member is open
 abbrev pub series_of : {S V : Type 0} → SeriesPhase → V → S → SeriesState S V
 series_of phase.Begin given s = Begin
-series_of phase.InPiece given s = InPiece given s
+series_of phase.InMember given s = InMember given s
 series_of phase.Gap given s = Gap given
 series_of phase.Comma given s = Comma given
 
--- first is what a byte begins, added what was given with a piece that may end
+-- first is what a byte begins, added what was given with a member that may end
 abbrev pub series_next : {S V : Type 0} → (ℕ → Option S) → (S → ℕ → Option S)
     → (S → V → Option V) → V → SeriesState S V → ℕ → Option (SeriesState S V)
-series_next first next added none Begin b = otherwise (allow (is_sp b) Begin)
-    (seen (InPiece none) (first b))
-series_next first next added none (InPiece given s) b = onward (InPiece given) (next s b)
+series_next first next added none Begin b = option_or (allow (is_sp b) Begin)
+    (option_map (InMember none) (first b))
+series_next first next added none (InMember given s) b = onward (InMember given) (next s b)
     (added s given) (λ more. gap_step more b)
 series_next first next added none (Gap given) b = gap_step given b
-series_next first next added none (Comma given) b = otherwise (allow (is_ows b) (Comma given))
-    (seen (InPiece given) (first b))
+series_next first next added none (Comma given) b = option_or (allow (is_ows b) (Comma given))
+    (option_map (InMember given) (first b))
 
--- what the pieces gave, where they may end
+-- what the members gave, where they may end
 abbrev pub series_end : {S V : Type 0} → (S → V → Option V) → V → SeriesState S V → Option V
 series_end added none Begin = Some none
-series_end added none (InPiece given s) = added s given
+series_end added none (InMember given s) = added s given
 series_end added none (Gap given) = Some given
 series_end added none (Comma given) = None
 
--- the piece that is open can't go on with this byte
+-- the member that is open can't go on with this byte
 abbrev pub series_stuck : {S V : Type 0} → (S → ℕ → Option S) → SeriesState S V → ℕ → Type 0
 series_stuck next Begin b = ⊤
-series_stuck next (InPiece given s) b = next s b ≡ None
+series_stuck next (InMember given s) b = next s b ≡ None
 series_stuck next (Gap given) b = ⊤
 series_stuck next (Comma given) b = ⊤
 
--- a piece ended and was added, or may not end and nothing changed
+-- a member ended and was added, or may not end and nothing changed
 abbrev pub Ends : {V : Type 0} → Bool → Option V → V → V → Type 0
 Ends true added old new = added ≡ Some new
 Ends false added old new = (added ≡ None) × (new ≡ old)

@@ -8,7 +8,7 @@ use Rattle.sf_parse.specs.Machine.Numbers.{NumberState, Whole, Fraction, DateSta
 use Rattle.sf_parse.specs.Machine.Texts.{TextState, Inside, Escaped, Closed}
 use Rattle.sf_parse.specs.Machine.Blobs.{BlobState, Group, Padded, Ended}
 use Rattle.sf_parse.specs.Machine.Blobs as machine
-use Rattle.sf_parse.specs.Machine.Showns.{ShownState, Quote, Plain, Percent, Hex, Done}
+use Rattle.sf_parse.specs.Machine.Showns.{ShownState, Quote, Unencoded, Percent, Hex, Done}
 use Rattle.sf_parse.specs.declared.text.TextPhase.{TextPhase}
 use Rattle.sf_parse.specs.declared.text.TextPhase.TheVariants as text_phase
 use Rattle.sf_parse.specs.declared.blob.Held.{Held}
@@ -89,7 +89,7 @@ utf8_of (utf8.Wants more low high) = Wants more low high
 -- a Display String
 abbrev pub shown_of : ShownPhase → List ℕ → Utf8State → ShownState
 shown_of shown_phase.Quote bytes chars = Quote
-shown_of shown_phase.Plain bytes chars = Plain bytes (utf8_of chars)
+shown_of shown_phase.Unencoded bytes chars = Unencoded bytes (utf8_of chars)
 shown_of shown_phase.Percent bytes chars = Percent bytes (utf8_of chars)
 shown_of (shown_phase.Hex high) bytes chars = Hex bytes (utf8_of chars) high
 shown_of shown_phase.Done bytes chars = Done bytes
@@ -101,7 +101,7 @@ Leads bytes x = run utf8_step Start bytes ≡ Some x
 -- nothing is read before the quote; a digit of an escape is below 16; whole characters at the end
 abbrev pub FitsPhase : ShownPhase → List ℕ → Utf8State → Type 0
 FitsPhase shown_phase.Quote bytes chars = (bytes ≡ []) × (chars ≡ utf8.Start)
-FitsPhase shown_phase.Plain bytes chars = Unit {0}
+FitsPhase shown_phase.Unencoded bytes chars = Unit {0}
 FitsPhase shown_phase.Percent bytes chars = Unit {0}
 FitsPhase (shown_phase.Hex high) bytes chars = high < 16
 FitsPhase shown_phase.Done bytes chars = chars ≡ utf8.Start
@@ -113,7 +113,7 @@ FitsShown phase bytes chars = Leads bytes (utf8_of chars) × FitsPhase phase byt
 -- the digit of an escape is below 16
 abbrev pub IsDigitPhase : ShownPhase → Type 0
 IsDigitPhase shown_phase.Quote = Unit {0}
-IsDigitPhase shown_phase.Plain = Unit {0}
+IsDigitPhase shown_phase.Unencoded = Unit {0}
 IsDigitPhase shown_phase.Percent = Unit {0}
 IsDigitPhase (shown_phase.Hex high) = high < 16
 IsDigitPhase shown_phase.Done = Unit {0}

@@ -1,13 +1,13 @@
 //! A bare item that is being read (RFC 9651 section 4.2.3.1).
 ghost use Rattle.std.specs.Prelude.{◌≡◌, true, ⊤, IfNone, IfOk, IsOk};
-ghost use Rattle.sf_parse.specs.Plain.{plain_byte, PlainBare};
+ghost use Rattle.sf_parse.specs.AllocationFree.{number_byte, AllocationFreeBare};
 ghost use Rattle.sf_parse.specs.Expected.{Marks};
-ghost use Rattle.sf_parse.specs.Fronts.{Starts};
+ghost use Rattle.sf_parse.specs.Prefixes.{Starts};
 ghost use Rattle.sf_parse.specs.BareView.{bare_stuck};
 ghost use Rattle.sf_parse.specs.Machine.Bares.{InBoolean, bare_start, bare_step, bare_finish};
-ghost use Rattle.sf_parse.specs.declared.boolean.BooleanState.TheVariants.{Told};
+ghost use Rattle.sf_parse.specs.declared.boolean.BooleanState.TheVariants.{WithValue};
 ghost use Rattle.sf_parse.specs.Machine.Tests.{bare_begins, bare_takes, bare_ends};
-ghost use Rattle.sf_parse.specs.Plainness.{plain_bare_step};
+ghost use Rattle.sf_parse.specs.NumbersStay.{plain_bare_step};
 
 use crate::blob::{BlobPhase, Held};
 use crate::boolean::BooleanState;
@@ -16,7 +16,7 @@ use crate::date::DateReader;
 use crate::display_string::ShownPlace;
 use crate::level::Level;
 use crate::number::NumberReader;
-use crate::runs::{ByteClass, InToken, long_front};
+use crate::runs::{ByteClass, InToken, long_prefix};
 use crate::sets::{BARE_8941, BARE_9651, TOKEN};
 use crate::text::TextPhase;
 use sf_value::{Bare, Blob, Dialect, OutOfMemory, ShortBytes, Shown, Text, Token, can_start_token};
@@ -68,7 +68,7 @@ impl BareReader {
             kind: BareKind::Boolean,
             number: NumberReader::none(),
             date: DateReader::open(),
-            boolean: BooleanState::Asked,
+            boolean: BooleanState::QuestionMark,
             text: TextPhase::Inside,
             blob: BlobPhase::Ended,
             shown: ShownPlace::OPEN,
@@ -82,7 +82,7 @@ impl BareReader {
         ensures start { IfOk result (λ took. Starts took (bare_start context.now.dialect byte)
             self.new) }
         // A space, `-` or a digit takes no memory.
-        ensures plain { plain_byte byte ≡ true → IsOk result }
+        ensures allocation_free { number_byte byte ≡ true → IsOk result }
     {
         if self.number.start(byte) {
             self.kind = BareKind::Number;
@@ -101,7 +101,7 @@ impl BareReader {
                 Ok(true)
             }
             (b'?', _) => {
-                self.boolean = BooleanState::Asked;
+                self.boolean = BooleanState::QuestionMark;
                 self.kind = BareKind::Boolean;
                 Ok(true)
             }
@@ -128,9 +128,9 @@ impl BareReader {
 
     /// Makes the bare item Boolean true.
     pub fn set_true(&mut self)
-        ensures { self.new ≡ InBoolean (Told true) }
+        ensures { self.new ≡ InBoolean (WithValue true) }
     {
-        self.boolean = BooleanState::Told(true);
+        self.boolean = BooleanState::WithValue(true);
         self.kind = BareKind::Boolean;
     }
 
@@ -191,27 +191,27 @@ impl Level for BareReader {
 
     ghost ends = { bare_ends };
 
-    ghost plain = { λ d s. PlainBare s };
+    ghost allocation_free = { λ d s. AllocationFreeBare s };
 
     ghost keeps = { λ d s t b h e k. plain_bare_step s t b h k };
 
     fn take_part<'a>(
         &mut self,
         _context: &Context,
-        piece: &'a [u8],
+        chunk: &'a [u8],
     ) -> Result<&'a [u8], OutOfMemory> {
         match self.kind {
-            BareKind::Text => return self.text.take_run(&mut self.bytes, piece),
+            BareKind::Text => return self.text.take_run(&mut self.bytes, chunk),
             BareKind::Token => {
-                let (run, rest) = long_front::<InToken>(piece);
+                let (run, rest) = long_prefix::<InToken>(chunk);
                 self.bytes.extend(run)?;
                 return Ok(rest);
             }
-            BareKind::Blob => return self.blob.take_run(&mut self.bytes, piece),
-            BareKind::Shown => return self.shown.take_run(&mut self.bytes, piece),
-            BareKind::Number => return Ok(self.number.take_run(piece)),
-            BareKind::Date => return Ok(self.date.take_run(piece)),
-            BareKind::Boolean => return Ok(piece),
+            BareKind::Blob => return self.blob.take_run(&mut self.bytes, chunk),
+            BareKind::Shown => return self.shown.take_run(&mut self.bytes, chunk),
+            BareKind::Number => return Ok(self.number.take_run(chunk)),
+            BareKind::Date => return Ok(self.date.take_run(chunk)),
+            BareKind::Boolean => return Ok(chunk),
         }
     }
 

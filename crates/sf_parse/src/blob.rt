@@ -2,7 +2,7 @@
 ghost use Rattle.std.specs.Prelude.{◌≡◌, ℕ, ◌<◌, ◌≤◌, List, [], ◌∷◌, ◌++◌, ◌&&◌, Some, IfOk};
 ghost use Rattle.std.specs.Prelude.{IfSome, take};
 ghost use Rattle.sf_parse.specs.Expected.{Marks};
-ghost use Rattle.sf_parse.specs.Fronts.{Went};
+ghost use Rattle.sf_parse.specs.Prefixes.{Went};
 ghost use Rattle.sf_parse.specs.Views.{held_of, blob_of, FitsHeld, FitsBlob};
 ghost use Rattle.sf_parse.specs.Machine.Language.{Steps, run};
 ghost use Rattle.sf_parse.specs.Machine.Blobs.{sextet as sextet_of, H0, Group, Padded, grown};
@@ -141,15 +141,15 @@ impl BlobPhase {
     pub fn take_run<'a>(
         self,
         bytes: &mut ShortBytes,
-        piece: &'a [u8],
+        chunk: &'a [u8],
     ) -> Result<&'a [u8], OutOfMemory>
         // The bytes before the rest lead the machine from the old state to the new one.
-        ensures { IfOk result (λ rest. Went blob_step (blob_of self bytes.old) piece.now rest.now
+        ensures { IfOk result (λ rest. Went blob_step (blob_of self bytes.old) chunk.now rest.now
             (blob_of self bytes.new)) }
     {
         match self {
-            BlobPhase::Group(Held::H0) => take_groups(bytes, piece),
-            _ => Ok(piece),
+            BlobPhase::Group(Held::H0) => take_groups(bytes, chunk),
+            _ => Ok(chunk),
         }
     }
 
@@ -224,15 +224,15 @@ fn group_bytes(a: u8, b: u8, c: u8, d: u8) -> Option<(u8, u8, u8)>
 }
 
 /// Decodes whole groups into the block until it is full: how many bytes they are of, and the rest.
-fn decode_groups<'a>(piece: &'a [u8], block: &mut [u8; BLOCK]) -> (usize, &'a [u8])
+fn decode_groups<'a>(chunk: &'a [u8], block: &mut [u8; BLOCK]) -> (usize, &'a [u8])
     ensures within { result.0 ≤ 96 }
     // Where no group is open, the characters before the rest lead to a state with the bytes of the
     // block behind those so far.
-    ensures went { (bs : List ℕ) → Went blob_step (Group bs H0) piece.now result.1.now
+    ensures went { (bs : List ℕ) → Went blob_step (Group bs H0) chunk.now result.1.now
         (Group (bs ++ take result.0 block.new) H0) }
 {
     let mut count = 0;
-    let mut rest = piece;
+    let mut rest = chunk;
     while let [a, b, c, d, more @ ..] = rest {
         if count + 3 > BLOCK {
             return (count, rest);
@@ -250,12 +250,12 @@ fn decode_groups<'a>(piece: &'a [u8], block: &mut [u8; BLOCK]) -> (usize, &'a [u
 }
 
 /// Takes whole groups, behind a whole one, a block by one growth.
-fn take_groups<'a>(bytes: &mut ShortBytes, piece: &'a [u8]) -> Result<&'a [u8], OutOfMemory>
+fn take_groups<'a>(bytes: &mut ShortBytes, chunk: &'a [u8]) -> Result<&'a [u8], OutOfMemory>
     // The bytes before the rest lead the machine from the old state to the new one.
-    ensures { IfOk result (λ rest. Went blob_step (Group bytes.old H0) piece.now rest.now
+    ensures { IfOk result (λ rest. Went blob_step (Group bytes.old H0) chunk.now rest.now
         (Group bytes.new H0)) }
 {
-    let mut rest = piece;
+    let mut rest = chunk;
     while let [_, ..] = rest {
         let mut block = [0; BLOCK];
         let (count, more) = decode_groups(rest, &mut block);

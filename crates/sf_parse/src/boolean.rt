@@ -11,9 +11,9 @@ use crate::sets::BITS;
 #[derive(Clone, Copy)]
 pub enum BooleanState {
     /// Behind the question mark.
-    Asked,
+    QuestionMark,
     /// Behind the digit.
-    Told(bool),
+    WithValue(bool),
 }
 
 impl BooleanState {
@@ -23,8 +23,8 @@ impl BooleanState {
         ensures { Steps result (boolean_step self.old byte) self.old self.new }
     {
         match (*self, byte) {
-            (BooleanState::Asked, b'0') => *self = BooleanState::Told(false),
-            (BooleanState::Asked, b'1') => *self = BooleanState::Told(true),
+            (BooleanState::QuestionMark, b'0') => *self = BooleanState::WithValue(false),
+            (BooleanState::QuestionMark, b'1') => *self = BooleanState::WithValue(true),
             _ => return false,
         }
         true
@@ -36,8 +36,8 @@ impl BooleanState {
         ensures { Marks result (boolean_takes self) }
     {
         match self {
-            BooleanState::Asked => return BITS,
-            BooleanState::Told(_) => return 0,
+            BooleanState::QuestionMark => return BITS,
+            BooleanState::WithValue(_) => return 0,
         }
     }
 
@@ -45,7 +45,7 @@ impl BooleanState {
     pub fn may_end(self) -> bool
         ensures { result ≡ boolean_ends self }
     {
-        matches!(self, BooleanState::Told(_))
+        matches!(self, BooleanState::WithValue(_))
     }
 
     /// The boolean, if it is whole.
@@ -54,8 +54,8 @@ impl BooleanState {
         ensures { result ≡ boolean_finish self }
     {
         match self {
-            BooleanState::Asked => None,
-            BooleanState::Told(holds) => Some(holds),
+            BooleanState::QuestionMark => None,
+            BooleanState::WithValue(holds) => Some(holds),
         }
     }
 }

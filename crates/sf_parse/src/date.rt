@@ -1,7 +1,7 @@
 //! A Date that is being read (RFC 9651 section 4.2.9).
 ghost use Rattle.std.specs.Prelude.{◌≡◌};
 ghost use Rattle.sf_parse.specs.Expected.{Marks};
-ghost use Rattle.sf_parse.specs.Fronts.{Went};
+ghost use Rattle.sf_parse.specs.Prefixes.{Went};
 ghost use Rattle.sf_parse.specs.Machine.Language.{Steps};
 ghost use Rattle.sf_parse.specs.Machine.Numbers.{Sign, date_step, date_finish};
 ghost use Rattle.sf_parse.specs.Machine.Tests.{date_takes, date_ends};
@@ -66,11 +66,11 @@ impl DateReader {
     }
 
     /// Takes the bytes that the date goes on with, and gives back the rest.
-    pub fn take_run<'a>(&mut self, piece: &'a [u8]) -> &'a [u8]
+    pub fn take_run<'a>(&mut self, chunk: &'a [u8]) -> &'a [u8]
         // The bytes before the rest lead the machine from the old state to the new one.
-        ensures { Went date_step self.old piece.now result.now self.new }
+        ensures { Went date_step self.old chunk.now result.now self.new }
     {
-        let mut rest = piece;
+        let mut rest = chunk;
         while let Some((byte, more)) = rest.split_first() {
             if !self.step(*byte) {
                 return rest;

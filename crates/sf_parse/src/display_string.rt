@@ -5,16 +5,16 @@ ghost use Rattle.std.specs.Option.{option_map};
 ghost use Rattle.sf_value.specs.Ascii.{percent as percent_sign};
 ghost use Rattle.sf_value.specs.Grammar.Utf8.{Utf8, wants, rows, look_up, utf8_step};
 ghost use Rattle.sf_parse.specs.Expected.{Marks};
-ghost use Rattle.sf_parse.specs.Fronts.{Went};
+ghost use Rattle.sf_parse.specs.Prefixes.{Went};
 ghost use Rattle.sf_parse.specs.Views.{utf8_of, shown_of, Leads, FitsShown, IsDigitPhase};
 ghost use Rattle.sf_parse.specs.Machine.Language.{Steps, run};
-ghost use Rattle.sf_parse.specs.Machine.Showns.{Plain, pushed, unhex as unhex_of};
+ghost use Rattle.sf_parse.specs.Machine.Showns.{Unencoded, pushed, unhex as unhex_of};
 ghost use Rattle.sf_parse.specs.Machine.Showns.{can_begin as can_begin_at, shown_step};
 ghost use Rattle.sf_parse.specs.Machine.Showns.{GoodUtf8};
 ghost use Rattle.sf_parse.specs.Machine.Tests.{shown_takes, shown_ends};
 ghost use Rattle.sf_parse.specs.Expected.{digit_takes};
 
-use crate::runs::{ShownPlain, long_front};
+use crate::runs::{UnencodedByte, long_prefix};
 use crate::sets::{FIRST_DIGITS, PERCENT, QUOTE, VISIBLE};
 use sf_value::{OutOfMemory, ShortBytes, is_visible};
 
@@ -32,7 +32,7 @@ pub enum ShownPhase {
     /// Behind the `%` before the opening quote.
     Quote,
     /// Between the quotes.
-    Plain,
+    Unencoded,
     /// Behind a `%`.
     Percent,
     /// Behind the first digit of an escape, of this value.
@@ -105,7 +105,7 @@ impl ShownPlace {
         };
         bytes.push(byte)?;
         self.chars = chars;
-        self.phase = ShownPhase::Plain;
+        self.phase = ShownPhase::Unencoded;
         Ok(true)
     }
 
@@ -127,10 +127,10 @@ impl ShownPlace {
                 if byte != b'"' {
                     return Ok(false);
                 }
-                self.phase = ShownPhase::Plain;
+                self.phase = ShownPhase::Unencoded;
                 Ok(true)
             }
-            ShownPhase::Plain => {
+            ShownPhase::Unencoded => {
                 if byte == b'"' {
                     if !matches!(self.chars, Utf8State::Start) {
                         return Ok(false);
@@ -172,20 +172,20 @@ impl ShownPlace {
     pub fn take_run<'a>(
         &mut self,
         bytes: &mut ShortBytes,
-        piece: &'a [u8],
+        chunk: &'a [u8],
     ) -> Result<&'a [u8], OutOfMemory>
         // The bytes so far lead to the place in a character, and fit the phase.
         requires { FitsShown self.old.phase bytes.old self.old.chars }
         // The bytes before the rest lead the machine from the old state to the new one.
         ensures went { IfOk result (λ rest. Went shown_step
-            (shown_of self.old.phase bytes.old self.old.chars) piece.now rest.now
+            (shown_of self.old.phase bytes.old self.old.chars) chunk.now rest.now
             (shown_of self.new.phase bytes.new self.new.chars)) }
         // So they do then.
         ensures fits { FitsShown self.new.phase bytes.new self.new.chars }
     {
         match self.phase {
-            ShownPhase::Plain => return take_chars(&mut self.chars, bytes, piece),
-            _ => return Ok(piece),
+            ShownPhase::Unencoded => return take_chars(&mut self.chars, bytes, chunk),
+            _ => return Ok(chunk),
         }
     }
 
@@ -203,7 +203,7 @@ impl ShownPlace {
         match self.phase {
             ShownPhase::Percent => self.chars.can_begin(digit),
             ShownPhase::Hex(high) => self.chars.after(high * 16 + digit).is_some(),
-            ShownPhase::Quote | ShownPhase::Plain | ShownPhase::Done => false,
+            ShownPhase::Quote | ShownPhase::Unencoded | ShownPhase::Done => false,
         }
     }
 
@@ -241,8 +241,8 @@ impl ShownPlace {
     {
         match (self.phase, self.chars) {
             (ShownPhase::Quote, _) => return QUOTE,
-            (ShownPhase::Plain, Utf8State::Start) => return VISIBLE,
-            (ShownPhase::Plain, Utf8State::Wants { .. }) => return PERCENT,
+            (ShownPhase::Unencoded, Utf8State::Start) => return VISIBLE,
+            (ShownPhase::Unencoded, Utf8State::Wants { .. }) => return PERCENT,
             (ShownPhase::Percent, Utf8State::Start) => return FIRST_DIGITS,
             (ShownPhase::Percent, Utf8State::Wants { .. }) => return self.expected_digits(),
             (ShownPhase::Hex(_), _) => return self.expected_digits(),
@@ -334,8 +334,8 @@ fn unhex(byte: u8) -> Option<u8>
 fn escaped(high: u8, low: u8) -> Option<u8>
     // Where this byte may come in a character, the escape leads to a state with the byte more.
     ensures { IfSome result (λ c. (bs : List ℕ) (x y : Utf8) → utf8_step x c ≡ Some y
-        → run shown_step (Plain bs x) (percent_sign ∷ high ∷ low ∷ [])
-        ≡ Some (Plain (bs ++ c ∷ []) y)) }
+        → run shown_step (Unencoded bs x) (percent_sign ∷ high ∷ low ∷ [])
+        ≡ Some (Unencoded (bs ++ c ∷ []) y)) }
 {
     let high = unhex(high)?;
     let low = unhex(low)?;
@@ -346,13 +346,14 @@ fn escaped(high: u8, low: u8) -> Option<u8>
 /// they lead, and the rest.
 fn read_escapes<'a>(
     from: Utf8State,
-    piece: &'a [u8],
+    chunk: &'a [u8],
     block: &mut [u8; BLOCK],
 ) -> (usize, Utf8State, &'a [u8])
     ensures within { result.0 ≤ 64 }
     // The escapes before the rest lead to a state with the bytes of the block behind those so far.
-    ensures went { (bs : List ℕ) → Went shown_step (Plain bs (utf8_of from)) piece.now result.2.now
-        (Plain (bs ++ take result.0 block.new) (utf8_of result.1)) }
+    ensures went { (bs : List ℕ)
+        → Went shown_step (Unencoded bs (utf8_of from)) chunk.now result.2.now
+        (Unencoded (bs ++ take result.0 block.new) (utf8_of result.1)) }
     // Where the bytes so far lead to the first place in a character, they and the block lead to the
     // last.
     ensures leads { (bs : List ℕ) → Leads bs (utf8_of from)
@@ -360,7 +361,7 @@ fn read_escapes<'a>(
 {
     let mut count = 0;
     let mut chars = from;
-    let mut rest = piece;
+    let mut rest = chunk;
     while let [percent, high, low, more @ ..] = rest {
         if *percent != b'%' {
             return (count, chars, rest);
@@ -386,44 +387,44 @@ fn read_escapes<'a>(
 fn take_escapes<'a>(
     chars: &mut Utf8State,
     bytes: &mut ShortBytes,
-    piece: &'a [u8],
+    chunk: &'a [u8],
 ) -> Result<&'a [u8], OutOfMemory>
     // The bytes so far lead to the place in a character.
     requires { Leads bytes.old (utf8_of chars.old) }
     // The bytes before the rest lead the machine from the old state to the new one.
-    ensures went { IfOk result (λ rest. Went shown_step (Plain bytes.old (utf8_of chars.old))
-        piece.now rest.now (Plain bytes.new (utf8_of chars.new))) }
+    ensures went { IfOk result (λ rest. Went shown_step (Unencoded bytes.old (utf8_of chars.old))
+        chunk.now rest.now (Unencoded bytes.new (utf8_of chars.new))) }
     // So do they then to the new place, even where memory was wanting.
     ensures leads { Leads bytes.new (utf8_of chars.new) }
 {
     let mut block = [0; BLOCK];
-    let (count, next, rest) = read_escapes(*chars, piece, &mut block);
+    let (count, next, rest) = read_escapes(*chars, chunk, &mut block);
     bytes.extend(&block[..count])?;
     *chars = next;
     Ok(rest)
 }
 
 /// Takes the bytes that stand for themselves, where no character is open, and gives back the rest.
-fn take_plain<'a>(
+fn take_unencoded<'a>(
     chars: Utf8State,
     bytes: &mut ShortBytes,
-    piece: &'a [u8],
+    chunk: &'a [u8],
 ) -> Result<&'a [u8], OutOfMemory>
     // The bytes so far lead to the place in a character.
     requires { Leads bytes.old (utf8_of chars) }
     // The bytes before the rest lead the machine from the old state to the new one.
-    ensures went { IfOk result (λ rest. Went shown_step (Plain bytes.old (utf8_of chars))
-        piece.now rest.now (Plain bytes.new (utf8_of chars))) }
+    ensures went { IfOk result (λ rest. Went shown_step (Unencoded bytes.old (utf8_of chars))
+        chunk.now rest.now (Unencoded bytes.new (utf8_of chars))) }
     // So do they then, even where memory was wanting.
     ensures leads { Leads bytes.new (utf8_of chars) }
 {
     match chars {
         Utf8State::Start => {
-            let (run, rest) = long_front::<ShownPlain>(piece);
+            let (run, rest) = long_prefix::<UnencodedByte>(chunk);
             bytes.extend(run)?;
             return Ok(rest);
         }
-        Utf8State::Wants { .. } => return Ok(piece),
+        Utf8State::Wants { .. } => return Ok(chunk),
     }
 }
 
@@ -431,23 +432,23 @@ fn take_plain<'a>(
 fn take_chars<'a>(
     chars: &mut Utf8State,
     bytes: &mut ShortBytes,
-    piece: &'a [u8],
+    chunk: &'a [u8],
 ) -> Result<&'a [u8], OutOfMemory>
     // The bytes so far lead to the place in a character.
     requires { Leads bytes.old (utf8_of chars.old) }
     // The bytes before the rest lead the machine from the old state to the new one.
-    ensures went { IfOk result (λ rest. Went shown_step (Plain bytes.old (utf8_of chars.old))
-        piece.now rest.now (Plain bytes.new (utf8_of chars.new))) }
+    ensures went { IfOk result (λ rest. Went shown_step (Unencoded bytes.old (utf8_of chars.old))
+        chunk.now rest.now (Unencoded bytes.new (utf8_of chars.new))) }
     // So do they then to the new place, even where memory was wanting.
     ensures leads { Leads bytes.new (utf8_of chars.new) }
 {
-    let mut rest = piece;
+    let mut rest = chunk;
     while let Some((byte, _)) = rest.split_first() {
         let size = rest.len();
         rest = if *byte == b'%' {
             take_escapes(chars, bytes, rest)?
         } else {
-            take_plain(*chars, bytes, rest)?
+            take_unencoded(*chars, bytes, rest)?
         };
         if rest.len() >= size {
             return Ok(rest);

@@ -2,9 +2,9 @@
 ghost use Rattle.std.specs.Prelude.{◌≡◌, [], ◌∷◌, false, IfOk};
 ghost use Rattle.sf_value.specs.Ascii.{asterisk};
 ghost use Rattle.sf_value.specs.Grammar.Fields.{flag as flag_member};
-ghost use Rattle.sf_parse.specs.Fronts.{Starts};
+ghost use Rattle.sf_parse.specs.Prefixes.{Starts};
 ghost use Rattle.sf_parse.specs.EntryView.{entry_stuck};
-ghost use Rattle.sf_parse.specs.PieceEnds.{with_entry};
+ghost use Rattle.sf_parse.specs.MemberEnds.{with_entry};
 ghost use Rattle.sf_parse.specs.SeriesView.{Ends};
 ghost use Rattle.sf_parse.specs.Machine.Entries.{entry_start, entry_step};
 ghost use Rattle.sf_parse.specs.Machine.Tests.{entry_takes, entry_ends};
@@ -12,7 +12,7 @@ ghost use Rattle.sf_parse.specs.Machine.Tests.{entry_takes, entry_ends};
 use crate::context::Context;
 use crate::level::Level;
 use crate::member::MemberReader;
-use crate::runs::{ByteClass, InKey, short_front};
+use crate::runs::{ByteClass, InKey, short_prefix};
 use crate::sets::{EQUALS, KEY, SEMICOLON};
 use sf_value::{Bare, Dialect, Entries, Item, Key, Member, OutOfMemory, ShortBytes, can_start_key};
 use std::marker::Model;
@@ -26,7 +26,7 @@ pub enum EntryPhase {
     /// Behind the equals sign.
     Equals,
     /// In its value.
-    InMember,
+    InMemberValue,
     /// In the parameters of Boolean true.
     InFlag,
 }
@@ -94,7 +94,7 @@ impl EntryReader {
                 given.set(key, flag(Entries::new(context.alloc, &context.seed)))?;
             }
             EntryPhase::Equals => return Ok(false),
-            EntryPhase::InMember => {
+            EntryPhase::InMemberValue => {
                 let Some(member) = self.member.finish(context)? else {
                     return Ok(false);
                 };
@@ -102,7 +102,7 @@ impl EntryReader {
                 given.set(key, member)?;
             }
             EntryPhase::InFlag => {
-                self.phase = EntryPhase::InMember;
+                self.phase = EntryPhase::InMemberValue;
                 let Some(member) = self.member.finish(context)? else {
                     self.phase = EntryPhase::InFlag;
                     return Ok(false);
@@ -124,27 +124,27 @@ impl Level for EntryReader {
 
     ghost ends = { entry_ends };
 
-    ghost plain = { λ d s. ⊥ };
+    ghost allocation_free = { λ d s. ⊥ };
 
     ghost keeps = { λ d s t b h e k. absurd h };
 
     fn take_part<'a>(
         &mut self,
         context: &Context,
-        piece: &'a [u8],
+        chunk: &'a [u8],
     ) -> Result<&'a [u8], OutOfMemory> {
         match self.phase {
             EntryPhase::InKey => {
-                let (run, rest) = short_front::<InKey>(piece);
+                let (run, rest) = short_prefix::<InKey>(chunk);
                 self.key.extend(run)?;
                 return Ok(rest);
             }
-            EntryPhase::Equals => return Ok(piece),
-            EntryPhase::InMember => return self.member.take(context, piece),
-            EntryPhase::InFlag => match self.member.take(context, piece) {
+            EntryPhase::Equals => return Ok(chunk),
+            EntryPhase::InMemberValue => return self.member.take(context, chunk),
+            EntryPhase::InFlag => match self.member.take(context, chunk) {
                 Ok(rest) => return Ok(rest),
                 Err(refused) => {
-                    self.phase = EntryPhase::InMember;
+                    self.phase = EntryPhase::InMemberValue;
                     return Err(refused);
                 }
             },
@@ -154,11 +154,11 @@ impl Level for EntryReader {
     fn push_part(&mut self, context: &Context, byte: u8) -> Result<bool, OutOfMemory> {
         match self.phase {
             EntryPhase::InKey | EntryPhase::Equals => return Ok(false),
-            EntryPhase::InMember => return self.member.push(context, byte),
+            EntryPhase::InMemberValue => return self.member.push(context, byte),
             EntryPhase::InFlag => match self.member.push(context, byte) {
                 Ok(took) => return Ok(took),
                 Err(refused) => {
-                    self.phase = EntryPhase::InMember;
+                    self.phase = EntryPhase::InMemberValue;
                     return Err(refused);
                 }
             },
@@ -187,10 +187,10 @@ impl Level for EntryReader {
                 if !self.member.start(context, byte)? {
                     return Ok(false);
                 }
-                self.phase = EntryPhase::InMember;
+                self.phase = EntryPhase::InMemberValue;
                 return Ok(true);
             }
-            EntryPhase::InMember | EntryPhase::InFlag => return Ok(false),
+            EntryPhase::InMemberValue | EntryPhase::InFlag => return Ok(false),
         }
     }
 
@@ -198,7 +198,7 @@ impl Level for EntryReader {
         match self.phase {
             EntryPhase::InKey => return KEY | EQUALS | SEMICOLON,
             EntryPhase::Equals => return MemberReader::first_bytes(dialect),
-            EntryPhase::InMember => return self.member.expected(dialect),
+            EntryPhase::InMemberValue => return self.member.expected(dialect),
             EntryPhase::InFlag => return self.member.expected(dialect),
         }
     }
@@ -207,7 +207,7 @@ impl Level for EntryReader {
         match self.phase {
             EntryPhase::InKey => true,
             EntryPhase::Equals => false,
-            EntryPhase::InMember | EntryPhase::InFlag => self.member.may_end(),
+            EntryPhase::InMemberValue | EntryPhase::InFlag => self.member.may_end(),
         }
     }
 }

@@ -1,26 +1,26 @@
 //! Whole texts, each parsed by the reader of its kind (RFC 9651 section 4.2).
+ghost use Rattle.std.specs.Option.{option_map};
 ghost use Rattle.std.specs.Prelude.{◌≡◌, ℕ, IfOk, IsOk, refl};
 ghost use Rattle.sf_value.specs.Grammar.Words.{Every};
 ghost use Rattle.sf_value.specs.declared.dialect.Dialect.{Dialect};
 ghost use Rattle.sf_value.specs.declared.value.Kind.{Kind};
 ghost use Rattle.sf_value.specs.declared.value.Kind.TheVariants as kind_is;
 ghost use Rattle.sf_parse.specs.Parsers.{Parses};
-ghost use Rattle.sf_parse.specs.Plain.{plain_byte};
-ghost use Rattle.sf_parse.specs.PlainParsers.{PlainState, NotForMemory};
-ghost use Rattle.sf_parse.specs.Wholes.{top_steps, list_steps, dict_steps};
-ghost use Rattle.sf_parse.specs.Machine.Language.{seen};
+ghost use Rattle.sf_parse.specs.AllocationFree.{number_byte};
+ghost use Rattle.sf_parse.specs.AllocationFreeParsers.{AllocationFreeState, NotForMemory};
+ghost use Rattle.sf_parse.specs.FieldSteps.{top_steps, list_steps, dict_steps};
 ghost use Rattle.sf_parse.specs.Machine.States.{State, InList, InDict};
 ghost use Rattle.sf_parse.specs.Machine.Fields.{begin as begin_at, step as step_of};
 ghost use Rattle.sf_parse.specs.Machine.Fields.{finish as finish_of};
 ghost use Rattle.sf_parse.specs.Machine.Tests.{takes as takes_at, may_end as may_end_at};
 
-use crate::series::SeriesReader;
 use crate::context::Context;
 use crate::entry::EntryReader;
+use crate::item_field::TopReader;
 use crate::level::Level;
 use crate::member::MemberReader;
 use crate::refusal::Refusal;
-use crate::item_field::TopReader;
+use crate::series::SeriesReader;
 use sf_value::{Dict, Entries, Field, List, Member, OutOfMemory, Sequence};
 
 /// The members of a List that are being read.
@@ -41,19 +41,20 @@ pub trait WholeField: Level + Drop {
     fn begin(context: &Context) -> Self
         // Its state is the first one of its kind.
         ensures begin { state result ≡ begin_at kind }
-        // Where that is a plain state of an Item, it is one of the level too.
-        ensures plain { PlainState (state result) → Self.plain context.now.dialect result };
+        // Where that is an allocation-free state of an Item, it is one of the level too.
+        ensures allocation_free { AllocationFreeState (state result)
+            → Self.allocation_free context.now.dialect result };
 
     /// The field, if it may end here. What is left is the reader alone.
     fn finish_field(&mut self, context: &Context) -> Result<Option<Field>, OutOfMemory>
         // The field is the value that the state has at the end, if it has one.
         ensures value { IfOk result (λ field. field ≡ finish_of (state self.old)) }
-        // In a plain state of an Item the end takes no memory.
-        ensures plain { PlainState (state self.old) → IsOk result };
+        // In an allocation-free state of an Item the end takes no memory.
+        ensures allocation_free { AllocationFreeState (state self.old) → IsOk result };
 
     // the machine of fields goes on just as the level does, and its tests tell the same
     ghost steps: { (d : Dialect) (s : Self) (b : ℕ)
-        → step_of d (state s) b ≡ seen state (Self.next d s b) };
+        → step_of d (state s) b ≡ option_map state (Self.next d s b) };
 
     ghost takes_too: { (d : Dialect) (s : Self) → Self.takes d s ≡ takes_at d (state s) };
 
@@ -134,7 +135,8 @@ pub fn parse_whole<W: WholeField>(context: &Context, text: &[u8]) -> Result<Fiel
     // The text spells just this value, or this is its exact refusal; else memory was wanting.
     ensures parses { Parses context.now.dialect W.kind text.now result }
     // Of an Item, spaces, `-` and digits are not refused for want of memory.
-    ensures plain { W.kind ≡ kind_is.Item → Every plain_byte text.now → NotForMemory result }
+    ensures allocation_free { W.kind ≡ kind_is.Item → Every number_byte text.now
+        → NotForMemory result }
 {
     let mut field = W::begin(context);
     read_whole(&mut field, context, text)
@@ -148,12 +150,14 @@ fn read_whole<W: WholeField>(
 ) -> Result<Field, Refusal>
     // Nothing was read.
     requires begin { W.state field.old ≡ begin_at W.kind }
-    // A plain state of an Item is one of the level too.
-    requires plain { PlainState (W.state field.old) → W.plain context.now.dialect field.old }
+    // An allocation-free state of an Item is one of the level too.
+    requires allocation_free { AllocationFreeState (W.state field.old)
+        → W.allocation_free context.now.dialect field.old }
     // The text spells just this value, or this is its exact refusal; else memory was wanting.
     ensures parses { Parses context.now.dialect W.kind text.now result }
     // Of an Item, spaces, `-` and digits are not refused for want of memory.
-    ensures plain { W.kind ≡ kind_is.Item → Every plain_byte text.now → NotForMemory result }
+    ensures allocation_free { W.kind ≡ kind_is.Item → Every number_byte text.now
+        → NotForMemory result }
 {
     let rest = field.take(context, text)?;
     let found = rest.first().copied();

@@ -1,13 +1,13 @@
 //! An Item that is being read (RFC 9651 section 4.2.3).
+ghost use Rattle.std.specs.Option.{option_map};
 ghost use Rattle.std.specs.Prelude.{◌≡◌, [], true, false, IfOk, IfNone, IsOk};
 ghost use Rattle.sf_value.specs.declared.value.Bare.{Bare};
 ghost use Rattle.sf_value.specs.declared.value.Bare.TheVariants as bare_is;
-ghost use Rattle.sf_parse.specs.Plain.{plain_byte, PlainItem};
-ghost use Rattle.sf_parse.specs.Plainness.{plain_item_step};
-ghost use Rattle.sf_parse.specs.Fronts.{Starts};
+ghost use Rattle.sf_parse.specs.AllocationFree.{number_byte, AllocationFreeItem};
+ghost use Rattle.sf_parse.specs.NumbersStay.{plain_item_step};
+ghost use Rattle.sf_parse.specs.Prefixes.{Starts};
 ghost use Rattle.sf_parse.specs.ItemView.{item_stuck};
 ghost use Rattle.sf_parse.specs.SeriesView.{Ends};
-ghost use Rattle.sf_parse.specs.Machine.Language.{seen};
 ghost use Rattle.sf_parse.specs.Machine.Params.{ParamsState, Between, Opened, params_finish};
 ghost use Rattle.sf_parse.specs.Machine.Items.{InParams, item_start, item_step, item_finish};
 ghost use Rattle.sf_parse.specs.Machine.Tests.{item_takes, item_ends};
@@ -69,7 +69,7 @@ impl ItemReader {
         ensures start { IfOk result (λ took. Starts took (item_start context.now.dialect byte)
             self.new) }
         // A space, `-` or a digit takes no memory.
-        ensures plain { plain_byte byte ≡ true → IsOk result }
+        ensures allocation_free { number_byte byte ≡ true → IsOk result }
     {
         self.in_params = false;
         self.bare.start(context, byte)
@@ -117,12 +117,12 @@ impl ItemReader {
         given: &mut G,
     ) -> Result<bool, OutOfMemory>
         // The item was added to what was given, or may not end and nothing was added.
-        ensures ended { IfOk result (λ ended. Ends ended (seen (G.with given.old)
+        ensures ended { IfOk result (λ ended. Ends ended (option_map (G.with given.old)
             (item_finish self.old)) given.old given.new) }
         // Where nothing was added the reader stays as it is.
         ensures kept { IfOk result (λ ended. ended ≡ false → self.new ≡ self.old) }
         // A number takes no memory where adding it takes none.
-        ensures plain { G.free → PlainItem self.old → IsOk result }
+        ensures allocation_free { G.free → AllocationFreeItem self.old → IsOk result }
     {
         if !self.in_params {
             let Some(bare) = self.bare.finish(context) else {
@@ -153,19 +153,19 @@ impl Level for ItemReader {
 
     ghost ends = { item_ends };
 
-    ghost plain = { λ d s. PlainItem s };
+    ghost allocation_free = { λ d s. AllocationFreeItem s };
 
     ghost keeps = { plain_item_step };
 
     fn take_part<'a>(
         &mut self,
         context: &Context,
-        piece: &'a [u8],
+        chunk: &'a [u8],
     ) -> Result<&'a [u8], OutOfMemory> {
         if self.in_params {
-            return self.params.take(context, piece);
+            return self.params.take(context, chunk);
         }
-        self.bare.take(context, piece)
+        self.bare.take(context, chunk)
     }
 
     fn push_part(&mut self, context: &Context, byte: u8) -> Result<bool, OutOfMemory> {

@@ -1,9 +1,9 @@
 //! A field of kind Item that is being read: an Item between spaces (RFC 9651 section 4.2).
+ghost use Rattle.std.specs.Option.{option_map};
 ghost use Rattle.std.specs.Prelude.{◌≡◌, IfOk, IsOk};
 ghost use Rattle.sf_value.specs.declared.value.Field.TheVariants as field;
-ghost use Rattle.sf_parse.specs.TopView.{top_stuck, StaysPlain, stays_plain_step};
-ghost use Rattle.sf_parse.specs.PlainParsers.{PlainState};
-ghost use Rattle.sf_parse.specs.Machine.Language.{seen};
+ghost use Rattle.sf_parse.specs.TopView.{top_stuck, StaysAllocationFree, stays_allocation_free};
+ghost use Rattle.sf_parse.specs.AllocationFreeParsers.{AllocationFreeState};
 ghost use Rattle.sf_parse.specs.Machine.States.{BeforeItem};
 ghost use Rattle.sf_parse.specs.Machine.Fields.{step as step_of, finish as finish_of};
 ghost use Rattle.sf_parse.specs.Machine.Tests.{takes as takes_at, may_end as may_end_at};
@@ -12,7 +12,7 @@ use crate::bare::BareReader;
 use crate::context::Context;
 use crate::item::ItemReader;
 use crate::level::Level;
-use crate::runs::{Space, short_front};
+use crate::runs::{Space, short_prefix};
 use crate::sets::{SPACE, set_if};
 use sf_value::{Dialect, Item, OutOfMemory};
 use std::marker::Model;
@@ -64,9 +64,9 @@ impl TopReader {
     /// The item, if the field may end here. What is left is the reader alone.
     pub fn finish(&mut self, context: &Context) -> Result<Option<Item>, OutOfMemory>
         // The item is the value that the state has at the end, if it has one.
-        ensures value { IfOk result (λ item. seen field.Item item ≡ finish_of self.old) }
-        // In a plain state of an Item the end takes no memory.
-        ensures plain { PlainState self.old → IsOk result }
+        ensures value { IfOk result (λ item. option_map field.Item item ≡ finish_of self.old) }
+        // In an allocation-free state of an Item the end takes no memory.
+        ensures allocation_free { AllocationFreeState self.old → IsOk result }
     {
         match self.phase {
             TopPhase::Before => return Ok(None),
@@ -92,25 +92,25 @@ impl Level for TopReader {
 
     ghost ends = { may_end_at };
 
-    ghost plain = { StaysPlain };
+    ghost allocation_free = { StaysAllocationFree };
 
-    ghost keeps = { stays_plain_step };
+    ghost keeps = { stays_allocation_free };
 
     fn take_part<'a>(
         &mut self,
         context: &Context,
-        piece: &'a [u8],
+        chunk: &'a [u8],
     ) -> Result<&'a [u8], OutOfMemory> {
         match self.phase {
             TopPhase::Before => {
-                let (_, rest) = short_front::<Space>(piece);
+                let (_, rest) = short_prefix::<Space>(chunk);
                 return Ok(rest);
             }
             TopPhase::Behind => {
-                let (_, rest) = short_front::<Space>(piece);
+                let (_, rest) = short_prefix::<Space>(chunk);
                 return Ok(rest);
             }
-            TopPhase::Inside => return self.item.take(context, piece),
+            TopPhase::Inside => return self.item.take(context, chunk),
         }
     }
 

@@ -1,7 +1,8 @@
 //! The laws of the grammar that follow from its machine, in both dialects, and that of the sets of
 //! bytes that refusals name. Each is the contract of a function that does nothing.
-ghost use Rattle.sf_parse.specs.Laws.{OneValue, IsRead, IsRest, IsViable, IsNext, IsEnd, StopsAt};
-ghost use Rattle.sf_parse.specs.Laws.{CanonOne, AnyPieces, OnlyNew, LinesOne};
+ghost use Rattle.sf_parse.specs.Laws.{OneValue, IsRead, IsResidual, IsViable, IsNext, IsEnd};
+ghost use Rattle.sf_parse.specs.Laws.{StopsAt};
+ghost use Rattle.sf_parse.specs.Laws.{CanonOne, AnyChunks, OnlyNew, LinesOne};
 ghost use Rattle.sf_parse.specs.Reached.{ReachedNothing, ReachesMore, ReachedViable, ReachedNext};
 ghost use Rattle.sf_parse.specs.Reached.{ReachedEnd, ReachedStops, ReachedAll};
 ghost use Rattle.sf_parse.specs.ByteSets.{RunsAreTheSet, RunsAreWhole};
@@ -18,14 +19,14 @@ pub fn one_value()
 {}
 
 /// The machine reads the grammar: its value is the one that the text spells; what completes a state
-/// completes the bytes that led to it; the outcome hangs on the joined pieces alone.
+/// completes the bytes that led to it; the outcome hangs on the joined chunks alone.
 pub fn machine_reads()
     ensures read { IsRead }
-    ensures rest { IsRest }
-    ensures pieces { AnyPieces }
+    ensures rest { IsResidual }
+    ensures chunks { AnyChunks }
 {}
 
-/// A front of a text is viable exactly if the machine is not stuck on it; the bytes that may come
+/// A prefix of a text is viable exactly if the machine is not stuck on it; the bytes that may come
 /// next are those that the step takes; where it takes no further one, there the refusal stands.
 pub fn refusals_are_exact()
     ensures viable { IsViable }

@@ -1,10 +1,10 @@
-//! What every level of the grammar has in common: it takes the longest front of a piece.
+//! What every level of the grammar has in common: it takes the longest prefix of a chunk.
 ghost use Rattle.std.specs.Prelude.{◌≡◌, ℕ, Bool, true, [], ◌∷◌, Option, Some, IfOk, IsOk};
 ghost use Rattle.sf_value.specs.Grammar.Words.{Every};
 ghost use Rattle.sf_value.specs.declared.dialect.Dialect.{Dialect};
-ghost use Rattle.sf_parse.specs.Plain.{plain_byte};
+ghost use Rattle.sf_parse.specs.AllocationFree.{number_byte};
 ghost use Rattle.sf_parse.specs.Expected.{Marks};
-ghost use Rattle.sf_parse.specs.Fronts.{Went, FirstIs, Front, unless};
+ghost use Rattle.sf_parse.specs.Prefixes.{Went, FirstIs, LongestPrefix, unless};
 ghost use Rattle.sf_parse.specs.Machine.Language.{Steps};
 
 use crate::context::Context;
@@ -24,18 +24,19 @@ pub trait Level {
     ghost ends: { Self → Bool };
 
     // the states that take no memory for a further space, minus sign or digit
-    ghost plain: { Dialect → Self → Type 0 };
+    ghost allocation_free: { Dialect → Self → Type 0 };
 
     /// Takes what the part that is open can go on with, and gives back the rest.
-    fn take_part<'a>(&mut self, context: &Context, piece: &'a [u8]) -> Result<&'a [u8], OutOfMemory>
+    fn take_part<'a>(&mut self, context: &Context, chunk: &'a [u8]) -> Result<&'a [u8], OutOfMemory>
         // The bytes before the rest lead the machine from the old state to the new one.
-        ensures went { IfOk result (λ rest. Went (next context.now.dialect) self.old piece.now
+        ensures went { IfOk result (λ rest. Went (next context.now.dialect) self.old chunk.now
             rest.now self.new) }
         // The part that is open can't go on with the first byte of the rest.
         ensures stuck { IfOk result (λ rest. FirstIs (stuck context.now.dialect self.new)
             rest.now) }
-        // In a plain state spaces, `-` and digits take no memory.
-        ensures plain { plain context.now.dialect self.old → Every plain_byte piece.now
+        // In an allocation-free state spaces, `-` and digits take no memory.
+        ensures allocation_free { allocation_free context.now.dialect self.old
+            → Every number_byte chunk.now
             → IsOk result };
 
     /// Takes a byte with which the part that is open can't go on, or tells that the level can't
@@ -44,8 +45,9 @@ pub trait Level {
         // A byte that the part can't take leads the machine on, or can't and the state stays.
         ensures step { IfOk result (λ took. stuck context.now.dialect self.old byte
             → Steps took (next context.now.dialect self.old byte) self.old self.new) }
-        // In a plain state spaces, `-` and digits take no memory.
-        ensures plain { plain context.now.dialect self.old → plain_byte byte ≡ true → IsOk result };
+        // In an allocation-free state spaces, `-` and digits take no memory.
+        ensures allocation_free { allocation_free context.now.dialect self.old → number_byte byte
+            ≡ true → IsOk result };
 
     /// Takes a byte that the part that is open goes on with, or tells that the part can't.
     fn push_part(&mut self, context: &Context, byte: u8) -> Result<bool, OutOfMemory>
@@ -55,8 +57,9 @@ pub trait Level {
         // With a byte that is not taken the part that is open can't go on.
         ensures stuck { IfOk result (λ took. FirstIs (stuck context.now.dialect self.new)
             (unless took byte)) }
-        // In a plain state spaces, `-` and digits take no memory.
-        ensures plain { plain context.now.dialect self.old → plain_byte byte ≡ true → IsOk result };
+        // In an allocation-free state spaces, `-` and digits take no memory.
+        ensures allocation_free { allocation_free context.now.dialect self.old → number_byte byte
+            ≡ true → IsOk result };
 
     /// The bytes below 128 that the level can go on with, a bit for each.
     fn expected(&self, dialect: Dialect) -> u128
@@ -66,19 +69,21 @@ pub trait Level {
     fn may_end(&self) -> bool
         ensures { result ≡ ends self.now };
 
-    // a plain byte leaves a plain state plain
-    ghost keeps: { (d : Dialect) (s t : Self) (b : ℕ) → plain d s → plain_byte b ≡ true
-        → next d s b ≡ Some t → plain d t };
+    // a number byte leaves an allocation-free state allocation-free
+    ghost keeps: { (d : Dialect) (s t : Self) (b : ℕ) → allocation_free d s → number_byte b ≡ true
+        → next d s b ≡ Some t → allocation_free d t };
 
     /// Takes one byte, or tells that the level can't go on with it: as `take` does, with no look
     /// for a run.
     #[inline(always)]
     final fn push(&mut self, context: &Context, byte: u8) -> Result<bool, OutOfMemory>
         // A byte that is taken leads the machine on; with any other it can't go on, and stays.
-        ensures front { IfOk result (λ took. Front (next context.now.dialect) self.old (byte ∷ [])
+        ensures prefix { IfOk result
+            (λ took. LongestPrefix (next context.now.dialect) self.old (byte ∷ [])
             (unless took byte) self.new) }
-        // In a plain state spaces, `-` and digits take no memory.
-        ensures plain { plain context.now.dialect self.old → plain_byte byte ≡ true → IsOk result }
+        // In an allocation-free state spaces, `-` and digits take no memory.
+        ensures allocation_free { allocation_free context.now.dialect self.old → number_byte byte
+            ≡ true → IsOk result }
     {
         if self.push_part(context, byte)? {
             return Ok(true);
@@ -86,20 +91,23 @@ pub trait Level {
         self.turn(context, byte)
     }
 
-    /// Takes the longest front of the piece that the level can go on with, and gives back the rest.
+    /// Takes the longest prefix of the chunk that the level can go on with, and gives back the
+    /// rest.
     final fn take<'a>(
         &mut self,
         context: &Context,
-        piece: &'a [u8],
+        chunk: &'a [u8],
     ) -> Result<&'a [u8], OutOfMemory>
         // The bytes before the rest lead to the new state, which can't take the first of the rest.
-        ensures front { IfOk result (λ rest. Front (next context.now.dialect) self.old piece.now
+        ensures prefix { IfOk result
+            (λ rest. LongestPrefix (next context.now.dialect) self.old chunk.now
             rest.now self.new) }
-        // In a plain state spaces, `-` and digits take no memory.
-        ensures plain { plain context.now.dialect self.old → Every plain_byte piece.now
+        // In an allocation-free state spaces, `-` and digits take no memory.
+        ensures allocation_free { allocation_free context.now.dialect self.old
+            → Every number_byte chunk.now
             → IsOk result }
     {
-        let mut rest = piece;
+        let mut rest = chunk;
         while !rest.is_empty() {
             rest = self.take_part(context, rest)?;
             let Some((byte, more)) = rest.split_first() else {

@@ -1,8 +1,8 @@
 //! The push parser of structured fields (RFC 9651 section 4.2).
 //!
-//! A [`Parser`] is handed a text in pieces and keeps none of it: beside the values built so far
+//! A [`Parser`] is handed a text in chunks and keeps none of it: beside the values built so far
 //! only the open construct. It refuses at the exact byte, with exactly the bytes that could have
-//! followed ([`Refusal::Syntax`]), whatever the pieces. [`parse_text`] parses a text at once,
+//! followed ([`Refusal::Syntax`]), whatever the chunks. [`parse_text`] parses a text at once,
 //! [`parse_reader`] what a reader gives. A refusal says itself in words, alone or beside the line
 //! that it stands in ([`InLine`]), and [`runs_of`] lists the bytes that it names.
 //!
@@ -21,15 +21,15 @@
 mod bare;
 mod blob;
 mod boolean;
-mod series;
+mod byte_runs;
 mod context;
 mod date;
 mod display_string;
 mod entry;
-mod byte_runs;
 mod field;
 mod gathering;
 mod item;
+mod item_field;
 pub mod laws;
 mod level;
 mod member;
@@ -38,15 +38,15 @@ mod number;
 mod parameters;
 mod parser;
 mod parsing;
-mod pieces;
 mod reader;
 mod refusal;
 mod runs;
+mod series;
+mod series_members;
 mod sets;
 mod spots;
 mod state;
 mod text;
-mod item_field;
 
 pub use byte_runs::{Runs, runs_of};
 pub use parser::Parser;

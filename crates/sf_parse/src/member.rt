@@ -3,12 +3,12 @@
 ghost use Rattle.std.specs.Prelude.{◌≡◌, [], true, false, IfOk, IfNone};
 ghost use Rattle.sf_value.specs.declared.value.Bare.TheVariants as bare_is;
 ghost use Rattle.sf_parse.specs.Expected.{Marks};
-ghost use Rattle.sf_parse.specs.Fronts.{Starts};
+ghost use Rattle.sf_parse.specs.Prefixes.{Starts};
 ghost use Rattle.sf_parse.specs.MemberView.{member_stuck};
 ghost use Rattle.sf_parse.specs.Machine.Params.{Opened};
 ghost use Rattle.sf_parse.specs.Machine.Items.{InParams};
 ghost use Rattle.sf_parse.specs.SeriesView.{Ends};
-ghost use Rattle.sf_parse.specs.PieceEnds.{with_member};
+ghost use Rattle.sf_parse.specs.MemberEnds.{with_member};
 ghost use Rattle.sf_parse.specs.Machine.Inners.{InnerState, inner_finish};
 ghost use Rattle.sf_parse.specs.Machine.Members.{InOne, InMany, member_start, member_step};
 ghost use Rattle.sf_parse.specs.Machine.Members.{member_finish};
@@ -18,7 +18,7 @@ use crate::bare::BareReader;
 use crate::context::Context;
 use crate::item::ItemReader;
 use crate::level::Level;
-use crate::runs::{Space, short_front};
+use crate::runs::{Space, short_prefix};
 use crate::sets::{CLOSE, OPEN, SPACE, set_if};
 use sf_value::{Dialect, Inner, Item, Member, OutOfMemory, Sequence};
 use std::marker::Model;
@@ -208,23 +208,23 @@ impl Level for MemberReader {
 
     ghost ends = { member_ends };
 
-    ghost plain = { λ d s. ⊥ };
+    ghost allocation_free = { λ d s. ⊥ };
 
     ghost keeps = { λ d s t b h e k. absurd h };
 
     fn take_part<'a>(
         &mut self,
         context: &Context,
-        piece: &'a [u8],
+        chunk: &'a [u8],
     ) -> Result<&'a [u8], OutOfMemory> {
         match self.phase {
             MemberPhase::Room => {
-                let (_, rest) = short_front::<Space>(piece);
+                let (_, rest) = short_prefix::<Space>(chunk);
                 return Ok(rest);
             }
-            MemberPhase::One => return self.item.take(context, piece),
-            MemberPhase::InItem => return self.item.take(context, piece),
-            MemberPhase::Closing => match self.item.take(context, piece) {
+            MemberPhase::One => return self.item.take(context, chunk),
+            MemberPhase::InItem => return self.item.take(context, chunk),
+            MemberPhase::Closing => match self.item.take(context, chunk) {
                 Ok(rest) => return Ok(rest),
                 Err(refused) => {
                     self.phase = MemberPhase::Room;

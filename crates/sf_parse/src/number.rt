@@ -2,7 +2,7 @@
 ghost use Rattle.std.specs.Prelude.{◌≡◌, ◌≤◌, ◌<◌, ◌^◌, false, nat_abs};
 ghost use Rattle.sf_value.specs.Grammar.Numbers.{signed};
 ghost use Rattle.sf_parse.specs.Expected.{Marks};
-ghost use Rattle.sf_parse.specs.Fronts.{Went, FirstIs, Halts, Starts};
+ghost use Rattle.sf_parse.specs.Prefixes.{Went, FirstIs, Halts, Starts};
 ghost use Rattle.sf_parse.specs.Machine.Language.{Steps};
 ghost use Rattle.sf_parse.specs.Machine.Numbers.{number_start, number_step, number_finish};
 ghost use Rattle.sf_parse.specs.Machine.Tests.{number_takes, number_ends};
@@ -86,7 +86,9 @@ impl NumberReader {
     }
 
     /// Takes one more byte, or tells that the number can't go on with it and stays as it is.
-    #[tactic(auto, using(crate::proofs::Numerals::room, crate::proofs::Numerals::whole_fits, crate::proofs::Numerals::next_digit))]
+    #[tactic(auto,
+    using(crate::proofs::Numerals::room, crate::proofs::Numerals::whole_fits,
+    crate::proofs::Numerals::next_digit))]
     pub fn step(&mut self, byte: u8) -> bool
         // The byte leads the machine on, or can't and the state stays.
         ensures { Steps result (number_step self.old byte) self.old self.new }
@@ -120,13 +122,13 @@ impl NumberReader {
     }
 
     /// Takes the bytes that the number goes on with, and gives back the rest.
-    pub fn take_run<'a>(&mut self, piece: &'a [u8]) -> &'a [u8]
+    pub fn take_run<'a>(&mut self, chunk: &'a [u8]) -> &'a [u8]
         // The bytes before the rest lead the machine from the old state to the new one.
-        ensures went { Went number_step self.old piece.now result.now self.new }
+        ensures went { Went number_step self.old chunk.now result.now self.new }
         // The number can't go on with the first byte of the rest.
         ensures stop { FirstIs (Halts number_step self.new) result.now }
     {
-        let mut rest = piece;
+        let mut rest = chunk;
         while let Some((byte, more)) = rest.split_first() {
             if !self.step(*byte) {
                 return rest;

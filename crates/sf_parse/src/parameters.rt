@@ -9,7 +9,7 @@ ghost use Rattle.sf_parse.specs.ParamsView.{params_stuck};
 use crate::bare::BareReader;
 use crate::context::Context;
 use crate::level::Level;
-use crate::runs::{ByteClass, InKey, Space, short_front};
+use crate::runs::{ByteClass, InKey, Space, short_prefix};
 use crate::sets::{EQUALS, KEY, KEY_START, SEMICOLON, SPACE, set_if};
 use sf_value::{Bare, Dialect, Entries, Key, OutOfMemory, ShortBytes, can_start_key};
 use std::marker::Model;
@@ -121,27 +121,27 @@ impl Level for ParamsReader {
 
     ghost ends = { params_ends };
 
-    ghost plain = { λ d s. ⊥ };
+    ghost allocation_free = { λ d s. ⊥ };
 
     ghost keeps = { λ d s t b h e k. absurd h };
 
     fn take_part<'a>(
         &mut self,
         context: &Context,
-        piece: &'a [u8],
+        chunk: &'a [u8],
     ) -> Result<&'a [u8], OutOfMemory> {
         match self.phase {
             ParamsPhase::Opened => {
-                let (_, rest) = short_front::<Space>(piece);
+                let (_, rest) = short_prefix::<Space>(chunk);
                 return Ok(rest);
             }
             ParamsPhase::InKey => {
-                let (run, rest) = short_front::<InKey>(piece);
+                let (run, rest) = short_prefix::<InKey>(chunk);
                 self.key.extend(run)?;
                 return Ok(rest);
             }
-            ParamsPhase::InValue => return self.value.take(context, piece),
-            ParamsPhase::Between | ParamsPhase::Equals => return Ok(piece),
+            ParamsPhase::InValue => return self.value.take(context, chunk),
+            ParamsPhase::Between | ParamsPhase::Equals => return Ok(chunk),
         }
     }
 

@@ -1,14 +1,15 @@
-//! The parser that is handed pieces.
+//! The parser that is handed chunks.
 ghost use Rattle.std.specs.Prelude.{◌≡◌, ℕ, ◌+◌, ◌<◌, ◌≤◌, List, [], ◌∷◌, length, true, Some, None};
 ghost use Rattle.std.specs.Prelude.{IfSome, IfNone, IfOk, OnOk, Err, MatchResult, false};
 ghost use Rattle.sf_value.specs.Grammar.Words.{Every};
 ghost use Rattle.sf_value.specs.declared.dialect.Dialect.TheVariants as dialect_is;
 ghost use Rattle.sf_value.specs.declared.value.Kind.TheVariants as kind_is;
-ghost use Rattle.sf_parse.specs.Fronts.{FirstIs, Halts};
+ghost use Rattle.sf_parse.specs.Prefixes.{FirstIs, Halts};
 ghost use Rattle.sf_parse.specs.Parsers.{Took, StandsAt, Fed, Finishes, in_line};
-ghost use Rattle.sf_parse.specs.Feeding.{FedTo, TakenPlain};
-ghost use Rattle.sf_parse.specs.Plain.{plain_byte};
-ghost use Rattle.sf_parse.specs.PlainParsers.{IsPlain, IsOther, KeptPlain, NotForMemory};
+ghost use Rattle.sf_parse.specs.Feeding.{FedTo, TakenAllocationFree};
+ghost use Rattle.sf_parse.specs.AllocationFree.{number_byte};
+ghost use Rattle.sf_parse.specs.AllocationFreeParsers.{IsAllocationFree, IsOther};
+ghost use Rattle.sf_parse.specs.AllocationFreeParsers.{KeptAllocationFree, NotForMemory};
 ghost use Rattle.sf_parse.specs.Machine.Fields.{step as step_of};
 ghost use Rattle.sf_parse.specs.Machine.Tests.{may_end};
 
@@ -99,7 +100,7 @@ impl Parser {
         // No field line came before.
         ensures lines { result.after_line ≡ false }
         // A parser for an Item takes no memory while only spaces, `-` and digits come.
-        ensures plain { kind ≡ kind_is.Item → IsPlain result }
+        ensures allocation_free { kind ≡ kind_is.Item → IsAllocationFree result }
     {
         Parser::new_in(alloc, seed, Dialect::Rfc9651, kind, max)
     }
@@ -121,7 +122,7 @@ impl Parser {
         // No field line came before.
         ensures lines { result.after_line ≡ false }
         // A parser for an Item takes no memory while only spaces, `-` and digits come.
-        ensures plain { kind ≡ kind_is.Item → IsPlain result }
+        ensures allocation_free { kind ≡ kind_is.Item → IsAllocationFree result }
     {
         let context = Context {
             alloc,
@@ -149,31 +150,32 @@ impl Parser {
     }
 
     /// Takes what the field can go on with of bytes within the limit, and gives back the rest.
-    fn take<'a>(&mut self, front: &'a [u8]) -> Result<&'a [u8], Refusal>
+    fn take<'a>(&mut self, prefix: &'a [u8]) -> Result<&'a [u8], Refusal>
         requires unrefused { self.old.refusal ≡ None }
-        // The front lies within the limit.
-        requires room { self.old.count + length front.now ≤ self.old.max }
-        // Ok took the bytes before the rest; a refusal stands whatever comes behind the front.
-        ensures fed { MatchResult result (λ rest. FedTo self.old self.new front.now rest.now)
-            (λ e. Fed self.old self.new (Err e) front.now) }
+        // The prefix lies within the limit.
+        requires room { self.old.count + length prefix.now ≤ self.old.max }
+        // Ok took the bytes before the rest; a refusal stands whatever comes behind the prefix.
+        ensures fed { MatchResult result (λ rest. FedTo self.old self.new prefix.now rest.now)
+            (λ e. Fed self.old self.new (Err e) prefix.now) }
         // The count goes up by the bytes before the rest.
         ensures counted { IfOk result (λ rest. self.new.count + length rest.now
-            ≡ self.old.count + length front.now) }
+            ≡ self.old.count + length prefix.now) }
         ensures lines { self.new.after_line ≡ self.old.after_line }
         // The field can't go on with the first byte of the rest.
         ensures stops { IfOk result (λ rest. FirstIs (Halts (step_of self.new.dialect)
             self.new.state) rest.now) }
         // While only spaces, `-` and digits of an Item come, none is refused for want of memory.
-        ensures plain { IsPlain self.old → Every plain_byte front.now → TakenPlain self.new result }
+        ensures allocation_free { IsAllocationFree self.old → Every number_byte prefix.now
+            → TakenAllocationFree self.new result }
     {
-        let rest = match self.state.take(&self.context, front) {
+        let rest = match self.state.take(&self.context, prefix) {
             Ok(rest) => rest,
             Err(_) => {
                 self.refusal = Some(Refusal::OutOfMemory);
                 return Err(Refusal::OutOfMemory);
             }
         };
-        self.count += (front.len() - rest.len()) as u64;
+        self.count += (prefix.len() - rest.len()) as u64;
         Ok(rest)
     }
 
@@ -204,25 +206,26 @@ impl Parser {
         refusal
     }
 
-    /// Takes the next piece, or refuses the text: with Syntax at a byte that can't follow, with
+    /// Takes the next chunk, or refuses the text: with Syntax at a byte that can't follow, with
     /// TooLong behind the limit, or with OutOfMemory for want of memory. A parser that refused once
-    /// gives the same refusal to every later call, whatever the piece.
-    pub fn feed(&mut self, piece: &[u8]) -> Result<(), Refusal>
-        // Ok took the piece; a refusal stands whatever comes behind it.
-        ensures fed { Fed self.old self.new result piece.now }
-        // A piece is no field line.
+    /// gives the same refusal to every later call, whatever the chunk.
+    pub fn feed(&mut self, chunk: &[u8]) -> Result<(), Refusal>
+        // Ok took the chunk; a refusal stands whatever comes behind it.
+        ensures fed { Fed self.old self.new result chunk.now }
+        // A chunk is no field line.
         ensures lines { self.new.after_line ≡ self.old.after_line }
         // A parser that refused gives the same refusal and stays as it is.
         ensures again { IfSome self.old.refusal (λ e. (result ≡ Err e) × (self.new ≡ self.old)) }
         // While only spaces, `-` and digits of an Item come, none is refused for want of memory.
-        ensures plain { IsPlain self.old → Every plain_byte piece.now → KeptPlain self.new result }
+        ensures allocation_free { IsAllocationFree self.old → Every number_byte chunk.now
+            → KeptAllocationFree self.new result }
     {
         if let Some(refusal) = self.refusal {
             return Err(refusal);
         }
-        let room = (self.max - self.count).min(piece.len() as u64) as usize;
-        let (front, back) = piece.split_at(room);
-        let rest = self.take(front)?;
+        let room = (self.max - self.count).min(chunk.len() as u64) as usize;
+        let (prefix, back) = chunk.split_at(room);
+        let rest = self.take(prefix)?;
         if let Some((byte, _)) = rest.split_first() {
             return Err(self.refuse(*byte));
         }
@@ -257,8 +260,9 @@ impl Parser {
         // A parser that refused gives the same refusal and stays as it is.
         ensures again { IfSome self.old.refusal (λ e. (result ≡ Err e) × (self.new ≡ self.old)) }
         // A first line of spaces, `-` and digits of an Item is not refused for want of memory.
-        ensures plain { IsPlain self.old → self.old.after_line ≡ false → Every plain_byte line.now
-            → KeptPlain self.new result }
+        ensures allocation_free { IsAllocationFree self.old → self.old.after_line ≡ false
+            → Every number_byte line.now
+            → KeptAllocationFree self.new result }
     {
         if self.after_line {
             self.feed(b", ")?;
@@ -280,7 +284,7 @@ impl Parser {
         // Without a refusal the text may end.
         ensures whole { IfNone result (may_end self.now.state ≡ true) }
         // After only spaces, `-` and digits of an Item, the refusal is not for want of memory.
-        ensures plain { IsPlain self.now → IfSome result IsOther }
+        ensures allocation_free { IsAllocationFree self.now → IfSome result IsOther }
     {
         if let Some(refusal) = self.refusal {
             return Some(refusal);
@@ -304,7 +308,7 @@ impl Parser {
         // A parser that refused gives the same refusal.
         ensures again { IfSome self.refusal (λ e. result ≡ Err e) }
         // After only spaces, `-` and digits of an Item, the end is not refused for want of memory.
-        ensures plain { IsPlain self → NotForMemory result }
+        ensures allocation_free { IsAllocationFree self → NotForMemory result }
     {
         if let Some(refusal) = self.refusal_at_end() {
             return Err(refusal);

@@ -5,13 +5,13 @@ ghost use Rattle.sf_value.specs.declared.dialect.Dialect.TheVariants.{Rfc9651};
 ghost use Rattle.sf_value.specs.declared.value.Field.TheVariants as field_is;
 ghost use Rattle.sf_value.specs.declared.value.Kind.TheVariants as kind_is;
 ghost use Rattle.sf_parse.specs.Parsers.{Parses, Makes};
-ghost use Rattle.sf_parse.specs.Plain.{plain_byte};
-ghost use Rattle.sf_parse.specs.PlainParsers.{IsOther, NotForMemory};
+ghost use Rattle.sf_parse.specs.AllocationFree.{number_byte};
+ghost use Rattle.sf_parse.specs.AllocationFreeParsers.{IsOther, NotForMemory};
 
 use crate::context::Context;
 use crate::field::{DictReader, ListReader, parse_whole};
-use crate::refusal::Refusal;
 use crate::item_field::TopReader;
+use crate::refusal::Refusal;
 use sf_value::{Dialect, Dict, Field, Item, Kind, List};
 use std::alloc::Global;
 use std::hash::RandomState;
@@ -32,7 +32,8 @@ pub fn parse_text(
     // The text spells just this value, or this is its exact refusal; else memory was wanting.
     ensures parses { Parses Rfc9651 kind text.now result }
     // Of an Item, spaces, `-` and digits are not refused for want of memory.
-    ensures plain { kind ≡ kind_is.Item → Every plain_byte text.now → NotForMemory result }
+    ensures allocation_free { kind ≡ kind_is.Item → Every number_byte text.now
+        → NotForMemory result }
 {
     parse_text_in(alloc, seed, Dialect::Rfc9651, kind, text)
 }
@@ -52,7 +53,8 @@ pub fn parse_text_in(
     // The text spells just this value, or this is its exact refusal; else memory was wanting.
     ensures parses { Parses dialect kind text.now result }
     // Of an Item, spaces, `-` and digits are not refused for want of memory.
-    ensures plain { kind ≡ kind_is.Item → Every plain_byte text.now → NotForMemory result }
+    ensures allocation_free { kind ≡ kind_is.Item → Every number_byte text.now
+        → NotForMemory result }
 {
     let context = Context {
         alloc,
@@ -78,7 +80,7 @@ pub fn parse_item(alloc: Global, seed: &RandomState, text: &[u8]) -> Result<Item
     // The text spells just this Item, or this is its exact refusal; else memory was wanting.
     ensures parses { Makes field_is.Item (Parses Rfc9651 kind_is.Item text.now) result }
     // Spaces, `-` and digits are not refused for want of memory.
-    ensures plain { Every plain_byte text.now → IfErr result IsOther }
+    ensures allocation_free { Every number_byte text.now → IfErr result IsOther }
 {
     match parse_text(alloc, seed, Kind::Item, text)? {
         Field::Item(item) => Ok(item),

@@ -25,17 +25,17 @@ pub enum Refusal {
     OutOfMemory,
     /// The text spells no value (RFC 9651 section 4.2).
     Syntax {
-        /// The length of the longest front that some text of the kind begins with.
+        /// The length of the longest prefix that some text of the kind begins with.
         place: u64,
         /// The byte at that place, or None where the text ended.
         found: Option<u8>,
-        /// The bytes that could have followed that front: bit b is set exactly if byte b could. It
+        /// The bytes that could have followed that prefix: bit b is set exactly if byte b could. It
         /// is never 0. [`crate::runs_of`] lists them.
         expected: u128,
-        /// Whether that front is a text of the kind itself.
+        /// Whether that prefix is a text of the kind itself.
         may_end: bool,
     },
-    /// The text has more bytes than this, and so many of them are a good front.
+    /// The text has more bytes than this, and so many of them are a good prefix.
     TooLong {
         /// The limit, in bytes.
         max: u64,

@@ -1,9 +1,9 @@
 //! Runs of bytes of one class, which are found many at a time.
 ghost use Rattle.std.specs.Prelude.{◌≡◌, ◌++◌, ℕ, Bool, true};
 ghost use Rattle.sf_value.specs.Grammar.Words.{Every};
-ghost use Rattle.sf_value.specs.Grammar.Classes.{is_key_rest, is_token_rest, is_sp};
+ghost use Rattle.sf_value.specs.Grammar.Classes.{is_in_key, is_in_token, is_sp};
 ghost use Rattle.sf_value.specs.Grammar.Classes.{is_ows as is_ows_byte};
-ghost use Rattle.sf_value.specs.Grammar.DisplayStrings.{is_plain};
+ghost use Rattle.sf_value.specs.Grammar.DisplayStrings.{is_unencoded};
 ghost use Rattle.sf_parse.specs.ByteRuns.{is_unescaped};
 
 use sf_value::{can_be_in_key, can_be_in_token, is_ows, is_visible, stands_for_itself};
@@ -59,7 +59,7 @@ pub struct InToken;
 pub struct InKey;
 
 /// What stands for itself between the quotes of a display string (section 3.3.8).
-pub struct ShownPlain;
+pub struct UnencodedByte;
 
 /// A space.
 pub struct Space;
@@ -82,7 +82,7 @@ impl ByteClass for Unescaped {
 }
 
 impl ByteClass for InToken {
-    ghost test = { is_token_rest };
+    ghost test = { is_in_token };
 
     #[inline]
     fn has(byte: u8) -> bool {
@@ -96,7 +96,7 @@ impl ByteClass for InToken {
 }
 
 impl ByteClass for InKey {
-    ghost test = { is_key_rest };
+    ghost test = { is_in_key };
 
     #[inline]
     fn has(byte: u8) -> bool {
@@ -109,8 +109,8 @@ impl ByteClass for InKey {
     }
 }
 
-impl ByteClass for ShownPlain {
-    ghost test = { is_plain };
+impl ByteClass for UnencodedByte {
+    ghost test = { is_unencoded };
 
     #[inline]
     fn has(byte: u8) -> bool {
@@ -119,7 +119,7 @@ impl ByteClass for ShownPlain {
 
     #[inline]
     fn has_one(byte: u8) -> bool {
-        ShownPlain::has(byte)
+        UnencodedByte::has(byte)
     }
 }
 
@@ -163,42 +163,42 @@ fn all_of<C: ByteClass>(bytes: &[u8]) -> bool
     all
 }
 
-/// The bytes of the class that the piece begins with, and the rest. Behind the first 16 bytes
+/// The bytes of the class that the chunk begins with, and the rest. Behind the first 16 bytes
 /// blocks of 16 are looked at.
 #[inline]
-pub fn long_front<C: ByteClass>(piece: &[u8]) -> (&[u8], &[u8])
-    // Together they are the piece.
-    ensures whole { piece.now ≡ result.0.now ++ result.1.now }
+pub fn long_prefix<C: ByteClass>(chunk: &[u8]) -> (&[u8], &[u8])
+    // Together they are the chunk.
+    ensures whole { chunk.now ≡ result.0.now ++ result.1.now }
     // All bytes of the first are of the class.
     ensures every { Every C.test result.0.now }
 {
     let mut run = 0;
-    let start = piece.len().min(16);
-    while run < start && C::has_one(piece[run]) {
+    let start = chunk.len().min(16);
+    while run < start && C::has_one(chunk[run]) {
         run += 1;
     }
     if run == 16 {
-        while piece.len() - run >= 16 && all_of::<C>(&piece[run..run + 16]) {
+        while chunk.len() - run >= 16 && all_of::<C>(&chunk[run..run + 16]) {
             run += 16;
         }
-        while run < piece.len() && C::has_one(piece[run]) {
+        while run < chunk.len() && C::has_one(chunk[run]) {
             run += 1;
         }
     }
-    piece.split_at(run)
+    chunk.split_at(run)
 }
 
 /// The same, for runs that are mostly short.
 #[inline]
-pub fn short_front<C: ByteClass>(piece: &[u8]) -> (&[u8], &[u8])
-    // Together they are the piece.
-    ensures whole { piece.now ≡ result.0.now ++ result.1.now }
+pub fn short_prefix<C: ByteClass>(chunk: &[u8]) -> (&[u8], &[u8])
+    // Together they are the chunk.
+    ensures whole { chunk.now ≡ result.0.now ++ result.1.now }
     // All bytes of the first are of the class.
     ensures every { Every C.test result.0.now }
 {
     let mut run = 0;
-    while run < piece.len() && C::has_one(piece[run]) {
+    while run < chunk.len() && C::has_one(chunk[run]) {
         run += 1;
     }
-    piece.split_at(run)
+    chunk.split_at(run)
 }

@@ -1,75 +1,75 @@
-//! Pieces with commas between them that are being read: the members of a List or a Dictionary (RFC
+//! Members with commas between them that are being read: the members of a List or a Dictionary (RFC
 //! 9651 sections 4.2.1 and 4.2.2).
 ghost use Rattle.std.specs.Prelude.{◌≡◌, ℕ, Bool, false, Option, IfOk};
 ghost use Rattle.sf_value.specs.declared.dialect.Dialect.{Dialect};
 ghost use Rattle.sf_parse.specs.Expected.{Marks};
-ghost use Rattle.sf_parse.specs.Fronts.{Starts};
+ghost use Rattle.sf_parse.specs.Prefixes.{Starts};
 ghost use Rattle.sf_parse.specs.SeriesView.{series_next, series_end, series_stuck, Ends};
 ghost use Rattle.sf_parse.specs.Machine.Series.{Begin};
 ghost use Rattle.sf_parse.specs.Machine.Tests.{series_takes, series_ends};
 
 use crate::context::Context;
 use crate::level::Level;
-use crate::runs::{Ows, Space, short_front};
+use crate::runs::{Ows, Space, short_prefix};
 use crate::sets::{COMMA, OWS, SPACE, set_if};
 use sf_value::{Dialect, OutOfMemory, is_ows};
 use std::marker::Model;
 use std::mem;
 
-/// A piece between commas; the whole ones are added to a `G`.
-pub trait Piece<G>: Level {
-    // whether a piece may begin with a byte, and what the byte begins
+/// A member between commas; the whole ones are added to a `G`.
+pub trait SeriesMember<G>: Level {
+    // whether a member may begin with a byte, and what the byte begins
     ghost begins: { Dialect → ℕ → Bool };
 
     ghost first: { Dialect → ℕ → Option Self };
 
-    // what no piece gives
+    // what no member gives
     ghost none: { G };
 
-    // what was given with this piece, where it may end
+    // what was given with this member, where it may end
     ghost added: { Self → G → Option G };
 
-    /// Where no piece is whole yet. It takes no memory.
+    /// Where no member is whole yet. It takes no memory.
     fn none(context: &Context) -> G
         ensures { result ≡ none };
 
-    /// The bytes below 128 that a piece may begin with, a bit for each.
+    /// The bytes below 128 that a member may begin with, a bit for each.
     fn first_bytes(dialect: Dialect) -> u128
         ensures { Marks result (begins dialect) };
 
-    /// Begins a piece with this byte, or tells that none begins with it.
+    /// Begins a member with this byte, or tells that none begins with it.
     fn start(&mut self, context: &Context, byte: u8) -> Result<bool, OutOfMemory>
         // The new state is the one that the byte begins, or none begins with it.
         ensures { IfOk result (λ took. Starts took (first context.now.dialect byte) self.new) };
 
-    /// Adds the piece, if it is whole, or tells that it is not, and changes nothing.
+    /// Adds the member, if it is whole, or tells that it is not, and changes nothing.
     fn end(&mut self, context: &Context, given: &mut G) -> Result<bool, OutOfMemory>
-        // The piece was added to what was given, or may not end and nothing was added.
+        // The member was added to what was given, or may not end and nothing was added.
         ensures ended { IfOk result (λ ended. Ends ended (added self.old given.old) given.old
             given.new) }
         // Where nothing was added the reader stays as it is.
         ensures kept { IfOk result (λ ended. ended ≡ false → self.new ≡ self.old) };
 }
 
-/// Where in pieces with commas the text is.
+/// Where in members with commas the text is.
 #[derive(Clone, Copy)]
 pub enum SeriesPhase {
-    /// Before the first piece.
+    /// Before the first member.
     Begin,
-    /// In a piece.
-    InPiece,
-    /// Behind a piece.
+    /// In a member.
+    InMember,
+    /// Behind a member.
     Gap,
     /// Behind a comma.
     Comma,
 }
 
-/// What was read of pieces with commas: what the whole ones gave, and the piece that is open.
+/// What was read of members with commas: what the whole ones gave, and the member that is open.
 #[derive(Drop)]
 pub struct SeriesReader<P, G> {
     phase: SeriesPhase,
     given: G,
-    piece: P,
+    member: P,
 }
 
 impl<P, G> Model for SeriesReader<P, G> {
@@ -79,31 +79,31 @@ impl<P, G> Model for SeriesReader<P, G> {
 
     ghost use Rattle.sf_parse.specs.SeriesView.{series_of};
 
-    ghost view = { λ r. series_of r.phase r.given r.piece };
+    ghost view = { λ r. series_of r.phase r.given r.member };
 }
 
-impl<P: Piece<G>, G: Drop> SeriesReader<P, G> {
-    /// Before the first piece.
-    pub fn new(context: &Context, piece: P) -> SeriesReader<P, G>
+impl<P: SeriesMember<G>, G: Drop> SeriesReader<P, G> {
+    /// Before the first member.
+    pub fn new(context: &Context, member: P) -> SeriesReader<P, G>
         ensures { result ≡ Begin }
     {
         SeriesReader {
             phase: SeriesPhase::Begin,
             given: P::none(context),
-            piece,
+            member,
         }
     }
 
-    /// What the pieces gave, if the last one is whole. What is left is the reader alone.
+    /// What the members gave, if the last one is whole. What is left is the reader alone.
     pub fn finish(&mut self, context: &Context) -> Result<Option<G>, OutOfMemory>
-        // It is what the pieces gave, if they may end.
+        // It is what the members gave, if they may end.
         ensures { IfOk result (λ given. given ≡ series_end P.added P.none self.old) }
     {
         match self.phase {
             SeriesPhase::Begin => return Ok(Some(P::none(context))),
             SeriesPhase::Comma => return Ok(None),
-            SeriesPhase::InPiece => {
-                if !self.piece.end(context, &mut self.given)? {
+            SeriesPhase::InMember => {
+                if !self.member.end(context, &mut self.given)? {
                     return Ok(None);
                 }
                 return Ok(Some(mem::replace(&mut self.given, P::none(context))));
@@ -115,7 +115,7 @@ impl<P: Piece<G>, G: Drop> SeriesReader<P, G> {
     }
 }
 
-impl<P: Piece<G>, G: Drop> Level for SeriesReader<P, G> {
+impl<P: SeriesMember<G>, G: Drop> Level for SeriesReader<P, G> {
     ghost next = { λ d. series_next (P.first d) (P.next d) P.added P.none };
 
     ghost stuck = { λ d. series_stuck (P.next d) };
@@ -124,35 +124,35 @@ impl<P: Piece<G>, G: Drop> Level for SeriesReader<P, G> {
 
     ghost ends = { λ s. series_ends P.ends s };
 
-    ghost plain = { λ d s. ⊥ };
+    ghost allocation_free = { λ d s. ⊥ };
 
     ghost keeps = { λ d s t b h e k. absurd h };
 
     fn take_part<'a>(
         &mut self,
         context: &Context,
-        piece: &'a [u8],
+        chunk: &'a [u8],
     ) -> Result<&'a [u8], OutOfMemory> {
         match self.phase {
             SeriesPhase::Begin => {
-                let (_, rest) = short_front::<Space>(piece);
+                let (_, rest) = short_prefix::<Space>(chunk);
                 return Ok(rest);
             }
             SeriesPhase::Gap => {
-                let (_, rest) = short_front::<Ows>(piece);
+                let (_, rest) = short_prefix::<Ows>(chunk);
                 return Ok(rest);
             }
             SeriesPhase::Comma => {
-                let (_, rest) = short_front::<Ows>(piece);
+                let (_, rest) = short_prefix::<Ows>(chunk);
                 return Ok(rest);
             }
-            SeriesPhase::InPiece => return self.piece.take(context, piece),
+            SeriesPhase::InMember => return self.member.take(context, chunk),
         }
     }
 
     fn push_part(&mut self, context: &Context, byte: u8) -> Result<bool, OutOfMemory> {
         match self.phase {
-            SeriesPhase::InPiece => return self.piece.push(context, byte),
+            SeriesPhase::InMember => return self.member.push(context, byte),
             SeriesPhase::Begin | SeriesPhase::Gap | SeriesPhase::Comma => return Ok(false),
         }
     }
@@ -163,26 +163,26 @@ impl<P: Piece<G>, G: Drop> Level for SeriesReader<P, G> {
                 if byte == b' ' {
                     return Ok(true);
                 }
-                if !self.piece.start(context, byte)? {
+                if !self.member.start(context, byte)? {
                     return Ok(false);
                 }
                 self.given = P::none(context);
-                self.phase = SeriesPhase::InPiece;
+                self.phase = SeriesPhase::InMember;
                 return Ok(true);
             }
             SeriesPhase::Comma => {
                 if is_ows(byte) {
                     return Ok(true);
                 }
-                if !self.piece.start(context, byte)? {
+                if !self.member.start(context, byte)? {
                     return Ok(false);
                 }
-                self.phase = SeriesPhase::InPiece;
+                self.phase = SeriesPhase::InMember;
                 return Ok(true);
             }
-            SeriesPhase::InPiece => {
+            SeriesPhase::InMember => {
                 if byte == b',' {
-                    if !self.piece.end(context, &mut self.given)? {
+                    if !self.member.end(context, &mut self.given)? {
                         return Ok(false);
                     }
                     self.phase = SeriesPhase::Comma;
@@ -191,7 +191,7 @@ impl<P: Piece<G>, G: Drop> Level for SeriesReader<P, G> {
                 if !is_ows(byte) {
                     return Ok(false);
                 }
-                if !self.piece.end(context, &mut self.given)? {
+                if !self.member.end(context, &mut self.given)? {
                     return Ok(false);
                 }
                 self.phase = SeriesPhase::Gap;
@@ -213,8 +213,8 @@ impl<P: Piece<G>, G: Drop> Level for SeriesReader<P, G> {
     fn expected(&self, dialect: Dialect) -> u128 {
         match self.phase {
             SeriesPhase::Begin => return SPACE | P::first_bytes(dialect),
-            SeriesPhase::InPiece => {
-                return self.piece.expected(dialect) | set_if(self.piece.may_end(), OWS | COMMA);
+            SeriesPhase::InMember => {
+                return self.member.expected(dialect) | set_if(self.member.may_end(), OWS | COMMA);
             }
             SeriesPhase::Gap => return OWS | COMMA,
             SeriesPhase::Comma => return OWS | P::first_bytes(dialect),
@@ -224,7 +224,7 @@ impl<P: Piece<G>, G: Drop> Level for SeriesReader<P, G> {
     fn may_end(&self) -> bool {
         match self.phase {
             SeriesPhase::Begin | SeriesPhase::Gap => true,
-            SeriesPhase::InPiece => self.piece.may_end(),
+            SeriesPhase::InMember => self.member.may_end(),
             SeriesPhase::Comma => false,
         }
     }

@@ -1,6 +1,6 @@
 //! Sets of bytes below 128, a bit for each: what the parts of the grammar may go on with. The sets
 //! that refusals name are put together of them.
-ghost use Rattle.std.specs.Prelude.{◌≡◌, cond};
+ghost use Rattle.std.specs.Prelude.{◌≡◌, if◌then◌else◌};
 
 pub const LOWER: u128 = 0x3ff_ffff << b'a';
 
@@ -80,7 +80,7 @@ pub const BARE_9651: u128 = BARE_8941 | 1 << b'@' | PERCENT;
 /// The set where this holds, else no byte.
 #[inline]
 pub fn set_if(holds: bool, set: u128) -> u128
-    ensures { result ≡ cond holds set 0 }
+    ensures { result ≡ (if holds then set else 0) }
 {
     if holds { set } else { 0 }
 }

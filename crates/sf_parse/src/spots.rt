@@ -9,7 +9,7 @@ use crate::refusal::Refusal;
 use sf_value::{Blob, is_visible};
 use std::fmt;
 
-/// A place in a field line. A text that came in one piece counts as one line.
+/// A place in a field line. A text that came in one chunk counts as one line.
 #[derive(Clone, Copy, Debug, Drop)]
 pub struct Spot<'a> {
     /// Which line of the field it is. The first is line 1.

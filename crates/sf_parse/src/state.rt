@@ -1,19 +1,19 @@
 //! A field that is being read (RFC 9651 section 4.2).
 ghost use Rattle.std.specs.Prelude.{◌≡◌, [], ◌∷◌, true, IfOk, IsOk};
 ghost use Rattle.sf_value.specs.Grammar.Words.{Every};
-ghost use Rattle.sf_parse.specs.Plain.{plain_byte};
-ghost use Rattle.sf_parse.specs.PlainParsers.{PlainState};
+ghost use Rattle.sf_parse.specs.AllocationFree.{number_byte};
+ghost use Rattle.sf_parse.specs.AllocationFreeParsers.{AllocationFreeState};
 ghost use Rattle.sf_parse.specs.Expected.{Marks};
 ghost use Rattle.sf_parse.specs.StateView.{state_of};
-ghost use Rattle.sf_parse.specs.Fronts.{Front, unless};
+ghost use Rattle.sf_parse.specs.Prefixes.{LongestPrefix, unless};
 ghost use Rattle.sf_parse.specs.Machine.Fields.{begin as begin_at, step as step_of};
 ghost use Rattle.sf_parse.specs.Machine.Fields.{finish as finish_of};
 ghost use Rattle.sf_parse.specs.Machine.Tests.{takes as takes_at, may_end as may_end_at};
 
 use crate::context::Context;
 use crate::field::{DictReader, ListReader, WholeField};
-use crate::level::Level;
 use crate::item_field::TopReader;
+use crate::level::Level;
 use sf_value::{Dialect, Field, Kind, OutOfMemory};
 
 /// What was read of a field, by its kind.
@@ -38,40 +38,43 @@ impl FieldState {
         }
     }
 
-    /// Takes the longest front of the piece that the field can go on with, and gives back the rest.
+    /// Takes the longest prefix of the chunk that the field can go on with, and gives back the
+    /// rest.
     #[inline(always)]
-    pub fn take<'a>(&mut self, context: &Context, piece: &'a [u8]) -> Result<&'a [u8], OutOfMemory>
+    pub fn take<'a>(&mut self, context: &Context, chunk: &'a [u8]) -> Result<&'a [u8], OutOfMemory>
         // The bytes before the rest lead to the new state, which can't take the first of the rest.
-        ensures front { IfOk result (λ rest. Front (step_of context.now.dialect)
-            (state_of self.old) piece.now rest.now (state_of self.new)) }
-        // In a plain state of an Item spaces, `-` and digits take no memory.
-        ensures plain { PlainState (state_of self.old) → Every plain_byte piece.now → IsOk result }
+        ensures prefix { IfOk result (λ rest. LongestPrefix (step_of context.now.dialect)
+            (state_of self.old) chunk.now rest.now (state_of self.new)) }
+        // In an allocation-free state of an Item spaces, `-` and digits take no memory.
+        ensures allocation_free { AllocationFreeState (state_of self.old)
+            → Every number_byte chunk.now → IsOk result }
     {
-        if let Some((byte, more)) = piece.split_first() {
+        if let Some((byte, more)) = chunk.split_first() {
             if more.is_empty() {
                 return if self.push(context, *byte)? {
                     Ok(more)
                 } else {
-                    Ok(piece)
+                    Ok(chunk)
                 };
             }
         }
-        self.take_run(context, piece)
+        self.take_run(context, chunk)
     }
 
     /// The same, down the levels that take runs.
     #[inline(never)]
-    fn take_run<'a>(&mut self, context: &Context, piece: &'a [u8]) -> Result<&'a [u8], OutOfMemory>
+    fn take_run<'a>(&mut self, context: &Context, chunk: &'a [u8]) -> Result<&'a [u8], OutOfMemory>
         // The bytes before the rest lead to the new state, which can't take the first of the rest.
-        ensures front { IfOk result (λ rest. Front (step_of context.now.dialect)
-            (state_of self.old) piece.now rest.now (state_of self.new)) }
-        // In a plain state of an Item spaces, `-` and digits take no memory.
-        ensures plain { PlainState (state_of self.old) → Every plain_byte piece.now → IsOk result }
+        ensures prefix { IfOk result (λ rest. LongestPrefix (step_of context.now.dialect)
+            (state_of self.old) chunk.now rest.now (state_of self.new)) }
+        // In an allocation-free state of an Item spaces, `-` and digits take no memory.
+        ensures allocation_free { AllocationFreeState (state_of self.old)
+            → Every number_byte chunk.now → IsOk result }
     {
         match self {
-            FieldState::Item(top) => top.take(context, piece),
-            FieldState::List(list) => list.take(context, piece),
-            FieldState::Dict(dict) => dict.take(context, piece),
+            FieldState::Item(top) => top.take(context, chunk),
+            FieldState::List(list) => list.take(context, chunk),
+            FieldState::Dict(dict) => dict.take(context, chunk),
         }
     }
 
@@ -79,10 +82,11 @@ impl FieldState {
     #[inline(never)]
     pub fn push(&mut self, context: &Context, byte: u8) -> Result<bool, OutOfMemory>
         // A byte that is taken leads the machine on; with any other it can't go on, and stays.
-        ensures front { IfOk result (λ took. Front (step_of context.now.dialect)
+        ensures prefix { IfOk result (λ took. LongestPrefix (step_of context.now.dialect)
             (state_of self.old) (byte ∷ []) (unless took byte) (state_of self.new)) }
-        // In a plain state of an Item spaces, `-` and digits take no memory.
-        ensures plain { PlainState (state_of self.old) → plain_byte byte ≡ true → IsOk result }
+        // In an allocation-free state of an Item spaces, `-` and digits take no memory.
+        ensures allocation_free { AllocationFreeState (state_of self.old) → number_byte byte ≡ true
+            → IsOk result }
     {
         match self {
             FieldState::Item(top) => top.push(context, byte),
@@ -120,8 +124,8 @@ impl FieldState {
     pub fn finish(&mut self, context: &Context) -> Result<Option<Field>, OutOfMemory>
         // The field is the value that the state has at the end, if it has one.
         ensures value { IfOk result (λ field. field ≡ finish_of (state_of self.old)) }
-        // In a plain state of an Item the end takes no memory.
-        ensures plain { PlainState (state_of self.old) → IsOk result }
+        // In an allocation-free state of an Item the end takes no memory.
+        ensures allocation_free { AllocationFreeState (state_of self.old) → IsOk result }
     {
         match self {
             FieldState::Item(top) => top.finish_field(context),

@@ -3,13 +3,13 @@ ghost use Rattle.std.specs.Prelude.{◌≡◌, ℕ, List, IfOk};
 ghost use Rattle.sf_value.specs.Grammar.Words.{Every};
 ghost use Rattle.sf_value.specs.Grammar.Classes.{is_visible as is_visible_byte};
 ghost use Rattle.sf_parse.specs.Expected.{Marks};
-ghost use Rattle.sf_parse.specs.Fronts.{Went};
+ghost use Rattle.sf_parse.specs.Prefixes.{Went};
 ghost use Rattle.sf_parse.specs.Views.{text_of};
 ghost use Rattle.sf_parse.specs.Machine.Language.{Steps};
 ghost use Rattle.sf_parse.specs.Machine.Texts.{text_step};
 ghost use Rattle.sf_parse.specs.Machine.Tests.{text_takes, text_ends};
 
-use crate::runs::{Unescaped, long_front};
+use crate::runs::{Unescaped, long_prefix};
 use crate::sets::{ESCAPED, VISIBLE};
 use sf_value::{OutOfMemory, ShortBytes, is_visible};
 
@@ -67,21 +67,21 @@ impl TextPhase {
     pub fn take_run<'a>(
         self,
         text: &mut ShortBytes,
-        piece: &'a [u8],
+        chunk: &'a [u8],
     ) -> Result<&'a [u8], OutOfMemory>
         // The bytes before the rest lead the machine from the old state to the new one.
-        ensures went { IfOk result (λ rest. Went text_step (text_of self text.old) piece.now
+        ensures went { IfOk result (λ rest. Went text_step (text_of self text.old) chunk.now
             rest.now (text_of self text.new)) }
         // The bytes so far stay visible ones.
         ensures visible { Every is_visible_byte text.old → Every is_visible_byte text.new }
     {
         match self {
             TextPhase::Inside => {
-                let (run, rest) = long_front::<Unescaped>(piece);
+                let (run, rest) = long_prefix::<Unescaped>(chunk);
                 text.extend(run)?;
                 Ok(rest)
             }
-            TextPhase::Escaped | TextPhase::Closed => Ok(piece),
+            TextPhase::Escaped | TextPhase::Closed => Ok(chunk),
         }
     }
 

@@ -10,7 +10,7 @@ use Rattle.sf_value.specs.Devices.{SourceState, SinkState, Gave, GaveAndEnded}
 use Rattle.sf_value.specs.Devices.{GaveAndFailed}
 use Rattle.sf_value.specs.Grammar.Canonical.{canon}
 use Rattle.sf_value.specs.Grammar.Lines.{join}
-use Rattle.sf_write.specs.Writing.{Wrote, WroteFront}
+use Rattle.sf_write.specs.Writing.{Wrote, WrotePrefix}
 use Rattle.sf_parse.specs.declared.refusal.Refusal.{Refusal}
 use Rattle.sf_parse.specs.declared.refusal.Refusal.TheVariants.{OutOfMemory, Syntax, TooLong}
 use Rattle.sf_parse.specs.declared.refusal.Refusal.TheVariants.{ReadFault}
@@ -125,7 +125,7 @@ pub record BrokeOff (request : Request) (input : List ℕ) (old new : SinkState)
   pub status : Status
   pub after : ℕ
   pub answers : Answers request input text status
-  pub wrote : WroteFront old new 0 after text
+  pub wrote : WrotePrefix old new 0 after text
 
 -- an input was answered so; where memory was wanting nothing was written, and no call was made
 abbrev pub Tells : Request → List ℕ → SinkState → SinkState → Status → Type 0
@@ -142,7 +142,7 @@ TellsText text status old new Accepted =
 TellsText text status old new Refused =
     (Refused ≡ status) × ((after : ℕ) × Wrote old new 0 after text)
 TellsText text status old new Usage = ⊥
-TellsText text status old new Stopped = (after : ℕ) × WroteFront old new 0 after text
+TellsText text status old new Stopped = (after : ℕ) × WrotePrefix old new 0 after text
 
 -- the input is all that the source gave to its end, which was asked for once, within the limit
 abbrev pub IsWhole : SourceState → SourceState → List ℕ → Type 0

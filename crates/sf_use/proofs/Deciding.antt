@@ -1,4 +1,5 @@
 -- Targets and headers have a choice.
+use Rattle.std.specs.Option.{option_and_then}
 use Rattle.std.proofs.Common.{◌≡◌, ◌⊎◌, Bool, true, false, ℕ, suc, ◌+◌, List, [], ◌∷◌}
 use Rattle.std.proofs.Common.{Option, Some, None, inl, inr, sym, ap, ◌∙◌, refl, arith}
 use Rattle.std.specs.Prelude.{Contains, bytes_eq}
@@ -12,7 +13,7 @@ use Rattle.sf_value.specs.declared.value.Member.{Member}
 use Rattle.sf_value.specs.Grammar.Pairs.{Pairs}
 use Rattle.sf_value.specs.Grammar.Fields.{SpellsField}
 use Rattle.sf_value.specs.Grammar.Lines.{join}
-use Rattle.sf_parse.specs.Machine.Language.{and_then, run}
+use Rattle.sf_parse.specs.Machine.Language.{run}
 use Rattle.sf_parse.specs.Machine.Fields.{step, finish, begin}
 use Rattle.sf_parse.proofs.GrammarLaws.{is_read, one_value}
 use Rattle.sf_field.specs.Headers.{Headers, lines_under}
@@ -40,9 +41,9 @@ stands (k ∷ ks) name = at (bytes_eq k name) refl (stands ks name)
 spells : (t : List ℕ)
     → ((v : Field) × SpellsField Rfc9651 kind.Dict t v)
     ⊎ ((v : Field) → SpellsField Rfc9651 kind.Dict t v → ⊥)
-spells t = at (and_then (run (step Rfc9651) (begin kind.Dict) t) finish) refl
+spells t = at (option_and_then finish (run (step Rfc9651) (begin kind.Dict) t)) refl
   where
-    at : (o : Option Field) → and_then (run (step Rfc9651) (begin kind.Dict) t) finish ≡ o
+    at : (o : Option Field) → option_and_then finish (run (step Rfc9651) (begin kind.Dict) t) ≡ o
         → ((v : Field) × SpellsField Rfc9651 kind.Dict t v)
         ⊎ ((v : Field) → SpellsField Rfc9651 kind.Dict t v → ⊥)
     at (Some v) e = inl (v, (is_read Rfc9651 kind.Dict t v).1 e)

@@ -37,46 +37,46 @@ bare_both t (Shown s) (on, h) = absurd (no on)
 
 value_both : (t : List ℕ) (x : Bare) → SpellsValue Rfc8941 t x → SpellsValue Rfc9651 t x
 value_both t x (inl h) = inl h
-value_both t x (inr (back, e, h)) = inr (back, e, bare_both back x h)
+value_both t x (inr (suffix, e, h)) = inr (suffix, e, bare_both suffix x h)
 
 raw_both : (t : List ℕ) (ps : Pairs Bare) → SpellsRaw Rfc8941 t ps → SpellsRaw Rfc9651 t ps
 raw_both t [] h = h
-raw_both t (p ∷ ps) (front, back, e, (gap, value, e1, f, k, h), r) =
-    (front, back, e, (gap, value, e1, f, k, value_both value p.1 h), raw_both back ps r)
+raw_both t (p ∷ ps) (prefix, suffix, e, (gap, value, e1, f, k, h), r) =
+    (prefix, suffix, e, (gap, value, e1, f, k, value_both value p.1 h), raw_both suffix ps r)
 
 params_both : (t : List ℕ) (ps : Pairs Bare) → SpellsParams Rfc8941 t ps → SpellsParams Rfc9651 t ps
 params_both t ps (raw, e, h) = (raw, e, raw_both t raw h)
 
 item_both : (t : List ℕ) (i : Item) → SpellsItem Rfc8941 t i → SpellsItem Rfc9651 t i
-item_both t i (front, back, e, h, k) =
-    (front, back, e, bare_both front i.bare h, params_both back i.params k)
+item_both t i (prefix, suffix, e, h, k) =
+    (prefix, suffix, e, bare_both prefix i.bare h, params_both suffix i.params k)
 
 items_both : (least : ℕ) (t : List ℕ) (is : List Item) → SpellsItems Rfc8941 least t is
     → SpellsItems Rfc9651 least t is
 items_both least t [] h = h
-items_both least t (i ∷ is) (gap, front, back, e, f, l, h, r) =
-    (gap, front, back, e, f, l, item_both front i h, items_both 1 back is r)
+items_both least t (i ∷ is) (gap, prefix, suffix, e, f, l, h, r) =
+    (gap, prefix, suffix, e, f, l, item_both prefix i h, items_both 1 suffix is r)
 
 member_both : (t : List ℕ) (m : Member) → SpellsMember Rfc8941 t m → SpellsMember Rfc9651 t m
 member_both t (member.Item i) h = item_both t i h
-member_both t (member.Inner l) (body, back, e, h, k) =
-    (body, back, e, items_both 0 body l.items h, params_both back l.params k)
+member_both t (member.Inner l) (body, suffix, e, h, k) =
+    (body, suffix, e, items_both 0 body l.items h, params_both suffix l.params k)
 
 entry_both : (t : List ℕ) (p : List ℕ × Member) → SpellsEntry Rfc8941 t p → SpellsEntry Rfc9651 t p
-entry_both t p (back, k, inl (e, h)) = (back, k, inl (e, member_both back p.1 h))
-entry_both t p (back, k, inr (ps, i, e, h)) = (back, k, inr (ps, i, e, params_both back ps h))
+entry_both t p (suffix, k, inl (e, h)) = (suffix, k, inl (e, member_both suffix p.1 h))
+entry_both t p (suffix, k, inr (ps, i, e, h)) = (suffix, k, inr (ps, i, e, params_both suffix ps h))
 
 module _ {X : Type 0} (P Q : List ℕ → X → Type 0) (both : (t : List ℕ) (x : X) → P t x
     → Q t x) where
   commas_both : (t : List ℕ) (xs : List X) → SpellsCommas P t xs → SpellsCommas Q t xs
   commas_both t [] h = h
-  commas_both t (x ∷ xs) (before, behind, front, back, e, f, g, h, r) =
-      (before, behind, front, back, e, f, g, both front x h, commas_both back xs r)
+  commas_both t (x ∷ xs) (before, behind, prefix, suffix, e, f, g, h, r) =
+      (before, behind, prefix, suffix, e, f, g, both prefix x h, commas_both suffix xs r)
 
   whole_both : (t : List ℕ) (xs : List X) → SpellsWhole P t xs → SpellsWhole Q t xs
   whole_both t [] h = h
-  whole_both t (x ∷ xs) (gap, body, tail, e, f, (front, back, e1, h, r), g) =
-      (gap, body, tail, e, f, (front, back, e1, both front x h, commas_both back xs r), g)
+  whole_both t (x ∷ xs) (gap, body, tail, e, f, (prefix, suffix, e1, h, r), g) =
+      (gap, body, tail, e, f, (prefix, suffix, e1, both prefix x h, commas_both suffix xs r), g)
 
 pub field_both : (k : Kind) (t : List ℕ) (v : Field) → SpellsField Rfc8941 k t v
     → SpellsField Rfc9651 k t v

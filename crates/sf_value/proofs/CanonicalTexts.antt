@@ -15,7 +15,7 @@ use Rattle.sf_value.specs.Grammar.Numbers.{signed, value_from, AreDigits, Spells
 use Rattle.sf_value.specs.Grammar.Numbers.{SpellsDecimal}
 use Rattle.sf_value.specs.Grammar.Tokens.{IsKey}
 use Rattle.sf_value.specs.Grammar.ByteSequences.{unpadded, spare, needed}
-use Rattle.sf_value.specs.Grammar.DisplayStrings.{is_plain, Pieces}
+use Rattle.sf_value.specs.Grammar.DisplayStrings.{is_unencoded, EncodedBytes}
 use Rattle.sf_value.specs.Grammar.BareItems.{SpellsBare}
 use Rattle.sf_value.specs.Grammar.Parameters.{SpellsValue, SpellsRaw, SpellsParams}
 use Rattle.sf_value.specs.Grammar.Items.{SpellsItem}
@@ -183,12 +183,12 @@ canon_dec m h =
           ∙ ap (signed (is_negative m)) (e ∙ ap₂ (λ x y. x * 1000 + y) (sym n.value) (sym k.value)),
     )
 
-shown_pieces : (s : List ℕ) → Every is_byte s → Pieces (canon_shown s) s
-shown_pieces [] h = refl
-shown_pieces (c ∷ s) h = go (is_plain c) refl (shown_pieces s h.1)
+shown_bytes : (s : List ℕ) → Every is_byte s → EncodedBytes (canon_shown s) s
+shown_bytes [] h = refl
+shown_bytes (c ∷ s) h = go (is_unencoded c) refl (shown_bytes s h.1)
   where
-    go : (p : Bool) → is_plain c ≡ p → Pieces (canon_shown s) s
-        → Pieces (canon_shown (c ∷ s)) (c ∷ s)
+    go : (p : Bool) → is_unencoded c ≡ p → EncodedBytes (canon_shown s) s
+        → EncodedBytes (canon_shown (c ∷ s)) (c ∷ s)
     go true e k = (canon_shown s, inl (e, rw e refl), k)
     go false e k = (canon_shown s, inr (h.0, rw e refl), k)
 
@@ -251,7 +251,7 @@ module _ (d : Dialect) where
   )
   bare_canon (Boolean b) h = refl
   bare_canon (Date n) h = (h.0, (signed_decimal n, refl, canon_integer n h.1))
-  bare_canon (Shown s) h = (h.0, (canon_shown s, refl, shown_pieces s h.2, h.1))
+  bare_canon (Shown s) h = (h.0, (canon_shown s, refl, shown_bytes s h.2, h.1))
 
   value_canon : (x : Bare) → ValidBare d x → SpellsValue d (canon_value x) x
   value_canon (Boolean true) h = inl (refl, refl)

@@ -14,7 +14,7 @@ use Rattle.sf_value.specs.Grammar.Numbers.{SpellsDecimal}
 use Rattle.sf_value.specs.Grammar.Strings.{escaped}
 use Rattle.sf_value.specs.Grammar.Tokens.{IsKey}
 use Rattle.sf_value.specs.Grammar.ByteSequences.{unpadded, needed}
-use Rattle.sf_value.specs.Grammar.DisplayStrings.{is_plain, Pieces}
+use Rattle.sf_value.specs.Grammar.DisplayStrings.{is_unencoded, EncodedBytes}
 use Rattle.sf_value.specs.Grammar.BareItems.{SpellsBare}
 use Rattle.sf_value.specs.Grammar.Parameters.{SpellsValue, SpellsRaw, SpellsParams}
 use Rattle.sf_value.specs.Grammar.Items.{SpellsItem}
@@ -173,13 +173,14 @@ blob_text n m low s e =
     let h = blob_count low s in
     omega arith
 
-pieces_text : (s t : List ℕ) → Pieces t s → length (canon_shown s) ≤ length t
-pieces_text [] t p = let e = ap length p in omega arith
-pieces_text (c ∷ s) t (back, inl (k, e), p) = let h = pieces_text s back p in let l = ap length e in
+shown_text : (s t : List ℕ) → EncodedBytes t s → length (canon_shown s) ≤ length t
+shown_text [] t p = let e = ap length p in omega arith
+shown_text (c ∷ s) t (suffix, inl (k, e), p) = let h = shown_text s suffix p in let l = ap length
+    e in
     rw k (omega arith)
-pieces_text (c ∷ s) t (back, inr (k, e), p) = go (is_plain c) refl (pieces_text s back p)
+shown_text (c ∷ s) t (suffix, inr (k, e), p) = go (is_unencoded c) refl (shown_text s suffix p)
   where
-    go : (b : Bool) → is_plain c ≡ b → length (canon_shown s) ≤ length back
+    go : (b : Bool) → is_unencoded c ≡ b → length (canon_shown s) ≤ length suffix
         → length (canon_shown (c ∷ s)) ≤ length t
     go true i h = let l = ap length e in rw i (omega arith)
     go false i h = let l = ap length e in rw i (omega arith)
@@ -234,24 +235,25 @@ module _ {X : Type 0} (P : List ℕ → X → Type 0) (f : X → List ℕ) (boun
 
   commas_text : (xs : List X) (t : List ℕ) → SpellsCommas P t xs → 5 * sum_of xs ≤ 8 * length t
   commas_text [] t h = omega arith
-  commas_text (x ∷ xs) t (before, behind, front, back, e, g, g2, s, c) =
-      let a = bound x front s in
-      let b = commas_text xs back c in
-      let l : length t ≡ length before + length (44 ∷ (behind ++ (front ++ back))) = ap length e
-      ∙ length-append before (44 ∷ (behind ++ (front ++ back))) in
-      let m = length-append behind (front ++ back) in
-      let n = length-append front back in
+  commas_text (x ∷ xs) t (before, behind, prefix, suffix, e, g, g2, s, c) =
+      let a = bound x prefix s in
+      let b = commas_text xs suffix c in
+      let l : length t ≡ length before + length (44 ∷ (behind ++ (prefix ++ suffix))) = ap length e
+      ∙ length-append before (44 ∷ (behind ++ (prefix ++ suffix))) in
+      let m = length-append behind (prefix ++ suffix) in
+      let n = length-append prefix suffix in
       omega arith
 
   whole_text : (xs : List X) (t : List ℕ) → SpellsWhole P t xs → 5 * sum_of xs ≤ 8 * length t + 8
   whole_text [] t h = omega arith
-  whole_text (x ∷ xs) t (gap, body, tail, e, g, (front, back, e1, s, c), w) =
-      let a = bound x front s in
-      let b = commas_text xs back c in
+  whole_text (x ∷ xs) t (gap, body, tail, e, g, (prefix, suffix, e1, s, c), w) =
+      let a = bound x prefix s in
+      let b = commas_text xs suffix c in
       let l : length t ≡ length gap + length (body ++ tail) = ap length e
       ∙ length-append gap (body ++ tail) in
       let m = length-append body tail in
-      let n : length body ≡ length front + length back = ap length e1 ∙ length-append front back in
+      let n : length body ≡ length prefix + length suffix = ap length e1
+          ∙ length-append prefix suffix in
       omega arith
 
   -- at most so many bytes
@@ -275,16 +277,17 @@ module _ (d : Dialect) where
       let l = length-append (escaped s) (34 ∷ []) in omega arith
   bare_text (Token []) t (e, w) = absurd w
   bare_text (Token (c ∷ s)) t (e, w) = let k = ap length e in omega arith
-  bare_text (Blob s) t (back, e, (low, b2, lt, e2, f, (m, h, e3))) =
+  bare_text (Blob s) t (suffix, e, (low, b2, lt, e2, f, (m, h, e3))) =
       let full : t ≡ 58 ∷ (unpadded low s ++ (replicate m 61 ++ 58 ∷ [])) = e
       ∙ ap (λ y. 58 ∷ y) (e2 ∙ ap (λ y. unpadded low s ++ y) e3) in
       let b = blob_text (needed s) m low s refl in
       let l = ap length full in
       omega arith
   bare_text (Boolean b) t e = let k = ap length e in omega arith
-  bare_text (Date n) t (on, (back, e, h)) = let k = integer_short n back h in let l = ap length e in
+  bare_text (Date n) t (on, (suffix, e, h)) = let k = integer_short n suffix h in let l = ap length
+      e in
       omega arith
-  bare_text (Shown s) t (on, (back, e, p, w)) = let k = pieces_text s back p in
+  bare_text (Shown s) t (on, (suffix, e, p, w)) = let k = shown_text s suffix p in
       let l = ap length e in omega arith
 
   value_text : (x : Bare) (t : List ℕ) → SpellsValue d t x
@@ -293,8 +296,8 @@ module _ (d : Dialect) where
     e,
     n,
   )) = subst (λ y. 5 * length (canon_value y) ≤ 8 * length t) (sym e) (omega arith)
-  value_text x t (inr (back, e, h)) =
-      let k = bare_text x back h in
+  value_text x t (inr (suffix, e, h)) =
+      let k = bare_text x suffix h in
       let l = ap length e in
       let v = at_most x in
       omega arith
@@ -314,11 +317,12 @@ module _ (d : Dialect) where
       → 5 * total param_weight ps ≤ 8 * length t
   unfolding param_weight
   raw_text [] t h = omega arith
-  raw_text (p ∷ ps) t (front, back, e, (gap, value, e1, f, i, s), r) =
-      let h = raw_text ps back r in
+  raw_text (p ∷ ps) t (prefix, suffix, e, (gap, value, e1, f, i, s), r) =
+      let h = raw_text ps suffix r in
       let v = value_text p.1 value s in
-      let l1 : length t ≡ length front + length back = ap length e ∙ length-append front back in
-      let l2 : length front ≡ 1 + length (gap ++ (p.0 ++ value)) = ap length e1
+      let l1 : length t ≡ length prefix + length suffix = ap length e
+          ∙ length-append prefix suffix in
+      let l2 : length prefix ≡ 1 + length (gap ++ (p.0 ++ value)) = ap length e1
       ∙ (let z : length (59 ∷ (gap ++ (p.0 ++ value))) ≡ 1 + length (gap
       ++ (p.0 ++ value)) = omega arith in
       z) in
@@ -337,44 +341,45 @@ module _ (d : Dialect) where
 
   item_text : (i : Item) (t : List ℕ) → SpellsItem d t i
       → 5 * length (canon_item i) + 2 ≤ 8 * length t
-  item_text i t (front, back, e, h, k) =
-      let a = bare_text i.bare front h in
-      let b = params_text i.params back k in
-      let l : length t ≡ length front + length back = ap length e ∙ length-append front back in
+  item_text i t (prefix, suffix, e, h, k) =
+      let a = bare_text i.bare prefix h in
+      let b = params_text i.params suffix k in
+      let l : length t ≡ length prefix + length suffix = ap length e
+          ∙ length-append prefix suffix in
       let c = length-append (canon_bare i.bare) (canon_params i.params) in
       omega arith
 
   more_text : (is : List Item) (t : List ℕ) → SpellsItems d 1 t is
       → 5 * length (canon_more is) ≤ 8 * length t
   more_text [] t h = omega arith
-  more_text (i ∷ is) t (gap, front, back, e, f, z, s, r) =
-      let a = item_text i front s in
-      let b = more_text is back r in
-      let l : length t ≡ length gap + length (front ++ back) = ap length e
-      ∙ length-append gap (front ++ back) in
-      let k = length-append front back in
+  more_text (i ∷ is) t (gap, prefix, suffix, e, f, z, s, r) =
+      let a = item_text i prefix s in
+      let b = more_text is suffix r in
+      let l : length t ≡ length gap + length (prefix ++ suffix) = ap length e
+      ∙ length-append gap (prefix ++ suffix) in
+      let k = length-append prefix suffix in
       let c = length-append (canon_item i) (canon_more is) in
       omega arith
 
   items_text : (is : List Item) (t : List ℕ) → SpellsItems d 0 t is
       → 5 * length (canon_items is) ≤ 8 * length t
   items_text [] t h = omega arith
-  items_text (i ∷ is) t (gap, front, back, e, f, z, s, r) =
-      let a = item_text i front s in
-      let b = more_text is back r in
-      let l : length t ≡ length gap + length (front ++ back) = ap length e
-      ∙ length-append gap (front ++ back) in
-      let k = length-append front back in
+  items_text (i ∷ is) t (gap, prefix, suffix, e, f, z, s, r) =
+      let a = item_text i prefix s in
+      let b = more_text is suffix r in
+      let l : length t ≡ length gap + length (prefix ++ suffix) = ap length e
+      ∙ length-append gap (prefix ++ suffix) in
+      let k = length-append prefix suffix in
       let c = length-append (canon_item i) (canon_more is) in
       omega arith
 
   inner_text : (l : Inner) (t : List ℕ) → SpellsInner d t l
       → 5 * length (canon_inner l) + 2 ≤ 8 * length t
-  inner_text l t (body, back, e, s, k) =
+  inner_text l t (body, suffix, e, s, k) =
       let a = items_text l.items body s in
-      let b = params_text l.params back k in
+      let b = params_text l.params suffix k in
       let n = ap length e in
-      let m = length-append body (41 ∷ back) in
+      let m = length-append body (41 ∷ suffix) in
       let c = length-append (canon_items l.items) (41 ∷ canon_params l.params) in
       omega arith
 
@@ -385,18 +390,18 @@ module _ (d : Dialect) where
 
   entry_text : (p : List ℕ × Member) (t : List ℕ) → SpellsEntry d t p
       → 5 * length (canon_entry p) + 2 ≤ 8 * length t
-  entry_text p t (back, w, inl (e, s)) =
-      let a = member_text p.1 back s in
+  entry_text p t (suffix, w, inl (e, s)) =
+      let a = member_text p.1 suffix s in
       let b = behind_short p.1 in
-      let l : length t ≡ length p.0 + length (61 ∷ back) = ap length e
-      ∙ length-append p.0 (61 ∷ back) in
+      let l : length t ≡ length p.0 + length (61 ∷ suffix) = ap length e
+      ∙ length-append p.0 (61 ∷ suffix) in
       let c = length-append p.0 (canon_behind p.1) in
       omega arith
-  entry_text p t (back, w, inr (ps, i, e, s)) =
-      let a = params_text ps back s in
+  entry_text p t (suffix, w, inr (ps, i, e, s)) =
+      let a = params_text ps suffix s in
       let b : length (canon_behind p.1)
       ≡ length (canon_params ps) = ap (λ m. length (canon_behind m)) i in
-      let l : length t ≡ length p.0 + length back = ap length e ∙ length-append p.0 back in
+      let l : length t ≡ length p.0 + length suffix = ap length e ∙ length-append p.0 suffix in
       let c = length-append p.0 (canon_behind p.1) in
       let some = key_some p.0 w in
       omega arith

@@ -19,8 +19,8 @@ use Rattle.sf_value.specs.Grammar.Canonical.{canon, canon_bare, canon_item}
 use Rattle.sf_value.specs.Grammar.Lines.{join}
 
 -- members with no parameters
-abbrev plain : Bare → Member
-plain x = member.Item (item x [])
+abbrev bare_member : Bare → Member
+bare_member x = member.Item (item x [])
 
 -- numbers have no needless zero, and no sign on zero
 numbers : map canon_bare
@@ -64,7 +64,7 @@ params = refl
 
 -- and a later member too; a flag is its key and its parameters
 dictionary : canon (dict_of (settle
-    ((codes "a", plain (Integer (pos 1)))
+    ((codes "a", bare_member (Integer (pos 1)))
     ∷ (codes "b", member.Item (item (Boolean true) ((codes "x", Boolean true) ∷ [])))
     ∷ (
       codes "a",
@@ -77,13 +77,13 @@ dictionary = refl
 
 flag : canon (dict_of
     ((codes "a", member.Item (item (Boolean true) ((codes "b", Boolean true) ∷ [])))
-    ∷ (codes "c", plain (Boolean false)) ∷ []))
+    ∷ (codes "c", bare_member (Boolean false)) ∷ []))
     ≡ codes "a;b, c=?0"
 flag = refl
 
 lists : map (λ ms. canon (list_of ms))
     ([] ∷ (member.Inner (inner [] []) ∷ [])
-    ∷ (plain (Blob (codes "a")) ∷ plain (Blob (codes "a")) ∷ []) ∷ [])
+    ∷ (bare_member (Blob (codes "a")) ∷ bare_member (Blob (codes "a")) ∷ []) ∷ [])
     ≡ [] ∷ codes "()" ∷ codes ":YQ==:, :YQ==:" ∷ []
 unfolding letter
 lists = refl

@@ -32,7 +32,8 @@ place_from t n (x ∷ xs) = by (t x) refl (place_from t (n + 1) xs)
     further None = refl
     further (Some i) = ap Some (omega arith)
 
-    by : (b : Bool) → t x ≡ b → position_from t (n + 1) xs ≡ option_map (λ i. n + 1 + i) (place t xs)
+    by : (b : Bool) → t x ≡ b → position_from t (n + 1) xs
+        ≡ option_map (λ i. n + 1 + i) (place t xs)
         → position_from t n (x ∷ xs) ≡ option_map (λ i. n + i) (place t (x ∷ xs))
     by true h rest = rw h (ap Some (omega arith))
     by false h rest = rw h (rest ∙ further (place t xs))
@@ -163,10 +164,10 @@ module _ {V : Type 0} where
       (subst (λ ps. HasDistinctKeys ps) (sym next) d)
       ∙ next
 
-  HasDistinctKeys-front : (ps qs : Pairs V) → HasDistinctKeys (ps ++ qs) → HasDistinctKeys ps
+  HasDistinctKeys-prefix : (ps qs : Pairs V) → HasDistinctKeys (ps ++ qs) → HasDistinctKeys ps
   unfolding IsDistinct
-  HasDistinctKeys-front [] qs d = tt
-  HasDistinctKeys-front (p ∷ ps) qs d = (apart ps d.0, HasDistinctKeys-front ps qs d.1)
+  HasDistinctKeys-prefix [] qs d = tt
+  HasDistinctKeys-prefix (p ∷ ps) qs d = (apart ps d.0, HasDistinctKeys-prefix ps qs d.1)
     where
       apart : (rs : Pairs V) → IsAbsent p.0 (rs ++ qs) → IsAbsent p.0 rs
       apart [] h = tt
@@ -181,7 +182,7 @@ module _ {V : Type 0} where
       let d : HasDistinctKeys (done ++ (k, v) ∷ left') =
       subst (λ ps. HasDistinctKeys ps) (sym next) h.distinct in
       ap (λ ps. ps ++ left')
-      (done-is ∙ settle-push done key value (HasDistinctKeys-front done ((k, v) ∷ left') d))
+      (done-is ∙ settle-push done key value (HasDistinctKeys-prefix done ((k, v) ∷ left') d))
       ∙ (λ i. insert_entry bytes_eq done (key-is i) (value-is i) ++ left')
       ∙ insert_entry-next done left' (k, v) d
       ∙ next
@@ -191,7 +192,8 @@ module _ {V : Type 0} where
       → done ++ left ≡ all → left ≡ q ∷ left' → IsKey q.0
   next_key done left left' all q h all-is left-is =
       among done
-      (subst (λ ps. Each IsKey (keys_of ps)) (sym (ap (λ ps. done ++ ps) (sym left-is) ∙ all-is)) h.keys)
+      (subst (λ ps. Each IsKey (keys_of ps)) (sym (ap (λ ps. done ++ ps) (sym left-is) ∙ all-is))
+      h.keys)
     where
       among : (ps : Pairs V) → Each IsKey (keys_of (ps ++ q ∷ left')) → IsKey q.0
       among [] e = e.0

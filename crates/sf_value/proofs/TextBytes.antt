@@ -17,14 +17,14 @@ use Rattle.sf_value.specs.declared.value.Field.{Field}
 use Rattle.sf_value.specs.declared.value.Kind.{Kind}
 use Rattle.sf_value.specs.Grammar.Words.{Every, IsWord}
 use Rattle.sf_value.specs.Grammar.Classes.{is_one_of, is_sp, is_ows, is_digit, is_lower, is_alpha}
-use Rattle.sf_value.specs.Grammar.Classes.{is_key_start, is_key_rest, is_tchar, is_token_start}
-use Rattle.sf_value.specs.Grammar.Classes.{is_token_rest, is_visible, is_byte}
+use Rattle.sf_value.specs.Grammar.Classes.{is_key_start, is_in_key, is_tchar, is_token_start}
+use Rattle.sf_value.specs.Grammar.Classes.{is_in_token, is_visible, is_byte}
 use Rattle.sf_value.specs.Grammar.Pairs.{Pairs}
 use Rattle.sf_value.specs.Grammar.Numbers.{sign, SpellsInteger, SpellsDecimal}
 use Rattle.sf_value.specs.Grammar.Strings.{is_escaped, escaped}
 use Rattle.sf_value.specs.Grammar.Tokens.{IsKey}
 use Rattle.sf_value.specs.Grammar.ByteSequences.{alphabet, letter, unpadded, spare}
-use Rattle.sf_value.specs.Grammar.DisplayStrings.{hex, Pieces}
+use Rattle.sf_value.specs.Grammar.DisplayStrings.{hex, EncodedBytes}
 use Rattle.sf_value.specs.Grammar.BareItems.{SpellsBare}
 use Rattle.sf_value.specs.Grammar.Parameters.{SpellsValue, SpellsRaw, SpellsParams}
 use Rattle.sf_value.specs.Grammar.Items.{SpellsItem}
@@ -90,8 +90,8 @@ of_key_start : (b : ℕ) → is_key_start b ≡ true → is_text b ≡ true
 of_key_start b e =
     ⊎_elim (λ k. of_lower b k) (λ k. of_equal b 42 refl k) (either (is_lower b) (b == 42) e)
 
-of_key_rest : (b : ℕ) → is_key_rest b ≡ true → is_text b ≡ true
-of_key_rest b e =
+of_in_key : (b : ℕ) → is_in_key b ≡ true → is_text b ≡ true
+of_in_key b e =
     ⊎_elim
     (λ k. ⊎_elim (λ x. of_lower b x) (λ x. of_digit b x) (either (is_lower b) (is_digit b) k))
     (λ k. one_of (codes "_-.*") b refl k)
@@ -108,8 +108,8 @@ of_token_start : (b : ℕ) → is_token_start b ≡ true → is_text b ≡ true
 of_token_start b e =
     ⊎_elim (λ k. of_alpha b k) (λ k. of_equal b 42 refl k) (either (is_alpha b) (b == 42) e)
 
-of_token_rest : (b : ℕ) → is_token_rest b ≡ true → is_text b ≡ true
-of_token_rest b e =
+of_in_token : (b : ℕ) → is_in_token b ≡ true → is_text b ≡ true
+of_in_token b e =
     ⊎_elim
     (λ k. ⊎_elim (λ x. of_tchar b x) (λ x. of_equal b 58 refl x) (either (is_tchar b) (b == 58) k))
     (λ k. of_equal b 47 refl k) (either (is_tchar b || b == 58) (b == 47) e)
@@ -217,20 +217,20 @@ hex_text x h = go (nat_lt x 10) refl
     go true e = visible (x + 48) (between (x + 48) (omega arith) (omega arith))
     go false e = visible (x + 87) (between (x + 87) (omega arith) (omega arith))
 
-pieces_text : (s t : List ℕ) → Pieces t s → Every is_text t
-pieces_text [] t e = is t (34 ∷ []) e (refl, tt)
-pieces_text (c ∷ s) t (back, inl (k, e), p) =
-    is t (c ∷ back) e (
+shown_text : (s t : List ℕ) → EncodedBytes t s → Every is_text t
+shown_text [] t e = is t (34 ∷ []) e (refl, tt)
+shown_text (c ∷ s) t (suffix, inl (k, e), p) =
+    is t (c ∷ suffix) e (
       let h : is_visible c ≡ true = grind arith in visible c h,
-      pieces_text s back p,
+      shown_text s suffix p,
     )
-pieces_text (c ∷ s) t (back, inr (k, e), p) =
+shown_text (c ∷ s) t (suffix, inr (k, e), p) =
     let b = byte c k in
-    is t (37 ∷ hex (c / 16) ∷ hex (c % 16) ∷ back) e (
+    is t (37 ∷ hex (c / 16) ∷ hex (c % 16) ∷ suffix) e (
       refl,
       (
         hex_text (c / 16) (omega arith),
-        (hex_text (c % 16) (omega arith), pieces_text s back p),
+        (hex_text (c % 16) (omega arith), shown_text s suffix p),
       ),
     )
 
@@ -239,29 +239,29 @@ boolean_text true = (refl, (refl, tt))
 boolean_text false = (refl, (refl, tt))
 
 key_text : (k : List ℕ) → IsKey k → Every is_text k
-key_text k h = word is_key_start is_key_rest of_key_start of_key_rest k h
+key_text k h = word is_key_start is_in_key of_key_start of_in_key k h
 
 commas_text : {X : Type 0} (P : List ℕ → X → Type 0)
     → ((x : X) (t : List ℕ) → P t x → Every is_text t) → (xs : List X) (t : List ℕ)
     → SpellsCommas P t xs → Every is_text t
 commas_text P g [] t e = is t [] e tt
-commas_text P g (x ∷ xs) t (before, behind, front, back, e, f, f2, s, c) =
-    is t (before ++ 44 ∷ (behind ++ (front ++ back))) e
-    (cat before (44 ∷ (behind ++ (front ++ back))) (every_by is_ows of_ows before f) (
+commas_text P g (x ∷ xs) t (before, behind, prefix, suffix, e, f, f2, s, c) =
+    is t (before ++ 44 ∷ (behind ++ (prefix ++ suffix))) e
+    (cat before (44 ∷ (behind ++ (prefix ++ suffix))) (every_by is_ows of_ows before f) (
       refl,
-      cat behind (front ++ back) (every_by is_ows of_ows behind f2)
-          (cat front back (g x front s) (commas_text P g xs back c)),
+      cat behind (prefix ++ suffix) (every_by is_ows of_ows behind f2)
+          (cat prefix suffix (g x prefix s) (commas_text P g xs suffix c)),
     ))
 
 whole_text : {X : Type 0} (P : List ℕ → X → Type 0)
     → ((x : X) (t : List ℕ) → P t x → Every is_text t) → (xs : List X) (t : List ℕ)
     → SpellsWhole P t xs → Every is_text t
 whole_text P g [] t h = every_by is_sp of_sp t h
-whole_text P g (x ∷ xs) t (gap, body, tail, e, f, (front, back, e1, s, c), w) =
+whole_text P g (x ∷ xs) t (gap, body, tail, e, f, (prefix, suffix, e1, s, c), w) =
     is t (gap ++ (body ++ tail)) e
     (cat gap (body ++ tail) (every_by is_sp of_sp gap f)
     (cat body tail
-    (is body (front ++ back) e1 (cat front back (g x front s) (commas_text P g xs back c)))
+    (is body (prefix ++ suffix) e1 (cat prefix suffix (g x prefix s) (commas_text P g xs suffix c)))
     (every_by is_ows of_ows tail w)))
 
 module _ (d : Dialect) where
@@ -272,65 +272,65 @@ module _ (d : Dialect) where
       is t (34 ∷ (escaped s ++ 34 ∷ [])) h.0
       (refl, cat (escaped s) (34 ∷ []) (escaped_text s h.1) (refl, tt))
   bare_text (Token s) t h =
-      is t s h.0 (word is_token_start is_token_rest of_token_start of_token_rest s h.1)
-  bare_text (Blob s) t (back, e, (low, b, lt, e1, f, (m, n, e2))) =
-      is t (58 ∷ back) e (
+      is t s h.0 (word is_token_start is_in_token of_token_start of_in_token s h.1)
+  bare_text (Blob s) t (suffix, e, (low, b, lt, e1, f, (m, n, e2))) =
+      is t (58 ∷ suffix) e (
         refl,
-        is back (unpadded low s ++ b) e1
+        is suffix (unpadded low s ++ b) e1
             (cat (unpadded low s) b (unpadded_text low s lt f)
             (is b (replicate m 61 ++ 58 ∷ []) e2 (pads_text m))),
       )
   bare_text (Boolean b) t h = is t (63 ∷ (if b then 49 else 48) ∷ []) h (boolean_text b)
-  bare_text (Date n) t (on, (back, e, h)) = is t (64 ∷ back) e (refl, integer_text n back h)
-  bare_text (Shown s) t (on, (back, e, p, w)) =
-      is t (37 ∷ 34 ∷ back) e (refl, (refl, pieces_text s back p))
+  bare_text (Date n) t (on, (suffix, e, h)) = is t (64 ∷ suffix) e (refl, integer_text n suffix h)
+  bare_text (Shown s) t (on, (suffix, e, p, w)) =
+      is t (37 ∷ 34 ∷ suffix) e (refl, (refl, shown_text s suffix p))
 
   value_text : (x : Bare) (t : List ℕ) → SpellsValue d t x → Every is_text t
   value_text x t (inl (e, n)) = is t [] n tt
-  value_text x t (inr (back, e, h)) = is t (61 ∷ back) e (refl, bare_text x back h)
+  value_text x t (inr (suffix, e, h)) = is t (61 ∷ suffix) e (refl, bare_text x suffix h)
 
   raw_text : (ps : Pairs Bare) (t : List ℕ) → SpellsRaw d t ps → Every is_text t
   raw_text [] t e = is t [] e tt
-  raw_text (p ∷ ps) t (front, back, e, (gap, value, e1, f, i, s), r) =
-      is t (front ++ back) e
-      (cat front back
-      (is front (59 ∷ (gap ++ (p.0 ++ value))) e1 (
+  raw_text (p ∷ ps) t (prefix, suffix, e, (gap, value, e1, f, i, s), r) =
+      is t (prefix ++ suffix) e
+      (cat prefix suffix
+      (is prefix (59 ∷ (gap ++ (p.0 ++ value))) e1 (
         refl,
         cat gap (p.0 ++ value) (every_by is_sp of_sp gap f)
             (cat p.0 value (key_text p.0 i) (value_text p.1 value s)),
       ))
-      (raw_text ps back r))
+      (raw_text ps suffix r))
 
   params_text : (ps : Pairs Bare) (t : List ℕ) → SpellsParams d t ps → Every is_text t
   params_text ps t (raw, e, h) = raw_text raw t h
 
   item_text : (i : Item) (t : List ℕ) → SpellsItem d t i → Every is_text t
-  item_text i t (front, back, e, h, k) =
-      is t (front ++ back) e
-      (cat front back (bare_text i.bare front h) (params_text i.params back k))
+  item_text i t (prefix, suffix, e, h, k) =
+      is t (prefix ++ suffix) e
+      (cat prefix suffix (bare_text i.bare prefix h) (params_text i.params suffix k))
 
   items_text : (least : ℕ) (is' : List Item) (t : List ℕ) → SpellsItems d least t is'
       → Every is_text t
   items_text least [] t h = every_by is_sp of_sp t h
-  items_text least (i ∷ is') t (gap, front, back, e, f, z, s, r) =
-      is t (gap ++ (front ++ back)) e
-      (cat gap (front ++ back) (every_by is_sp of_sp gap f)
-      (cat front back (item_text i front s) (items_text 1 is' back r)))
+  items_text least (i ∷ is') t (gap, prefix, suffix, e, f, z, s, r) =
+      is t (gap ++ (prefix ++ suffix)) e
+      (cat gap (prefix ++ suffix) (every_by is_sp of_sp gap f)
+      (cat prefix suffix (item_text i prefix s) (items_text 1 is' suffix r)))
 
   member_text : (m : Member) (t : List ℕ) → SpellsMember d t m → Every is_text t
   member_text (member.Item i) t h = item_text i t h
-  member_text (member.Inner l) t (body, back, e, s, k) =
-      is t (40 ∷ (body ++ 41 ∷ back)) e (
+  member_text (member.Inner l) t (body, suffix, e, s, k) =
+      is t (40 ∷ (body ++ 41 ∷ suffix)) e (
         refl,
-        cat body (41 ∷ back) (items_text 0 l.items body s) (refl, params_text l.params back k),
+        cat body (41 ∷ suffix) (items_text 0 l.items body s) (refl, params_text l.params suffix k),
       )
 
   entry_text : (p : List ℕ × Member) (t : List ℕ) → SpellsEntry d t p → Every is_text t
-  entry_text p t (back, w, inl (e, s)) =
-      is t (p.0 ++ 61 ∷ back) e
-      (cat p.0 (61 ∷ back) (key_text p.0 w) (refl, member_text p.1 back s))
-  entry_text p t (back, w, inr (ps, i, e, s)) =
-      is t (p.0 ++ back) e (cat p.0 back (key_text p.0 w) (params_text ps back s))
+  entry_text p t (suffix, w, inl (e, s)) =
+      is t (p.0 ++ 61 ∷ suffix) e
+      (cat p.0 (61 ∷ suffix) (key_text p.0 w) (refl, member_text p.1 suffix s))
+  entry_text p t (suffix, w, inr (ps, i, e, s)) =
+      is t (p.0 ++ suffix) e (cat p.0 suffix (key_text p.0 w) (params_text ps suffix s))
 
   -- each byte of a text that spells a field is visible, or a tab
   pub spelled_text : (kind : Kind) (v : Field) (t : List ℕ) → SpellsField d kind t v

@@ -12,7 +12,7 @@ use Rattle.sf_value.specs.Grammar.Classes.{is_digit, is_byte}
 use Rattle.sf_value.specs.Grammar.Pairs.{Pairs, latest, without, settle}
 use Rattle.sf_value.specs.Grammar.Numbers.{signed, value_from, SpellsInteger, SpellsDecimal}
 use Rattle.sf_value.specs.Grammar.Tokens.{IsKey}
-use Rattle.sf_value.specs.Grammar.DisplayStrings.{is_plain, Pieces}
+use Rattle.sf_value.specs.Grammar.DisplayStrings.{is_unencoded, EncodedBytes}
 use Rattle.sf_value.specs.Grammar.BareItems.{SpellsBare}
 use Rattle.sf_value.specs.Grammar.Parameters.{SpellsValue, SpellsRaw, SpellsParams}
 use Rattle.sf_value.specs.Grammar.Items.{SpellsItem}
@@ -88,13 +88,13 @@ decimal_valid m t (neg, w, f, e, d, d', i) =
     ∙ signed_abs neg (value_from 0 w * 1000 + value_from 0 f * 10 ^ (3 - length f))))
     (omega arith)
 
-plain_byte : (c : ℕ) → is_plain c ≡ true → is_byte c ≡ true
-plain_byte c e = grind arith
+unencoded_byte : (c : ℕ) → is_unencoded c ≡ true → is_byte c ≡ true
+unencoded_byte c e = grind arith
 
-visible_pieces : (s t : List ℕ) → Pieces t s → Every is_byte s
-visible_pieces [] t p = tt
-visible_pieces (c ∷ s) t (back, inl (k, e), p) = (plain_byte c k, visible_pieces s back p)
-visible_pieces (c ∷ s) t (back, inr (k, e), p) = (k, visible_pieces s back p)
+visible_bytes : (s t : List ℕ) → EncodedBytes t s → Every is_byte s
+visible_bytes [] t p = tt
+visible_bytes (c ∷ s) t (suffix, inl (k, e), p) = (unencoded_byte c k, visible_bytes s suffix p)
+visible_bytes (c ∷ s) t (suffix, inr (k, e), p) = (k, visible_bytes s suffix p)
 
 -- settled entries hold pairs of the raw list
 module _ {V : Type 0} (P : List ℕ → Type 0) (Q : V → Type 0) where
@@ -129,18 +129,18 @@ commas_valid : {X : Type 0} (P : List ℕ → X → Type 0) (Q : X → Type 0)
     → ((x : X) (t : List ℕ) → P t x → Q x) → (xs : List X) (t : List ℕ) → SpellsCommas P t xs
     → Each Q xs
 commas_valid P Q g [] t h = tt
-commas_valid P Q g (x ∷ xs) t (before, behind, front, back, e, f, f2, s, c) = (
-  g x front s,
-  commas_valid P Q g xs back c,
+commas_valid P Q g (x ∷ xs) t (before, behind, prefix, suffix, e, f, f2, s, c) = (
+  g x prefix s,
+  commas_valid P Q g xs suffix c,
 )
 
 whole_valid : {X : Type 0} (P : List ℕ → X → Type 0) (Q : X → Type 0)
     → ((x : X) (t : List ℕ) → P t x → Q x) → (xs : List X) (t : List ℕ) → SpellsWhole P t xs
     → Each Q xs
 whole_valid P Q g [] t h = tt
-whole_valid P Q g (x ∷ xs) t (gap, body, tail, e, f, (front, back, e1, s, c), w) = (
-  g x front s,
-  commas_valid P Q g xs back c,
+whole_valid P Q g (x ∷ xs) t (gap, body, tail, e, f, (prefix, suffix, e1, s, c), w) = (
+  g x prefix s,
+  commas_valid P Q g xs suffix c,
 )
 
 module _ (d : Dialect) where
@@ -149,25 +149,25 @@ module _ (d : Dialect) where
   bare_valid (Decimal m) t h = decimal_valid m t h
   bare_valid (Text s) t h = h.1
   bare_valid (Token s) t h = h.1
-  bare_valid (Blob s) t (back, e, (low, b, lt, e1, f, p)) = f
+  bare_valid (Blob s) t (suffix, e, (low, b, lt, e1, f, p)) = f
   bare_valid (Boolean b) t h = tt
-  bare_valid (Date n) t (on, (back, e, h)) = (on, integer_valid n back h)
-  bare_valid (Shown s) t (on, (back, e, p, w)) = (on, w, visible_pieces s back p)
+  bare_valid (Date n) t (on, (suffix, e, h)) = (on, integer_valid n suffix h)
+  bare_valid (Shown s) t (on, (suffix, e, p, w)) = (on, w, visible_bytes s suffix p)
 
   value_valid : (x : Bare) (t : List ℕ) → SpellsValue d t x → ValidBare d x
   value_valid x t (inl (e, n)) = subst (ValidBare d) (sym e) tt
-  value_valid x t (inr (back, e, h)) = bare_valid x back h
+  value_valid x t (inr (suffix, e, h)) = bare_valid x suffix h
 
   raw_valid : (ps : Pairs Bare) (t : List ℕ) → SpellsRaw d t ps
       → Each (λ p. IsKey p.0 × ValidBare d p.1) ps
   raw_valid [] t h = tt
   raw_valid (p ∷ ps) t (
-    front,
-    back,
+    prefix,
+    suffix,
     e,
     (gap, value, e1, f, i, s),
     r,
-  ) = ((i, value_valid p.1 value s), raw_valid ps back r)
+  ) = ((i, value_valid p.1 value s), raw_valid ps suffix r)
 
   params_valid : (ps : Pairs Bare) (t : List ℕ) → SpellsParams d t ps → ValidParams d ps
   params_valid ps t (
@@ -180,29 +180,30 @@ module _ (d : Dialect) where
   )
 
   item_valid : (i : Item) (t : List ℕ) → SpellsItem d t i → ValidItem d i
-  item_valid i t (front, back, e, h, k) = (bare_valid i.bare front h, params_valid i.params back k)
+  item_valid i t (prefix, suffix, e, h, k) =
+      (bare_valid i.bare prefix h, params_valid i.params suffix k)
 
   items_valid : (least : ℕ) (is : List Item) (t : List ℕ) → SpellsItems d least t is
       → Each (ValidItem d) is
   items_valid least [] t h = tt
-  items_valid least (i ∷ is) t (gap, front, back, e, f, z, s, r) = (
-    item_valid i front s,
-    items_valid 1 is back r,
+  items_valid least (i ∷ is) t (gap, prefix, suffix, e, f, z, s, r) = (
+    item_valid i prefix s,
+    items_valid 1 is suffix r,
   )
 
   member_valid : (m : Member) (t : List ℕ) → SpellsMember d t m → ValidMember d m
   member_valid (member.Item i) t h = item_valid i t h
-  member_valid (member.Inner l) t (body, back, e, s, k) = (
+  member_valid (member.Inner l) t (body, suffix, e, s, k) = (
     items_valid 0 l.items body s,
-    params_valid l.params back k,
+    params_valid l.params suffix k,
   )
 
   entry_valid : (p : List ℕ × Member) (t : List ℕ) → SpellsEntry d t p
       → IsKey p.0 × ValidMember d p.1
-  entry_valid p t (back, w, inl (e, s)) = (w, member_valid p.1 back s)
-  entry_valid p t (back, w, inr (ps, i, e, s)) = (
+  entry_valid p t (suffix, w, inl (e, s)) = (w, member_valid p.1 suffix s)
+  entry_valid p t (suffix, w, inr (ps, i, e, s)) = (
     w,
-    subst (ValidMember d) (sym i) (tt, params_valid ps back s),
+    subst (ValidMember d) (sym i) (tt, params_valid ps suffix s),
   )
 
   -- what a text spells is valid

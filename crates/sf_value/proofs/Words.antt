@@ -1,10 +1,11 @@
 -- What the search for a bad byte tells of the whole text, and texts one byte longer.
+use Rattle.std.specs.Option.{option_or}
 use Rattle.std.proofs.Common.{◌≡◌, ℕ, suc, ◌+◌, ◌≤◌, Bool, true, false, not, List, [], ◌∷◌}
 use Rattle.std.proofs.Common.{◌++◌}
 use Rattle.std.proofs.Common.{Option, None, Some, refl, ◌≢◌, length, arith, ◌⊎◌, inl, inr}
 use Rattle.std.proofs.lemmas.Bool.Decides.{nat_tests}
 use Rattle.std.specs.List.{position_or_len}
-use Rattle.sf_value.specs.Grammar.Words.{Every, IsWord, allow, otherwise}
+use Rattle.sf_value.specs.Grammar.Words.{Every, IsWord, allow}
 use Rattle.sf_value.specs.Faults.{bad_place, bad_word_place}
 
 -- a search that stops nowhere before the end
@@ -55,7 +56,7 @@ pub allow_cases : {S : Type 0} (c : Bool) (s t : S) → allow c s ≡ Some t →
 allow_cases true s t e = (refl, cc)
 allow_cases false s t e = absurd cc
 
-pub otherwise_cases : {S : Type 0} (a b : Option S) (s : S) → otherwise a b ≡ Some s
+pub otherwise_cases : {S : Type 0} (a b : Option S) (s : S) → option_or a b ≡ Some s
     → (a ≡ Some s) ⊎ ((a ≡ None) × (b ≡ Some s))
 otherwise_cases (Some x) b s e = inl e
 otherwise_cases None b s e = inr (refl, e)

@@ -104,10 +104,10 @@ pub inner_decides : (a b : Inner) → Decides (inner_eq a b) (a ≡ b)
 inner_decides =
     decides_by inner_eq
     (λ a b e.
-    let front = pointwise item_eq a.items b.items in
+    let prefix = pointwise item_eq a.items b.items in
     let rest = pointwise (entry_eq bare_eq) a.params b.params in
-    let is = (items_decides a.items b.items).0 (first_so front rest e) in
-    let ps = (params_decides a.params b.params).0 (second_so front rest e) in
+    let is = (items_decides a.items b.items).0 (first_so prefix rest e) in
+    let ps = (params_decides a.params b.params).0 (second_so prefix rest e) in
     ap (λ is. inner is a.params) is ∙ ap (λ ps. inner b.items ps) ps)
     (λ a.
     both (pointwise item_eq a.items a.items) (pointwise (entry_eq bare_eq) a.params a.params)

@@ -62,7 +62,7 @@ pub record FailsOnce (old new : SourceState) : Type 0 where
   pub ends : new.ends ≡ old.ends
   pub failures : new.failures ≡ capped (old.failures + 1)
 
--- pull answered r and left block: so many bytes stand at the front of a block that is not empty,
+-- pull answered r and left block: so many bytes stand at the start of a block that is not empty,
 -- and where there are none the source came to its end; into an empty block nothing is given, and
 -- that can't fail
 abbrev pub Pulls : {E : Type 0} → SourceState → SourceState → Result ℕ E → List ℕ → Type 0

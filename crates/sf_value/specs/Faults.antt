@@ -6,7 +6,7 @@ use Rattle.std.specs.Option.{option_map}
 use Rattle.sf_value.specs.declared.fault.TextFault.{TextFault}
 use Rattle.sf_value.specs.declared.fault.TextFault.TheVariants.{Empty, BadByte, OutOfMemory}
 use Rattle.sf_value.specs.Grammar.Words.{Every, IsWord}
-use Rattle.sf_value.specs.Grammar.Classes.{is_key_start, is_key_rest, is_token_start, is_token_rest}
+use Rattle.sf_value.specs.Grammar.Classes.{is_key_start, is_in_key, is_token_start, is_in_token}
 use Rattle.sf_value.specs.Grammar.Classes.{is_visible}
 
 -- the least place whose byte fails the test
@@ -26,10 +26,10 @@ IsWordFault p q bs (BadByte place) = bad_word_place p q bs ≡ Some place
 IsWordFault p q bs OutOfMemory = IsWord p q bs
 
 abbrev pub IsKeyFault : List ℕ → TextFault → Type 0
-IsKeyFault = IsWordFault is_key_start is_key_rest
+IsKeyFault = IsWordFault is_key_start is_in_key
 
 abbrev pub IsTokenFault : List ℕ → TextFault → Type 0
-IsTokenFault = IsWordFault is_token_start is_token_rest
+IsTokenFault = IsWordFault is_token_start is_in_token
 
 -- why bytes are no String: a String may be empty
 abbrev pub IsStringFault : List ℕ → TextFault → Type 0

@@ -20,14 +20,14 @@ pub struct Failed;
 ///
 /// ```
 /// let mut block = [0; 512];
-/// let count = source.pull(&mut block)?; // so many stand at the front; 0 at the end
+/// let count = source.pull(&mut block)?; // so many stand at the start; 0 at the end
 /// ```
 pub trait Source {
     // The bytes still to come, where it tells them, how many bytes it gave, how often it answered
     // its end, and how many calls failed.
     ghost state: { Self → SourceState };
 
-    /// Puts the next bytes at the front of the block, and answers how many. It answers 0 into a
+    /// Puts the next bytes at the start of the block, and answers how many. It answers 0 into a
     /// block that is not empty only where no byte is still to come. Into an empty block it gives
     /// nothing, and does not fail. After `Failed` no byte was given, and the source may tell its
     /// bytes no longer.
@@ -48,11 +48,12 @@ pub trait Sink {
     // The bytes taken, where it tells them, and how many calls failed.
     ghost state: { Self → SinkState };
 
-    // How a call that took these bytes changed the sink, beyond its state: by default nothing is said.
+    // How a call that took these bytes changed the sink, beyond its state: by default nothing is
+    // said.
     ghost send_gives: { Self → List ℕ → Self → Type 0 } = { λ _ _ _. Unit {0} };
 
-    /// Takes bytes from the front of those handed in, and answers how many: at least one, where any
-    /// were handed in; where none were, it does not fail. After `Failed` no byte was taken.
+    /// Takes bytes from the start of those handed in, and answers how many: at least one, where
+    /// any were handed in; where none were, it does not fail. After `Failed` no byte was taken.
     fn send(&mut self, bytes: &[u8]) -> Result<usize, Failed>
         ensures sends { Sends (state self.old) (state self.new) result bytes.now }
         ensures gives { IfOk result (λ n. send_gives self.old (take n bytes.now) self.new) };

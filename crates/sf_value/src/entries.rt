@@ -182,7 +182,7 @@ impl<V> Entries<V> {
     /// The entries in order, each as its key's bytes and its value. It takes no memory.
     pub fn iter(&self) -> Iter<'_, V>
         ensures rest { result ≡ self.now }
-        // a loop takes them in order from the front, and a whole loop takes them all
+        // a loop takes them in order from the start, and a whole loop takes them all
         ensures runs { ShowsInOrder (deref_entry {V = V}) }
     {
         Iter {

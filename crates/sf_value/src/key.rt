@@ -1,6 +1,6 @@
 //! Keys of parameters and of dictionary members (RFC 9651 section 3.1.2).
 ghost use Rattle.std.specs.Prelude.{◌≡◌, ℕ, List, [], ◌∷◌, ◌++◌, true, IfOk, MatchResult};
-ghost use Rattle.sf_value.specs.Grammar.Classes.{is_key_start, is_key_rest};
+ghost use Rattle.sf_value.specs.Grammar.Classes.{is_key_start, is_in_key};
 ghost use Rattle.sf_value.specs.Grammar.Tokens.{IsKey};
 ghost use Rattle.sf_value.specs.Faults.{bad_place, bad_word_place, IsKeyFault};
 
@@ -75,7 +75,7 @@ impl Key {
     /// as it was.
     #[tactic(auto, using(crate::proofs::Words::word_push))]
     pub fn push(&mut self, byte: u8) -> Result<(), OutOfMemory>
-        requires { is_key_rest byte ≡ true }
+        requires { is_in_key byte ≡ true }
         ensures { MatchResult result (λ _. self.new ≡ self.old ++ byte ∷ [])
             (λ _. self.new ≡ self.old) }
     {
@@ -112,14 +112,14 @@ pub fn can_start_key(byte: u8) -> bool
 /// Whether a key may go on with this byte: `a` to `z`, `0` to `9`, `_`, `-`, `.` and `*` (RFC 9651
 /// section 3.1.2). It takes no memory.
 pub fn can_be_in_key(byte: u8) -> bool
-    ensures { result ≡ is_key_rest byte }
+    ensures { result ≡ is_in_key byte }
 {
     matches!(byte, b'a'..=b'z' | b'0'..=b'9' | b'_' | b'-' | b'.' | b'*')
 }
 
 /// The place of the first of these bytes that a key does not go on with.
 fn bad_byte_after_first(bytes: &[u8]) -> Option<usize>
-    ensures { result ≡ bad_place is_key_rest bytes.now }
+    ensures { result ≡ bad_place is_in_key bytes.now }
 {
     bytes.iter().position(|b| !can_be_in_key(*b))
 }
@@ -127,7 +127,7 @@ fn bad_byte_after_first(bytes: &[u8]) -> Option<usize>
 /// The place of the first byte that is bad where it stands; `None` also where there is no byte.
 fn bad_byte(bytes: &[u8]) -> Option<usize>
     // the least place whose byte a key does not have there
-    ensures { result ≡ bad_word_place is_key_start is_key_rest bytes.now }
+    ensures { result ≡ bad_word_place is_key_start is_in_key bytes.now }
 {
     let (first, rest) = bytes.split_first()?;
     if !can_start_key(*first) {

@@ -90,7 +90,7 @@ impl<T> Sequence<T> {
     /// The values in order. It takes no memory.
     pub fn iter(&self) -> slice::Iter<'_, T>
         ensures rest { iter_rest result ≡ self.now }
-        // a loop takes them in order from the front, and a whole loop takes them all
+        // a loop takes them in order from the start, and a whole loop takes them all
         ensures runs { IterYieldsInOrder T }
     {
         self.items.iter()

@@ -1,6 +1,6 @@
 //! Tokens (RFC 9651 section 3.3.4).
 ghost use Rattle.std.specs.Prelude.{◌≡◌, ℕ, List, [], ◌∷◌, ◌++◌, true, IfOk, MatchResult};
-ghost use Rattle.sf_value.specs.Grammar.Classes.{is_token_start, is_token_rest};
+ghost use Rattle.sf_value.specs.Grammar.Classes.{is_token_start, is_in_token};
 ghost use Rattle.sf_value.specs.Grammar.Tokens.{IsToken};
 ghost use Rattle.sf_value.specs.Faults.{bad_place, bad_word_place, IsTokenFault};
 
@@ -74,7 +74,7 @@ impl Token {
     /// stays as it was.
     #[tactic(auto, using(crate::proofs::Words::word_push))]
     pub fn push(&mut self, byte: u8) -> Result<(), OutOfMemory>
-        requires { is_token_rest byte ≡ true }
+        requires { is_in_token byte ≡ true }
         ensures { MatchResult result (λ _. self.new ≡ self.old ++ byte ∷ [])
             (λ _. self.new ≡ self.old) }
     {
@@ -111,7 +111,7 @@ pub fn can_start_token(byte: u8) -> bool
 /// Whether a token may go on with this byte: a letter, a digit, `:`, `/` or one of
 /// ``!#$%&'*+-.^_`|~`` (RFC 9651 section 3.3.4). It takes no memory.
 pub fn can_be_in_token(byte: u8) -> bool
-    ensures { result ≡ is_token_rest byte }
+    ensures { result ≡ is_in_token byte }
 {
     matches!(
         byte,
@@ -122,7 +122,7 @@ pub fn can_be_in_token(byte: u8) -> bool
 
 /// The place of the first of these bytes that a token does not go on with.
 fn bad_byte_after_first(bytes: &[u8]) -> Option<usize>
-    ensures { result ≡ bad_place is_token_rest bytes.now }
+    ensures { result ≡ bad_place is_in_token bytes.now }
 {
     bytes.iter().position(|b| !can_be_in_token(*b))
 }
@@ -130,7 +130,7 @@ fn bad_byte_after_first(bytes: &[u8]) -> Option<usize>
 /// The place of the first byte that is bad where it stands; `None` also where there is no byte.
 fn bad_byte(bytes: &[u8]) -> Option<usize>
     // the least place whose byte a token does not have there
-    ensures { result ≡ bad_word_place is_token_start is_token_rest bytes.now }
+    ensures { result ≡ bad_word_place is_token_start is_in_token bytes.now }
 {
     let (first, rest) = bytes.split_first()?;
     if !can_start_token(*first) {

@@ -44,10 +44,10 @@ groups (suc k) (a ∷ b ∷ []) h = absurd (omega arith)
 groups (suc k) (a ∷ b ∷ c ∷ s) h =
     let three : 3 * suc k ≡ suc (suc (suc (3 * k))) = omega arith in
     let rest = groups k s (omega arith) in
-    rw three (ap (λ t. front ++ t) rest)
+    rw three (ap (λ t. prefix ++ t) rest)
   where
-    front : List ℕ
-    front = letter (a / 4) ∷ letter (a % 4 * 16 + b / 16) ∷ letter (b % 16 * 4 + c / 64)
+    prefix : List ℕ
+    prefix = letter (a / 4) ∷ letter (a % 4 * 16 + b / 16) ∷ letter (b % 16 * 4 + c / 64)
         ∷ letter (c % 64) ∷ []
 
 -- all that is left is one block
@@ -55,9 +55,9 @@ last : (s : List ℕ) → canon_base64 s ≡ padded s ++ canon_base64 []
 last s = sym (append_assoc (unpadded 0 s) (replicate (needed s) 61) (58 ∷ []))
 
 -- a block of at most 192 bytes, and the rest
-block_front : (s : List ℕ) (n : ℕ) → n ≡ min (length s) 192
+block_prefix : (s : List ℕ) (n : ℕ) → n ≡ min (length s) 192
     → canon_base64 s ≡ padded (take n s) ++ canon_base64 (drop n s)
-block_front s n e = ⊎_elim part whole (cases_lt (length s) 192)
+block_prefix s n e = ⊎_elim part whole (cases_lt (length s) 192)
   where
     whole : 192 ≤ length s → canon_base64 s ≡ padded (take n s) ++ canon_base64 (drop n s)
     whole h = let size : n ≡ 192 = omega arith in rw size (groups 64 s h)
@@ -77,7 +77,7 @@ length_padded s =
     length-append (unpadded 0 s) (replicate (needed s) 61)
     ∙ rw (length_unpadded s, length-replicate, padding_is s)
 
--- what the engine leaves of a block at the front of a buffer
+-- what the engine leaves of a block at the start of a buffer
 encoded_block : (block old new : List ℕ) (n : ℕ) → n ≡ encoded_size (length block) true
     → IsEncodedOver standard block old new → take n new ≡ padded block
 encoded_block block old new n size w =
@@ -103,4 +103,4 @@ block_sent s block more old new n k size b m small fits w =
     let few : length block ≤ 192 = omega arith in
     let whole = fits (block_size (length block) few) in
     let count : n ≡ encoded_size (length block) true = cc in
-    rw (encoded_block block old new n count w, b, m) (block_front s k size)
+    rw (encoded_block block old new n count w, b, m) (block_prefix s k size)

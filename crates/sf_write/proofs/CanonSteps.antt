@@ -1,4 +1,4 @@
--- The canonical texts a piece at a time.
+-- The canonical texts a chunk at a time.
 use Rattle.std.proofs.Common.{◌≡◌, ℕ, ◌+◌, ◌<◌, true, false, List, ◌∷◌, ◌++◌, length, drop}
 use Rattle.std.proofs.Common.{get_or, refl, ap, ◌∙◌, add-one, drop-cons}
 use Rattle.std.specs.Prelude.{IsTrue}

@@ -7,7 +7,7 @@ use Rattle.std.proofs.Output.{writes_in_calls_nil, writes_in_calls_append}
 use Rattle.sf_value.specs.Devices.{SinkState}
 use Rattle.sf_write.specs.Writing.{Follows, Wrote}
 use Rattle.sf_write.specs.declared.sending.WriteFault.{WriteFault}
-use Rattle.sf_write.proofs.Joining.{Wrote-nil, Writes-append, WroteFront-longer}
+use Rattle.sf_write.proofs.Joining.{Wrote-nil, Writes-append, WrotePrefix-longer}
 
 abbrev Sent : Type 0
 Sent = Result ℕ WriteFault
@@ -41,7 +41,7 @@ module _ {S : Type 0} {state : S → SinkState} {gives : S → List ℕ → S �
     calls = calls_then a b c z t u p.calls q.calls;
   }
   then_at a b c (Ok n) (Err e) z t u p q = record {
-    goes_on = λ h. rw (q.stays.0, q.stays.1) (WroteFront-longer u (p.goes_on h));
+    goes_on = λ h. rw (q.stays.0, q.stays.1) (WrotePrefix-longer u (p.goes_on h));
     stays = tt;
     calls = rw q.stays.1 tt;
   }
@@ -67,10 +67,10 @@ module _ {S : Type 0} {state : S → SinkState} {gives : S → List ℕ → S �
   pub remains_all : {s : S} {x : Sent} {all : List ℕ} → Remains state gives s s x x all all
   remains_all = record { finish = λ end r p. p }
 
-  -- a piece was put
+  -- a chunk was put
   pub remains_less : {start now next : S} {before sent after : Sent}
-      {all left piece more : List ℕ} → Remains state gives start now before sent all left
-      → left ≡ piece ++ more → Follows state gives now next sent after piece
+      {all left chunk more : List ℕ} → Remains state gives start now before sent all left
+      → left ≡ chunk ++ more → Follows state gives now next sent after chunk
       → Remains state gives start next before after all more
   remains_less l e p = record { finish = λ end r q. l.finish end r (rw e (then p q)) }
 

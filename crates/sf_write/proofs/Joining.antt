@@ -8,7 +8,7 @@ use Rattle.std.proofs.Output.{writes_in_calls_append}
 use Rattle.std.proofs.KnownBytes.{Appends-nil, Appends-trans, Appends-kept}
 use Rattle.std.proofs.Math.Seq.{take-append_seam}
 use Rattle.sf_value.specs.Devices.{SinkState, TakesOnce, RefusesOnce}
-use Rattle.sf_write.specs.Writing.{Wrote, WroteFront, Writes, WritesText}
+use Rattle.sf_write.specs.Writing.{Wrote, WrotePrefix, Writes, WritesText}
 use Rattle.sf_write.specs.declared.sending.WriteFault.{WriteFault}
 
 -- no text
@@ -22,10 +22,10 @@ sent_once p e = record { taken = p.taken; failures = p.failures; count = e }
 
 -- one call that failed
 pub refused_once : {a b : SinkState} {n : ℕ} {t : List ℕ} → n < 2 ^ 64 → 0 < length t
-    → RefusesOnce a b → WroteFront a b n n t
+    → RefusesOnce a b → WrotePrefix a b n n t
 refused_once {a = a} {n = n} {t = t} h some p = record {
-  front = [];
-  back = t;
+  prefix = [];
+  suffix = t;
   mid = a;
   split = refl;
   short = some;
@@ -42,14 +42,14 @@ Wrote-append {a = a} {b = b} {c = c} {t = t} {u = u} p q = record {
   count = omega (arith, length-append t u);
 }
 
--- a front of a text after another text
-pub WroteFront-append : {a b c : SinkState} {n m k : ℕ} {t u : List ℕ} → Wrote a b n m t
-    → WroteFront b c m k u → WroteFront a c n k (t ++ u)
-WroteFront-append {t = t} p q = record {
-  front = t ++ q.front;
-  back = q.back;
+-- a prefix of a text after another text
+pub WrotePrefix-append : {a b c : SinkState} {n m k : ℕ} {t u : List ℕ} → Wrote a b n m t
+    → WrotePrefix b c m k u → WrotePrefix a c n k (t ++ u)
+WrotePrefix-append {t = t} p q = record {
+  prefix = t ++ q.prefix;
+  suffix = q.suffix;
   mid = q.mid;
-  split = ap (λ l. t ++ l) q.split ∙ sym (append_assoc t q.front q.back);
+  split = ap (λ l. t ++ l) q.split ∙ sym (append_assoc t q.prefix q.suffix);
   short = q.short;
   wrote = Wrote-append p q.wrote;
   failed = q.failed;
@@ -60,17 +60,18 @@ pub Writes-append : {a b : SinkState} {n m : ℕ} {t : List ℕ} (c : SinkState)
     (r : Result ℕ WriteFault) (u : List ℕ) → Wrote a b n m t → Writes b c m r u
     → Writes a c n r (t ++ u)
 Writes-append c (Ok k) u p q = Wrote-append p q
-Writes-append c (Err e) u p q = WroteFront-append p q
+Writes-append c (Err e) u p q = WrotePrefix-append p q
 
--- a front of a text is one of a longer text
-pub WroteFront-longer : {a b : SinkState} {n m : ℕ} {t : List ℕ} (u : List ℕ) → WroteFront a b n m t
-    → WroteFront a b n m (t ++ u)
-WroteFront-longer u p = record {
-  front = p.front;
-  back = p.back ++ u;
+-- a prefix of a text is one of a longer text
+pub WrotePrefix-longer : {a b : SinkState} {n m : ℕ} {t : List ℕ} (u : List ℕ)
+    → WrotePrefix a b n m t
+    → WrotePrefix a b n m (t ++ u)
+WrotePrefix-longer u p = record {
+  prefix = p.prefix;
+  suffix = p.suffix ++ u;
   mid = p.mid;
-  split = ap (λ l. l ++ u) p.split ∙ append_assoc p.front p.back u;
-  short = let s = p.short in omega (arith, length-append p.back u);
+  split = ap (λ l. l ++ u) p.split ∙ append_assoc p.prefix p.suffix u;
+  short = let s = p.short in omega (arith, length-append p.suffix u);
   wrote = p.wrote;
   failed = p.failed;
 }
@@ -85,10 +86,11 @@ pub record Unwritten (start now : SinkState) (before written : ℕ) (all left : 
 pub unwritten_all : (s : SinkState) (n : ℕ) (all : List ℕ) → n < 2 ^ 64 → Unwritten s s n n all all
 unwritten_all s n all h = record { counted = h; finish = λ end r w. w }
 
--- a piece went out
-pub unwritten_less : {start now next : SinkState} {before written after : ℕ} {all left piece : List ℕ}
-    (more : List ℕ) → Unwritten start now before written all left → left ≡ piece ++ more
-    → Wrote now next written after piece → Unwritten start next before after all more
+-- a chunk went out
+pub unwritten_less : {start now next : SinkState} {before written after : ℕ}
+    {all left chunk : List ℕ}
+    (more : List ℕ) → Unwritten start now before written all left → left ≡ chunk ++ more
+    → Wrote now next written after chunk → Unwritten start next before after all more
 unwritten_less more l e w = record {
   counted = let count = w.count in omega arith;
   finish = λ end r h. l.finish end r (rw e (Writes-append end r more w h));
@@ -110,13 +112,13 @@ from_beginning a c (Ok n) text p = record {
 }
 from_beginning a c (Err e) text p =
     let count = p.wrote.count in
-    let whole = length-append p.front p.back in
+    let whole = length-append p.prefix p.suffix in
     let short = p.short in
-    let sizes : length text ≡ length p.front + length p.back = ap length p.split ∙ whole in
+    let sizes : length text ≡ length p.prefix + length p.suffix = ap length p.split ∙ whole in
     record {
-      taken = λ h. let all : e.written ≡ length p.front = omega arith in
-          rw (all, p.split, take-append_seam p.front p.back)
-          (Appends-kept a.taken p.mid.taken c.taken p.front p.wrote.taken p.failed.kept);
+      taken = λ h. let all : e.written ≡ length p.prefix = omega arith in
+          rw (all, p.split, take-append_seam p.prefix p.suffix)
+          (Appends-kept a.taken p.mid.taken c.taken p.prefix p.wrote.taken p.failed.kept);
       short = omega arith;
       failures = p.failed.failures ∙ ap (λ f. min (f + 1) (2 ^ 64 - 1)) p.wrote.failures;
     }
@@ -131,13 +133,13 @@ module _ {S : Type 0} {gives : S → List ℕ → S → Type 0} where
   pub uncalled_all : {s : S} {all : List ℕ} → Uncalled gives s s all all
   uncalled_all = record { finish = λ end p. p }
 
-  -- a call took a piece
-  pub uncalled_less : {start now next : S} {all left piece more : List ℕ}
-      → Uncalled gives start now all left → left ≡ piece ++ more → gives now piece next
+  -- a call took a chunk
+  pub uncalled_less : {start now next : S} {all left chunk more : List ℕ}
+      → Uncalled gives start now all left → left ≡ chunk ++ more → gives now chunk next
       → Uncalled gives start next all more
-  uncalled_less {now = now} {next = next} {piece = piece} {more = more} l e p = record {
-    finish = λ end q. l.finish end (rw e (writes_in_calls_append gives now piece next more end
-        (writes_in_calls_single gives now piece next p) q));
+  uncalled_less {now = now} {next = next} {chunk = chunk} {more = more} l e p = record {
+    finish = λ end q. l.finish end (rw e (writes_in_calls_append gives now chunk next more end
+        (writes_in_calls_single gives now chunk next p) q));
   }
 
   -- nothing is left

@@ -3,56 +3,56 @@ use Rattle.std.proofs.Common.{◌≡◌, ℕ, suc, ◌+◌, Bool, true, false, n
 use Rattle.std.proofs.Common.{◌/◌, ◌%◌, length, take, drop, refl, ap, ◌∙◌, subst, arith}
 use Rattle.std.specs.List.{prefix_len}
 use Rattle.sf_value.specs.Grammar.Strings.{escaped, is_escaped}
-use Rattle.sf_value.specs.Grammar.DisplayStrings.{hex, is_plain}
+use Rattle.sf_value.specs.Grammar.DisplayStrings.{hex, is_unencoded}
 use Rattle.sf_value.specs.Grammar.Canonical.{canon_shown}
 
-module _ (plain : ℕ → Bool) where
+module _ (as_is : ℕ → Bool) where
   -- behind a run stands a byte that doesn't belong to it
-  run_stops : (s : List ℕ) (b : ℕ) (more : List ℕ) → drop (prefix_len plain s) s ≡ b ∷ more
-      → plain b ≡ false
+  run_stops : (s : List ℕ) (b : ℕ) (more : List ℕ) → drop (prefix_len as_is s) s ≡ b ∷ more
+      → as_is b ≡ false
   run_stops [] b more e = absurd cc
-  run_stops (c ∷ s) b more e = by (plain c) refl (run_stops s b more)
+  run_stops (c ∷ s) b more e = by (as_is c) refl (run_stops s b more)
     where
-      by : (r : Bool) → plain c ≡ r
-          → (drop (prefix_len plain s) s ≡ b ∷ more → plain b ≡ false)
-          → plain b ≡ false
+      by : (r : Bool) → as_is c ≡ r
+          → (drop (prefix_len as_is s) s ≡ b ∷ more → as_is b ≡ false)
+          → as_is b ≡ false
       by true h rest =
-          let next : 1 + prefix_len plain s ≡ suc (prefix_len plain s) = omega arith in
-          let behind : drop (prefix_len plain s) s ≡ b ∷ more = rw (h, next) at e in
+          let next : 1 + prefix_len as_is s ≡ suc (prefix_len as_is s) = omega arith in
+          let behind : drop (prefix_len as_is s) s ≡ b ∷ more = rw (h, next) at e in
           rest behind
       by false h rest =
           let here : c ∷ s ≡ b ∷ more = rw h at e in
           let same : c ≡ b = cc in
-          subst (λ x. plain x ≡ false) same h
+          subst (λ x. as_is x ≡ false) same h
 
   module _ (text : List ℕ → List ℕ)
-      (itself : (b : ℕ) (s : List ℕ) → plain b ≡ true → text (b ∷ s) ≡ b ∷ text s) where
+      (itself : (b : ℕ) (s : List ℕ) → as_is b ≡ true → text (b ∷ s) ≡ b ∷ text s) where
     run_goes : (s : List ℕ)
-        → text s ≡ take (prefix_len plain s) s ++ text (drop (prefix_len plain s) s)
+        → text s ≡ take (prefix_len as_is s) s ++ text (drop (prefix_len as_is s) s)
     run_goes [] = refl
-    run_goes (b ∷ s) = by (plain b) refl (run_goes s)
+    run_goes (b ∷ s) = by (as_is b) refl (run_goes s)
       where
-        by : (r : Bool) → plain b ≡ r
-            → text s ≡ take (prefix_len plain s) s ++ text (drop (prefix_len plain s) s)
+        by : (r : Bool) → as_is b ≡ r
+            → text s ≡ take (prefix_len as_is s) s ++ text (drop (prefix_len as_is s) s)
             → text (b ∷ s)
-            ≡ take (prefix_len plain (b ∷ s)) (b ∷ s)
-            ++ text (drop (prefix_len plain (b ∷ s)) (b ∷ s))
+            ≡ take (prefix_len as_is (b ∷ s)) (b ∷ s)
+            ++ text (drop (prefix_len as_is (b ∷ s)) (b ∷ s))
         by true e rest =
-            let next : 1 + prefix_len plain s ≡ suc (prefix_len plain s) = omega arith in
+            let next : 1 + prefix_len as_is s ≡ suc (prefix_len as_is s) = omega arith in
             itself b s e ∙ ap (λ t. b ∷ t) rest ∙ rw (e, next)
         by false e rest = rw e
 
     -- the run, and the text of what stands behind it
-    pub run_front : (s front behind : List ℕ) (n : ℕ) → n ≡ prefix_len plain s → front ≡ take n s
-        → behind ≡ drop n s → text s ≡ front ++ text behind
-    run_front s front behind n e f b = rw (f, b, e) (run_goes s)
+    pub run_prefix : (s prefix behind : List ℕ) (n : ℕ) → n ≡ prefix_len as_is s → prefix ≡ take n s
+        → behind ≡ drop n s → text s ≡ prefix ++ text behind
+    run_prefix s prefix behind n e f b = rw (f, b, e) (run_goes s)
 
     -- a byte behind the run, by what it stands as
-    pub run_byte : (piece : ℕ → List ℕ)
-        → ((b : ℕ) (s : List ℕ) → plain b ≡ false → text (b ∷ s) ≡ piece b ++ text s)
-        → (s behind more : List ℕ) (n b : ℕ) → n ≡ prefix_len plain s → behind ≡ drop n s
-        → behind ≡ b ∷ more → text behind ≡ piece b ++ text more
-    run_byte piece other s behind more n b e d h =
+    pub run_byte : (escape : ℕ → List ℕ)
+        → ((b : ℕ) (s : List ℕ) → as_is b ≡ false → text (b ∷ s) ≡ escape b ++ text s)
+        → (s behind more : List ℕ) (n b : ℕ) → n ≡ prefix_len as_is s → behind ≡ drop n s
+        → behind ≡ b ∷ more → text behind ≡ escape b ++ text more
+    run_byte escape other s behind more n b e d h =
         ap text h ∙ other b more (run_stops s b more (rw (d, e) at h))
 
 -- in a String: the escaped bytes and the quote
@@ -74,9 +74,9 @@ backslash b s e = by (is_escaped b) refl
     by true h = rw h
     by false h = let never : true ≡ false = rw h at e in absurd cc
 
-pub string_run : (s front behind : List ℕ) (n : ℕ) → n ≡ prefix_len (λ b. not (is_escaped b)) s
-    → front ≡ take n s → behind ≡ drop n s → closed s ≡ front ++ closed behind
-string_run = run_front (λ b. not (is_escaped b)) closed no_backslash
+pub string_run : (s prefix behind : List ℕ) (n : ℕ) → n ≡ prefix_len (λ b. not (is_escaped b)) s
+    → prefix ≡ take n s → behind ≡ drop n s → closed s ≡ prefix ++ closed behind
+string_run = run_prefix (λ b. not (is_escaped b)) closed no_backslash
 
 pub string_escape : (s behind more : List ℕ) (n b : ℕ)
     → n ≡ prefix_len (λ b. not (is_escaped b)) s → behind ≡ drop n s → behind ≡ b ∷ more
@@ -84,22 +84,23 @@ pub string_escape : (s behind more : List ℕ) (n b : ℕ)
 string_escape =
     run_byte (λ b. not (is_escaped b)) closed no_backslash (λ b. 92 ∷ b ∷ []) backslash
 
--- in a Display String: its pieces and the quote
-as_itself : (b : ℕ) (s : List ℕ) → is_plain b ≡ true → canon_shown (b ∷ s) ≡ b ∷ canon_shown s
+-- in a Display String: its chunks and the quote
+as_itself : (b : ℕ) (s : List ℕ) → is_unencoded b ≡ true → canon_shown (b ∷ s) ≡ b ∷ canon_shown s
 as_itself b s e = rw e
 
-as_escape : (b : ℕ) (s : List ℕ) → is_plain b ≡ false
+as_escape : (b : ℕ) (s : List ℕ) → is_unencoded b ≡ false
     → canon_shown (b ∷ s) ≡ (37 ∷ hex (b / 16) ∷ hex (b % 16) ∷ []) ++ canon_shown s
 as_escape b s e = rw e
 
-pub shown_run : (s front behind : List ℕ) (n : ℕ) → n ≡ prefix_len is_plain s → front ≡ take n s
-    → behind ≡ drop n s → canon_shown s ≡ front ++ canon_shown behind
-shown_run = run_front is_plain canon_shown as_itself
+pub shown_run : (s prefix behind : List ℕ) (n : ℕ) → n ≡ prefix_len is_unencoded s → prefix
+    ≡ take n s
+    → behind ≡ drop n s → canon_shown s ≡ prefix ++ canon_shown behind
+shown_run = run_prefix is_unencoded canon_shown as_itself
 
-pub shown_escape : (s behind more : List ℕ) (n b : ℕ) → n ≡ prefix_len is_plain s
+pub shown_escape : (s behind more : List ℕ) (n b : ℕ) → n ≡ prefix_len is_unencoded s
     → behind ≡ drop n s → behind ≡ b ∷ more
     → canon_shown behind ≡ (37 ∷ hex (b / 16) ∷ hex (b % 16) ∷ []) ++ canon_shown more
-shown_escape = run_byte is_plain canon_shown as_itself
+shown_escape = run_byte is_unencoded canon_shown as_itself
     (λ b. 37 ∷ hex (b / 16) ∷ hex (b % 16) ∷ []) as_escape
 
 -- no byte is left: the quote alone

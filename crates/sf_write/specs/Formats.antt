@@ -3,7 +3,7 @@ use Rattle.std.specs.Prelude.{◌≡◌, ℕ, List}
 use Rattle.std.specs.Fmt.{HasWritten, IsPlainFormatter}
 use Rattle.sf_write.specs.declared.formats.Formatting.{Formatting}
 
--- a piece was written to the formatter, if it formats plainly, and it is the same one as before
+-- a chunk was written to the formatter, if it formats plainly, and it is the same one as before
 pub record WritesPiece {W : Type 0} (took : W → List ℕ → W → Type 0) (old : Formatting W)
     (piece : List ℕ) (new : Formatting W) : Type 0 where
   pub same_formatter : new.f.ghost_name ≡ old.f.ghost_name

@@ -12,23 +12,24 @@ pub record Wrote (old new : SinkState) (before after : ℕ) (text : List ℕ) : 
   pub failures : new.failures ≡ old.failures
   pub count : after ≡ capped (before + length text)
 
--- calls took a front of the text, short of all of it, and then one failed
-pub record WroteFront (old new : SinkState) (before after : ℕ) (text : List ℕ) : Type 0 where
-  pub front : List ℕ
-  pub back : List ℕ
+-- calls took a prefix of the text, short of all of it, and then one failed
+pub record WrotePrefix (old new : SinkState) (before after : ℕ) (text : List ℕ) : Type 0 where
+  pub prefix : List ℕ
+  pub suffix : List ℕ
   pub mid : SinkState
-  pub split : text ≡ front ++ back
-  pub short : 0 < length back
-  pub wrote : Wrote old mid before after front
+  pub split : text ≡ prefix ++ suffix
+  pub short : 0 < length suffix
+  pub wrote : Wrote old mid before after prefix
   pub failed : RefusesOnce mid new
 
--- the text went out, or a front of it and then a call failed; a count of bytes went on from before
+-- the text went out, or a prefix of it and then a call failed; a count of bytes went on from before
 abbrev pub Writes : SinkState → SinkState → ℕ → Result ℕ WriteFault → List ℕ → Type 0
 Writes old new before (Ok after) text = Wrote old new before after text
-Writes old new before (Err fault) text = WroteFront old new before fault.written text
+Writes old new before (Err fault) text = WrotePrefix old new before fault.written text
 
 -- the text is put behind earlier ones: it goes out where none of these failed, and their count goes
--- on; behind a fault nothing goes out, and the fault stays. Where all went out, calls of send took it
+-- on; behind a fault nothing goes out, and the fault stays. Where all went out, calls of send took
+-- it
 pub record Follows {S : Type 0} (state : S → SinkState) (gives : S → List ℕ → S → Type 0)
     (old new : S) (before after : Result ℕ WriteFault) (text : List ℕ) : Type 0 where
   pub goes_on : IfOk before (λ n. n < 2 ^ 64 → Writes (state old) (state new) n after text)

@@ -53,7 +53,7 @@ pub fn put_text<W: Sink>(text: &Text, before: Sent, out: &mut W) -> Sent
     put_string(text.as_bytes(), before, out)
 }
 
-/// Writes the canonical text of a bare item (RFC 9651 section 4.1.3.1) into a sink, piece by piece.
+/// Writes the canonical text of a bare item (RFC 9651 section 4.1.3.1) into a sink, chunk by chunk.
 /// It takes no memory, and answers as `write_field` does.
 ///
 /// ```

@@ -2,7 +2,7 @@
 ghost use Rattle.std.specs.Prelude.{◌≡◌, ◌/◌, ◌%◌, ◌<◌, ◌≤◌, [], ◌∷◌, length};
 ghost use Rattle.std.specs.List.{prefix_len};
 ghost use Rattle.sf_value.specs.Ascii.{percent, quote};
-ghost use Rattle.sf_value.specs.Grammar.DisplayStrings.{hex, is_plain};
+ghost use Rattle.sf_value.specs.Grammar.DisplayStrings.{hex, is_unencoded};
 ghost use Rattle.sf_value.specs.Grammar.Canonical.{canon_shown};
 ghost use Rattle.sf_write.specs.Writing.{Follows};
 
@@ -24,10 +24,10 @@ pub(crate) fn escaped_count(bytes: &[u8]) -> usize {
     count
 }
 
-/// How many bytes at the front stand for themselves.
-fn plain_len(bytes: &[u8]) -> usize
+/// How many bytes at the start stand for themselves.
+fn unencoded_len(bytes: &[u8]) -> usize
     // as many as stand before the first one that does not go out as itself
-    ensures len { result ≡ prefix_len is_plain bytes.now }
+    ensures len { result ≡ prefix_len is_unencoded bytes.now }
     ensures within { result ≤ length bytes.now }
 {
     bytes.iter().take_while(|b| stands_for_itself(**b)).count()
@@ -66,7 +66,7 @@ fn percent_escape(byte: u8) -> [u8; 3]
 
 /// A Display String by its UTF-8 bytes: `%`, then between quotes each byte from 0x20 to 0x7E but
 /// `"` and `%` as itself, and every other one as `%` and two lower-case digits. Bytes that stand
-/// for themselves go out as one piece.
+/// for themselves go out as one chunk.
 pub(crate) fn put_display_string<W: Sink>(text: &[u8], before: Sent, out: &mut W) -> Sent
     ensures { Follows W.state W.send_gives out.old out.new before result
         (percent ∷ quote ∷ canon_shown text.now) }
@@ -74,8 +74,8 @@ pub(crate) fn put_display_string<W: Sink>(text: &[u8], before: Sent, out: &mut W
     let mut sent = put(b"%\"", before, out);
     let mut rest = text;
     loop {
-        let (plain, behind) = rest.split_at(plain_len(rest));
-        sent = put(plain, sent, out);
+        let (unencoded, behind) = rest.split_at(unencoded_len(rest));
+        sent = put(unencoded, sent, out);
         let Some((byte, more)) = behind.split_first() else {
             return put(b"\"", sent, out);
         };

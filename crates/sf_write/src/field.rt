@@ -32,7 +32,7 @@ pub fn put_field<W: Sink>(field: &Field, before: Sent, out: &mut W) -> Sent
     }
 }
 
-/// Writes the canonical text of a field (RFC 9651 section 4.1) into a sink, piece by piece. It
+/// Writes the canonical text of a field (RFC 9651 section 4.1) into a sink, chunk by chunk. It
 /// takes no memory. An empty List or Dictionary has the empty text.
 ///
 /// `Ok` tells the length of the text in bytes, all of which went out. A fault is answered only

@@ -75,8 +75,9 @@ pub struct Displayed<'a, T> {
     value: &'a T,
 }
 
-/// The value for `{}`, which then stands for its canonical text (RFC 9651 section 4.1). Neither this
-/// nor the formatting takes memory; what it is printed into may fail, and then so does the call.
+/// The value for `{}`, which then stands for its canonical text (RFC 9651 section 4.1). Neither
+/// this nor the formatting takes memory; what it is printed into may fail, and then so does the
+/// call.
 ///
 /// ```
 /// println!(rt; "parsed: {}", display(&field))?; // parsed: a;q=1
@@ -122,7 +123,7 @@ impl<'a, W: fmt::Write> Sink for Formatting<'a, W> {
         if bytes.is_empty() {
             return Ok(0);
         }
-        // A canonical text is ASCII, so that each of its pieces is a string.
+        // A canonical text is ASCII, so that each of its chunks is a string.
         if let Ok(text) = str::from_utf8(bytes) {
             if self.f.write_str(text).is_ok() {
                 return Ok(bytes.len());
@@ -133,8 +134,8 @@ impl<'a, W: fmt::Write> Sink for Formatting<'a, W> {
     }
 }
 
-/// The canonical text of a field (RFC 9651 section 4.1) as a string. Each such text is ASCII, so the
-/// only refusal is for want of memory.
+/// The canonical text of a field (RFC 9651 section 4.1) as a string. Each such text is ASCII, so
+/// the only refusal is for want of memory.
 ///
 /// ```
 /// let text = to_string(alloc, &field)?;

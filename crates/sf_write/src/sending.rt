@@ -67,7 +67,7 @@ pub fn send_all<W: Sink>(bytes: &[u8], before: u64, out: &mut W) -> Result<u64, 
 }
 
 /// Sends all the bytes behind those sent before, as [`send_all`] does. After a fault nothing more
-/// is sent and the fault stays, so that one piece is put behind another with no look at the answer.
+/// is sent and the fault stays, so that one chunk is put behind another with no look at the answer.
 ///
 /// ```
 /// let sent = put(b"a, ", Ok(0), &mut out);

@@ -31,8 +31,8 @@ pub(crate) fn escaped_count(bytes: &[u8]) -> usize {
     count
 }
 
-/// How many bytes at the front need no backslash.
-fn plain_len(bytes: &[u8]) -> usize
+/// How many bytes at the start need no backslash.
+fn unescaped_len(bytes: &[u8]) -> usize
     // as many as stand before the first one that needs a backslash
     ensures len { result ≡ prefix_len (λ b. not (is_escaped b)) bytes.now }
     ensures within { result ≤ length bytes.now }
@@ -41,7 +41,7 @@ fn plain_len(bytes: &[u8]) -> usize
 }
 
 /// A String: quotes around its bytes, with a backslash before each quote and each backslash. The
-/// bytes between two of these go out as one piece.
+/// bytes between two of these go out as one chunk.
 pub(crate) fn put_string<W: Sink>(text: &[u8], before: Sent, out: &mut W) -> Sent
     ensures { Follows W.state W.send_gives out.old out.new before result
         (quote ∷ (escaped text.now ++ quote ∷ [])) }
@@ -49,8 +49,8 @@ pub(crate) fn put_string<W: Sink>(text: &[u8], before: Sent, out: &mut W) -> Sen
     let mut sent = put(b"\"", before, out);
     let mut rest = text;
     loop {
-        let (plain, behind) = rest.split_at(plain_len(rest));
-        sent = put(plain, sent, out);
+        let (unescaped, behind) = rest.split_at(unescaped_len(rest));
+        sent = put(unescaped, sent, out);
         let Some((byte, more)) = behind.split_first() else {
             return put(b"\"", sent, out);
         };

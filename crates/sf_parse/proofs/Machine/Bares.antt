@@ -1,9 +1,10 @@
 -- Bare items are read by their machine.
+use Rattle.std.specs.Option.{option_map, option_or}
 use Rattle.std.proofs.Common.{◌≡◌, ℕ, ◌≤◌, Bool, true, false, ◌==◌, List, [], ◌∷◌, ◌++◌, Some, None}
 use Rattle.std.proofs.Common.{⊎_elim, refl, sym, ap, ◌∙◌, subst, ◌↔◌, inl, inr, arith, append-nil}
 use Rattle.std.proofs.Common.{if◌then◌else◌}
-use Rattle.sf_value.specs.Grammar.Words.{Every, allow, otherwise}
-use Rattle.sf_value.specs.Grammar.Classes.{is_token_start, is_token_rest, is_visible}
+use Rattle.sf_value.specs.Grammar.Words.{Every, allow}
+use Rattle.sf_value.specs.Grammar.Classes.{is_token_start, is_in_token, is_visible}
 use Rattle.sf_value.specs.Grammar.Dialects.{is_rfc9651}
 use Rattle.sf_value.specs.Grammar.Numbers.{SpellsDate}
 use Rattle.sf_value.specs.Grammar.Strings.{escaped, SpellsString}
@@ -16,23 +17,25 @@ use Rattle.sf_value.specs.declared.dialect.Dialect.{Dialect}
 use Rattle.sf_value.specs.declared.value.Bare.{Bare}
 use Rattle.sf_value.specs.declared.value.Bare.TheVariants.{Integer, Decimal, Text, Token, Blob}
 use Rattle.sf_value.specs.declared.value.Bare.TheVariants.{Boolean, Date, Shown}
-use Rattle.sf_parse.specs.Machine.Language.{Seen, Either, After, Where, seen, only, Reads, Live}
+use Rattle.sf_parse.specs.Machine.Language.{Mapped, Either, After, Where, only, Reads, Live}
 use Rattle.sf_parse.specs.Machine.Language.{is_follow}
 use Rattle.sf_parse.specs.Machine.Numbers.{NumberState, Whole, Fraction, Digits, digits_step}
 use Rattle.sf_parse.specs.Machine.Numbers.{SpellsNumber, number_start, number_step, Sign}
-use Rattle.sf_parse.specs.Machine.Texts.{Inside, Escaped, Closed, RestText, word_start, word_step}
-use Rattle.sf_parse.specs.Machine.Texts.{RestBoolean}
-use Rattle.sf_parse.specs.declared.boolean.BooleanState.TheVariants.{Told, Asked}
-use Rattle.sf_parse.specs.Machine.Blobs.{Group, Padded, Ended, H0, RestBlob}
-use Rattle.sf_parse.specs.Machine.Showns.{Quote, Plain, Percent, Hex, Done, RestShown}
+use Rattle.sf_parse.specs.Machine.Texts.{Inside, Escaped, Closed, ResidualText, word_start}
+use Rattle.sf_parse.specs.Machine.Texts.{word_step}
+use Rattle.sf_parse.specs.Machine.Texts.{ResidualBoolean}
+use Rattle.sf_parse.specs.declared.boolean.BooleanState.TheVariants.{WithValue, QuestionMark}
+use Rattle.sf_parse.specs.Machine.Blobs.{Group, Padded, Ended, H0, ResidualBlob}
+use Rattle.sf_parse.specs.Machine.Showns.{Quote, Unencoded, Percent, Hex, Done, ResidualShown}
 use Rattle.sf_parse.specs.Machine.Bares.{BareState}
 use Rattle.sf_parse.specs.Machine.Bares.{InNumber, InText, InToken, InBoolean}
 use Rattle.sf_parse.specs.Machine.Bares.{InDate, InBlob, InShown}
-use Rattle.sf_parse.specs.Machine.Bares.{RestBare, GoodBare, bare_start, bare_step, bare_finish}
+use Rattle.sf_parse.specs.Machine.Bares.{ResidualBare, GoodBare, bare_start, bare_step, bare_finish}
 use Rattle.sf_parse.proofs.Machine.Blobs.{blob_reads, blob_lives}
 use Rattle.sf_parse.proofs.Machine.Showns.{shown_reads, shown_lives}
-use Rattle.sf_parse.proofs.Machine.Language.{reads_iff, reads_seen, reads_into, reads_either, reads_after}
-use Rattle.sf_parse.proofs.Machine.Language.{reads_where, seen_cases}
+use Rattle.sf_parse.proofs.Machine.Language.{reads_iff, reads_mapped, reads_into, reads_either}
+use Rattle.sf_parse.proofs.Machine.Language.{reads_after}
+use Rattle.sf_parse.proofs.Machine.Language.{reads_where, map_cases}
 use Rattle.sf_value.proofs.Words.{allow_cases}
 use Rattle.sf_parse.proofs.Classes.{not_follow}
 use Rattle.sf_parse.proofs.Machine.Numbers.{number_reads, number_starts, number_lives, date_reads}
@@ -44,18 +47,18 @@ pub same : {A : Type 0} → A ↔ A
 same = (λ h. h, λ h. h)
 
 pub bare_reads : (s : BareState) → GoodBare s
-    → Reads BareState Bare GoodBare RestBare (RestBare s) (bare_step s) (bare_finish s)
+    → Reads BareState Bare GoodBare ResidualBare (ResidualBare s) (bare_step s) (bare_finish s)
 bare_reads (InNumber s) g = reads_into InNumber (λ s g. g) (λ s t v. same) (number_reads s g)
-bare_reads (InText s) g = reads_seen InText Text (λ s g. tt) (λ s t v. same) (text_reads s tt)
-bare_reads (InToken bytes) g = reads_seen InToken Token (λ s g. tt) (λ s t v. same)
-    (word_reads is_token_rest bytes)
-bare_reads (InBoolean s) g = reads_seen InBoolean Boolean (λ s g. tt) (λ s t v. same)
+bare_reads (InText s) g = reads_mapped InText Text (λ s g. tt) (λ s t v. same) (text_reads s tt)
+bare_reads (InToken bytes) g = reads_mapped InToken Token (λ s g. tt) (λ s t v. same)
+    (word_reads is_in_token bytes)
+bare_reads (InBoolean s) g = reads_mapped InBoolean Boolean (λ s g. tt) (λ s t v. same)
     (boolean_reads s tt)
-bare_reads (InDate s) g = reads_seen InDate Date (λ s g. g) (λ s t v. same) (date_reads s g)
-bare_reads (InBlob s) g = reads_seen InBlob Blob (λ s g. g) (λ s t v. same) (blob_reads s g)
-bare_reads (InShown s) g = reads_seen InShown Shown (λ s g. g) (λ s t v. same) (shown_reads s g)
+bare_reads (InDate s) g = reads_mapped InDate Date (λ s g. g) (λ s t v. same) (date_reads s g)
+bare_reads (InBlob s) g = reads_mapped InBlob Blob (λ s g. g) (λ s t v. same) (blob_reads s g)
+bare_reads (InShown s) g = reads_mapped InShown Shown (λ s g. g) (λ s t v. same) (shown_reads s g)
 
-pub bare_lives : (s : BareState) → GoodBare s → Live Bare (RestBare s)
+pub bare_lives : (s : BareState) → GoodBare s → Live Bare (ResidualBare s)
 bare_lives (InNumber s) g = number_lives s g
 bare_lives (InText s) g = let l = text_lives s in
     record { text = l.text; value = Text l.value; whole = (l.value, l.whole, refl) }
@@ -83,19 +86,20 @@ pub bare_apart : (s : BareState) (x : Bare) (b : ℕ) (t : BareState) → bare_f
 bare_apart (InNumber (Whole neg count a)) x b t e n f = whole_apart neg count a b t n f
   where
     whole_apart : (neg : Bool) (count a b : ℕ) (t : BareState)
-        → seen InNumber (number_step (Whole neg count a) b) ≡ Some t → is_follow b ≡ true → ⊥
+        → option_map InNumber (number_step (Whole neg count a) b) ≡ Some t → is_follow b ≡ true → ⊥
     whole_apart neg count a b t n f = grind arith
 bare_apart
     (InNumber (Fraction neg whole count a)) x b t e n f = fraction_apart neg whole count a b t n f
   where
     fraction_apart : (neg : Bool) (whole count a b : ℕ) (t : BareState)
-        → seen InNumber (number_step (Fraction neg whole count a) b) ≡ Some t → is_follow b ≡ true
+        → option_map InNumber (number_step (Fraction neg whole count a) b) ≡ Some t → is_follow b
+        ≡ true
         → ⊥
     fraction_apart neg whole count a b t n f = grind arith
 bare_apart (InText (Inside bytes)) x b t e n f = cc
 bare_apart (InText (Escaped bytes)) x b t e n f = cc
 bare_apart (InText (Closed bytes)) x b t e n f = cc
-bare_apart (InToken bytes) x b t e n f = not_follow is_token_rest (
+bare_apart (InToken bytes) x b t e n f = not_follow is_in_token (
   refl,
   (
     refl,
@@ -110,27 +114,27 @@ bare_apart (InToken bytes) x b t e n f = not_follow is_token_rest (
       ),
     ),
   ),
-) b (allow_cases (is_token_rest b) (bytes
-    ++ b ∷ []) (seen_cases InToken (word_step is_token_rest bytes b) t n).0
-    (seen_cases InToken (word_step is_token_rest bytes b) t n).1).0 f
-bare_apart (InBoolean Asked) x b t e n f = cc
-bare_apart (InBoolean (Told c)) x b t e n f = cc
+) b (allow_cases (is_in_token b) (bytes
+    ++ b ∷ []) (map_cases InToken (word_step is_in_token bytes b) t n).0
+    (map_cases InToken (word_step is_in_token bytes b) t n).1).0 f
+bare_apart (InBoolean QuestionMark) x b t e n f = cc
+bare_apart (InBoolean (WithValue c)) x b t e n f = cc
 bare_apart (InDate (Digits neg count a)) x b t e n f = digits_apart neg count a b t n f
   where
     digits_apart : (neg : Bool) (count a b : ℕ) (t : BareState)
-        → seen InDate (digits_step neg count a b) ≡ Some t → is_follow b ≡ true → ⊥
+        → option_map InDate (digits_step neg count a b) ≡ Some t → is_follow b ≡ true → ⊥
     digits_apart neg count a b t n f = grind arith
 bare_apart (InDate Sign) x b t e n f = cc
 bare_apart (InBlob (Group bytes h)) x b t e n f = cc
 bare_apart (InBlob (Padded bytes m)) x b t e n f = cc
 bare_apart (InBlob (Ended bytes)) x b t e n f = cc
 bare_apart (InShown Quote) x b t e n f = cc
-bare_apart (InShown (Plain bytes c)) x b t e n f = cc
+bare_apart (InShown (Unencoded bytes c)) x b t e n f = cc
 bare_apart (InShown (Percent bytes c)) x b t e n f = cc
 bare_apart (InShown (Hex bytes c h)) x b t e n f = cc
 bare_apart (InShown (Done bytes)) x b t e n f = cc
 
-text_both : (t s : List ℕ) → After 34 (RestText (Inside [])) t s ↔ SpellsString t s
+text_both : (t s : List ℕ) → After 34 (ResidualText (Inside [])) t s ↔ SpellsString t s
 text_both t s = (
   λ h. let e : s ≡ h.2.0 = h.2.3 in (
     subst (λ y. t ≡ 34 ∷ (escaped y ++ 34 ∷ [])) (sym e) (h.1
@@ -140,37 +144,38 @@ text_both t s = (
   λ h. (escaped s ++ 34 ∷ [], h.0, (s, refl, h.1, refl)),
 )
 
-boolean_both : (t : List ℕ) (b : Bool) → After 63 (RestBoolean Asked) t b ↔ SpellsBoolean t b
+boolean_both : (t : List ℕ) (b : Bool) → After 63 (ResidualBoolean QuestionMark) t b
+    ↔ SpellsBoolean t b
 boolean_both t b = (λ h. h.1 ∙ ap (λ y. 63 ∷ y) h.2, λ h. ((if b then 49 else 48) ∷ [], h, refl))
 
-blob_both : (t s : List ℕ) → After 58 (RestBlob (Group [] H0)) t s ↔ SpellsByteSequence t s
+blob_both : (t s : List ℕ) → After 58 (ResidualBlob (Group [] H0)) t s ↔ SpellsByteSequence t s
 blob_both t s = (
-  λ (back, e, (r, x, i)). (back, e, subst (λ y. Sextets back y) (sym i) x),
-  λ (back, e, x). (back, e, (s, x, refl)),
+  λ (suffix, e, (r, x, i)). (suffix, e, subst (λ y. Sextets suffix y) (sym i) x),
+  λ (suffix, e, x). (suffix, e, (s, x, refl)),
 )
 
-shown_both : (t s : List ℕ) → After 37 (RestShown Quote) t s ↔ SpellsDisplayString t s
+shown_both : (t s : List ℕ) → After 37 (ResidualShown Quote) t s ↔ SpellsDisplayString t s
 shown_both t s = (
-  λ (u, e, (back, e1, (r, p, w, i))). subst (λ y. SpellsDisplayString t y) (sym i) (
-    back,
+  λ (u, e, (suffix, e1, (r, p, w, i))). subst (λ y. SpellsDisplayString t y) (sym i) (
+    suffix,
     e
         ∙ ap (λ y. 37 ∷ y) e1,
     p,
     w,
   ),
-  λ (back, e, p, w). (34 ∷ back, e, (back, refl, (s, p, w, refl))),
+  λ (suffix, e, p, w). (34 ∷ suffix, e, (suffix, refl, (s, p, w, refl))),
 )
 
 number_first : (b : ℕ) (s : NumberState) → number_start b ≡ Some s → (45 ≤ b) × (b ≤ 57)
 number_first b s e = grind arith
 
 others : (c : Bool) (b : ℕ) (t : BareState) → (45 ≤ b) × (b ≤ 57)
-    → otherwise (seen InText (allow (b == 34) (Inside [])))
-    (otherwise (seen InToken (word_start is_token_start b))
-    (otherwise (seen InBoolean (allow (b == 63) Asked))
-    (otherwise (only c (seen InDate (allow (b == 64) Sign)))
-    (otherwise (seen InBlob (allow (b == 58) (Group [] H0)))
-    (only c (seen InShown (allow (b == 37) Quote)))))))
+    → option_or (option_map InText (allow (b == 34) (Inside [])))
+    (option_or (option_map InToken (word_start is_token_start b))
+    (option_or (option_map InBoolean (allow (b == 63) QuestionMark))
+    (option_or (only c (option_map InDate (allow (b == 64) Sign)))
+    (option_or (option_map InBlob (allow (b == 58) (Group [] H0)))
+    (only c (option_map InShown (allow (b == 37) Quote)))))))
     ≡ Some t
     → ⊥
 others true b t r n = grind arith
@@ -178,75 +183,75 @@ others false b t r n = grind arith
 
 -- no byte begins bare items of two types
 blob_apart : (c : Bool) (b : ℕ) (s t : BareState)
-    → seen InBlob (allow (b == 58) (Group [] H0)) ≡ Some s
-    → only c (seen InShown (allow (b == 37) Quote)) ≡ Some t → ⊥
+    → option_map InBlob (allow (b == 58) (Group [] H0)) ≡ Some s
+    → only c (option_map InShown (allow (b == 37) Quote)) ≡ Some t → ⊥
 blob_apart true b s t e n = grind arith
 blob_apart false b s t e n = grind arith
 
 date_apart : (c : Bool) (b : ℕ) (s t : BareState)
-    → only c (seen InDate (allow (b == 64) Sign)) ≡ Some s
-    → otherwise (seen InBlob (allow (b == 58) (Group [] H0)))
-    (only c (seen InShown (allow (b == 37) Quote)))
+    → only c (option_map InDate (allow (b == 64) Sign)) ≡ Some s
+    → option_or (option_map InBlob (allow (b == 58) (Group [] H0)))
+    (only c (option_map InShown (allow (b == 37) Quote)))
     ≡ Some t
     → ⊥
 date_apart true b s t e n = grind arith
 date_apart false b s t e n = grind arith
 
 boolean_apart : (c : Bool) (b : ℕ) (s t : BareState)
-    → seen InBoolean (allow (b == 63) Asked) ≡ Some s
-    → otherwise (only c (seen InDate (allow (b == 64) Sign)))
-    (otherwise (seen InBlob (allow (b == 58) (Group [] H0)))
-    (only c (seen InShown (allow (b == 37) Quote))))
+    → option_map InBoolean (allow (b == 63) QuestionMark) ≡ Some s
+    → option_or (only c (option_map InDate (allow (b == 64) Sign)))
+    (option_or (option_map InBlob (allow (b == 58) (Group [] H0)))
+    (only c (option_map InShown (allow (b == 37) Quote))))
     ≡ Some t
     → ⊥
 boolean_apart true b s t e n = grind arith
 boolean_apart false b s t e n = grind arith
 
 token_apart : (c : Bool) (b : ℕ) (s t : BareState)
-    → seen InToken (word_start is_token_start b) ≡ Some s
-    → otherwise (seen InBoolean (allow (b == 63) Asked))
-    (otherwise (only c (seen InDate (allow (b == 64) Sign)))
-    (otherwise (seen InBlob (allow (b == 58) (Group [] H0)))
-    (only c (seen InShown (allow (b == 37) Quote)))))
+    → option_map InToken (word_start is_token_start b) ≡ Some s
+    → option_or (option_map InBoolean (allow (b == 63) QuestionMark))
+    (option_or (only c (option_map InDate (allow (b == 64) Sign)))
+    (option_or (option_map InBlob (allow (b == 58) (Group [] H0)))
+    (only c (option_map InShown (allow (b == 37) Quote)))))
     ≡ Some t
     → ⊥
 token_apart true b s t e n = grind arith
 token_apart false b s t e n = grind arith
 
 text_apart : (c : Bool) (b : ℕ) (s t : BareState)
-    → seen InText (allow (b == 34) (Inside [])) ≡ Some s
-    → otherwise (seen InToken (word_start is_token_start b))
-    (otherwise (seen InBoolean (allow (b == 63) Asked))
-    (otherwise (only c (seen InDate (allow (b == 64) Sign)))
-    (otherwise (seen InBlob (allow (b == 58) (Group [] H0)))
-    (only c (seen InShown (allow (b == 37) Quote))))))
+    → option_map InText (allow (b == 34) (Inside [])) ≡ Some s
+    → option_or (option_map InToken (word_start is_token_start b))
+    (option_or (option_map InBoolean (allow (b == 63) QuestionMark))
+    (option_or (only c (option_map InDate (allow (b == 64) Sign)))
+    (option_or (option_map InBlob (allow (b == 58) (Group [] H0)))
+    (only c (option_map InShown (allow (b == 37) Quote))))))
     ≡ Some t
     → ⊥
 text_apart true b s t e n = grind arith
 text_apart false b s t e n = grind arith
 
-number_apart : (c : Bool) (b : ℕ) (s t : BareState) → seen InNumber (number_start b) ≡ Some s
-    → otherwise (seen InText (allow (b == 34) (Inside [])))
-    (otherwise (seen InToken (word_start is_token_start b))
-    (otherwise (seen InBoolean (allow (b == 63) Asked))
-    (otherwise (only c (seen InDate (allow (b == 64) Sign)))
-    (otherwise (seen InBlob (allow (b == 58) (Group [] H0)))
-    (only c (seen InShown (allow (b == 37) Quote)))))))
+number_apart : (c : Bool) (b : ℕ) (s t : BareState) → option_map InNumber (number_start b) ≡ Some s
+    → option_or (option_map InText (allow (b == 34) (Inside [])))
+    (option_or (option_map InToken (word_start is_token_start b))
+    (option_or (option_map InBoolean (allow (b == 63) QuestionMark))
+    (option_or (only c (option_map InDate (allow (b == 64) Sign)))
+    (option_or (option_map InBlob (allow (b == 58) (Group [] H0)))
+    (only c (option_map InShown (allow (b == 37) Quote)))))))
     ≡ Some t
     → ⊥
-number_apart c b s t e n = let k = seen_cases InNumber (number_start b) s e in
+number_apart c b s t e n = let k = map_cases InNumber (number_start b) s e in
     others c b t (number_first b k.0 k.1) n
 
 -- the texts of the eight types, as one language
 abbrev BareTexts : Bool → List ℕ → Bare → Type 0
 BareTexts c =
     Either SpellsNumber
-    (Either (Seen Text SpellsString)
-    (Either (Seen Token (SpellsWord is_token_start is_token_rest))
-    (Either (Seen Boolean SpellsBoolean)
-    (Either (Where c (Seen Date SpellsDate))
-    (Either (Seen Blob SpellsByteSequence)
-    (Where c (Seen Shown SpellsDisplayString)))))))
+    (Either (Mapped Text SpellsString)
+    (Either (Mapped Token (SpellsWord is_token_start is_in_token))
+    (Either (Mapped Boolean SpellsBoolean)
+    (Either (Where c (Mapped Date SpellsDate))
+    (Either (Mapped Blob SpellsByteSequence)
+    (Where c (Mapped Shown SpellsDisplayString)))))))
 
 module _ (d : Dialect) where
   texts_both : (t : List ℕ) (v : Bare) → BareTexts (is_rfc9651 d) t v ↔ SpellsBare d t v
@@ -275,26 +280,26 @@ module _ (d : Dialect) where
       from (Date n) h = inr (inr (inr (inr (inl (h.0, (n, h.1, refl))))))
       from (Shown s) h = inr (inr (inr (inr (inr (inr (h.0, (s, h.1, refl)))))))
 
-  pub bare_starts : Reads BareState Bare GoodBare RestBare (SpellsBare d) (bare_start d) None
+  pub bare_starts : Reads BareState Bare GoodBare ResidualBare (SpellsBare d) (bare_start d) None
   bare_starts = let c = is_rfc9651 d in reads_iff texts_both
       (reads_either (reads_into InNumber (λ s g. g) (λ s t v. same) number_starts)
       (reads_either
-      (reads_seen {GoodS = AnyState} InText Text (λ s g. tt) (λ s t v. same)
+      (reads_mapped {GoodS = AnyState} InText Text (λ s g. tt) (λ s t v. same)
       (reads_iff text_both (reads_after 34 (Inside []) tt)))
       (reads_either
-      (reads_seen InToken Token (λ s g. tt) (λ s t v. same)
-      (word_starts is_token_start is_token_rest))
+      (reads_mapped InToken Token (λ s g. tt) (λ s t v. same)
+      (word_starts is_token_start is_in_token))
       (reads_either
-      (reads_seen {GoodS = AnyState} InBoolean Boolean (λ s g. tt) (λ s t v. same)
-      (reads_iff boolean_both (reads_after 63 Asked tt)))
+      (reads_mapped {GoodS = AnyState} InBoolean Boolean (λ s g. tt) (λ s t v. same)
+      (reads_iff boolean_both (reads_after 63 QuestionMark tt)))
       (reads_either
       (reads_where c
-      (reads_seen InDate Date (λ s g. g) (λ s t v. same) (reads_after 64 Sign tt)))
+      (reads_mapped InDate Date (λ s g. g) (λ s t v. same) (reads_after 64 Sign tt)))
       (reads_either
-      (reads_seen InBlob Blob (λ s g. g) (λ s t v. same)
+      (reads_mapped InBlob Blob (λ s g. g) (λ s t v. same)
       (reads_iff blob_both (reads_after 58 (Group [] H0) tt)))
       (reads_where c
-      (reads_seen InShown Shown (λ s g. g) (λ s t v. same)
+      (reads_mapped InShown Shown (λ s g. g) (λ s t v. same)
       (reads_iff shown_both (reads_after 37 Quote tt))))
       (blob_apart c) (λ v w. λ e. absurd cc))
       (date_apart c) (λ v w. λ e. absurd cc))

@@ -7,7 +7,7 @@ use Rattle.sf_value.specs.Grammar.Words.{Every, allow}
 use Rattle.sf_value.specs.Grammar.ByteSequences.{letter, unpadded, Pads, Sextets}
 use Rattle.sf_parse.specs.Machine.Language.{Reads, Live}
 use Rattle.sf_parse.specs.Machine.Blobs.{sextet, Held, H0, H1, H2, H3, letters, is_last, last_bytes}
-use Rattle.sf_parse.specs.Machine.Blobs.{lacking, BlobState, Group, Padded, Ended, RestBlob}
+use Rattle.sf_parse.specs.Machine.Blobs.{lacking, BlobState, Group, Padded, Ended, ResidualBlob}
 use Rattle.sf_parse.specs.Machine.Blobs.{GoodBlob, grown, pad_step, grow_step, blob_step}
 use Rattle.sf_parse.specs.Machine.Blobs.{blob_finish}
 use Rattle.sf_value.proofs.Words.{allow_cases, otherwise_cases}
@@ -18,7 +18,7 @@ use Rattle.sf_parse.proofs.Quads.{quad, quad_from, quad_gives}
 
 -- the end
 pads_taken : (bytes : List ℕ) (n b : ℕ) (u v : List ℕ) → Pads n (b ∷ u) → v ≡ bytes
-    → (s : BlobState) × (pad_step bytes n b ≡ Some s) × RestBlob s u v
+    → (s : BlobState) × (pad_step bytes n b ≡ Some s) × ResidualBlob s u v
 pads_taken bytes n b u v (zero, h, e) i = (
   Ended bytes,
   grind arith,
@@ -38,13 +38,13 @@ pads_taken bytes n b u v (suc m, h, e) i =
     pad_go bytes n b h e = grind arith
 
 pads_gives : (bytes : List ℕ) (n b : ℕ) (u v : List ℕ) (s : BlobState) → pad_step bytes n b ≡ Some s
-    → RestBlob s u v → Pads n (b ∷ u) × (v ≡ bytes)
+    → ResidualBlob s u v → Pads n (b ∷ u) × (v ≡ bytes)
 pads_gives bytes n b u v s e h = ⊎_elim
     (λ k. let c = allow_cases (b == 58) (Ended bytes) s k in
-    let r = subst (λ y. RestBlob y u v) c.1 h in
+    let r = subst (λ y. ResidualBlob y u v) c.1 h in
     ((0, omega arith, ap₂ (λ x y. x ∷ y) (eqb-true b 58 c.0) r.0), r.1))
     (λ k. let c = allow_cases (b == 61 && nat_lt 0 n) (Padded bytes (n - 1)) s k.1 in
-    let r = subst (λ y. RestBlob y u v) c.1 h in
+    let r = subst (λ y. ResidualBlob y u v) c.1 h in
     let t = both_tests b n c.0 in
     ((suc r.0.0, room r.0.0 n r.0.1 t.1, ap₂ (λ x y. x ∷ y) t.0 r.0.2), r.1))
     (otherwise_cases (allow (b == 58) (Ended bytes))
@@ -64,10 +64,10 @@ IsLast h s t = (is_last h ≡ true) × (s ≡ last_bytes h) × Pads (lacking h) 
 last : (h : Held) (b : ℕ) (u s : List ℕ) → GoodBlob (Group [] h) → sextet b ≡ None
     → Sextets (letters h ++ b ∷ u) s → IsLast h s (b ∷ u)
 unfolding IsLast
-last H0 b u [] g n (low, back, lt, e, f, p) = (refl, refl, subst (Pads 0) (sym e) p)
+last H0 b u [] g n (low, suffix, lt, e, f, p) = (refl, refl, subst (Pads 0) (sym e) p)
 last H0 b u (a ∷ []) g n (
   low,
-  back,
+  suffix,
   lt,
   e,
   f,
@@ -77,7 +77,7 @@ last H0 b u (a ∷ []) g n (
     e') n)
 last H0 b u (a ∷ c ∷ []) g n (
   low,
-  back,
+  suffix,
   lt,
   e,
   f,
@@ -87,7 +87,7 @@ last H0 b u (a ∷ c ∷ []) g n (
     e') n)
 last H0 b u (a ∷ c ∷ d ∷ s) g n (
   low,
-  back,
+  suffix,
   lt,
   e,
   f,
@@ -97,7 +97,7 @@ last H0 b u (a ∷ c ∷ d ∷ s) g n (
     e') n)
 last (H1 x) b u [] g n (
   low,
-  back,
+  suffix,
   lt,
   e,
   f,
@@ -105,7 +105,7 @@ last (H1 x) b u [] g n (
 ) = absurd (pads_letter 0 x (b ∷ u) g (subst (Pads 0) (sym e) p))
 last (H1 x) b u (a ∷ []) g n (
   low,
-  back,
+  suffix,
   lt,
   e,
   f,
@@ -116,7 +116,7 @@ last (H1 x) b u (a ∷ []) g n (
     e') n)
 last (H1 x) b u (a ∷ c ∷ []) g n (
   low,
-  back,
+  suffix,
   lt,
   e,
   f,
@@ -128,7 +128,7 @@ last (H1 x) b u (a ∷ c ∷ []) g n (
     e') n)
 last (H1 x) b u (a ∷ c ∷ d ∷ s) g n (
   low,
-  back,
+  suffix,
   lt,
   e,
   f,
@@ -140,22 +140,22 @@ last (H1 x) b u (a ∷ c ∷ d ∷ s) g n (
     e') n)
 last (H2 x y) b u [] g n (
   low,
-  back,
+  suffix,
   lt,
   e,
   f,
   p,
 ) = absurd (pads_letter 0 x (letter y ∷ b ∷ u) g.0 (subst (Pads 0) (sym e) p))
-last (H2 x y) b u (a ∷ []) g n (low, back, lt, e, f, p) =
+last (H2 x y) b u (a ∷ []) g n (low, suffix, lt, e, f, p) =
     let e1 : letter (a / 4) ≡ letter x = cc in
     let e2 : letter (a % 4 * 16 + low) ≡ letter y = cc in
-    let e3 : back ≡ b ∷ u = cc in
+    let e3 : suffix ≡ b ∷ u = cc in
     let k = one_byte a low x y lt (letter_same (a / 4) x (first_small a (byte_small a f.0)) g.0 e1)
     (letter_same (a % 4 * 16 + low) y (alone_small a low lt) g.1 e2) in
     (refl, ap (λ y. y ∷ []) k, subst (Pads 2) e3 p)
 last (H2 x y) b u (a ∷ c ∷ []) g n (
   low,
-  back,
+  suffix,
   lt,
   e,
   f,
@@ -166,7 +166,7 @@ last (H2 x y) b u (a ∷ c ∷ []) g n (
     e') n)
 last (H2 x y) b u (a ∷ c ∷ d ∷ s) g n (
   low,
-  back,
+  suffix,
   lt,
   e,
   f,
@@ -178,7 +178,7 @@ last (H2 x y) b u (a ∷ c ∷ d ∷ s) g n (
     e') n)
 last (H3 x y z) b u [] g n (
   low,
-  back,
+  suffix,
   lt,
   e,
   f,
@@ -186,19 +186,19 @@ last (H3 x y z) b u [] g n (
 ) = absurd (pads_letter 0 x (letter y ∷ letter z ∷ b ∷ u) g.0 (subst (Pads 0) (sym e) p))
 last (H3 x y z) b u (a ∷ []) g n (
   low,
-  back,
+  suffix,
   lt,
   e,
   f,
   p,
-) = absurd (pads_letter 2 z (b ∷ u) g.2 (subst (Pads 2) (let e' : back
+) = absurd (pads_letter 2 z (b ∷ u) g.2 (subst (Pads 2) (let e' : suffix
     ≡ letter z ∷ b ∷ u = cc in
     e') p))
-last (H3 x y z) b u (a ∷ c ∷ []) g n (low, back, lt, e, f, p) =
+last (H3 x y z) b u (a ∷ c ∷ []) g n (low, suffix, lt, e, f, p) =
     let e1 : letter (a / 4) ≡ letter x = cc in
     let e2 : letter (a % 4 * 16 + c / 16) ≡ letter y = cc in
     let e3 : letter (c % 16 * 4 + low) ≡ letter z = cc in
-    let e4 : back ≡ b ∷ u = cc in
+    let e4 : suffix ≡ b ∷ u = cc in
     let small = byte_small c f.1.0 in
     let k = two_bytes a c low x y z lt small
     (letter_same (a / 4) x (first_small a (byte_small a f.0)) g.0 e1)
@@ -207,7 +207,7 @@ last (H3 x y z) b u (a ∷ c ∷ []) g n (low, back, lt, e, f, p) =
     (refl, ap₂ (λ p q. p ∷ q ∷ []) k.0 k.1, subst (Pads 1) e4 p)
 last (H3 x y z) b u (a ∷ c ∷ d ∷ s) g n (
   low,
-  back,
+  suffix,
   lt,
   e,
   f,
@@ -216,13 +216,13 @@ last (H3 x y z) b u (a ∷ c ∷ d ∷ s) g n (
     e') n)
 
 group_taken : (bytes : List ℕ) (h : Held) (b : ℕ) (u v : List ℕ) → GoodBlob (Group [] h)
-    → RestBlob (Group bytes h) (b ∷ u) v
-    → (t : BlobState) × (blob_step (Group bytes h) b ≡ Some t) × RestBlob t u v
+    → ResidualBlob (Group bytes h) (b ∷ u) v
+    → (t : BlobState) × (blob_step (Group bytes h) b ≡ Some t) × ResidualBlob t u v
 unfolding IsLast quad
 group_taken bytes h b u v g (s, sx, i) = go (sextet b) refl
   where
     more : (h : Held) (w : ℕ) → GoodBlob (Group [] h) → w < 64
-        → Sextets (letters h ++ letter w ∷ u) s → RestBlob (grown bytes h w) u v
+        → Sextets (letters h ++ letter w ∷ u) s → ResidualBlob (grown bytes h w) u v
     more H0 w g k sx = (s, sx, i)
     more (H1 x) w g k sx = (s, sx, i)
     more (H2 x y) w g k sx = (s, sx, i)
@@ -234,7 +234,7 @@ group_taken bytes h b u v g (s, sx, i) = go (sextet b) refl
     )
 
     go : (o : Option ℕ) → sextet b ≡ o
-        → (t : BlobState) × (blob_step (Group bytes h) b ≡ Some t) × RestBlob t u v
+        → (t : BlobState) × (blob_step (Group bytes h) b ≡ Some t) × ResidualBlob t u v
     go (Some w) e = let r = read_letter b w e in (
       grown bytes h w,
       ap (λ o. grow_step bytes h o b) e,
@@ -293,13 +293,13 @@ last_gives (H3 x y z) t g e p =
     )
 
 group_gives : (bytes : List ℕ) (h : Held) (b : ℕ) (u v : List ℕ) (t : BlobState)
-    → GoodBlob (Group [] h) → blob_step (Group bytes h) b ≡ Some t → RestBlob t u v
-    → RestBlob (Group bytes h) (b ∷ u) v
+    → GoodBlob (Group [] h) → blob_step (Group bytes h) b ≡ Some t → ResidualBlob t u v
+    → ResidualBlob (Group bytes h) (b ∷ u) v
 unfolding quad
 group_gives bytes h b u v t g n r = go (sextet b) refl
   where
-    more : (h : Held) (w : ℕ) → GoodBlob (Group [] h) → w < 64 → RestBlob (grown bytes h w) u v
-        → RestBlob (Group bytes h) (letter w ∷ u) v
+    more : (h : Held) (w : ℕ) → GoodBlob (Group [] h) → w < 64 → ResidualBlob (grown bytes h w) u v
+        → ResidualBlob (Group bytes h) (letter w ∷ u) v
     more H0 w g k r = r
     more (H1 x) w g k r = r
     more (H2 x y) w g k r = r
@@ -312,19 +312,19 @@ group_gives bytes h b u v t g n r = go (sextet b) refl
 
     ended : (l : Bool) → is_last h ≡ l
         → (if l then pad_step (bytes ++ last_bytes h) (lacking h) b else None) ≡ Some t
-        → RestBlob (Group bytes h) (b ∷ u) v
+        → ResidualBlob (Group bytes h) (b ∷ u) v
     ended true e m = let p = pads_gives (bytes ++ last_bytes h) (lacking h) b u v t m r in
         (last_bytes h, last_gives h (b ∷ u) g e p.0, p.1)
     ended false e m = absurd cc
 
-    go : (o : Option ℕ) → sextet b ≡ o → RestBlob (Group bytes h) (b ∷ u) v
+    go : (o : Option ℕ) → sextet b ≡ o → ResidualBlob (Group bytes h) (b ∷ u) v
     go (Some w) e =
         let k = read_letter b w e in
         let n' : grow_step bytes h (Some w) b ≡ Some t = ap (λ o. grow_step bytes h o b) (sym e)
         ∙ n in
         let c : t ≡ grown bytes h w = cc (n') in
-        subst (λ y. RestBlob (Group bytes h) (y ∷ u) v) k.0
-        (more h w g k.1 (subst (λ y. RestBlob y u v) c r))
+        subst (λ y. ResidualBlob (Group bytes h) (y ∷ u) v) k.0
+        (more h w g k.1 (subst (λ y. ResidualBlob y u v) c r))
     go None e = ended (is_last h) refl (ap (λ o. grow_step bytes h o b) (sym e) ∙ n)
 
 grown_good : (bytes : List ℕ) (h : Held) (w : ℕ) → GoodBlob (Group [] h) → w < 64
@@ -379,8 +379,8 @@ letters_pass (H3 x y z) g = (
 
 not_whole : (h : Held) (s : List ℕ) → GoodBlob (Group [] h) → Sextets (letters h ++ []) s → ⊥
 unfolding is_letter
-not_whole h s g (low, back, lt, e, f, (m, k, p)) =
-    let a = every_back is_letter (unpadded low s) back
+not_whole h s g (low, suffix, lt, e, f, (m, k, p)) =
+    let a = every_back is_letter (unpadded low s) suffix
     (subst (Every is_letter) (sym (append-nil (letters h))
     ∙ e) (letters_pass h g)) in
     let b = every_back is_letter (replicate m 61) (58 ∷ []) (subst (Every is_letter) p a) in
@@ -393,7 +393,7 @@ good_group bytes (H2 x y) g = g
 good_group bytes (H3 x y z) g = g
 
 pub blob_reads : (s : BlobState) → GoodBlob s
-    → Reads BlobState (List ℕ) GoodBlob RestBlob (RestBlob s) (blob_step s) (blob_finish s)
+    → Reads BlobState (List ℕ) GoodBlob ResidualBlob (ResidualBlob s) (blob_step s) (blob_finish s)
 blob_reads (Group bytes h) g = let g' = good_group bytes h g in record {
   taken = λ b u v r. group_taken bytes h b u v g' r;
   gives = λ b u v t n r. group_gives bytes h b u v t g' n r;
@@ -423,7 +423,7 @@ blob_reads (Ended bytes) g = record {
 colon : (s : List ℕ) → Sextets (58 ∷ []) []
 colon s = (0, 58 ∷ [], omega arith, refl, tt, (0, omega arith, refl))
 
-pub blob_lives : (s : BlobState) → GoodBlob s → Live (List ℕ) (RestBlob s)
+pub blob_lives : (s : BlobState) → GoodBlob s → Live (List ℕ) (ResidualBlob s)
 unfolding quad letter
 blob_lives (Group bytes H0) g = record {
   text = 58 ∷ [];

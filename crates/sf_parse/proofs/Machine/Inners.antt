@@ -1,9 +1,10 @@
 -- Inner lists and members are read by their machines.
+use Rattle.std.specs.Option.{option_and_then, option_map, option_or}
 use Rattle.std.proofs.Common.{◌≡◌, ℕ, true, ◌==◌, List, [], ◌∷◌, ◌++◌, Option, Some, None, ⊎_elim}
 use Rattle.std.proofs.Common.{refl, sym, ap, ◌∙◌, subst, ◌↔◌, inl, inr, append-nil, append_assoc}
 use Rattle.std.proofs.Common.{eqb-true, arith}
 use Rattle.sf_value.specs.declared.value.Member.TheVariants as member
-use Rattle.sf_value.specs.Grammar.Words.{allow, otherwise}
+use Rattle.sf_value.specs.Grammar.Words.{allow}
 use Rattle.sf_value.specs.Grammar.Classes.{is_sp}
 use Rattle.sf_value.specs.Grammar.Items.{SpellsItem}
 use Rattle.sf_value.specs.Grammar.InnerLists.{inner, SpellsInner, SpellsMember}
@@ -12,23 +13,25 @@ use Rattle.sf_value.specs.declared.dialect.Dialect.TheVariants.{Rfc8941, Rfc9651
 use Rattle.sf_value.specs.declared.value.Item.{Item}
 use Rattle.sf_value.specs.declared.value.Inner.{Inner}
 use Rattle.sf_value.specs.declared.value.Member.{Member}
-use Rattle.sf_parse.specs.Machine.Language.{Then, Seen, Either, After, Past, and_then, seen, Reads}
+use Rattle.sf_parse.specs.Machine.Language.{Then, Mapped, Either, After, Past, Reads}
 use Rattle.sf_parse.specs.Machine.Language.{Live, is_after}
 use Rattle.sf_parse.specs.Machine.Params.{Between, params_step, params_finish}
 use Rattle.sf_parse.specs.Machine.Items.{ItemState}
 use Rattle.sf_parse.specs.Machine.Items.{item_start, item_step, item_finish}
-use Rattle.sf_parse.specs.Machine.Inners.{InnerState, Room, InItem, Closing, MoreItems, RestInner}
+use Rattle.sf_parse.specs.Machine.Inners.{InnerState, Room, InItem, Closing, MoreItems}
+use Rattle.sf_parse.specs.Machine.Inners.{ResidualInner}
 use Rattle.sf_parse.specs.Machine.Inners.{GoodInner, behind_step, inner_step, inner_finish}
 use Rattle.sf_parse.specs.Machine.Members.{MemberState}
 use Rattle.sf_parse.specs.Machine.Members.{InOne, InMany}
-use Rattle.sf_parse.proofs.Machine.Language.{reads_iff, reads_seen, reads_then, reads_first, reads_either}
-use Rattle.sf_parse.proofs.Machine.Language.{reads_after, reads_past, seen_cases}
+use Rattle.sf_parse.proofs.Machine.Language.{reads_iff, reads_mapped, reads_then, reads_first}
+use Rattle.sf_parse.proofs.Machine.Language.{reads_either}
+use Rattle.sf_parse.proofs.Machine.Language.{reads_after, reads_past, map_cases}
 use Rattle.sf_value.proofs.Words.{allow_cases, otherwise_cases}
 use Rattle.sf_parse.proofs.Machine.Bares.{same}
 use Rattle.sf_parse.proofs.Machine.Params.{params_reads, params_lives, params_apart, no_raw}
 use Rattle.sf_parse.proofs.Machine.Items.{no_item, item_not, item_reads, item_starts, item_lives}
 use Rattle.sf_parse.proofs.Machine.Items.{item_apart}
-use Rattle.sf_parse.specs.Machine.Members.{RestMember, GoodMember, member_start, member_step}
+use Rattle.sf_parse.specs.Machine.Members.{ResidualMember, GoodMember, member_start, member_step}
 use Rattle.sf_parse.specs.Machine.Members.{member_finish}
 
 behind_after : (is : List Item) (b : ℕ) (t : InnerState) → behind_step is b ≡ Some t
@@ -45,10 +48,10 @@ no_member Rfc9651 = (refl, refl)
 
 module _ (d : Dialect) where
   abbrev ReadsInner : (List ℕ → Inner → Type 0) → (ℕ → Option InnerState) → Option Inner → Type 0
-  ReadsInner = Reads InnerState Inner GoodInner (RestInner d)
+  ReadsInner = Reads InnerState Inner GoodInner (ResidualInner d)
 
   abbrev Closes : List Item → List ℕ → Inner → Type 0
-  Closes is = RestInner d (Closing is (Between []))
+  Closes is = ResidualInner d (Closing is (Between []))
 
   -- behind the bracket or spaces
   abbrev Opens : List Item → List ℕ → Inner → Type 0
@@ -56,11 +59,11 @@ module _ (d : Dialect) where
       ++ i ∷ []))))
 
   opens_to : (is : List Item) (u : List ℕ) (v : Inner) → Opens is u v → MoreItems d 0 is u v
-  opens_to is u v (gap, rest, e, f, inl (back, e2, (ps, k, c))) = (
+  opens_to is u v (gap, rest, e, f, inl (suffix, e2, (ps, k, c))) = (
     [],
     ps,
     gap,
-    back,
+    suffix,
     e ∙ ap (λ y. gap ++ y) e2,
     f,
     k,
@@ -72,31 +75,31 @@ module _ (d : Dialect) where
     rest,
     e,
     f,
-    inr (i, front, back, e2, s, (more, ps, body, b2, e3, r, k, c)),
+    inr (i, prefix, suffix, e2, s, (more, ps, body, b2, e3, r, k, c)),
   ) =
-      let joined : gap ++ (front ++ (body ++ 41 ∷ b2)) ≡ (gap ++ (front ++ body))
+      let joined : gap ++ (prefix ++ (body ++ 41 ∷ b2)) ≡ (gap ++ (prefix ++ body))
       ++ 41 ∷ b2 = simp append_assoc in (
         i ∷ more,
         ps,
-        gap ++ (front ++ body),
+        gap ++ (prefix ++ body),
         b2,
-        (let e' : u ≡ gap ++ (front ++ (body ++ 41 ∷ b2)) = cc in
+        (let e' : u ≡ gap ++ (prefix ++ (body ++ 41 ∷ b2)) = cc in
             e')
             ∙ joined,
-        (gap, front, body, refl, f, omega arith, s, r),
+        (gap, prefix, body, refl, f, omega arith, s, r),
         k,
         c
             ∙ ap (λ y. inner y ps) (append_assoc is (i ∷ []) more),
       )
 
   opens_from : (is : List Item) (u : List ℕ) (v : Inner) → MoreItems d 0 is u v → Opens is u v
-  opens_from is u v ([], ps, body, back, e, f, k, c) = (
+  opens_from is u v ([], ps, body, suffix, e, f, k, c) = (
     body,
-    41 ∷ back,
+    41 ∷ suffix,
     e,
     f,
     inl (
-      back,
+      suffix,
       refl,
       (
         ps,
@@ -106,24 +109,24 @@ module _ (d : Dialect) where
       ),
     ),
   )
-  opens_from is u v (i ∷ more, ps, body, back, e, (gap, front, b2, e1, f, z, s, r), k, c) =
-      let joined : (gap ++ (front ++ b2)) ++ 41 ∷ back ≡ gap
-      ++ (front ++ (b2 ++ 41 ∷ back)) = simp append_assoc in (
+  opens_from is u v (i ∷ more, ps, body, suffix, e, (gap, prefix, b2, e1, f, z, s, r), k, c) =
+      let joined : (gap ++ (prefix ++ b2)) ++ 41 ∷ suffix ≡ gap
+      ++ (prefix ++ (b2 ++ 41 ∷ suffix)) = simp append_assoc in (
         gap,
-        front ++ (b2 ++ 41 ∷ back),
-        e ∙ ap (λ y. y ++ 41 ∷ back) e1 ∙ joined,
+        prefix ++ (b2 ++ 41 ∷ suffix),
+        e ∙ ap (λ y. y ++ 41 ∷ suffix) e1 ∙ joined,
         f,
         inr (
           i,
-          front,
-          b2 ++ 41 ∷ back,
+          prefix,
+          b2 ++ 41 ∷ suffix,
           refl,
           s,
           (
             more,
             ps,
             b2,
-            back,
+            suffix,
             refl,
             r,
             k,
@@ -138,11 +141,11 @@ module _ (d : Dialect) where
   Behind is = Either (After 32 (MoreItems d 0 is)) (After 41 (Closes is))
 
   behind_to : (is : List Item) (u : List ℕ) (v : Inner) → Behind is u v → MoreItems d 1 is u v
-  behind_to is u v (inl (t, e, ([], ps, body, back, e1, f, k, c))) = (
+  behind_to is u v (inl (t, e, ([], ps, body, suffix, e1, f, k, c))) = (
     [],
     ps,
     32 ∷ body,
-    back,
+    suffix,
     e
         ∙ ap (λ y. 32 ∷ y) e1,
     (refl, f),
@@ -152,23 +155,23 @@ module _ (d : Dialect) where
   behind_to is u v (inl (
     t,
     e,
-    (i ∷ more, ps, body, back, e1, (gap, front, b2, e2, f, z, s, r), k, c),
+    (i ∷ more, ps, body, suffix, e1, (gap, prefix, b2, e2, f, z, s, r), k, c),
   )) = (
     i ∷ more,
     ps,
     32 ∷ body,
-    back,
+    suffix,
     e
         ∙ ap (λ y. 32 ∷ y) e1,
-    (32 ∷ gap, front, b2, ap (λ y. 32 ∷ y) e2, (refl, f), omega arith, s, r),
+    (32 ∷ gap, prefix, b2, ap (λ y. 32 ∷ y) e2, (refl, f), omega arith, s, r),
     k,
     c,
   )
-  behind_to is u v (inr (back, e, (ps, k, c))) = (
+  behind_to is u v (inr (suffix, e, (ps, k, c))) = (
     [],
     ps,
     [],
-    back,
+    suffix,
     e,
     tt,
     k,
@@ -177,8 +180,8 @@ module _ (d : Dialect) where
   )
 
   behind_from : (is : List Item) (u : List ℕ) (v : Inner) → MoreItems d 1 is u v → Behind is u v
-  behind_from is u v ([], ps, [], back, e, f, k, c) = inr (
-    back,
+  behind_from is u v ([], ps, [], suffix, e, f, k, c) = inr (
+    suffix,
     e,
     (
       ps,
@@ -187,34 +190,34 @@ module _ (d : Dialect) where
           ∙ ap (λ y. inner y ps) (append-nil is),
     ),
   )
-  behind_from is u v ([], ps, b ∷ body, back, e, f, k, c) = inl (
-    body ++ 41 ∷ back,
+  behind_from is u v ([], ps, b ∷ body, suffix, e, f, k, c) = inl (
+    body ++ 41 ∷ suffix,
     e
-        ∙ ap (λ y. y ∷ (body ++ 41 ∷ back)) (eqb-true b 32 f.0),
-    ([], ps, body, back, refl, f.1, k, c),
+        ∙ ap (λ y. y ∷ (body ++ 41 ∷ suffix)) (eqb-true b 32 f.0),
+    ([], ps, body, suffix, refl, f.1, k, c),
   )
   behind_from is u v (
     i ∷ more,
     ps,
     body,
-    back,
+    suffix,
     e,
-    ([], front, b2, e2, f, z, s, r),
+    ([], prefix, b2, e2, f, z, s, r),
     k,
     c,
   ) = absurd (omega arith)
-  behind_from is u v (i ∷ more, ps, body, back, e, (b ∷ gap, front, b2, e2, f, z, s, r), k, c) =
+  behind_from is u v (i ∷ more, ps, body, suffix, e, (b ∷ gap, prefix, b2, e2, f, z, s, r), k, c) =
       inl (
-        (gap ++ (front ++ b2)) ++ 41 ∷ back,
-        e ∙ ap (λ y. y ++ 41 ∷ back) e2
-            ∙ ap (λ y. y ∷ ((gap ++ (front ++ b2)) ++ 41 ∷ back)) (eqb-true b 32 f.0),
+        (gap ++ (prefix ++ b2)) ++ 41 ∷ suffix,
+        e ∙ ap (λ y. y ++ 41 ∷ suffix) e2
+            ∙ ap (λ y. y ∷ ((gap ++ (prefix ++ b2)) ++ 41 ∷ suffix)) (eqb-true b 32 f.0),
         (
           i ∷ more,
           ps,
-          gap ++ (front ++ b2),
-          back,
+          gap ++ (prefix ++ b2),
+          suffix,
           refl,
-          (gap, front, b2, refl, f.1, omega arith, s, r),
+          (gap, prefix, b2, refl, f.1, omega arith, s, r),
           k,
           c,
         ),
@@ -235,7 +238,7 @@ module _ (d : Dialect) where
           omega arith
 
   pub inner_reads : (s : InnerState) → GoodInner s
-      → ReadsInner (RestInner d s) (inner_step d s) (inner_finish s)
+      → ReadsInner (ResidualInner d s) (inner_step d s) (inner_finish s)
   inner_reads (Room is) g = reads_iff (λ u v. (opens_to is u v, opens_from is u v))
       (reads_past is_sp (Room is) tt (λ u v. (opens_to is u v, opens_from is u v)) space_apart
       (reads_either (reads_after 41 (Closing is (Between [])) refl)
@@ -243,8 +246,8 @@ module _ (d : Dialect) where
       (λ v w. λ e. absurd cc)))
     where
       space_apart : (b : ℕ) (t : InnerState) → is_sp b ≡ true
-          → otherwise (allow (b == 41) (Closing is (Between [])))
-          (seen (InItem is) (item_start d b))
+          → option_or (allow (b == 41) (Closing is (Between [])))
+          (option_map (InItem is) (item_start d b))
           ≡ Some t
           → ⊥
       space_apart b t e n =
@@ -252,37 +255,37 @@ module _ (d : Dialect) where
           ⊎_elim
           (λ k. let y = eqb-true b 41 (allow_cases (b == 41) (Closing is (Between [])) t k).0 in
           omega arith)
-          (λ k. let c = seen_cases (InItem is) (item_start d b) t k.1 in
+          (λ k. let c = map_cases (InItem is) (item_start d b) t k.1 in
           item_not d b 32 c.0 x (no_item d).0 c.1)
           (otherwise_cases (allow (b == 41) (Closing is (Between [])))
-          (seen (InItem is) (item_start d b)) t n)
+          (option_map (InItem is) (item_start d b)) t n)
 
       bracket_apart : (b : ℕ) (s t : InnerState)
           → allow (b == 41) (Closing is (Between [])) ≡ Some s
-          → seen (InItem is) (item_start d b) ≡ Some t → ⊥
+          → option_map (InItem is) (item_start d b) ≡ Some t → ⊥
       bracket_apart b s t e n =
           let x = eqb-true b 41 (allow_cases (b == 41) (Closing is (Between [])) s e).0 in
-          let c = seen_cases (InItem is) (item_start d b) t n in
+          let c = map_cases (InItem is) (item_start d b) t n in
           item_not d b 41 c.0 x (no_item d).1 c.1
   inner_reads (InItem is s) g = ends_none
       (reads_then (InItem is) (λ s g. g) (λ s t v. same) (item_reads d s g) (λ i e. behind_reads (is
       ++ i ∷ [])) apart)
     where
-      none_after : (o : Option Item) → and_then {Y = Inner} o (λ i. None) ≡ None
+      none_after : (o : Option Item) → option_and_then {U = Inner} (λ i. None) o ≡ None
       none_after None = refl
       none_after (Some i) = refl
 
       ends_none : {L : List ℕ → Inner → Type 0} {next : ℕ → Option InnerState}
-          → ReadsInner L next (and_then (item_finish s) (λ i. None)) → ReadsInner L next None
+          → ReadsInner L next (option_and_then (λ i. None) (item_finish s)) → ReadsInner L next None
       ends_none {L = L} {next = next} r = subst (ReadsInner L next) (none_after (item_finish s)) r
 
       apart : (i : Item) (b : ℕ) (s' : ItemState) (t : InnerState) → item_finish s ≡ Some i
           → item_step d s b ≡ Some s' → behind_step (is ++ i ∷ []) b ≡ Some t → ⊥
       apart i b s' t e n m = item_apart d s i b s' e n (behind_after (is ++ i ∷ []) b t m)
-  inner_reads (Closing is s) g = reads_seen (Closing is) (inner is) (λ s g. g) (λ s t v. same)
+  inner_reads (Closing is s) g = reads_mapped (Closing is) (inner is) (λ s g. g) (λ s t v. same)
       (params_reads d s g)
 
-  pub inner_lives : (s : InnerState) → GoodInner s → Live Inner (RestInner d s)
+  pub inner_lives : (s : InnerState) → GoodInner s → Live Inner (ResidualInner d s)
   inner_lives (Room is) g = record {
     text = 41 ∷ [];
     value = inner (is ++ []) [];
@@ -316,16 +319,17 @@ module _ (d : Dialect) where
 
   -- members
   pub member_reads : (s : MemberState) → GoodMember s
-      → Reads MemberState Member GoodMember (RestMember d) (RestMember d s) (member_step d s)
+      → Reads MemberState Member GoodMember (ResidualMember d) (ResidualMember d s)
+      (member_step d s)
       (member_finish s)
-  member_reads (InOne s) g = reads_seen InOne member.Item (λ s g. g) (λ s t v. same)
+  member_reads (InOne s) g = reads_mapped InOne member.Item (λ s g. g) (λ s t v. same)
       (item_reads d s g)
-  member_reads (InMany s) g = reads_seen InMany member.Inner (λ s g. g) (λ s t v. same)
+  member_reads (InMany s) g = reads_mapped InMany member.Inner (λ s g. g) (λ s t v. same)
       (inner_reads s g)
 
   inner_both : (t : List ℕ) (v : Inner) → After 40 (MoreItems d 0 []) t v ↔ SpellsInner d t v
   inner_both t v = (
-    λ (back, e, (more, ps, body, b2, e2, s, k, c)). subst (λ y. SpellsInner d t y) (sym c) (
+    λ (suffix, e, (more, ps, body, b2, e2, s, k, c)). subst (λ y. SpellsInner d t y) (sym c) (
       body,
       b2,
       e
@@ -333,16 +337,16 @@ module _ (d : Dialect) where
       s,
       k,
     ),
-    λ (body, back, e, s, k). (
-      body ++ 41 ∷ back,
+    λ (body, suffix, e, s, k). (
+      body ++ 41 ∷ suffix,
       e,
-      (v.items, v.params, body, back, refl, s, k, refl),
+      (v.items, v.params, body, suffix, refl, s, k, refl),
     ),
   )
 
   member_both : (t : List ℕ) (v : Member)
-      → Either (Seen member.Item (SpellsItem d))
-      (Seen member.Inner (SpellsInner d)) t v ↔ SpellsMember d t v
+      → Either (Mapped member.Item (SpellsItem d))
+      (Mapped member.Inner (SpellsInner d)) t v ↔ SpellsMember d t v
   member_both t v = (
     ⊎_elim (λ (i, s, c). subst (λ y. SpellsMember d t y) (sym c) s) (λ (
       l,
@@ -353,27 +357,27 @@ module _ (d : Dialect) where
   )
     where
       from : (v : Member) → SpellsMember d t v
-          → Either (Seen member.Item (SpellsItem d)) (Seen member.Inner (SpellsInner d)) t v
+          → Either (Mapped member.Item (SpellsItem d)) (Mapped member.Inner (SpellsInner d)) t v
       from (member.Item i) s = inl (i, s, refl)
       from (member.Inner l) s = inr (l, s, refl)
 
-  pub member_starts : Reads MemberState Member GoodMember (RestMember d) (SpellsMember d)
+  pub member_starts : Reads MemberState Member GoodMember (ResidualMember d) (SpellsMember d)
       (member_start d) None
   member_starts = reads_iff member_both (reads_either
-      (reads_seen InOne member.Item (λ s g. g) (λ s t v. same) (item_starts d))
-      (reads_seen InMany member.Inner (λ s g. g) (λ s t v. same)
-      (reads_iff inner_both (reads_after {Rest = RestInner d} 40 (Room []) tt)))
+      (reads_mapped InOne member.Item (λ s g. g) (λ s t v. same) (item_starts d))
+      (reads_mapped InMany member.Inner (λ s g. g) (λ s t v. same)
+      (reads_iff inner_both (reads_after {Residual = ResidualInner d} 40 (Room []) tt)))
       apart (λ v w. λ e. absurd cc))
     where
-      apart : (b : ℕ) (s t : MemberState) → seen InOne (item_start d b) ≡ Some s
-          → seen InMany (allow (b == 40) (Room [])) ≡ Some t → ⊥
+      apart : (b : ℕ) (s t : MemberState) → option_map InOne (item_start d b) ≡ Some s
+          → option_map InMany (allow (b == 40) (Room [])) ≡ Some t → ⊥
       apart b s t e n =
-          let c = seen_cases InMany (allow (b == 40) (Room [])) t n in
+          let c = map_cases InMany (allow (b == 40) (Room [])) t n in
           let x = eqb-true b 40 (allow_cases (b == 40) (Room []) c.0 c.1).0 in
-          let k = seen_cases InOne (item_start d b) s e in
+          let k = map_cases InOne (item_start d b) s e in
           item_not d b 40 k.0 x (no_item d).2 k.1
 
-  pub member_lives : (s : MemberState) → GoodMember s → Live Member (RestMember d s)
+  pub member_lives : (s : MemberState) → GoodMember s → Live Member (ResidualMember d s)
   member_lives (InOne s) g = let l = item_lives d s g in
       record { text = l.text; value = member.Item l.value; whole = (l.value, l.whole, refl) }
   member_lives (InMany s) g = let l = inner_lives s g in
@@ -383,14 +387,14 @@ module _ (d : Dialect) where
   pub member_apart : (s : MemberState) (v : Member) (b : ℕ) (t : MemberState)
       → member_finish s ≡ Some v → member_step d s b ≡ Some t → is_after b ≡ true → ⊥
   member_apart (InOne s) v b t e n f =
-      let c = seen_cases member.Item (item_finish s) v e in
-      let k = seen_cases InOne (item_step d s b) t n in
+      let c = map_cases member.Item (item_finish s) v e in
+      let k = map_cases InOne (item_step d s b) t n in
       item_apart d s c.0 b k.0 c.1 k.1 f
   member_apart (InMany (Room is)) v b t e n f = cc
   member_apart (InMany (InItem is s)) v b t e n f = cc
   member_apart (InMany (Closing is s)) v b t e n f =
-      let c = seen_cases (inner is) (params_finish s) _
-      (seen_cases member.Inner (seen (inner is) (params_finish s)) v e).1 in
-      let k = seen_cases (Closing is) (params_step d s b) _
-      (seen_cases InMany (seen (Closing is) (params_step d s b)) t n).1 in
+      let c = map_cases (inner is) (params_finish s) _
+      (map_cases member.Inner (option_map (inner is) (params_finish s)) v e).1 in
+      let k = map_cases (Closing is) (params_step d s b) _
+      (map_cases InMany (option_map (Closing is) (params_step d s b)) t n).1 in
       params_apart d s c.0 b k.0 c.1 k.1 f

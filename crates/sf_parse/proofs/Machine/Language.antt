@@ -1,17 +1,19 @@
 -- The laws of the words in specs/Machine/Language.
+use Rattle.std.specs.Option.{option_and_then, option_map, option_or}
 use Rattle.std.proofs.Common.{◌≡◌, ℕ, Bool, true, false, ◌==◌, List, [], ◌∷◌, ◌++◌, Option, Some}
 use Rattle.std.proofs.Common.{None, ⊎_elim, refl, sym, ap, ◌∙◌, subst, ◌↔◌, ◌⊎◌, inl, inr, eqb-true}
 use Rattle.std.proofs.Common.{eq-eqb}
-use Rattle.sf_value.specs.Grammar.Words.{otherwise, allow, Every}
-use Rattle.sf_parse.specs.Machine.Language.{Then, Seen, Either, After, Nothing, Past, onward}
-use Rattle.sf_parse.specs.Machine.Language.{and_then, seen, Where, only, Reads}
+use Rattle.sf_value.specs.Grammar.Words.{allow, Every}
+use Rattle.sf_parse.specs.Machine.Language.{Then, Mapped, Either, After, Nothing, Past, onward}
+use Rattle.sf_parse.specs.Machine.Language.{Where, only, Reads}
 use Rattle.sf_value.proofs.Words.{allow_cases, otherwise_cases}
 
 -- A language that is the same text by text is read alike.
-pub reads_iff : {S V : Type 0} {Good : S → Type 0} {Rest : S → List ℕ → V → Type 0} {L M : List ℕ
+pub reads_iff : {S V : Type 0} {Good : S → Type 0} {Residual : S → List ℕ → V → Type 0}
+    {L M : List ℕ
     → V → Type 0} {next : ℕ → Option S} {end : Option V}
-    → ((t : List ℕ) (v : V) → L t v ↔ M t v) → Reads S V Good Rest L next end
-    → Reads S V Good Rest M next end
+    → ((t : List ℕ) (v : V) → L t v ↔ M t v) → Reads S V Good Residual L next end
+    → Reads S V Good Residual M next end
 reads_iff e r = record {
   taken = λ b u v m. r.taken b u v ((e (b ∷ u) v).1 m);
   gives = λ b u v s n h. (e (b ∷ u) v).0 (r.gives b u v s n h);
@@ -47,24 +49,24 @@ is_none None h = refl
 is_none (Some s) h = absurd (h s refl)
 
 pub and_then_cases : {X Y : Type 0} (o : Option X) (f : X → Option Y) (y : Y)
-    → and_then o f ≡ Some y → (x : X) × (o ≡ Some x) × (f x ≡ Some y)
+    → option_and_then f o ≡ Some y → (x : X) × (o ≡ Some x) × (f x ≡ Some y)
 and_then_cases (Some x) f y e = (x, refl, e)
 and_then_cases None f y e = absurd cc
 
--- A front read by A and a back read by B are read one after the other, where no byte that A goes on
--- with begins the back.
-module _ {S T X V : Type 0} {GoodS : S → Type 0} {GoodT : T → Type 0} {RestS : S → List ℕ → X
-    → Type 0} {RestT : T → List ℕ → V → Type 0} (into : S → T) {A : List ℕ → X → Type 0} {B : X
+-- A prefix read by A and a suffix read by B are read one after the other, where no byte that A goes
+-- on with begins the suffix.
+module _ {S T X V : Type 0} {GoodS : S → Type 0} {GoodT : T → Type 0} {ResidualS : S → List ℕ → X
+    → Type 0} {ResidualT : T → List ℕ → V → Type 0} (into : S → T) {A : List ℕ → X → Type 0} {B : X
     → List ℕ → V → Type 0} {nextA : ℕ → Option S} {endA : Option X} {nextB : X → ℕ
     → Option T} {endB : X → Option V} where
   pub reads_then : ((s : S) → GoodS s → GoodT (into s))
-      → ((s : S) (t : List ℕ) (v : V) → Then (RestS s) B t v ↔ RestT (into s) t v)
-      → Reads S X GoodS RestS A nextA endA
-      → ((x : X) → endA ≡ Some x → Reads T V GoodT RestT (B x) (nextB x) (endB x))
+      → ((s : S) (t : List ℕ) (v : V) → Then (ResidualS s) B t v ↔ ResidualT (into s) t v)
+      → Reads S X GoodS ResidualS A nextA endA
+      → ((x : X) → endA ≡ Some x → Reads T V GoodT ResidualT (B x) (nextB x) (endB x))
       → ((x : X) (b : ℕ) (s : S) (t : T) → endA ≡ Some x → nextA b ≡ Some s → nextB x b ≡ Some t
       → ⊥)
-      → Reads T V GoodT RestT (Then A B) (λ b. onward into (nextA b) endA (λ x. nextB x b))
-      (and_then endA endB)
+      → Reads T V GoodT ResidualT (Then A B) (λ b. onward into (nextA b) endA (λ x. nextB x b))
+      (option_and_then endB endA)
   reads_then good_into rest_into ra rb apart = record {
     taken = λ b u v h. first b u v h.0 h.1 h.2 h.3 h.4 h.5;
     gives = λ b u v t n h. given b u v t h
@@ -75,28 +77,29 @@ module _ {S T X V : Type 0} {GoodS : S → Type 0} {GoodT : T → Type 0} {RestS
         (c.0, [], [], refl, ra.ended c.0 c.1, (rb c.0 c.1).ended v c.2);
   }
     where
-      first : (b : ℕ) (u : List ℕ) (v : V) (x : X) (front back : List ℕ) → b ∷ u ≡ front ++ back
-          → A front x → B x back v
-          → (t : T) × (onward into (nextA b) endA (λ x. nextB x b) ≡ Some t) × RestT t u v
-      first b u v x [] back e a r =
+      first : (b : ℕ) (u : List ℕ) (v : V) (x : X) (prefix suffix : List ℕ) → b ∷ u ≡ prefix
+          ++ suffix
+          → A prefix x → B x suffix v
+          → (t : T) × (onward into (nextA b) endA (λ x. nextB x b) ≡ Some t) × ResidualT t u v
+      first b u v x [] suffix e a r =
           let e' = ra.ends x a in
           let r' = subst (λ y. B x y v) (sym e) r in
           let k = (rb x e').taken b u v r' in
           let no = is_none (nextA b) (λ s n. apart x b s k.0 e' n k.1) in
           (k.0, onward_end into (nextA b) endA (λ x. nextB x b) x no e' ∙ k.1, k.2)
-      first b u v x (c ∷ front) back e a r =
+      first b u v x (c ∷ prefix) suffix e a r =
           let eb : b ≡ c = cc in
-          let eu : u ≡ front ++ back = cc in
-          let k = ra.taken b front x (subst (λ y. A (y ∷ front) x) (sym eb) a) in (
+          let eu : u ≡ prefix ++ suffix = cc in
+          let k = ra.taken b prefix x (subst (λ y. A (y ∷ prefix) x) (sym eb) a) in (
             into k.0,
             onward_some into (nextA b) endA (λ x. nextB x b) k.0 k.1,
-            (rest_into k.0 u v).0 (x, front, back, eu, k.2, r),
+            (rest_into k.0 u v).0 (x, prefix, suffix, eu, k.2, r),
           )
 
-      given : (b : ℕ) (u : List ℕ) (v : V) (t : T) → RestT t u v
+      given : (b : ℕ) (u : List ℕ) (v : V) (t : T) → ResidualT t u v
           → Onward into (nextA b) endA (λ x. nextB x b) t → Then A B (b ∷ u) v
       given b u v t h (inl o) =
-          let k = (rest_into o.0 u v).1 (subst (λ y. RestT y u v) o.2 h) in
+          let k = (rest_into o.0 u v).1 (subst (λ y. ResidualT y u v) o.2 h) in
           (k.0, b ∷ k.1, k.2, ap (λ y. b ∷ y) k.3, ra.gives b k.1 k.0 o.0 o.1 k.4, k.5)
       given b u v t h (inr o) = (
         o.0,
@@ -111,44 +114,49 @@ module _ {S T X V : Type 0} {GoodS : S → Type 0} {GoodT : T → Type 0} {RestS
       goods b t (inl o) = subst GoodT (sym o.2) (good_into o.0 (ra.good b o.0 o.1))
       goods b t (inr o) = (rb o.0 o.2).good b t o.3
 
-      last : (v : V) (x : X) (front back : List ℕ) → [] ≡ front ++ back → A front x → B x back v
-          → and_then endA endB ≡ Some v
-      last v x [] back e a r = rw (ra.ends x a)
+      last : (v : V) (x : X) (prefix suffix : List ℕ) → [] ≡ prefix ++ suffix → A prefix x
+          → B x suffix v
+          → option_and_then endB endA ≡ Some v
+      last v x [] suffix e a r = rw (ra.ends x a)
           ((rb x (ra.ends x a)).ends v (subst (λ y. B x y v) (sym e) r))
-      last v x (c ∷ front) back e a r = absurd cc
+      last v x (c ∷ prefix) suffix e a r = absurd cc
 
-pub seen_cases : {X Y : Type 0} (f : X → Y) (o : Option X) (y : Y) → seen f o ≡ Some y
+pub map_cases : {X Y : Type 0} (f : X → Y) (o : Option X) (y : Y) → option_map f o ≡ Some y
     → (x : X) × (o ≡ Some x) × (y ≡ f x)
-seen_cases f (Some x) y e = (x, refl, cc)
-seen_cases f None y e = absurd cc
+map_cases f (Some x) y e = (x, refl, cc)
+map_cases f None y e = absurd cc
 
-pub reads_seen : {S T X V : Type 0} {GoodS : S → Type 0} {GoodT : T → Type 0} {RestS : S → List ℕ
-    → X → Type 0} {RestT : T → List ℕ → V → Type 0} (into : S → T) (f : X → V) {A : List ℕ → X
+pub reads_mapped : {S T X V : Type 0} {GoodS : S → Type 0} {GoodT : T → Type 0}
+    {ResidualS : S → List ℕ
+    → X → Type 0} {ResidualT : T → List ℕ → V → Type 0} (into : S → T) (f : X → V) {A : List ℕ → X
     → Type 0} {next : ℕ → Option S} {end : Option X}
     → ((s : S) → GoodS s → GoodT (into s))
-    → ((s : S) (t : List ℕ) (v : V) → Seen f (RestS s) t v ↔ RestT (into s) t v)
-    → Reads S X GoodS RestS A next end
-    → Reads T V GoodT RestT (Seen f A) (λ b. seen into (next b)) (seen f end)
-reads_seen {GoodT = GoodT} {RestT = RestT} into f {A = A} {next = next} {end = end} good_into
+    → ((s : S) (t : List ℕ) (v : V) → Mapped f (ResidualS s) t v ↔ ResidualT (into s) t v)
+    → Reads S X GoodS ResidualS A next end
+    → Reads T V GoodT ResidualT (Mapped f A) (λ b. option_map into (next b)) (option_map f end)
+reads_mapped {GoodT = GoodT} {ResidualT = ResidualT} into f {A = A} {next = next} {end = end}
+    good_into
     rest_into ra = record {
       taken = λ b u v h. let k = ra.taken b u h.0 h.1 in
           (into k.0, rw k.1 refl, (rest_into k.0 u v).0 (h.0, k.2, h.2));
-      gives = λ b u v t n h. let c = seen_cases into (next b) t n in
-          let k = (rest_into c.0 u v).1 (subst (λ y. RestT y u v) c.2 h) in
+      gives = λ b u v t n h. let c = map_cases into (next b) t n in
+          let k = (rest_into c.0 u v).1 (subst (λ y. ResidualT y u v) c.2 h) in
           (k.0, ra.gives b u k.0 c.0 c.1 k.1, k.2);
-      good = λ b t n. let c = seen_cases into (next b) t n in
+      good = λ b t n. let c = map_cases into (next b) t n in
           subst GoodT (sym c.2) (good_into c.0 (ra.good b c.0 c.1));
       ends = λ v h. rw (ra.ends h.0 h.1) (ap Some (sym h.2));
-      ended = λ v e. let c = seen_cases f end v e in (c.0, ra.ended c.0 c.1, c.2);
+      ended = λ v e. let c = map_cases f end v e in (c.0, ra.ended c.0 c.1, c.2);
     }
 
-pub reads_either : {S V : Type 0} {Good : S → Type 0} {Rest : S → List ℕ → V → Type 0} {A B : List ℕ
+pub reads_either : {S V : Type 0} {Good : S → Type 0} {Residual : S → List ℕ → V → Type 0}
+    {A B : List ℕ
     → V → Type 0} {nextA nextB : ℕ → Option S} {endA endB : Option V}
-    → Reads S V Good Rest A nextA endA → Reads S V Good Rest B nextB endB
+    → Reads S V Good Residual A nextA endA → Reads S V Good Residual B nextB endB
     → ((b : ℕ) (s t : S) → nextA b ≡ Some s → nextB b ≡ Some t → ⊥)
     → ((v w : V) → endA ≡ Some v → endB ≡ Some w → ⊥)
-    → Reads S V Good Rest (Either A B) (λ b. otherwise (nextA b) (nextB b)) (otherwise endA endB)
-reads_either {S = S} {V = V} {Rest = Rest} {A = A} {B = B} {nextA = nextA} {nextB = nextB}
+    → Reads S V Good Residual (Either A B) (λ b. option_or (nextA b) (nextB b))
+    (option_or endA endB)
+reads_either {S = S} {V = V} {Residual = Residual} {A = A} {B = B} {nextA = nextA} {nextB = nextB}
     {endA = endA} {endB = endB} ra rb apart apart_ends = record {
       taken = λ b u v. ⊎_elim (left b u v) (right b u v);
       gives = λ b u v s n h. ⊎_elim (λ e. inl (ra.gives b u v s e h))
@@ -162,33 +170,33 @@ reads_either {S = S} {V = V} {Rest = Rest} {A = A} {B = B} {nextA = nextA} {next
     }
   where
     left : (b : ℕ) (u : List ℕ) (v : V) → A (b ∷ u) v
-        → (s : S) × (otherwise (nextA b) (nextB b) ≡ Some s) × Rest s u v
+        → (s : S) × (option_or (nextA b) (nextB b) ≡ Some s) × Residual s u v
     left b u v h = let k = ra.taken b u v h in (k.0, rw k.1 refl, k.2)
 
     right : (b : ℕ) (u : List ℕ) (v : V) → B (b ∷ u) v
-        → (s : S) × (otherwise (nextA b) (nextB b) ≡ Some s) × Rest s u v
+        → (s : S) × (option_or (nextA b) (nextB b) ≡ Some s) × Residual s u v
     right b u v h = let k = rb.taken b u v h in
         (k.0, rw (is_none (nextA b) (λ s e. apart b s k.0 e k.1), k.1) refl, k.2)
 
-pub reads_after : {S V : Type 0} {Good : S → Type 0} {Rest : S → List ℕ → V
+pub reads_after : {S V : Type 0} {Good : S → Type 0} {Residual : S → List ℕ → V
     → Type 0} (c : ℕ) (s : S)
-    → Good s → Reads S V Good Rest (After c (Rest s)) (λ b. allow (b == c) s) None
-reads_after {Good = Good} {Rest = Rest} c s g = record {
+    → Good s → Reads S V Good Residual (After c (Residual s)) (λ b. allow (b == c) s) None
+reads_after {Good = Good} {Residual = Residual} c s g = record {
   taken = λ b u v h. (
     s,
     (let e : b ≡ c = cc (h.1) in
         rw (eq-eqb b c e) refl),
-    subst (λ y. Rest s y v) (let e : h.0 ≡ u = cc (h.1) in e) h.2,
+    subst (λ y. Residual s y v) (let e : h.0 ≡ u = cc (h.1) in e) h.2,
   );
   gives = λ b u v t n h. let k = allow_cases (b == c) s t n in
-      (u, ap (λ y. y ∷ u) (eqb-true b c k.0), subst (λ y. Rest y u v) k.1 h);
+      (u, ap (λ y. y ∷ u) (eqb-true b c k.0), subst (λ y. Residual y u v) k.1 h);
   good = λ b t n. let k = allow_cases (b == c) s t n in subst Good (sym k.1) g;
   ends = λ v h. absurd (cc (h.1));
   ended = λ v e. absurd cc;
 }
 
-pub reads_nothing : {S V : Type 0} {Good : S → Type 0} {Rest : S → List ℕ → V → Type 0} (x : V)
-    → Reads S V Good Rest (Nothing x) (λ b. None) (Some x)
+pub reads_nothing : {S V : Type 0} {Good : S → Type 0} {Residual : S → List ℕ → V → Type 0} (x : V)
+    → Reads S V Good Residual (Nothing x) (λ b. None) (Some x)
 reads_nothing x = record {
   taken = λ b u v h. absurd (cc (h.0));
   gives = λ b u v t n h. absurd cc;
@@ -202,17 +210,18 @@ past_more : {V : Type 0} (p : ℕ → Bool) (A : List ℕ → V → Type 0) (b :
 past_more p A b u v e h = (b ∷ h.0, h.1, ap (λ y. b ∷ y) h.2, (e, h.3), h.4)
 
 -- bytes that pass the test, then A, none of whose texts begins with such a byte
-pub reads_past : {S V : Type 0} {Good : S → Type 0} {Rest : S → List ℕ → V → Type 0} (p : ℕ
+pub reads_past : {S V : Type 0} {Good : S → Type 0} {Residual : S → List ℕ → V → Type 0} (p : ℕ
     → Bool) (s : S) {A : List ℕ → V → Type 0} {next : ℕ → Option S} {end : Option V}
-    → Good s → ((t : List ℕ) (v : V) → Past p A t v ↔ Rest s t v)
-    → ((b : ℕ) (t : S) → p b ≡ true → next b ≡ Some t → ⊥) → Reads S V Good Rest A next end
-    → Reads S V Good Rest (Past p A) (λ b. otherwise (allow (p b) s) (next b)) end
-reads_past {S = S} {V = V} {Good = Good} {Rest = Rest} p s {A = A} {next = next} {end = end} g same
+    → Good s → ((t : List ℕ) (v : V) → Past p A t v ↔ Residual s t v)
+    → ((b : ℕ) (t : S) → p b ≡ true → next b ≡ Some t → ⊥) → Reads S V Good Residual A next end
+    → Reads S V Good Residual (Past p A) (λ b. option_or (allow (p b) s) (next b)) end
+reads_past {S = S} {V = V} {Good = Good} {Residual = Residual} p s {A = A} {next = next} {end = end}
+    g same
     apart ra = record {
       taken = λ b u v h. first b u v h.0 h.1 h.2 h.3 h.4;
       gives = λ b u v t n h. ⊎_elim
           (λ e. let k = allow_cases (p b) s t e in
-          past_more p A b u v k.0 ((same u v).1 (subst (λ y. Rest y u v) k.1 h)))
+          past_more p A b u v k.0 ((same u v).1 (subst (λ y. Residual y u v) k.1 h)))
           (λ e. ([], b ∷ u, refl, tt, ra.gives b u v t e.1 h))
           (otherwise_cases (allow (p b) s) (next b) t n);
       good = λ b t n. ⊎_elim (λ e. subst Good (sym (allow_cases (p b) s t e).1) g)
@@ -221,84 +230,97 @@ reads_past {S = S} {V = V} {Good = Good} {Rest = Rest} p s {A = A} {next = next}
       ended = λ v e. ([], [], refl, tt, ra.ended v e);
     }
   where
-    first : (b : ℕ) (u : List ℕ) (v : V) (front back : List ℕ) → b ∷ u ≡ front ++ back
-        → Every p front → A back v
-        → (t : S) × (otherwise (allow (p b) s) (next b) ≡ Some t) × Rest t u v
-    first b u v [] back e f a =
+    first : (b : ℕ) (u : List ℕ) (v : V) (prefix suffix : List ℕ) → b ∷ u ≡ prefix ++ suffix
+        → Every p prefix → A suffix v
+        → (t : S) × (option_or (allow (p b) s) (next b) ≡ Some t) × Residual t u v
+    first b u v [] suffix e f a =
         let k = ra.taken b u v (subst (λ y. A y v) (sym e) a) in (
           k.0,
           rw (is_none (allow (p b) s) (λ t n. apart b k.0 (allow_cases (p b) s t n).0 k.1)) k.1,
           k.2,
         )
-    first b u v (c ∷ front) back e f a =
+    first b u v (c ∷ prefix) suffix e f a =
         let eb : c ≡ b = cc in
-        let pb = ap p (sym eb) ∙ f.0 in
-        (s, rw pb refl, (same u v).0 (front, back, (let eu : u ≡ front ++ back = cc in eu), f.1, a))
+        let pb = ap p (sym eb) ∙ f.0 in (
+          s,
+          rw pb refl,
+          (same u v).0
+              (prefix, suffix, (let eu : u ≡ prefix ++ suffix = cc in eu), f.1, a),
+        )
 
-    last : (v : V) (front back : List ℕ) → [] ≡ front ++ back → Every p front → A back v
+    last : (v : V) (prefix suffix : List ℕ) → [] ≡ prefix ++ suffix → Every p prefix → A suffix v
         → end ≡ Some v
-    last v [] back e f a = ra.ends v (subst (λ y. A y v) (sym e) a)
-    last v (c ∷ front) back e f a = absurd cc
+    last v [] suffix e f a = ra.ends v (subst (λ y. A y v) (sym e) a)
+    last v (c ∷ prefix) suffix e f a = absurd cc
 
 -- the same machine as a part of a larger one
-pub reads_into : {S T V : Type 0} {GoodS : S → Type 0} {GoodT : T → Type 0} {RestS : S → List ℕ → V
-    → Type 0} {RestT : T → List ℕ → V → Type 0} (into : S → T) {A : List ℕ → V → Type 0} {next : ℕ
+pub reads_into : {S T V : Type 0} {GoodS : S → Type 0} {GoodT : T → Type 0}
+    {ResidualS : S → List ℕ → V
+    → Type 0} {ResidualT : T → List ℕ → V → Type 0} (into : S → T) {A : List ℕ → V → Type 0}
+    {next : ℕ
     → Option S} {end : Option V}
     → ((s : S) → GoodS s → GoodT (into s))
-    → ((s : S) (t : List ℕ) (v : V) → RestS s t v ↔ RestT (into s) t v)
-    → Reads S V GoodS RestS A next end → Reads T V GoodT RestT A (λ b. seen into (next b)) end
-reads_into {GoodT = GoodT} {RestT = RestT} into {next = next} good_into rest_into ra = record {
-  taken = λ b u v h. let k = ra.taken b u v h in
-      (into k.0, rw k.1 refl, (rest_into k.0 u v).0 k.2);
-  gives = λ b u v t n h. let c = seen_cases into (next b) t n in
-      ra.gives b u v c.0 c.1 ((rest_into c.0 u v).1 (subst (λ y. RestT y u v) c.2 h));
-  good = λ b t n. let c = seen_cases into (next b) t n in
-      subst GoodT (sym c.2) (good_into c.0 (ra.good b c.0 c.1));
-  ends = ra.ends;
-  ended = ra.ended;
-}
+    → ((s : S) (t : List ℕ) (v : V) → ResidualS s t v ↔ ResidualT (into s) t v)
+    → Reads S V GoodS ResidualS A next end
+    → Reads T V GoodT ResidualT A (λ b. option_map into (next b)) end
+reads_into {GoodT = GoodT} {ResidualT = ResidualT} into {next = next} good_into rest_into ra =
+    record {
+      taken = λ b u v h. let k = ra.taken b u v h in
+          (into k.0, rw k.1 refl, (rest_into k.0 u v).0 k.2);
+      gives = λ b u v t n h. let c = map_cases into (next b) t n in
+          ra.gives b u v c.0 c.1 ((rest_into c.0 u v).1 (subst (λ y. ResidualT y u v) c.2 h));
+      good = λ b t n. let c = map_cases into (next b) t n in
+          subst GoodT (sym c.2) (good_into c.0 (ra.good b c.0 c.1));
+      ends = ra.ends;
+      ended = ra.ended;
+    }
 
--- A front that isn't empty, and what B reads behind it.
-pub reads_first : {S T X V : Type 0} {GoodS : S → Type 0} {GoodT : T → Type 0} {RestS : S → List ℕ
-    → X → Type 0} {RestT : T → List ℕ → V → Type 0} (into : S → T) {A : List ℕ → X → Type 0} {B : X
+-- A prefix that isn't empty, and what B reads behind it.
+pub reads_first : {S T X V : Type 0} {GoodS : S → Type 0} {GoodT : T → Type 0}
+    {ResidualS : S → List ℕ
+    → X → Type 0} {ResidualT : T → List ℕ → V → Type 0} (into : S → T) {A : List ℕ → X → Type 0}
+    {B : X
     → List ℕ → V → Type 0} {next : ℕ → Option S}
     → ((s : S) → GoodS s → GoodT (into s))
-    → ((s : S) (t : List ℕ) (v : V) → Then (RestS s) B t v ↔ RestT (into s) t v)
-    → Reads S X GoodS RestS A next None
-    → Reads T V GoodT RestT (Then A B) (λ b. seen into (next b)) None
-reads_first {T = T} {X = X} {V = V} {GoodT = GoodT} {RestT = RestT} into {A = A} {B = B}
+    → ((s : S) (t : List ℕ) (v : V) → Then (ResidualS s) B t v ↔ ResidualT (into s) t v)
+    → Reads S X GoodS ResidualS A next None
+    → Reads T V GoodT ResidualT (Then A B) (λ b. option_map into (next b)) None
+reads_first {T = T} {X = X} {V = V} {GoodT = GoodT} {ResidualT = ResidualT} into {A = A} {B = B}
     {next = next} good_into rest_into ra = record {
       taken = λ b u v h. first b u v h.0 h.1 h.2 h.3 h.4 h.5;
-      gives = λ b u v t n h. let c = seen_cases into (next b) t n in
-          let k = (rest_into c.0 u v).1 (subst (λ y. RestT y u v) c.2 h) in
+      gives = λ b u v t n h. let c = map_cases into (next b) t n in
+          let k = (rest_into c.0 u v).1 (subst (λ y. ResidualT y u v) c.2 h) in
           (k.0, b ∷ k.1, k.2, ap (λ y. b ∷ y) k.3, ra.gives b k.1 k.0 c.0 c.1 k.4, k.5);
-      good = λ b t n. let c = seen_cases into (next b) t n in
+      good = λ b t n. let c = map_cases into (next b) t n in
           subst GoodT (sym c.2) (good_into c.0 (ra.good b c.0 c.1));
       ends = λ v h. last v h.0 h.1 h.2 h.3 h.4;
       ended = λ v e. absurd cc;
     }
   where
-    first : (b : ℕ) (u : List ℕ) (v : V) (x : X) (front back : List ℕ) → b ∷ u ≡ front ++ back
-        → A front x → B x back v → (t : T) × (seen into (next b) ≡ Some t) × RestT t u v
-    first b u v x [] back e a r = absurd (no_end (ra.ends x a))
+    first : (b : ℕ) (u : List ℕ) (v : V) (x : X) (prefix suffix : List ℕ) → b ∷ u ≡ prefix ++ suffix
+        → A prefix x → B x suffix v → (t : T) × (option_map into (next b) ≡ Some t)
+        × ResidualT t u v
+    first b u v x [] suffix e a r = absurd (no_end (ra.ends x a))
       where
         no_end : None ≡ Some x → ⊥
         no_end e = cc
-    first b u v x (c ∷ front) back e a r =
+    first b u v x (c ∷ prefix) suffix e a r =
         let eb : b ≡ c = cc in
-        let eu : u ≡ front ++ back = cc in
-        let k = ra.taken b front x (subst (λ y. A (y ∷ front) x) (sym eb) a) in
-        (into k.0, rw k.1 refl, (rest_into k.0 u v).0 (x, front, back, eu, k.2, r))
+        let eu : u ≡ prefix ++ suffix = cc in
+        let k = ra.taken b prefix x (subst (λ y. A (y ∷ prefix) x) (sym eb) a) in
+        (into k.0, rw k.1 refl, (rest_into k.0 u v).0 (x, prefix, suffix, eu, k.2, r))
 
-    last : (v : V) (x : X) (front back : List ℕ) → [] ≡ front ++ back → A front x → None ≡ Some v
-    last v x [] back e a = absurd (let n : ⊥ = cc (ra.ends x a) in n)
-    last v x (c ∷ front) back e a = absurd cc
+    last : (v : V) (x : X) (prefix suffix : List ℕ) → [] ≡ prefix ++ suffix → A prefix x → None
+        ≡ Some v
+    last v x [] suffix e a = absurd (let n : ⊥ = cc (ra.ends x a) in n)
+    last v x (c ∷ prefix) suffix e a = absurd cc
 
 -- another way to write the step
-pub reads_as : {S V : Type 0} {Good : S → Type 0} {Rest : S → List ℕ → V → Type 0} {L : List ℕ → V
+pub reads_as : {S V : Type 0} {Good : S → Type 0} {Residual : S → List ℕ → V → Type 0}
+    {L : List ℕ → V
     → Type 0} {next other : ℕ → Option S} {end : Option V}
-    → ((b : ℕ) → next b ≡ other b) → Reads S V Good Rest L next end
-    → Reads S V Good Rest L other end
+    → ((b : ℕ) → next b ≡ other b) → Reads S V Good Residual L next end
+    → Reads S V Good Residual L other end
 reads_as e r = record {
   taken = λ b u v h. let k = r.taken b u v h in (k.0, sym (e b) ∙ k.1, k.2);
   gives = λ b u v s n h. r.gives b u v s (e b ∙ n) h;
@@ -307,22 +329,25 @@ reads_as e r = record {
   ended = r.ended;
 }
 
-pub otherwise_none : {S : Type 0} (o : Option S) → otherwise o None ≡ o
+pub otherwise_none : {S : Type 0} (o : Option S) → option_or o None ≡ o
 otherwise_none None = refl
 otherwise_none (Some s) = refl
 
 -- a byte and what follows it, or nothing
-pub reads_maybe : {S V : Type 0} {Good : S → Type 0} {Rest : S → List ℕ → V
+pub reads_maybe : {S V : Type 0} {Good : S → Type 0} {Residual : S → List ℕ → V
     → Type 0} (c : ℕ) (s : S) (x : V)
     → Good s
-    → Reads S V Good Rest (Either (After c (Rest s)) (Nothing x)) (λ b. allow (b == c) s) (Some x)
+    → Reads S V Good Residual (Either (After c (Residual s)) (Nothing x)) (λ b. allow (b == c) s)
+    (Some x)
 reads_maybe c s x g = reads_as (λ b. otherwise_none (allow (b == c) s))
     (reads_either (reads_after c s g) (reads_nothing x) (λ b s t e n. cc) (λ v w e n. cc))
 
 -- a language that there is where the test holds
-pub reads_where : {S V : Type 0} {Good : S → Type 0} {Rest : S → List ℕ → V → Type 0} {A : List ℕ
+pub reads_where : {S V : Type 0} {Good : S → Type 0} {Residual : S → List ℕ → V → Type 0}
+    {A : List ℕ
     → V → Type 0} {next : ℕ → Option S} (c : Bool)
-    → Reads S V Good Rest A next None → Reads S V Good Rest (Where c A) (λ b. only c (next b)) None
+    → Reads S V Good Residual A next None
+    → Reads S V Good Residual (Where c A) (λ b. only c (next b)) None
 reads_where true r = record {
   taken = λ b u v h. r.taken b u v h.1;
   gives = λ b u v s n h. (refl, r.gives b u v s n h);

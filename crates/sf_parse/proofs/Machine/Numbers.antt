@@ -11,16 +11,18 @@ use Rattle.sf_value.specs.declared.value.Bare.{Bare}
 use Rattle.sf_value.specs.declared.value.Bare.TheVariants.{Integer, Decimal}
 use Rattle.sf_parse.specs.Machine.Language.{Either, After, Reads, Live}
 use Rattle.sf_parse.specs.Machine.Numbers.{NumberState, Whole, Fraction, DateState, Digits, Sign}
-use Rattle.sf_parse.specs.Machine.Numbers.{SpellsNumber, number_start, RestDate, GoodDate}
-use Rattle.sf_parse.specs.Machine.Numbers.{digits_step, date_step, date_finish, RestInteger}
-use Rattle.sf_parse.specs.Machine.Numbers.{RestFraction, RestDecimal, RestNumber, Counted}
+use Rattle.sf_parse.specs.Machine.Numbers.{SpellsNumber, number_start, ResidualDate, GoodDate}
+use Rattle.sf_parse.specs.Machine.Numbers.{digits_step, date_step, date_finish, ResidualInteger}
+use Rattle.sf_parse.specs.Machine.Numbers.{ResidualFraction, ResidualDecimal, ResidualNumber}
+use Rattle.sf_parse.specs.Machine.Numbers.{Counted}
 use Rattle.sf_parse.specs.Machine.Numbers.{GoodNumber, number_step, number_finish}
 use Rattle.sf_parse.proofs.Machine.Language.{reads_iff, reads_either, reads_after}
 use Rattle.sf_value.proofs.Words.{allow_cases}
 
 fraction_taken : (neg : Bool) (whole count a b : ℕ) (u : List ℕ) (v : Bare)
-    → RestNumber (Fraction neg whole count a) (b ∷ u) v
-    → (s : NumberState) × (number_step (Fraction neg whole count a) b ≡ Some s) × RestNumber s u v
+    → ResidualNumber (Fraction neg whole count a) (b ∷ u) v
+    → (s : NumberState) × (number_step (Fraction neg whole count a) b ≡ Some s)
+    × ResidualNumber s u v
 fraction_taken neg whole count a b u v h = (
   Fraction neg whole (count + 1) (10 * a + (b - 48)),
   grind arith,
@@ -28,8 +30,8 @@ fraction_taken neg whole count a b u v h = (
 )
 
 fraction_gives : (neg : Bool) (whole count a b : ℕ) (u : List ℕ) (v : Bare) (s : NumberState)
-    → number_step (Fraction neg whole count a) b ≡ Some s → RestNumber s u v
-    → RestNumber (Fraction neg whole count a) (b ∷ u) v
+    → number_step (Fraction neg whole count a) b ≡ Some s → ResidualNumber s u v
+    → ResidualNumber (Fraction neg whole count a) (b ∷ u) v
 fraction_gives neg whole count a b u v s n h = grind arith
 
 -- one more digit
@@ -59,13 +61,13 @@ fraction_good neg whole count a b s g n = let k = allow_cases (is_digit b && nat
     subst GoodNumber (sym k.1) (counted_next 3 count a b g.0 k.0, g.1)
 
 fraction_ends : (neg : Bool) (whole count a : ℕ) (v : Bare)
-    → RestNumber (Fraction neg whole count a) [] v
+    → ResidualNumber (Fraction neg whole count a) [] v
     → number_finish (Fraction neg whole count a) ≡ Some v
 fraction_ends neg whole count a v h = grind arith
 
 fraction_ended : (neg : Bool) (whole count a : ℕ) (v : Bare) → count ≤ 3
     → number_finish (Fraction neg whole count a) ≡ Some v
-    → RestNumber (Fraction neg whole count a) [] v
+    → ResidualNumber (Fraction neg whole count a) [] v
 fraction_ended neg whole count a v g e = (thousandths neg whole count a, grind arith, grind arith)
 
 not_nil : (w f : List ℕ) (c : ℕ) → [] ≡ w ++ c ∷ f → ⊥
@@ -73,8 +75,8 @@ not_nil [] f c e = cc
 not_nil (d ∷ w) f c e = cc
 
 integer_taken : (neg : Bool) (count a b : ℕ) (u : List ℕ) (v : Bare) (n : ℤ) → v ≡ Integer n
-    → RestInteger neg count a (b ∷ u) n
-    → (s : NumberState) × (number_step (Whole neg count a) b ≡ Some s) × RestNumber s u v
+    → ResidualInteger neg count a (b ∷ u) n
+    → (s : NumberState) × (number_step (Whole neg count a) b ≡ Some s) × ResidualNumber s u v
 integer_taken neg count a b u v n e h = (
   Whole neg (count + 1) (10 * a + (b - 48)),
   grind arith,
@@ -83,8 +85,8 @@ integer_taken neg count a b u v n e h = (
 
 decimal_taken : (neg : Bool) (count a b : ℕ) (u : List ℕ) (v : Bare) (m : ℤ) (w f : List ℕ)
     → v ≡ Decimal m → b ∷ u ≡ w ++ 46 ∷ f → AreDigits 1 12 count w
-    → RestFraction neg (value_from a w) 0 0 f m
-    → (s : NumberState) × (number_step (Whole neg count a) b ≡ Some s) × RestNumber s u v
+    → ResidualFraction neg (value_from a w) 0 0 f m
+    → (s : NumberState) × (number_step (Whole neg count a) b ≡ Some s) × ResidualNumber s u v
 decimal_taken neg count a b u v m [] f e t d h = (
   Fraction neg a 0 0,
   grind arith,
@@ -97,15 +99,17 @@ decimal_taken neg count a b u v m (c ∷ w) f e t d h = (
 )
 
 integer_gives : (neg : Bool) (count a b : ℕ) (u : List ℕ) (n : ℤ) → is_digit b ≡ true
-    → RestInteger neg (count + 1) (10 * a + (b - 48)) u n → RestInteger neg count a (b ∷ u) n
+    → ResidualInteger neg (count + 1) (10 * a + (b - 48)) u n
+    → ResidualInteger neg count a (b ∷ u) n
 integer_gives neg count a b u n d h = grind arith
 
 decimal_gives : (neg : Bool) (count a b : ℕ) (u : List ℕ) (m : ℤ) → is_digit b ≡ true
-    → RestDecimal neg (count + 1) (10 * a + (b - 48)) u m → RestDecimal neg count a (b ∷ u) m
+    → ResidualDecimal neg (count + 1) (10 * a + (b - 48)) u m
+    → ResidualDecimal neg count a (b ∷ u) m
 decimal_gives neg count a b u m d h = (b ∷ h.0, h.1, ap (λ y. b ∷ y) h.2, grind arith, h.4)
 
 point_gives : (neg : Bool) (count a : ℕ) (u : List ℕ) (m : ℤ) → 1 ≤ count → count ≤ 12
-    → RestFraction neg a 0 0 u m → RestDecimal neg count a (46 ∷ u) m
+    → ResidualFraction neg a 0 0 u m → ResidualDecimal neg count a (46 ∷ u) m
 point_gives neg count a u m low high h = ([], u, refl, grind arith, h)
 
 whole_cases : (neg : Bool) (count a b : ℕ) (s : NumberState)
@@ -116,19 +120,19 @@ whole_cases : (neg : Bool) (count a b : ℕ) (s : NumberState)
 whole_cases neg count a b s n = grind arith
 
 whole_gives : (neg : Bool) (count a b : ℕ) (u : List ℕ) (v : Bare) (s : NumberState)
-    → number_step (Whole neg count a) b ≡ Some s → RestNumber s u v
-    → RestNumber (Whole neg count a) (b ∷ u) v
+    → number_step (Whole neg count a) b ≡ Some s → ResidualNumber s u v
+    → ResidualNumber (Whole neg count a) (b ∷ u) v
 whole_gives neg count a b u v s n h = ⊎_elim
     (λ k. ⊎_elim (λ r. inl (r.0, r.1, integer_gives neg count a b u r.0 k.0 r.2)) (λ r. inr (
       r.0,
       r.1,
       decimal_gives neg count a b u r.0 k.0 r.2,
-    )) (subst (λ y. RestNumber y u v) k.2 h))
-    (λ k. let r = subst (λ y. RestNumber y u v) k.3 h in
+    )) (subst (λ y. ResidualNumber y u v) k.2 h))
+    (λ k. let r = subst (λ y. ResidualNumber y u v) k.3 h in
     inr (
       r.0,
       r.1,
-      subst (λ y. RestDecimal neg count a (y ∷ u) r.0) (sym k.0)
+      subst (λ y. ResidualDecimal neg count a (y ∷ u) r.0) (sym k.0)
           (point_gives neg count a u r.0 k.1 k.2 r.2),
     ))
     (whole_cases neg count a b s n)
@@ -141,20 +145,21 @@ whole_good neg count a b s g n = ⊎_elim
     (whole_cases neg count a b s n)
 
 ends_integer : (neg : Bool) (count a : ℕ) (v : Bare) (n : ℤ) → v ≡ Integer n
-    → RestInteger neg count a [] n → number_finish (Whole neg count a) ≡ Some v
+    → ResidualInteger neg count a [] n → number_finish (Whole neg count a) ≡ Some v
 ends_integer neg count a v n e h = grind arith
 
-whole_ends : (neg : Bool) (count a : ℕ) (v : Bare) → RestNumber (Whole neg count a) [] v
+whole_ends : (neg : Bool) (count a : ℕ) (v : Bare) → ResidualNumber (Whole neg count a) [] v
     → number_finish (Whole neg count a) ≡ Some v
 whole_ends neg count a v (inl h) = ends_integer neg count a v h.0 h.1 h.2
 whole_ends neg count a v (inr h) = absurd (not_nil h.2.0 h.2.1 46 h.2.2)
 
 whole_ended : (neg : Bool) (count a : ℕ) (v : Bare) → count ≤ 15
-    → number_finish (Whole neg count a) ≡ Some v → RestNumber (Whole neg count a) [] v
+    → number_finish (Whole neg count a) ≡ Some v → ResidualNumber (Whole neg count a) [] v
 whole_ended neg count a v g e = inl (signed neg a, grind arith, grind arith)
 
 pub number_reads : (s : NumberState) → GoodNumber s
-    → Reads NumberState Bare GoodNumber RestNumber (RestNumber s) (number_step s) (number_finish s)
+    → Reads NumberState Bare GoodNumber ResidualNumber (ResidualNumber s) (number_step s)
+    (number_finish s)
 number_reads (Whole neg count a) g = record {
   taken = λ b u v. ⊎_elim (λ h. integer_taken neg count a b u v h.0 h.1 h.2)
       (λ h. decimal_taken neg count a b u v h.0 h.2.0 h.2.1 h.1 h.2.2 h.2.3 h.2.4);
@@ -172,7 +177,7 @@ number_reads (Fraction neg whole count a) g = record {
 }
 
 -- a digit completes a number, unless it may end
-pub number_lives : (s : NumberState) → GoodNumber s → Live Bare (RestNumber s)
+pub number_lives : (s : NumberState) → GoodNumber s → Live Bare (ResidualNumber s)
 number_lives (Whole neg zero a) g = let h = g.0 in
     record {
       text = 48 ∷ [];
@@ -232,8 +237,8 @@ of_zero neg w f m i = i
     e)
 
 number_both : (t : List ℕ) (v : Bare)
-    → Either (After 45 (RestNumber (Whole true 0 0)))
-    (RestNumber (Whole false 0 0)) t v ↔ SpellsNumber t v
+    → Either (After 45 (ResidualNumber (Whole true 0 0)))
+    (ResidualNumber (Whole false 0 0)) t v ↔ SpellsNumber t v
 number_both t v = (
   ⊎_elim
       (λ h. ⊎_elim (λ k. inl (k.0, k.1, (true, h.0, h.1, k.2.0, k.2.1))) (λ k. inr (
@@ -250,9 +255,9 @@ number_both t v = (
       (λ h. a_decimal t v h.0 h.1 h.2.0 h.2.1 h.2.2 h.2.3 h.2.4 h.2.5 h.2.6),
 )
   where
-    negative : (back : List ℕ) → t ≡ 45 ∷ back → (m : ℤ) → RestDecimal true 0 0 back m
+    negative : (suffix : List ℕ) → t ≡ 45 ∷ suffix → (m : ℤ) → ResidualDecimal true 0 0 suffix m
         → SpellsDecimal t m
-    negative back e m k = (
+    negative suffix e m k = (
       true,
       k.0,
       k.1,
@@ -265,7 +270,7 @@ number_both t v = (
 
     an_integer : (t : List ℕ) (v : Bare) (n : ℤ) → v ≡ Integer n → (neg : Bool) (w : List ℕ)
         → t ≡ sign neg ++ w → AreDigits 1 15 0 w → n ≡ signed neg (value_from 0 w)
-        → Either (After 45 (RestNumber (Whole true 0 0))) (RestNumber (Whole false 0 0)) t v
+        → Either (After 45 (ResidualNumber (Whole true 0 0))) (ResidualNumber (Whole false 0 0)) t v
     an_integer t v n e true w k d i = inl (w, k, inl (n, e, (d, i)))
     an_integer t v n e false w k d i = inr (inl (
       n,
@@ -280,7 +285,7 @@ number_both t v = (
     a_decimal : (t : List ℕ) (v : Bare) (m : ℤ) → v ≡ Decimal m → (neg : Bool) (w f : List ℕ)
         → t ≡ sign neg ++ (w ++ 46 ∷ f) → AreDigits 1 12 0 w → AreDigits 1 3 0 f
         → m ≡ thousandths neg (value_from 0 w) (length f) (value_from 0 f)
-        → Either (After 45 (RestNumber (Whole true 0 0))) (RestNumber (Whole false 0 0)) t v
+        → Either (After 45 (ResidualNumber (Whole true 0 0))) (ResidualNumber (Whole false 0 0)) t v
     a_decimal t v m e true w f k d d' i = inl (
       w ++ 46 ∷ f,
       k,
@@ -292,7 +297,7 @@ number_both t v = (
       (w, f, k, d, (d', at_zero false w f m i)),
     ))
 
-pub number_starts : Reads NumberState Bare GoodNumber RestNumber SpellsNumber number_start None
+pub number_starts : Reads NumberState Bare GoodNumber ResidualNumber SpellsNumber number_start None
 number_starts = reads_iff number_both (reads_either (reads_after 45 (Whole true 0 0) (
   omega arith,
   omega arith,
@@ -307,8 +312,8 @@ number_starts = reads_iff number_both (reads_either (reads_after 45 (Whole true 
 
 -- dates
 digits_taken : (neg : Bool) (count a b : ℕ) (u : List ℕ) (n : ℤ)
-    → RestDate (Digits neg count a) (b ∷ u) n
-    → (s : DateState) × (digits_step neg count a b ≡ Some s) × RestDate s u n
+    → ResidualDate (Digits neg count a) (b ∷ u) n
+    → (s : DateState) × (digits_step neg count a b ≡ Some s) × ResidualDate s u n
 digits_taken neg count a b u n h = (
   Digits neg (count + 1) (10 * a + (b - 48)),
   grind arith,
@@ -316,7 +321,8 @@ digits_taken neg count a b u n h = (
 )
 
 digits_gives : (neg : Bool) (count a b : ℕ) (u : List ℕ) (n : ℤ) (s : DateState)
-    → digits_step neg count a b ≡ Some s → RestDate s u n → RestDate (Digits neg count a) (b ∷ u) n
+    → digits_step neg count a b ≡ Some s → ResidualDate s u n
+    → ResidualDate (Digits neg count a) (b ∷ u) n
 digits_gives neg count a b u n s e h = grind arith
 
 digits_good : (neg : Bool) (count a b : ℕ) (s : DateState) → Counted 15 count a
@@ -325,16 +331,17 @@ digits_good neg count a b s g n = let k = allow_cases (is_digit b && nat_lt coun
     (Digits neg (count + 1) (10 * a + (b - 48))) s n in
     subst GoodDate (sym k.1) (counted_next 15 count a b g k.0)
 
-digits_ends : (neg : Bool) (count a : ℕ) (n : ℤ) → RestDate (Digits neg count a) [] n
+digits_ends : (neg : Bool) (count a : ℕ) (n : ℤ) → ResidualDate (Digits neg count a) [] n
     → date_finish (Digits neg count a) ≡ Some n
 digits_ends neg count a v h = grind arith
 
 digits_ended : (neg : Bool) (count a : ℕ) (n : ℤ) → count ≤ 15
-    → date_finish (Digits neg count a) ≡ Some n → RestDate (Digits neg count a) [] n
+    → date_finish (Digits neg count a) ≡ Some n → ResidualDate (Digits neg count a) [] n
 digits_ended neg count a n g e = grind arith
 
 digits_read : (neg : Bool) (count a : ℕ) → Counted 15 count a
-    → Reads DateState ℤ GoodDate RestDate (RestInteger neg count a) (digits_step neg count a)
+    → Reads DateState ℤ GoodDate ResidualDate (ResidualInteger neg count a)
+    (digits_step neg count a)
     (allow (nat_le 1 count) (signed neg a))
 digits_read neg count a g = record {
   taken = digits_taken neg count a;
@@ -345,7 +352,8 @@ digits_read neg count a g = record {
 }
 
 integer_both : (t : List ℕ) (n : ℤ)
-    → Either (After 45 (RestInteger true 0 0)) (RestInteger false 0 0) t n ↔ SpellsInteger t n
+    → Either (After 45 (ResidualInteger true 0 0)) (ResidualInteger false 0 0) t n
+    ↔ SpellsInteger t n
 integer_both t n = (
   ⊎_elim (λ h. (true, h.0, h.1, h.2.0, h.2.1)) (λ h. (false, t, refl, h.0, h.1)),
   λ h. other h.0 h.1 h.2 h.3 h.4,
@@ -353,7 +361,7 @@ integer_both t n = (
   where
     other : (neg : Bool) (w : List ℕ) → t ≡ sign neg ++ w → AreDigits 1 15 0 w
         → n ≡ signed neg (value_from 0 w)
-        → Either (After 45 (RestInteger true 0 0)) (RestInteger false 0 0) t n
+        → Either (After 45 (ResidualInteger true 0 0)) (ResidualInteger false 0 0) t n
     other true w k d i = inl (w, k, (d, i))
     other false w k d i = inr (
       subst (AreDigits 1 15 0) (sym k) d,
@@ -361,7 +369,7 @@ integer_both t n = (
           ∙ ap (λ y. pos (value_from 0 y)) (sym k),
     )
 
-sign_reads : Reads DateState ℤ GoodDate RestDate (RestDate Sign) (date_step Sign) None
+sign_reads : Reads DateState ℤ GoodDate ResidualDate (ResidualDate Sign) (date_step Sign) None
 sign_reads = reads_iff integer_both (reads_either (reads_after 45 (Digits true 0 0) (
   omega arith,
   omega arith,
@@ -372,11 +380,11 @@ sign_reads = reads_iff integer_both (reads_either (reads_after 45 (Digits true 0
     apart b s t e n = grind arith
 
 pub date_reads : (s : DateState) → GoodDate s
-    → Reads DateState ℤ GoodDate RestDate (RestDate s) (date_step s) (date_finish s)
+    → Reads DateState ℤ GoodDate ResidualDate (ResidualDate s) (date_step s) (date_finish s)
 date_reads (Digits neg count a) g = digits_read neg count a g
 date_reads Sign g = sign_reads
 
-pub date_lives : (s : DateState) → GoodDate s → Live ℤ (RestDate s)
+pub date_lives : (s : DateState) → GoodDate s → Live ℤ (ResidualDate s)
 date_lives (Digits neg zero a) g = let h = g.0 in
     record {
       text = 48 ∷ [];

@@ -1,26 +1,28 @@
 -- Parameters are read by their machine.
+use Rattle.std.specs.Option.{option_map}
 use Rattle.std.proofs.Common.{◌≡◌, ℕ, true, ◌==◌, List, [], ◌∷◌, ◌++◌, Option, Some, ⊎_elim, refl}
 use Rattle.std.proofs.Common.{sym, ap, ◌∙◌, subst, inl, inr, arith, append-nil, append_assoc}
 use Rattle.std.proofs.Common.{eqb-true}
 use Rattle.sf_value.specs.Grammar.Words.{Every, allow}
-use Rattle.sf_value.specs.Grammar.Classes.{is_sp, is_key_start, is_key_rest}
+use Rattle.sf_value.specs.Grammar.Classes.{is_sp, is_key_start, is_in_key}
 use Rattle.sf_value.specs.Grammar.Pairs.{Pairs, settle, put, Pairs}
 use Rattle.sf_value.specs.Grammar.Tokens.{IsKey}
 use Rattle.sf_value.specs.Grammar.Parameters.{SpellsValue}
 use Rattle.sf_value.specs.declared.dialect.Dialect.{Dialect}
 use Rattle.sf_value.specs.declared.value.Bare.{Bare}
 use Rattle.sf_value.specs.declared.value.Bare.TheVariants.{Boolean}
-use Rattle.sf_parse.specs.Machine.Language.{Either, After, Nothing, seen, Reads, Live, is_follow}
+use Rattle.sf_parse.specs.Machine.Language.{Either, After, Nothing, Reads, Live, is_follow}
 use Rattle.sf_parse.specs.Machine.Language.{is_after}
 use Rattle.sf_parse.specs.Machine.Texts.{word_start, word_step}
 use Rattle.sf_parse.specs.Machine.Bares.{BareState}
 use Rattle.sf_parse.specs.Machine.Bares.{bare_step, bare_finish}
 use Rattle.sf_parse.specs.Machine.Params.{ParamsState, Between, Opened, InParamKey, EqualsParam}
-use Rattle.sf_parse.specs.Machine.Params.{InValue, MoreParams, PutParams, KeyParams, RestParams}
+use Rattle.sf_parse.specs.Machine.Params.{InValue, MoreParams, PutParams, KeyParams, ResidualParams}
 use Rattle.sf_parse.specs.Machine.Params.{GoodParams, between_step, key_step, params_step}
 use Rattle.sf_parse.specs.Machine.Params.{params_finish}
-use Rattle.sf_parse.proofs.Machine.Language.{reads_iff, reads_either, reads_after, reads_then, reads_first}
-use Rattle.sf_parse.proofs.Machine.Language.{reads_past, reads_maybe, seen_cases, onward_cases}
+use Rattle.sf_parse.proofs.Machine.Language.{reads_iff, reads_either, reads_after, reads_then}
+use Rattle.sf_parse.proofs.Machine.Language.{reads_first}
+use Rattle.sf_parse.proofs.Machine.Language.{reads_past, reads_maybe, map_cases, onward_cases}
 use Rattle.sf_parse.proofs.Machine.Language.{and_then_cases}
 use Rattle.sf_value.proofs.Words.{allow_cases, otherwise_cases}
 use Rattle.sf_parse.proofs.Classes.{not_follow}
@@ -37,14 +39,14 @@ not_start b e k = let n : is_key_start 32 ≡ true = rw e at k in cc
 pub semicolon_follows : (b : ℕ) → (b == 59) ≡ true → is_follow b ≡ true
 semicolon_follows b e = ap is_follow (eqb-true b 59 e)
 
-key_apart : (ps : Pairs Bare) (x : List ℕ) (b : ℕ) (t : ParamsState) → is_key_rest b ≡ true
+key_apart : (ps : Pairs Bare) (x : List ℕ) (b : ℕ) (t : ParamsState) → is_in_key b ≡ true
     → key_step ps x b ≡ Some t → ⊥
 key_apart ps x b t e n = ⊎_elim
     (λ k. let i = eqb-true b 61 (allow_cases (b == 61) (EqualsParam ps x) t k).0 in
-    (let f : is_key_rest 61 ≡ true = rw i at e in cc))
+    (let f : is_in_key 61 ≡ true = rw i at e in cc))
     (λ k. let i = eqb-true b 59
     (allow_cases (b == 59) (Opened (put ps x (Boolean true))) t k.1).0 in
-    (let f : is_key_rest 59 ≡ true = rw i at e in cc))
+    (let f : is_in_key 59 ≡ true = rw i at e in cc))
     (otherwise_cases (allow (b == 61) (EqualsParam ps x))
     (between_step (put ps x (Boolean true)) b) t n)
 
@@ -58,8 +60,8 @@ not_semicolon b e f = let n : is_after 59 ≡ true = rw (eqb-true b 59 e) at f i
 pub not_equals : (b : ℕ) → (b == 61) ≡ true → is_after b ≡ true → ⊥
 not_equals b e f = let n : is_after 61 ≡ true = rw (eqb-true b 61 e) at f in cc
 
-pub not_key : (b : ℕ) → is_key_rest b ≡ true → is_after b ≡ true → ⊥
-not_key b e f = not_follow is_key_rest (
+pub not_key : (b : ℕ) → is_in_key b ≡ true → is_after b ≡ true → ⊥
+not_key b e f = not_follow is_in_key (
   refl,
   (refl, (refl, (refl, (refl, tt)))),
 ) b e (after_follows b f)
@@ -79,21 +81,23 @@ key_step_apart ps k b t n f = ⊎_elim
 module _ (d : Dialect) where
   abbrev ReadsParams : (List ℕ → Pairs Bare → Type 0) → (ℕ → Option ParamsState)
       → Option (Pairs Bare) → Type 0
-  ReadsParams = Reads ParamsState (Pairs Bare) GoodParams (RestParams d)
+  ReadsParams = Reads ParamsState (Pairs Bare) GoodParams (ResidualParams d)
 
   -- one parameter, and further ones
-  one_more : (ps : Pairs Bare) (k : List ℕ) (x : Bare) (gap value back u : List ℕ) (v : Pairs Bare)
-      → u ≡ 59 ∷ (gap ++ (k ++ (value ++ back))) → Every is_sp gap → IsKey k → SpellsValue d value x
-      → PutParams d ps k x back v → MoreParams d ps u v
-  one_more ps k x gap value back u v e f i s (raw, c, r) =
-      let joined : 59 ∷ (gap ++ (k ++ (value ++ back))) ≡ (59 ∷ (gap ++ (k ++ value)))
-      ++ back = simp append_assoc in (
+  one_more : (ps : Pairs Bare) (k : List ℕ) (x : Bare) (gap value suffix u : List ℕ)
+      (v : Pairs Bare)
+      → u ≡ 59 ∷ (gap ++ (k ++ (value ++ suffix))) → Every is_sp gap → IsKey k
+      → SpellsValue d value x
+      → PutParams d ps k x suffix v → MoreParams d ps u v
+  one_more ps k x gap value suffix u v e f i s (raw, c, r) =
+      let joined : 59 ∷ (gap ++ (k ++ (value ++ suffix))) ≡ (59 ∷ (gap ++ (k ++ value)))
+      ++ suffix = simp append_assoc in (
         (k, x) ∷ raw,
         c
             ∙ put_more ps k x raw,
         (
           59 ∷ (gap ++ (k ++ value)),
-          back,
+          suffix,
           e
               ∙ joined,
           (gap, value, refl, f, i, s),
@@ -103,47 +107,47 @@ module _ (d : Dialect) where
 
   -- Further parameters begin with a semicolon, or are none.
   more_to : (ps : Pairs Bare) (u : List ℕ) (v : Pairs Bare) → settle ps ≡ ps
-      → Either (After 59 (RestParams d (Opened ps))) (Nothing ps) u v → MoreParams d ps u v
+      → Either (After 59 (ResidualParams d (Opened ps))) (Nothing ps) u v → MoreParams d ps u v
   more_to ps u v g (inl (
     t,
     e,
-    (gap, rest, e', f, (k, front, back, e2, w, inl (t2, e3, (x, f2, b2, e4, sb, m)))),
+    (gap, rest, e', f, (k, prefix, suffix, e2, w, inl (t2, e3, (x, f2, b2, e4, sb, m)))),
   )) =
       one_more ps k x gap (61 ∷ f2) b2 u v (let a = w.0 in cc) f w.1 (inr (f2, refl, sb)) m
-  more_to ps u v g (inl (t, e, (gap, rest, e', f, (k, front, back, e2, w, inr m)))) =
-      one_more ps k (Boolean true) gap [] back u v (let a = w.0 in cc) f w.1 (inl (refl, refl)) m
+  more_to ps u v g (inl (t, e, (gap, rest, e', f, (k, prefix, suffix, e2, w, inr m)))) =
+      one_more ps k (Boolean true) gap [] suffix u v (let a = w.0 in cc) f w.1 (inl (refl, refl)) m
   more_to ps u v g (inr h) = ([], h.1 ∙ sym g ∙ sym (ap settle (append-nil ps)), h.0)
 
-  behind_key : (ps : Pairs Bare) (k : List ℕ) (x : Bare) (value back : List ℕ) (v : Pairs Bare)
-      → SpellsValue d value x → PutParams d ps k x back v → KeyParams d ps k (value ++ back) v
-  behind_key ps k x value back v (inl (
+  behind_key : (ps : Pairs Bare) (k : List ℕ) (x : Bare) (value suffix : List ℕ) (v : Pairs Bare)
+      → SpellsValue d value x → PutParams d ps k x suffix v → KeyParams d ps k (value ++ suffix) v
+  behind_key ps k x value suffix v (inl (
     e,
     n,
   )) m = inr (subst (λ y. PutParams d ps k (Boolean true) (y
-      ++ back) v) (sym n) (subst (λ y. PutParams d ps k y back v) e m))
-  behind_key ps k x value back v (inr (b2, e, sb)) m = inl (
-    b2 ++ back,
-    ap (λ y. y ++ back) e,
-    (x, b2, back, refl, sb, m),
+      ++ suffix) v) (sym n) (subst (λ y. PutParams d ps k y suffix v) e m))
+  behind_key ps k x value suffix v (inr (b2, e, sb)) m = inl (
+    b2 ++ suffix,
+    ap (λ y. y ++ suffix) e,
+    (x, b2, suffix, refl, sb, m),
   )
 
   more_from : (ps : Pairs Bare) (u : List ℕ) (v : Pairs Bare) → settle ps ≡ ps → MoreParams d ps u v
-      → Either (After 59 (RestParams d (Opened ps))) (Nothing ps) u v
+      → Either (After 59 (ResidualParams d (Opened ps))) (Nothing ps) u v
   more_from ps u v g ([], c, e) = inr (e, c ∙ ap settle (append-nil ps) ∙ g)
-  more_from ps u v g (p ∷ raw, c, (front, back, e, (gap, value, e1, f, i, s), r)) =
+  more_from ps u v g (p ∷ raw, c, (prefix, suffix, e, (gap, value, e1, f, i, s), r)) =
       let joined : (59 ∷ (gap ++ (p.0 ++ value)))
-      ++ back ≡ 59 ∷ (gap ++ (p.0 ++ (value ++ back))) = simp append_assoc in
-      let m : PutParams d ps p.0 p.1 back v = (raw, c ∙ sym (put_more ps p.0 p.1 raw), r) in
+      ++ suffix ≡ 59 ∷ (gap ++ (p.0 ++ (value ++ suffix))) = simp append_assoc in
+      let m : PutParams d ps p.0 p.1 suffix v = (raw, c ∙ sym (put_more ps p.0 p.1 raw), r) in
       inl (
-        gap ++ (p.0 ++ (value ++ back)),
-        e ∙ ap (λ y. y ++ back) e1
+        gap ++ (p.0 ++ (value ++ suffix)),
+        e ∙ ap (λ y. y ++ suffix) e1
             ∙ joined,
         (
           gap,
-          p.0 ++ (value ++ back),
+          p.0 ++ (value ++ suffix),
           refl,
           f,
-          (p.0, p.0, value ++ back, refl, (refl, i), behind_key ps p.0 p.1 value back v s m),
+          (p.0, p.0, value ++ suffix, refl, (refl, i), behind_key ps p.0 p.1 value suffix v s m),
         ),
       )
 
@@ -166,23 +170,23 @@ module _ (d : Dialect) where
           (allow_cases (b == 59) (Opened (put ps k (Boolean true))) t n).0 (λ e. omega arith)
 
   pub params_reads : (s : ParamsState) → GoodParams s
-      → ReadsParams (RestParams d s) (params_step d s) (params_finish s)
+      → ReadsParams (ResidualParams d s) (params_step d s) (params_finish s)
   params_reads (Between ps) g = between_reads ps g
   params_reads (Opened ps) g = reads_past is_sp (Opened ps) g (λ t v. same) apart
       (reads_first (InParamKey ps) (λ k t. g) (λ k t v. same)
-      (word_starts is_key_start is_key_rest))
+      (word_starts is_key_start is_in_key))
     where
       apart : (b : ℕ) (t : ParamsState) → is_sp b ≡ true
-          → seen (InParamKey ps) (word_start is_key_start b) ≡ Some t → ⊥
+          → option_map (InParamKey ps) (word_start is_key_start b) ≡ Some t → ⊥
       apart b t e n =
-          let c = seen_cases (InParamKey ps) (word_start is_key_start b) t n in
+          let c = map_cases (InParamKey ps) (word_start is_key_start b) t n in
           not_start b (eqb-true b 32 e) (allow_cases (is_key_start b) (b ∷ []) c.0 c.1).0
   params_reads (InParamKey ps k) g = reads_then (InParamKey ps) (λ k t. g) (λ k t v. same)
-      (word_reads is_key_rest k) (λ x e. key_reads ps x g) apart
+      (word_reads is_in_key k) (λ x e. key_reads ps x g) apart
     where
       apart : (x : List ℕ) (b : ℕ) (s : List ℕ) (t : ParamsState) → Some k ≡ Some x
-          → word_step is_key_rest k b ≡ Some s → key_step ps x b ≡ Some t → ⊥
-      apart x b s t e n m = key_apart ps x b t (allow_cases (is_key_rest b) (k ++ b ∷ []) s n).0 m
+          → word_step is_in_key k b ≡ Some s → key_step ps x b ≡ Some t → ⊥
+      apart x b s t e n m = key_apart ps x b t (allow_cases (is_in_key b) (k ++ b ∷ []) s n).0 m
   params_reads (EqualsParam ps k) g = reads_first (InValue ps k) (λ s h. (
     g,
     h,
@@ -201,7 +205,7 @@ module _ (d : Dialect) where
   pub no_raw : (ps : Pairs Bare) → settle ps ≡ ps → MoreParams d ps [] ps
   no_raw ps g = ([], sym g ∙ sym (ap settle (append-nil ps)), refl)
 
-  pub params_lives : (s : ParamsState) → GoodParams s → Live (Pairs Bare) (RestParams d s)
+  pub params_lives : (s : ParamsState) → GoodParams s → Live (Pairs Bare) (ResidualParams d s)
   params_lives (Between ps) g = record { text = []; value = ps; whole = no_raw ps g }
   params_lives (Opened ps) g = let q = put ps (97 ∷ []) (Boolean true) in
       record {
@@ -269,9 +273,9 @@ module _ (d : Dialect) where
   params_apart (Between ps) v b t e n f = between_apart ps b t n f
   params_apart (Opened ps) v b t e n f = cc
   params_apart (InParamKey ps k) v b t e n f = ⊎_elim
-      (λ o. not_key b (allow_cases (is_key_rest b) (k ++ b ∷ []) o.0 o.1).0 f)
+      (λ o. not_key b (allow_cases (is_in_key b) (k ++ b ∷ []) o.0 o.1).0 f)
       (λ o. key_step_apart ps o.0 b t o.3 f)
-      (onward_cases (InParamKey ps) (word_step is_key_rest k b) (Some k) (λ k. key_step ps k b) t n)
+      (onward_cases (InParamKey ps) (word_step is_in_key k b) (Some k) (λ k. key_step ps k b) t n)
   params_apart (EqualsParam ps k) v b t e n f = cc
   params_apart (InValue ps k s) v b t e n f =
       let c = and_then_cases (bare_finish s) (λ x. Some (put ps k x)) v e in

@@ -6,11 +6,12 @@ use Rattle.sf_value.specs.Grammar.Classes.{is_visible}
 use Rattle.sf_value.specs.Grammar.Strings.{is_escaped, escaped}
 use Rattle.sf_value.specs.Grammar.Tokens.{SpellsWord}
 use Rattle.sf_parse.specs.Machine.Language.{Reads, Live}
-use Rattle.sf_parse.specs.Machine.Texts.{RestWord, word_start, word_step, RestText, TextState}
+use Rattle.sf_parse.specs.Machine.Texts.{ResidualWord, word_start, word_step, ResidualText}
+use Rattle.sf_parse.specs.Machine.Texts.{TextState}
 use Rattle.sf_parse.specs.Machine.Texts.{Inside, Escaped, Closed, text_step, text_finish}
-use Rattle.sf_parse.specs.Machine.Texts.{RestBoolean, boolean_step, boolean_finish}
+use Rattle.sf_parse.specs.Machine.Texts.{ResidualBoolean, boolean_step, boolean_finish}
 use Rattle.sf_parse.specs.declared.boolean.BooleanState.{BooleanState}
-use Rattle.sf_parse.specs.declared.boolean.BooleanState.TheVariants.{Asked, Told}
+use Rattle.sf_parse.specs.declared.boolean.BooleanState.TheVariants.{QuestionMark, WithValue}
 use Rattle.sf_value.proofs.Words.{allow_cases}
 
 abbrev pub AnyState : {S : Type 0} → S → Type 0
@@ -18,7 +19,7 @@ AnyState s = Unit {0}
 
 -- words
 pub word_reads : (q : ℕ → Bool) (bytes : List ℕ)
-    → Reads (List ℕ) (List ℕ) AnyState (RestWord q) (RestWord q bytes) (word_step q bytes)
+    → Reads (List ℕ) (List ℕ) AnyState (ResidualWord q) (ResidualWord q bytes) (word_step q bytes)
     (Some bytes)
 word_reads q bytes = record {
   taken = λ b u v h. (
@@ -41,7 +42,7 @@ word_reads q bytes = record {
 }
 
 pub word_starts : (p q : ℕ → Bool)
-    → Reads (List ℕ) (List ℕ) AnyState (RestWord q) (SpellsWord p q) (word_start p) None
+    → Reads (List ℕ) (List ℕ) AnyState (ResidualWord q) (SpellsWord p q) (word_start p) None
 word_starts p q = record {
   taken = λ b u v h. word_taken p q b u v h.0 h.1;
   gives = λ b u v s n h. word_gives p q b u v s (allow_cases (p b) (b ∷ []) s n) h.0 h.1;
@@ -51,7 +52,7 @@ word_starts p q = record {
 }
   where
     word_taken : (p q : ℕ → Bool) (b : ℕ) (u v : List ℕ) → b ∷ u ≡ v → IsWord p q v
-        → (s : List ℕ) × (word_start p b ≡ Some s) × RestWord q s u v
+        → (s : List ℕ) × (word_start p b ≡ Some s) × ResidualWord q s u v
     word_taken p q b u v e h = let k = subst (IsWord p q) (sym e) h in
         (b ∷ [], rw k.0 refl, (k.1, sym e))
 
@@ -61,25 +62,26 @@ word_starts p q = record {
         ∙ ap (λ y. y ++ u) k.1 in (sym e', subst (IsWord p q) (sym e') (k.0, h))
 
 -- booleans
-asked_taken : (b : ℕ) (u : List ℕ) (v : Bool) → RestBoolean Asked (b ∷ u) v
-    → (s : BooleanState) × (boolean_step Asked b ≡ Some s) × RestBoolean s u v
-asked_taken b u v h = (Told v, grind arith, grind arith)
+mark_taken : (b : ℕ) (u : List ℕ) (v : Bool) → ResidualBoolean QuestionMark (b ∷ u) v
+    → (s : BooleanState) × (boolean_step QuestionMark b ≡ Some s) × ResidualBoolean s u v
+mark_taken b u v h = (WithValue v, grind arith, grind arith)
 
-asked_gives : (b : ℕ) (u : List ℕ) (v : Bool) (s : BooleanState) → boolean_step Asked b ≡ Some s
-    → RestBoolean s u v → RestBoolean Asked (b ∷ u) v
-asked_gives b u v s n h = grind arith
+mark_gives : (b : ℕ) (u : List ℕ) (v : Bool) (s : BooleanState) → boolean_step QuestionMark b
+    ≡ Some s
+    → ResidualBoolean s u v → ResidualBoolean QuestionMark (b ∷ u) v
+mark_gives b u v s n h = grind arith
 
 pub boolean_reads : (s : BooleanState) → AnyState s
-    → Reads BooleanState Bool AnyState RestBoolean (RestBoolean s) (boolean_step s)
+    → Reads BooleanState Bool AnyState ResidualBoolean (ResidualBoolean s) (boolean_step s)
     (boolean_finish s)
-boolean_reads Asked g = record {
-  taken = asked_taken;
-  gives = asked_gives;
+boolean_reads QuestionMark g = record {
+  taken = mark_taken;
+  gives = mark_gives;
   good = λ b s n. tt;
   ends = λ v h. absurd (cc h);
   ended = λ v e. absurd cc;
 }
-boolean_reads (Told c) g = record {
+boolean_reads (WithValue c) g = record {
   taken = λ b u v h. absurd (cc (h.0));
   gives = λ b u v s n h. absurd cc;
   good = λ b s n. tt;
@@ -87,18 +89,18 @@ boolean_reads (Told c) g = record {
   ended = λ v e. (refl, cc);
 }
 
-pub boolean_lives : (s : BooleanState) → Live Bool (RestBoolean s)
-boolean_lives Asked = record { text = 49 ∷ []; value = true; whole = refl }
-boolean_lives (Told c) = record { text = []; value = c; whole = (refl, refl) }
+pub boolean_lives : (s : BooleanState) → Live Bool (ResidualBoolean s)
+boolean_lives QuestionMark = record { text = 49 ∷ []; value = true; whole = refl }
+boolean_lives (WithValue c) = record { text = []; value = c; whole = (refl, refl) }
 
 -- strings
-inside_plain : (bytes : List ℕ) (b c : ℕ) → is_escaped c ≡ false → is_visible c ≡ true → b ≡ c
+inside_unescaped : (bytes : List ℕ) (b c : ℕ) → is_escaped c ≡ false → is_visible c ≡ true → b ≡ c
     → text_step (Inside bytes) b ≡ Some (Inside (bytes ++ b ∷ []))
-inside_plain bytes b c i h e = grind arith
+inside_unescaped bytes b c i h e = grind arith
 
 inside_taken : (bytes : List ℕ) (b : ℕ) (u v s : List ℕ) → b ∷ u ≡ escaped s ++ 34 ∷ []
     → Every is_visible s → v ≡ bytes ++ s
-    → (t : TextState) × (text_step (Inside bytes) b ≡ Some t) × RestText t u v
+    → (t : TextState) × (text_step (Inside bytes) b ≡ Some t) × ResidualText t u v
 inside_taken bytes b u v [] e h k = (
   Closed bytes,
   grind arith,
@@ -111,7 +113,7 @@ inside_taken bytes b u v [] e h k = (
 inside_taken bytes b u v (c ∷ s) e h k = go (is_escaped c) refl
   where
     go : (x : Bool) → is_escaped c ≡ x
-        → (t : TextState) × (text_step (Inside bytes) b ≡ Some t) × RestText t u v
+        → (t : TextState) × (text_step (Inside bytes) b ≡ Some t) × ResidualText t u v
     go true i =
         let e1 : b ∷ u ≡ 92 ∷ (c ∷ (escaped s ++ 34 ∷ [])) = rw i at e in
         let e2 : b ≡ 92 = cc in (
@@ -131,7 +133,7 @@ inside_taken bytes b u v (c ∷ s) e h k = go (is_escaped c) refl
         let e1 : b ∷ u ≡ c ∷ (escaped s ++ 34 ∷ []) = rw i at e in
         let e2 : b ≡ c = cc in (
           Inside (bytes ++ b ∷ []),
-          inside_plain bytes b c i h.0 e2,
+          inside_unescaped bytes b c i h.0 e2,
           (
             s,
             (let e3 : u ≡ escaped s ++ 34 ∷ [] = cc in
@@ -151,16 +153,17 @@ inside_cases bytes b t n = grind arith
 escaped_is : (c : ℕ) (s : List ℕ) → is_escaped c ≡ true → escaped (c ∷ s) ≡ 92 ∷ (c ∷ escaped s)
 escaped_is c s i = rw i refl
 
-plain_is : (c : ℕ) (s : List ℕ) → is_escaped c ≡ false → escaped (c ∷ s) ≡ c ∷ escaped s
-plain_is c s i = rw i refl
+unescaped_is : (c : ℕ) (s : List ℕ) → is_escaped c ≡ false → escaped (c ∷ s) ≡ c ∷ escaped s
+unescaped_is c s i = rw i refl
 
 escaped_visible : (c : ℕ) → is_escaped c ≡ true → is_visible c ≡ true
 escaped_visible c i = grind arith
 
 inside_gives : (bytes : List ℕ) (b : ℕ) (u v : List ℕ) (t : TextState)
-    → text_step (Inside bytes) b ≡ Some t → RestText t u v → RestText (Inside bytes) (b ∷ u) v
+    → text_step (Inside bytes) b ≡ Some t → ResidualText t u v
+    → ResidualText (Inside bytes) (b ∷ u) v
 inside_gives bytes b u v t n h = ⊎_elim
-    (λ k. let r = subst (λ y. RestText y u v) k.1 h in (
+    (λ k. let r = subst (λ y. ResidualText y u v) k.1 h in (
       [],
       ap₂ (λ x y. x ∷ y) k.0 r.0,
       tt,
@@ -168,25 +171,25 @@ inside_gives bytes b u v t n h = ⊎_elim
           ∙ sym (append-nil bytes),
     ))
     (⊎_elim
-    (λ k. let r = subst (λ y. RestText y u v) k.1 h in (
+    (λ k. let r = subst (λ y. ResidualText y u v) k.1 h in (
       r.0 ∷ r.1,
       ap₂ (λ x y. x ∷ y) k.0 r.2
           ∙ sym (ap (λ y. y ++ 34 ∷ []) (escaped_is r.0 r.1 r.3)),
       (escaped_visible r.0 r.3, r.4),
       r.5,
     ))
-    (λ k. let r = subst (λ y. RestText y u v) k.2 h in (
+    (λ k. let r = subst (λ y. ResidualText y u v) k.2 h in (
       b ∷ r.0,
       ap (λ y. b ∷ y) r.1
-          ∙ sym (ap (λ y. y ++ 34 ∷ []) (plain_is b r.0 k.0)),
+          ∙ sym (ap (λ y. y ++ 34 ∷ []) (unescaped_is b r.0 k.0)),
       (k.1, r.2),
       r.3
           ∙ append_assoc bytes (b ∷ []) r.0,
     )))
     (inside_cases bytes b t n)
 
-escaped_taken : (bytes : List ℕ) (b : ℕ) (u v : List ℕ) → RestText (Escaped bytes) (b ∷ u) v
-    → (t : TextState) × (text_step (Escaped bytes) b ≡ Some t) × RestText t u v
+escaped_taken : (bytes : List ℕ) (b : ℕ) (u v : List ℕ) → ResidualText (Escaped bytes) (b ∷ u) v
+    → (t : TextState) × (text_step (Escaped bytes) b ≡ Some t) × ResidualText t u v
 escaped_taken bytes b u v h =
     let e : h.0 ≡ b = cc (h.2) in
     let e' : u ≡ escaped h.1 ++ 34 ∷ [] = cc (h.2) in (
@@ -202,10 +205,11 @@ escaped_taken bytes b u v h =
     )
 
 escaped_gives : (bytes : List ℕ) (b : ℕ) (u v : List ℕ) (t : TextState)
-    → text_step (Escaped bytes) b ≡ Some t → RestText t u v → RestText (Escaped bytes) (b ∷ u) v
+    → text_step (Escaped bytes) b ≡ Some t → ResidualText t u v
+    → ResidualText (Escaped bytes) (b ∷ u) v
 escaped_gives bytes b u v t n h =
     let k = allow_cases (is_escaped b) (Inside (bytes ++ b ∷ [])) t n in
-    let r = subst (λ y. RestText y u v) k.1 h in
+    let r = subst (λ y. ResidualText y u v) k.1 h in
     (b, r.0, ap (λ y. b ∷ y) r.1, k.0, r.2, r.3 ∙ append_assoc bytes (b ∷ []) r.0)
 
 nil_end : (w f : List ℕ) (c : ℕ) → [] ≡ w ++ c ∷ f → ⊥
@@ -213,7 +217,7 @@ nil_end [] f c e = cc
 nil_end (d ∷ w) f c e = cc
 
 pub text_reads : (s : TextState) → AnyState s
-    → Reads TextState (List ℕ) AnyState RestText (RestText s) (text_step s) (text_finish s)
+    → Reads TextState (List ℕ) AnyState ResidualText (ResidualText s) (text_step s) (text_finish s)
 text_reads (Inside bytes) g = record {
   taken = λ b u v h. inside_taken bytes b u v h.0 h.1 h.2 h.3;
   gives = inside_gives bytes;
@@ -236,7 +240,7 @@ text_reads (Closed bytes) g = record {
   ended = λ v e. (refl, cc);
 }
 
-pub text_lives : (s : TextState) → Live (List ℕ) (RestText s)
+pub text_lives : (s : TextState) → Live (List ℕ) (ResidualText s)
 text_lives (Inside bytes) = record {
   text = 34 ∷ [];
   value = bytes;

@@ -1,8 +1,9 @@
 -- The machine that reads Byte Sequences.
+use Rattle.std.specs.Option.{option_or}
 use Rattle.std.specs.Prelude.{◌≡◌, ℕ, ◌+◌, ◌-◌, ◌*◌, ◌/◌, ◌%◌, ◌<◌, Bool, true, false, ◌==◌, nat_lt}
 use Rattle.std.specs.Prelude.{nat_le, ◌&&◌, if◌then◌else◌, List, [], ◌∷◌, ◌++◌, Option, Some, None}
 use Rattle.sf_value.specs.Ascii.{plus, slash, colon, equals, upper_a, upper_z}
-use Rattle.sf_value.specs.Grammar.Words.{allow, otherwise}
+use Rattle.sf_value.specs.Grammar.Words.{allow}
 use Rattle.sf_value.specs.Grammar.Classes.{is_digit, is_lower}
 use Rattle.sf_value.specs.Grammar.ByteSequences.{letter, Pads, Sextets}
 
@@ -51,10 +52,10 @@ pub data BlobState : Type 0 where
   Padded : (bytes : List ℕ) (more : ℕ) → BlobState
   Ended : (bytes : List ℕ) → BlobState
 
-abbrev pub RestBlob : BlobState → List ℕ → List ℕ → Type 0
-RestBlob (Group bytes h) u v = (s : List ℕ) × Sextets (letters h ++ u) s × (v ≡ bytes ++ s)
-RestBlob (Padded bytes n) u v = Pads n u × (v ≡ bytes)
-RestBlob (Ended bytes) u v = (u ≡ []) × (v ≡ bytes)
+abbrev pub ResidualBlob : BlobState → List ℕ → List ℕ → Type 0
+ResidualBlob (Group bytes h) u v = (s : List ℕ) × Sextets (letters h ++ u) s × (v ≡ bytes ++ s)
+ResidualBlob (Padded bytes n) u v = Pads n u × (v ≡ bytes)
+ResidualBlob (Ended bytes) u v = (u ≡ []) × (v ≡ bytes)
 
 abbrev pub GoodBlob : BlobState → Type 0
 GoodBlob (Group bytes H0) = Unit {0}
@@ -73,7 +74,7 @@ grown bytes (H3 x y z) w = Group (bytes
     ++ ((x * 4 + y / 16) ∷ (y % 16 * 16 + z / 4) ∷ (z % 4 * 64 + w) ∷ [])) H0
 
 abbrev pub pad_step : List ℕ → ℕ → ℕ → Option BlobState
-pad_step bytes n b = otherwise (allow (b == colon) (Ended bytes))
+pad_step bytes n b = option_or (allow (b == colon) (Ended bytes))
     (allow (b == equals && nat_lt 0 n) (Padded bytes (n - 1)))
 
 abbrev pub end_step : List ℕ → Held → ℕ → Option BlobState

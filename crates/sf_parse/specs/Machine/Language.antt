@@ -1,19 +1,20 @@
 -- Words on languages, and on machines that read them a byte at a time.
+use Rattle.std.specs.Option.{option_and_then}
 use Rattle.std.specs.Prelude.{◌≡◌, ℕ, Bool, true, false, List, [], ◌∷◌, ◌++◌, Option, Some, None}
 use Rattle.std.specs.Prelude.{◌⊎◌}
 use Rattle.sf_value.specs.Ascii.{tab, space, close_bracket, comma, semicolon}
 use Rattle.sf_value.specs.Grammar.Words.{Every}
 use Rattle.sf_value.specs.Grammar.Classes.{is_one_of}
 
--- a front that gives x, and a back that gives v after x
+-- a prefix that gives x, and a suffix that gives v after x
 abbrev pub Then : {X V : Type 0} → (List ℕ → X → Type 0) → (X → List ℕ → V → Type 0) → List ℕ → V
     → Type 0
-Then {X = X} A B t v = (x : X) × (front back : List ℕ) × (t ≡ front ++ back) × A front x
-    × B x back v
+Then {X = X} A B t v = (x : X) × (prefix suffix : List ℕ) × (t ≡ prefix ++ suffix) × A prefix x
+    × B x suffix v
 
 -- the value of A, seen by f
-abbrev pub Seen : {X V : Type 0} → (X → V) → (List ℕ → X → Type 0) → List ℕ → V → Type 0
-Seen {X = X} f A t v = (x : X) × A t x × (v ≡ f x)
+abbrev pub Mapped : {X V : Type 0} → (X → V) → (List ℕ → X → Type 0) → List ℕ → V → Type 0
+Mapped {X = X} f A t v = (x : X) × A t x × (v ≡ f x)
 
 -- goes on in the first part where that takes the byte, else in what follows its value
 abbrev pub onward : {S T X : Type 0} → (S → T) → Option S → Option X → (X → Option T) → Option T
@@ -21,20 +22,14 @@ onward into (Some s) end after = Some (into s)
 onward into None (Some x) after = after x
 onward into None None after = None
 
-abbrev pub and_then : {X Y : Type 0} → Option X → (X → Option Y) → Option Y
-and_then None f = None
-and_then (Some x) f = f x
-
-abbrev pub seen : {X Y : Type 0} → (X → Y) → Option X → Option Y
-seen f None = None
-seen f (Some x) = Some (f x)
-
 -- The texts of L are read by next and end: a byte leads to a state whose rest is L's, and end is
 -- the empty text's value.
-pub record Reads (S V : Type 0) (Good : S → Type 0) (Rest : S → List ℕ → V → Type 0) (L : List ℕ → V
+pub record Reads (S V : Type 0) (Good : S → Type 0) (Residual : S → List ℕ → V → Type 0)
+    (L : List ℕ → V
     → Type 0) (next : ℕ → Option S) (end : Option V) : Type 0 where
-  pub taken : (b : ℕ) (u : List ℕ) (v : V) → L (b ∷ u) v → (s : S) × (next b ≡ Some s) × Rest s u v
-  pub gives : (b : ℕ) (u : List ℕ) (v : V) (s : S) → next b ≡ Some s → Rest s u v → L (b ∷ u) v
+  pub taken : (b : ℕ) (u : List ℕ) (v : V) → L (b ∷ u) v → (s : S) × (next b ≡ Some s)
+      × Residual s u v
+  pub gives : (b : ℕ) (u : List ℕ) (v : V) (s : S) → next b ≡ Some s → Residual s u v → L (b ∷ u) v
   pub good : (b : ℕ) (s : S) → next b ≡ Some s → Good s
   pub ends : (v : V) → L [] v → end ≡ Some v
   pub ended : (v : V) → end ≡ Some v → L [] v
@@ -46,7 +41,7 @@ Either A B t v = A t v ⊎ B t v
 
 -- this byte, then A
 abbrev pub After : {V : Type 0} → ℕ → (List ℕ → V → Type 0) → List ℕ → V → Type 0
-After c A t v = (back : List ℕ) × (t ≡ c ∷ back) × A back v
+After c A t v = (suffix : List ℕ) × (t ≡ c ∷ suffix) × A suffix v
 
 -- the empty text, with this value
 abbrev pub Nothing : {V : Type 0} → V → List ℕ → V → Type 0
@@ -54,7 +49,7 @@ Nothing x t v = (t ≡ []) × (v ≡ x)
 
 -- any number of bytes that pass the test, then A
 abbrev pub Past : {V : Type 0} → (ℕ → Bool) → (List ℕ → V → Type 0) → List ℕ → V → Type 0
-Past p A t v = (front back : List ℕ) × (t ≡ front ++ back) × Every p front × A back v
+Past p A t v = (prefix suffix : List ℕ) × (t ≡ prefix ++ suffix) × Every p prefix × A suffix v
 
 -- the texts of A where the test holds
 abbrev pub Where : {V : Type 0} → Bool → (List ℕ → V → Type 0) → List ℕ → V → Type 0
@@ -68,7 +63,7 @@ only false o = None
 -- the state after a text
 abbrev pub run : {S : Type 0} → (S → ℕ → Option S) → S → List ℕ → Option S
 run step s [] = Some s
-run step s (b ∷ t) = and_then (step s b) (λ s'. run step s' t)
+run step s (b ∷ t) = option_and_then (λ s'. run step s' t) (step s b)
 
 -- some continuation completes the text
 pub record Live (V : Type 0) (L : List ℕ → V → Type 0) : Type 0 where
@@ -77,10 +72,11 @@ pub record Live (V : Type 0) (L : List ℕ → V → Type 0) : Type 0 where
   pub whole : L text value
 
 -- A machine that reads its own rests, and that no good state of which is stuck.
-pub record Machine (S V : Type 0) (Good : S → Type 0) (Rest : S → List ℕ → V → Type 0) (step : S → ℕ
+pub record Machine (S V : Type 0) (Good : S → Type 0) (Residual : S → List ℕ → V → Type 0)
+    (step : S → ℕ
     → Option S) (finish : S → Option V) : Type 0 where
-  pub reads : (s : S) → Good s → Reads S V Good Rest (Rest s) (step s) (finish s)
-  pub lives : (s : S) → Good s → Live V (Rest s)
+  pub reads : (s : S) → Good s → Reads S V Good Residual (Residual s) (step s) (finish s)
+  pub lives : (s : S) → Good s → Live V (Residual s)
 
 -- what a step in place says: it took the byte, or can't and changed nothing
 abbrev pub Steps : {S : Type 0} → Bool → Option S → S → S → Type 0

@@ -1,32 +1,33 @@
--- The machine that reads pieces with commas between them.
+-- The machine that reads members with commas between them.
+use Rattle.std.specs.Option.{option_and_then, option_map, option_or}
 use Rattle.std.specs.Prelude.{◌≡◌, ℕ, ◌==◌, List, ◌++◌, Option, Some, None}
 use Rattle.sf_value.specs.Ascii.{comma}
-use Rattle.sf_value.specs.Grammar.Words.{Every, allow, otherwise}
+use Rattle.sf_value.specs.Grammar.Words.{Every, allow}
 use Rattle.sf_value.specs.Grammar.Classes.{is_sp, is_ows}
 use Rattle.sf_value.specs.Grammar.Series.{SpellsCommas}
-use Rattle.sf_parse.specs.Machine.Language.{Then, Either, Past, Nothing, onward, seen, and_then}
+use Rattle.sf_parse.specs.Machine.Language.{Then, Either, Past, Nothing, onward}
 
--- S is the state in a piece, V what the pieces so far gave
+-- S is the state in a member, V what the members so far gave
 pub data SeriesState (S V : Type 0) : Type 0 where
   Begin : SeriesState S V
-  InPiece : (given : V) (state : S) → SeriesState S V
-  -- behind a piece
+  InMember : (given : V) (state : S) → SeriesState S V
+  -- behind a member
   Gap : (given : V) → SeriesState S V
   -- behind a comma
   Comma : (given : V) → SeriesState S V
 
--- what the whole pieces gave
+-- what the whole members gave
 abbrev pub given_of : {S V : Type 0} → V → SeriesState S V → V
 given_of none Begin = none
-given_of none (InPiece given s) = given
+given_of none (InMember given s) = given
 given_of none (Gap given) = given
 given_of none (Comma given) = given
 
--- What differs between a list and a dictionary: the pieces, and how pieces are added to what was
+-- What differs between a list and a dictionary: the members, and how members are added to what was
 -- given.
 pub record Series (S X V : Type 0) : Type 1 where
   pub Spells : List ℕ → X → Type 0
-  pub Rest : S → List ℕ → X → Type 0
+  pub Residual : S → List ℕ → X → Type 0
   pub Good : S → Type 0
   pub Settled : V → Type 0
   pub start : ℕ → Option S
@@ -36,43 +37,43 @@ pub record Series (S X V : Type 0) : Type 1 where
   pub add : V → X → V
   pub all : V → List X → V
 
--- further pieces
-abbrev pub MorePieces : {S X V : Type 0} → Series S X V → V → List ℕ → V → Type 0
-MorePieces {X = X} k given u v = (xs : List X) × (body tail : List ℕ) × (u ≡ body ++ tail)
+-- further members
+abbrev pub MoreMembers : {S X V : Type 0} → Series S X V → V → List ℕ → V → Type 0
+MoreMembers {X = X} k given u v = (xs : List X) × (body tail : List ℕ) × (u ≡ body ++ tail)
     × SpellsCommas k.Spells body xs × Every is_ows tail × (v ≡ k.all given xs)
 
--- a piece and further ones
-abbrev pub AddPieces : {S X V : Type 0} → Series S X V → V → List ℕ → V → Type 0
-AddPieces k given = Then k.Spells (λ x. MorePieces k (k.add given x))
+-- a member and further ones
+abbrev pub AddMembers : {S X V : Type 0} → Series S X V → V → List ℕ → V → Type 0
+AddMembers k given = Then k.Spells (λ x. MoreMembers k (k.add given x))
 
-abbrev pub RestSeries : {S X V : Type 0} → Series S X V → SeriesState S V → List ℕ → V → Type 0
-RestSeries k Begin = Past is_sp (Either (AddPieces k k.none) (Nothing k.none))
-RestSeries k (InPiece given s) = Then (k.Rest s) (λ x. MorePieces k (k.add given x))
-RestSeries k (Gap given) = MorePieces k given
-RestSeries k (Comma given) = Past is_ows (AddPieces k given)
+abbrev pub ResidualSeries : {S X V : Type 0} → Series S X V → SeriesState S V → List ℕ → V → Type 0
+ResidualSeries k Begin = Past is_sp (Either (AddMembers k k.none) (Nothing k.none))
+ResidualSeries k (InMember given s) = Then (k.Residual s) (λ x. MoreMembers k (k.add given x))
+ResidualSeries k (Gap given) = MoreMembers k given
+ResidualSeries k (Comma given) = Past is_ows (AddMembers k given)
 
 abbrev pub GoodSeries : {S V : Type 0} → (S → Type 0) → (V → Type 0) → SeriesState S V → Type 0
 GoodSeries Good Settled Begin = Unit {0}
-GoodSeries Good Settled (InPiece given s) = Settled given × Good s
+GoodSeries Good Settled (InMember given s) = Settled given × Good s
 GoodSeries Good Settled (Gap given) = Settled given
 GoodSeries Good Settled (Comma given) = Settled given
 
--- behind a piece: a comma, or white space before it
+-- behind a member: a comma, or white space before it
 abbrev pub gap_step : {S V : Type 0} → V → ℕ → Option (SeriesState S V)
-gap_step given b = otherwise (allow (is_ows b) (Gap given)) (allow (b == comma) (Comma given))
+gap_step given b = option_or (allow (is_ows b) (Gap given)) (allow (b == comma) (Comma given))
 
 abbrev pub series_step : {S X V : Type 0} → Series S X V → SeriesState S V → ℕ
     → Option (SeriesState S V)
-series_step k Begin b = otherwise (allow (is_sp b) Begin) (seen (InPiece k.none) (k.start b))
-series_step k (InPiece given s) b = onward (InPiece given) (k.step s b) (k.finish s)
+series_step k Begin b = option_or (allow (is_sp b) Begin) (option_map (InMember k.none) (k.start b))
+series_step k (InMember given s) b = onward (InMember given) (k.step s b) (k.finish s)
     (λ x. gap_step (k.add given x) b)
 series_step k (Gap given) b = gap_step given b
-series_step k (Comma given) b = otherwise (allow (is_ows b) (Comma given))
-    (seen (InPiece given) (k.start b))
+series_step k (Comma given) b = option_or (allow (is_ows b) (Comma given))
+    (option_map (InMember given) (k.start b))
 
 abbrev pub series_finish : {S X V : Type 0} → (S → Option X) → V → (V → X → V) → SeriesState S V
     → Option V
 series_finish end none add Begin = Some none
-series_finish end none add (InPiece given s) = and_then (end s) (λ x. Some (add given x))
+series_finish end none add (InMember given s) = option_and_then (λ x. Some (add given x)) (end s)
 series_finish end none add (Gap given) = Some given
 series_finish end none add (Comma given) = None

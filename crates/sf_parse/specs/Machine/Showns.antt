@@ -1,4 +1,5 @@
 -- The machine that reads Display Strings.
+use Rattle.std.specs.Option.{option_and_then, option_map}
 use Rattle.std.specs.Prelude.{◌≡◌, ℕ, ◌+◌, ◌-◌, ◌*◌, ◌/◌, ◌%◌, ◌<◌, ◌≤◌, Bool, true, ◌==◌, nat_lt}
 use Rattle.std.specs.Prelude.{nat_le, ◌&&◌, ◌||◌, if◌then◌else◌, List, [], ◌∷◌, ◌++◌, Option, Some}
 use Rattle.std.specs.Prelude.{None}
@@ -6,8 +7,7 @@ use Rattle.sf_value.specs.Ascii.{quote, percent, digit_zero, lower_a, lower_f}
 use Rattle.sf_value.specs.Grammar.Words.{allow}
 use Rattle.sf_value.specs.Grammar.Classes.{is_digit, is_visible, is_byte}
 use Rattle.sf_value.specs.Grammar.Utf8.{Utf8, Start, Wants, within, utf8_step, WellFormed}
-use Rattle.sf_value.specs.Grammar.DisplayStrings.{hex, Pieces}
-use Rattle.sf_parse.specs.Machine.Language.{and_then, seen}
+use Rattle.sf_value.specs.Grammar.DisplayStrings.{hex, EncodedBytes}
 
 abbrev pub unhex : ℕ → Option ℕ
 unhex b = if is_digit b then Some (b - digit_zero) else
@@ -15,27 +15,29 @@ unhex b = if is_digit b then Some (b - digit_zero) else
 
 pub data ShownState : Type 0 where
   Quote : ShownState
-  Plain : (bytes : List ℕ) (chars : Utf8) → ShownState
+  Unencoded : (bytes : List ℕ) (chars : Utf8) → ShownState
   Percent : (bytes : List ℕ) (chars : Utf8) → ShownState
   Hex : (bytes : List ℕ) (chars : Utf8) (high : ℕ) → ShownState
   Done : (bytes : List ℕ) → ShownState
 
-abbrev pub RestPlain : List ℕ → Utf8 → List ℕ → List ℕ → Type 0
-RestPlain bytes x u v = (s : List ℕ) × Pieces u s × WellFormed x s × (v ≡ bytes ++ s)
+abbrev pub ResidualUnencoded : List ℕ → Utf8 → List ℕ → List ℕ → Type 0
+ResidualUnencoded bytes x u v = (s : List ℕ) × EncodedBytes u s × WellFormed x s × (v ≡ bytes ++ s)
 
 -- the byte c by the digits that are left of it, and what follows
-abbrev pub RestEscape : List ℕ → Utf8 → ℕ → List ℕ → List ℕ → Type 0
-RestEscape bytes x c back v = (s : List ℕ) × (is_byte c ≡ true) × Pieces back s
+abbrev pub ResidualEscape : List ℕ → Utf8 → ℕ → List ℕ → List ℕ → Type 0
+ResidualEscape bytes x c suffix v = (s : List ℕ) × (is_byte c ≡ true) × EncodedBytes suffix s
     × WellFormed x (c ∷ s) × (v ≡ bytes ++ c ∷ s)
 
-abbrev pub RestShown : ShownState → List ℕ → List ℕ → Type 0
-RestShown Quote u v = (back : List ℕ) × (u ≡ quote ∷ back) × RestPlain [] Start back v
-RestShown (Plain bytes x) u v = RestPlain bytes x u v
-RestShown (Percent bytes x) u v = (c : ℕ) × (back : List ℕ)
-    × (u ≡ hex (c / 16) ∷ hex (c % 16) ∷ back) × RestEscape bytes x c back v
-RestShown (Hex bytes x h) u v = (c : ℕ) × (back : List ℕ) × (h ≡ c / 16) × (u ≡ hex (c % 16) ∷ back)
-    × RestEscape bytes x c back v
-RestShown (Done bytes) u v = (u ≡ []) × (v ≡ bytes)
+abbrev pub ResidualShown : ShownState → List ℕ → List ℕ → Type 0
+ResidualShown Quote u v = (suffix : List ℕ) × (u ≡ quote ∷ suffix)
+    × ResidualUnencoded [] Start suffix v
+ResidualShown (Unencoded bytes x) u v = ResidualUnencoded bytes x u v
+ResidualShown (Percent bytes x) u v = (c : ℕ) × (suffix : List ℕ)
+    × (u ≡ hex (c / 16) ∷ hex (c % 16) ∷ suffix) × ResidualEscape bytes x c suffix v
+ResidualShown (Hex bytes x h) u v = (c : ℕ) × (suffix : List ℕ) × (h ≡ c / 16)
+    × (u ≡ hex (c % 16) ∷ suffix)
+    × ResidualEscape bytes x c suffix v
+ResidualShown (Done bytes) u v = (u ≡ []) × (v ≡ bytes)
 
 -- whether a byte with this high digit may come
 abbrev pub can_begin : Utf8 → ℕ → Bool
@@ -48,7 +50,7 @@ GoodUtf8 (Wants n low high) = (128 ≤ low) × (low ≤ high) × (high ≤ 191)
 
 abbrev pub GoodShown : ShownState → Type 0
 GoodShown Quote = Unit {0}
-GoodShown (Plain bytes x) = GoodUtf8 x
+GoodShown (Unencoded bytes x) = GoodUtf8 x
 GoodShown (Percent bytes x) = GoodUtf8 x
 GoodShown (Hex bytes x h) = GoodUtf8 x × (h < 16) × (can_begin x h ≡ true)
 GoodShown (Done bytes) = Unit {0}
@@ -56,9 +58,9 @@ GoodShown (Done bytes) = Unit {0}
 -- one more byte of the text
 abbrev pub pushed : ShownState → ℕ → Option ShownState
 pushed Quote b = None
-pushed (Plain bytes x) b = seen (Plain (bytes ++ b ∷ [])) (utf8_step x b)
-pushed (Percent bytes x) b = seen (Plain (bytes ++ b ∷ [])) (utf8_step x b)
-pushed (Hex bytes x h) b = seen (Plain (bytes ++ b ∷ [])) (utf8_step x b)
+pushed (Unencoded bytes x) b = option_map (Unencoded (bytes ++ b ∷ [])) (utf8_step x b)
+pushed (Percent bytes x) b = option_map (Unencoded (bytes ++ b ∷ [])) (utf8_step x b)
+pushed (Hex bytes x h) b = option_map (Unencoded (bytes ++ b ∷ [])) (utf8_step x b)
 pushed (Done bytes) b = None
 
 abbrev pub quote_step : List ℕ → Utf8 → Option ShownState
@@ -66,18 +68,20 @@ quote_step bytes Start = Some (Done bytes)
 quote_step bytes (Wants n low high) = None
 
 abbrev pub shown_step : ShownState → ℕ → Option ShownState
-shown_step Quote b = allow (b == quote) (Plain [] Start)
-shown_step (Plain bytes x) b = if b == quote then quote_step bytes x else
-    (if b == percent then Some (Percent bytes x) else (if is_visible b then seen (Plain (bytes
+shown_step Quote b = allow (b == quote) (Unencoded [] Start)
+shown_step (Unencoded bytes x) b = if b == quote then quote_step bytes x else
+    (if b == percent then Some (Percent bytes x) else
+    (if is_visible b then option_map (Unencoded (bytes
     ++ b ∷ [])) (utf8_step x b) else None))
-shown_step (Percent bytes x) b = and_then (unhex b) (λ h. allow (can_begin x h) (Hex bytes x h))
-shown_step (Hex bytes x h) b = and_then (unhex b) (λ l. seen (Plain (bytes
-    ++ (h * 16 + l) ∷ [])) (utf8_step x (h * 16 + l)))
+shown_step (Percent bytes x) b = option_and_then (λ h. allow (can_begin x h) (Hex bytes x h))
+    (unhex b)
+shown_step (Hex bytes x h) b = option_and_then (λ l. option_map (Unencoded (bytes
+    ++ (h * 16 + l) ∷ [])) (utf8_step x (h * 16 + l))) (unhex b)
 shown_step (Done bytes) b = None
 
 abbrev pub shown_finish : ShownState → Option (List ℕ)
 shown_finish Quote = None
-shown_finish (Plain bytes x) = None
+shown_finish (Unencoded bytes x) = None
 shown_finish (Percent bytes x) = None
 shown_finish (Hex bytes x h) = None
 shown_finish (Done bytes) = Some bytes

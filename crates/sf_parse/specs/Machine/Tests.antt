@@ -4,8 +4,8 @@ use Rattle.std.specs.Prelude.{if◌then◌else◌, List, Option, Some, None, is_
 use Rattle.sf_value.specs.Ascii.{space, quote, percent, open_bracket, close_bracket, comma, minus}
 use Rattle.sf_value.specs.Ascii.{point, digit_zero, digit_one, colon, semicolon, equals}
 use Rattle.sf_value.specs.Ascii.{question_mark, at_sign, backslash}
-use Rattle.sf_value.specs.Grammar.Classes.{is_sp, is_ows, is_digit, is_key_start, is_key_rest}
-use Rattle.sf_value.specs.Grammar.Classes.{is_token_start, is_token_rest, is_visible}
+use Rattle.sf_value.specs.Grammar.Classes.{is_sp, is_ows, is_digit, is_key_start, is_in_key}
+use Rattle.sf_value.specs.Grammar.Classes.{is_token_start, is_in_token, is_visible}
 use Rattle.sf_value.specs.Grammar.Dialects.{is_rfc9651}
 use Rattle.sf_value.specs.Grammar.Strings.{is_escaped}
 use Rattle.sf_value.specs.Grammar.Utf8.{Utf8, Start, Wants, utf8_step}
@@ -13,9 +13,10 @@ use Rattle.sf_value.specs.declared.dialect.Dialect.{Dialect}
 use Rattle.sf_parse.specs.Machine.Numbers.{NumberState, Whole, Fraction, DateState, Digits, Sign}
 use Rattle.sf_parse.specs.Machine.Texts.{TextState, Inside, Escaped, Closed}
 use Rattle.sf_parse.specs.declared.boolean.BooleanState.{BooleanState}
-use Rattle.sf_parse.specs.declared.boolean.BooleanState.TheVariants.{Asked, Told}
+use Rattle.sf_parse.specs.declared.boolean.BooleanState.TheVariants.{QuestionMark, WithValue}
 use Rattle.sf_parse.specs.Machine.Blobs.{sextet, is_last, lacking, BlobState, Group, Padded, Ended}
-use Rattle.sf_parse.specs.Machine.Showns.{unhex, can_begin, ShownState, Quote, Plain, Percent, Hex}
+use Rattle.sf_parse.specs.Machine.Showns.{unhex, can_begin, ShownState, Quote, Unencoded, Percent}
+use Rattle.sf_parse.specs.Machine.Showns.{Hex}
 use Rattle.sf_parse.specs.Machine.Showns.{Done}
 use Rattle.sf_parse.specs.Machine.Bares.{BareState}
 use Rattle.sf_parse.specs.Machine.Bares.{InNumber, InText, InToken, InBoolean}
@@ -27,9 +28,9 @@ use Rattle.sf_parse.specs.Machine.Items.{InBare, InParams}
 use Rattle.sf_parse.specs.Machine.Inners.{InnerState, Room, InItem, Closing}
 use Rattle.sf_parse.specs.Machine.Members.{MemberState}
 use Rattle.sf_parse.specs.Machine.Members.{InOne, InMany}
-use Rattle.sf_parse.specs.Machine.Series.{SeriesState, Begin, InPiece, Gap, Comma}
+use Rattle.sf_parse.specs.Machine.Series.{SeriesState, Begin, InMember, Gap, Comma}
 use Rattle.sf_parse.specs.Machine.Entries.{EntryState}
-use Rattle.sf_parse.specs.Machine.Entries.{InKey, Equals, InMember, InFlag}
+use Rattle.sf_parse.specs.Machine.Entries.{InKey, Equals, InMemberValue, InFlag}
 use Rattle.sf_parse.specs.Machine.States.{State}
 use Rattle.sf_parse.specs.Machine.States.{BeforeItem, InTop, AfterItem, InList}
 use Rattle.sf_parse.specs.Machine.States.{InDict}
@@ -64,12 +65,12 @@ text_ends (Escaped bytes) = false
 text_ends (Closed bytes) = true
 
 abbrev pub boolean_takes : BooleanState → ℕ → Bool
-boolean_takes Asked b = b == digit_zero || b == digit_one
-boolean_takes (Told c) b = false
+boolean_takes QuestionMark b = b == digit_zero || b == digit_one
+boolean_takes (WithValue c) b = false
 
 abbrev pub boolean_ends : BooleanState → Bool
-boolean_ends Asked = false
-boolean_ends (Told c) = true
+boolean_ends QuestionMark = false
+boolean_ends (WithValue c) = true
 
 abbrev pub pad_takes : ℕ → ℕ → Bool
 pad_takes n b = b == colon || (b == equals && nat_lt 0 n)
@@ -98,7 +99,7 @@ passes p (Some h) = p h
 
 abbrev pub shown_takes : ShownState → ℕ → Bool
 shown_takes Quote b = b == quote
-shown_takes (Plain bytes x) b = if b == quote then is_whole x else
+shown_takes (Unencoded bytes x) b = if b == quote then is_whole x else
     (if b == percent then true else (if is_visible b then utf8_takes x b else false))
 shown_takes (Percent bytes x) b = passes (can_begin x) (unhex b)
 shown_takes (Hex bytes x h) b = passes (λ l. utf8_takes x (h * 16 + l)) (unhex b)
@@ -106,7 +107,7 @@ shown_takes (Done bytes) b = false
 
 abbrev pub shown_ends : ShownState → Bool
 shown_ends Quote = false
-shown_ends (Plain bytes x) = false
+shown_ends (Unencoded bytes x) = false
 shown_ends (Percent bytes x) = false
 shown_ends (Hex bytes x h) = false
 shown_ends (Done bytes) = true
@@ -122,7 +123,7 @@ bare_begins d b = (b == minus || number_takes (Whole false 0 0) b) ||
 abbrev pub bare_takes : BareState → ℕ → Bool
 bare_takes (InNumber s) b = number_takes s b
 bare_takes (InText s) b = text_takes s b
-bare_takes (InToken bytes) b = is_token_rest b
+bare_takes (InToken bytes) b = is_in_token b
 bare_takes (InBoolean s) b = boolean_takes s b
 bare_takes (InDate s) b = date_takes s b
 bare_takes (InBlob s) b = blob_takes s b
@@ -140,7 +141,7 @@ bare_ends (InShown s) = shown_ends s
 abbrev pub params_takes : Dialect → ParamsState → ℕ → Bool
 params_takes d (Between ps) b = b == semicolon
 params_takes d (Opened ps) b = is_sp b || is_key_start b
-params_takes d (InParamKey ps k) b = is_key_rest b || (b == equals || b == semicolon)
+params_takes d (InParamKey ps k) b = is_in_key b || (b == equals || b == semicolon)
 params_takes d (EqualsParam ps k) b = bare_begins d b
 params_takes d (InValue ps k s) b = bare_takes s b || (bare_ends s && b == semicolon)
 
@@ -182,27 +183,28 @@ member_ends (InOne s) = item_ends s
 member_ends (InMany s) = inner_ends s
 
 abbrev pub entry_takes : Dialect → EntryState → ℕ → Bool
-entry_takes d (InKey k) b = is_key_rest b || (b == equals || b == semicolon)
+entry_takes d (InKey k) b = is_in_key b || (b == equals || b == semicolon)
 entry_takes d (Equals k) b = member_begins d b
-entry_takes d (InMember k s) b = member_takes d s b
+entry_takes d (InMemberValue k s) b = member_takes d s b
 entry_takes d (InFlag k s) b = params_takes d s b
 
 abbrev pub entry_ends : EntryState → Bool
 entry_ends (InKey k) = true
 entry_ends (Equals k) = false
-entry_ends (InMember k s) = member_ends s
+entry_ends (InMemberValue k s) = member_ends s
 entry_ends (InFlag k s) = params_ends s
 
 abbrev pub series_takes : {S V : Type 0} → (ℕ → Bool) → (S → ℕ → Bool) → (S → Bool)
     → SeriesState S V → ℕ → Bool
 series_takes begins more ends Begin b = is_sp b || begins b
-series_takes begins more ends (InPiece given s) b = more s b || (ends s && (is_ows b || b == comma))
+series_takes begins more ends (InMember given s) b = more s b
+    || (ends s && (is_ows b || b == comma))
 series_takes begins more ends (Gap given) b = is_ows b || b == comma
 series_takes begins more ends (Comma given) b = is_ows b || begins b
 
 abbrev pub series_ends : {S V : Type 0} → (S → Bool) → SeriesState S V → Bool
 series_ends ends Begin = true
-series_ends ends (InPiece given s) = ends s
+series_ends ends (InMember given s) = ends s
 series_ends ends (Gap given) = true
 series_ends ends (Comma given) = false
 

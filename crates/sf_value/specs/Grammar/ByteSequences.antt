@@ -45,12 +45,12 @@ Pads n t = (m : ℕ) × (m ≤ n) × (t ≡ replicate m equals ++ colon ∷ [])
 -- base64 of s with any pad bits and any number of = up to what is needed, then the colon
 abbrev pub Sextets : List ℕ → List ℕ → Type 0
 Sextets t s =
-    (low : ℕ) × (back : List ℕ)
+    (low : ℕ) × (suffix : List ℕ)
     × (low < spare s)
-    × (t ≡ unpadded low s ++ back)
+    × (t ≡ unpadded low s ++ suffix)
     × Every is_byte s
-    × Pads (needed s) back
+    × Pads (needed s) suffix
 
 -- a Byte Sequence (3.3.5, 4.2.7): a colon, base64, a colon
 abbrev pub SpellsByteSequence : List ℕ → List ℕ → Type 0
-SpellsByteSequence t s = (back : List ℕ) × (t ≡ colon ∷ back) × Sextets back s
+SpellsByteSequence t s = (suffix : List ℕ) × (t ≡ colon ∷ suffix) × Sextets suffix s

@@ -18,7 +18,7 @@ use Rattle.sf_value.specs.Grammar.Pairs.{Pairs}
 use Rattle.sf_value.specs.Grammar.Numbers.{sign}
 use Rattle.sf_value.specs.Grammar.Strings.{escaped}
 use Rattle.sf_value.specs.Grammar.ByteSequences.{unpadded, needed}
-use Rattle.sf_value.specs.Grammar.DisplayStrings.{hex, is_plain}
+use Rattle.sf_value.specs.Grammar.DisplayStrings.{hex, is_unencoded}
 
 -- whether a - stands before the number
 abbrev pub is_negative : ℤ → Bool
@@ -41,11 +41,12 @@ canon_decimal m =
 abbrev pub canon_base64 : Seq ℕ → Seq ℕ
 canon_base64 s = unpadded 0 s ++ (replicate (needed s) equals ++ colon ∷ [])
 
--- the pieces of a Display String, and the quote (4.1.11)
+-- the bytes of a Display String, and the quote (4.1.11)
 abbrev pub canon_shown : Seq ℕ → Seq ℕ
 canon_shown [] = quote ∷ []
 canon_shown (c ∷ s) =
-    if is_plain c then c ∷ canon_shown s else percent ∷ hex (c / 16) ∷ hex (c % 16) ∷ canon_shown s
+    if is_unencoded c then c ∷ canon_shown s else percent ∷ hex (c / 16) ∷ hex (c % 16) ∷
+    canon_shown s
 
 -- a bare item (4.1.3.1, 4.1.4 to 4.1.11)
 abbrev pub canon_bare : Bare → Seq ℕ

@@ -34,8 +34,8 @@ abbrev pub is_key_start : ℕ → Bool
 is_key_start b = is_lower b || b == asterisk
 
 -- a further byte of a key (3.1.2)
-abbrev pub is_key_rest : ℕ → Bool
-is_key_rest b = is_lower b || is_digit b || is_one_of (codes "_-.*") b
+abbrev pub is_in_key : ℕ → Bool
+is_in_key b = is_lower b || is_digit b || is_one_of (codes "_-.*") b
 
 -- tchar (RFC 9110 section 5.6.2)
 abbrev pub is_tchar : ℕ → Bool
@@ -46,8 +46,8 @@ abbrev pub is_token_start : ℕ → Bool
 is_token_start b = is_alpha b || b == asterisk
 
 -- a further byte of a Token (3.3.4): tchar, : or /
-abbrev pub is_token_rest : ℕ → Bool
-is_token_rest b = is_tchar b || b == colon || b == slash
+abbrev pub is_in_token : ℕ → Bool
+is_in_token b = is_tchar b || b == colon || b == slash
 
 -- 0x20 to 0x7E, the bytes of a String (3.3.3)
 abbrev pub is_visible : ℕ → Bool

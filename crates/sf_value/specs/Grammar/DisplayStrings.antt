@@ -10,21 +10,21 @@ abbrev pub hex : ℕ → ℕ
 hex d = if nat_lt d 10 then d + digit_zero else d + 87
 
 -- what may stand for itself: 0x20 to 0x7E without the quote and %
-abbrev pub is_plain : ℕ → Bool
-is_plain b = is_visible b && (not (b == quote) && not (b == percent))
+abbrev pub is_unencoded : ℕ → Bool
+is_unencoded b = is_visible b && (not (b == quote) && not (b == percent))
 
 -- a byte, itself or as % and its two digits, and what follows
-abbrev pub Piece : List ℕ → ℕ → List ℕ → Type 0
-Piece t c back =
-    ((is_plain c ≡ true) × (t ≡ c ∷ back))
-    ⊎ ((is_byte c ≡ true) × (t ≡ percent ∷ hex (c / 16) ∷ hex (c % 16) ∷ back))
+abbrev pub EncodedByte : List ℕ → ℕ → List ℕ → Type 0
+EncodedByte t c suffix =
+    ((is_unencoded c ≡ true) × (t ≡ c ∷ suffix))
+    ⊎ ((is_byte c ≡ true) × (t ≡ percent ∷ hex (c / 16) ∷ hex (c % 16) ∷ suffix))
 
--- the pieces of s, and the quote
-abbrev pub Pieces : List ℕ → List ℕ → Type 0
-Pieces t [] = t ≡ quote ∷ []
-Pieces t (c ∷ s) = (back : List ℕ) × Piece t c back × Pieces back s
+-- the bytes of s, and the quote
+abbrev pub EncodedBytes : List ℕ → List ℕ → Type 0
+EncodedBytes t [] = t ≡ quote ∷ []
+EncodedBytes t (c ∷ s) = (suffix : List ℕ) × EncodedByte t c suffix × EncodedBytes suffix s
 
--- a Display String (3.3.8, 4.2.10): %, a quote, pieces that make well-formed UTF-8, a quote
+-- a Display String (3.3.8, 4.2.10): %, a quote, bytes that make well-formed UTF-8, a quote
 abbrev pub SpellsDisplayString : List ℕ → List ℕ → Type 0
 SpellsDisplayString t s =
-    (back : List ℕ) × (t ≡ percent ∷ quote ∷ back) × Pieces back s × WellFormed Start s
+    (suffix : List ℕ) × (t ≡ percent ∷ quote ∷ suffix) × EncodedBytes suffix s × WellFormed Start s

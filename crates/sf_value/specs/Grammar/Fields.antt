@@ -33,10 +33,10 @@ flag ps = member.Item (item (Boolean true) ps)
 -- its key and parameters alone
 abbrev pub SpellsEntry : Dialect → Seq ℕ → Seq ℕ × Member → Type 0
 SpellsEntry d t p =
-    (back : Seq ℕ)
+    (suffix : Seq ℕ)
     × IsKey p.0
-    × (((t ≡ p.0 ++ equals ∷ back) × SpellsMember d back p.1)
-    ⊎ ((ps : Pairs Bare) × (p.1 ≡ flag ps) × (t ≡ p.0 ++ back) × SpellsParams d back ps))
+    × (((t ≡ p.0 ++ equals ∷ suffix) × SpellsMember d suffix p.1)
+    ⊎ ((ps : Pairs Bare) × (p.1 ≡ flag ps) × (t ≡ p.0 ++ suffix) × SpellsParams d suffix ps))
 
 -- a List by its members, as a field
 abbrev pub list_of : Seq Member → Field

@@ -22,20 +22,20 @@ inner is ps = record { items = is; params = ps }
 abbrev pub SpellsItems : Dialect → ℕ → List ℕ → List Item → Type 0
 SpellsItems d least t [] = Every is_sp t
 SpellsItems d least t (i ∷ is) =
-    (gap front back : List ℕ)
-    × (t ≡ gap ++ (front ++ back))
+    (gap prefix suffix : List ℕ)
+    × (t ≡ gap ++ (prefix ++ suffix))
     × Every is_sp gap
     × (least ≤ length gap)
-    × SpellsItem d front i
-    × SpellsItems d 1 back is
+    × SpellsItem d prefix i
+    × SpellsItems d 1 suffix is
 
 -- an Inner List (3.1.1, 4.2.1.2): a bracket, Items, a bracket, parameters
 abbrev pub SpellsInner : Dialect → List ℕ → Inner → Type 0
 SpellsInner d t l =
-    (body back : List ℕ)
-    × (t ≡ open_bracket ∷ (body ++ close_bracket ∷ back))
+    (body suffix : List ℕ)
+    × (t ≡ open_bracket ∷ (body ++ close_bracket ∷ suffix))
     × SpellsItems d 0 body l.items
-    × SpellsParams d back l.params
+    × SpellsParams d suffix l.params
 
 -- a member (4.2.1.1): an Item or an Inner List
 abbrev pub SpellsMember : Dialect → List ℕ → Member → Type 0

@@ -14,7 +14,7 @@ item x ps = record { bare = x; params = ps }
 -- an Item (3.3, 4.2.3): its bare item, then its parameters
 abbrev pub SpellsItem : Dialect → List ℕ → Item → Type 0
 SpellsItem d t i =
-    (front back : List ℕ)
-    × (t ≡ front ++ back)
-    × SpellsBare d front i.bare
-    × SpellsParams d back i.params
+    (prefix suffix : List ℕ)
+    × (t ≡ prefix ++ suffix)
+    × SpellsBare d prefix i.bare
+    × SpellsParams d suffix i.params

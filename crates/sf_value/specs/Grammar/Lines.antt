@@ -1,4 +1,4 @@
--- Field lines, and what may still come after the front of a text.
+-- Field lines, and what may still come after the prefix of a text.
 use Rattle.std.specs.Prelude.{ℕ, ◌<◌, ◌≤◌, List, [], ◌∷◌, ◌++◌, length, take}
 use Rattle.sf_value.specs.declared.dialect.Dialect.{Dialect}
 use Rattle.sf_value.specs.declared.value.Field.{Field}
@@ -16,11 +16,11 @@ join (l ∷ m ∷ ls) = l ++ comma ∷ space ∷ join (m ∷ ls)
 abbrev pub Accepted : Dialect → Kind → List (List ℕ) → Type 0
 Accepted d kind lines = (v : Field) × SpellsField d kind (join lines) v
 
--- some continuation, an empty one included, makes this front a text of L
+-- some continuation, an empty one included, makes this prefix a text of L
 abbrev pub Continues : {V : Type 0} → (List ℕ → V → Type 0) → List ℕ → Type 0
 Continues {V = V} L p = (u : List ℕ) × (v : V) × L (p ++ u) v
 
--- n is the length of the longest front of t that continues to a text of L
+-- n is the length of the longest prefix of t that continues to a text of L
 pub record IsLongest (V : Type 0) (L : List ℕ → V → Type 0) (t : List ℕ) (n : ℕ) : Type 0 where
   pub within : n ≤ length t
   pub viable : Continues L (take n t)
@@ -30,7 +30,7 @@ pub record IsLongest (V : Type 0) (L : List ℕ → V → Type 0) (t : List ℕ)
 abbrev pub Viable : Dialect → Kind → List ℕ → Type 0
 Viable d kind = Continues (SpellsField d kind)
 
--- the place of a refusal: how long the longest viable front of t is
+-- the place of a refusal: how long the longest viable prefix of t is
 abbrev pub IsPlace : Dialect → Kind → List ℕ → ℕ → Type 0
 IsPlace d kind = IsLongest Field (SpellsField d kind)
 

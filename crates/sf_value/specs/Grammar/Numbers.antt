@@ -49,4 +49,4 @@ SpellsDecimal t m =
 
 -- a Date (3.3.7, 4.2.9): @ and an Integer
 abbrev pub SpellsDate : List ℕ → ℤ → Type 0
-SpellsDate t n = (back : List ℕ) × (t ≡ at_sign ∷ back) × SpellsInteger back n
+SpellsDate t n = (suffix : List ℕ) × (t ≡ at_sign ∷ suffix) × SpellsInteger suffix n

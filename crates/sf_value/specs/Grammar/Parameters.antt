@@ -14,7 +14,7 @@ use Rattle.sf_value.specs.Grammar.BareItems.{SpellsBare}
 abbrev pub SpellsValue : Dialect → List ℕ → Bare → Type 0
 SpellsValue d t x =
     ((x ≡ Boolean true) × (t ≡ []))
-    ⊎ ((back : List ℕ) × (t ≡ equals ∷ back) × SpellsBare d back x)
+    ⊎ ((suffix : List ℕ) × (t ≡ equals ∷ suffix) × SpellsBare d suffix x)
 
 -- a parameter (4.2.3.2): a semicolon, spaces, the key, the value
 abbrev pub SpellsParam : Dialect → List ℕ → List ℕ → Bare → Type 0
@@ -29,10 +29,10 @@ SpellsParam d t k x =
 abbrev pub SpellsRaw : Dialect → List ℕ → Pairs Bare → Type 0
 SpellsRaw d t [] = t ≡ []
 SpellsRaw d t (p ∷ raw) =
-    (front back : List ℕ)
-    × (t ≡ front ++ back)
-    × SpellsParam d front p.0 p.1
-    × SpellsRaw d back raw
+    (prefix suffix : List ℕ)
+    × (t ≡ prefix ++ suffix)
+    × SpellsParam d prefix p.0 p.1
+    × SpellsRaw d suffix raw
 
 -- parameters (3.1.2, 4.2.3.2): the pairs of the text, settled
 abbrev pub SpellsParams : Dialect → List ℕ → Pairs Bare → Type 0

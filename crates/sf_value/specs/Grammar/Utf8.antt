@@ -1,7 +1,8 @@
 -- Well-formed UTF-8 by its table (RFC 3629 section 4).
+use Rattle.std.specs.Option.{option_or}
 use Rattle.std.specs.Prelude.{◌≡◌, ℕ, zero, suc, Bool, nat_le, ◌&&◌, List, [], ◌∷◌, Option, Some}
 use Rattle.std.specs.Prelude.{None}
-use Rattle.sf_value.specs.Grammar.Words.{allow, otherwise}
+use Rattle.sf_value.specs.Grammar.Words.{allow}
 
 -- between two characters, or within one: so many bytes after the next, and where the next lies
 pub data Utf8 : Type 0 where
@@ -34,7 +35,7 @@ rows =
 -- what the first row with the byte says
 abbrev pub look_up : List (ℕ × ℕ × Utf8) → ℕ → Option Utf8
 look_up [] b = None
-look_up (r ∷ rs) b = otherwise (allow (within r.0 r.1 b) r.2) (look_up rs b)
+look_up (r ∷ rs) b = option_or (allow (within r.0 r.1 b) r.2) (look_up rs b)
 
 -- UTF-8 a byte at a time
 abbrev pub utf8_step : Utf8 → ℕ → Option Utf8

@@ -16,11 +16,6 @@ abbrev pub Each : {X : Type 0} → (X → Type 0) → List X → Type 0
 Each P [] = Unit {0}
 Each P (x ∷ xs) = P x × Each P xs
 
--- the first if there is one, else the second
-abbrev pub otherwise : {S : Type 0} → Option S → Option S → Option S
-otherwise (Some s) o = Some s
-otherwise None o = o
-
 -- s where the test holds
 abbrev pub allow : {S : Type 0} → Bool → S → Option S
 allow true s = Some s

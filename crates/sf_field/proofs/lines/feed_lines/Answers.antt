@@ -2,7 +2,7 @@ use Rattle.std.proofs.Common.{[], sym, ap, ◌∙◌, subst, inl, inr}
 use Rattle.std.proofs.lemmas.Result.{err_from_is_err_and}
 use Rattle.sf_value.specs.Grammar.Lines.{join}
 use Rattle.sf_value.specs.Grammar.Words.{Every}
-use Rattle.sf_parse.specs.Plain.{plain_byte}
+use Rattle.sf_parse.specs.AllocationFree.{number_byte}
 use Rattle.sf_parse.proofs.FedLines.{fed_before}
 use Rattle.sf_field.proofs.Feeding.{FedSoFar, behind, joined, fed_nothing, fed_line, fed_refused}
 use Rattle.sf_field.proofs.Feeding.{alone_next}
@@ -24,7 +24,7 @@ loop-line-init g c =
           subst (FedSoFar c.args.parser.now c.feed.new.self (join all))
           (joined all ∙ ap (λ b. behind b all) (sym flag))
           (fed_nothing _ _ _ c.in_ok-feed.ensures.fed);
-      plain = λ h line e w. c.in_ok-feed.ensures.plain h tt;
+      allocation_free = λ h line e w. c.in_ok-feed.ensures.allocation_free h tt;
       alone = λ line e. inl (e, flag);
     }
 
@@ -45,11 +45,12 @@ loop-line-preserved g c =
           fed_line _ _ c.feed_line.new.self _ _ c.in-Some.line.now _ after
           c.in_ok-feed_line.ensures.lines c.loop-line.invariant.so_far
           (ap (behind after) c.in-Some.ensures) c.in_ok-feed_line.ensures.fed;
-      plain = λ h line e w.
+      allocation_free = λ h line e w.
           let only = alone_next line after _ _ _ c.in-Some.ensures
           (c.loop-line.invariant.alone line e) in
-          c.in_ok-feed_line.ensures.plain (c.loop-line.invariant.plain h line e w) only.1
-          (subst (Every plain_byte) (sym only.0) w);
+          c.in_ok-feed_line.ensures.allocation_free
+          (c.loop-line.invariant.allocation_free h line e w) only.1
+          (subst (Every number_byte) (sym only.0) w);
       alone = λ line e.
           inr (alone_next line after _ _ _ c.in-Some.ensures
           (c.loop-line.invariant.alone line e)).2;

@@ -1,8 +1,8 @@
 use Rattle.std.proofs.Common.{◌≡◌, ℕ, List, [], ◌∷◌, length}
 use Rattle.sf_value.specs.Grammar.Lines.{join}
 use Rattle.sf_value.specs.Grammar.Words.{Every}
-use Rattle.sf_parse.specs.Plain.{plain_byte}
-use Rattle.sf_parse.specs.PlainParsers.{IsPlain}
+use Rattle.sf_parse.specs.AllocationFree.{number_byte}
+use Rattle.sf_parse.specs.AllocationFreeParsers.{IsAllocationFree}
 use Rattle.sf_field.proofs.Feeding.{FedSoFar, Alone, behind}
 use Rattle.sf_field.proofs.lines.feed_lines.Given as goal
 
@@ -11,8 +11,9 @@ invariant-loop-line g l = record {
   -- what is left of the joined text is that of the lines that are left
   so_far : FedSoFar l.fn.parser l.parser (join (g.L.FieldLines.lines l.initial.lines))
       (behind l.parser.after_line (g.L.FieldLines.lines l.lines));
-  plain : IsPlain l.fn.parser → (line : List ℕ) → g.L.FieldLines.lines l.initial.lines ≡ line ∷ []
-      → Every plain_byte line → IsPlain l.parser;
+  allocation_free : IsAllocationFree l.fn.parser → (line : List ℕ)
+      → g.L.FieldLines.lines l.initial.lines ≡ line ∷ []
+      → Every number_byte line → IsAllocationFree l.parser;
   alone : (line : List ℕ) → g.L.FieldLines.lines l.initial.lines ≡ line ∷ []
       → Alone line l.parser.after_line (g.L.FieldLines.lines l.lines);
 }

@@ -1,5 +1,5 @@
 use Rattle.std.proofs.Common.{ℕ, List, length, take, ◌++◌, ◌≤◌}
-use Rattle.sf_parse.specs.Fronts.{Went}
+use Rattle.sf_parse.specs.Prefixes.{Went}
 use Rattle.sf_parse.specs.Machine.Blobs.{H0, Group, blob_step}
 use Rattle.sf_parse.proofs.blob.decode_groups.Given as goal
 
@@ -8,7 +8,7 @@ invariant-loop-rest l = record {
   within : l.count ≤ 96;
   went :
       (bs : List ℕ)
-      → Went blob_step (Group bs H0) l.piece l.rest (Group (bs ++ take l.count l.block) H0);
+      → Went blob_step (Group bs H0) l.chunk l.rest (Group (bs ++ take l.count l.block) H0);
 }
 
 abbrev pub decreases-loop-rest : goal.decreases-loop-rest

@@ -13,7 +13,7 @@ loop-rest-preserved c =
     record {
       within = omega arith;
       went =
-          λ bs. escape_on x y z bs block c.args.piece.now c.loop-rest.rest.now n c.in-Some.byte
+          λ bs. escape_on x y z bs block c.args.chunk.now c.loop-rest.rest.now n c.in-Some.byte
           (omega arith) c.in-len3-up.len_at_least c.if-percent-ne37.false
           (c.loop-rest.invariant.went bs)
           (c.in-Some.ensures (bs ++ take n block) y z (sym c.in-Some-after.ensures));

@@ -1,7 +1,7 @@
 use Rattle.std.proofs.Common.{ℕ, List, length, take, ◌++◌, ◌≤◌}
-use Rattle.sf_parse.specs.Fronts.{Went}
+use Rattle.sf_parse.specs.Prefixes.{Went}
 use Rattle.sf_parse.specs.Views.{utf8_of, Leads}
-use Rattle.sf_parse.specs.Machine.Showns.{Plain, shown_step}
+use Rattle.sf_parse.specs.Machine.Showns.{Unencoded, shown_step}
 use Rattle.sf_parse.proofs.display_string.read_escapes.Given as goal
 
 abbrev pub invariant-loop-rest : goal.invariant-loop-rest
@@ -9,8 +9,8 @@ invariant-loop-rest l = record {
   within : l.count ≤ 64;
   went :
       (bs : List ℕ)
-      → Went shown_step (Plain bs (utf8_of l.fn.from)) l.piece l.rest
-      (Plain (bs ++ take l.count l.block) (utf8_of l.chars));
+      → Went shown_step (Unencoded bs (utf8_of l.fn.from)) l.chunk l.rest
+      (Unencoded (bs ++ take l.count l.block) (utf8_of l.chars));
   leads :
       (bs : List ℕ) → Leads bs (utf8_of l.fn.from)
       → Leads (bs ++ take l.count l.block) (utf8_of l.chars);

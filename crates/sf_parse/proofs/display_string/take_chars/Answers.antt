@@ -1,5 +1,5 @@
 use Rattle.sf_parse.specs.Machine.Showns.{shown_step}
-use Rattle.sf_parse.proofs.Fronts.{went_more}
+use Rattle.sf_parse.proofs.Prefixes.{went_more}
 use Rattle.sf_parse.proofs.display_string.take_chars.Goals.{then-byte-eq37+in_ok-rest}
 use Rattle.sf_parse.proofs.display_string.take_chars.Goals.{else-byte-eq37+in_ok-rest-2}
 use Rattle.sf_parse.proofs.display_string.take_chars.Goals as goal
@@ -19,6 +19,6 @@ loop-byte-preserved c =
             went =
                 went_more shown_step _ _ _ _ _ _ c.loop-byte.invariant.went
                 w.in_ok-rest-2.ensures.went;
-            leads = w.take_plain.ensures.leads;
+            leads = w.take_unencoded.ensures.leads;
           })
     ]

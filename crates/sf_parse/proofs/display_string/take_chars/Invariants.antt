@@ -1,14 +1,14 @@
 use Rattle.std.proofs.Common.{length}
-use Rattle.sf_parse.specs.Fronts.{Went}
+use Rattle.sf_parse.specs.Prefixes.{Went}
 use Rattle.sf_parse.specs.Views.{utf8_of, Leads}
-use Rattle.sf_parse.specs.Machine.Showns.{Plain, shown_step}
+use Rattle.sf_parse.specs.Machine.Showns.{Unencoded, shown_step}
 use Rattle.sf_parse.proofs.display_string.take_chars.Given as goal
 
 abbrev pub invariant-loop-byte : goal.invariant-loop-byte
 invariant-loop-byte l = record {
   went :
-      Went shown_step (Plain l.initial.bytes (utf8_of l.initial.chars)) l.piece l.rest
-      (Plain l.bytes (utf8_of l.chars));
+      Went shown_step (Unencoded l.initial.bytes (utf8_of l.initial.chars)) l.chunk l.rest
+      (Unencoded l.bytes (utf8_of l.chars));
   leads : Leads l.bytes (utf8_of l.chars);
 }
 

@@ -1,17 +1,17 @@
 use Rattle.std.proofs.Common.{sym, ap, ◌∙◌, subst}
 use Rattle.sf_parse.specs.Expected.{Marks}
 use Rattle.sf_parse.specs.Machine.Fields.{step, begin}
-use Rattle.sf_parse.proofs.Fronts.{front_above, never}
-use Rattle.sf_parse.proofs.Wholes.{whole_refused, whole_value, whole_plain}
+use Rattle.sf_parse.proofs.Prefixes.{prefix_above, never}
+use Rattle.sf_parse.proofs.WholeTexts.{whole_refused, whole_value, whole_allocation_free}
 use Rattle.sf_parse.proofs.field.read_whole.Goals as goal
 
 pub returns-then-is_some-clause-parses : goal.returns-then-is_some-clause-parses
 returns-then-is_some-clause-parses g c =
     let d = c.args.context.now.dialect in
     let law = g.met.W.WholeField in
-    let front = front_above (g.W.Level.next d) (step d) g.W.WholeField.state (law.steps d) _ _ _ _
-    c.in_ok-rest.ensures.front in
-    whole_refused d _ _ _ _ _ _ _ _ c.requires.begin front
+    let prefix = prefix_above (g.W.Level.next d) (step d) g.W.WholeField.state (law.steps d) _ _ _ _
+    c.in_ok-rest.ensures.prefix in
+    whole_refused d _ _ _ _ _ _ _ _ c.requires.begin prefix
     (c.copied-found.ensures ∙ c.first.ensures.value)
     (subst (Marks c.expected.result) (law.takes_too d _) c.expected.ensures)
     (c.may_end-may_end.ensures ∙ law.ends_too _)
@@ -21,18 +21,18 @@ pub returns-clause-parses : goal.returns-clause-parses
 returns-clause-parses g c =
     let d = c.args.context.now.dialect in
     let law = g.met.W.WholeField in
-    let front = front_above (g.W.Level.next d) (step d) g.W.WholeField.state (law.steps d) _ _ _ _
-    c.in_ok-rest.ensures.front in
-    whole_value d _ _ _ _ _ _ _ c.requires.begin front
+    let prefix = prefix_above (g.W.Level.next d) (step d) g.W.WholeField.state (law.steps d) _ _ _ _
+    c.in_ok-rest.ensures.prefix in
+    whole_value d _ _ _ _ _ _ _ c.requires.begin prefix
     (c.copied-found.ensures ∙ c.first.ensures.value) (sym c.is_some.ensures ∙ c.if-is_some.false)
     (sym c.in_ok-value.ensures.value ∙ c.in-Some.is)
 
-pub returns-in_err-value-clause-plain : goal.returns-in_err-value-clause-plain
-returns-in_err-value-clause-plain g c =
+pub returns-in_err-value-clause-allocation_free : goal.returns-in_err-value-clause-allocation_free
+returns-in_err-value-clause-allocation_free g c =
     let d = c.args.context.now.dialect in
     let law = g.met.W.WholeField in
-    let front = front_above (g.W.Level.next d) (step d) g.W.WholeField.state (law.steps d) _ _ _ _
-    c.in_ok-rest.ensures.front in
+    let prefix = prefix_above (g.W.Level.next d) (step d) g.W.WholeField.state (law.steps d) _ _ _ _
+    c.in_ok-rest.ensures.prefix in
     λ item w.
-    never (c.in_err-value.ensures.plain
-    (whole_plain d _ _ _ _ (c.requires.begin ∙ ap begin item) w front))
+    never (c.in_err-value.ensures.allocation_free
+    (whole_allocation_free d _ _ _ _ (c.requires.begin ∙ ap begin item) w prefix))

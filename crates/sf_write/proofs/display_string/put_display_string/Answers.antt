@@ -9,15 +9,15 @@ loop-byte-init g c = remains_less remains_all refl c.put-sent.ensures
 pub returns-in_default : goal.returns-in_default
 returns-in_default g c =
     let split = c.split_at.ensures in
-    let run = shown_run _ _ _ _ c.plain_len.ensures.len split.front split.back in
+    let run = shown_run _ _ _ _ c.unencoded_len.ensures.len split.front split.back in
     let left = remains_less c.loop-byte.invariant run c.put-sent-in-loop-byte.ensures in
     left.finish _ _ (rw (shown_end _ c.in_default.ensures.cases) c.put.ensures)
 
 pub loop-byte-preserved : goal.loop-byte-preserved
 loop-byte-preserved g c =
     let split = c.split_at.ensures in
-    let run = shown_run _ _ _ _ c.plain_len.ensures.len split.front split.back in
+    let run = shown_run _ _ _ _ c.unencoded_len.ensures.len split.front split.back in
     let left = remains_less c.loop-byte.invariant run c.put-sent-in-loop-byte.ensures in
-    let byte = shown_escape _ _ _ _ _ c.plain_len.ensures.len split.back
+    let byte = shown_escape _ _ _ _ _ c.unencoded_len.ensures.len split.back
     c.in-Some.ensures.cases.0 in
     remains_less left byte (rw c.percent_escape-escape.ensures at c.put-sent-in-loop-byte-2.ensures)

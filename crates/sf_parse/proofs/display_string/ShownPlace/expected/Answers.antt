@@ -1,6 +1,6 @@
 use Rattle.std.proofs.Common.{refl}
 use Rattle.sf_value.specs.Grammar.Utf8.{Start}
-use Rattle.sf_parse.specs.Machine.Showns.{Quote, Plain, Percent}
+use Rattle.sf_parse.specs.Machine.Showns.{Quote, Unencoded, Percent}
 use Rattle.sf_parse.specs.Machine.Tests.{shown_takes}
 use Rattle.sf_parse.proofs.Marks.{marks_table}
 use Rattle.sf_parse.proofs.LevelMarks.{marks_wants}
@@ -10,15 +10,16 @@ pub returns-in-Quote-default : goal.returns-in-Quote-default
 returns-in-Quote-default c =
     rw c.in-Quote-default.is-0 (λ bytes. marks_table _ (shown_takes Quote) refl)
 
-pub returns-in-Plain-Start : goal.returns-in-Plain-Start
-returns-in-Plain-Start c =
-    rw (c.in-Plain-Start.is-0, c.in-Plain-Start.is-1)
-    (λ bytes. marks_table _ (shown_takes (Plain bytes Start)) refl)
+pub returns-in-Unencoded-Start : goal.returns-in-Unencoded-Start
+returns-in-Unencoded-Start c =
+    rw (c.in-Unencoded-Start.is-0, c.in-Unencoded-Start.is-1)
+    (λ bytes. marks_table _ (shown_takes (Unencoded bytes Start)) refl)
 
-pub returns-in-Plain-Wants : goal.returns-in-Plain-Wants
-returns-in-Plain-Wants c =
-    let good = rw c.in-Plain-Wants.is-1 at c.requires.good in
-    rw (c.in-Plain-Wants.is-0, c.in-Plain-Wants.is-1) (λ bytes. marks_wants bytes _ _ _ good)
+pub returns-in-Unencoded-Wants : goal.returns-in-Unencoded-Wants
+returns-in-Unencoded-Wants c =
+    let good = rw c.in-Unencoded-Wants.is-1 at c.requires.good in
+    rw (c.in-Unencoded-Wants.is-0, c.in-Unencoded-Wants.is-1)
+    (λ bytes. marks_wants bytes _ _ _ good)
 
 pub returns-in-Percent-Start : goal.returns-in-Percent-Start
 returns-in-Percent-Start c =

@@ -1,5 +1,5 @@
 use Rattle.std.proofs.Common.{refl, ◌||◌, ◌==◌}
-use Rattle.sf_value.specs.Grammar.Classes.{is_key_rest}
+use Rattle.sf_value.specs.Grammar.Classes.{is_in_key}
 use Rattle.sf_parse.proofs.Marks.{marks_table}
 use Rattle.sf_parse.proofs.LevelMarks.{marks_flag}
 use Rattle.sf_parse.proofs.entry.EntryReaderLevel.expected.Goals as goal
@@ -7,7 +7,7 @@ use Rattle.sf_parse.proofs.entry.EntryReaderLevel.expected.Goals as goal
 pub returns-in-InKey : goal.returns-in-InKey
 returns-in-InKey c =
     rw (← c.self.view_is, c.in-InKey.is)
-    (marks_table _ (λ b. is_key_rest b || (b == 61 || b == 59)) refl)
+    (marks_table _ (λ b. is_in_key b || (b == 61 || b == 59)) refl)
 
 pub returns-in-InFlag : goal.returns-in-InFlag
 returns-in-InFlag c =

@@ -1,17 +1,17 @@
 use Rattle.std.proofs.Common.{refl}
-use Rattle.sf_value.specs.Grammar.Classes.{is_key_start, is_key_rest}
+use Rattle.sf_value.specs.Grammar.Classes.{is_key_start, is_in_key}
 use Rattle.sf_parse.specs.Machine.Texts.{word_step}
 use Rattle.sf_parse.specs.Machine.Members.{member_step}
-use Rattle.sf_parse.specs.Machine.Entries.{InKey, InMember, entry_step}
-use Rattle.sf_parse.proofs.Fronts.{part_above, went_above}
+use Rattle.sf_parse.specs.Machine.Entries.{InKey, InMemberValue, entry_step}
+use Rattle.sf_parse.proofs.Prefixes.{part_above, went_above}
 use Rattle.sf_parse.proofs.ByteRuns.{word_went, word_run_kept}
-use Rattle.sf_parse.proofs.Levels.{key_in_entry, member_in_entry, flag_part, flag_kept}
+use Rattle.sf_parse.proofs.OpenParts.{key_in_entry, member_in_entry, flag_part, flag_kept}
 use Rattle.sf_parse.proofs.entry.EntryReaderLevel.take_part.Goals as goal
 
 pub invariant_of-self-in-InKey : goal.invariant_of-self-in-InKey
 invariant_of-self-in-InKey c = (
-  word_run_kept is_key_start is_key_rest _ _ _ c.in_ok-extend-in-InKey.ensures
-      c.short_front.ensures.every c.self.invariant.0,
+  word_run_kept is_key_start is_in_key _ _ _ c.in_ok-extend-in-InKey.ensures
+      c.short_prefix.ensures.every c.self.invariant.0,
   c.self.invariant.1,
 )
 
@@ -19,28 +19,29 @@ pub returns-in-InKey-clause-went : goal.returns-in-InKey-clause-went
 returns-in-InKey-clause-went c =
     let d = c.args.context.now.dialect in
     rw (← c.self.view_is, c.in-InKey.is)
-    (went_above (word_step is_key_rest) (entry_step d) InKey (key_in_entry d) _ _ _ _
-    (word_went is_key_rest _ _ _ _ _ c.short_front.ensures.whole c.short_front.ensures.every
+    (went_above (word_step is_in_key) (entry_step d) InKey (key_in_entry d) _ _ _ _
+    (word_went is_in_key _ _ _ _ _ c.short_prefix.ensures.whole c.short_prefix.ensures.every
     c.in_ok-extend-in-InKey.ensures))
 
-pub returns-in-InMember-clause-went : goal.returns-in-InMember-clause-went
-returns-in-InMember-clause-went c =
+pub returns-in-InMemberValue-clause-went : goal.returns-in-InMemberValue-clause-went
+returns-in-InMemberValue-clause-went c =
     let d = c.args.context.now.dialect in
     let k = c.self.inside.key in
-    rw (← c.self.view_is, c.in-InMember.is)
-    (part_above (member_step d) (entry_step d) (InMember k) (member_in_entry d k) _ _ _ _ _ refl
-    c.take.ensures.front)
+    rw (← c.self.view_is, c.in-InMemberValue.is)
+    (part_above (member_step d) (entry_step d) (InMemberValue k) (member_in_entry d k) _ _ _ _ _
+    refl
+    c.take.ensures.prefix)
 
 pub invariant_of-self-in-Ok : goal.invariant_of-self-in-Ok
 invariant_of-self-in-Ok c =
     let fits = rw c.in-InFlag.is at c.self.invariant in
     rw c.in-InFlag.is (
       fits.0,
-      flag_kept c.args.context.now.dialect c.self.inside.key _ _ _ _ fits.1 c.in-Ok.ensures.front,
+      flag_kept c.args.context.now.dialect c.self.inside.key _ _ _ _ fits.1 c.in-Ok.ensures.prefix,
     )
 
 pub returns-in-Ok-clause-went : goal.returns-in-Ok-clause-went
 returns-in-Ok-clause-went c =
     let fits = rw c.in-InFlag.is at c.self.invariant in
     rw (← c.self.view_is, c.in-InFlag.is)
-    (flag_part c.args.context.now.dialect _ _ _ _ _ fits.1 c.in-Ok.ensures.front)
+    (flag_part c.args.context.now.dialect _ _ _ _ _ fits.1 c.in-Ok.ensures.prefix)

@@ -1,5 +1,5 @@
-use Rattle.sf_parse.proofs.PlainSteps.{plain_stays}
+use Rattle.sf_parse.proofs.AllocationFreeSteps.{allocation_free_stays}
 use Rattle.sf_parse.proofs.field.TopReaderWholeField.begin.Goals as goal
 
-pub returns-clause-plain : goal.returns-clause-plain
-returns-clause-plain c = plain_stays c.args.context.now.dialect c.new.result
+pub returns-clause-allocation_free : goal.returns-clause-allocation_free
+returns-clause-allocation_free c = allocation_free_stays c.args.context.now.dialect c.new.result

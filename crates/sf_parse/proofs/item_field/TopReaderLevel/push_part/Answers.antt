@@ -2,8 +2,8 @@ use Rattle.std.proofs.Common.{refl, []}
 use Rattle.sf_parse.specs.Machine.Items.{item_step}
 use Rattle.sf_parse.specs.Machine.States.{InTop}
 use Rattle.sf_parse.specs.Machine.Fields.{step}
-use Rattle.sf_parse.proofs.Fronts.{byte_above}
-use Rattle.sf_parse.proofs.Levels.{item_in_field}
+use Rattle.sf_parse.proofs.Prefixes.{byte_above}
+use Rattle.sf_parse.proofs.OpenParts.{item_in_field}
 use Rattle.sf_parse.proofs.item_field.TopReaderLevel.push_part.Goals as goal
 
 pub returns-in-Inside-clause-went : goal.returns-in-Inside-clause-went
@@ -11,9 +11,9 @@ returns-in-Inside-clause-went c =
     let d = c.args.context.now.dialect in
     rw (← c.self.view_is, c.in-Inside.is)
     (byte_above (item_step d) (step d) InTop (item_in_field d) _ _ _ _ _ refl
-    c.push.ensures.front)
+    c.push.ensures.prefix)
 
-pub returns-in-Inside-clause-plain : goal.returns-in-Inside-clause-plain
-returns-in-Inside-clause-plain c =
+pub returns-in-Inside-clause-allocation_free : goal.returns-in-Inside-clause-allocation_free
+returns-in-Inside-clause-allocation_free c =
     rw (← c.self.view_is, c.in-Inside.is)
-    (λ h w. c.push.ensures.plain (h [] _ tt refl) w)
+    (λ h w. c.push.ensures.allocation_free (h [] _ tt refl) w)

@@ -4,9 +4,9 @@ use Rattle.sf_parse.specs.Machine.Items.{item_step}
 use Rattle.sf_parse.specs.Machine.States.{BeforeItem, InTop}
 use Rattle.sf_parse.specs.Machine.Fields.{step}
 use Rattle.sf_parse.specs.TopView.{after_of}
-use Rattle.sf_parse.proofs.Fronts.{part_above}
+use Rattle.sf_parse.proofs.Prefixes.{part_above}
 use Rattle.sf_parse.proofs.ByteRuns.{stay_went}
-use Rattle.sf_parse.proofs.Levels.{space_before, space_behind, item_in_field}
+use Rattle.sf_parse.proofs.OpenParts.{space_before, space_behind, item_in_field}
 use Rattle.sf_parse.proofs.item_field.TopReaderLevel.take_part.Goals as goal
 
 pub returns-in-Before-clause-went : goal.returns-in-Before-clause-went
@@ -14,7 +14,7 @@ returns-in-Before-clause-went c =
     let d = c.args.context.now.dialect in
     rw (← c.self.view_is, c.in-Before.is)
     (stay_went (step d) is_sp BeforeItem _ _ _ (space_before d)
-    c.short_front.ensures.whole c.short_front.ensures.every)
+    c.short_prefix.ensures.whole c.short_prefix.ensures.every)
 
 pub returns-in-Behind-clause-went : goal.returns-in-Behind-clause-went
 returns-in-Behind-clause-went c =
@@ -23,16 +23,16 @@ returns-in-Behind-clause-went c =
     rw (← c.self.view_is, c.in-Behind.is)
     (stay_went (step d) is_sp (after_of c.self.inside.whole) _ _ _
     (space_behind d c.self.inside.whole fits)
-    c.short_front-in-Behind.ensures.whole c.short_front-in-Behind.ensures.every)
+    c.short_prefix-in-Behind.ensures.whole c.short_prefix-in-Behind.ensures.every)
 
 pub returns-in-Inside-clause-went : goal.returns-in-Inside-clause-went
 returns-in-Inside-clause-went c =
     let d = c.args.context.now.dialect in
     rw (← c.self.view_is, c.in-Inside.is)
     (part_above (item_step d) (step d) InTop (item_in_field d) _ _ _ _ _ refl
-    c.take.ensures.front)
+    c.take.ensures.prefix)
 
-pub returns-in-Inside-clause-plain : goal.returns-in-Inside-clause-plain
-returns-in-Inside-clause-plain c =
+pub returns-in-Inside-clause-allocation_free : goal.returns-in-Inside-clause-allocation_free
+returns-in-Inside-clause-allocation_free c =
     rw (← c.self.view_is, c.in-Inside.is)
-    (λ h w. c.take.ensures.plain (h [] _ tt refl) w)
+    (λ h w. c.take.ensures.allocation_free (h [] _ tt refl) w)

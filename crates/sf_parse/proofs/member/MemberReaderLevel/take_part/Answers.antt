@@ -3,10 +3,10 @@ use Rattle.sf_value.specs.Grammar.Classes.{is_sp}
 use Rattle.sf_parse.specs.Machine.Items.{item_step}
 use Rattle.sf_parse.specs.Machine.Inners.{Room, InItem}
 use Rattle.sf_parse.specs.Machine.Members.{InOne, InMany, member_step}
-use Rattle.sf_parse.proofs.Fronts.{part_above}
+use Rattle.sf_parse.proofs.Prefixes.{part_above}
 use Rattle.sf_parse.proofs.ByteRuns.{stay_went}
-use Rattle.sf_parse.proofs.Levels.{space_in_member, item_in_member, item_in_many, closing_part}
-use Rattle.sf_parse.proofs.Levels.{closing_kept}
+use Rattle.sf_parse.proofs.OpenParts.{space_in_member, item_in_member, item_in_many, closing_part}
+use Rattle.sf_parse.proofs.OpenParts.{closing_kept}
 use Rattle.sf_parse.proofs.member.MemberReaderLevel.take_part.Goals as goal
 
 pub returns-in-Room-clause-went : goal.returns-in-Room-clause-went
@@ -15,14 +15,14 @@ returns-in-Room-clause-went c =
     let is = c.self.inside.items in
     rw (← c.self.view_is, c.in-Room.is)
     (stay_went (member_step d) is_sp (InMany (Room is)) _ _ _ (space_in_member d is)
-    c.short_front.ensures.whole c.short_front.ensures.every)
+    c.short_prefix.ensures.whole c.short_prefix.ensures.every)
 
 pub returns-in-One-clause-went : goal.returns-in-One-clause-went
 returns-in-One-clause-went c =
     let d = c.args.context.now.dialect in
     rw (← c.self.view_is, c.in-One.is)
     (part_above (item_step d) (member_step d) InOne (item_in_member d) _ _ _ _ _ refl
-    c.take.ensures.front)
+    c.take.ensures.prefix)
 
 pub returns-in-InItem-clause-went : goal.returns-in-InItem-clause-went
 returns-in-InItem-clause-went c =
@@ -30,16 +30,16 @@ returns-in-InItem-clause-went c =
     let is = c.self.inside.items in
     rw (← c.self.view_is, c.in-InItem.is)
     (part_above (item_step d) (member_step d) (λ s. InMany (InItem is s)) (item_in_many d is)
-    _ _ _ _ _ refl c.take-in-InItem.ensures.front)
+    _ _ _ _ _ refl c.take-in-InItem.ensures.prefix)
 
 pub invariant_of-self-in-Ok : goal.invariant_of-self-in-Ok
 invariant_of-self-in-Ok c =
     let fits = rw c.in-Closing.is at c.self.invariant in
     rw c.in-Closing.is
-    (closing_kept c.args.context.now.dialect _ _ _ _ fits c.in-Ok.ensures.front)
+    (closing_kept c.args.context.now.dialect _ _ _ _ fits c.in-Ok.ensures.prefix)
 
 pub returns-in-Ok-clause-went : goal.returns-in-Ok-clause-went
 returns-in-Ok-clause-went c =
     let fits = rw c.in-Closing.is at c.self.invariant in
     rw (← c.self.view_is, c.in-Closing.is)
-    (closing_part c.args.context.now.dialect _ _ _ _ _ fits c.in-Ok.ensures.front)
+    (closing_part c.args.context.now.dialect _ _ _ _ _ fits c.in-Ok.ensures.prefix)

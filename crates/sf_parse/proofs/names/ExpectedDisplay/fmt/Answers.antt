@@ -5,8 +5,8 @@ use Rattle.sf_parse.proofs.names.ExpectedDisplay.fmt.Goals as goal
 
 pub loop-name-preserved : goal.loop-name-preserved
 loop-name-preserved g c =
-    λ plain.
-    let now = c.loop-name.invariant plain in
+    λ allocation_free.
+    let now = c.loop-name.invariant allocation_free in
     let joint = c.joint-joint.result.now in
     let name = name_text c.in-Some-next.name in
     let rest = and_more (names_left c.next-in-loop-name.new.self) in (

@@ -1,5 +1,5 @@
 use Rattle.sf_parse.specs.Machine.Numbers.{number_step}
-use Rattle.sf_parse.proofs.Fronts.{byte_on, byte_stop, halts_at}
+use Rattle.sf_parse.proofs.Prefixes.{byte_on, byte_stop, halts_at}
 use Rattle.sf_parse.proofs.number.NumberReader.take_run.Goals as goal
 
 pub loop-byte-preserved : goal.loop-byte-preserved

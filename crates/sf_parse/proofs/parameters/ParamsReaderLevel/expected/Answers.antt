@@ -1,5 +1,5 @@
 use Rattle.std.proofs.Common.{refl, ◌&&◌, ◌||◌, ◌==◌}
-use Rattle.sf_value.specs.Grammar.Classes.{is_sp, is_key_start, is_key_rest}
+use Rattle.sf_value.specs.Grammar.Classes.{is_sp, is_key_start, is_in_key}
 use Rattle.sf_parse.specs.Machine.Tests.{bare_takes, bare_ends}
 use Rattle.sf_parse.proofs.Marks.{marks_or, marks_if, marks_table}
 use Rattle.sf_parse.proofs.parameters.ParamsReaderLevel.expected.Goals as goal
@@ -15,7 +15,7 @@ returns-in-Opened c =
 pub returns-in-InKey : goal.returns-in-InKey
 returns-in-InKey c =
     rw (← c.self.view_is, c.in-InKey.is)
-    (marks_table _ (λ b. is_key_rest b || (b == 61 || b == 59)) refl)
+    (marks_table _ (λ b. is_in_key b || (b == 61 || b == 59)) refl)
 
 pub returns-in-InValue : goal.returns-in-InValue
 returns-in-InValue c =

@@ -1,11 +1,11 @@
 use Rattle.std.proofs.Common.{refl}
-use Rattle.sf_value.specs.Grammar.Classes.{is_key_start, is_key_rest, is_sp}
+use Rattle.sf_value.specs.Grammar.Classes.{is_key_start, is_in_key, is_sp}
 use Rattle.sf_parse.specs.Machine.Texts.{word_step}
 use Rattle.sf_parse.specs.Machine.Bares.{bare_step}
 use Rattle.sf_parse.specs.Machine.Params.{Opened, InParamKey, InValue, params_step}
-use Rattle.sf_parse.proofs.Fronts.{part_above, went_above}
+use Rattle.sf_parse.proofs.Prefixes.{part_above, went_above}
 use Rattle.sf_parse.proofs.ByteRuns.{stay_went, word_went, word_run_kept}
-use Rattle.sf_parse.proofs.Levels.{space_in_params, key_in_params, value_in_params}
+use Rattle.sf_parse.proofs.OpenParts.{space_in_params, key_in_params, value_in_params}
 use Rattle.sf_parse.proofs.parameters.ParamsReaderLevel.take_part.Goals as goal
 
 pub returns-in-Opened-clause-went : goal.returns-in-Opened-clause-went
@@ -14,23 +14,23 @@ returns-in-Opened-clause-went c =
     let ps = c.self.inside.params in
     rw (← c.self.view_is, c.in-Opened.is)
     (stay_went (params_step d) is_sp (Opened ps) _ _ _ (space_in_params d ps)
-    c.short_front.ensures.whole c.short_front.ensures.every)
+    c.short_prefix.ensures.whole c.short_prefix.ensures.every)
 
 pub invariant_of-self-in-InKey : goal.invariant_of-self-in-InKey
 invariant_of-self-in-InKey c =
     let key = rw c.in-InKey.is at c.self.invariant in
     rw c.in-InKey.is
-    (word_run_kept is_key_start is_key_rest _ _ _ c.in_ok-extend-in-InKey.ensures
-    c.short_front-in-InKey.ensures.every key)
+    (word_run_kept is_key_start is_in_key _ _ _ c.in_ok-extend-in-InKey.ensures
+    c.short_prefix-in-InKey.ensures.every key)
 
 pub returns-in-InKey-clause-went : goal.returns-in-InKey-clause-went
 returns-in-InKey-clause-went c =
     let d = c.args.context.now.dialect in
     let ps = c.self.inside.params in
     rw (← c.self.view_is, c.in-InKey.is)
-    (went_above (word_step is_key_rest) (params_step d) (InParamKey ps) (key_in_params d ps) _ _ _ _
-    (word_went is_key_rest _ _ _ _ _ c.short_front-in-InKey.ensures.whole
-    c.short_front-in-InKey.ensures.every c.in_ok-extend-in-InKey.ensures))
+    (went_above (word_step is_in_key) (params_step d) (InParamKey ps) (key_in_params d ps) _ _ _ _
+    (word_went is_in_key _ _ _ _ _ c.short_prefix-in-InKey.ensures.whole
+    c.short_prefix-in-InKey.ensures.every c.in_ok-extend-in-InKey.ensures))
 
 pub returns-in-InValue-clause-went : goal.returns-in-InValue-clause-went
 returns-in-InValue-clause-went c =
@@ -39,4 +39,4 @@ returns-in-InValue-clause-went c =
     let k = c.self.inside.key in
     rw (← c.self.view_is, c.in-InValue.is)
     (part_above bare_step (params_step d) (InValue ps k) (value_in_params d ps k) _ _ _ _ _ refl
-    c.take.ensures.front)
+    c.take.ensures.prefix)

@@ -1,5 +1,5 @@
 use Rattle.std.proofs.Common.{sym, ◌∙◌}
-use Rattle.sf_parse.proofs.FedPieces.{finish_with}
+use Rattle.sf_parse.proofs.FedChunks.{finish_with}
 use Rattle.sf_parse.proofs.parser.Parser.finish.Goals as goal
 
 pub returns-in-Ok-Some-clause-ended : goal.returns-in-Ok-Some-clause-ended

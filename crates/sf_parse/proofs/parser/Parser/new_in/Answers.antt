@@ -1,5 +1,5 @@
 use Rattle.std.proofs.Common.{refl}
-use Rattle.sf_parse.proofs.FedPieces.{new_took}
+use Rattle.sf_parse.proofs.FedChunks.{new_took}
 use Rattle.sf_parse.proofs.parser.Parser.new_in.Goals as goal
 
 pub returns-clause-took : goal.returns-clause-took

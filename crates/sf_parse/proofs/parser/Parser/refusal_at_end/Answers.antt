@@ -1,5 +1,5 @@
 use Rattle.std.proofs.Common.{sym, ◌∙◌}
-use Rattle.sf_parse.proofs.FedPieces.{finish_stop}
+use Rattle.sf_parse.proofs.FedChunks.{finish_stop}
 use Rattle.sf_parse.proofs.parser.Parser.refusal_at_end.Goals as goal
 
 pub returns-clause-ended : goal.returns-clause-ended

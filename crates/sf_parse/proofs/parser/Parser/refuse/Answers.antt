@@ -1,5 +1,5 @@
 use Rattle.std.proofs.Common.{refl}
-use Rattle.sf_parse.proofs.FedPieces.{fed_stop, fed_past}
+use Rattle.sf_parse.proofs.FedChunks.{fed_stop, fed_past}
 use Rattle.sf_parse.proofs.parser.Parser.refuse.Goals as goal
 
 pub returns-then-self-clause-fed : goal.returns-then-self-clause-fed

@@ -6,15 +6,16 @@ use Rattle.sf_parse.proofs.series.SeriesReaderLevel.expected.Goals as goal
 pub returns-in-Begin : goal.returns-in-Begin
 returns-in-Begin g c =
     rw (← c.self.view_is, c.in-Begin.is)
-    (marks_or (2 ^ 32) _ is_sp (g.P.Piece.begins c.args.dialect) (marks_table (2 ^ 32) is_sp refl)
+    (marks_or (2 ^ 32) _ is_sp (g.P.SeriesMember.begins c.args.dialect)
+    (marks_table (2 ^ 32) is_sp refl)
     c.first_bytes.ensures)
 
-pub returns-in-InPiece : goal.returns-in-InPiece
-returns-in-InPiece g c =
-    let piece = c.self.inside.piece in
-    rw (← c.self.view_is, c.in-InPiece.is, c.set_if.ensures, c.may_end.ensures)
-    (marks_or _ _ (g.P.Level.takes c.args.dialect piece)
-    (λ b. g.P.Level.ends piece && (is_ows b || b == 44)) c.expected.ensures
+pub returns-in-InMember : goal.returns-in-InMember
+returns-in-InMember g c =
+    let member = c.self.inside.member in
+    rw (← c.self.view_is, c.in-InMember.is, c.set_if.ensures, c.may_end.ensures)
+    (marks_or _ _ (g.P.Level.takes c.args.dialect member)
+    (λ b. g.P.Level.ends member && (is_ows b || b == 44)) c.expected.ensures
     (marks_if _ _ (λ b. is_ows b || b == 44) (marks_table _ (λ b. is_ows b || b == 44) refl)))
 
 pub returns-in-Gap : goal.returns-in-Gap
@@ -24,6 +25,6 @@ returns-in-Gap g c =
 pub returns-in-Comma : goal.returns-in-Comma
 returns-in-Comma g c =
     rw (← c.self.view_is, c.in-Comma.is)
-    (marks_or (2 ^ 32 + 2 ^ 9) _ is_ows (g.P.Piece.begins c.args.dialect)
+    (marks_or (2 ^ 32 + 2 ^ 9) _ is_ows (g.P.SeriesMember.begins c.args.dialect)
     (marks_table (2 ^ 32 + 2 ^ 9) is_ows refl)
     c.first_bytes-in-Comma.ensures)

@@ -4,27 +4,27 @@ use Rattle.sf_parse.specs.Machine.Entries.{entry_start, entry_step}
 use Rattle.sf_parse.specs.Machine.States.{InList, InDict}
 use Rattle.sf_parse.specs.Machine.Fields.{step}
 use Rattle.sf_parse.specs.SeriesView.{series_next}
-use Rattle.sf_parse.specs.PieceEnds.{with_member, with_entry}
-use Rattle.sf_parse.specs.Wholes.{list_steps, dict_steps}
-use Rattle.sf_parse.proofs.Fronts.{all_above}
-use Rattle.sf_parse.proofs.PlainSteps.{plain_stays}
+use Rattle.sf_parse.specs.MemberEnds.{with_member, with_entry}
+use Rattle.sf_parse.specs.FieldSteps.{list_steps, dict_steps}
+use Rattle.sf_parse.proofs.Prefixes.{all_above}
+use Rattle.sf_parse.proofs.AllocationFreeSteps.{allocation_free_stays}
 use Rattle.sf_parse.proofs.state.FieldState.take_run.Goals as goal
 
-pub returns-in-Item-clause-plain : goal.returns-in-Item-clause-plain
-returns-in-Item-clause-plain c =
+pub returns-in-Item-clause-allocation_free : goal.returns-in-Item-clause-allocation_free
+returns-in-Item-clause-allocation_free c =
     rw c.in-Item.is
-    (λ h w. c.take.ensures.plain (plain_stays c.args.context.now.dialect _ h) w)
+    (λ h w. c.take.ensures.allocation_free (allocation_free_stays c.args.context.now.dialect _ h) w)
 
-pub returns-in-List-clause-front : goal.returns-in-List-clause-front
-returns-in-List-clause-front c =
+pub returns-in-List-clause-prefix : goal.returns-in-List-clause-prefix
+returns-in-List-clause-prefix c =
     let d = c.args.context.now.dialect in
     rw c.in-List.is
     (all_above (series_next (member_start d) (member_step d) with_member []) (step d) InList
-    (list_steps d) _ _ _ _ c.take-in-List.ensures.front)
+    (list_steps d) _ _ _ _ c.take-in-List.ensures.prefix)
 
-pub returns-in-Dict-clause-front : goal.returns-in-Dict-clause-front
-returns-in-Dict-clause-front c =
+pub returns-in-Dict-clause-prefix : goal.returns-in-Dict-clause-prefix
+returns-in-Dict-clause-prefix c =
     let d = c.args.context.now.dialect in
     rw c.in-Dict.is
     (all_above (series_next entry_start (entry_step d) with_entry []) (step d) InDict
-    (dict_steps d) _ _ _ _ c.take-in-Dict.ensures.front)
+    (dict_steps d) _ _ _ _ c.take-in-Dict.ensures.prefix)

@@ -4,9 +4,9 @@ use Rattle.sf_parse.proofs.text.TextPhase.take_run.Goals as goal
 pub returns-in_ok-extend-in-Inside-clause-went : goal.returns-in_ok-extend-in-Inside-clause-went
 returns-in_ok-extend-in-Inside-clause-went c =
     rw c.in-Inside.is
-    (text_went _ _ _ _ _ c.long_front.ensures.whole c.long_front.ensures.every
+    (text_went _ _ _ _ _ c.long_prefix.ensures.whole c.long_prefix.ensures.every
     c.in_ok-extend-in-Inside.ensures)
 
 pub returns-in_ok-extend-in-Inside-clause-visible : goal.returns-in_ok-extend-in-Inside-clause-visible
 returns-in_ok-extend-in-Inside-clause-visible c =
-    λ h. visible_run _ _ _ c.in_ok-extend-in-Inside.ensures c.long_front.ensures.every h
+    λ h. visible_run _ _ _ c.in_ok-extend-in-Inside.ensures c.long_prefix.ensures.every h

@@ -10,7 +10,7 @@ use Rattle.sf_value.specs.Grammar.Fields.{SpellsField}
 use Rattle.sf_value.specs.Grammar.Lines.{Viable}
 use Rattle.sf_parse.specs.declared.refusal.Refusal.{Refusal}
 use Rattle.sf_parse.specs.declared.refusal.Refusal.TheVariants.{Syntax, TooLong}
-use Rattle.sf_parse.specs.Machine.Fields.{Rest, step, finish, begin}
+use Rattle.sf_parse.specs.Machine.Fields.{Residual, step, finish, begin}
 use Rattle.sf_parse.specs.Machine.Tests.{takes, may_end}
 use Rattle.sf_parse.specs.Reached.{Reached}
 use Rattle.sf_parse.specs.Expected.{Marks}
@@ -35,7 +35,7 @@ pub new_took : (p : Progress) → p.state ≡ begin p.kind → p.count ≡ 0 →
 new_took p e c r = record {
   count = c;
   rest = λ u v.
-      subst (λ s. Rest p.dialect s u v ↔ SpellsField p.dialect p.kind ([] ++ u) v) (sym e)
+      subst (λ s. Residual p.dialect s u v ↔ SpellsField p.dialect p.kind ([] ++ u) v) (sym e)
       ((reached_nothing p.dialect p.kind).rest u v);
   unrefused = r;
 }
@@ -75,12 +75,12 @@ fed_past p q b g h same c r = record {
         let n : p.max ≡ length s =
         let k : p.count ≡ length s = t.count in let w = within_max p s g t in omega arith in
         let joined : (s ++ b ∷ []) ++ more ≡ s ++ b ∷ more = append_assoc s (b ∷ []) more in
-        let front : take p.max ((s ++ b ∷ []) ++ more) ≡ s =
+        let prefix : take p.max ((s ++ b ∷ []) ++ more) ≡ s =
         ap (λ y. take y ((s ++ b ∷ []) ++ more)) n ∙ ap (take (length s)) joined
         ∙ take-append_seam s (b ∷ more) in (
           refl,
           omega (arith, length-append (s ++ b ∷ []) more, length-append s (b ∷ [])),
-          subst (Viable p.dialect p.kind) (sym front)
+          subst (Viable p.dialect p.kind) (sym prefix)
               (reached_viable p.dialect p.kind p.state s (taken p s g t)),
         ),
   );
@@ -101,17 +101,17 @@ pub finish_with : (p : Progress) (v : Field) → Sound p.refusal p.state p.count
     → finish p.state ≡ Some v → (s : List ℕ) → Took p s → Finishes p.dialect p.kind s (Ok v)
 finish_with p v g e s t = ends_only p.dialect p.kind p.state s v (taken p s g t) e
 
--- what a front of the piece made of the parser
-pub record FedFront (o p : Progress) (x : List ℕ) : Type 0 where
+-- what a prefix of the chunk made of the parser
+pub record FedPrefix (o p : Progress) (x : List ℕ) : Type 0 where
   pub settings : SameSettings o p
   pub counted : p.count ≤ o.count + length x
   pub answer : FedAnswer o p (Ok tt) x
 
-next_piece : (s piece : List ℕ) (i : ℕ) → i < length piece
-    → (s ++ take i piece) ++ get_or piece i 0 ∷ [] ≡ s ++ take (i + 1) piece
-next_piece s piece i h =
-    append_assoc s (take i piece) (get_or piece i 0 ∷ [])
-    ∙ ap (λ y. s ++ y) (sym (take_more piece i 0 h))
+next_piece : (s chunk : List ℕ) (i : ℕ) → i < length chunk
+    → (s ++ take i chunk) ++ get_or chunk i 0 ∷ [] ≡ s ++ take (i + 1) chunk
+next_piece s chunk i h =
+    append_assoc s (take i chunk) (get_or chunk i 0 ∷ [])
+    ∙ ap (λ y. s ++ y) (sym (take_more chunk i 0 h))
 
 joined_settings : (a b c : Progress) → SameSettings a b → SameSettings b c → SameSettings a c
 joined_settings a b c p q = record {
@@ -120,46 +120,47 @@ joined_settings a b c p q = record {
   max = q.max ∙ p.max;
 }
 
-length-take_more : (piece : List ℕ) (i : ℕ) → i < length piece
-    → length (take (i + 1) piece) ≡ length (take i piece) + 1
-length-take_more piece i h =
-    ap length (take_more piece i 0 h) ∙ length-append (take i piece) (get_or piece i 0 ∷ [])
+length-take_more : (chunk : List ℕ) (i : ℕ) → i < length chunk
+    → length (take (i + 1) chunk) ≡ length (take i chunk) + 1
+length-take_more chunk i h =
+    ap length (take_more chunk i 0 h) ∙ length-append (take i chunk) (get_or chunk i 0 ∷ [])
 
-whole_piece : (s piece more : List ℕ) (i : ℕ) → i < length piece
-    → ((s ++ take i piece) ++ get_or piece i 0 ∷ []) ++ (drop (i + 1) piece ++ more)
-    ≡ (s ++ piece) ++ more
-whole_piece s piece more i h =
-    ap (λ y. y ++ (drop (i + 1) piece ++ more)) (next_piece s piece i h)
-    ∙ append_assoc s (take (i + 1) piece) (drop (i + 1) piece ++ more)
-    ∙ ap (λ y. s ++ y) (sym (append_assoc (take (i + 1) piece) (drop (i + 1) piece) more)
-    ∙ ap (λ y. y ++ more) (take-append-drop (i + 1) piece))
-    ∙ sym (append_assoc s piece more)
+whole_piece : (s chunk more : List ℕ) (i : ℕ) → i < length chunk
+    → ((s ++ take i chunk) ++ get_or chunk i 0 ∷ []) ++ (drop (i + 1) chunk ++ more)
+    ≡ (s ++ chunk) ++ more
+whole_piece s chunk more i h =
+    ap (λ y. y ++ (drop (i + 1) chunk ++ more)) (next_piece s chunk i h)
+    ∙ append_assoc s (take (i + 1) chunk) (drop (i + 1) chunk ++ more)
+    ∙ ap (λ y. s ++ y) (sym (append_assoc (take (i + 1) chunk) (drop (i + 1) chunk) more)
+    ∙ ap (λ y. y ++ more) (take-append-drop (i + 1) chunk))
+    ∙ sym (append_assoc s chunk more)
 
-front_short : (piece : List ℕ) (i : ℕ) → i < length piece → length (take i piece) + 1 ≤ length piece
-front_short piece i h =
-    let l = length-take_more piece i h in
-    let w : length (take (i + 1) piece) ≤ length piece = grind (arith, length-take) in
+prefix_short : (chunk : List ℕ) (i : ℕ) → i < length chunk → length (take i chunk) + 1
+    ≤ length chunk
+prefix_short chunk i h =
+    let l = length-take_more chunk i h in
+    let w : length (take (i + 1) chunk) ≤ length chunk = grind (arith, length-take) in
     omega arith
 
-pub stopped_in : (o p q : Progress) (piece : List ℕ) (i : ℕ) (e : Refusal) → i < length piece
-    → FedFront o p (take i piece) → Fed p q (Err e) (get_or piece i 0 ∷ [])
-    → Fed o q (Err e) piece
-stopped_in o p q piece i e h a f =
+pub stopped_in : (o p q : Progress) (chunk : List ℕ) (i : ℕ) (e : Refusal) → i < length chunk
+    → FedPrefix o p (take i chunk) → Fed p q (Err e) (get_or chunk i 0 ∷ [])
+    → Fed o q (Err e) chunk
+stopped_in o p q chunk i e h a f =
     let k = a.settings in
     record {
       settings = joined_settings o p q a.settings f.settings;
       counted =
           let x = a.counted in
           let y : q.count ≤ p.count + 1 = f.counted in
-          let l = front_short piece i h in
+          let l = prefix_short chunk i h in
           omega arith;
       answer = (
         f.answer.0,
         λ s t more.
-            let x = f.answer.1 (s ++ take i piece) (a.answer.1 s t).2 (drop (i + 1) piece ++ more)
+            let x = f.answer.1 (s ++ take i chunk) (a.answer.1 s t).2 (drop (i + 1) chunk ++ more)
             in
-            let whole = whole_piece s piece more i h in
-            let here = ((s ++ take i piece) ++ get_or piece i 0 ∷ []) ++ (drop (i + 1) piece ++
+            let whole = whole_piece s chunk more i h in
+            let here = ((s ++ take i chunk) ++ get_or chunk i 0 ∷ []) ++ (drop (i + 1) chunk ++
             more) in
             subst (λ y. RefusedFor o.dialect o.kind o.max y e) whole
             (subst (λ y. RefusedFor y o.kind o.max here e) k.dialect

@@ -1,30 +1,30 @@
 use Rattle.std.proofs.Common.{length, take, ◌-◌, ◌≤◌}
 use Rattle.sf_value.specs.Grammar.Words.{Every}
-use Rattle.sf_parse.proofs.runs.long_front.Given as goal
+use Rattle.sf_parse.proofs.runs.long_prefix.Given as goal
 
 abbrev pub invariant-loop-run : goal.invariant-loop-run
 invariant-loop-run g l = record {
-  within : l.run ≤ length l.piece;
-  every : Every g.C.ByteClass.test (take l.run l.piece);
+  within : l.run ≤ length l.chunk;
+  every : Every g.C.ByteClass.test (take l.run l.chunk);
 }
 
 abbrev pub decreases-loop-run : goal.decreases-loop-run
-decreases-loop-run g l = length l.piece - l.run
+decreases-loop-run g l = length l.chunk - l.run
 
 abbrev pub invariant-loop-run-then-run-eq16 : goal.invariant-loop-run-then-run-eq16
 invariant-loop-run-then-run-eq16 g l = record {
-  within : l.run ≤ length l.piece;
-  every : Every g.C.ByteClass.test (take l.run l.piece);
+  within : l.run ≤ length l.chunk;
+  every : Every g.C.ByteClass.test (take l.run l.chunk);
 }
 
 abbrev pub decreases-loop-run-then-run-eq16 : goal.decreases-loop-run-then-run-eq16
-decreases-loop-run-then-run-eq16 g l = length l.piece - l.run
+decreases-loop-run-then-run-eq16 g l = length l.chunk - l.run
 
 abbrev pub invariant-loop-run-then-run-eq16-2 : goal.invariant-loop-run-then-run-eq16-2
 invariant-loop-run-then-run-eq16-2 g l = record {
-  within : l.run ≤ length l.piece;
-  every : Every g.C.ByteClass.test (take l.run l.piece);
+  within : l.run ≤ length l.chunk;
+  every : Every g.C.ByteClass.test (take l.run l.chunk);
 }
 
 abbrev pub decreases-loop-run-then-run-eq16-2 : goal.decreases-loop-run-then-run-eq16-2
-decreases-loop-run-then-run-eq16-2 g l = length l.piece - l.run
+decreases-loop-run-then-run-eq16-2 g l = length l.chunk - l.run

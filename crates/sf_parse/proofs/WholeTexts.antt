@@ -1,4 +1,4 @@
--- A whole text of which the reader of its kind took a front: its exact refusal, or its only value.
+-- A whole text of which the reader of its kind took a prefix: its exact refusal, or its only value.
 use Rattle.std.proofs.Common.{◌≡◌, ℕ, ◌-◌, Bool, true, false, List, [], ◌∷◌, ◌++◌, length}
 use Rattle.std.proofs.Common.{◌⊎◌, inl, inr, Option, Some, None, is_some, Err, refl, sym, ap, ◌∙◌}
 use Rattle.std.proofs.Common.{subst, append-nil}
@@ -14,68 +14,71 @@ use Rattle.sf_parse.specs.Machine.States.{State}
 use Rattle.sf_parse.specs.Machine.Fields.{step, finish, begin}
 use Rattle.sf_parse.specs.Machine.Tests.{takes, may_end}
 use Rattle.sf_parse.specs.Expected.{Marks}
-use Rattle.sf_parse.specs.Fronts.{Front}
+use Rattle.sf_parse.specs.Prefixes.{LongestPrefix}
 use Rattle.sf_parse.specs.Reached.{Reached}
 use Rattle.sf_parse.specs.Parsers.{IsSyntax, IsOnly, Parses}
-use Rattle.sf_parse.specs.Plain.{plain_byte}
-use Rattle.sf_parse.specs.PlainParsers.{PlainState}
-use Rattle.sf_parse.proofs.Feeding.{plain_taken}
+use Rattle.sf_parse.specs.AllocationFree.{number_byte}
+use Rattle.sf_parse.specs.AllocationFreeParsers.{AllocationFreeState}
+use Rattle.sf_parse.proofs.Feeding.{allocation_free_taken}
 use Rattle.sf_parse.proofs.Reached.{reached_nothing, reaches_more}
 use Rattle.sf_parse.proofs.Refusals.{stops_exact, ends_exact, ends_only}
 
-front_took : (d : Dialect) (kind : Kind) (s t : State) (text rest : List ℕ) → s ≡ begin kind
-    → (a : Front (step d) s text rest t) → Reached d kind t a.went.taken
-front_took d kind s t text rest e a =
+prefix_took : (d : Dialect) (kind : Kind) (s t : State) (text rest : List ℕ) → s ≡ begin kind
+    → (a : LongestPrefix (step d) s text rest t) → Reached d kind t a.went.taken
+prefix_took d kind s t text rest e a =
     reaches_more d kind s t [] a.went.taken
     (subst (λ y. Reached d kind y []) (sym e) (reached_nothing d kind)) a.went.leads
 
 -- the place is what was taken
-place_is : (taken rest text : List ℕ) → text ≡ taken ++ rest → length text - length rest ≡ length taken
+place_is : (taken rest text : List ℕ) → text ≡ taken ++ rest → length text - length rest
+    ≡ length taken
 place_is taken rest text e =
     let l : length text ≡ length (taken ++ rest) = ap length e in
     omega (arith, length-append taken rest)
 
 -- a byte is left, or the text may not end
 pub whole_refused : (d : Dialect) (kind : Kind) (s t : State) (text rest : List ℕ)
-    (found : Option ℕ) (bits : ℕ) (may : Bool) → s ≡ begin kind → Front (step d) s text rest t
+    (found : Option ℕ) (bits : ℕ) (may : Bool) → s ≡ begin kind
+    → LongestPrefix (step d) s text rest t
     → found ≡ slice_get rest 0 → Marks bits (takes d t) → may ≡ may_end t
     → (is_some found ≡ true) ⊎ ((is_some found ≡ false) × (may ≡ false))
     → Parses d kind text (Err (Syntax (length text - length rest) found bits may))
 whole_refused d kind s t text (b ∷ rest) (Some c) bits may e a f m k h =
     let byte : b ≡ c = cc in
-    let front = front_took d kind s t text (b ∷ rest) e a in
+    let prefix = prefix_took d kind s t text (b ∷ rest) e a in
     subst (λ p. IsSyntax d kind text p (Some c) bits may)
     (sym (place_is a.went.taken (b ∷ rest) text a.went.split))
     (subst (λ y. IsSyntax d kind text (length a.went.taken) (Some y) bits may) byte
     (subst (λ y. IsSyntax d kind y (length a.went.taken) (Some b) bits may) (sym a.went.split)
-    (stops_exact d kind t a.went.taken rest b bits may front a.stops m k)))
+    (stops_exact d kind t a.went.taken rest b bits may prefix a.stops m k)))
 whole_refused d kind s t text [] None bits may e a f m k (inl h) = absurd cc
 whole_refused d kind s t text [] None bits may e a f m k (inr h) =
-    let front = front_took d kind s t text [] e a in
+    let prefix = prefix_took d kind s t text [] e a in
     let all : text ≡ a.went.taken = a.went.split ∙ append-nil a.went.taken in
     subst (λ c. Parses d kind text (Err (Syntax (length text - 0) None bits c))) (sym h.1) (
       refl,
       subst (λ p. IsSyntax d kind text p None bits false)
           (sym (place_is a.went.taken [] text a.went.split))
           (subst (λ y. IsSyntax d kind y (length a.went.taken) None bits false) (sym all)
-          (ends_exact d kind t a.went.taken bits front m (sym h.1 ∙ k))),
+          (ends_exact d kind t a.went.taken bits prefix m (sym h.1 ∙ k))),
     )
 whole_refused d kind s t text [] (Some c) bits may e a f m k h = absurd cc
 whole_refused d kind s t text (b ∷ rest) None bits may e a f m k h = absurd cc
 
 -- no byte is left, and the state has a value
 pub whole_value : (d : Dialect) (kind : Kind) (s t : State) (text rest : List ℕ)
-    (found : Option ℕ) (v : Field) → s ≡ begin kind → Front (step d) s text rest t
+    (found : Option ℕ) (v : Field) → s ≡ begin kind → LongestPrefix (step d) s text rest t
     → found ≡ slice_get rest 0 → is_some found ≡ false → finish t ≡ Some v → IsOnly d kind text v
 whole_value d kind s t text [] found v e a f n g =
     let all : text ≡ a.went.taken = a.went.split ∙ append-nil a.went.taken in
     subst (λ y. IsOnly d kind y v) (sym all)
-    (ends_only d kind t a.went.taken v (front_took d kind s t text [] e a) g)
+    (ends_only d kind t a.went.taken v (prefix_took d kind s t text [] e a) g)
 whole_value d kind s t text (b ∷ rest) found v e a f n g =
     absurd (let k : true ≡ false = sym (ap is_some f) ∙ n in cc)
 
--- spaces, minus signs and digits leave it plain
-pub whole_plain : (d : Dialect) (s t : State) (text rest : List ℕ) → s ≡ begin kind_is.Item
-    → Every plain_byte text → Front (step d) s text rest t → PlainState t
-whole_plain d s t text rest e w a =
-    plain_taken d s t text rest (subst PlainState (sym e) tt) w a
+-- spaces, minus signs and digits leave it allocation-free
+pub whole_allocation_free : (d : Dialect) (s t : State) (text rest : List ℕ) → s
+    ≡ begin kind_is.Item
+    → Every number_byte text → LongestPrefix (step d) s text rest t → AllocationFreeState t
+whole_allocation_free d s t text rest e w a =
+    allocation_free_taken d s t text rest (subst AllocationFreeState (sym e) tt) w a

@@ -1,6 +1,6 @@
 use Rattle.std.proofs.Common.{sym, ◌∙◌, arith}
 use Rattle.sf_parse.proofs.ByteRuns.{every_more, every_block}
-use Rattle.sf_parse.proofs.runs.long_front.Goals as goal
+use Rattle.sf_parse.proofs.runs.long_prefix.Goals as goal
 
 pub loop-run-preserved : goal.loop-run-preserved
 loop-run-preserved g c = record {
@@ -23,6 +23,7 @@ pub loop-run-then-run-eq16-2-preserved : goal.loop-run-then-run-eq16-2-preserved
 loop-run-then-run-eq16-2-preserved g c = record {
   within = let h = c.loop-run-then-run-eq16-2-test.true in omega arith;
   every =
-      every_more g.C.ByteClass.test _ _ c.loop-run-then-run-eq16-2.invariant.every c.loop-run-then-run-eq16-2-test.true
+      every_more g.C.ByteClass.test _ _ c.loop-run-then-run-eq16-2.invariant.every
+      c.loop-run-then-run-eq16-2-test.true
       (sym c.has_one-in-loop-run-then-run-eq16-2.ensures ∙ c.if-has_one-2.true);
 }

@@ -1,12 +1,12 @@
 use Rattle.std.proofs.Common.{length, take, ◌-◌, ◌≤◌}
 use Rattle.sf_value.specs.Grammar.Words.{Every}
-use Rattle.sf_parse.proofs.runs.short_front.Given as goal
+use Rattle.sf_parse.proofs.runs.short_prefix.Given as goal
 
 abbrev pub invariant-loop-run : goal.invariant-loop-run
 invariant-loop-run g l = record {
-  within : l.run ≤ length l.piece;
-  every : Every g.C.ByteClass.test (take l.run l.piece);
+  within : l.run ≤ length l.chunk;
+  every : Every g.C.ByteClass.test (take l.run l.chunk);
 }
 
 abbrev pub decreases-loop-run : goal.decreases-loop-run
-decreases-loop-run g l = length l.piece - l.run
+decreases-loop-run g l = length l.chunk - l.run

@@ -9,20 +9,20 @@ use Rattle.sf_parse.specs.Machine.Items.{ItemState}
 use Rattle.sf_parse.specs.Machine.Items.{InBare, InParams}
 
 -- a space, a minus sign or a digit
-abbrev pub plain_byte : ℕ → Bool
-plain_byte b = is_sp b || b == minus || is_digit b
+abbrev pub number_byte : ℕ → Bool
+number_byte b = is_sp b || b == minus || is_digit b
 
 -- the bare item is a number, which takes no memory
-abbrev pub PlainBare : BareState → Type 0
-PlainBare (InNumber s) = ⊤
-PlainBare (InText s) = ⊥
-PlainBare (InToken s) = ⊥
-PlainBare (InBoolean s) = ⊥
-PlainBare (InDate s) = ⊥
-PlainBare (InBlob s) = ⊥
-PlainBare (InShown s) = ⊥
+abbrev pub AllocationFreeBare : BareState → Type 0
+AllocationFreeBare (InNumber s) = ⊤
+AllocationFreeBare (InText s) = ⊥
+AllocationFreeBare (InToken s) = ⊥
+AllocationFreeBare (InBoolean s) = ⊥
+AllocationFreeBare (InDate s) = ⊥
+AllocationFreeBare (InBlob s) = ⊥
+AllocationFreeBare (InShown s) = ⊥
 
 -- the item is a number, and no parameter was begun
-abbrev pub PlainItem : ItemState → Type 0
-PlainItem (InBare s) = PlainBare s
-PlainItem (InParams x s) = ⊥
+abbrev pub AllocationFreeItem : ItemState → Type 0
+AllocationFreeItem (InBare s) = AllocationFreeBare s
+AllocationFreeItem (InParams x s) = ⊥

@@ -1,14 +1,14 @@
-use Rattle.sf_parse.proofs.Leading.{plain_went, leads_run}
-use Rattle.sf_parse.proofs.display_string.take_plain.Goals as goal
+use Rattle.sf_parse.proofs.Leading.{unencoded_went, leads_run}
+use Rattle.sf_parse.proofs.display_string.take_unencoded.Goals as goal
 
 pub returns-in-Start-clause-went : goal.returns-in-Start-clause-went
 returns-in-Start-clause-went c =
     rw c.in-Start.is
-    (plain_went _ _ _ _ _ c.long_front.ensures.whole c.long_front.ensures.every
+    (unencoded_went _ _ _ _ _ c.long_prefix.ensures.whole c.long_prefix.ensures.every
     c.in_ok-extend-in-Start.ensures)
 
 pub returns-in-Start-clause-leads : goal.returns-in-Start-clause-leads
 returns-in-Start-clause-leads c =
     let leads = rw c.in-Start.is at c.requires in
     rw c.in-Start.is
-    (leads_run _ _ _ leads c.long_front.ensures.every c.in_ok-extend-in-Start.ensures)
+    (leads_run _ _ _ leads c.long_prefix.ensures.every c.in_ok-extend-in-Start.ensures)

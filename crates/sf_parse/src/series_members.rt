@@ -1,20 +1,20 @@
-//! The pieces of a List and of a Dictionary (RFC 9651 sections 4.2.1 and 4.2.2).
+//! The members of a List and of a Dictionary (RFC 9651 sections 4.2.1 and 4.2.2).
 ghost use Rattle.std.specs.Prelude.{[]};
 ghost use Rattle.sf_parse.specs.Machine.Tests.{member_begins};
 ghost use Rattle.sf_parse.specs.Machine.Members.{member_start};
 ghost use Rattle.sf_parse.specs.Machine.Entries.{entry_start};
-ghost use Rattle.sf_parse.specs.PieceEnds.{with_member, with_entry};
+ghost use Rattle.sf_parse.specs.MemberEnds.{with_member, with_entry};
 ghost use Rattle.sf_value.specs.Grammar.Classes.{is_key_start};
 
-use crate::series::Piece;
 use crate::context::Context;
 use crate::entry::EntryReader;
 use crate::level::Level;
 use crate::member::MemberReader;
+use crate::series::SeriesMember;
 use crate::sets::KEY_START;
 use sf_value::{Dialect, Entries, Member, OutOfMemory, Sequence};
 
-impl Piece<Sequence<Member>> for MemberReader {
+impl SeriesMember<Sequence<Member>> for MemberReader {
     ghost begins = { member_begins };
 
     ghost first = { member_start };
@@ -44,7 +44,7 @@ impl Piece<Sequence<Member>> for MemberReader {
     }
 }
 
-impl Piece<Entries<Member>> for EntryReader {
+impl SeriesMember<Entries<Member>> for EntryReader {
     ghost begins = { λ d. is_key_start };
 
     ghost first = { λ d. entry_start };

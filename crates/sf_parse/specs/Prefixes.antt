@@ -1,13 +1,13 @@
--- What a machine takes of a piece: some front of it, or the longest that it can go on with.
+-- What a machine takes of a chunk: some prefix of it, or the longest that it can go on with.
 use Rattle.std.specs.Prelude.{◌≡◌, ℕ, Bool, true, false, List, [], ◌∷◌, ◌++◌, Option, Some, None}
 use Rattle.std.specs.Prelude.{⊤}
 use Rattle.sf_parse.specs.Machine.Language.{run}
 
--- the bytes before the rest of the piece lead from the old state to the new one
-pub record Went {S : Type 0} (next : S → ℕ → Option S) (old : S) (piece rest : List ℕ) (new : S)
+-- the bytes before the rest of the chunk lead from the old state to the new one
+pub record Went {S : Type 0} (next : S → ℕ → Option S) (old : S) (chunk rest : List ℕ) (new : S)
     : Type 0 where
   pub taken : List ℕ
-  pub split : piece ≡ taken ++ rest
+  pub split : chunk ≡ taken ++ rest
   pub leads : run next old taken ≡ Some new
 
 -- the first byte, if there is one, is as P says
@@ -25,9 +25,10 @@ abbrev pub Halts : {S : Type 0} → (S → ℕ → Option S) → S → ℕ → T
 Halts next s b = next s b ≡ None
 
 -- and the new state can't go on with the first byte of the rest
-pub record Front {S : Type 0} (next : S → ℕ → Option S) (old : S) (piece rest : List ℕ) (new : S)
+pub record LongestPrefix {S : Type 0} (next : S → ℕ → Option S) (old : S) (chunk rest : List ℕ)
+    (new : S)
     : Type 0 where
-  pub went : Went next old piece rest new
+  pub went : Went next old chunk rest new
   pub stops : FirstIs (Halts next new) rest
 
 -- a first byte begins what the new state is in, or begins nothing

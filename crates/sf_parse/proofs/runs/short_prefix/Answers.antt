@@ -1,6 +1,6 @@
 use Rattle.std.proofs.Common.{sym, ◌∙◌, arith}
 use Rattle.sf_parse.proofs.ByteRuns.{every_more}
-use Rattle.sf_parse.proofs.runs.short_front.Goals as goal
+use Rattle.sf_parse.proofs.runs.short_prefix.Goals as goal
 
 pub loop-run-preserved : goal.loop-run-preserved
 loop-run-preserved g c = record {

@@ -1,4 +1,5 @@
 -- How each level goes on where its open part does.
+use Rattle.std.specs.Option.{option_and_then, option_map}
 use Rattle.std.proofs.Common.{◌≡◌, ℕ, Bool, true, List, [], ◌∷◌, ◌++◌, Option, Some, None, Result}
 use Rattle.std.proofs.Common.{IfOk}
 use Rattle.std.proofs.Common.{IsSome, refl, sym, ap, subst, ◌∙◌}
@@ -7,9 +8,9 @@ use Rattle.sf_value.specs.declared.dialect.Dialect.{Dialect}
 use Rattle.sf_value.specs.declared.value.Bare.{Bare}
 use Rattle.sf_value.specs.declared.value.Item.{Item}
 use Rattle.sf_value.specs.Grammar.Words.{allow}
-use Rattle.sf_value.specs.Grammar.Classes.{is_key_rest, is_sp}
+use Rattle.sf_value.specs.Grammar.Classes.{is_in_key, is_sp}
 use Rattle.sf_value.specs.Grammar.Pairs.{Pairs, put}
-use Rattle.sf_parse.specs.Machine.Language.{seen, onward, and_then, run}
+use Rattle.sf_parse.specs.Machine.Language.{onward, run}
 use Rattle.sf_parse.specs.Machine.Texts.{word_step}
 use Rattle.sf_parse.specs.Machine.Bares.{BareState, bare_step, bare_finish}
 use Rattle.sf_parse.specs.Machine.Params.{ParamsState, Opened, InParamKey, InValue, between_step}
@@ -18,23 +19,24 @@ use Rattle.sf_parse.specs.Machine.Params.{params_step}
 use Rattle.sf_parse.specs.Machine.Items.{ItemState, InBare, InParams, item_step, item_finish}
 use Rattle.sf_parse.specs.Machine.Inners.{Room, InItem, Closing, behind_step, inner_step}
 use Rattle.sf_parse.specs.Machine.Members.{MemberState, InOne, InMany, member_step}
-use Rattle.sf_parse.specs.Machine.Entries.{InKey, InMember, InFlag, behind_key_step, entry_step}
+use Rattle.sf_parse.specs.Machine.Entries.{InKey, InMemberValue, InFlag, behind_key_step}
+use Rattle.sf_parse.specs.Machine.Entries.{entry_step}
 use Rattle.sf_parse.specs.Machine.States.{BeforeItem, InTop, AfterItem}
 use Rattle.sf_parse.specs.TopView.{after_of}
 use Rattle.sf_parse.specs.Machine.Fields.{step}
-use Rattle.sf_parse.specs.Fronts.{Went, Front, unless}
+use Rattle.sf_parse.specs.Prefixes.{Went, LongestPrefix, unless}
 use Rattle.sf_parse.specs.ItemView.{with_params}
 use Rattle.sf_parse.specs.MemberView.{closing_of, IsInParams, member_stuck}
 use Rattle.sf_parse.specs.EntryView.{flag_at, IsFlag}
-use Rattle.sf_parse.proofs.Machine.Language.{and_then_cases, seen_cases}
-use Rattle.sf_parse.proofs.Fronts.{part_above, went_above, byte_above}
+use Rattle.sf_parse.proofs.Machine.Language.{and_then_cases, map_cases}
+use Rattle.sf_parse.proofs.Prefixes.{part_above, went_above, byte_above}
 
 pub space_in_params : (d : Dialect) (ps : Pairs Bare) (b : ℕ) → is_sp b ≡ true
     → params_step d (Opened ps) b ≡ Some (Opened ps)
 space_in_params d ps b h = rw h refl
 
 pub key_in_params : (d : Dialect) (ps : Pairs Bare) (s t : List ℕ) (b : ℕ)
-    → word_step is_key_rest s b ≡ Some t
+    → word_step is_in_key s b ≡ Some t
     → params_step d (InParamKey ps s) b ≡ Some (InParamKey ps t)
 key_in_params d ps s t b e = ap (λ o. onward (InParamKey ps) o (Some s) (λ k. key_step ps k b)) e
 
@@ -46,7 +48,7 @@ value_in_params d ps k s t b e =
 pub bare_in_item : (d : Dialect) (s t : BareState) (b : ℕ) → bare_step s b ≡ Some t
     → item_step d (InBare s) b ≡ Some (InBare t)
 bare_in_item d s t b e =
-    ap (λ o. onward InBare o (bare_finish s) (λ x. seen (InParams x) (between_step [] b))) e
+    ap (λ o. onward InBare o (bare_finish s) (λ x. option_map (InParams x) (between_step [] b))) e
 
 pub space_in_inner : (d : Dialect) (is : List Item) (b : ℕ) → is_sp b ≡ true
     → inner_step d (Room is) b ≡ Some (Room is)
@@ -57,7 +59,7 @@ pub item_in_inner : (d : Dialect) (is : List Item) (s t : ItemState) (b : ℕ)
 item_in_inner d is s t b e =
     ap (λ o. onward (InItem is) o (item_finish s) (λ i. behind_step (is ++ i ∷ []) b)) e
 
-pub key_in_entry : (d : Dialect) (s t : List ℕ) (b : ℕ) → word_step is_key_rest s b ≡ Some t
+pub key_in_entry : (d : Dialect) (s t : List ℕ) (b : ℕ) → word_step is_in_key s b ≡ Some t
     → entry_step d (InKey s) b ≡ Some (InKey t)
 key_in_entry d s t b e = ap (λ o. onward InKey o (Some s) (λ k. behind_key_step k b)) e
 
@@ -68,36 +70,39 @@ item_in_field d s t b e =
 
 -- the parameters behind a whole bare item
 pub params_part : {E : Type 0} (d : Dialect) (o : Option Bare) (s : BareState) (p q : ParamsState)
-    (piece : List ℕ) (r : Result (Bor (List ℕ)) E) → IsSome o
-    → IfOk r (λ rest. Front (params_step d) p piece rest.now q)
-    → IfOk r (λ rest. Went (item_step d) (with_params o s p) piece rest.now (with_params o s q))
-params_part d (Some x) s p q piece r h a =
-    part_above (params_step d) (item_step d) (InParams x) (λ s t b e. ap (seen (InParams x)) e) p q
-    (InParams x p) piece r refl a
-params_part d None s p q piece r h a = absurd cc
+    (chunk : List ℕ) (r : Result (Bor (List ℕ)) E) → IsSome o
+    → IfOk r (λ rest. LongestPrefix (params_step d) p chunk rest.now q)
+    → IfOk r (λ rest. Went (item_step d) (with_params o s p) chunk rest.now (with_params o s q))
+params_part d (Some x) s p q chunk r h a =
+    part_above (params_step d) (item_step d) (InParams x)
+    (λ s t b e. ap (option_map (InParams x)) e) p q
+    (InParams x p) chunk r refl a
+params_part d None s p q chunk r h a = absurd cc
 
 -- the same of one byte
 pub params_byte : {E : Type 0} (d : Dialect) (o : Option Bare) (s : BareState) (p q : ParamsState)
     (b : ℕ) (r : Result Bool E) → IsSome o
-    → IfOk r (λ took. Front (params_step d) p (b ∷ []) (unless took b) q)
+    → IfOk r (λ took. LongestPrefix (params_step d) p (b ∷ []) (unless took b) q)
     → IfOk r (λ took. Went (item_step d) (with_params o s p) (b ∷ []) (unless took b)
     (with_params o s q))
 params_byte d (Some x) s p q b r h a =
-    byte_above (params_step d) (item_step d) (InParams x) (λ s t b e. ap (seen (InParams x)) e) p q
+    byte_above (params_step d) (item_step d) (InParams x)
+    (λ s t b e. ap (option_map (InParams x)) e) p q
     (InParams x p) b r refl a
 params_byte d None s p q b r h a = absurd cc
 
 pub space_in_member : (d : Dialect) (is : List Item) (b : ℕ) → is_sp b ≡ true
     → member_step d (InMany (Room is)) b ≡ Some (InMany (Room is))
-space_in_member d is b h = ap (seen InMany) (space_in_inner d is b h)
+space_in_member d is b h = ap (option_map InMany) (space_in_inner d is b h)
 
 pub item_in_member : (d : Dialect) (s t : ItemState) (b : ℕ) → item_step d s b ≡ Some t
     → member_step d (InOne s) b ≡ Some (InOne t)
-item_in_member d s t b e = ap (seen InOne) e
+item_in_member d s t b e = ap (option_map InOne) e
 
 pub item_in_many : (d : Dialect) (is : List Item) (s t : ItemState) (b : ℕ)
-    → item_step d s b ≡ Some t → member_step d (InMany (InItem is s)) b ≡ Some (InMany (InItem is t))
-item_in_many d is s t b e = ap (seen InMany) (item_in_inner d is s t b e)
+    → item_step d s b ≡ Some t → member_step d (InMany (InItem is s)) b
+    ≡ Some (InMany (InItem is t))
+item_in_many d is s t b e = ap (option_map InMany) (item_in_inner d is s t b e)
 
 -- an item in parameters stays in those of the same bare item
 pub params_of_item : (d : Dialect) (x : Bare) (p : ParamsState) (t : ItemState) (xs : List ℕ)
@@ -106,61 +111,62 @@ pub params_of_item : (d : Dialect) (x : Bare) (p : ParamsState) (t : ItemState) 
 params_of_item d x p t [] e = (p, (let k : InParams x p ≡ t = cc in sym k), refl)
 params_of_item d x p t (b ∷ xs) e =
     let c = and_then_cases (item_step d (InParams x p) b) (λ s. run (item_step d) s xs) t e in
-    let k = seen_cases (InParams x) (params_step d p b) c.0 c.1 in
+    let k = map_cases (InParams x) (params_step d p b) c.0 c.1 in
     let more = params_of_item d x k.0 t xs
     (subst (λ s. run (item_step d) s xs ≡ Some t) k.2 c.2) in
-    (more.0, more.1, ap (λ o. and_then o (λ s. run (params_step d) s xs)) k.1 ∙ more.2)
+    (more.0, more.1, ap (λ o. option_and_then (λ s. run (params_step d) s xs) o) k.1 ∙ more.2)
 
 -- the parameters behind the bracket of an inner list
 closing_went : (d : Dialect) (is : List Item) (x : Bare) (p : ParamsState) (t : ItemState)
-    (piece rest : List ℕ) → Front (item_step d) (InParams x p) piece rest t
-    → Went (member_step d) (InMany (Closing is p)) piece rest (InMany (closing_of is t))
-closing_went d is x p t piece rest a =
+    (chunk rest : List ℕ) → LongestPrefix (item_step d) (InParams x p) chunk rest t
+    → Went (member_step d) (InMany (Closing is p)) chunk rest (InMany (closing_of is t))
+closing_went d is x p t chunk rest a =
     let k = params_of_item d x p t a.went.taken a.went.leads in
-    subst (λ s. Went (member_step d) (InMany (Closing is p)) piece rest (InMany (closing_of is s)))
+    subst (λ s. Went (member_step d) (InMany (Closing is p)) chunk rest (InMany (closing_of is s)))
     (sym k.1)
     (went_above (params_step d) (member_step d) (λ q. InMany (Closing is q))
-    (λ s t b e. ap (λ o. seen InMany (seen (Closing is) o)) e) p k.0 piece rest
+    (λ s t b e. ap (λ o. option_map InMany (option_map (Closing is) o)) e) p k.0 chunk rest
     (record { taken = a.went.taken; split = a.went.split; leads = k.2 }))
 
-pub closing_part : (d : Dialect) (is : List Item) (s t : ItemState) (piece rest : List ℕ)
-    → IsInParams s → Front (item_step d) s piece rest t
-    → Went (member_step d) (InMany (closing_of is s)) piece rest (InMany (closing_of is t))
-closing_part d is (InBare s) t piece rest h a = absurd h
-closing_part d is (InParams x p) t piece rest h a = closing_went d is x p t piece rest a
+pub closing_part : (d : Dialect) (is : List Item) (s t : ItemState) (chunk rest : List ℕ)
+    → IsInParams s → LongestPrefix (item_step d) s chunk rest t
+    → Went (member_step d) (InMany (closing_of is s)) chunk rest (InMany (closing_of is t))
+closing_part d is (InBare s) t chunk rest h a = absurd h
+closing_part d is (InParams x p) t chunk rest h a = closing_went d is x p t chunk rest a
 
-pub closing_kept : (d : Dialect) (s t : ItemState) (piece rest : List ℕ) → IsInParams s
-    → Front (item_step d) s piece rest t → IsInParams t
-closing_kept d (InBare s) t piece rest h a = absurd h
-closing_kept d (InParams x p) t piece rest h a =
+pub closing_kept : (d : Dialect) (s t : ItemState) (chunk rest : List ℕ) → IsInParams s
+    → LongestPrefix (item_step d) s chunk rest t → IsInParams t
+closing_kept d (InBare s) t chunk rest h a = absurd h
+closing_kept d (InParams x p) t chunk rest h a =
     subst IsInParams (sym (params_of_item d x p t a.went.taken a.went.leads).1) tt
 
 -- where the parameters behind the bracket stop
 pub closing_stops : (d : Dialect) (is : List Item) (s : ItemState) (b : ℕ) → item_step d s b ≡ None
     → member_stuck d (InMany (closing_of is s)) b
 closing_stops d is (InBare s) b e = tt
-closing_stops d is (InParams x p) b e = seen_none (InParams x) (params_step d p b) e
+closing_stops d is (InParams x p) b e = map_none (InParams x) (params_step d p b) e
   where
-    seen_none : {X Y : Type 0} (f : X → Y) (o : Option X) → seen f o ≡ None → o ≡ None
-    seen_none f None e = refl
-    seen_none f (Some x) e = absurd cc
+    map_none : {X Y : Type 0} (f : X → Y) (o : Option X) → option_map f o ≡ None → o ≡ None
+    map_none f None e = refl
+    map_none f (Some x) e = absurd cc
 
 pub member_in_entry : (d : Dialect) (k : List ℕ) (s t : MemberState) (b : ℕ)
-    → member_step d s b ≡ Some t → entry_step d (InMember k s) b ≡ Some (InMember k t)
-member_in_entry d k s t b e = ap (seen (InMember k)) e
+    → member_step d s b ≡ Some t → entry_step d (InMemberValue k s) b ≡ Some (InMemberValue k t)
+member_in_entry d k s t b e = ap (option_map (InMemberValue k)) e
 
 -- the parameters of a flag, which are read as those of an item of Boolean true
 flag_went : (d : Dialect) (k : List ℕ) (x : Bare) (p : ParamsState) (t : MemberState)
-    (piece rest : List ℕ) → Front (member_step d) (InOne (InParams x p)) piece rest t
+    (chunk rest : List ℕ) → LongestPrefix (member_step d) (InOne (InParams x p)) chunk rest t
     → (q : ParamsState) × (t ≡ InOne (InParams x q))
-    × Went (entry_step d) (InFlag k p) piece rest (InFlag k q)
-flag_went d k x p t piece rest a =
+    × Went (entry_step d) (InFlag k p) chunk rest (InFlag k q)
+flag_went d k x p t chunk rest a =
     let one = one_of_member d (InParams x p) t a.went.taken a.went.leads in
     let item = params_of_item d x p one.0 a.went.taken one.2 in (
       item.0,
       one.1 ∙ ap InOne item.1,
-      went_above (params_step d) (entry_step d) (InFlag k) (λ s t b e. ap (seen (InFlag k)) e) p item.0
-          piece rest (record { taken = a.went.taken; split = a.went.split; leads = item.2 }),
+      went_above (params_step d) (entry_step d) (InFlag k) (λ s t b e. ap (option_map (InFlag k)) e)
+          p item.0
+          chunk rest (record { taken = a.went.taken; split = a.went.split; leads = item.2 }),
     )
   where
     one_of_member : (d : Dialect) (s : ItemState) (t : MemberState) (xs : List ℕ)
@@ -169,26 +175,26 @@ flag_went d k x p t piece rest a =
     one_of_member d s t [] e = (s, (let k : InOne s ≡ t = cc in sym k), refl)
     one_of_member d s t (b ∷ xs) e =
         let c = and_then_cases (member_step d (InOne s) b) (λ s. run (member_step d) s xs) t e in
-        let k = seen_cases InOne (item_step d s b) c.0 c.1 in
+        let k = map_cases InOne (item_step d s b) c.0 c.1 in
         let more = one_of_member d k.0 t xs
         (subst (λ s. run (member_step d) s xs ≡ Some t) k.2 c.2) in
-        (more.0, more.1, ap (λ o. and_then o (λ s. run (item_step d) s xs)) k.1 ∙ more.2)
+        (more.0, more.1, ap (λ o. option_and_then (λ s. run (item_step d) s xs) o) k.1 ∙ more.2)
 
-pub flag_part : (d : Dialect) (k : List ℕ) (s t : MemberState) (piece rest : List ℕ) → IsFlag s
-    → Front (member_step d) s piece rest t
-    → Went (entry_step d) (flag_at k s) piece rest (flag_at k t)
-flag_part d k (InOne (InBare s)) t piece rest h a = absurd h
-flag_part d k (InOne (InParams x p)) t piece rest h a =
-    let w = flag_went d k x p t piece rest a in
-    subst (λ s. Went (entry_step d) (InFlag k p) piece rest (flag_at k s)) (sym w.1) w.2
-flag_part d k (InMany s) t piece rest h a = absurd h
+pub flag_part : (d : Dialect) (k : List ℕ) (s t : MemberState) (chunk rest : List ℕ) → IsFlag s
+    → LongestPrefix (member_step d) s chunk rest t
+    → Went (entry_step d) (flag_at k s) chunk rest (flag_at k t)
+flag_part d k (InOne (InBare s)) t chunk rest h a = absurd h
+flag_part d k (InOne (InParams x p)) t chunk rest h a =
+    let w = flag_went d k x p t chunk rest a in
+    subst (λ s. Went (entry_step d) (InFlag k p) chunk rest (flag_at k s)) (sym w.1) w.2
+flag_part d k (InMany s) t chunk rest h a = absurd h
 
-pub flag_kept : (d : Dialect) (k : List ℕ) (s t : MemberState) (piece rest : List ℕ) → IsFlag s
-    → Front (member_step d) s piece rest t → IsFlag t
-flag_kept d k (InOne (InBare s)) t piece rest h a = absurd h
-flag_kept d k (InOne (InParams x p)) t piece rest h a =
-    subst IsFlag (sym (flag_went d k x p t piece rest a).1) h
-flag_kept d k (InMany s) t piece rest h a = absurd h
+pub flag_kept : (d : Dialect) (k : List ℕ) (s t : MemberState) (chunk rest : List ℕ) → IsFlag s
+    → LongestPrefix (member_step d) s chunk rest t → IsFlag t
+flag_kept d k (InOne (InBare s)) t chunk rest h a = absurd h
+flag_kept d k (InOne (InParams x p)) t chunk rest h a =
+    subst IsFlag (sym (flag_went d k x p t chunk rest a).1) h
+flag_kept d k (InMany s) t chunk rest h a = absurd h
 
 pub space_before : (d : Dialect) (b : ℕ) → is_sp b ≡ true → step d BeforeItem b ≡ Some BeforeItem
 space_before d b h = rw h refl

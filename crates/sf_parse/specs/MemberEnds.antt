@@ -1,15 +1,15 @@
 -- What a member that may end is added to.
+use Rattle.std.specs.Option.{option_map}
 use Rattle.std.specs.Prelude.{[], ◌∷◌, ◌++◌, List, Option}
 use Rattle.sf_value.specs.declared.value.Member.{Member}
 use Rattle.sf_value.specs.Grammar.Pairs.{Pairs, put}
-use Rattle.sf_parse.specs.Machine.Language.{seen}
 use Rattle.sf_parse.specs.Machine.Members.{MemberState, member_finish}
 use Rattle.sf_parse.specs.Machine.Entries.{EntryState, entry_finish}
 
 -- the members before it, of a List
 abbrev pub with_member : MemberState → List Member → Option (List Member)
-with_member s ms = seen (λ m. ms ++ m ∷ []) (member_finish s)
+with_member s ms = option_map (λ m. ms ++ m ∷ []) (member_finish s)
 
 -- the members before it, of a Dictionary
 abbrev pub with_entry : EntryState → Pairs Member → Option (Pairs Member)
-with_entry s ps = seen (λ p. put ps p.0 p.1) (entry_finish s)
+with_entry s ps = option_map (λ p. put ps p.0 p.1) (entry_finish s)

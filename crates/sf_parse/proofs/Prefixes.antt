@@ -1,0 +1,289 @@
+-- Fronts of chunks that machines take: none, one behind another, and seen from a level above.
+use Rattle.std.specs.Option.{option_map}
+use Rattle.std.proofs.Common.{◌≡◌, ℕ, Bool, true, false, List, [], ◌∷◌, ◌++◌, length}
+use Rattle.std.proofs.Common.{Option, Some, None, Result, Ok, Err, IfOk, refl, sym, ap, ◌∙◌, subst}
+use Rattle.std.proofs.Common.{arith, append_assoc}
+use Rattle.std.specs.Borrow.{Bor}
+use Rattle.sf_value.specs.Grammar.Words.{Every}
+use Rattle.sf_parse.specs.Machine.Language.{run, Steps}
+use Rattle.sf_parse.specs.Prefixes.{Went, FirstIs, Halts, LongestPrefix, unless}
+use Rattle.sf_parse.proofs.Machine.Language.{and_then_cases}
+
+pub run_append : {S : Type 0} (next : S → ℕ → Option S) (s t : S) (p q : List ℕ)
+    → run next s p ≡ Some t → run next s (p ++ q) ≡ run next t q
+run_append next s t [] q e = let k : s ≡ t = cc in ap (λ y. run next y q) k
+run_append next s t (b ∷ p) q e =
+    let c = and_then_cases (next s b) (λ s'. run next s' p) t e in
+    rw c.1 (run_append next c.0 t p q c.2)
+
+-- one prefix behind another
+pub went_more : {S : Type 0} (next : S → ℕ → Option S) (s t u : S) (chunk rest more : List ℕ)
+    → Went next s chunk rest t → Went next t rest more u → Went next s chunk more u
+went_more next s t u chunk rest more a b = record {
+  taken = a.taken ++ b.taken;
+  split = a.split ∙ ap (λ r. a.taken ++ r) b.split ∙ sym (append_assoc a.taken b.taken more);
+  leads = run_append next s t a.taken b.taken a.leads ∙ b.leads;
+}
+
+pub went_one : {S : Type 0} (next : S → ℕ → Option S) (s t : S) (b : ℕ) (more : List ℕ)
+    → next s b ≡ Some t → Went next s (b ∷ more) more t
+went_one next s t b more e = record { taken = b ∷ []; split = refl; leads = rw e refl }
+
+-- one byte more
+pub went_byte : {S : Type 0} (next : S → ℕ → Option S) (s t u : S) (chunk : List ℕ) (b : ℕ)
+    (more : List ℕ) → Went next s chunk (b ∷ more) t → next t b ≡ Some u → Went next s chunk more u
+went_byte next s t u chunk b more a e =
+    went_more next s t u chunk (b ∷ more) more a (went_one next t u b more e)
+
+pub prefix_all : {S : Type 0} (next : S → ℕ → Option S) (s t : S) (chunk : List ℕ)
+    → Went next s chunk [] t → LongestPrefix next s chunk [] t
+prefix_all next s t chunk a = record { went = a; stops = tt }
+
+-- a step in place
+pub step_on : {S : Type 0} (next : S → ℕ → Option S) (s t u : S) (chunk : List ℕ) (b : ℕ)
+    (more : List ℕ) (took : Bool) → Went next s chunk (b ∷ more) t → took ≡ true
+    → Steps took (next t b) t u → Went next s chunk more u
+step_on next s t u chunk b more true a f e = went_byte next s t u chunk b more a e
+step_on next s t u chunk b more false a f e = absurd cc
+
+pub step_stop : {S : Type 0} (next : S → ℕ → Option S) (s t u : S) (chunk : List ℕ) (b : ℕ)
+    (more : List ℕ) (took : Bool) → Went next s chunk (b ∷ more) t → took ≡ false
+    → Steps took (next t b) t u → LongestPrefix next s chunk (b ∷ more) u
+step_stop next s t u chunk b more true a f e = absurd cc
+step_stop next s t u chunk b more false a f e =
+    subst (λ y. LongestPrefix next s chunk (b ∷ more) y) (sym e.1)
+    (record { went = a; stops = e.0 })
+
+-- the same, of the first byte of what is left
+pub byte_on : {S : Type 0} (next : S → ℕ → Option S) (s t u : S) (chunk rest : List ℕ) (b : ℕ)
+    (more : List ℕ) (took : Bool) → Went next s chunk rest t → rest ≡ b ∷ more → took ≡ true
+    → Steps took (next t b) t u → Went next s chunk more u
+byte_on next s t u chunk rest b more took w e f k =
+    step_on next s t u chunk b more took (subst (λ y. Went next s chunk y t) e w) f k
+
+pub byte_stop : {S : Type 0} (next : S → ℕ → Option S) (s t u : S) (chunk rest : List ℕ) (b : ℕ)
+    (took : Bool) → Went next s chunk rest t → took ≡ false → Steps took (next t b) t u
+    → Went next s chunk rest u
+byte_stop next s t u chunk rest b true w f k = absurd cc
+byte_stop next s t u chunk rest b false w f k =
+    subst (λ y. Went next s chunk rest y) (sym k.1) w
+
+-- the byte with which the machine stopped is the first of the rest
+pub halts_at : {S : Type 0} (next : S → ℕ → Option S) (s t : S) (rest more : List ℕ) (b : ℕ)
+    (took : Bool) → rest ≡ b ∷ more → took ≡ false → Steps took (next s b) s t
+    → FirstIs (Halts next t) rest
+halts_at next s t rest more b true e f k = absurd cc
+halts_at next s t rest more b false e f k = rw (e, k.1) k.0
+
+-- what a part takes, seen from a level that goes on with it wherever it goes on itself
+run_above : {S T : Type 0} (next : S → ℕ → Option S) (above : T → ℕ → Option T) (into : S → T)
+    → ((s t : S) (b : ℕ) → next s b ≡ Some t → above (into s) b ≡ Some (into t))
+    → (s t : S) (p : List ℕ) → run next s p ≡ Some t → run above (into s) p ≡ Some (into t)
+run_above next above into h s t [] e = let k : s ≡ t = cc in ap (λ y. Some (into y)) k
+run_above next above into h s t (b ∷ p) e =
+    let c = and_then_cases (next s b) (λ s'. run next s' p) t e in
+    rw (h s c.0 b c.1) (run_above next above into h c.0 t p c.2)
+
+pub went_above : {S T : Type 0} (next : S → ℕ → Option S) (above : T → ℕ → Option T) (into : S → T)
+    → ((s t : S) (b : ℕ) → next s b ≡ Some t → above (into s) b ≡ Some (into t))
+    → (s t : S) (chunk rest : List ℕ) → Went next s chunk rest t
+    → Went above (into s) chunk rest (into t)
+went_above next above into h s t chunk rest a = record {
+  taken = a.taken;
+  split = a.split;
+  leads = run_above next above into h s t a.taken a.leads;
+}
+
+-- the same, of a call that may fail, and where the state above is known as x
+pub part_above : {S T E : Type 0} (next : S → ℕ → Option S) (above : T → ℕ → Option T) (into : S
+    → T)
+    → ((s t : S) (b : ℕ) → next s b ≡ Some t → above (into s) b ≡ Some (into t))
+    → (s t : S) (x : T) (chunk : List ℕ) (r : Result (Bor (List ℕ)) E) → into s ≡ x
+    → IfOk r (λ rest. LongestPrefix next s chunk rest.now t)
+    → IfOk r (λ rest. Went above x chunk rest.now (into t))
+part_above next above into h s t x chunk (Ok rest) e a =
+    subst (λ y. Went above y chunk rest.now (into t)) e
+    (went_above next above into h s t chunk rest.now a.went)
+part_above next above into h s t x chunk (Err k) e a = a
+
+-- what each byte of a kind keeps, a run of them keeps
+pub kept_by_run : {S : Type 0} (next : S → ℕ → Option S) (P : S → Type 0) (q : ℕ → Bool)
+    → ((s t : S) (b : ℕ) → P s → q b ≡ true → next s b ≡ Some t → P t)
+    → (s t : S) (p : List ℕ) → P s → Every q p → run next s p ≡ Some t → P t
+kept_by_run next P q h s t [] g w e = subst P (let k : s ≡ t = cc in k) g
+kept_by_run next P q h s t (b ∷ p) g w e =
+    let c = and_then_cases (next s b) (λ s'. run next s' p) t e in
+    kept_by_run next P q h c.0 t p (h s c.0 b g w.0 c.1) w.1 c.2
+
+pub every_split : (q : ℕ → Bool) (a b : List ℕ) → Every q (a ++ b) → Every q a × Every q b
+every_split q [] b h = (tt, h)
+every_split q (x ∷ a) b h = let k = every_split q a b h.1 in ((h.0, k.0), k.1)
+
+-- a prefix and what is left of bytes of a kind
+pub every_rest : {S : Type 0} (next : S → ℕ → Option S) (q : ℕ → Bool) (s t : S)
+    (chunk rest : List ℕ) → Went next s chunk rest t → Every q chunk → Every q rest
+every_rest next q s t chunk rest a w = (every_split q a.taken rest (subst (Every q) a.split w)).1
+
+pub kept_by_prefix : {S : Type 0} (next : S → ℕ → Option S) (P : S → Type 0) (q : ℕ → Bool)
+    → ((s t : S) (b : ℕ) → P s → q b ≡ true → next s b ≡ Some t → P t)
+    → (s t : S) (chunk rest : List ℕ) → P s → Every q chunk → Went next s chunk rest t → P t
+kept_by_prefix next P q h s t chunk rest g w a =
+    kept_by_run next P q h s t a.taken g
+    (every_split q a.taken rest (subst (Every q) a.split w)).0 a.leads
+
+-- an Err is not Ok
+pub never : {P : Type 0} → false ≡ true → P
+never e = absurd cc
+
+-- nothing is left
+pub prefix_none : {S : Type 0} (next : S → ℕ → Option S) (s t : S) (chunk rest : List ℕ)
+    → length rest ≡ 0 → Went next s chunk rest t → LongestPrefix next s chunk rest t
+prefix_none next s t chunk [] e a = prefix_all next s t chunk a
+prefix_none next s t chunk (b ∷ more) e a = absurd (let k : ⊥ = omega arith in k)
+
+pub first_is : (P : ℕ → Type 0) (xs : List ℕ) (b : ℕ) (more : List ℕ) → xs ≡ b ∷ more
+    → FirstIs P xs → P b
+first_is P xs b more e h = subst (FirstIs P) e h
+
+-- a turn of the loop: the open part went on to a byte that it can't take, and a step is tried
+pub turn_on : {S : Type 0} (next : S → ℕ → Option S) (P : ℕ → Type 0) (s t u v : S)
+    (chunk rest suffix : List ℕ) (b : ℕ) (more : List ℕ) (took : Bool) → Went next s chunk rest t
+    → Went next t rest suffix u → FirstIs P suffix → suffix ≡ b ∷ more → took ≡ true
+    → (P b → Steps took (next u b) u v) → Went next s chunk more v
+turn_on next P s t u v chunk rest suffix b more took a w h e f k =
+    step_on next s u v chunk b more took
+    (subst (λ y. Went next s chunk y u) e (went_more next s t u chunk rest suffix a w)) f
+    (k (first_is P suffix b more e h))
+
+pub turn_stop : {S : Type 0} (next : S → ℕ → Option S) (P : ℕ → Type 0) (s t u v : S)
+    (chunk rest suffix : List ℕ) (b : ℕ) (more : List ℕ) (took : Bool) → Went next s chunk rest t
+    → Went next t rest suffix u → FirstIs P suffix → suffix ≡ b ∷ more → took ≡ false
+    → (P b → Steps took (next u b) u v) → LongestPrefix next s chunk suffix v
+turn_stop next P s t u v chunk rest suffix b more took a w h e f k =
+    subst (λ y. LongestPrefix next s chunk y v) (sym e)
+    (step_stop next s u v chunk b more took
+    (subst (λ y. Went next s chunk y u) e (went_more next s t u chunk rest suffix a w)) f
+    (k (first_is P suffix b more e h)))
+
+-- the same, where the part only went some way
+pub part_went : {S T E : Type 0} (next : S → ℕ → Option S) (above : T → ℕ → Option T) (into : S
+    → T)
+    → ((s t : S) (b : ℕ) → next s b ≡ Some t → above (into s) b ≡ Some (into t))
+    → (s t : S) (x : T) (chunk : List ℕ) (r : Result (Bor (List ℕ)) E) → into s ≡ x
+    → IfOk r (λ rest. Went next s chunk rest.now t)
+    → IfOk r (λ rest. Went above x chunk rest.now (into t))
+part_went next above into h s t x chunk (Ok rest) e a =
+    subst (λ y. Went above y chunk rest.now (into t)) e
+    (went_above next above into h s t chunk rest.now a)
+part_went next above into h s t x chunk (Err k) e a = a
+
+-- where the part stopped
+pub part_stops : {S E : Type 0} (next : S → ℕ → Option S) (P : ℕ → Type 0) (s t : S)
+    (chunk : List ℕ) (r : Result (Bor (List ℕ)) E)
+    → ((b : ℕ) → next t b ≡ None → P b) → IfOk r (λ rest. LongestPrefix next s chunk rest.now t)
+    → IfOk r (λ rest. FirstIs P rest.now)
+part_stops next P s t chunk (Ok rest) h a = by rest.now a.stops
+  where
+    by : (xs : List ℕ) → FirstIs (Halts next t) xs → FirstIs P xs
+    by [] k = tt
+    by (b ∷ xs) k = h b k
+part_stops next P s t chunk (Err k) h a = a
+
+-- where the level goes on just where the part does, it takes just as much
+pub prefix_above : {S T : Type 0} (next : S → ℕ → Option S) (above : T → ℕ → Option T) (into : S
+    → T)
+    → ((s : S) (b : ℕ) → above (into s) b ≡ option_map into (next s b))
+    → (s t : S) (chunk rest : List ℕ) → LongestPrefix next s chunk rest t
+    → LongestPrefix above (into s) chunk rest (into t)
+prefix_above next above into h s t chunk rest a = record {
+  went = went_above next above into (λ s t b e. h s b ∙ ap (option_map into) e) s t chunk rest
+      a.went;
+  stops = by rest a.stops;
+}
+  where
+    by : (xs : List ℕ) → FirstIs (Halts next t) xs → FirstIs (Halts above (into t)) xs
+    by [] k = tt
+    by (b ∷ xs) k = h t b ∙ ap (option_map into) k
+
+pub all_above : {S T E : Type 0} (next : S → ℕ → Option S) (above : T → ℕ → Option T) (into : S
+    → T)
+    → ((s : S) (b : ℕ) → above (into s) b ≡ option_map into (next s b))
+    → (s t : S) (chunk : List ℕ) (r : Result (Bor (List ℕ)) E)
+    → IfOk r (λ rest. LongestPrefix next s chunk rest.now t)
+    → IfOk r (λ rest. LongestPrefix above (into s) chunk rest.now (into t))
+all_above next above into h s t chunk (Ok rest) a = prefix_above next above into h s t chunk
+    rest.now a
+all_above next above into h s t chunk (Err k) a = a
+
+-- nothing was taken of a byte
+pub went_none : {S : Type 0} (next : S → ℕ → Option S) (s t : S) (b : ℕ) → t ≡ s
+    → Went next s (b ∷ []) (b ∷ []) t
+went_none next s t b e = record { taken = []; split = refl; leads = ap Some (sym e) }
+
+-- a byte that a step took, or not
+pub went_step : {S : Type 0} (next : S → ℕ → Option S) (s t : S) (b : ℕ) (took : Bool)
+    → Steps took (next s b) s t → Went next s (b ∷ []) (unless took b) t
+went_step next s t b true e = went_one next s t b [] e
+went_step next s t b false e = went_none next s t b e.1
+
+-- the open part took the byte
+pub push_on : {S : Type 0} (next : S → ℕ → Option S) (s t : S) (b : ℕ) (took : Bool)
+    → Went next s (b ∷ []) (unless took b) t → took ≡ true → LongestPrefix next s (b ∷ []) [] t
+push_on next s t b true w f = prefix_all next s t (b ∷ []) w
+push_on next s t b false w f = absurd cc
+
+-- the open part can't take the byte, and a step is tried
+pub push_turn : {S : Type 0} (next : S → ℕ → Option S) (P : ℕ → Type 0) (s t u : S) (b : ℕ)
+    (part took : Bool) → Went next s (b ∷ []) (unless part b) t → FirstIs P (unless part b)
+    → part ≡ false → (P b → Steps took (next t b) t u)
+    → LongestPrefix next s (b ∷ []) (unless took b) u
+push_turn next P s t u b true took w h f k = absurd cc
+push_turn next P s t u b false true w h f k =
+    prefix_all next s u (b ∷ []) (went_byte next s t u (b ∷ []) b [] w (k h))
+push_turn next P s t u b false false w h f k =
+    step_stop next s t u (b ∷ []) b [] false w refl (k h)
+
+-- the same of a chunk that is one byte
+pub byte_taken : {S : Type 0} (next : S → ℕ → Option S) (s t : S) (chunk more : List ℕ) (b : ℕ)
+    (took : Bool) → chunk ≡ b ∷ more → more ≡ [] → took ≡ true
+    → LongestPrefix next s (b ∷ []) (unless took b) t → LongestPrefix next s chunk more t
+byte_taken next s t chunk more b true p m f a = rw (p, m) a
+byte_taken next s t chunk more b false p m f a = absurd cc
+
+pub byte_left : {S : Type 0} (next : S → ℕ → Option S) (s t : S) (chunk more : List ℕ) (b : ℕ)
+    (took : Bool) → chunk ≡ b ∷ more → more ≡ [] → took ≡ false
+    → LongestPrefix next s (b ∷ []) (unless took b) t → LongestPrefix next s chunk chunk t
+byte_left next s t chunk more b true p m f a = absurd cc
+byte_left next s t chunk more b false p m f a = rw (p, m) a
+
+-- a byte, seen from a level that goes on with it wherever the part goes on itself
+pub byte_above : {S T E : Type 0} (next : S → ℕ → Option S) (above : T → ℕ → Option T) (into : S
+    → T)
+    → ((s t : S) (b : ℕ) → next s b ≡ Some t → above (into s) b ≡ Some (into t))
+    → (s t : S) (x : T) (b : ℕ) (r : Result Bool E) → into s ≡ x
+    → IfOk r (λ took. LongestPrefix next s (b ∷ []) (unless took b) t)
+    → IfOk r (λ took. Went above x (b ∷ []) (unless took b) (into t))
+byte_above next above into h s t x b (Ok took) e a =
+    subst (λ y. Went above y (b ∷ []) (unless took b) (into t)) e
+    (went_above next above into h s t (b ∷ []) (unless took b) a.went)
+byte_above next above into h s t x b (Err k) e a = a
+
+-- the same, where the level above goes on exactly where the part does
+pub all_of_byte : {S T E : Type 0} (next : S → ℕ → Option S) (above : T → ℕ → Option T) (into : S
+    → T)
+    → ((s : S) (b : ℕ) → above (into s) b ≡ option_map into (next s b))
+    → (s t : S) (b : ℕ) (r : Result Bool E)
+    → IfOk r (λ took. LongestPrefix next s (b ∷ []) (unless took b) t)
+    → IfOk r (λ took. LongestPrefix above (into s) (b ∷ []) (unless took b) (into t))
+all_of_byte next above into h s t b (Ok took) a =
+    prefix_above next above into h s t (b ∷ []) (unless took b) a
+all_of_byte next above into h s t b (Err k) a = a
+
+-- a step that is tried behind the open part
+pub push_tried : {S E : Type 0} (next : S → ℕ → Option S) (P : ℕ → Type 0) (s t u : S) (b : ℕ)
+    (part : Bool) (r : Result Bool E) → Went next s (b ∷ []) (unless part b) t
+    → FirstIs P (unless part b) → part ≡ false
+    → IfOk r (λ took. P b → Steps took (next t b) t u)
+    → IfOk r (λ took. LongestPrefix next s (b ∷ []) (unless took b) u)
+push_tried next P s t u b part (Ok took) w h f k = push_turn next P s t u b part took w h f k
+push_tried next P s t u b part (Err k) w h f e = e

@@ -1,0 +1,59 @@
+-- The machine of fields goes on as the reader of a kind does.
+use Rattle.std.specs.Option.{option_map}
+use Rattle.std.specs.Prelude.{◌≡◌, ℕ, List, [], Option, Some, None}
+use Rattle.std.proofs.Common.{refl, sym, ap, ◌∙◌}
+use Rattle.sf_value.specs.declared.dialect.Dialect.{Dialect}
+use Rattle.sf_value.specs.declared.value.Member.{Member}
+use Rattle.sf_value.specs.Grammar.Pairs.{Pairs}
+use Rattle.sf_parse.specs.Machine.Language.{onward}
+use Rattle.sf_parse.specs.Machine.Series.{Series, SeriesState, Begin, InMember, Gap, Comma}
+use Rattle.sf_parse.specs.Machine.Series.{gap_step, series_step}
+use Rattle.sf_parse.specs.Machine.Members.{MemberState, member_start, member_step}
+use Rattle.sf_parse.specs.Machine.Entries.{EntryState, entry_start, entry_step}
+use Rattle.sf_parse.specs.Machine.States.{State, InList, InDict}
+use Rattle.sf_parse.specs.Machine.Fields.{step, list_series, dict_series}
+use Rattle.sf_parse.specs.SeriesView.{series_next}
+use Rattle.sf_parse.specs.MemberEnds.{with_member, with_entry}
+
+-- a value may be seen before the machine goes on or after
+onward_map : {S T X V : Type 0} (into : S → T) (o : Option S) (f : X → V) (e : Option X)
+    (after : V → Option T) → onward into o (option_map f e) after
+    ≡ onward into o e (λ x. after (f x))
+onward_map into (Some s) f e after = refl
+onward_map into None f (Some x) after = refl
+onward_map into None f None after = refl
+
+-- where a member is added by its end
+series_is : {S X V : Type 0} (k : Series S X V) (added : S → V → Option V)
+    → ((s : S) (given : V) → added s given ≡ option_map (k.add given) (k.finish s))
+    → (s : SeriesState S V) (b : ℕ)
+    → series_next k.start k.step added k.none s b ≡ series_step k s b
+series_is k added h Begin b = refl
+series_is k added h (InMember given s) b =
+    ap (λ e. onward (InMember given) (k.step s b) e (λ more. gap_step more b)) (h s given)
+    ∙ onward_map (InMember given) (k.step s b) (k.add given) (k.finish s)
+    (λ more. gap_step more b)
+series_is k added h (Gap given) b = refl
+series_is k added h (Comma given) b = refl
+
+-- of an Item
+pub top_steps : (d : Dialect) (s : State) (b : ℕ) → step d s b ≡ option_map (λ s. s) (step d s b)
+top_steps d s b = same (step d s b)
+  where
+    same : (o : Option State) → o ≡ option_map (λ s. s) o
+    same None = refl
+    same (Some s) = refl
+
+-- of a List
+pub list_steps : (d : Dialect) (s : SeriesState MemberState (List Member)) (b : ℕ)
+    → step d (InList s) b
+    ≡ option_map InList (series_next (member_start d) (member_step d) with_member [] s b)
+list_steps d s b = ap (option_map InList)
+    (sym (series_is (list_series d) with_member (λ s given. refl) s b))
+
+-- of a Dictionary
+pub dict_steps : (d : Dialect) (s : SeriesState EntryState (Pairs Member)) (b : ℕ)
+    → step d (InDict s) b
+    ≡ option_map InDict (series_next entry_start (entry_step d) with_entry [] s b)
+dict_steps d s b = ap (option_map InDict)
+    (sym (series_is (dict_series d) with_entry (λ s given. refl) s b))
