@@ -253,7 +253,7 @@ module _ {X : Type 0} (P : List ℕ → X → Type 0) (f : X → List ℕ) (boun
       ∙ length-append gap (body ++ tail) in
       let m = length-append body tail in
       let n : length body ≡ length prefix + length suffix = ap length e1
-          ∙ length-append prefix suffix in
+      ∙ length-append prefix suffix in
       omega arith
 
   -- at most so many bytes
@@ -321,7 +321,7 @@ module _ (d : Dialect) where
       let h = raw_text ps suffix r in
       let v = value_text p.1 value s in
       let l1 : length t ≡ length prefix + length suffix = ap length e
-          ∙ length-append prefix suffix in
+      ∙ length-append prefix suffix in
       let l2 : length prefix ≡ 1 + length (gap ++ (p.0 ++ value)) = ap length e1
       ∙ (let z : length (59 ∷ (gap ++ (p.0 ++ value))) ≡ 1 + length (gap
       ++ (p.0 ++ value)) = omega arith in
@@ -345,7 +345,7 @@ module _ (d : Dialect) where
       let a = bare_text i.bare prefix h in
       let b = params_text i.params suffix k in
       let l : length t ≡ length prefix + length suffix = ap length e
-          ∙ length-append prefix suffix in
+      ∙ length-append prefix suffix in
       let c = length-append (canon_bare i.bare) (canon_params i.params) in
       omega arith
 

@@ -1,5 +1,5 @@
 //! Byte sequences (RFC 9651 section 3.3.5).
-ghost use Rattle.std.specs.Prelude.{◌≡◌, ℕ, List, [], ◌++◌, ◌↔◌, IsTrue, IfOk, MatchResult};
+ghost use Rattle.std.specs.Prelude.{◌≡◌, ℕ, List, [], ◌↔◌, IsTrue, IfOk};
 ghost use Rattle.sf_value.specs.Grammar.Words.{Every};
 ghost use Rattle.sf_value.specs.Grammar.Classes.{is_byte};
 
@@ -41,23 +41,6 @@ impl Blob {
         ensures { result ≡ bytes }
     {
         Blob { bytes }
-    }
-
-    /// The byte sequence with no bytes, to which others are added. It takes no memory.
-    pub fn empty(alloc: Global) -> Blob
-        ensures { result ≡ [] }
-    {
-        Blob {
-            bytes: ShortBytes::new(alloc),
-        }
-    }
-
-    /// Adds bytes at the end. For want of memory the byte sequence stays as it was.
-    pub fn extend(&mut self, bytes: &[u8]) -> Result<(), OutOfMemory>
-        ensures { MatchResult result (λ _. self.new ≡ self.old ++ bytes.now)
-            (λ _. self.new ≡ self.old) }
-    {
-        self.bytes.extend(bytes)
     }
 
     /// Another byte sequence, equal to this one. The only refusal is for want of memory.

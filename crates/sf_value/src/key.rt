@@ -1,11 +1,12 @@
 //! Keys of parameters and of dictionary members (RFC 9651 section 3.1.2).
-ghost use Rattle.std.specs.Prelude.{◌≡◌, ℕ, List, [], ◌∷◌, ◌++◌, true, IfOk, MatchResult};
+ghost use Rattle.std.specs.Prelude.{◌≡◌, ℕ, List, [], ◌∷◌, true, IfOk, MatchResult};
 ghost use Rattle.sf_value.specs.Grammar.Classes.{is_key_start, is_in_key};
 ghost use Rattle.sf_value.specs.Grammar.Tokens.{IsKey};
-ghost use Rattle.sf_value.specs.Faults.{bad_place, bad_word_place, IsKeyFault};
+ghost use Rattle.sf_value.specs.Faults.{IsKeyFault};
 
 use crate::bytes::ShortBytes;
 use crate::fault::{OutOfMemory, TextFault};
+use crate::word::{Word, word_bytes};
 use std::alloc::Global;
 use std::marker::Model;
 
@@ -33,20 +34,13 @@ impl Model for Key {
 impl Key {
     /// The key of these bytes. It is refused as `Empty` where there is no byte, else as `BadByte`
     /// at the first byte that may not stand in its place, else as `OutOfMemory`.
-    #[tactic(auto, using(crate::proofs::Words::word_from_place))]
     pub fn new(alloc: Global, bytes: &[u8]) -> Result<Key, TextFault>
         // these bytes; or the cause: no byte, the first bad one, or a key and no memory for it
         ensures exact { MatchResult result (λ key. key ≡ bytes.now) (IsKeyFault bytes.now) }
         ensures key { IfOk result (λ key. IsKey key) }
     {
-        if bytes.is_empty() {
-            return Err(TextFault::Empty);
-        }
-        if let Some(place) = bad_byte(bytes) {
-            return Err(TextFault::BadByte { place });
-        }
         Ok(Key {
-            bytes: ShortBytes::from_slice(alloc, bytes)?,
+            bytes: word_bytes::<Key>(alloc, bytes)?,
         })
     }
 
@@ -60,8 +54,8 @@ impl Key {
         Key { bytes }
     }
 
-    /// The key of one byte, one that [`can_start_key`] accepts. Others are added by `push`: a
-    /// parser builds a key so. The only refusal is for want of memory.
+    /// The key of one byte, one that [`can_start_key`] accepts. The only refusal is for want of
+    /// memory.
     pub fn first(alloc: Global, byte: u8) -> Result<Key, OutOfMemory>
         requires { is_key_start byte ≡ true }
         ensures { IfOk result (λ key. key ≡ byte ∷ []) }
@@ -69,18 +63,6 @@ impl Key {
         let mut bytes = ShortBytes::new(alloc);
         bytes.push(byte)?;
         Ok(Key { bytes })
-    }
-
-    /// Adds a byte at the end, one that [`can_be_in_key`] accepts. For want of memory the key stays
-    /// as it was.
-    #[tactic(auto, using(crate::proofs::Words::word_push))]
-    pub fn push(&mut self, byte: u8) -> Result<(), OutOfMemory>
-        requires { is_in_key byte ≡ true }
-        ensures { MatchResult result (λ _. self.new ≡ self.old ++ byte ∷ [])
-            (λ _. self.new ≡ self.old) }
-    {
-        self.bytes.push(byte)?;
-        Ok(())
     }
 
     /// Another key, equal to this one. The only refusal is for want of memory.
@@ -101,6 +83,20 @@ impl Key {
     }
 }
 
+impl Word for Key {
+    ghost start = { is_key_start };
+
+    ghost more = { is_in_key };
+
+    fn can_start(byte: u8) -> bool {
+        can_start_key(byte)
+    }
+
+    fn can_be_in(byte: u8) -> bool {
+        can_be_in_key(byte)
+    }
+}
+
 /// Whether a key may begin with this byte: `a` to `z` and `*` (RFC 9651 section 3.1.2). It takes no
 /// memory.
 pub fn can_start_key(byte: u8) -> bool
@@ -115,24 +111,4 @@ pub fn can_be_in_key(byte: u8) -> bool
     ensures { result ≡ is_in_key byte }
 {
     matches!(byte, b'a'..=b'z' | b'0'..=b'9' | b'_' | b'-' | b'.' | b'*')
-}
-
-/// The place of the first of these bytes that a key does not go on with.
-fn bad_byte_after_first(bytes: &[u8]) -> Option<usize>
-    ensures { result ≡ bad_place is_in_key bytes.now }
-{
-    bytes.iter().position(|b| !can_be_in_key(*b))
-}
-
-/// The place of the first byte that is bad where it stands; `None` also where there is no byte.
-fn bad_byte(bytes: &[u8]) -> Option<usize>
-    // the least place whose byte a key does not have there
-    ensures { result ≡ bad_word_place is_key_start is_in_key bytes.now }
-{
-    let (first, rest) = bytes.split_first()?;
-    if !can_start_key(*first) {
-        return Some(0);
-    }
-    let place = bad_byte_after_first(rest)?;
-    Some(place + 1)
 }

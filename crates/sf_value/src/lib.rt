@@ -51,6 +51,7 @@ mod text;
 mod token;
 mod value;
 mod white_space;
+mod word;
 
 pub use blob::Blob;
 pub use bytes::ShortBytes;

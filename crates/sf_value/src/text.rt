@@ -1,5 +1,5 @@
 //! Strings (RFC 9651 section 3.3.3).
-ghost use Rattle.std.specs.Prelude.{◌≡◌, ℕ, List, [], ◌∷◌, ◌++◌, true, ◌↔◌};
+ghost use Rattle.std.specs.Prelude.{◌≡◌, ℕ, List, [], ◌↔◌};
 ghost use Rattle.std.specs.Prelude.{IsTrue, IfOk, MatchResult};
 ghost use Rattle.sf_value.specs.Grammar.Words.{Every};
 ghost use Rattle.sf_value.specs.Grammar.Classes.{is_visible as is_visible_byte};
@@ -55,27 +55,6 @@ impl Text {
         ensures { result ≡ bytes }
     {
         Text { bytes }
-    }
-
-    /// The string with no bytes, to which others are added. It takes no memory.
-    pub fn empty(alloc: Global) -> Text
-        ensures { result ≡ [] }
-    {
-        Text {
-            bytes: ShortBytes::new(alloc),
-        }
-    }
-
-    /// Adds a byte at the end, one that [`is_visible`] accepts. For want of memory the string stays
-    /// as it was.
-    #[tactic(auto, using(crate::proofs::Words::every_push))]
-    pub fn push(&mut self, byte: u8) -> Result<(), OutOfMemory>
-        requires { is_visible_byte byte ≡ true }
-        ensures { MatchResult result (λ _. self.new ≡ self.old ++ byte ∷ [])
-            (λ _. self.new ≡ self.old) }
-    {
-        self.bytes.push(byte)?;
-        Ok(())
     }
 
     /// Another string, equal to this one. The only refusal is for want of memory.

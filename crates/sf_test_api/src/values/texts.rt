@@ -117,12 +117,11 @@ fn token_classes_are_their_lists(rt: HostRuntime) {
 #[test]
 fn keys_are_built_and_copied(rt: HostRuntime) -> Result<(), Fail> {
     let alloc = rt.alloc();
-    let mut key = Key::first(alloc, b'q')?;
-    key.push(b'_')?;
+    let key = Key::first(alloc, b'q')?;
     let copy = key.copy(alloc)?;
     assert_eq!(rt;
         (key.as_bytes(), copy.as_bytes()),
-        (b"q_".as_slice(), b"q_".as_slice())
+        (b"q".as_slice(), b"q".as_slice())
     );
     Ok(())
 }
@@ -130,8 +129,7 @@ fn keys_are_built_and_copied(rt: HostRuntime) -> Result<(), Fail> {
 #[test]
 fn tokens_are_built_and_copied(rt: HostRuntime) -> Result<(), Fail> {
     let alloc = rt.alloc();
-    let mut token = Token::first(alloc, b'A')?;
-    token.push(b':')?;
+    let token = Token::new(alloc, b"A:")?;
     let copy = token.copy(alloc)?;
     assert_eq!(rt;
         (token.as_bytes(), copy.as_bytes()),
@@ -143,10 +141,8 @@ fn tokens_are_built_and_copied(rt: HostRuntime) -> Result<(), Fail> {
 #[test]
 fn strings_are_built_and_copied(rt: HostRuntime) -> Result<(), Fail> {
     let alloc = rt.alloc();
-    let mut text = Text::empty(alloc);
-    assert!(rt; text.is_empty());
-    text.push(b'"')?;
-    text.push(b'z')?;
+    assert!(rt; Text::new(alloc, b"")?.is_empty());
+    let text = Text::new(alloc, b"\"z")?;
     assert!(rt; !text.is_empty());
     assert_eq!(rt; text.as_bytes(), b"\"z".as_slice());
     let copy = text.copy(alloc)?;
@@ -157,10 +153,8 @@ fn strings_are_built_and_copied(rt: HostRuntime) -> Result<(), Fail> {
 #[test]
 fn byte_sequences_are_built_and_copied(rt: HostRuntime) -> Result<(), Fail> {
     let alloc = rt.alloc();
-    let mut blob = Blob::empty(alloc);
-    assert!(rt; blob.is_empty());
-    blob.extend(b"\x89")?;
-    blob.extend(b"\x00\xff")?;
+    assert!(rt; Blob::new(alloc, b"")?.is_empty());
+    let blob = Blob::new(alloc, b"\x89\x00\xff")?;
     assert!(rt; !blob.is_empty());
     assert_eq!(rt; blob.as_bytes(), b"\x89\x00\xff".as_slice());
     let copy = blob.copy(alloc)?;
