@@ -1,7 +1,7 @@
 //! Fields as values of a header map.
-ghost use Rattle.std.specs.Prelude.{◌≡◌, Some, IfOk, OnErr, OnOk, IsErrOf};
+ghost use Rattle.std.specs.Prelude.{◌≡◌, ◌≢◌, ◌↔◌, [], Some, IfOk, IsErr, OnErr, OnOk, IsErrOf};
 ghost use Rattle.http_header.specs.FieldValue.{plain_value};
-ghost use Rattle.http_header.specs.HeaderMap.{RefusesInsert};
+ghost use Rattle.http_header.specs.HeaderMap.{RefusesInsert, insert as with_value};
 ghost use Rattle.sf_value.specs.Grammar.Canonical.{canon};
 ghost use Rattle.sf_field.specs.Faults.{set_fault_text};
 ghost use Rattle.sf_field.specs.Headers.{set_text};
@@ -62,9 +62,10 @@ pub fn header_value(alloc: Global, field: &Field) -> Result<HeaderValue, OutOfMe
     }
 }
 
-/// Sets a field in a header map: its canonical text in place of all the values under the name. A
-/// List or a Dictionary without members is not sent (RFC 9651 section 4.1), so the name is removed.
-/// A refusal leaves the map as it was.
+/// Sets a field in a header map: its canonical text replaces all values of the name. A List or a
+/// Dictionary without members is not sent (RFC 9651 section 4.1), so the name is removed instead;
+/// as `HeaderMap::remove` does it, which moves the last name into its place. An error leaves the
+/// map as it was.
 ///
 /// ```
 /// let priority = HeaderName::from_static("priority");
@@ -77,8 +78,11 @@ pub fn set_field(
     field: &Field,
 ) -> Result<(), SetFault>
     ensures set { OnOk result (headers.new ≡ set_text headers.old name (canon field.now)) }
-    // it is refused as full only where the map has no room for the name
-    ensures full { IsErrOf result SetFault.Full → RefusesInsert headers.old name }
+    // The map is full only for a new name, and for a field that is sent.
+    ensures full { IsErrOf result SetFault.Full
+        → RefusesInsert headers.old name × (canon field.now ≢ []) }
+    // Such a field is not set in a map that has no capacity for its name.
+    ensures refused { RefusesInsert headers.old name → canon field.now ≢ [] → IsErr result }
     ensures same { OnErr result (headers.new ≡ headers.old) }
 {
     let value = header_value(alloc, field)?;
@@ -86,6 +90,15 @@ pub fn set_field(
         drop(headers.remove(&name));
         return Ok(());
     }
+    insert(headers, name, value)
+}
+
+/// Puts the value in place of all values of the name.
+fn insert(headers: &mut HeaderMap, name: HeaderName, value: HeaderValue) -> Result<(), SetFault>
+    ensures set { OnOk result (headers.new ≡ with_value headers.old name value) }
+    ensures full { IsErrOf result SetFault.Full ↔ RefusesInsert headers.old name }
+    ensures same { OnErr result (headers.new ≡ headers.old) }
+{
     match headers.insert(name, value) {
         Ok(_) => return Ok(()),
         Err(HeaderMapError::MaxSizeReached) => return Err(SetFault::Full),

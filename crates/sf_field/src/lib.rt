@@ -8,15 +8,15 @@
 
 mod asking;
 mod consumer;
+mod header_update;
 mod headers;
 mod kinds;
 pub mod laws;
 mod lines;
-mod header_update;
 
 pub use asking::{AskFault, ask, ask_from};
 pub use consumer::{Consumer, UseFault};
+pub use header_update::{SetFault, header_value, set_field};
 pub use headers::from_headers;
 pub use kinds::{parse_dict_lines, parse_item_lines, parse_list_lines};
 pub use lines::{FieldLines, normalise_lines, parse_from, parse_lines, parse_lines_in};
-pub use header_update::{SetFault, header_value, set_field};

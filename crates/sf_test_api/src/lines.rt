@@ -2,8 +2,8 @@
 use crate::building::seed;
 use http_header::{HeaderMap, HeaderName, HeaderValue};
 use sf_field::{
-    from_headers, header_value, normalise_lines, parse_dict_lines, parse_item_lines, parse_lines,
-    parse_lines_in, parse_list_lines, set_field,
+    SetFault, from_headers, header_value, normalise_lines, parse_dict_lines, parse_item_lines,
+    parse_lines, parse_lines_in, parse_list_lines, set_field,
 };
 use sf_parse::{Parser, Refusal, parse_dict, parse_item, parse_list, parse_text};
 use sf_value::{Blob, Dialect, Field, Kind};
@@ -239,4 +239,36 @@ fn a_field_that_is_set(rt: HostRuntime) {
     let none = parse_text(rt.alloc(), &seed, Kind::Dict, b"");
     set(&rt, &mut headers, &none.expect(&rt, "a Dictionary"));
     assert!(rt; !headers.contains_key(&name));
+}
+
+/// A map with the name `server` and so many others.
+fn map_of_names(rt: &(impl Abort + AllocGlobal), count: u32) -> HeaderMap {
+    let mut headers = headers_of(rt, b"n", &[]);
+    for number in 0..count {
+        let name = format!(in rt.alloc(); "n{number}").expect(rt, "memory");
+        let name = HeaderName::from_bytes(rt.alloc(), name.as_bytes()).expect(rt, "a name");
+        let value = HeaderValue::from_static("1");
+        headers.insert(name, value).expect(rt, "memory");
+    }
+    headers
+}
+
+#[test]
+fn a_field_in_a_full_map(rt: HostRuntime) {
+    let seed = seed(&rt);
+    let mut headers = map_of_names(&rt, 24_575);
+    let field = parse_text(rt.alloc(), &seed, Kind::Dict, b"u=1").expect(&rt, "a Dictionary");
+    let none = parse_text(rt.alloc(), &seed, Kind::Dict, b"").expect(&rt, "a Dictionary");
+    let name = HeaderName::from_static("priority");
+    let full = set_field(rt.alloc(), &mut headers, name, &field);
+    assert_eq!(rt; full, Err(SetFault::Full));
+    let name = HeaderName::from_static("priority");
+    assert_eq!(rt; set_field(rt.alloc(), &mut headers, name, &none), Ok(()));
+    assert_eq!(rt; headers.keys_len(), 24_576);
+    let present = HeaderName::from_static("n7");
+    assert_eq!(rt;
+        set_field(rt.alloc(), &mut headers, present, &field),
+        Ok(())
+    );
+    assert_eq!(rt; headers.keys_len(), 24_576);
 }
