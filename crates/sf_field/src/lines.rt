@@ -160,8 +160,7 @@ fn feed_lines<'a, L: FieldLines<'a>>(parser: &mut Parser, mut lines: L) -> Resul
     // the joined text of the lines is fed; a refusal stands whatever comes behind it
     ensures fed { Fed parser.old parser.new result (join (L.lines lines)) }
     // a plain parser stays plain over a single line of spaces, `-` and digits
-    ensures allocation_free
-    { IsAllocationFree parser.old → (line : List ℕ) → L.lines lines ≡ line ∷ []
+    ensures allocation_free { IsAllocationFree parser.old → (line : List ℕ) → L.lines lines ≡ line ∷ []
         → Every number_byte line → KeptAllocationFree parser.new result }
 {
     parser.feed(b"")?;

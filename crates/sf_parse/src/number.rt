@@ -86,9 +86,7 @@ impl NumberReader {
     }
 
     /// Takes one more byte, or tells that the number can't go on with it and stays as it is.
-    #[tactic(auto,
-    using(crate::proofs::Numerals::room, crate::proofs::Numerals::whole_fits,
-    crate::proofs::Numerals::next_digit))]
+    #[tactic(auto, using(crate::proofs::Numerals::room, crate::proofs::Numerals::whole_fits, crate::proofs::Numerals::next_digit))]
     pub fn step(&mut self, byte: u8) -> bool
         // The byte leads the machine on, or can't and the state stays.
         ensures { Steps result (number_step self.old byte) self.old self.new }

@@ -3,9 +3,9 @@ use crate::expecting::{
     LISTED, MEMBERS, SINGLE, expect_no_need, expect_refusals, padded_number, seen_field, seen_if,
     seen_minus_seven, seen_syntax,
 };
-use sf_test_io::Paced;
 use sf_parse::{Parser, Refusal, parse_reader, parse_text, parse_text_in};
 use sf_test_alloc::{Scarcity, Seen, refusals};
+use sf_test_io::Paced;
 use sf_value::{Dialect, Field, Kind};
 use std::alloc::Global;
 use std::hash::RandomState;

@@ -1,8 +1,8 @@
 // The words of the command, and runs of it.
 use crate::expecting::seen_if;
 use http_header::HeaderName;
-use sf_test_io::Paced;
 use sf_test_alloc::{Seen, refusals, seen_without_memory};
+use sf_test_io::Paced;
 use sf_tool::{Request, RequestFault, Status, read_request, run};
 use sf_value::{Dialect, Kind, Writing};
 use std::alloc::Global;

@@ -1,6 +1,6 @@
 //! Texts that a reader gives, a byte a read, with a read that fails.
-use sf_test_io::Paced;
 use sf_parse::{Refusal, parse_reader, parse_text};
+use sf_test_io::Paced;
 use sf_value::{Field, Kind, same};
 use std::alloc::Global;
 use std::hash::RandomState;

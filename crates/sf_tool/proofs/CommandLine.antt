@@ -51,7 +51,7 @@ pub added : (old sub new : Command) (a : App) (s : Shape) → AddsSubcommand old
     → app_of old ≡ a → shape_of sub ≡ s → s.is_unencoded ≡ true → app_of new ≡ with_subcommand a s
 added old sub new a s adds e f plain =
     let is_unencoded : (shape_of sub).is_unencoded ≡ true = ap (λ (s : Shape). s.is_unencoded) f
-        ∙ plain in
+    ∙ plain in
     adds.shape (plain_fields sub is_unencoded).globals ∙ ap₂ with_subcommand e f
 
 -- the first value of an option

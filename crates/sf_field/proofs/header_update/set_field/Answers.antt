@@ -10,4 +10,3 @@ returns-then-is_empty-clause-set c =
     c.remove.ensures.after
     ∙ sym (set_none c.args.headers.now c.args.name (canon c.args.field.now)
     (ap (λ v. length v.bytes) (sym c.in_ok-value.ensures) ∙ empty))
-
