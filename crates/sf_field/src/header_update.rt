@@ -1,4 +1,4 @@
-//! Fields as values of a header map.
+//! Setting fields in a header map.
 ghost use Rattle.std.specs.Prelude.{◌≡◌, Some, IfOk, OnErr, OnOk, IsErrOf};
 ghost use Rattle.http_header.specs.FieldValue.{plain_value};
 ghost use Rattle.http_header.specs.HeaderMap.{RefusesInsert};
@@ -17,9 +17,9 @@ use std::fmt;
 /// Why a field could not be set in a header map.
 #[derive(Clone, Copy, Debug, PartialEq, Eq)]
 pub enum SetFault {
-    /// The name is new, and the map has room for no more names.
+    /// The name is new, and the map is full.
     Full,
-    /// No memory was left for the value or the map.
+    /// An allocation for the value or the map failed.
     OutOfMemory,
 }
 
@@ -44,14 +44,14 @@ impl From<OutOfMemory> for SetFault {
     }
 }
 
-/// The canonical text of a field (RFC 9651 section 4.1) as the value of a header. Each such text is
-/// one, so the only refusal is for want of memory.
+/// Returns the canonical text of a field (RFC 9651 section 4.1) as a header value. Every canonical
+/// text is a valid one, so this fails only if an allocation fails.
 ///
 /// ```
 /// let value = header_value(alloc, &field)?;
 /// ```
 pub fn header_value(alloc: Global, field: &Field) -> Result<HeaderValue, OutOfMemory>
-    // the canonical text, which is not marked as sensitive
+    // The value is the canonical text, and not marked as sensitive.
     ensures { IfOk result (λ value. value ≡ plain_value (canon field.now)) }
 {
     let text = to_text(alloc, field)?;
@@ -62,9 +62,9 @@ pub fn header_value(alloc: Global, field: &Field) -> Result<HeaderValue, OutOfMe
     }
 }
 
-/// Sets a field in a header map: its canonical text in place of all the values under the name. A
-/// List or a Dictionary without members is not sent (RFC 9651 section 4.1), so the name is removed.
-/// A refusal leaves the map as it was.
+/// Sets a field in a header map: its canonical text replaces all values of the name. A List or a
+/// Dictionary without members is not sent (RFC 9651 section 4.1), so its name is removed. An error
+/// leaves the map unchanged.
 ///
 /// ```
 /// let priority = HeaderName::from_static("priority");
@@ -77,7 +77,7 @@ pub fn set_field(
     field: &Field,
 ) -> Result<(), SetFault>
     ensures set { OnOk result (headers.new ≡ set_text headers.old name (canon field.now)) }
-    // it is refused as full only where the map has no room for the name
+    // The error is Full only if the map has no capacity for the name.
     ensures full { IsErrOf result SetFault.Full → RefusesInsert headers.old name }
     ensures same { OnErr result (headers.new ≡ headers.old) }
 {
