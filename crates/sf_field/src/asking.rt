@@ -1,4 +1,4 @@
-//! What field lines mean to a consumer.
+//! The meaning of field lines to a consumer.
 ghost use Rattle.std.specs.Prelude.{◌≡◌, ℕ, List, [], ◌∷◌, Some};
 ghost use Rattle.sf_value.specs.Grammar.Words.{Every};
 ghost use Rattle.sf_value.specs.declared.value.Kind.TheVariants as kind_is;
@@ -16,21 +16,21 @@ use std::error::Error;
 use std::fmt;
 use std::hash::RandomState;
 
-/// Why there is no answer for field lines.
+/// Why a consumer has no answer for field lines.
 ///
 /// ```
 /// match ask(alloc, &seed, &CacheStatus, lines.as_slice()) {
 ///     Ok(path) => ..
-///     Err(AskFault::Field(refusal)) => .. // the lines are no List, or no memory was left
+///     Err(AskFault::Field(refusal)) => .. // the lines are not a List, or out of memory
 ///     Err(AskFault::Answer(UseFault::NotACache { index })) => ..
 ///     Err(AskFault::Answer(UseFault::OutOfMemory)) => ..
 /// }
 /// ```
 #[derive(Clone, Copy, Debug, PartialEq, Eq)]
 pub enum AskFault {
-    /// The lines spell no value of the consumer's kind, or memory was wanting to parse them.
+    /// The lines spell no value of the consumer's kind, or an allocation failed while parsing.
     Field(Refusal),
-    /// The value that they spell has no answer.
+    /// The value that the lines spell has no answer, or an allocation failed for the answer.
     Answer(UseFault),
 }
 
@@ -63,10 +63,11 @@ impl From<UseFault> for AskFault {
     }
 }
 
-/// What the lines mean to a consumer: they are parsed as its kind, as [`crate::parse_from`] does,
-/// and the value is answered. Accepted lines and their canonical text, as one line, mean the same.
-/// Want of memory for the answer is told only where the value has one. A single line of spaces, `-`
-/// and digits takes no memory to parse where the consumer reads an Item.
+/// Returns what the lines mean to a consumer: parses them as its kind, as [`crate::parse_from`]
+/// does, and passes the value to [`Consumer::answer`]. Accepted lines have the meaning of their
+/// canonical text as one line. Out of memory for the answer is returned only if the value has one.
+/// If the consumer reads an Item, parsing a single line of spaces, `-` and digits does not
+/// allocate.
 ///
 /// ```
 /// let values = headers.get_all(&name).iter();
@@ -78,11 +79,11 @@ pub fn ask_from<'a, C: Consumer, L: FieldLines<'a>>(
     consumer: &C,
     lines: L,
 ) -> Result<C::Answer, AskFault>
-    // the answer is what the lines mean; a fault is what they mean, their refusal or want of memory
+    // The result is what the lines mean, or their refusal, or out of memory.
     ensures answers { Asks C.KIND (C.meaning consumer.now) (L.lines lines) result }
-    // accepted lines mean what their canonical text means
+    // Accepted lines mean what their canonical text means.
     ensures canonical { MeansAsCanonical C.KIND (C.meaning consumer.now) (L.lines lines) }
-    // a single line of spaces, `-` and digits is parsed without memory
+    // Parsing a single line of spaces, `-` and digits does not allocate.
     ensures allocation_free { C.KIND ≡ kind_is.Item → (line : List ℕ) → L.lines lines ≡ line ∷ []
         → Every number_byte line → ParsedOrRefused result }
 {
@@ -92,7 +93,7 @@ pub fn ask_from<'a, C: Consumer, L: FieldLines<'a>>(
     Ok(answer?)
 }
 
-/// What the lines mean to a consumer, as [`ask_from`] gives it.
+/// Returns what the lines mean to a consumer, as [`ask_from`] does.
 ///
 /// ```
 /// let policy = ask(alloc, &seed, &Directives, lines.as_slice())?;
@@ -103,11 +104,11 @@ pub fn ask<C: Consumer>(
     consumer: &C,
     lines: &[Blob],
 ) -> Result<C::Answer, AskFault>
-    // the answer is what the lines mean; a fault is what they mean, their refusal or want of memory
+    // The result is what the lines mean, or their refusal, or out of memory.
     ensures answers { Asks C.KIND (C.meaning consumer.now) lines.now result }
-    // accepted lines mean what their canonical text means
+    // Accepted lines mean what their canonical text means.
     ensures canonical { MeansAsCanonical C.KIND (C.meaning consumer.now) lines.now }
-    // a single line of spaces, `-` and digits is parsed without memory
+    // Parsing a single line of spaces, `-` and digits does not allocate.
     ensures allocation_free { C.KIND ≡ kind_is.Item → (line : List ℕ) → lines.now ≡ line ∷ []
         → Every number_byte line → ParsedOrRefused result }
 {

@@ -1,4 +1,4 @@
-//! What reads a field: consumers, each with its meaning.
+//! Consumers of fields, each with its meaning.
 ghost use Rattle.std.specs.Prelude.{◌≡◌, ℕ, Result, Some};
 ghost use Rattle.sf_value.specs.declared.value.Field.{Field};
 ghost use Rattle.sf_value.specs.declared.value.Kind.{Kind};
@@ -15,38 +15,38 @@ use std::fmt;
 /// Why a consumer has no answer for a field.
 #[derive(Clone, Copy, Debug, PartialEq, Eq)]
 pub enum UseFault {
-    /// A member of a Cache-Status List names no cache (RFC 9211 section 2): it is not an Item, or
-    /// neither a String nor a Token.
+    /// A member of a Cache-Status List does not name a cache (RFC 9211 section 2): it is not an
+    /// Item of a String or a Token.
     NotACache {
-        /// The place of the first such member, counted from 0.
+        /// The index of the first such member, from 0.
         index: usize,
     },
-    /// No memory was left for the answer.
+    /// An allocation for the answer failed.
     OutOfMemory,
 }
 
-/// What reads a field of one kind, and answers what it means.
+/// Reads fields of one kind and returns what they mean.
 ///
-/// An implementation states its meaning, a function from values to an answer or to the place of
-/// the first member that has none, and is proved to give it. It then answers any spelling of a
-/// value alike: see [`crate::ask`].
+/// An implementation states its meaning, which is a function from values to an answer or to the
+/// index of the first member that has none, and is proved to return it. So its answer is the same
+/// for every spelling of a value: see [`crate::ask`].
 pub trait Consumer {
-    /// What it answers.
+    /// The type of the answer.
     type Answer;
 
-    /// The kind of the field that it reads.
+    /// The kind of the fields that it reads.
     const KIND: Kind;
 
-    // the kind, as contracts see it
+    // The kind, as contracts see it.
     ghost KIND: { Kind };
 
-    // what a field means, or the place of the first member that has no meaning
+    // The meaning of a field, or the index of the first member that has none.
     ghost meaning: { Self → Field → Result Self.Answer ℕ };
 
-    /// What the field means. It must be of the kind that is read.
+    /// Returns what the field means. The field has to be of the kind [`Consumer::KIND`].
     fn answer(&self, alloc: Global, field: &Field) -> Result<Self::Answer, UseFault>
         requires { kind_of field.now ≡ KIND }
-        // the meaning of the field or its fault; memory is wanting only where it has an answer
+        // The meaning of the field; out of memory only if the meaning is an answer.
         ensures { Gives (meaning self.now field.now) result };
 }
 

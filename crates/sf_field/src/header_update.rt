@@ -1,4 +1,4 @@
-//! Fields as values of a header map.
+//! Setting fields in a header map.
 ghost use Rattle.std.specs.Prelude.{◌≡◌, ◌≢◌, ◌↔◌, [], Some, IfOk, IsErr, OnErr, OnOk, IsErrOf};
 ghost use Rattle.http_header.specs.FieldValue.{plain_value};
 ghost use Rattle.http_header.specs.HeaderMap.{RefusesInsert, insert as with_value};
@@ -17,9 +17,9 @@ use std::fmt;
 /// Why a field could not be set in a header map.
 #[derive(Clone, Copy, Debug, PartialEq, Eq)]
 pub enum SetFault {
-    /// The name is new, and the map has room for no more names.
+    /// The name is new, and the map is full.
     Full,
-    /// No memory was left for the value or the map.
+    /// An allocation for the value or the map failed.
     OutOfMemory,
 }
 
@@ -44,14 +44,14 @@ impl From<OutOfMemory> for SetFault {
     }
 }
 
-/// The canonical text of a field (RFC 9651 section 4.1) as the value of a header. Each such text is
-/// one, so the only refusal is for want of memory.
+/// Returns the canonical text of a field (RFC 9651 section 4.1) as a header value. Every canonical
+/// text is a valid one, so this fails only if an allocation fails.
 ///
 /// ```
 /// let value = header_value(alloc, &field)?;
 /// ```
 pub fn header_value(alloc: Global, field: &Field) -> Result<HeaderValue, OutOfMemory>
-    // the canonical text, which is not marked as sensitive
+    // The value is the canonical text, and not marked as sensitive.
     ensures { IfOk result (λ value. value ≡ plain_value (canon field.now)) }
 {
     let text = to_text(alloc, field)?;

@@ -13,7 +13,7 @@ use sf_value::{Dialect, Field, Kind};
 use std::alloc::Global;
 use std::hash::RandomState;
 
-/// The values of a name, which a header map keeps, are field lines.
+/// The values of a name in a header map are field lines.
 impl<'a> FieldLines<'a> for ValueIter<'a, HeaderValue> {
     ghost lines = { value_lines };
 
@@ -23,10 +23,9 @@ impl<'a> FieldLines<'a> for ValueIter<'a, HeaderValue> {
     }
 }
 
-/// The value that the values of the name spell together, None where the name is absent. They are
-/// the field lines, as they stand and in the map's order, and are parsed as
-/// [`crate::parse_lines`] does. A single value of spaces, `-` and digits takes no memory where an
-/// Item is asked for.
+/// Parses the values of a name in a header map; None if the name is absent. The values are the
+/// field lines, unchanged and in the map's order, and are parsed as by [`crate::parse_lines`].
+/// Parsing a single value of spaces, `-` and digits as an Item does not allocate.
 ///
 /// ```
 /// let priority = HeaderName::from_static("priority");
@@ -39,9 +38,9 @@ pub fn from_headers(
     headers: &HeaderMap,
     name: &HeaderName,
 ) -> Result<Option<Field>, Refusal>
-    // None where the name is absent; else its values are parsed as field lines
+    // None if the name is absent; otherwise its values are parsed as field lines.
     ensures parses { ParsesHeaders kind headers.now name.now result }
-    // a single value of spaces, `-` and digits is never refused for want of memory
+    // Parsing a single value of spaces, `-` and digits does not allocate.
     ensures allocation_free { kind ≡ kind_is.Item → (value : List ℕ)
         → lines_under headers.now name.now ≡ value ∷ [] → Every number_byte value
         → IfErr result IsOther }

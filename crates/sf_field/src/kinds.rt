@@ -1,5 +1,4 @@
-//! Field lines of a field whose kind is known: the answer is the Item, the List or the Dictionary
-//! itself.
+//! Parsing the lines of a field of a fixed kind, to the Item, the List or the Dictionary itself.
 ghost use Rattle.sf_value.specs.declared.dialect.Dialect.TheVariants.{Rfc9651};
 ghost use Rattle.sf_value.specs.declared.value.Field.TheVariants as field_is;
 ghost use Rattle.sf_value.specs.declared.value.Kind.TheVariants as kind_is;
@@ -16,16 +15,17 @@ use sf_value::{Blob, Dict, Field, Item, Kind, List};
 use std::alloc::Global;
 use std::hash::RandomState;
 
-/// The Item that the lines spell together, as [`crate::parse_lines`] gives it where an Item is
-/// asked for. One line of spaces, `-` and digits takes no memory.
+/// Parses the lines as an Item, as [`crate::parse_lines`] does. Parsing a single line of spaces,
+/// `-` and digits does not allocate.
 ///
 /// ```
 /// let item = parse_item_lines(alloc, &seed, lines.as_slice())?;
 /// ```
 pub fn parse_item_lines(alloc: Global, seed: &RandomState, lines: &[Blob]) -> Result<Item, Refusal>
-    // the lines together spell this Item alone, or this is their exact refusal, memory aside
+    // The joined lines spell this Item and no other value, or this is their exact refusal, or an
+    // allocation failed.
     ensures parses { Makes field_is.Item (ParsesLines Rfc9651 kind_is.Item lines.now) result }
-    // one line of spaces, minus signs and digits takes no memory
+    // Parsing a single line of spaces, `-` and digits does not allocate.
     ensures allocation_free { (line : Seq ℕ) → lines.now ≡ line ∷ [] → Every number_byte line
         → IfErr result IsOther }
 {
@@ -36,14 +36,14 @@ pub fn parse_item_lines(alloc: Global, seed: &RandomState, lines: &[Blob]) -> Re
     }
 }
 
-/// The List that the lines spell together, as [`crate::parse_lines`] gives it where a List is
-/// asked for.
+/// Parses the lines as a List, as [`crate::parse_lines`] does.
 ///
 /// ```
 /// let list = parse_list_lines(alloc, &seed, lines.as_slice())?;
 /// ```
 pub fn parse_list_lines(alloc: Global, seed: &RandomState, lines: &[Blob]) -> Result<List, Refusal>
-    // the lines together spell this List alone, or this is their exact refusal, memory aside
+    // The joined lines spell this List and no other value, or this is their exact refusal, or an
+    // allocation failed.
     ensures { Makes field_is.List (ParsesLines Rfc9651 kind_is.List lines.now) result }
 {
     match parse_lines(alloc, seed, Kind::List, lines)? {
@@ -53,14 +53,14 @@ pub fn parse_list_lines(alloc: Global, seed: &RandomState, lines: &[Blob]) -> Re
     }
 }
 
-/// The Dictionary that the lines spell together, as [`crate::parse_lines`] gives it where a
-/// Dictionary is asked for.
+/// Parses the lines as a Dictionary, as [`crate::parse_lines`] does.
 ///
 /// ```
 /// let dict = parse_dict_lines(alloc, &seed, lines.as_slice())?;
 /// ```
 pub fn parse_dict_lines(alloc: Global, seed: &RandomState, lines: &[Blob]) -> Result<Dict, Refusal>
-    // the lines together spell this Dictionary alone, or this is their exact refusal, memory aside
+    // The joined lines spell this Dictionary and no other value, or this is their exact refusal, or
+    // an allocation failed.
     ensures { Makes field_is.Dict (ParsesLines Rfc9651 kind_is.Dict lines.now) result }
 {
     match parse_lines(alloc, seed, Kind::Dict, lines)? {

@@ -1,9 +1,9 @@
-//! Structured fields as HTTP hands them over (RFC 9651 section 4.2): several field lines, or the
-//! values of one name in a header map, are parsed as their text joined by a comma and a space. That
-//! joined text is never held.
+//! Structured fields as HTTP delivers them (RFC 9651 section 4.2): several field lines, or the
+//! values of one name in a header map, are parsed as one text, joined by a comma and a space. That
+//! text is never built.
 //!
-//! A line is any bytes, and stands in whatever holds [`FieldLines`]. Places in a refusal are counted
-//! in the joined text.
+//! A line can have any bytes, and can come from any type that implements [`FieldLines`]. Places in
+//! a refusal are offsets in the joined text.
 #![tactic(auto)]
 
 mod asking;

@@ -20,23 +20,22 @@ use std::alloc::Global;
 use std::hash::RandomState;
 use std::slice;
 
-/// What holds the lines of one field, and hands them out in their order.
+/// The lines of one field, returned one by one, in order.
 ///
-/// Contracts see it through its `lines`: those that it has still to hand out. An iterator over
-/// [`Blob`]s or over slices of bytes holds lines, and so does a header map's iterator over the
-/// values of a name.
+/// Contracts see its `lines`: those that are still to be returned. Implemented by iterators over
+/// [`Blob`]s and over byte slices, and by a header map's iterator over the values of a name.
 ///
 /// ```
 /// let lines: [&[u8]; 2] = [b"a, b", b"c"];
 /// let list = parse_from(alloc, &seed, Dialect::Rfc9651, Kind::List, lines.iter())?;
 /// ```
 pub trait FieldLines<'a>: Drop {
-    // the lines that are still to be handed out, in their order
+    // The lines that are still to be returned, in order.
     ghost lines: { Self → List (List ℕ) };
 
-    /// The next line, None where none is left.
+    /// Returns the next line, or None if no line is left.
     fn next_line(&mut self) -> Option<&'a [u8]>
-        // None where no line is left; else the first of them, and the others are left
+        // None if no line is left; otherwise the first of them, and the others are left.
         ensures { MatchOption result (lines self.old ≡ [])
             (λ line. lines self.old ≡ line.now ∷ lines self.new) };
 }
@@ -51,7 +50,7 @@ impl<'a> FieldLines<'a> for slice::Iter<'a, Blob> {
     }
 }
 
-/// Slices of bytes are field lines.
+/// Byte slices are field lines.
 impl<'a> FieldLines<'a> for slice::Iter<'a, &'a [u8]> {
     ghost lines = { λ slices. map (λ line. line.now) (iter_rest slices) };
 
@@ -61,10 +60,10 @@ impl<'a> FieldLines<'a> for slice::Iter<'a, &'a [u8]> {
     }
 }
 
-/// The value that the lines spell together, in this dialect: that of their text joined by a comma
-/// and a space, in which the places of a refusal are counted. The lines may stand in whatever
-/// holds them. It is TooLong only where that text has 2^64 bytes or more, and never ReadFault. A
-/// single line of spaces, `-` and digits takes no memory where an Item is asked for.
+/// Parses lines in a dialect, as one text joined by a comma and a space, from any type that has
+/// them. The place of a refusal is an offset in the joined text. The error is TooLong only if that
+/// text has 2^64 bytes or more, and never ReadFault. Parsing a single line of spaces, `-` and
+/// digits as an Item does not allocate.
 ///
 /// ```
 /// let vary = HeaderName::from_static("vary");
@@ -78,9 +77,10 @@ pub fn parse_from<'a, L: FieldLines<'a>>(
     kind: Kind,
     lines: L,
 ) -> Result<Field, Refusal>
-    // the lines together spell this value alone, or this is their exact refusal, memory aside
+    // The joined lines spell this value and no other, or this is their exact refusal, or an
+    // allocation failed.
     ensures parses { ParsesLines dialect kind (L.lines lines) result }
-    // a single line of spaces, `-` and digits is never refused for want of memory
+    // Parsing a single line of spaces, `-` and digits does not allocate.
     ensures allocation_free { kind ≡ kind_is.Item → (line : List ℕ) → L.lines lines ≡ line ∷ []
         → Every number_byte line → NotForMemory result }
 {
@@ -89,7 +89,7 @@ pub fn parse_from<'a, L: FieldLines<'a>>(
     parser.finish()
 }
 
-/// The value that the lines spell together, in this dialect, as [`parse_from`] gives it.
+/// Parses lines in a dialect, as [`parse_from`] does.
 ///
 /// ```
 /// parse_lines_in(alloc, &seed, Dialect::Rfc8941, Kind::Item, lines.as_slice())
@@ -101,17 +101,17 @@ pub fn parse_lines_in(
     kind: Kind,
     lines: &[Blob],
 ) -> Result<Field, Refusal>
-    // the lines together spell this value alone, or this is their exact refusal, memory aside
+    // The joined lines spell this value and no other, or this is their exact refusal, or an
+    // allocation failed.
     ensures parses { ParsesLines dialect kind lines.now result }
-    // a single line of spaces, `-` and digits is never refused for want of memory
+    // Parsing a single line of spaces, `-` and digits does not allocate.
     ensures allocation_free { kind ≡ kind_is.Item → (line : List ℕ) → lines.now ≡ line ∷ []
         → Every number_byte line → NotForMemory result }
 {
     parse_from(alloc, seed, dialect, kind, lines.iter())
 }
 
-/// The value that the lines spell together, in the dialect of RFC 9651 (section 4.2), as
-/// [`parse_from`] gives it.
+/// Parses lines by RFC 9651 (section 4.2), as [`parse_from`] does.
 ///
 /// ```
 /// let field = parse_lines(alloc, &seed, Kind::List, lines.as_slice())?;
@@ -122,18 +122,19 @@ pub fn parse_lines(
     kind: Kind,
     lines: &[Blob],
 ) -> Result<Field, Refusal>
-    // the lines together spell this value alone, or this is their exact refusal, memory aside
+    // The joined lines spell this value and no other, or this is their exact refusal, or an
+    // allocation failed.
     ensures parses { ParsesLines Rfc9651 kind lines.now result }
-    // a single line of spaces, `-` and digits is never refused for want of memory
+    // Parsing a single line of spaces, `-` and digits does not allocate.
     ensures allocation_free { kind ≡ kind_is.Item → (line : List ℕ) → lines.now ≡ line ∷ []
         → Every number_byte line → NotForMemory result }
 {
     parse_from(alloc, seed, Dialect::Rfc9651, kind, lines.iter())
 }
 
-/// The canonical text (RFC 9651 section 4.1) of the value that the lines spell together. Lines that
-/// spell equal values, and no others of the kind, have equal texts. It refuses what [`parse_lines`]
-/// refuses.
+/// Returns the canonical text (RFC 9651 section 4.1) of the value that the lines spell. Lines of a
+/// kind have equal canonical texts if and only if they spell equal values. Refuses what
+/// [`parse_lines`] refuses.
 ///
 /// ```
 /// let text = normalise_lines(alloc, &seed, Kind::List, lines.as_slice())?;
@@ -144,7 +145,7 @@ pub fn normalise_lines(
     kind: Kind,
     lines: &[Blob],
 ) -> Result<Vec<u8>, Refusal>
-    // the canonical text of the value, or the refusal of the lines
+    // The canonical text of the value, or the refusal of the lines.
     ensures { MatchResult result (λ text. NormalisesTo kind lines.now text.items)
         (λ e. ParsesLines Rfc9651 kind lines.now (Err e)) }
 {
@@ -154,12 +155,12 @@ pub fn normalise_lines(
     Ok(text?)
 }
 
-/// Feeds the joined text of the lines, which is empty where there is none.
+/// Feeds the joined text of the lines; without lines it is empty.
 fn feed_lines<'a, L: FieldLines<'a>>(parser: &mut Parser, mut lines: L) -> Result<(), Refusal>
     requires { parser.old.after_line ≡ false }
-    // the joined text of the lines is fed; a refusal stands whatever comes behind it
+    // The joined text is fed; a refusal holds whatever text comes after it.
     ensures fed { Fed parser.old parser.new result (join (L.lines lines)) }
-    // a plain parser stays plain over a single line of spaces, `-` and digits
+    // A parser that has not allocated stays so over a single line of spaces, `-` and digits.
     ensures allocation_free { IsAllocationFree parser.old → (line : List ℕ) → L.lines lines ≡ line ∷ []
         → Every number_byte line → KeptAllocationFree parser.new result }
 {

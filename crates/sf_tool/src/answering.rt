@@ -1,5 +1,5 @@
-//! Texts with their status, each written to its end. What is told is known before its first byte
-//! is written.
+//! Answers: each writes a whole text and returns the status. The answer is computed before its
+//! first byte is written.
 ghost use Rattle.std.specs.Prelude.{◌≡◌, ◌⊎◌, ℕ, List, codes};
 ghost use Rattle.sf_value.specs.Devices.{SinkState};
 ghost use Rattle.sf_write.specs.Writing.{Writes};
@@ -23,11 +23,10 @@ use sf_use::{CachePath, Policy, Priority};
 use sf_value::{Field, Sink};
 use sf_write::{Sent, put, put_field};
 
-/// How it ends that a text was sent: with the status of the input that it tells, where all went
-/// out.
+/// Returns how an answer ends: with its status, if the whole text was written.
 fn ended(sent: Sent, status: Status) -> Status
     requires { status ≡ status_is.Accepted ⊎ status ≡ status_is.Refused }
-    // whatever text was sent, from the beginning
+    // This holds for every text that was sent from its beginning.
     ensures { (old new : SinkState) (text : List ℕ) → Writes old new 0 sent text
         → TellsText text status old new result }
 {
@@ -37,27 +36,27 @@ fn ended(sent: Sent, status: Status) -> Status
     }
 }
 
-/// A text that was made before, and the status of the input that it tells.
+/// Writes a text that was built before, with its status.
 pub(crate) fn answer_made<W: Sink>(text: &[u8], status: Status, sink: &mut W) -> Status
     requires { status ≡ status_is.Accepted ⊎ status ≡ status_is.Refused }
-    // this status where the whole text went out; Stopped where a write failed behind a front of it
+    // This status if the whole text was written; Stopped if a write failed after a prefix of it.
     ensures { TellsText text.now status (W.state sink.old) (W.state sink.new) result }
 {
     ended(put(text, Ok(0), sink), status)
 }
 
-/// The tree of a field.
+/// Writes the tree of a field.
 pub(crate) fn answer_tree<W: Sink>(field: Field, sink: &mut W) -> Status
-    // Accepted where the whole tree went out; Stopped where a write failed behind a front of it
+    // Accepted if the whole tree was written; Stopped if a write failed after a prefix of it.
     ensures { TellsText (tree field) status_is.Accepted
         (W.state sink.old) (W.state sink.new) result }
 {
     ended(put_tree(&field, Ok(0), sink), Status::Accepted)
 }
 
-/// The line for a field that is accepted.
+/// Writes the line for a field that is accepted.
 pub(crate) fn answer_accepted<W: Sink>(field: Field, sink: &mut W) -> Status
-    // Accepted where the whole line went out; Stopped where a write failed behind a front of it
+    // Accepted if the whole line was written; Stopped if a write failed after a prefix of it.
     ensures { TellsText (accepted_line field) status_is.Accepted
         (W.state sink.old) (W.state sink.new) result }
 {
@@ -65,9 +64,9 @@ pub(crate) fn answer_accepted<W: Sink>(field: Field, sink: &mut W) -> Status
     ended(put(b"accepted\n", Ok(0), sink), Status::Accepted)
 }
 
-/// The canonical text of a field, and a line feed.
+/// Writes the canonical text of a field, and a line feed.
 pub(crate) fn answer_canonical<W: Sink>(field: Field, sink: &mut W) -> Status
-    // Accepted where the whole line went out; Stopped where a write failed behind a front of it
+    // Accepted if the whole line was written; Stopped if a write failed after a prefix of it.
     ensures { TellsText (canonical_line field) status_is.Accepted
         (W.state sink.old) (W.state sink.new) result }
 {
@@ -75,11 +74,11 @@ pub(crate) fn answer_canonical<W: Sink>(field: Field, sink: &mut W) -> Status
     ended(put(b"\n", sent, sink), Status::Accepted)
 }
 
-/// The line of a refusal; none for want of memory.
+/// Writes the line of a refusal; nothing if an allocation failed.
 pub(crate) fn answer_refusal<W: Sink>(refusal: Refusal, sink: &mut W) -> Status
-    // the refusal is for the text or for want of memory
+    // The refusal is Syntax or OutOfMemory.
     requires { IsOfText refusal }
-    // the line of the refusal goes out, or a front of it; for want of memory nothing is written
+    // The line of the refusal or a prefix of it is written; nothing for OutOfMemory.
     ensures { TellsRefusal refusal (W.state sink.old) (W.state sink.new) result }
 {
     match refusal {
@@ -97,9 +96,9 @@ pub(crate) fn answer_refusal<W: Sink>(refusal: Refusal, sink: &mut W) -> Status
     }
 }
 
-/// The line for an input that is too long.
+/// Writes the line for an input that is too long.
 pub(crate) fn answer_too_long<W: Sink>(sink: &mut W) -> Status
-    // Refused where the whole line went out; Stopped where a write failed behind a front of it
+    // Refused if the whole line was written; Stopped if a write failed after a prefix of it.
     ensures { TellsText too_long_line status_is.Refused
         (W.state sink.old) (W.state sink.new) result }
 {
@@ -109,18 +108,18 @@ pub(crate) fn answer_too_long<W: Sink>(sink: &mut W) -> Status
     )
 }
 
-/// The lines of a path of caches.
+/// Writes the lines of a path of caches.
 pub(crate) fn answer_path<W: Sink>(path: CachePath, sink: &mut W) -> Status
-    // Accepted where all the lines went out; Stopped where a write failed behind a front of them
+    // Accepted if all lines were written; Stopped if a write failed after a prefix of them.
     ensures { TellsText (path_lines path) status_is.Accepted
         (W.state sink.old) (W.state sink.new) result }
 {
     ended(put_path(&path, Ok(0), sink), Status::Accepted)
 }
 
-/// The line of a refusal for the member at this place, which names no cache.
+/// Writes the line of a refusal for the member at this index, which does not name a cache.
 pub(crate) fn answer_not_a_cache<W: Sink>(index: usize, sink: &mut W) -> Status
-    // Refused where the whole line went out; Stopped where a write failed behind a front of it
+    // Refused if the whole line was written; Stopped if a write failed after a prefix of it.
     ensures { TellsText (not_a_cache_line index) status_is.Refused
         (W.state sink.old) (W.state sink.new) result }
 {
@@ -128,23 +127,23 @@ pub(crate) fn answer_not_a_cache<W: Sink>(index: usize, sink: &mut W) -> Status
     ended(sent, Status::Refused)
 }
 
-/// The line of a priority.
+/// Writes the line of a priority.
 pub(crate) fn answer_priority<W: Sink>(priority: Priority, sink: &mut W) -> Status
-    // Accepted where the whole line went out; Stopped where a write failed behind a front of it
+    // Accepted if the whole line was written; Stopped if a write failed after a prefix of it.
     ensures { TellsText (priority_line priority) status_is.Accepted
         (W.state sink.old) (W.state sink.new) result }
 {
     ended(put_priority(priority, Ok(0), sink), Status::Accepted)
 }
 
-/// The lines of the chosen field, which has this name.
+/// Writes the lines of the chosen field, which has this name.
 pub(crate) fn answer_chosen<W: Sink>(
     index: usize,
     name: &[u8],
     policy: &Policy,
     sink: &mut W,
 ) -> Status
-    // Accepted where all the lines went out; Stopped where a write failed behind a front of them
+    // Accepted if all lines were written; Stopped if a write failed after a prefix of them.
     ensures { TellsText (field_lines index name.now policy.now) status_is.Accepted
         (W.state sink.old) (W.state sink.new) result }
 {
@@ -154,18 +153,18 @@ pub(crate) fn answer_chosen<W: Sink>(
     )
 }
 
-/// The line that no field was chosen.
+/// Writes the line for no chosen field.
 pub(crate) fn answer_fallback<W: Sink>(sink: &mut W) -> Status
-    // Accepted where the whole line went out; Stopped where a write failed behind a front of it
+    // Accepted if the whole line was written; Stopped if a write failed after a prefix of it.
     ensures { TellsText (codes "fallback\n") status_is.Accepted
         (W.state sink.old) (W.state sink.new) result }
 {
     ended(put(b"fallback\n", Ok(0), sink), Status::Accepted)
 }
 
-/// The line of a refusal for the line of this number.
+/// Writes the line of a refusal for the input line of this number.
 pub(crate) fn answer_refused_line<W: Sink>(number: u64, sink: &mut W) -> Status
-    // Refused where the whole line went out; Stopped where a write failed behind a front of it
+    // Refused if the whole line was written; Stopped if a write failed after a prefix of it.
     ensures { TellsText (refused_line number) status_is.Refused
         (W.state sink.old) (W.state sink.new) result }
 {

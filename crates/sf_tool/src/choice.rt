@@ -1,4 +1,4 @@
-//! The lines of the choice of a targeted field. Nothing here takes memory. Each text stands behind
+//! The lines of the choice of a targeted field. Nothing here allocates. Each function writes after
 //! what was sent before.
 ghost use Rattle.std.specs.Prelude.{◌≡◌};
 ghost use Rattle.sf_write.specs.Writing.{Follows};
@@ -10,7 +10,7 @@ use sf_use::Policy;
 use sf_value::Sink;
 use sf_write::{Sent, put};
 
-/// A lifetime in seconds, or `none`.
+/// Writes a lifetime in seconds, or `none`.
 fn put_lifetime<W: Sink>(lifetime: Option<u64>, before: Sent, out: &mut W) -> Sent
     ensures { Follows W.state W.send_gives out.old out.new before result (lifetime_text lifetime) }
 {
@@ -20,7 +20,7 @@ fn put_lifetime<W: Sink>(lifetime: Option<u64>, before: Sent, out: &mut W) -> Se
     }
 }
 
-/// The line of a directive, where it is set.
+/// Writes the line of a directive, if it is set.
 fn put_flag<W: Sink>(line: &[u8], is_set: bool, before: Sent, out: &mut W) -> Sent
     ensures { Follows W.state W.send_gives out.old out.new before result
         (flag_line line.now is_set) }
@@ -32,7 +32,7 @@ fn put_flag<W: Sink>(line: &[u8], is_set: bool, before: Sent, out: &mut W) -> Se
     }
 }
 
-/// The lines of the directives that are set.
+/// Writes the lines of the directives that are set.
 fn put_flags<W: Sink>(policy: &Policy, before: Sent, out: &mut W) -> Sent
     ensures { Follows W.state W.send_gives out.old out.new before result (flag_lines policy.now) }
 {
@@ -42,7 +42,7 @@ fn put_flags<W: Sink>(policy: &Policy, before: Sent, out: &mut W) -> Sent
     put_flag(b"private\n", policy.is_private, sent, out)
 }
 
-/// The lines of a policy: its lifetimes, then the directives that are set.
+/// Writes the lines of a policy: its lifetimes, then the directives that are set.
 fn put_policy<W: Sink>(policy: &Policy, before: Sent, out: &mut W) -> Sent
     ensures { Follows W.state W.send_gives out.old out.new before result (policy_lines policy.now) }
 {
@@ -54,7 +54,7 @@ fn put_policy<W: Sink>(policy: &Policy, before: Sent, out: &mut W) -> Sent
     put_flags(policy, sent, out)
 }
 
-/// The lines of the chosen field, which has this name.
+/// Writes the lines of the chosen field, which has this name.
 pub(crate) fn put_chosen<W: Sink>(
     index: usize,
     name: &[u8],

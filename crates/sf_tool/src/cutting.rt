@@ -10,7 +10,7 @@ use sf_field::FieldLines;
 use sf_value::is_ows;
 use std::marker::Model;
 
-/// The bytes without the spaces and tabs at their front.
+/// Returns the bytes without the spaces and tabs at their beginning.
 fn without_lead(bytes: &[u8]) -> &[u8]
     ensures { result.now ≡ all_but_lead bytes.now }
 {
@@ -21,7 +21,7 @@ fn without_lead(bytes: &[u8]) -> &[u8]
     &bytes[start..]
 }
 
-/// The bytes without the spaces and tabs at their end.
+/// Returns the bytes without the spaces and tabs at their end.
 fn without_trail(bytes: &[u8]) -> &[u8]
     ensures { result.now ≡ all_but_trail bytes.now }
 {
@@ -32,14 +32,14 @@ fn without_trail(bytes: &[u8]) -> &[u8]
     &bytes[..end]
 }
 
-/// The bytes without the spaces and tabs at both ends.
+/// Returns the bytes without the spaces and tabs at both ends.
 pub(crate) fn trimmed(bytes: &[u8]) -> &[u8]
     ensures { result.now ≡ trim bytes.now }
 {
     without_trail(without_lead(bytes))
 }
 
-/// The line without a carriage return at its end.
+/// Returns the line without a carriage return at its end.
 fn without_return(line: &[u8]) -> &[u8]
     ensures { result.now ≡ strip_carriage_return line.now }
 {
@@ -51,9 +51,9 @@ fn without_return(line: &[u8]) -> &[u8]
     }
 }
 
-/// What stands before the first of these bytes and after it, None where there is none.
+/// Splits the bytes at the first separator, which is left out; None if there is none.
 pub(crate) fn split_at_first(bytes: &[u8], separator: u8) -> Option<(&[u8], &[u8])>
-    // None where the byte does not stand there; else what is before its first place, and behind it
+    // None if the separator does not occur; otherwise what is before its first place, and after it.
     ensures { MatchOption result (position_or_len (λ b. b == separator) bytes.now ≡ length
         bytes.now)
         (λ p. (position_or_len (λ b. b == separator) bytes.now < length bytes.now)
@@ -68,11 +68,11 @@ pub(crate) fn split_at_first(bytes: &[u8], separator: u8) -> Option<(&[u8], &[u8
     None
 }
 
-/// The first line and what follows it, None where the input is empty.
+/// Returns the first line and what follows it, or None if the input is empty.
 pub(crate) fn split_line(input: &[u8]) -> Option<(&[u8], &[u8])>
     ensures lines { MatchOption result (lines input.now ≡ [])
         (λ p. lines input.now ≡ p.0.now ∷ lines p.1.now) }
-    // a line is taken off, so that a loop over the lines ends
+    // What follows is shorter than the input, so a loop over the lines ends.
     ensures shorter { IfSome result (λ p. length p.1.now < length input.now) }
     ensures within { IfSome result (λ p. length p.0.now + length p.1.now ≤ length input.now) }
 {
@@ -85,9 +85,9 @@ pub(crate) fn split_line(input: &[u8]) -> Option<(&[u8], &[u8])>
     }
 }
 
-/// The field lines of an input, of which none is copied. The input is cut at each line feed, and a
-/// last part without one is a line unless it is empty. A carriage return directly before a line
-/// feed is dropped, and then the spaces and tabs at both ends of each line.
+/// The field lines of an input, without a copy. The input is split at each line feed; what follows
+/// the last line feed is a line unless it is empty. A carriage return directly before a line feed
+/// is dropped, and then the spaces and tabs at both ends of each line.
 #[derive(Drop)]
 pub(crate) struct InputLines<'a> {
     rest: &'a [u8],
@@ -103,7 +103,7 @@ impl<'a> Model for InputLines<'a> {
 }
 
 impl<'a> InputLines<'a> {
-    /// The lines of this input.
+    /// Returns the lines of this input.
     pub(crate) fn new(input: &'a [u8]) -> InputLines<'a>
         ensures { result ≡ lines_in input.now }
     {

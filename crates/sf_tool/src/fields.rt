@@ -1,4 +1,4 @@
-//! The listed fields of an input of field lines.
+//! The listed fields of an input of header lines.
 ghost use Rattle.std.specs.Prelude.{◌≡◌, IfOk, MatchResult};
 ghost use Rattle.sf_tool.specs.Fields.{is_listed as is_listed_in, AreFields, IsFaultOf};
 ghost use Rattle.sf_tool.specs.OneLine.{IsLine, IsLineFault, AddsField};
@@ -11,13 +11,13 @@ use sf_value::OutOfMemory;
 use std::alloc::Global;
 use std::hash::RandomState;
 
-/// Why an input gives no header map.
+/// Why an input has no header map.
 #[derive(Clone, Copy)]
 pub(crate) enum InputFault {
-    /// The line of this number is refused, and none before it. Lines are counted from 0, the empty
-    /// ones among them.
+    /// The line of this number is refused, and none before it. Lines are counted from 0, including
+    /// empty ones.
     Line(u64),
-    /// No memory was left for a name, for a value or in the map.
+    /// An allocation for a name, a value or the map failed.
     OutOfMemory,
 }
 
@@ -26,9 +26,10 @@ pub(crate) enum InputFault {
 enum FieldLine {
     /// An empty line, or a field whose name is not listed.
     Dropped,
-    /// No field, or a listed one whose value has a control byte other than a tab.
+    /// Not a header line, or one with a listed name whose value has a control byte other than a
+    /// tab.
     Refused,
-    /// A field whose name is listed.
+    /// A field with a listed name.
     Listed(HeaderName, HeaderValue),
 }
 
@@ -39,16 +40,16 @@ enum LineFault {
     OutOfMemory,
 }
 
-/// Whether the name is one of those listed.
+/// Returns whether the name is one of those listed.
 fn is_listed(targets: &[HeaderName], name: &HeaderName) -> bool
     ensures { result ≡ is_listed_in targets.now name.now }
 {
     targets.contains(name)
 }
 
-/// What the line is. There are no blanks at its ends.
+/// Returns what a line is. The line has no spaces or tabs at its ends.
 fn read_line(alloc: Global, targets: &[HeaderName], line: &[u8]) -> Result<FieldLine, OutOfMemory>
-    // what the line is: refused, dropped, or a listed field, with its name and its value
+    // The line is refused, dropped, or a listed field with this name and value.
     ensures { IfOk result (IsLine targets.now line.now) }
 {
     if line.is_empty() {
@@ -73,15 +74,15 @@ fn read_line(alloc: Global, targets: &[HeaderName], line: &[u8]) -> Result<Field
     }
 }
 
-/// Adds the field of the line to the map, where its name is listed. A field that finds no room in
-/// it is refused.
+/// Adds the field of a line to the map, if its name is listed. The line is refused if the map is
+/// full.
 fn take_line(
     alloc: Global,
     targets: &[HeaderName],
     line: &[u8],
     headers: &mut HeaderMap,
 ) -> Result<(), LineFault>
-    // the line's field, if it is listed, was added, or this is why it was not
+    // The line's field, if listed, was added, or this is why it was not.
     ensures { MatchResult result (λ _. AddsField targets.now line.now headers.old headers.new)
         (IsLineFault targets.now line.now headers.old) }
 {
@@ -100,21 +101,21 @@ fn take_line(
     }
 }
 
-/// The listed fields of an input, as a header map.
+/// Returns the listed fields of an input, as a header map.
 ///
-/// The input is cut into lines as for the other commands, and empty lines are skipped. In the
-/// others the name is what stands before the first colon, and the value is the rest without the
-/// spaces and tabs at its ends (RFC 9112 section 5). A line without a colon or with no header name
-/// before it is refused, and so is a control byte other than a tab in a value under a listed name
-/// (RFC 9110 section 5.5). Fields of other names are dropped, whatever their values are. A map has
-/// room for 24,576 names; the line whose name would be one more is refused.
+/// The input is split into lines as for the other commands, and empty lines are skipped. In each
+/// other line, the name is what is before the first colon, and the value is what follows, without
+/// the spaces and tabs at its ends (RFC 9112 section 5). A line is refused if it has no colon, if
+/// what is before the colon is not a header name, or if the name is listed and the value has a
+/// control byte other than a tab (RFC 9110 section 5.5). Fields with other names are dropped,
+/// whatever their values. A map holds 24,576 names; a line whose name would be one more is refused.
 pub(crate) fn read_fields(
     alloc: Global,
     seed: &RandomState,
     targets: &[HeaderName],
     input: &[u8],
 ) -> Result<HeaderMap, InputFault>
-    // the listed fields, where no line is refused; else the first line that is
+    // The listed fields if no line is refused, otherwise the first line that is.
     ensures { MatchResult result (AreFields targets.now input.now)
         (IsFaultOf targets.now input.now) }
 {

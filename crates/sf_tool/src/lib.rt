@@ -1,7 +1,7 @@
-//! What the command `sf` does: its words are read by [`read_request`], and [`run`] answers them
-//! from a source and to a sink. Which words are which request is defined in
-//! `specs/CommandLine.antt`, what is printed in `Texts`, `Tree`, `PathLines`, `ChoiceLines` and
-//! `PriorityLine`, and what a run reads, answers and writes in `specs/Run.antt`.
+//! The command `sf` as a library: [`read_request`] parses the command line, and [`run`] answers the
+//! request from a source to a sink. In `specs/`, `CommandLine` defines which arguments make which
+//! request; `Texts`, `Tree`, `PathLines`, `ChoiceLines` and `PriorityLine` define what is printed;
+//! and `Run` defines what a run reads, answers and writes.
 #![tactic(auto)]
 
 mod answering;

@@ -1,5 +1,5 @@
-//! The lines of a path of caches. Nothing here takes memory. Each text stands behind what was
-//! sent before.
+//! The lines of a path of caches. Nothing here allocates. Each function writes after what was sent
+//! before.
 ghost use Rattle.std.specs.Prelude.{◌++◌};
 ghost use Rattle.sf_use.specs.CacheStatus.Reasons.{token_of};
 ghost use Rattle.sf_write.specs.Writing.{Follows};
@@ -12,7 +12,7 @@ use sf_use::{CachePath, Forward, Hop, Name, Outcome};
 use sf_value::{Bare, Sink};
 use sf_write::{Sent, put, put_bare, put_text};
 
-/// A name, as its canonical text.
+/// Writes a name, as its canonical text.
 fn put_name<W: Sink>(name: &Name, before: Sent, out: &mut W) -> Sent
     ensures { Follows W.state W.send_gives out.old out.new before result (name_text name.now) }
 {
@@ -22,7 +22,7 @@ fn put_name<W: Sink>(name: &Name, before: Sent, out: &mut W) -> Sent
     }
 }
 
-/// A word, and the token of a reason.
+/// Writes a word, and the token of a reason.
 fn put_reason<W: Sink>(word: &[u8], why: &Forward, before: Sent, out: &mut W) -> Sent
     ensures { Follows W.state W.send_gives out.old out.new before result
         (word.now ++ token_of why.now) }
@@ -31,7 +31,7 @@ fn put_reason<W: Sink>(word: &[u8], why: &Forward, before: Sent, out: &mut W) ->
     put(why.as_bytes(), sent, out)
 }
 
-/// What the cache did.
+/// Writes what the cache did.
 fn put_outcome<W: Sink>(outcome: &Outcome, before: Sent, out: &mut W) -> Sent
     ensures { Follows W.state W.send_gives out.old out.new before result
         (outcome_text outcome.now) }
@@ -44,7 +44,7 @@ fn put_outcome<W: Sink>(outcome: &Outcome, before: Sent, out: &mut W) -> Sent
     }
 }
 
-/// The status with its label, where it is present; so are the parts below.
+/// Writes the status with its label, if it is present, as the functions below do for other parts.
 fn put_status<W: Sink>(outcome: &Outcome, before: Sent, out: &mut W) -> Sent
     ensures { Follows W.state W.send_gives out.old out.new before result (status_part outcome.now) }
 {
@@ -57,7 +57,7 @@ fn put_status<W: Sink>(outcome: &Outcome, before: Sent, out: &mut W) -> Sent
     }
 }
 
-/// A flag behind its label.
+/// Writes a flag after its label.
 fn put_flag<W: Sink>(label: &[u8], flag: Option<bool>, before: Sent, out: &mut W) -> Sent
     ensures { Follows W.state W.send_gives out.old out.new before result
         (part label.now boolean_text flag) }
@@ -71,7 +71,7 @@ fn put_flag<W: Sink>(label: &[u8], flag: Option<bool>, before: Sent, out: &mut W
     }
 }
 
-/// The lifetime in seconds.
+/// Writes the lifetime in seconds.
 fn put_ttl<W: Sink>(hop: &Hop, before: Sent, out: &mut W) -> Sent
     ensures { Follows W.state W.send_gives out.old out.new before result (ttl_part hop.now) }
 {
@@ -84,7 +84,7 @@ fn put_ttl<W: Sink>(hop: &Hop, before: Sent, out: &mut W) -> Sent
     }
 }
 
-/// The cache key.
+/// Writes the cache key.
 fn put_key<W: Sink>(hop: &Hop, before: Sent, out: &mut W) -> Sent
     ensures { Follows W.state W.send_gives out.old out.new before result (key_part hop.now) }
 {
@@ -97,7 +97,7 @@ fn put_key<W: Sink>(hop: &Hop, before: Sent, out: &mut W) -> Sent
     }
 }
 
-/// The detail.
+/// Writes the detail.
 fn put_detail<W: Sink>(hop: &Hop, before: Sent, out: &mut W) -> Sent
     ensures { Follows W.state W.send_gives out.old out.new before result (detail_part hop.now) }
 {
@@ -110,7 +110,7 @@ fn put_detail<W: Sink>(hop: &Hop, before: Sent, out: &mut W) -> Sent
     }
 }
 
-/// The parts behind the outcome, to the end of the line.
+/// Writes the parts after the outcome, and the end of the line.
 fn put_parts<W: Sink>(hop: &Hop, before: Sent, out: &mut W) -> Sent
     ensures { Follows W.state W.send_gives out.old out.new before result (parts hop.now) }
 {
@@ -123,7 +123,7 @@ fn put_parts<W: Sink>(hop: &Hop, before: Sent, out: &mut W) -> Sent
     put(b"\n", sent, out)
 }
 
-/// The line of the hop at this place.
+/// Writes the line of the hop at this index.
 fn put_hop<W: Sink>(place: usize, hop: &Hop, before: Sent, out: &mut W) -> Sent
     ensures { Follows W.state W.send_gives out.old out.new before result (hop_line place hop.now) }
 {
@@ -135,7 +135,7 @@ fn put_hop<W: Sink>(place: usize, hop: &Hop, before: Sent, out: &mut W) -> Sent
     put_parts(hop, sent, out)
 }
 
-/// The lines of the hops, whose places are counted from 0.
+/// Writes the lines of the hops, numbered from 0.
 fn put_hops<W: Sink>(hops: &[Hop], before: Sent, out: &mut W) -> Sent
     ensures { Follows W.state W.send_gives out.old out.new before result (hop_lines 0 hops.now) }
 {
@@ -146,7 +146,7 @@ fn put_hops<W: Sink>(hops: &[Hop], before: Sent, out: &mut W) -> Sent
     sent
 }
 
-/// The last line: the place of the cache that the response came from.
+/// Writes the last line: the number of the hop that served the response.
 fn put_served<W: Sink>(served: Option<usize>, before: Sent, out: &mut W) -> Sent
     ensures { Follows W.state W.send_gives out.old out.new before result (served_line served) }
 {
@@ -156,7 +156,7 @@ fn put_served<W: Sink>(served: Option<usize>, before: Sent, out: &mut W) -> Sent
     }
 }
 
-/// The lines of a path.
+/// Writes the lines of a path.
 pub(crate) fn put_path<W: Sink>(path: &CachePath, before: Sent, out: &mut W) -> Sent
     ensures { Follows W.state W.send_gives out.old out.new before result (path_lines path.now) }
 {

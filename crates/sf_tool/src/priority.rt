@@ -1,4 +1,4 @@
-//! The line of a priority. Nothing here takes memory. Each text stands behind what was sent before.
+//! The line of a priority. Nothing here allocates. Each function writes after what was sent before.
 ghost use Rattle.std.specs.Prelude.{◌≡◌};
 ghost use Rattle.sf_write.specs.Writing.{Follows};
 ghost use Rattle.sf_tool.specs.PriorityLine.{incremental_word, priority_line};
@@ -8,7 +8,7 @@ use sf_use::Priority;
 use sf_value::Sink;
 use sf_write::{Sent, put};
 
-/// The word for a flag, to the end of the line.
+/// Writes the word for a flag, and the end of the line.
 fn put_incremental<W: Sink>(incremental: bool, before: Sent, out: &mut W) -> Sent
     ensures { Follows W.state W.send_gives out.old out.new before result
         (incremental_word incremental) }
@@ -20,7 +20,7 @@ fn put_incremental<W: Sink>(incremental: bool, before: Sent, out: &mut W) -> Sen
     }
 }
 
-/// The line of a priority.
+/// Writes the line of a priority.
 pub(crate) fn put_priority<W: Sink>(priority: Priority, before: Sent, out: &mut W) -> Sent
     ensures { Follows W.state W.send_gives out.old out.new before result (priority_line priority) }
 {

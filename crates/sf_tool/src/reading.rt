@@ -1,27 +1,27 @@
-//! A source that is read to its end.
+//! Reading a source to its end.
 ghost use Rattle.std.specs.Prelude.{◌<◌, ◌-◌, ◌^◌, MatchResult};
 ghost use Rattle.sf_tool.specs.Reading.{ReadToEnd, StoppedFor};
 
 use sf_value::Source;
 use std::alloc::Global;
 
-/// How many bytes are asked for at a time, at most.
+/// The greatest number of bytes that one pull asks for.
 const BLOCK: usize = 262_144;
 
-/// Why not all that a source gives was read.
+/// Why a source was not read to its end.
 #[derive(Clone, Copy)]
 pub(crate) enum ReadAllFault {
-    /// No memory was left for the bytes.
+    /// An allocation for the bytes failed.
     OutOfMemory,
-    /// A read failed after so many bytes, and none came behind it.
+    /// A read failed after this many bytes, and it was the last read.
     ReadFault { place: u64 },
-    /// The source gave one byte more than this, and was asked for no further one.
+    /// The source gave one byte more than this, and was not asked for another.
     TooLong { max: u64 },
 }
 
-/// All that the source gives to its end, if that is at most `max` bytes. It asks for no byte behind
-/// the end, nor behind a failed read, nor where one byte more than `max` came. Its block leaves the
-/// stack with it.
+/// Returns everything that the source gives up to its end, if that is at most `max` bytes. Asks for
+/// no byte after the end, after a failed read, or after one byte more than `max`. It is not
+/// inlined, so that its block is not on the stack afterwards.
 #[inline(never)]
 pub(crate) fn read_all<R: Source>(
     alloc: Global,
@@ -29,7 +29,7 @@ pub(crate) fn read_all<R: Source>(
     source: &mut R,
 ) -> Result<Vec<u8>, ReadAllFault>
     requires { max < 2 ^ 64 - 1 }
-    // all that the source gave to its end, within the limit; or why reading stopped before that
+    // Everything that the source gave, within the limit; or why reading stopped before its end.
     ensures { MatchResult result
         (λ all. ReadToEnd (R.state source.old) (R.state source.new) max all.items)
         (λ fault. StoppedFor (R.state source.old) (R.state source.new) max fault) }

@@ -1,4 +1,4 @@
-//! The lines that tell of a refusal. Each text stands behind what was sent before.
+//! The lines of refusals. Each function writes after what was sent before.
 ghost use Rattle.std.specs.Prelude.{◌≡◌, ◌++◌, Some, decimal, codes};
 ghost use Rattle.sf_write.specs.Writing.{Follows};
 ghost use Rattle.sf_parse.specs.ByteSets.{runs_of};
@@ -9,14 +9,14 @@ use itoa::Buffer;
 use sf_value::Sink;
 use sf_write::{Sent, hex_digits, put};
 
-/// A number, in decimal.
+/// Writes a number in decimal.
 pub(crate) fn put_number<W: Sink>(number: u64, before: Sent, out: &mut W) -> Sent
     ensures { Follows W.state W.send_gives out.old out.new before result (decimal number) }
 {
     put(Buffer::new().format(number).as_bytes(), before, out)
 }
 
-/// A word and a number, to the end of the line.
+/// Writes a word, a number and the end of the line.
 pub(crate) fn put_count<W: Sink>(word: &[u8], count: u64, before: Sent, out: &mut W) -> Sent
     ensures { Follows W.state W.send_gives out.old out.new before result
         (word.now ++ (decimal count ++ codes "\n")) }
@@ -26,7 +26,7 @@ pub(crate) fn put_count<W: Sink>(word: &[u8], count: u64, before: Sent, out: &mu
     put(b"\n", sent, out)
 }
 
-/// The byte that was found, or that the text ended.
+/// Writes the byte that was found, or that the text ended.
 fn put_found<W: Sink>(found: Option<u8>, before: Sent, out: &mut W) -> Sent
     ensures { Follows W.state W.send_gives out.old out.new before result (found_text found) }
 {
@@ -39,7 +39,7 @@ fn put_found<W: Sink>(found: Option<u8>, before: Sent, out: &mut W) -> Sent
     }
 }
 
-/// Whether the text could have ended, and the end of the line.
+/// Writes whether the text could have ended, and the end of the line.
 fn put_end<W: Sink>(may_end: bool, before: Sent, out: &mut W) -> Sent
     ensures { Follows W.state W.send_gives out.old out.new before result (end_text may_end) }
 {
@@ -50,7 +50,7 @@ fn put_end<W: Sink>(may_end: bool, before: Sent, out: &mut W) -> Sent
     }
 }
 
-/// The line of a refusal by the grammar. It takes no memory.
+/// Writes the line of a refusal by the grammar. Does not allocate.
 pub(crate) fn put_refusal<W: Sink>(
     place: u64,
     found: Option<u8>,

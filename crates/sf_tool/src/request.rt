@@ -1,4 +1,4 @@
-//! The words of the command line.
+//! The command line.
 ghost use Rattle.std.specs.Prelude.{◌≡◌, ◌≢◌, ◌↔◌, [], map, true, false, Some, IfOk, MatchResult};
 ghost use Rattle.std.specs.Prelude.{string_bytes};
 ghost use Rattle.clap.specs.Words.{app_of, found_of, rows_of};
@@ -26,36 +26,35 @@ use std::fmt;
 /// The greatest number of names that `targeted` takes.
 pub const MAX_NAMES: usize = 64;
 
-/// What the command is asked to do with the field lines of its input.
+/// A request: what to do with the field lines of the input.
 #[derive(Debug, Drop)]
 pub enum Request {
-    /// To show the value that they spell, read in this dialect as one field of this kind.
+    /// Print the value as a tree; the lines are parsed in this dialect as a field of this kind.
     Show(Dialect, Kind),
-    /// To say whether they spell a value, read in this dialect as one field of this kind.
+    /// Print whether the lines are accepted in this dialect as a field of this kind.
     Check(Dialect, Kind),
-    /// To write the canonical text of the value that they spell, read in this dialect as one field
-    /// of this kind.
+    /// Print the canonical text; the lines are parsed in this dialect as a field of this kind.
     Normalise(Dialect, Kind),
-    /// To tell the hops of a Cache-Status field (RFC 9211).
+    /// Print the hops of a Cache-Status field (RFC 9211).
     CacheStatus,
-    /// To tell which of these fields governs a cache that reads them in this order, and how
-    /// (RFC 9213). A request that [`read_request`] gives has from 1 to [`MAX_NAMES`] names.
+    /// Print which field a cache with this target list obeys, and its policy (RFC 9213). A request
+    /// that [`read_request`] returns has from 1 to [`MAX_NAMES`] names.
     Targeted(Vec<HeaderName>),
-    /// To tell the parameters of a Priority field (RFC 9218).
+    /// Print the parameters of a Priority field (RFC 9218).
     Priority,
 }
 
-/// Why words are no request.
+/// Why arguments make no request.
 #[derive(Clone, Copy, Debug, PartialEq, Eq)]
 pub enum RequestFault {
-    /// The words are not those of a command, or ask for help.
+    /// The arguments are not those of a command, or ask for help.
     Usage,
-    /// No memory was left to read them.
+    /// An allocation failed while they were parsed.
     OutOfMemory,
 }
 
 impl RequestFault {
-    /// How the command ends that has these words. It takes no memory.
+    /// Returns how the command ends. Does not allocate.
     ///
     /// ```
     /// RequestFault::Usage.status() // Status::Usage, whose exit code is 2
@@ -86,22 +85,22 @@ impl fmt::Display for RequestFault {
 
 impl Error for RequestFault {}
 
-/// Reads the words of the command line, of which the first is the program's name.
+/// Parses the arguments of the command line, of which the first is the program's name.
 ///
 /// `show`, `check` and `normalise` take `--kind item`, `--kind list` or `--kind dict`, and may take
 /// `--dialect rfc8941` or `--dialect rfc9651`, which is the default. `cache-status` and `priority`
-/// take nothing. `targeted` takes from 1 to [`MAX_NAMES`] header names (RFC 9110 section 5.1); one
-/// that begins with a hyphen must stand behind `--`. Whatever else stands there is `Usage`, a
-/// request for help among it.
+/// take nothing. `targeted` takes from 1 to [`MAX_NAMES`] header names (RFC 9110 section 5.1); a
+/// name that begins with a hyphen has to follow `--`. Everything else is `Usage`, including a
+/// request for help.
 ///
 /// ```
 /// let request = read_request(alloc, words.as_slice())?; // sf targeted CDN-Cache-Control
 /// ```
 pub fn read_request(alloc: Global, words: &[String]) -> Result<Request, RequestFault>
-    // the request that the words ask for; Usage only where they ask for none
+    // The request that the arguments make; Usage only if they make none.
     ensures request { MatchResult result (IsRequestOf (map string_bytes words.now))
         (IsUsageOf (map string_bytes words.now)) }
-    // a request that has names has from 1 to 64
+    // A request that has names has from 1 to 64.
     ensures few { IfOk result HasFewNames }
 {
     let Ok(command) = make_command(alloc) else {
@@ -117,7 +116,7 @@ pub fn read_request(alloc: Global, words: &[String]) -> Result<Request, RequestF
     }
 }
 
-/// Why there is no request where clap found a fault of this kind.
+/// Converts the kind of an error of clap.
 fn fault_of(kind: ErrorKind) -> RequestFault
     ensures { (result ≡ Usage) ↔ (kind ≢ ErrorKind.OutOfMemory) }
 {
@@ -127,9 +126,9 @@ fn fault_of(kind: ErrorKind) -> RequestFault
     }
 }
 
-/// The program, with its six commands.
+/// Returns the program, with its six commands.
 fn make_command<'a>(alloc: Global) -> Result<Command<'a>, AllocError>
-    // it is the program as defined: one of six commands must be named
+    // It is the program as defined: one of six commands has to be named.
     ensures { IfOk result (λ c. app_of c ≡ command_line) }
 {
     Command::new(alloc, "sf")
@@ -142,9 +141,9 @@ fn make_command<'a>(alloc: Global) -> Result<Command<'a>, AllocError>
         .subcommand(Command::new(alloc, "priority"))
 }
 
-/// A command that takes a kind, and a dialect.
+/// Returns a command that takes a kind and a dialect.
 fn with_kind<'a>(alloc: Global, name: &'a str) -> Result<Command<'a>, AllocError>
-    // it takes `--kind`, which must be given, and `--dialect`, and has no commands of its own
+    // It takes `--kind`, which is required, and `--dialect`, and has no subcommands.
     ensures { IfOk result
         (λ c. app_of c ≡ record { top = kind_command name.entry.now; subs = [] }) }
 {
@@ -155,9 +154,9 @@ fn with_kind<'a>(alloc: Global, name: &'a str) -> Result<Command<'a>, AllocError
     Command::new(alloc, name).arg(kind)?.arg(dialect)
 }
 
-/// A command that takes one name or more.
+/// Returns a command that takes one name or more.
 fn with_names<'a>(alloc: Global, name: &'a str) -> Result<Command<'a>, AllocError>
-    // it takes one name or more, and has no commands of its own
+    // It takes one name or more, and has no subcommands.
     ensures { IfOk result
         (λ c. app_of c ≡ record { top = names_command name.entry.now; subs = [] }) }
 {
@@ -168,9 +167,9 @@ fn with_names<'a>(alloc: Global, name: &'a str) -> Result<Command<'a>, AllocErro
     Command::new(alloc, name).arg(names)
 }
 
-/// The request that a command and what was given with it ask for.
+/// Returns the request of a command and its arguments.
 fn request_of(alloc: Global, name: &str, given: &ArgMatches<'_>) -> Result<Request, RequestFault>
-    // the request they ask for; Usage only where there is none; memory is wanting for names alone
+    // The request that they make; Usage only if there is none; OutOfMemory only for names.
     ensures { MatchResult result (AsksFor name.now (rows_of (found_of given.now)))
         (IsCommandFault name.now (rows_of (found_of given.now))) }
 {
@@ -188,9 +187,9 @@ fn request_of(alloc: Global, name: &str, given: &ArgMatches<'_>) -> Result<Reque
     }
 }
 
-/// The dialect that was given, or the default.
+/// Returns the dialect that was given, or the default.
 fn dialect_of(given: &ArgMatches<'_>) -> Result<Dialect, RequestFault>
-    // the dialect that is named; Usage where none is
+    // The dialect that is named; Usage if what is named is not a dialect.
     ensures { MatchResult result (NamesDialect (rows_of (found_of given.now)))
         (λ fault. (fault ≡ Usage)
         × ((d : Dialect) → ¬ (NamesDialect (rows_of (found_of given.now)) d))) }
@@ -205,9 +204,9 @@ fn dialect_of(given: &ArgMatches<'_>) -> Result<Dialect, RequestFault>
     }
 }
 
-/// The kind that was given.
+/// Returns the kind that was given.
 fn kind_of(given: &ArgMatches<'_>) -> Result<Kind, RequestFault>
-    // the kind that is named; Usage where none is
+    // The kind that is named; Usage if what is named is not a kind.
     ensures { MatchResult result (NamesKind (rows_of (found_of given.now)))
         (λ fault. (fault ≡ Usage)
         × ((k : Kind) → ¬ (NamesKind (rows_of (found_of given.now)) k))) }
@@ -223,9 +222,9 @@ fn kind_of(given: &ArgMatches<'_>) -> Result<Kind, RequestFault>
     }
 }
 
-/// A header name as a word of the command line gives it.
+/// Returns an argument as a header name.
 fn header_name(alloc: Global, word: &str) -> Result<HeaderName, RequestFault>
-    // the word in lower case, where it is a header name; Usage only where it is none
+    // The word in lower case, if it is a header name; Usage only if it is not.
     ensures { MatchResult result
         (λ name. (is_header_name word.now ≡ true) × (name ≡ lowercase word.now))
         (λ fault. fault ≡ Usage → is_header_name word.now ≡ false) }
@@ -237,9 +236,9 @@ fn header_name(alloc: Global, word: &str) -> Result<HeaderName, RequestFault>
     }
 }
 
-/// The request that has the words for its names.
+/// Returns the request with these words as its names.
 fn targeted(alloc: Global, words: &[&str]) -> Result<Request, RequestFault>
-    // the request for these names, or why there is none
+    // The request for these names, or why there is none.
     ensures { MatchResult result (IsTargetedOf (map (λ w. w.now) words.now))
         (IsNamesFault (map (λ w. w.now) words.now)) }
 {

@@ -1,4 +1,4 @@
-//! What the command answers.
+//! Running a request.
 ghost use Rattle.std.specs.Prelude.{◌≡◌, ◌≤◌, [], length, IfErr};
 ghost use Rattle.sf_field.specs.Asking.{Asks};
 ghost use Rattle.sf_field.specs.Lines.{ParsesLines};
@@ -27,18 +27,19 @@ use sf_value::{Dialect, Field, Kind, Sink, Source, Writing};
 use std::alloc::Global;
 use std::hash::RandomState;
 
-/// The length in bytes of the longest input that is read; a longer one is refused.
+/// The length in bytes of the longest input that is accepted; a longer one is refused.
 pub const INPUT_LIMIT: u64 = 1_048_576;
 
 /// Answers a request: reads the whole input from the source, computes, and then writes to the sink.
 ///
-/// An input longer than [`INPUT_LIMIT`] is refused: one byte beyond the limit is read, none is
-/// asked for behind it, and that it was too long is told whatever memory is left. Nor is a byte
-/// asked for behind the end. A failed read is not repeated: it gives `Stopped`, as does want of
-/// memory, and then nothing was written. A failed write gives `Stopped`, and a front of the answer
-/// went out before it. Else the whole answer went out, and the status is its. It is never `Usage`,
-/// and the sink is not flushed. The source is asked for at most 262,144 bytes at a time, and the
-/// sink is handed the whole answer at once, where there is memory for that.
+/// An input longer than [`INPUT_LIMIT`] is refused after one byte beyond the limit was read,
+/// whatever memory is left. No byte is asked for after that, or after the end of the input. If a
+/// read fails, or an allocation without which there is no answer, the result is `Stopped`, and
+/// nothing was written; a failed read is not repeated. If a write fails, the result is `Stopped`, and
+/// a prefix of the answer was written.
+/// Otherwise the whole answer was written, and the result is its status. The result is never
+/// `Usage`, and the sink is not flushed. The source is asked for at most 262,144 bytes at a time,
+/// and the whole answer is sent to the sink at once if it can be allocated.
 ///
 /// ```
 /// let request = Request::Normalise(Dialect::Rfc9651, Kind::Item);
@@ -53,7 +54,7 @@ pub fn run<R: Source, W: Sink>(
     source: &mut R,
     sink: &mut W,
 ) -> Status
-    // the whole input is read and answered, or it is told to be too long; else nothing is written
+    // The whole input is read and answered, or refused as too long; otherwise nothing is written.
     ensures { Ran request.now (R.state source.old) (R.state source.new)
         (W.state sink.old) (W.state sink.new) result }
 {
@@ -64,7 +65,7 @@ pub fn run<R: Source, W: Sink>(
     }
 }
 
-/// The value of the input's field lines, read as one field.
+/// Parses the input's lines as one field.
 fn parse_input(
     alloc: Global,
     seed: &RandomState,
@@ -73,15 +74,16 @@ fn parse_input(
     input: &[u8],
 ) -> Result<Field, Refusal>
     requires { length input.now ≤ input_limit }
-    // the input's lines spell this value alone, or this is their exact refusal, memory aside
+    // The input's lines spell this value and no other, or this is their exact refusal, or an
+    // allocation failed.
     ensures parses { ParsesLines dialect kind (lines_in input.now) result }
-    // it is refused for the text or for want of memory, and never as too long
+    // The error is Syntax or OutOfMemory, never TooLong or ReadFault.
     ensures of_text { IfErr result IsOfText }
 {
     parse_from(alloc, seed, dialect, kind, InputLines::new(input))
 }
 
-/// The tree of the input's field, or why it is refused.
+/// Writes the tree of the input's field, or why it is refused.
 fn show<W: Sink>(
     alloc: Global,
     seed: &RandomState,
@@ -91,7 +93,7 @@ fn show<W: Sink>(
     sink: &mut W,
 ) -> Status
     requires { length input.now ≤ input_limit }
-    // the whole answer went out; or a front of it, and a write failed; or nothing was written
+    // The whole answer was written; or a prefix of it, and a write failed; or nothing.
     ensures { Tells (request_is.Show dialect kind) input.now
         (W.state sink.old) (W.state sink.new) result }
 {
@@ -101,7 +103,7 @@ fn show<W: Sink>(
     }
 }
 
-/// That the input's field is accepted, or why it is refused.
+/// Writes that the input's field is accepted, or why it is refused.
 fn check<W: Sink>(
     alloc: Global,
     seed: &RandomState,
@@ -111,7 +113,7 @@ fn check<W: Sink>(
     sink: &mut W,
 ) -> Status
     requires { length input.now ≤ input_limit }
-    // the whole answer went out; or a front of it, and a write failed; or nothing was written
+    // The whole answer was written; or a prefix of it, and a write failed; or nothing.
     ensures { Tells (request_is.Check dialect kind) input.now
         (W.state sink.old) (W.state sink.new) result }
 {
@@ -121,7 +123,7 @@ fn check<W: Sink>(
     }
 }
 
-/// The canonical text of the input's field, or why it is refused.
+/// Writes the canonical text of the input's field, or why it is refused.
 fn normalise<W: Sink>(
     alloc: Global,
     seed: &RandomState,
@@ -131,7 +133,7 @@ fn normalise<W: Sink>(
     sink: &mut W,
 ) -> Status
     requires { length input.now ≤ input_limit }
-    // the whole answer went out; or a front of it, and a write failed; or nothing was written
+    // The whole answer was written; or a prefix of it, and a write failed; or nothing.
     ensures { Tells (request_is.Normalise dialect kind) input.now
         (W.state sink.old) (W.state sink.new) result }
 {
@@ -141,7 +143,7 @@ fn normalise<W: Sink>(
     }
 }
 
-/// What the input's field lines mean to a consumer.
+/// Returns what the input's lines mean to a consumer.
 fn ask_input<C: Consumer>(
     alloc: Global,
     seed: &RandomState,
@@ -149,18 +151,18 @@ fn ask_input<C: Consumer>(
     input: &[u8],
 ) -> Result<C::Answer, AskFault>
     requires { length input.now ≤ input_limit }
-    // the answer is what the lines mean; a fault is what they mean, their refusal or want of memory
+    // The result is what the lines mean, or their refusal, or out of memory.
     ensures asks { Asks C.KIND (C.meaning consumer.now) (lines_in input.now) result }
-    // so is it here, or the value has no answer
+    // A refusal is Syntax or OutOfMemory; or the value has no answer.
     ensures of_text { IfErr result IsAskOfText }
 {
     ask_from(alloc, seed, consumer, InputLines::new(input))
 }
 
-/// The hops of the input's Cache-Status field, or why it is refused.
+/// Writes the hops of the input's Cache-Status field, or why it is refused.
 fn cache_status<W: Sink>(alloc: Global, seed: &RandomState, input: &[u8], sink: &mut W) -> Status
     requires { length input.now ≤ input_limit }
-    // the whole answer went out; or a front of it, and a write failed; or nothing was written
+    // The whole answer was written; or a prefix of it, and a write failed; or nothing.
     ensures { Tells request_is.CacheStatus input.now (W.state sink.old) (W.state sink.new) result }
 {
     match ask_input(alloc, seed, &CacheStatus, input) {
@@ -171,10 +173,10 @@ fn cache_status<W: Sink>(alloc: Global, seed: &RandomState, input: &[u8], sink: 
     }
 }
 
-/// What the input's Priority field asks for, or why it is refused.
+/// Writes the priority of the input's Priority field, or why it is refused.
 fn priority<W: Sink>(alloc: Global, seed: &RandomState, input: &[u8], sink: &mut W) -> Status
     requires { length input.now ≤ input_limit }
-    // the whole answer went out; or a front of it, and a write failed; or nothing was written
+    // The whole answer was written; or a prefix of it, and a write failed; or nothing.
     ensures { Tells request_is.Priority input.now (W.state sink.old) (W.state sink.new) result }
 {
     match ask_input(alloc, seed, &PriorityField, input) {
@@ -185,11 +187,11 @@ fn priority<W: Sink>(alloc: Global, seed: &RandomState, input: &[u8], sink: &mut
     }
 }
 
-/// The lines of a choice among these names.
+/// Writes the lines of a choice among these names.
 fn answer_choice<W: Sink>(names: &[HeaderName], choice: Choice, sink: &mut W) -> Status
-    // a chosen field is one of these names
+    // A chosen field has one of these names.
     requires { IsPlaceOf names.now choice }
-    // Accepted where all the lines went out; Stopped where a write failed behind a front of them
+    // Accepted if all lines were written; Stopped if a write failed after a prefix of them.
     ensures { TellsText (choice_lines names.now choice) status_is.Accepted
         (W.state sink.old) (W.state sink.new) result }
 {
@@ -201,9 +203,9 @@ fn answer_choice<W: Sink>(names: &[HeaderName], choice: Choice, sink: &mut W) ->
     }
 }
 
-/// The line of a refusal for a line of the input.
+/// Writes the line of a refusal for a line of the input.
 fn answer_input_fault<W: Sink>(fault: InputFault, sink: &mut W) -> Status
-    // the line with this number goes out, or a front of it; for want of memory nothing is written
+    // The line with this number or a prefix of it is written; nothing for OutOfMemory.
     ensures { TellsInputFault fault (W.state sink.old) (W.state sink.new) result }
 {
     match fault {
@@ -212,7 +214,7 @@ fn answer_input_fault<W: Sink>(fault: InputFault, sink: &mut W) -> Status
     }
 }
 
-/// Which of the fields of these names a cache obeys, or which line of the input is refused.
+/// Writes which of the fields with these names a cache obeys, or which input line is refused.
 fn targeted<W: Sink>(
     alloc: Global,
     seed: &RandomState,
@@ -220,7 +222,7 @@ fn targeted<W: Sink>(
     input: &[u8],
     sink: &mut W,
 ) -> Status
-    // the whole answer went out; or a front of it, and a write failed; or nothing was written
+    // The whole answer was written; or a prefix of it, and a write failed; or nothing.
     ensures { Tells (request_is.Targeted names.now) input.now
         (W.state sink.old) (W.state sink.new) result }
 {
@@ -235,7 +237,7 @@ fn targeted<W: Sink>(
     }
 }
 
-/// Answers the input as the request asks.
+/// Answers a request for the input.
 fn answer<W: Sink>(
     alloc: Global,
     seed: &RandomState,
@@ -244,7 +246,7 @@ fn answer<W: Sink>(
     sink: &mut W,
 ) -> Status
     requires { length input.now ≤ input_limit }
-    // the whole answer went out; or a front of it, and a write failed; or nothing was written
+    // The whole answer was written; or a prefix of it, and a write failed; or nothing.
     ensures { Tells request.now input.now (W.state sink.old) (W.state sink.new) result }
 {
     match request {
@@ -257,7 +259,8 @@ fn answer<W: Sink>(
     }
 }
 
-/// An empty text with room for most answers to so many bytes, or for none where memory is wanting.
+/// Returns an empty text with the capacity for most answers to an input of this length, or without
+/// capacity if the allocation fails.
 fn room_for(alloc: Global, length: usize) -> Vec<u8>
     requires { length ≤ input_limit }
     ensures { result.items ≡ [] }
@@ -268,8 +271,8 @@ fn room_for(alloc: Global, length: usize) -> Vec<u8>
     }
 }
 
-/// Answers in one piece: the text is made whole in memory, and then sent. Where no memory is left
-/// for that, the request is answered anew, and its text is sent as it is made.
+/// Answers at once: the text is built in memory and then sent. If an allocation for it fails, the
+/// request is answered again, and its text is sent as it is made.
 fn answer_at_once<W: Sink>(
     alloc: Global,
     seed: &RandomState,
@@ -278,7 +281,7 @@ fn answer_at_once<W: Sink>(
     sink: &mut W,
 ) -> Status
     requires { length input.now ≤ input_limit }
-    // the whole answer went out; or a front of it, and a write failed; or nothing was written
+    // The whole answer was written; or a prefix of it, and a write failed; or nothing.
     ensures { Tells request.now input.now (W.state sink.old) (W.state sink.new) result }
 {
     let mut made = Writing::new(room_for(alloc, input.len()));

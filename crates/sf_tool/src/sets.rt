@@ -1,4 +1,4 @@
-//! Sets of bytes, as the lines of refusals list them. Each text stands behind what was sent before.
+//! Sets of bytes, as in the lines of refusals. Each function writes after what was sent before.
 ghost use Rattle.std.specs.Prelude.{◌++◌, codes};
 ghost use Rattle.sf_write.specs.Writing.{Follows};
 ghost use Rattle.sf_parse.specs.ByteSets.{runs_of as runs_in};
@@ -8,7 +8,7 @@ use sf_parse::runs_of;
 use sf_value::Sink;
 use sf_write::{Sent, hex_digits, put};
 
-/// A space and a run of the set: its byte, or its first and its last byte with a `-` between.
+/// Writes a space and a run of the set: its byte, or its first and last byte with a `-` between.
 fn put_run<W: Sink>(first: u8, last: u8, before: Sent, out: &mut W) -> Sent
     ensures { Follows W.state W.send_gives out.old out.new before result
         (codes " " ++ run_text (first, last)) }
@@ -21,7 +21,7 @@ fn put_run<W: Sink>(first: u8, last: u8, before: Sent, out: &mut W) -> Sent
     put(&[b' ', high, low, b'-', last_high, last_low], before, out)
 }
 
-/// The bytes of the set in ascending order, each run of it behind a space.
+/// Writes the bytes of the set in ascending order, a space before each run.
 pub(crate) fn put_set<W: Sink>(set: u128, before: Sent, out: &mut W) -> Sent
     ensures { Follows W.state W.send_gives out.old out.new before result (set_text (runs_in set)) }
 {

@@ -20,14 +20,14 @@ pub enum Status {
     Accepted,
     /// The input was refused, and a line that says why was written.
     Refused,
-    /// The words of the command line are no request.
+    /// The arguments make no request.
     Usage,
-    /// Memory was wanting or a device failed.
+    /// An allocation or a device failed.
     Stopped,
 }
 
 impl Status {
-    /// The exit code: 0, 1, 2 and 3, in the order in which the cases stand. It takes no memory.
+    /// Returns the exit code: 0, 1, 2 or 3, in the order of the cases. Does not allocate.
     pub fn code(self) -> u8
         ensures { result ≡ code_of self }
     {
@@ -39,10 +39,10 @@ impl Status {
         }
     }
 
-    /// How the command ends that ran so and whose output was then flushed with this outcome: as it
-    /// ran, but `Stopped` where the flush failed. It takes no memory.
+    /// Returns the status after the output was flushed with this result: `Stopped` if the flush
+    /// failed, otherwise the same status. Does not allocate.
     pub fn after_flush<E: Drop>(self, flushed: Result<(), E>) -> Status
-        // where the flush succeeded, and where it failed
+        // The first case is a flush that succeeded, the second one that failed.
         ensures { MatchResult flushed (λ _. result ≡ self) (λ _. result ≡ Stopped) }
     {
         match flushed {
@@ -51,8 +51,8 @@ impl Status {
         }
     }
 
-    /// The line for standard error, without its line feed; `None` where the input was answered. It
-    /// takes no memory.
+    /// Returns the line for standard error, without its line feed; `None` if the input was
+    /// answered. Does not allocate.
     pub fn line(self) -> Option<&'static str>
         ensures { option_map (λ s. s.now) result ≡ line_of self }
     {

@@ -1,5 +1,5 @@
-//! The indented tree of a field. Nothing here takes memory. Each text stands behind what was
-//! sent before.
+//! The indented tree of a field. Nothing here allocates. Each function writes after what was sent
+//! before.
 ghost use Rattle.std.specs.Prelude.{◌≡◌, ◌≤◌};
 ghost use Rattle.sf_write.specs.Writing.{Follows};
 ghost use Rattle.sf_tool.specs.Tree.{margin as margin_at, type_word as type_word_of};
@@ -11,7 +11,7 @@ use crate::refusing::put_count;
 use sf_value::{Bare, Entries, Field, Inner, Item, Member, Sink};
 use sf_write::{Sent, put, put_bare};
 
-/// What stands before a line at this depth: two spaces for each parent. No line of a tree stands
+/// Returns the margin of a line at this depth: two spaces for each parent. No line of a tree is
 /// deeper than 3.
 fn margin(depth: usize) -> &'static [u8]
     requires { depth ≤ 3 }
@@ -25,7 +25,7 @@ fn margin(depth: usize) -> &'static [u8]
     }
 }
 
-/// The word for the type of a bare item, and a space.
+/// Returns the word for the type of a bare item, and a space.
 fn type_word(bare: &Bare) -> &'static [u8]
     ensures { result.now ≡ type_word_of bare.now }
 {
@@ -41,7 +41,7 @@ fn type_word(bare: &Bare) -> &'static [u8]
     }
 }
 
-/// What stands before a line at this depth.
+/// Writes the margin of a line at this depth.
 fn put_margin<W: Sink>(depth: usize, before: Sent, out: &mut W) -> Sent
     requires { depth ≤ 3 }
     ensures { Follows W.state W.send_gives out.old out.new before result (margin_at depth) }
@@ -49,7 +49,7 @@ fn put_margin<W: Sink>(depth: usize, before: Sent, out: &mut W) -> Sent
     put(margin(depth), before, out)
 }
 
-/// A bare item, to the end of its line.
+/// Writes a bare item and the end of its line.
 fn put_bare_line<W: Sink>(bare: &Bare, before: Sent, out: &mut W) -> Sent
     ensures { Follows W.state W.send_gives out.old out.new before result (bare_line bare.now) }
 {
@@ -58,7 +58,7 @@ fn put_bare_line<W: Sink>(bare: &Bare, before: Sent, out: &mut W) -> Sent
     put(b"\n", sent, out)
 }
 
-/// Parameters, a line each.
+/// Writes parameters, a line each.
 fn put_params<W: Sink>(depth: usize, params: &Entries<Bare>, before: Sent, out: &mut W) -> Sent
     requires { depth ≤ 3 }
     ensures { Follows W.state W.send_gives out.old out.new before result
@@ -75,7 +75,7 @@ fn put_params<W: Sink>(depth: usize, params: &Entries<Bare>, before: Sent, out: 
     sent
 }
 
-/// An Item, behind what stands before it in its line.
+/// Writes an Item after the beginning of its line, which is already written.
 fn put_item<W: Sink>(depth: usize, item: &Item, before: Sent, out: &mut W) -> Sent
     requires { depth ≤ 2 }
     ensures { Follows W.state W.send_gives out.old out.new before result
@@ -85,7 +85,7 @@ fn put_item<W: Sink>(depth: usize, item: &Item, before: Sent, out: &mut W) -> Se
     put_params(depth + 1, &item.params, sent, out)
 }
 
-/// The Items of an Inner List.
+/// Writes the Items of an Inner List.
 fn put_items<W: Sink>(depth: usize, items: &[Item], before: Sent, out: &mut W) -> Sent
     requires { depth ≤ 2 }
     ensures { Follows W.state W.send_gives out.old out.new before result
@@ -99,7 +99,7 @@ fn put_items<W: Sink>(depth: usize, items: &[Item], before: Sent, out: &mut W) -
     sent
 }
 
-/// An Inner List, behind what stands before it in its line.
+/// Writes an Inner List after the beginning of its line.
 fn put_inner<W: Sink>(depth: usize, inner: &Inner, before: Sent, out: &mut W) -> Sent
     requires { depth ≤ 1 }
     ensures { Follows W.state W.send_gives out.old out.new before result
@@ -110,7 +110,7 @@ fn put_inner<W: Sink>(depth: usize, inner: &Inner, before: Sent, out: &mut W) ->
     put_params(depth + 1, &inner.params, sent, out)
 }
 
-/// A member, behind what stands before it in its line.
+/// Writes a member after the beginning of its line.
 fn put_member<W: Sink>(member: &Member, before: Sent, out: &mut W) -> Sent
     ensures { Follows W.state W.send_gives out.old out.new before result
         (member_lines 1 member.now) }
@@ -121,7 +121,7 @@ fn put_member<W: Sink>(member: &Member, before: Sent, out: &mut W) -> Sent
     }
 }
 
-/// The members of a List.
+/// Writes the members of a List.
 fn put_members<W: Sink>(members: &[Member], before: Sent, out: &mut W) -> Sent
     ensures { Follows W.state W.send_gives out.old out.new before result
         (members_lines members.now) }
@@ -134,7 +134,7 @@ fn put_members<W: Sink>(members: &[Member], before: Sent, out: &mut W) -> Sent
     sent
 }
 
-/// The members of a Dictionary.
+/// Writes the members of a Dictionary.
 fn put_entries<W: Sink>(entries: &Entries<Member>, before: Sent, out: &mut W) -> Sent
     ensures { Follows W.state W.send_gives out.old out.new before result
         (entries_lines entries.now) }
@@ -149,7 +149,7 @@ fn put_entries<W: Sink>(entries: &Entries<Member>, before: Sent, out: &mut W) ->
     sent
 }
 
-/// The tree of a field.
+/// Writes the tree of a field.
 pub(crate) fn put_tree<W: Sink>(field: &Field, before: Sent, out: &mut W) -> Sent
     ensures { Follows W.state W.send_gives out.old out.new before result (tree field.now) }
 {

@@ -1,9 +1,9 @@
 //! Cache-Status (RFC 9211 section 2): which caches handled a response, and how.
 //!
-//! The field is a List. Each member is a cache, named by a String or a Token; the first is the one
-//! nearest the origin, the last the one nearest the user. The parameters of a member say what that
-//! cache did. [`CacheStatus`] reads the field as a [`CachePath`], a [`Hop`] for each member, and
-//! [`append_hop`] adds the member of a cache of one's own.
+//! The field is a List. Each member is a cache, named by a String or a Token; the first is the
+//! cache nearest the origin, and the last the one nearest the user. The parameters of a member say
+//! what that cache did. [`CacheStatus`] reads the field as a [`CachePath`], with a [`Hop`] for each
+//! member, and [`append_hop`] appends the member of your own cache.
 //!
 //! ```
 //! let path = sf_field::ask(alloc, &seed, &CacheStatus, lines.as_slice())?;

@@ -1,14 +1,13 @@
 //! What structured fields mean to caches and servers: the path of a response through caches
-//! ([`cache_status`], RFC 9211), the field that a cache obeys ([`targeted`], RFC 9213), and how
-//! urgent a response is ([`priority`], RFC 9218).
+//! ([`cache_status`], RFC 9211), the field that a cache obeys ([`targeted`], RFC 9213), and the
+//! priority of a response ([`priority`], RFC 9218).
 //!
-//! [`CacheStatus`], [`Directives`] and [`PriorityField`] are consumers ([`sf_field::Consumer`]),
-//! asked about field lines by [`sf_field::ask`]: any spelling of a value is answered alike.
-//! [`select`] finds the field of a target list that a cache obeys, and the [`Policy`] that it says.
-//! What a client and a server say of a priority is joined by [`merge`], and the defaults are filled
-//! in last.
+//! [`CacheStatus`], [`Directives`] and [`PriorityField`] are consumers ([`sf_field::Consumer`]) for
+//! [`sf_field::ask`], whose answer is the same for every spelling of a value. [`select`] finds the
+//! field of a target list that a cache obeys, and its [`Policy`]. [`merge`] merges the priorities
+//! of a client and a server; the defaults are filled in afterwards.
 //!
-//! Contracts say of each answer that it is the meaning of the field, as `specs/` defines it in the
+//! Contracts say of each answer that it is the meaning of the field, which `specs/` defines in the
 //! words of the RFC.
 #![tactic(auto)]
 

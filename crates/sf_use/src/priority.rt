@@ -1,4 +1,4 @@
-//! Priorities (RFC 9218): how urgent a response is, and whether it is of use piece by piece.
+//! Priorities (RFC 9218): the urgency of a response, and whether it is of use as it arrives.
 ghost use Rattle.std.specs.Prelude.{◌≡◌, ◌<◌, ◌++◌, [], ◌∷◌, ◌↔◌, IsOk, IfOk, true, false};
 ghost use Rattle.std.specs.Option.{option_copied};
 ghost use Rattle.sf_value.specs.Grammar.Classes.{is_key_start};
@@ -12,7 +12,7 @@ use std::hash::RandomState;
 use std::marker::Model;
 
 /// The urgency of a response (RFC 9218 section 4.1): a number from 0, the most urgent, to 7, the
-/// least; the order is that of the numbers. The default is 3. Contracts see the number.
+/// least urgent, ordered as numbers. The default is 3. Contracts see the number.
 #[derive(Clone, Copy, Debug, PartialEq, Eq, PartialOrd, Ord)]
 pub struct Urgency {
     value: u8,
@@ -30,30 +30,30 @@ impl Model for Urgency {
     ghost inverse = { λ u. record { value = u } };
 }
 
-/// What a field asks for; `None` is a part that it does not say (RFC 9218 section 4). A client asks
-/// in a request, a server in a response.
+/// The parameters that a Priority field sets (RFC 9218 section 4); `None` if it doesn't set one. A
+/// client sends the field in a request, a server in a response.
 #[derive(Clone, Copy, Debug, Default, PartialEq, Eq)]
 pub struct Asked {
-    /// `u`: how urgent the response is.
+    /// `u`: the urgency of the response.
     pub urgency: Option<Urgency>,
-    /// `i`: whether the response is of use while it arrives.
+    /// `i`: whether the response is of use as it arrives.
     pub incremental: Option<bool>,
 }
 
-/// A priority, with both its parts (RFC 9218 section 4).
+/// A priority, with both parameters (RFC 9218 section 4).
 ///
 /// ```
 /// let priority = Priority { urgency: Urgency::new(1)?, incremental: true }; // u=1, i
 /// ```
 #[derive(Clone, Copy, Debug, Default, PartialEq, Eq)]
 pub struct Priority {
-    /// How urgent the response is (section 4.1).
+    /// The urgency of the response (section 4.1).
     pub urgency: Urgency,
-    /// Whether the response is of use while it arrives (section 4.2).
+    /// Whether the response is of use as it arrives (section 4.2).
     pub incremental: bool,
 }
 
-/// Reads the Priority field (RFC 9218 section 5), a Dictionary. Its answer takes no memory.
+/// Reads the Priority field (RFC 9218 section 5), a Dictionary. `answer` does not allocate.
 ///
 /// ```
 /// let asked = ask(alloc, &seed, &PriorityField, lines.as_slice())?;
@@ -62,8 +62,8 @@ pub struct Priority {
 pub struct PriorityField;
 
 impl Urgency {
-    /// The urgency of this number, from 0 to 7; `OutOfRange` exactly where it is greater. It takes
-    /// no memory.
+    /// Returns the urgency of a number from 0 to 7, or `OutOfRange` if the number is greater. Does
+    /// not allocate.
     ///
     /// ```
     /// assert_eq!(rt; Urgency::new(7).is_ok(), true);
@@ -80,7 +80,7 @@ impl Urgency {
         }
     }
 
-    /// The number that it was made of, from 0 to 7. It takes no memory.
+    /// Returns the number, from 0 to 7. Does not allocate.
     pub fn get(&self) -> u8
         ensures value { result ≡ self.now }
         ensures range { self.now < 8 }
@@ -90,9 +90,9 @@ impl Urgency {
 }
 
 impl Priority {
-    /// What a Dictionary asks for: `u` where it is an Integer from 0 to 7, `i` where it is a
+    /// Returns what a Dictionary sets: `u` if it is an Integer from 0 to 7, and `i` if it is a
     /// Boolean. Other members are ignored, and so are values of another type or out of range, and
-    /// parameters (RFC 9218 section 4). It takes no memory.
+    /// parameters (RFC 9218 section 4). Does not allocate.
     ///
     /// ```
     /// // u=5, i
@@ -110,8 +110,8 @@ impl Priority {
 }
 
 impl Asked {
-    /// The priority, with the defaults for the parts that are not said: urgency 3, not incremental
-    /// (RFC 9218 section 4). Fill them in after [`merge`]. It takes no memory.
+    /// Returns the priority, with the defaults for absent parameters: urgency 3, not incremental
+    /// (RFC 9218 section 4). Call this after [`merge`]. Does not allocate.
     ///
     /// ```
     /// Asked::default().with_defaults() // urgency 3, not incremental
@@ -126,7 +126,7 @@ impl Asked {
     }
 }
 
-/// The urgency of this number, as [`Urgency::new`] gives it.
+/// Converts as [`Urgency::new`] does.
 impl TryFrom<u8> for Urgency {
     type Error = OutOfRange;
 
@@ -167,7 +167,7 @@ impl Consumer for PriorityField {
 
     fn answer(&self, _alloc: Global, field: &Field) -> Result<Asked, UseFault>
         requires { kind_of field.now ≡ kind_is.Dict }
-        // the answer is what the Dictionary asks for
+        // The answer is what the Dictionary sets.
         ensures gives { Gives (Ok (asked_in field.now)) result }
         ensures succeeds { IsOk result }
     {
@@ -178,11 +178,11 @@ impl Consumer for PriorityField {
     }
 }
 
-/// What a client and a server ask for together: each part as the server says it, where it does,
-/// else as the client does (RFC 9218 section 8). It takes no memory.
+/// Merges the priorities of a client and a server: each parameter is the server's if the server
+/// sets it, otherwise the client's (RFC 9218 section 8). Does not allocate.
 ///
 /// ```
-/// // the request said u=5, i and the response u=1
+/// // u=5, i in the request, and u=1 in the response
 /// let priority = merge(client, server).with_defaults(); // urgency 1, incremental
 /// ```
 pub fn merge(client: Asked, server: Asked) -> Asked
@@ -194,9 +194,9 @@ pub fn merge(client: Asked, server: Asked) -> Asked
     }
 }
 
-/// The Dictionary that asks for a priority: `u` where the urgency is not 3, then `i` where it is
-/// incremental (RFC 9218 section 4). For the default priority it has no member, and takes no
-/// memory; a field without a member is not sent. `OutOfMemory` says that memory was wanting.
+/// Returns the Dictionary of a priority: `u` if the urgency is not 3, then `i` if it is incremental
+/// (RFC 9218 section 4). For the default priority it has no members, so the field is not sent, and
+/// the call does not allocate. Fails only if an allocation fails.
 ///
 /// ```
 /// let dict = priority_field(alloc, &seed, priority)?;
@@ -208,7 +208,7 @@ pub fn priority_field(
     priority: Priority,
 ) -> Result<Dict, OutOfMemory>
     ensures written { IfOk result (λ dict. dict ≡ prio priority) }
-    // the default priority takes no memory
+    // For the default priority the call does not allocate.
     ensures default { priority.urgency ≡ 3 → priority.incremental ≡ false → IsOk result }
 {
     let mut members = Entries::new(alloc, seed);
@@ -222,7 +222,7 @@ pub fn priority_field(
     Ok(Dict { members })
 }
 
-/// The urgency that a member says: an Integer from 0 to 7.
+/// Returns the urgency that a member sets: an Integer from 0 to 7.
 fn urgency_in(member: Option<&Member>) -> Option<Urgency>
     ensures { result ≡ urgency (option_copied member.entry) }
 {
@@ -230,14 +230,14 @@ fn urgency_in(member: Option<&Member>) -> Option<Urgency>
     Urgency::new(u8::try_from(number).ok()?).ok()
 }
 
-/// The Boolean that a member says.
+/// Returns the Boolean that a member sets.
 fn boolean_in(member: Option<&Member>) -> Option<bool>
     ensures { result ≡ incremental (option_copied member.entry) }
 {
     member?.as_item()?.bare.as_boolean()
 }
 
-/// Puts an Item without parameters under the key of one letter.
+/// Puts an Item without parameters at a key of one letter.
 fn put_item(
     alloc: Global,
     seed: &RandomState,
@@ -246,7 +246,7 @@ fn put_item(
     bare: Bare,
 ) -> Result<(), OutOfMemory>
     requires { is_key_start letter ≡ true }
-    // the Item is put under the key of this letter
+    // The Item is put at the key of this letter.
     ensures { IfOk result (λ _. members.new ≡ put members.old (letter ∷ []) (plain bare)) }
 {
     let key = Key::first(alloc, letter)?;

@@ -1,4 +1,4 @@
-//! Targeted cache control (RFC 9213): which field a cache obeys, and what it says.
+//! Targeted cache control (RFC 9213): which field a cache obeys, and its directives.
 ghost use Rattle.std.specs.Prelude.{◌≡◌, All, Ok, IfOk, IsOk};
 ghost use Rattle.std.specs.Option.{option_copied};
 ghost use Rattle.http_header.specs.HeaderMap.{ContainsKey};
@@ -14,15 +14,15 @@ use sf_value::{Bare, Dict, Field, Kind, Member, OutOfMemory};
 use std::alloc::Global;
 use std::hash::RandomState;
 
-/// What a targeted field says to a cache (RFC 9213 section 2.1, with the meanings of RFC 9111
-/// section 5.2.2). Other directives are ignored, and so are parameters.
+/// The directives of a targeted field (RFC 9213 section 2.1), with the meanings of RFC 9111 section
+/// 5.2.2. Other directives are ignored, and so are parameters.
 #[derive(Clone, Copy, Debug, Default, PartialEq, Eq)]
 pub struct Policy {
-    /// `max-age`: for how many seconds the response is fresh. It counts where it is an Integer that
-    /// is not negative.
+    /// `max-age`: the freshness lifetime in seconds. It counts only if it is an Integer that is not
+    /// negative.
     pub max_age: Option<u64>,
-    /// `s-maxage`: for how many seconds the response is fresh in a shared cache. It counts where it
-    /// is an Integer that is not negative.
+    /// `s-maxage`: the freshness lifetime in a shared cache, in seconds. It counts only if it is an
+    /// Integer that is not negative.
     pub s_maxage: Option<u64>,
     /// `must-revalidate`: a stale response is not used before it is validated.
     pub must_revalidate: bool,
@@ -34,7 +34,7 @@ pub struct Policy {
     pub is_private: bool,
 }
 
-/// Reads a targeted field (RFC 9213 section 2.1), a Dictionary. Its answer takes no memory.
+/// Reads a targeted field (RFC 9213 section 2.1), a Dictionary. `answer` does not allocate.
 ///
 /// ```
 /// let policy = ask(alloc, &seed, &Directives, lines.as_slice())?;
@@ -47,9 +47,9 @@ pub struct Directives;
 pub enum Choice {
     /// The field of a target.
     Field {
-        /// The place of the target in the list, counted from 0.
+        /// The index of the target in the list, from 0.
         index: usize,
-        /// What the field says.
+        /// The directives of the field.
         policy: Policy,
     },
     /// No target has a field that can be used: `Cache-Control` and `Expires` decide.
@@ -57,8 +57,8 @@ pub enum Choice {
 }
 
 impl Policy {
-    /// What a Dictionary says. A directive without a value is set where it is there and not false
-    /// (`?0`). It takes no memory.
+    /// Returns the directives of a Dictionary. A directive without a number is set if it is present
+    /// and not false (`?0`). Does not allocate.
     ///
     /// ```
     /// // max-age=30, s-maxage=90, no-store=?0
@@ -79,9 +79,10 @@ impl Policy {
         }
     }
 
-    /// For how many seconds the response is fresh in a shared or in a private cache, `None` where
-    /// the field does not say: in a shared one `s-maxage` stands before `max-age` (RFC 9111 section
-    /// 4.2.1), in a private one `max-age` alone counts. It takes no memory.
+    /// Returns the freshness lifetime of the response in a shared or a private cache, in seconds,
+    /// or `None` if the field doesn't set it. In a shared cache `s-maxage` takes precedence over
+    /// `max-age` (RFC 9111 section 4.2.1); in a private cache only `max-age` counts. Does not
+    /// allocate.
     ///
     /// ```
     /// // s-maxage=5
@@ -116,7 +117,7 @@ impl Consumer for Directives {
 
     fn answer(&self, _alloc: Global, field: &Field) -> Result<Policy, UseFault>
         requires { kind_of field.now ≡ kind_is.Dict }
-        // the answer is what the Dictionary says
+        // The answer is the directives of the Dictionary.
         ensures gives { Gives (Ok (directives field.now)) result }
         ensures succeeds { IsOk result }
     {
@@ -127,11 +128,12 @@ impl Consumer for Directives {
     }
 }
 
-/// The field that a cache obeys: that of the first target that is there, spells a Dictionary and is
-/// not empty (RFC 9213 section 2.2). Absent, refused and empty fields are passed over (section
-/// 2.1); where none is left, the answer is `Fallback`. `OutOfMemory` says that memory was wanting
-/// to read a field, and then no later one is looked at; a field of 2^64 bytes or more, which no
-/// memory can hold, is answered so too. Where no target is there, it takes no memory.
+/// Returns the field that a cache obeys: that of the first target whose field is present, spells a
+/// Dictionary and is not empty (RFC 9213 section 2.2). Absent, refused and empty fields are passed
+/// over (section 2.1); if no field remains, the result is `Fallback`. `OutOfMemory` means that an
+/// allocation for a field failed; later fields are then not read. A field of 2^64 bytes or more,
+/// which no memory can hold, has the same result. If no field of a target is present, the call does
+/// not allocate.
 ///
 /// ```
 /// let targets = [HeaderName::from_static("cdn-cache-control")];
@@ -146,9 +148,9 @@ pub fn select(
     targets: &[HeaderName],
     headers: &HeaderMap,
 ) -> Result<Choice, OutOfMemory>
-    // the first target of the list whose field can be used; Fallback where there is none
+    // The first target of the list whose field can be used, or Fallback if there is none.
     ensures chosen { IfOk result (IsChosen targets.now headers.now) }
-    // where no target is there, no memory is wanting
+    // If no field of a target is present, the call does not allocate.
     ensures absent { All (λ name. ¬ (ContainsKey headers.now name)) targets.now
         → result ≡ Ok Fallback }
 {
@@ -161,7 +163,7 @@ pub fn select(
     Ok(Choice::Fallback)
 }
 
-/// How many seconds a member says: an Integer that is not negative.
+/// Returns the seconds that a member sets: an Integer that is not negative.
 fn seconds(member: Option<&Member>) -> Option<u64>
     ensures { result ≡ delta_seconds (option_copied member.entry) }
 {
@@ -169,7 +171,7 @@ fn seconds(member: Option<&Member>) -> Option<u64>
     u64::try_from(number.get()).ok()
 }
 
-/// Whether a member is there that is no Item of Boolean false.
+/// Returns whether a member is present and not an Item of Boolean false.
 fn sets(member: Option<&Member>) -> bool
     ensures { result ≡ is_set (option_copied member.entry) }
 {
@@ -183,9 +185,9 @@ fn sets(member: Option<&Member>) -> bool
     }
 }
 
-/// What a field offers: a policy, where it has a member.
+/// Returns the policy of a field, if it has a member.
 fn policy_in(field: &Field) -> Option<Policy>
-    // the policy of a Dictionary with a member, else nothing
+    // The policy of a Dictionary with a member, otherwise None.
     ensures { MayOffer field.now result }
 {
     let dict = field.as_dict()?;
@@ -195,16 +197,16 @@ fn policy_in(field: &Field) -> Option<Policy>
     Some(Policy::from_dict(dict))
 }
 
-/// What the field of a name offers: nothing where it is absent, refused or empty.
+/// Returns the policy of the field of a name; None if the field is absent, refused or empty.
 fn offered(
     alloc: Global,
     seed: &RandomState,
     name: &HeaderName,
     headers: &HeaderMap,
 ) -> Result<Option<Policy>, OutOfMemory>
-    // the policy that the name's field says where it can be used, else nothing
+    // The policy of the name's field if it can be used, otherwise None.
     ensures offer { IfOk result (IsOffer headers.now name.now) }
-    // where the name is absent, no memory is wanting
+    // If the name is absent, the call does not allocate.
     ensures absent { ¬ (ContainsKey headers.now name.now) → result ≡ Ok None }
 {
     match from_headers(alloc, seed, Kind::Dict, headers, name) {

@@ -15,8 +15,8 @@ use crate::strings::put_string;
 use sf_value::{Bare, OutOfMemory, Sink, Text, Writing};
 use std::alloc::Global;
 
-/// Writes the canonical text of a bare item, as [`write_bare`] does, behind what was sent before,
-/// as [`crate::put`] does. It takes no memory.
+/// Writes the canonical text of a bare item, as [`write_bare`] does, after what was sent before, as
+/// [`crate::put`] does. Does not allocate.
 ///
 /// ```
 /// let sent = put(b"a;b=", Ok(0), &mut out);
@@ -39,8 +39,8 @@ pub fn put_bare<W: Sink>(bare: &Bare, before: Sent, out: &mut W) -> Sent
     }
 }
 
-/// Writes the canonical text of a String (RFC 9651 section 4.1.6) behind what was sent before, as
-/// [`put_bare`] does of the bare item that holds it. It takes no memory.
+/// Writes the canonical text of a String (RFC 9651 section 4.1.6) after what was sent before, as
+/// [`put_bare`] does for the bare item that holds it. Does not allocate.
 ///
 /// ```
 /// let sent = put(b"key=", Ok(0), &mut out);
@@ -53,23 +53,23 @@ pub fn put_text<W: Sink>(text: &Text, before: Sent, out: &mut W) -> Sent
     put_string(text.as_bytes(), before, out)
 }
 
-/// Writes the canonical text of a bare item (RFC 9651 section 4.1.3.1) into a sink, chunk by chunk.
-/// It takes no memory, and answers as `write_field` does.
+/// Writes the canonical text of a bare item (RFC 9651 section 4.1.3.1) to a sink, part by part,
+/// with the results of [`crate::write_field`]. Does not allocate.
 ///
 /// ```
 /// let length = write_bare(&Bare::Boolean(true), &mut out)?; // 2: ?1
 /// ```
 pub fn write_bare<W: Sink>(bare: &Bare, out: &mut W) -> Result<u64, WriteFault>
-    // all of it went out; or its first bytes did, as many as told, and then a send failed: a count
-    // that is at its end leaves open which
+    // The whole text was written, or exactly its first `written` bytes and then a send failed.
+    // Once a count is saturated, it is left open which bytes were written.
     ensures text { WritesText (W.state out.old) (W.state out.new) result (canon_bare bare.now) }
     ensures valid { ValidBare Rfc9651 bare.now }
 {
     put_bare(bare, Ok(0), out)
 }
 
-/// The canonical text of a bare item (RFC 9651 section 4.1.3.1). The only refusal is for want of
-/// memory.
+/// Returns the canonical text of a bare item (RFC 9651 section 4.1.3.1). Fails only if an
+/// allocation fails.
 ///
 /// ```
 /// let text = bare_text(alloc, &Bare::Boolean(true))?; // ?1
@@ -85,7 +85,7 @@ pub fn bare_text(alloc: Global, bare: &Bare) -> Result<Vec<u8>, OutOfMemory>
     }
 }
 
-/// A Boolean: `?1` or `?0` (section 4.1.9).
+/// Writes a Boolean: `?1` or `?0` (RFC 9651 section 4.1.9).
 fn put_boolean<W: Sink>(value: bool, before: Sent, out: &mut W) -> Sent
     ensures { Follows W.state W.send_gives out.old out.new before result
         (canon_bare (bare_is.Boolean value)) }

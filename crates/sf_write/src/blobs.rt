@@ -8,13 +8,13 @@ use crate::sending::{Sent, put};
 use base64::engine::general_purpose::STANDARD;
 use sf_value::Sink;
 
-/// How many bytes are encoded at a time: 64 groups of three.
+/// How many bytes are encoded at once: 64 groups of three.
 const BLOCK: usize = 192;
 
-/// How many characters they become.
+/// How many characters a block of bytes is in base64.
 const ENCODED: usize = 256;
 
-/// A Byte Sequence: its base64 between colons. It goes out by blocks of 256 characters.
+/// Writes a Byte Sequence: its base64 between colons, in blocks of 256 characters.
 #[inline(never)]
 pub(crate) fn put_blob<W: Sink>(bytes: &[u8], before: Sent, out: &mut W) -> Sent
     ensures { Follows W.state W.send_gives out.old out.new before result

@@ -12,8 +12,8 @@ use crate::params::{put_params, put_value};
 use crate::sending::{Sent, put};
 use sf_value::{Entries, Inner, Item, Member, Sink};
 
-/// Behind a key an Item of Boolean true stands as its parameters alone, and any other as `=` and
-/// its text.
+/// Writes an Item after its key: only its parameters if it is Boolean true, otherwise `=` and its
+/// text.
 fn put_item_behind<W: Sink>(item: &Item, before: Sent, out: &mut W) -> Sent
     ensures text { Follows W.state W.send_gives out.old out.new before result
         (canon_flag item.now.bare item.now.params) }
@@ -23,7 +23,7 @@ fn put_item_behind<W: Sink>(item: &Item, before: Sent, out: &mut W) -> Sent
     put_params(&item.params, sent, out)
 }
 
-/// Behind a key an Inner List stands as `=` and its text.
+/// Writes an Inner List after its key: `=` and its text.
 fn put_inner_behind<W: Sink>(inner: &Inner, before: Sent, out: &mut W) -> Sent
     ensures text { Follows W.state W.send_gives out.old out.new before result
         (equals ∷ canon_inner inner.now) }
@@ -33,7 +33,7 @@ fn put_inner_behind<W: Sink>(inner: &Inner, before: Sent, out: &mut W) -> Sent
     put_inner(inner, sent, out)
 }
 
-/// What stands behind the key of a member.
+/// Writes what follows the key of a member.
 fn put_behind<W: Sink>(member: &Member, before: Sent, out: &mut W) -> Sent
     ensures text { Follows W.state W.send_gives out.old out.new before result
         (canon_behind member.now) }
@@ -45,7 +45,7 @@ fn put_behind<W: Sink>(member: &Member, before: Sent, out: &mut W) -> Sent
     }
 }
 
-/// A member of a Dictionary: its key and what stands behind it.
+/// Writes a member of a Dictionary: its key and what follows the key.
 fn put_entry<W: Sink>(key: &[u8], member: &Member, before: Sent, out: &mut W) -> Sent
     ensures text { Follows W.state W.send_gives out.old out.new before result
         (canon_entry (key.now, member.now)) }
@@ -55,13 +55,13 @@ fn put_entry<W: Sink>(key: &[u8], member: &Member, before: Sent, out: &mut W) ->
     put_behind(member, sent, out)
 }
 
-/// A Dictionary: its members with a comma and a space between two.
+/// Writes a Dictionary: its members, with a comma and a space between two.
 pub(crate) fn put_entries<W: Sink>(entries: &Entries<Member>, before: Sent, out: &mut W) -> Sent
     ensures text { Follows W.state W.send_gives out.old out.new before result
         (canon_series canon_entry entries.now) }
     ensures valid { ValidEntries Rfc9651 entries.now }
 {
-    // What `len` ensures tells that each key is one and that none stands twice.
+    // The clauses of `len` state that each key is valid and that none occurs twice.
     let _ = entries.len();
     let mut others = entries.iter();
     let Some((key, member)) = others.next() else {

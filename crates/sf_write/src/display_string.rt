@@ -10,8 +10,7 @@ use crate::sending::{Sent, put};
 use crate::strings::CHUNK;
 use sf_value::{Sink, stands_for_itself};
 
-/// How many of the bytes do not stand for themselves. Each chunk's count is a sum of vectors of
-/// bytes.
+/// The number of bytes that have to be escaped. The compiler adds up a chunk in vectors of bytes.
 pub(crate) fn escaped_count(bytes: &[u8]) -> usize {
     let mut count = 0usize;
     for chunk in bytes.chunks(CHUNK) {
@@ -24,9 +23,9 @@ pub(crate) fn escaped_count(bytes: &[u8]) -> usize {
     count
 }
 
-/// How many bytes at the start stand for themselves.
+/// The length of the longest prefix without a byte that has to be escaped.
 fn unencoded_len(bytes: &[u8]) -> usize
-    // as many as stand before the first one that does not go out as itself
+    // The bytes before the first one that has to be escaped.
     ensures len { result ≡ prefix_len is_unencoded bytes.now }
     ensures within { result ≤ length bytes.now }
 {
@@ -45,7 +44,7 @@ fn hex_digit(number: u8) -> u8
     }
 }
 
-/// The two lower-case hexadecimal digits of a byte. It takes no memory.
+/// Returns the two lower-case hexadecimal digits of a byte. Does not allocate.
 ///
 /// ```
 /// hex_digits(0xfc) // [b'f', b'c']
@@ -64,9 +63,9 @@ fn percent_escape(byte: u8) -> [u8; 3]
     [b'%', high, low]
 }
 
-/// A Display String by its UTF-8 bytes: `%`, then between quotes each byte from 0x20 to 0x7E but
-/// `"` and `%` as itself, and every other one as `%` and two lower-case digits. Bytes that stand
-/// for themselves go out as one chunk.
+/// Writes a Display String, given by its UTF-8 bytes: `%`, and between quotes each byte from 0x20
+/// to 0x7E except `"` and `%` unescaped, and each other byte as `%` and two lower-case digits.
+/// Adjacent unescaped bytes are sent at once.
 pub(crate) fn put_display_string<W: Sink>(text: &[u8], before: Sent, out: &mut W) -> Sent
     ensures { Follows W.state W.send_gives out.old out.new before result
         (percent ∷ quote ∷ canon_shown text.now) }

@@ -14,8 +14,8 @@ use crate::sending::{Sent, WriteFault};
 use sf_value::{Field, OutOfMemory, Sink, Writing};
 use std::alloc::Global;
 
-/// Writes the canonical text of a field, as [`write_field`] does, behind what was sent before, as
-/// [`crate::put`] does. It takes no memory.
+/// Writes the canonical text of a field, as [`write_field`] does, after what was sent before, as
+/// [`crate::put`] does. Does not allocate.
 ///
 /// ```
 /// let sent = put_field(&field, Ok(0), &mut out);
@@ -32,38 +32,37 @@ pub fn put_field<W: Sink>(field: &Field, before: Sent, out: &mut W) -> Sent
     }
 }
 
-/// Writes the canonical text of a field (RFC 9651 section 4.1) into a sink, chunk by chunk. It
-/// takes no memory. An empty List or Dictionary has the empty text.
+/// Writes the canonical text of a field (RFC 9651 section 4.1) to a sink, part by part, and returns
+/// its length in bytes. Does not allocate. An empty List or Dictionary has the empty text.
 ///
-/// `Ok` tells the length of the text in bytes, all of which went out. A fault is answered only
-/// where a send failed or took no byte, and that send is not repeated: exactly the first `written`
-/// bytes of the text went out. Both numbers stay at 2^64 - 1, and there which bytes went out is
-/// left open. Whatever it answers, the field is valid, as any field is, so that its text spells it
-/// (`sf_value::laws::canon_spells`).
+/// It fails only if a send failed or took no byte. That send is not repeated, and exactly the first
+/// `written` bytes of the text were written. Both numbers stay at 2^64 - 1 once they reach it, and
+/// it is then left open which bytes were written. Whatever the result, the field is valid, as every
+/// field is, so its text spells it (`sf_value::laws::canon_spells`).
 ///
 /// ```
 /// let mut out = Writing::new(io::writer(&rt));
 /// let length = write_field(&field, &mut out)?;
 /// ```
 pub fn write_field<W: Sink>(field: &Field, out: &mut W) -> Result<u64, WriteFault>
-    // all of it went out; or its first bytes did, as many as told, and then a send failed: a count
-    // that is at its end leaves open which
+    // The whole text was written, or exactly its first `written` bytes and then a send failed.
+    // Once a count is saturated, it is left open which bytes were written.
     ensures text { WritesText (W.state out.old) (W.state out.new) result (canon field.now) }
     ensures valid { Valid Rfc9651 (kind_of field.now) field.now }
 {
     put_field(field, Ok(0), out)
 }
 
-/// The canonical text of a field (RFC 9651 section 4.1). The text spells the field: parsed as one
-/// of its kind it gives that field again, also where the field was built and never parsed. The only
-/// refusal is for want of memory.
+/// Returns the canonical text of a field (RFC 9651 section 4.1). The text spells the field: parsed
+/// as a field of its kind, it is that field again, also if the field was built and never parsed.
+/// Fails only if an allocation fails.
 ///
 /// ```
 /// let text = to_text(rt.alloc(), &field)?;
 /// ```
 pub fn to_text(alloc: Global, field: &Field) -> Result<Vec<u8>, OutOfMemory>
     ensures canon { IfOk result (λ text. text.items ≡ canon field.now) }
-    // it spells the field: whoever parses it has the field again
+    // The text spells the field, so parsing it gives the field again.
     ensures spells { IfOk result
         (λ text. SpellsField Rfc9651 (kind_of field.now) text.items field.now) }
     ensures valid { IfOk result (λ _. Valid Rfc9651 (kind_of field.now) field.now) }

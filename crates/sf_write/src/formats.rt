@@ -1,4 +1,4 @@
-//! Canonical texts to be printed: as strings, and as what `{}` stands for.
+//! Canonical texts for printing: as a `String`, and by `{}`.
 ghost use Rattle.std.specs.Prelude.{◌≡◌, ℕ, List, None, Some, IfOk, string_bytes};
 ghost use Rattle.sf_value.specs.Grammar.Canonical.{canon, canon_bare, canon_inner, canon_item};
 ghost use Rattle.sf_value.specs.Grammar.Canonical.{canon_member};
@@ -19,8 +19,8 @@ pub trait Canonical {
     // The canonical text.
     ghost text: { Self → List ℕ };
 
-    /// Writes the canonical text behind what was sent before, as [`crate::put`] does. It takes no
-    /// memory.
+    /// Writes the canonical text after what was sent before, as [`crate::put`] does. Does not
+    /// allocate.
     ///
     /// ```
     /// let sent = item.put(Ok(0), &mut out);
@@ -69,15 +69,14 @@ impl Canonical for Bare {
     }
 }
 
-/// A value whose `Display` is its canonical text: what [`display`] gives.
+/// A value that `Display` prints as its canonical text, made by [`display`].
 #[derive(Clone, Copy, Debug, Drop)]
 pub struct Displayed<'a, T> {
     value: &'a T,
 }
 
-/// The value for `{}`, which then stands for its canonical text (RFC 9651 section 4.1). Neither
-/// this nor the formatting takes memory; what it is printed into may fail, and then so does the
-/// call.
+/// Wraps a value so that `{}` prints its canonical text (RFC 9651 section 4.1). Neither this nor
+/// the formatting allocates. Formatting fails only if the formatter fails.
 ///
 /// ```
 /// println!(rt; "parsed: {}", display(&field))?; // parsed: a;q=1
@@ -100,7 +99,7 @@ impl<T: Canonical> fmt::Display for Displayed<'_, T> {
     }
 }
 
-/// A formatter as a sink. It does not tell its bytes, but what each call wrote.
+/// A formatter as a sink. A contract can't see its bytes, but sees what each call wrote.
 struct Formatting<'a, W> {
     f: &'a mut fmt::Formatter<W>,
     failures: u64,
@@ -123,7 +122,7 @@ impl<'a, W: fmt::Write> Sink for Formatting<'a, W> {
         if bytes.is_empty() {
             return Ok(0);
         }
-        // A canonical text is ASCII, so that each of its chunks is a string.
+        // Canonical texts are ASCII, so the bytes of each call are a string.
         if let Ok(text) = str::from_utf8(bytes) {
             if self.f.write_str(text).is_ok() {
                 return Ok(bytes.len());
@@ -134,8 +133,8 @@ impl<'a, W: fmt::Write> Sink for Formatting<'a, W> {
     }
 }
 
-/// The canonical text of a field (RFC 9651 section 4.1) as a string. Each such text is ASCII, so
-/// the only refusal is for want of memory.
+/// Returns the canonical text of a field (RFC 9651 section 4.1) as a `String`; each such text is
+/// ASCII. Fails only if an allocation fails.
 ///
 /// ```
 /// let text = to_string(alloc, &field)?;
@@ -145,6 +144,6 @@ pub fn to_string(alloc: Global, field: &Field) -> Result<String, OutOfMemory>
     ensures { IfOk result (λ text. string_bytes text ≡ canon field.now) }
 {
     let text = to_text(alloc, field)?;
-    // That a canonical text is ASCII is proved and not tested.
+    // It is proved that a canonical text is ASCII, so it isn't tested.
     Ok(unsafe { String::from_utf8_unchecked(text) })
 }

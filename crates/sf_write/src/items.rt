@@ -11,7 +11,7 @@ use crate::params::put_params;
 use crate::sending::{Sent, put};
 use sf_value::{Inner, Item, Sink};
 
-/// An Item: its bare item and its parameters.
+/// Writes an Item: its bare item and its parameters.
 pub(crate) fn put_item<W: Sink>(item: &Item, before: Sent, out: &mut W) -> Sent
     ensures text { Follows W.state W.send_gives out.old out.new before result
         (canon_item item.now) }
@@ -21,7 +21,7 @@ pub(crate) fn put_item<W: Sink>(item: &Item, before: Sent, out: &mut W) -> Sent
     put_params(&item.params, sent, out)
 }
 
-/// Items with one space between two.
+/// Writes Items with one space between two.
 fn put_items<W: Sink>(items: &[Item], before: Sent, out: &mut W) -> Sent
     ensures text { Follows W.state W.send_gives out.old out.new before result
         (canon_items items.now) }
@@ -38,7 +38,7 @@ fn put_items<W: Sink>(items: &[Item], before: Sent, out: &mut W) -> Sent
     sent
 }
 
-/// An Inner List: its Items in parentheses, and its parameters.
+/// Writes an Inner List: its Items in parentheses, and its parameters.
 pub(crate) fn put_inner<W: Sink>(inner: &Inner, before: Sent, out: &mut W) -> Sent
     ensures text { Follows W.state W.send_gives out.old out.new before result
         (canon_inner inner.now) }

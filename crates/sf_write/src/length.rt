@@ -1,16 +1,16 @@
-//! How long canonical texts are, so that memory for one is taken once. No text depends on it: where
-//! a length here were wrong, memory would be taken again, or too much of it.
+//! The lengths of canonical texts, so that memory for one is allocated once. No text depends on
+//! them: with a wrong length, memory would be allocated again, or too much of it.
 
 use crate::params::is_true;
 use crate::{display_string, strings};
 use sf_value::{Bare, Entries, Field, Inner, Item, Member};
 
-/// The digits of a number.
+/// The number of digits of a number.
 fn digits(number: u64) -> usize {
     number.max(1).ilog10() as usize + 1
 }
 
-/// An Integer: a `-` for a number below 0, and the digits.
+/// An Integer: a `-` if it is below 0, and the digits.
 fn integer_len(number: i64) -> usize {
     digits(number.unsigned_abs()).saturating_add((number < 0) as usize)
 }
@@ -35,7 +35,7 @@ fn string_len(text: &[u8]) -> usize {
         .saturating_add(2)
 }
 
-/// A Byte Sequence: two colons, and four characters for each three bytes begun.
+/// A Byte Sequence: two colons, and four characters for each three bytes, rounded up.
 fn blob_len(bytes: &[u8]) -> usize {
     bytes.len().div_ceil(3).saturating_mul(4).saturating_add(2)
 }
@@ -61,7 +61,7 @@ pub(crate) fn bare_len(bare: &Bare) -> usize {
     }
 }
 
-/// Behind a key: nothing for Boolean true, and else `=` and the bare item.
+/// What follows a key: nothing for Boolean true, otherwise `=` and the bare item.
 fn value_len(value: &Bare) -> usize {
     if is_true(value) {
         0
@@ -70,7 +70,7 @@ fn value_len(value: &Bare) -> usize {
     }
 }
 
-/// Parameters: for each a `;`, its key and what stands behind it.
+/// Parameters: for each a `;`, its key and what follows the key.
 fn params_len(params: &Entries<Bare>) -> usize {
     let mut len = 0usize;
     for (key, value) in params {
@@ -87,7 +87,7 @@ fn item_len(item: &Item) -> usize {
     bare_len(&item.bare).saturating_add(params_len(&item.params))
 }
 
-/// An Inner List: the parentheses, the Items, and one space less than there are Items.
+/// An Inner List: the parentheses, the Items with a space between two, and the parameters.
 fn inner_len(inner: &Inner) -> usize {
     let items = inner.items.as_slice();
     let mut len = items.len().saturating_sub(1).saturating_add(2);
@@ -105,7 +105,7 @@ fn member_len(member: &Member) -> usize {
     }
 }
 
-/// A member of a Dictionary behind its key.
+/// What follows the key of a member of a Dictionary.
 fn behind_len(member: &Member) -> usize {
     match member {
         Member::Item(item) => value_len(&item.bare).saturating_add(params_len(&item.params)),
@@ -113,12 +113,12 @@ fn behind_len(member: &Member) -> usize {
     }
 }
 
-/// A comma and a space between two of so many members.
+/// The commas and spaces between so many members.
 fn commas_len(members: usize) -> usize {
     members.saturating_sub(1).saturating_mul(2)
 }
 
-/// How long the canonical text of a field is.
+/// The length of the canonical text of a field.
 pub(crate) fn field_len(field: &Field) -> usize {
     match field {
         Field::Item(item) => item_len(item),

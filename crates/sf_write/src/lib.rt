@@ -1,8 +1,8 @@
-//! Canonical texts of structured fields (RFC 9651 section 4.1): from a value straight into any
-//! sink, without memory, or as a text of its own.
+//! Canonical texts of structured fields (RFC 9651 section 4.1): written directly to any sink,
+//! without an allocation, or to a new text.
 //!
-//! The chunks that go out are as long as they come: a key, a token, the bytes of a string between
-//! two escapes, up to 256 characters of base64. A sink may take any part of a chunk at a time.
+//! The writer sends as many bytes at once as it has: a key, a Token, the bytes of a String between
+//! two escapes, up to 256 characters of base64. A sink may take only a part of them at a time.
 //! `specs/Writing.antt` says what the calls of a sink write together; the texts themselves are
 //! defined in `sf_value`.
 #![tactic(auto)]

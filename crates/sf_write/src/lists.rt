@@ -9,7 +9,7 @@ use crate::items::{put_inner, put_item};
 use crate::sending::{Sent, put};
 use sf_value::{Member, Sink};
 
-/// A member of a List: an Item or an Inner List.
+/// Writes a member of a List: an Item or an Inner List.
 pub(crate) fn put_member<W: Sink>(member: &Member, before: Sent, out: &mut W) -> Sent
     ensures text { Follows W.state W.send_gives out.old out.new before result
         (canon_member member.now) }
@@ -21,7 +21,7 @@ pub(crate) fn put_member<W: Sink>(member: &Member, before: Sent, out: &mut W) ->
     }
 }
 
-/// A List: its members with a comma and a space between two.
+/// Writes a List: its members, with a comma and a space between two.
 pub(crate) fn put_members<W: Sink>(members: &[Member], before: Sent, out: &mut W) -> Sent
     ensures text { Follows W.state W.send_gives out.old out.new before result
         (canon_series canon_member members.now) }

@@ -10,7 +10,7 @@ use crate::sending::{Sent, put};
 use itoa::Buffer;
 use sf_value::{Int, Sink, Thousandths};
 
-/// An Integer: its digits, behind a `-` where it is below 0.
+/// Writes an Integer: its digits, with a `-` before them if it is below 0.
 pub(crate) fn put_integer<W: Sink>(number: &Int, before: Sent, out: &mut W) -> Sent
     ensures text { Follows W.state W.send_gives out.old out.new before result
         (signed_decimal number.now) }
@@ -19,7 +19,7 @@ pub(crate) fn put_integer<W: Sink>(number: &Int, before: Sent, out: &mut W) -> S
     put(Buffer::new().format(number.get()).as_bytes(), before, out)
 }
 
-/// A Date: `@` and the seconds.
+/// Writes a Date: `@` and the seconds.
 pub(crate) fn put_date<W: Sink>(seconds: &Int, before: Sent, out: &mut W) -> Sent
     ensures text { Follows W.state W.send_gives out.old out.new before result
         (at_sign ∷ signed_decimal seconds.now) }
@@ -29,7 +29,7 @@ pub(crate) fn put_date<W: Sink>(seconds: &Int, before: Sent, out: &mut W) -> Sen
     put_integer(seconds, sent, out)
 }
 
-/// The sign of a number: `-` for one below 0, and else nothing.
+/// Writes the sign of a number: `-` if it is below 0, otherwise nothing.
 fn put_sign<W: Sink>(is_negative: bool, before: Sent, out: &mut W) -> Sent
     ensures { Follows W.state W.send_gives out.old out.new before result (sign is_negative) }
 {
@@ -40,7 +40,7 @@ fn put_sign<W: Sink>(is_negative: bool, before: Sent, out: &mut W) -> Sent
     }
 }
 
-/// The point and the digits behind it: at least one, and no needless zero at the end.
+/// Writes the point and the digits after it: at least one, and no needless zero at the end.
 fn put_fraction<W: Sink>(thousandths: u64, before: Sent, out: &mut W) -> Sent
     requires { thousandths < 1000 }
     ensures { Follows W.state W.send_gives out.old out.new before result
@@ -58,7 +58,7 @@ fn put_fraction<W: Sink>(thousandths: u64, before: Sent, out: &mut W) -> Sent
     }
 }
 
-/// Whether a Decimal is below 0, its whole part, and the thousandths behind the point.
+/// Returns whether a Decimal is below 0, its whole part, and the thousandths after the point.
 fn parts(number: &Thousandths) -> (bool, u64, u64)
     ensures sign { result.0 ≡ is_negative number.now }
     ensures whole { result.1 ≡ nat_abs number.now / 1000 }
@@ -70,7 +70,7 @@ fn parts(number: &Thousandths) -> (bool, u64, u64)
     (thousandths < 0, magnitude / 1000, magnitude % 1000)
 }
 
-/// A Decimal: its sign, whole part, point and fraction.
+/// Writes a Decimal: its sign, whole part, point and fraction.
 pub(crate) fn put_decimal<W: Sink>(number: &Thousandths, before: Sent, out: &mut W) -> Sent
     ensures text { Follows W.state W.send_gives out.old out.new before result
         (canon_decimal number.now) }

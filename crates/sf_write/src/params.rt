@@ -10,14 +10,14 @@ use crate::bare::put_bare;
 use crate::sending::{Sent, put};
 use sf_value::{Bare, Entries, Sink};
 
-/// Whether a value stands behind its key by nothing at all.
+/// Returns whether a value is Boolean true, which is written as its key alone.
 pub(crate) fn is_true(bare: &Bare) -> bool
     ensures { IsTrue result ↔ (bare.now ≡ Boolean true) }
 {
     matches!(bare, Bare::Boolean(true))
 }
 
-/// What stands behind a key: nothing for Boolean true, and else `=` and the bare item.
+/// Writes what follows a key: nothing for Boolean true, otherwise `=` and the bare item.
 pub(crate) fn put_value<W: Sink>(value: &Bare, before: Sent, out: &mut W) -> Sent
     ensures text { Follows W.state W.send_gives out.old out.new before result
         (canon_value value.now) }
@@ -30,13 +30,13 @@ pub(crate) fn put_value<W: Sink>(value: &Bare, before: Sent, out: &mut W) -> Sen
     put_bare(value, sent, out)
 }
 
-/// Parameters: for each a `;`, its key and its value.
+/// Writes parameters: for each a `;`, its key and its value.
 pub(crate) fn put_params<W: Sink>(params: &Entries<Bare>, before: Sent, out: &mut W) -> Sent
     ensures text { Follows W.state W.send_gives out.old out.new before result
         (canon_params params.now) }
     ensures valid { ValidParams Rfc9651 params.now }
 {
-    // What `len` ensures tells that each key is one and that none stands twice.
+    // The clauses of `len` state that each key is valid and that none occurs twice.
     let _ = params.len();
     let mut sent = before;
     for (key, value) in params {

@@ -1,4 +1,4 @@
-//! Bytes sent to a sink.
+//! Sending bytes to a sink.
 ghost use Rattle.std.specs.Prelude.{◌++◌, IfOk, Some, codes, decimal};
 ghost use Rattle.std.specs.Fmt.{WritesInCalls};
 ghost use Rattle.sf_write.specs.Writing.{Follows, Writes};
@@ -7,21 +7,21 @@ use sf_value::Sink;
 use std::error::Error;
 use std::fmt;
 
-/// A send failed or took no byte, and nothing was sent after it.
+/// The error of a write: a send failed or took no byte, and nothing was sent after it.
 ///
 /// ```
 /// match write_field(&field, &mut out) {
 ///     Ok(length) => ..
-///     Err(WriteFault { written }) => .. // the first so many bytes went out
+///     Err(WriteFault { written }) => .. // exactly the first `written` bytes were written
 /// }
 /// ```
 #[derive(Clone, Copy, Debug, PartialEq, Eq)]
 pub struct WriteFault {
-    /// How many bytes went out before, counted up to 2^64 - 1.
+    /// How many bytes were written before, saturating at 2^64 - 1.
     pub written: u64,
 }
 
-/// How far a text came: the count of its bytes so far, or the fault that ended it.
+/// The outcome of writing so far: the number of bytes written, or the error that ended it.
 pub type Sent = Result<u64, WriteFault>;
 
 impl fmt::Display for WriteFault {
@@ -36,11 +36,11 @@ impl fmt::Display for WriteFault {
 
 impl Error for WriteFault {}
 
-/// Sends all the bytes, in as many calls as the sink takes them in. It takes no memory.
+/// Sends all bytes, in as many calls as the sink needs to take them. Does not allocate.
 ///
-/// The count of bytes goes on from `before`, so that one text can be sent behind another; it stays
-/// at 2^64 - 1. `Ok` tells the count after the bytes. The first send that fails ends it, and is not
-/// repeated: the fault tells the count before that send, which took nothing.
+/// Returns `before` plus the number of bytes, saturating at 2^64 - 1, so that one text can be sent
+/// after another. The first send that fails ends the call and is not repeated: the error has the
+/// count before that send, which took nothing.
 ///
 /// ```
 /// let count = send_all(b"a, ", 0, &mut out)?;
@@ -48,7 +48,7 @@ impl Error for WriteFault {}
 /// ```
 pub fn send_all<W: Sink>(bytes: &[u8], before: u64, out: &mut W) -> Result<u64, WriteFault>
     ensures writes { Writes (W.state out.old) (W.state out.new) before result bytes.now }
-    // all that is known of the sink where it doesn't tell its bytes: calls of send took them
+    // Calls of send took the bytes: all that is known of a sink whose bytes no contract can see.
     ensures calls { IfOk result (λ _. WritesInCalls W.send_gives out.old bytes.now out.new) }
 {
     let mut rest = bytes;
@@ -66,15 +66,15 @@ pub fn send_all<W: Sink>(bytes: &[u8], before: u64, out: &mut W) -> Result<u64, 
     Ok(written)
 }
 
-/// Sends all the bytes behind those sent before, as [`send_all`] does. After a fault nothing more
-/// is sent and the fault stays, so that one chunk is put behind another with no look at the answer.
+/// Sends all bytes after those sent before, as [`send_all`] does. After an error it sends nothing
+/// and returns that error, so that calls can be chained without checking each result.
 ///
 /// ```
 /// let sent = put(b"a, ", Ok(0), &mut out);
 /// let count = put(b"b", sent, &mut out)?; // 4
 /// ```
 pub fn put<W: Sink>(bytes: &[u8], before: Sent, out: &mut W) -> Sent
-    // it stands behind what was sent before; behind a fault nothing is sent, and the fault stays
+    // The bytes follow what was sent before; after an error nothing is sent, and it is returned.
     ensures { Follows W.state W.send_gives out.old out.new before result bytes.now }
 {
     match before {

@@ -8,17 +8,17 @@ ghost use Rattle.sf_write.specs.Writing.{Follows};
 use crate::sending::{Sent, put};
 use sf_value::Sink;
 
-/// How many bytes are counted together: few enough for a byte to hold the count.
+/// How many bytes are counted together: few enough that the count fits in a byte.
 pub(crate) const CHUNK: usize = 128;
 
-/// Whether a backslash goes out before this byte: `"` and `\`.
+/// Returns whether a backslash is written before this byte: `"` and `\`.
 fn needs_backslash(byte: u8) -> bool
     ensures { result ≡ is_escaped byte }
 {
     matches!(byte, b'"' | b'\\')
 }
 
-/// How many of the bytes need a backslash. Each chunk's count is a sum of vectors of bytes.
+/// The number of bytes that need a backslash. The compiler adds up a chunk in vectors of bytes.
 pub(crate) fn escaped_count(bytes: &[u8]) -> usize {
     let mut count = 0usize;
     for chunk in bytes.chunks(CHUNK) {
@@ -31,17 +31,17 @@ pub(crate) fn escaped_count(bytes: &[u8]) -> usize {
     count
 }
 
-/// How many bytes at the start need no backslash.
+/// The length of the longest prefix without a byte that needs a backslash.
 fn unescaped_len(bytes: &[u8]) -> usize
-    // as many as stand before the first one that needs a backslash
+    // The bytes before the first one that needs a backslash.
     ensures len { result ≡ prefix_len (λ b. not (is_escaped b)) bytes.now }
     ensures within { result ≤ length bytes.now }
 {
     bytes.iter().take_while(|b| !needs_backslash(**b)).count()
 }
 
-/// A String: quotes around its bytes, with a backslash before each quote and each backslash. The
-/// bytes between two of these go out as one chunk.
+/// Writes a String: quotes around its bytes, with a backslash before each quote and backslash. The
+/// bytes between two of these are sent at once.
 pub(crate) fn put_string<W: Sink>(text: &[u8], before: Sent, out: &mut W) -> Sent
     ensures { Follows W.state W.send_gives out.old out.new before result
         (quote ∷ (escaped text.now ++ quote ∷ [])) }

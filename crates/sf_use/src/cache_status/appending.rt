@@ -1,4 +1,4 @@
-//! A member for a hop.
+//! Appending a member for a hop.
 ghost use Rattle.std.specs.Prelude.{◌≡◌, [], ◌∷◌, ◌++◌, IfOk, MatchResult};
 ghost use Rattle.std.specs.Option.{option_map};
 ghost use Rattle.sf_value.specs.declared.value.Bare.TheVariants as bare;
@@ -16,10 +16,10 @@ use sf_value::{Bare, Entries, Int, Item, Key, List, Member, OutOfMemory, Text, T
 use std::alloc::Global;
 use std::hash::RandomState;
 
-/// Adds the member of a cache at the end of a Cache-Status List, as the cache nearest the user
-/// (RFC 9211 section 2). Its parameters stand in the order `hit`, `fwd`, `fwd-status`, `ttl`,
-/// `stored`, `collapsed`, `key`, `detail`, each where the hop has it; `hit` for the outcomes `Hit`
-/// and `Conflict`. The seed is that of the parameters. For want of memory the List stays as it was.
+/// Appends the member of a cache to a Cache-Status List, as the cache nearest the user (RFC 9211
+/// section 2). Its parameters are in the order `hit`, `fwd`, `fwd-status`, `ttl`, `stored`,
+/// `collapsed`, `key`, `detail`, each if the hop has it; `hit` for the outcomes `Hit` and
+/// `Conflict`. The seed is that of the parameters. If an allocation fails, the List is unchanged.
 ///
 /// ```
 /// append_hop(alloc, &seed, &mut list, &hop)?;
@@ -30,7 +30,7 @@ pub fn append_hop(
     list: &mut List,
     hop: &Hop,
 ) -> Result<(), OutOfMemory>
-    // the hop's member stands at the end, or for want of memory the List is as it was
+    // The hop's member is added at the end, or an allocation failed and the List is unchanged.
     ensures { MatchResult result
         (λ _. list.new.members ≡ list.old.members ++ entry hop.now ∷ [])
         (λ _. list.new ≡ list.old) }
@@ -40,7 +40,7 @@ pub fn append_hop(
     Ok(())
 }
 
-/// The member of a hop.
+/// Returns the member of a hop.
 fn member_of(alloc: Global, seed: &RandomState, hop: &Hop) -> Result<Member, OutOfMemory>
     ensures { IfOk result (λ member. member ≡ entry hop.now) }
 {
@@ -49,7 +49,7 @@ fn member_of(alloc: Global, seed: &RandomState, hop: &Hop) -> Result<Member, Out
     Ok(Item { bare, params }.into())
 }
 
-/// The parameters of a hop, in the order in which they are written.
+/// Returns the parameters of a hop, in the order in which they are written.
 fn params_of(alloc: Global, seed: &RandomState, hop: &Hop) -> Result<Entries<Bare>, OutOfMemory>
     ensures { IfOk result (λ params. params ≡ parameters_of hop.now) }
 {
@@ -69,7 +69,7 @@ fn params_of(alloc: Global, seed: &RandomState, hop: &Hop) -> Result<Entries<Bar
     Ok(params)
 }
 
-/// Puts the parameter, where there is a value.
+/// Puts a parameter, if it has a value.
 fn put(
     alloc: Global,
     params: &mut Entries<Bare>,
@@ -77,7 +77,7 @@ fn put(
     value: Option<Bare>,
 ) -> Result<(), OutOfMemory>
     requires { IsKey key.now }
-    // the parameter is put where it has a value
+    // The parameter is put if it has a value.
     ensures { IfOk result (λ _. params.new ≡ added params.old key.now value) }
 {
     let Some(value) = value else {
@@ -92,14 +92,14 @@ fn put(
     params.set(key, value)
 }
 
-/// The value of `hit`, where it is written.
+/// Returns the value of `hit`, if it is written.
 fn hit_value(outcome: &Outcome) -> Option<Bare>
     ensures { result ≡ value_of_hit outcome.now }
 {
     outcome.says_hit().then_some(Bare::Boolean(true))
 }
 
-/// The value of `fwd`, where it is written.
+/// Returns the value of `fwd`, if it is written.
 fn why_value(alloc: Global, outcome: &Outcome) -> Result<Option<Bare>, OutOfMemory>
     ensures { IfOk result (λ value. value ≡ value_of_why (passed_by outcome.now)) }
 {
@@ -109,7 +109,7 @@ fn why_value(alloc: Global, outcome: &Outcome) -> Result<Option<Bare>, OutOfMemo
     }
 }
 
-/// The token of a reason.
+/// Returns the token of a reason.
 fn token_of(alloc: Global, why: &Forward) -> Result<Token, OutOfMemory>
     ensures { IfOk result (λ token. token ≡ token_for why.now) }
 {
@@ -121,7 +121,7 @@ fn token_of(alloc: Global, why: &Forward) -> Result<Token, OutOfMemory>
     }
 }
 
-/// The value of `fwd-status`, where it is written.
+/// Returns the value of `fwd-status`, if it is written.
 fn status_value(outcome: &Outcome) -> Option<Bare>
     ensures { result ≡ value_of_status (passed_by outcome.now) }
 {
@@ -129,28 +129,28 @@ fn status_value(outcome: &Outcome) -> Option<Bare>
     Some(Bare::Integer(Int::from(code)))
 }
 
-/// The value of `ttl`, where it is written.
+/// Returns the value of `ttl`, if it is written.
 fn ttl_value(ttl: Option<Int>) -> Option<Bare>
     ensures { result ≡ option_map bare.Integer ttl }
 {
     Some(Bare::Integer(ttl?))
 }
 
-/// The value of `stored`, where it is written.
+/// Returns the value of `stored`, if it is written.
 fn stored_value(outcome: &Outcome) -> Option<Bare>
     ensures { result ≡ value_of_stored (passed_by outcome.now) }
 {
     Some(Bare::Boolean(outcome.stored()?))
 }
 
-/// The value of `collapsed`, where it is written.
+/// Returns the value of `collapsed`, if it is written.
 fn collapsed_value(outcome: &Outcome) -> Option<Bare>
     ensures { result ≡ value_of_collapsed (passed_by outcome.now) }
 {
     Some(Bare::Boolean(outcome.collapsed()?))
 }
 
-/// The value of `key`, where it is written.
+/// Returns the value of `key`, if it is written.
 fn key_value(alloc: Global, key: &Option<Text>) -> Result<Option<Bare>, OutOfMemory>
     ensures { IfOk result (λ value. value ≡ option_map bare.Text key.now) }
 {
@@ -160,7 +160,7 @@ fn key_value(alloc: Global, key: &Option<Text>) -> Result<Option<Bare>, OutOfMem
     }
 }
 
-/// The value of `detail`, where it is written.
+/// Returns the value of `detail`, if it is written.
 fn detail_value(alloc: Global, detail: &Option<Name>) -> Result<Option<Bare>, OutOfMemory>
     ensures { IfOk result (λ value. value ≡ option_map bare_name detail.now) }
 {
@@ -170,7 +170,7 @@ fn detail_value(alloc: Global, detail: &Option<Name>) -> Result<Option<Bare>, Ou
     }
 }
 
-/// A name as a bare item.
+/// Returns a name as a bare item.
 fn bare_of(alloc: Global, name: &Name) -> Result<Bare, OutOfMemory>
     ensures { IfOk result (λ bare. bare ≡ bare_name name.now) }
 {

@@ -1,4 +1,4 @@
-//! The hops of a response, each a cache and what it did.
+//! Hops: the caches on the path of a response, and what each did.
 ghost use Rattle.std.specs.Prelude.{◌≡◌};
 ghost use Rattle.std.specs.Option.{option_and_then, option_copied};
 ghost use Rattle.sf_value.specs.Grammar.Tokens.{IsToken};
@@ -9,13 +9,13 @@ ghost use Rattle.sf_use.specs.CacheStatus.Reasons.{token_of};
 use crate::cache_status::status::HopStatus;
 use sf_value::{Int, Text, Token};
 
-/// A name of a cache (RFC 9211 section 2), or a detail (section 2.8). The String `a` and the Token
-/// `a` are two names.
+/// The name of a cache (RFC 9211 section 2), or a detail (section 2.8). The String `a` and the
+/// Token `a` are different names.
 #[derive(Debug, Drop)]
 pub enum Name {
-    /// It was given as a String.
+    /// A String.
     Text(Text),
-    /// It was given as a Token.
+    /// A Token.
     Token(Token),
 }
 
@@ -24,34 +24,34 @@ pub enum Name {
 pub enum Forward {
     /// `bypass`: the cache was configured not to handle this request.
     Bypass,
-    /// `method`: the method of the request requires it to be forwarded.
+    /// `method`: the semantics of the request's method require it to be forwarded.
     Method,
-    /// `uri-miss`: no stored response matches the request's URI.
+    /// `uri-miss`: no stored response matched the request's URI.
     UriMiss,
-    /// `vary-miss`: none of the stored responses of the URI matches the request's headers.
+    /// `vary-miss`: a stored response matched the URI, but none matched the request's headers.
     VaryMiss,
-    /// `miss`: no stored response could be used, for one of these two causes or for both.
+    /// `miss`: no stored response could be used, for one of these two reasons or both.
     Miss,
-    /// `request`: a fresh response was stored, and the request's directives forbade to use it.
+    /// `request`: a fresh response was stored, but the request did not allow its use.
     Request,
     /// `stale`: the stored response was stale.
     Stale,
-    /// `partial`: the stored response did not hold all the ranges that were asked for.
+    /// `partial`: the stored response lacked a part of what was requested.
     Partial,
-    /// Another token. One of the eight above that stands here means the same as their own case.
+    /// Another token. If it is one of the eight above, it means the same as their case.
     Other(Token),
 }
 
-/// What is known of a request that a cache forwarded.
+/// What a field says about a request that a cache forwarded.
 #[derive(Debug, Drop)]
 pub struct Passed {
-    /// Why it was forwarded: `fwd` (RFC 9211 section 2.2).
+    /// The reason: `fwd` (RFC 9211 section 2.2).
     pub why: Forward,
-    /// The status that the next server answered: `fwd-status` (section 2.3).
+    /// The status code of the next hop's response: `fwd-status` (section 2.3).
     pub status: Option<HopStatus>,
     /// Whether the cache stored the response: `stored` (section 2.5).
     pub stored: Option<bool>,
-    /// Whether the request was collapsed with others into one: `collapsed` (section 2.6).
+    /// Whether the request was collapsed with others: `collapsed` (section 2.6).
     pub collapsed: Option<bool>,
 }
 
@@ -60,18 +60,18 @@ pub struct Passed {
 /// ```
 /// match hop.outcome.passed() {
 ///     Some(passed) => .. // passed.why, passed.status, passed.stored, passed.collapsed
-///     None => .. // a hit, or nothing is said
+///     None => .. // a hit, or neither
 /// }
 /// ```
 #[derive(Debug, Drop)]
 pub enum Outcome {
-    /// It answered from its store: `hit` is true, and there is no `fwd`.
+    /// It answered from its store: `hit` is true, and `fwd` is absent.
     Hit,
-    /// It forwarded the request: `fwd` is there, and `hit` is not true.
+    /// It forwarded the request: `fwd` is present, and `hit` is not true.
     Forwarded(Passed),
-    /// `hit` is true and `fwd` is there, though the RFC asks for only one of the two.
+    /// `hit` is true and `fwd` is present, though the RFC allows only one of them.
     Conflict(Passed),
-    /// Neither is said.
+    /// `hit` is not true, and `fwd` is absent.
     Unsaid,
 }
 
@@ -93,17 +93,17 @@ pub struct Hop {
     pub name: Name,
     /// What it did with the request.
     pub outcome: Outcome,
-    /// For how many seconds the response is still fresh; where negative, since how many it is
-    /// stale: `ttl` (section 2.4).
+    /// The remaining freshness lifetime in seconds, negative if the response is stale: `ttl`
+    /// (section 2.4).
     pub ttl: Option<Int>,
     /// The cache key: `key` (section 2.7).
     pub key: Option<Text>,
-    /// What else the cache tells: `detail` (section 2.8).
+    /// Further information from the cache: `detail` (section 2.8).
     pub detail: Option<Name>,
 }
 
 impl Forward {
-    /// The token that stands for the reason in a field. It takes no memory.
+    /// Returns the token of the reason. Does not allocate.
     pub fn as_bytes(&self) -> &[u8]
         ensures bytes { result.now ≡ token_of self.now }
         ensures token { IsToken (token_of self.now) }
@@ -123,15 +123,16 @@ impl Forward {
 }
 
 impl Outcome {
-    /// Whether the cache answered from its store and asked no server nearer the origin. It takes no
-    /// memory.
+    /// Returns whether the cache answered from its store without forwarding the request. Does not
+    /// allocate.
     pub fn is_hit(&self) -> bool
         ensures { result ≡ is_hit_of self.now }
     {
         matches!(self, Outcome::Hit)
     }
 
-    /// What is known of the forwarded request; `None` where no `fwd` is there. It takes no memory.
+    /// Returns what the field says about a forwarded request; `None` without `fwd`. Does not
+    /// allocate.
     pub fn passed(&self) -> Option<&Passed>
         ensures { option_copied result ≡ passed_by self.now }
     {
@@ -141,29 +142,28 @@ impl Outcome {
         }
     }
 
-    /// The status that the next server answered; `None` where it is not said. It takes no memory.
+    /// Returns the status code of the next hop's response, if present. Does not allocate.
     pub fn status(&self) -> Option<HopStatus>
         ensures { result ≡ option_and_then (λ p. p.status) (passed_by self.now) }
     {
         self.passed()?.status
     }
 
-    /// Whether the response was stored; `None` where it is not said. It takes no memory.
+    /// Returns whether the response was stored, if present. Does not allocate.
     pub fn stored(&self) -> Option<bool>
         ensures { result ≡ option_and_then (λ p. p.stored) (passed_by self.now) }
     {
         self.passed()?.stored
     }
 
-    /// Whether the request was collapsed with others; `None` where it is not said. It takes no
-    /// memory.
+    /// Returns whether the request was collapsed with others, if present. Does not allocate.
     pub fn collapsed(&self) -> Option<bool>
         ensures { result ≡ option_and_then (λ p. p.collapsed) (passed_by self.now) }
     {
         self.passed()?.collapsed
     }
 
-    /// Whether `hit` is true in the field, as in a `Hit` and a `Conflict`. It takes no memory.
+    /// Returns whether `hit` is true in the field: for `Hit` and `Conflict`. Does not allocate.
     pub fn says_hit(&self) -> bool
         ensures { result ≡ says_hit_of self.now }
     {

@@ -1,4 +1,4 @@
-//! Parameters by key and type: one of another type counts as absent.
+//! Parameters by key and type. A parameter of another type counts as absent.
 ghost use Rattle.std.specs.Prelude.{◌≡◌, IfOk};
 ghost use Rattle.std.specs.Option.{option_copied};
 ghost use Rattle.sf_use.specs.CacheStatus.Parameters.{as_name, boolean_at as boolean_under};
@@ -10,28 +10,28 @@ use crate::cache_status::hop::Name;
 use sf_value::{Bare, Entries, Int, OutOfMemory, Text, Token};
 use std::alloc::Global;
 
-/// The Boolean under the key, where one is there.
+/// Returns the Boolean at the key, if there is one.
 pub(crate) fn boolean_at(params: &Entries<Bare>, key: &[u8]) -> Option<bool>
     ensures { result ≡ boolean_under key.now params.now }
 {
     params.get(key)?.as_boolean()
 }
 
-/// The Integer under the key, where one is there.
+/// Returns the Integer at the key, if there is one.
 pub(crate) fn integer_at(params: &Entries<Bare>, key: &[u8]) -> Option<Int>
     ensures { result ≡ integer_under key.now params.now }
 {
     params.get(key)?.as_integer()
 }
 
-/// The Token under the key, where one is there.
+/// Returns the Token at the key, if there is one.
 pub(crate) fn token_at<'a>(params: &'a Entries<Bare>, key: &[u8]) -> Option<&'a Token>
     ensures { option_copied result ≡ token_under key.now params.now }
 {
     params.get(key)?.as_token()
 }
 
-/// A copy of the String under the key, where one is there.
+/// Returns a copy of the String at the key, if there is one.
 pub(crate) fn text_at(
     alloc: Global,
     params: &Entries<Bare>,
@@ -45,7 +45,7 @@ pub(crate) fn text_at(
     }
 }
 
-/// A copy of the String or the Token under the key, where one is there.
+/// Returns a copy of the String or Token at the key, if there is one.
 pub(crate) fn name_at(
     alloc: Global,
     params: &Entries<Bare>,
@@ -59,7 +59,7 @@ pub(crate) fn name_at(
     }
 }
 
-/// A copy of a bare item as a name, where it is a String or a Token.
+/// Returns a copy of a bare item as a name, if it is a String or a Token.
 pub(crate) fn name_of(alloc: Global, bare: &Bare) -> Result<Option<Name>, OutOfMemory>
     ensures { IfOk result (λ name. name ≡ as_name bare.now) }
 {

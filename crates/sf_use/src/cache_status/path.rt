@@ -17,7 +17,7 @@ use std::marker::Model;
 /// for hop in path.hops() {
 ///     ..
 /// }
-/// path.served_by() // Some(1), say: the second answered from its store
+/// path.served_by() // Some(1), if the second answered from its store
 /// ```
 #[derive(Debug, Drop)]
 pub struct CachePath {
@@ -35,9 +35,9 @@ impl Model for CachePath {
 
 /// Reads Cache-Status (RFC 9211 section 2), a List, as a [`CachePath`].
 ///
-/// A parameter of another type than the RFC gives it counts as absent, and so does a `fwd-status`
-/// outside 100 to 999. Parameters that the RFC does not define are ignored. A `fwd` of another
-/// token is [`crate::Forward::Other`].
+/// A parameter of another type than the RFC states counts as absent, and so does a `fwd-status`
+/// outside 100 to 999. Parameters that the RFC does not define are ignored. A `fwd` token that it
+/// does not define is [`crate::Forward::Other`].
 ///
 /// ```
 /// let path = ask(alloc, &seed, &CacheStatus, lines.as_slice())?;
@@ -48,19 +48,19 @@ pub struct CacheStatus;
 impl CachePath {
     ghost use Rattle.sf_use.specs.CacheStatus.Served.{served, IsLastHit};
 
-    /// The hops, the one nearest the origin first. It takes no memory.
+    /// Returns the hops, the one nearest the origin first. Does not allocate.
     pub fn hops(&self) -> &[Hop]
         ensures { result.now ≡ self.now }
     {
         self.hops.as_slice()
     }
 
-    /// The place of the cache that the response came from, counted from 0: the last hop whose
-    /// outcome is [`crate::Outcome::Hit`]. `None` where no hop is one, so that the response came
-    /// from the origin or the field does not tell. It takes no memory.
+    /// Returns the index of the cache that served the response, from 0: the last hop whose outcome
+    /// is [`crate::Outcome::Hit`]. `None` if there is none: the response came from the origin, or
+    /// the field doesn't say. Does not allocate.
     pub fn served_by(&self) -> Option<usize>
         ensures place { result ≡ served self.now }
-        // the hop at this place is a hit and none behind it is; None where no hop is one
+        // The hop at this index is a hit and none after it is; None if no hop is a hit.
         ensures last { IsLastHit self.now result }
     {
         let mut last = None;
@@ -86,12 +86,13 @@ impl Consumer for CacheStatus {
 
     ghost meaning = { λ _ field. hops_in field };
 
-    /// The hops of the List. Refused as `NotACache`, with the place of the first such member, where
-    /// a member is not an Item of a String or a Token, else as `OutOfMemory`: the names are all
-    /// looked at first, and that takes no memory.
+    /// Returns the hops of the List. Fails with `NotACache` and the index of the first such member
+    /// if a member is not an Item of a String or a Token, otherwise with `OutOfMemory` if an
+    /// allocation fails: all names are checked first, which does not allocate.
     fn answer(&self, alloc: Global, field: &Field) -> Result<CachePath, UseFault>
         requires { kind_of field.now ≡ List }
-        // a hop for each member, or the place of the first that names no cache; else want of memory
+        // A hop for each member, or the index of the first that doesn't name a cache; out of memory
+        // only if each does.
         ensures { Gives (hops_in field.now) result }
     {
         match field {
@@ -101,9 +102,10 @@ impl Consumer for CacheStatus {
     }
 }
 
-/// The path that the members of a List tell.
+/// Returns the path of the members of a List.
 fn read_path(alloc: Global, members: &[Member]) -> Result<CachePath, UseFault>
-    // a hop for each member, or the place of the first that names no cache; else want of memory
+    // A hop for each member, or the index of the first that doesn't name a cache; out of memory
+    // only if each does.
     ensures { Gives (hops_of members.now) result }
 {
     if let Some(index) = first_nameless(members) {

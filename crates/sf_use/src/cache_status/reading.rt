@@ -1,4 +1,4 @@
-//! Hops from the members of a List.
+//! Reading hops from the members of a List.
 ghost use Rattle.std.specs.Prelude.{◌≡◌, ℤ, position, is_none, IfOk};
 ghost use Rattle.std.specs.List.{filter_map};
 ghost use Rattle.sf_use.specs.CacheStatus.Hops.{member_hop, hop_of, outcome_of, passed_at};
@@ -12,15 +12,15 @@ use crate::cache_status::status::HopStatus;
 use sf_value::{Bare, Entries, Int, Item, Member, OutOfMemory, Token};
 use std::alloc::Global;
 
-/// The first member that names no cache.
+/// Returns the index of the first member that does not name a cache.
 pub(crate) fn first_nameless(members: &[Member]) -> Option<usize>
-    // the place of the first member that has no hop
+    // The index of the first member that has no hop.
     ensures { result ≡ position (λ m. is_none (member_hop m)) members.now }
 {
     members.iter().position(|member| is_nameless(member))
 }
 
-/// Whether a member names no cache.
+/// Returns whether a member does not name a cache.
 fn is_nameless(member: &Member) -> bool
     ensures { result ≡ is_none (member_hop member.now) }
 {
@@ -30,9 +30,9 @@ fn is_nameless(member: &Member) -> bool
     }
 }
 
-/// The hops of the members that name a cache.
+/// Returns the hops of the members that name a cache.
 pub(crate) fn read_hops(alloc: Global, members: &[Member]) -> Result<Vec<Hop>, OutOfMemory>
-    // the hops of the members that have one, in their order
+    // The hops of the members that have one, in order.
     ensures { IfOk result (λ hops. hops.items ≡ filter_map member_hop members.now) }
 {
     let mut hops = Vec::new(alloc);
@@ -45,7 +45,7 @@ pub(crate) fn read_hops(alloc: Global, members: &[Member]) -> Result<Vec<Hop>, O
     Ok(hops)
 }
 
-/// The hop of a member, where it names a cache.
+/// Returns the hop of a member, if it names a cache.
 fn read_member(alloc: Global, member: &Member) -> Result<Option<Hop>, OutOfMemory>
     ensures { IfOk result (λ hop. hop ≡ member_hop member.now) }
 {
@@ -55,7 +55,7 @@ fn read_member(alloc: Global, member: &Member) -> Result<Option<Hop>, OutOfMemor
     }
 }
 
-/// The hop of an Item, where it names a cache.
+/// Returns the hop of an Item, if it names a cache.
 fn read_hop(alloc: Global, item: &Item) -> Result<Option<Hop>, OutOfMemory>
     ensures { IfOk result (λ hop. hop ≡ hop_of item.now) }
 {
@@ -76,7 +76,7 @@ fn read_hop(alloc: Global, item: &Item) -> Result<Option<Hop>, OutOfMemory>
     }))
 }
 
-/// What the cache did, by its parameters.
+/// Returns what the cache did, by its parameters.
 fn read_outcome(alloc: Global, params: &Entries<Bare>) -> Result<Outcome, OutOfMemory>
     ensures { IfOk result (λ outcome. outcome ≡ outcome_of params.now) }
 {
@@ -89,7 +89,7 @@ fn read_outcome(alloc: Global, params: &Entries<Bare>) -> Result<Outcome, OutOfM
     }
 }
 
-/// What is said of a forwarded request, where `fwd` is there.
+/// Returns what the parameters say about a forwarded request, if `fwd` is present.
 fn read_passed(alloc: Global, params: &Entries<Bare>) -> Result<Option<Passed>, OutOfMemory>
     ensures { IfOk result (λ passed. passed ≡ passed_at params.now) }
 {
@@ -104,7 +104,7 @@ fn read_passed(alloc: Global, params: &Entries<Bare>) -> Result<Option<Passed>, 
     }
 }
 
-/// The reason that a token stands for.
+/// Returns the reason of a token.
 fn read_forward(alloc: Global, token: &Token) -> Result<Forward, OutOfMemory>
     ensures { IfOk result (λ why. why ≡ forward_of token.now) }
 {
@@ -114,7 +114,7 @@ fn read_forward(alloc: Global, token: &Token) -> Result<Forward, OutOfMemory>
     }
 }
 
-/// The reason that one of the defined tokens stands for.
+/// Returns the reason of a token, if it is one of the defined ones.
 fn named_forward(token: &[u8]) -> Option<Forward>
     ensures { result ≡ value_at token.now reasons }
 {
@@ -139,7 +139,7 @@ fn named_forward(token: &[u8]) -> Option<Forward>
     }
 }
 
-/// The code of three digits, where it is one.
+/// Returns an Integer as a status code, if it has three digits.
 fn status_of(integer: Option<Int>) -> Option<HopStatus>
     ensures { result ≡ status_in integer }
 {

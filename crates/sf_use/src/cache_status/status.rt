@@ -1,10 +1,10 @@
-//! The status of a forwarded request's response.
+//! The status code of the response to a forwarded request.
 ghost use Rattle.std.specs.Prelude.{◌≡◌, ◌≤◌, ◌↔◌, IsOk, IfOk};
 
 use sf_value::OutOfRange;
 use std::marker::Model;
 
-/// A status code of three digits, from 100 to 999: what the next server answered to a forwarded
+/// A status code of three digits, from 100 to 999, of the next hop's response to a forwarded
 /// request (RFC 9211 section 2.3; RFC 9110 section 15). Contracts see the number.
 ///
 /// ```
@@ -29,8 +29,8 @@ impl Model for HopStatus {
 }
 
 impl HopStatus {
-    /// The status of this code, where it has three digits; `OutOfRange` exactly where it has not.
-    /// It takes no memory.
+    /// Returns the status of a code of three digits, or `OutOfRange` if it doesn't have three. Does
+    /// not allocate.
     pub fn new(code: u16) -> Result<HopStatus, OutOfRange>
         ensures range { IsOk result ↔ ((100 ≤ code) × (code ≤ 999)) }
         ensures code { IfOk result (λ status. status ≡ code) }
@@ -42,7 +42,7 @@ impl HopStatus {
         }
     }
 
-    /// The code that it was made of. It takes no memory.
+    /// Returns the code. Does not allocate.
     pub fn get(&self) -> u16
         ensures code { result ≡ self.now }
         ensures range { (100 ≤ self.now) × (self.now ≤ 999) }
@@ -51,7 +51,7 @@ impl HopStatus {
     }
 }
 
-/// The status of this code, as [`HopStatus::new`] gives it.
+/// Converts as [`HopStatus::new`] does.
 impl TryFrom<u16> for HopStatus {
     type Error = OutOfRange;
 
