@@ -161,8 +161,9 @@ fn feed_lines<'a, L: FieldLines<'a>>(parser: &mut Parser, mut lines: L) -> Resul
     // The joined text is fed; a refusal holds whatever text comes after it.
     ensures fed { Fed parser.old parser.new result (join (L.lines lines)) }
     // A parser that has not allocated stays so over a single line of spaces, `-` and digits.
-    ensures allocation_free { IsAllocationFree parser.old → (line : List ℕ) → L.lines lines ≡ line ∷ []
-        → Every number_byte line → KeptAllocationFree parser.new result }
+    ensures allocation_free { IsAllocationFree parser.old → (line : List ℕ)
+        → L.lines lines ≡ line ∷ [] → Every number_byte line
+        → KeptAllocationFree parser.new result }
 {
     parser.feed(b"")?;
     while let Some(line) = lines.next_line() {
