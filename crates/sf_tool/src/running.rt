@@ -35,11 +35,11 @@ pub const INPUT_LIMIT: u64 = 1_048_576;
 /// An input longer than [`INPUT_LIMIT`] is refused after one byte beyond the limit was read,
 /// whatever memory is left. No byte is asked for after that, or after the end of the input. If a
 /// read fails, or an allocation without which there is no answer, the result is `Stopped`, and
-/// nothing was written; a failed read is not repeated. If a write fails, the result is `Stopped`, and
-/// a prefix of the answer was written.
-/// Otherwise the whole answer was written, and the result is its status. The result is never
-/// `Usage`, and the sink is not flushed. The source is asked for at most 262,144 bytes at a time,
-/// and the whole answer is sent to the sink at once if it can be allocated.
+/// nothing was written; a failed read is not repeated. If a write fails, the result is `Stopped`,
+/// and a prefix of the answer was written. Otherwise the whole answer was written, and the result
+/// is its status. The result is never `Usage`, and the sink is not flushed. The source is asked for
+/// at most 262,144 bytes at a time, and the whole answer is sent to the sink at once if it can be
+/// allocated.
 ///
 /// ```
 /// let request = Request::Normalise(Dialect::Rfc9651, Kind::Item);
