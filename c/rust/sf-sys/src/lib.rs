@@ -1,6 +1,6 @@
-//! The functions of `include/sf.h`, as they stand there. The sizes of the structs are asserted below
-//! and the places of their members tested, by the numbers that `tests/boundary.c` of the folder above
-//! has for the header. That the arguments are the same shows in the tests that call them.
+//! The functions and structs of `sf.h`, the header of the library for C, which documents them. The sizes
+//! of the structs are asserted below and the offsets of their members tested, by the numbers that the
+//! tests of the library for C have for the header. The crate `sf` has safe functions over these.
 use std::ffi::c_void;
 use std::mem::size_of;
 

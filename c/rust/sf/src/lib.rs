@@ -9,22 +9,41 @@
 //! ```
 
 mod path;
-mod raw;
+use sf_sys as raw;
 
 pub use path::{cache_status, Forward, Hop, Name, Outcome, Passed, Path};
 
+use std::collections::hash_map::RandomState;
 use std::error::Error;
 use std::ffi::c_void;
 use std::fmt;
+use std::hash::{BuildHasher, Hasher};
 
-/// A seed for the hashes by which keys are looked up. Strangers choose the keys, so take one that
-/// they can't guess. No answer depends on it.
+/// A seed for the hashes of keys. Attackers choose the keys, so use one that they can't predict. No
+/// result depends on it.
 #[derive(Clone, Copy)]
 pub struct Seed {
     bytes: [u8; 16],
 }
 
 impl Seed {
+    /// A seed that attackers can't predict, of the random numbers that the standard library's hash
+    /// maps are seeded by.
+    ///
+    /// ```
+    /// let seed = sf::Seed::random();
+    /// assert_eq!(sf::check(&seed, sf::Kind::Item, b"1"), Ok(()));
+    /// ```
+    #[must_use]
+    pub fn random() -> Seed {
+        let mut bytes = [0; 16];
+        for half in bytes.chunks_mut(8) {
+            let number = RandomState::new().build_hasher().finish();
+            half.copy_from_slice(&number.to_le_bytes());
+        }
+        Seed { bytes }
+    }
+
     /// The seed of these bytes.
     #[must_use]
     pub fn from_bytes(bytes: [u8; 16]) -> Seed {
@@ -66,6 +85,7 @@ pub struct Refusal {
 }
 
 /// Why there is no answer.
+#[non_exhaustive]
 #[derive(Clone, Copy, Debug, PartialEq, Eq)]
 pub enum Fault {
     /// The text spells no value.

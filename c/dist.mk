@@ -1,0 +1,15 @@
+# Installs what this folder has, without compiling anything: see install.mk for the settings.
+VERSION = @VERSION@
+HEADER = include/sf.h
+ARCHIVE = lib/libsf.a
+SHARED = lib/libsf.so.0
+TEMPLATES = templates
+PROGRAM = bin/sf
+MANUALS = man
+COMPLETIONS = completions
+
+.PHONY: all
+all:
+	@echo 'nothing to build: make install PREFIX=/usr/local'
+
+include install.mk
