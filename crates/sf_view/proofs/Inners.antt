@@ -15,6 +15,8 @@ use Rattle.sf_parse.proofs.ByteRuns.{every_append}
 use Rattle.sf_view.specs.declared.bare.Part.{Part}
 use Rattle.sf_view.specs.declared.item.KeyPlace.{KeyPlace}
 use Rattle.sf_view.specs.declared.node.Node.{Node}
+use Rattle.sf_view.specs.declared.node.NodeType.TheVariants as type_is
+use Rattle.sf_view.specs.declared.node.Role.TheVariants as role_is
 use Rattle.sf_view.specs.View.{piece, DescribesBare, DescribesItem, DescribesItems, DescribesMember}
 use Rattle.sf_view.specs.Scans.{Behind, ScansKey, ScansItem, ScansItems, ItemsSoFar}
 use Rattle.sf_view.specs.Scans.{ScansParams, ScansRest, ScansMember, ScansEntry}
@@ -46,7 +48,7 @@ item_before : (d : Dialect) (f back : List ℕ) (i : Item) (is : List Item) → 
 item_before d f back i is x r = ([], f, back, refl, tt, omega arith, x, r)
 
 describes_more : (d : Dialect) (source : List ℕ) (ns ms : List Node) (is : List Item) (i : Item)
-    → DescribesItems d source ns is → DescribesItem d source 1 [] ms i
+    → DescribesItems d source ns is → DescribesItem d source role_is.InnerItem [] ms i
     → DescribesItems d source (ns ++ ms) (is ++ i ∷ [])
 describes_more d source ns ms [] i e t =
     (ms, [], ap (λ y. y ++ ms) e ∙ sym (append-nil ms), t, refl)
@@ -73,7 +75,7 @@ items_none d source text rest old at b h = record {
 pub items_more : (d : Dialect) (source text rest after more left : List ℕ) (place : KeyPlace)
     (old mid new : List Node) (at between count : ℕ)
     → ItemsSoFar d source text rest old mid at between
-    → ScansItem d source rest after 1 place mid new between count
+    → ScansItem d source rest after role_is.InnerItem place mid new between count
     → place.at ≡ 0 → place.length ≡ 0 → after ≡ 32 ∷ more → Behind is_sp more left
     → ItemsSoFar d source text left old new at count
 items_more d source text rest after more left place old mid new at between count s x zero none e b =
@@ -109,10 +111,10 @@ items_more d source text rest after more left place old mid new at between count
     item_there : (d : Dialect) (source : List ℕ) (ms : List Node) (i : Item) (place : KeyPlace)
         → place.at ≡ 0 → place.length ≡ 0
         → (place.at + place.length ≤ length source
-        → DescribesItem d source 1 (piece place.at place.length source) ms i)
-        → DescribesItem d source 1 [] ms i
+        → DescribesItem d source role_is.InnerItem (piece place.at place.length source) ms i)
+        → DescribesItem d source role_is.InnerItem [] ms i
     item_there d source ms i place zero none t =
-        subst (λ y. DescribesItem d source 1 y ms i) (ap (λ y. piece place.at y source) none)
+        subst (λ y. DescribesItem d source role_is.InnerItem y ms i) (ap (λ y. piece place.at y source) none)
         (t (omega arith))
 
 pub items_closed : (d : Dialect) (source text rest left : List ℕ) (old new : List Node)
@@ -133,7 +135,7 @@ items_closed d source text rest left old new at count s e = record {
 pub items_last : (d : Dialect) (source text rest after left : List ℕ) (place : KeyPlace)
     (old mid new : List Node) (at between count : ℕ)
     → ItemsSoFar d source text rest old mid at between
-    → ScansItem d source rest after 1 place mid new between count
+    → ScansItem d source rest after role_is.InnerItem place mid new between count
     → place.at ≡ 0 → place.length ≡ 0 → after ≡ 41 ∷ left
     → ScansItems d source text left old new at count
 items_last d source text rest after left place old mid new at between count s x zero none e =
@@ -154,7 +156,7 @@ items_last d source text rest after left place old mid new at between count s x 
       describes = λ i.
           let j = end_further source text s.front rest i s.split in
           describes_more d source s.nodes x.nodes s.values x.value (s.describes i)
-          (subst (λ y. DescribesItem d source 1 y x.nodes x.value)
+          (subst (λ y. DescribesItem d source role_is.InnerItem y x.nodes x.value)
           (ap (λ y. piece place.at y source) none)
           (x.describes j (omega arith)));
     }
@@ -163,7 +165,7 @@ items_last d source text rest after left place old mid new at between count s x 
 pub inner_scans : (d : Dialect) (source text body behind rest : List ℕ) (place : KeyPlace)
     (m : Node) (old mid new : List Node) (at between count span : ℕ) → text ≡ 40 ∷ body
     → ScansItems d source body behind old mid (at + 1) between
-    → ScansParams d source behind rest mid new between count
+    → ScansParams d source role_is.InnerParameter behind rest mid new between count
     → m ≡ opening_of place span → span ≡ count - at → at < length old
     → length new ≡ length old
     → ScansMember d source text rest place old (set new at m) at count
@@ -205,7 +207,7 @@ inner_scans d source text body behind rest place m old mid new at between count 
                   omega arith;
               key =
                   ap (λ y. piece y.key_at y.key_length source) opens;
-              sort = ap (λ y. y.sort) opens;
+              node_type = ap (λ y. y.node_type) opens;
             },
             is.describes j,
             ps.describes l,
@@ -215,7 +217,7 @@ inner_scans d source text body behind rest place m old mid new at between count 
 -- an Item as a member
 pub member_item : (d : Dialect) (source text rest : List ℕ) (place : KeyPlace)
     (old new : List Node) (at count : ℕ)
-    → ScansItem d source text rest 0 place old new at count
+    → ScansItem d source text rest role_is.Member place old new at count
     → ScansMember d source text rest place old new at count
 member_item d source text rest place old new at count s = record {
   front = s.front;
@@ -260,10 +262,10 @@ entry_value d source text after behind rest place old new at count k e m =
 
 pub entry_flag : (d : Dialect) (source text after rest : List ℕ) (place : KeyPlace) (p : Part)
     (n : Node) (old new : List Node) (at count : ℕ) → ScansKey (length source) text place after
-    → p.sort ≡ 6 → p.number ≡ pos 1 → p.at ≡ 0 → p.length ≡ 0 → p.coded ≡ false
-    → n ≡ node_from 0 place p → ScansRest d source after rest n old new at count
+    → p.node_type ≡ type_is.Boolean → p.number ≡ pos 1 → p.at ≡ 0 → p.length ≡ 0 → p.coded ≡ false
+    → n ≡ node_from role_is.Member place p → ScansRest d source after rest n old new at count
     → ScansEntry d source text rest old new at count
-entry_flag d source text after rest place p n old new at count k sort number zero none coded is s =
+entry_flag d source text after rest place p n old new at count k node_type number zero none coded is s =
     record {
       front = k.front ++ s.front;
       key = k.front;
@@ -285,11 +287,11 @@ entry_flag d source text after rest place p n old new at count k sort number zer
             s.nodes,
             refl,
             subst
-                (λ y. DescribesBare d source 0 k.front (1 + length s.nodes)
+                (λ y. DescribesBare d source role_is.Member k.front (1 + length s.nodes)
                 (spanning (1 + length s.nodes) y) (Boolean true)) (sym is)
-                (node_describes d source 0 (1 + length s.nodes) k.front place p (Boolean true)
+                (node_describes d source role_is.Member (1 + length s.nodes) k.front place p (Boolean true)
                 (number_describes d source p (Boolean true) (record {
-                  sort = sort;
+                  node_type = node_type;
                   number = number;
                   at = zero;
                   length = none;

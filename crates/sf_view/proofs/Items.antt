@@ -6,12 +6,13 @@ use Rattle.sf_value.specs.Grammar.Items.{item}
 use Rattle.sf_view.specs.declared.bare.Part.{Part}
 use Rattle.sf_view.specs.declared.item.KeyPlace.{KeyPlace}
 use Rattle.sf_view.specs.declared.node.Node.{Node}
+use Rattle.sf_view.specs.declared.node.Role.{Role}
 use Rattle.sf_view.specs.View.{piece, DescribesBare}
 use Rattle.sf_view.specs.Scans.{ScansBare, ScansRest, ScansItem, node_from, spanning}
 use Rattle.sf_view.proofs.Ends.{end_further}
 use Rattle.sf_view.proofs.Params.{node_describes}
 
-pub item_scans : (d : Dialect) (source text behind rest : List ℕ) (r : ℕ) (place : KeyPlace)
+pub item_scans : (d : Dialect) (source text behind rest : List ℕ) (r : Role) (place : KeyPlace)
     (p : Part) (n : Node) (old new : List Node) (at count : ℕ)
     → ScansBare d (length source) text p behind → n ≡ node_from r place p
     → ScansRest d source behind rest n old new at count

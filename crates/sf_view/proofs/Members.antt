@@ -23,6 +23,7 @@ use Rattle.sf_parse.proofs.GrammarLaws.{one_value}
 use Rattle.sf_value.proofs.Settling.{settle-distinct}
 use Rattle.sf_view.specs.declared.item.KeyPlace.{KeyPlace}
 use Rattle.sf_view.specs.declared.node.Node.{Node}
+use Rattle.sf_view.specs.declared.node.Role.TheVariants as role_is
 use Rattle.sf_view.specs.View.{piece, DescribesItem, DescribesMember, DescribesMembers, DescribesEntries}
 use Rattle.sf_view.specs.Scans.{Behind, IsEnd, ScansItem, ScansMember, ScansEntry, Puts}
 use Rattle.sf_view.specs.Scans.{keys_from, AreApart}
@@ -205,7 +206,7 @@ only_of d k t v h = record { spelled = h; only = λ w i. one_value d k t w v i h
 -- an Item
 pub item_accepts : (d : Dialect) (text start rest left : List ℕ) (place : KeyPlace)
     (old new : List Node) (count : ℕ) → Behind is_sp text start
-    → ScansItem d text start rest 0 place old new 0 count → place.at ≡ 0 → place.length ≡ 0
+    → ScansItem d text start rest role_is.Member place old new 0 count → place.at ≡ 0 → place.length ≡ 0
     → Behind is_sp rest left → left ≡ [] → Accepts d kind.Item text new count
 item_accepts d text start rest left place old new count b s zero none a n =
     let i : IsEnd text start = record { before = b.front; whole = b.split } in
@@ -223,8 +224,8 @@ item_accepts d text start rest left place old new count b s zero none a n =
         subst (Every is_sp) (sym tail) a.each,
       );
       describes =
-          subst (λ y. DescribesItem d text 0 [] y s.value) (sym (front_there old new count s.nodes s.puts))
-          (subst (λ y. DescribesItem d text 0 y s.nodes s.value)
+          subst (λ y. DescribesItem d text role_is.Member [] y s.value) (sym (front_there old new count s.nodes s.puts))
+          (subst (λ y. DescribesItem d text role_is.Member y s.nodes s.value)
           (ap (λ y. piece place.at y text) none) (s.describes i (omega arith)));
     }
 

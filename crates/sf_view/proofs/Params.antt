@@ -17,6 +17,9 @@ use Rattle.sf_value.proofs.Settling.{settle-distinct}
 use Rattle.sf_view.specs.declared.bare.Part.{Part}
 use Rattle.sf_view.specs.declared.item.KeyPlace.{KeyPlace}
 use Rattle.sf_view.specs.declared.node.Node.{Node}
+use Rattle.sf_view.specs.declared.node.NodeType.TheVariants as type_is
+use Rattle.sf_view.specs.declared.node.Role.{Role}
+use Rattle.sf_view.specs.declared.node.Role.TheVariants as role_is
 use Rattle.sf_view.specs.View.{piece, DescribesBare, DescribesParams}
 use Rattle.sf_view.specs.Scans.{Behind, IsEnd, ScansKey, ScansBare, ScansParam, ScansRaw}
 use Rattle.sf_view.specs.Scans.{ScansParams, ScansRest, PartDescribes, Puts, node_from, spanning}
@@ -41,10 +44,10 @@ key_there whole text named after place b k source e w =
     )
 
 pub flag_scans : (d : Dialect) (whole : ℕ) (text named after : List ℕ) (place : KeyPlace)
-    (p : Part) → Behind is_sp text named → ScansKey whole named place after → p.sort ≡ 6
+    (p : Part) → Behind is_sp text named → ScansKey whole named place after → p.node_type ≡ type_is.Boolean
     → p.number ≡ pos 1 → p.at ≡ 0 → p.length ≡ 0 → p.coded ≡ false
     → ScansParam d whole (59 ∷ text) place p after
-flag_scans d whole text named after place p b k sort number at size coded = record {
+flag_scans d whole text named after place p b k node_type number at size coded = record {
   front = 59 ∷ (b.front ++ (k.front ++ []));
   key = k.front;
   value = Boolean true;
@@ -57,7 +60,7 @@ flag_scans d whole text named after place p b k sort number at size coded = reco
   spelled = (b.front, [], refl, b.each, k.key, inl (refl, refl));
   key_at = key_there whole text named after place b k;
   describes = λ source e w. number_describes d source p (Boolean true) (record {
-    sort = sort;
+    node_type = node_type;
     number = number;
     at = at;
     length = size;
@@ -107,19 +110,20 @@ raw_push d f g (q ∷ raw) k x (front, back, e, h, r) p = (
   raw_push d back g raw k x r p,
 )
 
-describes_push : (d : Dialect) (source : List ℕ) (ns : List Node) (n : Node) (raw : Pairs Bare)
-    (k : List ℕ) (x : Bare) → DescribesParams d source ns raw → DescribesBare d source 2 k 1 n x
-    → DescribesParams d source (ns ++ n ∷ []) (raw ++ (k, x) ∷ [])
-describes_push d source ns n [] k x e t = (n, [], ap (λ y. y ++ n ∷ []) e, t, refl)
-describes_push d source ns n (q ∷ raw) k x (m, ms, e, h, r) t = (
+describes_push : (d : Dialect) (source : List ℕ) (r : Role) (ns : List Node) (n : Node)
+    (raw : Pairs Bare) (k : List ℕ) (x : Bare) → DescribesParams d source r ns raw
+    → DescribesBare d source r k 1 n x
+    → DescribesParams d source r (ns ++ n ∷ []) (raw ++ (k, x) ∷ [])
+describes_push d source r ns n [] k x e t = (n, [], ap (λ y. y ++ n ∷ []) e, t, refl)
+describes_push d source r ns n (q ∷ raw) k x (m, ms, e, h, more) t = (
   m,
   ms ++ n ∷ [],
   ap (λ y. y ++ n ∷ []) e,
   h,
-  describes_push d source ms n raw k x r t,
+  describes_push d source r ms n raw k x more t,
 )
 
-pub node_describes : (d : Dialect) (source : List ℕ) (r m : ℕ) (k : List ℕ) (place : KeyPlace)
+pub node_describes : (d : Dialect) (source : List ℕ) (r : Role) (m : ℕ) (k : List ℕ) (place : KeyPlace)
     (p : Part) (x : Bare) → PartDescribes d source p x → place.at + place.length ≤ length source
     → piece place.at place.length source ≡ k
     → DescribesBare d source r k m (spanning m (node_from r place p)) x
@@ -128,15 +132,15 @@ node_describes d source r m k place p x t within e = record {
   span = refl;
   key_within = within;
   key = e;
-  sort = t.sort;
+  node_type = t.node_type;
   number = t.number;
   text_within = t.within;
   text = t.text;
 }
 
-pub raw_none : (d : Dialect) (source text : List ℕ) (old : List Node) (at : ℕ)
-    → at ≤ length old → ScansRaw d source text text old old at at
-raw_none d source text old at h = record {
+pub raw_none : (d : Dialect) (source : List ℕ) (r : Role) (text : List ℕ) (old : List Node)
+    (at : ℕ) → at ≤ length old → ScansRaw d source r text text old old at at
+raw_none d source r text old at h = record {
   front = [];
   raw = [];
   nodes = [];
@@ -146,12 +150,12 @@ raw_none d source text old at h = record {
   describes = λ e. refl;
 }
 
-pub raw_more : (d : Dialect) (source text rest more left : List ℕ) (old mid new : List Node)
+pub raw_more : (d : Dialect) (source : List ℕ) (r : Role) (text rest more left : List ℕ) (old mid new : List Node)
     (at between count : ℕ) (place : KeyPlace) (p : Part) (n : Node)
-    → ScansRaw d source text rest old mid at between → rest ≡ 59 ∷ more
-    → ScansParam d (length source) (59 ∷ more) place p left → n ≡ node_from 2 place p
-    → Puts mid new between count (n ∷ []) → ScansRaw d source text left old new at count
-raw_more d source text rest more left old mid new at between count place p n s e x is q =
+    → ScansRaw d source r text rest old mid at between → rest ≡ 59 ∷ more
+    → ScansParam d (length source) (59 ∷ more) place p left → n ≡ node_from r place p
+    → Puts mid new between count (n ∷ []) → ScansRaw d source r text left old new at count
+raw_more d source r text rest more left old mid new at between count place p n s e x is q =
     let split : text ≡ (s.front ++ x.front) ++ left =
     s.split
     ∙ ap (λ y. s.front ++ y) (e ∙ x.split)
@@ -166,20 +170,20 @@ raw_more d source text rest more left old mid new at between count place p n s e
       describes = λ i.
           let there = subst (IsEnd source) e (end_further source text s.front rest i s.split) in
           let key = x.key_at source there refl in
-          describes_push d source s.nodes n s.raw x.key x.value (s.describes i)
-          (subst (λ y. DescribesBare d source 2 x.key 1 y x.value) (sym is)
-          (node_describes d source 2 1 x.key place p x.value (x.describes source there refl) key.0 key.1));
+          describes_push d source r s.nodes n s.raw x.key x.value (s.describes i)
+          (subst (λ y. DescribesBare d source r x.key 1 y x.value) (sym is)
+          (node_describes d source r 1 x.key place p x.value (x.describes source there refl) key.0 key.1));
     }
 
 -- the keys that the nodes of parameters describe
-keys_told : (d : Dialect) (source : List ℕ) (ns : List Node) (raw : Pairs Bare)
-    → DescribesParams d source ns raw → keys_from source 0 ns ≡ keys_of raw
-keys_told d source ns [] e = ap (keys_from source 0) e
-keys_told d source ns (q ∷ raw) (n, ms, e, h, r) =
+keys_told : (d : Dialect) (source : List ℕ) (r : Role) (ns : List Node) (raw : Pairs Bare)
+    → DescribesParams d source r ns raw → keys_from source 0 ns ≡ keys_of raw
+keys_told d source r ns [] e = ap (keys_from source 0) e
+keys_told d source r ns (q ∷ raw) (n, ms, e, h, more) =
     ap (keys_from source 0) e
     ∙ ap (λ y. piece n.key_at n.key_length source ∷ keys_from source (y - 1) ms) h.span
     ∙ ap (λ y. y ∷ keys_from source 0 ms) h.key
-    ∙ ap (λ y. q.0 ∷ y) (keys_told d source ms raw r)
+    ∙ ap (λ y. q.0 ∷ y) (keys_told d source r ms raw more)
 
 -- the nodes that were put are those there
 pub put_there : (old new : List Node) (at count : ℕ) (ns : List Node) → Puts old new at count ns
@@ -202,18 +206,18 @@ put_there old new at count ns p same =
         ∙ ap (drop (length ys)) f
         ∙ drop-append_seam ys ws
 
-pub params_scan : (d : Dialect) (source text rest : List ℕ) (old new : List Node) (at count : ℕ)
-    → ScansRaw d source text rest old new at count → length new ≡ length old
+pub params_scan : (d : Dialect) (source : List ℕ) (r : Role) (text rest : List ℕ)
+    (old new : List Node) (at count : ℕ) → ScansRaw d source r text rest old new at count → length new ≡ length old
     → AreApart source (take (count - at) (drop at new))
-    → ScansParams d source text rest old new at count
-params_scan d source text rest old new at count s same apart = record {
+    → ScansParams d source r text rest old new at count
+params_scan d source r text rest old new at count s same apart = record {
   front = s.front;
   values = s.raw;
   nodes = s.nodes;
   split = s.split;
   spelled = λ i.
       let keys = ap (keys_from source 0) (put_there old new at count s.nodes s.puts same)
-      ∙ keys_told d source s.nodes s.raw (s.describes i) in
+      ∙ keys_told d source r s.nodes s.raw (s.describes i) in
       (s.raw, sym (settle-distinct s.raw (subst (IsDistinct bytes_eq) keys apart)), s.spelled);
   puts = s.puts;
   describes = s.describes;
@@ -236,7 +240,7 @@ rest_none d source text n old at one h = record {
 }
 
 pub rest_some : (d : Dialect) (source text rest : List ℕ) (n m : Node) (old new : List Node)
-    (at count span : ℕ) → ScansParams d source text rest old new (at + 1) count
+    (at count span : ℕ) → ScansParams d source role_is.Parameter text rest old new (at + 1) count
     → m ≡ spanning span n → span ≡ count - at → at < length old → length new ≡ length old
     → ScansRest d source text rest n old (set new at m) at count
 rest_some d source text rest n m old new at count span s is size h same =

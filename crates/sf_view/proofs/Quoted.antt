@@ -13,6 +13,7 @@ use Rattle.sf_value.proofs.Utf8Table.{in_range}
 use Rattle.sf_parse.proofs.HighDigits.{read_hex}
 use Rattle.sf_parse.proofs.Quads.{small_byte}
 use Rattle.sf_view.specs.declared.bare.Part.{Part}
+use Rattle.sf_view.specs.declared.node.NodeType.TheVariants as type_is
 use Rattle.sf_view.specs.declared.display_string.Utf8State.{Utf8State}
 use Rattle.sf_view.specs.Scans.{ScansBare}
 use Rattle.sf_view.specs.Showns.{utf8_of, IsEscape, PlainBefore, InsideShown}
@@ -113,10 +114,10 @@ pub stepped : (r : Option Utf8State) (x : Utf8) (c : ℕ) (s : Utf8State)
 stepped r x c s e f = sym e ∙ ap (option_map utf8_of) f
 
 pub shown_scans : (whole : ℕ) (text stop left : List ℕ) (x : Utf8) (p : Part)
-    → InsideShown text stop x → x ≡ Start → stop ≡ 34 ∷ left → p.sort ≡ 8 → p.number ≡ pos 0
+    → InsideShown text stop x → x ≡ Start → stop ≡ 34 ∷ left → p.node_type ≡ type_is.Shown → p.number ≡ pos 0
     → p.at + length text ≡ whole → p.length ≡ length text - length left → p.coded ≡ true
     → ScansBare Rfc9651 whole text p left
-shown_scans whole text stop left x p i start close sort number at size coded =
+shown_scans whole text stop left x p i start close node_type number at size coded =
     let body = i.front ++ 34 ∷ [] in
     let split : text ≡ (37 ∷ 34 ∷ body) ++ left =
     i.split
@@ -133,7 +134,7 @@ shown_scans whole text stop left x p i start close sort number at size coded =
             (i.formed [] (subst (λ z. WellFormed z []) (sym start) tt)),
       ),
     )
-    sort number at (left_over p.length _ _ _ size sizes) coded
+    node_type number at (left_over p.length _ _ _ size sizes) coded
   where
     left_over : (n a b c : ℕ) → n ≡ a - c → a ≡ b + c → n + c ≡ a
     left_over n a b c e f = omega arith

@@ -13,7 +13,8 @@ use Rattle.sf_value.specs.Grammar.Strings.{escaped, is_escaped}
 use Rattle.sf_value.specs.Grammar.BareItems.{SpellsBare}
 use Rattle.sf_parse.proofs.ByteRuns.{every_append}
 use Rattle.sf_view.specs.declared.bare.Part.{Part}
-use Rattle.sf_view.specs.View.{piece, sort_of, number_of, DescribesText}
+use Rattle.sf_view.specs.declared.node.NodeType.TheVariants as type_is
+use Rattle.sf_view.specs.View.{piece, type_of, number_of, DescribesText}
 use Rattle.sf_value.specs.declared.dialect.Dialect.TheVariants.{Rfc9651}
 use Rattle.sf_view.specs.Scans.{ScansDigits, ScansFraction, ScansNumber, ScansDate, ScansBare}
 use Rattle.sf_view.specs.Scans.{NumberDescribes, PartDescribes, InsideString, is_unescaped, pads_at}
@@ -21,9 +22,9 @@ use Rattle.sf_view.proofs.Ends.{end_further, end_piece, end_within}
 
 pub integer_scans : (text unsigned rest : List ℕ) (neg : Bool) (v n : ℕ) (p : Part)
     → text ≡ sign neg ++ unsigned → ScansDigits unsigned v n rest → 1 ≤ n → n ≤ 15
-    → p.sort ≡ 1 → p.number ≡ signed neg v → p.at ≡ 0 → p.length ≡ 0 → p.coded ≡ false
+    → p.node_type ≡ type_is.Integer → p.number ≡ signed neg v → p.at ≡ 0 → p.length ≡ 0 → p.coded ≡ false
     → ScansNumber text p rest
-integer_scans text unsigned rest neg v n p e s some few sort number at size coded =
+integer_scans text unsigned rest neg v n p e s some few node_type number at size coded =
     let count = s.count in record {
       front = sign neg ++ s.front;
       value = Integer (signed neg v);
@@ -37,7 +38,7 @@ integer_scans text unsigned rest neg v n p e s some few sort number at size code
         ap (signed neg) s.value,
       );
       describes = record {
-        sort = sort;
+        node_type = node_type;
         number = number;
         at = at;
         length = size;
@@ -49,9 +50,9 @@ integer_scans text unsigned rest neg v n p e s some few sort number at size code
 pub decimal_scans : (text unsigned rest behind left : List ℕ) (neg : Bool) (v n th : ℕ) (p : Part)
     → text ≡ sign neg ++ unsigned → ScansDigits unsigned v n rest → 1 ≤ n → n ≤ 12
     → rest ≡ 46 ∷ behind → ScansFraction behind th left
-    → p.sort ≡ 2 → p.number ≡ signed neg (v * 1000 + th) → p.at ≡ 0 → p.length ≡ 0
+    → p.node_type ≡ type_is.Decimal → p.number ≡ signed neg (v * 1000 + th) → p.at ≡ 0 → p.length ≡ 0
     → p.coded ≡ false → ScansNumber text p left
-decimal_scans text unsigned rest behind left neg v n th p e s some few point f sort number at size coded =
+decimal_scans text unsigned rest behind left neg v n th p e s some few point f node_type number at size coded =
     let count = s.count in record {
       front = sign neg ++ (s.front ++ 46 ∷ f.front);
       value = Decimal (signed neg (v * 1000 + th));
@@ -75,7 +76,7 @@ decimal_scans text unsigned rest behind left neg v n th p e s some few point f s
             ∙ ap (λ y. signed neg (value_from 0 s.front * 1000 + y)) f.value,
       );
       describes = record {
-        sort = sort;
+        node_type = node_type;
         number = number;
         at = at;
         length = size;
@@ -88,7 +89,7 @@ decimal_scans text unsigned rest behind left neg v n th p e s some few point f s
 pub number_describes : (d : Dialect) (source : List ℕ) (p : Part) (x : Bare) → NumberDescribes p x
     → PartDescribes d source p x
 number_describes d source p x t = record {
-  sort = t.sort;
+  node_type = t.node_type;
   number = t.number;
   within = let a = t.at in let b = t.length in omega arith;
   text =
@@ -98,13 +99,13 @@ number_describes d source p x t = record {
 
 -- a number of the first type is an Integer
 pub date_scans : (text inside rest : List ℕ) (p q : Part) → text ≡ 64 ∷ inside
-    → ScansNumber inside p rest → p.sort ≡ 1
-    → q.sort ≡ 7 → q.number ≡ p.number → q.at ≡ 0 → q.length ≡ 0 → q.coded ≡ false
+    → ScansNumber inside p rest → p.node_type ≡ type_is.Integer
+    → q.node_type ≡ type_is.Date → q.number ≡ p.number → q.at ≡ 0 → q.length ≡ 0 → q.coded ≡ false
     → ScansDate text q rest
-date_scans text inside rest p q first s one sort number at size coded = by s.value refl
+date_scans text inside rest p q first s one node_type number at size coded = by s.value refl
   where
-    not : (x : Bare) → s.value ≡ x → sort_of x ≡ 1
-    not x e = sym (ap sort_of e) ∙ sym s.describes.sort ∙ one
+    not : (x : Bare) → s.value ≡ x → type_of x ≡ type_is.Integer
+    not x e = sym (ap type_of e) ∙ sym s.describes.node_type ∙ one
 
     by : (x : Bare) → s.value ≡ x → ScansDate text q rest
     by (Integer n) e = record {
@@ -113,7 +114,7 @@ date_scans text inside rest p q first s one sort number at size coded = by s.val
       split = first ∙ ap (λ y. 64 ∷ y) s.split;
       spelled = (s.front, refl, subst (SpellsBare Rfc9651 s.front) e (s.spelled Rfc9651));
       describes = record {
-        sort = sort;
+        node_type = node_type;
         number = number ∙ s.describes.number ∙ ap number_of e;
         at = at;
         length = size;
@@ -131,15 +132,15 @@ date_scans text inside rest p q first s one sort number at size coded = by s.val
 
 -- a Boolean
 pub boolean_scans : (text inside rest : List ℕ) (b : Bool) (p : Part) → text ≡ 63 ∷ inside
-    → inside ≡ (if b then 49 else 48) ∷ rest → p.sort ≡ 6 → p.number ≡ number_of (Boolean b)
+    → inside ≡ (if b then 49 else 48) ∷ rest → p.node_type ≡ type_is.Boolean → p.number ≡ number_of (Boolean b)
     → p.at ≡ 0 → p.length ≡ 0 → p.coded ≡ false → ScansNumber text p rest
-boolean_scans text inside rest b p first second sort number at size coded = record {
+boolean_scans text inside rest b p first second node_type number at size coded = record {
   front = 63 ∷ (if b then 49 else 48) ∷ [];
   value = Boolean b;
   split = first ∙ ap (λ y. 63 ∷ y) second;
   spelled = λ d. refl;
   describes = record {
-    sort = sort;
+    node_type = node_type;
     number = number;
     at = at;
     length = size;
@@ -197,9 +198,9 @@ escaped-append (b ∷ s) t = by (is_escaped b) refl (escaped-append s t)
 -- a string without escapes
 pub string_scans : (d : Dialect) (whole : ℕ) (text inside front stop rest : List ℕ) (p : Part)
     → text ≡ 34 ∷ inside → inside ≡ front ++ stop → Every is_unescaped front → stop ≡ 34 ∷ rest
-    → p.sort ≡ 3 → p.number ≡ pos 0 → p.at + length inside ≡ whole → p.length ≡ length front
+    → p.node_type ≡ type_is.Text → p.number ≡ pos 0 → p.at + length inside ≡ whole → p.length ≡ length front
     → p.coded ≡ false → ScansBare d whole text p rest
-string_scans d whole text inside front stop rest p first run plain close sort number at size coded =
+string_scans d whole text inside front stop rest p first run plain close node_type number at size coded =
     record {
       front = 34 ∷ (front ++ 34 ∷ []);
       value = Text front;
@@ -213,7 +214,7 @@ string_scans d whole text inside front stop rest p first run plain close sort nu
       describes = λ source e w.
           let i = end_further source text (34 ∷ []) inside e first in
           let here = at ∙ sym w in record {
-            sort = sort;
+            node_type = node_type;
             number = number;
             within =
                 let k = end_within source inside front stop p.at run here in omega arith;
@@ -262,10 +263,10 @@ inside_escape text rest left more b i e f h =
 
 -- a bare item whose whole text is noted
 pub coded_scans : (d : Dialect) (whole : ℕ) (text front rest : List ℕ) (x : Bare) (p : Part)
-    → text ≡ front ++ rest → SpellsBare d front x → p.sort ≡ sort_of x
+    → text ≡ front ++ rest → SpellsBare d front x → p.node_type ≡ type_of x
     → p.number ≡ number_of x → p.at + length text ≡ whole → p.length + length rest ≡ length text
     → p.coded ≡ true → ScansBare d whole text p rest
-coded_scans d whole text front rest x p e h sort number at size coded = record {
+coded_scans d whole text front rest x p e h node_type number at size coded = record {
   front = front;
   value = x;
   split = e;
@@ -274,7 +275,7 @@ coded_scans d whole text front rest x p e h sort number at size coded = record {
       let here = at ∙ sym w in
       let sizes = ap length e ∙ length-append front rest in
       let long : p.length ≡ length front = omega arith in record {
-        sort = sort;
+        node_type = node_type;
         number = number;
         within = let k = end_within source text front rest p.at e here in omega arith;
         text =
@@ -286,22 +287,22 @@ coded_scans d whole text front rest x p e h sort number at size coded = record {
 }
 
 pub escaped_scans : (d : Dialect) (whole : ℕ) (text stop left : List ℕ) (p : Part)
-    → InsideString text stop → stop ≡ 34 ∷ left → p.sort ≡ 3 → p.number ≡ pos 0
+    → InsideString text stop → stop ≡ 34 ∷ left → p.node_type ≡ type_is.Text → p.number ≡ pos 0
     → p.at + length text ≡ whole → p.length + length left ≡ length text → p.coded ≡ true
     → ScansBare d whole text p left
-escaped_scans d whole text stop left p i close sort number at size coded =
+escaped_scans d whole text stop left p i close node_type number at size coded =
     coded_scans d whole text (34 ∷ (escaped i.bytes ++ 34 ∷ [])) left (Text i.bytes) p
     (i.split
     ∙ ap (λ y. 34 ∷ y)
     (ap (λ y. escaped i.bytes ++ y) close ∙ sym (append_assoc (escaped i.bytes) (34 ∷ []) left)))
-    (refl, i.each) sort number at size coded
+    (refl, i.each) node_type number at size coded
 
 -- a Token
 pub token_scans : (d : Dialect) (whole : ℕ) (text more front rest : List ℕ) (b : ℕ) (p : Part)
     → text ≡ b ∷ more → is_token_start b ≡ true → more ≡ front ++ rest
-    → Every is_token_rest front → p.sort ≡ 4 → p.number ≡ pos 0 → p.at + length text ≡ whole
+    → Every is_token_rest front → p.node_type ≡ type_is.Token → p.number ≡ pos 0 → p.at + length text ≡ whole
     → p.length ≡ length front + 1 → p.coded ≡ false → ScansBare d whole text p rest
-token_scans d whole text more front rest b p e start run each sort number at size coded =
+token_scans d whole text more front rest b p e start run each node_type number at size coded =
     let split : text ≡ (b ∷ front) ++ rest = e ∙ ap (λ y. b ∷ y) run in record {
       front = b ∷ front;
       value = Token (b ∷ front);
@@ -310,7 +311,7 @@ token_scans d whole text more front rest b p e start run each sort number at siz
       describes = λ source i w.
           let here = at ∙ sym w in
           let long : p.length ≡ length (b ∷ front) = omega arith in record {
-            sort = sort;
+            node_type = node_type;
             number = number;
             within =
                 let k = end_within source text (b ∷ front) rest p.at split here in omega arith;

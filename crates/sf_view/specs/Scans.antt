@@ -24,7 +24,10 @@ use Rattle.sf_value.specs.Grammar.Fields.{SpellsEntry}
 use Rattle.sf_view.specs.declared.bare.Part.{Part}
 use Rattle.sf_view.specs.declared.item.KeyPlace.{KeyPlace}
 use Rattle.sf_view.specs.declared.node.Node.{Node}
-use Rattle.sf_view.specs.View.{piece, sort_of, number_of, text_of, DescribesText, DescribesParams, DescribesItem, DescribesItems}
+use Rattle.sf_view.specs.declared.node.NodeType.TheVariants as type_is
+use Rattle.sf_view.specs.declared.node.Role.{Role}
+use Rattle.sf_view.specs.declared.node.Role.TheVariants as role_is
+use Rattle.sf_view.specs.View.{piece, type_of, number_of, text_of, DescribesText, DescribesParams, DescribesItem, DescribesItems}
 use Rattle.sf_view.specs.View.{DescribesMember}
 
 -- what stands for itself between the quotes of a string
@@ -73,7 +76,7 @@ pub record ScansFraction (text : List ℕ) (v : ℕ) (rest : List ℕ) : Type 0 
 
 -- what was read of a bare item without bytes describes this one
 pub record NumberDescribes (p : Part) (x : Bare) : Type 0 where
-  pub sort : p.sort ≡ sort_of x
+  pub node_type : p.node_type ≡ type_of x
   pub number : p.number ≡ number_of x
   pub at : p.at ≡ 0
   pub length : p.length ≡ 0
@@ -114,7 +117,7 @@ pub record InsideString (text rest : List ℕ) : Type 0 where
 
 -- what was read of a bare item describes this one
 pub record PartDescribes (d : Dialect) (source : List ℕ) (p : Part) (x : Bare) : Type 0 where
-  pub sort : p.sort ≡ sort_of x
+  pub node_type : p.node_type ≡ type_of x
   pub number : p.number ≡ number_of x
   pub within : p.at + p.length ≤ length source
   pub text : DescribesText d p.coded (piece p.at p.length source) x
@@ -130,7 +133,7 @@ pub record ScansBare (d : Dialect) (whole : ℕ) (text : List ℕ) (p : Part) (r
       → PartDescribes d source p value
 
 -- the node of a bare item with no parameters
-abbrev pub node_from : ℕ → KeyPlace → Part → Node
+abbrev pub node_from : Role → KeyPlace → Part → Node
 node_from role key part = record {
   number = part.number;
   key_at = key.at;
@@ -138,7 +141,7 @@ node_from role key part = record {
   text_at = part.at;
   text_length = part.length;
   span = 1;
-  sort = part.sort;
+  node_type = part.node_type;
   role = role;
   coded = part.coded;
 }
@@ -152,7 +155,7 @@ spanning k n = record {
   text_at = n.text_at;
   text_length = n.text_length;
   span = k;
-  sort = n.sort;
+  node_type = n.node_type;
   role = n.role;
   coded = n.coded;
 }
@@ -189,7 +192,7 @@ pub record ScansParam (d : Dialect) (whole : ℕ) (text : List ℕ) (place : Key
 
 -- the front of the text spells parameters, repeated keys included, and nodes that were put describe
 -- them
-pub record ScansRaw (d : Dialect) (source text rest : List ℕ) (old new : List Node)
+pub record ScansRaw (d : Dialect) (source : List ℕ) (r : Role) (text rest : List ℕ) (old new : List Node)
     (at count : ℕ) : Type 0 where
   pub front : List ℕ
   pub raw : Pairs Bare
@@ -197,10 +200,10 @@ pub record ScansRaw (d : Dialect) (source text rest : List ℕ) (old new : List 
   pub split : text ≡ front ++ rest
   pub spelled : SpellsRaw d front raw
   pub puts : Puts old new at count nodes
-  pub describes : IsEnd source text → DescribesParams d source nodes raw
+  pub describes : IsEnd source text → DescribesParams d source r nodes raw
 
 -- the front of the text spells parameters, and nodes that were put describe them
-pub record ScansParams (d : Dialect) (source text rest : List ℕ) (old new : List Node)
+pub record ScansParams (d : Dialect) (source : List ℕ) (r : Role) (text rest : List ℕ) (old new : List Node)
     (at count : ℕ) : Type 0 where
   pub front : List ℕ
   pub values : Pairs Bare
@@ -208,7 +211,7 @@ pub record ScansParams (d : Dialect) (source text rest : List ℕ) (old new : Li
   pub split : text ≡ front ++ rest
   pub spelled : IsEnd source text → SpellsParams d front values
   pub puts : Puts old new at count nodes
-  pub describes : IsEnd source text → DescribesParams d source nodes values
+  pub describes : IsEnd source text → DescribesParams d source r nodes values
 
 -- the same, behind a node that spans them
 pub record ScansRest (d : Dialect) (source text rest : List ℕ) (node : Node) (old new : List Node)
@@ -219,10 +222,10 @@ pub record ScansRest (d : Dialect) (source text rest : List ℕ) (node : Node) (
   pub split : text ≡ front ++ rest
   pub spelled : IsEnd source text → SpellsParams d front values
   pub puts : Puts old new at count (spanning (1 + length nodes) node ∷ nodes)
-  pub describes : IsEnd source text → DescribesParams d source nodes values
+  pub describes : IsEnd source text → DescribesParams d source role_is.Parameter nodes values
 
 -- the front of the text spells an Item, and nodes that were put describe it
-pub record ScansItem (d : Dialect) (source text rest : List ℕ) (r : ℕ) (place : KeyPlace)
+pub record ScansItem (d : Dialect) (source text rest : List ℕ) (r : Role) (place : KeyPlace)
     (old new : List Node) (at count : ℕ) : Type 0 where
   pub front : List ℕ
   pub value : Item
@@ -242,8 +245,8 @@ opening_of key k = record {
   text_at = 0;
   text_length = 0;
   span = k;
-  sort = 0;
-  role = 0;
+  node_type = type_is.InnerList;
+  role = role_is.Member;
   coded = false;
 }
 

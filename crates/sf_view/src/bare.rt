@@ -6,6 +6,7 @@ ghost use Rattle.sf_view.specs.Scans.{ScansDigits, ScansFraction, ScansNumber, S
 
 use crate::classes::{InBase64, InToken, Unescaped, behind, is_token_start, long_front, split};
 use crate::display_string::scan_shown;
+use crate::node::NodeType;
 use sf_value::Dialect;
 
 /// What a bare item is.
@@ -14,14 +15,14 @@ pub(crate) struct Part {
     pub number: i64,
     pub at: u32,
     pub length: u32,
-    pub sort: u8,
+    pub node_type: NodeType,
     pub coded: bool,
 }
 
 /// A bare item that is a number.
 #[inline]
-fn number_of(sort: u8, number: i64) -> Part
-    ensures sort { result.sort ≡ sort }
+fn number_of(node_type: NodeType, number: i64) -> Part
+    ensures node_type { result.node_type ≡ node_type }
     ensures number { result.number ≡ number }
     ensures at { result.at ≡ 0 }
     ensures size { result.length ≡ 0 }
@@ -31,18 +32,24 @@ fn number_of(sort: u8, number: i64) -> Part
         number,
         at: 0,
         length: 0,
-        sort,
+        node_type,
         coded: false,
     }
 }
 
 /// A bare item of bytes: what stands before the rest, of a text of which so much is left.
 #[inline]
-pub(crate) fn bytes_of(whole: usize, sort: u8, coded: bool, text: &[u8], size: usize) -> Part
+pub(crate) fn bytes_of(
+    whole: usize,
+    node_type: NodeType,
+    coded: bool,
+    text: &[u8],
+    size: usize,
+) -> Part
     requires small { whole < 2 ^ 32 }
     requires within { length text.now ≤ whole }
     requires front { size ≤ length text.now }
-    ensures sort { result.sort ≡ sort }
+    ensures node_type { result.node_type ≡ node_type }
     ensures number { result.number ≡ pos 0 }
     ensures at { result.at + length text.now ≡ whole }
     ensures size { result.length ≡ size }
@@ -52,7 +59,7 @@ pub(crate) fn bytes_of(whole: usize, sort: u8, coded: bool, text: &[u8], size: u
         number: 0,
         at: (whole - text.len()) as u32,
         length: size as u32,
-        sort,
+        node_type,
         coded,
     }
 }
@@ -142,13 +149,19 @@ fn scan_number(text: &[u8]) -> Option<(Part, &[u8])>
         return None;
     }
     let Some(after_point) = behind(rest, b'.') else {
-        return Some((number_of(1, with_sign(negative, value)), rest));
+        return Some((
+            number_of(NodeType::Integer, with_sign(negative, value)),
+            rest,
+        ));
     };
     if count > 12 {
         return None;
     }
     let (thousandths, left) = fraction(after_point)?;
-    let part = number_of(2, with_sign(negative, value * 1000 + thousandths));
+    let part = number_of(
+        NodeType::Decimal,
+        with_sign(negative, value * 1000 + thousandths),
+    );
     Some((part, left))
 }
 
@@ -157,10 +170,10 @@ fn scan_date(text: &[u8]) -> Option<(Part, &[u8])>
     ensures { IfSome result (λ r. ScansDate text.now r.0 r.1.now) }
 {
     let (part, rest) = scan_number(behind(text, b'@')?)?;
-    if part.sort != 1 {
-        return None;
+    match part.node_type {
+        NodeType::Integer => return Some((number_of(NodeType::Date, part.number), rest)),
+        _ => return None,
     }
-    Some((number_of(7, part.number), rest))
 }
 
 /// A String with escapes, and the rest.
@@ -173,7 +186,7 @@ fn scan_escaped(whole: usize, text: &[u8]) -> Option<(Part, &[u8])>
     loop {
         let (_, stop) = long_front::<Unescaped>(rest);
         if let Some(left) = behind(stop, b'"') {
-            let part = bytes_of(whole, 3, true, text, text.len() - left.len());
+            let part = bytes_of(whole, NodeType::Text, true, text, text.len() - left.len());
             return Some((part, left));
         }
         let (byte, left) = split(behind(stop, b'\\')?)?;
@@ -196,7 +209,10 @@ fn scan_string(whole: usize, text: &[u8]) -> Option<(Part, &[u8])>
     let Some(rest) = behind(stop, b'"') else {
         return scan_escaped(whole, text);
     };
-    Some((bytes_of(whole, 3, false, inside, front.len()), rest))
+    Some((
+        bytes_of(whole, NodeType::Text, false, inside, front.len()),
+        rest,
+    ))
 }
 
 /// What closes a Byte Sequence of which so many characters stand over, and the rest.
@@ -234,7 +250,7 @@ fn scan_blob(whole: usize, text: &[u8]) -> Option<(Part, &[u8])>
     let inside = behind(text, b':')?;
     let (front, stop) = long_front::<InBase64>(inside);
     let rest = behind_pads(front.len() % 4, stop)?;
-    let part = bytes_of(whole, 5, true, text, text.len() - rest.len());
+    let part = bytes_of(whole, NodeType::Blob, true, text, text.len() - rest.len());
     Some((part, rest))
 }
 
@@ -245,8 +261,8 @@ fn scan_boolean(text: &[u8]) -> Option<(Part, &[u8])>
 {
     let (byte, rest) = split(behind(text, b'?')?)?;
     match byte {
-        b'0' => return Some((number_of(6, 0), rest)),
-        b'1' => return Some((number_of(6, 1), rest)),
+        b'0' => return Some((number_of(NodeType::Boolean, 0), rest)),
+        b'1' => return Some((number_of(NodeType::Boolean, 1), rest)),
         _ => return None,
     }
 }
@@ -263,7 +279,10 @@ fn scan_token(whole: usize, text: &[u8]) -> Option<(Part, &[u8])>
         return None;
     }
     let (front, rest) = long_front::<InToken>(more);
-    Some((bytes_of(whole, 4, false, text, front.len() + 1), rest))
+    Some((
+        bytes_of(whole, NodeType::Token, false, text, front.len() + 1),
+        rest,
+    ))
 }
 
 /// A bare item, and the rest of a text of which so much is left.

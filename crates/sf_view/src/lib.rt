@@ -3,13 +3,13 @@
 
 mod bare;
 mod classes;
-mod lookup;
+mod display_string;
 mod item;
 mod keys;
+mod lookup;
 mod node;
 mod series;
-mod display_string;
 
 pub use lookup::entry;
-pub use node::Node;
+pub use node::{Node, NodeType, Role};
 pub use series::scan_text;

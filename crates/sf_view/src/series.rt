@@ -6,7 +6,7 @@ ghost use Rattle.sf_view.specs.Accepts.{Accepts};
 use crate::classes::{behind, behind_spaces, behind_white, ends};
 use crate::item::{NO_KEY, scan_entry, scan_item, scan_member};
 use crate::keys::are_distinct;
-use crate::node::Node;
+use crate::node::{Node, Role};
 use sf_value::{Dialect, Kind};
 
 /// An Item.
@@ -17,7 +17,7 @@ fn whole_item(dialect: Dialect, text: &[u8], nodes: &mut [Node]) -> Option<usize
     ensures accepts { IfSome result (λ n. Accepts dialect kind_is.Item text.now nodes.new n) }
 {
     let start = behind_spaces(text);
-    let scan = scan_item(dialect, text, start, 0, NO_KEY, nodes, 0)?;
+    let scan = scan_item(dialect, text, start, Role::Member, NO_KEY, nodes, 0)?;
     if ends(behind_spaces(scan.rest)) {
         return Some(scan.count);
     }

@@ -10,7 +10,7 @@ returns-in-Some c =
     let t = c.bytes_of-part.ensures in
     shown_scans _ _ _ _ (utf8_of c.loop-left.chars) _
     (inside_plain _ _ _ (utf8_of c.loop-left.chars) c.loop-left.invariant c.plain-stop.ensures)
-    (c.is_start.ensures c.if-not-is_start.false) c.in-Some.ensures t.sort t.number t.at t.size
+    (c.is_start.ensures c.if-not-is_start.false) c.in-Some.ensures t.node_type t.number t.at t.size
     t.coded
 
 pub loop-left-preserved : goal.loop-left-preserved
