@@ -9,7 +9,9 @@ mod keys;
 mod lookup;
 mod node;
 mod series;
+mod view;
 
 pub use lookup::entry;
 pub use node::{Node, NodeType, Role};
 pub use series::scan_text;
+pub use view::{BareView, Slice, Unviewed, View};
