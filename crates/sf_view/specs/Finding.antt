@@ -4,7 +4,9 @@ use Rattle.sf_value.specs.declared.dialect.Dialect.{Dialect}
 use Rattle.sf_value.specs.declared.value.Member.{Member}
 use Rattle.sf_value.specs.Grammar.Pairs.{Pairs, value_at}
 use Rattle.sf_view.specs.declared.node.Node.{Node}
-use Rattle.sf_view.specs.View.{piece, DescribesMember}
+use Rattle.sf_value.specs.declared.value.Bare.{Bare}
+use Rattle.sf_view.specs.declared.node.Role.{Role}
+use Rattle.sf_view.specs.View.{piece, DescribesMember, DescribesParams}
 
 -- the member with this key, which the nodes describe
 pub record Finds (d : Dialect) (source key : List ℕ) (ps : Pairs Member) (ns : List Node)
@@ -12,6 +14,13 @@ pub record Finds (d : Dialect) (source key : List ℕ) (ps : Pairs Member) (ns :
   pub value : Member
   pub there : value_at key ps ≡ Some value
   pub describes : DescribesMember d source key ns value
+
+-- the parameter with this key, which the node describes
+pub record FindsParam (d : Dialect) (source key : List ℕ) (r : Role) (ps : Pairs Bare)
+    (ns : List Node) : Type 0 where
+  pub value : Bare
+  pub there : value_at key ps ≡ Some value
+  pub describes : DescribesParams d source r ns ((key, value) ∷ [])
 
 -- the nodes begin with a part of this key, of these nodes
 pub record IsHop (source : List ℕ) (nodes : List Node) (k : List ℕ) (front later : List Node)

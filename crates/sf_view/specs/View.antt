@@ -124,14 +124,19 @@ DescribesMembers d source ns (m ∷ ms) =
     × DescribesMember d source [] front m
     × DescribesMembers d source back ms
 
--- the members of a Dictionary
-abbrev pub DescribesEntries : Dialect → Seq ℕ → Seq Node → Pairs Member → Type 0
-DescribesEntries d source ns [] = ns ≡ []
-DescribesEntries d source ns (p ∷ ps) =
+-- parts with keys, of which some nodes each describe one as P says
+abbrev pub DescribesPairs : {X : Type 0} → (Seq ℕ → Seq Node → X → Type 0) → Seq Node → Pairs X
+    → Type 0
+DescribesPairs P ns [] = ns ≡ []
+DescribesPairs P ns (p ∷ ps) =
     (front back : Seq Node)
     × (ns ≡ front ++ back)
-    × DescribesMember d source p.0 front p.1
-    × DescribesEntries d source back ps
+    × P p.0 front p.1
+    × DescribesPairs P back ps
+
+-- the members of a Dictionary
+abbrev pub DescribesEntries : Dialect → Seq ℕ → Seq Node → Pairs Member → Type 0
+DescribesEntries d source ns ps = DescribesPairs (DescribesMember d source) ns ps
 
 -- a field
 abbrev pub DescribesField : Dialect → Seq ℕ → Seq Node → Field → Type 0

@@ -1,10 +1,12 @@
-//! Looking up a member of a Dictionary among its nodes.
+//! Looking up a member of a Dictionary, or a parameter, among nodes.
 ghost use Rattle.std.specs.Prelude.{◌≡◌, ◌≤◌, ◌<◌, ⊤, length, take, drop, IfNone, IfSome, List, None};
 ghost use Rattle.sf_value.specs.declared.dialect.Dialect.{Dialect as Which};
+ghost use Rattle.sf_value.specs.declared.value.Bare.{Bare};
 ghost use Rattle.sf_value.specs.declared.value.Member.{Member};
 ghost use Rattle.sf_value.specs.Grammar.Pairs.{Pairs, value_at};
-ghost use Rattle.sf_view.specs.View.{DescribesEntries};
-ghost use Rattle.sf_view.specs.Finding.{Finds, IsHop, NoHop};
+ghost use Rattle.sf_view.specs.View.{DescribesEntries, DescribesParams};
+ghost use Rattle.sf_view.specs.Finding.{Finds, FindsParam, IsHop, NoHop};
+ghost use Rattle.sf_view.specs.declared.node.Role.{Role as Place};
 
 use crate::keys::{bytes_at, first_node};
 use crate::node::Node;
@@ -26,13 +28,21 @@ fn hop<'a>(source: &'a [u8], nodes: &'a [Node]) -> Option<(&'a [u8], &'a [Node],
     Some((key, front, later))
 }
 
-/// The nodes of the member with this key, where there is one: of the nodes of a Dictionary.
+/// The nodes of the part with this key, if there is one, among the nodes of a Dictionary or of
+/// parameters.
 pub fn entry<'a>(source: &'a [u8], nodes: &'a [Node], key: &[u8]) -> Option<&'a [Node]>
     // whatever members the nodes describe, the nodes found describe the one with this key
     ensures found { (d : Which) (ps : Pairs Member) → DescribesEntries d source.now nodes.now ps
         → IfSome result (λ ns. Finds d source.now key.now ps ns.now) }
     // and where none are found there is no such member
     ensures none { (d : Which) (ps : Pairs Member) → DescribesEntries d source.now nodes.now ps
+        → IfNone result (value_at key.now ps ≡ None) }
+    // whatever parameters the nodes describe, the same holds
+    ensures found_param { (d : Which) (r : Place) (ps : Pairs Bare)
+        → DescribesParams d source.now r nodes.now ps
+        → IfSome result (λ ns. FindsParam d source.now key.now r ps ns.now) }
+    ensures none_param { (d : Which) (r : Place) (ps : Pairs Bare)
+        → DescribesParams d source.now r nodes.now ps
         → IfNone result (value_at key.now ps ≡ None) }
 {
     let mut rest = nodes;
