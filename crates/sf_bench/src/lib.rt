@@ -6,7 +6,8 @@ ghost use Rattle.std.specs.Prelude.{◌≡◌, ◌<◌, ◌≤◌, IfSome, IsTru
 ghost use Rattle.sf_bench.specs.Timed.{letter, IsAccepted, HasCanonical};
 
 use sf_parse::parse_text;
-use sf_value::Kind;
+use sf_value::{Dialect, Kind};
+use sf_view::{Node, View};
 use sf_write::to_text;
 use std::alloc::Global;
 use std::hash::RandomState;
@@ -104,4 +105,40 @@ pub extern "C" fn sf_bench_normalise(alloc: Global, name: u8, text: &[u8], times
         length = canonical_len(alloc, &seed, kind, text);
     }
     length.unwrap_or(0)
+}
+
+/// Whether the text has a view; `false` also if a key is repeated.
+fn has_view(kind: Kind, text: &[u8], nodes: &mut [Node]) -> bool
+    // Only a text that spells a value of the kind has one.
+    ensures accepted { IsTrue result → IsAccepted kind text.now }
+{
+    View::scan(Dialect::Rfc9651, kind, text, nodes).is_ok()
+}
+
+/// Scans the text so many times into nodes that borrow it, in a buffer that is allocated once. 1 if
+/// it is accepted; otherwise 0, also if a key is repeated, if an allocation fails, for no times and
+/// for another letter.
+///
+/// ```c
+/// size_t sf_bench_view(uint8_t kind, const uint8_t *text, size_t len, size_t times);
+/// ```
+#[unsafe(no_mangle)]
+pub extern "C" fn sf_bench_view(alloc: Global, name: u8, text: &[u8], times: usize) -> usize
+    ensures bit { result ≤ 1 }
+    // 1 only of a text that spells a value of the kind that the letter names
+    ensures accepted { 0 < result → (k : Kind) × (letter k ≡ name) × IsAccepted k text.now }
+{
+    let Some(kind) = kind_named(name) else {
+        return 0;
+    };
+    let mut buffer: Vec<Node> = Vec::new(alloc);
+    if buffer.resize(text.len(), Node::NONE).is_err() {
+        return 0;
+    }
+    let nodes = buffer.as_mut_slice();
+    let mut accepted = false;
+    for _ in 0..times {
+        accepted = has_view(kind, text, nodes);
+    }
+    accepted as usize
 }

@@ -1,0 +1,6 @@
+//! Views beside trees: accepted texts have nodes, and the nodes describe what the tree has. It has
+//! tests alone.
+#![tactic(auto)]
+
+#[cfg(test)]
+mod views;

@@ -1,0 +1,190 @@
+-- A hop over the nodes of a member.
+use Rattle.std.proofs.Common.{◌≡◌, ℕ, ◌+◌, ◌≤◌, true, false, List, [], ◌∷◌, ◌++◌}
+use Rattle.std.proofs.Common.{length, take, drop, Some, None, refl, sym, ap, ◌∙◌, subst}
+use Rattle.std.proofs.Common.{arith, length-append}
+use Rattle.std.proofs.Math.Seq.{take-append_seam, drop-append_seam}
+use Rattle.std.specs.Str.{bytes_eq}
+use Rattle.sf_value.specs.declared.dialect.Dialect.{Dialect}
+use Rattle.sf_value.specs.declared.value.Member.{Member}
+use Rattle.sf_value.specs.declared.value.Member.TheVariants as member
+use Rattle.sf_value.specs.Grammar.Pairs.{Pairs, value_at}
+use Rattle.sf_value.proofs.Settling.{same_key}
+use Rattle.sf_value.specs.declared.value.Bare.{Bare}
+use Rattle.sf_view.specs.declared.node.Node.{Node}
+use Rattle.sf_view.specs.declared.node.Role.{Role}
+use Rattle.sf_view.specs.View.{piece, DescribesMember, DescribesPairs, DescribesBare, DescribesParams}
+use Rattle.sf_view.specs.Finding.{IsHop, NoHop}
+
+-- what the first node of a member says
+pub record Opens (source k : List ℕ) (front : List Node) : Type 0 where
+  pub first : Node
+  pub more : List Node
+  pub begins : front ≡ first ∷ more
+  pub span : length front ≡ first.span
+  pub within : first.key_at + first.key_length ≤ length source
+  pub key : piece first.key_at first.key_length source ≡ k
+
+pub opens : (d : Dialect) (source k : List ℕ) (front : List Node) (m : Member)
+    → DescribesMember d source k front m → Opens source k front
+opens d source k front (member.Item i) (n, ms, e, h, r) = record {
+  first = n;
+  more = ms;
+  begins = e;
+  span = let l = ap length e in let s = h.span in omega arith;
+  within = h.key_within;
+  key = h.key;
+}
+opens d source k front (member.Inner l) (n, is, ps, e, h, r, q) = record {
+  first = n;
+  more = is ++ ps;
+  begins = e;
+  span = let l = ap length e in let s = h.span in omega arith;
+  within = h.key_within;
+  key = h.key;
+}
+
+-- a parameter, as a part of one node
+abbrev pub DescribesParam : Dialect → List ℕ → Role → List ℕ → List Node → Bare → Type 0
+DescribesParam d source r k ns x = (n : Node) × (ns ≡ n ∷ []) × DescribesBare d source r k 1 n x
+
+pub param_opens : (d : Dialect) (source : List ℕ) (r : Role) (k : List ℕ) (front : List Node)
+    (x : Bare) → DescribesParam d source r k front x → Opens source k front
+param_opens d source r k front x (n, e, h) = record {
+  first = n;
+  more = [];
+  begins = e;
+  span = let l = ap length e in let s = h.span in omega arith;
+  within = h.key_within;
+  key = h.key;
+}
+
+-- parameters as parts
+pub param_parts : (d : Dialect) (source : List ℕ) (r : Role) (ns : List Node) (ps : Pairs Bare)
+    → DescribesParams d source r ns ps → DescribesPairs (DescribesParam d source r) ns ps
+param_parts d source r ns [] e = e
+param_parts d source r ns (p ∷ ps) (n, ms, e, h, more) =
+    (n ∷ [], ms, e, (n, refl, h), param_parts d source r ms ps more)
+
+-- each part opens with a node of its key and span
+abbrev pub AllOpen : {X : Type 0} → List ℕ → (List ℕ → List Node → X → Type 0) → Type 0
+AllOpen {X} source P = (k : List ℕ) (front : List Node) (x : X) → P k front x → Opens source k front
+
+-- the same front and the same rest
+record Hopped {X : Type 0} (P : List ℕ → List Node → X → Type 0) (k : List ℕ)
+    (front later : List Node) (p : List ℕ × X) (ps : Pairs X) : Type 0 where
+  key : k ≡ p.0
+  describes : P p.0 front p.1
+  rest : DescribesPairs P later ps
+
+heads : (m n : Node) (ms ns : List Node) → m ∷ ms ≡ n ∷ ns → m ≡ n
+heads m n ms ns e = cc
+
+hopped : {X : Type 0} (P : List ℕ → List Node → X → Type 0) (source : List ℕ)
+    → AllOpen source P → (nodes : List Node) (k : List ℕ) (front later : List Node)
+    (p : List ℕ × X) (ps : Pairs X)
+    → IsHop source nodes k front later → DescribesPairs P nodes (p ∷ ps)
+    → Hopped P k front later p ps
+hopped P source opened nodes k front later p ps h (own, back, e, t, r) =
+    let o = opened p.0 own p.1 t in
+    let both : front ++ later ≡ own ++ back = sym h.split ∙ e in
+    let one : h.first ≡ o.first =
+    heads h.first o.first (h.more ++ later) (o.more ++ back)
+    (ap (λ y. y ++ later) (sym h.begins) ∙ both ∙ ap (λ y. y ++ back) o.begins) in
+    let size : length front ≡ length own = h.span ∙ ap (λ y. y.span) one ∙ sym o.span in
+    let front_is : front ≡ own =
+    sym (take-append_seam front later)
+    ∙ ap (λ y. take y (front ++ later)) size
+    ∙ ap (take (length own)) both
+    ∙ take-append_seam own back in
+    let later_is : later ≡ back =
+    sym (drop-append_seam front later)
+    ∙ ap (λ y. drop y (front ++ later)) size
+    ∙ ap (drop (length own)) both
+    ∙ drop-append_seam own back in
+    record {
+      key = h.key ∙ ap (λ y. piece y.key_at y.key_length source) one ∙ o.key;
+      describes = subst (λ y. P p.0 y p.1) (sym front_is) t;
+      rest = subst (λ y. DescribesPairs P y ps) (sym later_is) r;
+    }
+
+-- where no part begins there is none
+none_left : {X : Type 0} (P : List ℕ → List Node → X → Type 0) (source : List ℕ)
+    → AllOpen source P → (nodes : List Node) (ps : Pairs X)
+    → NoHop source nodes → DescribesPairs P nodes ps → ps ≡ []
+none_left P source opened nodes [] n t = refl
+none_left P source opened nodes (p ∷ ps) n (own, back, e, t, r) =
+    let o = opened p.0 own p.1 t in
+    let e' : nodes ≡ o.first ∷ (o.more ++ back) = e ∙ ap (λ y. y ++ back) o.begins in
+    let n' : NoHop source (o.first ∷ (o.more ++ back)) = subst (NoHop source) e' n in
+    let sizes = ap length o.begins in
+    let all = length-append o.more back in
+    let s = o.span in
+    absurd (n' o.within (omega arith) (omega arith))
+
+-- the rest holds the key as all does
+pub record Left {X : Type 0} (P : List ℕ → List Node → X → Type 0) (key : List ℕ) (ps : Pairs X)
+    (rest : List Node) : Type 0 where
+  pub pairs : Pairs X
+  pub describes : DescribesPairs P rest pairs
+  pub same : value_at key ps ≡ value_at key pairs
+
+-- a part with this key
+pub record Found {X : Type 0} (P : List ℕ → List Node → X → Type 0) (key : List ℕ) (ps : Pairs X)
+    (ns : List Node) : Type 0 where
+  pub value : X
+  pub there : value_at key ps ≡ Some value
+  pub describes : P key ns value
+
+pub left_all : {X : Type 0} (P : List ℕ → List Node → X → Type 0) (key : List ℕ) (ps : Pairs X)
+    (nodes : List Node) → DescribesPairs P nodes ps → Left P key ps nodes
+left_all P key ps nodes t = record { pairs = ps; describes = t; same = refl }
+
+pub left_none : {X : Type 0} (P : List ℕ → List Node → X → Type 0) (source : List ℕ)
+    → AllOpen source P → (key : List ℕ) (ps : Pairs X) (rest : List Node)
+    → Left P key ps rest → NoHop source rest → value_at key ps ≡ None
+left_none P source opened key ps rest l n =
+    l.same ∙ ap (value_at key) (none_left P source opened rest l.pairs n l.describes)
+
+some_hop : (source : List ℕ) (k : List ℕ) (nodes front later : List Node)
+    → IsHop source nodes k front later → nodes ≡ [] → ⊥
+some_hop source k nodes front later h e =
+    let e' : [] ≡ h.first ∷ (h.more ++ later) =
+    sym e ∙ h.split ∙ ap (λ y. y ++ later) h.begins in
+    cc
+
+pub left_more : {X : Type 0} (P : List ℕ → List Node → X → Type 0) (source : List ℕ)
+    → AllOpen source P → (key : List ℕ) (ps : Pairs X) (rest : List Node)
+    (k : List ℕ) (front later : List Node) → Left P key ps rest
+    → IsHop source rest k front later → bytes_eq key k ≡ false → Left P key ps later
+left_more {X} P source opened key ps rest k front later l h n = by l.pairs l.describes l.same
+  where
+    by : (qs : Pairs X) → DescribesPairs P rest qs → value_at key ps ≡ value_at key qs
+        → Left P key ps later
+    by [] t e = absurd (some_hop source k rest front later h t)
+    by (q ∷ qs) t e =
+        let o = hopped P source opened rest k front later q qs h t in
+        let other : bytes_eq key q.0 ≡ false = subst (λ y. bytes_eq key y ≡ false) o.key n in
+        record {
+          pairs = qs;
+          describes = o.rest;
+          same = e ∙ (let s : value_at key (q ∷ qs) ≡ value_at key qs = rw other refl in s);
+        }
+
+pub left_found : {X : Type 0} (P : List ℕ → List Node → X → Type 0) (source : List ℕ)
+    → AllOpen source P → (key : List ℕ) (ps : Pairs X) (rest : List Node)
+    (k : List ℕ) (front later : List Node) → Left P key ps rest
+    → IsHop source rest k front later → key ≡ k → Found P key ps front
+left_found {X} P source opened key ps rest k front later l h is = by l.pairs l.describes l.same
+  where
+    by : (qs : Pairs X) → DescribesPairs P rest qs → value_at key ps ≡ value_at key qs
+        → Found P key ps front
+    by [] t e = absurd (some_hop source k rest front later h t)
+    by (q ∷ qs) t e =
+        let o = hopped P source opened rest k front later q qs h t in
+        let this : key ≡ q.0 = is ∙ o.key in
+        let same : bytes_eq key q.0 ≡ true = subst (λ y. bytes_eq key y ≡ true) this (same_key key) in
+        record {
+          value = q.1;
+          there = e ∙ (let s : value_at key (q ∷ qs) ≡ Some q.1 = rw same refl in s);
+          describes = subst (λ y. P y front q.1) (sym this) o.describes;
+        }

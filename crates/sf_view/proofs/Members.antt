@@ -1,0 +1,356 @@
+-- Members with commas between them that are scanned.
+use Rattle.std.proofs.Common.{◌≡◌, ℕ, ◌+◌, ◌-◌, ◌≤◌, List, [], ◌∷◌, ◌++◌, length, take}
+use Rattle.std.proofs.Common.{refl, sym, ap, ◌∙◌, subst, arith, append_assoc, append-nil}
+use Rattle.std.proofs.Common.{length-append}
+use Rattle.std.specs.List.{IsDistinct}
+use Rattle.std.specs.Map.{keys_of}
+use Rattle.std.specs.Str.{bytes_eq}
+use Rattle.sf_value.specs.declared.dialect.Dialect.{Dialect}
+use Rattle.sf_value.specs.declared.value.Member.{Member}
+use Rattle.sf_value.specs.declared.value.Member.TheVariants as member
+use Rattle.sf_value.specs.declared.value.Field.TheVariants as field
+use Rattle.sf_value.specs.declared.value.Kind.TheVariants as kind
+use Rattle.sf_value.specs.Grammar.Words.{Every}
+use Rattle.sf_value.specs.Grammar.Classes.{is_sp, is_ows}
+use Rattle.sf_value.specs.Grammar.Pairs.{Pairs}
+use Rattle.sf_value.specs.Grammar.InnerLists.{SpellsMember}
+use Rattle.sf_value.specs.Grammar.Series.{SpellsCommas, SpellsSeries, SpellsWhole}
+use Rattle.sf_value.specs.declared.value.Field.{Field}
+use Rattle.sf_value.specs.declared.value.Kind.{Kind}
+use Rattle.sf_value.specs.Grammar.Fields.{SpellsEntry, SpellsField, list_of, dict_of}
+use Rattle.sf_parse.specs.Parsers.{IsOnly}
+use Rattle.sf_parse.proofs.GrammarLaws.{one_value}
+use Rattle.sf_value.proofs.Settling.{settle-distinct}
+use Rattle.sf_view.specs.declared.item.KeyPlace.{KeyPlace}
+use Rattle.sf_view.specs.declared.node.Node.{Node}
+use Rattle.sf_view.specs.declared.node.Role.TheVariants as role_is
+use Rattle.sf_view.specs.View.{piece, DescribesItem, DescribesMember, DescribesMembers, DescribesEntries}
+use Rattle.sf_view.specs.Scans.{Behind, IsEnd, ScansItem, ScansMember, ScansEntry, Puts}
+use Rattle.sf_view.specs.Scans.{keys_from, AreApart}
+use Rattle.sf_view.specs.Accepts.{Accepts, SoFar}
+use Rattle.sf_view.proofs.Putting.{puts_none, puts_then}
+
+module _ {X : Type 0} (P : List ℕ → X → Type 0) where
+  commas_push : (t before behind g : List ℕ) (xs : List X) (y : X) → SpellsCommas P t xs
+      → Every is_ows before → Every is_ows behind → P g y
+      → SpellsCommas P (t ++ (before ++ 44 ∷ (behind ++ g))) (xs ++ y ∷ [])
+  commas_push t before behind g [] y e a b h = (
+    before,
+    behind,
+    g,
+    [],
+    ap (λ z. z ++ (before ++ 44 ∷ (behind ++ g))) e
+        ∙ ap (λ z. before ++ 44 ∷ (behind ++ z)) (sym (append-nil g)),
+    a,
+    b,
+    h,
+    refl,
+  )
+  commas_push t before behind g (x ∷ xs) y (v, w, f, back, e, sv, sw, k, r) a b h =
+      let z = before ++ 44 ∷ (behind ++ g) in (
+        v,
+        w,
+        f,
+        back ++ z,
+        ap (λ q. q ++ z) e
+            ∙ append_assoc v (44 ∷ (w ++ (f ++ back))) z
+            ∙ ap (λ q. v ++ 44 ∷ q)
+            (append_assoc w (f ++ back) z ∙ ap (λ q. w ++ q) (append_assoc f back z)),
+        sv,
+        sw,
+        k,
+        commas_push back before behind g xs y r a b h,
+      )
+
+  series_push : (t before behind g : List ℕ) (xs : List X) (y : X) → SpellsSeries P t xs
+      → 1 ≤ length xs → Every is_ows before → Every is_ows behind → P g y
+      → SpellsSeries P (t ++ (before ++ 44 ∷ (behind ++ g))) (xs ++ y ∷ [])
+  series_push t before behind g [] y s n a b h = absurd (let k : ⊥ = omega arith in k)
+  series_push t before behind g (x ∷ xs) y (f, back, e, k, r) n a b h =
+      let z = before ++ 44 ∷ (behind ++ g) in (
+        f,
+        back ++ z,
+        ap (λ q. q ++ z) e ∙ append_assoc f back z,
+        k,
+        commas_push back before behind g xs y r a b h,
+      )
+
+  whole_of : (t gap body tail : List ℕ) (xs : List X) → 1 ≤ length xs
+      → t ≡ gap ++ (body ++ tail) → Every is_sp gap → SpellsSeries P body xs
+      → Every is_ows tail → SpellsWhole P t xs
+  whole_of t gap body tail [] n e a s b = absurd (let k : ⊥ = omega arith in k)
+  whole_of t gap body tail (x ∷ xs) n e a s b = (gap, body, tail, e, a, s, b)
+
+  some_last : (xs : List X) (x : X) → 1 ≤ length (xs ++ x ∷ [])
+  some_last xs x = omega (arith, length-append xs (x ∷ []))
+
+  module _ (T : List Node → List X → Type 0) where
+    pub so_far_none : (text rest : List ℕ) (old : List Node) → Behind is_sp text rest → T [] []
+        → SoFar X P T text rest old old 0
+    so_far_none text rest old b t = record {
+      gap = b.front;
+      front = [];
+      values = [];
+      nodes = [];
+      split = b.split;
+      spaces = b.each;
+      glue = λ f x h. (f, [], sym (append-nil f), h, refl);
+      puts = puts_none old 0 (omega arith);
+      describes = t;
+    }
+
+    pub so_far_more : (text rest f after white more left : List ℕ) (x : X)
+        (old mid new : List Node) (between count : ℕ) (ms : List Node)
+        → (s : SoFar X P T text rest old mid between) → rest ≡ f ++ after → P f x
+        → Puts mid new between count ms → T (s.nodes ++ ms) (s.values ++ x ∷ [])
+        → Behind is_ows after white → white ≡ 44 ∷ more → Behind is_ows more left
+        → SoFar X P T text left old new count
+    so_far_more text rest f after white more left x old mid new between count ms s e h p t a c b =
+        let step = f ++ (a.front ++ 44 ∷ b.front) in
+        let far : rest ≡ step ++ left =
+        e
+        ∙ ap (λ y. f ++ y)
+        (a.split
+        ∙ ap (λ y. a.front ++ y) (c ∙ ap (λ y. 44 ∷ y) b.split)
+        ∙ sym (append_assoc a.front (44 ∷ b.front) left))
+        ∙ sym (append_assoc f (a.front ++ 44 ∷ b.front) left) in
+        record {
+          gap = s.gap;
+          front = s.front ++ step;
+          values = s.values ++ x ∷ [];
+          nodes = s.nodes ++ ms;
+          split =
+              s.split
+              ∙ ap (λ y. s.gap ++ y)
+              (ap (λ y. s.front ++ y) far ∙ sym (append_assoc s.front step left));
+          spaces = s.spaces;
+          glue = λ g y k.
+              let z = a.front ++ 44 ∷ (b.front ++ g) in
+              let all = series_push (s.front ++ f) a.front b.front g (s.values ++ x ∷ []) y
+              (s.glue f x h) (some_last s.values x) a.each b.each k in
+              subst (λ q. SpellsSeries P q ((s.values ++ x ∷ []) ++ y ∷ []))
+              (append_assoc s.front f z
+              ∙ ap (λ q. s.front ++ q)
+              (ap (λ q. f ++ q) (sym (append_assoc a.front (44 ∷ b.front) g))
+              ∙ sym (append_assoc f (a.front ++ 44 ∷ b.front) g))
+              ∙ sym (append_assoc s.front step g))
+              all;
+          puts = puts_then old mid new 0 between count s.nodes ms s.puts p;
+          describes = t;
+        }
+
+    pub so_far_last : (text rest f after white : List ℕ) (x : X) (old mid : List Node)
+        (between : ℕ) → (s : SoFar X P T text rest old mid between) → rest ≡ f ++ after → P f x
+        → Behind is_ows after white → white ≡ [] → SpellsWhole P text (s.values ++ x ∷ [])
+    so_far_last text rest f after white x old mid between s e h a n =
+        let tail : after ≡ a.front = a.split ∙ ap (λ y. a.front ++ y) n ∙ append-nil a.front in
+        whole_of text s.gap (s.front ++ f) after (s.values ++ x ∷ []) (some_last s.values x)
+        (s.split
+        ∙ ap (λ y. s.gap ++ y)
+        (ap (λ y. s.front ++ y) e ∙ sym (append_assoc s.front f after)))
+        s.spaces (s.glue f x h) (subst (Every is_ows) (sym tail) a.each)
+
+-- a rest is an end of the text
+pub rest_ends : {X : Type 0} {P : List ℕ → X → Type 0} {T : List Node → List X → Type 0}
+    (text rest : List ℕ) (old new : List Node) (count : ℕ)
+    → SoFar X P T text rest old new count → IsEnd text rest
+rest_ends text rest old new count s = record {
+  before = s.gap ++ s.front;
+  whole = s.split ∙ sym (append_assoc s.gap s.front rest);
+}
+
+members_more : (d : Dialect) (source : List ℕ) (ns ms : List Node) (xs : List Member) (x : Member)
+    → DescribesMembers d source ns xs → DescribesMember d source [] ms x
+    → DescribesMembers d source (ns ++ ms) (xs ++ x ∷ [])
+members_more d source ns ms [] x e t =
+    (ms, [], ap (λ y. y ++ ms) e ∙ sym (append-nil ms), t, refl)
+members_more d source ns ms (j ∷ xs) x (front, back, e, h, r) t = (
+  front,
+  back ++ ms,
+  ap (λ y. y ++ ms) e ∙ append_assoc front back ms,
+  h,
+  members_more d source back ms xs x r t,
+)
+
+entries_more : (d : Dialect) (source : List ℕ) (ns ms : List Node) (xs : Pairs Member)
+    (x : List ℕ × Member) → DescribesEntries d source ns xs → DescribesMember d source x.0 ms x.1
+    → DescribesEntries d source (ns ++ ms) (xs ++ x ∷ [])
+entries_more d source ns ms [] x e t =
+    (ms, [], ap (λ y. y ++ ms) e ∙ sym (append-nil ms), t, refl)
+entries_more d source ns ms (j ∷ xs) x (front, back, e, h, r) t = (
+  front,
+  back ++ ms,
+  ap (λ y. y ++ ms) e ∙ append_assoc front back ms,
+  h,
+  entries_more d source back ms xs x r t,
+)
+
+member_there : (d : Dialect) (source : List ℕ) (ms : List Node) (x : Member) (place : KeyPlace)
+    → place.at ≡ 0 → place.length ≡ 0
+    → (place.at + place.length ≤ length source
+    → DescribesMember d source (piece place.at place.length source) ms x)
+    → DescribesMember d source [] ms x
+member_there d source ms x place zero none t =
+    subst (λ y. DescribesMember d source y ms x) (ap (λ y. piece place.at y source) none)
+    (t (omega arith))
+
+-- the nodes that were put stand at the front
+front_there : (old new : List Node) (count : ℕ) (ns : List Node) → Puts old new 0 count ns
+    → take count new ≡ ns
+front_there old new count ns p = p.there
+
+-- a value that is spelled is the only one
+only_of : (d : Dialect) (k : Kind) (t : List ℕ) (v : Field) → SpellsField d k t v → IsOnly d k t v
+only_of d k t v h = record { spelled = h; only = λ w i. one_value d k t w v i h }
+
+-- an Item
+pub item_accepts : (d : Dialect) (text start rest left : List ℕ) (place : KeyPlace)
+    (old new : List Node) (count : ℕ) → Behind is_sp text start
+    → ScansItem d text start rest role_is.Member place old new 0 count → place.at ≡ 0 → place.length ≡ 0
+    → Behind is_sp rest left → left ≡ [] → Accepts d kind.Item text new count
+item_accepts d text start rest left place old new count b s zero none a n =
+    let i : IsEnd text start = record { before = b.front; whole = b.split } in
+    let tail : rest ≡ a.front = a.split ∙ ap (λ y. a.front ++ y) n ∙ append-nil a.front in
+    record {
+      within = s.puts.within;
+      value = field.Item s.value;
+      only = only_of d kind.Item text (field.Item s.value) (
+        b.front,
+        s.front,
+        rest,
+        b.split ∙ ap (λ y. b.front ++ y) s.split,
+        b.each,
+        s.spelled i,
+        subst (Every is_sp) (sym tail) a.each,
+      );
+      describes =
+          subst (λ y. DescribesItem d text role_is.Member [] y s.value) (sym (front_there old new count s.nodes s.puts))
+          (subst (λ y. DescribesItem d text role_is.Member y s.nodes s.value)
+          (ap (λ y. piece place.at y text) none) (s.describes i (omega arith)));
+    }
+
+pub empty_list : (d : Dialect) (text rest : List ℕ) (new : List Node) → Behind is_sp text rest
+    → rest ≡ [] → Accepts d kind.List text new 0
+empty_list d text rest new b n =
+    let all : text ≡ b.front = b.split ∙ ap (λ y. b.front ++ y) n ∙ append-nil b.front in
+    record {
+      within = omega arith;
+      value = list_of [];
+      only = only_of d kind.List text (list_of []) (subst (Every is_sp) (sym all) b.each);
+      describes = refl;
+    }
+
+pub empty_dict : (d : Dialect) (text rest : List ℕ) (new : List Node) → Behind is_sp text rest
+    → rest ≡ [] → Accepts d kind.Dict text new 0
+empty_dict d text rest new b n =
+    let all : text ≡ b.front = b.split ∙ ap (λ y. b.front ++ y) n ∙ append-nil b.front in
+    record {
+      within = omega arith;
+      value = dict_of [];
+      only = only_of d kind.Dict text (dict_of []) ([], refl, subst (Every is_sp) (sym all) b.each);
+      describes = refl;
+    }
+
+pub list_more : (d : Dialect) (text rest after white more left : List ℕ) (place : KeyPlace)
+    (old mid new : List Node) (between count : ℕ)
+    → SoFar Member (SpellsMember d) (DescribesMembers d text) text rest old mid between
+    → ScansMember d text rest after place mid new between count → place.at ≡ 0
+    → place.length ≡ 0 → Behind is_ows after white → white ≡ 44 ∷ more → Behind is_ows more left
+    → SoFar Member (SpellsMember d) (DescribesMembers d text) text left old new count
+list_more d text rest after white more left place old mid new between count s m zero none a c b =
+    let i = rest_ends text rest old mid between s in
+    so_far_more (SpellsMember d) (DescribesMembers d text) text rest m.front after white more left
+    m.value old mid new between count m.nodes s m.split (m.spelled i) m.puts
+    (members_more d text s.nodes m.nodes s.values m.value s.describes
+    (member_there d text m.nodes m.value place zero none (m.describes i)))
+    a c b
+
+pub list_last : (d : Dialect) (text rest after white : List ℕ) (place : KeyPlace)
+    (old mid new : List Node) (between count : ℕ)
+    → SoFar Member (SpellsMember d) (DescribesMembers d text) text rest old mid between
+    → ScansMember d text rest after place mid new between count → place.at ≡ 0
+    → place.length ≡ 0 → Behind is_ows after white → white ≡ []
+    → Accepts d kind.List text new count
+list_last d text rest after white place old mid new between count s m zero none a n =
+    let i = rest_ends text rest old mid between s in
+    let p = puts_then old mid new 0 between count s.nodes m.nodes s.puts m.puts in record {
+      within = p.within;
+      value = list_of (s.values ++ m.value ∷ []);
+      only =
+          only_of d kind.List text (list_of (s.values ++ m.value ∷ []))
+          (so_far_last (SpellsMember d) (DescribesMembers d text) text rest m.front after white m.value
+          old mid between s m.split (m.spelled i) a n);
+      describes =
+          subst (λ y. DescribesMembers d text y (s.values ++ m.value ∷ [])) (sym (front_there old new count (s.nodes ++ m.nodes) p))
+          (members_more d text s.nodes m.nodes s.values m.value s.describes
+          (member_there d text m.nodes m.value place zero none (m.describes i)));
+    }
+
+pub dict_more : (d : Dialect) (text rest after white more left : List ℕ)
+    (old mid new : List Node) (between count : ℕ)
+    → SoFar (List ℕ × Member) (SpellsEntry d) (DescribesEntries d text) text rest old mid between
+    → ScansEntry d text rest after mid new between count
+    → Behind is_ows after white → white ≡ 44 ∷ more → Behind is_ows more left
+    → SoFar (List ℕ × Member) (SpellsEntry d) (DescribesEntries d text) text left old new count
+dict_more d text rest after white more left old mid new between count s m a c b =
+    let i = rest_ends text rest old mid between s in
+    so_far_more (SpellsEntry d) (DescribesEntries d text) text rest m.front after white more left
+    (m.key, m.value) old mid new between count m.nodes s m.split (m.spelled i) m.puts
+    (entries_more d text s.nodes m.nodes s.values (m.key, m.value) s.describes (m.describes i))
+    a c b
+
+-- the keys that the nodes of a Dictionary describe
+skipped : (source : List ℕ) (ms back : List Node)
+    → keys_from source (length ms) (ms ++ back) ≡ keys_from source 0 back
+skipped source [] [] = refl
+skipped source [] (n ∷ back) = refl
+skipped source (m ∷ ms) back = skipped source ms back
+
+member_key : (d : Dialect) (source k : List ℕ) (front back : List Node) (x : Member)
+    → DescribesMember d source k front x
+    → keys_from source 0 (front ++ back) ≡ k ∷ keys_from source 0 back
+member_key d source k front back (member.Item i) (n, ms, e, h, r) =
+    let less : n.span - 1 ≡ length ms = let s = h.span in omega arith in
+    ap (λ y. keys_from source 0 (y ++ back)) e
+    ∙ ap (λ y. piece n.key_at n.key_length source ∷ keys_from source y (ms ++ back)) less
+    ∙ ap (λ y. y ∷ keys_from source (length ms) (ms ++ back)) h.key
+    ∙ ap (λ y. k ∷ y) (skipped source ms back)
+member_key d source k front back (member.Inner l) (n, is, ps, e, h, r, q) =
+    let ms = is ++ ps in
+    let less : n.span - 1 ≡ length ms = let s = h.span in omega arith in
+    ap (λ y. keys_from source 0 (y ++ back)) e
+    ∙ ap (λ y. piece n.key_at n.key_length source ∷ keys_from source y (ms ++ back)) less
+    ∙ ap (λ y. y ∷ keys_from source (length ms) (ms ++ back)) h.key
+    ∙ ap (λ y. k ∷ y) (skipped source ms back)
+
+entry_keys : (d : Dialect) (source : List ℕ) (ns : List Node) (raw : Pairs Member)
+    → DescribesEntries d source ns raw → keys_from source 0 ns ≡ keys_of raw
+entry_keys d source ns [] e = ap (keys_from source 0) e
+entry_keys d source ns (q ∷ raw) (front, back, e, h, r) =
+    ap (keys_from source 0) e
+    ∙ member_key d source q.0 front back q.1 h
+    ∙ ap (λ y. q.0 ∷ y) (entry_keys d source back raw r)
+
+pub dict_last : (d : Dialect) (text rest after white : List ℕ)
+    (old mid new : List Node) (between count : ℕ)
+    → SoFar (List ℕ × Member) (SpellsEntry d) (DescribesEntries d text) text rest old mid between
+    → ScansEntry d text rest after mid new between count → Behind is_ows after white
+    → white ≡ [] → AreApart text (take count new) → Accepts d kind.Dict text new count
+dict_last d text rest after white old mid new between count s m a n apart =
+    let i = rest_ends text rest old mid between s in
+    let p = puts_then old mid new 0 between count s.nodes m.nodes s.puts m.puts in
+    let raw = s.values ++ (m.key, m.value) ∷ [] in
+    let told = subst (λ y. DescribesEntries d text y raw)
+    (sym (front_there old new count (s.nodes ++ m.nodes) p))
+    (entries_more d text s.nodes m.nodes s.values (m.key, m.value) s.describes (m.describes i)) in
+    let keys = entry_keys d text (take count new) raw told in record {
+      within = p.within;
+      value = dict_of raw;
+      only = only_of d kind.Dict text (dict_of raw) (
+        raw,
+        sym (settle-distinct raw (subst (IsDistinct bytes_eq) keys apart)),
+        so_far_last (SpellsEntry d) (DescribesEntries d text) text rest m.front after white
+            (m.key, m.value) old mid between s m.split (m.spelled i) a n,
+      );
+      describes = told;
+    }

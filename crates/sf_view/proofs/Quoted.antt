@@ -1,0 +1,140 @@
+-- Display Strings are scanned.
+use Rattle.std.proofs.Common.{◌≡◌, ℕ, pos, ◌+◌, ◌-◌, ◌*◌, ◌/◌, ◌%◌, ◌≤◌, true, List, [], ◌∷◌}
+use Rattle.std.proofs.Common.{◌++◌, length, Option, Some, refl, sym, ap, ◌∙◌, subst, arith}
+use Rattle.std.proofs.Common.{append_assoc, append-nil, length-append, inl, inr}
+use Rattle.std.specs.Option.{option_map}
+use Rattle.sf_value.specs.declared.dialect.Dialect.TheVariants.{Rfc9651}
+use Rattle.sf_value.specs.declared.value.Bare.TheVariants.{Shown}
+use Rattle.sf_value.specs.Grammar.Words.{Every}
+use Rattle.sf_value.specs.Grammar.Utf8.{Utf8, Start, Wants, WellFormed, utf8_step}
+use Rattle.sf_value.specs.Grammar.DisplayStrings.{hex, is_plain, Pieces}
+use Rattle.sf_parse.specs.Machine.Showns.{unhex}
+use Rattle.sf_value.proofs.Utf8Table.{in_range}
+use Rattle.sf_parse.proofs.HighDigits.{read_hex}
+use Rattle.sf_parse.proofs.Quads.{small_byte}
+use Rattle.sf_view.specs.declared.bare.Part.{Part}
+use Rattle.sf_view.specs.declared.node.NodeType.TheVariants as type_is
+use Rattle.sf_view.specs.declared.display_string.Utf8State.{Utf8State}
+use Rattle.sf_view.specs.Scans.{ScansBare}
+use Rattle.sf_view.specs.Showns.{utf8_of, IsEscape, PlainBefore, InsideShown}
+use Rattle.sf_view.proofs.Scanned.{coded_scans}
+
+pub escape_reads : (text more low_rest rest : List ℕ) (high low a b : ℕ) → text ≡ 37 ∷ more
+    → more ≡ high ∷ low_rest → low_rest ≡ low ∷ rest → Some a ≡ unhex high → Some b ≡ unhex low
+    → IsEscape text (a * 16 + b) rest
+escape_reads text more low_rest rest high low a b e f g h k =
+    let x = read_hex high a (sym h) in
+    let y = read_hex low b (sym k) in
+    let xs = x.1 in
+    let ys = y.1 in
+    let first : (a * 16 + b) / 16 ≡ a = omega arith in
+    let second : (a * 16 + b) % 16 ≡ b = omega arith in
+    record {
+      byte = small_byte (a * 16 + b) (omega arith);
+      split =
+          e
+          ∙ ap (λ z. 37 ∷ z) (f ∙ ap (λ z. high ∷ z) g)
+          ∙ sym (rw (first, second, x.0, y.0) refl);
+    }
+
+pub inside_opens : (text more rest : List ℕ) → text ≡ 37 ∷ more → more ≡ 34 ∷ rest
+    → InsideShown text rest Start
+inside_opens text more rest e f = record {
+  front = [];
+  bytes = [];
+  split = e ∙ ap (λ z. 37 ∷ z) f;
+  pieces = λ back s p. p;
+  formed = λ s w. w;
+}
+
+plain_low : (c : ℕ) → is_plain c ≡ true → c ≤ 127
+plain_low c h = grind arith
+
+plain_step : (c : ℕ) → is_plain c ≡ true → utf8_step Start c ≡ Some Start
+plain_step c h = rw (in_range 0 127 c (omega arith) (plain_low c h)) refl
+
+plain_pieces : (front back s : List ℕ) → Every is_plain front → Pieces back s
+    → Pieces (front ++ back) (front ++ s)
+plain_pieces [] back s h p = p
+plain_pieces (c ∷ front) back s h p =
+    (front ++ back, inl (h.0, refl), plain_pieces front back s h.1 p)
+
+plain_formed : (front s : List ℕ) → Every is_plain front → WellFormed Start s
+    → WellFormed Start (front ++ s)
+plain_formed [] s h w = w
+plain_formed (c ∷ front) s h w = (Start, plain_step c h.0, plain_formed front s h.1 w)
+
+pub inside_plain : (text rest stop : List ℕ) (x : Utf8) → InsideShown text rest x
+    → PlainBefore x rest stop → InsideShown text stop x
+inside_plain text rest stop Start i (front, e, h) = record {
+  front = i.front ++ front;
+  bytes = i.bytes ++ front;
+  split =
+      i.split
+      ∙ ap (λ z. 37 ∷ 34 ∷ z) (ap (λ z. i.front ++ z) e ∙ sym (append_assoc i.front front stop));
+  pieces = λ back s p.
+      subst (λ z. Pieces z ((i.bytes ++ front) ++ s)) (sym (append_assoc i.front front back))
+      (subst (Pieces (i.front ++ (front ++ back))) (sym (append_assoc i.bytes front s))
+      (i.pieces (front ++ back) (front ++ s) (plain_pieces front back s h p)));
+  formed = λ s w.
+      subst (WellFormed Start) (sym (append_assoc i.bytes front s))
+      (i.formed (front ++ s) (plain_formed front s h w));
+}
+inside_plain text rest stop (Wants n low high) i e = subst (λ z. InsideShown text z (Wants n low high)) e i
+
+pub inside_escape : (text stop left : List ℕ) (x y : Utf8) (c : ℕ) → InsideShown text stop x
+    → IsEscape stop c left → utf8_step x c ≡ Some y → InsideShown text left y
+inside_escape text stop left x y c i e h =
+    let one = 37 ∷ hex (c / 16) ∷ hex (c % 16) ∷ [] in record {
+      front = i.front ++ one;
+      bytes = i.bytes ++ c ∷ [];
+      split =
+          i.split
+          ∙ ap (λ z. 37 ∷ 34 ∷ z)
+          (ap (λ z. i.front ++ z) e.split ∙ sym (append_assoc i.front one left));
+      pieces = λ back s p.
+          subst (λ z. Pieces z ((i.bytes ++ c ∷ []) ++ s)) (sym (append_assoc i.front one back))
+          (subst (Pieces (i.front ++ (one ++ back))) (sym (append_assoc i.bytes (c ∷ []) s))
+          (i.pieces (one ++ back) (c ∷ s) (back, inr (e.byte, refl), p)));
+      formed = λ s w.
+          subst (WellFormed Start) (sym (append_assoc i.bytes (c ∷ []) s))
+          (i.formed (c ∷ s) (step x s w));
+    }
+  where
+    step : (z : Utf8) (s : List ℕ) → WellFormed y s → WellFormed x (c ∷ s)
+    step z s w = by x h
+      where
+        by : (v : Utf8) → utf8_step v c ≡ Some y → WellFormed v (c ∷ s)
+        by Start k = (y, k, w)
+        by (Wants n low high) k = (y, k, w)
+
+-- the answer of a step
+pub stepped : (r : Option Utf8State) (x : Utf8) (c : ℕ) (s : Utf8State)
+    → option_map utf8_of r ≡ utf8_step x c → r ≡ Some s → utf8_step x c ≡ Some (utf8_of s)
+stepped r x c s e f = sym e ∙ ap (option_map utf8_of) f
+
+pub shown_scans : (whole : ℕ) (text stop left : List ℕ) (x : Utf8) (p : Part)
+    → InsideShown text stop x → x ≡ Start → stop ≡ 34 ∷ left → p.node_type ≡ type_is.Shown → p.number ≡ pos 0
+    → p.at + length text ≡ whole → p.length ≡ length text - length left → p.coded ≡ true
+    → ScansBare Rfc9651 whole text p left
+shown_scans whole text stop left x p i start close node_type number at size coded =
+    let body = i.front ++ 34 ∷ [] in
+    let split : text ≡ (37 ∷ 34 ∷ body) ++ left =
+    i.split
+    ∙ ap (λ z. 37 ∷ 34 ∷ z)
+    (ap (λ z. i.front ++ z) close ∙ sym (append_assoc i.front (34 ∷ []) left)) in
+    let sizes = ap length split ∙ length-append (37 ∷ 34 ∷ body) left in
+    coded_scans Rfc9651 whole text (37 ∷ 34 ∷ body) left (Shown i.bytes) p split (
+      refl,
+      (
+        body,
+        refl,
+        subst (Pieces body) (append-nil i.bytes) (i.pieces (34 ∷ []) [] refl),
+        subst (WellFormed Start) (append-nil i.bytes)
+            (i.formed [] (subst (λ z. WellFormed z []) (sym start) tt)),
+      ),
+    )
+    node_type number at (left_over p.length _ _ _ size sizes) coded
+  where
+    left_over : (n a b c : ℕ) → n ≡ a - c → a ≡ b + c → n + c ≡ a
+    left_over n a b c e f = omega arith

@@ -1,0 +1,33 @@
+-- What a whole text that is accepted spells.
+use Rattle.std.specs.Prelude.{◌≡◌, ℕ, ◌≤◌, List, [], ◌∷◌, ◌++◌, take, length}
+use Rattle.sf_value.specs.declared.dialect.Dialect.{Dialect}
+use Rattle.sf_value.specs.declared.value.Field.{Field}
+use Rattle.sf_value.specs.declared.value.Kind.{Kind}
+use Rattle.sf_value.specs.Grammar.Words.{Every}
+use Rattle.sf_value.specs.Grammar.Classes.{is_sp}
+use Rattle.sf_value.specs.Grammar.Series.{SpellsSeries}
+use Rattle.sf_parse.specs.Parsers.{IsOnly}
+use Rattle.sf_view.specs.declared.node.Node.{Node}
+use Rattle.sf_view.specs.View.{DescribesField}
+use Rattle.sf_view.specs.Scans.{Puts}
+
+-- the text spells a field, the only one, of which the first so many nodes describe
+pub record Accepts (d : Dialect) (kind : Kind) (text : List ℕ) (nodes : List Node) (count : ℕ)
+    : Type 0 where
+  pub within : count ≤ length nodes
+  pub value : Field
+  pub only : IsOnly d kind text value
+  pub describes : DescribesField d text (take count nodes) value
+
+-- members were read, and the rest begins with one: with any at its front they are a series
+pub record SoFar (X : Type 0) (P : List ℕ → X → Type 0) (T : List Node → List X → Type 0)
+    (text rest : List ℕ) (old new : List Node) (count : ℕ) : Type 0 where
+  pub gap : List ℕ
+  pub front : List ℕ
+  pub values : List X
+  pub nodes : List Node
+  pub split : text ≡ gap ++ (front ++ rest)
+  pub spaces : Every is_sp gap
+  pub glue : (f : List ℕ) (x : X) → P f x → SpellsSeries P (front ++ f) (values ++ x ∷ [])
+  pub puts : Puts old new 0 count nodes
+  pub describes : T nodes values

@@ -1,0 +1,299 @@
+-- What scanning the front of a text answers.
+use Rattle.std.specs.Prelude.{◌≡◌, ℕ, ℤ, pos, ◌+◌, ◌≤◌, Bool, List, [], ◌∷◌, ◌++◌, length, take}
+use Rattle.sf_value.specs.declared.dialect.Dialect.{Dialect}
+use Rattle.sf_value.specs.declared.value.Bare.{Bare}
+use Rattle.sf_value.specs.declared.value.Bare.TheVariants.{Date}
+use Rattle.sf_value.specs.declared.value.Item.{Item}
+use Rattle.sf_value.specs.Grammar.Words.{Every}
+use Rattle.std.specs.Prelude.{if◌then◌else◌, ◌==◌, ◌≢◌, replicate, ◌&&◌, ◌||◌, not, codes, ◌*◌, ◌-◌, ◌^◌, false}
+use Rattle.sf_value.specs.Grammar.Strings.{is_escaped, escaped}
+use Rattle.sf_value.specs.Ascii.{quote, equals, colon, close_bracket}
+use Rattle.sf_value.specs.Grammar.Classes.{is_digit, is_visible, is_alpha, is_one_of}
+use Rattle.sf_value.specs.Grammar.Numbers.{value_from, SpellsDate}
+use Rattle.sf_value.specs.Grammar.Pairs.{Pairs}
+use Rattle.sf_value.specs.Grammar.Tokens.{IsKey}
+use Rattle.sf_value.specs.Grammar.BareItems.{SpellsBare}
+use Rattle.std.specs.Prelude.{zero, suc}
+use Rattle.std.specs.List.{IsDistinct}
+use Rattle.std.specs.Str.{bytes_eq}
+use Rattle.sf_value.specs.Grammar.Parameters.{SpellsParam, SpellsRaw, SpellsParams}
+use Rattle.sf_value.specs.declared.value.Member.{Member}
+use Rattle.sf_value.specs.Grammar.Items.{SpellsItem}
+use Rattle.sf_value.specs.Grammar.InnerLists.{SpellsItems, SpellsMember}
+use Rattle.sf_value.specs.Grammar.Fields.{SpellsEntry}
+use Rattle.sf_view.specs.declared.bare.Part.{Part}
+use Rattle.sf_view.specs.declared.item.KeyPlace.{KeyPlace}
+use Rattle.sf_view.specs.declared.node.Node.{Node}
+use Rattle.sf_view.specs.declared.node.NodeType.TheVariants as type_is
+use Rattle.sf_view.specs.declared.node.Role.{Role}
+use Rattle.sf_view.specs.declared.node.Role.TheVariants as role_is
+use Rattle.sf_view.specs.View.{piece, type_of, number_of, text_of, DescribesText, DescribesParams, DescribesItem, DescribesItems}
+use Rattle.sf_view.specs.View.{DescribesMember}
+
+-- what stands for itself between the quotes of a string
+abbrev pub is_unescaped : ℕ → Bool
+is_unescaped b = is_visible b && not (is_escaped b)
+
+-- the characters of base64
+abbrev pub is_base64 : ℕ → Bool
+is_base64 b = is_alpha b || is_digit b || is_one_of (codes "+/") b
+
+-- bytes that pass the test stand before the rest
+pub record Behind (p : ℕ → Bool) (text rest : List ℕ) : Type 0 where
+  pub front : List ℕ
+  pub split : text ≡ front ++ rest
+  pub each : Every p front
+
+-- the source ends in this text
+pub record IsEnd (source text : List ℕ) : Type 0 where
+  pub before : List ℕ
+  pub whole : source ≡ before ++ text
+
+-- a key stands at the front of the text, of which so much and what stands before is the source
+pub record ScansKey (whole : ℕ) (text : List ℕ) (place : KeyPlace) (rest : List ℕ) : Type 0 where
+  pub front : List ℕ
+  pub split : text ≡ front ++ rest
+  pub key : IsKey front
+  pub at : place.at + length text ≡ whole
+  pub size : place.length ≡ length front
+
+-- digits at the front of the text, with their value and number
+pub record ScansDigits (text : List ℕ) (v n : ℕ) (rest : List ℕ) : Type 0 where
+  pub front : List ℕ
+  pub split : text ≡ front ++ rest
+  pub each : Every is_digit front
+  pub value : v ≡ value_from 0 front
+  pub count : n ≡ length front
+
+-- one to three digits at the front of the text, and the thousandths that they make
+pub record ScansFraction (text : List ℕ) (v : ℕ) (rest : List ℕ) : Type 0 where
+  pub front : List ℕ
+  pub split : text ≡ front ++ rest
+  pub each : Every is_digit front
+  pub some : 1 ≤ length front
+  pub few : length front ≤ 3
+  pub value : v ≡ value_from 0 front * 10 ^ (3 - length front)
+
+-- what was read of a bare item without bytes describes this one
+pub record NumberDescribes (p : Part) (x : Bare) : Type 0 where
+  pub node_type : p.node_type ≡ type_of x
+  pub number : p.number ≡ number_of x
+  pub at : p.at ≡ 0
+  pub length : p.length ≡ 0
+  pub coded : p.coded ≡ false
+  pub none : text_of x ≡ []
+
+-- the front of the text spells a number, of which the part describes
+pub record ScansNumber (text : List ℕ) (p : Part) (rest : List ℕ) : Type 0 where
+  pub front : List ℕ
+  pub value : Bare
+  pub split : text ≡ front ++ rest
+  pub spelled : (d : Dialect) → SpellsBare d front value
+  pub describes : NumberDescribes p value
+
+-- the front of the text spells a Date, of which the part describes
+pub record ScansDate (text : List ℕ) (p : Part) (rest : List ℕ) : Type 0 where
+  pub front : List ℕ
+  pub value : ℤ
+  pub split : text ≡ front ++ rest
+  pub spelled : SpellsDate front value
+  pub describes : NumberDescribes p (Date value)
+
+-- behind so many characters that no group of four holds, = signs and a colon stand before the rest
+abbrev pub pads_at : ℕ → ℕ
+pads_at over = if over == 2 then 2 else (if over == 3 then 1 else 0)
+
+pub record Closes (over : ℕ) (text rest : List ℕ) : Type 0 where
+  pub count : ℕ
+  pub split : text ≡ replicate count equals ++ colon ∷ rest
+  pub few : count ≤ pads_at over
+  pub whole : over ≢ 1
+
+-- the text is a quote, and the escaped bytes of a string, up to the rest
+pub record InsideString (text rest : List ℕ) : Type 0 where
+  pub bytes : List ℕ
+  pub split : text ≡ quote ∷ (escaped bytes ++ rest)
+  pub each : Every is_visible bytes
+
+-- what was read of a bare item describes this one
+pub record PartDescribes (d : Dialect) (source : List ℕ) (p : Part) (x : Bare) : Type 0 where
+  pub node_type : p.node_type ≡ type_of x
+  pub number : p.number ≡ number_of x
+  pub within : p.at + p.length ≤ length source
+  pub text : DescribesText d p.coded (piece p.at p.length source) x
+
+-- the front of the text spells a bare item, of which the part describes in any source that ends so
+pub record ScansBare (d : Dialect) (whole : ℕ) (text : List ℕ) (p : Part) (rest : List ℕ)
+    : Type 0 where
+  pub front : List ℕ
+  pub value : Bare
+  pub split : text ≡ front ++ rest
+  pub spelled : SpellsBare d front value
+  pub describes : (source : List ℕ) → IsEnd source text → length source ≡ whole
+      → PartDescribes d source p value
+
+-- the node of a bare item with no parameters
+abbrev pub node_from : Role → KeyPlace → Part → Node
+node_from role key part = record {
+  number = part.number;
+  key_at = key.at;
+  key_length = key.length;
+  text_at = part.at;
+  text_length = part.length;
+  span = 1;
+  node_type = part.node_type;
+  role = role;
+  coded = part.coded;
+}
+
+-- the same with so many nodes
+abbrev pub spanning : ℕ → Node → Node
+spanning k n = record {
+  number = n.number;
+  key_at = n.key_at;
+  key_length = n.key_length;
+  text_at = n.text_at;
+  text_length = n.text_length;
+  span = k;
+  node_type = n.node_type;
+  role = n.role;
+  coded = n.coded;
+}
+
+-- the keys of the parts that nodes describe: each part has as many nodes as its first node spans
+abbrev pub keys_from : List ℕ → ℕ → List Node → List (List ℕ)
+keys_from source k [] = []
+keys_from source zero (n ∷ ns) =
+    piece n.key_at n.key_length source ∷ keys_from source (n.span - 1) ns
+keys_from source (suc k) (n ∷ ns) = keys_from source k ns
+
+-- no two parts have the same key
+abbrev pub AreApart : List ℕ → List Node → Type 0
+AreApart source ns = IsDistinct bytes_eq (keys_from source 0 ns)
+
+-- nodes were put behind those that were there
+pub record Puts (old new : List Node) (at count : ℕ) (ns : List Node) : Type 0 where
+  pub within : count ≤ length new
+  pub from : count ≡ at + length ns
+  pub there : take count new ≡ take at old ++ ns
+
+-- the front of the text spells a parameter: its key, and a bare item of which the part describes
+pub record ScansParam (d : Dialect) (whole : ℕ) (text : List ℕ) (place : KeyPlace) (p : Part)
+    (rest : List ℕ) : Type 0 where
+  pub front : List ℕ
+  pub key : List ℕ
+  pub value : Bare
+  pub split : text ≡ front ++ rest
+  pub spelled : SpellsParam d front key value
+  pub key_at : (source : List ℕ) → IsEnd source text → length source ≡ whole
+      → (place.at + place.length ≤ length source) × (piece place.at place.length source ≡ key)
+  pub describes : (source : List ℕ) → IsEnd source text → length source ≡ whole
+      → PartDescribes d source p value
+
+-- the front of the text spells parameters, repeated keys included, and nodes that were put describe
+-- them
+pub record ScansRaw (d : Dialect) (source : List ℕ) (r : Role) (text rest : List ℕ) (old new : List Node)
+    (at count : ℕ) : Type 0 where
+  pub front : List ℕ
+  pub raw : Pairs Bare
+  pub nodes : List Node
+  pub split : text ≡ front ++ rest
+  pub spelled : SpellsRaw d front raw
+  pub puts : Puts old new at count nodes
+  pub describes : IsEnd source text → DescribesParams d source r nodes raw
+
+-- the front of the text spells parameters, and nodes that were put describe them
+pub record ScansParams (d : Dialect) (source : List ℕ) (r : Role) (text rest : List ℕ) (old new : List Node)
+    (at count : ℕ) : Type 0 where
+  pub front : List ℕ
+  pub values : Pairs Bare
+  pub nodes : List Node
+  pub split : text ≡ front ++ rest
+  pub spelled : IsEnd source text → SpellsParams d front values
+  pub puts : Puts old new at count nodes
+  pub describes : IsEnd source text → DescribesParams d source r nodes values
+
+-- the same, behind a node that spans them
+pub record ScansRest (d : Dialect) (source text rest : List ℕ) (node : Node) (old new : List Node)
+    (at count : ℕ) : Type 0 where
+  pub front : List ℕ
+  pub values : Pairs Bare
+  pub nodes : List Node
+  pub split : text ≡ front ++ rest
+  pub spelled : IsEnd source text → SpellsParams d front values
+  pub puts : Puts old new at count (spanning (1 + length nodes) node ∷ nodes)
+  pub describes : IsEnd source text → DescribesParams d source role_is.Parameter nodes values
+
+-- the front of the text spells an Item, and nodes that were put describe it
+pub record ScansItem (d : Dialect) (source text rest : List ℕ) (r : Role) (place : KeyPlace)
+    (old new : List Node) (at count : ℕ) : Type 0 where
+  pub front : List ℕ
+  pub value : Item
+  pub nodes : List Node
+  pub split : text ≡ front ++ rest
+  pub spelled : IsEnd source text → SpellsItem d front value
+  pub puts : Puts old new at count nodes
+  pub describes : IsEnd source text → place.at + place.length ≤ length source
+      → DescribesItem d source r (piece place.at place.length source) nodes value
+
+-- the node of an Inner List
+abbrev pub opening_of : KeyPlace → ℕ → Node
+opening_of key k = record {
+  number = pos 0;
+  key_at = key.at;
+  key_length = key.length;
+  text_at = 0;
+  text_length = 0;
+  span = k;
+  node_type = type_is.InnerList;
+  role = role_is.Member;
+  coded = false;
+}
+
+-- the front of the text spells the Items of an Inner List, a closing bracket follows, and nodes
+-- that were put describe them
+pub record ScansItems (d : Dialect) (source text rest : List ℕ) (old new : List Node)
+    (at count : ℕ) : Type 0 where
+  pub front : List ℕ
+  pub values : List Item
+  pub nodes : List Node
+  pub split : text ≡ front ++ close_bracket ∷ rest
+  pub spelled : IsEnd source text → SpellsItems d 0 front values
+  pub puts : Puts old new at count nodes
+  pub describes : IsEnd source text → DescribesItems d source nodes values
+
+-- Items were read, and behind them spaces where there is one: with any behind they are Items
+pub record ItemsSoFar (d : Dialect) (source text rest : List ℕ) (old new : List Node)
+    (at count : ℕ) : Type 0 where
+  pub front : List ℕ
+  pub values : List Item
+  pub nodes : List Node
+  pub split : text ≡ front ++ rest
+  pub glue : IsEnd source text → (back : List ℕ) (more : List Item) → SpellsItems d 0 back more
+      → SpellsItems d 0 (front ++ back) (values ++ more)
+  pub puts : Puts old new at count nodes
+  pub describes : IsEnd source text → DescribesItems d source nodes values
+
+-- the front of the text spells a member, and nodes that were put describe it
+pub record ScansMember (d : Dialect) (source text rest : List ℕ) (place : KeyPlace)
+    (old new : List Node) (at count : ℕ) : Type 0 where
+  pub front : List ℕ
+  pub value : Member
+  pub nodes : List Node
+  pub split : text ≡ front ++ rest
+  pub spelled : IsEnd source text → SpellsMember d front value
+  pub puts : Puts old new at count nodes
+  pub describes : IsEnd source text → place.at + place.length ≤ length source
+      → DescribesMember d source (piece place.at place.length source) nodes value
+
+-- the front of the text spells a member of a Dictionary, and nodes that were put describe it
+pub record ScansEntry (d : Dialect) (source text rest : List ℕ) (old new : List Node)
+    (at count : ℕ) : Type 0 where
+  pub front : List ℕ
+  pub key : List ℕ
+  pub value : Member
+  pub nodes : List Node
+  pub split : text ≡ front ++ rest
+  pub spelled : IsEnd source text → SpellsEntry d front (key, value)
+  pub puts : Puts old new at count nodes
+  pub describes : IsEnd source text → DescribesMember d source key nodes value

@@ -1,0 +1,35 @@
+-- What is read of a Display String.
+use Rattle.std.specs.Prelude.{◌≡◌, ℕ, ◌/◌, ◌%◌, true, List, ◌∷◌, ◌++◌}
+use Rattle.sf_value.specs.Ascii.{percent, quote}
+use Rattle.sf_value.specs.Grammar.Words.{Every}
+use Rattle.sf_value.specs.Grammar.Classes.{is_byte}
+use Rattle.sf_value.specs.Grammar.Utf8.{Utf8, Start, Wants, WellFormed}
+use Rattle.sf_value.specs.Grammar.DisplayStrings.{hex, is_plain, Pieces}
+use Rattle.sf_view.specs.declared.display_string.Utf8State.{Utf8State}
+use Rattle.sf_view.specs.declared.display_string.Utf8State.TheVariants as utf8
+
+-- a place in a character
+abbrev pub utf8_of : Utf8State → Utf8
+utf8_of utf8.Start = Start
+utf8_of (utf8.Wants more low high) = Wants more low high
+
+abbrev pub between : Utf8
+between = Start
+
+-- an escape of this byte stands before the rest
+pub record IsEscape (text : List ℕ) (c : ℕ) (rest : List ℕ) : Type 0 where
+  pub byte : is_byte c ≡ true
+  pub split : text ≡ percent ∷ hex (c / 16) ∷ hex (c % 16) ∷ rest
+
+-- what may be read of plain bytes at a place in a character
+abbrev pub PlainBefore : Utf8 → List ℕ → List ℕ → Type 0
+PlainBefore Start text rest = (front : List ℕ) × (text ≡ front ++ rest) × Every is_plain front
+PlainBefore (Wants n low high) text rest = text ≡ rest
+
+-- the text opens a Display String, of which so much was read
+pub record InsideShown (text rest : List ℕ) (x : Utf8) : Type 0 where
+  pub front : List ℕ
+  pub bytes : List ℕ
+  pub split : text ≡ percent ∷ quote ∷ (front ++ rest)
+  pub pieces : (back s : List ℕ) → Pieces back s → Pieces (front ++ back) (bytes ++ s)
+  pub formed : (s : List ℕ) → WellFormed x s → WellFormed Start (bytes ++ s)

@@ -1,0 +1,145 @@
+-- What nodes describe, which point into a text.
+use Rattle.std.specs.Prelude.{◌≡◌, ℕ, ℤ, pos, ◌+◌, ◌≤◌, Bool, true, false, List as Seq, [], ◌∷◌}
+use Rattle.std.specs.Prelude.{◌++◌, length, take, drop}
+use Rattle.sf_value.specs.declared.dialect.Dialect.{Dialect}
+use Rattle.sf_value.specs.declared.value.Bare.{Bare}
+use Rattle.sf_value.specs.declared.value.Bare.TheVariants.{Integer, Decimal, Text, Token}
+use Rattle.sf_value.specs.declared.value.Bare.TheVariants.{Blob, Boolean, Date, Shown}
+use Rattle.sf_value.specs.declared.value.Item.{Item}
+use Rattle.sf_value.specs.declared.value.Inner.{Inner}
+use Rattle.sf_value.specs.declared.value.Member.{Member}
+use Rattle.sf_value.specs.declared.value.Member.TheVariants as member
+use Rattle.sf_value.specs.declared.value.Field.{Field}
+use Rattle.sf_value.specs.declared.value.Field.TheVariants as field
+use Rattle.sf_value.specs.Grammar.Pairs.{Pairs}
+use Rattle.sf_value.specs.Grammar.BareItems.{SpellsBare}
+use Rattle.sf_view.specs.declared.node.Node.{Node}
+use Rattle.sf_view.specs.declared.node.NodeType.{NodeType}
+use Rattle.sf_view.specs.declared.node.NodeType.TheVariants as type_is
+use Rattle.sf_view.specs.declared.node.Role.{Role}
+use Rattle.sf_view.specs.declared.node.Role.TheVariants as role_is
+
+-- the type of a bare item
+abbrev pub type_of : Bare → NodeType
+type_of (Integer n) = type_is.Integer
+type_of (Decimal m) = type_is.Decimal
+type_of (Text s) = type_is.Text
+type_of (Token s) = type_is.Token
+type_of (Blob s) = type_is.Blob
+type_of (Boolean b) = type_is.Boolean
+type_of (Date n) = type_is.Date
+type_of (Shown s) = type_is.Shown
+
+-- an Integer, the thousandths of a Decimal, the second of a Date, or 1 for true
+abbrev pub number_of : Bare → ℤ
+number_of (Integer n) = n
+number_of (Decimal m) = m
+number_of (Boolean true) = pos 1
+number_of (Date n) = n
+number_of x = pos 0
+
+-- the bytes of the others
+abbrev pub text_of : Bare → Seq ℕ
+text_of (Text s) = s
+text_of (Token s) = s
+text_of (Blob s) = s
+text_of (Shown s) = s
+text_of x = []
+
+-- so many bytes from a place on
+abbrev pub piece : ℕ → ℕ → Seq ℕ → Seq ℕ
+piece at count bytes = take count (drop at bytes)
+
+-- the bytes of a bare item; or, where they are coded, its whole text, which is still to be decoded
+abbrev pub DescribesText : Dialect → Bool → Seq ℕ → Bare → Type 0
+DescribesText d false raw x = raw ≡ text_of x
+DescribesText d true raw x = SpellsBare d raw x
+
+-- a node of this role, this key, and so many nodes describes this bare item
+pub record DescribesBare (d : Dialect) (source : Seq ℕ) (r : Role) (k : Seq ℕ) (m : ℕ) (n : Node)
+    (x : Bare) : Type 0 where
+  pub role : n.role ≡ r
+  pub span : n.span ≡ m
+  pub key_within : n.key_at + n.key_length ≤ length source
+  pub key : piece n.key_at n.key_length source ≡ k
+  pub node_type : n.node_type ≡ type_of x
+  pub number : n.number ≡ number_of x
+  pub text_within : n.text_at + n.text_length ≤ length source
+  pub text : DescribesText d n.coded (piece n.text_at n.text_length source) x
+
+-- parameters: a node of this role for each
+abbrev pub DescribesParams : Dialect → Seq ℕ → Role → Seq Node → Pairs Bare → Type 0
+DescribesParams d source r ns [] = ns ≡ []
+DescribesParams d source r ns (p ∷ ps) =
+    (n : Node) × (ms : Seq Node)
+    × (ns ≡ n ∷ ms)
+    × DescribesBare d source r p.0 1 n p.1
+    × DescribesParams d source r ms ps
+
+-- an Item: its bare item, then its parameters
+abbrev pub DescribesItem : Dialect → Seq ℕ → Role → Seq ℕ → Seq Node → Item → Type 0
+DescribesItem d source role key ns i =
+    (n : Node) × (ms : Seq Node)
+    × (ns ≡ n ∷ ms)
+    × DescribesBare d source role key (1 + length ms) n i.bare
+    × DescribesParams d source role_is.Parameter ms i.params
+
+-- the Items of an Inner List
+abbrev pub DescribesItems : Dialect → Seq ℕ → Seq Node → Seq Item → Type 0
+DescribesItems d source ns [] = ns ≡ []
+DescribesItems d source ns (i ∷ is) =
+    (front back : Seq Node)
+    × (ns ≡ front ++ back)
+    × DescribesItem d source role_is.InnerItem [] front i
+    × DescribesItems d source back is
+
+-- the node of an Inner List, with so many nodes
+pub record DescribesOpening (source : Seq ℕ) (k : Seq ℕ) (m : ℕ) (n : Node) : Type 0 where
+  pub role : n.role ≡ role_is.Member
+  pub span : n.span ≡ m
+  pub key_within : n.key_at + n.key_length ≤ length source
+  pub key : piece n.key_at n.key_length source ≡ k
+  pub node_type : n.node_type ≡ type_is.InnerList
+
+-- an Inner List: a node of its own, the Items, then the parameters
+abbrev pub DescribesInner : Dialect → Seq ℕ → Seq ℕ → Seq Node → Inner → Type 0
+DescribesInner d source key ns l =
+    (n : Node) × (items params : Seq Node)
+    × (ns ≡ n ∷ (items ++ params))
+    × DescribesOpening source key (1 + length (items ++ params)) n
+    × DescribesItems d source items l.items
+    × DescribesParams d source role_is.InnerParameter params l.params
+
+-- a member, with the key that it has in a Dictionary
+abbrev pub DescribesMember : Dialect → Seq ℕ → Seq ℕ → Seq Node → Member → Type 0
+DescribesMember d source key ns (member.Item i) = DescribesItem d source role_is.Member key ns i
+DescribesMember d source key ns (member.Inner l) = DescribesInner d source key ns l
+
+-- the members of a List
+abbrev pub DescribesMembers : Dialect → Seq ℕ → Seq Node → Seq Member → Type 0
+DescribesMembers d source ns [] = ns ≡ []
+DescribesMembers d source ns (m ∷ ms) =
+    (front back : Seq Node)
+    × (ns ≡ front ++ back)
+    × DescribesMember d source [] front m
+    × DescribesMembers d source back ms
+
+-- parts with keys, of which some nodes each describe one as P says
+abbrev pub DescribesPairs : {X : Type 0} → (Seq ℕ → Seq Node → X → Type 0) → Seq Node → Pairs X
+    → Type 0
+DescribesPairs P ns [] = ns ≡ []
+DescribesPairs P ns (p ∷ ps) =
+    (front back : Seq Node)
+    × (ns ≡ front ++ back)
+    × P p.0 front p.1
+    × DescribesPairs P back ps
+
+-- the members of a Dictionary
+abbrev pub DescribesEntries : Dialect → Seq ℕ → Seq Node → Pairs Member → Type 0
+DescribesEntries d source ns ps = DescribesPairs (DescribesMember d source) ns ps
+
+-- a field
+abbrev pub DescribesField : Dialect → Seq ℕ → Seq Node → Field → Type 0
+DescribesField d source ns (field.Item i) = DescribesItem d source role_is.Member [] ns i
+DescribesField d source ns (field.List l) = DescribesMembers d source ns l.members
+DescribesField d source ns (field.Dict m) = DescribesEntries d source ns m.members

@@ -1,0 +1,71 @@
+-- What a view describes.
+use Rattle.std.specs.Prelude.{◌≡◌, ℕ, ◌≤◌, ◌<◌, ◌^◌, Bool, true, false, List as Seq, [], ◌∷◌}
+use Rattle.std.specs.Prelude.{length, ℤ, Option, Some, None, ◌+◌}
+use Rattle.sf_value.specs.declared.dialect.Dialect.{Dialect}
+use Rattle.sf_value.specs.declared.value.Field.{Field}
+use Rattle.sf_value.specs.declared.value.Kind.{Kind}
+use Rattle.sf_parse.specs.Parsers.{IsOnly}
+use Rattle.sf_view.specs.declared.view.View.{View as PartView}
+use Rattle.sf_view.specs.declared.view.Unviewed.{Unviewed}
+use Rattle.sf_view.specs.declared.view.Unviewed.TheVariants.{Declined, ShortBuffer, TooLong}
+use Rattle.sf_value.specs.declared.value.Bare.{Bare}
+use Rattle.sf_value.specs.declared.value.Bare.TheVariants.{Integer, Decimal, Text, Token}
+use Rattle.sf_value.specs.declared.value.Bare.TheVariants.{Blob, Boolean, Date, Shown}
+use Rattle.sf_view.specs.declared.node.Node.{Node}
+use Rattle.sf_view.specs.declared.node.Role.{Role}
+use Rattle.sf_view.specs.declared.view.BareView.{BareView}
+use Rattle.sf_view.specs.declared.view.BareView.TheVariants as view_is
+use Rattle.sf_view.specs.View.{type_of, number_of, DescribesText, DescribesBare, DescribesField}
+
+-- this view is of the text, and its nodes describe the field that the text spells, the only one
+pub record IsViewed (d : Dialect) (kind : Kind) (t : Seq ℕ) (v : PartView) : Type 0 where
+  pub text : v.text.now ≡ t
+  pub value : Field
+  pub only : IsOnly d kind t value
+  pub describes : DescribesField d t v.nodes.now value
+
+-- a text of this length has no view for this reason, in a buffer of so many nodes
+abbrev pub IsExcused : ℕ → ℕ → Unviewed → Type 0
+IsExcused size room Declined = (size < 2 ^ 32) × (size ≤ room)
+IsExcused size room ShortBuffer = (size < 2 ^ 32) × (room < size)
+IsExcused size room TooLong = 2 ^ 32 ≤ size
+
+-- the reason where the buffer was long enough, or was not
+abbrev pub reason : Bool → Unviewed
+reason true = Declined
+reason false = ShortBuffer
+
+-- the first node describes this bare item
+pub record BeginsWith (d : Dialect) (v : PartView) (x : Bare) : Type 0 where
+  pub first : Node
+  pub more : Seq Node
+  pub begins : v.nodes.now ≡ first ∷ more
+  pub role : Role
+  pub key : Seq ℕ
+  pub span : ℕ
+  pub describes : DescribesBare d v.text.now role key span first x
+
+-- a node that points to these bytes describes this bare item
+pub record NodeShows (d : Dialect) (n : Node) (bytes : Seq ℕ) (x : Bare) : Type 0 where
+  pub node_type : n.node_type ≡ type_of x
+  pub number : n.number ≡ number_of x
+  pub text : DescribesText d n.coded bytes x
+
+-- the bare item that is borrowed is this one: its bytes, or, if they are coded, its whole text
+abbrev pub IsBorrowed : Dialect → BareView → Bare → Type 0
+IsBorrowed d (view_is.Integer n) x = x ≡ Integer n
+IsBorrowed d (view_is.Decimal n) x = x ≡ Decimal n
+IsBorrowed d (view_is.Text s) x =
+    (t : Seq ℕ) × (x ≡ Text t) × DescribesText d s.coded s.bytes.now (Text t)
+IsBorrowed d (view_is.Token s) x = x ≡ Token s.now
+IsBorrowed d (view_is.Blob s) x =
+    (t : Seq ℕ) × (x ≡ Blob t) × DescribesText d s.coded s.bytes.now (Blob t)
+IsBorrowed d (view_is.Boolean b) x = x ≡ Boolean b
+IsBorrowed d (view_is.Date n) x = x ≡ Date n
+IsBorrowed d (view_is.Shown s) x =
+    (t : Seq ℕ) × (x ≡ Shown t) × DescribesText d s.coded s.bytes.now (Shown t)
+
+-- this is the answer for the bare item
+abbrev pub ShowsBare : Dialect → Option BareView → Bare → Type 0
+ShowsBare d None x = ⊥
+ShowsBare d (Some b) x = IsBorrowed d b x

@@ -1,0 +1,324 @@
+//! Bare items.
+ghost use Rattle.std.specs.Prelude.{◌≡◌, ◌++◌, ◌∷◌, ◌≤◌, ◌<◌, ◌+◌, ◌-◌, ◌*◌, ◌^◌, length, IfSome, false, true, pos};
+ghost use Rattle.sf_value.specs.declared.dialect.Dialect.{Dialect as Which};
+ghost use Rattle.sf_value.specs.Grammar.Numbers.{sign, signed};
+ghost use Rattle.sf_view.specs.Scans.{ScansDigits, ScansFraction, ScansNumber, ScansDate, ScansBare, Closes};
+
+use crate::classes::{InBase64, InToken, Unescaped, behind, is_token_start, long_front, split};
+use crate::display_string::scan_shown;
+use crate::node::NodeType;
+use sf_value::Dialect;
+
+/// What a bare item is.
+#[derive(Clone, Copy, Drop)]
+pub(crate) struct Part {
+    pub number: i64,
+    pub at: u32,
+    pub length: u32,
+    pub node_type: NodeType,
+    pub coded: bool,
+}
+
+/// A bare item that is a number.
+#[inline]
+fn number_of(node_type: NodeType, number: i64) -> Part
+    ensures node_type { result.node_type ≡ node_type }
+    ensures number { result.number ≡ number }
+    ensures at { result.at ≡ 0 }
+    ensures size { result.length ≡ 0 }
+    ensures coded { result.coded ≡ false }
+{
+    Part {
+        number,
+        at: 0,
+        length: 0,
+        node_type,
+        coded: false,
+    }
+}
+
+/// A bare item of bytes: what stands before the rest, of a text of which so much is left.
+#[inline]
+pub(crate) fn bytes_of(
+    whole: usize,
+    node_type: NodeType,
+    coded: bool,
+    text: &[u8],
+    size: usize,
+) -> Part
+    requires small { whole < 2 ^ 32 }
+    requires within { length text.now ≤ whole }
+    requires front { size ≤ length text.now }
+    ensures node_type { result.node_type ≡ node_type }
+    ensures number { result.number ≡ pos 0 }
+    ensures at { result.at + length text.now ≡ whole }
+    ensures size { result.length ≡ size }
+    ensures coded { result.coded ≡ coded }
+{
+    Part {
+        number: 0,
+        at: (whole - text.len()) as u32,
+        length: size as u32,
+        node_type,
+        coded,
+    }
+}
+
+/// Digits, at most 15, their value, and the rest.
+#[inline(always)]
+#[tactic(auto, using(crate::proofs::Numerals::room, crate::proofs::Numerals::short, crate::proofs::Numerals::next_digit))]
+fn digits(text: &[u8]) -> (u64, usize, &[u8])
+    ensures digits { ScansDigits text.now result.0 result.1 result.2.now }
+    ensures value { result.0 < 10 ^ result.1 }
+    ensures count { result.1 ≤ 15 }
+{
+    let mut value = 0u64;
+    let mut count = 0;
+    while count < 15 && count < text.len() {
+        let byte = text[count];
+        if !byte.is_ascii_digit() {
+            break;
+        }
+        value = 10 * value + (byte - b'0') as u64;
+        count += 1;
+    }
+    let (_, rest) = text.split_at(count);
+    (value, count, rest)
+}
+
+/// The number with its sign.
+#[inline]
+fn with_sign(negative: bool, value: u64) -> i64
+    requires { value < 10 ^ 15 }
+    ensures { result ≡ signed negative value }
+{
+    if negative {
+        -(value as i64)
+    } else {
+        value as i64
+    }
+}
+
+/// A digit that a text begins with, and the rest.
+#[inline]
+fn digit(text: &[u8]) -> Option<(u64, &[u8])>
+    ensures { IfSome result (λ r. (r.0 < 10) × (text.now ≡ (r.0 + 48) ∷ r.1.now)) }
+{
+    let (byte, rest) = split(text)?;
+    if byte.is_ascii_digit() {
+        return Some((u64::from(byte - b'0'), rest));
+    }
+    None
+}
+
+/// The fraction behind a point, in thousandths, and the rest.
+#[inline]
+fn fraction(text: &[u8]) -> Option<(u64, &[u8])>
+    ensures small { IfSome result (λ r. r.0 < 1000) }
+    ensures digits { IfSome result (λ r. ScansFraction text.now r.0 r.1.now) }
+{
+    let (first, rest) = digit(text)?;
+    let Some((second, rest_2)) = digit(rest) else {
+        return Some((first * 100, rest));
+    };
+    let Some((third, rest_3)) = digit(rest_2) else {
+        return Some((first * 100 + second * 10, rest_2));
+    };
+    Some((first * 100 + second * 10 + third, rest_3))
+}
+
+/// Whether a minus sign comes first, and the rest.
+#[inline]
+fn signed_rest(text: &[u8]) -> (bool, &[u8])
+    ensures { text.now ≡ sign result.0 ++ result.1.now }
+{
+    match behind(text, b'-') {
+        Some(rest) => return (true, rest),
+        None => return (false, text),
+    }
+}
+
+/// An Integer or a Decimal, and the rest.
+#[inline(always)]
+fn scan_number(text: &[u8]) -> Option<(Part, &[u8])>
+    ensures { IfSome result (λ r. ScansNumber text.now r.0 r.1.now) }
+{
+    let (negative, unsigned) = signed_rest(text);
+    let (value, count, rest) = digits(unsigned);
+    if count == 0 {
+        return None;
+    }
+    let Some(after_point) = behind(rest, b'.') else {
+        return Some((
+            number_of(NodeType::Integer, with_sign(negative, value)),
+            rest,
+        ));
+    };
+    if count > 12 {
+        return None;
+    }
+    let (thousandths, left) = fraction(after_point)?;
+    let part = number_of(
+        NodeType::Decimal,
+        with_sign(negative, value * 1000 + thousandths),
+    );
+    Some((part, left))
+}
+
+/// A Date, and the rest.
+fn scan_date(text: &[u8]) -> Option<(Part, &[u8])>
+    ensures { IfSome result (λ r. ScansDate text.now r.0 r.1.now) }
+{
+    let (part, rest) = scan_number(behind(text, b'@')?)?;
+    match part.node_type {
+        NodeType::Integer => return Some((number_of(NodeType::Date, part.number), rest)),
+        _ => return None,
+    }
+}
+
+/// A String with escapes, and the rest.
+fn scan_escaped(whole: usize, text: &[u8]) -> Option<(Part, &[u8])>
+    requires small { whole < 2 ^ 32 }
+    requires within { length text.now ≤ whole }
+    ensures { (d : Which) → IfSome result (λ r. ScansBare d whole text.now r.0 r.1.now) }
+{
+    let mut rest = behind(text, b'"')?;
+    loop {
+        let (_, stop) = long_front::<Unescaped>(rest);
+        if let Some(left) = behind(stop, b'"') {
+            let part = bytes_of(whole, NodeType::Text, true, text, text.len() - left.len());
+            return Some((part, left));
+        }
+        let (byte, left) = split(behind(stop, b'\\')?)?;
+        if byte != b'"' && byte != b'\\' {
+            return None;
+        }
+        rest = left;
+    }
+}
+
+/// A String, and the rest.
+#[inline]
+fn scan_string(whole: usize, text: &[u8]) -> Option<(Part, &[u8])>
+    requires small { whole < 2 ^ 32 }
+    requires within { length text.now ≤ whole }
+    ensures { (d : Which) → IfSome result (λ r. ScansBare d whole text.now r.0 r.1.now) }
+{
+    let inside = behind(text, b'"')?;
+    let (front, stop) = long_front::<Unescaped>(inside);
+    let Some(rest) = behind(stop, b'"') else {
+        return scan_escaped(whole, text);
+    };
+    Some((
+        bytes_of(whole, NodeType::Text, false, inside, front.len()),
+        rest,
+    ))
+}
+
+/// What closes a Byte Sequence of which so many characters stand over, and the rest.
+#[inline]
+fn behind_pads(over: usize, text: &[u8]) -> Option<&[u8]>
+    requires { over < 4 }
+    ensures { IfSome result (λ rest. Closes over text.now rest.now) }
+{
+    let (first, more) = split(text)?;
+    if first == b':' {
+        if over == 1 {
+            return None;
+        }
+        return Some(more);
+    }
+    if first != b'=' || over < 2 {
+        return None;
+    }
+    let (second, last) = split(more)?;
+    if second == b':' {
+        return Some(last);
+    }
+    if second != b'=' || over != 2 {
+        return None;
+    }
+    behind(last, b':')
+}
+
+/// A Byte Sequence, and the rest.
+fn scan_blob(whole: usize, text: &[u8]) -> Option<(Part, &[u8])>
+    requires small { whole < 2 ^ 32 }
+    requires within { length text.now ≤ whole }
+    ensures { (d : Which) → IfSome result (λ r. ScansBare d whole text.now r.0 r.1.now) }
+{
+    let inside = behind(text, b':')?;
+    let (front, stop) = long_front::<InBase64>(inside);
+    let rest = behind_pads(front.len() % 4, stop)?;
+    let part = bytes_of(whole, NodeType::Blob, true, text, text.len() - rest.len());
+    Some((part, rest))
+}
+
+/// A Boolean, and the rest.
+#[inline]
+fn scan_boolean(text: &[u8]) -> Option<(Part, &[u8])>
+    ensures { IfSome result (λ r. ScansNumber text.now r.0 r.1.now) }
+{
+    let (byte, rest) = split(behind(text, b'?')?)?;
+    match byte {
+        b'0' => return Some((number_of(NodeType::Boolean, 0), rest)),
+        b'1' => return Some((number_of(NodeType::Boolean, 1), rest)),
+        _ => return None,
+    }
+}
+
+/// A Token, and the rest.
+#[inline]
+fn scan_token(whole: usize, text: &[u8]) -> Option<(Part, &[u8])>
+    requires small { whole < 2 ^ 32 }
+    requires within { length text.now ≤ whole }
+    ensures { (d : Which) → IfSome result (λ r. ScansBare d whole text.now r.0 r.1.now) }
+{
+    let (first, more) = split(text)?;
+    if !is_token_start(first) {
+        return None;
+    }
+    let (front, rest) = long_front::<InToken>(more);
+    Some((
+        bytes_of(whole, NodeType::Token, false, text, front.len() + 1),
+        rest,
+    ))
+}
+
+/// A bare item, and the rest of a text of which so much is left.
+pub(crate) fn scan_bare(dialect: Dialect, whole: usize, text: &[u8]) -> Option<(Part, &[u8])>
+    requires small { whole < 2 ^ 32 }
+    requires within { length text.now ≤ whole }
+    ensures { IfSome result (λ r. ScansBare dialect whole text.now r.0 r.1.now) }
+{
+    let (first, _) = split(text)?;
+    match first {
+        b'0'..=b'9' | b'-' => return scan_number(text),
+        b'"' => return scan_string(whole, text),
+        b'?' => return scan_boolean(text),
+        b':' => return scan_blob(whole, text),
+        b'@' => match dialect {
+            Dialect::Rfc9651 => return scan_date(text),
+            Dialect::Rfc8941 => return None,
+        },
+        b'%' => match dialect {
+            Dialect::Rfc9651 => return scan_shown(whole, text),
+            Dialect::Rfc8941 => return None,
+        },
+        _ => return scan_token(whole, text),
+    }
+}
+
+/// The same, where most are numbers.
+#[inline(always)]
+pub(crate) fn scan_value(dialect: Dialect, whole: usize, text: &[u8]) -> Option<(Part, &[u8])>
+    requires small { whole < 2 ^ 32 }
+    requires within { length text.now ≤ whole }
+    ensures { IfSome result (λ r. ScansBare dialect whole text.now r.0 r.1.now) }
+{
+    let (first, _) = split(text)?;
+    if first.is_ascii_digit() {
+        return scan_number(text);
+    }
+    scan_bare(dialect, whole, text)
+}

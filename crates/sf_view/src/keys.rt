@@ -1,0 +1,208 @@
+//! Whether the keys of the parts that nodes describe differ.
+ghost use Rattle.std.specs.Prelude.{◌≡◌, ◌∷◌, ◌≤◌, ◌<◌, ◌+◌, ◌*◌, ◌/◌, ◌%◌, ◌^◌, length, IsTrue, IfSome, IfNone, ℕ, drop, slice_index_or};
+ghost use Rattle.sf_view.specs.View.{piece};
+ghost use Rattle.sf_view.specs.Scans.{keys_from, AreApart};
+ghost use Rattle.sf_view.specs.Keys.{hash_of, tag_of, Holds, IsAbsent, Enters};
+
+use crate::node::Node;
+
+/// The first node.
+#[inline]
+pub(crate) fn first_node(nodes: &[Node]) -> Option<Node>
+    ensures some { IfSome result (λ n. (n ≡ slice_index_or nodes.now 0 n) × (1 ≤ length nodes.now)) }
+    ensures none { IfNone result (length nodes.now ≡ 0) }
+{
+    match nodes {
+        [node, ..] => Some(*node),
+        [] => None,
+    }
+}
+
+/// So many bytes from a place on; `None` where they aren't there.
+#[inline]
+pub(crate) fn bytes_at(source: &[u8], at: usize, size: usize) -> Option<&[u8]>
+    ensures none { IfNone result (length source.now < at + size) }
+    ensures some { IfSome result (λ bytes. bytes.now ≡ piece at size source.now) }
+{
+    if at > source.len() || size > source.len() - at {
+        return None;
+    }
+    let (_, from) = source.split_at(at);
+    let (bytes, _) = from.split_at(size);
+    Some(bytes)
+}
+
+/// The nodes behind so many.
+#[inline]
+fn nodes_behind(nodes: &[Node], span: usize) -> Option<&[Node]>
+    ensures { IfSome result (λ later. (later.now ≡ drop span nodes.now) × (span ≤ length nodes.now)) }
+{
+    if span > nodes.len() {
+        return None;
+    }
+    let (_, later) = nodes.split_at(span);
+    Some(later)
+}
+
+/// The key of the first part, and the nodes behind that part; `None` where it isn't in the source.
+#[inline]
+fn first_key<'a>(source: &'a [u8], nodes: &'a [Node]) -> Option<(&'a [u8], &'a [Node])>
+    ensures keys { IfSome result (λ r. keys_from source.now 0 nodes.now
+        ≡ r.0.now ∷ keys_from source.now 0 r.1.now) }
+    ensures shorter { IfSome result (λ r. length r.1.now < length nodes.now) }
+{
+    let node = first_node(nodes)?;
+    let key = bytes_at(source, node.key_at as usize, node.key_length as usize)?;
+    let later = nodes_behind(nodes, node.span as usize)?;
+    if node.span == 0 {
+        return None;
+    }
+    Some((key, later))
+}
+
+/// Whether the key is none of the parts'.
+#[inline]
+fn is_absent(source: &[u8], key: &[u8], nodes: &[Node]) -> bool
+    ensures { IsTrue result → IsAbsent key.now (keys_from source.now 0 nodes.now) }
+{
+    let mut rest = nodes;
+    while !rest.is_empty() {
+        let Some((other, later)) = first_key(source, rest) else {
+            return false;
+        };
+        if key == other {
+            return false;
+        }
+        rest = later;
+    }
+    true
+}
+
+/// Compares each two.
+#[inline]
+fn each_two(source: &[u8], nodes: &[Node]) -> bool
+    ensures { IsTrue result → AreApart source.now nodes.now }
+{
+    let mut rest = nodes;
+    while !rest.is_empty() {
+        let Some((key, later)) = first_key(source, rest) else {
+            return false;
+        };
+        if !is_absent(source, key, later) {
+            return false;
+        }
+        rest = later;
+    }
+    true
+}
+
+/// A number that depends on the bytes alone.
+#[inline]
+fn hash(key: &[u8]) -> u64
+    ensures { result ≡ hash_of 7 key.now }
+{
+    let mut value = 7u64;
+    for byte in key {
+        value = value.wrapping_mul(31).wrapping_add(u64::from(*byte));
+    }
+    value
+}
+
+/// What a table keeps of a key.
+#[inline]
+fn tag(key: &[u8]) -> u32
+    ensures { result ≡ tag_of key.now }
+{
+    (hash(key).wrapping_mul(0x9e37_79b9_7f4a_7c15) >> 32) as u32
+}
+
+/// How many places are looked at for a tag.
+const PROBES: usize = 16;
+
+/// Puts a tag into the table; `false` where it stands there already, or there was no place near its
+/// own.
+#[inline]
+fn enter(table: &mut [u32], tag: u32) -> bool
+    ensures same { length table.new ≡ length table.old }
+    ensures kept { (t : ℕ) → Holds table.old t → Holds table.new t }
+    ensures entered { IsTrue result → Enters table.old table.new tag }
+{
+    if tag == 0 || table.is_empty() {
+        return false;
+    }
+    let mask = table.len() - 1;
+    for step in 0..PROBES {
+        let slot = ((tag >> 16) as usize + step) & mask;
+        if slot >= table.len() {
+            return false;
+        }
+        let there = table[slot];
+        if there == tag {
+            return false;
+        }
+        if there == 0 {
+            table[slot] = tag;
+            return true;
+        }
+    }
+    false
+}
+
+/// Enters each key.
+fn all_enter(table: &mut [u32], source: &[u8], nodes: &[Node]) -> bool
+    ensures { IsTrue result → AreApart source.now nodes.now }
+{
+    let mut rest = nodes;
+    while !rest.is_empty() {
+        let Some((key, later)) = first_key(source, rest) else {
+            return false;
+        };
+        if !enter(table, tag(key)) {
+            return false;
+        }
+        rest = later;
+    }
+    true
+}
+
+/// With a table for up to about a hundred keys.
+fn by_small_table(source: &[u8], nodes: &[Node]) -> bool
+    ensures { IsTrue result → AreApart source.now nodes.now }
+{
+    let mut table = [0u32; 256];
+    all_enter(&mut table, source, nodes)
+}
+
+/// With a larger table.
+fn by_middle_table(source: &[u8], nodes: &[Node]) -> bool
+    ensures { IsTrue result → AreApart source.now nodes.now }
+{
+    let mut table = [0u32; 1024];
+    all_enter(&mut table, source, nodes)
+}
+
+/// With the largest table.
+fn by_table(source: &[u8], nodes: &[Node]) -> bool
+    ensures { IsTrue result → AreApart source.now nodes.now }
+{
+    let mut table = [0u32; 4096];
+    all_enter(&mut table, source, nodes)
+}
+
+/// Whether the keys of the parts differ; `false` also where there are too many.
+#[inline]
+pub(crate) fn are_distinct(source: &[u8], nodes: &[Node]) -> bool
+    ensures { IsTrue result → AreApart source.now nodes.now }
+{
+    let count = nodes.len();
+    if count <= 8 {
+        return each_two(source, nodes);
+    }
+    if count <= 96 {
+        return by_small_table(source, nodes);
+    }
+    if count <= 384 {
+        return by_middle_table(source, nodes);
+    }
+    by_table(source, nodes)
+}

@@ -1,0 +1,90 @@
+//! Whole texts.
+ghost use Rattle.std.specs.Prelude.{◌≡◌, ◌≤◌, ◌<◌, ◌+◌, ◌*◌, ◌^◌, length, take, IfSome};
+ghost use Rattle.sf_value.specs.declared.value.Kind.TheVariants as kind_is;
+ghost use Rattle.sf_view.specs.Accepts.{Accepts};
+
+use crate::classes::{behind, behind_spaces, behind_white, ends};
+use crate::item::{NO_KEY, scan_entry, scan_item, scan_member};
+use crate::keys::are_distinct;
+use crate::node::{Node, Role};
+use sf_value::{Dialect, Kind};
+
+/// An Item.
+#[inline]
+fn whole_item(dialect: Dialect, text: &[u8], nodes: &mut [Node]) -> Option<usize>
+    requires small { length text.now < 2 ^ 32 }
+    ensures same { length nodes.new ≡ length nodes.old }
+    ensures accepts { IfSome result (λ n. Accepts dialect kind_is.Item text.now nodes.new n) }
+{
+    let start = behind_spaces(text);
+    let scan = scan_item(dialect, text, start, Role::Member, NO_KEY, nodes, 0)?;
+    if ends(behind_spaces(scan.rest)) {
+        return Some(scan.count);
+    }
+    None
+}
+
+/// A List.
+#[inline]
+fn whole_list(dialect: Dialect, text: &[u8], nodes: &mut [Node]) -> Option<usize>
+    requires small { length text.now < 2 ^ 32 }
+    ensures same { length nodes.new ≡ length nodes.old }
+    ensures accepts { IfSome result (λ n. Accepts dialect kind_is.List text.now nodes.new n) }
+{
+    let mut rest = behind_spaces(text);
+    let mut count = 0;
+    if ends(rest) {
+        return Some(0);
+    }
+    loop {
+        let scan = scan_member(dialect, text, rest, NO_KEY, nodes, count)?;
+        let white = behind_white(scan.rest);
+        if ends(white) {
+            return Some(scan.count);
+        }
+        rest = behind_white(behind(white, b',')?);
+        count = scan.count;
+    }
+}
+
+/// A Dictionary.
+#[inline]
+fn whole_dict(dialect: Dialect, text: &[u8], nodes: &mut [Node]) -> Option<usize>
+    requires small { length text.now < 2 ^ 32 }
+    ensures same { length nodes.new ≡ length nodes.old }
+    ensures accepts { IfSome result (λ n. Accepts dialect kind_is.Dict text.now nodes.new n) }
+{
+    let mut rest = behind_spaces(text);
+    let mut count = 0;
+    if ends(rest) {
+        return Some(0);
+    }
+    loop {
+        let scan = scan_entry(dialect, text, rest, nodes, count)?;
+        let white = behind_white(scan.rest);
+        if ends(white) {
+            if !are_distinct(text, &nodes[..scan.count]) {
+                return None;
+            }
+            return Some(scan.count);
+        }
+        rest = behind_white(behind(white, b',')?);
+        count = scan.count;
+    }
+}
+
+/// The nodes of the text, in the room; `None` says nothing.
+pub fn scan_text(dialect: Dialect, kind: Kind, text: &[u8], nodes: &mut [Node]) -> Option<usize>
+    ensures same { length nodes.new ≡ length nodes.old }
+    // the text spells a field, the only one, and the first so many nodes describe it
+    ensures accepts { IfSome result (λ n. Accepts dialect kind text.now nodes.new n) }
+{
+    if text.len() > 0xffff_ffff {
+        return None;
+    }
+    match kind {
+        Kind::Item => return whole_item(dialect, text, nodes),
+        Kind::List => return whole_list(dialect, text, nodes),
+        Kind::Dict => return whole_dict(dialect, text, nodes),
+    }
+}
