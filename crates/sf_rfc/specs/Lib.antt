@@ -1,0 +1,3 @@
+-- The definitions that the contracts speak of.
+pub mod Rfc9651
+pub mod SerialisingLaws
