@@ -4,3 +4,4 @@ pub mod SerialisingBase64
 pub mod SerialisingUtf8
 pub mod SerialisingDisplay
 pub mod SerialisingFields
+pub mod AbnfBare

@@ -52,7 +52,7 @@ key_rest c = ap (λ x. is_lower c || is_digit c || x) (one_of (codes "_-.*") c)
 alpha : (c : ℕ) → rfc.is_ALPHA c ≡ is_alpha c
 alpha c = or_swap (in_range 65 90 c) (in_range 97 122 c)
 
-token_start : (c : ℕ) → can_start_token c ≡ is_token_start c
+pub token_start : (c : ℕ) → can_start_token c ≡ is_token_start c
 token_start c = ap (λ x. x || c == 42) (alpha c)
 
 tchar : (c : ℕ) → rfc.is_tchar c ≡ is_tchar c
@@ -60,7 +60,7 @@ tchar c =
     ap₂ (λ x y. x || rfc.is_DIGIT c || y) (one_of (codes "!#$%&'*+-.^_`|~") c) (alpha c)
     ∙ or_turn (is_one_of (codes "!#$%&'*+-.^_`|~") c) (is_digit c) (is_alpha c)
 
-token_rest : (c : ℕ) → can_be_in_token c ≡ is_token_rest c
+pub token_rest : (c : ℕ) → can_be_in_token c ≡ is_token_rest c
 token_rest c = ap (λ x. x || c == 58 || c == 47) (tchar c)
 
 -- the characters of keys and of Tokens are ASCII
