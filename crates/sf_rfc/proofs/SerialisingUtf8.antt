@@ -1,0 +1,217 @@
+-- What is well-formed by the table keeps to the rules of RFC 3629.
+use Rattle.std.proofs.Common.{◌≡◌, ℕ, zero, suc, ◌+◌, ◌<◌, ◌≤◌, true, false, List, [], ◌∷◌, length}
+use Rattle.std.proofs.Common.{Some, refl, sym, ◌∙◌, subst, ◌⊎◌, inl, inr, arith, le_refl}
+use Rattle.sf_value.specs.Grammar.Utf8.{Utf8, Start, Wants, wants, within, rows, look_up}
+use Rattle.sf_value.specs.Grammar.Utf8.{WellFormed}
+use Rattle.sf_value.specs.Grammar.Words.{allow}
+use Rattle.sf_value.proofs.Utf8Table.{ranged, EachRow, looked_up}
+use Rattle.sf_value.proofs.Words.{allow_cases}
+use Rattle.sf_rfc.specs.Rfc9651.Alphabets.{in_range}
+use Rattle.sf_rfc.specs.Rfc9651.Utf8.{utf8_char, utf8_octets, is_utf8}
+
+inside : (low high b : ℕ) → low ≤ b → b ≤ high → in_range low high b ≡ true
+inside low high b l h = grind arith
+
+below : (low high b : ℕ) → b < low → in_range low high b ≡ false
+below low high b l = grind arith
+
+above : (low high b : ℕ) → high < b → in_range low high b ≡ false
+above low high b l = grind arith
+
+-- the next byte that is wanted
+next_is : (n low high c : ℕ) (s : List ℕ) → WellFormed (Wants n low high) (c ∷ s)
+    → (in_range low high c ≡ true) × WellFormed (wants n) s
+next_is n low high c s (y, e, w) =
+    let k = allow_cases (within low high c) (wants n) y e in
+    (k.0, subst (λ z. WellFormed z s) k.1 w)
+
+-- a character is taken, and what is left is well-formed
+abbrev Takes : ℕ → Utf8 → Type 0
+Takes b y =
+    (s : List ℕ) → WellFormed y s
+    → (t : List ℕ) × (utf8_char (b ∷ s) ≡ Some t) × (length t ≤ length s) × WellFormed Start t
+
+takes_two : (b : ℕ) → 194 ≤ b → b ≤ 223 → Takes b (Wants 0 128 191)
+takes_two b l h [] w = absurd w
+takes_two b l h (c ∷ s) w =
+    let k = next_is 0 128 191 c s w in
+    (s, rw (above 0 127 b (omega arith), inside 194 223 b l h, k.0) refl, omega arith, k.1)
+
+takes_224 : (b : ℕ) → 224 ≤ b → b ≤ 224 → Takes b (Wants 1 160 191)
+takes_224 b l h [] w = absurd w
+takes_224 b l h (c ∷ []) w = absurd (next_is 1 160 191 c [] w).1
+takes_224 b l h (c ∷ d ∷ s) w =
+    let k = next_is 1 160 191 c (d ∷ s) w in
+    let j = next_is 0 128 191 d s k.1 in (
+      s,
+      rw (
+        above 0 127 b (omega arith),
+        above 194 223 b (omega arith),
+        inside 224 224 b l h,
+        k.0,
+        j.0,
+      ) refl,
+      omega arith,
+      j.1,
+    )
+
+takes_225 : (b : ℕ) → 225 ≤ b → b ≤ 236 → Takes b (Wants 1 128 191)
+takes_225 b l h [] w = absurd w
+takes_225 b l h (c ∷ []) w = absurd (next_is 1 128 191 c [] w).1
+takes_225 b l h (c ∷ d ∷ s) w =
+    let k = next_is 1 128 191 c (d ∷ s) w in
+    let j = next_is 0 128 191 d s k.1 in (
+      s,
+      rw (
+        above 0 127 b (omega arith),
+        above 194 223 b (omega arith),
+        above 224 224 b (omega arith),
+        inside 225 236 b l h,
+        k.0,
+        j.0,
+      ) refl,
+      omega arith,
+      j.1,
+    )
+
+takes_237 : (b : ℕ) → 237 ≤ b → b ≤ 237 → Takes b (Wants 1 128 159)
+takes_237 b l h [] w = absurd w
+takes_237 b l h (c ∷ []) w = absurd (next_is 1 128 159 c [] w).1
+takes_237 b l h (c ∷ d ∷ s) w =
+    let k = next_is 1 128 159 c (d ∷ s) w in
+    let j = next_is 0 128 191 d s k.1 in (
+      s,
+      rw (
+        above 0 127 b (omega arith),
+        above 194 223 b (omega arith),
+        above 224 224 b (omega arith),
+        above 225 236 b (omega arith),
+        inside 237 237 b l h,
+        k.0,
+        j.0,
+      )
+          refl,
+      omega arith,
+      j.1,
+    )
+
+takes_238 : (b : ℕ) → 238 ≤ b → b ≤ 239 → Takes b (Wants 1 128 191)
+takes_238 b l h [] w = absurd w
+takes_238 b l h (c ∷ []) w = absurd (next_is 1 128 191 c [] w).1
+takes_238 b l h (c ∷ d ∷ s) w =
+    let k = next_is 1 128 191 c (d ∷ s) w in
+    let j = next_is 0 128 191 d s k.1 in (
+      s,
+      rw (
+        above 0 127 b (omega arith),
+        above 194 223 b (omega arith),
+        above 224 224 b (omega arith),
+        above 225 236 b (omega arith),
+        above 237 237 b (omega arith),
+        inside 238 239 b l h,
+        k.0,
+        j.0,
+      ) refl,
+      omega arith,
+      j.1,
+    )
+
+takes_240 : (b : ℕ) → 240 ≤ b → b ≤ 240 → Takes b (Wants 2 144 191)
+takes_240 b l h [] w = absurd w
+takes_240 b l h (c ∷ []) w = absurd (next_is 2 144 191 c [] w).1
+takes_240 b l h (c ∷ d ∷ []) w =
+    absurd (next_is 1 128 191 d [] (next_is 2 144 191 c (d ∷ []) w).1).1
+takes_240 b l h (c ∷ d ∷ f ∷ s) w =
+    let k = next_is 2 144 191 c (d ∷ f ∷ s) w in
+    let j = next_is 1 128 191 d (f ∷ s) k.1 in
+    let i = next_is 0 128 191 f s j.1 in (
+      s,
+      rw (
+        above 0 127 b (omega arith),
+        above 194 223 b (omega arith),
+        above 224 224 b (omega arith),
+        above 225 236 b (omega arith),
+        above 237 237 b (omega arith),
+        above 238 239 b (omega arith),
+        inside 240 240 b l h,
+        k.0,
+        j.0,
+        i.0,
+      ) refl,
+      omega arith,
+      i.1,
+    )
+
+takes_241 : (b : ℕ) → 241 ≤ b → b ≤ 243 → Takes b (Wants 2 128 191)
+takes_241 b l h [] w = absurd w
+takes_241 b l h (c ∷ []) w = absurd (next_is 2 128 191 c [] w).1
+takes_241 b l h (c ∷ d ∷ []) w =
+    absurd (next_is 1 128 191 d [] (next_is 2 128 191 c (d ∷ []) w).1).1
+takes_241 b l h (c ∷ d ∷ f ∷ s) w =
+    let k = next_is 2 128 191 c (d ∷ f ∷ s) w in
+    let j = next_is 1 128 191 d (f ∷ s) k.1 in
+    let i = next_is 0 128 191 f s j.1 in (
+      s,
+      rw (
+        above 0 127 b (omega arith),
+        above 194 223 b (omega arith),
+        above 224 224 b (omega arith),
+        above 225 236 b (omega arith),
+        above 237 237 b (omega arith),
+        above 238 239 b (omega arith),
+        above 240 240 b (omega arith),
+        inside 241 243 b l h,
+        k.0,
+        j.0,
+        i.0,
+      ) refl,
+      omega arith,
+      i.1,
+    )
+
+takes_244 : (b : ℕ) → 244 ≤ b → b ≤ 244 → Takes b (Wants 2 128 143)
+takes_244 b l h [] w = absurd w
+takes_244 b l h (c ∷ []) w = absurd (next_is 2 128 143 c [] w).1
+takes_244 b l h (c ∷ d ∷ []) w =
+    absurd (next_is 1 128 191 d [] (next_is 2 128 143 c (d ∷ []) w).1).1
+takes_244 b l h (c ∷ d ∷ f ∷ s) w =
+    let k = next_is 2 128 143 c (d ∷ f ∷ s) w in
+    let j = next_is 1 128 191 d (f ∷ s) k.1 in
+    let i = next_is 0 128 191 f s j.1 in (
+      s,
+      rw (
+        above 0 127 b (omega arith),
+        above 194 223 b (omega arith),
+        above 224 224 b (omega arith),
+        above 225 236 b (omega arith),
+        above 237 237 b (omega arith),
+        above 238 239 b (omega arith),
+        above 240 240 b (omega arith),
+        above 241 243 b (omega arith),
+        inside 244 244 b l h,
+        k.0,
+        j.0,
+        i.0,
+      ) refl,
+      omega arith,
+      i.1,
+    )
+
+takes_one : (b : ℕ) → b ≤ 127 → Takes b Start
+takes_one b h s w = (s, rw (inside 0 127 b (omega arith) h) refl, le_refl (length s), w)
+
+takes : EachRow Takes rows
+takes = (
+  (λ b l h. takes_one b h),
+  (takes_two, (takes_224, (takes_225, (takes_237, (takes_238, (takes_240, (takes_241, (takes_244, tt)))))))),
+)
+
+by_length : (n : ℕ) (s : List ℕ) → length s ≤ n → WellFormed Start s → utf8_octets n s ≡ true
+by_length n [] h w = refl
+by_length zero (b ∷ s) h w = absurd (omega arith)
+by_length (suc n) (b ∷ s) h (y, e, w) =
+    let k = looked_up Takes rows takes b y e s w in
+    rw (k.1, utf8_octets) (by_length n k.0 (omega arith) k.3)
+
+pub well_formed_utf8 : (s : List ℕ) → WellFormed Start s → is_utf8 s ≡ true
+well_formed_utf8 s w = by_length (length s) s (le_refl (length s)) w

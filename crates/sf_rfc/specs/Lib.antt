@@ -1,0 +1,4 @@
+-- The definitions that the contracts speak of.
+pub mod Rfc9651
+pub mod SerialisingLaws
+pub mod Abnf

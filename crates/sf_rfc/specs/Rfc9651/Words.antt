@@ -1,0 +1,77 @@
+-- What the steps are written with.
+use Rattle.std.specs.Prelude.{ℕ, suc, Bool, true, false, ◌&&◌, ◌==◌, List, [], ◌∷◌, ◌++◌, Option, Some}
+use Rattle.std.specs.Prelude.{None}
+
+-- an algorithm that takes a front of its input: a value and the rest, or failure
+abbrev pub Parse : Type 0 → Type 0
+Parse V = List ℕ → Option (V × List ℕ)
+
+-- go on with a result, or fail as it did
+abbrev pub and_then : {A B : Type 0} → Option A → (A → Option B) → Option B
+and_then (Some a) f = f a
+and_then None f = None
+
+-- the first result, or else the second
+abbrev pub or_else : {A : Type 0} → Option A → Option A → Option A
+or_else (Some a) o = Some a
+or_else None o = o
+
+-- s if the test holds, else failure
+abbrev pub only_if : {A : Type 0} → Bool → A → Option A
+only_if true a = Some a
+only_if false a = None
+
+-- whether there is a first character and it passes the test
+abbrev pub first_is : (ℕ → Bool) → List ℕ → Bool
+first_is p [] = false
+first_is p (c ∷ t) = p c
+
+-- whether each character passes the test
+abbrev pub all_are : (ℕ → Bool) → List ℕ → Bool
+all_are p [] = true
+all_are p (c ∷ t) = p c && all_are p t
+
+-- discard any leading characters that pass the test
+abbrev pub discard : (ℕ → Bool) → List ℕ → List ℕ
+discard p [] = []
+discard p (c ∷ t) = elim (p c) [ true ↦ discard p t | false ↦ c ∷ t ]
+
+-- what stands before the first instance of the character, and what stands from it on
+abbrev pub before : ℕ → List ℕ → List ℕ
+before x [] = []
+before x (c ∷ t) = elim (c == x) [ true ↦ [] | false ↦ c ∷ before x t ]
+
+abbrev pub from : ℕ → List ℕ → List ℕ
+from x [] = []
+from x (c ∷ t) = elim (c == x) [ true ↦ c ∷ t | false ↦ from x t ]
+
+-- the place of the character in a list, counted from n
+abbrev pub place_from : ℕ → List ℕ → ℕ → Option ℕ
+place_from n [] c = None
+place_from n (x ∷ xs) c = elim (x == c) [ true ↦ Some n | false ↦ place_from (suc n) xs c ]
+
+-- comparing character for character
+abbrev pub same : List ℕ → List ℕ → Bool
+same [] [] = true
+same (a ∷ s) (b ∷ t) = a == b && same s t
+same _ _ = false
+
+-- an ordered map by its pairs: whether it contains a key
+abbrev pub contains : {V : Type 0} → List (List ℕ × V) → List ℕ → Bool
+contains [] k = false
+contains (p ∷ ps) k = elim (same p.0 k) [ true ↦ true | false ↦ contains ps k ]
+
+-- its pairs with the key's value overwritten, which stays in its place
+abbrev pub overwrite : {V : Type 0} → List (List ℕ × V) → List ℕ → V → List (List ℕ × V)
+overwrite [] k v = []
+overwrite (p ∷ ps) k v = elim (same p.0 k) [
+  | true ↦ (p.0, v) ∷ ps
+  | false ↦ p ∷ overwrite ps k v
+]
+
+-- if it already contains the key, overwrite its value; otherwise append the key with the value
+abbrev pub set_key : {V : Type 0} → List (List ℕ × V) → List ℕ → V → List (List ℕ × V)
+set_key ps k v = elim (contains ps k) [
+  | true ↦ overwrite ps k v
+  | false ↦ ps ++ (k, v) ∷ []
+]
