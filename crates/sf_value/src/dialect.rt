@@ -1,4 +1,4 @@
-//! The dialects of structured fields (RFC 9651 section 1.2 and appendix D).
+//! The dialects of structured fields (RFC 9651 section 2.4 and appendix D).
 
 /// Which RFC a text is read by. A text that RFC 8941 accepts has the same value by RFC 9651.
 #[derive(Clone, Copy, Debug, PartialEq, Eq)]

@@ -1,4 +1,4 @@
--- The two dialects: RFC 8941, and RFC 9651, which adds Dates and Display Strings (section 1.2 and
+-- The two dialects: RFC 8941, and RFC 9651, which adds Dates and Display Strings (section 2.4 and
 -- appendix D of RFC 9651).
 use Rattle.std.specs.Prelude.{Bool, true, false}
 use Rattle.sf_value.specs.declared.dialect.Dialect.{Dialect}
