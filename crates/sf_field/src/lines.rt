@@ -165,6 +165,7 @@ fn feed_lines<'a, L: FieldLines<'a>>(parser: &mut Parser, mut lines: L) -> Resul
         → L.lines lines ≡ line ∷ [] → Every number_byte line
         → KeptAllocationFree parser.new result }
 {
+    // A parser that refused before does so again, also if there is no line.
     parser.feed(b"")?;
     while let Some(line) = lines.next_line() {
         parser.feed_line(line)?;

@@ -1,34 +1,40 @@
+-- To read in this order. The machine level by level, then what follows for any machine: one value,
+-- viable prefixes, and where a text stops.
+pub mod Machine
+pub mod Machines
+pub mod GrammarLaws
+pub mod Reached
+-- The tests on states: what may come next and where a text may end.
+pub mod StateTests
+pub mod Below
+pub mod Dialects
+-- The parser over the machine: a chunk, lines, a whole text, a reader, a refusal.
+pub mod Prefixes
+pub mod Feeding
+pub mod FedChunks
+pub mod FedLines
+pub mod WholeTexts
+pub mod Readings
+pub mod Refusals
+-- The levels of the code: how each goes on where its open part does, and many bytes at a time.
+pub mod OpenParts
+pub mod SeriesSteps
+pub mod Leading
+pub mod ByteRuns
+pub mod RunSteps
+pub mod AllocationFreeSteps
+pub mod BlobGroups
+pub mod Blocks
+pub mod Quads
+pub mod HighDigits
+-- Bytes that may follow: masks, tables, runs and their names.
+pub mod Marks
+pub mod LevelMarks
+pub mod Classes
 pub mod Tables
 pub mod ByteTables
 pub mod Letters
 pub mod Numerals
-pub mod Leading
-pub mod Marks
-pub mod Prefixes
-pub mod ByteRuns
-pub mod Feeding
-pub mod SeriesSteps
-pub mod OpenParts
-pub mod LevelMarks
-pub mod BlobGroups
-pub mod Blocks
-pub mod Machine
-pub mod Classes
-pub mod Machines
-pub mod Quads
-pub mod HighDigits
-pub mod GrammarLaws
-pub mod Reached
-pub mod StateTests
-pub mod Below
-pub mod Dialects
-pub mod Refusals
-pub mod WholeTexts
-pub mod FedChunks
-pub mod Readings
-pub mod AllocationFreeSteps
-pub mod RunSteps
 pub mod SetRuns
 pub mod Fitting
 pub mod HexDigits
-pub mod FedLines

@@ -102,6 +102,7 @@ impl EntryReader {
                 given.set(key, member)?;
             }
             EntryPhase::InFlag => {
+                // After a failure the member need not be a flag, as this phase requires.
                 self.phase = EntryPhase::InMemberValue;
                 let Some(member) = self.member.finish(context)? else {
                     self.phase = EntryPhase::InFlag;
@@ -144,6 +145,7 @@ impl Level for EntryReader {
             EntryPhase::InFlag => match self.member.take(context, chunk) {
                 Ok(rest) => return Ok(rest),
                 Err(refused) => {
+                    // After a failure the member need not be a flag, as this phase requires.
                     self.phase = EntryPhase::InMemberValue;
                     return Err(refused);
                 }
@@ -158,6 +160,7 @@ impl Level for EntryReader {
             EntryPhase::InFlag => match self.member.push(context, byte) {
                 Ok(took) => return Ok(took),
                 Err(refused) => {
+                    // After a failure the member need not be a flag, as this phase requires.
                     self.phase = EntryPhase::InMemberValue;
                     return Err(refused);
                 }

@@ -80,6 +80,7 @@ impl ItemReader {
         // The parameters of Boolean true are open, and none is whole.
         ensures { self.new ≡ InParams (bare_is.Boolean true) (Opened []) }
     {
+        // Open parameters have a whole bare item before them: none are open while it is replaced.
         self.in_params = false;
         self.bare.set_true();
         self.params.open(context);

@@ -122,6 +122,7 @@ impl MemberReader {
         match self.phase {
             MemberPhase::One | MemberPhase::Room | MemberPhase::InItem => return Ok(None),
             MemberPhase::Closing => {
+                // After a failure the item need not be in parameters, as this phase requires.
                 self.phase = MemberPhase::Room;
                 let Some(params) = self.item.finish_params(context)? else {
                     self.phase = MemberPhase::Closing;
@@ -227,6 +228,7 @@ impl Level for MemberReader {
             MemberPhase::Closing => match self.item.take(context, chunk) {
                 Ok(rest) => return Ok(rest),
                 Err(refused) => {
+                    // After a failure the item need not be in parameters, as this phase requires.
                     self.phase = MemberPhase::Room;
                     return Err(refused);
                 }
@@ -242,6 +244,7 @@ impl Level for MemberReader {
             MemberPhase::Closing => match self.item.push(context, byte) {
                 Ok(took) => return Ok(took),
                 Err(refused) => {
+                    // After a failure the item need not be in parameters, as this phase requires.
                     self.phase = MemberPhase::Room;
                     return Err(refused);
                 }
