@@ -28,7 +28,8 @@ use Rattle.sf_rfc.specs.Rfc9651.Serialising.{serialise_inner, serialise_member, 
 use Rattle.sf_rfc.specs.Rfc9651.Serialising.{serialise_behind, serialise_dictionary_loop, serialise}
 use Rattle.sf_rfc.specs.Rfc9651.Serialising.{serialise_key}
 use Rattle.sf_rfc.proofs.SerialisingWords.{key_serialised, token_serialised, string_serialised}
-use Rattle.sf_rfc.proofs.SerialisingNumbers.{integer_serialised, date_serialised, decimal_serialised}
+use Rattle.sf_rfc.proofs.SerialisingNumbers.{integer_serialised, date_serialised}
+use Rattle.sf_rfc.proofs.SerialisingNumbers.{decimal_serialised}
 use Rattle.sf_rfc.proofs.SerialisingBase64.{blob_serialised}
 use Rattle.sf_rfc.proofs.SerialisingDisplay.{shown_serialised}
 
@@ -87,7 +88,8 @@ module _ (d : Dialect) where
   inner_serialised : (l : Inner) → ValidInner d l → serialise_inner l ≡ Some (canon_inner l)
   inner_serialised l h =
       rw (items_loop (40 ∷ []) l.items h.0, params_serialised l.params h.1)
-      (ap (λ t. Some (40 ∷ t)) (append_assoc (canon_items l.items) (41 ∷ []) (canon_params l.params)))
+      (ap (λ t. Some (40 ∷ t))
+      (append_assoc (canon_items l.items) (41 ∷ []) (canon_params l.params)))
 
   member_serialised : (m : Member) → ValidMember d m → serialise_member m ≡ Some (canon_member m)
   member_serialised (member.Item i) h = item_serialised i h

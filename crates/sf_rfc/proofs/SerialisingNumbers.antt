@@ -1,6 +1,7 @@
 -- Serialising Integers, Decimals and Dates.
 use Rattle.std.proofs.Common.{◌≡◌, ℕ, zero, suc, ◌+◌, ◌*◌, ◌/◌, ◌%◌, ◌^◌, ◌<◌, ◌≤◌, ℤ, pos, negsuc}
-use Rattle.std.proofs.Common.{nat_abs, Bool, true, false, ◌&&◌, ◌==◌, List, [], ◌∷◌, ◌++◌, Some, decimal}
+use Rattle.std.proofs.Common.{nat_abs, Bool, true, false, ◌&&◌, ◌==◌, List, [], ◌∷◌, ◌++◌, Some}
+use Rattle.std.proofs.Common.{decimal}
 use Rattle.std.proofs.Common.{refl, sym, ap, ap₂, ◌∙◌, arith, eqb-true}
 use Rattle.std.specs.Prelude.{nat_lt, nat_le}
 use Rattle.std.specs.Fmt.{signed_decimal}
@@ -60,7 +61,8 @@ date_serialised z h = rw (integer_serialised z h) refl
 abbrev is_zero : ℕ → Bool
 is_zero x = x == 48
 
-keep : (c : ℕ) (t : List ℕ) → all_are is_zero (c ∷ t) ≡ false → significant (c ∷ t) ≡ c ∷ significant t
+keep : (c : ℕ) (t : List ℕ) → all_are is_zero (c ∷ t) ≡ false
+    → significant (c ∷ t) ≡ c ∷ significant t
 keep c t e = rw (e, significant) refl
 
 leave : (c : ℕ) (t : List ℕ) → all_are is_zero (c ∷ t) ≡ true → significant (c ∷ t) ≡ []

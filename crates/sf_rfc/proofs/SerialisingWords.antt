@@ -4,16 +4,19 @@ use Rattle.std.proofs.Common.{Some, refl, sym, ap, ap₂, ◌∙◌, arith}
 use Rattle.std.specs.Prelude.{codes}
 use Rattle.std.proofs.lemmas.Bool.Decides.{nat_tests}
 use Rattle.sf_value.specs.Grammar.Words.{Every, IsWord}
-use Rattle.sf_value.specs.Grammar.Classes.{is_one_of, is_key_start, is_key_rest, is_visible, is_byte}
+use Rattle.sf_value.specs.Grammar.Classes.{is_one_of, is_key_start, is_key_rest, is_visible}
+use Rattle.sf_value.specs.Grammar.Classes.{is_byte}
 use Rattle.sf_value.specs.Grammar.Classes.{is_lower, is_digit, is_alpha, is_tchar, is_token_start}
 use Rattle.sf_value.specs.Grammar.Classes.{is_token_rest}
 use Rattle.sf_value.specs.Grammar.Strings.{is_escaped, escaped}
 use Rattle.sf_value.specs.Grammar.Tokens.{IsKey, IsToken}
 use Rattle.sf_rfc.specs.Rfc9651.Words.{only_if, first_is, all_are}
-use Rattle.sf_rfc.specs.Rfc9651.Alphabets.{is_any_of, is_ascii, is_unprintable, needs_escape, in_range}
+use Rattle.sf_rfc.specs.Rfc9651.Alphabets.{is_any_of, is_ascii, is_unprintable, needs_escape}
+use Rattle.sf_rfc.specs.Rfc9651.Alphabets.{in_range}
 use Rattle.sf_rfc.specs.Rfc9651.Alphabets.{can_start_key, can_be_in_key, can_start_token}
 use Rattle.sf_rfc.specs.Rfc9651.Alphabets.{can_be_in_token}
-use Rattle.sf_rfc.specs.Rfc9651.SerialisingBare.{serialise_string, string_characters, serialise_token}
+use Rattle.sf_rfc.specs.Rfc9651.SerialisingBare.{serialise_string, string_characters}
+use Rattle.sf_rfc.specs.Rfc9651.SerialisingBare.{serialise_token}
 use Rattle.sf_rfc.specs.Rfc9651.Alphabets as rfc
 use Rattle.sf_rfc.specs.Rfc9651.Serialising.{serialise_key}
 

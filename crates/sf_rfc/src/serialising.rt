@@ -1,4 +1,5 @@
-//! Laws of serialising (RFC 9651 section 4.1), each as the contract of a function that does nothing.
+//! Laws of serialising (RFC 9651 section 4.1), each as the contract of a function that does
+//! nothing.
 ghost use Rattle.sf_rfc.specs.SerialisingLaws.{BareSerialises, FieldSerialises};
 
 /// A valid bare item serialises by the RFC's steps (section 4.1.3.1) as its canonical text.

@@ -1,7 +1,9 @@
 -- Base64 of RFC 4648 section 4, by bits: a character is its place in the alphabet, in six bits, and
 -- a byte is eight bits, the highest bits first.
-use Rattle.std.specs.Prelude.{ℕ, ◌+◌, ◌-◌, ◌*◌, ◌/◌, ◌%◌, Bool, true, false, ◌==◌, nat_le, ◌&&◌, not}
-use Rattle.std.specs.Prelude.{List, [], ◌∷◌, ◌++◌, length, get_or, replicate, codes, Option, Some, None}
+use Rattle.std.specs.Prelude.{ℕ, ◌+◌, ◌-◌, ◌*◌, ◌/◌, ◌%◌, Bool, true, false, ◌==◌, nat_le, ◌&&◌}
+use Rattle.std.specs.Prelude.{not}
+use Rattle.std.specs.Prelude.{List, [], ◌∷◌, ◌++◌, length, get_or, replicate, codes, Option, Some}
+use Rattle.std.specs.Prelude.{None}
 use Rattle.sf_rfc.specs.Rfc9651.Words.{and_then, all_are, before, from, place_from}
 
 -- table 1

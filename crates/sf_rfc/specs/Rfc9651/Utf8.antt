@@ -1,5 +1,6 @@
 -- UTF-8 by the ABNF of RFC 3629 section 4. A rule is what it leaves of the octets, or None.
-use Rattle.std.specs.Prelude.{ℕ, zero, suc, Bool, true, false, List, [], ◌∷◌, length, Option, Some, None}
+use Rattle.std.specs.Prelude.{ℕ, zero, suc, Bool, true, false, List, [], ◌∷◌, length, Option, Some}
+use Rattle.std.specs.Prelude.{None}
 use Rattle.sf_rfc.specs.Rfc9651.Words.{and_then, or_else, only_if}
 use Rattle.sf_rfc.specs.Rfc9651.Alphabets.{in_range}
 
