@@ -7,7 +7,7 @@ use Rattle.std.proofs.Common.{arith, append-nil}
 use Rattle.std.specs.Prelude.{if◌then◌else◌}
 use Rattle.std.proofs.lemmas.Bool.Decides.{nat_tests}
 use Rattle.sf_value.specs.Grammar.Words.{Every}
-use Rattle.sf_value.specs.Grammar.Classes.{is_digit, is_visible, is_token_rest}
+use Rattle.sf_value.specs.Grammar.Classes.{is_digit, is_visible, is_in_token}
 use Rattle.sf_value.specs.Grammar.Numbers.{sign, AreDigits, SpellsInteger, SpellsDecimal}
 use Rattle.sf_value.specs.Grammar.Strings.{is_escaped, escaped}
 use Rattle.sf_value.specs.Grammar.Tokens.{IsToken}
@@ -85,7 +85,7 @@ token_abnf (c ∷ s) h = (
   (c, refl, token_start c ∙ h.0),
   (
     length s,
-    every_times is_token_rest (λ x. is_tchar x || x == 58 || x == 47)
+    every_times is_in_token (λ x. is_tchar x || x == 58 || x == 47)
         (λ x e. token_rest x ∙ e) s h.1,
   ),
 )

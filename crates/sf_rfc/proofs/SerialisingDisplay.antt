@@ -8,7 +8,7 @@ use Rattle.std.proofs.lemmas.Bool.Decides.{nat_tests}
 use Rattle.sf_value.specs.Grammar.Words.{Every}
 use Rattle.sf_value.specs.Grammar.Classes.{is_byte}
 use Rattle.sf_value.specs.Grammar.Utf8.{WellFormed, Start}
-use Rattle.sf_value.specs.Grammar.DisplayStrings.{hex, is_plain}
+use Rattle.sf_value.specs.Grammar.DisplayStrings.{hex, is_unencoded}
 use Rattle.sf_value.specs.Grammar.Canonical.{canon_shown}
 use Rattle.sf_rfc.specs.Rfc9651.Alphabets.{is_unprintable}
 use Rattle.sf_rfc.specs.Rfc9651.SerialisingBare.{hex_character, display_bytes}
@@ -23,10 +23,10 @@ unfolding hex_character
 same_hex x h =
     ap (λ l. get_or l x 0) hex_digits ∙ get_or-map-range_with_len hex 0 16 x x 0 h (omega arith)
 
-plain_kept : (c : ℕ) → is_plain c ≡ true → (c == 37 || (c == 34 || is_unprintable c)) ≡ false
+plain_kept : (c : ℕ) → is_unencoded c ≡ true → (c == 37 || (c == 34 || is_unprintable c)) ≡ false
 plain_kept c e = grind (arith, nat_tests)
 
-other_escaped : (c : ℕ) → is_plain c ≡ false → (c == 37 || (c == 34 || is_unprintable c)) ≡ true
+other_escaped : (c : ℕ) → is_unencoded c ≡ false → (c == 37 || (c == 34 || is_unprintable c)) ≡ true
 other_escaped c e = grind (arith, nat_tests)
 
 byte_small : (c : ℕ) → is_byte c ≡ true → c < 256
@@ -34,9 +34,9 @@ byte_small c h = grind (arith, nat_tests)
 
 bytes_shown : (s : List ℕ) → Every is_byte s → display_bytes s ++ 34 ∷ [] ≡ canon_shown s
 bytes_shown [] h = refl
-bytes_shown (c ∷ s) h = go (is_plain c) refl (bytes_shown s h.1)
+bytes_shown (c ∷ s) h = go (is_unencoded c) refl (bytes_shown s h.1)
   where
-    go : (x : Bool) → is_plain c ≡ x → display_bytes s ++ 34 ∷ [] ≡ canon_shown s
+    go : (x : Bool) → is_unencoded c ≡ x → display_bytes s ++ 34 ∷ [] ≡ canon_shown s
         → display_bytes (c ∷ s) ++ 34 ∷ [] ≡ canon_shown (c ∷ s)
     go true e k = rw (plain_kept c e, display_bytes, e) (ap (λ t. c ∷ t) k)
     go false e k =

@@ -203,8 +203,28 @@ takes_one b h s w = (s, rw (inside 0 127 b (omega arith) h) refl, le_refl (lengt
 takes : EachRow Takes rows
 takes = (
   (λ b l h. takes_one b h),
-  (takes_two, (takes_224, (takes_225, (takes_237, (takes_238, (takes_240, (takes_241,
-  (takes_244, tt)))))))),
+  (
+    takes_two,
+    (
+      takes_224,
+      (
+        takes_225,
+        (
+          takes_237,
+          (
+            takes_238,
+            (
+              takes_240,
+              (
+                takes_241,
+                (takes_244, tt),
+              ),
+            ),
+          ),
+        ),
+      ),
+    ),
+  ),
 )
 
 by_length : (n : ℕ) (s : List ℕ) → length s ≤ n → WellFormed Start s → utf8_octets n s ≡ true

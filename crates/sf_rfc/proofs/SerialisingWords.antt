@@ -4,10 +4,10 @@ use Rattle.std.proofs.Common.{Some, refl, sym, ap, ap₂, ◌∙◌, arith}
 use Rattle.std.specs.Prelude.{codes}
 use Rattle.std.proofs.lemmas.Bool.Decides.{nat_tests}
 use Rattle.sf_value.specs.Grammar.Words.{Every, IsWord}
-use Rattle.sf_value.specs.Grammar.Classes.{is_one_of, is_key_start, is_key_rest, is_visible}
+use Rattle.sf_value.specs.Grammar.Classes.{is_one_of, is_key_start, is_in_key, is_visible}
 use Rattle.sf_value.specs.Grammar.Classes.{is_byte}
 use Rattle.sf_value.specs.Grammar.Classes.{is_lower, is_digit, is_alpha, is_tchar, is_token_start}
-use Rattle.sf_value.specs.Grammar.Classes.{is_token_rest}
+use Rattle.sf_value.specs.Grammar.Classes.{is_in_token}
 use Rattle.sf_value.specs.Grammar.Strings.{is_escaped, escaped}
 use Rattle.sf_value.specs.Grammar.Tokens.{IsKey, IsToken}
 use Rattle.sf_rfc.specs.Rfc9651.Words.{only_if, first_is, all_are}
@@ -49,7 +49,7 @@ or_turn false true false = refl
 or_turn false false true = refl
 or_turn false false false = refl
 
-key_rest : (c : ℕ) → can_be_in_key c ≡ is_key_rest c
+key_rest : (c : ℕ) → can_be_in_key c ≡ is_in_key c
 key_rest c = ap (λ x. is_lower c || is_digit c || x) (one_of (codes "_-.*") c)
 
 alpha : (c : ℕ) → rfc.is_ALPHA c ≡ is_alpha c
@@ -63,7 +63,7 @@ tchar c =
     ap₂ (λ x y. x || rfc.is_DIGIT c || y) (one_of (codes "!#$%&'*+-.^_`|~") c) (alpha c)
     ∙ or_turn (is_one_of (codes "!#$%&'*+-.^_`|~") c) (is_digit c) (is_alpha c)
 
-pub token_rest : (c : ℕ) → can_be_in_token c ≡ is_token_rest c
+pub token_rest : (c : ℕ) → can_be_in_token c ≡ is_in_token c
 token_rest c = ap (λ x. x || c == 58 || c == 47) (tchar c)
 
 -- the characters of keys and of Tokens are ASCII
@@ -73,13 +73,13 @@ key_start_ascii c h = grind (arith, nat_tests)
 key_start_rest : (c : ℕ) → is_key_start c ≡ true → can_be_in_key c ≡ true
 key_start_rest c h = grind (arith, nat_tests)
 
-key_rest_ascii : (c : ℕ) → is_key_rest c ≡ true → is_ascii c ≡ true
+key_rest_ascii : (c : ℕ) → is_in_key c ≡ true → is_ascii c ≡ true
 key_rest_ascii c h = grind (arith, nat_tests)
 
 token_start_ascii : (c : ℕ) → is_token_start c ≡ true → is_ascii c ≡ true
 token_start_ascii c h = grind (arith, nat_tests)
 
-token_rest_ascii : (c : ℕ) → is_token_rest c ≡ true → is_ascii c ≡ true
+token_rest_ascii : (c : ℕ) → is_in_token c ≡ true → is_ascii c ≡ true
 token_rest_ascii c h = grind (arith, nat_tests)
 
 pub key_serialised : (k : List ℕ) → IsKey k → serialise_key k ≡ Some k
@@ -87,9 +87,9 @@ key_serialised [] h = absurd h
 key_serialised (c ∷ k) h =
     rw (
       key_start_ascii c h.0,
-      every_all is_key_rest is_ascii key_rest_ascii k h.1,
+      every_all is_in_key is_ascii key_rest_ascii k h.1,
       key_start_rest c h.0,
-      every_all is_key_rest can_be_in_key (λ x e. key_rest x ∙ e) k h.1,
+      every_all is_in_key can_be_in_key (λ x e. key_rest x ∙ e) k h.1,
       h.0,
     ) refl
 
@@ -98,9 +98,9 @@ token_serialised [] h = absurd h
 token_serialised (c ∷ s) h =
     rw (
       token_start_ascii c h.0,
-      every_all is_token_rest is_ascii token_rest_ascii s h.1,
+      every_all is_in_token is_ascii token_rest_ascii s h.1,
       token_start c ∙ h.0,
-      every_all is_token_rest can_be_in_token (λ x e. token_rest x ∙ e) s h.1,
+      every_all is_in_token can_be_in_token (λ x e. token_rest x ∙ e) s h.1,
     ) refl
 
 -- Strings
