@@ -5,3 +5,6 @@ pub mod SerialisingUtf8
 pub mod SerialisingDisplay
 pub mod SerialisingFields
 pub mod AbnfBare
+pub mod ParsingWords
+pub mod ParsingStrings
+pub mod Rows

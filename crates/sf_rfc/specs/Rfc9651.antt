@@ -6,5 +6,7 @@ pub mod Words
 pub mod Alphabets
 pub mod Base64
 pub mod Utf8
+pub mod ParsingBare
+pub mod Parsing
 pub mod SerialisingBare
 pub mod Serialising

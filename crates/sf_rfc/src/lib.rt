@@ -1,4 +1,5 @@
 //! The algorithms of RFC 9651, and that they agree with the definitions of this repository.
 #![tactic(auto)]
 
+pub mod parsing;
 pub mod serialising;

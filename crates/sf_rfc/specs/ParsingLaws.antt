@@ -1,0 +1,31 @@
+-- What it means that an algorithm of RFC 9651 and a relation of the grammar agree.
+use Rattle.std.specs.Prelude.{◌≡◌, ℕ, Bool, false, List, ◌++◌, Option, Some}
+use Rattle.sf_value.specs.Grammar.Classes.{is_key_start, is_in_key, is_token_start, is_in_token}
+use Rattle.sf_value.specs.Grammar.Booleans.{SpellsBoolean}
+use Rattle.sf_value.specs.Grammar.Strings.{SpellsString}
+use Rattle.sf_rfc.specs.Rfc9651.ParsingBare.{parse_token, parse_boolean, parse_string}
+use Rattle.sf_value.specs.Grammar.Tokens.{SpellsWord}
+use Rattle.sf_rfc.specs.Rfc9651.Words.{Parse, first_is}
+use Rattle.sf_rfc.specs.Rfc9651.Parsing.{parse_key}
+
+-- the algorithm f takes the texts of L, before any rest whose first character the test refuses
+pub record Agrees (V : Type 0) (L : List ℕ → V → Type 0) (f : Parse V) (more : ℕ → Bool)
+    : Type 0 where
+  -- A text that it takes is spelled.
+  pub sound : (t r : List ℕ) (v : V) → f t ≡ Some (v, r) → (front : List ℕ) × (t ≡ front ++ r)
+      × L front v
+  -- A text that is spelled it takes.
+  pub whole : (t r : List ℕ) (v : V) → L t v → first_is more r ≡ false → f (t ++ r) ≡ Some (v, r)
+
+abbrev pub KeysAgree : Type 0
+KeysAgree = Agrees (List ℕ) (SpellsWord is_key_start is_in_key) parse_key is_in_key
+
+abbrev pub TokensAgree : Type 0
+TokensAgree = Agrees (List ℕ) (SpellsWord is_token_start is_in_token) parse_token is_in_token
+
+-- no rest changes what a Boolean or a String is
+abbrev pub BooleansAgree : Type 0
+BooleansAgree = Agrees Bool SpellsBoolean parse_boolean (λ c. false)
+
+abbrev pub StringsAgree : Type 0
+StringsAgree = Agrees (List ℕ) SpellsString parse_string (λ c. false)

@@ -1,0 +1,23 @@
+//! Laws of parsing (RFC 9651 section 4.2), each as the contract of a function that does nothing.
+ghost use Rattle.sf_rfc.specs.ParsingLaws.{KeysAgree, TokensAgree, BooleansAgree, StringsAgree};
+
+/// A key is taken by the RFC's steps (section 4.2.3.3) exactly if the grammar spells it, with the
+/// same value and the same rest.
+pub fn key_parses()
+    ensures { KeysAgree }
+{}
+
+/// A Token is taken by the RFC's steps (section 4.2.6) exactly if the grammar spells it.
+pub fn token_parses()
+    ensures { TokensAgree }
+{}
+
+/// A Boolean is taken by the RFC's steps (section 4.2.8) exactly if the grammar spells it.
+pub fn boolean_parses()
+    ensures { BooleansAgree }
+{}
+
+/// A String is taken by the RFC's steps (section 4.2.5) exactly if the grammar spells it.
+pub fn string_parses()
+    ensures { StringsAgree }
+{}
