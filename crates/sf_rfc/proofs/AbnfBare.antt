@@ -1,9 +1,9 @@
 -- Canonical texts of bare items keep to the ABNF.
-use Rattle.std.proofs.Common.{◌≡◌, ℕ, zero, suc, ◌+◌, ◌^◌, ◌<◌, ◌≤◌, ℤ, Bool, true, false, ◌||◌}
+use Rattle.std.proofs.Common.{◌≡◌, ℕ, ℤ, Bool, true, false, ◌||◌}
 use Rattle.std.proofs.Common.{◌==◌}
-use Rattle.std.proofs.Common.{nat_abs, List, [], ◌∷◌, ◌++◌, length, refl, sym, ap, ◌∙◌, subst, inl}
+use Rattle.std.proofs.Common.{List, [], ◌∷◌, ◌++◌, length, refl, ◌∙◌, inl}
 use Rattle.std.proofs.Common.{inr}
-use Rattle.std.proofs.Common.{arith, append-nil}
+use Rattle.std.proofs.Common.{arith}
 use Rattle.std.specs.Prelude.{if◌then◌else◌}
 use Rattle.std.proofs.lemmas.Bool.Decides.{nat_tests}
 use Rattle.sf_value.specs.Grammar.Words.{Every}
@@ -12,8 +12,8 @@ use Rattle.sf_value.specs.Grammar.Numbers.{sign, AreDigits, SpellsInteger, Spell
 use Rattle.sf_value.specs.Grammar.Strings.{is_escaped, escaped}
 use Rattle.sf_value.specs.Grammar.Tokens.{IsToken}
 use Rattle.sf_rfc.specs.Rfc9651.Alphabets.{is_DIGIT, is_tchar}
-use Rattle.sf_rfc.specs.Abnf.{Rule, one, text, then, either, optional, times, repeated, many}
-use Rattle.sf_rfc.specs.Abnf.{sf_integer, sf_decimal, sf_string, sf_token, sf_boolean, sf_date}
+use Rattle.sf_rfc.specs.Abnf.{one, text, either, optional, times, repeated}
+use Rattle.sf_rfc.specs.Abnf.{sf_integer, sf_decimal, sf_string, sf_token, sf_boolean}
 use Rattle.sf_rfc.specs.Abnf.{is_unescaped, escape}
 use Rattle.sf_rfc.proofs.SerialisingWords.{token_start, token_rest}
 
