@@ -1,20 +1,23 @@
--- Canonical texts of bare items keep to the ABNF.
-use Rattle.std.proofs.Common.{◌≡◌, ℕ, zero, suc, ◌+◌, ◌^◌, ◌<◌, ◌≤◌, ℤ, Bool, true, false, ◌||◌}
+-- What spells an Integer, a Decimal or a Date, and the canonical texts of Strings, Tokens and
+-- Booleans, keep to the ABNF.
+use Rattle.std.proofs.Common.{◌≡◌, ℕ, ℤ, Bool, true, false, ◌||◌}
 use Rattle.std.proofs.Common.{◌==◌}
-use Rattle.std.proofs.Common.{nat_abs, List, [], ◌∷◌, ◌++◌, length, refl, sym, ap, ◌∙◌, subst, inl}
+use Rattle.std.proofs.Common.{List, [], ◌∷◌, ◌++◌, length, refl, ◌∙◌, inl}
 use Rattle.std.proofs.Common.{inr}
-use Rattle.std.proofs.Common.{arith, append-nil}
+use Rattle.std.proofs.Common.{arith}
 use Rattle.std.specs.Prelude.{if◌then◌else◌}
 use Rattle.std.proofs.lemmas.Bool.Decides.{nat_tests}
 use Rattle.sf_value.specs.Grammar.Words.{Every}
 use Rattle.sf_value.specs.Grammar.Classes.{is_digit, is_visible, is_in_token}
 use Rattle.sf_value.specs.Grammar.Numbers.{sign, AreDigits, SpellsInteger, SpellsDecimal}
+use Rattle.sf_value.specs.Grammar.Numbers.{SpellsDate}
 use Rattle.sf_value.specs.Grammar.Strings.{is_escaped, escaped}
 use Rattle.sf_value.specs.Grammar.Tokens.{IsToken}
 use Rattle.sf_rfc.specs.Rfc9651.Alphabets.{is_DIGIT, is_tchar}
-use Rattle.sf_rfc.specs.Abnf.{Rule, one, text, then, either, optional, times, repeated, many}
-use Rattle.sf_rfc.specs.Abnf.{sf_integer, sf_decimal, sf_string, sf_token, sf_boolean, sf_date}
+use Rattle.sf_rfc.specs.Abnf.{one, text, either, optional, times, repeated}
+use Rattle.sf_rfc.specs.Abnf.{sf_integer, sf_decimal, sf_string, sf_token, sf_boolean}
 use Rattle.sf_rfc.specs.Abnf.{is_unescaped, escape}
+use Rattle.sf_rfc.specs.Abnf.{sf_date}
 use Rattle.sf_rfc.proofs.SerialisingWords.{token_start, token_rest}
 
 -- characters that all pass
@@ -50,6 +53,9 @@ decimal_abnf t n (neg, w, f, e, k, j, v) = (
   sign_optional neg,
   (w, 46 ∷ f, refl, digits_repeated 1 12 w k, (46 ∷ [], f, refl, refl, digits_repeated 1 3 f j)),
 )
+
+pub date_abnf : (t : List ℕ) (n : ℤ) → SpellsDate t n → sf_date t
+date_abnf t n (back, e, s) = (64 ∷ [], back, e, refl, integer_abnf back n s)
 
 unescaped_is : (c : ℕ) → is_visible c ≡ true → is_escaped c ≡ false → is_unescaped c ≡ true
 unescaped_is c h e = grind (arith, nat_tests)

@@ -1,13 +1,13 @@
 -- Serialising Byte Sequences: base64 by bits and by groups of three bytes.
-use Rattle.std.proofs.Common.{◌≡◌, ℕ, zero, suc, ◌+◌, ◌-◌, ◌*◌, ◌/◌, ◌%◌, ◌<◌, ◌≤◌, true, List, []}
-use Rattle.std.proofs.Common.{◌∷◌, ◌++◌, length, replicate, Some, refl, sym, ap, ap₂, ◌∙◌, arith}
+use Rattle.std.proofs.Common.{◌≡◌, ℕ, ◌+◌, ◌*◌, ◌/◌, ◌%◌, ◌<◌, true, List, []}
+use Rattle.std.proofs.Common.{◌∷◌, ◌++◌, length, replicate, Some, refl, ap, ap₂, ◌∙◌, arith}
 use Rattle.std.proofs.Common.{append_assoc}
 use Rattle.std.proofs.lemmas.Bool.Decides.{nat_tests}
 use Rattle.sf_value.specs.Grammar.Words.{Every}
 use Rattle.sf_value.specs.Grammar.Classes.{is_byte}
-use Rattle.sf_value.specs.Grammar.ByteSequences.{alphabet, letter, unpadded, needed}
+use Rattle.sf_value.specs.Grammar.ByteSequences.{letter, unpadded, needed}
 use Rattle.sf_value.specs.Grammar.Canonical.{canon_base64}
-use Rattle.sf_rfc.specs.Rfc9651.Base64.{character_of, eight_bits, six_bits, bits_of_bytes, by_sixes}
+use Rattle.sf_rfc.specs.Rfc9651.Base64.{character_of, eight_bits, bits_of_bytes, by_sixes}
 use Rattle.sf_rfc.specs.Rfc9651.Base64.{characters_of, missing, base64_encode}
 use Rattle.sf_rfc.specs.Rfc9651.SerialisingBare.{serialise_byte_sequence}
 use Rattle.sf_rfc.proofs.SerialisingWords.{bytes_all}

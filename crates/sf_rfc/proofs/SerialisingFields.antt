@@ -1,5 +1,5 @@
 -- Serialising bare items, parameters, Items, Inner Lists, Lists and Dictionaries.
-use Rattle.std.proofs.Common.{◌≡◌, ℕ, true, false, List as Seq, [], ◌∷◌, ◌++◌, Option, Some, refl}
+use Rattle.std.proofs.Common.{◌≡◌, ℕ, true, false, List as Seq, [], ◌∷◌, ◌++◌, Some, refl}
 use Rattle.std.proofs.Common.{sym, ap, ◌∙◌, append_assoc, append-nil}
 use Rattle.sf_value.specs.declared.dialect.Dialect.{Dialect}
 use Rattle.sf_value.specs.declared.value.Bare.{Bare}
@@ -22,11 +22,10 @@ use Rattle.sf_value.specs.Grammar.Canonical.{canon_bare, canon_value, canon_para
 use Rattle.sf_value.specs.Grammar.Canonical.{canon_items, canon_inner, canon_member, canon_flag}
 use Rattle.sf_value.specs.Grammar.Canonical.{canon_behind, canon_entry, canon_series, canon}
 use Rattle.sf_rfc.specs.Rfc9651.SerialisingBare.{serialise_bare}
-use Rattle.sf_rfc.specs.Rfc9651.Serialising.{if_more, serialise_value, serialise_params_loop}
+use Rattle.sf_rfc.specs.Rfc9651.Serialising.{serialise_value, serialise_params_loop}
 use Rattle.sf_rfc.specs.Rfc9651.Serialising.{serialise_params, serialise_item, serialise_items_loop}
 use Rattle.sf_rfc.specs.Rfc9651.Serialising.{serialise_inner, serialise_member, serialise_list_loop}
 use Rattle.sf_rfc.specs.Rfc9651.Serialising.{serialise_behind, serialise_dictionary_loop, serialise}
-use Rattle.sf_rfc.specs.Rfc9651.Serialising.{serialise_key}
 use Rattle.sf_rfc.proofs.SerialisingWords.{key_serialised, token_serialised, string_serialised}
 use Rattle.sf_rfc.proofs.SerialisingNumbers.{integer_serialised, date_serialised}
 use Rattle.sf_rfc.proofs.SerialisingNumbers.{decimal_serialised}

@@ -1,15 +1,15 @@
 -- Serialising Integers, Decimals and Dates.
-use Rattle.std.proofs.Common.{◌≡◌, ℕ, zero, suc, ◌+◌, ◌*◌, ◌/◌, ◌%◌, ◌^◌, ◌<◌, ◌≤◌, ℤ, pos, negsuc}
+use Rattle.std.proofs.Common.{◌≡◌, ℕ, zero, suc, ◌+◌, ◌/◌, ◌%◌, ◌^◌, ◌<◌, ◌≤◌, ℤ, pos, negsuc}
 use Rattle.std.proofs.Common.{nat_abs, Bool, true, false, ◌&&◌, ◌==◌, List, [], ◌∷◌, ◌++◌, Some}
 use Rattle.std.proofs.Common.{decimal}
-use Rattle.std.proofs.Common.{refl, sym, ap, ap₂, ◌∙◌, arith, eqb-true}
+use Rattle.std.proofs.Common.{refl, ap, ◌∙◌, arith, eqb-true}
 use Rattle.std.specs.Prelude.{nat_lt, nat_le}
 use Rattle.std.specs.Fmt.{signed_decimal}
 use Rattle.std.proofs.lemmas.Fmt.{decimal_by_steps}
 use Rattle.std.proofs.lemmas.Bool.Decides.{nat_tests}
 use Rattle.sf_value.specs.Grammar.Numbers.{sign}
 use Rattle.sf_value.specs.Grammar.Canonical.{is_negative, fraction, canon_decimal}
-use Rattle.sf_rfc.specs.Rfc9651.Words.{only_if, and_then, all_are}
+use Rattle.sf_rfc.specs.Rfc9651.Words.{all_are}
 use Rattle.sf_rfc.specs.Rfc9651.SerialisingBare.{minus_sign, digits_within, in_base10}
 use Rattle.sf_rfc.specs.Rfc9651.SerialisingBare.{serialise_integer, significant, serialise_fraction}
 use Rattle.sf_rfc.specs.Rfc9651.SerialisingBare.{serialise_decimal, serialise_date}

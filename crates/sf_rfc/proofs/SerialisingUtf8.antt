@@ -1,10 +1,9 @@
 -- What is well-formed by the table keeps to the rules of RFC 3629.
-use Rattle.std.proofs.Common.{◌≡◌, ℕ, zero, suc, ◌+◌, ◌<◌, ◌≤◌, true, false, List, [], ◌∷◌, length}
-use Rattle.std.proofs.Common.{Some, refl, sym, ◌∙◌, subst, ◌⊎◌, inl, inr, arith, le_refl}
-use Rattle.sf_value.specs.Grammar.Utf8.{Utf8, Start, Wants, wants, within, rows, look_up}
+use Rattle.std.proofs.Common.{◌≡◌, ℕ, zero, suc, ◌<◌, ◌≤◌, true, false, List, [], ◌∷◌, length}
+use Rattle.std.proofs.Common.{Some, refl, subst, arith, le_refl}
+use Rattle.sf_value.specs.Grammar.Utf8.{Utf8, Start, Wants, wants, within, rows}
 use Rattle.sf_value.specs.Grammar.Utf8.{WellFormed}
-use Rattle.sf_value.specs.Grammar.Words.{allow}
-use Rattle.sf_value.proofs.Utf8Table.{ranged, EachRow, looked_up}
+use Rattle.sf_value.proofs.Utf8Table.{EachRow, looked_up}
 use Rattle.sf_value.proofs.Words.{allow_cases}
 use Rattle.sf_rfc.specs.Rfc9651.Alphabets.{in_range}
 use Rattle.sf_rfc.specs.Rfc9651.Utf8.{utf8_char, utf8_octets, is_utf8}

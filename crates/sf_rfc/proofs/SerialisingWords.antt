@@ -1,16 +1,16 @@
 -- Serialising keys, Tokens and Strings: the classes of characters.
-use Rattle.std.proofs.Common.{◌≡◌, ℕ, Bool, true, false, not, ◌&&◌, ◌||◌, ◌==◌, List, [], ◌∷◌, ◌++◌}
-use Rattle.std.proofs.Common.{Some, refl, sym, ap, ap₂, ◌∙◌, arith}
+use Rattle.std.proofs.Common.{◌≡◌, ℕ, Bool, true, false, not, ◌||◌, ◌==◌, List, [], ◌∷◌, ◌++◌}
+use Rattle.std.proofs.Common.{Some, refl, ap, ap₂, ◌∙◌, arith}
 use Rattle.std.specs.Prelude.{codes}
 use Rattle.std.proofs.lemmas.Bool.Decides.{nat_tests}
-use Rattle.sf_value.specs.Grammar.Words.{Every, IsWord}
+use Rattle.sf_value.specs.Grammar.Words.{Every}
 use Rattle.sf_value.specs.Grammar.Classes.{is_one_of, is_key_start, is_in_key, is_visible}
 use Rattle.sf_value.specs.Grammar.Classes.{is_byte}
 use Rattle.sf_value.specs.Grammar.Classes.{is_lower, is_digit, is_alpha, is_tchar, is_token_start}
 use Rattle.sf_value.specs.Grammar.Classes.{is_in_token}
 use Rattle.sf_value.specs.Grammar.Strings.{is_escaped, escaped}
 use Rattle.sf_value.specs.Grammar.Tokens.{IsKey, IsToken}
-use Rattle.sf_rfc.specs.Rfc9651.Words.{only_if, first_is, all_are}
+use Rattle.sf_rfc.specs.Rfc9651.Words.{all_are}
 use Rattle.sf_rfc.specs.Rfc9651.Alphabets.{is_any_of, is_ascii, is_unprintable, needs_escape}
 use Rattle.sf_rfc.specs.Rfc9651.Alphabets.{in_range}
 use Rattle.sf_rfc.specs.Rfc9651.Alphabets.{can_start_key, can_be_in_key, can_start_token}

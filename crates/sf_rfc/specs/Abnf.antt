@@ -1,6 +1,7 @@
--- The ABNF of bare items (RFC 9651 section 3 and appendix C), as rules of whole texts. The notation
+-- The ABNF of six of the eight bare items (RFC 9651 section 3 and appendix C), as rules of whole
+-- texts: Byte Sequences and Display Strings have none here. The notation
 -- is that of RFC 5234.
-use Rattle.std.specs.Prelude.{◌≡◌, ℕ, zero, suc, ◌≤◌, Bool, true, nat_le, ◌==◌, ◌&&◌, ◌||◌, ◌⊎◌}
+use Rattle.std.specs.Prelude.{◌≡◌, ℕ, zero, suc, ◌≤◌, Bool, true, ◌==◌, ◌||◌, ◌⊎◌}
 use Rattle.std.specs.Prelude.{List, [], ◌∷◌, ◌++◌}
 use Rattle.sf_rfc.specs.Rfc9651.Alphabets.{in_range, is_DIGIT, is_ALPHA, is_tchar}
 

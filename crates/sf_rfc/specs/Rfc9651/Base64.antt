@@ -1,6 +1,6 @@
 -- Base64 of RFC 4648 section 4, by bits: a character is its place in the alphabet, in six bits, and
 -- a byte is eight bits, the highest bits first.
-use Rattle.std.specs.Prelude.{ℕ, ◌+◌, ◌-◌, ◌*◌, ◌/◌, ◌%◌, Bool, true, false, ◌==◌, nat_le, ◌&&◌}
+use Rattle.std.specs.Prelude.{ℕ, ◌+◌, ◌-◌, ◌*◌, ◌/◌, ◌%◌, true, false, ◌==◌, nat_le, ◌&&◌}
 use Rattle.std.specs.Prelude.{not}
 use Rattle.std.specs.Prelude.{List, [], ◌∷◌, ◌++◌, length, get_or, replicate, codes, Option, Some}
 use Rattle.std.specs.Prelude.{None}

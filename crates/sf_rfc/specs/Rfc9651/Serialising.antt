@@ -1,6 +1,5 @@
 -- Serialising fields: sections 4.1 to 4.1.3.
 use Rattle.std.specs.Prelude.{ℕ, Bool, true, false, ◌&&◌, List as Seq, [], ◌∷◌, ◌++◌, Option, Some}
-use Rattle.std.specs.Prelude.{None}
 use Rattle.sf_value.specs.declared.value.Bare.{Bare}
 use Rattle.sf_value.specs.declared.value.Bare.TheVariants.{Boolean}
 use Rattle.sf_value.specs.declared.value.Item.{Item}
