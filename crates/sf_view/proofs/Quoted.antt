@@ -7,7 +7,7 @@ use Rattle.sf_value.specs.declared.dialect.Dialect.TheVariants.{Rfc9651}
 use Rattle.sf_value.specs.declared.value.Bare.TheVariants.{Shown}
 use Rattle.sf_value.specs.Grammar.Words.{Every}
 use Rattle.sf_value.specs.Grammar.Utf8.{Utf8, Start, Wants, WellFormed, utf8_step}
-use Rattle.sf_value.specs.Grammar.DisplayStrings.{hex, is_plain, Pieces}
+use Rattle.sf_value.specs.Grammar.DisplayStrings.{hex, is_unencoded, EncodedBytes}
 use Rattle.sf_parse.specs.Machine.Showns.{unhex}
 use Rattle.sf_value.proofs.Utf8Table.{in_range}
 use Rattle.sf_parse.proofs.HighDigits.{read_hex}
@@ -47,19 +47,19 @@ inside_opens text more rest e f = record {
   formed = λ s w. w;
 }
 
-plain_low : (c : ℕ) → is_plain c ≡ true → c ≤ 127
+plain_low : (c : ℕ) → is_unencoded c ≡ true → c ≤ 127
 plain_low c h = grind arith
 
-plain_step : (c : ℕ) → is_plain c ≡ true → utf8_step Start c ≡ Some Start
+plain_step : (c : ℕ) → is_unencoded c ≡ true → utf8_step Start c ≡ Some Start
 plain_step c h = rw (in_range 0 127 c (omega arith) (plain_low c h)) refl
 
-plain_pieces : (front back s : List ℕ) → Every is_plain front → Pieces back s
-    → Pieces (front ++ back) (front ++ s)
+plain_pieces : (front back s : List ℕ) → Every is_unencoded front → EncodedBytes back s
+    → EncodedBytes (front ++ back) (front ++ s)
 plain_pieces [] back s h p = p
 plain_pieces (c ∷ front) back s h p =
     (front ++ back, inl (h.0, refl), plain_pieces front back s h.1 p)
 
-plain_formed : (front s : List ℕ) → Every is_plain front → WellFormed Start s
+plain_formed : (front s : List ℕ) → Every is_unencoded front → WellFormed Start s
     → WellFormed Start (front ++ s)
 plain_formed [] s h w = w
 plain_formed (c ∷ front) s h w = (Start, plain_step c h.0, plain_formed front s h.1 w)
@@ -73,8 +73,8 @@ inside_plain text rest stop Start i (front, e, h) = record {
       i.split
       ∙ ap (λ z. 37 ∷ 34 ∷ z) (ap (λ z. i.front ++ z) e ∙ sym (append_assoc i.front front stop));
   pieces = λ back s p.
-      subst (λ z. Pieces z ((i.bytes ++ front) ++ s)) (sym (append_assoc i.front front back))
-      (subst (Pieces (i.front ++ (front ++ back))) (sym (append_assoc i.bytes front s))
+      subst (λ z. EncodedBytes z ((i.bytes ++ front) ++ s)) (sym (append_assoc i.front front back))
+      (subst (EncodedBytes (i.front ++ (front ++ back))) (sym (append_assoc i.bytes front s))
       (i.pieces (front ++ back) (front ++ s) (plain_pieces front back s h p)));
   formed = λ s w.
       subst (WellFormed Start) (sym (append_assoc i.bytes front s))
@@ -93,8 +93,8 @@ inside_escape text stop left x y c i e h =
           ∙ ap (λ z. 37 ∷ 34 ∷ z)
           (ap (λ z. i.front ++ z) e.split ∙ sym (append_assoc i.front one left));
       pieces = λ back s p.
-          subst (λ z. Pieces z ((i.bytes ++ c ∷ []) ++ s)) (sym (append_assoc i.front one back))
-          (subst (Pieces (i.front ++ (one ++ back))) (sym (append_assoc i.bytes (c ∷ []) s))
+          subst (λ z. EncodedBytes z ((i.bytes ++ c ∷ []) ++ s)) (sym (append_assoc i.front one back))
+          (subst (EncodedBytes (i.front ++ (one ++ back))) (sym (append_assoc i.bytes (c ∷ []) s))
           (i.pieces (one ++ back) (c ∷ s) (back, inr (e.byte, refl), p)));
       formed = λ s w.
           subst (WellFormed Start) (sym (append_assoc i.bytes (c ∷ []) s))
@@ -129,7 +129,7 @@ shown_scans whole text stop left x p i start close node_type number at size code
       (
         body,
         refl,
-        subst (Pieces body) (append-nil i.bytes) (i.pieces (34 ∷ []) [] refl),
+        subst (EncodedBytes body) (append-nil i.bytes) (i.pieces (34 ∷ []) [] refl),
         subst (WellFormed Start) (append-nil i.bytes)
             (i.formed [] (subst (λ z. WellFormed z []) (sym start) tt)),
       ),

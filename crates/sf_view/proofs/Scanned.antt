@@ -7,7 +7,7 @@ use Rattle.sf_value.specs.declared.value.Bare.{Bare}
 use Rattle.sf_value.specs.declared.value.Bare.TheVariants.{Integer, Decimal, Text, Token}
 use Rattle.sf_value.specs.declared.value.Bare.TheVariants.{Blob, Boolean, Date, Shown}
 use Rattle.sf_value.specs.Grammar.Words.{Every}
-use Rattle.sf_value.specs.Grammar.Classes.{is_visible, is_token_start, is_token_rest}
+use Rattle.sf_value.specs.Grammar.Classes.{is_visible, is_token_start, is_in_token}
 use Rattle.sf_value.specs.Grammar.Numbers.{sign, signed, value_from}
 use Rattle.sf_value.specs.Grammar.Strings.{escaped, is_escaped}
 use Rattle.sf_value.specs.Grammar.BareItems.{SpellsBare}
@@ -300,7 +300,7 @@ escaped_scans d whole text stop left p i close node_type number at size coded =
 -- a Token
 pub token_scans : (d : Dialect) (whole : ℕ) (text more front rest : List ℕ) (b : ℕ) (p : Part)
     → text ≡ b ∷ more → is_token_start b ≡ true → more ≡ front ++ rest
-    → Every is_token_rest front → p.node_type ≡ type_is.Token → p.number ≡ pos 0 → p.at + length text ≡ whole
+    → Every is_in_token front → p.node_type ≡ type_is.Token → p.number ≡ pos 0 → p.at + length text ≡ whole
     → p.length ≡ length front + 1 → p.coded ≡ false → ScansBare d whole text p rest
 token_scans d whole text more front rest b p e start run each node_type number at size coded =
     let split : text ≡ (b ∷ front) ++ rest = e ∙ ap (λ y. b ∷ y) run in record {

@@ -4,7 +4,7 @@ use Rattle.sf_value.specs.Ascii.{percent, quote}
 use Rattle.sf_value.specs.Grammar.Words.{Every}
 use Rattle.sf_value.specs.Grammar.Classes.{is_byte}
 use Rattle.sf_value.specs.Grammar.Utf8.{Utf8, Start, Wants, WellFormed}
-use Rattle.sf_value.specs.Grammar.DisplayStrings.{hex, is_plain, Pieces}
+use Rattle.sf_value.specs.Grammar.DisplayStrings.{hex, is_unencoded, EncodedBytes}
 use Rattle.sf_view.specs.declared.display_string.Utf8State.{Utf8State}
 use Rattle.sf_view.specs.declared.display_string.Utf8State.TheVariants as utf8
 
@@ -23,7 +23,7 @@ pub record IsEscape (text : List ℕ) (c : ℕ) (rest : List ℕ) : Type 0 where
 
 -- what may be read of plain bytes at a place in a character
 abbrev pub PlainBefore : Utf8 → List ℕ → List ℕ → Type 0
-PlainBefore Start text rest = (front : List ℕ) × (text ≡ front ++ rest) × Every is_plain front
+PlainBefore Start text rest = (front : List ℕ) × (text ≡ front ++ rest) × Every is_unencoded front
 PlainBefore (Wants n low high) text rest = text ≡ rest
 
 -- the text opens a Display String, of which so much was read
@@ -31,5 +31,5 @@ pub record InsideShown (text rest : List ℕ) (x : Utf8) : Type 0 where
   pub front : List ℕ
   pub bytes : List ℕ
   pub split : text ≡ percent ∷ quote ∷ (front ++ rest)
-  pub pieces : (back s : List ℕ) → Pieces back s → Pieces (front ++ back) (bytes ++ s)
+  pub pieces : (back s : List ℕ) → EncodedBytes back s → EncodedBytes (front ++ back) (bytes ++ s)
   pub formed : (s : List ℕ) → WellFormed x s → WellFormed Start (bytes ++ s)
