@@ -48,11 +48,11 @@ command_line-is_free = refl
 
 -- a subcommand more
 pub added : (old sub new : Command) (a : App) (s : Shape) → AddsSubcommand old sub new
-    → app_of old ≡ a → shape_of sub ≡ s → s.is_unencoded ≡ true → app_of new ≡ with_subcommand a s
+    → app_of old ≡ a → shape_of sub ≡ s → s.is_plain ≡ true → app_of new ≡ with_subcommand a s
 added old sub new a s adds e f plain =
-    let is_unencoded : (shape_of sub).is_unencoded ≡ true = ap (λ (s : Shape). s.is_unencoded) f
+    let is_plain : (shape_of sub).is_plain ≡ true = ap (λ (s : Shape). s.is_plain) f
     ∙ plain in
-    adds.shape (plain_fields sub is_unencoded).globals ∙ ap₂ with_subcommand e f
+    adds.shape (plain_fields sub is_plain).globals ∙ ap₂ with_subcommand e f
 
 -- the first value of an option
 
