@@ -5,6 +5,8 @@ pub mod SerialisingUtf8
 pub mod SerialisingDisplay
 pub mod SerialisingFields
 pub mod AbnfBare
+pub mod ParsingSteps
 pub mod ParsingWords
+pub mod ParsingNumbers
 pub mod ParsingStrings
 pub mod Rows
