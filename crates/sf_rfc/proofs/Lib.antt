@@ -8,5 +8,6 @@ pub mod AbnfBare
 pub mod ParsingSteps
 pub mod ParsingWords
 pub mod ParsingNumbers
+pub mod ParsingBase64
 pub mod ParsingStrings
 pub mod Rows

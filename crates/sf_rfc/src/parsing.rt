@@ -1,6 +1,6 @@
 //! Laws of parsing (RFC 9651 section 4.2), each as the contract of a function that does nothing.
 ghost use Rattle.sf_rfc.specs.ParsingLaws.{KeysAgree, TokensAgree, BooleansAgree, StringsAgree};
-ghost use Rattle.sf_rfc.specs.ParsingLaws.{NumbersAgree, DatesAgree};
+ghost use Rattle.sf_rfc.specs.ParsingLaws.{NumbersAgree, DatesAgree, ByteSequencesAgree};
 
 /// A key is taken by the RFC's steps (section 4.2.3.3) exactly if the grammar spells it, with the
 /// same value and the same rest.
@@ -32,4 +32,10 @@ pub fn number_parses()
 /// A Date is taken by the RFC's steps (section 4.2.9) exactly if the grammar spells it.
 pub fn date_parses()
     ensures { DatesAgree }
+{}
+
+/// A Byte Sequence is taken by the RFC's steps (section 4.2.7, with base64 by bits) exactly if the
+/// grammar spells it.
+pub fn byte_sequence_parses()
+    ensures { ByteSequencesAgree }
 {}
