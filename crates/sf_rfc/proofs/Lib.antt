@@ -5,6 +5,9 @@ pub mod SerialisingUtf8
 pub mod SerialisingDisplay
 pub mod SerialisingFields
 pub mod AbnfBare
+pub mod ParsingSteps
 pub mod ParsingWords
+pub mod ParsingNumbers
+pub mod ParsingBase64
 pub mod ParsingStrings
 pub mod Rows

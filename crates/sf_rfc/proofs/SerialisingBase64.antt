@@ -86,7 +86,7 @@ characters_are (a ∷ b ∷ c ∷ s) h =
     (characters_are s h.1.1.1)
 
 -- the padding
-missing_group : (a b c d : ℕ) (t : List ℕ)
+pub missing_group : (a b c d : ℕ) (t : List ℕ)
     → missing 4 (length (a ∷ b ∷ c ∷ d ∷ t)) ≡ missing 4 (length t)
 missing_group a b c d t = omega arith
 

@@ -1,9 +1,16 @@
 -- What it means that an algorithm of RFC 9651 and a relation of the grammar agree.
-use Rattle.std.specs.Prelude.{◌≡◌, ℕ, Bool, false, List, ◌++◌, Option, Some}
+use Rattle.std.specs.Prelude.{◌≡◌, ℕ, ℤ, Bool, false, ◌==◌, ◌||◌, List, ◌++◌, Option, Some, ◌⊎◌}
+use Rattle.sf_value.specs.declared.value.Bare.{Bare}
+use Rattle.sf_value.specs.declared.value.Bare.TheVariants.{Integer, Decimal, Date}
+use Rattle.sf_value.specs.Ascii.{point}
+use Rattle.sf_value.specs.Grammar.Classes.{is_digit}
+use Rattle.sf_value.specs.Grammar.Numbers.{SpellsInteger, SpellsDecimal, SpellsDate}
 use Rattle.sf_value.specs.Grammar.Classes.{is_key_start, is_in_key, is_token_start, is_in_token}
 use Rattle.sf_value.specs.Grammar.Booleans.{SpellsBoolean}
 use Rattle.sf_value.specs.Grammar.Strings.{SpellsString}
+use Rattle.sf_value.specs.Grammar.ByteSequences.{SpellsByteSequence}
 use Rattle.sf_rfc.specs.Rfc9651.ParsingBare.{parse_token, parse_boolean, parse_string}
+use Rattle.sf_rfc.specs.Rfc9651.ParsingBare.{parse_number, parse_date, parse_byte_sequence}
 use Rattle.sf_value.specs.Grammar.Tokens.{SpellsWord}
 use Rattle.sf_rfc.specs.Rfc9651.Words.{Parse, first_is}
 use Rattle.sf_rfc.specs.Rfc9651.Parsing.{parse_key}
@@ -16,6 +23,28 @@ pub record Agrees (V : Type 0) (L : List ℕ → V → Type 0) (f : Parse V) (mo
       × L front v
   -- A text that is spelled it takes.
   pub whole : (t r : List ℕ) (v : V) → L t v → first_is more r ≡ false → f (t ++ r) ≡ Some (v, r)
+
+-- an Integer or a Decimal
+abbrev pub SpellsNumber : List ℕ → Bare → Type 0
+SpellsNumber t v =
+    ((n : ℤ) × (v ≡ Integer n) × SpellsInteger t n) ⊎ ((m : ℤ) × (v ≡ Decimal m) × SpellsDecimal t m)
+
+-- what a number goes on with
+abbrev pub is_in_number : ℕ → Bool
+is_in_number c = is_digit c || c == point
+
+abbrev pub NumbersAgree : Type 0
+NumbersAgree = Agrees Bare SpellsNumber parse_number is_in_number
+
+-- a Date, as a bare item
+abbrev pub SpellsBareDate : List ℕ → Bare → Type 0
+SpellsBareDate t v = (n : ℤ) × (v ≡ Date n) × SpellsDate t n
+
+abbrev pub DatesAgree : Type 0
+DatesAgree = Agrees Bare SpellsBareDate parse_date is_in_number
+
+abbrev pub ByteSequencesAgree : Type 0
+ByteSequencesAgree = Agrees (List ℕ) SpellsByteSequence parse_byte_sequence (λ c. false)
 
 abbrev pub KeysAgree : Type 0
 KeysAgree = Agrees (List ℕ) (SpellsWord is_key_start is_in_key) parse_key is_in_key

@@ -1,5 +1,6 @@
 //! Laws of parsing (RFC 9651 section 4.2), each as the contract of a function that does nothing.
 ghost use Rattle.sf_rfc.specs.ParsingLaws.{KeysAgree, TokensAgree, BooleansAgree, StringsAgree};
+ghost use Rattle.sf_rfc.specs.ParsingLaws.{NumbersAgree, DatesAgree, ByteSequencesAgree};
 
 /// A key is taken by the RFC's steps (section 4.2.3.3) exactly if the grammar spells it, with the
 /// same value and the same rest.
@@ -20,4 +21,21 @@ pub fn boolean_parses()
 /// A String is taken by the RFC's steps (section 4.2.5) exactly if the grammar spells it.
 pub fn string_parses()
     ensures { StringsAgree }
+{}
+
+/// An Integer or a Decimal is taken by the RFC's steps (section 4.2.4) exactly if the grammar
+/// spells it.
+pub fn number_parses()
+    ensures { NumbersAgree }
+{}
+
+/// A Date is taken by the RFC's steps (section 4.2.9) exactly if the grammar spells it.
+pub fn date_parses()
+    ensures { DatesAgree }
+{}
+
+/// A Byte Sequence is taken by the RFC's steps (section 4.2.7, with base64 by bits) exactly if the
+/// grammar spells it.
+pub fn byte_sequence_parses()
+    ensures { ByteSequencesAgree }
 {}

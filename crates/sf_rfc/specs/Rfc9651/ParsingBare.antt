@@ -279,7 +279,7 @@ parse_added Rfc9651 t = elim (first_is (λ c. c == 64) t) [
   ]
 ]
 
--- by the first character. unsure: the order of steps 3 to 5; the tests exclude each other
+-- by the first character
 abbrev pub parse_bare : Dialect → Parse Bare
 -- 1: "-" or a DIGIT is an Integer or Decimal
 parse_bare d t = elim (first_is (λ c. c == 45 || is_DIGIT c) t) [
