@@ -9,5 +9,7 @@ pub mod ParsingSteps
 pub mod ParsingWords
 pub mod ParsingNumbers
 pub mod ParsingBase64
+pub mod ParsingUtf8
+pub mod ParsingDisplay
 pub mod ParsingStrings
 pub mod Rows

@@ -8,9 +8,11 @@ use Rattle.sf_value.specs.Grammar.Numbers.{SpellsInteger, SpellsDecimal, SpellsD
 use Rattle.sf_value.specs.Grammar.Classes.{is_key_start, is_in_key, is_token_start, is_in_token}
 use Rattle.sf_value.specs.Grammar.Booleans.{SpellsBoolean}
 use Rattle.sf_value.specs.Grammar.Strings.{SpellsString}
+use Rattle.sf_value.specs.Grammar.DisplayStrings.{SpellsDisplayString}
 use Rattle.sf_value.specs.Grammar.ByteSequences.{SpellsByteSequence}
 use Rattle.sf_rfc.specs.Rfc9651.ParsingBare.{parse_token, parse_boolean, parse_string}
 use Rattle.sf_rfc.specs.Rfc9651.ParsingBare.{parse_number, parse_date, parse_byte_sequence}
+use Rattle.sf_rfc.specs.Rfc9651.ParsingBare.{parse_display_string}
 use Rattle.sf_value.specs.Grammar.Tokens.{SpellsWord}
 use Rattle.sf_rfc.specs.Rfc9651.Words.{Parse, first_is}
 use Rattle.sf_rfc.specs.Rfc9651.Parsing.{parse_key}
@@ -45,6 +47,9 @@ DatesAgree = Agrees Bare SpellsBareDate parse_date is_in_number
 
 abbrev pub ByteSequencesAgree : Type 0
 ByteSequencesAgree = Agrees (List ℕ) SpellsByteSequence parse_byte_sequence (λ c. false)
+
+abbrev pub DisplayStringsAgree : Type 0
+DisplayStringsAgree = Agrees (List ℕ) SpellsDisplayString parse_display_string (λ c. false)
 
 abbrev pub KeysAgree : Type 0
 KeysAgree = Agrees (List ℕ) (SpellsWord is_key_start is_in_key) parse_key is_in_key

@@ -1,6 +1,7 @@
 //! Laws of parsing (RFC 9651 section 4.2), each as the contract of a function that does nothing.
 ghost use Rattle.sf_rfc.specs.ParsingLaws.{KeysAgree, TokensAgree, BooleansAgree, StringsAgree};
 ghost use Rattle.sf_rfc.specs.ParsingLaws.{NumbersAgree, DatesAgree, ByteSequencesAgree};
+ghost use Rattle.sf_rfc.specs.ParsingLaws.{DisplayStringsAgree};
 
 /// A key is taken by the RFC's steps (section 4.2.3.3) exactly if the grammar spells it, with the
 /// same value and the same rest.
@@ -38,4 +39,10 @@ pub fn date_parses()
 /// grammar spells it.
 pub fn byte_sequence_parses()
     ensures { ByteSequencesAgree }
+{}
+
+/// A Display String is taken by the RFC's steps (section 4.2.10, with UTF-8 by the rules of RFC
+/// 3629) exactly if the grammar spells it.
+pub fn display_string_parses()
+    ensures { DisplayStringsAgree }
 {}
