@@ -11,5 +11,6 @@ pub mod ParsingNumbers
 pub mod ParsingBase64
 pub mod ParsingUtf8
 pub mod ParsingDisplay
+pub mod ParsingBareItems
 pub mod ParsingStrings
 pub mod Rows

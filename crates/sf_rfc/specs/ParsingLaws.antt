@@ -8,11 +8,13 @@ use Rattle.sf_value.specs.Grammar.Numbers.{SpellsInteger, SpellsDecimal, SpellsD
 use Rattle.sf_value.specs.Grammar.Classes.{is_key_start, is_in_key, is_token_start, is_in_token}
 use Rattle.sf_value.specs.Grammar.Booleans.{SpellsBoolean}
 use Rattle.sf_value.specs.Grammar.Strings.{SpellsString}
+use Rattle.sf_value.specs.Grammar.BareItems.{SpellsBare}
+use Rattle.sf_value.specs.declared.dialect.Dialect.{Dialect}
 use Rattle.sf_value.specs.Grammar.DisplayStrings.{SpellsDisplayString}
 use Rattle.sf_value.specs.Grammar.ByteSequences.{SpellsByteSequence}
 use Rattle.sf_rfc.specs.Rfc9651.ParsingBare.{parse_token, parse_boolean, parse_string}
 use Rattle.sf_rfc.specs.Rfc9651.ParsingBare.{parse_number, parse_date, parse_byte_sequence}
-use Rattle.sf_rfc.specs.Rfc9651.ParsingBare.{parse_display_string}
+use Rattle.sf_rfc.specs.Rfc9651.ParsingBare.{parse_display_string, parse_bare}
 use Rattle.sf_value.specs.Grammar.Tokens.{SpellsWord}
 use Rattle.sf_rfc.specs.Rfc9651.Words.{Parse, first_is}
 use Rattle.sf_rfc.specs.Rfc9651.Parsing.{parse_key}
@@ -63,3 +65,7 @@ BooleansAgree = Agrees Bool SpellsBoolean parse_boolean (λ c. false)
 
 abbrev pub StringsAgree : Type 0
 StringsAgree = Agrees (List ℕ) SpellsString parse_string (λ c. false)
+
+-- a bare item goes on with what a Token goes on with, which the characters of numbers are among
+abbrev pub BareItemsAgree : Type 0
+BareItemsAgree = (d : Dialect) → Agrees Bare (SpellsBare d) (parse_bare d) is_in_token

@@ -1,7 +1,7 @@
 //! Laws of parsing (RFC 9651 section 4.2), each as the contract of a function that does nothing.
 ghost use Rattle.sf_rfc.specs.ParsingLaws.{KeysAgree, TokensAgree, BooleansAgree, StringsAgree};
 ghost use Rattle.sf_rfc.specs.ParsingLaws.{NumbersAgree, DatesAgree, ByteSequencesAgree};
-ghost use Rattle.sf_rfc.specs.ParsingLaws.{DisplayStringsAgree};
+ghost use Rattle.sf_rfc.specs.ParsingLaws.{DisplayStringsAgree, BareItemsAgree};
 
 /// A key is taken by the RFC's steps (section 4.2.3.3) exactly if the grammar spells it, with the
 /// same value and the same rest.
@@ -45,4 +45,10 @@ pub fn byte_sequence_parses()
 /// 3629) exactly if the grammar spells it.
 pub fn display_string_parses()
     ensures { DisplayStringsAgree }
+{}
+
+/// A bare item of either dialect is taken by the RFC's steps (section 4.2.3.1) exactly if the
+/// grammar spells it.
+pub fn bare_item_parses()
+    ensures { BareItemsAgree }
 {}
