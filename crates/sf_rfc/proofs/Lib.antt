@@ -12,5 +12,7 @@ pub mod ParsingBase64
 pub mod ParsingUtf8
 pub mod ParsingDisplay
 pub mod ParsingBareItems
+pub mod ParsingMaps
+pub mod ParsingParameters
 pub mod ParsingStrings
 pub mod Rows

@@ -1,7 +1,7 @@
 //! Laws of parsing (RFC 9651 section 4.2), each as the contract of a function that does nothing.
 ghost use Rattle.sf_rfc.specs.ParsingLaws.{KeysAgree, TokensAgree, BooleansAgree, StringsAgree};
 ghost use Rattle.sf_rfc.specs.ParsingLaws.{NumbersAgree, DatesAgree, ByteSequencesAgree};
-ghost use Rattle.sf_rfc.specs.ParsingLaws.{DisplayStringsAgree, BareItemsAgree};
+ghost use Rattle.sf_rfc.specs.ParsingLaws.{DisplayStringsAgree, BareItemsAgree, ParametersAgree};
 
 /// A key is taken by the RFC's steps (section 4.2.3.3) exactly if the grammar spells it, with the
 /// same value and the same rest.
@@ -51,4 +51,10 @@ pub fn display_string_parses()
 /// grammar spells it.
 pub fn bare_item_parses()
     ensures { BareItemsAgree }
+{}
+
+/// Parameters are taken by the RFC's steps (section 4.2.3.2) exactly if the grammar spells them: a
+/// value that is overwritten in place is the last of its key, at the key's first place.
+pub fn parameters_parse()
+    ensures { ParametersAgree }
 {}
