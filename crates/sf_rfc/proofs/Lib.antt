@@ -14,5 +14,6 @@ pub mod ParsingDisplay
 pub mod ParsingBareItems
 pub mod ParsingMaps
 pub mod ParsingParameters
+pub mod ParsingItems
 pub mod ParsingStrings
 pub mod Rows

@@ -239,7 +239,7 @@ cut x (c ∷ t) = go (c == x) refl (cut x t)
     go true i ih = rw (i, before, from) refl
     go false i ih = rw (i, before, from) (ap (λ y. c ∷ y) ih)
 
-is_first : (x : ℕ) (t : List ℕ) → first_is (λ c. c == x) t ≡ true → t ≡ x ∷ drop 1 t
+pub is_first : (x : ℕ) (t : List ℕ) → first_is (λ c. c == x) t ≡ true → t ≡ x ∷ drop 1 t
 is_first x [] h = absurd cc
 is_first x (c ∷ t) h = let i : c ≡ x = grind (arith, nat_tests) in ap (λ y. y ∷ t) i
 

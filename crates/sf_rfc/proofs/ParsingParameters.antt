@@ -46,7 +46,7 @@ pub same_byte : (c d : ℕ) → (c == d) ≡ true → c ≡ d
 same_byte c d h = grind (arith, nat_tests)
 
 -- what a key or a value goes on with
-abbrev is_value_or_key : ℕ → Bool
+abbrev pub is_value_or_key : ℕ → Bool
 is_value_or_key c = is_in_token c || c == 61
 
 module _ (d : Dialect) where
@@ -128,7 +128,7 @@ module _ (d : Dialect) where
       (front, i, (more, j, s))
 
   -- whole: no key, no value and no semicolon goes on with what may follow
-  raw_first : (t r : List ℕ) (raw : Pairs Bare) → SpellsRaw d t raw
+  pub raw_first : (t r : List ℕ) (raw : Pairs Bare) → SpellsRaw d t raw
       → first_is is_in_params r ≡ false → first_is is_value_or_key (t ++ r) ≡ false
   raw_first t r [] s f = rw s (first_less is_value_or_key is_in_params less r f)
     where

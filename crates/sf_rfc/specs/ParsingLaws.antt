@@ -8,6 +8,11 @@ use Rattle.sf_value.specs.Grammar.Numbers.{SpellsInteger, SpellsDecimal, SpellsD
 use Rattle.sf_value.specs.Grammar.Classes.{is_key_start, is_in_key, is_token_start, is_in_token}
 use Rattle.sf_value.specs.Grammar.Booleans.{SpellsBoolean}
 use Rattle.sf_value.specs.Grammar.Strings.{SpellsString}
+use Rattle.sf_value.specs.Grammar.Items.{SpellsItem}
+use Rattle.sf_value.specs.Grammar.InnerLists.{SpellsInner, SpellsMember}
+use Rattle.sf_value.specs.declared.value.Item.{Item}
+use Rattle.sf_value.specs.declared.value.Inner.{Inner}
+use Rattle.sf_value.specs.declared.value.Member.{Member}
 use Rattle.sf_value.specs.Grammar.Pairs.{Pairs}
 use Rattle.sf_value.specs.Grammar.Parameters.{SpellsParams}
 use Rattle.sf_value.specs.Grammar.BareItems.{SpellsBare}
@@ -19,7 +24,8 @@ use Rattle.sf_rfc.specs.Rfc9651.ParsingBare.{parse_number, parse_date, parse_byt
 use Rattle.sf_rfc.specs.Rfc9651.ParsingBare.{parse_display_string, parse_bare}
 use Rattle.sf_value.specs.Grammar.Tokens.{SpellsWord}
 use Rattle.sf_rfc.specs.Rfc9651.Words.{Parse, first_is}
-use Rattle.sf_rfc.specs.Rfc9651.Parsing.{parse_key, parse_params}
+use Rattle.sf_rfc.specs.Rfc9651.Parsing.{parse_key, parse_params, parse_item, parse_inner}
+use Rattle.sf_rfc.specs.Rfc9651.Parsing.{parse_member}
 
 -- the algorithm f takes the texts of L, before any rest whose first character the test refuses
 pub record Agrees (V : Type 0) (L : List ℕ → V → Type 0) (f : Parse V) (more : ℕ → Bool)
@@ -79,3 +85,13 @@ is_in_params c = is_in_token c || (c == semicolon || c == equals)
 abbrev pub ParametersAgree : Type 0
 ParametersAgree =
     (d : Dialect) → Agrees (Pairs Bare) (SpellsParams d) (parse_params d) is_in_params
+
+abbrev pub ItemsAgree : Type 0
+ItemsAgree = (d : Dialect) → Agrees Item (SpellsItem d) (parse_item d) is_in_params
+
+abbrev pub InnerListsAgree : Type 0
+InnerListsAgree = (d : Dialect) → Agrees Inner (SpellsInner d) (parse_inner d) is_in_params
+
+-- a member of a List or a Dictionary
+abbrev pub MembersAgree : Type 0
+MembersAgree = (d : Dialect) → Agrees Member (SpellsMember d) (parse_member d) is_in_params

@@ -2,6 +2,7 @@
 ghost use Rattle.sf_rfc.specs.ParsingLaws.{KeysAgree, TokensAgree, BooleansAgree, StringsAgree};
 ghost use Rattle.sf_rfc.specs.ParsingLaws.{NumbersAgree, DatesAgree, ByteSequencesAgree};
 ghost use Rattle.sf_rfc.specs.ParsingLaws.{DisplayStringsAgree, BareItemsAgree, ParametersAgree};
+ghost use Rattle.sf_rfc.specs.ParsingLaws.{ItemsAgree};
 
 /// A key is taken by the RFC's steps (section 4.2.3.3) exactly if the grammar spells it, with the
 /// same value and the same rest.
@@ -57,4 +58,9 @@ pub fn bare_item_parses()
 /// value that is overwritten in place is the last of its key, at the key's first place.
 pub fn parameters_parse()
     ensures { ParametersAgree }
+{}
+
+/// An Item is taken by the RFC's steps (section 4.2.3) exactly if the grammar spells it.
+pub fn item_parses()
+    ensures { ItemsAgree }
 {}
