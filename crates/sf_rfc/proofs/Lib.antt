@@ -15,5 +15,6 @@ pub mod ParsingBareItems
 pub mod ParsingMaps
 pub mod ParsingParameters
 pub mod ParsingItems
+pub mod ParsingInnerLists
 pub mod ParsingStrings
 pub mod Rows

@@ -2,7 +2,7 @@
 ghost use Rattle.sf_rfc.specs.ParsingLaws.{KeysAgree, TokensAgree, BooleansAgree, StringsAgree};
 ghost use Rattle.sf_rfc.specs.ParsingLaws.{NumbersAgree, DatesAgree, ByteSequencesAgree};
 ghost use Rattle.sf_rfc.specs.ParsingLaws.{DisplayStringsAgree, BareItemsAgree, ParametersAgree};
-ghost use Rattle.sf_rfc.specs.ParsingLaws.{ItemsAgree};
+ghost use Rattle.sf_rfc.specs.ParsingLaws.{ItemsAgree, InnerListsAgree, MembersAgree};
 
 /// A key is taken by the RFC's steps (section 4.2.3.3) exactly if the grammar spells it, with the
 /// same value and the same rest.
@@ -63,4 +63,15 @@ pub fn parameters_parse()
 /// An Item is taken by the RFC's steps (section 4.2.3) exactly if the grammar spells it.
 pub fn item_parses()
     ensures { ItemsAgree }
+{}
+
+/// An Inner List is taken by the RFC's steps (section 4.2.1.2) exactly if the grammar spells it.
+pub fn inner_list_parses()
+    ensures { InnerListsAgree }
+{}
+
+/// A member of a List is taken by the RFC's steps (section 4.2.1.1) exactly if the grammar spells
+/// it.
+pub fn member_parses()
+    ensures { MembersAgree }
 {}
