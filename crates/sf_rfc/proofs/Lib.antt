@@ -9,5 +9,12 @@ pub mod ParsingSteps
 pub mod ParsingWords
 pub mod ParsingNumbers
 pub mod ParsingBase64
+pub mod ParsingUtf8
+pub mod ParsingDisplay
+pub mod ParsingBareItems
+pub mod ParsingMaps
+pub mod ParsingParameters
+pub mod ParsingItems
+pub mod ParsingInnerLists
 pub mod ParsingStrings
 pub mod Rows

@@ -21,7 +21,7 @@ use Rattle.sf_rfc.proofs.SerialisingBase64.{missing_group}
 use Rattle.sf_rfc.proofs.ParsingSteps.{never, some_is, some_pair, and_then_cases, if_so, if_not}
 
 -- the alphabet
-is_value : Option ℕ → ℕ → Bool
+unfoldable pub is_value : Option ℕ → ℕ → Bool
 is_value None x = false
 is_value (Some y) x = y == x
 
@@ -29,7 +29,7 @@ the_values : all_below 64 (λ x. is_value (value_of (letter x)) x) ≡ true
 unfolding value_of letter is_value
 the_values = refl
 
-the_value : (o : Option ℕ) (x : ℕ) → is_value o x ≡ true → o ≡ Some x
+pub the_value : (o : Option ℕ) (x : ℕ) → is_value o x ≡ true → o ≡ Some x
 unfolding is_value
 the_value None x h = absurd cc
 the_value (Some y) x h = let i : y ≡ x = grind (arith, nat_tests) in ap Some i
@@ -39,7 +39,7 @@ letter_value x h =
     the_value (value_of (letter x)) x
     (each_below 64 (λ y. is_value (value_of (letter y)) y) the_values x h)
 
-placed : (n : ℕ) (xs : List ℕ) (c x : ℕ) → place_from n xs c ≡ Some x
+pub placed : (n : ℕ) (xs : List ℕ) (c x : ℕ) → place_from n xs c ≡ Some x
     → (i : ℕ) × (x ≡ n + i) × (i < length xs) × (get_or xs i 0 ≡ c)
 placed n [] c x e = never x e
 placed n (y ∷ ys) c x e = go (y == c) refl (placed (suc n) ys c x)
@@ -216,11 +216,11 @@ decoded_spell (a ∷ b ∷ c ∷ d ∷ t) bits m e n h =
     (four_spell x y z w (t ++ padding m) (by_eights rest) hx hy hz hw ih)
 
 -- the cuts at ":" and "="
-both_so : (a b : Bool) → (a && b) ≡ true → a ≡ true
+pub both_so : (a b : Bool) → (a && b) ≡ true → a ≡ true
 both_so true b h = refl
 both_so false b h = h
 
-both_then : (a b : Bool) → (a && b) ≡ true → b ≡ true
+pub both_then : (a b : Bool) → (a && b) ≡ true → b ≡ true
 both_then true b h = h
 both_then false b h = absurd cc
 
@@ -239,7 +239,7 @@ cut x (c ∷ t) = go (c == x) refl (cut x t)
     go true i ih = rw (i, before, from) refl
     go false i ih = rw (i, before, from) (ap (λ y. c ∷ y) ih)
 
-is_first : (x : ℕ) (t : List ℕ) → first_is (λ c. c == x) t ≡ true → t ≡ x ∷ drop 1 t
+pub is_first : (x : ℕ) (t : List ℕ) → first_is (λ c. c == x) t ≡ true → t ≡ x ∷ drop 1 t
 is_first x [] h = absurd cc
 is_first x (c ∷ t) h = let i : c ≡ x = grind (arith, nat_tests) in ap (λ y. y ∷ t) i
 

@@ -156,7 +156,7 @@ tchar c =
     or_turn (is_any_of (codes "!#$%&'*+-.^_`|~") c) (is_digit c) (rfc.is_ALPHA c)
     ∙ ap₂ (λ x y. x || is_digit c || y) (alpha c) (one_of (codes "!#$%&'*+-.^_`|~") c)
 
-token_start : (c : ℕ) → can_start_token c ≡ is_token_start c
+pub token_start : (c : ℕ) → can_start_token c ≡ is_token_start c
 token_start c = ap (λ x. x || c == 42) (alpha c)
 
 token_rest : (c : ℕ) → can_be_in_token c ≡ is_in_token c

@@ -8,13 +8,13 @@ use Rattle.sf_value.proofs.Words.{allow_cases}
 use Rattle.sf_rfc.specs.Rfc9651.Alphabets.{in_range}
 use Rattle.sf_rfc.specs.Rfc9651.Utf8.{utf8_char, utf8_octets, is_utf8}
 
-inside : (low high b : ℕ) → low ≤ b → b ≤ high → in_range low high b ≡ true
+pub inside : (low high b : ℕ) → low ≤ b → b ≤ high → in_range low high b ≡ true
 inside low high b l h = grind arith
 
 below : (low high b : ℕ) → b < low → in_range low high b ≡ false
 below low high b l = grind arith
 
-above : (low high b : ℕ) → high < b → in_range low high b ≡ false
+pub above : (low high b : ℕ) → high < b → in_range low high b ≡ false
 above low high b l = grind arith
 
 -- the next byte that is wanted

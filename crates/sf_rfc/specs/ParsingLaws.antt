@@ -2,18 +2,30 @@
 use Rattle.std.specs.Prelude.{◌≡◌, ℕ, ℤ, Bool, false, ◌==◌, ◌||◌, List, ◌++◌, Option, Some, ◌⊎◌}
 use Rattle.sf_value.specs.declared.value.Bare.{Bare}
 use Rattle.sf_value.specs.declared.value.Bare.TheVariants.{Integer, Decimal, Date}
-use Rattle.sf_value.specs.Ascii.{point}
+use Rattle.sf_value.specs.Ascii.{point, semicolon, equals}
 use Rattle.sf_value.specs.Grammar.Classes.{is_digit}
 use Rattle.sf_value.specs.Grammar.Numbers.{SpellsInteger, SpellsDecimal, SpellsDate}
 use Rattle.sf_value.specs.Grammar.Classes.{is_key_start, is_in_key, is_token_start, is_in_token}
 use Rattle.sf_value.specs.Grammar.Booleans.{SpellsBoolean}
 use Rattle.sf_value.specs.Grammar.Strings.{SpellsString}
+use Rattle.sf_value.specs.Grammar.Items.{SpellsItem}
+use Rattle.sf_value.specs.Grammar.InnerLists.{SpellsInner, SpellsMember}
+use Rattle.sf_value.specs.declared.value.Item.{Item}
+use Rattle.sf_value.specs.declared.value.Inner.{Inner}
+use Rattle.sf_value.specs.declared.value.Member.{Member}
+use Rattle.sf_value.specs.Grammar.Pairs.{Pairs}
+use Rattle.sf_value.specs.Grammar.Parameters.{SpellsParams}
+use Rattle.sf_value.specs.Grammar.BareItems.{SpellsBare}
+use Rattle.sf_value.specs.declared.dialect.Dialect.{Dialect}
+use Rattle.sf_value.specs.Grammar.DisplayStrings.{SpellsDisplayString}
 use Rattle.sf_value.specs.Grammar.ByteSequences.{SpellsByteSequence}
 use Rattle.sf_rfc.specs.Rfc9651.ParsingBare.{parse_token, parse_boolean, parse_string}
 use Rattle.sf_rfc.specs.Rfc9651.ParsingBare.{parse_number, parse_date, parse_byte_sequence}
+use Rattle.sf_rfc.specs.Rfc9651.ParsingBare.{parse_display_string, parse_bare}
 use Rattle.sf_value.specs.Grammar.Tokens.{SpellsWord}
 use Rattle.sf_rfc.specs.Rfc9651.Words.{Parse, first_is}
-use Rattle.sf_rfc.specs.Rfc9651.Parsing.{parse_key}
+use Rattle.sf_rfc.specs.Rfc9651.Parsing.{parse_key, parse_params, parse_item, parse_inner}
+use Rattle.sf_rfc.specs.Rfc9651.Parsing.{parse_member}
 
 -- the algorithm f takes the texts of L, before any rest whose first character the test refuses
 pub record Agrees (V : Type 0) (L : List ℕ → V → Type 0) (f : Parse V) (more : ℕ → Bool)
@@ -46,6 +58,9 @@ DatesAgree = Agrees Bare SpellsBareDate parse_date is_in_number
 abbrev pub ByteSequencesAgree : Type 0
 ByteSequencesAgree = Agrees (List ℕ) SpellsByteSequence parse_byte_sequence (λ c. false)
 
+abbrev pub DisplayStringsAgree : Type 0
+DisplayStringsAgree = Agrees (List ℕ) SpellsDisplayString parse_display_string (λ c. false)
+
 abbrev pub KeysAgree : Type 0
 KeysAgree = Agrees (List ℕ) (SpellsWord is_key_start is_in_key) parse_key is_in_key
 
@@ -58,3 +73,25 @@ BooleansAgree = Agrees Bool SpellsBoolean parse_boolean (λ c. false)
 
 abbrev pub StringsAgree : Type 0
 StringsAgree = Agrees (List ℕ) SpellsString parse_string (λ c. false)
+
+-- a bare item goes on with what a Token goes on with, which the characters of numbers are among
+abbrev pub BareItemsAgree : Type 0
+BareItemsAgree = (d : Dialect) → Agrees Bare (SpellsBare d) (parse_bare d) is_in_token
+
+-- what parameters go on with, or the bare item or the key before them
+abbrev pub is_in_params : ℕ → Bool
+is_in_params c = is_in_token c || (c == semicolon || c == equals)
+
+abbrev pub ParametersAgree : Type 0
+ParametersAgree =
+    (d : Dialect) → Agrees (Pairs Bare) (SpellsParams d) (parse_params d) is_in_params
+
+abbrev pub ItemsAgree : Type 0
+ItemsAgree = (d : Dialect) → Agrees Item (SpellsItem d) (parse_item d) is_in_params
+
+abbrev pub InnerListsAgree : Type 0
+InnerListsAgree = (d : Dialect) → Agrees Inner (SpellsInner d) (parse_inner d) is_in_params
+
+-- a member of a List or a Dictionary
+abbrev pub MembersAgree : Type 0
+MembersAgree = (d : Dialect) → Agrees Member (SpellsMember d) (parse_member d) is_in_params

@@ -1,6 +1,8 @@
 //! Laws of parsing (RFC 9651 section 4.2), each as the contract of a function that does nothing.
 ghost use Rattle.sf_rfc.specs.ParsingLaws.{KeysAgree, TokensAgree, BooleansAgree, StringsAgree};
 ghost use Rattle.sf_rfc.specs.ParsingLaws.{NumbersAgree, DatesAgree, ByteSequencesAgree};
+ghost use Rattle.sf_rfc.specs.ParsingLaws.{DisplayStringsAgree, BareItemsAgree, ParametersAgree};
+ghost use Rattle.sf_rfc.specs.ParsingLaws.{ItemsAgree, InnerListsAgree, MembersAgree};
 
 /// A key is taken by the RFC's steps (section 4.2.3.3) exactly if the grammar spells it, with the
 /// same value and the same rest.
@@ -38,4 +40,38 @@ pub fn date_parses()
 /// grammar spells it.
 pub fn byte_sequence_parses()
     ensures { ByteSequencesAgree }
+{}
+
+/// A Display String is taken by the RFC's steps (section 4.2.10, with UTF-8 by the rules of RFC
+/// 3629) exactly if the grammar spells it.
+pub fn display_string_parses()
+    ensures { DisplayStringsAgree }
+{}
+
+/// A bare item of either dialect is taken by the RFC's steps (section 4.2.3.1) exactly if the
+/// grammar spells it.
+pub fn bare_item_parses()
+    ensures { BareItemsAgree }
+{}
+
+/// Parameters are taken by the RFC's steps (section 4.2.3.2) exactly if the grammar spells them: a
+/// value that is overwritten in place is the last of its key, at the key's first place.
+pub fn parameters_parse()
+    ensures { ParametersAgree }
+{}
+
+/// An Item is taken by the RFC's steps (section 4.2.3) exactly if the grammar spells it.
+pub fn item_parses()
+    ensures { ItemsAgree }
+{}
+
+/// An Inner List is taken by the RFC's steps (section 4.2.1.2) exactly if the grammar spells it.
+pub fn inner_list_parses()
+    ensures { InnerListsAgree }
+{}
+
+/// A member of a List is taken by the RFC's steps (section 4.2.1.1) exactly if the grammar spells
+/// it.
+pub fn member_parses()
+    ensures { MembersAgree }
 {}

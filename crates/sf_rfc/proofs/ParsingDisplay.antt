@@ -1,0 +1,220 @@
+-- Parsing Display Strings.
+use Rattle.std.proofs.Common.{◌≡◌, ℕ, ◌+◌, ◌*◌, ◌/◌, ◌%◌, ◌<◌, Bool, true, false, ◌&&◌, ◌==◌, List, []}
+use Rattle.std.proofs.Common.{◌∷◌, ◌++◌, get_or, Option, Some, None, refl, sym, ap, ap₂, ◌∙◌, subst}
+use Rattle.std.proofs.Common.{append_assoc, append-nil, ◌⊎◌, inl, inr, arith, eqb-true}
+use Rattle.std.proofs.lemmas.Bool.Decides.{nat_tests}
+use Rattle.std.specs.Prelude.{codes}
+use Rattle.sf_value.specs.Grammar.Classes.{is_byte}
+use Rattle.sf_value.specs.Grammar.Utf8.{Start, WellFormed}
+use Rattle.sf_value.specs.Grammar.DisplayStrings.{hex, is_unencoded, EncodedByte, EncodedBytes}
+use Rattle.sf_value.specs.Grammar.DisplayStrings.{SpellsDisplayString}
+use Rattle.sf_parse.proofs.Tables.{all_below, each_below}
+use Rattle.sf_parse.proofs.Quads.{byte_small, small_byte}
+use Rattle.sf_rfc.specs.Rfc9651.Words.{Parse, and_then, only_if, first_is, place_from}
+use Rattle.sf_rfc.specs.Rfc9651.Alphabets.{is_unprintable, is_lower_hex}
+use Rattle.sf_rfc.specs.Rfc9651.Utf8.{is_utf8}
+use Rattle.sf_rfc.specs.Rfc9651.ParsingBare.{hex_value, octet_of, display_loop, display_octet}
+use Rattle.sf_rfc.specs.Rfc9651.ParsingBare.{display_second, parse_display_string}
+use Rattle.sf_rfc.specs.ParsingLaws.{DisplayStringsAgree}
+use Rattle.sf_rfc.proofs.SerialisingUtf8.{well_formed_utf8}
+use Rattle.sf_rfc.proofs.ParsingUtf8.{utf8_formed}
+use Rattle.sf_rfc.proofs.ParsingBase64.{placed, is_value, the_value, both_so, both_then}
+use Rattle.sf_rfc.proofs.ParsingSteps.{never, some_is, some_pair, and_then_cases, only_if_cases}
+use Rattle.sf_rfc.proofs.ParsingSteps.{if_so, if_not, if_either}
+
+-- hexadecimal digits
+abbrev hex_digits : List ℕ
+hex_digits = codes "0123456789abcdef"
+
+the_digits : all_below 16 (λ x. get_or hex_digits x 0 == hex x) ≡ true
+the_digits = refl
+
+digit_is : (x : ℕ) → x < 16 → get_or hex_digits x 0 ≡ hex x
+digit_is x h =
+    eqb-true (get_or hex_digits x 0) (hex x)
+    (each_below 16 (λ y. get_or hex_digits y 0 == hex y) the_digits x h)
+
+hex_sound : (c x : ℕ) → hex_value c ≡ Some x → (x < 16) × (c ≡ hex x)
+unfolding hex_value
+hex_sound c x e =
+    let (i, a, b, d) = placed 0 hex_digits c x e in
+    let k : i ≡ x = omega arith in
+    let h : x < 16 = omega arith in
+    (h, sym d ∙ ap (λ y. get_or hex_digits y 0) k ∙ digit_is x h)
+
+the_octets : all_below 256 (λ c. is_value (octet_of (hex (c / 16)) (hex (c % 16))) c) ≡ true
+unfolding hex_value is_value
+the_octets = refl
+
+octet_is : (c : ℕ) → c < 256 → octet_of (hex (c / 16)) (hex (c % 16)) ≡ Some c
+octet_is c h =
+    the_value (octet_of (hex (c / 16)) (hex (c % 16))) c
+    (each_below 256 (λ y. is_value (octet_of (hex (y / 16)) (hex (y % 16))) y) the_octets c h)
+
+octet_sound : (a b c : ℕ) → octet_of a b ≡ Some c
+    → (is_byte c ≡ true) × (a ≡ hex (c / 16)) × (b ≡ hex (c % 16))
+octet_sound a b c e =
+    let (i, f) = if_so (is_lower_hex a && is_lower_hex b) _ c e in
+    let (x, g, h) = and_then_cases (hex_value a) _ c f in
+    let (y, j, k) = and_then_cases (hex_value b) _ c h in
+    let (lx, ax) = hex_sound a x g in
+    let (ly, by) = hex_sound b y j in
+    let m : x * 16 + y ≡ c = some_is (x * 16 + y) c k in
+    let p : x ≡ c / 16 = omega arith in
+    let q : y ≡ c % 16 = omega arith in
+    (small_byte c (omega arith), ax ∙ ap hex p, by ∙ ap hex q)
+
+-- what the loop takes: encoded bytes and the quote
+abbrev Shown : List ℕ → List ℕ → List ℕ → List ℕ → Type 0
+Shown bytes t v r =
+    (front s : List ℕ) × (t ≡ front ++ r) × EncodedBytes front s × (v ≡ bytes ++ s)
+    × (is_utf8 v ≡ true)
+
+unencoded : (c : ℕ) → is_unprintable c ≡ false → (c == 37) ≡ false → (c == 34) ≡ false
+    → is_unencoded c ≡ true
+unencoded c i j k = grind (arith, nat_tests)
+
+same_byte : (c d : ℕ) → (c == d) ≡ true → c ≡ d
+same_byte c d h = grind (arith, nat_tests)
+
+itself : (bytes : List ℕ) (c : ℕ) (t v r : List ℕ) → is_unencoded c ≡ true
+    → Shown (bytes ++ c ∷ []) t v r → Shown bytes (c ∷ t) v r
+itself bytes c t v r h (front, s, i, a, j, k) = (
+  c ∷ front,
+  c ∷ s,
+  ap (λ x. c ∷ x) i,
+  (front, inl (h, refl), a),
+  j ∙ append_assoc bytes (c ∷ []) s,
+  k,
+)
+
+encoded : (bytes : List ℕ) (a b c : ℕ) (t v r : List ℕ) → octet_of a b ≡ Some c
+    → Shown (bytes ++ c ∷ []) t v r → Shown bytes (37 ∷ a ∷ b ∷ t) v r
+encoded bytes a b c t v r o (front, s, i, e, j, k) =
+    let (h, p, q) = octet_sound a b c o in (
+      37 ∷ a ∷ b ∷ front,
+      c ∷ s,
+      ap (λ x. 37 ∷ a ∷ b ∷ x) i,
+      (front, inr (h, ap₂ (λ x y. 37 ∷ x ∷ y ∷ front) p q), e),
+      j ∙ append_assoc bytes (c ∷ []) s,
+      k,
+    )
+
+ended : (bytes t v r : List ℕ) (c : ℕ) → (c == 34) ≡ true
+    → only_if {A = List ℕ × List ℕ} (is_utf8 bytes) (bytes, t) ≡ Some (v, r) → Shown bytes (c ∷ t) v r
+ended bytes t v r c h e =
+    let k = only_if_cases (is_utf8 bytes) (bytes, t) (v, r) e in
+    let i = some_pair bytes v t r (ap Some k.1) in (
+      34 ∷ [],
+      [],
+      ap₂ (λ x y. x ∷ y) (same_byte c 34 h) i.1,
+      refl,
+      sym i.0 ∙ sym (append-nil bytes),
+      subst (λ y. is_utf8 y ≡ true) i.0 k.0,
+    )
+
+octet_cases : (bytes : List ℕ) (a b : ℕ) (t v r : List ℕ)
+    → display_second bytes a (b ∷ t) ≡ Some (v, r)
+    → (c : ℕ) × (octet_of a b ≡ Some c) × (display_loop (bytes ++ c ∷ []) t ≡ Some (v, r))
+octet_cases bytes a b t v r e = go (octet_of a b) refl
+  where
+    go : (o : Option ℕ) → octet_of a b ≡ o
+        → (c : ℕ) × (octet_of a b ≡ Some c) × (display_loop (bytes ++ c ∷ []) t ≡ Some (v, r))
+    go None i =
+        let k : ◌≡◌ {A = Option (List ℕ × List ℕ)} None (Some (v, r)) = rw (i, display_second) at e in
+        absurd cc
+    go (Some c) i = (c, i, rw (i, display_second) at e)
+
+shown_round : (bytes : List ℕ) (c : ℕ) (t v r : List ℕ)
+    → (display_octet bytes t ≡ Some (v, r) → Shown bytes (37 ∷ t) v r)
+    → (display_loop (bytes ++ c ∷ []) t ≡ Some (v, r) → Shown (bytes ++ c ∷ []) t v r)
+    → display_loop bytes (c ∷ t) ≡ Some (v, r) → Shown bytes (c ∷ t) v r
+shown_round bytes c t v r octet loop e =
+    let (i, a) = if_not (is_unprintable c) _ (v, r) e in
+    elim (if_either (c == 37) _ _ (v, r) a) [
+      | inl k ↦ subst (λ y. Shown bytes (y ∷ t) v r) (sym (same_byte c 37 k.0)) (octet k.1)
+      | inr k ↦ elim (if_either (c == 34) _ _ (v, r) k.1) [
+        | inl j ↦ ended bytes t v r c j.0 j.1
+        | inr j ↦ itself bytes c t v r (unencoded c i k.0 j.0) (loop j.1)
+      ]
+    ]
+
+shown_sound : (bytes t v r : List ℕ) → display_loop bytes t ≡ Some (v, r) → Shown bytes t v r
+shown_sound bytes [] v r e = never (v, r) e
+shown_sound bytes (c ∷ []) v r e =
+    shown_round bytes c [] v r (λ o. never (v, r) o) (shown_sound (bytes ++ c ∷ []) [] v r) e
+shown_sound bytes (c ∷ a ∷ []) v r e =
+    shown_round bytes c (a ∷ []) v r (λ o. never (v, r) o)
+    (shown_sound (bytes ++ c ∷ []) (a ∷ []) v r) e
+shown_sound bytes (c ∷ a ∷ b ∷ t) v r e =
+    shown_round bytes c (a ∷ b ∷ t) v r
+    (λ o. let (x, i, k) = octet_cases bytes a b t v r o in
+    encoded bytes a b x t v r i (shown_sound (bytes ++ x ∷ []) t v r k))
+    (shown_sound (bytes ++ c ∷ []) (a ∷ b ∷ t) v r) e
+
+display_sound : (t r v : List ℕ) → parse_display_string t ≡ Some (v, r)
+    → (front : List ℕ) × (t ≡ front ++ r) × SpellsDisplayString front v
+display_sound [] r v e = never (v, r) e
+display_sound (a ∷ []) r v e = never (v, r) e
+display_sound (a ∷ b ∷ t) r v e =
+    let (h, k) = if_so (a == 37 && b == 34) _ (v, r) e in
+    let i = same_byte a 37 (both_so (a == 37) (b == 34) h) in
+    let j = same_byte b 34 (both_then (a == 37) (b == 34) h) in
+    let (front, s, m, c, n, u) = shown_sound [] t v r k in (
+      37 ∷ 34 ∷ front,
+      ap₂ (λ x y. x ∷ y) i (ap₂ (λ x y. x ∷ y) j m),
+      (front, refl, subst (λ y. EncodedBytes front y) (sym n) c, utf8_formed v u),
+    )
+
+-- what is spelled is read
+not_unprintable : (c : ℕ) → is_unencoded c ≡ true → is_unprintable c ≡ false
+not_unprintable c h = grind (arith, nat_tests)
+
+not_percent : (c : ℕ) → is_unencoded c ≡ true → (c == 37) ≡ false
+not_percent c h = grind (arith, nat_tests)
+
+not_quote : (c : ℕ) → is_unencoded c ≡ true → (c == 34) ≡ false
+not_quote c h = grind (arith, nat_tests)
+
+one_more : (bytes : List ℕ) (c : ℕ) (s t r : List ℕ)
+    → display_loop (bytes ++ c ∷ []) t ≡ Some ((bytes ++ c ∷ []) ++ s, r)
+    → display_loop (bytes ++ c ∷ []) t ≡ Some (bytes ++ c ∷ s, r)
+one_more bytes c s t r e = e ∙ ap (λ y. Some (y, r)) (append_assoc bytes (c ∷ []) s)
+
+read_itself : (bytes : List ℕ) (c : ℕ) (s t r : List ℕ) → is_unencoded c ≡ true
+    → display_loop (bytes ++ c ∷ []) t ≡ Some ((bytes ++ c ∷ []) ++ s, r)
+    → display_loop bytes (c ∷ t) ≡ Some (bytes ++ c ∷ s, r)
+read_itself bytes c s t r h e =
+    rw (not_unprintable c h, not_percent c h, not_quote c h, display_loop) (one_more bytes c s t r e)
+
+read_encoded : (bytes : List ℕ) (c : ℕ) (s t r : List ℕ) → is_byte c ≡ true
+    → display_loop (bytes ++ c ∷ []) t ≡ Some ((bytes ++ c ∷ []) ++ s, r)
+    → display_loop bytes (37 ∷ hex (c / 16) ∷ hex (c % 16) ∷ t) ≡ Some (bytes ++ c ∷ s, r)
+read_encoded bytes c s t r h e = second (hex (c / 16)) (hex (c % 16)) (octet_is c (byte_small c h))
+  where
+    second : (a b : ℕ) → octet_of a b ≡ Some c
+        → display_second bytes a (b ∷ t) ≡ Some (bytes ++ c ∷ s, r)
+    second a b o = rw (o, display_second) (one_more bytes c s t r e)
+
+shown_read : (bytes t s r : List ℕ) → EncodedBytes t s → is_utf8 (bytes ++ s) ≡ true
+    → display_loop bytes (t ++ r) ≡ Some (bytes ++ s, r)
+shown_read bytes t [] r e u =
+    let k : is_utf8 bytes ≡ true = subst (λ y. is_utf8 y ≡ true) (append-nil bytes) u in
+    rw e (last (is_utf8 bytes) k)
+  where
+    last : (x : Bool) → x ≡ true → only_if {A = List ℕ × List ℕ} x (bytes, r) ≡ Some (bytes ++ [], r)
+    last x h = rw h (ap (λ y. Some (y, r)) (sym (append-nil bytes)))
+shown_read bytes t (c ∷ s) r (suffix, inl (h, i), e) u =
+    rw i (read_itself bytes c s (suffix ++ r) r h
+    (shown_read (bytes ++ c ∷ []) suffix s r e (rw (append_assoc bytes (c ∷ []) s) u)))
+shown_read bytes t (c ∷ s) r (suffix, inr (h, i), e) u =
+    rw i (read_encoded bytes c s (suffix ++ r) r h
+    (shown_read (bytes ++ c ∷ []) suffix s r e (rw (append_assoc bytes (c ∷ []) s) u)))
+
+display_whole : (t r v : List ℕ) → SpellsDisplayString t v → first_is (λ c. false) r ≡ false
+    → parse_display_string (t ++ r) ≡ Some (v, r)
+display_whole t r v (suffix, i, e, w) f =
+    rw i (shown_read [] suffix v r e (well_formed_utf8 v w))
+
+pub display_strings_agree : DisplayStringsAgree
+display_strings_agree = record { sound = display_sound; whole = display_whole }

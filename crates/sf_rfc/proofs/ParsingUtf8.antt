@@ -1,0 +1,207 @@
+-- What keeps to the rules of RFC 3629 is well-formed by the table.
+use Rattle.std.proofs.Common.{◌≡◌, ℕ, zero, suc, ◌≤◌, Bool, true, false, List, [], ◌∷◌, length, Option}
+use Rattle.std.proofs.Common.{Some, None, refl, sym, ap, ◌∙◌, subst, ◌⊎◌, inl, inr, arith}
+use Rattle.std.proofs.lemmas.Bool.Decides.{nat_tests}
+use Rattle.sf_value.specs.Grammar.Utf8.{Utf8, Start, Wants, wants, rows, look_up, utf8_step}
+use Rattle.sf_value.specs.Grammar.Utf8.{WellFormed}
+use Rattle.sf_rfc.specs.Rfc9651.Words.{and_then, or_else, only_if}
+use Rattle.sf_rfc.specs.Rfc9651.Alphabets.{in_range}
+use Rattle.sf_rfc.specs.Rfc9651.Utf8.{Rule, octet, then, either, utf8_tail, utf8_char, utf8_octets}
+use Rattle.sf_rfc.specs.Rfc9651.Utf8.{utf8_1, utf8_2, utf8_3, utf8_4, is_utf8}
+use Rattle.sf_rfc.proofs.SerialisingUtf8.{above, inside}
+use Rattle.sf_rfc.proofs.ParsingSteps.{never, and_then_cases, only_if_cases}
+
+or_else_cases : {A : Type 0} (o p : Option A) (a : A) → or_else o p ≡ Some a
+    → (o ≡ Some a) ⊎ (p ≡ Some a)
+or_else_cases (Some b) p a e = inl e
+or_else_cases None p a e = inr e
+
+octet_cases : (low high : ℕ) (t u : List ℕ) → octet low high t ≡ Some u
+    → (c : ℕ) × (t ≡ c ∷ u) × (in_range low high c ≡ true)
+octet_cases low high [] u e = never u e
+octet_cases low high (c ∷ t) u e =
+    let k = only_if_cases (in_range low high c) t u e in
+    (c, ap (λ y. c ∷ y) k.1, k.0)
+
+-- a byte in the range that is wanted, and what follows it
+next_formed : (n low high : ℕ) (t u : List ℕ) → octet low high t ≡ Some u → WellFormed (wants n) u
+    → WellFormed (Wants n low high) t
+next_formed n low high t u e w =
+    let (c, i, h) = octet_cases low high t u e in
+    rw i (wants n, rw h refl, w)
+
+two_formed : (low high : ℕ) (t u : List ℕ) → then (octet low high) utf8_tail t ≡ Some u
+    → WellFormed Start u → WellFormed (Wants 1 low high) t
+two_formed low high t u e w =
+    let (s, a, b) = and_then_cases (octet low high t) utf8_tail u e in
+    next_formed 1 low high t s a (next_formed 0 128 191 s u b w)
+
+three_formed : (low high : ℕ) (t u : List ℕ)
+    → then (octet low high) (then utf8_tail utf8_tail) t ≡ Some u → WellFormed Start u
+    → WellFormed (Wants 2 low high) t
+three_formed low high t u e w =
+    let (s, a, b) = and_then_cases (octet low high t) (then utf8_tail utf8_tail) u e in
+    next_formed 2 low high t s a (two_formed 128 191 s u b w)
+
+-- the first byte's row
+first_formed : (low high : ℕ) (x : Utf8) (q : Rule) (t u : List ℕ)
+    → ((c : ℕ) → in_range low high c ≡ true → look_up rows c ≡ Some x)
+    → ((s : List ℕ) → q s ≡ Some u → WellFormed x s)
+    → then (octet low high) q t ≡ Some u → WellFormed Start t
+first_formed low high x q t u row more e =
+    let (s, a, b) = and_then_cases (octet low high t) q u e in
+    let (c, i, h) = octet_cases low high t s a in
+    subst (λ y. WellFormed Start y) (sym i) (x, row c h, more s b)
+
+ranges : (low high c : ℕ) → in_range low high c ≡ true → (low ≤ c) × (c ≤ high)
+ranges low high c h = (grind (arith, nat_tests), grind (arith, nat_tests))
+
+row_1 : (c : ℕ) → in_range 0 127 c ≡ true → look_up rows c ≡ Some Start
+row_1 c h = rw h refl
+
+row_2 : (c : ℕ) → in_range 194 223 c ≡ true → look_up rows c ≡ Some (Wants 0 128 191)
+row_2 c h = let k = ranges 194 223 c h in rw (above 0 127 c (omega arith), h) refl
+
+row_3 : (c : ℕ) → in_range 224 224 c ≡ true → look_up rows c ≡ Some (Wants 1 160 191)
+row_3 c h =
+    let k = ranges 224 224 c h in
+    rw (above 0 127 c (omega arith), above 194 223 c (omega arith), h) refl
+
+row_4 : (c : ℕ) → in_range 225 236 c ≡ true → look_up rows c ≡ Some (Wants 1 128 191)
+row_4 c h =
+    let k = ranges 225 236 c h in
+    rw (above 0 127 c (omega arith), above 194 223 c (omega arith), above 224 224 c (omega arith), h)
+    refl
+
+row_5 : (c : ℕ) → in_range 237 237 c ≡ true → look_up rows c ≡ Some (Wants 1 128 159)
+row_5 c h =
+    let k = ranges 237 237 c h in
+    rw (
+      above 0 127 c (omega arith),
+      above 194 223 c (omega arith),
+      above 224 224 c (omega arith),
+      above 225 236 c (omega arith),
+      h,
+    ) refl
+
+row_6 : (c : ℕ) → in_range 238 239 c ≡ true → look_up rows c ≡ Some (Wants 1 128 191)
+row_6 c h =
+    let k = ranges 238 239 c h in
+    rw (
+      above 0 127 c (omega arith),
+      above 194 223 c (omega arith),
+      above 224 224 c (omega arith),
+      above 225 236 c (omega arith),
+      above 237 237 c (omega arith),
+      h,
+    ) refl
+
+row_7 : (c : ℕ) → in_range 240 240 c ≡ true → look_up rows c ≡ Some (Wants 2 144 191)
+row_7 c h =
+    let k = ranges 240 240 c h in
+    rw (
+      above 0 127 c (omega arith),
+      above 194 223 c (omega arith),
+      above 224 224 c (omega arith),
+      above 225 236 c (omega arith),
+      above 237 237 c (omega arith),
+      above 238 239 c (omega arith),
+      h,
+    ) refl
+
+row_8 : (c : ℕ) → in_range 241 243 c ≡ true → look_up rows c ≡ Some (Wants 2 128 191)
+row_8 c h =
+    let k = ranges 241 243 c h in
+    rw (
+      above 0 127 c (omega arith),
+      above 194 223 c (omega arith),
+      above 224 224 c (omega arith),
+      above 225 236 c (omega arith),
+      above 237 237 c (omega arith),
+      above 238 239 c (omega arith),
+      above 240 240 c (omega arith),
+      h,
+    ) refl
+
+row_9 : (c : ℕ) → in_range 244 244 c ≡ true → look_up rows c ≡ Some (Wants 2 128 143)
+row_9 c h =
+    let k = ranges 244 244 c h in
+    rw (
+      above 0 127 c (omega arith),
+      above 194 223 c (omega arith),
+      above 224 224 c (omega arith),
+      above 225 236 c (omega arith),
+      above 237 237 c (omega arith),
+      above 238 239 c (omega arith),
+      above 240 240 c (omega arith),
+      above 241 243 c (omega arith),
+      h,
+    ) refl
+
+-- a character and what follows it
+one_formed : (t u : List ℕ) → WellFormed Start u → utf8_1 t ≡ Some u → WellFormed Start t
+one_formed t u w e =
+    let (c, i, h) = octet_cases 0 127 t u e in
+    subst (λ y. WellFormed Start y) (sym i) (Start, row_1 c h, w)
+
+formed_2 : (t u : List ℕ) → WellFormed Start u → utf8_2 t ≡ Some u → WellFormed Start t
+formed_2 t u w e =
+    first_formed 194 223 (Wants 0 128 191) utf8_tail t u row_2
+    (λ s b. next_formed 0 128 191 s u b w) e
+
+formed_3 : (t u : List ℕ) → WellFormed Start u → utf8_3 t ≡ Some u → WellFormed Start t
+formed_3 t u w e = elim (or_else_cases _ _ u e) [
+  | inl a ↦ first_formed 224 224 (Wants 1 160 191) (then (octet 160 191) utf8_tail) t u row_3
+      (λ s b. two_formed 160 191 s u b w) a
+  | inr f ↦ elim (or_else_cases _ _ u f) [
+    | inl a ↦ first_formed 225 236 (Wants 1 128 191) (then utf8_tail utf8_tail) t u row_4
+        (λ s b. two_formed 128 191 s u b w) a
+    | inr g ↦ elim (or_else_cases _ _ u g) [
+      | inl a ↦ first_formed 237 237 (Wants 1 128 159) (then (octet 128 159) utf8_tail) t u row_5
+          (λ s b. two_formed 128 159 s u b w) a
+      | inr a ↦ first_formed 238 239 (Wants 1 128 191) (then utf8_tail utf8_tail) t u row_6
+          (λ s b. two_formed 128 191 s u b w) a
+    ]
+  ]
+]
+
+formed_4 : (t u : List ℕ) → WellFormed Start u → utf8_4 t ≡ Some u → WellFormed Start t
+formed_4 t u w e = elim (or_else_cases _ _ u e) [
+  | inl a ↦ first_formed 240 240 (Wants 2 144 191) (then (octet 144 191) (then utf8_tail utf8_tail)) t u
+      row_7 (λ s b. three_formed 144 191 s u b w) a
+  | inr f ↦ elim (or_else_cases _ _ u f) [
+    | inl a ↦ first_formed 241 243 (Wants 2 128 191) (then utf8_tail (then utf8_tail utf8_tail)) t u row_8
+        (λ s b. three_formed 128 191 s u b w) a
+    | inr a ↦ first_formed 244 244 (Wants 2 128 143) (then (octet 128 143) (then utf8_tail utf8_tail)) t u
+        row_9 (λ s b. three_formed 128 143 s u b w) a
+  ]
+]
+
+character_formed : (t u : List ℕ) → WellFormed Start u → utf8_char t ≡ Some u → WellFormed Start t
+character_formed t u w e = elim (or_else_cases _ _ u e) [
+  | inl a ↦ one_formed t u w a
+  | inr f ↦ elim (or_else_cases _ _ u f) [
+    | inl a ↦ formed_2 t u w a
+    | inr g ↦ elim (or_else_cases _ _ u g) [
+      | inl a ↦ formed_3 t u w a
+      | inr a ↦ formed_4 t u w a
+    ]
+  ]
+]
+
+octets_formed : (n : ℕ) (t : List ℕ) → utf8_octets n t ≡ true → WellFormed Start t
+octets_formed zero [] h = tt
+octets_formed (suc n) [] h = tt
+octets_formed zero (c ∷ t) h = absurd cc
+octets_formed (suc n) (c ∷ t) h = go (utf8_char (c ∷ t)) refl (octets_formed n)
+  where
+    go : (o : Option (List ℕ)) → utf8_char (c ∷ t) ≡ o
+        → ((u : List ℕ) → utf8_octets n u ≡ true → WellFormed Start u) → WellFormed Start (c ∷ t)
+    go None i ih =
+        let k : false ≡ true = rw (i, utf8_octets) at h in absurd cc
+    go (Some u) i ih =
+        let k : utf8_octets n u ≡ true = rw (i, utf8_octets) at h in
+        character_formed (c ∷ t) u (ih u k) i
+
+pub utf8_formed : (t : List ℕ) → is_utf8 t ≡ true → WellFormed Start t
+utf8_formed t h = octets_formed (length t) t h
