@@ -8,6 +8,7 @@ pub mod AbnfBare
 pub mod AbnfCharacters
 pub mod AbnfBareItems
 pub mod AbnfFields
+pub mod FieldLines
 pub mod ParsingSteps
 pub mod ParsingWords
 pub mod ParsingNumbers

@@ -4,3 +4,4 @@ pub mod SerialisingLaws
 pub mod Abnf
 pub mod ParsingLaws
 pub mod AbnfLaws
+pub mod JoiningLaws
