@@ -4,7 +4,6 @@ pub mod SerialisingBase64
 pub mod SerialisingUtf8
 pub mod SerialisingDisplay
 pub mod SerialisingFields
-pub mod AbnfBare
 pub mod AbnfCharacters
 pub mod AbnfBareItems
 pub mod AbnfFields
