@@ -8,6 +8,8 @@ pub mod AbnfCharacters
 pub mod AbnfBareItems
 pub mod AbnfFields
 pub mod FieldLines
+pub mod Examples
+pub mod Freedoms
 pub mod ParsingSteps
 pub mod ParsingWords
 pub mod ParsingNumbers
