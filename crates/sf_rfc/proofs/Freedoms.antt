@@ -1,5 +1,6 @@
 -- What the algorithms of RFC 9651 leave free: texts that parse and are not canonical, each with its
--- kind, its value and its canonical text. And texts that keep to the ABNF and don't parse.
+-- kind, its value and its canonical text, and with the step that accepts it. And texts that keep to
+-- the ABNF and don't parse.
 use Rattle.std.proofs.Common.{◌≡◌, ℕ, pos, negsuc, true, List as Seq, [], ◌∷◌, ◌++◌}
 use Rattle.std.proofs.Common.{Some, None, refl, sym, ◌/◌, ◌%◌, ◌<◌, inl, inr, replicate}
 use Rattle.std.proofs.Common.{append-nil, arith}

@@ -15,14 +15,14 @@ pub fn serialised_keeps_abnf()
     ensures { SerialisedKeepsAbnf }
 {}
 
-/// Every text that is accepted keeps to the ABNF, but for the white space around it, and for the
-/// texts of Lists and Dictionaries with no members: the ABNF has no rule for either.
+/// Every text that spells a field keeps to the ABNF between white space, for which the ABNF has no
+/// rule. If a List or a Dictionary has no members, there is nothing between it.
 pub fn spelled_keeps_abnf()
     ensures { SpelledKeepsAbnf }
 {}
 
-/// A text that is accepted keeps to the ABNF exactly if it is not empty and neither begins nor ends
-/// with white space.
+/// A text that spells a field keeps to the ABNF exactly if it is not empty and neither begins nor
+/// ends with white space.
 pub fn abnf_is_trimmed()
     ensures { AbnfIsTrimmed }
 {}

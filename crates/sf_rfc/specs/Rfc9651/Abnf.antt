@@ -1,5 +1,6 @@
 -- The ABNF of RFC 9651 (appendix C): its rules under their names, with _ for -, each with the
--- section of its type. RFC 8941 has the same rules, in section 3, but where it is said otherwise.
+-- section of its type. The rules of RFC 8941 (section 3) match the same texts, but where it is said
+-- otherwise.
 use Rattle.std.specs.Prelude.{codes}
 use Rattle.sf_value.specs.declared.dialect.Dialect.{Dialect}
 use Rattle.sf_value.specs.declared.dialect.Dialect.TheVariants.{Rfc8941, Rfc9651}
@@ -17,7 +18,7 @@ sf_decimal =
     then (optional (text (codes "-"))) (then (repeated 1 12 DIGIT)
     (then (text (codes ".")) (repeated 1 3 DIGIT)))
 
--- unescaped = %x20-21 / %x23-24 / %x26-5B / %x5D-7E; RFC 8941 has "%" (%x25) in it
+-- unescaped = %x20-21 / %x23-24 / %x26-5B / %x5D-7E; in RFC 8941 with "%" (%x25)
 abbrev pub unescaped : Rule
 unescaped =
     either (range 0x20 0x21) (either (range 0x23 0x24) (either (range 0x26 0x5b) (range 0x5d 0x7e)))
@@ -37,7 +38,7 @@ sf_token =
     then (either ALPHA (text (codes "*")))
     (many (either tchar (either (text (codes ":")) (text (codes "/")))))
 
--- base64 = *( ALPHA / DIGIT / "+" / "/" ) *"="; in RFC 8941 "=" may stand anywhere
+-- base64 = *( ALPHA / DIGIT / "+" / "/" ) *"="; RFC 8941 matches more texts: "=" may be anywhere
 abbrev pub base64 : Rule
 base64 =
     then (many (either ALPHA (either DIGIT (either (text (codes "+")) (text (codes "/"))))))
