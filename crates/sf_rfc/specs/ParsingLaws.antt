@@ -1,5 +1,6 @@
 -- What it means that an algorithm of RFC 9651 and a relation of the grammar agree.
-use Rattle.std.specs.Prelude.{◌≡◌, ℕ, ℤ, Bool, false, ◌==◌, ◌||◌, List, ◌++◌, Option, Some, ◌⊎◌}
+use Rattle.std.specs.Prelude.{◌≡◌, ℕ, ℤ, Bool, true, false, ◌==◌, ◌||◌, List, [], ◌∷◌, ◌++◌}
+use Rattle.std.specs.Prelude.{Option, Some, ◌⊎◌}
 use Rattle.sf_value.specs.declared.value.Bare.{Bare}
 use Rattle.sf_value.specs.declared.value.Bare.TheVariants.{Integer, Decimal, Date}
 use Rattle.sf_value.specs.Ascii.{point, semicolon, equals}
@@ -13,7 +14,11 @@ use Rattle.sf_value.specs.Grammar.InnerLists.{SpellsInner, SpellsMember}
 use Rattle.sf_value.specs.declared.value.Item.{Item}
 use Rattle.sf_value.specs.declared.value.Inner.{Inner}
 use Rattle.sf_value.specs.declared.value.Member.{Member}
-use Rattle.sf_value.specs.Grammar.Pairs.{Pairs}
+use Rattle.sf_value.specs.Grammar.Words.{Every}
+use Rattle.sf_value.specs.Grammar.Classes.{is_ows}
+use Rattle.sf_value.specs.Grammar.Series.{SpellsSeries}
+use Rattle.sf_value.specs.Grammar.Fields.{SpellsEntry}
+use Rattle.sf_value.specs.Grammar.Pairs.{Pairs, settle}
 use Rattle.sf_value.specs.Grammar.Parameters.{SpellsParams}
 use Rattle.sf_value.specs.Grammar.BareItems.{SpellsBare}
 use Rattle.sf_value.specs.declared.dialect.Dialect.{Dialect}
@@ -25,7 +30,7 @@ use Rattle.sf_rfc.specs.Rfc9651.ParsingBare.{parse_display_string, parse_bare}
 use Rattle.sf_value.specs.Grammar.Tokens.{SpellsWord}
 use Rattle.sf_rfc.specs.Rfc9651.Words.{Parse, first_is}
 use Rattle.sf_rfc.specs.Rfc9651.Parsing.{parse_key, parse_params, parse_item, parse_inner}
-use Rattle.sf_rfc.specs.Rfc9651.Parsing.{parse_member}
+use Rattle.sf_rfc.specs.Rfc9651.Parsing.{parse_member, parse_list, parse_dictionary}
 
 -- the algorithm f takes the texts of L, before any rest whose first character the test refuses
 pub record Agrees (V : Type 0) (L : List ℕ → V → Type 0) (f : Parse V) (more : ℕ → Bool)
@@ -95,3 +100,25 @@ InnerListsAgree = (d : Dialect) → Agrees Inner (SpellsInner d) (parse_inner d)
 -- a member of a List or a Dictionary
 abbrev pub MembersAgree : Type 0
 MembersAgree = (d : Dialect) → Agrees Member (SpellsMember d) (parse_member d) is_in_params
+
+-- the members of a List or a Dictionary to the end of the text: nothing for no member; else a
+-- series, then OWS
+abbrev pub SpellsToEnd : {X : Type 0} → (List ℕ → X → Type 0) → List ℕ → List X → Type 0
+SpellsToEnd P t [] = t ≡ []
+SpellsToEnd P t (x ∷ xs) =
+    (body tail : List ℕ) × (t ≡ body ++ tail) × SpellsSeries P body (x ∷ xs) × Every is_ows tail
+
+-- Lists and Dictionaries go to the end: no rest may follow
+abbrev pub ListsAgree : Type 0
+ListsAgree =
+    (d : Dialect)
+    → Agrees (List Member) (SpellsToEnd (SpellsMember d)) (parse_list d) (λ c. true)
+
+-- the entries to the end of the text, settled
+abbrev pub SpellsEntries : Dialect → List ℕ → Pairs Member → Type 0
+SpellsEntries d t ps =
+    (raw : Pairs Member) × (ps ≡ settle raw) × SpellsToEnd (SpellsEntry d) t raw
+
+abbrev pub DictionariesAgree : Type 0
+DictionariesAgree =
+    (d : Dialect) → Agrees (Pairs Member) (SpellsEntries d) (parse_dictionary d) (λ c. true)

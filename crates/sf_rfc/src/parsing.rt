@@ -3,6 +3,7 @@ ghost use Rattle.sf_rfc.specs.ParsingLaws.{KeysAgree, TokensAgree, BooleansAgree
 ghost use Rattle.sf_rfc.specs.ParsingLaws.{NumbersAgree, DatesAgree, ByteSequencesAgree};
 ghost use Rattle.sf_rfc.specs.ParsingLaws.{DisplayStringsAgree, BareItemsAgree, ParametersAgree};
 ghost use Rattle.sf_rfc.specs.ParsingLaws.{ItemsAgree, InnerListsAgree, MembersAgree};
+ghost use Rattle.sf_rfc.specs.ParsingLaws.{ListsAgree, DictionariesAgree};
 
 /// A key is taken by the RFC's steps (section 4.2.3.3) exactly if the grammar spells it, with the
 /// same value and the same rest.
@@ -74,4 +75,17 @@ pub fn inner_list_parses()
 /// it.
 pub fn member_parses()
     ensures { MembersAgree }
+{}
+
+/// A List is taken by the RFC's steps (section 4.2.1), which go to the end of the text, exactly if
+/// the grammar spells its members and OWS behind them.
+pub fn list_parses()
+    ensures { ListsAgree }
+{}
+
+/// A Dictionary is taken by the RFC's steps (section 4.2.2), which go to the end of the text,
+/// exactly if the grammar spells its members and OWS behind them: a member that is overwritten in
+/// place is the last of its key, at the key's first place.
+pub fn dictionary_parses()
+    ensures { DictionariesAgree }
 {}
