@@ -18,5 +18,6 @@ pub mod ParsingItems
 pub mod ParsingInnerLists
 pub mod ParsingSeries
 pub mod ParsingLists
+pub mod ParsingFields
 pub mod ParsingStrings
 pub mod Rows

@@ -1,6 +1,6 @@
 -- What it means that an algorithm of RFC 9651 and a relation of the grammar agree.
 use Rattle.std.specs.Prelude.{◌≡◌, ℕ, ℤ, Bool, true, false, ◌==◌, ◌||◌, List, [], ◌∷◌, ◌++◌}
-use Rattle.std.specs.Prelude.{Option, Some, ◌⊎◌}
+use Rattle.std.specs.Prelude.{Option, Some, ◌⊎◌, ◌↔◌}
 use Rattle.sf_value.specs.declared.value.Bare.{Bare}
 use Rattle.sf_value.specs.declared.value.Bare.TheVariants.{Integer, Decimal, Date}
 use Rattle.sf_value.specs.Ascii.{point, semicolon, equals}
@@ -17,7 +17,9 @@ use Rattle.sf_value.specs.declared.value.Member.{Member}
 use Rattle.sf_value.specs.Grammar.Words.{Every}
 use Rattle.sf_value.specs.Grammar.Classes.{is_ows}
 use Rattle.sf_value.specs.Grammar.Series.{SpellsSeries}
-use Rattle.sf_value.specs.Grammar.Fields.{SpellsEntry}
+use Rattle.sf_value.specs.declared.value.Field.{Field}
+use Rattle.sf_value.specs.declared.value.Kind.{Kind}
+use Rattle.sf_value.specs.Grammar.Fields.{SpellsEntry, SpellsField}
 use Rattle.sf_value.specs.Grammar.Pairs.{Pairs, settle}
 use Rattle.sf_value.specs.Grammar.Parameters.{SpellsParams}
 use Rattle.sf_value.specs.Grammar.BareItems.{SpellsBare}
@@ -30,7 +32,7 @@ use Rattle.sf_rfc.specs.Rfc9651.ParsingBare.{parse_display_string, parse_bare}
 use Rattle.sf_value.specs.Grammar.Tokens.{SpellsWord}
 use Rattle.sf_rfc.specs.Rfc9651.Words.{Parse, first_is}
 use Rattle.sf_rfc.specs.Rfc9651.Parsing.{parse_key, parse_params, parse_item, parse_inner}
-use Rattle.sf_rfc.specs.Rfc9651.Parsing.{parse_member, parse_list, parse_dictionary}
+use Rattle.sf_rfc.specs.Rfc9651.Parsing.{parse_member, parse_list, parse_dictionary, parse_field}
 
 -- the algorithm f takes the texts of L, before any rest whose first character the test refuses
 pub record Agrees (V : Type 0) (L : List ℕ → V → Type 0) (f : Parse V) (more : ℕ → Bool)
@@ -122,3 +124,9 @@ SpellsEntries d t ps =
 abbrev pub DictionariesAgree : Type 0
 DictionariesAgree =
     (d : Dialect) → Agrees (Pairs Member) (SpellsEntries d) (parse_dictionary d) (λ c. true)
+
+-- a whole field: the steps give a value exactly if the grammar spells it
+abbrev pub FieldsAgree : Type 0
+FieldsAgree =
+    (d : Dialect) (kind : Kind) (t : List ℕ) (v : Field)
+    → (parse_field d kind t ≡ Some v) ↔ SpellsField d kind t v

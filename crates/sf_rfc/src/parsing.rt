@@ -3,7 +3,7 @@ ghost use Rattle.sf_rfc.specs.ParsingLaws.{KeysAgree, TokensAgree, BooleansAgree
 ghost use Rattle.sf_rfc.specs.ParsingLaws.{NumbersAgree, DatesAgree, ByteSequencesAgree};
 ghost use Rattle.sf_rfc.specs.ParsingLaws.{DisplayStringsAgree, BareItemsAgree, ParametersAgree};
 ghost use Rattle.sf_rfc.specs.ParsingLaws.{ItemsAgree, InnerListsAgree, MembersAgree};
-ghost use Rattle.sf_rfc.specs.ParsingLaws.{ListsAgree, DictionariesAgree};
+ghost use Rattle.sf_rfc.specs.ParsingLaws.{ListsAgree, DictionariesAgree, FieldsAgree};
 
 /// A key is taken by the RFC's steps (section 4.2.3.3) exactly if the grammar spells it, with the
 /// same value and the same rest.
@@ -88,4 +88,11 @@ pub fn list_parses()
 /// place is the last of its key, at the key's first place.
 pub fn dictionary_parses()
     ensures { DictionariesAgree }
+{}
+
+/// For either dialect, each kind of field, each text and each value: the RFC's steps (section 4.2)
+/// give the value for the text exactly if the grammar (`SpellsField`) spells it so. Hence they fail
+/// exactly if the text spells no value.
+pub fn field_parses()
+    ensures { FieldsAgree }
 {}
