@@ -19,5 +19,6 @@ pub mod ParsingInnerLists
 pub mod ParsingSeries
 pub mod ParsingLists
 pub mod ParsingFields
+pub mod ParsingAnswers
 pub mod ParsingStrings
 pub mod Rows

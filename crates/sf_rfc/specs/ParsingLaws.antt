@@ -1,6 +1,6 @@
 -- What it means that an algorithm of RFC 9651 and a relation of the grammar agree.
 use Rattle.std.specs.Prelude.{◌≡◌, ℕ, ℤ, Bool, true, false, ◌==◌, ◌||◌, List, [], ◌∷◌, ◌++◌}
-use Rattle.std.specs.Prelude.{Option, Some, ◌⊎◌, ◌↔◌}
+use Rattle.std.specs.Prelude.{Option, Some, None, Result, Ok, Err, ◌⊎◌, ◌↔◌, ⊤}
 use Rattle.sf_value.specs.declared.value.Bare.{Bare}
 use Rattle.sf_value.specs.declared.value.Bare.TheVariants.{Integer, Decimal, Date}
 use Rattle.sf_value.specs.Ascii.{point, semicolon, equals}
@@ -26,6 +26,10 @@ use Rattle.sf_value.specs.Grammar.BareItems.{SpellsBare}
 use Rattle.sf_value.specs.declared.dialect.Dialect.{Dialect}
 use Rattle.sf_value.specs.Grammar.DisplayStrings.{SpellsDisplayString}
 use Rattle.sf_value.specs.Grammar.ByteSequences.{SpellsByteSequence}
+use Rattle.sf_parse.specs.declared.refusal.Refusal.{Refusal}
+use Rattle.sf_parse.specs.declared.refusal.Refusal.TheVariants.{OutOfMemory, Syntax, TooLong}
+use Rattle.sf_parse.specs.declared.refusal.Refusal.TheVariants.{ReadFault}
+use Rattle.sf_parse.specs.Parsers.{Parses}
 use Rattle.sf_rfc.specs.Rfc9651.ParsingBare.{parse_token, parse_boolean, parse_string}
 use Rattle.sf_rfc.specs.Rfc9651.ParsingBare.{parse_number, parse_date, parse_byte_sequence}
 use Rattle.sf_rfc.specs.Rfc9651.ParsingBare.{parse_display_string, parse_bare}
@@ -130,3 +134,18 @@ abbrev pub FieldsAgree : Type 0
 FieldsAgree =
     (d : Dialect) (kind : Kind) (t : List ℕ) (v : Field)
     → (parse_field d kind t ≡ Some v) ↔ SpellsField d kind t v
+
+-- an answer is that of the RFC's steps: a value exactly if they give this one, a refusal of the text
+-- exactly if they fail, or want of memory
+abbrev pub AnswersAsRfc : Dialect → Kind → List ℕ → Result Field Refusal → Type 0
+AnswersAsRfc d kind t (Ok v) = parse_field d kind t ≡ Some v
+AnswersAsRfc d kind t (Err OutOfMemory) = ⊤
+AnswersAsRfc d kind t (Err (Syntax place found expected may_end)) = parse_field d kind t ≡ None
+AnswersAsRfc d kind t (Err (TooLong limit)) = ⊥
+AnswersAsRfc d kind t (Err (ReadFault place)) = ⊥
+
+-- what meets the clause of the parser of whole texts answers as the RFC's steps do
+abbrev pub AnswersAgree : Type 0
+AnswersAgree =
+    (d : Dialect) (kind : Kind) (t : List ℕ) (answer : Result Field Refusal)
+    → Parses d kind t answer → AnswersAsRfc d kind t answer
