@@ -16,7 +16,7 @@ use Rattle.sf_value.specs.Grammar.Parameters.{SpellsParams}
 use Rattle.sf_value.specs.Grammar.Items.{SpellsItem}
 use Rattle.sf_value.specs.Grammar.InnerLists.{inner, SpellsItems, SpellsInner, SpellsMember}
 use Rattle.sf_rfc.specs.Rfc9651.Words.{Parse, and_then, first_is, discard}
-use Rattle.sf_rfc.specs.Rfc9651.Alphabets.{is_SP}
+use Rattle.sf_rfc.specs.Rfc9651.Alphabets.{is_SP, is_OWS}
 use Rattle.sf_rfc.specs.Rfc9651.Parsing.{parse_params, parse_item, end_inner, inner_loop, parse_inner}
 use Rattle.sf_rfc.specs.Rfc9651.Parsing.{parse_member}
 use Rattle.sf_rfc.specs.ParsingLaws.{Agrees, is_in_params, InnerListsAgree, MembersAgree}
@@ -37,6 +37,9 @@ end_no_start c h = grind (arith, nat_tests)
 
 start_no_sp : (c : ℕ) → is_no_start c ≡ false → is_SP c ≡ false
 start_no_sp c h = grind (arith, nat_tests)
+
+start_no_ows : (c : ℕ) → is_no_start c ≡ false → is_OWS c ≡ false
+start_no_ows c h = grind (arith, nat_tests)
 
 start_no_close : (c : ℕ) → is_no_start c ≡ false → (c == 41) ≡ false
 start_no_close c h = grind (arith, nat_tests)
@@ -295,10 +298,10 @@ module _ (d : Dialect) where
       ∙ ap (λ o. and_then o as_inner) (inner_whole t r l s f)
 
   pub member_start : (t : List ℕ) (m : Member) → SpellsMember d t m
-      → (c : ℕ) × (u : List ℕ) × (t ≡ c ∷ u)
+      → (c : ℕ) × (u : List ℕ) × (t ≡ c ∷ u) × (is_OWS c ≡ false)
   member_start t (member.Item i) s =
-      let (c, u, e, h) = item_start d t i s in (c, u, e)
-  member_start t (member.Inner l) s = (40, s.0 ++ 41 ∷ s.1, s.2)
+      let (c, u, e, h) = item_start d t i s in (c, u, e, start_no_ows c h)
+  member_start t (member.Inner l) s = (40, s.0 ++ 41 ∷ s.1, s.2, refl)
 
 pub inner_lists_agree : InnerListsAgree
 inner_lists_agree d = record { sound = inner_sound d; whole = inner_whole d }
