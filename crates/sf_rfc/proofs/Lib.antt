@@ -5,6 +5,9 @@ pub mod SerialisingUtf8
 pub mod SerialisingDisplay
 pub mod SerialisingFields
 pub mod AbnfBare
+pub mod AbnfCharacters
+pub mod AbnfBareItems
+pub mod AbnfFields
 pub mod ParsingSteps
 pub mod ParsingWords
 pub mod ParsingNumbers

@@ -3,3 +3,4 @@ pub mod Rfc9651
 pub mod SerialisingLaws
 pub mod Abnf
 pub mod ParsingLaws
+pub mod AbnfLaws

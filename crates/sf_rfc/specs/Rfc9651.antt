@@ -10,3 +10,5 @@ pub mod ParsingBare
 pub mod Parsing
 pub mod SerialisingBare
 pub mod Serialising
+pub mod AbnfNotation
+pub mod Abnf

@@ -1,5 +1,6 @@
 //! The algorithms of RFC 9651, and that they agree with the definitions of this repository.
 #![tactic(auto)]
 
+pub mod abnf;
 pub mod parsing;
 pub mod serialising;

@@ -1,0 +1,43 @@
+-- What it is that texts keep to the ABNF.
+use Rattle.std.specs.Prelude.{◌≡◌, ℕ, List as Seq, [], ◌∷◌, ◌++◌}
+use Rattle.sf_value.specs.declared.dialect.Dialect.{Dialect}
+use Rattle.sf_value.specs.declared.value.Field.{Field}
+use Rattle.sf_value.specs.declared.value.Field.TheVariants as field
+use Rattle.sf_value.specs.declared.value.Kind.{Kind}
+use Rattle.sf_value.specs.Grammar.Fields.{SpellsField}
+use Rattle.sf_value.specs.Grammar.Valid.{Valid}
+use Rattle.sf_value.specs.Grammar.Canonical.{canon}
+use Rattle.sf_rfc.specs.Rfc9651.AbnfNotation.{Rule, text, many, SP, OWS}
+use Rattle.sf_rfc.specs.Rfc9651.Abnf.{sf_item, sf_list, sf_dictionary}
+
+-- P, if there are members; a List or a Dictionary with none is not sent (3.1, 3.2), and its text is
+-- the empty one, for which there is no rule
+abbrev pub if_sent : {X : Type 0} → Seq X → Rule → Rule
+if_sent [] P = text []
+if_sent (x ∷ xs) P = P
+
+-- the rule of a field by its kind
+abbrev pub field_rule : Dialect → Field → Rule
+field_rule d (field.List l) = if_sent l.members (sf_list d)
+field_rule d (field.Dict m) = if_sent m.members (sf_dictionary d)
+field_rule d (field.Item i) = sf_item d
+
+-- the canonical text of a valid field keeps to the ABNF
+abbrev pub CanonKeepsAbnf : Type 0
+CanonKeepsAbnf =
+    (d : Dialect) (kind : Kind) (v : Field) → Valid d kind v → field_rule d v (canon v)
+
+-- the white space that parsing discards behind a field (4.2; 4.2.1 and 4.2.2 discard HTAB too)
+abbrev pub white_space_behind : Field → Rule
+white_space_behind (field.Item i) = many SP
+white_space_behind v = OWS
+
+-- every text of a field keeps to the ABNF between white space, which the ABNF has no rule for
+abbrev pub SpelledKeepsAbnf : Type 0
+SpelledKeepsAbnf =
+    (d : Dialect) (kind : Kind) (t : Seq ℕ) (v : Field) → SpellsField d kind t v
+    → (gap body tail : Seq ℕ)
+    × (t ≡ gap ++ (body ++ tail))
+    × many SP gap
+    × field_rule d v body
+    × white_space_behind v tail

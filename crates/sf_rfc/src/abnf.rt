@@ -1,0 +1,15 @@
+//! Laws of the ABNF (RFC 9651 appendix C; RFC 8941 section 3), each as the contract of a function
+//! that does nothing.
+ghost use Rattle.sf_rfc.specs.AbnfLaws.{CanonKeepsAbnf, SpelledKeepsAbnf};
+
+/// The canonical text of a valid field keeps to the ABNF; that of a List or a Dictionary with no
+/// members, which is not sent, is empty.
+pub fn canon_keeps_abnf()
+    ensures { CanonKeepsAbnf }
+{}
+
+/// Every text that is accepted keeps to the ABNF, but for the white space around it, and for the
+/// texts of Lists and Dictionaries with no members: the ABNF has no rule for either.
+pub fn spelled_keeps_abnf()
+    ensures { SpelledKeepsAbnf }
+{}
