@@ -1,6 +1,6 @@
 -- What it means that an algorithm of RFC 9651 and a relation of the grammar agree.
 use Rattle.std.specs.Prelude.{◌≡◌, ℕ, ℤ, Bool, true, false, ◌==◌, ◌||◌, List, [], ◌∷◌, ◌++◌}
-use Rattle.std.specs.Prelude.{Option, Some, None, Result, Ok, Err, ◌⊎◌, ◌↔◌, ⊤}
+use Rattle.std.specs.Prelude.{Some, None, Result, Ok, Err, ◌⊎◌, ◌↔◌, ⊤}
 use Rattle.sf_value.specs.declared.value.Bare.{Bare}
 use Rattle.sf_value.specs.declared.value.Bare.TheVariants.{Integer, Decimal, Date}
 use Rattle.sf_value.specs.Ascii.{point, semicolon, equals}
