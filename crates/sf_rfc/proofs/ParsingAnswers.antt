@@ -7,7 +7,7 @@ use Rattle.sf_value.specs.Grammar.Fields.{SpellsField}
 use Rattle.sf_parse.specs.declared.refusal.Refusal.TheVariants.{OutOfMemory, Syntax, TooLong}
 use Rattle.sf_parse.specs.declared.refusal.Refusal.TheVariants.{ReadFault}
 use Rattle.sf_rfc.specs.Rfc9651.Parsing.{parse_field}
-use Rattle.sf_rfc.specs.ParsingLaws.{AnswersAgree}
+use Rattle.sf_rfc.specs.ParsingLaws.{AnswersAgree, EndsAgree}
 use Rattle.sf_rfc.proofs.ParsingFields.{fields_agree}
 
 -- where no value is spelled, the steps fail
@@ -27,3 +27,11 @@ answers_agree d kind t (Err (Syntax place (Some b) expected may_end)) h =
     fails d kind t h.unspelled
 answers_agree d kind t (Err (TooLong limit)) h = h
 answers_agree d kind t (Err (ReadFault place)) h = h
+
+pub ends_agree : EndsAgree
+ends_agree d kind t (Ok v) h = (fields_agree d kind t v).1 h.spelled
+ends_agree d kind t (Err OutOfMemory) h = h
+ends_agree d kind t (Err (Syntax place None expected may_end)) h = fails d kind t h.2.unspelled
+ends_agree d kind t (Err (Syntax place (Some b) expected may_end)) h = absurd h
+ends_agree d kind t (Err (TooLong limit)) h = h
+ends_agree d kind t (Err (ReadFault place)) h = h
