@@ -1,7 +1,7 @@
 -- Parsing Inner Lists, and members.
-use Rattle.std.proofs.Common.{◌≡◌, ℕ, zero, suc, ◌+◌, ◌<◌, ◌≤◌, Bool, true, false, ◌&&◌, ◌||◌, ◌==◌}
+use Rattle.std.proofs.Common.{◌≡◌, ℕ, zero, suc, ◌+◌, ◌≤◌, Bool, true, false, ◌||◌, ◌==◌}
 use Rattle.std.proofs.Common.{List, [], ◌∷◌, ◌++◌, length, drop, Option, Some, None, refl, sym, ap, ap₂}
-use Rattle.std.proofs.Common.{◌∙◌, subst, append_assoc, append-nil, length-append, ◌⊎◌, inl, inr, arith}
+use Rattle.std.proofs.Common.{◌∙◌, subst, append_assoc, append-nil, length-append, inl, inr, arith}
 use Rattle.std.proofs.lemmas.Bool.Decides.{nat_tests}
 use Rattle.sf_value.specs.declared.dialect.Dialect.{Dialect}
 use Rattle.sf_value.specs.declared.value.Bare.{Bare}
@@ -15,15 +15,15 @@ use Rattle.sf_value.specs.Grammar.Pairs.{Pairs}
 use Rattle.sf_value.specs.Grammar.Parameters.{SpellsParams}
 use Rattle.sf_value.specs.Grammar.Items.{SpellsItem}
 use Rattle.sf_value.specs.Grammar.InnerLists.{inner, SpellsItems, SpellsInner, SpellsMember}
-use Rattle.sf_rfc.specs.Rfc9651.Words.{Parse, and_then, first_is, discard}
+use Rattle.sf_rfc.specs.Rfc9651.Words.{and_then, first_is, discard}
 use Rattle.sf_rfc.specs.Rfc9651.Alphabets.{is_SP, is_OWS}
 use Rattle.sf_rfc.specs.Rfc9651.Parsing.{parse_params, parse_item, end_inner, inner_loop, parse_inner}
 use Rattle.sf_rfc.specs.Rfc9651.Parsing.{parse_member}
-use Rattle.sf_rfc.specs.ParsingLaws.{Agrees, is_in_params, InnerListsAgree, MembersAgree}
+use Rattle.sf_rfc.specs.ParsingLaws.{is_in_params, InnerListsAgree, MembersAgree}
 use Rattle.sf_rfc.proofs.ParsingBase64.{is_first}
 use Rattle.sf_rfc.proofs.ParsingParameters.{parameters_agree, discarded, discard_gap, same_byte}
 use Rattle.sf_rfc.proofs.ParsingItems.{items_agree, item_start, is_no_start}
-use Rattle.sf_rfc.proofs.ParsingSteps.{never, some_is, some_pair, and_then_cases, if_so, if_either}
+use Rattle.sf_rfc.proofs.ParsingSteps.{never, some_pair, and_then_cases, if_so, if_either}
 
 -- SP or ")"
 abbrev is_item_end : ℕ → Bool

@@ -1,14 +1,11 @@
 -- Parsing Lists and Dictionaries.
-use Rattle.std.proofs.Common.{◌≡◌, ℕ, zero, suc, Bool, true, false, ◌||◌, ◌==◌, List, [], ◌∷◌, ◌++◌}
+use Rattle.std.proofs.Common.{◌≡◌, ℕ, suc, true, false, ◌==◌, List, [], ◌∷◌, ◌++◌}
 use Rattle.std.proofs.Common.{length, Option, Some, None, refl, sym, ap, ap₂, ◌∙◌, subst, append_assoc}
 use Rattle.std.proofs.Common.{◌⊎◌, inl, inr, arith}
 use Rattle.std.proofs.lemmas.Bool.Decides.{nat_tests}
 use Rattle.sf_value.specs.declared.dialect.Dialect.{Dialect}
 use Rattle.sf_value.specs.declared.value.Bare.{Bare}
-use Rattle.sf_value.specs.declared.value.Bare.TheVariants.{Boolean}
-use Rattle.sf_value.specs.declared.value.Item.{Item}
 use Rattle.sf_value.specs.declared.value.Member.{Member}
-use Rattle.sf_value.specs.declared.value.Member.TheVariants as member
 use Rattle.sf_value.specs.Grammar.Classes.{is_key_start, is_in_key}
 use Rattle.sf_value.specs.Grammar.Pairs.{Pairs, settle}
 use Rattle.sf_value.specs.Grammar.Tokens.{IsKey}

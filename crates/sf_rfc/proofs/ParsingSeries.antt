@@ -1,6 +1,6 @@
 -- Parsing members with commas between them: the loop that Lists and Dictionaries have in common.
 use Rattle.std.proofs.Common.{◌≡◌, ℕ, zero, suc, ◌+◌, ◌<◌, ◌≤◌, Bool, true, false, ◌||◌, ◌==◌, List, []}
-use Rattle.std.proofs.Common.{◌∷◌, ◌++◌, length, Option, Some, None, refl, sym, ap, ap₂, ◌∙◌, subst}
+use Rattle.std.proofs.Common.{◌∷◌, ◌++◌, length, Option, Some, None, refl, sym, ap, ◌∙◌, subst}
 use Rattle.std.proofs.Common.{append_assoc, append-nil, length-append, arith}
 use Rattle.std.proofs.lemmas.Bool.Decides.{nat_tests}
 use Rattle.sf_value.specs.Grammar.Words.{Every}
@@ -9,7 +9,7 @@ use Rattle.sf_value.specs.Grammar.Series.{SpellsCommas}
 use Rattle.sf_rfc.specs.Rfc9651.Words.{Parse, and_then, first_is, discard}
 use Rattle.sf_rfc.specs.Rfc9651.Alphabets.{is_OWS}
 use Rattle.sf_rfc.specs.ParsingLaws.{Agrees, is_in_params, SpellsToEnd}
-use Rattle.sf_rfc.proofs.ParsingParameters.{discarded, discard_none, discard_gap, same_byte}
+use Rattle.sf_rfc.proofs.ParsingParameters.{discarded, discard_gap, same_byte}
 use Rattle.sf_rfc.proofs.ParsingSteps.{never, some_pair, and_then_cases, if_so}
 
 -- OWS or a comma

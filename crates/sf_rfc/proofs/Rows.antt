@@ -13,9 +13,9 @@ use Rattle.sf_value.specs.declared.value.Member.TheVariants as member
 use Rattle.sf_value.specs.declared.value.Field.{Field}
 use Rattle.sf_value.specs.declared.value.Field.TheVariants as field
 use Rattle.sf_value.specs.declared.value.Kind.TheVariants as kind
-use Rattle.sf_rfc.specs.Rfc9651.ParsingBare.{parse_bare, hex_value}
+use Rattle.sf_rfc.specs.Rfc9651.ParsingBare.{hex_value}
 use Rattle.sf_rfc.specs.Rfc9651.Parsing.{Map, parse_key, parse_field, combine}
-use Rattle.sf_rfc.specs.Rfc9651.Base64.{value_of, character_of, base64_decode, base64_encode}
+use Rattle.sf_rfc.specs.Rfc9651.Base64.{value_of, character_of}
 use Rattle.sf_rfc.specs.Rfc9651.SerialisingBare.{serialise_bare, hex_character}
 use Rattle.sf_rfc.specs.Rfc9651.Serialising.{serialise}
 

@@ -1,6 +1,6 @@
 -- What it means that an algorithm of RFC 9651 and a relation of the grammar agree.
 use Rattle.std.specs.Prelude.{◌≡◌, ℕ, ℤ, Bool, true, false, ◌==◌, ◌||◌, List, [], ◌∷◌, ◌++◌}
-use Rattle.std.specs.Prelude.{Option, Some, None, Result, Ok, Err, ◌⊎◌, ◌↔◌, ⊤}
+use Rattle.std.specs.Prelude.{Some, None, Result, Ok, Err, ◌⊎◌, ◌↔◌, ⊤}
 use Rattle.sf_value.specs.declared.value.Bare.{Bare}
 use Rattle.sf_value.specs.declared.value.Bare.TheVariants.{Integer, Decimal, Date}
 use Rattle.sf_value.specs.Ascii.{point, semicolon, equals}
@@ -29,7 +29,7 @@ use Rattle.sf_value.specs.Grammar.ByteSequences.{SpellsByteSequence}
 use Rattle.sf_parse.specs.declared.refusal.Refusal.{Refusal}
 use Rattle.sf_parse.specs.declared.refusal.Refusal.TheVariants.{OutOfMemory, Syntax, TooLong}
 use Rattle.sf_parse.specs.declared.refusal.Refusal.TheVariants.{ReadFault}
-use Rattle.sf_parse.specs.Parsers.{Parses}
+use Rattle.sf_parse.specs.Parsers.{Parses, Finishes}
 use Rattle.sf_rfc.specs.Rfc9651.ParsingBare.{parse_token, parse_boolean, parse_string}
 use Rattle.sf_rfc.specs.Rfc9651.ParsingBare.{parse_number, parse_date, parse_byte_sequence}
 use Rattle.sf_rfc.specs.Rfc9651.ParsingBare.{parse_display_string, parse_bare}
@@ -149,3 +149,9 @@ abbrev pub AnswersAgree : Type 0
 AnswersAgree =
     (d : Dialect) (kind : Kind) (t : List ℕ) (answer : Result Field Refusal)
     → Parses d kind t answer → AnswersAsRfc d kind t answer
+
+-- and so does what meets the clause of the end of a parser that is fed
+abbrev pub EndsAgree : Type 0
+EndsAgree =
+    (d : Dialect) (kind : Kind) (t : List ℕ) (answer : Result Field Refusal)
+    → Finishes d kind t answer → AnswersAsRfc d kind t answer

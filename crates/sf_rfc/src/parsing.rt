@@ -5,7 +5,7 @@ ghost use Rattle.sf_rfc.specs.ParsingLaws.{NumbersAgree, DatesAgree, ByteSequenc
 ghost use Rattle.sf_rfc.specs.ParsingLaws.{DisplayStringsAgree, BareItemsAgree, ParametersAgree};
 ghost use Rattle.sf_rfc.specs.ParsingLaws.{ItemsAgree, InnerListsAgree, MembersAgree};
 ghost use Rattle.sf_rfc.specs.ParsingLaws.{ListsAgree, DictionariesAgree, FieldsAgree};
-ghost use Rattle.sf_rfc.specs.ParsingLaws.{AnswersAgree, AnswersAsRfc};
+ghost use Rattle.sf_rfc.specs.ParsingLaws.{AnswersAgree, EndsAgree, AnswersAsRfc};
 
 use sf_parse::Refusal;
 use sf_value::{Dialect, Field, Kind};
@@ -104,10 +104,16 @@ pub fn field_parses()
     ensures { FieldsAgree }
 {}
 
-/// Each answer that meets the clause `parses` of [`sf_parse::parse_text_in`] (and of
-/// [`sf_parse::parse_text`], which is that of RFC 9651's dialect) is that of the RFC's steps.
+/// Each answer that meets the clause `parses` of [`sf_parse::parse_text_in`], or of
+/// [`sf_parse::parse_text`] in the dialect of RFC 9651, is that of the RFC's steps.
 pub fn answers_agree()
     ensures { AnswersAgree }
+{}
+
+/// Each answer that meets the clause `ended` of [`sf_parse::Parser::finish`] is that of the RFC's
+/// steps for the text that the parser took, in however many pieces it was fed.
+pub fn ends_agree()
+    ensures { EndsAgree }
 {}
 
 /// What [`sf_parse::parse_text_in`] answers, with the RFC's steps (section 4.2) as the contract: Ok
@@ -117,6 +123,7 @@ pub fn answers_agree()
 /// ```
 /// parse_text_in(alloc, &seed, Dialect::Rfc9651, Kind::Item, b"@1")? // a Date
 /// ```
+#[tactic(auto, using(crate::proofs::ParsingAnswers::answers_agree))]
 pub fn parse_text_in(
     alloc: Global,
     seed: &RandomState,

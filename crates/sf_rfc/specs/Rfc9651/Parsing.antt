@@ -1,5 +1,5 @@
 -- Parsing fields: RFC 9651 sections 4.2 to 4.2.3, and 4.2.3.2 and 4.2.3.3.
-use Rattle.std.specs.Prelude.{ℕ, zero, suc, Bool, true, false, ◌==◌, List as Seq, [], ◌∷◌, ◌++◌, ◌||◌, drop}
+use Rattle.std.specs.Prelude.{ℕ, zero, suc, true, false, ◌==◌, List as Seq, [], ◌∷◌, ◌++◌, ◌||◌, drop}
 use Rattle.std.specs.Prelude.{length, Option, Some, None}
 use Rattle.sf_value.specs.declared.dialect.Dialect.{Dialect}
 use Rattle.sf_value.specs.declared.value.Bare.{Bare}

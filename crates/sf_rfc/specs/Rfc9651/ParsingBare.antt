@@ -1,5 +1,5 @@
 -- Parsing bare items: RFC 9651 sections 4.2.4 to 4.2.10, and 4.2.3.1.
-use Rattle.std.specs.Prelude.{ℕ, ◌+◌, ◌-◌, ◌*◌, Bool, true, false, not, ◌==◌, nat_lt, ◌&&◌, ◌||◌}
+use Rattle.std.specs.Prelude.{ℕ, ◌+◌, ◌-◌, ◌*◌, Bool, true, false, ◌==◌, nat_lt, ◌&&◌, ◌||◌}
 use Rattle.std.specs.Prelude.{ℤ, pos, negsuc, ◌*ℤ◌, List, [], ◌∷◌, ◌++◌, length, drop, replicate}
 use Rattle.std.specs.Prelude.{codes, Option, Some, None}
 use Rattle.sf_value.specs.declared.dialect.Dialect.{Dialect}
