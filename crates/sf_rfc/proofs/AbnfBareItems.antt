@@ -64,14 +64,16 @@ string_char = either unescaped (either (text (codes "%")) bs_escaped)
 -- a visible character that needs no escape, by where it lies
 plain_char : (c : ℕ) → 32 ≤ c → c ≤ 126 → (c == 34) ≡ false → (c == 92) ≡ false
     → either unescaped (text (codes "%")) (c ∷ [])
-plain_char c l h q b = go (nat_le c 33) (nat_le c 36) (nat_le c 37) (nat_le c 91) refl refl refl refl
+plain_char c l h q b =
+    go (nat_le c 33) (nat_le c 36) (nat_le c 37) (nat_le c 91) refl refl refl refl
   where
     go : (w x y z : Bool) → nat_le c 33 ≡ w → nat_le c 36 ≡ x → nat_le c 37 ≡ y → nat_le c 91 ≡ z
         → either unescaped (text (codes "%")) (c ∷ [])
     go true x y z e f g k = inl (inl (c, refl, l, grind (arith, nat_tests)))
     go false true y z e f g k =
         inl (inr (inl (c, refl, grind (arith, nat_tests), grind (arith, nat_tests))))
-    go false false true z e f g k = inr (ap (λ y. y ∷ []) (let same : c ≡ 37 = grind (arith, nat_tests) in same))
+    go false false true z e f g k =
+        let same : c ≡ 37 = grind (arith, nat_tests) in inr (ap (λ y. y ∷ []) same)
     go false false false true e f g k =
         inl (inr (inr (inl (c, refl, grind (arith, nat_tests), grind (arith, nat_tests)))))
     go false false false false e f g k =

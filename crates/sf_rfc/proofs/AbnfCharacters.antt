@@ -46,16 +46,19 @@ lower c h = (c, refl, grind (arith, nat_tests), grind (arith, nat_tests))
 
 alpha : Rules is_alpha ALPHA
 alpha c h =
-    ⊎_elim (λ k. inr (lower c k)) (λ k. inl (c, refl, grind (arith, nat_tests), grind (arith, nat_tests)))
+    ⊎_elim (λ k. inr (lower c k))
+    (λ k. inl (c, refl, grind (arith, nat_tests), grind (arith, nat_tests)))
     (one_passes (is_lower c) _ h)
 
 pub key_start : Rules is_key_start (either lcalpha (text (codes "*")))
-key_start c h = rules_either is_lower (λ x. x == 42) lcalpha (text (codes "*")) lower (λ x k. is_text x 42 k) c h
+key_start =
+    rules_either is_lower (λ c. c == 42) lcalpha (text (codes "*")) lower (λ c k. is_text c 42 k)
 
 pub in_key : Rules is_in_key (either lcalpha (either DIGIT (one_of (codes "_-.*"))))
 in_key c h =
     ⊎_elim
-    (λ k. ⊎_elim (λ x. inl (lower c x)) (λ x. inr (inl (digit c x))) (one_passes (is_lower c) (is_digit c) k))
+    (λ k. ⊎_elim (λ x. inl (lower c x)) (λ x. inr (inl (digit c x)))
+    (one_passes (is_lower c) (is_digit c) k))
     (λ k. inr (inr (rules_one_of (codes "_-.*") c k)))
     (one_passes (is_lower c || is_digit c) (is_one_of (codes "_-.*") c) h)
 
@@ -68,12 +71,14 @@ in_tchar c h =
     (one_passes (is_alpha c || is_digit c) (is_one_of (codes "!#$%&'*+-.^_`|~") c) h)
 
 pub token_start : Rules is_token_start (either ALPHA (text (codes "*")))
-token_start c h = rules_either is_alpha (λ x. x == 42) ALPHA (text (codes "*")) alpha (λ x k. is_text x 42 k) c h
+token_start =
+    rules_either is_alpha (λ c. c == 42) ALPHA (text (codes "*")) alpha (λ c k. is_text c 42 k)
 
 pub in_token : Rules is_in_token (either tchar (either (text (codes ":")) (text (codes "/"))))
 in_token c h =
     ⊎_elim
-    (λ k. ⊎_elim (λ x. inl (in_tchar c x)) (λ x. inr (inl (is_text c 58 x))) (one_passes (is_tchar c) (c == 58) k))
+    (λ k. ⊎_elim (λ x. inl (in_tchar c x)) (λ x. inr (inl (is_text c 58 x)))
+    (one_passes (is_tchar c) (c == 58) k))
     (λ k. inr (inr (is_text c 47 k)))
     (one_passes (is_tchar c || c == 58) (c == 47) h)
 
@@ -87,7 +92,8 @@ is_base64 c = is_alpha c || is_digit c || is_one_of (codes "+/") c
 in_base64 : Rules is_base64 base64_char
 in_base64 c h =
     ⊎_elim
-    (λ k. ⊎_elim (λ x. inl (alpha c x)) (λ x. inr (inl (digit c x))) (one_passes (is_alpha c) (is_digit c) k))
+    (λ k. ⊎_elim (λ x. inl (alpha c x)) (λ x. inr (inl (digit c x)))
+    (one_passes (is_alpha c) (is_digit c) k))
     (λ k. ⊎_elim (λ x. inr (inr (inl x))) (λ x. ⊎_elim (λ y. inr (inr (inr y))) (λ y. absurd y) x)
     (rules_one_of (codes "+/") c k))
     (one_passes (is_alpha c || is_digit c) (is_one_of (codes "+/") c) h)

@@ -109,7 +109,13 @@ commas_canon R f (x ∷ xs) h =
           44 ∷ 32 ∷ f x,
           refl,
           (0, refl),
-          (44 ∷ [], 32 ∷ f x, refl, refl, (32 ∷ [], f x, refl, white_space (32 ∷ []) (refl, tt), h.0)),
+          (
+            44 ∷ [],
+            32 ∷ f x,
+            refl,
+            refl,
+            (32 ∷ [], f x, refl, white_space (32 ∷ []) (refl, tt), h.0),
+          ),
         ),
         r,
       ),
@@ -193,7 +199,8 @@ module _ (d : Dialect) where
         s,
       )
 
-  inner_items : (body suffix : Seq ℕ) (is : Seq Item) → SpellsItems d 0 body is → parameters d suffix
+  inner_items : (body suffix : Seq ℕ) (is : Seq Item) → SpellsItems d 0 body is
+      → parameters d suffix
       → then (many SP) (then (optional (then (sf_item d)
       (then (many (then (some SP) (sf_item d))) (many SP))))
       (then (text (codes ")")) (parameters d))) (body ++ 41 ∷ suffix)
@@ -280,7 +287,8 @@ module _ (d : Dialect) where
       → then (text (codes "=")) (list_member d) (61 ∷ (canon_bare x ++ canon_params ps))
   value_canon x ps h g =
       let i : Item = record { bare = x; params = ps } in
-      (61 ∷ [], canon_item i, refl, refl, inl (item_keeps (canon_item i) i (member_canon d (member.Item i) (h, g))))
+      let k = member_canon d (member.Item i) (h, g) in
+      (61 ∷ [], canon_item i, refl, refl, inl (item_keeps (canon_item i) i k))
 
   flag_canon : (x : Bare) (ps : Pairs Bare) → ValidBare d x → ValidParams d ps
       → either (parameters d) (then (text (codes "=")) (list_member d)) (canon_flag x ps)

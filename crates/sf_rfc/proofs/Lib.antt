@@ -4,10 +4,12 @@ pub mod SerialisingBase64
 pub mod SerialisingUtf8
 pub mod SerialisingDisplay
 pub mod SerialisingFields
-pub mod AbnfBare
 pub mod AbnfCharacters
 pub mod AbnfBareItems
 pub mod AbnfFields
+pub mod FieldLines
+pub mod Examples
+pub mod Freedoms
 pub mod ParsingSteps
 pub mod ParsingWords
 pub mod ParsingNumbers

@@ -1,6 +1,6 @@
 -- The definitions that the contracts speak of.
 pub mod Rfc9651
 pub mod SerialisingLaws
-pub mod Abnf
 pub mod ParsingLaws
 pub mod AbnfLaws
+pub mod JoiningLaws

@@ -2,5 +2,6 @@
 #![tactic(auto)]
 
 pub mod abnf;
+pub mod joining;
 pub mod parsing;
 pub mod serialising;

@@ -1,0 +1,128 @@
+-- What the algorithms of RFC 9651 leave free: texts that parse and are not canonical, each with its
+-- kind, its value and its canonical text. And texts that keep to the ABNF and don't parse.
+use Rattle.std.proofs.Common.{◌≡◌, ℕ, pos, negsuc, true, List as Seq, [], ◌∷◌, ◌++◌}
+use Rattle.std.proofs.Common.{Some, None, refl}
+use Rattle.std.specs.Prelude.{codes, map}
+use Rattle.sf_value.specs.declared.dialect.Dialect.TheVariants.{Rfc9651}
+use Rattle.sf_value.specs.declared.value.Bare.TheVariants.{Integer, Decimal}
+use Rattle.sf_value.specs.declared.value.Bare.TheVariants.{Blob, Boolean, Date, Shown}
+use Rattle.sf_value.specs.declared.value.Kind.TheVariants as kind
+use Rattle.sf_rfc.specs.Rfc9651.ParsingBare.{hex_value}
+use Rattle.sf_rfc.specs.Rfc9651.Parsing.{parse_field}
+use Rattle.sf_rfc.specs.Rfc9651.Base64.{value_of, character_of}
+use Rattle.sf_rfc.specs.Rfc9651.SerialisingBare.{hex_character}
+use Rattle.sf_rfc.specs.Rfc9651.Serialising.{serialise}
+use Rattle.sf_rfc.proofs.Examples.{Example, quoted, with, one, inner, an_item, a_list, a_dict, int}
+use Rattle.sf_rfc.proofs.Examples.{word}
+
+abbrev freedoms : Seq Example
+freedoms =
+    -- Outside of the ABNF. 4.2 step 2: SP before a field; step 6: SP behind it
+    (kind.Item, codes "  5", an_item (int 5) [], codes "5")
+    ∷ (kind.Item, codes "5  ", an_item (int 5) [], codes "5")
+    -- 4.2.1 step 2.2, 4.2.2 step 2.6: OWS, HTAB too, behind the last member
+    ∷ (
+      kind.List,
+      codes "a " ++ 9 ∷ [],
+      a_list (one (word (codes "a")) [] ∷ []),
+      codes "a",
+    )
+    ∷ (
+      kind.Dict,
+      codes "a=1" ++ 9 ∷ codes " ",
+      a_dict ((codes "a", one (int 1) []) ∷ []),
+      codes "a=1",
+    )
+    -- 4.2.1 step 3, 4.2.2 step 3: no member, which is not sent
+    ∷ (kind.List, [], a_list [], [])
+    ∷ (kind.List, codes "  ", a_list [], [])
+    ∷ (kind.Dict, [], a_dict [], [])
+    -- Within the ABNF. 4.2.1 steps 2.2 and 2.5: OWS round a comma
+    ∷ (
+      kind.List,
+      codes "a" ++ (9 ∷ codes " , " ++ 9 ∷ codes "b,c"),
+      a_list (one (word (codes "a")) [] ∷ one (word (codes "b")) []
+          ∷ one (word (codes "c")) [] ∷ []),
+      codes "a, b, c",
+    )
+    -- 4.2.1.2 step 3.1: SP round the Items of an Inner List
+    ∷ (
+      kind.List,
+      codes "(  1   2 )",
+      a_list (inner (with (int 1) [] ∷ with (int 2) [] ∷ []) [] ∷ []),
+      codes "(1 2)",
+    )
+    -- 4.2.3.2 step 2.3: SP behind a semicolon; step 2.6: Boolean true in full
+    ∷ (
+      kind.Item,
+      codes "5;  a;b=?1",
+      an_item (int 5) ((codes "a", Boolean true) ∷ (codes "b", Boolean true) ∷ []),
+      codes "5;a;b",
+    )
+    -- 4.2.2 step 2.2: Boolean true in full
+    ∷ (
+      kind.Dict,
+      codes "a=?1;b, c",
+      a_dict ((codes "a", one (Boolean true) ((codes "b", Boolean true) ∷ []))
+          ∷ (codes "c", one (Boolean true) []) ∷ []),
+      codes "a;b, c",
+    )
+    -- 4.2.3.2 step 2.7, 4.2.2 step 2.4: a key again, whose last value stands in its first place
+    ∷ (
+      kind.Item,
+      codes "5;a=1;b=2;a=3",
+      an_item (int 5) ((codes "a", int 3) ∷ (codes "b", int 2) ∷ []),
+      codes "5;a=3;b=2",
+    )
+    ∷ (
+      kind.Dict,
+      codes "a=1, b=2, a=3;x",
+      a_dict ((codes "a", one (int 3) ((codes "x", Boolean true) ∷ []))
+          ∷ (codes "b", one (int 2) []) ∷ []),
+      codes "a=3;x, b=2",
+    )
+    -- 3.3.1, 3.3.2, 3.3.7: leading zeros, zeros behind a fraction, a sign on zero
+    ∷ (kind.Item, codes "0002", an_item (int 2) [], codes "2")
+    ∷ (kind.Item, codes "-01", an_item (Integer (negsuc 0)) [], codes "-1")
+    ∷ (kind.Item, codes "-0", an_item (int 0) [], codes "0")
+    ∷ (kind.Item, codes "0002.5", an_item (Decimal (pos 2500)) [], codes "2.5")
+    ∷ (kind.Item, codes "-01.334", an_item (Decimal (negsuc 1333)) [], codes "-1.334")
+    ∷ (kind.Item, codes "5.230", an_item (Decimal (pos 5230)) [], codes "5.23")
+    ∷ (kind.Item, codes "-0.40", an_item (Decimal (negsuc 399)) [], codes "-0.4")
+    ∷ (kind.Item, codes "-0.0", an_item (Decimal (pos 0)) [], codes "0.0")
+    ∷ (kind.Item, codes "@-00", an_item (Date (pos 0)) [], codes "@0")
+    -- 4.2.7 step 7: no "=", one of two, and pad bits that are not zero, with "=" and without
+    ∷ (kind.Item, codes ":Zg:", an_item (Blob (codes "f")) [], codes ":Zg==:")
+    ∷ (kind.Item, codes ":Zg=:", an_item (Blob (codes "f")) [], codes ":Zg==:")
+    ∷ (kind.Item, codes ":Zm8:", an_item (Blob (codes "fo")) [], codes ":Zm8=:")
+    ∷ (kind.Item, codes ":Zh==:", an_item (Blob (codes "f")) [], codes ":Zg==:")
+    ∷ (kind.Item, codes ":Zm9:", an_item (Blob (codes "fo")) [], codes ":Zm8=:")
+    -- 4.2.10 step 4.3: bytes in hex that need not be
+    ∷ (
+      kind.Item,
+      37 ∷ quoted (codes "%61b%20"),
+      an_item (Shown (codes "ab ")) [],
+      37 ∷ quoted (codes "ab "),
+    )
+    ∷ []
+
+-- each text parses as its value
+parsed : map (λ e. parse_field Rfc9651 e.0 e.1) freedoms ≡ map (λ e. Some e.2) freedoms
+unfolding value_of hex_value
+parsed = refl
+
+-- each value serialises as its canonical text
+serialised : map (λ e. serialise e.2) freedoms ≡ map (λ e. Some e.3) freedoms
+unfolding character_of hex_character
+serialised = refl
+
+-- texts that keep to the ABNF and fail: 4.2.7 step 7, for a lone character of base64, too many "="
+-- and "=" alone; 4.2.10 step 4.4.1, for bytes that are no UTF-8
+abbrev unparsed : Seq (Seq ℕ)
+unparsed =
+    codes ":Z:" ∷ codes ":Zg===:" ∷ codes ":Zm9v=:" ∷ codes ":=:" ∷ (37 ∷ quoted (codes "%ff"))
+    ∷ (37 ∷ quoted (codes "%c3")) ∷ []
+
+failed : map (parse_field Rfc9651 kind.Item) unparsed ≡ map (λ t. None) unparsed
+unfolding value_of hex_value
+failed = refl
