@@ -119,6 +119,37 @@ typedef struct sf_refusal {
 uint32_t sf_check(const sf_seed *seed, uint32_t dialect, uint32_t kind, const void *text,
                   size_t text_length, sf_refusal *refusal);
 
+/*
+ * Writes the error message of a refusal to buffer, such as
+ *
+ *   byte 0x32 '2' at place 2, expected a space or the end
+ *
+ *   SF_OK         the first *required bytes of buffer are the message; the others are unchanged
+ *   SF_SHORT      the message has *required bytes, more than buffer_length; buffer is unchanged
+ *   SF_NO_MEMORY  buffer and *required are unchanged
+ *
+ * In *refusal, a found that is not a byte from 0 to 255 means that the text ended, and any may_end
+ * but 0 counts as 1.
+ */
+uint32_t sf_refusal_text(const sf_refusal *refusal, void *buffer, size_t buffer_length,
+                         size_t *required);
+
+/*
+ * Writes the error message of a refusal, a second line with the offset, the text as one line and a
+ * caret below the offset, without a newline at the end:
+ *
+ *   byte 0x32 '2' at place 2, expected a space or the end
+ *   line 1, place 2:
+ *   1 2
+ *     ^
+ *
+ * Each byte of the text is one character there: a question mark if the byte is not printable. If
+ * the place is greater than the length of the text, the caret is at its end. The results are those
+ * of sf_refusal_text.
+ */
+uint32_t sf_refusal_in_text(const sf_refusal *refusal, const void *text, size_t text_length,
+                            void *buffer, size_t buffer_length, size_t *required);
+
 /* The size in bytes of a buffer that is large enough for the canonical text of any text of this
  * length: eight fifths of it, so SF_CANONICAL_ROOM(5) is 8. The result is a size_t whatever integer
  * type the length has, and valid for lengths up to SIZE_MAX / 8 * 5. The macro evaluates its

@@ -473,6 +473,88 @@ static int is_piece(const unsigned char *bytes, size_t size, size_t at, size_t l
          (length == 0 || memcmp(bytes + at, text, length) == 0);
 }
 
+/* A call that writes a text: to a buffer of each length that is too small, of exactly the length, and
+ * of longer ones. The call names buffer, size and required. */
+#define WRITES(call, expected)                                                                     \
+  do {                                                                                             \
+    size_t whole = strlen(expected);                                                               \
+    for (size_t size = 0; size <= whole + 3; ++size) {                                             \
+      unsigned char *buffer = take_room(NULL, size);                                               \
+      size_t *required = take_room(NULL, sizeof *required);                                        \
+      CALL(call);                                                                                  \
+      CHECK(*required == whole && status == (size < whole ? SF_SHORT : SF_OK));                    \
+      if (size < whole)                                                                            \
+        CHECK(all_are(buffer, size));                                                              \
+      else                                                                                         \
+        CHECK(memcmp(buffer, expected, whole) == 0 && all_are(buffer + whole, size - whole));      \
+      give_room(required);                                                                         \
+      give_room(buffer);                                                                           \
+    }                                                                                              \
+  } while (0)
+
+/* Refusals in words. The words are those of the rules in specs/RefusalTexts and specs/Names of the
+ * parser. */
+static void refusals_in_words(void) {
+  static const struct {
+    uint32_t kind;
+    const char *text, *message, *shown; /* what stands after the message in the second call */
+  } rows[] = {
+      {SF_ITEM, "1 2", "byte 0x32 '2' at place 2, expected a space or the end",
+       "\nline 1, place 2:\n1 2\n  ^"},
+      {SF_LIST, "(a", "the text ended at place 2, expected a token character, `)`, `;` or a space",
+       "\nline 1, place 2:\n(a\n  ^"},
+      {SF_DICT, "a =1", "byte 0x3d '=' at place 2, expected `,`, a tab, a space or the end",
+       "\nline 1, place 2:\na =1\n  ^"},
+      {SF_ITEM, ":YQ===\t\xff", "byte 0x3d '=' at place 5, expected `:`",
+       "\nline 1, place 5:\n:YQ===??\n     ^"},
+      {SF_ITEM, "\"a\\b\"", "byte 0x62 'b' at place 3, expected a quote or `\\`",
+       "\nline 1, place 3:\n\"a\\b\"\n   ^"},
+      {SF_ITEM, "1.", "the text ended at place 2, expected a digit",
+       "\nline 1, place 2:\n1.\n  ^"},
+      {SF_ITEM, "\"a\x7f\"", "byte 0x7f at place 2, expected a printable character",
+       "\nline 1, place 2:\n\"a?\"\n  ^"},
+  };
+  uint32_t status;
+  for (size_t i = 0; i < sizeof rows / sizeof *rows; ++i) {
+    const char *about = rows[i].text;
+    size_t length = strlen(about);
+    unsigned char *text = take_room(about, length);
+    sf_refusal *refusal = take_room(&untouched, sizeof untouched);
+    CALL(sf_check(&seed, SF_RFC9651, rows[i].kind, text, length, refusal));
+    CHECK(status == SF_REFUSED);
+    char shown[160];
+    sprintf(shown, "%s%s", rows[i].message, rows[i].shown);
+    WRITES(sf_refusal_text(refusal, buffer, size, required), rows[i].message);
+    WRITES(sf_refusal_in_text(refusal, text, length, buffer, size, required), shown);
+    give_room(refusal);
+    give_room(text);
+  }
+
+  /* any numbers */
+  const char *about = "a refusal of the caller's";
+  sf_refusal refusal = {UINT64_MAX, UINT64_C(1) << 34, 0, 256, 255};
+  WRITES(sf_refusal_text(&refusal, buffer, size, required),
+         "the text ended at place 18446744073709551615, expected a quote or the end");
+  WRITES(sf_refusal_in_text(&refusal, "ab", 2, buffer, size, required),
+         "the text ended at place 18446744073709551615, expected a quote or the end"
+         "\nline 1, place 2:\nab\n  ^");
+  refusal.found = INT32_MIN;
+  refusal.place = 0;
+  refusal.may_end = 0;
+  unsigned char *none = take_room(NULL, 0);
+  WRITES(sf_refusal_in_text(&refusal, none, 0, buffer, size, required),
+         "the text ended at place 0, expected a quote\nline 1, place 0:\n\n^");
+  give_room(none);
+  refusal.found = 255;
+  refusal.expected_low = 0;
+  refusal.expected_high = UINT64_C(1) << 63;
+  WRITES(sf_refusal_text(&refusal, buffer, size, required),
+         "byte 0xff at place 0, expected 0x7f");
+  refusal.found = 0;
+  WRITES(sf_refusal_text(&refusal, buffer, size, required),
+         "byte 0x00 at place 0, expected 0x7f");
+}
+
 /* What a node is to tell. */
 typedef struct row {
   uint32_t role, type;
@@ -1167,6 +1249,20 @@ static void want_of_memory(void) {
                path.hops == 4711 && all_are((unsigned char *)hops, sizeof hops) &&
                    all_are(room, sizeof room) && is_untouched(&refusal));
 
+  about = "sf_refusal_text, no memory";
+  static const char message[] = "byte 0x32 '2' at place 2, expected a space or the end";
+  static const char shown[] = "byte 0x32 '2' at place 2, expected a space or the end\n"
+                              "line 1, place 2:\n1 2\n  ^";
+  sf_refusal why = {2, UINT64_C(1) << 32, 0, '2', 1};
+  EACH_REFUSAL((memset(room, 0xa5, sizeof room), wanted = 4711,
+                sf_refusal_text(&why, room, sizeof room, &wanted)),
+               wanted == sizeof message - 1 && memcmp(room, message, wanted) == 0,
+               wanted == 4711 && all_are(room, sizeof room));
+  EACH_REFUSAL((memset(room, 0xa5, sizeof room), wanted = 4711,
+                sf_refusal_in_text(&why, "1 2", 3, room, sizeof room, &wanted)),
+               wanted == sizeof shown - 1 && memcmp(room, shown, wanted) == 0,
+               wanted == 4711 && all_are(room, sizeof room));
+
   /* what takes no memory is answered without */
   about = "no memory is taken";
   static const char spaces[] = "    -007     ";
@@ -1188,6 +1284,7 @@ static void all(void) {
     worked_texts();
     bad_calls();
     comparing();
+    refusals_in_words();
     nodes_of_values();
     priorities();
     policies();

@@ -5,6 +5,8 @@ pub mod Refusals
 pub mod Parsing
 pub mod Checks
 pub mod Normal
+pub mod TextBuffers
+pub mod RefusalTexts
 pub mod Priorities
 pub mod Policies
 pub mod Joining
