@@ -14,7 +14,7 @@ pub struct Refusal {
 }
 
 #[repr(C)]
-#[derive(Clone, Copy)]
+#[derive(Clone, Copy, Debug, PartialEq, Eq)]
 pub struct Node {
     pub number: i64,
     pub key_at: usize,
@@ -33,7 +33,7 @@ pub struct Sizes {
 }
 
 #[repr(C)]
-#[derive(Clone, Copy)]
+#[derive(Clone, Copy, Debug, PartialEq, Eq)]
 pub struct PriorityFlags {
     pub urgency: u8,
     pub incremental: u8,
@@ -54,14 +54,14 @@ pub struct Policy {
 }
 
 #[repr(C)]
-#[derive(Clone, Copy)]
+#[derive(Clone, Copy, Debug, PartialEq, Eq)]
 pub struct Piece {
     pub at: usize,
     pub length: usize,
 }
 
 #[repr(C)]
-#[derive(Clone, Copy)]
+#[derive(Clone, Copy, Debug, PartialEq, Eq)]
 pub struct Hop {
     pub name: Piece,
     pub why_token: Piece,
@@ -116,7 +116,9 @@ pub const OK: u32 = 0;
 pub const REFUSED: u32 = 1;
 pub const SECOND_REFUSED: u32 = 2;
 pub const SHORT: u32 = 3;
+pub const NO_MEMORY: u32 = 4;
 pub const EMPTY: u32 = 5;
+pub const BAD_CALL: u32 = 6;
 pub const NOT_A_CACHE: u32 = 7;
 
 extern "C" {
