@@ -166,7 +166,7 @@ parameters = refl
 dictionaries : map dict_read
     ((codes "en=" ++ (quoted (codes "Applepie") ++ codes ", da=:w4ZibGV0w6ZydGU=:"))
     ∷ codes "a=?0, b, c; foo=bar" ∷ codes "rating=1.5, feelings=(joy sadness)"
-    ∷ codes "a=1, b=2;x, a" ∷ codes "a=1," ∷ codes "A=1" ∷ codes "a= 1" ∷ [])
+    ∷ codes "a=1, b=2;x, a" ∷ codes "a=1," ∷ codes "A=1" ∷ codes "1a=1" ∷ codes "a= 1" ∷ [])
     ≡ Some (a_dict ((codes "en", one (Text (codes "Applepie")))
     ∷ (codes "da", one (Blob (195 ∷ 134 ∷ (codes "blet" ++ 195 ∷ 166 ∷ codes "rte")))) ∷ []))
     ∷ Some (a_dict ((codes "a", one (Boolean false)) ∷ (codes "b", one (Boolean true))
@@ -180,7 +180,7 @@ dictionaries : map dict_read
     ) ∷ []))
     ∷ Some (a_dict ((codes "a", one (Boolean true))
     ∷ (codes "b", member.Item (with (int 2) ((codes "x", Boolean true) ∷ []))) ∷ []))
-    ∷ None ∷ None ∷ None ∷ []
+    ∷ None ∷ None ∷ None ∷ None ∷ []
 unfolding value_of
 dictionaries = refl
 

@@ -1,40 +1,39 @@
 -- What it means that an algorithm of RFC 9651 and a relation of the grammar agree.
-use Rattle.std.specs.Prelude.{◌≡◌, ℕ, ℤ, Bool, true, false, ◌==◌, ◌||◌, List, [], ◌∷◌, ◌++◌}
-use Rattle.std.specs.Prelude.{Some, None, Result, Ok, Err, ◌⊎◌, ◌↔◌, ⊤}
+use Rattle.std.specs.Prelude.{◌≡◌, ℕ, ℤ, Bool, true, false, ◌==◌, ◌||◌, List, [], ◌∷◌, ◌++◌, Some}
+use Rattle.std.specs.Prelude.{None, Result, Ok, Err, ◌⊎◌, ◌↔◌, ⊤}
+use Rattle.sf_value.specs.declared.dialect.Dialect.{Dialect}
 use Rattle.sf_value.specs.declared.value.Bare.{Bare}
 use Rattle.sf_value.specs.declared.value.Bare.TheVariants.{Integer, Decimal, Date}
-use Rattle.sf_value.specs.Ascii.{point, semicolon, equals}
-use Rattle.sf_value.specs.Grammar.Classes.{is_digit}
-use Rattle.sf_value.specs.Grammar.Numbers.{SpellsInteger, SpellsDecimal, SpellsDate}
-use Rattle.sf_value.specs.Grammar.Classes.{is_key_start, is_in_key, is_token_start, is_in_token}
-use Rattle.sf_value.specs.Grammar.Booleans.{SpellsBoolean}
-use Rattle.sf_value.specs.Grammar.Strings.{SpellsString}
-use Rattle.sf_value.specs.Grammar.Items.{SpellsItem}
-use Rattle.sf_value.specs.Grammar.InnerLists.{SpellsInner, SpellsMember}
 use Rattle.sf_value.specs.declared.value.Item.{Item}
 use Rattle.sf_value.specs.declared.value.Inner.{Inner}
 use Rattle.sf_value.specs.declared.value.Member.{Member}
-use Rattle.sf_value.specs.Grammar.Words.{Every}
-use Rattle.sf_value.specs.Grammar.Classes.{is_ows}
-use Rattle.sf_value.specs.Grammar.Series.{SpellsSeries}
 use Rattle.sf_value.specs.declared.value.Field.{Field}
 use Rattle.sf_value.specs.declared.value.Kind.{Kind}
-use Rattle.sf_value.specs.Grammar.Fields.{SpellsEntry, SpellsField}
+use Rattle.sf_value.specs.Ascii.{point, semicolon, equals}
+use Rattle.sf_value.specs.Grammar.Words.{Every}
+use Rattle.sf_value.specs.Grammar.Classes.{is_digit, is_key_start, is_in_key, is_token_start}
+use Rattle.sf_value.specs.Grammar.Classes.{is_in_token, is_ows}
 use Rattle.sf_value.specs.Grammar.Pairs.{Pairs, settle}
-use Rattle.sf_value.specs.Grammar.Parameters.{SpellsParams}
-use Rattle.sf_value.specs.Grammar.BareItems.{SpellsBare}
-use Rattle.sf_value.specs.declared.dialect.Dialect.{Dialect}
-use Rattle.sf_value.specs.Grammar.DisplayStrings.{SpellsDisplayString}
+use Rattle.sf_value.specs.Grammar.Numbers.{SpellsInteger, SpellsDecimal, SpellsDate}
+use Rattle.sf_value.specs.Grammar.Strings.{SpellsString}
+use Rattle.sf_value.specs.Grammar.Tokens.{SpellsWord}
 use Rattle.sf_value.specs.Grammar.ByteSequences.{SpellsByteSequence}
+use Rattle.sf_value.specs.Grammar.Booleans.{SpellsBoolean}
+use Rattle.sf_value.specs.Grammar.DisplayStrings.{SpellsDisplayString}
+use Rattle.sf_value.specs.Grammar.BareItems.{SpellsBare}
+use Rattle.sf_value.specs.Grammar.Parameters.{SpellsParams}
+use Rattle.sf_value.specs.Grammar.Items.{SpellsItem}
+use Rattle.sf_value.specs.Grammar.InnerLists.{SpellsInner, SpellsMember}
+use Rattle.sf_value.specs.Grammar.Series.{SpellsSeries}
+use Rattle.sf_value.specs.Grammar.Fields.{SpellsEntry, SpellsField}
 use Rattle.sf_parse.specs.declared.refusal.Refusal.{Refusal}
 use Rattle.sf_parse.specs.declared.refusal.Refusal.TheVariants.{OutOfMemory, Syntax, TooLong}
 use Rattle.sf_parse.specs.declared.refusal.Refusal.TheVariants.{ReadFault}
 use Rattle.sf_parse.specs.Parsers.{Parses, Finishes}
-use Rattle.sf_rfc.specs.Rfc9651.ParsingBare.{parse_token, parse_boolean, parse_string}
-use Rattle.sf_rfc.specs.Rfc9651.ParsingBare.{parse_number, parse_date, parse_byte_sequence}
-use Rattle.sf_rfc.specs.Rfc9651.ParsingBare.{parse_display_string, parse_bare}
-use Rattle.sf_value.specs.Grammar.Tokens.{SpellsWord}
 use Rattle.sf_rfc.specs.Rfc9651.Words.{Parse, first_is}
+use Rattle.sf_rfc.specs.Rfc9651.ParsingBare.{parse_token, parse_boolean, parse_string, parse_number}
+use Rattle.sf_rfc.specs.Rfc9651.ParsingBare.{parse_date, parse_byte_sequence, parse_display_string}
+use Rattle.sf_rfc.specs.Rfc9651.ParsingBare.{parse_bare}
 use Rattle.sf_rfc.specs.Rfc9651.Parsing.{parse_key, parse_params, parse_item, parse_inner}
 use Rattle.sf_rfc.specs.Rfc9651.Parsing.{parse_member, parse_list, parse_dictionary, parse_field}
 
