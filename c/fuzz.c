@@ -324,6 +324,11 @@ static void consumers(const uint8_t *text, size_t length, int is_dict) {
     CHECK(priority.urgency <= 7 && priority.incremental <= 1);
     sf_priority_flags both = sf_priority_merge(&priority, &priority);
     CHECK(memcmp(&both, &priority, sizeof both) == 0);
+    char written[SF_PRIORITY_SIZE];
+    size_t required = 0;
+    CHECK(sf_priority_text(&priority, written, sizeof written, &required) == SF_OK);
+    CHECK(sf_priority(&seed, written, required, &both, &refusal) == SF_OK);
+    CHECK(memcmp(&both, &priority, sizeof both) == 0);
   }
   sf_policy policy;
   memset(&policy, 0, sizeof policy);

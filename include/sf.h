@@ -294,6 +294,23 @@ uint32_t sf_priority(const sf_seed *seed, const void *text, size_t text_length,
 sf_priority_flags sf_priority_merge(const sf_priority_flags *client,
                                     const sf_priority_flags *server);
 
+/* The size in bytes of a buffer that is large enough for each text of sf_priority_text. */
+#define SF_PRIORITY_SIZE 9
+
+/*
+ * Writes the text of a Priority field (RFC 9218 section 5) that sets what *priority sets, and
+ * nothing else: u if says_urgency is set, then i if says_incremental is set, also to the defaults.
+ * sf_priority reads it as the same. If the text is empty, the field is not to be sent (RFC 9651
+ * section 4.1).
+ *
+ *   SF_OK     the first *required bytes of buffer are the text; the others are unchanged
+ *   SF_SHORT  the text has *required bytes, more than buffer_length; buffer is unchanged
+ *
+ * In *priority, numbers count as in the arguments of sf_priority_merge. Does not allocate.
+ */
+uint32_t sf_priority_text(const sf_priority_flags *priority, void *buffer, size_t buffer_length,
+                          size_t *required);
+
 /* The directives of a targeted field (RFC 9213 section 2.1, RFC 9111 section 5.2.2). */
 typedef struct sf_policy {
   uint64_t max_age;        /* max-age in seconds; 0 if absent */

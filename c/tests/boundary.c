@@ -702,6 +702,31 @@ static void priorities(void) {
   }
 }
 
+/* The text of what a struct sets: nothing of what it doesn't set, and what is read from it. */
+static void priority_texts(void) {
+  static const struct {
+    sf_priority_flags sets;
+    const char *text;
+  } rows[] = {
+      {{3, 0, 0, 0}, ""},          {{1, 1, 0, 0}, ""},          {{5, 0, 1, 0}, "u=5"},
+      {{3, 0, 1, 0}, "u=3"},       {{0, 0, 1, 0}, "u=0"},       {{3, 1, 0, 1}, "i"},
+      {{3, 0, 0, 1}, "i=?0"},      {{1, 1, 1, 1}, "u=1, i"},    {{7, 0, 1, 1}, "u=7, i=?0"},
+      {{8, 1, 1, 1}, "i"},         {{255, 9, 1, 7}, "i"},       {{2, 200, 255, 255}, "u=2, i"},
+  };
+  uint32_t status;
+  for (size_t i = 0; i < sizeof rows / sizeof *rows; ++i) {
+    const char *about = rows[i].text;
+    sf_priority_flags *sets = take_room(&rows[i].sets, sizeof rows[i].sets);
+    WRITES(sf_priority_text(sets, buffer, size, required), rows[i].text);
+    CHECK(strlen(rows[i].text) <= SF_PRIORITY_SIZE);
+    sf_priority_flags again = {9, 9, 9, 9}, merged = sf_priority_merge(sets, sets);
+    sf_refusal refusal = untouched;
+    CALL(sf_priority(&seed, rows[i].text, strlen(rows[i].text), &again, &refusal));
+    CHECK(status == SF_OK && memcmp(&again, &merged, sizeof again) == 0);
+    give_room(sets);
+  }
+}
+
 static void policies(void) {
   static const struct {
     const char *text;
@@ -1273,6 +1298,9 @@ static void want_of_memory(void) {
   sf_joined joined = {0, 0, 0};
   CALL(sf_join("a", 1, room, sizeof room, &joined));
   CHECK(status == SF_OK);
+  sf_priority_flags sets = {1, 1, 1, 1};
+  CALL(sf_priority_text(&sets, room, sizeof room, &wanted));
+  CHECK(status == SF_OK && wanted == 6 && memcmp(room, "u=1, i", 6) == 0);
   refused_from = 0;
 }
 
@@ -1287,6 +1315,7 @@ static void all(void) {
     refusals_in_words();
     nodes_of_values();
     priorities();
+    priority_texts();
     policies();
     paths();
     structs();

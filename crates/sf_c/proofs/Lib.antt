@@ -6,3 +6,4 @@ pub mod NodeBound
 pub mod HopLemmas
 pub mod OneHop
 pub mod HopBound
+pub mod WrittenPriorities
