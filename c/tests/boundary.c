@@ -933,6 +933,148 @@ static void paths(void) {
   CHECK(path.is_served == 4715 && byte == 0xa5 && all_are((unsigned char *)&hop, sizeof hop));
 }
 
+/* A hop, written and read back: the text is this one. */
+static void hop_written(const sf_hop *from, const char *pieces, const char *text) {
+  const char *about = text;
+  uint32_t status;
+  size_t length = strlen(pieces);
+  sf_hop *hop = take_room(from, sizeof *from);
+  unsigned char *bytes = take_room(pieces, length);
+  WRITES(sf_hop_text(&seed, hop, bytes, length, buffer, size, required), text);
+  CHECK(memcmp(hop, from, sizeof *from) == 0);
+  give_room(hop);
+  give_room(bytes);
+}
+
+static void hop_refused(const sf_hop *from, const char *pieces, const char *about) {
+  uint32_t status;
+  size_t length = strlen(pieces), required = 4711;
+  unsigned char *bytes = take_room(pieces, length), buffer[64];
+  memset(buffer, ROOM_BYTE, sizeof buffer);
+  CALL(sf_hop_text(&seed, from, bytes, length, buffer, sizeof buffer, &required));
+  CHECK(status == SF_INVALID && required == 4711 && all_are(buffer, sizeof buffer));
+  give_room(bytes);
+}
+
+static void written_hops(void) {
+  /* a hop of one's own: what is not set is zero */
+  sf_hop hop;
+  memset(&hop, 0, sizeof hop);
+  hop_written(&hop, "", "\"\"");
+  hop.name.length = 4;
+  hop_written(&hop, "edge", "\"edge\"");
+  hop.name_is_token = 1;
+  hop.outcome = SF_HIT;
+  hop_written(&hop, "edge", "edge;hit");
+  hop.says_ttl = 1;
+  hop.ttl = -30;
+  hop_written(&hop, "edge", "edge;hit;ttl=-30");
+  hop.ttl = SF_NUMBER_MAX;
+  hop_written(&hop, "edge", "edge;hit;ttl=999999999999999");
+  hop.ttl = SF_NUMBER_MAX + 1;
+  hop_refused(&hop, "edge", "a ttl that is no Integer");
+  hop.ttl = -SF_NUMBER_MAX - 1;
+  hop_refused(&hop, "edge", "a ttl that is no Integer");
+  hop.says_ttl = 0;
+  hop_written(&hop, "edge", "edge;hit");
+  hop.says_key = 255;
+  hop.key = (sf_piece){4, 3};
+  hop_written(&hop, "edgea\"b", "edge;hit;key=\"a\\\"b\"");
+  hop_refused(&hop, "edgeab", "a key past the bytes");
+  hop.key.at = SIZE_MAX;
+  hop_refused(&hop, "edgea\"b", "a key past all bytes");
+  hop.key = (sf_piece){7, 0};
+  hop_written(&hop, "edgea\"b", "edge;hit;key=\"\"");
+  hop.key.at = 8;
+  hop_refused(&hop, "edgea\"b", "an empty key past the bytes");
+  hop.key = (sf_piece){4, 1};
+  hop_refused(&hop, "edge\x7f", "a key that is no String");
+  hop.says_key = 0;
+  hop.says_detail = 1;
+  hop.detail = (sf_piece){0, 2};
+  hop_written(&hop, "edge", "edge;hit;detail=\"ed\"");
+  hop.detail_is_token = 1;
+  hop_written(&hop, "edge", "edge;hit;detail=ed");
+  hop.detail.length = 0;
+  hop_refused(&hop, "edge", "a detail that is no Token");
+  hop.says_detail = 0;
+  hop_refused(&hop, "ed e", "a name that is no Token");
+  hop.name_is_token = 0;
+  hop_written(&hop, "ed e", "\"ed e\";hit");
+  hop_refused(&hop, "ed\te", "a name that is no String");
+
+  /* what was forwarded counts if the outcome says so */
+  hop.why = SF_STALE;
+  hop.status = 304;
+  hop.says_status = 1;
+  hop.stored = 1;
+  hop.says_stored = 1;
+  hop.says_collapsed = 1;
+  hop_written(&hop, "edge", "\"edge\";hit");
+  hop.outcome = SF_UNSAID;
+  hop_written(&hop, "edge", "\"edge\"");
+  hop.outcome = SF_FORWARDED;
+  hop_written(&hop, "edge", "\"edge\";fwd=stale;fwd-status=304;stored;collapsed=?0");
+  hop.outcome = SF_CONFLICT;
+  hop_written(&hop, "edge", "\"edge\";hit;fwd=stale;fwd-status=304;stored;collapsed=?0");
+  hop.outcome = SF_CONFLICT + 1;
+  hop_refused(&hop, "edge", "no outcome");
+  hop.outcome = SF_FORWARDED;
+  hop.status = SF_FWD_STATUS_MIN - 1;
+  hop_refused(&hop, "edge", "no status");
+  hop.status = SF_FWD_STATUS_MAX + 1;
+  hop_refused(&hop, "edge", "no status");
+  hop.status = SF_FWD_STATUS_MAX;
+  hop.says_stored = hop.says_collapsed = 0;
+  static const char *const reasons[] = {
+      "\"edge\";fwd=bypass;fwd-status=999",    "\"edge\";fwd=method;fwd-status=999",
+      "\"edge\";fwd=uri-miss;fwd-status=999",  "\"edge\";fwd=vary-miss;fwd-status=999",
+      "\"edge\";fwd=miss;fwd-status=999",      "\"edge\";fwd=request;fwd-status=999",
+      "\"edge\";fwd=stale;fwd-status=999",     "\"edge\";fwd=partial;fwd-status=999"};
+  for (size_t i = 0; i < sizeof reasons / sizeof *reasons; ++i) {
+    hop.why = (uint16_t)(SF_BYPASS + i);
+    hop_written(&hop, "edge", reasons[i]);
+  }
+  hop.why = SF_NO_FORWARD;
+  hop_refused(&hop, "edge", "no reason");
+  hop.why = SF_OTHER + 1;
+  hop_refused(&hop, "edge", "no reason");
+  hop.why = SF_OTHER;
+  hop_refused(&hop, "edge", "a reason that is no Token");
+  hop.why_token = (sf_piece){4, 3};
+  hop_written(&hop, "edgeodd", "\"edge\";fwd=odd;fwd-status=999");
+
+  /* all at once, also if malloc fails */
+  hop = (sf_hop){{0, 1}, {1, 3}, {4, 2}, {6, 3}, -3, SF_FORWARDED, SF_OTHER, 100, 1, 0, 1, 1, 1,
+                 1, 1, 1, 1, 0};
+  static const char every[] = "c;fwd=odd;fwd-status=100;ttl=-3;stored=?0;collapsed;key=\"k\\\"\";"
+                            "detail=\"why\"";
+  hop_written(&hop, "coddk\"why", every);
+
+  /* each hop of a path, written, is a member of its canonical text */
+  static const char text[] = "a;hit;ttl=5, \"b c\";fwd=miss;fwd-status=200;stored;key=\"k\", "
+                             "d;fwd=odd;detail=e, f;hit;fwd=partial;collapsed=?0;detail=\"\", g";
+  static const char *const members[] = {
+      "a;hit;ttl=5", "\"b c\";fwd=miss;fwd-status=200;stored;key=\"k\"", "d;fwd=odd;detail=e",
+      "f;hit;fwd=partial;collapsed=?0;detail=\"\"", "g"};
+  const char *about = text;
+  uint32_t status;
+  sf_hop hops[5];
+  char bytes[SF_BYTES_ROOM(sizeof text)];
+  sf_path path;
+  sf_refusal refusal = untouched;
+  CALL(sf_cache_status(&seed, text, sizeof text - 1, hops, 5, bytes, sizeof bytes, &path,
+                       &refusal));
+  CHECK(status == SF_OK && path.hops == 5);
+  for (size_t i = 0; i < 5; ++i) {
+    char buffer[80];
+    size_t required = 0;
+    CALL(sf_hop_text(&seed, &hops[i], bytes, path.bytes, buffer, sizeof buffer, &required));
+    CHECK(status == SF_OK && required == strlen(members[i]));
+    CHECK(memcmp(buffer, members[i], required) == 0);
+  }
+}
+
 /* Each struct that a call is given, in a room of its own, as the answers are. */
 static void structs(void) {
   static const struct {
@@ -1288,6 +1430,18 @@ static void want_of_memory(void) {
                wanted == sizeof shown - 1 && memcmp(room, shown, wanted) == 0,
                wanted == 4711 && all_are(room, sizeof room));
 
+  about = "sf_hop_text, no memory";
+  static const char line[] = "cccccccccccccccccccc;fwd=odd;fwd-status=100;ttl=-3;stored=?0;"
+                             "collapsed;key=\"k\";detail=\"dddddddddddddddddddd\"";
+  static const char pieces[] = "ccccccccccccccccccccoddkdddddddddddddddddddd";
+  sf_hop hop = {{0, 20}, {20, 3}, {23, 1}, {24, 20}, -3, SF_FORWARDED, SF_OTHER, 100, 1, 0, 1,
+                1, 1, 1, 1, 1, 1, 0};
+  EACH_REFUSAL((memset(room, 0xa5, sizeof room), wanted = 4711,
+                sf_hop_text(&seed, &hop, pieces, sizeof pieces - 1, room, sizeof room, &wanted)),
+               wanted == sizeof line - 1 && memcmp(room, line, wanted) == 0 &&
+                   all_are(room + wanted, sizeof room - wanted),
+               wanted == 4711 && all_are(room, sizeof room));
+
   /* what takes no memory is answered without */
   about = "no memory is taken";
   static const char spaces[] = "    -007     ";
@@ -1318,6 +1472,7 @@ static void all(void) {
     priority_texts();
     policies();
     paths();
+    written_hops();
     structs();
     joining();
   }
