@@ -486,7 +486,8 @@ static int is_piece(const unsigned char *bytes, size_t size, size_t at, size_t l
       if (size < whole)                                                                            \
         CHECK(all_are(buffer, size));                                                              \
       else                                                                                         \
-        CHECK(memcmp(buffer, expected, whole) == 0 && all_are(buffer + whole, size - whole));      \
+        CHECK((whole == 0 || memcmp(buffer, expected, whole) == 0) &&                              \
+              (size == whole || all_are(buffer + whole, size - whole)));                           \
       give_room(required);                                                                         \
       give_room(buffer);                                                                           \
     }                                                                                              \
