@@ -15,4 +15,5 @@ pub mod Nodes
 pub mod Flattening
 pub mod Hops
 pub mod Paths
+pub mod GivenHops
 pub mod Laws
