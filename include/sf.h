@@ -71,7 +71,8 @@ typedef enum sf_status {
   SF_NO_MEMORY = 4,      /* malloc or realloc failed */
   SF_EMPTY = 5,          /* the field has no members */
   SF_BAD_CALL = 6,       /* no such kind or dialect, or a length greater than that of its buffer */
-  SF_NOT_A_CACHE = 7     /* a member of a Cache-Status List does not name a cache */
+  SF_NOT_A_CACHE = 7,    /* a member of a Cache-Status List does not name a cache */
+  SF_INVALID = 8         /* what is to be written is not a value */
 } sf_status;
 
 /* The kind of a field, which the definition of the field states. */
@@ -118,6 +119,37 @@ typedef struct sf_refusal {
  */
 uint32_t sf_check(const sf_seed *seed, uint32_t dialect, uint32_t kind, const void *text,
                   size_t text_length, sf_refusal *refusal);
+
+/*
+ * Writes the error message of a refusal to buffer, such as
+ *
+ *   byte 0x32 '2' at place 2, expected a space or the end
+ *
+ *   SF_OK         the first *required bytes of buffer are the message; the others are unchanged
+ *   SF_SHORT      the message has *required bytes, more than buffer_length; buffer is unchanged
+ *   SF_NO_MEMORY  buffer and *required are unchanged
+ *
+ * In *refusal, a found that is not a byte from 0 to 255 means that the text ended, and any may_end
+ * but 0 counts as 1.
+ */
+uint32_t sf_refusal_text(const sf_refusal *refusal, void *buffer, size_t buffer_length,
+                         size_t *required);
+
+/*
+ * Writes the error message of a refusal, a second line with the offset, the text as one line and a
+ * caret below the offset, without a newline at the end:
+ *
+ *   byte 0x32 '2' at place 2, expected a space or the end
+ *   line 1, place 2:
+ *   1 2
+ *     ^
+ *
+ * Each byte of the text is one character there: a question mark if the byte is not printable. If
+ * the place is greater than the length of the text, the caret is at its end. The results are those
+ * of sf_refusal_text.
+ */
+uint32_t sf_refusal_in_text(const sf_refusal *refusal, const void *text, size_t text_length,
+                            void *buffer, size_t buffer_length, size_t *required);
 
 /* The size in bytes of a buffer that is large enough for the canonical text of any text of this
  * length: eight fifths of it, so SF_CANONICAL_ROOM(5) is 8. The result is a size_t whatever integer
@@ -263,6 +295,23 @@ uint32_t sf_priority(const sf_seed *seed, const void *text, size_t text_length,
 sf_priority_flags sf_priority_merge(const sf_priority_flags *client,
                                     const sf_priority_flags *server);
 
+/* The size in bytes of a buffer that is large enough for each text of sf_priority_text. */
+#define SF_PRIORITY_SIZE 9
+
+/*
+ * Writes the text of a Priority field (RFC 9218 section 5) that sets what *priority sets, and
+ * nothing else: u if says_urgency is set, then i if says_incremental is set, also to the defaults.
+ * sf_priority reads it as the same. If the text is empty, the field is not to be sent (RFC 9651
+ * section 4.1).
+ *
+ *   SF_OK     the first *required bytes of buffer are the text; the others are unchanged
+ *   SF_SHORT  the text has *required bytes, more than buffer_length; buffer is unchanged
+ *
+ * In *priority, numbers count as in the arguments of sf_priority_merge. Does not allocate.
+ */
+uint32_t sf_priority_text(const sf_priority_flags *priority, void *buffer, size_t buffer_length,
+                          size_t *required);
+
 /* The directives of a targeted field (RFC 9213 section 2.1, RFC 9111 section 5.2.2). */
 typedef struct sf_policy {
   uint64_t max_age;        /* max-age in seconds; 0 if absent */
@@ -390,6 +439,30 @@ typedef struct sf_path {
 uint32_t sf_cache_status(const sf_seed *seed, const void *text, size_t text_length, sf_hop *hops,
                          size_t hops_room, void *bytes, size_t bytes_room, sf_path *path,
                          sf_refusal *refusal);
+
+/*
+ * Writes the text of a Cache-Status field (RFC 9211 section 2) whose only member is *hop: a field
+ * line of its own, which a cache adds after the lines that came from the caches nearer the origin.
+ * The ranges of *hop are in bytes. sf_cache_status reads the text as this hop alone; but if why is
+ * SF_OTHER and why_token is one of the tokens that the RFC defines, it reads that token's reason.
+ *
+ *   SF_OK       the first *required bytes of buffer are the text; the others are unchanged
+ *   SF_SHORT    the text has *required bytes, more than buffer_length; buffer is unchanged
+ *   SF_INVALID  *hop is not a hop: a range is not within the bytes_length bytes; name_is_token or
+ *               detail_is_token is set and the bytes are not a Token, or it is not set and they are
+ *               not a String, nor are those of key; outcome or why is not one of the enum (SF_OTHER
+ *               requires a why_token that is a Token); status is below SF_FWD_STATUS_MIN or above
+ *               SF_FWD_STATUS_MAX; or ttl is not in the range of an Integer
+ *   SF_NO_MEMORY
+ *
+ * Unless SF_OK or SF_SHORT is returned, buffer and *required are unchanged. In *hop, any number but
+ * 0 sets a flag. What a flag leaves out is not looked at, nor are why, why_token, status, stored,
+ * collapsed and their flags if outcome is SF_UNSAID or SF_HIT, nor why_token if why is not
+ * SF_OTHER. So the hops of sf_cache_status can be written again, and for a hop of one's own only
+ * the members that differ from zero need to be set.
+ */
+uint32_t sf_hop_text(const sf_seed *seed, const sf_hop *hop, const void *bytes, size_t bytes_length,
+                     void *buffer, size_t buffer_length, size_t *required);
 
 /* The state of joining the lines of a field. Begin with zeros: sf_joined joined = {0, 0, 0}; */
 typedef struct sf_joined {

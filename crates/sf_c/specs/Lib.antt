@@ -5,6 +5,8 @@ pub mod Refusals
 pub mod Parsing
 pub mod Checks
 pub mod Normal
+pub mod TextBuffers
+pub mod RefusalTexts
 pub mod Priorities
 pub mod Policies
 pub mod Joining
@@ -13,4 +15,5 @@ pub mod Nodes
 pub mod Flattening
 pub mod Hops
 pub mod Paths
+pub mod GivenHops
 pub mod Laws
