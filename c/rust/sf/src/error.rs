@@ -4,7 +4,7 @@ use std::fmt;
 /// Where and why a text is refused (RFC 9651 section 4.2). Its `Display` is the error message.
 ///
 /// ```
-/// let Err(sf::Error::Refused(refusal)) = sf::check(sf::Kind::Item, "1 2") else { unreachable!() };
+/// let refusal = sf::check(sf::Kind::Item, "1 2").unwrap_err().refusal().unwrap();
 /// assert_eq!(refusal.offset, 2);
 /// assert_eq!(refusal.found, Some(b'2'));
 /// assert!(refusal.expects(b' ') && refusal.may_end);
@@ -27,7 +27,7 @@ impl Refusal {
     /// Whether this byte is allowed at the offset.
     ///
     /// ```
-    /// let Err(sf::Error::Refused(refusal)) = sf::check(sf::Kind::Item, "1.") else { unreachable!() };
+    /// let refusal = sf::check(sf::Kind::Item, "1.").unwrap_err().refusal().unwrap();
     /// assert!(refusal.expects(b'5') && !refusal.expects(b'.'));
     /// ```
     #[must_use]
@@ -40,10 +40,10 @@ impl Refusal {
     /// question mark.
     ///
     /// ```
-    /// let text = "u=1; i";
-    /// let Err(sf::Error::Refused(refusal)) = sf::check(sf::Kind::Dict, "a, b=c d") else { unreachable!() };
+    /// let text = "a, b=c d";
+    /// let refusal = sf::check(sf::Kind::Dict, text).unwrap_err().refusal().unwrap();
     /// assert_eq!(
-    ///     refusal.in_text("a, b=c d").to_string(),
+    ///     refusal.in_text(text).to_string(),
     ///     "byte 0x64 'd' at place 7, expected '\\t', ' ', ',' or the end\n\
     ///      a, b=c d\n\
     ///      \x20      ^"
@@ -124,7 +124,7 @@ impl fmt::Display for Refusal {
 /// A refusal with its text: see [`Refusal::in_text`].
 ///
 /// ```
-/// let Err(sf::Error::Refused(refusal)) = sf::check(sf::Kind::Item, "a\nb") else { unreachable!() };
+/// let refusal = sf::check(sf::Kind::Item, "a\nb").unwrap_err().refusal().unwrap();
 /// assert!(refusal.in_text("a\nb").to_string().ends_with("\na?b\n ^"));
 /// ```
 #[derive(Clone, Copy, Debug)]
@@ -185,6 +185,22 @@ pub enum Error {
     /// The library that is linked is not of this crate's version: it gave a status or bytes that the
     /// crate does not know.
     OtherLibrary,
+}
+
+impl Error {
+    /// The refusal, if a text was refused, the first or the second.
+    ///
+    /// ```
+    /// let error = sf::List::parse("a, b c").unwrap_err();
+    /// assert_eq!(error.refusal().map(|refusal| refusal.offset), Some(5));
+    /// ```
+    #[must_use]
+    pub fn refusal(&self) -> Option<Refusal> {
+        match self {
+            Error::Refused(refusal) | Error::SecondRefused(refusal) => Some(*refusal),
+            _ => None,
+        }
+    }
 }
 
 impl fmt::Display for Error {

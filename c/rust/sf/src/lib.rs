@@ -6,11 +6,9 @@
 //! (RFC 9211).
 //!
 //! ```
-//! use sf::{Dictionary, Member};
-//!
 //! # fn main() -> Result<(), sf::Error> {
-//! let field = Dictionary::parse("sig1=(\"@method\" \"@path\");created=1618884473,  sig2=:AAA=:")?;
-//! let Some(Member::InnerList(covered)) = field.get("sig1") else { panic!("no Inner List") };
+//! let field = sf::Dictionary::parse("sig1=(\"@method\" \"@path\");created=1618884473,  sig2=:AAA=:")?;
+//! let covered = field.get("sig1").and_then(|member| member.as_inner_list()).unwrap();
 //! assert_eq!(covered.items[0].bare_item.as_string(), Some("@method"));
 //! assert_eq!(covered.params.get("created").and_then(|it| it.as_integer()), Some(1618884473));
 //! assert_eq!(

@@ -36,7 +36,7 @@ impl<'a> Name<'a> {
 ///
 /// ```
 /// let path = sf::Path::parse("edge;fwd=uri-miss").unwrap();
-/// let sf::Outcome::Forwarded(forwarded) = path.hops().next().unwrap().outcome else { panic!() };
+/// let forwarded = path.hops().next().unwrap().outcome.forwarded().unwrap();
 /// assert_eq!(forwarded.why, sf::Forward::UriMiss);
 /// ```
 #[derive(Clone, Copy, Debug, PartialEq, Eq, Hash)]
@@ -65,7 +65,7 @@ pub enum Forward<'a> {
 ///
 /// ```
 /// let path = sf::Path::parse("edge;fwd=stale;fwd-status=304;collapsed").unwrap();
-/// let sf::Outcome::Forwarded(forwarded) = path.hops().next().unwrap().outcome else { panic!() };
+/// let forwarded = path.hops().next().unwrap().outcome.forwarded().unwrap();
 /// assert_eq!((forwarded.status, forwarded.collapsed), (Some(304), Some(true)));
 /// assert_eq!(forwarded.stored, None);
 /// ```
@@ -98,6 +98,23 @@ pub enum Outcome<'a> {
     Forwarded(Forwarded<'a>),
     /// `hit` is true and `fwd` is present, though the RFC allows only one of them.
     Conflict(Forwarded<'a>),
+}
+
+impl<'a> Outcome<'a> {
+    /// What the field says of the forwarded request, if `fwd` is present.
+    ///
+    /// ```
+    /// let path = sf::Path::parse("a;hit, b;fwd=miss").unwrap();
+    /// let outcomes: Vec<_> = path.hops().map(|hop| hop.outcome.forwarded().is_some()).collect();
+    /// assert_eq!(outcomes, [false, true]);
+    /// ```
+    #[must_use]
+    pub fn forwarded(self) -> Option<Forwarded<'a>> {
+        match self {
+            Outcome::Forwarded(forwarded) | Outcome::Conflict(forwarded) => Some(forwarded),
+            Outcome::Unsaid | Outcome::Hit => None,
+        }
+    }
 }
 
 /// A cache on the path of a response, and what it did (RFC 9211 section 2).

@@ -319,7 +319,7 @@ impl Item {
 ///
 /// ```
 /// let list = sf::List::parse("(\"foo\" \"bar\");lvl=1").unwrap();
-/// let Some(sf::Member::InnerList(inner)) = list.get(0) else { panic!("no Inner List") };
+/// let inner = list[0].as_inner_list().unwrap();
 /// assert_eq!(inner.items.len(), 2);
 /// assert_eq!(inner.params.get("lvl").and_then(|it| it.as_integer()), Some(1));
 /// ```
