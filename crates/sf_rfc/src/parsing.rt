@@ -1,5 +1,6 @@
-//! Laws of parsing (RFC 9651 section 4.2), each as the contract of a function that does nothing; and
-//! the parser, with the RFC's steps as its contract.
+//! Laws of parsing (RFC 9651 section 4.2), each as the contract of a function that does nothing:
+//! [`field_parses`] is that of whole fields. And [`parse_text_in`], the parser with the RFC's steps
+//! as its contract.
 ghost use Rattle.sf_rfc.specs.ParsingLaws.{KeysAgree, TokensAgree, BooleansAgree, StringsAgree};
 ghost use Rattle.sf_rfc.specs.ParsingLaws.{NumbersAgree, DatesAgree, ByteSequencesAgree};
 ghost use Rattle.sf_rfc.specs.ParsingLaws.{DisplayStringsAgree, BareItemsAgree, ParametersAgree};
