@@ -1,21 +1,24 @@
-/* A caching proxy's decisions on a request and its response, by their fields on standard input: a
- * line "> Name: value" is of the request, and "< Name: value" of the response.
+/* A caching proxy's decisions on a request that it forwards, and on the response, by their fields on
+ * standard input: a line "> Name: value" is of the request, and "< Name: value" of the response.
  *
  *   printf '> Priority: u=5, i\n< Priority: u=1\n< CDN-Cache-Control: max-age=600\n' | proxy
  *
- * prints
+ * prints what is decided, and the header lines to send on:
  *
  *   urgency 1, incremental
- *   CDN-Cache-Control: store it, fresh for 600 s
+ *   by CDN-Cache-Control: store it, fresh for 600 s
+ *   Priority: u=1, i
+ *   Cache-Status: ExampleCDN;fwd=uri-miss;ttl=600;stored
  *
- * Ends with status 0, or 3 if memory, the input or the output fails.
- */
+ * Ends with status 0, or 3 if memory, the input or the output fails. */
 #define _POSIX_C_SOURCE 200809L
 #include <sf.h>
 #include <stdio.h>
 #include <stdlib.h>
 #include <string.h>
 #include <strings.h>
+
+static const char name_here[] = "ExampleCDN"; /* this cache's name in Cache-Status */
 
 /* A field of the request (>) or of the response (<), its lines joined as they come. */
 typedef struct field {
@@ -39,8 +42,8 @@ static void give_up(const char *why) {
   exit(3);
 }
 
-static void add_line(field *to, const char *value) {
-  while (sf_join(value, strlen(value), to->text, to->size, &to->joined) == SF_SHORT) {
+static void add_line(field *to, const char *value, size_t length) {
+  while (sf_join(value, length, to->text, to->size, &to->joined) == SF_SHORT) {
     to->size = to->joined.wanted;
     to->text = realloc(to->text, to->size);
     if (to->text == NULL)
@@ -57,10 +60,9 @@ static void read_fields(FILE *from) {
       continue;
     *colon = '\0';
     char *value = colon + 1 + strspn(colon + 1, " ");
-    value[strcspn(value, "\r\n")] = '\0';
     for (int i = 0; i < FIELDS; ++i)
       if (fields[i].side == line[0] && strcasecmp(fields[i].name, name) == 0)
-        add_line(&fields[i], value);
+        add_line(&fields[i], value, strcspn(value, "\r\n"));
   }
   free(line);
   if (ferror(from))
@@ -77,42 +79,40 @@ int main(void) {
 
   /* The priority. A field that is malformed or absent sets nothing. */
   sf_priority_flags set[2] = {{SF_URGENCY_DEFAULT, 0, 0, 0}, {SF_URGENCY_DEFAULT, 0, 0, 0}};
-  for (int i = 0; i < 2; ++i)
-    if (sf_priority(&seed, fields[ASKED + i].text, fields[ASKED + i].joined.length, &set[i],
-                    &refusal) == SF_NO_MEMORY)
+  for (int i = ASKED; i <= ANSWERED; ++i)
+    if (sf_priority(&seed, fields[i].text, fields[i].joined.length, &set[i], &refusal) == SF_NO_MEMORY)
       give_up("out of memory");
-  sf_priority_flags both = sf_priority_merge(&set[0], &set[1]);
+  sf_priority_flags both = sf_priority_merge(&set[ASKED], &set[ANSWERED]);
   printf("urgency %d%s\n", both.urgency, both.incremental ? ", incremental" : "");
 
   /* The first field of the target list that is well-formed and not empty. */
   sf_policy policy;
   uint32_t status = SF_EMPTY;
   int target = FIRST_TARGET;
-  for (; target <= LAST_TARGET; ++target) {
-    status = sf_cache_control(&seed, fields[target].text, fields[target].joined.length, &policy,
-                              &refusal);
-    if (status == SF_OK || status == SF_NO_MEMORY)
-      break;
-  }
+  while (target <= LAST_TARGET &&
+         (status = sf_cache_control(&seed, fields[target].text, fields[target].joined.length, &policy,
+                                    &refusal)) != SF_OK && status != SF_NO_MEMORY)
+    ++target;
   if (status == SF_NO_MEMORY)
     give_up("out of memory");
   uint64_t seconds = 0;
-  if (status != SF_OK)
-    printf("Cache-Control decides\n");
-  else if (policy.no_store || policy.is_private)
-    printf("%s: don't store it\n", fields[target].name);
-  else if (!sf_lifetime(&policy, 1, &seconds))
-    printf("%s: store it, no lifetime\n", fields[target].name);
-  else
-    printf("%s: store it, fresh for %llu s\n", fields[target].name, (unsigned long long)seconds);
+  int is_stored = status == SF_OK && !policy.no_store && !policy.is_private;
+  int has_ttl = is_stored && sf_lifetime(&policy, 1, &seconds);
+  printf("by %s: %s", status == SF_OK ? fields[target].name : "no targeted field",
+         is_stored ? "store it" : "don't store it");
+  printf(has_ttl ? ", fresh for %llu s\n" : "\n", (unsigned long long)seconds);
 
-  /* The cache that served the response, if the field says so, of a path of at most 64 hops. */
-  sf_hop hops[64];
-  char bytes[4096];
-  sf_path path;
-  status = sf_cache_status(&seed, fields[PATH].text, fields[PATH].joined.length, hops, 64, bytes,
-                           sizeof bytes, &path, &refusal);
-  if (status == SF_OK && path.is_served)
-    printf("served by %.*s\n", (int)hops[path.served].name.length, bytes + hops[path.served].name.at);
+  /* The header lines. This cache's hop is the last of Cache-Status. */
+  char text[128];
+  size_t length;
+  if (sf_priority_text(&both, text, sizeof text, &length) == SF_OK && length > 0)
+    printf("Priority: %.*s\n", (int)length, text);
+  sf_hop hop = {.name = {0, sizeof name_here - 1}, .name_is_token = 1, .outcome = SF_FORWARDED,
+                .why = SF_URI_MISS, .stored = (uint8_t)is_stored, .says_stored = 1,
+                .ttl = (int64_t)seconds, .says_ttl = (uint8_t)has_ttl};
+  if (sf_hop_text(&seed, &hop, name_here, sizeof name_here, text, sizeof text, &length) != SF_OK)
+    give_up("out of memory");
+  add_line(&fields[PATH], text, length);
+  printf("Cache-Status: %.*s\n", (int)fields[PATH].joined.length, fields[PATH].text);
   return fflush(stdout) != 0 || ferror(stdout) ? 3 : 0;
 }

@@ -4,9 +4,10 @@
  *
  * prints
  *
+ *   byte 0x62 'b' at place 10, expected `,`, a tab, a space or the end
+ *   line 1, place 10:
  *   u=1; i, a b
  *             ^
- *   byte 10 is 0x62, expected 09 20 2c or the end
  *
  * Ends with status 0, or 1 if the text is malformed, 2 for other words, and 3 if memory or the output
  * fails.
@@ -16,21 +17,19 @@
 #include <stdlib.h>
 #include <string.h>
 
-static void print_refusal(const char *text, const sf_refusal *refusal) {
-  for (const char *at = text; *at != '\0'; ++at)
-    putchar(*at >= ' ' && *at <= '~' ? *at : '?');
-  printf("\n%*s\n", (int)refusal->place + 1, "^");
-  if (refusal->found == SF_ENDED)
-    printf("the text ended, expected");
-  else
-    printf("byte %llu is 0x%02x, expected", (unsigned long long)refusal->place,
-           (unsigned)refusal->found);
-  for (int byte = 0; byte < 128; ++byte) {
-    uint64_t half = byte < 64 ? refusal->expected_low : refusal->expected_high;
-    if (half >> byte % 64 & 1)
-      printf(" %02x", (unsigned)byte);
+/* The error message with the text, in a buffer that is to be freed; NULL without memory. */
+static char *message_of(const sf_refusal *refusal, const char *text, size_t length) {
+  size_t size = 0;
+  if (sf_refusal_in_text(refusal, text, length, NULL, 0, &size) != SF_SHORT)
+    return NULL;
+  char *message = malloc(size + 1);
+  if (message == NULL ||
+      sf_refusal_in_text(refusal, text, length, message, size, &size) != SF_OK) {
+    free(message);
+    return NULL;
   }
-  printf("%s\n", refusal->may_end ? " or the end" : "");
+  message[size] = '\0';
+  return message;
 }
 
 int main(int argc, char **argv) {
@@ -48,19 +47,24 @@ int main(int argc, char **argv) {
     return 3;
   fclose(random);
 
-  size_t length = strlen(argv[2]);
-  char *canonical = malloc(SF_CANONICAL_ROOM(length) + 1);
-  if (canonical == NULL)
+  size_t length = strlen(argv[2]), written;
+  char *text = malloc(SF_CANONICAL_ROOM(length) + 1);
+  if (text == NULL)
     return 3;
   sf_refusal refusal;
-  uint32_t status = sf_normalise(&seed, SF_RFC9651, kind, argv[2], length, canonical,
-                                 SF_CANONICAL_ROOM(length), &length, &refusal);
+  uint32_t status = sf_normalise(&seed, SF_RFC9651, kind, argv[2], length, text,
+                                 SF_CANONICAL_ROOM(length), &written, &refusal);
   if (status == SF_OK)
-    printf("%.*s\n", (int)length, canonical);
-  else if (status == SF_REFUSED)
-    print_refusal(argv[2], &refusal);
-  free(canonical);
+    text[written] = '\0';
+  else {
+    free(text);
+    text = status == SF_REFUSED ? message_of(&refusal, argv[2], length) : NULL;
+  }
+  if (text == NULL)
+    return 3;
+  puts(text);
+  free(text);
   if (fflush(stdout) != 0 || ferror(stdout))
     return 3;
-  return status == SF_OK ? 0 : status == SF_REFUSED ? 1 : 3;
+  return status == SF_OK ? 0 : 1;
 }

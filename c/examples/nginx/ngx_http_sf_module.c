@@ -1,4 +1,5 @@
-/* An nginx module that reads the structured fields of a request and of the response to it:
+/* An nginx module that reads the structured fields of a request and of the response to it, and adds this
+ * cache to Cache-Status:
  *
  *   $sf_urgency      0 to 7, by the Priority fields of the request and of the response (RFC 9218
  *                    section 8); 3 if neither sets it
@@ -13,6 +14,10 @@
  *   sf_target_list NAME ..;    in http, server or location: the names of the target list, in order.
  *                              Without it there is none.
  *
+ *   sf_cache_status NAME;      in http, server or location: adds a line to Cache-Status (RFC 9211) of a
+ *                              response from an upstream server or from the cache of one, behind those
+ *                              that came; NAME is this cache, as a String.
+ *
  * A field that is malformed counts as absent; the error log says where it is malformed, at level info.
  * The fields of the response are those that are sent on; before the response's head arrives they are
  * absent. All memory is from the pool of the request.
@@ -25,6 +30,7 @@
 
 typedef struct {
   ngx_array_t *names; /* of ngx_str_t; NGX_CONF_UNSET_PTR before the settings are merged */
+  ngx_str_t cache;    /* this cache's name; NULL without one */
 } sf_settings;
 
 /* What the target list decides. */
@@ -191,6 +197,72 @@ static ngx_int_t get_storable(ngx_http_request_t *r, ngx_http_variable_value_t *
   return set_number(r, value, !decision.policy.no_store && !decision.policy.is_private);
 }
 
+/* What this cache did with the request, by nginx's own account. */
+static sf_hop hop_of(ngx_http_request_t *r, const ngx_str_t *cache) {
+  sf_hop hop = {.name = {0, cache->len}, .outcome = SF_FORWARDED, .why = SF_BYPASS};
+  ngx_http_upstream_t *upstream = r->upstream;
+  ngx_uint_t status = upstream->headers_in.status_n;
+#if (NGX_HTTP_CACHE)
+  switch (upstream->cache_status) {
+  case NGX_HTTP_CACHE_HIT:
+  case NGX_HTTP_CACHE_STALE:
+  case NGX_HTTP_CACHE_UPDATING:
+    hop.outcome = SF_HIT;
+    hop.says_ttl = 1;
+    hop.ttl = (int64_t)r->cache->valid_sec - (int64_t)ngx_time();
+    return hop;
+  case NGX_HTTP_CACHE_REVALIDATED:
+    status = NGX_HTTP_NOT_MODIFIED;
+    /* fall through */
+  case NGX_HTTP_CACHE_EXPIRED:
+    hop.why = SF_STALE;
+    break;
+  case NGX_HTTP_CACHE_MISS:
+  case NGX_HTTP_CACHE_SCARCE:
+    hop.why = SF_MISS;
+    break;
+  default: /* bypassed, or no cache is set */
+    break;
+  }
+#endif
+  if (status >= SF_FWD_STATUS_MIN && status <= SF_FWD_STATUS_MAX) {
+    hop.says_status = 1;
+    hop.status = (uint16_t)status;
+  }
+  return hop;
+}
+
+static ngx_http_output_header_filter_pt next_header_filter;
+
+static ngx_int_t add_hop(ngx_http_request_t *r) {
+  const sf_settings *settings = ngx_http_get_module_loc_conf(r, ngx_http_sf_module);
+  if (settings->cache.data == NULL || r->upstream == NULL || r != r->main)
+    return next_header_filter(r);
+  sf_hop hop = hop_of(r, &settings->cache);
+  size_t size = 0;
+  uint32_t status = sf_hop_text(&seed, &hop, settings->cache.data, settings->cache.len, NULL, 0, &size);
+  u_char *text = status == SF_SHORT ? ngx_pnalloc(r->pool, size) : NULL;
+  if (text == NULL || sf_hop_text(&seed, &hop, settings->cache.data, settings->cache.len, text, size,
+                                  &size) != SF_OK)
+    return NGX_ERROR;
+  ngx_table_elt_t *line = ngx_list_push(&r->headers_out.headers);
+  if (line == NULL)
+    return NGX_ERROR;
+  ngx_memzero(line, sizeof *line);
+  line->hash = 1;
+  ngx_str_set(&line->key, "Cache-Status");
+  line->value.data = text;
+  line->value.len = size;
+  return next_header_filter(r);
+}
+
+static ngx_int_t add_filter(ngx_conf_t *conf) {
+  (void)conf;
+  next_header_filter = ngx_http_top_header_filter;
+  ngx_http_top_header_filter = add_hop;
+  return NGX_OK;
+}
+
 static ngx_int_t add_variables(ngx_conf_t *conf) {
   static const struct {
     ngx_str_t name;
@@ -221,6 +293,7 @@ static char *merge_settings(ngx_conf_t *conf, void *outer, void *inner) {
   sf_settings *from = outer, *to = inner;
   (void)conf;
   ngx_conf_merge_ptr_value(to->names, from->names, NULL);
+  ngx_conf_merge_str_value(to->cache, from->cache, NULL);
   return NGX_CONF_OK;
 }
 
@@ -241,6 +314,20 @@ static char *set_target_list(ngx_conf_t *conf, ngx_command_t *command, void *at)
   return NGX_CONF_OK;
 }
 
+/* A name that Cache-Status can't say is an error of the settings, not of a response. */
+static char *set_cache_name(ngx_conf_t *conf, ngx_command_t *command, void *at) {
+  sf_settings *settings = at;
+  char *result = ngx_conf_set_str_slot(conf, command, at);
+  if (result != NGX_CONF_OK)
+    return result;
+  static const sf_seed zeros;
+  sf_hop hop = {.name = {0, settings->cache.len}};
+  size_t size;
+  uint32_t status =
+      sf_hop_text(&zeros, &hop, settings->cache.data, settings->cache.len, NULL, 0, &size);
+  return status == SF_SHORT ? NGX_CONF_OK : "needs a name of printable ASCII characters";
+}
+
 /* Each worker has a seed of its own, which clients can't predict. */
 static ngx_int_t init_worker(ngx_cycle_t *cycle) {
   if (getrandom(&seed, sizeof seed, 0) == (ssize_t)sizeof seed)
@@ -253,10 +340,14 @@ static ngx_command_t commands[] = {
     {ngx_string("sf_target_list"),
      NGX_HTTP_MAIN_CONF | NGX_HTTP_SRV_CONF | NGX_HTTP_LOC_CONF | NGX_CONF_1MORE, set_target_list,
      NGX_HTTP_LOC_CONF_OFFSET, 0, NULL},
+    {ngx_string("sf_cache_status"),
+     NGX_HTTP_MAIN_CONF | NGX_HTTP_SRV_CONF | NGX_HTTP_LOC_CONF | NGX_CONF_TAKE1, set_cache_name,
+     NGX_HTTP_LOC_CONF_OFFSET, offsetof(sf_settings, cache), NULL},
     ngx_null_command};
 
 static ngx_http_module_t context = {
     .preconfiguration = add_variables,
+    .postconfiguration = add_filter,
     .create_loc_conf = create_settings,
     .merge_loc_conf = merge_settings,
 };

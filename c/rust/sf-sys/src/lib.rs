@@ -120,6 +120,7 @@ pub const NO_MEMORY: u32 = 4;
 pub const EMPTY: u32 = 5;
 pub const BAD_CALL: u32 = 6;
 pub const NOT_A_CACHE: u32 = 7;
+pub const INVALID: u32 = 8;
 
 extern "C" {
     pub fn sf_check(
@@ -129,6 +130,20 @@ extern "C" {
         text: *const c_void,
         length: usize,
         refusal: *mut Refusal,
+    ) -> u32;
+    pub fn sf_refusal_text(
+        refusal: *const Refusal,
+        buffer: *mut c_void,
+        buffer_length: usize,
+        required: *mut usize,
+    ) -> u32;
+    pub fn sf_refusal_in_text(
+        refusal: *const Refusal,
+        text: *const c_void,
+        length: usize,
+        buffer: *mut c_void,
+        buffer_length: usize,
+        required: *mut usize,
     ) -> u32;
     pub fn sf_normalise(
         seed: *const [u8; 16],
@@ -176,6 +191,12 @@ extern "C" {
         client: *const PriorityFlags,
         server: *const PriorityFlags,
     ) -> PriorityFlags;
+    pub fn sf_priority_text(
+        priority: *const PriorityFlags,
+        buffer: *mut c_void,
+        buffer_length: usize,
+        required: *mut usize,
+    ) -> u32;
     pub fn sf_cache_control(
         seed: *const [u8; 16],
         text: *const c_void,
@@ -193,6 +214,15 @@ extern "C" {
         bytes_room: usize,
         path: *mut Path,
         refusal: *mut Refusal,
+    ) -> u32;
+    pub fn sf_hop_text(
+        seed: *const [u8; 16],
+        hop: *const Hop,
+        bytes: *const c_void,
+        bytes_length: usize,
+        buffer: *mut c_void,
+        buffer_length: usize,
+        required: *mut usize,
     ) -> u32;
     pub fn sf_join(
         line: *const c_void,

@@ -1,7 +1,7 @@
-//! A caching proxy's decisions on a request and its response, by their fields on standard input: a
-//! line `> Name: value` is of the request, and `< Name: value` of the response.
+//! A caching proxy's decisions on a request that it forwards, and on the response, by their fields on
+//! standard input: a line `> Name: value` is of the request, and `< Name: value` of the response.
 
-use sf::{Error, Path, Policy, Priority};
+use sf::{Error, Forward, Forwarded, Hop, Name, Outcome, Policy, Priority};
 use std::io::{self, BufRead};
 
 /// This cache's own field, and the one of all caches of its kind (RFC 9213 section 2.2).
@@ -10,7 +10,7 @@ const TARGET_LIST: [&str; 2] = ["ExampleCDN-Cache-Control", "CDN-Cache-Control"]
 /// The default if the field is malformed, as if it were absent.
 fn or_ignored<T: Default>(result: Result<T, Error>) -> Result<T, Error> {
     match result {
-        Err(Error::Refused(_) | Error::NotACache(_)) => Ok(T::default()),
+        Err(Error::Refused(_)) => Ok(T::default()),
         result => result,
     }
 }
@@ -29,26 +29,29 @@ fn main() -> Result<(), Box<dyn std::error::Error>> {
     let how = ["", ", incremental"][usize::from(both.incremental())];
     println!("urgency {}{how}", both.urgency());
 
-    let mut target = None;
-    for name in TARGET_LIST {
+    let mut target = ("no targeted field", None);
+    for name in TARGET_LIST.into_iter().rev() {
         let policy = or_ignored(Policy::parse(field('<', name)?))?;
-        target = target.or(policy.map(|policy| (name, policy)));
+        target = policy.map_or(target, |policy| (name, Some(policy)));
     }
-    match target.map(|(name, policy)| (name, policy, policy.lifetime(true))) {
-        None => println!("Cache-Control decides"),
-        Some((name, policy, _)) if policy.no_store || policy.is_private => {
-            println!("{name}: don't store it");
-        }
-        Some((name, _, None)) => println!("{name}: store it, no lifetime"),
-        Some((name, _, Some(seconds))) => println!("{name}: store it, fresh for {seconds} s"),
-    }
+    let (name, policy) = target;
+    let stored = policy.filter(|policy| !policy.no_store && !policy.is_private);
+    let lifetime = stored.and_then(|policy| policy.lifetime(true));
+    let what = ["don't store it", "store it"][usize::from(stored.is_some())];
+    let fresh = lifetime.map(|seconds| format!(", fresh for {seconds} s"));
+    println!("by {name}: {what}{}", fresh.unwrap_or_default());
 
-    let path = or_ignored(Path::parse(field('<', "Cache-Status")?).map(Some))?;
-    let served = path
-        .as_ref()
-        .and_then(|path| path.hops().nth(path.served_by()?));
-    if let Some(hop) = served {
-        println!("served by {}", hop.name.as_str());
+    let text = both.serialize()?;
+    if !text.is_empty() {
+        println!("Priority: {text}");
     }
+    let mut hop = Hop::new(Name::Token("ExampleCDN"));
+    let mut forwarded = Forwarded::new(Forward::UriMiss);
+    forwarded.stored = Some(stored.is_some());
+    hop.outcome = Outcome::Forwarded(forwarded);
+    hop.ttl = lifetime.map(i64::try_from).transpose()?;
+    let path = [field('<', "Cache-Status")?, hop.serialize()?.into()];
+    let path = sf::join(path.iter().filter(|line| !line.is_empty()))?;
+    println!("Cache-Status: {}", String::from_utf8_lossy(&path));
     Ok(())
 }

@@ -1,3 +1,4 @@
+use crate::call::{start, written};
 use crate::raw;
 use std::fmt;
 
@@ -8,7 +9,7 @@ use std::fmt;
 /// assert_eq!(refusal.offset, 2);
 /// assert_eq!(refusal.found, Some(b'2'));
 /// assert!(refusal.expects(b' ') && refusal.may_end);
-/// assert_eq!(refusal.to_string(), "byte 0x32 '2' at place 2, expected ' ' or the end");
+/// assert_eq!(refusal.to_string(), "byte 0x32 '2' at place 2, expected a space or the end");
 /// ```
 #[non_exhaustive]
 #[derive(Clone, Copy, Debug, PartialEq, Eq)]
@@ -35,18 +36,18 @@ impl Refusal {
         byte < 128 && self.expected >> byte & 1 != 0
     }
 
-    /// The error message, with the text below it and a caret below the offset. Give the text that
-    /// was refused. Of a long text only a part is shown; a byte that is not printable is shown as a
-    /// question mark.
+    /// The error message, then the line of the text with a caret below the offset. Give the text that
+    /// was refused. Each byte of it is one character there: a question mark if it is not printable.
     ///
     /// ```
-    /// let text = "a, b=c d";
-    /// let refusal = sf::check(sf::Kind::Dict, text).unwrap_err().refusal().unwrap();
+    /// let text = "1 2";
+    /// let refusal = sf::check(sf::Kind::Item, text).unwrap_err().refusal().unwrap();
     /// assert_eq!(
     ///     refusal.in_text(text).to_string(),
-    ///     "byte 0x64 'd' at place 7, expected '\\t', ' ', ',' or the end\n\
-    ///      a, b=c d\n\
-    ///      \x20      ^"
+    ///     "byte 0x32 '2' at place 2, expected a space or the end\n\
+    ///      line 1, place 2:\n\
+    ///      1 2\n\
+    ///      \x20 ^"
     /// );
     /// ```
     #[must_use]
@@ -69,55 +70,33 @@ impl From<&raw::Refusal> for Refusal {
     }
 }
 
-/// A byte, as in a character literal if it has one, otherwise by its digits.
-struct Byte(u8);
-
-impl fmt::Display for Byte {
-    fn fmt(&self, f: &mut fmt::Formatter<'_>) -> fmt::Result {
-        match self.0 {
-            b' '..=b'~' | b'\t' => write!(f, "{:?}", char::from(self.0)),
-            byte => write!(f, "0x{byte:02x}"),
+impl From<&Refusal> for raw::Refusal {
+    fn from(refusal: &Refusal) -> raw::Refusal {
+        let [high, low] = halves(refusal.expected);
+        raw::Refusal {
+            place: refusal.offset,
+            expected_low: low,
+            expected_high: high,
+            found: refusal.found.map_or(-1, i32::from),
+            may_end: u32::from(refusal.may_end),
         }
     }
 }
 
-impl Refusal {
-    /// The first run of allowed bytes from this one on: its first and its last byte. Two bytes are two
-    /// runs.
-    fn run(&self, from: u8) -> Option<(u8, u8)> {
-        let first = (from..128).find(|&byte| self.expects(byte))?;
-        let last = (first..128).take_while(|&byte| self.expects(byte)).last()?;
-        Some((first, if last - first == 1 { first } else { last }))
-    }
+/// The high and the low half of a set.
+#[allow(clippy::cast_possible_truncation)] // that is what is wanted
+fn halves(set: u128) -> [u64; 2] {
+    [(set >> 64) as u64, set as u64]
 }
 
 impl fmt::Display for Refusal {
     fn fmt(&self, f: &mut fmt::Formatter<'_>) -> fmt::Result {
-        match self.found {
-            Some(byte @ b'!'..=b'~') => write!(f, "byte 0x{byte:02x} '{}'", char::from(byte))?,
-            Some(byte) => write!(f, "byte 0x{byte:02x}")?,
-            None => write!(f, "the text ended")?,
-        }
-        write!(f, " at place {}, expected ", self.offset)?;
-        let mut run = self.run(0);
-        let mut joint = "";
-        while let Some((first, last)) = run {
-            let next = last.checked_add(1).and_then(|from| self.run(from));
-            if next.is_none() && !self.may_end && !joint.is_empty() {
-                joint = " or ";
-            }
-            write!(f, "{joint}{}", Byte(first))?;
-            if last > first {
-                write!(f, " to {}", Byte(last))?;
-            }
-            joint = ", ";
-            run = next;
-        }
-        match (self.may_end, joint) {
-            (true, "") => write!(f, "the end"),
-            (true, _) => write!(f, " or the end"),
-            (false, _) => Ok(()),
-        }
+        let refusal = self.into();
+        // SAFETY: as in `Parser::check`; the buffer is borrowed alone.
+        let text = written(|buffer, length, required| unsafe {
+            raw::sf_refusal_text(&refusal, buffer, length, required)
+        });
+        f.pad(&text.map_err(|_| fmt::Error)?)
     }
 }
 
@@ -133,33 +112,21 @@ pub struct RefusalInText<'a> {
     text: &'a [u8],
 }
 
-/// The most bytes of a text that are shown before the offset, and after it.
-const SHOWN: usize = 60;
-
 impl fmt::Display for RefusalInText<'_> {
     fn fmt(&self, f: &mut fmt::Formatter<'_>) -> fmt::Result {
-        let length = self.text.len();
-        let offset =
-            usize::try_from(self.refusal.offset).map_or(length, |offset| offset.min(length));
-        let first = offset.saturating_sub(SHOWN);
-        let end = offset.saturating_add(SHOWN).min(length);
-        let before = if first > 0 { ".." } else { "" };
-        let after = if end < length { ".." } else { "" };
-        write!(f, "{}\n{before}", self.refusal)?;
-        for &byte in self.text.get(first..end).unwrap_or_default() {
-            let shown = if (b' '..=b'~').contains(&byte) {
-                byte
-            } else {
-                b'?'
-            };
-            write!(f, "{}", char::from(shown))?;
-        }
-        write!(
-            f,
-            "{after}\n{:width$}^",
-            "",
-            width = before.len() + (offset - first)
-        )
+        let refusal = (&self.refusal).into();
+        // SAFETY: as in `Parser::check`; the buffer is borrowed alone.
+        let text = written(|buffer, length, required| unsafe {
+            raw::sf_refusal_in_text(
+                &refusal,
+                start(self.text),
+                self.text.len(),
+                buffer,
+                length,
+                required,
+            )
+        });
+        f.pad(&text.map_err(|_| fmt::Error)?)
     }
 }
 
@@ -167,7 +134,7 @@ impl fmt::Display for RefusalInText<'_> {
 ///
 /// ```
 /// let error = sf::check(sf::Kind::Item, "1 2").unwrap_err();
-/// assert_eq!(error.to_string(), "byte 0x32 '2' at place 2, expected ' ' or the end");
+/// assert_eq!(error.to_string(), "byte 0x32 '2' at place 2, expected a space or the end");
 /// let error = sf::equal(sf::Kind::Item, "1", "").unwrap_err();
 /// assert!(matches!(error, sf::Error::SecondRefused(refusal) if refusal.offset == 0));
 /// ```
@@ -180,6 +147,8 @@ pub enum Error {
     SecondRefused(Refusal),
     /// The index of the first member of a Cache-Status List that does not name a cache.
     NotACache(usize),
+    /// What is to be written is not a value: a name that is not a Token, a number out of range.
+    Invalid,
     /// An allocation failed, in the library or for a result.
     OutOfMemory,
     /// The library that is linked is not of this crate's version: it gave a status or bytes that the
@@ -209,6 +178,7 @@ impl fmt::Display for Error {
             Error::Refused(refusal) => refusal.fmt(f),
             Error::SecondRefused(refusal) => write!(f, "the second text: {refusal}"),
             Error::NotACache(index) => write!(f, "member {index} does not name a cache"),
+            Error::Invalid => f.write_str("not a value of a structured field"),
             Error::OutOfMemory => f.write_str("out of memory"),
             Error::OtherLibrary => f.write_str("libsf has another version than the crate sf"),
         }

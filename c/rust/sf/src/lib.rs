@@ -1,9 +1,9 @@
 //! Structured Field Values for HTTP (RFC 9651), proved.
 //!
 //! This crate is safe Rust over `libsf.a`, whose functions are proved to meet their contracts; the
-//! crate itself is not proved. It parses and compares fields, writes their canonical texts, and reads
-//! three kinds of fields: Priority (RFC 9218), targeted cache control (RFC 9213) and Cache-Status
-//! (RFC 9211).
+//! crate itself is not proved. It parses and compares fields, writes their canonical texts, reads three
+//! kinds of fields: Priority (RFC 9218), targeted cache control (RFC 9213) and Cache-Status (RFC 9211),
+//! and writes the first and the hops of the last.
 //!
 //! ```
 //! # fn main() -> Result<(), sf::Error> {
@@ -22,9 +22,9 @@
 //! A field of a known kind is an [`Item`], a [`List`] or a [`Dictionary`]; a [`Tree`] holds a value of
 //! any kind in two allocations, and lends its strings. [`Parser`] chooses the dialect and the seed.
 //!
-//! Values can be read, compared and cloned, and a parsed field can be written again. They can't be
-//! built or changed: the library for C has no call yet that writes a value, and this crate has no
-//! serialiser of its own, which would not be proved.
+//! Values can be read, compared and cloned, and a parsed field can be written again. A value that was
+//! built or changed can't be written: the library for C has no call yet that does, and this crate has
+//! no serialiser of its own, which would not be proved.
 //!
 //! Each call takes any bytes. No call panics; if an allocation fails, calls that return a `Result`
 //! return [`Error::OutOfMemory`], and `clone` and `to_string` end as they do for a `Vec`.

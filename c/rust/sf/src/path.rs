@@ -1,4 +1,4 @@
-use crate::call::{error, resize, start, NO_REFUSAL};
+use crate::call::{error, lengthen, resize, seed, start, written, NO_REFUSAL};
 use crate::{raw, Error, Parser, Seed};
 use std::fmt;
 
@@ -137,6 +137,133 @@ pub struct Hop<'a> {
     pub key: Option<&'a str>,
     /// `detail`: further information from the cache (section 2.8).
     pub detail: Option<Name<'a>>,
+}
+
+impl<'a> Hop<'a> {
+    /// A hop that says nothing but the cache's name. Set what it says by its fields.
+    ///
+    /// ```
+    /// let hop = sf::Hop {
+    ///     outcome: sf::Outcome::Hit,
+    ///     ttl: Some(30),
+    ///     ..sf::Hop::new(sf::Name::Token("edge"))
+    /// };
+    /// assert_eq!(hop.serialize().unwrap(), "edge;hit;ttl=30");
+    /// ```
+    #[must_use]
+    pub fn new(name: Name<'a>) -> Hop<'a> {
+        Hop {
+            name,
+            outcome: Outcome::Unsaid,
+            ttl: None,
+            key: None,
+            detail: None,
+        }
+    }
+
+    /// Writes the text of a Cache-Status field whose only member is this hop: a field line of its own,
+    /// which a cache adds after the lines that came from the caches nearer the origin.
+    ///
+    /// # Errors
+    ///
+    /// [`Error::Invalid`] if the field can't say this: the bytes of a Token or a String are not those of
+    /// one, the status is not from 100 to 999, or the ttl is not in the range of an Integer.
+    ///
+    /// ```
+    /// let mut hop = sf::Hop::new(sf::Name::String("edge 1"));
+    /// hop.outcome = sf::Outcome::Forwarded(sf::Forwarded::new(sf::Forward::UriMiss));
+    /// assert_eq!(hop.serialize().unwrap(), "\"edge 1\";fwd=uri-miss");
+    /// assert_eq!(sf::Hop::new(sf::Name::Token("edge 1")).serialize(), Err(sf::Error::Invalid));
+    /// ```
+    pub fn serialize(&self) -> Result<String, Error> {
+        let mut bytes = Vec::new();
+        let hop = raw_hop(self, &mut bytes)?;
+        let seed = seed(None);
+        // SAFETY: as in `Parser::check`; the buffer is borrowed alone.
+        written(|buffer, length, required| unsafe {
+            raw::sf_hop_text(
+                &seed.bytes,
+                &hop,
+                start(&bytes),
+                bytes.len(),
+                buffer,
+                length,
+                required,
+            )
+        })
+    }
+}
+
+impl<'a> Forwarded<'a> {
+    /// A forwarded request of which the field says nothing but why.
+    ///
+    /// ```
+    /// let forwarded = sf::Forwarded::new(sf::Forward::Stale);
+    /// assert_eq!(forwarded.status, None);
+    /// ```
+    #[must_use]
+    pub fn new(why: Forward<'a>) -> Forwarded<'a> {
+        Forwarded {
+            why,
+            status: None,
+            stored: None,
+            collapsed: None,
+        }
+    }
+}
+
+/// A text behind the bytes so far.
+fn piece(bytes: &mut Vec<u8>, text: &str) -> Result<raw::Piece, Error> {
+    let at = bytes.len();
+    lengthen(bytes, at + text.len())?;
+    if let Some(end) = bytes.get_mut(at..) {
+        end.copy_from_slice(text.as_bytes());
+    }
+    let length = text.len();
+    Ok(raw::Piece { at, length })
+}
+
+/// A hop for the library, with the bytes that it refers to.
+fn raw_hop(hop: &Hop<'_>, bytes: &mut Vec<u8>) -> Result<raw::Hop, Error> {
+    let mut to = NO_HOP;
+    to.name = piece(bytes, hop.name.as_str())?;
+    to.name_is_token = u8::from(matches!(hop.name, Name::Token(_)));
+    to.outcome = match hop.outcome {
+        Outcome::Unsaid => 0,
+        Outcome::Hit => 1,
+        Outcome::Forwarded(_) => 2,
+        Outcome::Conflict(_) => 3,
+    };
+    if let Some(forwarded) = hop.outcome.forwarded() {
+        to.why = match forwarded.why {
+            Forward::Bypass => 1,
+            Forward::Method => 2,
+            Forward::UriMiss => 3,
+            Forward::VaryMiss => 4,
+            Forward::Miss => 5,
+            Forward::Request => 6,
+            Forward::Stale => 7,
+            Forward::Partial => 8,
+            Forward::Other(_) => 9,
+        };
+        if let Forward::Other(token) = forwarded.why {
+            to.why_token = piece(bytes, token)?;
+        }
+        to.status = forwarded.status.unwrap_or(0);
+        to.says_status = u8::from(forwarded.status.is_some());
+        to.stored = u8::from(forwarded.stored == Some(true));
+        to.says_stored = u8::from(forwarded.stored.is_some());
+        to.collapsed = u8::from(forwarded.collapsed == Some(true));
+        to.says_collapsed = u8::from(forwarded.collapsed.is_some());
+    }
+    to.ttl = hop.ttl.unwrap_or(0);
+    to.says_ttl = u8::from(hop.ttl.is_some());
+    to.key = piece(bytes, hop.key.unwrap_or(""))?;
+    to.says_key = u8::from(hop.key.is_some());
+    to.detail = piece(bytes, hop.detail.map_or("", Name::as_str))?;
+    to.says_detail = u8::from(hop.detail.is_some());
+    to.detail_is_token = u8::from(matches!(hop.detail, Some(Name::Token(_))));
+    Ok(to)
 }
 
 /// The path of a response, the cache nearest the origin first.

@@ -1,4 +1,4 @@
-use crate::call::{error, start, NO_REFUSAL};
+use crate::call::{error, start, written, NO_REFUSAL};
 use crate::{raw, Error, Parser, Seed};
 
 /// The parameters of a Priority field (RFC 9218 section 4); `None` is one that the field does not
@@ -88,6 +88,26 @@ impl Priority {
     pub fn merged_with(self, server: Priority) -> Priority {
         // SAFETY: the structs live for the call.
         unsafe { raw::sf_priority_merge(&self.into(), &server.into()) }.into()
+    }
+
+    /// Writes the text of a Priority field that sets what this priority sets, and nothing else. If the
+    /// text is empty, the field is not to be sent. An urgency above 7 counts as not set.
+    ///
+    /// # Errors
+    ///
+    /// [`Error::OutOfMemory`] only.
+    ///
+    /// ```
+    /// let priority = sf::Priority { urgency: Some(1), incremental: Some(true) };
+    /// assert_eq!(priority.serialize().unwrap(), "u=1, i");
+    /// assert_eq!(sf::Priority::default().serialize().unwrap(), "");
+    /// ```
+    pub fn serialize(self) -> Result<String, Error> {
+        let flags = self.into();
+        // SAFETY: the struct lives for the call; the buffer is borrowed alone.
+        written(|buffer, length, required| unsafe {
+            raw::sf_priority_text(&flags, buffer, length, required)
+        })
     }
 
     /// The urgency, 3 if it is not set (RFC 9218 section 4.1).

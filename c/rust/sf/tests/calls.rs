@@ -41,29 +41,23 @@ fn a_refusal_is_shown() {
     let shown = |kind, text: &str| refusal(check(kind, text)).in_text(text).to_string();
     assert_eq!(
         shown(Kind::Item, "1 2"),
-        "byte 0x32 '2' at place 2, expected ' ' or the end\n1 2\n  ^"
+        "byte 0x32 '2' at place 2, expected a space or the end\nline 1, place 2:\n1 2\n  ^"
     );
     assert_eq!(
         shown(Kind::Item, "1."),
-        "the text ended at place 2, expected '0' to '9'\n1.\n  ^"
+        "the text ended at place 2, expected a digit\nline 1, place 2:\n1.\n  ^"
     );
-    assert_eq!(
-        shown(Kind::Item, "?\u{fc}"),
-        "byte 0xc3 at place 1, expected '0' or '1'\n???\n ^"
-    );
-    let long = format!("\"{}\" 1", "a".repeat(200));
-    let lines = shown(Kind::Item, &long);
-    let lines: Vec<_> = lines.lines().collect();
-    assert_eq!(lines[1], format!("..{}\" 1", "a".repeat(58)));
-    assert_eq!(lines[2], format!("{}^", " ".repeat(62)));
-    let long = format!("a b{}", "c".repeat(200));
-    let lines = shown(Kind::Item, &long);
-    let lines: Vec<_> = lines.lines().collect();
-    assert_eq!(lines[1], format!("a b{}..", "c".repeat(59)));
-    assert_eq!(lines[2], "  ^");
     // A text that is not the one that was refused.
     let other = refusal(check(Kind::Item, "1 2")).in_text("").to_string();
     assert!(other.ends_with("\n\n^"));
+    let message = refusal(check(Kind::Item, "1 2")).to_string();
+    assert_eq!(
+        message,
+        "byte 0x32 '2' at place 2, expected a space or the end"
+    );
+    // Longer than the first buffer.
+    let long = format!("\"{}\" 1", "a".repeat(1000));
+    assert!(shown(Kind::Item, &long).contains(&long));
 }
 
 #[test]
@@ -103,10 +97,10 @@ fn an_error_has_a_message() {
     let message = |error: Error| error.to_string();
     assert_eq!(
         message(check(Kind::Item, "1 2").unwrap_err()),
-        "byte 0x32 '2' at place 2, expected ' ' or the end"
+        "byte 0x32 '2' at place 2, expected a space or the end"
     );
     assert!(message(equal(Kind::Item, "1", "").unwrap_err())
-        .starts_with("the second text: the text ended at place 0, expected ' ', '\"', "));
+        .starts_with("the second text: the text ended at place 0, expected "));
     assert_eq!(
         message(Path::parse("7").unwrap_err()),
         "member 0 does not name a cache"
@@ -303,6 +297,9 @@ fn priorities_are_merged() {
     let merged = client.merged_with(server);
     assert_eq!((merged.urgency, merged.incremental), (Some(1), Some(true)));
     assert_eq!((merged.urgency(), merged.incremental()), (1, true));
+    for text in ["u=1, i", "u=0", "u=7, i=?0", "i", ""] {
+        assert_eq!(Priority::parse(text).unwrap().serialize().unwrap(), text);
+    }
     let nothing = Priority::parse("u=8").unwrap();
     assert_eq!(nothing, Priority::default());
     assert_eq!((nothing.urgency(), nothing.incremental()), (3, false));
@@ -382,4 +379,60 @@ fn a_path_is_read() {
     assert_eq!(path.served_by(), None);
     assert_eq!(Path::parse("").unwrap().hops().len(), 0);
     assert_eq!(Path::parse("a, (b), 7").err(), Some(Error::NotACache(1)));
+}
+
+#[test]
+fn a_hop_is_written() {
+    let lines = [
+        "ExampleCache;hit",
+        "\"CDN Company Here\";hit;ttl=545",
+        "OriginCache;hit;ttl=1100",
+        "a;fwd=bypass",
+        "a;fwd=odd;fwd-status=304;stored;collapsed",
+        "a;fwd=stale;stored=?0;collapsed=?0",
+        "a;hit;fwd=miss",
+        "\"a\\\"b\";key=\"k\";detail=\"d\"",
+        "a;ttl=-412;detail=d",
+    ];
+    for line in lines {
+        let path = Path::parse(line).unwrap();
+        let hop = path.hops().next().unwrap();
+        let again = hop.serialize().unwrap();
+        assert_eq!(Path::parse(&again).unwrap(), path, "{line}");
+    }
+    for why in [
+        Forward::Bypass,
+        Forward::Method,
+        Forward::UriMiss,
+        Forward::VaryMiss,
+        Forward::Miss,
+        Forward::Request,
+        Forward::Stale,
+        Forward::Partial,
+        Forward::Other("odd"),
+    ] {
+        let mut hop = Hop::new(Name::Token("a"));
+        hop.outcome = Outcome::Forwarded(Forwarded::new(why));
+        let path = Path::parse(hop.serialize().unwrap()).unwrap();
+        assert_eq!(path.hops().collect::<Vec<_>>(), [hop]);
+    }
+    let invalid = |change: &dyn Fn(&mut Hop<'_>)| {
+        let mut hop = Hop::new(Name::Token("a"));
+        change(&mut hop);
+        assert_eq!(hop.serialize(), Err(Error::Invalid));
+    };
+    invalid(&|hop| hop.name = Name::Token(""));
+    invalid(&|hop| hop.name = Name::String("\u{fc}"));
+    invalid(&|hop| hop.ttl = Some(1_000_000_000_000_000));
+    invalid(&|hop| hop.key = Some("\n"));
+    invalid(&|hop| hop.detail = Some(Name::Token("a b")));
+    invalid(&|hop| {
+        let mut forwarded = Forwarded::new(Forward::Miss);
+        forwarded.status = Some(99);
+        hop.outcome = Outcome::Forwarded(forwarded);
+    });
+    assert_eq!(
+        Error::Invalid.to_string(),
+        "not a value of a structured field"
+    );
 }

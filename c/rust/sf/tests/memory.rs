@@ -1,6 +1,6 @@
 //! Failed allocations of the crate's own vectors: an error, and no abort.
 
-use sf::{join, normalise, Dictionary, Error, Kind, List, Parser, Path};
+use sf::{join, normalise, Dictionary, Error, Hop, Kind, List, Name, Parser, Path, Priority};
 use std::alloc::{GlobalAlloc, Layout, System};
 use std::cell::Cell;
 use std::ptr::null_mut;
@@ -80,4 +80,8 @@ fn a_failed_allocation_is_an_error() {
     let list = List::parse("a ,b").unwrap();
     each_refused(|| list.serialize());
     each_refused(|| Path::parse("a;fwd=miss, \"b\";hit"));
+    let hop = Hop::new(Name::String("edge"));
+    each_refused(|| hop.serialize());
+    let priority = Priority::parse("u=1").unwrap();
+    each_refused(|| priority.serialize());
 }
