@@ -37,7 +37,7 @@ fn ended(sent: Sent, status: Status) -> Status
 }
 
 /// Writes a text that was built before, with its status.
-pub(crate) fn answer_made<W: Sink>(text: &[u8], status: Status, sink: &mut W) -> Status
+pub fn answer_made<W: Sink>(text: &[u8], status: Status, sink: &mut W) -> Status
     requires { status ≡ status_is.Accepted ⊎ status ≡ status_is.Refused }
     // This status if the whole text was written; Stopped if a write failed after a prefix of it.
     ensures { TellsText text.now status (W.state sink.old) (W.state sink.new) result }
@@ -97,7 +97,7 @@ pub(crate) fn answer_refusal<W: Sink>(refusal: Refusal, sink: &mut W) -> Status
 }
 
 /// Writes the line for an input that is too long.
-pub(crate) fn answer_too_long<W: Sink>(sink: &mut W) -> Status
+pub fn answer_too_long<W: Sink>(sink: &mut W) -> Status
     // Refused if the whole line was written; Stopped if a write failed after a prefix of it.
     ensures { TellsText too_long_line status_is.Refused
         (W.state sink.old) (W.state sink.new) result }

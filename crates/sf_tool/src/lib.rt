@@ -18,6 +18,9 @@ mod sets;
 mod status;
 mod tree;
 
+pub use answering::{answer_made, answer_too_long};
+pub use cutting::{split_at_first, split_line, trimmed, without_lead};
+pub use reading::{ReadAllFault, read_all};
 pub use request::{MAX_NAMES, Request, RequestFault, read_request};
 pub use running::{INPUT_LIMIT, run};
 pub use status::Status;
