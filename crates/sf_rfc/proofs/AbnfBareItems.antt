@@ -160,7 +160,7 @@ letters low (a ∷ b ∷ c ∷ s) l h =
           (with_letter (suc n) _ _ (omega arith) (with_letter n _ _ (omega arith) k))),
     )
 
-pads : (m : ℕ) → times m (text (codes "=")) (replicate m 61)
+pub pads : (m : ℕ) → times m (text (codes "=")) (replicate m 61)
 pads zero = refl
 pads (suc m) = (61 ∷ [], replicate m 61, refl, refl, pads m)
 
@@ -200,7 +200,7 @@ itself c h = go (c == 92) refl
         (plain_char c (grind (arith, nat_tests)) (grind (arith, nat_tests))
         (grind (arith, nat_tests)) e)
 
-encoded : (c : ℕ) → c < 256 → pct_encoded (37 ∷ hex (c / 16) ∷ hex (c % 16) ∷ [])
+pub encoded : (c : ℕ) → c < 256 → pct_encoded (37 ∷ hex (c / 16) ∷ hex (c % 16) ∷ [])
 encoded c h = (
   37 ∷ [],
   hex (c / 16) ∷ hex (c % 16) ∷ [],

@@ -86,10 +86,10 @@ in_token c h =
 abbrev pub base64_char : Rule
 base64_char = either ALPHA (either DIGIT (either (text (codes "+")) (text (codes "/"))))
 
-abbrev is_base64 : ℕ → Bool
+abbrev pub is_base64 : ℕ → Bool
 is_base64 c = is_alpha c || is_digit c || is_one_of (codes "+/") c
 
-in_base64 : Rules is_base64 base64_char
+pub in_base64 : Rules is_base64 base64_char
 in_base64 c h =
     ⊎_elim
     (λ k. ⊎_elim (λ x. inl (alpha c x)) (λ x. inr (inl (digit c x)))

@@ -76,7 +76,7 @@ commas_keep P R f t (x ∷ xs) (before, behind, prefix, suffix, e, g, h, p, k) =
     )
 
 -- t is a text of the rule between SP and white space
-abbrev Between : Rule → Rule → Seq ℕ → Type 0
+abbrev pub Between : Rule → Rule → Seq ℕ → Type 0
 Between R W t =
     (gap body tail : Seq ℕ) × (t ≡ gap ++ (body ++ tail)) × many SP gap × R body × W tail
 

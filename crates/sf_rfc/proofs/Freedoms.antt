@@ -1,12 +1,15 @@
 -- What the algorithms of RFC 9651 leave free: texts that parse and are not canonical, each with its
 -- kind, its value and its canonical text. And texts that keep to the ABNF and don't parse.
 use Rattle.std.proofs.Common.{◌≡◌, ℕ, pos, negsuc, true, List as Seq, [], ◌∷◌, ◌++◌}
-use Rattle.std.proofs.Common.{Some, None, refl}
+use Rattle.std.proofs.Common.{Some, None, refl, sym, ◌/◌, ◌%◌, ◌<◌, inl, inr, replicate}
+use Rattle.std.proofs.Common.{append-nil, arith}
 use Rattle.std.specs.Prelude.{codes, map}
 use Rattle.sf_value.specs.declared.dialect.Dialect.TheVariants.{Rfc9651}
 use Rattle.sf_value.specs.declared.value.Bare.TheVariants.{Integer, Decimal}
 use Rattle.sf_value.specs.declared.value.Bare.TheVariants.{Blob, Boolean, Date, Shown}
 use Rattle.sf_value.specs.declared.value.Kind.TheVariants as kind
+use Rattle.sf_value.specs.Grammar.Words.{Every, Each}
+use Rattle.sf_value.specs.Grammar.DisplayStrings.{hex}
 use Rattle.sf_rfc.specs.Rfc9651.ParsingBare.{hex_value}
 use Rattle.sf_rfc.specs.Rfc9651.Parsing.{parse_field}
 use Rattle.sf_rfc.specs.Rfc9651.Base64.{value_of, character_of}
@@ -14,10 +17,14 @@ use Rattle.sf_rfc.specs.Rfc9651.SerialisingBare.{hex_character}
 use Rattle.sf_rfc.specs.Rfc9651.Serialising.{serialise}
 use Rattle.sf_rfc.proofs.Examples.{Example, quoted, with, one, inner, an_item, a_list, a_dict, int}
 use Rattle.sf_rfc.proofs.Examples.{word}
+use Rattle.sf_rfc.specs.Rfc9651.Abnf.{sf_item}
+use Rattle.sf_rfc.proofs.AbnfCharacters.{is_base64, base64_char, in_base64, every_many}
+use Rattle.sf_rfc.proofs.AbnfBareItems.{pads, encoded}
 
 abbrev freedoms : Seq Example
 freedoms =
-    -- Outside of the ABNF. 4.2 step 2: SP before a field; step 6: SP behind it
+    -- Outside of the ABNF, as `abnf_is_trimmed` says. 4.2 step 2: SP before a field; step 6: SP
+    -- behind it
     (kind.Item, codes "  5", an_item (int 5) [], codes "5")
     ∷ (kind.Item, codes "5  ", an_item (int 5) [], codes "5")
     -- 4.2.1 step 2.2, 4.2.2 step 2.6: OWS, HTAB too, behind the last member
@@ -126,3 +133,70 @@ unparsed =
 failed : map (parse_field Rfc9651 kind.Item) unparsed ≡ map (λ t. None) unparsed
 unfolding value_of hex_value
 failed = refl
+
+-- characters of base64 and so many "=" between colons
+binary_item : (w : Seq ℕ) (m : ℕ) → Every is_base64 w
+    → sf_item Rfc9651 (58 ∷ ((w ++ replicate m 61) ++ 58 ∷ []))
+binary_item w m h = (
+  58 ∷ ((w ++ replicate m 61) ++ 58 ∷ []),
+  [],
+  sym (append-nil (58 ∷ ((w ++ replicate m 61) ++ 58 ∷ []))),
+  inr (inr (inr (inr (inl (
+    58 ∷ [],
+    (w ++ replicate m 61) ++ 58 ∷ [],
+    refl,
+    refl,
+    (
+      w ++ replicate m 61,
+      58 ∷ [],
+      refl,
+      (w, replicate m 61, refl, every_many is_base64 base64_char in_base64 w h, (m, pads m)),
+      refl,
+    ),
+  ))))),
+  (0, refl),
+)
+
+-- a Display String of one byte in hex
+shown_item : (c : ℕ) → c < 256
+    → sf_item Rfc9651 (37 ∷ quoted (37 ∷ hex (c / 16) ∷ hex (c % 16) ∷ []))
+shown_item c h = (
+  37 ∷ quoted (37 ∷ hex (c / 16) ∷ hex (c % 16) ∷ []),
+  [],
+  refl,
+  inr (inr (inr (inr (inr (inr (inr (
+    37 ∷ [],
+    quoted (37 ∷ hex (c / 16) ∷ hex (c % 16) ∷ []),
+    refl,
+    refl,
+    (
+      34 ∷ [],
+      37 ∷ hex (c / 16) ∷ hex (c % 16) ∷ 34 ∷ [],
+      refl,
+      refl,
+      (
+        37 ∷ hex (c / 16) ∷ hex (c % 16) ∷ [],
+        34 ∷ [],
+        refl,
+        (1, (37 ∷ hex (c / 16) ∷ hex (c % 16) ∷ [], [], refl, inr (inr (encoded c h)), refl)),
+        refl,
+      ),
+    ),
+  ))))))),
+  (0, refl),
+)
+
+kept : Each (sf_item Rfc9651) unparsed
+kept = (
+  binary_item (codes "Z") 0 (refl, tt),
+  (
+    binary_item (codes "Zg") 3 (refl, (refl, tt)),
+    (
+      binary_item (codes "Zm9v") 1 (refl, (refl, (refl, (refl, tt)))),
+      (
+        binary_item [] 1 tt,
+        (shown_item 255 (omega arith), (shown_item 195 (omega arith), tt)),
+      ),
+    ),
+  ),
+)

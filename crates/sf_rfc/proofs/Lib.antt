@@ -7,6 +7,8 @@ pub mod SerialisingFields
 pub mod AbnfCharacters
 pub mod AbnfBareItems
 pub mod AbnfFields
+pub mod AbnfEnds
+pub mod AbnfWhiteSpace
 pub mod FieldLines
 pub mod Examples
 pub mod Freedoms

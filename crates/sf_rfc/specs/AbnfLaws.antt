@@ -1,13 +1,15 @@
 -- What it is that texts keep to the ABNF.
-use Rattle.std.specs.Prelude.{◌≡◌, ℕ, List as Seq, [], ◌∷◌, ◌++◌}
+use Rattle.std.specs.Prelude.{◌≡◌, ℕ, ◌<◌, ◌↔◌, List as Seq, [], ◌∷◌, ◌++◌, Some}
 use Rattle.sf_value.specs.declared.dialect.Dialect.{Dialect}
 use Rattle.sf_value.specs.declared.value.Field.{Field}
 use Rattle.sf_value.specs.declared.value.Field.TheVariants as field
 use Rattle.sf_value.specs.declared.value.Kind.{Kind}
+use Rattle.sf_value.specs.declared.value.Kind.TheVariants as kind
 use Rattle.sf_value.specs.Grammar.Fields.{SpellsField}
 use Rattle.sf_value.specs.Grammar.Valid.{Valid}
 use Rattle.sf_value.specs.Grammar.Canonical.{canon}
 use Rattle.sf_rfc.specs.Rfc9651.AbnfNotation.{Rule, text, many, SP, OWS}
+use Rattle.sf_rfc.specs.Rfc9651.Serialising.{serialise}
 use Rattle.sf_rfc.specs.Rfc9651.Abnf.{sf_item, sf_list, sf_dictionary}
 
 -- P, if there are members; a List or a Dictionary with none is not sent (3.1, 3.2), and its text is
@@ -27,6 +29,12 @@ abbrev pub CanonKeepsAbnf : Type 0
 CanonKeepsAbnf =
     (d : Dialect) (kind : Kind) (v : Field) → Valid d kind v → field_rule d v (canon v)
 
+-- and so it is of what the steps of the RFC write (4.1)
+abbrev pub SerialisedKeepsAbnf : Type 0
+SerialisedKeepsAbnf =
+    (d : Dialect) (kind : Kind) (v : Field) → Valid d kind v
+    → (t : Seq ℕ) × (serialise v ≡ Some t) × field_rule d v t
+
 -- the white space that parsing discards behind a field (4.2; 4.2.1 and 4.2.2 discard HTAB too)
 abbrev pub white_space_behind : Field → Rule
 white_space_behind (field.Item i) = many SP
@@ -41,3 +49,26 @@ SpelledKeepsAbnf =
     × many SP gap
     × field_rule d v body
     × white_space_behind v tail
+
+-- the rule of a kind of field
+abbrev pub kind_rule : Dialect → Kind → Rule
+kind_rule d kind.List = sf_list d
+kind_rule d kind.Dict = sf_dictionary d
+kind_rule d kind.Item = sf_item d
+
+-- the first character, and the last, is behind SP (%x20) and so behind HTAB
+abbrev pub Begins : Seq ℕ → Type 0
+Begins t = (c : ℕ) × (u : Seq ℕ) × (t ≡ c ∷ u) × (32 < c)
+
+abbrev pub Ends : Seq ℕ → Type 0
+Ends t = (u : Seq ℕ) × (c : ℕ) × (t ≡ u ++ c ∷ []) × (32 < c)
+
+-- not empty, and no white space around
+abbrev pub IsTrimmed : Seq ℕ → Type 0
+IsTrimmed t = Begins t × Ends t
+
+-- a text of a field keeps to the ABNF exactly if it is trimmed
+abbrev pub AbnfIsTrimmed : Type 0
+AbnfIsTrimmed =
+    (d : Dialect) (kind : Kind) (t : Seq ℕ) (v : Field) → SpellsField d kind t v
+    → (kind_rule d kind t ↔ IsTrimmed t)

@@ -1,6 +1,7 @@
 //! Laws of the ABNF (RFC 9651 appendix C; RFC 8941 section 3), each as the contract of a function
 //! that does nothing.
-ghost use Rattle.sf_rfc.specs.AbnfLaws.{CanonKeepsAbnf, SpelledKeepsAbnf};
+ghost use Rattle.sf_rfc.specs.AbnfLaws.{CanonKeepsAbnf, SerialisedKeepsAbnf, SpelledKeepsAbnf};
+ghost use Rattle.sf_rfc.specs.AbnfLaws.{AbnfIsTrimmed};
 
 /// The canonical text of a valid field keeps to the ABNF; that of a List or a Dictionary with no
 /// members, which is not sent, is empty.
@@ -8,8 +9,20 @@ pub fn canon_keeps_abnf()
     ensures { CanonKeepsAbnf }
 {}
 
+/// A valid field serialises by the RFC's steps (section 4.1), and what they write keeps to the
+/// ABNF; for a List or a Dictionary with no members, which is not sent, it is empty.
+pub fn serialised_keeps_abnf()
+    ensures { SerialisedKeepsAbnf }
+{}
+
 /// Every text that is accepted keeps to the ABNF, but for the white space around it, and for the
 /// texts of Lists and Dictionaries with no members: the ABNF has no rule for either.
 pub fn spelled_keeps_abnf()
     ensures { SpelledKeepsAbnf }
+{}
+
+/// A text that is accepted keeps to the ABNF exactly if it is not empty and neither begins nor ends
+/// with white space.
+pub fn abnf_is_trimmed()
+    ensures { AbnfIsTrimmed }
 {}
