@@ -16,8 +16,8 @@
  * from a signal handler, or in the child after a fork of a program with several threads. The
  * program's malloc and realloc must return memory that is aligned as C requires.
  *
- * Each function returns an sf_status, except sf_priority_merge and sf_lifetime; a dialect is an
- * sf_dialect, and a kind is an sf_kind. All are passed as integers of a fixed width, since the
+ * Each function returns an sf_status, except sf_priority_merge, sf_lifetime, sf_version and
+ * sf_status_name; a dialect is an sf_dialect, and a kind is an sf_kind. All are passed as integers of a fixed width, since the
  * width of an enum is not fixed, and since any number may be passed.
  *
  * Bytes are octets, and texts are not NUL-terminated. A place is an offset in bytes, counted from
@@ -74,6 +74,37 @@ typedef enum sf_status {
   SF_NOT_A_CACHE = 7,    /* a member of a Cache-Status List does not name a cache */
   SF_INVALID = 8         /* what is to be written is not a value */
 } sf_status;
+
+/* Returns the name of a status, such as "SF_REFUSED", for messages; "SF_?" if there is no such
+ * status. */
+static inline const char *sf_status_name(uint32_t status) {
+  switch (status) {
+  case SF_OK:
+    return "SF_OK";
+  case SF_REFUSED:
+    return "SF_REFUSED";
+  case SF_SECOND_REFUSED:
+    return "SF_SECOND_REFUSED";
+  case SF_SHORT:
+    return "SF_SHORT";
+  case SF_NO_MEMORY:
+    return "SF_NO_MEMORY";
+  case SF_EMPTY:
+    return "SF_EMPTY";
+  case SF_BAD_CALL:
+    return "SF_BAD_CALL";
+  case SF_NOT_A_CACHE:
+    return "SF_NOT_A_CACHE";
+  case SF_INVALID:
+    return "SF_INVALID";
+  default:
+    return "SF_?";
+  }
+}
+
+/* Returns the version of the library that runs, in the form of SF_VERSION_NUMBER. A program that is
+ * linked with the shared library may meet another version than that of its header. */
+uint32_t sf_version(void);
 
 /* The kind of a field, which the definition of the field states. */
 typedef enum sf_kind {

@@ -230,6 +230,20 @@ static void macros(void) {
 #if SF_VERSION_NUMBER < 100 || SF_VERSION_NUMBER >= 1000000
   CHECK(0);
 #endif
+  CHECK(sf_version() == SF_VERSION_NUMBER);
+
+  about = "statuses";
+  CHECK(strcmp(sf_status_name(SF_OK), "SF_OK") == 0);
+  CHECK(strcmp(sf_status_name(SF_REFUSED), "SF_REFUSED") == 0);
+  CHECK(strcmp(sf_status_name(SF_SECOND_REFUSED), "SF_SECOND_REFUSED") == 0);
+  CHECK(strcmp(sf_status_name(SF_SHORT), "SF_SHORT") == 0);
+  CHECK(strcmp(sf_status_name(SF_NO_MEMORY), "SF_NO_MEMORY") == 0);
+  CHECK(strcmp(sf_status_name(SF_EMPTY), "SF_EMPTY") == 0);
+  CHECK(strcmp(sf_status_name(SF_BAD_CALL), "SF_BAD_CALL") == 0);
+  CHECK(strcmp(sf_status_name(SF_NOT_A_CACHE), "SF_NOT_A_CACHE") == 0);
+  CHECK(strcmp(sf_status_name(SF_INVALID), "SF_INVALID") == 0);
+  CHECK(strcmp(sf_status_name(SF_INVALID + 1), "SF_?") == 0);
+  CHECK(strcmp(sf_status_name(UINT32_MAX), "SF_?") == 0);
 
   about = "room";
   int number = 2000000000;

@@ -1,4 +1,5 @@
 -- What the exports answer.
+pub mod Versions
 pub mod Statuses
 pub mod Calls
 pub mod Refusals

@@ -26,6 +26,7 @@ mod room;
 mod seed;
 mod status;
 mod targeted;
+mod version;
 
 pub use cache_status::{Path, sf_cache_status};
 pub use canonical_text::{sf_equal, sf_normalise};
@@ -42,3 +43,4 @@ pub use refusal_text::{sf_refusal_in_text, sf_refusal_text};
 pub use seed::Seed;
 pub use status::Status;
 pub use targeted::{PolicyFlags, sf_cache_control, sf_lifetime};
+pub use version::sf_version;
