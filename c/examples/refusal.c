@@ -35,7 +35,7 @@ static char *message_of(const sf_refusal *refusal, const char *text, size_t leng
 int main(int argc, char **argv) {
   static const char *const kinds[] = {"item", "list", "dict"};
   uint32_t kind = SF_ITEM;
-  while (argc == 3 && kind <= SF_DICT && strcmp(argv[1], kinds[kind]) != 0)
+  while (argc == 3 && kind <= SF_DICT && strcmp(argv[1], kinds[kind - SF_ITEM]) != 0)
     ++kind;
   if (argc != 3 || kind > SF_DICT) {
     fprintf(stderr, "usage: refusal item|list|dict TEXT\n");

@@ -112,6 +112,7 @@ const _: () = {
     assert!(size_of::<Joined>() == 24);
 };
 
+// An `sf_status`.
 pub const OK: u32 = 0;
 pub const REFUSED: u32 = 1;
 pub const SECOND_REFUSED: u32 = 2;
@@ -122,7 +123,51 @@ pub const BAD_CALL: u32 = 6;
 pub const NOT_A_CACHE: u32 = 7;
 pub const INVALID: u32 = 8;
 
+// An `sf_kind`.
+pub const ITEM: u32 = 0;
+pub const LIST: u32 = 1;
+pub const DICT: u32 = 2;
+
+// An `sf_dialect`.
+pub const RFC9651: u32 = 0;
+pub const RFC8941: u32 = 1;
+
+// An `sf_role`.
+pub const MEMBER: u32 = 0;
+pub const INNER_ITEM: u32 = 1;
+pub const PARAMETER: u32 = 2;
+
+// An `sf_type`.
+pub const INNER_LIST: u32 = 0;
+pub const INTEGER: u32 = 1;
+pub const DECIMAL: u32 = 2;
+pub const STRING: u32 = 3;
+pub const TOKEN: u32 = 4;
+pub const BYTE_SEQUENCE: u32 = 5;
+pub const BOOLEAN: u32 = 6;
+pub const DATE: u32 = 7;
+pub const DISPLAY_STRING: u32 = 8;
+
+// An `sf_outcome`.
+pub const UNSAID: u16 = 0;
+pub const HIT: u16 = 1;
+pub const FORWARDED: u16 = 2;
+pub const CONFLICT: u16 = 3;
+
+// An `sf_forward`.
+pub const NO_FORWARD: u16 = 0;
+pub const BYPASS: u16 = 1;
+pub const METHOD: u16 = 2;
+pub const URI_MISS: u16 = 3;
+pub const VARY_MISS: u16 = 4;
+pub const MISS: u16 = 5;
+pub const REQUEST: u16 = 6;
+pub const STALE: u16 = 7;
+pub const PARTIAL: u16 = 8;
+pub const OTHER: u16 = 9;
+
 extern "C" {
+    pub fn sf_version() -> u32;
     pub fn sf_check(
         seed: *const [u8; 16],
         dialect: u32,

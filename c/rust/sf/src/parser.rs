@@ -8,13 +8,14 @@ use crate::{raw, Error, Parsed, Path, Policy, Priority, Seed, Tree};
 /// assert!(sf::check(sf::Kind::Item, "a, b").is_err());
 /// ```
 #[derive(Clone, Copy, Debug, PartialEq, Eq, Hash)]
+#[repr(u32)]
 pub enum Kind {
     /// An Item (section 3.3).
-    Item = 0,
+    Item = raw::ITEM,
     /// A List (section 3.1).
-    List = 1,
+    List = raw::LIST,
     /// A Dictionary (section 3.2).
-    Dict = 2,
+    Dict = raw::DICT,
 }
 
 /// The RFC by which a text is parsed. What RFC 8941 accepts has the same value by RFC 9651.
@@ -25,12 +26,13 @@ pub enum Kind {
 /// assert!(sf::check(sf::Kind::Item, "@1").is_ok());
 /// ```
 #[derive(Clone, Copy, Debug, Default, PartialEq, Eq, Hash)]
+#[repr(u32)]
 pub enum Dialect {
     /// RFC 9651.
     #[default]
-    Rfc9651 = 0,
+    Rfc9651 = raw::RFC9651,
     /// Its predecessor, without Dates and Display Strings.
-    Rfc8941 = 1,
+    Rfc8941 = raw::RFC8941,
 }
 
 mod sealed {

@@ -229,22 +229,22 @@ fn raw_hop(hop: &Hop<'_>, bytes: &mut Vec<u8>) -> Result<raw::Hop, Error> {
     to.name = piece(bytes, hop.name.as_str())?;
     to.name_is_token = u8::from(matches!(hop.name, Name::Token(_)));
     to.outcome = match hop.outcome {
-        Outcome::Unsaid => 0,
-        Outcome::Hit => 1,
-        Outcome::Forwarded(_) => 2,
-        Outcome::Conflict(_) => 3,
+        Outcome::Unsaid => raw::UNSAID,
+        Outcome::Hit => raw::HIT,
+        Outcome::Forwarded(_) => raw::FORWARDED,
+        Outcome::Conflict(_) => raw::CONFLICT,
     };
     if let Some(forwarded) = hop.outcome.forwarded() {
         to.why = match forwarded.why {
-            Forward::Bypass => 1,
-            Forward::Method => 2,
-            Forward::UriMiss => 3,
-            Forward::VaryMiss => 4,
-            Forward::Miss => 5,
-            Forward::Request => 6,
-            Forward::Stale => 7,
-            Forward::Partial => 8,
-            Forward::Other(_) => 9,
+            Forward::Bypass => raw::BYPASS,
+            Forward::Method => raw::METHOD,
+            Forward::UriMiss => raw::URI_MISS,
+            Forward::VaryMiss => raw::VARY_MISS,
+            Forward::Miss => raw::MISS,
+            Forward::Request => raw::REQUEST,
+            Forward::Stale => raw::STALE,
+            Forward::Partial => raw::PARTIAL,
+            Forward::Other(_) => raw::OTHER,
         };
         if let Forward::Other(token) = forwarded.why {
             to.why_token = piece(bytes, token)?;
@@ -307,8 +307,8 @@ const NO_HOP: raw::Hop = raw::Hop {
     key: NO_PIECE,
     detail: NO_PIECE,
     ttl: 0,
-    outcome: 0,
-    why: 0,
+    outcome: raw::UNSAID,
+    why: raw::NO_FORWARD,
     status: 0,
     says_status: 0,
     stored: 0,
@@ -440,14 +440,14 @@ impl Path {
     fn forwarded(&self, hop: &raw::Hop) -> Forwarded<'_> {
         Forwarded {
             why: match hop.why {
-                1 => Forward::Bypass,
-                2 => Forward::Method,
-                3 => Forward::UriMiss,
-                4 => Forward::VaryMiss,
-                5 => Forward::Miss,
-                6 => Forward::Request,
-                7 => Forward::Stale,
-                8 => Forward::Partial,
+                raw::BYPASS => Forward::Bypass,
+                raw::METHOD => Forward::Method,
+                raw::URI_MISS => Forward::UriMiss,
+                raw::VARY_MISS => Forward::VaryMiss,
+                raw::MISS => Forward::Miss,
+                raw::REQUEST => Forward::Request,
+                raw::STALE => Forward::Stale,
+                raw::PARTIAL => Forward::Partial,
                 _ => Forward::Other(self.text(hop.why_token)),
             },
             status: (hop.says_status != 0).then_some(hop.status),
@@ -460,9 +460,9 @@ impl Path {
         Hop {
             name: self.name(hop.name, hop.name_is_token),
             outcome: match hop.outcome {
-                0 => Outcome::Unsaid,
-                1 => Outcome::Hit,
-                2 => Outcome::Forwarded(self.forwarded(hop)),
+                raw::UNSAID => Outcome::Unsaid,
+                raw::HIT => Outcome::Hit,
+                raw::FORWARDED => Outcome::Forwarded(self.forwarded(hop)),
                 _ => Outcome::Conflict(self.forwarded(hop)),
             },
             ttl: (hop.says_ttl != 0).then_some(hop.ttl),

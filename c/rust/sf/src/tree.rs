@@ -75,8 +75,8 @@ const NO_NODE: raw::Node = raw::Node {
     text_at: 0,
     text_length: 0,
     span: 1,
-    role: 0,
-    kind: 0,
+    role: raw::MEMBER,
+    kind: raw::INTEGER,
 };
 
 impl Tree {
@@ -132,11 +132,10 @@ impl Tree {
     /// crate is for. The methods below rely on it.
     fn is_sound(&self) -> bool {
         self.nodes.iter().enumerate().all(|(index, node)| {
-            let has_text = matches!(node.kind, 3 | 4 | 8);
+            let has_text = matches!(node.kind, raw::STRING | raw::TOKEN | raw::DISPLAY_STRING);
             let text = self.bytes.get(range(node.text_at, node.text_length));
             let key = self.bytes.get(range(node.key_at, node.key_length));
-            node.role <= 2
-                && node.kind <= 8
+            (raw::INNER_LIST..=raw::DISPLAY_STRING).contains(&node.kind)
                 && (1..=self.nodes.len() - index).contains(&node.span)
                 && key.map_or(false, |key| std::str::from_utf8(key).is_ok())
                 && text.map_or(false, |text| !has_text || std::str::from_utf8(text).is_ok())
@@ -255,8 +254,8 @@ impl<'a> Node<'a> {
     #[must_use]
     pub fn role(&self) -> Role {
         match self.told.role {
-            0 => Role::Member,
-            1 => Role::InnerItem,
+            raw::MEMBER => Role::Member,
+            raw::INNER_ITEM => Role::InnerItem,
             _ => Role::Parameter,
         }
     }
@@ -282,14 +281,14 @@ impl<'a> Node<'a> {
     pub fn get(&self) -> Type<'a> {
         let (from, length) = (self.told.text_at, self.told.text_length);
         match self.told.kind {
-            0 => Type::InnerList,
-            1 => Type::Integer(self.told.number),
-            2 => Type::Decimal(Decimal::from_thousandths(self.told.number)),
-            3 => Type::String(self.text(from, length)),
-            4 => Type::Token(self.text(from, length)),
-            5 => Type::ByteSequence(self.bytes(from, length)),
-            6 => Type::Boolean(self.told.number != 0),
-            7 => Type::Date(Date::from_unix_seconds(self.told.number)),
+            raw::INNER_LIST => Type::InnerList,
+            raw::INTEGER => Type::Integer(self.told.number),
+            raw::DECIMAL => Type::Decimal(Decimal::from_thousandths(self.told.number)),
+            raw::STRING => Type::String(self.text(from, length)),
+            raw::TOKEN => Type::Token(self.text(from, length)),
+            raw::BYTE_SEQUENCE => Type::ByteSequence(self.bytes(from, length)),
+            raw::BOOLEAN => Type::Boolean(self.told.number != 0),
+            raw::DATE => Type::Date(Date::from_unix_seconds(self.told.number)),
             _ => Type::DisplayString(self.text(from, length)),
         }
     }
