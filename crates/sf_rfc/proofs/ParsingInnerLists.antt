@@ -67,7 +67,7 @@ module _ (d : Dialect) where
       × (t ≡ body ++ 41 ∷ (suffix ++ r)) × SpellsItems d 0 body more × SpellsParams d suffix ps
       × (l ≡ inner (items ++ more) ps)
 
-  -- behind an item there is a space before the next
+  -- after an item there is a space before the next
   spaced : (body w : List ℕ) (more : List Item) → SpellsItems d 0 body more
       → first_is is_item_end (body ++ w) ≡ true → SpellsItems d 1 body more
   spaced body w [] s f = s

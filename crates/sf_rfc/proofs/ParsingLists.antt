@@ -62,7 +62,7 @@ module _ (d : Dialect) where
       series_agrees Member (List Member) (SpellsMember d) (parse_member d) (λ ms. ms) (list_loop d)
       is_list_loop (members_agree d) (member_start d)
 
-  -- the entries of Dictionaries: what stands behind a key
+  -- the entries of Dictionaries: what is after a key
   abbrev SpellsBehind : List ℕ → Member → Type 0
   SpellsBehind t m =
       ((suffix : List ℕ) × (t ≡ 61 ∷ suffix) × SpellsMember d suffix m)

@@ -21,7 +21,7 @@ use Rattle.sf_rfc.specs.ParsingLaws.{SpellsBareDate, DatesAgree}
 use Rattle.sf_rfc.proofs.ParsingSteps.{never, some_is, some_pair, and_then_cases, if_so, if_not}
 use Rattle.sf_rfc.proofs.ParsingSteps.{if_either}
 
--- the loop behind the point
+-- the loop after the point
 fraction_taken : (number t : List ℕ) (p : NumberType × List ℕ) (r : List ℕ)
     → number_loop ADecimal number t ≡ Some (p, r)
     → (f : List ℕ) × (t ≡ f ++ r) × (p ≡ (ADecimal, number ++ f)) × Every is_digit f
@@ -185,7 +185,7 @@ times_sign true n =
     let i : 1 * n ≡ n = omega arith in
     negsuc-*ℤ-pos 0 n ∙ ap (λ x. signed true x) i
 
--- what is behind the sign
+-- what is after the sign
 abbrev Unsigned : Bool → List ℕ → Bare → Type 0
 Unsigned neg t v =
     (AreDigits 1 15 0 t × (v ≡ Integer (signed neg (value_from 0 t))))

@@ -22,7 +22,7 @@ end_no_params c h = grind (arith, nat_tests)
 space_no_params : (c : ℕ) → is_ows c ≡ true → is_in_params c ≡ false
 space_no_params c h = grind (arith, nat_tests)
 
--- behind a comma the loop goes on, and behind a member it goes on at a comma or ends at the end
+-- after a comma the loop goes on, and after a member it goes on at a comma or ends at the end
 abbrev next : {S : Type 0} → (S → Parse S) → S → List ℕ → Option (S × List ℕ)
 next go s r = elim r [ [] ↦ None | y ∷ w ↦ go s (y ∷ w) ]
 
@@ -57,7 +57,7 @@ gap_end (c ∷ gap) h = rw (h.0, discard) (gap_end gap h.1)
 module _ (X S : Type 0) (P : List ℕ → X → Type 0) (one : Parse X) (fold : List X → S)
     (loop : ℕ → S → Parse S) (is : IsLoop X S one fold loop)
     (agrees : Agrees X P one is_in_params) (starts : Starts X P) where
-  -- what is taken behind members
+  -- what is taken after members
   abbrev MoreTaken : List X → List ℕ → S → List ℕ → Type 0
   MoreTaken xs t v r =
       (more : List X) × (body tail : List ℕ) × (t ≡ body ++ (tail ++ r)) × SpellsCommas P body more
@@ -150,7 +150,7 @@ module _ (X S : Type 0) (P : List ℕ → X → Type 0) (one : Parse X) (fold : 
         ),
       )
 
-  -- whole: what stands behind a member is OWS or a comma
+  -- whole: what is after a member is OWS or a comma
   tail_first : (tail : List ℕ) → Every is_ows tail → first_is is_in_params tail ≡ false
   tail_first [] h = refl
   tail_first (c ∷ tail) h = space_no_params c h.0
@@ -212,7 +212,7 @@ module _ (X S : Type 0) (P : List ℕ → X → Type 0) (one : Parse X) (fold : 
       behind : X × List ℕ → Option (S × List ℕ)
       behind q = after (loop n) (fold (xs ++ q.0 ∷ [])) q.1
 
-  -- each member behind the first has a comma, so that there are no more than characters
+  -- each member after the first has a comma, so that there are no more than characters
   commas_count : (body : List ℕ) (more : List X) → SpellsCommas P body more
       → length more ≤ length body
   commas_count body [] s = omega arith

@@ -97,7 +97,7 @@ abbrev TakenString : List ℕ → List ℕ → List ℕ → List ℕ → Type 0
 TakenString output t v r =
     (w : List ℕ) × (t ≡ escaped w ++ 34 ∷ r) × (v ≡ output ++ w) × Every is_visible w
 
--- a character of one's own, and an escaped one
+-- an unescaped character, and an escaped one
 plain_taken : (output : List ℕ) (c : ℕ) (t v r : List ℕ) → is_escaped c ≡ false
     → is_visible c ≡ true → TakenString (output ++ c ∷ []) t v r → TakenString output (c ∷ t) v r
 plain_taken output c t v r i h (w, a, b, k) = (

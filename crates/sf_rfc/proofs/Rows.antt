@@ -1,4 +1,4 @@
--- Examples of RFC 9651 (section 3), computed by its algorithms (section 4). What stands on the
+-- Examples of RFC 9651 (section 3), computed by its algorithms (section 4). What is on the
 -- right of each equation was written by hand.
 use Rattle.std.proofs.Common.{◌≡◌, ℕ, pos, negsuc, true, false, List as Seq, [], ◌∷◌, ◌++◌, Option}
 use Rattle.std.proofs.Common.{Some, None, refl}
@@ -122,7 +122,7 @@ older : map (parse_field Rfc8941 kind.Item)
     ≡ None ∷ None ∷ Some (an_item (int 1) []) ∷ []
 older = refl
 
--- 3.3; SP before and behind, no HTAB
+-- 3.3; SP before and after, no HTAB
 items : map item_read
     (codes "5" ∷ codes "5; foo=bar" ∷ codes "  5  " ∷ (9 ∷ codes "5") ∷ codes "5 ;a" ∷ [])
     ≡ Some (an_item (int 5) [])

@@ -106,7 +106,7 @@ InnerListsAgree = (d : Dialect) → Agrees Inner (SpellsInner d) (parse_inner d)
 abbrev pub MembersAgree : Type 0
 MembersAgree = (d : Dialect) → Agrees Member (SpellsMember d) (parse_member d) is_in_params
 
--- the members of a List or a Dictionary to the end of the text: nothing for no member; else a
+-- the members of a List or a Dictionary to the end of the text: nothing for no member; otherwise a
 -- series, then OWS
 abbrev pub SpellsToEnd : {X : Type 0} → (List ℕ → X → Type 0) → List ℕ → List X → Type 0
 SpellsToEnd P t [] = t ≡ []
@@ -135,7 +135,7 @@ FieldsAgree =
     → (parse_field d kind t ≡ Some v) ↔ SpellsField d kind t v
 
 -- an answer is that of the RFC's steps: a value exactly if they give this one, a refusal of the text
--- exactly if they fail, or want of memory
+-- exactly if they fail, or a failed allocation
 abbrev pub AnswersAsRfc : Dialect → Kind → List ℕ → Result Field Refusal → Type 0
 AnswersAsRfc d kind t (Ok v) = parse_field d kind t ≡ Some v
 AnswersAsRfc d kind t (Err OutOfMemory) = ⊤

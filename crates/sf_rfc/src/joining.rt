@@ -3,7 +3,7 @@
 ghost use Rattle.sf_rfc.specs.JoiningLaws.{LinesCombine};
 
 /// The field lines of a field, combined as RFC 9651 section 4.2 and RFC 9110 section 5.3 say, are
-/// the text that parsing lines is about: each further line behind a comma and a space. No line is
+/// the text that parsing lines is about: each further line after a comma and a space. No line is
 /// the empty text.
 pub fn lines_combine()
     ensures { LinesCombine }

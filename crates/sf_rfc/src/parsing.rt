@@ -86,13 +86,13 @@ pub fn member_parses()
 {}
 
 /// A List is taken by the RFC's steps (section 4.2.1), which go to the end of the text, exactly if
-/// the grammar spells its members and OWS behind them.
+/// the grammar spells its members and OWS after them.
 pub fn list_parses()
     ensures { ListsAgree }
 {}
 
 /// A Dictionary is taken by the RFC's steps (section 4.2.2), which go to the end of the text,
-/// exactly if the grammar spells its members and OWS behind them: a member that is overwritten in
+/// exactly if the grammar spells its members and OWS after them: a member that is overwritten in
 /// place is the last of its key, at the key's first place.
 pub fn dictionary_parses()
     ensures { DictionariesAgree }

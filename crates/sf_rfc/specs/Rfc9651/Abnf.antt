@@ -37,7 +37,7 @@ sf_token =
     then (either ALPHA (text (codes "*")))
     (many (either tchar (either (text (codes ":")) (text (codes "/")))))
 
--- base64 = *( ALPHA / DIGIT / "+" / "/" ) *"="; in RFC 8941 "=" may stand anywhere
+-- base64 = *( ALPHA / DIGIT / "+" / "/" ) *"="; in RFC 8941 "=" may be anywhere
 abbrev pub base64 : Rule
 base64 =
     then (many (either ALPHA (either DIGIT (either (text (codes "+")) (text (codes "/"))))))
