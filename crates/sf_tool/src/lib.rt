@@ -8,6 +8,7 @@ mod answering;
 mod choice;
 mod cutting;
 mod fields;
+mod header_names;
 mod path;
 mod priority;
 mod reading;
