@@ -55,20 +55,20 @@ impl Seed {
 #[derive(Clone, Copy, Debug, PartialEq, Eq)]
 pub enum Kind {
     /// An Item.
-    Item = 0,
+    Item = 1,
     /// A List.
-    List = 1,
+    List = 2,
     /// A Dictionary.
-    Dict = 2,
+    Dict = 3,
 }
 
 /// By which RFC a text is read.
 #[derive(Clone, Copy, Debug, PartialEq, Eq)]
 pub enum Dialect {
     /// RFC 9651.
-    Rfc9651 = 0,
+    Rfc9651 = 9651,
     /// RFC 8941, without Dates and Display Strings.
-    Rfc8941 = 1,
+    Rfc8941 = 8941,
 }
 
 /// Where and why a text is refused (RFC 9651 section 4.2).
@@ -419,8 +419,8 @@ const NO_NODE: raw::Node = raw::Node {
     text_at: 0,
     text_length: 0,
     span: 1,
-    role: 0,
-    kind: 0,
+    role: 11,
+    kind: 21,
 };
 
 impl Value {
@@ -460,8 +460,8 @@ impl<'a> Part<'a> {
     #[must_use]
     pub fn role(&self) -> Role {
         match self.node().role {
-            0 => Role::Member,
-            1 => Role::InnerItem,
+            11 => Role::Member,
+            12 => Role::InnerItem,
             _ => Role::Parameter,
         }
     }
@@ -479,14 +479,14 @@ impl<'a> Part<'a> {
         let node = self.node();
         let text = &self.value.bytes[node.text_at..node.text_at + node.text_length];
         match node.kind {
-            0 => Type::InnerList,
-            1 => Type::Integer(node.number),
-            2 => Type::Decimal(node.number),
-            3 => Type::String(text),
-            4 => Type::Token(text),
-            5 => Type::ByteSequence(text),
-            6 => Type::Boolean(node.number != 0),
-            7 => Type::Date(node.number),
+            21 => Type::InnerList,
+            22 => Type::Integer(node.number),
+            23 => Type::Decimal(node.number),
+            24 => Type::String(text),
+            25 => Type::Token(text),
+            26 => Type::ByteSequence(text),
+            27 => Type::Boolean(node.number != 0),
+            28 => Type::Date(node.number),
             _ => Type::DisplayString(text),
         }
     }
