@@ -128,8 +128,10 @@ static void same_nodes(const value *v, const value *w) {
     CHECK(a->key_at <= v->sizes.bytes && a->key_length <= v->sizes.bytes - a->key_at);
     CHECK(a->text_at <= v->sizes.bytes && a->text_length <= v->sizes.bytes - a->text_at);
     CHECK(a->span >= 1 && a->span <= v->sizes.nodes - i);
-    CHECK(a->role <= SF_PARAMETER && a->type <= SF_DISPLAY_STRING);
-    CHECK(a->role != SF_PARAMETER || (a->key_length > 0 && a->span == 1));
+    CHECK(a->role >= SF_MEMBER && a->role <= SF_INNER_PARAMETER);
+    CHECK(a->type >= SF_INNER_LIST && a->type <= SF_DISPLAY_STRING);
+    CHECK(a->role < SF_PARAMETER || (a->key_length > 0 && a->span == 1));
+    CHECK(a->type != SF_INNER_LIST || a->role == SF_MEMBER);
     CHECK(a->role == b->role && a->type == b->type && a->number == b->number);
     CHECK(a->span == b->span);
     shape(a->role * 16 + a->type, i > 0 ? v->nodes[i - 1].type + 1 : 0, a->span < 8 ? a->span : 8);
@@ -289,6 +291,30 @@ static void one_hop(const sf_hop *hop, size_t size) {
   CHECK(hop->says_detail || (hop->detail.length == 0 && !hop->detail_is_token));
 }
 
+static int same_range(const uint8_t *a, sf_piece p, const uint8_t *b, sf_piece q) {
+  return p.length == q.length && same_piece(a, p.at, b, q.at, p.length);
+}
+
+/* A hop, written, is read as the same. */
+static void write_again(const sf_hop *hop, const uint8_t *bytes, size_t size) {
+  size_t required = 0, again = 0;
+  CHECK(sf_hop_text(&seed, hop, bytes, size, NULL, 0, &required) == SF_SHORT);
+  uint8_t *text = take_room(NULL, required);
+  CHECK(sf_hop_text(&seed, hop, bytes, size, text, required, &again) == SF_OK);
+  CHECK(again == required);
+  caches c = tell(text, required);
+  CHECK(c.hops != NULL && c.path.hops == 1);
+  CHECK(same_range(bytes, hop->name, c.bytes, c.hops[0].name));
+  CHECK(same_range(bytes, hop->why_token, c.bytes, c.hops[0].why_token));
+  CHECK(same_range(bytes, hop->key, c.bytes, c.hops[0].key));
+  CHECK(same_range(bytes, hop->detail, c.bytes, c.hops[0].detail));
+  CHECK(memcmp(&hop->ttl, &c.hops[0].ttl,
+               offsetof(sf_hop, detail_is_token) + 1 - offsetof(sf_hop, ttl)) == 0);
+  give_room(c.hops);
+  give_room(c.bytes);
+  give_room(text);
+}
+
 /* The path of a text and that of its canonical text. */
 static void paths(const uint8_t *text, size_t length) {
   sf_refusal refusal;
@@ -303,6 +329,7 @@ static void paths(const uint8_t *text, size_t length) {
   long served = -1;
   for (size_t i = 0; c.hops != NULL && i < c.path.hops; ++i) {
     one_hop(&c.hops[i], c.path.bytes);
+    write_again(&c.hops[i], c.bytes, c.path.bytes);
     if (c.hops[i].outcome == SF_HIT)
       served = (long)i;
   }
@@ -323,6 +350,11 @@ static void consumers(const uint8_t *text, size_t length, int is_dict) {
   if (is_dict) {
     CHECK(priority.urgency <= 7 && priority.incremental <= 1);
     sf_priority_flags both = sf_priority_merge(&priority, &priority);
+    CHECK(memcmp(&both, &priority, sizeof both) == 0);
+    char written[SF_PRIORITY_SIZE];
+    size_t required = 0;
+    CHECK(sf_priority_text(&priority, written, sizeof written, &required) == SF_OK);
+    CHECK(sf_priority(&seed, written, required, &both, &refusal) == SF_OK);
     CHECK(memcmp(&both, &priority, sizeof both) == 0);
   }
   sf_policy policy;
@@ -348,7 +380,8 @@ int LLVMFuzzerTestOneInput(const uint8_t *data, size_t size);
 int LLVMFuzzerTestOneInput(const uint8_t *data, size_t size) {
   if (size == 0)
     return 0;
-  uint32_t kind = data[0] % 3, dialect = data[0] / 3 % 2;
+  uint32_t kind = SF_ITEM + data[0] % 3;
+  uint32_t dialect = data[0] / 3 % 2 == 0 ? SF_RFC9651 : SF_RFC8941;
   size_t length = size - 1;
   none_is_a_place = data[0] / 6 % 2;
   uint8_t *text = take_room(data + 1, length);

@@ -16,9 +16,11 @@
  * from a signal handler, or in the child after a fork of a program with several threads. The
  * program's malloc and realloc must return memory that is aligned as C requires.
  *
- * Each function returns an sf_status, except sf_priority_merge and sf_lifetime; a dialect is an
- * sf_dialect, and a kind is an sf_kind. All are passed as integers of a fixed width, since the
- * width of an enum is not fixed, and since any number may be passed.
+ * Each function returns an sf_status, except sf_priority_merge, sf_lifetime, sf_version and
+ * sf_status_name; a dialect is an sf_dialect, and a kind is an sf_kind. All are passed as integers
+ * of a fixed width, since the width of an enum is not fixed, and since any number may be passed.
+ * The constants for kinds, dialects, roles and types all differ, and none is 0: an argument in the
+ * place of another is SF_BAD_CALL.
  *
  * Bytes are octets, and texts are not NUL-terminated. A place is an offset in bytes, counted from
  * 0. The library requires a size_t of 64 bits.
@@ -71,20 +73,52 @@ typedef enum sf_status {
   SF_NO_MEMORY = 4,      /* malloc or realloc failed */
   SF_EMPTY = 5,          /* the field has no members */
   SF_BAD_CALL = 6,       /* no such kind or dialect, or a length greater than that of its buffer */
-  SF_NOT_A_CACHE = 7     /* a member of a Cache-Status List does not name a cache */
+  SF_NOT_A_CACHE = 7,    /* a member of a Cache-Status List does not name a cache */
+  SF_INVALID = 8         /* what is to be written is not a value */
 } sf_status;
+
+/* Returns the name of a status, such as "SF_REFUSED", for messages; "SF_?" if there is no such
+ * status. */
+static inline const char *sf_status_name(uint32_t status) {
+  switch (status) {
+  case SF_OK:
+    return "SF_OK";
+  case SF_REFUSED:
+    return "SF_REFUSED";
+  case SF_SECOND_REFUSED:
+    return "SF_SECOND_REFUSED";
+  case SF_SHORT:
+    return "SF_SHORT";
+  case SF_NO_MEMORY:
+    return "SF_NO_MEMORY";
+  case SF_EMPTY:
+    return "SF_EMPTY";
+  case SF_BAD_CALL:
+    return "SF_BAD_CALL";
+  case SF_NOT_A_CACHE:
+    return "SF_NOT_A_CACHE";
+  case SF_INVALID:
+    return "SF_INVALID";
+  default:
+    return "SF_?";
+  }
+}
+
+/* Returns the version of the library that runs, in the form of SF_VERSION_NUMBER. A program that is
+ * linked with the shared library may meet another version than that of its header. */
+uint32_t sf_version(void);
 
 /* The kind of a field, which the definition of the field states. */
 typedef enum sf_kind {
-  SF_ITEM = 0, /* RFC 9651 section 3.3 */
-  SF_LIST = 1, /* section 3.1 */
-  SF_DICT = 2  /* section 3.2 */
+  SF_ITEM = 1, /* RFC 9651 section 3.3 */
+  SF_LIST = 2, /* section 3.1 */
+  SF_DICT = 3  /* section 3.2 */
 } sf_kind;
 
 /* The RFC by which a text is parsed. What RFC 8941 accepts has the same value by RFC 9651. */
 typedef enum sf_dialect {
-  SF_RFC9651 = 0, /* all types of sf_type */
-  SF_RFC8941 = 1  /* its predecessor, without Dates and Display Strings */
+  SF_RFC9651 = 9651, /* all types of sf_type */
+  SF_RFC8941 = 8941  /* its predecessor, without Dates and Display Strings */
 } sf_dialect;
 
 /*
@@ -118,6 +152,37 @@ typedef struct sf_refusal {
  */
 uint32_t sf_check(const sf_seed *seed, uint32_t dialect, uint32_t kind, const void *text,
                   size_t text_length, sf_refusal *refusal);
+
+/*
+ * Writes the error message of a refusal to buffer, such as
+ *
+ *   byte 0x32 '2' at place 2, expected a space or the end
+ *
+ *   SF_OK         the first *required bytes of buffer are the message; the others are unchanged
+ *   SF_SHORT      the message has *required bytes, more than buffer_length; buffer is unchanged
+ *   SF_NO_MEMORY  buffer and *required are unchanged
+ *
+ * In *refusal, a found that is not a byte from 0 to 255 means that the text ended, and any may_end
+ * but 0 counts as 1.
+ */
+uint32_t sf_refusal_text(const sf_refusal *refusal, void *buffer, size_t buffer_length,
+                         size_t *required);
+
+/*
+ * Writes the error message of a refusal, a second line with the offset, the text as one line and a
+ * caret below the offset, without a newline at the end:
+ *
+ *   byte 0x32 '2' at place 2, expected a space or the end
+ *   line 1, place 2:
+ *   1 2
+ *     ^
+ *
+ * Each byte of the text is one character there: a question mark if the byte is not printable. If
+ * the place is greater than the length of the text, the caret is at its end. The results are those
+ * of sf_refusal_text.
+ */
+uint32_t sf_refusal_in_text(const sf_refusal *refusal, const void *text, size_t text_length,
+                            void *buffer, size_t buffer_length, size_t *required);
 
 /* The size in bytes of a buffer that is large enough for the canonical text of any text of this
  * length: eight fifths of it, so SF_CANONICAL_ROOM(5) is 8. The result is a size_t whatever integer
@@ -160,22 +225,23 @@ uint32_t sf_equal(const sf_seed *seed, uint32_t dialect, uint32_t kind, const vo
 
 /* The role of a node in a parsed value. */
 typedef enum sf_role {
-  SF_MEMBER = 0,     /* the Item of an Item field, or a member of a List or Dictionary */
-  SF_INNER_ITEM = 1, /* an Item of an Inner List */
-  SF_PARAMETER = 2   /* a parameter of the Item or Inner List before it */
+  SF_MEMBER = 11,         /* the Item of an Item field, or a member of a List or Dictionary */
+  SF_INNER_ITEM = 12,     /* an Item of an Inner List */
+  SF_PARAMETER = 13,      /* a parameter of an Item: of the last one before it */
+  SF_INNER_PARAMETER = 14 /* a parameter of an Inner List: of the last one before it */
 } sf_role;
 
 /* The type of a node (RFC 9651 section 3). */
 typedef enum sf_type {
-  SF_INNER_LIST = 0,     /* 3.1.1: number 0, no bytes */
-  SF_INTEGER = 1,        /* 3.3.1: number, from -SF_NUMBER_MAX to SF_NUMBER_MAX */
-  SF_DECIMAL = 2,        /* 3.3.2: number, in thousandths, in the same range */
-  SF_STRING = 3,         /* 3.3.3: bytes, unescaped, without quotes */
-  SF_TOKEN = 4,          /* 3.3.4: bytes */
-  SF_BYTE_SEQUENCE = 5,  /* 3.3.5: bytes, decoded */
-  SF_BOOLEAN = 6,        /* 3.3.6: number, 1 for true and 0 for false */
-  SF_DATE = 7,           /* 3.3.7: number, in seconds since 1970-01-01T00:00:00Z, in that range */
-  SF_DISPLAY_STRING = 8  /* 3.3.8: bytes, UTF-8, decoded */
+  SF_INNER_LIST = 21,    /* 3.1.1: number 0, no bytes */
+  SF_INTEGER = 22,       /* 3.3.1: number, from -SF_NUMBER_MAX to SF_NUMBER_MAX */
+  SF_DECIMAL = 23,       /* 3.3.2: number, in thousandths, in the same range */
+  SF_STRING = 24,        /* 3.3.3: bytes, unescaped, without quotes */
+  SF_TOKEN = 25,         /* 3.3.4: bytes */
+  SF_BYTE_SEQUENCE = 26, /* 3.3.5: bytes, decoded */
+  SF_BOOLEAN = 27,       /* 3.3.6: number, 1 for true and 0 for false */
+  SF_DATE = 28,          /* 3.3.7: number, in seconds since 1970-01-01T00:00:00Z, in that range */
+  SF_DISPLAY_STRING = 29 /* 3.3.8: bytes, UTF-8, decoded */
 } sf_type;
 
 /*
@@ -262,6 +328,23 @@ uint32_t sf_priority(const sf_seed *seed, const void *text, size_t text_length,
  */
 sf_priority_flags sf_priority_merge(const sf_priority_flags *client,
                                     const sf_priority_flags *server);
+
+/* The size in bytes of a buffer that is large enough for each text of sf_priority_text. */
+#define SF_PRIORITY_SIZE 9
+
+/*
+ * Writes the text of a Priority field (RFC 9218 section 5) that sets what *priority sets, and
+ * nothing else: u if says_urgency is set, then i if says_incremental is set, also to the defaults.
+ * sf_priority reads it as the same. If the text is empty, the field is not to be sent (RFC 9651
+ * section 4.1).
+ *
+ *   SF_OK     the first *required bytes of buffer are the text; the others are unchanged
+ *   SF_SHORT  the text has *required bytes, more than buffer_length; buffer is unchanged
+ *
+ * In *priority, numbers count as in the arguments of sf_priority_merge. Does not allocate.
+ */
+uint32_t sf_priority_text(const sf_priority_flags *priority, void *buffer, size_t buffer_length,
+                          size_t *required);
 
 /* The directives of a targeted field (RFC 9213 section 2.1, RFC 9111 section 5.2.2). */
 typedef struct sf_policy {
@@ -390,6 +473,30 @@ typedef struct sf_path {
 uint32_t sf_cache_status(const sf_seed *seed, const void *text, size_t text_length, sf_hop *hops,
                          size_t hops_room, void *bytes, size_t bytes_room, sf_path *path,
                          sf_refusal *refusal);
+
+/*
+ * Writes the text of a Cache-Status field (RFC 9211 section 2) whose only member is *hop: a field
+ * line of its own, which a cache adds after the lines that came from the caches nearer the origin.
+ * The ranges of *hop are in bytes. sf_cache_status reads the text as this hop alone; but if why is
+ * SF_OTHER and why_token is one of the tokens that the RFC defines, it reads that token's reason.
+ *
+ *   SF_OK       the first *required bytes of buffer are the text; the others are unchanged
+ *   SF_SHORT    the text has *required bytes, more than buffer_length; buffer is unchanged
+ *   SF_INVALID  *hop is not a hop: a range is not within the bytes_length bytes; name_is_token or
+ *               detail_is_token is set and the bytes are not a Token, or it is not set and they are
+ *               not a String, nor are those of key; outcome or why is not one of the enum (SF_OTHER
+ *               requires a why_token that is a Token); status is below SF_FWD_STATUS_MIN or above
+ *               SF_FWD_STATUS_MAX; or ttl is not in the range of an Integer
+ *   SF_NO_MEMORY
+ *
+ * Unless SF_OK or SF_SHORT is returned, buffer and *required are unchanged. In *hop, any number but
+ * 0 sets a flag. What a flag leaves out is not looked at, nor are why, why_token, status, stored,
+ * collapsed and their flags if outcome is SF_UNSAID or SF_HIT, nor why_token if why is not
+ * SF_OTHER. So the hops of sf_cache_status can be written again, and for a hop of one's own only
+ * the members that differ from zero need to be set.
+ */
+uint32_t sf_hop_text(const sf_seed *seed, const sf_hop *hop, const void *bytes, size_t bytes_length,
+                     void *buffer, size_t buffer_length, size_t *required);
 
 /* The state of joining the lines of a field. Begin with zeros: sf_joined joined = {0, 0, 0}; */
 typedef struct sf_joined {

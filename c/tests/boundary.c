@@ -230,6 +230,20 @@ static void macros(void) {
 #if SF_VERSION_NUMBER < 100 || SF_VERSION_NUMBER >= 1000000
   CHECK(0);
 #endif
+  CHECK(sf_version() == SF_VERSION_NUMBER);
+
+  about = "statuses";
+  CHECK(strcmp(sf_status_name(SF_OK), "SF_OK") == 0);
+  CHECK(strcmp(sf_status_name(SF_REFUSED), "SF_REFUSED") == 0);
+  CHECK(strcmp(sf_status_name(SF_SECOND_REFUSED), "SF_SECOND_REFUSED") == 0);
+  CHECK(strcmp(sf_status_name(SF_SHORT), "SF_SHORT") == 0);
+  CHECK(strcmp(sf_status_name(SF_NO_MEMORY), "SF_NO_MEMORY") == 0);
+  CHECK(strcmp(sf_status_name(SF_EMPTY), "SF_EMPTY") == 0);
+  CHECK(strcmp(sf_status_name(SF_BAD_CALL), "SF_BAD_CALL") == 0);
+  CHECK(strcmp(sf_status_name(SF_NOT_A_CACHE), "SF_NOT_A_CACHE") == 0);
+  CHECK(strcmp(sf_status_name(SF_INVALID), "SF_INVALID") == 0);
+  CHECK(strcmp(sf_status_name(SF_INVALID + 1), "SF_?") == 0);
+  CHECK(strcmp(sf_status_name(UINT32_MAX), "SF_?") == 0);
 
   about = "room";
   int number = 2000000000;
@@ -418,7 +432,21 @@ static void worked_texts(void) {
 
 /* Numbers that are no kind or no dialect. */
 static void bad_calls(void) {
-  static const uint32_t numbers[][2] = {{2, 0}, {0, 3}, {2, 3}, {UINT32_MAX, 0}, {0, UINT32_MAX}};
+  static const uint32_t numbers[][2] = {{SF_LIST, SF_RFC9651},
+                                        {SF_ITEM, SF_RFC8941},
+                                        {0, 0},
+                                        {0, SF_ITEM},
+                                        {SF_RFC9651, 0},
+                                        {1, 1},
+                                        {SF_RFC9651, SF_DICT + 1},
+                                        {SF_RFC9651 + 1, SF_ITEM},
+                                        {SF_RFC8941 - 1, SF_ITEM},
+                                        {SF_RFC9651, SF_MEMBER},
+                                        {SF_RFC9651, SF_INNER_LIST},
+                                        {SF_RFC9651, SF_RFC9651},
+                                        {SF_DICT, SF_DICT},
+                                        {UINT32_MAX, SF_ITEM},
+                                        {SF_RFC9651, UINT32_MAX}};
   for (size_t i = 0; i < sizeof numbers / sizeof *numbers; ++i) {
     const char *about = "bad call";
     uint32_t dialect = numbers[i][0], kind = numbers[i][1], status, equal = 4711;
@@ -471,6 +499,89 @@ static int is_piece(const unsigned char *bytes, size_t size, size_t at, size_t l
                     const char *text) {
   return at <= size && length <= size - at && length == strlen(text) &&
          (length == 0 || memcmp(bytes + at, text, length) == 0);
+}
+
+/* A call that writes a text: to a buffer of each length that is too small, of exactly the length,
+ * and of longer ones. The call names buffer, size and required. */
+#define WRITES(call, expected)                                                                     \
+  do {                                                                                             \
+    size_t whole = strlen(expected);                                                               \
+    for (size_t size = 0; size <= whole + 3; ++size) {                                             \
+      unsigned char *buffer = take_room(NULL, size);                                               \
+      size_t *required = take_room(NULL, sizeof *required);                                        \
+      CALL(call);                                                                                  \
+      CHECK(*required == whole && status == (size < whole ? SF_SHORT : SF_OK));                    \
+      if (size < whole)                                                                            \
+        CHECK(all_are(buffer, size));                                                              \
+      else                                                                                         \
+        CHECK((whole == 0 || memcmp(buffer, expected, whole) == 0) &&                              \
+              (size == whole || all_are(buffer + whole, size - whole)));                           \
+      give_room(required);                                                                         \
+      give_room(buffer);                                                                           \
+    }                                                                                              \
+  } while (0)
+
+/* Refusals in words. The words are those of the rules in specs/RefusalTexts and specs/Names of the
+ * parser. */
+static void refusals_in_words(void) {
+  static const struct {
+    uint32_t kind;
+    const char *text, *message, *shown; /* what stands after the message in the second call */
+  } rows[] = {
+      {SF_ITEM, "1 2", "byte 0x32 '2' at place 2, expected a space or the end",
+       "\nline 1, place 2:\n1 2\n  ^"},
+      {SF_LIST, "(a", "the text ended at place 2, expected a token character, `)`, `;` or a space",
+       "\nline 1, place 2:\n(a\n  ^"},
+      {SF_DICT, "a =1", "byte 0x3d '=' at place 2, expected `,`, a tab, a space or the end",
+       "\nline 1, place 2:\na =1\n  ^"},
+      {SF_ITEM, ":YQ===\t\xff", "byte 0x3d '=' at place 5, expected `:`",
+       "\nline 1, place 5:\n:YQ===??\n     ^"},
+      {SF_ITEM, "\"a\\b\"", "byte 0x62 'b' at place 3, expected a quote or `\\`",
+       "\nline 1, place 3:\n\"a\\b\"\n   ^"},
+      {SF_ITEM, "1.", "the text ended at place 2, expected a digit",
+       "\nline 1, place 2:\n1.\n  ^"},
+      {SF_ITEM, "\"a\x7f\"", "byte 0x7f at place 2, expected a printable character",
+       "\nline 1, place 2:\n\"a?\"\n  ^"},
+  };
+  uint32_t status;
+  for (size_t i = 0; i < sizeof rows / sizeof *rows; ++i) {
+    const char *about = rows[i].text;
+    size_t length = strlen(about);
+    unsigned char *text = take_room(about, length);
+    sf_refusal *refusal = take_room(&untouched, sizeof untouched);
+    CALL(sf_check(&seed, SF_RFC9651, rows[i].kind, text, length, refusal));
+    CHECK(status == SF_REFUSED);
+    char shown[160];
+    sprintf(shown, "%s%s", rows[i].message, rows[i].shown);
+    WRITES(sf_refusal_text(refusal, buffer, size, required), rows[i].message);
+    WRITES(sf_refusal_in_text(refusal, text, length, buffer, size, required), shown);
+    give_room(refusal);
+    give_room(text);
+  }
+
+  /* any numbers */
+  const char *about = "a refusal of the caller's";
+  sf_refusal refusal = {UINT64_MAX, UINT64_C(1) << 34, 0, 256, 255};
+  WRITES(sf_refusal_text(&refusal, buffer, size, required),
+         "the text ended at place 18446744073709551615, expected a quote or the end");
+  WRITES(sf_refusal_in_text(&refusal, "ab", 2, buffer, size, required),
+         "the text ended at place 18446744073709551615, expected a quote or the end"
+         "\nline 1, place 2:\nab\n  ^");
+  refusal.found = INT32_MIN;
+  refusal.place = 0;
+  refusal.may_end = 0;
+  unsigned char *none = take_room(NULL, 0);
+  WRITES(sf_refusal_in_text(&refusal, none, 0, buffer, size, required),
+         "the text ended at place 0, expected a quote\nline 1, place 0:\n\n^");
+  give_room(none);
+  refusal.found = 255;
+  refusal.expected_low = 0;
+  refusal.expected_high = UINT64_C(1) << 63;
+  WRITES(sf_refusal_text(&refusal, buffer, size, required),
+         "byte 0xff at place 0, expected 0x7f");
+  refusal.found = 0;
+  WRITES(sf_refusal_text(&refusal, buffer, size, required),
+         "byte 0x00 at place 0, expected 0x7f");
 }
 
 /* What a node is to tell. */
@@ -551,7 +662,7 @@ static void nodes_of_values(void) {
   static const row dict[] = {{SF_MEMBER, SF_INNER_LIST, 0, "a", "", 4},
                              {SF_INNER_ITEM, SF_INTEGER, 1, "", "", 1},
                              {SF_INNER_ITEM, SF_INTEGER, 2, "", "", 1},
-                             {SF_PARAMETER, SF_BYTE_SEQUENCE, 0, "y", "a", 1},
+                             {SF_INNER_PARAMETER, SF_BYTE_SEQUENCE, 0, "y", "a", 1},
                              {SF_MEMBER, SF_BOOLEAN, 1, "b", "", 2},
                              {SF_PARAMETER, SF_BOOLEAN, 1, "x", "", 1}};
   PARSED(SF_DICT, "a=1,b;x, a=(1  2 );y=:YQ:", dict, 5);
@@ -563,9 +674,14 @@ static void nodes_of_values(void) {
                              {SF_INNER_ITEM, SF_TOKEN, 0, "", "ghi", 2},
                              {SF_PARAMETER, SF_INTEGER, 4, "jk", "", 1},
                              {SF_INNER_ITEM, SF_TOKEN, 0, "", "l", 1},
-                             {SF_PARAMETER, SF_STRING, 0, "q", "9", 1},
-                             {SF_PARAMETER, SF_TOKEN, 0, "r", "w", 1}};
+                             {SF_INNER_PARAMETER, SF_STRING, 0, "q", "9", 1},
+                             {SF_INNER_PARAMETER, SF_TOKEN, 0, "r", "w", 1}};
   PARSED(SF_LIST, "abc;a=1;b=2; cde_456, (ghi;jk=4 l);q=\"9\";r=w", list, 22);
+  static const row of_both[] = {{SF_MEMBER, SF_INNER_LIST, 0, "", "", 4},
+                                {SF_INNER_ITEM, SF_TOKEN, 0, "", "a", 2},
+                                {SF_PARAMETER, SF_BOOLEAN, 1, "b", "", 1},
+                                {SF_INNER_PARAMETER, SF_BOOLEAN, 1, "b", "", 1}};
+  PARSED(SF_LIST, "(a;b);b", of_both, 3);
   static const row inner[] = {{SF_MEMBER, SF_INNER_LIST, 0, "", "", 1}};
   PARSED(SF_LIST, "( )", inner, 0);
   parsed(SF_LIST, "", NULL, 0, 0);
@@ -617,6 +733,31 @@ static void priorities(void) {
   for (size_t i = 0; i < sizeof pairs / sizeof *pairs; ++i) {
     sf_priority_flags both = sf_priority_merge(&pairs[i].client, &pairs[i].server);
     CHECK(memcmp(&both, &pairs[i].both, sizeof both) == 0);
+  }
+}
+
+/* The text of what a struct sets: nothing of what it doesn't set, and what is read from it. */
+static void priority_texts(void) {
+  static const struct {
+    sf_priority_flags sets;
+    const char *text;
+  } rows[] = {
+      {{3, 0, 0, 0}, ""},          {{1, 1, 0, 0}, ""},          {{5, 0, 1, 0}, "u=5"},
+      {{3, 0, 1, 0}, "u=3"},       {{0, 0, 1, 0}, "u=0"},       {{3, 1, 0, 1}, "i"},
+      {{3, 0, 0, 1}, "i=?0"},      {{1, 1, 1, 1}, "u=1, i"},    {{7, 0, 1, 1}, "u=7, i=?0"},
+      {{8, 1, 1, 1}, "i"},         {{255, 9, 1, 7}, "i"},       {{2, 200, 255, 255}, "u=2, i"},
+  };
+  uint32_t status;
+  for (size_t i = 0; i < sizeof rows / sizeof *rows; ++i) {
+    const char *about = rows[i].text;
+    sf_priority_flags *sets = take_room(&rows[i].sets, sizeof rows[i].sets);
+    WRITES(sf_priority_text(sets, buffer, size, required), rows[i].text);
+    CHECK(strlen(rows[i].text) <= SF_PRIORITY_SIZE);
+    sf_priority_flags again = {9, 9, 9, 9}, merged = sf_priority_merge(sets, sets);
+    sf_refusal refusal = untouched;
+    CALL(sf_priority(&seed, rows[i].text, strlen(rows[i].text), &again, &refusal));
+    CHECK(status == SF_OK && memcmp(&again, &merged, sizeof again) == 0);
+    give_room(sets);
   }
 }
 
@@ -824,6 +965,148 @@ static void paths(void) {
   CHECK(status == SF_REFUSED && refusal.place == 2 && refusal.found == -1);
   CHECK(path.hops == 4711 && path.bytes == 4712 && path.served == 4713 && path.nameless == 4714);
   CHECK(path.is_served == 4715 && byte == 0xa5 && all_are((unsigned char *)&hop, sizeof hop));
+}
+
+/* A hop, written and read back: the text is this one. */
+static void hop_written(const sf_hop *from, const char *pieces, const char *text) {
+  const char *about = text;
+  uint32_t status;
+  size_t length = strlen(pieces);
+  sf_hop *hop = take_room(from, sizeof *from);
+  unsigned char *bytes = take_room(pieces, length);
+  WRITES(sf_hop_text(&seed, hop, bytes, length, buffer, size, required), text);
+  CHECK(memcmp(hop, from, sizeof *from) == 0);
+  give_room(hop);
+  give_room(bytes);
+}
+
+static void hop_refused(const sf_hop *from, const char *pieces, const char *about) {
+  uint32_t status;
+  size_t length = strlen(pieces), required = 4711;
+  unsigned char *bytes = take_room(pieces, length), buffer[64];
+  memset(buffer, ROOM_BYTE, sizeof buffer);
+  CALL(sf_hop_text(&seed, from, bytes, length, buffer, sizeof buffer, &required));
+  CHECK(status == SF_INVALID && required == 4711 && all_are(buffer, sizeof buffer));
+  give_room(bytes);
+}
+
+static void written_hops(void) {
+  /* a hop of one's own: what is not set is zero */
+  sf_hop hop;
+  memset(&hop, 0, sizeof hop);
+  hop_written(&hop, "", "\"\"");
+  hop.name.length = 4;
+  hop_written(&hop, "edge", "\"edge\"");
+  hop.name_is_token = 1;
+  hop.outcome = SF_HIT;
+  hop_written(&hop, "edge", "edge;hit");
+  hop.says_ttl = 1;
+  hop.ttl = -30;
+  hop_written(&hop, "edge", "edge;hit;ttl=-30");
+  hop.ttl = SF_NUMBER_MAX;
+  hop_written(&hop, "edge", "edge;hit;ttl=999999999999999");
+  hop.ttl = SF_NUMBER_MAX + 1;
+  hop_refused(&hop, "edge", "a ttl that is no Integer");
+  hop.ttl = -SF_NUMBER_MAX - 1;
+  hop_refused(&hop, "edge", "a ttl that is no Integer");
+  hop.says_ttl = 0;
+  hop_written(&hop, "edge", "edge;hit");
+  hop.says_key = 255;
+  hop.key = (sf_piece){4, 3};
+  hop_written(&hop, "edgea\"b", "edge;hit;key=\"a\\\"b\"");
+  hop_refused(&hop, "edgeab", "a key past the bytes");
+  hop.key.at = SIZE_MAX;
+  hop_refused(&hop, "edgea\"b", "a key past all bytes");
+  hop.key = (sf_piece){7, 0};
+  hop_written(&hop, "edgea\"b", "edge;hit;key=\"\"");
+  hop.key.at = 8;
+  hop_refused(&hop, "edgea\"b", "an empty key past the bytes");
+  hop.key = (sf_piece){4, 1};
+  hop_refused(&hop, "edge\x7f", "a key that is no String");
+  hop.says_key = 0;
+  hop.says_detail = 1;
+  hop.detail = (sf_piece){0, 2};
+  hop_written(&hop, "edge", "edge;hit;detail=\"ed\"");
+  hop.detail_is_token = 1;
+  hop_written(&hop, "edge", "edge;hit;detail=ed");
+  hop.detail.length = 0;
+  hop_refused(&hop, "edge", "a detail that is no Token");
+  hop.says_detail = 0;
+  hop_refused(&hop, "ed e", "a name that is no Token");
+  hop.name_is_token = 0;
+  hop_written(&hop, "ed e", "\"ed e\";hit");
+  hop_refused(&hop, "ed\te", "a name that is no String");
+
+  /* what was forwarded counts if the outcome says so */
+  hop.why = SF_STALE;
+  hop.status = 304;
+  hop.says_status = 1;
+  hop.stored = 1;
+  hop.says_stored = 1;
+  hop.says_collapsed = 1;
+  hop_written(&hop, "edge", "\"edge\";hit");
+  hop.outcome = SF_UNSAID;
+  hop_written(&hop, "edge", "\"edge\"");
+  hop.outcome = SF_FORWARDED;
+  hop_written(&hop, "edge", "\"edge\";fwd=stale;fwd-status=304;stored;collapsed=?0");
+  hop.outcome = SF_CONFLICT;
+  hop_written(&hop, "edge", "\"edge\";hit;fwd=stale;fwd-status=304;stored;collapsed=?0");
+  hop.outcome = SF_CONFLICT + 1;
+  hop_refused(&hop, "edge", "no outcome");
+  hop.outcome = SF_FORWARDED;
+  hop.status = SF_FWD_STATUS_MIN - 1;
+  hop_refused(&hop, "edge", "no status");
+  hop.status = SF_FWD_STATUS_MAX + 1;
+  hop_refused(&hop, "edge", "no status");
+  hop.status = SF_FWD_STATUS_MAX;
+  hop.says_stored = hop.says_collapsed = 0;
+  static const char *const reasons[] = {
+      "\"edge\";fwd=bypass;fwd-status=999",    "\"edge\";fwd=method;fwd-status=999",
+      "\"edge\";fwd=uri-miss;fwd-status=999",  "\"edge\";fwd=vary-miss;fwd-status=999",
+      "\"edge\";fwd=miss;fwd-status=999",      "\"edge\";fwd=request;fwd-status=999",
+      "\"edge\";fwd=stale;fwd-status=999",     "\"edge\";fwd=partial;fwd-status=999"};
+  for (size_t i = 0; i < sizeof reasons / sizeof *reasons; ++i) {
+    hop.why = (uint16_t)(SF_BYPASS + i);
+    hop_written(&hop, "edge", reasons[i]);
+  }
+  hop.why = SF_NO_FORWARD;
+  hop_refused(&hop, "edge", "no reason");
+  hop.why = SF_OTHER + 1;
+  hop_refused(&hop, "edge", "no reason");
+  hop.why = SF_OTHER;
+  hop_refused(&hop, "edge", "a reason that is no Token");
+  hop.why_token = (sf_piece){4, 3};
+  hop_written(&hop, "edgeodd", "\"edge\";fwd=odd;fwd-status=999");
+
+  /* all at once, also if malloc fails */
+  hop = (sf_hop){{0, 1}, {1, 3}, {4, 2}, {6, 3}, -3, SF_FORWARDED, SF_OTHER, 100, 1, 0, 1, 1, 1,
+                 1, 1, 1, 1, 0};
+  static const char every[] = "c;fwd=odd;fwd-status=100;ttl=-3;stored=?0;collapsed;key=\"k\\\"\";"
+                            "detail=\"why\"";
+  hop_written(&hop, "coddk\"why", every);
+
+  /* each hop of a path, written, is a member of its canonical text */
+  static const char text[] = "a;hit;ttl=5, \"b c\";fwd=miss;fwd-status=200;stored;key=\"k\", "
+                             "d;fwd=odd;detail=e, f;hit;fwd=partial;collapsed=?0;detail=\"\", g";
+  static const char *const members[] = {
+      "a;hit;ttl=5", "\"b c\";fwd=miss;fwd-status=200;stored;key=\"k\"", "d;fwd=odd;detail=e",
+      "f;hit;fwd=partial;collapsed=?0;detail=\"\"", "g"};
+  const char *about = text;
+  uint32_t status;
+  sf_hop hops[5];
+  char bytes[SF_BYTES_ROOM(sizeof text)];
+  sf_path path;
+  sf_refusal refusal = untouched;
+  CALL(sf_cache_status(&seed, text, sizeof text - 1, hops, 5, bytes, sizeof bytes, &path,
+                       &refusal));
+  CHECK(status == SF_OK && path.hops == 5);
+  for (size_t i = 0; i < 5; ++i) {
+    char buffer[80];
+    size_t required = 0;
+    CALL(sf_hop_text(&seed, &hops[i], bytes, path.bytes, buffer, sizeof buffer, &required));
+    CHECK(status == SF_OK && required == strlen(members[i]));
+    CHECK(memcmp(buffer, members[i], required) == 0);
+  }
 }
 
 /* Each struct that a call is given, in a room of its own, as the answers are. */
@@ -1105,27 +1388,27 @@ static void want_of_memory(void) {
   sf_refusal refusal = untouched;
 
   const char *about = "sf_check, no memory";
-  EACH_REFUSAL(sf_check(&seed, 0, SF_LIST, large, sizeof large - 1, &refusal), 1,
+  EACH_REFUSAL(sf_check(&seed, SF_RFC9651, SF_LIST, large, sizeof large - 1, &refusal), 1,
                is_untouched(&refusal));
 
   about = "sf_normalise, no memory";
   unsigned char room[400];
   size_t wanted = 4711, length;
   memset(room, 0xa5, sizeof room);
-  CALL(sf_normalise(&seed, 0, SF_LIST, large, sizeof large - 1, room, sizeof room, &wanted,
+  CALL(sf_normalise(&seed, SF_RFC9651, SF_LIST, large, sizeof large - 1, room, sizeof room, &wanted,
                     &refusal));
   CHECK(status == SF_OK);
   length = wanted;
   EACH_REFUSAL((memset(room, 0xa5, sizeof room), wanted = 4711,
-                sf_normalise(&seed, 0, SF_LIST, large, sizeof large - 1, room, sizeof room, &wanted,
-                             &refusal)),
+                sf_normalise(&seed, SF_RFC9651, SF_LIST, large, sizeof large - 1, room, sizeof room,
+                             &wanted, &refusal)),
                wanted == length && all_are(room + length, sizeof room - length),
                wanted == 4711 && all_are(room, sizeof room) && is_untouched(&refusal));
 
   about = "sf_equal, no memory";
   uint32_t equal = 4711;
-  EACH_REFUSAL((equal = 4711, sf_equal(&seed, 0, SF_LIST, large, sizeof large - 1, room, length,
-                                       &equal, &refusal)),
+  EACH_REFUSAL((equal = 4711, sf_equal(&seed, SF_RFC9651, SF_LIST, large, sizeof large - 1, room,
+                                       length, &equal, &refusal)),
                equal == 1, equal == 4711 && is_untouched(&refusal));
 
   about = "sf_parse, no memory";
@@ -1133,8 +1416,8 @@ static void want_of_memory(void) {
   sf_sizes sizes = {4711, 4712};
   EACH_REFUSAL((memset(nodes, 0xa5, sizeof nodes), memset(room, 0xa5, sizeof room),
                 sizes.nodes = 4711,
-                sf_parse(&seed, 0, SF_LIST, large, sizeof large - 1, nodes, 100, room, sizeof room,
-                         &sizes, &refusal)),
+                sf_parse(&seed, SF_RFC9651, SF_LIST, large, sizeof large - 1, nodes, 100, room,
+                         sizeof room, &sizes, &refusal)),
                sizes.nodes == 43 && nodes[4].span == 7,
                sizes.nodes == 4711 && all_are((unsigned char *)nodes, sizeof nodes) &&
                    all_are(room, sizeof room) && is_untouched(&refusal));
@@ -1167,16 +1450,45 @@ static void want_of_memory(void) {
                path.hops == 4711 && all_are((unsigned char *)hops, sizeof hops) &&
                    all_are(room, sizeof room) && is_untouched(&refusal));
 
+  about = "sf_refusal_text, no memory";
+  static const char message[] = "byte 0x32 '2' at place 2, expected a space or the end";
+  static const char shown[] = "byte 0x32 '2' at place 2, expected a space or the end\n"
+                              "line 1, place 2:\n1 2\n  ^";
+  sf_refusal why = {2, UINT64_C(1) << 32, 0, '2', 1};
+  EACH_REFUSAL((memset(room, 0xa5, sizeof room), wanted = 4711,
+                sf_refusal_text(&why, room, sizeof room, &wanted)),
+               wanted == sizeof message - 1 && memcmp(room, message, wanted) == 0,
+               wanted == 4711 && all_are(room, sizeof room));
+  EACH_REFUSAL((memset(room, 0xa5, sizeof room), wanted = 4711,
+                sf_refusal_in_text(&why, "1 2", 3, room, sizeof room, &wanted)),
+               wanted == sizeof shown - 1 && memcmp(room, shown, wanted) == 0,
+               wanted == 4711 && all_are(room, sizeof room));
+
+  about = "sf_hop_text, no memory";
+  static const char line[] = "cccccccccccccccccccc;fwd=odd;fwd-status=100;ttl=-3;stored=?0;"
+                             "collapsed;key=\"k\";detail=\"dddddddddddddddddddd\"";
+  static const char pieces[] = "ccccccccccccccccccccoddkdddddddddddddddddddd";
+  sf_hop hop = {{0, 20}, {20, 3}, {23, 1}, {24, 20}, -3, SF_FORWARDED, SF_OTHER, 100, 1, 0, 1,
+                1, 1, 1, 1, 1, 1, 0};
+  EACH_REFUSAL((memset(room, 0xa5, sizeof room), wanted = 4711,
+                sf_hop_text(&seed, &hop, pieces, sizeof pieces - 1, room, sizeof room, &wanted)),
+               wanted == sizeof line - 1 && memcmp(room, line, wanted) == 0 &&
+                   all_are(room + wanted, sizeof room - wanted),
+               wanted == 4711 && all_are(room, sizeof room));
+
   /* what takes no memory is answered without */
   about = "no memory is taken";
   static const char spaces[] = "    -007     ";
   refused_once = 0;
   refused_from = 1;
-  CALL(sf_check(&seed, 0, SF_ITEM, spaces, sizeof spaces - 1, &refusal));
+  CALL(sf_check(&seed, SF_RFC9651, SF_ITEM, spaces, sizeof spaces - 1, &refusal));
   CHECK(status == SF_OK);
   sf_joined joined = {0, 0, 0};
   CALL(sf_join("a", 1, room, sizeof room, &joined));
   CHECK(status == SF_OK);
+  sf_priority_flags sets = {1, 1, 1, 1};
+  CALL(sf_priority_text(&sets, room, sizeof room, &wanted));
+  CHECK(status == SF_OK && wanted == 6 && memcmp(room, "u=1, i", 6) == 0);
   refused_from = 0;
 }
 
@@ -1188,10 +1500,13 @@ static void all(void) {
     worked_texts();
     bad_calls();
     comparing();
+    refusals_in_words();
     nodes_of_values();
     priorities();
+    priority_texts();
     policies();
     paths();
+    written_hops();
     structs();
     joining();
   }

@@ -49,11 +49,12 @@ fn link_archive(folder: &Path) -> bool {
 
 // Links what pkg-config finds, if it finds it.
 fn link_installed() -> bool {
-    let Ok(found) = Command::new("pkg-config")
+    let found = match Command::new("pkg-config")
         .args(["--variable=libdir", "sf"])
         .output()
-    else {
-        return false;
+    {
+        Ok(found) => found,
+        Err(_) => return false,
     };
     let folder = String::from_utf8_lossy(&found.stdout);
     if !found.status.success() || folder.trim().is_empty() {

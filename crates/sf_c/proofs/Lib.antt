@@ -6,3 +6,6 @@ pub mod NodeBound
 pub mod HopLemmas
 pub mod OneHop
 pub mod HopBound
+pub mod GivenTexts
+pub mod GivenHops
+pub mod WrittenPriorities

@@ -7,6 +7,14 @@ use Rattle.sf_value.specs.declared.value.Kind.{Kind}
 use Rattle.sf_value.specs.Grammar.Fields.{SpellsField, kind_of}
 use Rattle.sf_use.specs.declared.cache_status.hop.Hop.{Hop}
 use Rattle.sf_use.specs.CacheStatus.Hops.{hops}
+use Rattle.sf_value.specs.declared.dialect.Dialect.TheVariants.{Rfc9651}
+use Rattle.sf_value.specs.declared.value.Field.TheVariants as field
+use Rattle.sf_value.specs.declared.value.Kind.TheVariants as kind
+use Rattle.sf_value.specs.Grammar.Canonical.{canon}
+use Rattle.sf_parse.specs.Parsers.{IsOnly}
+use Rattle.sf_use.specs.Priority.{asked}
+use Rattle.sf_c.specs.declared.priority.PriorityFlags.{PriorityFlags}
+use Rattle.sf_c.specs.Priorities.{asked_by, asking}
 use Rattle.sf_c.specs.declared.nodes.Node.{Node}
 use Rattle.sf_c.specs.declared.hops.HopNode.{HopNode}
 use Rattle.sf_c.specs.Tellings.{told_by, told_size}
@@ -50,3 +58,11 @@ HopBytesAreFew =
     (d : Dialect) (kind : Kind) (t : List ℕ) (v : Field) (hs : List Hop)
     → SpellsField d kind t v → hops v ≡ Ok hs
     → 5 * hops_size (map told_hop hs) ≤ 8 * length t
+
+-- what is written of a struct of a priority is read as what the struct sets
+abbrev pub PriorityIsRead : Type 0
+PriorityIsRead =
+    (p : PriorityFlags)
+    → IsOnly Rfc9651 kind.Dict (canon (field.Dict (asking (asked_by p))))
+    (field.Dict (asking (asked_by p)))
+    × (asked (asking (asked_by p)) ≡ asked_by p)

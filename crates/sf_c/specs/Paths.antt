@@ -1,7 +1,7 @@
 -- What the text of a Cache-Status field answers (RFC 9211 section 2).
 use Rattle.std.specs.Prelude.{◌≡◌, ℕ, ◌+◌, ◌*◌, ◌<◌, ◌≤◌, ◌⊎◌, List as Seq, length, map}
 use Rattle.std.specs.Prelude.{is_some, unwrap_or}
-use Rattle.std.specs.Prelude.{Option, Some, Ok, Err, ⊤}
+use Rattle.std.specs.Prelude.{IsOk, Option, Some, Result, Ok, Err, ⊤}
 use Rattle.sf_value.specs.declared.dialect.Dialect.TheVariants.{Rfc9651}
 use Rattle.sf_value.specs.declared.value.Field.{Field}
 use Rattle.sf_value.specs.declared.value.Kind.TheVariants.{List}
@@ -73,6 +73,15 @@ TellsPath old new t (Some Refused) =
     SaysRefusal Rfc9651 List t new.refusal × KeepsRooms old new × (new.path ≡ old.path)
 TellsPath old new t (Some OutOfMemory) = new ≡ old
 TellsPath old new t status = ⊥
+
+-- the caches that a List names; or the place of its first member that names none, whatever memory
+-- there is: an allocation fails only if each member names a cache
+abbrev pub NamesCaches : Path → Path → Field → Result (Seq Hop) Status → Type 0
+NamesCaches old new v (Ok hs) = (hops v ≡ Ok hs) × (new ≡ old)
+NamesCaches old new v (Err NotACache) =
+    (hops v ≡ Err new.nameless) × (new ≡ record old { nameless = new.nameless })
+NamesCaches old new v (Err OutOfMemory) = IsOk (hops v) × (new ≡ old)
+NamesCaches old new v (Err status) = ⊥
 
 -- of a text t hops are at most four fifths of its length, rounded to the nearest number, and bytes
 -- at most eight fifths

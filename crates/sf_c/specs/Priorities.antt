@@ -1,12 +1,16 @@
 -- What the struct of a priority says.
-use Rattle.std.specs.Prelude.{◌≡◌, ℕ, ◌==◌, nat_le, not, if◌then◌else◌, List, is_some}
-use Rattle.std.specs.Prelude.{Bool, Option, Some, None}
+use Rattle.std.specs.Prelude.{◌≡◌, ℕ, pos, ◌==◌, nat_le, not, if◌then◌else◌, List, [], ◌∷◌, ◌++◌}
+use Rattle.std.specs.Prelude.{is_some, codes, Bool, Option, Some, None}
 use Rattle.sf_value.specs.declared.dialect.Dialect.TheVariants.{Rfc9651}
+use Rattle.sf_value.specs.declared.value.Bare.TheVariants.{Boolean, Integer}
+use Rattle.sf_value.specs.declared.value.Dict.{Dict as Dictionary}
 use Rattle.sf_value.specs.declared.value.Field.{Field}
 use Rattle.sf_value.specs.declared.value.Kind.TheVariants.{Dict}
+use Rattle.sf_value.specs.declared.value.Member.{Member}
+use Rattle.sf_value.specs.Grammar.Pairs.{Pairs}
 use Rattle.sf_parse.specs.Parsers.{IsOnly}
 use Rattle.sf_use.specs.declared.priority.Asked.{Asked}
-use Rattle.sf_use.specs.Priority.{asked_in, filled}
+use Rattle.sf_use.specs.Priority.{asked_in, filled, plain}
 use Rattle.sf_c.specs.declared.priority.PriorityFlags.{PriorityFlags}
 use Rattle.sf_c.specs.declared.refusal.SyntaxRefusal.{SyntaxRefusal}
 use Rattle.sf_c.specs.declared.status.Status.{Status}
@@ -53,3 +57,17 @@ AsksFor old new t (Some Refused) =
     SaysRefusal Rfc9651 Dict t new.refusal × (new.priority ≡ old.priority)
 AsksFor old new t (Some OutOfMemory) = new ≡ old
 AsksFor old new t status = ⊥
+
+-- the member u with this urgency (RFC 9218 section 4.1), if there is one
+abbrev pub urgency_member : Option ℕ → Pairs Member
+urgency_member None = []
+urgency_member (Some n) = (codes "u", plain (Integer (pos n))) ∷ []
+
+-- the member i with this flag (section 4.2), if there is one
+abbrev pub incremental_member : Option Bool → Pairs Member
+incremental_member None = []
+incremental_member (Some b) = (codes "i", plain (Boolean b)) ∷ []
+
+-- the Dictionary that asks for this and nothing else, defaults too
+abbrev pub asking : Asked → Dictionary
+asking a = record { members = urgency_member a.urgency ++ incremental_member a.incremental }

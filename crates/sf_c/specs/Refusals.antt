@@ -1,9 +1,11 @@
 -- What the struct of a refusal says.
 use Rattle.std.specs.Prelude.{◌≡◌, ℕ, ◌+◌, ◌*◌, ◌^◌, ℤ, pos, negsuc, Bool, true, false, List}
-use Rattle.std.specs.Prelude.{Option, Some, None}
+use Rattle.std.specs.Prelude.{◌==◌, not, nat_lt, if◌then◌else◌, Option, Some, None}
 use Rattle.sf_value.specs.declared.dialect.Dialect.{Dialect}
 use Rattle.sf_value.specs.declared.value.Kind.{Kind}
 use Rattle.sf_parse.specs.Parsers.{IsSyntax}
+use Rattle.sf_parse.specs.declared.refusal.Refusal.{Refusal}
+use Rattle.sf_parse.specs.declared.refusal.Refusal.TheVariants.{Syntax}
 use Rattle.sf_c.specs.declared.refusal.SyntaxRefusal.{SyntaxRefusal}
 
 -- the byte that was found, or -1 where the text ended
@@ -30,3 +32,14 @@ SaysRefusal d k t r =
     (place : ℕ) × (found : Option ℕ) × (expected : ℕ) × (may_end : Bool)
     × SaysSyntax r place found expected may_end
     × IsSyntax d k t place found expected may_end
+
+-- the byte of a number from 0 to 255; any other says that the text ended
+abbrev pub found_by : ℤ → Option ℕ
+found_by (pos n) = if nat_lt n 256 then Some n else None
+found_by (negsuc n) = None
+
+-- the refusal of a struct, which may have any numbers
+abbrev pub refusal_by : SyntaxRefusal → Refusal
+refusal_by r =
+    Syntax r.place (found_by r.found) (r.expected_low + r.expected_high * 2 ^ 64)
+    (not (r.may_end == 0))

@@ -1,6 +1,8 @@
 //! Cache-Status (RFC 9211).
 ghost use Rattle.std.specs.Prelude.{◌≡◌, Some};
-ghost use Rattle.sf_c.specs.Paths.{SaysFew, TellsPath};
+ghost use Rattle.sf_value.specs.declared.value.Kind.TheVariants as kind_is;
+ghost use Rattle.sf_value.specs.Grammar.Fields.{kind_of};
+ghost use Rattle.sf_c.specs.Paths.{NamesCaches, SaysFew, TellsPath};
 ghost use Rattle.sf_c.specs.Statuses.{status_at};
 
 use crate::call::parse;
@@ -10,8 +12,8 @@ use crate::refusal::SyntaxRefusal;
 use crate::seed::Seed;
 use crate::status::Status;
 use sf_field::{Consumer, UseFault};
-use sf_use::CacheStatus;
-use sf_value::{Dialect, Kind};
+use sf_use::{CachePath, CacheStatus};
+use sf_value::{Dialect, Field, Kind};
 use std::alloc::Global;
 
 /// How many hops and bytes the path of a response has, and where it came from. In C an `sf_path`.
@@ -82,13 +84,9 @@ fn path_of(
         Ok(field) => field,
         Err(status) => return status,
     };
-    let caches = match CacheStatus.answer(alloc, &field) {
+    let caches = match caches_in(alloc, &field, path) {
         Ok(caches) => caches,
-        Err(UseFault::NotACache { index }) => {
-            path.nameless = index;
-            return Status::NotACache;
-        }
-        Err(UseFault::OutOfMemory) => return Status::OutOfMemory,
+        Err(status) => return status,
     };
     let Ok(flat) = flatten_hops(alloc, caches.hops()) else {
         return Status::OutOfMemory;
@@ -107,4 +105,21 @@ fn path_of(
     }
     flat.write(hops, bytes);
     Status::Answered
+}
+
+/// The caches that a List names.
+fn caches_in(alloc: Global, field: &Field, path: &mut Path) -> Result<CachePath, Status>
+    requires { kind_of field.now ≡ kind_is.List }
+    // A hop for each member, or the place of the first that names no cache; out of memory only if
+    // each names one.
+    ensures { NamesCaches path.old path.new field.now result }
+{
+    match CacheStatus.answer(alloc, field) {
+        Ok(caches) => Ok(caches),
+        Err(UseFault::NotACache { index }) => {
+            path.nameless = index;
+            Err(Status::NotACache)
+        }
+        Err(UseFault::OutOfMemory) => Err(Status::OutOfMemory),
+    }
 }

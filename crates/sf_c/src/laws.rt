@@ -1,6 +1,6 @@
 //! Laws of the nodes and of the hops, each as the contract of a function that does nothing.
 ghost use Rattle.sf_c.specs.Laws.{BytesAreFew, NodesAreFew, TellOneValue};
-ghost use Rattle.sf_c.specs.Laws.{HopBytesAreFew, HopsAreFew, TellOnePath};
+ghost use Rattle.sf_c.specs.Laws.{HopBytesAreFew, HopsAreFew, PriorityIsRead, TellOnePath};
 
 use sf_value::laws::{canon_is_short, spelled_is_valid};
 
@@ -32,3 +32,8 @@ pub fn hops_are_few()
 {
     nodes_are_few();
 }
+
+/// The text that is written of the struct of a priority is read as what the struct sets.
+pub fn priority_is_read()
+    ensures { PriorityIsRead }
+{}

@@ -43,7 +43,7 @@ impl PriorityFlags {
     }
 
     /// What the struct asks for.
-    fn asked(&self) -> Asked
+    pub(crate) fn asked(&self) -> Asked
         ensures { result ≡ asked_by self.now }
     {
         Asked {

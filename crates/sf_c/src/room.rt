@@ -1,5 +1,8 @@
 //! The caller's room.
-ghost use Rattle.std.specs.Prelude.{◌≡◌, ◌+◌, ◌≤◌, ◌++◌, length, take, drop};
+ghost use Rattle.std.specs.Prelude.{◌≡◌, ◌+◌, ◌≤◌, ◌++◌, length, take, drop, Some};
+ghost use Rattle.sf_c.specs.TextBuffers.{PutsText};
+
+use crate::status::Status;
 
 /// Puts items at a place of the room.
 pub(crate) fn put<T: Copy>(room: &mut [T], at: usize, items: &[T])
@@ -8,4 +11,19 @@ pub(crate) fn put<T: Copy>(room: &mut [T], at: usize, items: &[T])
         ≡ (take at room.old ++ items.now) ++ drop (at + length items.now) room.old }
 {
     room[at..at + items.len()].copy_from_slice(items);
+}
+
+/// Puts a text into the caller's buffer, or says how long the buffer must be.
+pub(crate) fn put_text(text: &[u8], buffer: &mut [u8], required: &mut usize) -> Status
+    // The text is at the front of the buffer, or the buffer is too small for it.
+    ensures puts { PutsText (record { buffer = buffer.old; required = required.old })
+        (record { buffer = buffer.new; required = required.new }) text.now (Some result) }
+    ensures required { required.new ≡ length text.now }
+{
+    *required = text.len();
+    if buffer.len() < text.len() {
+        return Status::Short;
+    }
+    put(buffer, 0, text);
+    Status::Answered
 }

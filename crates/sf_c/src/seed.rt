@@ -1,4 +1,6 @@
 //! The caller's seed for the hashes of keys.
+ghost use Rattle.std.specs.Prelude.{◌≡◌, ◌++◌, length, min, take, drop, IsOk};
+
 use std::hash::RandomState;
 use std::io;
 use std::random::RandomSource;
@@ -14,10 +16,15 @@ pub struct Seed {
 }
 
 impl RandomSource for Seed {
-    fn fill_bytes(&self, buf: &mut [u8]) -> io::Result<()> {
-        for (to, from) in buf.iter_mut().zip(&self.bytes) {
-            *to = *from;
-        }
+    fn fill_bytes(&self, buf: &mut [u8]) -> io::Result<()>
+        // The buffer begins with the bytes of the seed, as many of them as it holds.
+        ensures bytes { buf.new
+            ≡ take (min (length buf.old) 16) self.now.bytes
+            ++ drop (min (length buf.old) 16) buf.old }
+        ensures succeeds { IsOk result }
+    {
+        let count = buf.len().min(self.bytes.len());
+        buf[..count].copy_from_slice(&self.bytes[..count]);
         Ok(())
     }
 }

@@ -21,6 +21,8 @@ pub enum Status {
     BadCall,
     /// 7: a member of a Cache-Status List names no cache.
     NotACache,
+    /// 8: what is to be written is no value.
+    Invalid,
 }
 
 impl Status {
@@ -37,6 +39,7 @@ impl Status {
             Status::Empty => 5,
             Status::BadCall => 6,
             Status::NotACache => 7,
+            Status::Invalid => 8,
         }
     }
 }

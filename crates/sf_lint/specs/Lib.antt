@@ -1,2 +1,8 @@
--- The definitions that the contracts speak of: the registered fields.
+-- The definitions that the contracts speak of: the registered fields and those that are given, the
+-- lines of heads, and last what is printed of them and what a run reads and writes.
 pub mod Registry
+pub mod Settings
+pub mod Head
+pub mod Marks
+pub mod Report
+pub mod Run

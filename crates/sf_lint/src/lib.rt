@@ -1,6 +1,19 @@
-//! The registered structured fields: of which kind a field is, and in which dialect it is written.
+//! The heads of HTTP messages, as `curl -I` prints them, with each structured field checked.
+//!
+//! [`run`] reads heads from a source and writes what each structured field of them is to a sink: its
+//! canonical text, or why it is refused and where. [`kind_of`] and [`dialect_of`] are the table of the
+//! registered structured fields. In `specs/`, `Registry` is that table, `Head` defines what a line of
+//! a head is, `Report` what is printed of it, and `Run` what a run reads and writes.
 #![tactic(auto)]
 
+mod head;
+mod marking;
 mod registry;
+mod report;
+mod running;
+mod settings;
 
+pub use head::Line;
 pub use registry::{dialect_of, kind_of};
+pub use running::run;
+pub use settings::{CustomField, FieldType, Settings};

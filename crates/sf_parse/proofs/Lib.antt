@@ -37,4 +37,6 @@ pub mod Letters
 pub mod Numerals
 pub mod SetRuns
 pub mod Fitting
+pub mod NamedSets
+pub mod LineSpots
 pub mod HexDigits

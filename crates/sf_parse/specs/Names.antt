@@ -2,11 +2,11 @@
 -- expected; what no class takes is named byte by byte.
 use Rattle.std.specs.Prelude.{ℕ, zero, suc, ◌+◌, ◌-◌, ◌%◌, ◌^◌, ◌==◌, ◌&&◌, ◌||◌, not, nat_lt, Bool}
 use Rattle.std.specs.Prelude.{if◌then◌else◌, List, [], ◌∷◌, ◌++◌, codes, slice_index_or}
-use Rattle.std.specs.Prelude.{bit_and}
+use Rattle.std.specs.Prelude.{bit_and, ◌≡◌, ◌<◌, ◌⊎◌, ◌↔◌, true}
 use Rattle.sf_value.specs.Ascii.{tab, space, quote, backquote}
 use Rattle.sf_value.specs.Grammar.Classes.{is_digit, is_lower, is_alpha, is_in_key}
 use Rattle.sf_value.specs.Grammar.Classes.{is_in_token, is_visible, is_one_of}
-use Rattle.sf_parse.specs.ByteSets.{hex_byte}
+use Rattle.sf_parse.specs.ByteSets.{hex_byte, is_in}
 use Rattle.sf_parse.specs.declared.names.Name.{Name}
 use Rattle.sf_parse.specs.declared.names.Name.TheVariants.{Printable, Token, Base64, Key, Letter}
 use Rattle.sf_parse.specs.declared.names.Name.TheVariants.{Lower, Upper, LowerHex, Digit, Byte, End}
@@ -56,6 +56,17 @@ end_name may_end = if may_end then End ∷ [] else []
 -- the names of a set of bytes below 128, and of the end
 abbrev pub names_of : ℕ → Bool → List Name
 names_of set may_end = fitting set 0 137 ++ end_name may_end
+
+-- one of the names stands for the byte
+abbrev pub IsNamed : ℕ → List Name → Type 0
+IsNamed b [] = ⊥
+IsNamed b (name ∷ names) = (is_in (set_of name) b ≡ true) ⊎ IsNamed b names
+
+-- the bytes below 128 that the names of a set stand for are just those of the set
+abbrev pub NamesAreTheSet : Type 0
+NamesAreTheSet =
+    (set : ℕ) (may_end : Bool) (b : ℕ) → b < 128
+    → (is_in set b ≡ true) ↔ IsNamed b (names_of set may_end)
 
 -- those that an iteration has left
 abbrev pub names_left : Names → List Name

@@ -1,9 +1,11 @@
 -- Where in the lines of a field a refusal stands.
 use Rattle.std.specs.Prelude.{ℕ, suc, ◌+◌, ◌-◌, min, nat_lt, if◌then◌else◌, List, [], ◌∷◌, ◌++◌}
 use Rattle.std.specs.Prelude.{length}
-use Rattle.std.specs.Prelude.{map, replicate, codes, decimal, Option, Some, None}
-use Rattle.sf_value.specs.Ascii.{space, question_mark}
+use Rattle.std.specs.Prelude.{map, replicate, codes, decimal, Option, Some, None, MatchOption}
+use Rattle.std.specs.Prelude.{◌≡◌, ◌≤◌, ◌<◌, ◌⊎◌, slice_get}
+use Rattle.sf_value.specs.Ascii.{space, comma, question_mark}
 use Rattle.sf_value.specs.Grammar.Classes.{is_visible}
+use Rattle.sf_value.specs.Grammar.Lines.{join}
 use Rattle.sf_parse.specs.RefusalTexts.{refusal_text}
 use Rattle.sf_parse.specs.declared.refusal.Refusal.{Refusal}
 use Rattle.sf_parse.specs.declared.refusal.Refusal.TheVariants.{Syntax}
@@ -26,6 +28,29 @@ place_in n (l ∷ m ∷ ls) place =
     if nat_lt (place - length l) 2
     then Some (record { line = n; place = min place (length l); text = l })
     else place_in (suc n) (m ∷ ls) (place - length l - 2)
+
+-- what is behind a line: the comma or the space before the next one, and nothing behind the last
+abbrev pub IsBehindLine : List (List ℕ) → Option ℕ → Type 0
+IsBehindLine [] byte = byte ≡ None
+IsBehindLine (l ∷ ls) byte = (byte ≡ Some comma) ⊎ (byte ≡ Some space)
+
+-- the spot is that of a place of the joined lines, numbered from n on: it is in the line of its
+-- number, and the byte at the place of the joined text is the one at its place of the line, or is
+-- behind the line
+pub record IsSpot (n : ℕ) (lines : List (List ℕ)) (place : ℕ) (p : LinePlace) : Type 0 where
+  pub before : List (List ℕ)
+  pub behind : List (List ℕ)
+  pub line : lines ≡ before ++ p.text ∷ behind
+  pub number : p.line ≡ n + length before
+  pub within : p.place ≤ length p.text
+  pub byte : p.place < length p.text → slice_get (join lines) place ≡ slice_get p.text p.place
+  pub end : p.place ≡ length p.text → IsBehindLine behind (slice_get (join lines) place)
+
+-- each place of joined lines is at a spot, unless there is no line
+abbrev pub PlacesAreSpots : Type 0
+PlacesAreSpots =
+    (lines : List (List ℕ)) (place : ℕ)
+    → MatchOption (place_in 1 lines place) (lines ≡ []) (IsSpot 1 lines place)
 
 -- where in the lines of a field a refusal stands, if it is one of their text; the first is line 1
 abbrev pub stands_at : Refusal → List (List ℕ) → Option LinePlace

@@ -1,11 +1,14 @@
-//! The laws of the grammar that follow from its machine, in both dialects, and that of the sets of
-//! bytes that refusals name. Each is the contract of a function that does nothing.
+//! The laws of the grammar that follow from its machine, in both dialects, and those of what a
+//! refusal shows: its set of bytes and its line. Each is the contract of a function that does
+//! nothing.
 ghost use Rattle.sf_parse.specs.Laws.{OneValue, IsRead, IsResidual, IsViable, IsNext, IsEnd};
 ghost use Rattle.sf_parse.specs.Laws.{StopsAt};
 ghost use Rattle.sf_parse.specs.Laws.{CanonOne, AnyChunks, OnlyNew, LinesOne};
 ghost use Rattle.sf_parse.specs.Reached.{ReachedNothing, ReachesMore, ReachedViable, ReachedNext};
 ghost use Rattle.sf_parse.specs.Reached.{ReachedEnd, ReachedStops, ReachedAll};
 ghost use Rattle.sf_parse.specs.ByteSets.{RunsAreTheSet, RunsAreWhole};
+ghost use Rattle.sf_parse.specs.Names.{NamesAreTheSet};
+ghost use Rattle.sf_parse.specs.Spots.{PlacesAreSpots};
 ghost use Rattle.sf_parse.specs.StateTests.{TakesStep, MayEnd, TakesNext, EndsText, NextBelow};
 ghost use Rattle.sf_parse.specs.StateTests.{SomeNext};
 
@@ -68,4 +71,15 @@ pub fn what_may_follow()
 pub fn runs_are_the_set()
     ensures set { RunsAreTheSet }
     ensures whole { RunsAreWhole }
+{}
+
+/// The classes and the bytes that a refusal names are together just the set that it lists.
+pub fn names_are_the_set()
+    ensures { NamesAreTheSet }
+{}
+
+/// Where a refusal is shown in a line, there the byte of the joined lines is: it is the byte at that
+/// place of that line, or at the line's end the comma or the space behind it, or the end of all.
+pub fn places_are_spots()
+    ensures { PlacesAreSpots }
 {}

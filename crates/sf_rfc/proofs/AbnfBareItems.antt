@@ -215,7 +215,7 @@ encoded c h = (
   ),
 )
 
--- the bytes of s, and the quote behind them
+-- the bytes of s, and the quote after them
 shown_chars : (s t : List ℕ) → EncodedBytes t s → then (many shown_char) DQUOTE t
 shown_chars [] t e = ([], 34 ∷ [], e, (0, refl), refl)
 shown_chars (c ∷ s) t (suffix, inl (h, e), k) =

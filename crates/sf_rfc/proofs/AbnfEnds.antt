@@ -1,4 +1,4 @@
--- Every text of the ABNF's fields begins and ends with a character behind SP, so it is not empty
+-- Every text of the ABNF's fields begins and ends with a character above SP, so it is not empty
 -- and has no white space around it.
 use Rattle.std.proofs.Common.{◌≡◌, ℕ, zero, suc, ◌<◌, true, ◌⊎◌, List, []}
 use Rattle.std.proofs.Common.{◌∷◌, ◌++◌, refl, sym, ap, ◌∙◌, inl, inr, append_assoc, append-nil}
@@ -20,7 +20,7 @@ use Rattle.sf_rfc.specs.Rfc9651.Abnf.{parameter, parameters, sf_item, inner_list
 use Rattle.sf_rfc.specs.Rfc9651.Abnf.{with_commas, dict_member}
 use Rattle.sf_rfc.specs.AbnfLaws.{Begins, Ends, IsTrimmed, kind_rule}
 
--- rules of one character each, behind SP
+-- rules of one character each, above SP
 abbrev Single : Rule → Type 0
 Single R = (t : List ℕ) → R t → (c : ℕ) × (t ≡ c ∷ []) × (32 < c)
 

@@ -176,7 +176,7 @@ module _ (d : Dialect) where
   item_keeps t i (prefix, suffix, e, h, k) =
       (prefix, suffix, e, bare_keeps d prefix i.bare h, params_keep suffix i.params k)
 
-  -- the Items of an Inner List behind the first, and SP
+  -- the Items of an Inner List after the first, and SP
   more_keep : (t : Seq ℕ) (is : Seq Item) → SpellsItems d 1 t is
       → then (many (then (some SP) (sf_item d))) (many SP) t
   more_keep t [] h = ([], t, refl, (0, refl), spaces t h)
@@ -282,7 +282,7 @@ module _ (d : Dialect) where
       let same : canon_params ps ≡ suffix = ap (λ y. drop 2 y) (e ∙ ap (λ y. y ++ suffix) b) in
       subst (parameters d) (sym same) (params_keep suffix ps k)
 
-  -- "=" and an Item behind a key
+  -- "=" and an Item after a key
   value_canon : (x : Bare) (ps : Pairs Bare) → ValidBare d x → ValidParams d ps
       → then (text (codes "=")) (list_member d) (61 ∷ (canon_bare x ++ canon_params ps))
   value_canon x ps h g =

@@ -28,7 +28,7 @@ no_gap gap back t e (suc n, (front, more, f, p, q)) (c, u, h, l) =
     let same : 32 ≡ c = ap (λ y. get_or y 0 0) (sym g ∙ h) in
     absurd (let none : ⊥ = omega arith in none)
 
--- no white space behind
+-- no white space after
 last_of : Seq ℕ → ℕ
 last_of [] = 0
 last_of (c ∷ []) = c

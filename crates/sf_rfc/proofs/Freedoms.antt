@@ -25,10 +25,10 @@ use Rattle.sf_rfc.proofs.AbnfBareItems.{pads, encoded}
 abbrev freedoms : Seq Example
 freedoms =
     -- Outside of the ABNF, as `abnf_is_trimmed` says. 4.2 step 2: SP before a field; step 6: SP
-    -- behind it
+    -- after it
     (kind.Item, codes "  5", an_item (int 5) [], codes "5")
     ∷ (kind.Item, codes "5  ", an_item (int 5) [], codes "5")
-    -- 4.2.1 step 2.2, 4.2.2 step 2.6: OWS, HTAB too, behind the last member
+    -- 4.2.1 step 2.2, 4.2.2 step 2.6: OWS, HTAB too, after the last member
     ∷ (
       kind.List,
       codes "a " ++ 9 ∷ [],
@@ -60,7 +60,7 @@ freedoms =
       a_list (inner (with (int 1) [] ∷ with (int 2) [] ∷ []) [] ∷ []),
       codes "(1 2)",
     )
-    -- 4.2.3.2 step 2.3: SP behind a semicolon; step 2.6: Boolean true in full
+    -- 4.2.3.2 step 2.3: SP after a semicolon; step 2.6: Boolean true in full
     ∷ (
       kind.Item,
       codes "5;  a;b=?1",
@@ -75,7 +75,7 @@ freedoms =
           ∷ (codes "c", one (Boolean true) []) ∷ []),
       codes "a;b, c",
     )
-    -- 4.2.3.2 step 2.7, 4.2.2 step 2.4: a key again, whose last value stands in its first place
+    -- 4.2.3.2 step 2.7, 4.2.2 step 2.4: a key again, whose last value is in its first place
     ∷ (
       kind.Item,
       codes "5;a=1;b=2;a=3",
@@ -89,7 +89,7 @@ freedoms =
           ∷ (codes "b", one (int 2) []) ∷ []),
       codes "a=3;x, b=2",
     )
-    -- 3.3.1, 3.3.2, 3.3.7: leading zeros, zeros behind a fraction, a sign on zero
+    -- 3.3.1, 3.3.2, 3.3.7: leading zeros, zeros after a fraction, a sign on zero
     ∷ (kind.Item, codes "0002", an_item (int 2) [], codes "2")
     ∷ (kind.Item, codes "-01", an_item (Integer (negsuc 0)) [], codes "-1")
     ∷ (kind.Item, codes "-0", an_item (int 0) [], codes "0")

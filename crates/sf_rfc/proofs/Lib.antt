@@ -23,5 +23,9 @@ pub mod ParsingMaps
 pub mod ParsingParameters
 pub mod ParsingItems
 pub mod ParsingInnerLists
+pub mod ParsingSeries
+pub mod ParsingLists
+pub mod ParsingFields
+pub mod ParsingAnswers
 pub mod ParsingStrings
 pub mod Rows

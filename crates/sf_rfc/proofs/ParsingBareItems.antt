@@ -1,6 +1,6 @@
 -- Parsing bare items, by their first character.
-use Rattle.std.proofs.Common.{◌≡◌, ℕ, ℤ, Bool, true, false, ◌&&◌, ◌||◌, ◌==◌, List, [], ◌∷◌, ◌++◌}
-use Rattle.std.proofs.Common.{Option, Some, None, refl, sym, ap, ◌∙◌, subst, ◌⊎◌, inl, inr, arith}
+use Rattle.std.proofs.Common.{◌≡◌, ℕ, ℤ, Bool, true, false, ◌||◌, ◌==◌, List, [], ◌∷◌, ◌++◌}
+use Rattle.std.proofs.Common.{Option, Some, None, refl, sym, ap, ◌∙◌, subst, inl, inr, arith}
 use Rattle.std.proofs.lemmas.Bool.Decides.{nat_tests}
 use Rattle.sf_value.specs.declared.dialect.Dialect.{Dialect}
 use Rattle.sf_value.specs.declared.dialect.Dialect.TheVariants.{Rfc8941, Rfc9651}
@@ -10,7 +10,6 @@ use Rattle.sf_value.specs.declared.value.Bare.TheVariants.{Blob, Boolean, Date, 
 use Rattle.sf_value.specs.Grammar.Classes.{is_digit, is_token_start, is_in_token}
 use Rattle.sf_value.specs.Grammar.Numbers.{SpellsInteger, SpellsDecimal}
 use Rattle.sf_value.specs.Grammar.Numbers.{sign}
-use Rattle.sf_value.specs.Grammar.Words.{Every}
 use Rattle.sf_value.specs.Grammar.BareItems.{SpellsBare}
 use Rattle.sf_rfc.specs.Rfc9651.Words.{Parse, first_is}
 use Rattle.sf_rfc.specs.Rfc9651.Alphabets.{is_DIGIT, can_start_token}
@@ -24,7 +23,7 @@ use Rattle.sf_rfc.proofs.ParsingStrings.{booleans_agree, strings_agree}
 use Rattle.sf_rfc.proofs.ParsingNumbers.{numbers_agree, dates_agree}
 use Rattle.sf_rfc.proofs.ParsingBase64.{byte_sequences_agree}
 use Rattle.sf_rfc.proofs.ParsingDisplay.{display_strings_agree}
-use Rattle.sf_rfc.proofs.ParsingSteps.{never, some_pair, and_then_cases, if_so, if_either}
+use Rattle.sf_rfc.proofs.ParsingSteps.{never, some_pair, if_so, if_either}
 
 -- a test that is passed by less
 pub first_less : (p q : ℕ → Bool) → ((c : ℕ) → q c ≡ false → p c ≡ false) → (r : List ℕ)

@@ -1,12 +1,12 @@
 -- Parsing Byte Sequences: base64 by bits and by groups of four characters.
-use Rattle.std.proofs.Common.{◌≡◌, ℕ, zero, suc, ◌+◌, ◌-◌, ◌*◌, ◌/◌, ◌%◌, ◌<◌, ◌≤◌, Bool, true, false}
-use Rattle.std.proofs.Common.{not, ◌&&◌, ◌||◌, ◌==◌, nat_le, List, [], ◌∷◌, ◌++◌, length, get_or, drop}
+use Rattle.std.proofs.Common.{◌≡◌, ℕ, zero, suc, ◌+◌, ◌*◌, ◌/◌, ◌%◌, ◌<◌, ◌≤◌, Bool, true, false}
+use Rattle.std.proofs.Common.{not, ◌&&◌, ◌==◌, nat_le, List, [], ◌∷◌, ◌++◌, length, get_or, drop}
 use Rattle.std.proofs.Common.{replicate, Option, Some, None, refl, sym, ap, ap₂, ◌∙◌, subst, arith}
-use Rattle.std.proofs.Common.{append_assoc, append-nil, length-append, ◌⊎◌, inl, inr}
+use Rattle.std.proofs.Common.{append_assoc}
 use Rattle.std.proofs.lemmas.Bool.Decides.{nat_tests}
 use Rattle.sf_value.specs.Grammar.Words.{Every}
 use Rattle.sf_value.specs.Grammar.Classes.{is_byte}
-use Rattle.sf_value.specs.Grammar.ByteSequences.{alphabet, letter, unpadded, spare, needed, Pads}
+use Rattle.sf_value.specs.Grammar.ByteSequences.{alphabet, letter, unpadded, spare, needed}
 use Rattle.sf_value.specs.Grammar.ByteSequences.{Sextets, SpellsByteSequence}
 use Rattle.sf_parse.proofs.Tables.{all_below, each_below}
 use Rattle.sf_parse.proofs.Quads.{byte_small, small_byte, first_small, second_small, third_small}
@@ -18,7 +18,7 @@ use Rattle.sf_rfc.specs.Rfc9651.Base64.{bits_of_characters, missing, base64_deco
 use Rattle.sf_rfc.specs.Rfc9651.ParsingBare.{can_be_in_base64, parse_byte_sequence}
 use Rattle.sf_rfc.specs.ParsingLaws.{ByteSequencesAgree}
 use Rattle.sf_rfc.proofs.SerialisingBase64.{missing_group}
-use Rattle.sf_rfc.proofs.ParsingSteps.{never, some_is, some_pair, and_then_cases, if_so, if_not}
+use Rattle.sf_rfc.proofs.ParsingSteps.{never, some_is, some_pair, and_then_cases, if_so}
 
 -- the alphabet
 unfoldable pub is_value : Option ℕ → ℕ → Bool

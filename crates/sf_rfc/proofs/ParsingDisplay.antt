@@ -1,16 +1,15 @@
 -- Parsing Display Strings.
 use Rattle.std.proofs.Common.{◌≡◌, ℕ, ◌+◌, ◌*◌, ◌/◌, ◌%◌, ◌<◌, Bool, true, false, ◌&&◌, ◌==◌, List, []}
 use Rattle.std.proofs.Common.{◌∷◌, ◌++◌, get_or, Option, Some, None, refl, sym, ap, ap₂, ◌∙◌, subst}
-use Rattle.std.proofs.Common.{append_assoc, append-nil, ◌⊎◌, inl, inr, arith, eqb-true}
+use Rattle.std.proofs.Common.{append_assoc, append-nil, inl, inr, arith, eqb-true}
 use Rattle.std.proofs.lemmas.Bool.Decides.{nat_tests}
 use Rattle.std.specs.Prelude.{codes}
 use Rattle.sf_value.specs.Grammar.Classes.{is_byte}
-use Rattle.sf_value.specs.Grammar.Utf8.{Start, WellFormed}
-use Rattle.sf_value.specs.Grammar.DisplayStrings.{hex, is_unencoded, EncodedByte, EncodedBytes}
+use Rattle.sf_value.specs.Grammar.DisplayStrings.{hex, is_unencoded, EncodedBytes}
 use Rattle.sf_value.specs.Grammar.DisplayStrings.{SpellsDisplayString}
 use Rattle.sf_parse.proofs.Tables.{all_below, each_below}
 use Rattle.sf_parse.proofs.Quads.{byte_small, small_byte}
-use Rattle.sf_rfc.specs.Rfc9651.Words.{Parse, and_then, only_if, first_is, place_from}
+use Rattle.sf_rfc.specs.Rfc9651.Words.{only_if, first_is}
 use Rattle.sf_rfc.specs.Rfc9651.Alphabets.{is_unprintable, is_lower_hex}
 use Rattle.sf_rfc.specs.Rfc9651.Utf8.{is_utf8}
 use Rattle.sf_rfc.specs.Rfc9651.ParsingBare.{hex_value, octet_of, display_loop, display_octet}

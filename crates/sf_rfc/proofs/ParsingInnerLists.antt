@@ -1,7 +1,7 @@
 -- Parsing Inner Lists, and members.
-use Rattle.std.proofs.Common.{◌≡◌, ℕ, zero, suc, ◌+◌, ◌<◌, ◌≤◌, Bool, true, false, ◌&&◌, ◌||◌, ◌==◌}
+use Rattle.std.proofs.Common.{◌≡◌, ℕ, zero, suc, ◌+◌, ◌≤◌, Bool, true, false, ◌||◌, ◌==◌}
 use Rattle.std.proofs.Common.{List, [], ◌∷◌, ◌++◌, length, drop, Option, Some, None, refl, sym, ap, ap₂}
-use Rattle.std.proofs.Common.{◌∙◌, subst, append_assoc, append-nil, length-append, ◌⊎◌, inl, inr, arith}
+use Rattle.std.proofs.Common.{◌∙◌, subst, append_assoc, append-nil, length-append, inl, inr, arith}
 use Rattle.std.proofs.lemmas.Bool.Decides.{nat_tests}
 use Rattle.sf_value.specs.declared.dialect.Dialect.{Dialect}
 use Rattle.sf_value.specs.declared.value.Bare.{Bare}
@@ -15,15 +15,15 @@ use Rattle.sf_value.specs.Grammar.Pairs.{Pairs}
 use Rattle.sf_value.specs.Grammar.Parameters.{SpellsParams}
 use Rattle.sf_value.specs.Grammar.Items.{SpellsItem}
 use Rattle.sf_value.specs.Grammar.InnerLists.{inner, SpellsItems, SpellsInner, SpellsMember}
-use Rattle.sf_rfc.specs.Rfc9651.Words.{Parse, and_then, first_is, discard}
-use Rattle.sf_rfc.specs.Rfc9651.Alphabets.{is_SP}
+use Rattle.sf_rfc.specs.Rfc9651.Words.{and_then, first_is, discard}
+use Rattle.sf_rfc.specs.Rfc9651.Alphabets.{is_SP, is_OWS}
 use Rattle.sf_rfc.specs.Rfc9651.Parsing.{parse_params, parse_item, end_inner, inner_loop, parse_inner}
 use Rattle.sf_rfc.specs.Rfc9651.Parsing.{parse_member}
-use Rattle.sf_rfc.specs.ParsingLaws.{Agrees, is_in_params, InnerListsAgree, MembersAgree}
+use Rattle.sf_rfc.specs.ParsingLaws.{is_in_params, InnerListsAgree, MembersAgree}
 use Rattle.sf_rfc.proofs.ParsingBase64.{is_first}
 use Rattle.sf_rfc.proofs.ParsingParameters.{parameters_agree, discarded, discard_gap, same_byte}
 use Rattle.sf_rfc.proofs.ParsingItems.{items_agree, item_start, is_no_start}
-use Rattle.sf_rfc.proofs.ParsingSteps.{never, some_is, some_pair, and_then_cases, if_so, if_either}
+use Rattle.sf_rfc.proofs.ParsingSteps.{never, some_pair, and_then_cases, if_so, if_either}
 
 -- SP or ")"
 abbrev is_item_end : ℕ → Bool
@@ -37,6 +37,9 @@ end_no_start c h = grind (arith, nat_tests)
 
 start_no_sp : (c : ℕ) → is_no_start c ≡ false → is_SP c ≡ false
 start_no_sp c h = grind (arith, nat_tests)
+
+start_no_ows : (c : ℕ) → is_no_start c ≡ false → is_OWS c ≡ false
+start_no_ows c h = grind (arith, nat_tests)
 
 start_no_close : (c : ℕ) → is_no_start c ≡ false → (c == 41) ≡ false
 start_no_close c h = grind (arith, nat_tests)
@@ -64,7 +67,7 @@ module _ (d : Dialect) where
       × (t ≡ body ++ 41 ∷ (suffix ++ r)) × SpellsItems d 0 body more × SpellsParams d suffix ps
       × (l ≡ inner (items ++ more) ps)
 
-  -- behind an item there is a space before the next
+  -- after an item there is a space before the next
   spaced : (body w : List ℕ) (more : List Item) → SpellsItems d 0 body more
       → first_is is_item_end (body ++ w) ≡ true → SpellsItems d 1 body more
   spaced body w [] s f = s
@@ -295,10 +298,10 @@ module _ (d : Dialect) where
       ∙ ap (λ o. and_then o as_inner) (inner_whole t r l s f)
 
   pub member_start : (t : List ℕ) (m : Member) → SpellsMember d t m
-      → (c : ℕ) × (u : List ℕ) × (t ≡ c ∷ u)
+      → (c : ℕ) × (u : List ℕ) × (t ≡ c ∷ u) × (is_OWS c ≡ false)
   member_start t (member.Item i) s =
-      let (c, u, e, h) = item_start d t i s in (c, u, e)
-  member_start t (member.Inner l) s = (40, s.0 ++ 41 ∷ s.1, s.2)
+      let (c, u, e, h) = item_start d t i s in (c, u, e, start_no_ows c h)
+  member_start t (member.Inner l) s = (40, s.0 ++ 41 ∷ s.1, s.2, refl)
 
 pub inner_lists_agree : InnerListsAgree
 inner_lists_agree d = record { sound = inner_sound d; whole = inner_whole d }

@@ -1,33 +1,25 @@
 -- Parsing Items, Inner Lists and members.
-use Rattle.std.proofs.Common.{◌≡◌, ℕ, zero, suc, ◌+◌, ◌<◌, ◌≤◌, Bool, true, false, ◌&&◌, ◌||◌, ◌==◌}
-use Rattle.std.proofs.Common.{List, [], ◌∷◌, ◌++◌, length, drop, Option, Some, None, refl, sym, ap, ap₂}
-use Rattle.std.proofs.Common.{◌∙◌, subst, append_assoc, append-nil, length-append, ◌⊎◌, inl, inr, arith}
+use Rattle.std.proofs.Common.{◌≡◌, ℕ, Bool, true, false, ◌||◌, ◌==◌}
+use Rattle.std.proofs.Common.{List, [], ◌∷◌, ◌++◌, Option, Some, None, refl, sym, ap}
+use Rattle.std.proofs.Common.{◌∙◌, subst, append_assoc, arith}
 use Rattle.std.proofs.lemmas.Bool.Decides.{nat_tests}
 use Rattle.sf_value.specs.declared.dialect.Dialect.{Dialect}
 use Rattle.sf_value.specs.declared.dialect.Dialect.TheVariants.{Rfc8941, Rfc9651}
 use Rattle.sf_value.specs.declared.value.Bare.{Bare}
 use Rattle.sf_value.specs.declared.value.Item.{Item}
-use Rattle.sf_value.specs.declared.value.Inner.{Inner}
-use Rattle.sf_value.specs.declared.value.Member.{Member}
-use Rattle.sf_value.specs.declared.value.Member.TheVariants as member
-use Rattle.sf_value.specs.Grammar.Words.{Every}
-use Rattle.sf_value.specs.Grammar.Classes.{is_sp, is_in_token}
+use Rattle.sf_value.specs.Grammar.Classes.{is_in_token}
 use Rattle.sf_value.specs.Grammar.Pairs.{Pairs}
 use Rattle.sf_value.specs.Grammar.BareItems.{SpellsBare}
 use Rattle.sf_value.specs.Grammar.Parameters.{SpellsParams}
 use Rattle.sf_value.specs.Grammar.Items.{item, SpellsItem}
-use Rattle.sf_value.specs.Grammar.InnerLists.{inner, SpellsItems, SpellsInner, SpellsMember}
-use Rattle.sf_rfc.specs.Rfc9651.Words.{Parse, and_then, first_is, discard}
-use Rattle.sf_rfc.specs.Rfc9651.Alphabets.{is_SP, is_DIGIT, can_start_token}
+use Rattle.sf_rfc.specs.Rfc9651.Words.{and_then, first_is}
+use Rattle.sf_rfc.specs.Rfc9651.Alphabets.{is_DIGIT, can_start_token}
 use Rattle.sf_rfc.specs.Rfc9651.ParsingBare.{parse_bare, parse_added}
-use Rattle.sf_rfc.specs.Rfc9651.Parsing.{parse_params, parse_item, end_inner, inner_loop, parse_inner}
-use Rattle.sf_rfc.specs.Rfc9651.Parsing.{parse_member}
-use Rattle.sf_rfc.specs.ParsingLaws.{Agrees, is_in_params, ItemsAgree, InnerListsAgree, MembersAgree}
-use Rattle.sf_rfc.proofs.ParsingBase64.{is_first}
+use Rattle.sf_rfc.specs.Rfc9651.Parsing.{parse_params, parse_item}
+use Rattle.sf_rfc.specs.ParsingLaws.{is_in_params, ItemsAgree}
 use Rattle.sf_rfc.proofs.ParsingBareItems.{bare_items_agree, first_less}
-use Rattle.sf_rfc.proofs.ParsingParameters.{parameters_agree, is_value_or_key, raw_first, discarded}
-use Rattle.sf_rfc.proofs.ParsingParameters.{discard_gap, same_byte}
-use Rattle.sf_rfc.proofs.ParsingSteps.{never, some_is, some_pair, and_then_cases, if_so, if_either}
+use Rattle.sf_rfc.proofs.ParsingParameters.{parameters_agree, is_value_or_key, raw_first}
+use Rattle.sf_rfc.proofs.ParsingSteps.{never, some_pair, and_then_cases}
 
 -- what no bare item begins with: SP, HTAB, ",", ")" and "("
 abbrev pub is_no_start : ℕ → Bool

@@ -1,7 +1,7 @@
 -- Parsing numbers and Dates.
-use Rattle.std.proofs.Common.{◌≡◌, ℕ, zero, suc, ◌+◌, ◌-◌, ◌*◌, ◌^◌, ◌≤◌, ℤ, pos, negsuc, ◌*ℤ◌, Bool}
-use Rattle.std.proofs.Common.{true, false, ◌&&◌, ◌||◌, ◌==◌, nat_lt, List, [], ◌∷◌, ◌++◌, length, drop}
-use Rattle.std.proofs.Common.{replicate, Option, Some, None, refl, sym, ap, ap₂, ◌∙◌, subst, arith}
+use Rattle.std.proofs.Common.{◌≡◌, ℕ, ◌+◌, ◌-◌, ◌*◌, ◌^◌, ◌≤◌, ℤ, pos, negsuc, ◌*ℤ◌, Bool}
+use Rattle.std.proofs.Common.{true, false, ◌||◌, ◌==◌, nat_lt, List, [], ◌∷◌, ◌++◌, length, drop}
+use Rattle.std.proofs.Common.{replicate, Option, Some, refl, sym, ap, ap₂, ◌∙◌, subst, arith}
 use Rattle.std.proofs.Common.{append_assoc, append-nil, length-append, ◌⊎◌, inl, inr}
 use Rattle.std.proofs.lemmas.Bool.Decides.{nat_tests}
 use Rattle.std.proofs.Math.IntN.{pos-*ℤ-pos, negsuc-*ℤ-pos}
@@ -10,19 +10,18 @@ use Rattle.sf_value.specs.declared.value.Bare.TheVariants.{Integer, Decimal, Dat
 use Rattle.sf_value.specs.Grammar.Words.{Every}
 use Rattle.sf_value.specs.Grammar.Classes.{is_digit}
 use Rattle.sf_value.specs.Grammar.Numbers.{sign, signed, value_from, thousandths, AreDigits}
-use Rattle.sf_value.specs.Grammar.Numbers.{SpellsInteger, SpellsDecimal, SpellsDate}
-use Rattle.sf_rfc.specs.Rfc9651.Words.{Parse, and_then, first_is, before, from}
+use Rattle.sf_rfc.specs.Rfc9651.Words.{and_then, first_is, before, from}
 use Rattle.sf_rfc.specs.Rfc9651.Alphabets.{is_DIGIT}
 use Rattle.sf_rfc.specs.Rfc9651.ParsingBare.{NumberType, AnInteger, ADecimal, too_long, number_loop}
 use Rattle.sf_rfc.specs.Rfc9651.ParsingBare.{base10, after_point, in_thousandths, number_of}
 use Rattle.sf_rfc.specs.Rfc9651.ParsingBare.{unsigned_number, parse_number}
 use Rattle.sf_rfc.specs.Rfc9651.ParsingBare.{date_of, parse_date}
-use Rattle.sf_rfc.specs.ParsingLaws.{Agrees, SpellsNumber, is_in_number, NumbersAgree}
+use Rattle.sf_rfc.specs.ParsingLaws.{SpellsNumber, is_in_number, NumbersAgree}
 use Rattle.sf_rfc.specs.ParsingLaws.{SpellsBareDate, DatesAgree}
 use Rattle.sf_rfc.proofs.ParsingSteps.{never, some_is, some_pair, and_then_cases, if_so, if_not}
 use Rattle.sf_rfc.proofs.ParsingSteps.{if_either}
 
--- the loop behind the point
+-- the loop after the point
 fraction_taken : (number t : List ℕ) (p : NumberType × List ℕ) (r : List ℕ)
     → number_loop ADecimal number t ≡ Some (p, r)
     → (f : List ℕ) × (t ≡ f ++ r) × (p ≡ (ADecimal, number ++ f)) × Every is_digit f
@@ -186,7 +185,7 @@ times_sign true n =
     let i : 1 * n ≡ n = omega arith in
     negsuc-*ℤ-pos 0 n ∙ ap (λ x. signed true x) i
 
--- what is behind the sign
+-- what is after the sign
 abbrev Unsigned : Bool → List ℕ → Bare → Type 0
 Unsigned neg t v =
     (AreDigits 1 15 0 t × (v ≡ Integer (signed neg (value_from 0 t))))

@@ -1,26 +1,24 @@
 -- Parsing parameters.
-use Rattle.std.proofs.Common.{◌≡◌, ℕ, zero, suc, ◌+◌, ◌<◌, ◌≤◌, Bool, true, false, ◌||◌, ◌==◌, List, []}
-use Rattle.std.proofs.Common.{◌∷◌, ◌++◌, length, Option, Some, None, refl, sym, ap, ap₂, ◌∙◌, subst}
-use Rattle.std.proofs.Common.{append_assoc, append-nil, length-append, ◌⊎◌, inl, inr, arith}
+use Rattle.std.proofs.Common.{◌≡◌, ℕ, zero, suc, ◌+◌, ◌≤◌, Bool, true, false, ◌||◌, ◌==◌, List, []}
+use Rattle.std.proofs.Common.{◌∷◌, ◌++◌, length, Option, Some, refl, sym, ap, ap₂, ◌∙◌, subst}
+use Rattle.std.proofs.Common.{append_assoc, append-nil, length-append, inl, inr, arith}
 use Rattle.std.proofs.lemmas.Bool.Decides.{nat_tests}
 use Rattle.sf_value.specs.declared.dialect.Dialect.{Dialect}
 use Rattle.sf_value.specs.declared.value.Bare.{Bare}
 use Rattle.sf_value.specs.declared.value.Bare.TheVariants.{Boolean}
-use Rattle.sf_value.specs.Grammar.Words.{Every, IsWord}
+use Rattle.sf_value.specs.Grammar.Words.{Every}
 use Rattle.sf_value.specs.Grammar.Classes.{is_sp, is_key_start, is_in_key, is_in_token}
 use Rattle.sf_value.specs.Grammar.Pairs.{Pairs, settle}
 use Rattle.sf_value.specs.Grammar.Tokens.{IsKey}
-use Rattle.sf_value.specs.Grammar.BareItems.{SpellsBare}
-use Rattle.sf_value.specs.Grammar.Parameters.{SpellsValue, SpellsParam, SpellsRaw, SpellsParams}
-use Rattle.sf_rfc.specs.Rfc9651.Words.{Parse, and_then, first_is, discard, set_key}
+use Rattle.sf_value.specs.Grammar.Parameters.{SpellsValue, SpellsRaw, SpellsParams}
+use Rattle.sf_rfc.specs.Rfc9651.Words.{and_then, first_is, discard, set_key}
 use Rattle.sf_rfc.specs.Rfc9651.Alphabets.{is_SP}
-use Rattle.sf_rfc.specs.Rfc9651.ParsingBare.{parse_bare}
-use Rattle.sf_rfc.specs.Rfc9651.Parsing.{Map, parse_key, param_value, params_loop, parse_params}
-use Rattle.sf_rfc.specs.ParsingLaws.{Agrees, is_in_params, ParametersAgree}
+use Rattle.sf_rfc.specs.Rfc9651.Parsing.{parse_key, param_value, params_loop, parse_params}
+use Rattle.sf_rfc.specs.ParsingLaws.{is_in_params, ParametersAgree}
 use Rattle.sf_rfc.proofs.ParsingWords.{keys_agree}
 use Rattle.sf_rfc.proofs.ParsingBareItems.{bare_items_agree, first_less}
 use Rattle.sf_rfc.proofs.ParsingMaps.{set_settled}
-use Rattle.sf_rfc.proofs.ParsingSteps.{never, some_is, some_pair, and_then_cases, if_so, if_either}
+use Rattle.sf_rfc.proofs.ParsingSteps.{never, some_pair, and_then_cases, if_either}
 
 -- what is discarded
 pub discarded : (p : ℕ → Bool) (t : List ℕ)

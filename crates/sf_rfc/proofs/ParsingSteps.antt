@@ -1,6 +1,6 @@
 -- What a test or a step was, of an algorithm that did not fail.
-use Rattle.std.proofs.Common.{◌≡◌, ℕ, Bool, true, false, List, [], ◌∷◌, ◌++◌, Option, Some, None, refl}
-use Rattle.std.proofs.Common.{sym, ap, ◌∙◌, ◌⊎◌, inl, inr}
+use Rattle.std.proofs.Common.{◌≡◌, Bool, true, false, Option, Some, None, refl}
+use Rattle.std.proofs.Common.{ap, ◌⊎◌, inl, inr}
 use Rattle.sf_rfc.specs.Rfc9651.Words.{and_then, only_if}
 
 pub never : {A P : Type 0} (a : A) → ◌≡◌ {A = Option A} None (Some a) → P

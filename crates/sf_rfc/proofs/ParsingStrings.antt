@@ -1,5 +1,5 @@
 -- Booleans and Strings.
-use Rattle.std.proofs.Common.{◌≡◌, ℕ, Bool, true, false, not, ◌&&◌, ◌||◌, ◌==◌, List, [], ◌∷◌, ◌++◌}
+use Rattle.std.proofs.Common.{◌≡◌, ℕ, Bool, true, false, ◌==◌, List, [], ◌∷◌, ◌++◌}
 use Rattle.std.proofs.Common.{Option, Some, None, refl, sym, ap, ap₂, ◌∙◌, subst, arith, append_assoc}
 use Rattle.std.proofs.Common.{append-nil}
 use Rattle.std.specs.Prelude.{if◌then◌else◌}
@@ -13,7 +13,7 @@ use Rattle.sf_rfc.specs.Rfc9651.Alphabets.{is_unprintable, needs_escape}
 use Rattle.sf_rfc.specs.Rfc9651.ParsingBare.{parse_boolean, boolean_value, parse_string, string_loop}
 use Rattle.sf_rfc.specs.Rfc9651.ParsingBare.{string_escape}
 use Rattle.sf_rfc.proofs.ParsingWords.{some_pair}
-use Rattle.sf_rfc.specs.ParsingLaws.{Agrees, BooleansAgree, StringsAgree}
+use Rattle.sf_rfc.specs.ParsingLaws.{BooleansAgree, StringsAgree}
 
 is_equal : (a b : ℕ) → (a == b) ≡ true → a ≡ b
 is_equal a b h = grind (arith, nat_tests)
@@ -97,7 +97,7 @@ abbrev TakenString : List ℕ → List ℕ → List ℕ → List ℕ → Type 0
 TakenString output t v r =
     (w : List ℕ) × (t ≡ escaped w ++ 34 ∷ r) × (v ≡ output ++ w) × Every is_visible w
 
--- a character of one's own, and an escaped one
+-- an unescaped character, and an escaped one
 plain_taken : (output : List ℕ) (c : ℕ) (t v r : List ℕ) → is_escaped c ≡ false
     → is_visible c ≡ true → TakenString (output ++ c ∷ []) t v r → TakenString output (c ∷ t) v r
 plain_taken output c t v r i h (w, a, b, k) = (

@@ -1,14 +1,14 @@
 -- What keeps to the rules of RFC 3629 is well-formed by the table.
-use Rattle.std.proofs.Common.{◌≡◌, ℕ, zero, suc, ◌≤◌, Bool, true, false, List, [], ◌∷◌, length, Option}
-use Rattle.std.proofs.Common.{Some, None, refl, sym, ap, ◌∙◌, subst, ◌⊎◌, inl, inr, arith}
+use Rattle.std.proofs.Common.{◌≡◌, ℕ, zero, suc, ◌≤◌, true, false, List, [], ◌∷◌, length, Option}
+use Rattle.std.proofs.Common.{Some, None, refl, sym, ap, subst, ◌⊎◌, inl, inr, arith}
 use Rattle.std.proofs.lemmas.Bool.Decides.{nat_tests}
-use Rattle.sf_value.specs.Grammar.Utf8.{Utf8, Start, Wants, wants, rows, look_up, utf8_step}
+use Rattle.sf_value.specs.Grammar.Utf8.{Utf8, Start, Wants, wants, rows, look_up}
 use Rattle.sf_value.specs.Grammar.Utf8.{WellFormed}
-use Rattle.sf_rfc.specs.Rfc9651.Words.{and_then, or_else, only_if}
+use Rattle.sf_rfc.specs.Rfc9651.Words.{or_else}
 use Rattle.sf_rfc.specs.Rfc9651.Alphabets.{in_range}
-use Rattle.sf_rfc.specs.Rfc9651.Utf8.{Rule, octet, then, either, utf8_tail, utf8_char, utf8_octets}
+use Rattle.sf_rfc.specs.Rfc9651.Utf8.{Rule, octet, then, utf8_tail, utf8_char, utf8_octets}
 use Rattle.sf_rfc.specs.Rfc9651.Utf8.{utf8_1, utf8_2, utf8_3, utf8_4, is_utf8}
-use Rattle.sf_rfc.proofs.SerialisingUtf8.{above, inside}
+use Rattle.sf_rfc.proofs.SerialisingUtf8.{above}
 use Rattle.sf_rfc.proofs.ParsingSteps.{never, and_then_cases, only_if_cases}
 
 or_else_cases : {A : Type 0} (o p : Option A) (a : A) → or_else o p ≡ Some a

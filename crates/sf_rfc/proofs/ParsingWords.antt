@@ -1,19 +1,18 @@
 -- Words: the loops for keys and Tokens, and the classes of characters.
-use Rattle.std.proofs.Common.{◌≡◌, ℕ, Bool, true, false, ◌&&◌, ◌||◌, ◌==◌, List, [], ◌∷◌, ◌++◌, Option}
+use Rattle.std.proofs.Common.{◌≡◌, ℕ, Bool, true, false, ◌||◌, ◌==◌, List, [], ◌∷◌, ◌++◌, Option}
 use Rattle.std.proofs.Common.{Some, None, refl, sym, ap, ap₂, ◌∙◌, subst, arith, append_assoc, append-nil}
 use Rattle.std.specs.Prelude.{codes}
 use Rattle.std.proofs.lemmas.Bool.Decides.{nat_tests}
 use Rattle.sf_value.specs.Grammar.Words.{Every, IsWord}
 use Rattle.sf_value.specs.Grammar.Classes.{is_one_of, is_lower, is_digit, is_alpha, is_key_start}
 use Rattle.sf_value.specs.Grammar.Classes.{is_in_key, is_token_start, is_in_token, is_tchar}
-use Rattle.sf_value.specs.Grammar.Classes as class
 use Rattle.sf_value.specs.Grammar.Tokens.{SpellsWord}
 use Rattle.sf_rfc.specs.Rfc9651.Words.{Parse, first_is}
 use Rattle.sf_rfc.specs.Rfc9651.Alphabets.{is_any_of, can_start_key, can_be_in_key}
 use Rattle.sf_rfc.specs.Rfc9651.Alphabets.{can_start_token, can_be_in_token}
 use Rattle.sf_rfc.specs.Rfc9651.Alphabets as rfc
-use Rattle.sf_rfc.specs.Rfc9651.Parsing.{key_loop, parse_key}
-use Rattle.sf_rfc.specs.Rfc9651.ParsingBare.{token_loop, parse_token}
+use Rattle.sf_rfc.specs.Rfc9651.Parsing.{parse_key}
+use Rattle.sf_rfc.specs.Rfc9651.ParsingBare.{parse_token}
 use Rattle.sf_rfc.specs.ParsingLaws.{Agrees}
 
 -- the two loops are one

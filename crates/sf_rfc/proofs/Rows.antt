@@ -1,4 +1,4 @@
--- Examples of RFC 9651 (section 3), computed by its algorithms (section 4). What stands on the
+-- Examples of RFC 9651 (section 3), computed by its algorithms (section 4). What is on the
 -- right of each equation was written by hand.
 use Rattle.std.proofs.Common.{◌≡◌, ℕ, pos, negsuc, true, false, List as Seq, [], ◌∷◌, ◌++◌, Option}
 use Rattle.std.proofs.Common.{Some, None, refl}
@@ -13,9 +13,9 @@ use Rattle.sf_value.specs.declared.value.Member.TheVariants as member
 use Rattle.sf_value.specs.declared.value.Field.{Field}
 use Rattle.sf_value.specs.declared.value.Field.TheVariants as field
 use Rattle.sf_value.specs.declared.value.Kind.TheVariants as kind
-use Rattle.sf_rfc.specs.Rfc9651.ParsingBare.{parse_bare, hex_value}
+use Rattle.sf_rfc.specs.Rfc9651.ParsingBare.{hex_value}
 use Rattle.sf_rfc.specs.Rfc9651.Parsing.{Map, parse_key, parse_field, combine}
-use Rattle.sf_rfc.specs.Rfc9651.Base64.{value_of, character_of, base64_decode, base64_encode}
+use Rattle.sf_rfc.specs.Rfc9651.Base64.{value_of, character_of}
 use Rattle.sf_rfc.specs.Rfc9651.SerialisingBare.{serialise_bare, hex_character}
 use Rattle.sf_rfc.specs.Rfc9651.Serialising.{serialise}
 
@@ -122,7 +122,7 @@ older : map (parse_field Rfc8941 kind.Item)
     ≡ None ∷ None ∷ Some (an_item (int 1) []) ∷ []
 older = refl
 
--- 3.3; SP before and behind, no HTAB
+-- 3.3; SP before and after, no HTAB
 items : map item_read
     (codes "5" ∷ codes "5; foo=bar" ∷ codes "  5  " ∷ (9 ∷ codes "5") ∷ codes "5 ;a" ∷ [])
     ≡ Some (an_item (int 5) [])
@@ -166,7 +166,7 @@ parameters = refl
 dictionaries : map dict_read
     ((codes "en=" ++ (quoted (codes "Applepie") ++ codes ", da=:w4ZibGV0w6ZydGU=:"))
     ∷ codes "a=?0, b, c; foo=bar" ∷ codes "rating=1.5, feelings=(joy sadness)"
-    ∷ codes "a=1, b=2;x, a" ∷ codes "a=1," ∷ codes "A=1" ∷ codes "a= 1" ∷ [])
+    ∷ codes "a=1, b=2;x, a" ∷ codes "a=1," ∷ codes "A=1" ∷ codes "1a=1" ∷ codes "a= 1" ∷ [])
     ≡ Some (a_dict ((codes "en", one (Text (codes "Applepie")))
     ∷ (codes "da", one (Blob (195 ∷ 134 ∷ (codes "blet" ++ 195 ∷ 166 ∷ codes "rte")))) ∷ []))
     ∷ Some (a_dict ((codes "a", one (Boolean false)) ∷ (codes "b", one (Boolean true))
@@ -180,7 +180,7 @@ dictionaries : map dict_read
     ) ∷ []))
     ∷ Some (a_dict ((codes "a", one (Boolean true))
     ∷ (codes "b", member.Item (with (int 2) ((codes "x", Boolean true) ∷ []))) ∷ []))
-    ∷ None ∷ None ∷ None ∷ []
+    ∷ None ∷ None ∷ None ∷ None ∷ []
 unfolding value_of
 dictionaries = refl
 

@@ -40,7 +40,7 @@ fourth_six : (c : ℕ)
     ≡ c % 64
 fourth_six c = omega arith
 
--- a whole group is four characters, and the rest goes on behind it
+-- a whole group is four characters, and the rest goes on after it
 abbrev rest_of : List ℕ → List ℕ
 rest_of s = bits_of_bytes s ++ replicate (missing 6 (length (bits_of_bytes s))) 0
 

@@ -35,7 +35,7 @@ SerialisedKeepsAbnf =
     (d : Dialect) (kind : Kind) (v : Field) → Valid d kind v
     → (t : Seq ℕ) × (serialise v ≡ Some t) × field_rule d v t
 
--- the white space that parsing discards behind a field (4.2; 4.2.1 and 4.2.2 discard HTAB too)
+-- the white space that parsing discards after a field (4.2; 4.2.1 and 4.2.2 discard HTAB too)
 abbrev pub white_space_behind : Field → Rule
 white_space_behind (field.Item i) = many SP
 white_space_behind v = OWS
@@ -56,7 +56,7 @@ kind_rule d kind.List = sf_list d
 kind_rule d kind.Dict = sf_dictionary d
 kind_rule d kind.Item = sf_item d
 
--- the first character, and the last, is behind SP (%x20) and so behind HTAB
+-- the first character, and the last, is above SP (%x20) and so above HTAB
 abbrev pub Begins : Seq ℕ → Type 0
 Begins t = (c : ℕ) × (u : Seq ℕ) × (t ≡ c ∷ u) × (32 < c)
 

@@ -1,31 +1,41 @@
 -- What it means that an algorithm of RFC 9651 and a relation of the grammar agree.
-use Rattle.std.specs.Prelude.{◌≡◌, ℕ, ℤ, Bool, false, ◌==◌, ◌||◌, List, ◌++◌, Option, Some, ◌⊎◌}
+use Rattle.std.specs.Prelude.{◌≡◌, ℕ, ℤ, Bool, true, false, ◌==◌, ◌||◌, List, [], ◌∷◌, ◌++◌, Some}
+use Rattle.std.specs.Prelude.{None, Result, Ok, Err, ◌⊎◌, ◌↔◌, ⊤}
+use Rattle.sf_value.specs.declared.dialect.Dialect.{Dialect}
 use Rattle.sf_value.specs.declared.value.Bare.{Bare}
 use Rattle.sf_value.specs.declared.value.Bare.TheVariants.{Integer, Decimal, Date}
-use Rattle.sf_value.specs.Ascii.{point, semicolon, equals}
-use Rattle.sf_value.specs.Grammar.Classes.{is_digit}
-use Rattle.sf_value.specs.Grammar.Numbers.{SpellsInteger, SpellsDecimal, SpellsDate}
-use Rattle.sf_value.specs.Grammar.Classes.{is_key_start, is_in_key, is_token_start, is_in_token}
-use Rattle.sf_value.specs.Grammar.Booleans.{SpellsBoolean}
-use Rattle.sf_value.specs.Grammar.Strings.{SpellsString}
-use Rattle.sf_value.specs.Grammar.Items.{SpellsItem}
-use Rattle.sf_value.specs.Grammar.InnerLists.{SpellsInner, SpellsMember}
 use Rattle.sf_value.specs.declared.value.Item.{Item}
 use Rattle.sf_value.specs.declared.value.Inner.{Inner}
 use Rattle.sf_value.specs.declared.value.Member.{Member}
-use Rattle.sf_value.specs.Grammar.Pairs.{Pairs}
-use Rattle.sf_value.specs.Grammar.Parameters.{SpellsParams}
-use Rattle.sf_value.specs.Grammar.BareItems.{SpellsBare}
-use Rattle.sf_value.specs.declared.dialect.Dialect.{Dialect}
-use Rattle.sf_value.specs.Grammar.DisplayStrings.{SpellsDisplayString}
-use Rattle.sf_value.specs.Grammar.ByteSequences.{SpellsByteSequence}
-use Rattle.sf_rfc.specs.Rfc9651.ParsingBare.{parse_token, parse_boolean, parse_string}
-use Rattle.sf_rfc.specs.Rfc9651.ParsingBare.{parse_number, parse_date, parse_byte_sequence}
-use Rattle.sf_rfc.specs.Rfc9651.ParsingBare.{parse_display_string, parse_bare}
+use Rattle.sf_value.specs.declared.value.Field.{Field}
+use Rattle.sf_value.specs.declared.value.Kind.{Kind}
+use Rattle.sf_value.specs.Ascii.{point, semicolon, equals}
+use Rattle.sf_value.specs.Grammar.Words.{Every}
+use Rattle.sf_value.specs.Grammar.Classes.{is_digit, is_key_start, is_in_key, is_token_start}
+use Rattle.sf_value.specs.Grammar.Classes.{is_in_token, is_ows}
+use Rattle.sf_value.specs.Grammar.Pairs.{Pairs, settle}
+use Rattle.sf_value.specs.Grammar.Numbers.{SpellsInteger, SpellsDecimal, SpellsDate}
+use Rattle.sf_value.specs.Grammar.Strings.{SpellsString}
 use Rattle.sf_value.specs.Grammar.Tokens.{SpellsWord}
+use Rattle.sf_value.specs.Grammar.ByteSequences.{SpellsByteSequence}
+use Rattle.sf_value.specs.Grammar.Booleans.{SpellsBoolean}
+use Rattle.sf_value.specs.Grammar.DisplayStrings.{SpellsDisplayString}
+use Rattle.sf_value.specs.Grammar.BareItems.{SpellsBare}
+use Rattle.sf_value.specs.Grammar.Parameters.{SpellsParams}
+use Rattle.sf_value.specs.Grammar.Items.{SpellsItem}
+use Rattle.sf_value.specs.Grammar.InnerLists.{SpellsInner, SpellsMember}
+use Rattle.sf_value.specs.Grammar.Series.{SpellsSeries}
+use Rattle.sf_value.specs.Grammar.Fields.{SpellsEntry, SpellsField}
+use Rattle.sf_parse.specs.declared.refusal.Refusal.{Refusal}
+use Rattle.sf_parse.specs.declared.refusal.Refusal.TheVariants.{OutOfMemory, Syntax, TooLong}
+use Rattle.sf_parse.specs.declared.refusal.Refusal.TheVariants.{ReadFault}
+use Rattle.sf_parse.specs.Parsers.{Parses, Finishes}
 use Rattle.sf_rfc.specs.Rfc9651.Words.{Parse, first_is}
+use Rattle.sf_rfc.specs.Rfc9651.ParsingBare.{parse_token, parse_boolean, parse_string, parse_number}
+use Rattle.sf_rfc.specs.Rfc9651.ParsingBare.{parse_date, parse_byte_sequence, parse_display_string}
+use Rattle.sf_rfc.specs.Rfc9651.ParsingBare.{parse_bare}
 use Rattle.sf_rfc.specs.Rfc9651.Parsing.{parse_key, parse_params, parse_item, parse_inner}
-use Rattle.sf_rfc.specs.Rfc9651.Parsing.{parse_member}
+use Rattle.sf_rfc.specs.Rfc9651.Parsing.{parse_member, parse_list, parse_dictionary, parse_field}
 
 -- the algorithm f takes the texts of L, before any rest whose first character the test refuses
 pub record Agrees (V : Type 0) (L : List ℕ → V → Type 0) (f : Parse V) (more : ℕ → Bool)
@@ -95,3 +105,52 @@ InnerListsAgree = (d : Dialect) → Agrees Inner (SpellsInner d) (parse_inner d)
 -- a member of a List or a Dictionary
 abbrev pub MembersAgree : Type 0
 MembersAgree = (d : Dialect) → Agrees Member (SpellsMember d) (parse_member d) is_in_params
+
+-- the members of a List or a Dictionary to the end of the text: nothing for no member; otherwise a
+-- series, then OWS
+abbrev pub SpellsToEnd : {X : Type 0} → (List ℕ → X → Type 0) → List ℕ → List X → Type 0
+SpellsToEnd P t [] = t ≡ []
+SpellsToEnd P t (x ∷ xs) =
+    (body tail : List ℕ) × (t ≡ body ++ tail) × SpellsSeries P body (x ∷ xs) × Every is_ows tail
+
+-- Lists and Dictionaries go to the end: no rest may follow
+abbrev pub ListsAgree : Type 0
+ListsAgree =
+    (d : Dialect)
+    → Agrees (List Member) (SpellsToEnd (SpellsMember d)) (parse_list d) (λ c. true)
+
+-- the entries to the end of the text, settled
+abbrev pub SpellsEntries : Dialect → List ℕ → Pairs Member → Type 0
+SpellsEntries d t ps =
+    (raw : Pairs Member) × (ps ≡ settle raw) × SpellsToEnd (SpellsEntry d) t raw
+
+abbrev pub DictionariesAgree : Type 0
+DictionariesAgree =
+    (d : Dialect) → Agrees (Pairs Member) (SpellsEntries d) (parse_dictionary d) (λ c. true)
+
+-- a whole field: the steps give a value exactly if the grammar spells it
+abbrev pub FieldsAgree : Type 0
+FieldsAgree =
+    (d : Dialect) (kind : Kind) (t : List ℕ) (v : Field)
+    → (parse_field d kind t ≡ Some v) ↔ SpellsField d kind t v
+
+-- an answer is that of the RFC's steps: a value exactly if they give this one, a refusal of the text
+-- exactly if they fail, or a failed allocation
+abbrev pub AnswersAsRfc : Dialect → Kind → List ℕ → Result Field Refusal → Type 0
+AnswersAsRfc d kind t (Ok v) = parse_field d kind t ≡ Some v
+AnswersAsRfc d kind t (Err OutOfMemory) = ⊤
+AnswersAsRfc d kind t (Err (Syntax place found expected may_end)) = parse_field d kind t ≡ None
+AnswersAsRfc d kind t (Err (TooLong limit)) = ⊥
+AnswersAsRfc d kind t (Err (ReadFault place)) = ⊥
+
+-- what meets the clause of the parser of whole texts answers as the RFC's steps do
+abbrev pub AnswersAgree : Type 0
+AnswersAgree =
+    (d : Dialect) (kind : Kind) (t : List ℕ) (answer : Result Field Refusal)
+    → Parses d kind t answer → AnswersAsRfc d kind t answer
+
+-- and so does what meets the clause of the end of a parser that is fed
+abbrev pub EndsAgree : Type 0
+EndsAgree =
+    (d : Dialect) (kind : Kind) (t : List ℕ) (answer : Result Field Refusal)
+    → Finishes d kind t answer → AnswersAsRfc d kind t answer

@@ -1,8 +1,17 @@
-//! Laws of parsing (RFC 9651 section 4.2), each as the contract of a function that does nothing.
+//! Laws of parsing (RFC 9651 section 4.2), each as the contract of a function that does nothing:
+//! [`field_parses`] is that of whole fields. And [`parse_text_in`], the parser with the RFC's steps
+//! as its contract.
 ghost use Rattle.sf_rfc.specs.ParsingLaws.{KeysAgree, TokensAgree, BooleansAgree, StringsAgree};
 ghost use Rattle.sf_rfc.specs.ParsingLaws.{NumbersAgree, DatesAgree, ByteSequencesAgree};
 ghost use Rattle.sf_rfc.specs.ParsingLaws.{DisplayStringsAgree, BareItemsAgree, ParametersAgree};
 ghost use Rattle.sf_rfc.specs.ParsingLaws.{ItemsAgree, InnerListsAgree, MembersAgree};
+ghost use Rattle.sf_rfc.specs.ParsingLaws.{ListsAgree, DictionariesAgree, FieldsAgree};
+ghost use Rattle.sf_rfc.specs.ParsingLaws.{AnswersAgree, EndsAgree, AnswersAsRfc};
+
+use sf_parse::Refusal;
+use sf_value::{Dialect, Field, Kind};
+use std::alloc::Global;
+use std::hash::RandomState;
 
 /// A key is taken by the RFC's steps (section 4.2.3.3) exactly if the grammar spells it, with the
 /// same value and the same rest.
@@ -75,3 +84,55 @@ pub fn inner_list_parses()
 pub fn member_parses()
     ensures { MembersAgree }
 {}
+
+/// A List is taken by the RFC's steps (section 4.2.1), which go to the end of the text, exactly if
+/// the grammar spells its members and OWS after them.
+pub fn list_parses()
+    ensures { ListsAgree }
+{}
+
+/// A Dictionary is taken by the RFC's steps (section 4.2.2), which go to the end of the text,
+/// exactly if the grammar spells its members and OWS after them: a member that is overwritten in
+/// place is the last of its key, at the key's first place.
+pub fn dictionary_parses()
+    ensures { DictionariesAgree }
+{}
+
+/// For either dialect, each kind of field, each text and each value: the RFC's steps (section 4.2)
+/// give the value for the text exactly if the grammar (`SpellsField`) spells it so. Hence they fail
+/// exactly if the text spells no value.
+pub fn field_parses()
+    ensures { FieldsAgree }
+{}
+
+/// Each answer that meets the clause `parses` of [`sf_parse::parse_text_in`], or of
+/// [`sf_parse::parse_text`] in the dialect of RFC 9651, is that of the RFC's steps.
+pub fn answers_agree()
+    ensures { AnswersAgree }
+{}
+
+/// Each answer that meets the clause `ended` of [`sf_parse::Parser::finish`] is that of the RFC's
+/// steps for the text that the parser took, in however many pieces it was fed.
+pub fn ends_agree()
+    ensures { EndsAgree }
+{}
+
+/// What [`sf_parse::parse_text_in`] answers, with the RFC's steps (section 4.2) as the contract: Ok
+/// has the value that they give, Syntax says that they give none, and the only other answer is
+/// OutOfMemory.
+///
+/// ```
+/// parse_text_in(alloc, &seed, Dialect::Rfc9651, Kind::Item, b"@1")? // a Date
+/// ```
+#[tactic(auto, using(crate::proofs::ParsingAnswers::answers_agree))]
+pub fn parse_text_in(
+    alloc: Global,
+    seed: &RandomState,
+    dialect: Dialect,
+    kind: Kind,
+    text: &[u8],
+) -> Result<Field, Refusal>
+    ensures { AnswersAsRfc dialect kind text.now result }
+{
+    sf_parse::parse_text_in(alloc, seed, dialect, kind, text)
+}

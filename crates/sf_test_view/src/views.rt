@@ -221,3 +221,105 @@ fn members_by_key(rt: HostRuntime) -> Result<(), Fail> {
     assert_eq!(&rt; integer(b"u=1, i;x=3, w=(4 5), z=6", b"x"), None);
     Ok(())
 }
+
+/// The Integers among the parts of a view, in order, as the digits of one number.
+fn digits(view: View) -> i64 {
+    let mut all = 0i64;
+    let mut rest = view;
+    for _ in 0..16 {
+        let Some((first, others)) = rest.split_first() else {
+            return all;
+        };
+        if let Some(BareView::Integer(number)) = first.bare() {
+            all = all.wrapping_mul(10).wrapping_add(number);
+        }
+        rest = others;
+    }
+    all
+}
+
+#[test]
+fn parts_in_order(rt: HostRuntime) -> Result<(), Fail> {
+    let mut buffer = [Node::NONE; 16];
+    let text = b"a=1;p=2;q=3, b=(4;r=6 5 7);s=8, c=9";
+    let Some(view) = View::scan(Dialect::Rfc9651, Kind::Dict, text, &mut buffer).ok() else {
+        assert!(&rt; false);
+        return Ok(());
+    };
+    assert_eq!(&rt; digits(view), 19);
+    let (Some(item), Some(inner)) = (view.get(b"a"), view.get(b"b")) else {
+        assert!(&rt; false);
+        return Ok(());
+    };
+    assert_eq!(&rt; digits(item.params()), 23);
+    assert!(&rt; item.items().is_none());
+    assert_eq!(&rt; digits(inner.params()), 8);
+    assert!(&rt; inner.bare().is_none());
+    assert_eq!(&rt; inner.items().map(digits), Some(457));
+    assert_eq!(&rt; inner.key(), b"b".as_slice());
+    assert_eq!(&rt;
+        item.params().get(b"q").map(|param| param.key().len()),
+        Some(1)
+    );
+    Ok(())
+}
+
+/// The bytes of an Item that is a String, a Byte Sequence or a Display String, in a buffer of so
+/// many bytes; the empty ones of a text without a view, or of another type.
+fn decodes(text: &[u8], room: usize, bytes: &[u8]) -> bool {
+    let mut buffer = [Node::NONE; 8];
+    let Some(view) = View::scan(Dialect::Rfc9651, Kind::Item, text, &mut buffer).ok() else {
+        return false;
+    };
+    let slice = match view.bare() {
+        Some(BareView::Text(slice)) => slice,
+        Some(BareView::Blob(slice)) => slice,
+        Some(BareView::Shown(slice)) => slice,
+        _ => return false,
+    };
+    let mut decoded = [0u8; 32];
+    if room > decoded.len() {
+        return false;
+    }
+    match slice.decode(&mut decoded[..room]) {
+        Some(found) => return found == bytes,
+        None => return false,
+    }
+}
+
+// The texts of RFC 9651 and of RFC 4648 section 10, with the bytes that they stand for.
+static CODED: [(&[u8], &[u8]); 16] = [
+    (b"\"hello world\"", b"hello world"),
+    (b"\"\"", b""),
+    (b"\"\\\"\\\\\"", b"\"\\"),
+    (b"\"a\\\\b\\\"c\"", b"a\\b\"c"),
+    (
+        b":cHJldGVuZCB0aGlzIGlzIGJpbmFyeSBjb250ZW50Lg==:",
+        b"pretend this is binary content.",
+    ),
+    (b"::", b""),
+    (b":Zg==:", b"f"),
+    (b":Zm8=:", b"fo"),
+    (b":Zm9v:", b"foo"),
+    (b":Zm9vYg==:", b"foob"),
+    (b":Zm9vYmE=:", b"fooba"),
+    (b":Zm9vYmFy:", b"foobar"),
+    (b":Zm8:", b"fo"),
+    (b"%\"\"", b""),
+    (
+        b"%\"for display to %c3%bcsers.\"",
+        b"for display to \xc3\xbcsers.",
+    ),
+    (b"%\"%25%22\"", b"%\""),
+];
+
+#[test]
+fn coded_bytes(rt: HostRuntime) -> Result<(), Fail> {
+    for (text, bytes) in &CODED {
+        assert!(&rt; decodes(text, bytes.len(), bytes));
+    }
+    assert!(&rt; !decodes(b":Zm9v:", 2, b"foo"));
+    assert!(&rt; decodes(b"\"foo\"", 0, b"foo"));
+    assert!(&rt; !decodes(b"\"f\\\\o\"", 2, b"f\\o"));
+    Ok(())
+}

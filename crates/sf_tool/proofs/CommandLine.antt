@@ -1,10 +1,10 @@
 -- What clap finds in the words of the command line.
-use Rattle.std.proofs.Common.{◌≡◌, ℕ, ◌+◌, ◌<◌, ◌≤◌, true, false, List, [], ◌∷◌, ◌++◌, length}
+use Rattle.std.proofs.Common.{◌≡◌, ◌↔◌, inl, inr, ℕ, ◌+◌, ◌<◌, ◌≤◌, true, false, List, [], ◌∷◌, ◌++◌, length}
 use Rattle.std.proofs.Common.{Option, Some, None, refl, ap, ap₂, sym, ◌∙◌, map, codes, arith, take}
 use Rattle.std.proofs.Common.{subst, bytes_eq, get_or, suc}
-use Rattle.std.specs.Prelude.{option_map, Result, Ok, Err, MatchResult, IsErrAnd}
+use Rattle.std.specs.Prelude.{◌≢◌, option_map, Result, Ok, Err, IfOk, IfErr, MatchResult, IsErrAnd}
 use Rattle.std.proofs.Math.Seq.{take-suc}
-use Rattle.std.proofs.lemmas.List.{map-append}
+use Rattle.std.proofs.lemmas.List.{length-map, map-append}
 use Rattle.std.proofs.lemmas.List.Folds.{list_all_more, list_all_at}
 use Rattle.http_header.specs.Token.{lowercase}
 use Rattle.std.specs.Borrow.{Bor}
@@ -12,11 +12,18 @@ use Rattle.std.specs.List.{list_all}
 use Rattle.std.proofs.lemmas.Bool.{false≢true}
 use Rattle.std.proofs.lemmas.Slice.Eq.{bytes_eq-Decides}
 use Rattle.clap.specs.Built.{AddsSubcommand}
-use Rattle.clap.specs.Faults.{is_simple_and_free}
+use Rattle.clap.specs.Faults.{fault_of, is_simple_and_free}
+use Rattle.clap.specs.Kinds.{FailsBy, HasKind, IsAmong, Kinds}
 use Rattle.clap.specs.Matches.{first_value}
-use Rattle.clap.specs.Simple.{App, Shape, app_of, shape_of, is_simple, with_subcommand}
+use Rattle.clap.specs.Simple.{App, Shape, HasMatchesOf, app_of, shape_of, is_simple}
+use Rattle.clap.specs.Simple.{subcommand_of, subcommand_rows_of, with_subcommand}
+use Rattle.clap.specs.Values.{kind_of}
 use Rattle.clap.specs.Walk.{Row, Text, all_of, first_of, rows_of}
 use Rattle.clap.specs.declared.builder.command.Command.{Command}
+use Rattle.clap.specs.declared.error.Error.{Error}
+use Rattle.clap.specs.declared.error.kind.ErrorKind.{ErrorKind}
+use Rattle.clap.specs.declared.error.kind.ErrorKind.TheVariants as error_kind
+use Rattle.clap.specs.declared.parser.matches.ArgMatches.{ArgMatches}
 use Rattle.clap.specs.declared.parser.matches.Found.{Found}
 use Rattle.clap.proofs.OnLiterals.{clap_on_literals}
 use Rattle.clap.proofs.SimpleLemmas.{plain_fields}
@@ -31,10 +38,12 @@ use Rattle.sf_tool.specs.declared.request.Request.TheVariants.{Targeted, Priorit
 use Rattle.sf_tool.specs.declared.request.RequestFault.{RequestFault}
 use Rattle.sf_tool.specs.declared.request.RequestFault.TheVariants.{Usage, OutOfMemory}
 use Rattle.sf_tool.specs.Fields.{is_header_name}
+use Rattle.sf_tool.specs.Request.{HasFewNames}
 use Rattle.sf_tool.specs.CommandLine.{command_line, kind_word, dialect_word, NamesKind}
 use Rattle.sf_tool.specs.CommandLine.{NamesDialect}
-use Rattle.sf_tool.specs.CommandLine.{AreNames, AsksFor}
-use Rattle.sf_tool.specs.Commands.{AsksForNone, IsCommandFault, IsTargetedOf, IsNamesFault}
+use Rattle.sf_tool.specs.CommandLine.{AreNames, AsksFor, IsRequestOf, IsUsageOf}
+use Rattle.sf_tool.specs.Commands.{AsksAsFound, AsksForNone, IsCommandFault, IsFoundFault}
+use Rattle.sf_tool.specs.Commands.{IsTargetedOf, IsNamesFault}
 
 -- the command line is one whose parse clap tells
 
@@ -172,10 +181,66 @@ pub not-names : (words : List Text) (i : ℕ) (d : Text) → i < length words
 not-names words i d lt bad names are =
     false≢true (sym (list_all_at is_header_name words i d lt bad) ∙ are.2)
 
-pub names-fault : (words : List Text) (i : ℕ) (d : Text) → i < length words → length words ≤ 64
-    → (fault : RequestFault) → (fault ≡ Usage → is_header_name (get_or words i d) ≡ false)
-    → (r : Result Request RequestFault) → IsErrAnd r (λ e. e ≡ fault)
-    → MatchResult r (IsTargetedOf words) (IsNamesFault words)
-names-fault words i d lt few fault bad (Ok request) h = absurd h
-names-fault words i d lt few fault bad (Err OutOfMemory) h = (omega arith, few)
-names-fault words i d lt few fault bad (Err Usage) h = not-names words i d lt (bad (sym h))
+-- a request, from what clap parsed
+
+is-among : (k : ErrorKind) (kinds : Kinds) → IsAmong k kinds → kinds ≡ [] → ⊥
+is-among k [] h e = h
+is-among k (x ∷ xs) h e = cc
+
+some-kind : (kinds : Kinds) (e : Error) → HasKind kinds e → kind_of e ≢ error_kind.OutOfMemory
+    → kinds ≡ [] → ⊥
+some-kind kinds e (inl memory) other none = other memory
+some-kind kinds e (inr among) other none = is-among (kind_of e) kinds among none
+
+asks-found : (words : List Text) (rows : Option (Text × List Row)) (request : Request)
+    → fault_of command_line words ≡ [] → rows ≡ subcommand_of command_line words
+    → AsksAsFound rows request → IsRequestOf words request
+asks-found words None request none e h = absurd h
+asks-found words (Some found) request none e h = (none, (found, sym e, h))
+
+found-fault : (words : List Text) (rows : Option (Text × List Row)) (fault : RequestFault)
+    → rows ≡ subcommand_of command_line words → IsFoundFault rows fault → IsUsageOf words fault
+found-fault words rows OutOfMemory e h = tt
+found-fault words None Usage e h =
+    λ request asks. let both : None ≡ Some asks.1.0 = e ∙ asks.1.1 in cc
+found-fault words (Some found) Usage e h =
+    λ request asks.
+    let same : found ≡ asks.1.0 = some-same _ _ (e ∙ asks.1.1) in
+    h request (subst (λ f. AsksFor f.0 f.1 request) (sym same) asks.1.2)
+
+pub request-read : (words : List Text) (parsed : Result ArgMatches Error)
+    (r : Result Request RequestFault) → IfOk parsed (HasMatchesOf command_line words)
+    → FailsBy (fault_of command_line words) parsed
+    → IfOk parsed (λ m. MatchResult r (AsksAsFound (subcommand_rows_of m))
+    (IsFoundFault (subcommand_rows_of m)))
+    → IfErr parsed (λ e. IsErrAnd r
+    (λ fault. (fault ≡ Usage) ↔ (kind_of e ≢ error_kind.OutOfMemory)))
+    → MatchResult r (IsRequestOf words) (IsUsageOf words)
+request-read words (Ok m) (Ok request) matches kinds found fault =
+    asks-found words (subcommand_rows_of m) request kinds (matches command_line-is_simple).1 found
+request-read words (Ok m) (Err why) matches kinds found fault =
+    found-fault words (subcommand_rows_of m) why (matches command_line-is_simple).1 found
+request-read words (Err e) (Ok request) matches kinds found fault = absurd fault
+request-read words (Err e) (Err OutOfMemory) matches kinds found fault = tt
+request-read words (Err e) (Err Usage) matches kinds found fault =
+    λ request asks. some-kind (fault_of command_line words) e kinds (fault.0 refl) asks.0
+
+-- a request has few names
+asks-few : (rows : List Row) (word : Text) (request : Request) → AsksFor word rows request
+    → HasFewNames request
+asks-few rows word (Targeted names) asks =
+    let are = asks.1.2 in
+    let size : length names.items ≡ length asks.1.0 =
+    ap length are.3 ∙ length-map asks.1.0 lowercase in
+    (omega (arith, size, are.0), omega (arith, size, are.1))
+asks-few rows word (Show d k) asks = tt
+asks-few rows word (Check d k) asks = tt
+asks-few rows word (Normalise d k) asks = tt
+asks-few rows word CacheStatus asks = tt
+asks-few rows word Priority asks = tt
+
+pub request-few : (words : List Text) (r : Result Request RequestFault)
+    → MatchResult r (IsRequestOf words) (IsUsageOf words) → IfOk r HasFewNames
+request-few words (Ok request) asks =
+    asks-few asks.1.0.1 asks.1.0.0 request asks.1.2
+request-few words (Err fault) asks = tt

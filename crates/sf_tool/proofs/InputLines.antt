@@ -17,7 +17,7 @@ use Rattle.sf_field.proofs.Feeding.{behind, joined}
 use Rattle.sf_tool.specs.Lines.{is_line_feed, trim, lines_of}
 use Rattle.sf_field.specs.Asking.{Asks}
 use Rattle.sf_field.specs.declared.asking.AskFault.{AskFault}
-use Rattle.sf_tool.specs.Run.{IsOfText, IsAskOfText}
+use Rattle.sf_tool.specs.Run.{input_limit, IsOfText, IsAskOfText}
 use Rattle.sf_tool.proofs.Cuts.{lines-first, lines-last, length-trim}
 use Rattle.sf_tool.proofs.Tells.{is_of_text, is_ask_of_text}
 
@@ -90,14 +90,14 @@ length-joined input =
 
 -- an input within the limit is refused for its text or for want of memory, never as too long
 pub of_text : (d : Dialect) (kind : Kind) (input : List ℕ) (r : Result Field Refusal)
-    → length input ≤ 1048576 → ParsesLines d kind (lines_of input) r → IfErr r IsOfText
+    → length input ≤ input_limit → ParsesLines d kind (lines_of input) r → IfErr r IsOfText
 of_text d kind input (Ok v) small p = tt
 of_text d kind input (Err e) small p =
     is_of_text d kind input (lines_of input) e (length-joined input) small p
 
 -- and so is a consumer's answer for it
 pub ask_of_text : {A : Type 0} (kind : Kind) (meaning : Field → Result A ℕ) (input : List ℕ)
-    (r : Result A AskFault) → length input ≤ 1048576 → Asks kind meaning (lines_of input) r
+    (r : Result A AskFault) → length input ≤ input_limit → Asks kind meaning (lines_of input) r
     → IfErr r IsAskOfText
 ask_of_text kind meaning input (Ok answer) small p = tt
 ask_of_text kind meaning input (Err e) small p =

@@ -3,21 +3,22 @@ use Rattle.std.proofs.Common.{◌≡◌, ℕ, ◌+◌, ◌<◌, ◌≤◌, ◌�
 use Rattle.std.proofs.Common.{length, take, drop, get_or, refl, ap, sym, ◌∙◌, subst, inl, inr}
 use Rattle.std.proofs.Common.{map, arith, add-one, length-drop}
 use Rattle.std.specs.Prelude.{fold}
-use Rattle.std.specs.List.{filter}
+use Rattle.std.specs.List.{filter, list_any}
 use Rattle.std.proofs.Math.Seq.{take-suc, take-length}
 use borrow.Author.Count.{below_more}
-use Rattle.std.proofs.lemmas.Bool.{false≢true}
-use Rattle.std.proofs.lemmas.List.{map-append, drop_more}
+use Rattle.std.proofs.lemmas.Bool.{cases_Bool, false≢true}
+use Rattle.std.proofs.lemmas.List.{get_or_read_under, map-append, drop_more}
+use Rattle.std.proofs.lemmas.List.Folds.{Any-from_list_any}
 use Rattle.std.proofs.lemmas.List.Elements.{filter-append}
 use Rattle.std.proofs.lemmas.List.Sums.{fold-append}
 use Rattle.http_header.specs.FieldValue.{FieldValue}
-use Rattle.http_header.specs.HeaderMap.{append, append_all, RefusesAppend}
+use Rattle.http_header.specs.HeaderMap.{ContainsKey, append, append_all, RefusesAppend}
 use Rattle.sf_field.specs.Headers.{Headers}
 use Rattle.sf_tool.specs.Lines.{lines_of}
 use Rattle.sf_tool.specs.Fields.{Targets, is_refused, is_of_listed, field_of, name_of}
 use Rattle.sf_tool.specs.Fields.{listed_fields}
 use Rattle.sf_tool.specs.Fields.{headers_of, IsOver, IsRefusedAt, NoneIsRefused, AreFields}
-use Rattle.sf_tool.specs.Fields.{IsFirstRefused}
+use Rattle.sf_tool.specs.Fields.{IsFirstRefused, IsTaken, MayAllocateAt}
 use Rattle.sf_tool.specs.OneLine.{AddsField, FindsNoRoom}
 
 -- the fields of one line more
@@ -111,6 +112,14 @@ reads_on-refused targets input more line n headers r many why =
     ] in
     (here.0, subst Stops (sym here.1) stops, r.taken)
 
+-- an allocation fails for a line
+pub reads_on-memory : (targets : Targets) (input : List ℕ) (more : List (List ℕ)) (line : List ℕ)
+    (n : ℕ) (headers : Headers) → ReadsOn targets (lines_of input) (line ∷ more) n headers
+    → IsTaken targets line → MayAllocateAt targets input n
+reads_on-memory targets input more line n headers r taken =
+    let here = at (lines_of input) more line n r.rest r.within in
+    (here.0, subst (IsTaken targets) (sym here.1) taken, r.taken)
+
 -- no line is left
 pub reads_on-done : (targets : Targets) (input : List ℕ) (left : List (List ℕ)) (n : ℕ)
     (headers : Headers) → ReadsOn targets (lines_of input) left n headers → left ≡ []
@@ -126,3 +135,55 @@ reads_on-done targets input left n headers r e =
           ∙ ap (λ k. headers_of targets (take k all)) whole
           ∙ ap (headers_of targets) (take-length all),
     )
+
+-- a listed field may need an allocation
+
+none-listed : (targets : Targets) (lines : List (List ℕ))
+    → list_any (is_of_listed targets) lines ≡ false → listed_fields targets lines ≡ []
+none-listed targets [] none = refl
+none-listed targets (line ∷ lines) none =
+    elim (cases_Bool (is_of_listed targets line)) [
+      | inl t ↦ (let bad : true ≡ false = rw t at none in absurd cc)
+      | inr f ↦
+          let later : list_any (is_of_listed targets) lines ≡ false = rw f at none in
+          rw f (none-listed targets lines later)
+    ]
+
+listed-line : (targets : Targets) (input : List ℕ)
+    → NoneIsRefused targets (lines_of input) (length (lines_of input))
+    → list_any (is_of_listed targets) (lines_of input) ≡ true
+    → (n : ℕ) × MayAllocateAt targets input n
+listed-line targets input good some =
+    let lines = lines_of input in
+    let found = Any-from_list_any (is_of_listed targets) lines some in
+    let n = found.0 in
+    let lt : n < length lines = found.2 in
+    let same : found.1 ≡ get_or lines n [] =
+    get_or_read_under lines n (length lines) found.1 [] (sym found.3) lt refl in
+    let listed : is_of_listed targets (get_or lines n []) ≡ true =
+    subst (λ l. is_of_listed targets l ≡ true) same found.4 in
+    let whole : is_refused targets (get_or lines n []) ≡ false =
+    elim (cases_Bool (is_refused targets (get_or lines n []))) [
+      | inl t ↦ absurd (good n lt (inl t))
+      | inr f ↦ f
+    ] in
+    (n, (lt, (whole, listed), λ i before. good i (omega (arith, lt, before))))
+
+absent : (headers : Headers) (name : List ℕ) → headers ≡ [] → ContainsKey headers name → ⊥
+absent headers name e present =
+    let there = subst (λ m. ContainsKey m name) e present in
+    let h = there.1 in
+    omega arith
+
+-- a name that is present has a line
+pub fields_allocate : (targets : Targets) (input : List ℕ) (headers : Headers) (name : List ℕ)
+    → AreFields targets input headers → ContainsKey headers name
+    → (n : ℕ) × MayAllocateAt targets input n
+fields_allocate targets input headers name read present =
+    elim (cases_Bool (list_any (is_of_listed targets) (lines_of input))) [
+      | inl t ↦ listed-line targets input read.0 t
+      | inr f ↦
+          let none : headers ≡ [] =
+          read.1 ∙ ap (append_all []) (none-listed targets (lines_of input) f) in
+          absurd (absent headers name none present)
+    ]

@@ -1,23 +1,24 @@
 -- What lines are, from what http_header tells of names and values.
 use Rattle.std.proofs.Common.{◌≡◌, ℕ, ◌<◌, ◌≤◌, Bool, true, false, List, [], ◌∷◌, length, refl, inl}
-use Rattle.std.proofs.Common.{inr}
-use Rattle.std.proofs.Common.{IsTrue, ◌∙◌, arith}
+use Rattle.std.proofs.Common.{inr, get_or, take, ◌+◌, ◌↔◌}
+use Rattle.std.proofs.Common.{IsTrue, ◌∙◌, arith, ap, bytes_eq, subst, sym}
 use Rattle.std.specs.Prelude.{◌==◌, ◌&&◌, ◌||◌, not, nat_le, codes}
 use Rattle.std.specs.Bool.{Decides}
 use Rattle.std.specs.List.{list_all, list_any, position_or_len}
 use Rattle.std.specs.Char.{is_ascii_alphanumeric}
-use Rattle.std.proofs.lemmas.Bool.{cases_Bool, leb-true, le-leb}
+use Rattle.std.proofs.lemmas.Bool.{cases_Bool, false≢true, leb-true, le-leb}
 use Rattle.std.proofs.lemmas.Bool.Decides.{nat_tests, Decides-like, Decides-by_and, Decides-and}
 use Rattle.std.proofs.lemmas.Bool.Decides.{Decides-ltb, not_from_Decides}
-use Rattle.std.proofs.lemmas.List.Folds.{list_any_none, list_any_at}
+use Rattle.std.proofs.lemmas.List.Folds.{list_any_none, list_any_at, list_any_more}
 use Rattle.std.proofs.lemmas.List.Sums.{fails_before_first, passes_at_first}
-use Rattle.http_header.specs.Token.{is_token_byte, is_value_byte}
+use Rattle.std.proofs.lemmas.Slice.Eq.{bytes_eq-Decides}
+use Rattle.http_header.specs.Token.{is_token_byte, is_value_byte, lowercase}
 use Rattle.http_header.specs.FieldName.{IsFieldName}
 use Rattle.http_header.specs.FieldValue.{IsFieldValue}
 use Rattle.sf_value.specs.Grammar.Classes.{is_tchar, is_one_of, is_alpha, is_digit}
 use Rattle.sf_tool.specs.Fields.{is_colon, is_header_name, is_control, is_field_value, has_name}
 use Rattle.sf_tool.specs.Fields.{word_of, name_of, value_of, Targets, is_listed, is_of_listed}
-use Rattle.sf_tool.specs.Fields.{is_refused}
+use Rattle.sf_tool.specs.Fields.{is_refused, IsTaken}
 
 -- the classes of bytes are those of http_header
 
@@ -134,19 +135,18 @@ refused-without_colon targets line h e =
     refused-unnamed targets line h (rw (no-colon line e) refl)
 
 pub refused-without_name : (targets : Targets) (line : List ℕ)
-    → position_or_len is_colon line < length line → ¬ (IsFieldName (word_of line))
+    → position_or_len is_colon line < length line → is_header_name (word_of line) ≡ false
     → is_refused targets line ≡ true
 refused-without_name targets line at bad =
-    let unnamed : has_name line ≡ false =
-    both-are _ _ _ _ (colon line at) (not-name (word_of line) bad) in
+    let unnamed : has_name line ≡ false = both-are _ _ _ _ (colon line at) bad in
     refused-unnamed targets line (omega arith) unnamed
 
 named : (line : List ℕ) → position_or_len is_colon line < length line
-    → ¬ (¬ (IsFieldName (word_of line))) → has_name line ≡ true
-named line at name = both-are _ _ _ _ (colon line at) (name-sure (word_of line) name)
+    → is_header_name (word_of line) ≡ true → has_name line ≡ true
+named line at name = both-are _ _ _ _ (colon line at) name
 
 pub dropped-unlisted : (targets : Targets) (line : List ℕ)
-    → position_or_len is_colon line < length line → ¬ (¬ (IsFieldName (word_of line)))
+    → position_or_len is_colon line < length line → is_header_name (word_of line) ≡ true
     → is_listed targets (name_of line) ≡ false
     → (is_refused targets line ≡ false) × (is_of_listed targets line ≡ false)
 dropped-unlisted targets line at name unlisted =
@@ -155,14 +155,14 @@ dropped-unlisted targets line at name unlisted =
     (refused-as targets line true false _ (omega arith) is other refl, other)
 
 listed : (targets : Targets) (line : List ℕ)
-    → position_or_len is_colon line < length line → ¬ (¬ (IsFieldName (word_of line)))
+    → position_or_len is_colon line < length line → is_header_name (word_of line) ≡ true
     → is_listed targets (name_of line) ≡ true → is_of_listed targets line ≡ true
 listed targets line at name here = both-are _ _ _ _ (named line at name) here
 
 pub taken-listed : (targets : Targets) (line : List ℕ)
-    → position_or_len is_colon line < length line → ¬ (¬ (IsFieldName (word_of line)))
+    → position_or_len is_colon line < length line → is_header_name (word_of line) ≡ true
     → is_listed targets (name_of line) ≡ true → ¬ (¬ (IsFieldValue (value_of line)))
-    → (is_refused targets line ≡ false) × (is_of_listed targets line ≡ true)
+    → IsTaken targets line
 taken-listed targets line at name here value =
     let is = named line at name in
     let of = listed targets line at name here in
@@ -170,10 +170,46 @@ taken-listed targets line at name here value =
     (refused-as targets line true true true (omega arith) is of sure, of)
 
 pub refused-value : (targets : Targets) (line : List ℕ)
-    → position_or_len is_colon line < length line → ¬ (¬ (IsFieldName (word_of line)))
+    → position_or_len is_colon line < length line → is_header_name (word_of line) ≡ true
     → is_listed targets (name_of line) ≡ true → ¬ (IsFieldValue (value_of line))
     → is_refused targets line ≡ true
 refused-value targets line at name here bad =
     let is = named line at name in
     let of = listed targets line at name here in
     refused-as targets line true true false (omega arith) is of (not-value (value_of line) bad)
+
+-- listed names
+
+same-name : (bytes target word : List ℕ) (test : Bool) → bytes ≡ target → lowercase target ≡ target
+    → (IsTrue test ↔ (lowercase bytes ≡ lowercase word)) → bytes_eq target (lowercase word) ≡ test
+same-name bytes target word true e lower h =
+    let same : target ≡ lowercase word = sym lower ∙ ap lowercase (sym e) ∙ h.0 refl in
+    (bytes_eq-Decides target (lowercase word)).1 same
+same-name bytes target word false e lower h =
+    elim (cases_Bool (bytes_eq target (lowercase word))) [
+      | inl t ↦
+          let same : target ≡ lowercase word =
+          (bytes_eq-Decides target (lowercase word)).0 t in
+          absurd (false≢true (h.1 (ap lowercase e ∙ lower ∙ same)))
+      | inr f ↦ f
+    ]
+
+-- the name at a place is the word, or is not
+pub listed-here : (targets : Targets) (i : ℕ) (target bytes word : List ℕ) → i < length targets
+    → target ≡ get_or targets i target → bytes ≡ target → lowercase target ≡ target
+    → (IsTrue true ↔ (lowercase bytes ≡ lowercase word))
+    → is_listed targets (lowercase word) ≡ true
+listed-here targets i target bytes word lt is e lower h =
+    let P : List ℕ → Type 0 = λ t. bytes_eq t (lowercase word) ≡ true in
+    list_any_at (λ t. bytes_eq t (lowercase word)) targets i target lt
+    (subst P is (same-name bytes target word true e lower h))
+
+pub not-listed-here : (targets : Targets) (i : ℕ) (target bytes word : List ℕ) → i < length targets
+    → target ≡ get_or targets i target → bytes ≡ target → lowercase target ≡ target
+    → (IsTrue false ↔ (lowercase bytes ≡ lowercase word))
+    → is_listed (take i targets) (lowercase word) ≡ false
+    → is_listed (take (i + 1) targets) (lowercase word) ≡ false
+not-listed-here targets i target bytes word lt is e lower h before =
+    let P : List ℕ → Type 0 = λ t. bytes_eq t (lowercase word) ≡ false in
+    let here = subst P is (same-name bytes target word false e lower h) in
+    list_any_more (λ t. bytes_eq t (lowercase word)) targets i target lt ∙ rw (before, here) refl

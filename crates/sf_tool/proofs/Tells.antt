@@ -11,14 +11,18 @@ use Rattle.sf_value.specs.Grammar.Lines.{join}
 use Rattle.sf_parse.specs.declared.refusal.Refusal.{Refusal}
 use Rattle.sf_parse.specs.declared.refusal.Refusal.TheVariants.{OutOfMemory, Syntax, TooLong}
 use Rattle.sf_parse.specs.declared.refusal.Refusal.TheVariants.{ReadFault}
+use Rattle.sf_parse.specs.AllocationFreeParsers.{NotForMemory}
 use Rattle.sf_parse.specs.Parsers.{IsSyntax}
 use Rattle.sf_write.specs.Writing.{Wrote}
-use Rattle.sf_field.specs.Asking.{Asks}
+use Rattle.sf_field.specs.Asking.{Asks, Means}
 use Rattle.sf_field.specs.Lines.{ParsesLines}
 use Rattle.sf_field.specs.declared.asking.AskFault.{AskFault}
 use Rattle.sf_field.specs.declared.asking.AskFault.TheVariants as ask
+use Rattle.sf_field.specs.declared.consumer.UseFault.TheVariants as use_fault
 use Rattle.std.specs.declared.vec.Vec.{Vec}
 use Rattle.std.specs.declared.alloc.Global.{Global}
+use Rattle.sf_tool.specs.declared.answering.View.{View}
+use Rattle.sf_tool.specs.declared.answering.View.TheVariants.{Tree, Verdict, Canonical}
 use Rattle.sf_tool.specs.declared.fields.InputFault.{InputFault}
 use Rattle.sf_tool.specs.declared.fields.InputFault.TheVariants as input_fault
 use Rattle.sf_tool.specs.declared.request.Request.{Request}
@@ -29,8 +33,10 @@ use Rattle.sf_tool.specs.Lines.{lines_of}
 use Rattle.sf_tool.specs.Texts.{refusal_line}
 use Rattle.sf_tool.specs.ChoiceLines.{refused_line}
 use Rattle.sf_tool.specs.Fields.{IsFaultOf}
-use Rattle.sf_tool.specs.Run.{joined, Refuses, Responds, Answers, Tells}
-use Rattle.sf_tool.specs.Run.{TellsText, TellsRefusal, TellsInputFault, IsOfText, IsAskOfText}
+use Rattle.sf_tool.specs.PathLines.{not_a_cache_line}
+use Rattle.sf_tool.specs.Run.{joined, input_limit, view_request, view_text, IsNumberLine}
+use Rattle.sf_tool.specs.Run.{MayAllocate, Refuses, Responds, Answers, Tells, TellsText}
+use Rattle.sf_tool.specs.Run.{TellsRefusal, TellsAskFault, TellsInputFault, IsOfText, IsAskOfText}
 
 -- the text of an input was to be written
 pub tells_text : (request : Request) (input text : List ℕ) (status : Status) (old new : SinkState)
@@ -89,21 +95,22 @@ refuses d kind lines place None expected may_end p = (p.0.1, λ e. p.0.0)
 refuses d kind lines place (Some b) expected may_end p = (p.0, λ e. cc)
 
 stopped : (request : Request) (input : List ℕ) (old new : SinkState) (result : Status)
-    → result ≡ Stopped → new ≡ old → Tells request input old new result
-stopped request input old new result e same =
+    → MayAllocate request input → result ≡ Stopped → new ≡ old
+    → Tells request input old new result
+stopped request input old new result takes e same =
     let P : Status → Type 0 = λ s. Tells request input old new s in
-    subst P (sym e) (inl same)
+    subst P (sym e) (inl (takes, same))
 
 -- the lines are refused, and the request answers that with the line of the refusal
 pub tells_refused : (request : Request) (d : Dialect) (kind : Kind) (input : List ℕ) (e : Refusal)
     (old new : SinkState) (result : Status)
     → ((line : List ℕ) → Refuses d kind (joined input) line → Answers request input line Refused)
-    → ParsesLines d kind (lines_of input) (Err e)
+    → (e ≡ OutOfMemory → MayAllocate request input) → ParsesLines d kind (lines_of input) (Err e)
     → TellsRefusal e old new result → Tells request input old new result
-tells_refused request d kind input OutOfMemory old new result given p t =
-    stopped request input old new result t.0 t.1
-tells_refused request d kind input (Syntax place found expected may_end) old new result given p
-    t =
+tells_refused request d kind input OutOfMemory old new result given takes p t =
+    stopped request input old new result (takes refl) t.0 t.1
+tells_refused request d kind input (Syntax place found expected may_end) old new result given takes
+    p t =
     let known = refuses d kind (lines_of input) place found expected may_end p in
     let line = refusal_line place found expected may_end in
     tells_text request input line Refused old new result
@@ -116,21 +123,47 @@ tells_refused request d kind input (Syntax place found expected may_end) old new
       unended = known.1;
       told = refl;
     })) t
-tells_refused request d kind input (TooLong limit) old new result given p t = absurd t
-tells_refused request d kind input (ReadFault place) old new result given p t = absurd t
+tells_refused request d kind input (TooLong limit) old new result given takes p t = absurd t
+tells_refused request d kind input (ReadFault place) old new result given takes p t = absurd t
 
--- the same of a request that tells something of a value
-pub tells_refusal : (request : Request) (d : Dialect) (kind : Kind) (tell : Field → List ℕ)
-    (input : List ℕ) (e : Refusal) (old new : SinkState) (result : Status)
-    → RespondsTo request d kind tell input
-    → ParsesLines d kind (lines_of input) (Err e)
-    → TellsRefusal e old new result → Tells request input old new result
-tells_refusal request d kind tell input e old new result given =
-    tells_refused request d kind input e old new result (λ line r. given line Refused r)
+-- a view of the value of the lines, or their refusal
+
+responds : (view : View) (d : Dialect) (kind : Kind) (input : List ℕ)
+    → RespondsTo (view_request view d kind) d kind (view_text view) input
+responds Tree d kind input text status r = r
+responds Verdict d kind input text status r = r
+responds Canonical d kind input text status r = r
+
+for-memory : (view : View) (d : Dialect) (kind : Kind) (input : List ℕ) (e : Refusal)
+    → (IsNumberLine kind (lines_of input) → NotForMemory (Err e)) → e ≡ OutOfMemory
+    → MayAllocate (view_request view d kind) input
+for-memory Tree d kind input OutOfMemory free is = free
+for-memory Verdict d kind input OutOfMemory free is = free
+for-memory Canonical d kind input OutOfMemory free is = free
+for-memory view d kind input (Syntax place found expected may_end) free is = absurd cc
+for-memory view d kind input (TooLong limit) free is = absurd cc
+for-memory view d kind input (ReadFault place) free is = absurd cc
+
+pub tells_view : (view : View) (d : Dialect) (kind : Kind) (input : List ℕ) (v : Field)
+    (old new : SinkState) (result : Status) → ParsesLines d kind (lines_of input) (Ok v)
+    → TellsText (view_text view v) Accepted old new result
+    → Tells (view_request view d kind) input old new result
+tells_view view d kind input v old new result =
+    tells_field (view_request view d kind) d kind (view_text view) input v old new result
+    (responds view d kind input)
+
+pub tells_refusal : (view : View) (d : Dialect) (kind : Kind) (input : List ℕ) (e : Refusal)
+    (old new : SinkState) (result : Status) → ParsesLines d kind (lines_of input) (Err e)
+    → (IsNumberLine kind (lines_of input) → NotForMemory (Err e))
+    → TellsRefusal e old new result → Tells (view_request view d kind) input old new result
+tells_refusal view d kind input e old new result parses free =
+    tells_refused (view_request view d kind) d kind input e old new result
+    (λ line r. responds view d kind input line Refused r) (for-memory view d kind input e free)
+    parses
 
 -- lines of an input within the limit are never too long
 pub is_of_text : (d : Dialect) (kind : Kind) (input : List ℕ) (lines : List (List ℕ))
-    (e : Refusal) → length (join lines) ≤ 3 * length input → length input ≤ 1048576
+    (e : Refusal) → length (join lines) ≤ 3 * length input → length input ≤ input_limit
     → ParsesLines d kind lines (Err e) → IsOfText e
 is_of_text d kind input lines OutOfMemory small short p = tt
 is_of_text d kind input lines (Syntax place found expected may_end) small short p = tt
@@ -142,7 +175,7 @@ is_of_text d kind input lines (ReadFault place) small short p = absurd p.0
 
 -- what is fed to a consumer is refused for its text alone
 pub is_ask_of_text : {A : Type 0} (kind : Kind) (meaning : Field → Result A ℕ) (input : List ℕ)
-    (e : AskFault) → length (join (lines_of input)) ≤ 3 * length input → length input ≤ 1048576
+    (e : AskFault) → length (join (lines_of input)) ≤ 3 * length input → length input ≤ input_limit
     → Asks kind meaning (lines_of input) (Err e) → IsAskOfText e
 is_ask_of_text kind meaning input (ask.Field refusal) small short p =
     is_of_text Rfc9651 kind input (lines_of input) refusal small short p
@@ -156,5 +189,25 @@ pub tells_input_fault : (names : Vec (List ℕ) Global) (input : List ℕ) (faul
 tells_input_fault names input (input_fault.Line number) old new result refused t =
     tells_text (Targeted names) input (refused_line number) Refused old new result
     (number, refused, refl) t
-tells_input_fault names input input_fault.OutOfMemory old new result refused t =
-    stopped (Targeted names) input old new result t.0 t.1
+tells_input_fault names input input_fault.OutOfMemory old new result takes t =
+    stopped (Targeted names) input old new result takes t.0 t.1
+
+-- a consumer has no answer
+pub tells_ask_fault : {A : Type 0} (request : Request) (kind : Kind) (meaning : Field → Result A ℕ)
+    (input : List ℕ) (fault : AskFault) (old new : SinkState) (result : Status)
+    → MayAllocate request input
+    → ((line : List ℕ) → Refuses Rfc9651 kind (joined input) line
+    → Answers request input line Refused)
+    → ((index : ℕ) → Means kind meaning (lines_of input) (Err index)
+    → Answers request input (not_a_cache_line index) Refused)
+    → Asks kind meaning (lines_of input) (Err fault) → TellsAskFault fault old new result
+    → Tells request input old new result
+tells_ask_fault request kind meaning input (ask.Field refusal) old new result takes refused nameless
+    asks t =
+    tells_refused request Rfc9651 kind input refusal old new result refused (λ e. takes) asks t
+tells_ask_fault request kind meaning input (ask.Answer (use_fault.NotACache index)) old new result
+    takes refused nameless asks t =
+    tells_text request input (not_a_cache_line index) Refused old new result (nameless index asks) t
+tells_ask_fault request kind meaning input (ask.Answer use_fault.OutOfMemory) old new result takes
+    refused nameless asks t =
+    stopped request input old new result takes t.0 t.1

@@ -1,5 +1,7 @@
 -- What the steps of reading the words tell of a command that clap found in them.
-use Rattle.std.specs.Prelude.{◌≡◌, ◌≤◌, List, length, Some, codes}
+use Rattle.std.specs.Prelude.{◌≡◌, ℕ, ◌+◌, ◌<◌, ◌≤◌, true, List, length, take, Option, None, Some}
+use Rattle.std.specs.Prelude.{IsSomeAnd, codes}
+use Rattle.std.specs.List.{list_all}
 use Rattle.clap.specs.Walk.{Row, Text, all_of}
 use Rattle.sf_tool.specs.declared.request.Request.{Request}
 use Rattle.sf_tool.specs.declared.request.Request.TheVariants.{Show, Check, Normalise, CacheStatus}
@@ -7,14 +9,18 @@ use Rattle.sf_tool.specs.declared.request.Request.TheVariants.{Targeted, Priorit
 use Rattle.sf_tool.specs.declared.request.RequestFault.{RequestFault}
 use Rattle.sf_tool.specs.declared.request.RequestFault.TheVariants.{Usage, OutOfMemory}
 use Rattle.sf_tool.specs.CommandLine.{AreNames, AsksFor}
+use Rattle.sf_tool.specs.Fields.{is_header_name}
 
 -- no request is asked for
 abbrev pub AsksForNone : Text → List Row → Type 0
 AsksForNone word rows = (request : Request) → ¬ (AsksFor word rows request)
 
--- so many names take memory: none and more than 64 are refused without it
-abbrev pub TakesMemory : List Text → Type 0
-TakesMemory words = (1 ≤ length words) × (length words ≤ 64)
+-- there are from 1 to 64 words, and those up to one of them are names: for that one an allocation
+-- may fail
+abbrev pub MayAllocate : List Text → Type 0
+MayAllocate words =
+    (length words ≤ 64)
+    × ((n : ℕ) × (n < length words) × (list_all is_header_name (take (n + 1) words) ≡ true))
 
 -- Usage, where a command that was found in the words asks for no request; memory is wanting for the
 -- names of `targeted` alone
@@ -22,12 +28,22 @@ abbrev pub IsCommandFault : Text → List Row → RequestFault → Type 0
 IsCommandFault word rows Usage = AsksForNone word rows
 IsCommandFault word rows OutOfMemory =
     (word ≡ codes "targeted")
-    × ((words : List Text) × (all_of (codes "name") rows ≡ Some words) × TakesMemory words)
+    × ((words : List Text) × (all_of (codes "name") rows ≡ Some words) × MayAllocate words)
 
--- Usage, where the words are no names that `targeted` takes; memory is wanting for 1 to 64 of them
+-- the command that clap found, with what was given, asks for the request
+abbrev pub AsksAsFound : Option (Text × List Row) → Request → Type 0
+AsksAsFound found request = IsSomeAnd found (λ f. AsksFor f.0 f.1 request)
+
+-- it asks for none; Usage, where clap found no command
+abbrev pub IsFoundFault : Option (Text × List Row) → RequestFault → Type 0
+IsFoundFault None fault = fault ≡ Usage
+IsFoundFault (Some found) fault = IsCommandFault found.0 found.1 fault
+
+-- Usage, where the words are no names that `targeted` takes; memory is wanting only for a name,
+-- before any word that is none
 abbrev pub IsNamesFault : List Text → RequestFault → Type 0
 IsNamesFault words Usage = (names : List Text) → ¬ (AreNames words names)
-IsNamesFault words OutOfMemory = TakesMemory words
+IsNamesFault words OutOfMemory = MayAllocate words
 
 -- the request has names, and they are those of the words
 abbrev pub IsTargetedOf : List Text → Request → Type 0

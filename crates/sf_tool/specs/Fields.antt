@@ -1,6 +1,6 @@
 -- The listed fields of an input of field lines.
 use Rattle.std.specs.Prelude.{◌≡◌, ℕ, ◌<◌, ◌≤◌, ◌⊎◌, Bool, ◌&&◌, ◌||◌, not, true, false, ◌==◌}
-use Rattle.std.specs.Prelude.{List, [], ◌∷◌, map, length, take, get_or, nat_lt, nat_le, ⊤}
+use Rattle.std.specs.Prelude.{List, [], ◌∷◌, map, length, take, get_or, nat_lt, nat_le}
 use Rattle.std.specs.List.{list_all, list_any, filter, before_first, after_first}
 use Rattle.std.specs.Str.{bytes_eq}
 use Rattle.http_header.specs.Token.{lowercase}
@@ -64,6 +64,10 @@ is_refused targets (b ∷ line) =
     not (has_name (b ∷ line))
     || (is_of_listed targets (b ∷ line) && not (is_field_value (value_of (b ∷ line))))
 
+-- the line has a listed name and is not refused
+abbrev pub IsTaken : Targets → List ℕ → Type 0
+IsTaken targets line = (is_refused targets line ≡ false) × (is_of_listed targets line ≡ true)
+
 -- a name with a value
 abbrev pub field_of : List ℕ → List ℕ × FieldValue
 field_of line = (name_of line, plain_value (value_of line))
@@ -107,7 +111,15 @@ IsFirstRefused targets input n =
     × IsRefusedAt targets (lines_of input) n
     × NoneIsRefused targets (lines_of input) n
 
--- the input is refused for this line; of want of memory nothing is told
+-- the line of this number has a listed field that is not refused, and no line before it is refused:
+-- for this field an allocation may fail
+abbrev pub MayAllocateAt : Targets → List ℕ → ℕ → Type 0
+MayAllocateAt targets input n =
+    (n < length (lines_of input))
+    × IsTaken targets (get_or (lines_of input) n [])
+    × NoneIsRefused targets (lines_of input) n
+
+-- the input is refused for this line; or an allocation failed for a line before any such
 abbrev pub IsFaultOf : Targets → List ℕ → InputFault → Type 0
 IsFaultOf targets input (Line n) = IsFirstRefused targets input n
-IsFaultOf targets input OutOfMemory = ⊤
+IsFaultOf targets input OutOfMemory = (n : ℕ) × MayAllocateAt targets input n

@@ -1,5 +1,5 @@
 -- What the steps of reading an input's fields do with one line.
-use Rattle.std.specs.Prelude.{◌≡◌, ◌⊎◌, ℕ, true, false, List, [], ◌∷◌, ⊤}
+use Rattle.std.specs.Prelude.{◌≡◌, ◌⊎◌, ℕ, true, false, List, [], ◌∷◌}
 use Rattle.http_header.specs.FieldValue.{plain_value}
 use Rattle.http_header.specs.HeaderMap.{append_all, RefusesAppend}
 use Rattle.sf_field.specs.Headers.{Headers}
@@ -8,7 +8,7 @@ use Rattle.sf_tool.specs.declared.fields.LineFault.TheVariants as fault
 use Rattle.sf_tool.specs.declared.fields.FieldLine.{FieldLine}
 use Rattle.sf_tool.specs.declared.fields.FieldLine.TheVariants.{Dropped, Refused, Listed}
 use Rattle.sf_tool.specs.Fields.{Targets, is_of_listed, is_refused, name_of, value_of}
-use Rattle.sf_tool.specs.Fields.{listed_fields}
+use Rattle.sf_tool.specs.Fields.{listed_fields, IsTaken}
 
 -- what the line is
 abbrev pub IsLine : Targets → List ℕ → FieldLine → Type 0
@@ -16,8 +16,7 @@ IsLine targets line Dropped =
     (is_refused targets line ≡ false) × (is_of_listed targets line ≡ false)
 IsLine targets line Refused = is_refused targets line ≡ true
 IsLine targets line (Listed name value) =
-    (is_refused targets line ≡ false) × (is_of_listed targets line ≡ true)
-    × (name ≡ name_of line) × (value ≡ plain_value (value_of line))
+    IsTaken targets line × (name ≡ name_of line) × (value ≡ plain_value (value_of line))
 
 -- the map has no room for the field of the line
 abbrev pub FindsNoRoom : Targets → List ℕ → Headers → Type 0
@@ -31,8 +30,8 @@ AddsField targets line old new =
     × ¬ (FindsNoRoom targets line old)
     × (new ≡ append_all old (listed_fields targets (line ∷ [])))
 
--- why the line was not taken
+-- why the line was not taken; an allocation fails for a listed field alone
 abbrev pub IsLineFault : Targets → List ℕ → Headers → LineFault → Type 0
 IsLineFault targets line headers fault.Refused =
     (is_refused targets line ≡ true) ⊎ FindsNoRoom targets line headers
-IsLineFault targets line headers fault.OutOfMemory = ⊤
+IsLineFault targets line headers fault.OutOfMemory = IsTaken targets line

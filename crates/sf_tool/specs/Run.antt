@@ -1,6 +1,6 @@
 -- What a run of the command reads, answers and writes.
-use Rattle.std.specs.Prelude.{◌≡◌, ℕ, ◌+◌, ◌<◌, ◌≤◌, ◌⊎◌, Bool, false, List, ◌++◌, length}
-use Rattle.std.specs.Prelude.{Option, None, Ok, Err, codes, ⊤}
+use Rattle.std.specs.Prelude.{◌≡◌, ℕ, ◌+◌, ◌<◌, ◌≤◌, ◌⊎◌, Bool, false, List, [], ◌∷◌, ◌++◌}
+use Rattle.std.specs.Prelude.{length, Option, None, Ok, Err, codes, ⊤}
 use Rattle.sf_value.specs.declared.dialect.Dialect.{Dialect}
 use Rattle.sf_value.specs.declared.dialect.Dialect.TheVariants.{Rfc9651}
 use Rattle.sf_value.specs.declared.value.Field.{Field}
@@ -10,19 +10,24 @@ use Rattle.sf_value.specs.Devices.{SourceState, SinkState, Gave, GaveAndEnded}
 use Rattle.sf_value.specs.Devices.{GaveAndFailed}
 use Rattle.sf_value.specs.Grammar.Canonical.{canon}
 use Rattle.sf_value.specs.Grammar.Lines.{join}
+use Rattle.sf_value.specs.Grammar.Words.{Every}
 use Rattle.sf_write.specs.Writing.{Wrote, WrotePrefix}
 use Rattle.sf_parse.specs.declared.refusal.Refusal.{Refusal}
 use Rattle.sf_parse.specs.declared.refusal.Refusal.TheVariants.{OutOfMemory, Syntax, TooLong}
 use Rattle.sf_parse.specs.declared.refusal.Refusal.TheVariants.{ReadFault}
+use Rattle.sf_parse.specs.AllocationFree.{number_byte}
 use Rattle.sf_parse.specs.Parsers.{IsOnly, IsSyntax}
 use Rattle.sf_field.specs.Headers.{Headers}
 use Rattle.sf_field.specs.declared.asking.AskFault.{AskFault}
 use Rattle.sf_field.specs.declared.asking.AskFault.TheVariants as ask
+use Rattle.sf_field.specs.declared.consumer.UseFault.TheVariants as use_fault
 use Rattle.sf_use.specs.declared.cache_status.hop.Hop.{Hop}
 use Rattle.sf_use.specs.CacheStatus.Hops.{hops}
 use Rattle.sf_use.specs.declared.targeted.Choice.{Choice}
 use Rattle.sf_use.specs.TargetedChoice.{IsChosen}
 use Rattle.sf_use.specs.Priority.{asked_in, filled}
+use Rattle.sf_tool.specs.declared.answering.View.{View}
+use Rattle.sf_tool.specs.declared.answering.View.TheVariants.{Tree, Verdict, Canonical}
 use Rattle.sf_tool.specs.declared.fields.InputFault.{InputFault}
 use Rattle.sf_tool.specs.declared.fields.InputFault.TheVariants as input_fault
 use Rattle.sf_tool.specs.declared.request.Request.{Request}
@@ -34,7 +39,7 @@ use Rattle.sf_tool.specs.Lines.{lines_of}
 use Rattle.sf_tool.specs.Texts.{refusal_line, too_long_line}
 use Rattle.sf_tool.specs.Tree.{tree}
 use Rattle.sf_tool.specs.PathLines.{path_lines, not_a_cache_line}
-use Rattle.sf_tool.specs.Fields.{AreFields, IsFirstRefused}
+use Rattle.sf_tool.specs.Fields.{AreFields, IsFirstRefused, MayAllocateAt}
 use Rattle.sf_tool.specs.ChoiceLines.{choice_lines, refused_line}
 use Rattle.sf_tool.specs.PriorityLine.{priority_line}
 
@@ -71,6 +76,18 @@ accepted_line v = codes "accepted\n"
 -- what `normalise` tells: the canonical text, and a line feed
 abbrev pub canonical_line : Field → List ℕ
 canonical_line v = canon v ++ codes "\n"
+
+-- what a command tells of a value
+abbrev pub view_text : View → Field → List ℕ
+view_text Tree v = tree v
+view_text Verdict v = accepted_line v
+view_text Canonical v = canonical_line v
+
+-- the request for this view of the value
+abbrev pub view_request : View → Dialect → Kind → Request
+view_request Tree d kind = Show d kind
+view_request Verdict d kind = Check d kind
+view_request Canonical d kind = Normalise d kind
 
 -- what `priority` tells: what the Dictionary asks for, with the defaults filled in
 abbrev pub priority_of : Field → List ℕ
@@ -127,12 +144,29 @@ pub record BrokeOff (request : Request) (input : List ℕ) (old new : SinkState)
   pub answers : Answers request input text status
   pub wrote : WrotePrefix old new 0 after text
 
--- an input was answered so; where memory was wanting nothing was written, and no call was made
+-- an Item is asked of a line of spaces, `-` and digits, for which no memory is taken
+abbrev pub IsNumberLine : Kind → List (List ℕ) → Type 0
+IsNumberLine asked lines =
+    (asked ≡ kind.Item) × ((line : List ℕ) × (lines ≡ line ∷ []) × Every number_byte line)
+
+-- an answer to the request may take memory: for a value that is no number; for the first listed
+-- fields of an input, before a line that is refused
+abbrev pub MayAllocate : Request → List ℕ → Type 0
+MayAllocate (Show d kind) input = ¬ (IsNumberLine kind (lines_of input))
+MayAllocate (Check d kind) input = ¬ (IsNumberLine kind (lines_of input))
+MayAllocate (Normalise d kind) input = ¬ (IsNumberLine kind (lines_of input))
+MayAllocate CacheStatus input = ⊤
+MayAllocate (Targeted names) input = (n : ℕ) × MayAllocateAt names.items input n
+MayAllocate Priority input = ⊤
+
+-- an input was answered so; an allocation failed for an answer that takes memory, and then nothing
+-- was written, and no call was made; or a write failed
 abbrev pub Tells : Request → List ℕ → SinkState → SinkState → Status → Type 0
 Tells request input old new Accepted = Finished request input old new Accepted
 Tells request input old new Refused = Finished request input old new Refused
 Tells request input old new Usage = ⊥
-Tells request input old new Stopped = (new ≡ old) ⊎ BrokeOff request input old new
+Tells request input old new Stopped =
+    (MayAllocate request input × (new ≡ old)) ⊎ BrokeOff request input old new
 
 -- this text was to be written, with a status where all of it went out; where it did not, a write
 -- failed behind a front of it
@@ -186,6 +220,15 @@ IsOfText (ReadFault place) = ⊥
 abbrev pub IsAskOfText : AskFault → Type 0
 IsAskOfText (ask.Field refusal) = IsOfText refusal
 IsAskOfText (ask.Answer fault) = ⊤
+
+-- a fault of a consumer was answered: the line of the refusal, or of the member that names no cache,
+-- was to be written, or memory was wanting
+abbrev pub TellsAskFault : AskFault → SinkState → SinkState → Status → Type 0
+TellsAskFault (ask.Field refusal) old new result = TellsRefusal refusal old new result
+TellsAskFault (ask.Answer (use_fault.NotACache index)) old new result =
+    TellsText (not_a_cache_line index) Refused old new result
+TellsAskFault (ask.Answer use_fault.OutOfMemory) old new result =
+    (result ≡ Stopped) × (new ≡ old)
 
 -- a refused line was answered: its number was to be written, or memory was wanting
 abbrev pub TellsInputFault : InputFault → SinkState → SinkState → Status → Type 0

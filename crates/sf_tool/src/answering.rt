@@ -2,15 +2,14 @@
 //! first byte is written.
 ghost use Rattle.std.specs.Prelude.{◌≡◌, ◌⊎◌, ℕ, List, codes};
 ghost use Rattle.sf_value.specs.Devices.{SinkState};
-ghost use Rattle.sf_write.specs.Writing.{Writes};
+ghost use Rattle.sf_write.specs.Writing.{Follows, Writes};
 ghost use Rattle.sf_tool.specs.declared.status.Status.TheVariants as status_is;
 ghost use Rattle.sf_tool.specs.ChoiceLines.{field_lines, refused_line};
 ghost use Rattle.sf_tool.specs.PathLines.{not_a_cache_line, path_lines};
 ghost use Rattle.sf_tool.specs.PriorityLine.{priority_line};
-ghost use Rattle.sf_tool.specs.Run.{TellsText, TellsRefusal, IsOfText, accepted_line};
-ghost use Rattle.sf_tool.specs.Run.{canonical_line};
+ghost use Rattle.sf_tool.specs.Run.{TellsText, TellsRefusal, TellsAskFault, IsOfText, IsAskOfText};
+ghost use Rattle.sf_tool.specs.Run.{view_text};
 ghost use Rattle.sf_tool.specs.Texts.{too_long_line};
-ghost use Rattle.sf_tool.specs.Tree.{tree};
 
 use crate::choice::put_chosen;
 use crate::path::put_path;
@@ -18,6 +17,7 @@ use crate::priority::put_priority;
 use crate::refusing::{put_count, put_refusal};
 use crate::status::Status;
 use crate::tree::put_tree;
+use sf_field::{AskFault, UseFault};
 use sf_parse::Refusal;
 use sf_use::{CachePath, Policy, Priority};
 use sf_value::{Field, Sink};
@@ -37,7 +37,7 @@ fn ended(sent: Sent, status: Status) -> Status
 }
 
 /// Writes a text that was built before, with its status.
-pub(crate) fn answer_made<W: Sink>(text: &[u8], status: Status, sink: &mut W) -> Status
+pub fn answer_made<W: Sink>(text: &[u8], status: Status, sink: &mut W) -> Status
     requires { status ≡ status_is.Accepted ⊎ status ≡ status_is.Refused }
     // This status if the whole text was written; Stopped if a write failed after a prefix of it.
     ensures { TellsText text.now status (W.state sink.old) (W.state sink.new) result }
@@ -45,33 +45,39 @@ pub(crate) fn answer_made<W: Sink>(text: &[u8], status: Status, sink: &mut W) ->
     ended(put(text, Ok(0), sink), status)
 }
 
-/// Writes the tree of a field.
-pub(crate) fn answer_tree<W: Sink>(field: Field, sink: &mut W) -> Status
-    // Accepted if the whole tree was written; Stopped if a write failed after a prefix of it.
-    ensures { TellsText (tree field) status_is.Accepted
-        (W.state sink.old) (W.state sink.new) result }
-{
-    ended(put_tree(&field, Ok(0), sink), Status::Accepted)
+/// How a command prints the field of its input.
+#[derive(Clone, Copy)]
+pub(crate) enum View {
+    /// `show`: its tree.
+    Tree,
+    /// `check`: that it is accepted.
+    Verdict,
+    /// `normalise`: its canonical text, and a line feed.
+    Canonical,
 }
 
-/// Writes the line for a field that is accepted.
-pub(crate) fn answer_accepted<W: Sink>(field: Field, sink: &mut W) -> Status
-    // Accepted if the whole line was written; Stopped if a write failed after a prefix of it.
-    ensures { TellsText (accepted_line field) status_is.Accepted
-        (W.state sink.old) (W.state sink.new) result }
+/// Writes a view of a field after what was sent before.
+fn put_view<W: Sink>(view: View, field: &Field, before: Sent, out: &mut W) -> Sent
+    ensures { Follows W.state W.send_gives out.old out.new before result
+        (view_text view field.now) }
 {
-    drop(field);
-    ended(put(b"accepted\n", Ok(0), sink), Status::Accepted)
+    match view {
+        View::Tree => put_tree(field, before, out),
+        View::Verdict => put(b"accepted\n", before, out),
+        View::Canonical => {
+            let sent = put_field(field, before, out);
+            return put(b"\n", sent, out);
+        }
+    }
 }
 
-/// Writes the canonical text of a field, and a line feed.
-pub(crate) fn answer_canonical<W: Sink>(field: Field, sink: &mut W) -> Status
-    // Accepted if the whole line was written; Stopped if a write failed after a prefix of it.
-    ensures { TellsText (canonical_line field) status_is.Accepted
+/// Writes a view of a field.
+pub(crate) fn answer_view<W: Sink>(view: View, field: Field, sink: &mut W) -> Status
+    // Accepted if the whole view was written; Stopped if a write failed after a prefix of it.
+    ensures { TellsText (view_text view field) status_is.Accepted
         (W.state sink.old) (W.state sink.new) result }
 {
-    let sent = put_field(&field, Ok(0), sink);
-    ended(put(b"\n", sent, sink), Status::Accepted)
+    ended(put_view(view, &field, Ok(0), sink), Status::Accepted)
 }
 
 /// Writes the line of a refusal; nothing if an allocation failed.
@@ -97,7 +103,7 @@ pub(crate) fn answer_refusal<W: Sink>(refusal: Refusal, sink: &mut W) -> Status
 }
 
 /// Writes the line for an input that is too long.
-pub(crate) fn answer_too_long<W: Sink>(sink: &mut W) -> Status
+pub fn answer_too_long<W: Sink>(sink: &mut W) -> Status
     // Refused if the whole line was written; Stopped if a write failed after a prefix of it.
     ensures { TellsText too_long_line status_is.Refused
         (W.state sink.old) (W.state sink.new) result }
@@ -118,13 +124,28 @@ pub(crate) fn answer_path<W: Sink>(path: CachePath, sink: &mut W) -> Status
 }
 
 /// Writes the line of a refusal for the member at this index, which does not name a cache.
-pub(crate) fn answer_not_a_cache<W: Sink>(index: usize, sink: &mut W) -> Status
+fn answer_not_a_cache<W: Sink>(index: usize, sink: &mut W) -> Status
     // Refused if the whole line was written; Stopped if a write failed after a prefix of it.
     ensures { TellsText (not_a_cache_line index) status_is.Refused
         (W.state sink.old) (W.state sink.new) result }
 {
     let sent = put_count(b"refused not a cache ", index as u64, Ok(0), sink);
     ended(sent, Status::Refused)
+}
+
+/// Writes why a consumer has no answer; nothing if an allocation failed.
+pub(crate) fn answer_ask_fault<W: Sink>(fault: AskFault, sink: &mut W) -> Status
+    // A refusal is Syntax or OutOfMemory.
+    requires { IsAskOfText fault }
+    // The line of the refusal or of the member is written, or a prefix of it; nothing for
+    // OutOfMemory.
+    ensures { TellsAskFault fault (W.state sink.old) (W.state sink.new) result }
+{
+    match fault {
+        AskFault::Field(refusal) => answer_refusal(refusal, sink),
+        AskFault::Answer(UseFault::NotACache { index }) => answer_not_a_cache(index, sink),
+        AskFault::Answer(UseFault::OutOfMemory) => Status::Stopped,
+    }
 }
 
 /// Writes the line of a priority.

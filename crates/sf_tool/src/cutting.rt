@@ -11,7 +11,7 @@ use sf_value::is_ows;
 use std::marker::Model;
 
 /// Returns the bytes without the spaces and tabs at their beginning.
-fn without_lead(bytes: &[u8]) -> &[u8]
+pub fn without_lead(bytes: &[u8]) -> &[u8]
     ensures { result.now ≡ all_but_lead bytes.now }
 {
     let mut start = 0;
@@ -33,7 +33,7 @@ fn without_trail(bytes: &[u8]) -> &[u8]
 }
 
 /// Returns the bytes without the spaces and tabs at both ends.
-pub(crate) fn trimmed(bytes: &[u8]) -> &[u8]
+pub fn trimmed(bytes: &[u8]) -> &[u8]
     ensures { result.now ≡ trim bytes.now }
 {
     without_trail(without_lead(bytes))
@@ -52,7 +52,7 @@ fn without_return(line: &[u8]) -> &[u8]
 }
 
 /// Splits the bytes at the first separator, which is left out; None if there is none.
-pub(crate) fn split_at_first(bytes: &[u8], separator: u8) -> Option<(&[u8], &[u8])>
+pub fn split_at_first(bytes: &[u8], separator: u8) -> Option<(&[u8], &[u8])>
     // None if the separator does not occur; otherwise what is before its first place, and after it.
     ensures { MatchOption result (position_or_len (λ b. b == separator) bytes.now ≡ length
         bytes.now)
@@ -69,7 +69,7 @@ pub(crate) fn split_at_first(bytes: &[u8], separator: u8) -> Option<(&[u8], &[u8
 }
 
 /// Returns the first line and what follows it, or None if the input is empty.
-pub(crate) fn split_line(input: &[u8]) -> Option<(&[u8], &[u8])>
+pub fn split_line(input: &[u8]) -> Option<(&[u8], &[u8])>
     ensures lines { MatchOption result (lines input.now ≡ [])
         (λ p. lines input.now ≡ p.0.now ∷ lines p.1.now) }
     // What follows is shorter than the input, so a loop over the lines ends.

@@ -1,12 +1,11 @@
 //! The listed fields of an input of header lines.
-ghost use Rattle.std.specs.Prelude.{◌≡◌, IfOk, MatchResult};
-ghost use Rattle.sf_tool.specs.Fields.{is_listed as is_listed_in, AreFields, IsFaultOf};
+ghost use Rattle.std.specs.Prelude.{MatchResult};
+ghost use Rattle.sf_tool.specs.Fields.{IsTaken, AreFields, IsFaultOf};
 ghost use Rattle.sf_tool.specs.OneLine.{IsLine, IsLineFault, AddsField};
 
 use crate::cutting::{split_at_first, split_line, trimmed};
-use http_header::{
-    HeaderMap, HeaderMapError, HeaderName, HeaderNameError, HeaderValue, HeaderValueError,
-};
+use crate::header_names::{header_name, is_listed};
+use http_header::{HeaderMap, HeaderMapError, HeaderName, HeaderValue, HeaderValueError};
 use sf_value::OutOfMemory;
 use std::alloc::Global;
 use std::hash::RandomState;
@@ -40,35 +39,27 @@ enum LineFault {
     OutOfMemory,
 }
 
-/// Returns whether the name is one of those listed.
-fn is_listed(targets: &[HeaderName], name: &HeaderName) -> bool
-    ensures { result ≡ is_listed_in targets.now name.now }
-{
-    targets.contains(name)
-}
-
 /// Returns what a line is. The line has no spaces or tabs at its ends.
 fn read_line(alloc: Global, targets: &[HeaderName], line: &[u8]) -> Result<FieldLine, OutOfMemory>
-    // The line is refused, dropped, or a listed field with this name and value.
-    ensures { IfOk result (IsLine targets.now line.now) }
+    // The line is refused, dropped, or a listed field with this name and value. Only in the last
+    // case can the result be OutOfMemory.
+    ensures { MatchResult result (IsLine targets.now line.now)
+        (λ _. IsTaken targets.now line.now) }
 {
     if line.is_empty() {
         return Ok(FieldLine::Dropped);
     }
-    let (word, rest) = match split_at_first(line, b':') {
-        Some(parts) => parts,
-        None => return Ok(FieldLine::Refused),
+    let Some((word, rest)) = split_at_first(line, b':') else {
+        return Ok(FieldLine::Refused);
     };
-    let name = match HeaderName::from_bytes(alloc, word) {
-        Ok(name) => name,
-        Err(HeaderNameError::Invalid) => return Ok(FieldLine::Refused),
-        Err(HeaderNameError::OutOfMemory) => return Err(OutOfMemory),
+    let Some(name) = header_name(alloc, word) else {
+        return Ok(FieldLine::Refused);
     };
-    if !is_listed(targets, &name) {
+    if !is_listed(targets, word) {
         return Ok(FieldLine::Dropped);
     }
     match HeaderValue::from_bytes(alloc, trimmed(rest)) {
-        Ok(value) => Ok(FieldLine::Listed(name, value)),
+        Ok(value) => Ok(FieldLine::Listed(name?, value)),
         Err(HeaderValueError::Invalid) => Ok(FieldLine::Refused),
         Err(HeaderValueError::OutOfMemory) => Err(OutOfMemory),
     }
@@ -115,7 +106,8 @@ pub(crate) fn read_fields(
     targets: &[HeaderName],
     input: &[u8],
 ) -> Result<HeaderMap, InputFault>
-    // The listed fields if no line is refused, otherwise the first line that is.
+    // The listed fields if no line is refused, otherwise the first line that is; OutOfMemory only for
+    // a listed field before it.
     ensures { MatchResult result (AreFields targets.now input.now)
         (IsFaultOf targets.now input.now) }
 {

@@ -8,6 +8,7 @@ mod answering;
 mod choice;
 mod cutting;
 mod fields;
+mod header_names;
 mod path;
 mod priority;
 mod reading;
@@ -18,6 +19,9 @@ mod sets;
 mod status;
 mod tree;
 
+pub use answering::{answer_made, answer_too_long};
+pub use cutting::{split_at_first, split_line, trimmed, without_lead};
+pub use reading::{ReadAllFault, read_all};
 pub use request::{MAX_NAMES, Request, RequestFault, read_request};
 pub use running::{INPUT_LIMIT, run};
 pub use status::Status;

@@ -10,7 +10,7 @@ const BLOCK: usize = 262_144;
 
 /// Why a source was not read to its end.
 #[derive(Clone, Copy)]
-pub(crate) enum ReadAllFault {
+pub enum ReadAllFault {
     /// An allocation for the bytes failed.
     OutOfMemory,
     /// A read failed after this many bytes, and it was the last read.
@@ -23,11 +23,7 @@ pub(crate) enum ReadAllFault {
 /// no byte after the end, after a failed read, or after one byte more than `max`. It is not
 /// inlined, so that its block is not on the stack afterwards.
 #[inline(never)]
-pub(crate) fn read_all<R: Source>(
-    alloc: Global,
-    max: u64,
-    source: &mut R,
-) -> Result<Vec<u8>, ReadAllFault>
+pub fn read_all<R: Source>(alloc: Global, max: u64, source: &mut R) -> Result<Vec<u8>, ReadAllFault>
     requires { max < 2 ^ 64 - 1 }
     // Everything that the source gave, within the limit; or why reading stopped before its end.
     ensures { MatchResult result

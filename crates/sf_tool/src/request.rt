@@ -1,23 +1,24 @@
 //! The command line.
-ghost use Rattle.std.specs.Prelude.{◌≡◌, ◌≢◌, ◌↔◌, [], map, true, false, Some, IfOk, MatchResult};
-ghost use Rattle.std.specs.Prelude.{string_bytes};
-ghost use Rattle.clap.specs.Words.{app_of, found_of, rows_of};
+ghost use Rattle.std.specs.Prelude.{◌≡◌, ◌≢◌, ◌↔◌, [], map, true, false, Some, IfOk, IfErr, IsErrAnd};
+ghost use Rattle.std.specs.Prelude.{MatchResult, string_bytes};
+ghost use Rattle.clap.specs.Words.{app_of, found_of, kind_of as kind_of_error, rows_of};
+ghost use Rattle.clap.specs.Words.{subcommand_rows_of};
 ghost use Rattle.sf_value.specs.declared.dialect.Dialect.{Dialect};
 ghost use Rattle.sf_value.specs.declared.value.Kind.{Kind};
 ghost use Rattle.sf_tool.specs.declared.request.RequestFault.TheVariants.{Usage};
-ghost use Rattle.sf_tool.specs.Fields.{is_header_name};
-ghost use Rattle.http_header.specs.Token.{lowercase};
 ghost use Rattle.sf_tool.specs.Request.{HasFewNames};
 ghost use Rattle.sf_tool.specs.Status.{fault_line, status_of};
 ghost use Rattle.sf_tool.specs.CommandLine.{command_line, kind_command, names_command};
 ghost use Rattle.sf_tool.specs.CommandLine.{NamesKind, NamesDialect, AsksFor, IsRequestOf};
 ghost use Rattle.sf_tool.specs.CommandLine.{IsUsageOf};
-ghost use Rattle.sf_tool.specs.Commands.{IsCommandFault, IsTargetedOf, IsNamesFault};
+ghost use Rattle.sf_tool.specs.Commands.{AsksAsFound, IsCommandFault, IsFoundFault};
+ghost use Rattle.sf_tool.specs.Commands.{IsTargetedOf, IsNamesFault};
 
+use crate::header_names::header_name;
 use crate::status::Status;
 use clap::error::ErrorKind;
-use clap::{Arg, ArgAction, ArgMatches, Command};
-use http_header::{HeaderName, HeaderNameError};
+use clap::{Arg, ArgAction, ArgMatches, Command, Error as ClapError};
+use http_header::HeaderName;
 use sf_value::{Dialect, Kind};
 use std::alloc::{AllocError, Global};
 use std::error::Error;
@@ -106,7 +107,23 @@ pub fn read_request(alloc: Global, words: &[String]) -> Result<Request, RequestF
     let Ok(command) = make_command(alloc) else {
         return Err(RequestFault::OutOfMemory);
     };
-    let matches = match command.try_get_matches_from(words) {
+    request_in(alloc, command.try_get_matches_from(words))
+}
+
+/// Returns the request of what clap parsed, or what its error means.
+fn request_in(
+    alloc: Global,
+    parsed: Result<ArgMatches<'_>, ClapError>,
+) -> Result<Request, RequestFault>
+    // The request of the command that clap found; Usage only if there is none; OutOfMemory only for
+    // names.
+    ensures found { IfOk parsed.entry (λ m. MatchResult result (AsksAsFound (subcommand_rows_of m))
+        (IsFoundFault (subcommand_rows_of m))) }
+    // An error of clap is Usage whatever its kind, unless that is OutOfMemory.
+    ensures fault { IfErr parsed.entry (λ e. IsErrAnd result
+        (λ fault. (fault ≡ Usage) ↔ (kind_of_error e ≢ ErrorKind.OutOfMemory))) }
+{
+    let matches = match parsed {
         Ok(matches) => matches,
         Err(error) => return Err(fault_of(error.kind())),
     };
@@ -222,20 +239,6 @@ fn kind_of(given: &ArgMatches<'_>) -> Result<Kind, RequestFault>
     }
 }
 
-/// Returns an argument as a header name.
-fn header_name(alloc: Global, word: &str) -> Result<HeaderName, RequestFault>
-    // The word in lower case, if it is a header name; Usage only if it is not.
-    ensures { MatchResult result
-        (λ name. (is_header_name word.now ≡ true) × (name ≡ lowercase word.now))
-        (λ fault. fault ≡ Usage → is_header_name word.now ≡ false) }
-{
-    match HeaderName::from_bytes(alloc, word.as_bytes()) {
-        Ok(name) => Ok(name),
-        Err(HeaderNameError::Invalid) => Err(RequestFault::Usage),
-        Err(HeaderNameError::OutOfMemory) => Err(RequestFault::OutOfMemory),
-    }
-}
-
 /// Returns the request with these words as its names.
 fn targeted(alloc: Global, words: &[&str]) -> Result<Request, RequestFault>
     // The request for these names, or why there is none.
@@ -247,7 +250,12 @@ fn targeted(alloc: Global, words: &[&str]) -> Result<Request, RequestFault>
     }
     let mut names = Vec::new(alloc);
     for word in words {
-        let name = header_name(alloc, word)?;
+        let Some(made) = header_name(alloc, word.as_bytes()) else {
+            return Err(RequestFault::Usage);
+        };
+        let Ok(name) = made else {
+            return Err(RequestFault::OutOfMemory);
+        };
         let Ok(()) = names.push(name) else {
             return Err(RequestFault::OutOfMemory);
         };

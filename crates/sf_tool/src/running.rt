@@ -2,17 +2,17 @@
 ghost use Rattle.std.specs.Prelude.{◌≡◌, ◌≤◌, [], length, IfErr};
 ghost use Rattle.sf_field.specs.Asking.{Asks};
 ghost use Rattle.sf_field.specs.Lines.{ParsesLines};
+ghost use Rattle.sf_parse.specs.AllocationFreeParsers.{NotForMemory};
 ghost use Rattle.sf_tool.specs.declared.request.Request.TheVariants as request_is;
 ghost use Rattle.sf_tool.specs.declared.status.Status.TheVariants as status_is;
 ghost use Rattle.sf_tool.specs.Lines.{lines_of as lines_in};
 ghost use Rattle.sf_tool.specs.ChoiceLines.{choice_lines, IsPlaceOf};
 ghost use Rattle.sf_tool.specs.Run.{Ran, Tells, TellsInputFault, TellsText};
-ghost use Rattle.sf_tool.specs.Run.{input_limit, IsOfText, IsAskOfText};
+ghost use Rattle.sf_tool.specs.Run.{input_limit, view_request, IsNumberLine, IsOfText, IsAskOfText};
 
 use crate::answering::{
-    answer_accepted, answer_canonical, answer_chosen, answer_fallback, answer_made,
-    answer_not_a_cache, answer_path, answer_priority, answer_refusal, answer_refused_line,
-    answer_too_long, answer_tree,
+    View, answer_ask_fault, answer_chosen, answer_fallback, answer_made, answer_path,
+    answer_priority, answer_refusal, answer_refused_line, answer_too_long, answer_view,
 };
 use crate::cutting::InputLines;
 use crate::fields::{InputFault, read_fields};
@@ -20,7 +20,7 @@ use crate::reading::{ReadAllFault, read_all};
 use crate::request::Request;
 use crate::status::Status;
 use http_header::HeaderName;
-use sf_field::{AskFault, Consumer, UseFault, ask_from, parse_from};
+use sf_field::{AskFault, Consumer, ask_from, parse_from};
 use sf_parse::Refusal;
 use sf_use::{CacheStatus, Choice, PriorityField, select};
 use sf_value::{Dialect, Field, Kind, Sink, Source, Writing};
@@ -79,14 +79,17 @@ fn parse_input(
     ensures parses { ParsesLines dialect kind (lines_in input.now) result }
     // The error is Syntax or OutOfMemory, never TooLong or ReadFault.
     ensures of_text { IfErr result IsOfText }
+    // Parsing a line of spaces, `-` and digits as an Item does not allocate.
+    ensures allocation_free { IsNumberLine kind (lines_in input.now) → NotForMemory result }
 {
     parse_from(alloc, seed, dialect, kind, InputLines::new(input))
 }
 
-/// Writes the tree of the input's field, or why it is refused.
-fn show<W: Sink>(
+/// Writes a view of the input's field, or why it is refused.
+fn answer_field<W: Sink>(
     alloc: Global,
     seed: &RandomState,
+    view: View,
     dialect: Dialect,
     kind: Kind,
     input: &[u8],
@@ -94,51 +97,11 @@ fn show<W: Sink>(
 ) -> Status
     requires { length input.now ≤ input_limit }
     // The whole answer was written; or a prefix of it, and a write failed; or nothing.
-    ensures { Tells (request_is.Show dialect kind) input.now
+    ensures { Tells (view_request view dialect kind) input.now
         (W.state sink.old) (W.state sink.new) result }
 {
     match parse_input(alloc, seed, dialect, kind, input) {
-        Ok(field) => answer_tree(field, sink),
-        Err(refusal) => answer_refusal(refusal, sink),
-    }
-}
-
-/// Writes that the input's field is accepted, or why it is refused.
-fn check<W: Sink>(
-    alloc: Global,
-    seed: &RandomState,
-    dialect: Dialect,
-    kind: Kind,
-    input: &[u8],
-    sink: &mut W,
-) -> Status
-    requires { length input.now ≤ input_limit }
-    // The whole answer was written; or a prefix of it, and a write failed; or nothing.
-    ensures { Tells (request_is.Check dialect kind) input.now
-        (W.state sink.old) (W.state sink.new) result }
-{
-    match parse_input(alloc, seed, dialect, kind, input) {
-        Ok(field) => answer_accepted(field, sink),
-        Err(refusal) => answer_refusal(refusal, sink),
-    }
-}
-
-/// Writes the canonical text of the input's field, or why it is refused.
-fn normalise<W: Sink>(
-    alloc: Global,
-    seed: &RandomState,
-    dialect: Dialect,
-    kind: Kind,
-    input: &[u8],
-    sink: &mut W,
-) -> Status
-    requires { length input.now ≤ input_limit }
-    // The whole answer was written; or a prefix of it, and a write failed; or nothing.
-    ensures { Tells (request_is.Normalise dialect kind) input.now
-        (W.state sink.old) (W.state sink.new) result }
-{
-    match parse_input(alloc, seed, dialect, kind, input) {
-        Ok(field) => answer_canonical(field, sink),
+        Ok(field) => answer_view(view, field, sink),
         Err(refusal) => answer_refusal(refusal, sink),
     }
 }
@@ -167,9 +130,7 @@ fn cache_status<W: Sink>(alloc: Global, seed: &RandomState, input: &[u8], sink: 
 {
     match ask_input(alloc, seed, &CacheStatus, input) {
         Ok(path) => answer_path(path, sink),
-        Err(AskFault::Field(refusal)) => answer_refusal(refusal, sink),
-        Err(AskFault::Answer(UseFault::NotACache { index })) => answer_not_a_cache(index, sink),
-        Err(AskFault::Answer(UseFault::OutOfMemory)) => Status::Stopped,
+        Err(fault) => answer_ask_fault(fault, sink),
     }
 }
 
@@ -181,9 +142,7 @@ fn priority<W: Sink>(alloc: Global, seed: &RandomState, input: &[u8], sink: &mut
 {
     match ask_input(alloc, seed, &PriorityField, input) {
         Ok(asked) => answer_priority(asked.with_defaults(), sink),
-        Err(AskFault::Field(refusal)) => answer_refusal(refusal, sink),
-        Err(AskFault::Answer(UseFault::NotACache { index: _ })) => unreachable!(),
-        Err(AskFault::Answer(UseFault::OutOfMemory)) => Status::Stopped,
+        Err(fault) => answer_ask_fault(fault, sink),
     }
 }
 
@@ -250,9 +209,15 @@ fn answer<W: Sink>(
     ensures { Tells request.now input.now (W.state sink.old) (W.state sink.new) result }
 {
     match request {
-        Request::Show(dialect, kind) => show(alloc, seed, *dialect, *kind, input, sink),
-        Request::Check(dialect, kind) => check(alloc, seed, *dialect, *kind, input, sink),
-        Request::Normalise(dialect, kind) => normalise(alloc, seed, *dialect, *kind, input, sink),
+        Request::Show(dialect, kind) => {
+            answer_field(alloc, seed, View::Tree, *dialect, *kind, input, sink)
+        }
+        Request::Check(dialect, kind) => {
+            answer_field(alloc, seed, View::Verdict, *dialect, *kind, input, sink)
+        }
+        Request::Normalise(dialect, kind) => {
+            answer_field(alloc, seed, View::Canonical, *dialect, *kind, input, sink)
+        }
         Request::CacheStatus => cache_status(alloc, seed, input, sink),
         Request::Targeted(names) => targeted(alloc, seed, names, input, sink),
         Request::Priority => priority(alloc, seed, input, sink),

@@ -1,12 +1,15 @@
 -- What fields offer, and the choice among targets.
 use Rattle.std.proofs.Common.{◌≡◌, ◌⊎◌, ◌↔◌, Bool, ℕ, suc, ◌+◌, ◌<◌, List, [], ◌∷◌, length, drop}
 use Rattle.std.proofs.Common.{get_or, Option, Some, None, Ok, Err, inl, inr, sym, ap, ◌∙◌}
-use Rattle.std.proofs.Common.{subst}
+use Rattle.std.proofs.Common.{refl, subst, take}
 use Rattle.std.proofs.Common.{drop-cons, add-one, arith}
-use Rattle.std.specs.Prelude.{All}
+use Rattle.std.specs.Prelude.{All, IfErr, IfOk, Result}
 use Rattle.std.specs.List.{AllByRecursion}
+use Rattle.std.proofs.lemmas.List.{get_or_read_under, take_more}
+use Rattle.std.proofs.lemmas.List.Elements.{All-push}
 use Rattle.http_header.specs.HeaderMap.{ContainsKey}
 use Rattle.sf_value.specs.declared.dialect.Dialect.TheVariants.{Rfc9651}
+use Rattle.sf_value.specs.declared.fault.OutOfMemory.{OutOfMemory as NoMemory}
 use Rattle.sf_value.specs.declared.value.Dict.{Dict}
 use Rattle.sf_value.specs.declared.value.Field.{Field}
 use Rattle.sf_value.specs.declared.value.Field.TheVariants as field
@@ -16,11 +19,14 @@ use Rattle.sf_value.specs.Grammar.Fields.{SpellsField}
 use Rattle.sf_value.specs.Grammar.Lines.{join}
 use Rattle.sf_value.proofs.CanonicalTexts.{canon_spells}
 use Rattle.sf_value.proofs.Validity.{spelled_valid}
-use Rattle.sf_parse.specs.declared.refusal.Refusal.TheVariants.{Syntax}
+use Rattle.sf_parse.specs.declared.refusal.Refusal.{Refusal}
+use Rattle.sf_parse.specs.declared.refusal.Refusal.TheVariants.{OutOfMemory, Syntax, TooLong}
+use Rattle.sf_parse.specs.declared.refusal.Refusal.TheVariants.{ReadFault}
 use Rattle.sf_parse.proofs.GrammarLaws.{one_value}
 use Rattle.sf_field.specs.Headers.{Headers, lines_under, ParsesHeaders}
 use Rattle.sf_use.specs.Targeted.{policy}
-use Rattle.sf_use.specs.TargetedChoice.{Usable, IsOffer, IsChosenFrom, MayOffer}
+use Rattle.sf_use.specs.TargetedChoice.{Usable, IsOffer, IsChosenFrom, IsOfHeaders, MayOffer}
+use Rattle.sf_use.specs.TargetedChoice.{IsReached, OffersAsRead}
 use Rattle.sf_use.specs.TargetedLaws.{SameText, Normalised, OneChoice, ChosenAsCanonical}
 use Rattle.sf_use.specs.declared.targeted.Choice.{Choice}
 use Rattle.sf_use.specs.declared.targeted.Choice.TheVariants as choice
@@ -31,7 +37,7 @@ pub same_dict : (d e : Dict) → field.Dict d ≡ field.Dict e → d ≡ e
 same_dict d e h = cc
 
 -- the field that was read is what the name offers
-pub read_offer : (h : Headers) (n : List ℕ) (f : Field) (o : Option Policy)
+read_offer : (h : Headers) (n : List ℕ) (f : Field) (o : Option Policy)
     → ParsesHeaders kind.Dict h n (Ok (Some f)) → MayOffer f o → IsOffer h n o
 read_offer h n f (Some p) r m = (
   m.0,
@@ -46,12 +52,45 @@ read_offer h n f None r m =
     λ d u. u.filled (m d (sym (r.1.0.only (field.Dict d) u.spelled)))
 
 -- a field that is refused offers nothing
-pub refused_offer : (h : Headers) (n : List ℕ) (place : ℕ) (found : Option ℕ) (expected : ℕ)
+refused_offer : (h : Headers) (n : List ℕ) (place : ℕ) (found : Option ℕ) (expected : ℕ)
     (may_end : Bool) → ParsesHeaders kind.Dict h n (Err (Syntax place found expected may_end))
     → IsOffer h n None
 refused_offer h n place None expected may_end r = λ d u. r.1.0.1.unspelled (field.Dict d) u.spelled
 refused_offer h n place (Some b) expected may_end r =
     λ d u. r.1.0.unspelled (field.Dict d) u.spelled
+
+-- what is read of headers fails for no source
+pub of_headers : (h : Headers) (n : List ℕ) (read : Result (Option Field) Refusal)
+    → ParsesHeaders kind.Dict h n read → IfErr read IsOfHeaders
+of_headers h n (Ok f) r = tt
+of_headers h n (Err OutOfMemory) r = tt
+of_headers h n (Err (Syntax place found expected may_end)) r = tt
+of_headers h n (Err (TooLong limit)) r = tt
+of_headers h n (Err (ReadFault place)) r = absurd r.1.1
+
+-- what the name offers is what its field offers as it was read
+pub offers : (h : Headers) (n : List ℕ) (read : Result (Option Field) Refusal)
+    (o : Result (Option Policy) NoMemory) → ParsesHeaders kind.Dict h n read
+    → OffersAsRead read o → IfOk o (IsOffer h n)
+offers h n (Ok (Some f)) (Ok offer) r m = read_offer h n f offer r m
+offers h n (Ok (Some f)) (Err e) r m = tt
+offers h n (Ok None) o r m = rw m (λ d u. r u.present)
+offers h n (Err (Syntax place found expected may_end)) o r m =
+    rw m (refused_offer h n place found expected may_end r)
+offers h n (Err OutOfMemory) (Ok offer) r m = absurd cc
+offers h n (Err OutOfMemory) (Err e) r m = tt
+offers h n (Err (TooLong limit)) (Ok offer) r m = absurd cc
+offers h n (Err (TooLong limit)) (Err e) r m = tt
+offers h n (Err (ReadFault place)) o r m = absurd m
+
+-- memory is wanting only for a field that is present
+pub present : (h : Headers) (n : List ℕ) (read : Result (Option Field) Refusal)
+    (o : Result (Option Policy) NoMemory) → ParsesHeaders kind.Dict h n read
+    → OffersAsRead read o → IfErr o (λ e. ContainsKey h n)
+present h n read (Ok offer) r m = tt
+present h n (Ok (Some f)) (Err e) r m = r.0
+present h n (Ok None) (Err e) r m = absurd cc
+present h n (Err f) (Err e) r m = r.0
 
 -- a target that offers nothing is passed over
 pub pass_over : (index : ℕ) (names : List (List ℕ)) (name : List ℕ) (h : Headers) (c : Choice)
@@ -63,6 +102,28 @@ pass_over index names name h c lt here offer later =
     rw add-one (drop-cons names index name lt) in
     subst (λ ns. IsChosenFrom index ns h c) (sym rest)
     (inr (subst (λ n. IsOffer h n None) here offer, later))
+
+-- one target more is passed over
+pub passed_more : (index : ℕ) (names : List (List ℕ)) (name : List ℕ) (h : Headers)
+    → index < length names → name ≡ get_or names index name → IsOffer h name None
+    → All (λ n. IsOffer h n None) (take index names)
+    → All (λ n. IsOffer h n None) (take (index + 1) names)
+passed_more index names name h lt here offer passed =
+    let Silent : List ℕ → Type 0 = λ n. IsOffer h n None in
+    subst (All Silent) (sym (take_more names index name lt))
+    (All-push Silent (take index names) (get_or names index name) passed
+    (subst Silent here offer))
+
+-- a target that is present is read, where none before it has an offer
+pub reached : (index : ℕ) (names : List (List ℕ)) (name : List ℕ) (h : Headers)
+    → index < length names → name ≡ get_or names index name → ContainsKey h name
+    → All (λ n. IsOffer h n None) (take index names) → (r : Result Choice NoMemory)
+    → IfErr r (λ e. IsReached names h)
+reached index names name h lt here present passed (Ok choice) = tt
+reached index names name h lt here present passed (Err e) =
+    let named : name ≡ get_or names index [] =
+    get_or_read_under names index (length names) name [] here lt refl in
+    (index, lt, subst (ContainsKey h) named present, passed)
 
 -- a name has one offer at most
 one_offer : (h : Headers) (n : List ℕ) (p q : Policy) → IsOffer h n (Some p) → IsOffer h n (Some q)

@@ -4,5 +4,6 @@ pub mod CacheStatus
 pub mod Targeted
 pub mod TargetedChoice
 pub mod TargetedLaws
+pub mod Ranges
 pub mod Priority
 pub mod PriorityLaws

@@ -1,5 +1,5 @@
 -- What a Priority field asks for, and how it is written (RFC 9218 sections 4, 5 and 8).
-use Rattle.std.specs.Prelude.{ℕ, pos, nat_le, ◌==◌, if◌then◌else◌, Bool, true, false}
+use Rattle.std.specs.Prelude.{ℕ, pos, nat_le, ◌==◌, cond, Bool, true, false}
 use Rattle.std.specs.Prelude.{[], ◌∷◌, ◌++◌, Option, Some, None, unwrap_or, codes}
 use Rattle.std.specs.Option.{option_or}
 use Rattle.sf_value.specs.declared.value.Bare.{Bare}
@@ -11,17 +11,18 @@ use Rattle.sf_value.specs.declared.value.Member.{Member}
 use Rattle.sf_value.specs.declared.value.Member.TheVariants as member
 use Rattle.sf_value.specs.Grammar.Items.{item}
 use Rattle.sf_value.specs.Grammar.Pairs.{Pairs, value_at}
+use Rattle.sf_use.specs.Ranges.{least_urgent, usual_urgency}
 use Rattle.sf_use.specs.declared.priority.Asked.{Asked}
 use Rattle.sf_use.specs.declared.priority.Priority.{Priority}
 
--- an Integer from 0 to 7 (section 4.1)
-abbrev pub up_to_seven : Bare → Option ℕ
-up_to_seven (Integer (pos n)) = if nat_le n 7 then Some n else None
-up_to_seven x = None
+-- an Integer that is an urgency
+abbrev pub urgency_in : Bare → Option ℕ
+urgency_in (Integer (pos n)) = cond (nat_le n least_urgent) (Some n) None
+urgency_in x = None
 
 -- the urgency that a member says, whatever its parameters
 abbrev pub urgency : Option Member → Option ℕ
-urgency (Some (member.Item i)) = up_to_seven i.bare
+urgency (Some (member.Item i)) = urgency_in i.bare
 urgency m = None
 
 -- a Boolean (section 4.2)
@@ -57,7 +58,7 @@ merged client server = record {
 -- the defaults for what is not said (sections 4.1 and 4.2)
 abbrev pub filled : Asked → Priority
 filled a = record {
-  urgency = unwrap_or a.urgency 3;
+  urgency = unwrap_or a.urgency usual_urgency;
   incremental = unwrap_or a.incremental false;
 }
 
@@ -67,7 +68,8 @@ plain x = member.Item (item x [])
 
 -- the member u, where it says more than the default
 abbrev pub urgency_written : ℕ → Pairs Member
-urgency_written n = if n == 3 then [] else (codes "u", plain (Integer (pos n))) ∷ []
+urgency_written n =
+    cond (n == usual_urgency) [] ((codes "u", plain (Integer (pos n))) ∷ [])
 
 -- the member i, where it says more than the default
 abbrev pub incremental_written : Bool → Pairs Member

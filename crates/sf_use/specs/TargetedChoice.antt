@@ -1,13 +1,18 @@
 -- Which field of a target list a cache obeys (RFC 9213 section 2.2).
-use Rattle.std.specs.Prelude.{◌≡◌, ◌≢◌, ◌⊎◌, ℕ, ◌+◌, List as Seq, [], ◌∷◌, Option, Some, None}
+use Rattle.std.specs.Prelude.{◌≡◌, ◌≢◌, ◌⊎◌, ℕ, ◌+◌, ◌<◌, List as Seq, [], ◌∷◌, All, length, take}
+use Rattle.std.specs.Prelude.{get_or, Option, Some, None, Result, Ok, Err, IsErr, IsOkAnd, ⊤}
 use Rattle.http_header.specs.HeaderMap.{ContainsKey}
 use Rattle.sf_value.specs.declared.dialect.Dialect.TheVariants.{Rfc9651}
+use Rattle.sf_value.specs.declared.fault.OutOfMemory.{OutOfMemory as NoMemory}
 use Rattle.sf_value.specs.declared.value.Dict.{Dict}
 use Rattle.sf_value.specs.declared.value.Field.{Field}
 use Rattle.sf_value.specs.declared.value.Field.TheVariants as field
 use Rattle.sf_value.specs.declared.value.Kind.TheVariants as kind
 use Rattle.sf_value.specs.Grammar.Fields.{SpellsField}
 use Rattle.sf_value.specs.Grammar.Lines.{join}
+use Rattle.sf_parse.specs.declared.refusal.Refusal.{Refusal}
+use Rattle.sf_parse.specs.declared.refusal.Refusal.TheVariants.{OutOfMemory, Syntax, TooLong}
+use Rattle.sf_parse.specs.declared.refusal.Refusal.TheVariants.{ReadFault}
 use Rattle.sf_field.specs.Headers.{Headers, lines_under}
 use Rattle.sf_use.specs.Targeted.{policy}
 use Rattle.sf_use.specs.declared.targeted.Policy.{Policy}
@@ -42,3 +47,28 @@ IsChosen = IsChosenFrom 0
 abbrev pub MayOffer : Field → Option Policy → Type 0
 MayOffer f (Some p) = (d : Dict) × (f ≡ field.Dict d) × (d.members ≢ []) × (p ≡ policy d)
 MayOffer f None = (d : Dict) → f ≡ field.Dict d → d.members ≡ []
+
+-- the field of this target is read: it is present, and no target before it has an offer
+abbrev pub IsReached : Seq (Seq ℕ) → Headers → Type 0
+IsReached targets headers =
+    (index : ℕ)
+    × (index < length targets)
+    × ContainsKey headers (get_or targets index [])
+    × All (λ n. IsOffer headers n None) (take index targets)
+
+-- a refusal of what stands in memory: no source was read
+abbrev pub IsOfHeaders : Refusal → Type 0
+IsOfHeaders OutOfMemory = ⊤
+IsOfHeaders (Syntax place found expected may_end) = ⊤
+IsOfHeaders (TooLong limit) = ⊤
+IsOfHeaders (ReadFault place) = ⊥
+
+-- what a name offers whose field was read so: an absent field nothing, and neither does a refused
+-- one (section 2.1), whatever memory is left
+abbrev pub OffersAsRead : Result (Option Field) Refusal → Result (Option Policy) NoMemory → Type 0
+OffersAsRead (Ok (Some f)) r = IsOkAnd r (MayOffer f)
+OffersAsRead (Ok None) r = r ≡ Ok None
+OffersAsRead (Err (Syntax place found expected may_end)) r = r ≡ Ok None
+OffersAsRead (Err OutOfMemory) r = IsErr r
+OffersAsRead (Err (TooLong limit)) r = IsErr r
+OffersAsRead (Err (ReadFault place)) r = ⊥

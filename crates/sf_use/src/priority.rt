@@ -1,15 +1,22 @@
 //! Priorities (RFC 9218): the urgency of a response, and whether it is of use as it arrives.
-ghost use Rattle.std.specs.Prelude.{◌≡◌, ◌<◌, ◌++◌, [], ◌∷◌, ◌↔◌, IsOk, IfOk, true, false};
+ghost use Rattle.std.specs.Prelude.{◌≡◌, ◌++◌, [], ◌∷◌, ◌↔◌, IsOk, IfOk, true, false};
 ghost use Rattle.std.specs.Option.{option_copied};
 ghost use Rattle.sf_value.specs.Grammar.Classes.{is_key_start};
 ghost use Rattle.sf_value.specs.Grammar.Pairs.{put};
 ghost use Rattle.sf_use.specs.Priority.{asked, filled, incremental, merged, plain, prio, urgency};
+ghost use Rattle.sf_use.specs.Ranges.{IsUrgency, usual_urgency};
 
 use sf_field::{Consumer, UseFault};
 use sf_value::{Bare, Dict, Entries, Field, Int, Item, Key, Kind, Member, OutOfMemory, OutOfRange};
 use std::alloc::Global;
 use std::hash::RandomState;
 use std::marker::Model;
+
+/// The urgency of what is least urgent (RFC 9218 section 4.1).
+const LEAST_URGENT: u8 = 7;
+
+/// The default urgency (RFC 9218 section 4.1).
+const USUAL_URGENCY: u8 = 3;
 
 /// The urgency of a response (RFC 9218 section 4.1): a number from 0, the most urgent, to 7, the
 /// least urgent, ordered as numbers. The default is 3. Contracts see the number.
@@ -19,13 +26,14 @@ pub struct Urgency {
 }
 
 impl Model for Urgency {
-    ghost use Rattle.std.specs.Prelude.{ℕ, ◌<◌};
+    ghost use Rattle.std.specs.Prelude.{ℕ};
+    ghost use Rattle.sf_use.specs.Ranges.{IsUrgency};
 
     ghost Value = { ℕ };
 
     ghost view = { λ u. u.value };
 
-    ghost invariant = { λ u. u.value < 8 };
+    ghost invariant = { λ u. IsUrgency u.value };
 
     ghost inverse = { λ u. record { value = u } };
 }
@@ -70,10 +78,10 @@ impl Urgency {
     /// assert_eq!(rt; Urgency::new(8), Err(OutOfRange));
     /// ```
     pub fn new(value: u8) -> Result<Urgency, OutOfRange>
-        ensures range { IsOk result ↔ (value < 8) }
+        ensures range { IsOk result ↔ IsUrgency value }
         ensures value { IfOk result (λ urgency. urgency ≡ value) }
     {
-        if value < 8 {
+        if value <= LEAST_URGENT {
             Ok(Urgency { value })
         } else {
             Err(OutOfRange)
@@ -83,7 +91,7 @@ impl Urgency {
     /// Returns the number, from 0 to 7. Does not allocate.
     pub fn get(&self) -> u8
         ensures value { result ≡ self.now }
-        ensures range { self.now < 8 }
+        ensures range { IsUrgency self.now }
     {
         self.value
     }
@@ -130,10 +138,10 @@ impl Asked {
 impl TryFrom<u8> for Urgency {
     type Error = OutOfRange;
 
-    ghost use Rattle.std.specs.Prelude.{◌<◌};
     ghost use Rattle.std.specs.Result.{OkIff};
+    ghost use Rattle.sf_use.specs.Ranges.{IsUrgency};
 
-    ghost try_from_gives = { λ n r. OkIff r (n < 8) n };
+    ghost try_from_gives = { λ n r. OkIff r (IsUrgency n) n };
 
     fn try_from(number: u8) -> Result<Urgency, OutOfRange> {
         Urgency::new(number)
@@ -142,11 +150,14 @@ impl TryFrom<u8> for Urgency {
 
 impl Default for Urgency {
     ghost use Rattle.std.specs.Prelude.{◌≡◌};
+    ghost use Rattle.sf_use.specs.Ranges.{usual_urgency};
 
-    ghost is_default = { λ urgency. urgency ≡ 3 };
+    ghost is_default = { λ urgency. urgency ≡ usual_urgency };
 
     fn default() -> Urgency {
-        Urgency { value: 3 }
+        Urgency {
+            value: USUAL_URGENCY,
+        }
     }
 }
 
@@ -209,7 +220,7 @@ pub fn priority_field(
 ) -> Result<Dict, OutOfMemory>
     ensures written { IfOk result (λ dict. dict ≡ prio priority) }
     // For the default priority the call does not allocate.
-    ensures default { priority.urgency ≡ 3 → priority.incremental ≡ false → IsOk result }
+    ensures default { priority.urgency ≡ usual_urgency → priority.incremental ≡ false → IsOk result }
 {
     let mut members = Entries::new(alloc, seed);
     if priority.urgency != Urgency::default() {

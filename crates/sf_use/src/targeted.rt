@@ -1,10 +1,11 @@
 //! Targeted cache control (RFC 9213): which field a cache obeys, and its directives.
-ghost use Rattle.std.specs.Prelude.{◌≡◌, All, Ok, IfOk, IsOk};
+ghost use Rattle.std.specs.Prelude.{◌≡◌, All, Ok, IfOk, IfErr, IsOk};
 ghost use Rattle.std.specs.Option.{option_copied};
 ghost use Rattle.http_header.specs.HeaderMap.{ContainsKey};
 ghost use Rattle.sf_field.specs.Meaning.{Gives};
 ghost use Rattle.sf_use.specs.Targeted.{delta_seconds, directives, is_set, life, policy};
-ghost use Rattle.sf_use.specs.TargetedChoice.{IsChosen, MayOffer, IsOffer};
+ghost use Rattle.sf_use.specs.TargetedChoice.{IsChosen, IsReached, MayOffer, IsOffer, IsOfHeaders};
+ghost use Rattle.sf_use.specs.TargetedChoice.{OffersAsRead};
 ghost use Rattle.sf_use.specs.declared.targeted.Choice.TheVariants.{Fallback};
 
 use http_header::{HeaderMap, HeaderName};
@@ -150,6 +151,9 @@ pub fn select(
 ) -> Result<Choice, OutOfMemory>
     // The first target of the list whose field can be used, or Fallback if there is none.
     ensures chosen { IfOk result (IsChosen targets.now headers.now) }
+    // OutOfMemory only for the field of a target that is present, and before which no target has a
+    // field that can be used.
+    ensures reached { IfErr result (λ _. IsReached targets.now headers.now) }
     // If no field of a target is present, the call does not allocate.
     ensures absent { All (λ name. ¬ (ContainsKey headers.now name)) targets.now
         → result ≡ Ok Fallback }
@@ -197,6 +201,24 @@ fn policy_in(field: &Field) -> Option<Policy>
     Some(Policy::from_dict(dict))
 }
 
+/// Returns what a name offers whose field was read with this result: None if the field is absent,
+/// refused or empty.
+fn offer_in(read: Result<Option<Field>, Refusal>) -> Result<Option<Policy>, OutOfMemory>
+    // A header map is in memory: no read of a source failed.
+    requires { IfErr read IsOfHeaders }
+    // An absent, refused or empty field is passed over; only an allocation that failed, and a field
+    // that no memory can hold, are OutOfMemory.
+    ensures { OffersAsRead read result }
+{
+    match read {
+        Ok(Some(field)) => Ok(policy_in(&field)),
+        Ok(None) => Ok(None),
+        Err(Refusal::Syntax { .. }) => Ok(None),
+        Err(Refusal::OutOfMemory | Refusal::TooLong { .. }) => Err(OutOfMemory),
+        Err(Refusal::ReadFault { .. }) => unreachable!(),
+    }
+}
+
 /// Returns the policy of the field of a name; None if the field is absent, refused or empty.
 fn offered(
     alloc: Global,
@@ -206,14 +228,8 @@ fn offered(
 ) -> Result<Option<Policy>, OutOfMemory>
     // The policy of the name's field if it can be used, otherwise None.
     ensures offer { IfOk result (IsOffer headers.now name.now) }
-    // If the name is absent, the call does not allocate.
-    ensures absent { ¬ (ContainsKey headers.now name.now) → result ≡ Ok None }
+    // OutOfMemory only if the name is present.
+    ensures present { IfErr result (λ _. ContainsKey headers.now name.now) }
 {
-    match from_headers(alloc, seed, Kind::Dict, headers, name) {
-        Ok(Some(field)) => Ok(policy_in(&field)),
-        Ok(None) => Ok(None),
-        Err(Refusal::Syntax { .. }) => Ok(None),
-        Err(Refusal::OutOfMemory | Refusal::TooLong { .. }) => Err(OutOfMemory),
-        Err(Refusal::ReadFault { .. }) => unreachable!(),
-    }
+    offer_in(from_headers(alloc, seed, Kind::Dict, headers, name))
 }

@@ -11,6 +11,7 @@ pub mod CanonicalTexts
 pub mod Validity
 pub mod SettledWeight
 pub mod LengthBound
+pub mod EmptyTexts
 pub mod BothDialects
 pub mod Gives
 pub mod TextBytes

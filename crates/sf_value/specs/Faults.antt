@@ -1,6 +1,6 @@
 -- What each refusal of bytes says of them, and of itself.
 use Rattle.std.specs.Prelude.{◌≡◌, ℕ, suc, Bool, not, List, [], ◌∷◌, Option, Some, None}
-use Rattle.std.specs.Prelude.{if◌then◌else◌, ◌++◌, codes, decimal}
+use Rattle.std.specs.Prelude.{if◌then◌else◌, ◌++◌, codes, decimal, ⊤}
 use Rattle.std.specs.List.{position}
 use Rattle.std.specs.Option.{option_map}
 use Rattle.sf_value.specs.declared.fault.TextFault.{TextFault}
@@ -36,6 +36,12 @@ abbrev pub IsStringFault : List ℕ → TextFault → Type 0
 IsStringFault bs Empty = ⊥
 IsStringFault bs (BadByte place) = bad_place is_visible bs ≡ Some place
 IsStringFault bs OutOfMemory = Every is_visible bs
+
+-- it is not for want of memory
+abbrev pub IsOfBytes : TextFault → Type 0
+IsOfBytes Empty = ⊤
+IsOfBytes (BadByte place) = ⊤
+IsOfBytes OutOfMemory = ⊥
 
 -- the line of a fault
 abbrev pub text_fault_text : TextFault → List ℕ

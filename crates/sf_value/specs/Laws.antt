@@ -1,10 +1,11 @@
 -- The laws of the definitions that know no machine. Each stands as the contract of a function in
 -- `src/laws.rt`.
-use Rattle.std.specs.Prelude.{◌≡◌, ℕ, ◌*◌, ◌≤◌, ◌↔◌, List, ◌++◌, length}
+use Rattle.std.specs.Prelude.{◌≡◌, ℕ, ◌*◌, ◌≤◌, ◌↔◌, List, [], ◌++◌, length}
 use Rattle.std.specs.Str.{IsUtf8}
 use Rattle.sf_value.specs.declared.dialect.Dialect.{Dialect}
 use Rattle.sf_value.specs.declared.dialect.Dialect.TheVariants.{Rfc8941, Rfc9651}
 use Rattle.sf_value.specs.declared.value.Field.{Field}
+use Rattle.sf_value.specs.declared.value.Field.TheVariants as field
 use Rattle.sf_value.specs.declared.value.Kind.{Kind}
 use Rattle.sf_value.specs.Grammar.Pairs.{Pairs, settle}
 use Rattle.sf_value.specs.Grammar.Utf8.{WellFormed, Start}
@@ -31,6 +32,17 @@ abbrev pub CanonIsShort : Type 0
 CanonIsShort =
     (d : Dialect) (kind : Kind) (t : List ℕ) (v : Field)
     → SpellsField d kind t v → 5 * length (canon v) ≤ 8 * length t
+
+-- a List or a Dictionary without members
+abbrev pub HasNoMembers : Field → Type 0
+HasNoMembers (field.Item i) = ⊥
+HasNoMembers (field.List l) = l.members ≡ []
+HasNoMembers (field.Dict m) = m.members ≡ []
+
+-- the canonical text of a valid value is empty exactly if the value has no members (4.1)
+abbrev pub CanonIsEmpty : Type 0
+CanonIsEmpty =
+    (d : Dialect) (kind : Kind) (v : Field) → Valid d kind v → (canon v ≡ []) ↔ HasNoMembers v
 
 -- what a text spells in RFC 8941 it spells in RFC 9651
 abbrev pub SpellsInBoth : Type 0

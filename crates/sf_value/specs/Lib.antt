@@ -6,6 +6,8 @@ pub mod Entries
 pub mod Stores
 pub mod Lending
 pub mod Faults
+pub mod InPlace
+pub mod InPlaceValues
 pub mod Devices
 pub mod Laws
 pub mod Lookups

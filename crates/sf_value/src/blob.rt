@@ -1,7 +1,8 @@
 //! Byte sequences (RFC 9651 section 3.3.5).
-ghost use Rattle.std.specs.Prelude.{◌≡◌, ℕ, List, [], ◌↔◌, IsTrue, IfOk};
+ghost use Rattle.std.specs.Prelude.{◌≡◌, ℕ, List, [], ◌↔◌, IsTrue, IsOk, IfOk};
 ghost use Rattle.sf_value.specs.Grammar.Words.{Every};
 ghost use Rattle.sf_value.specs.Grammar.Classes.{is_byte};
+ghost use Rattle.sf_value.specs.InPlace.{FitsInPlace};
 
 use crate::bytes::ShortBytes;
 use crate::fault::OutOfMemory;
@@ -27,8 +28,11 @@ impl Model for Blob {
 
 impl Blob {
     /// The byte sequence of these bytes, which may be none. The only refusal is for want of memory.
+    /// Up to 16 bytes take none.
     pub fn new(alloc: Global, bytes: &[u8]) -> Result<Blob, OutOfMemory>
-        ensures { IfOk result (λ blob. blob ≡ bytes.now) }
+        ensures blob { IfOk result (λ blob. blob ≡ bytes.now) }
+        // At most 16 bytes are not refused for want of memory.
+        ensures in_place { FitsInPlace bytes.now → IsOk result }
     {
         Ok(Blob {
             bytes: ShortBytes::from_slice(alloc, bytes)?,
@@ -43,9 +47,12 @@ impl Blob {
         Blob { bytes }
     }
 
-    /// Another byte sequence, equal to this one. The only refusal is for want of memory.
+    /// Another byte sequence, equal to this one. The only refusal is for want of memory. Up to 16
+    /// bytes take none.
     pub fn copy(&self, alloc: Global) -> Result<Blob, OutOfMemory>
-        ensures { IfOk result (λ copy. copy ≡ self.now) }
+        ensures copied { IfOk result (λ copy. copy ≡ self.now) }
+        // At most 16 bytes are not refused for want of memory.
+        ensures in_place { FitsInPlace self.now → IsOk result }
     {
         Blob::new(alloc, self.as_bytes())
     }

@@ -1,7 +1,9 @@
 //! Bytes of which the first few stand in place.
-ghost use Rattle.std.specs.Prelude.{◌≡◌, ℕ, List, [], ◌∷◌, ◌++◌, ◌↔◌, IsTrue, IfOk, MatchResult};
+ghost use Rattle.std.specs.Prelude.{◌≡◌, ℕ, List, [], ◌∷◌, ◌++◌, ◌↔◌, IsTrue, IsOk, IfOk};
+ghost use Rattle.std.specs.Prelude.{MatchResult};
 ghost use Rattle.sf_value.specs.Grammar.Words.{Every};
 ghost use Rattle.sf_value.specs.Grammar.Classes.{is_byte};
+ghost use Rattle.sf_value.specs.InPlace.{FitsInPlace};
 
 use crate::fault::OutOfMemory;
 use smallvec::SmallVec;
@@ -27,9 +29,13 @@ pub struct ShortBytes {
 }
 
 impl Model for ShortBytes {
+    ghost use Rattle.std.specs.Prelude.{ℕ, ◌≤◌, List};
+
     ghost Value = { List ℕ };
 
     ghost view = { λ b. b.bytes.items };
+
+    ghost invariant = { λ b. 16 ≤ b.bytes.capacity };
 }
 
 impl ShortBytes {
@@ -56,28 +62,34 @@ impl ShortBytes {
     /// These bytes. Up to 16 take no memory. The only refusal is for want of memory.
     #[inline]
     pub fn from_slice(alloc: Global, bytes: &[u8]) -> Result<ShortBytes, OutOfMemory>
-        ensures { IfOk result (λ short. short ≡ bytes.now) }
+        ensures bytes { IfOk result (λ short. short ≡ bytes.now) }
+        // At most 16 bytes are not refused for want of memory.
+        ensures in_place { FitsInPlace bytes.now → IsOk result }
     {
         Ok(ShortBytes {
             bytes: SmallVec::from_slice(alloc, bytes)?,
         })
     }
 
-    /// Adds a byte at the end. For want of memory the bytes stay as they were.
+    /// Adds a byte at the end. For want of memory the bytes stay as they were. Up to 16 take none.
     #[inline]
     pub fn push(&mut self, byte: u8) -> Result<(), OutOfMemory>
-        ensures { MatchResult result (λ _. self.new ≡ self.old ++ byte ∷ [])
+        ensures bytes { MatchResult result (λ _. self.new ≡ self.old ++ byte ∷ [])
             (λ _. self.new ≡ self.old) }
+        // At most 16 bytes are not refused for want of memory.
+        ensures in_place { FitsInPlace (self.old ++ byte ∷ []) → IsOk result }
     {
         self.bytes.push(byte)?;
         Ok(())
     }
 
-    /// Adds bytes at the end. For want of memory the bytes stay as they were.
+    /// Adds bytes at the end. For want of memory the bytes stay as they were. Up to 16 take none.
     #[inline]
     pub fn extend(&mut self, run: &[u8]) -> Result<(), OutOfMemory>
-        ensures { MatchResult result (λ _. self.new ≡ self.old ++ run.now)
+        ensures bytes { MatchResult result (λ _. self.new ≡ self.old ++ run.now)
             (λ _. self.new ≡ self.old) }
+        // At most 16 bytes are not refused for want of memory.
+        ensures in_place { FitsInPlace (self.old ++ run.now) → IsOk result }
     {
         self.bytes.extend_from_slice(run)?;
         Ok(())

@@ -1,10 +1,11 @@
 //! Display strings (RFC 9651 section 3.3.8).
-ghost use Rattle.std.specs.Prelude.{◌≡◌, ℕ, List, [], ◌↔◌, IsTrue, IfOk};
+ghost use Rattle.std.specs.Prelude.{◌≡◌, ℕ, List, [], ◌↔◌, IsTrue, IsOk, IfOk};
 ghost use Rattle.std.specs.Str.{IsUtf8};
 ghost use Rattle.sf_value.specs.Grammar.Words.{Every};
 ghost use Rattle.sf_value.specs.Grammar.Classes.{is_byte};
 ghost use Rattle.sf_value.specs.Grammar.DisplayStrings.{is_unencoded};
 ghost use Rattle.sf_value.specs.Grammar.Utf8.{WellFormed, Start};
+ghost use Rattle.sf_value.specs.InPlace.{FitsInPlace};
 
 use crate::bytes::ShortBytes;
 use crate::fault::OutOfMemory;
@@ -33,9 +34,12 @@ impl Model for Shown {
 
 impl Shown {
     /// The display string of this text, which may be empty. The only refusal is for want of memory.
+    /// Up to 16 bytes of UTF-8 take none.
     #[tactic(auto, using(crate::proofs::Utf8Table::from_utf8))]
     pub fn new(alloc: Global, text: &str) -> Result<Shown, OutOfMemory>
-        ensures { IfOk result (λ shown. shown ≡ text.now) }
+        ensures shown { IfOk result (λ shown. shown ≡ text.now) }
+        // At most 16 bytes are not refused for want of memory.
+        ensures in_place { FitsInPlace text.now → IsOk result }
     {
         Ok(Shown {
             bytes: ShortBytes::from_slice(alloc, text.as_bytes())?,
@@ -51,9 +55,12 @@ impl Shown {
         Shown { bytes }
     }
 
-    /// Another display string, equal to this one. The only refusal is for want of memory.
+    /// Another display string, equal to this one. The only refusal is for want of memory. Up to 16
+    /// bytes take none.
     pub fn copy(&self, alloc: Global) -> Result<Shown, OutOfMemory>
-        ensures { IfOk result (λ copy. copy ≡ self.now) }
+        ensures copied { IfOk result (λ copy. copy ≡ self.now) }
+        // At most 16 bytes are not refused for want of memory.
+        ensures in_place { FitsInPlace self.now → IsOk result }
     {
         Ok(Shown {
             bytes: ShortBytes::from_slice(alloc, self.as_bytes())?,

@@ -373,6 +373,8 @@ impl<V: Drop> IntoIterator for Entries<V> {
 }
 
 impl<V: Part> Part for Entries<V> {
+    ghost in_place = { λ e. e ≡ [] };
+
     ghost decides = { pairs_decide V.eq V.decides };
 
     fn same(&self, other: &Entries<V>) -> bool {

@@ -1,8 +1,9 @@
 //! Keys of parameters and of dictionary members (RFC 9651 section 3.1.2).
-ghost use Rattle.std.specs.Prelude.{◌≡◌, ℕ, List, [], ◌∷◌, true, IfOk, MatchResult};
+ghost use Rattle.std.specs.Prelude.{◌≡◌, ℕ, List, [], ◌∷◌, true, IsOk, IfOk, IfErr, MatchResult};
 ghost use Rattle.sf_value.specs.Grammar.Classes.{is_key_start, is_in_key};
 ghost use Rattle.sf_value.specs.Grammar.Tokens.{IsKey};
-ghost use Rattle.sf_value.specs.Faults.{IsKeyFault};
+ghost use Rattle.sf_value.specs.Faults.{IsKeyFault, IsOfBytes};
+ghost use Rattle.sf_value.specs.InPlace.{FitsInPlace};
 
 use crate::bytes::ShortBytes;
 use crate::fault::{OutOfMemory, TextFault};
@@ -33,11 +34,14 @@ impl Model for Key {
 
 impl Key {
     /// The key of these bytes. It is refused as `Empty` where there is no byte, else as `BadByte`
-    /// at the first byte that may not stand in its place, else as `OutOfMemory`.
+    /// at the first byte that may not stand in its place, else as `OutOfMemory`. Up to 16 bytes
+    /// take no memory.
     pub fn new(alloc: Global, bytes: &[u8]) -> Result<Key, TextFault>
         // these bytes; or the cause: no byte, the first bad one, or a key and no memory for it
         ensures exact { MatchResult result (λ key. key ≡ bytes.now) (IsKeyFault bytes.now) }
         ensures key { IfOk result (λ key. IsKey key) }
+        // At most 16 bytes are not refused for want of memory.
+        ensures in_place { FitsInPlace bytes.now → IfErr result IsOfBytes }
     {
         Ok(Key {
             bytes: word_bytes::<Key>(alloc, bytes)?,
@@ -54,20 +58,25 @@ impl Key {
         Key { bytes }
     }
 
-    /// The key of one byte, one that [`can_start_key`] accepts. The only refusal is for want of
-    /// memory.
+    /// The key of one byte, one that [`can_start_key`] accepts. It takes no memory, and is never
+    /// refused.
     pub fn first(alloc: Global, byte: u8) -> Result<Key, OutOfMemory>
         requires { is_key_start byte ≡ true }
-        ensures { IfOk result (λ key. key ≡ byte ∷ []) }
+        ensures key { IfOk result (λ key. key ≡ byte ∷ []) }
+        // One byte is not refused for want of memory.
+        ensures in_place { IsOk result }
     {
         let mut bytes = ShortBytes::new(alloc);
         bytes.push(byte)?;
         Ok(Key { bytes })
     }
 
-    /// Another key, equal to this one. The only refusal is for want of memory.
+    /// Another key, equal to this one. The only refusal is for want of memory. Up to 16 bytes take
+    /// none.
     pub fn copy(&self, alloc: Global) -> Result<Key, OutOfMemory>
-        ensures { IfOk result (λ copy. copy ≡ self.now) }
+        ensures copied { IfOk result (λ copy. copy ≡ self.now) }
+        // At most 16 bytes are not refused for want of memory.
+        ensures in_place { FitsInPlace self.now → IsOk result }
     {
         Ok(Key {
             bytes: ShortBytes::from_slice(alloc, self.as_bytes())?,

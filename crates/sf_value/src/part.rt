@@ -1,9 +1,11 @@
 //! Parts of values, which are compared and copied: equality is that of trees, in which order
 //! counts.
-ghost use Rattle.std.specs.Prelude.{◌≡◌, ◌↔◌, IsTrue, IfOk};
+ghost use Rattle.std.specs.Prelude.{◌≡◌, ◌↔◌, IsTrue, IsOk, IfOk};
 ghost use Rattle.std.specs.Bool.{Decides};
 ghost use Rattle.sf_value.specs.Deciding.{bare_decides, inner_decides, item_decides};
 ghost use Rattle.sf_value.specs.Deciding.{member_decides};
+ghost use Rattle.sf_value.specs.InPlaceValues.{BareInPlace, ItemInPlace, InnerInPlace};
+ghost use Rattle.sf_value.specs.InPlaceValues.{MemberInPlace, FieldInPlace};
 
 use crate::entries::Entries;
 use crate::fault::OutOfMemory;
@@ -15,21 +17,29 @@ use std::hash::RandomState;
 /// A part of a value: a bare item, an Item, an Inner List, a member, and entries and sequences of
 /// such. Whole fields are compared and copied by [`same`] and [`copy`].
 pub trait Part: PartialEq + Drop {
+    // whether a copy takes no memory
+    ghost in_place: { Self → Type 0 };
+
     /// Whether the two are equal: the same type, the same bytes or numbers, and the same parts in
     /// the same order. It takes no memory.
     fn same(&self, other: &Self) -> bool
         ensures { IsTrue result ↔ (self.now ≡ other.now) };
 
     /// Another value, equal to this one. The seed is that of its entries. The only refusal is for
-    /// want of memory.
+    /// want of memory. What stands in place takes none: a bare item that is no text or is of at
+    /// most 16 bytes, such an Item without parameters, and no entries.
     fn copy(&self, alloc: Global, seed: &RandomState) -> Result<Self, OutOfMemory>
-        ensures { IfOk result (λ copy. copy ≡ self.now) };
+        ensures copied { IfOk result (λ copy. copy ≡ self.now) }
+        // What stands in place is not refused for want of memory.
+        ensures in_place { in_place self.now → IsOk result };
 
     // `==` holds of equal parts, and of no others
     ghost decides: { (a b : Self) → Decides (Self.eq a b) (a ≡ b) };
 }
 
 impl Part for Bare {
+    ghost in_place = { BareInPlace };
+
     ghost decides = { bare_decides };
 
     fn same(&self, other: &Bare) -> bool {
@@ -84,6 +94,8 @@ impl Part for Bare {
 }
 
 impl Part for Item {
+    ghost in_place = { ItemInPlace };
+
     ghost decides = { item_decides };
 
     fn same(&self, other: &Item) -> bool {
@@ -99,6 +111,8 @@ impl Part for Item {
 }
 
 impl Part for Inner {
+    ghost in_place = { InnerInPlace };
+
     ghost decides = { inner_decides };
 
     fn same(&self, other: &Inner) -> bool {
@@ -114,6 +128,8 @@ impl Part for Inner {
 }
 
 impl Part for Member {
+    ghost in_place = { MemberInPlace };
+
     ghost decides = { member_decides };
 
     fn same(&self, other: &Member) -> bool {
@@ -163,13 +179,16 @@ pub fn same(a: &Field, b: &Field) -> bool
 }
 
 /// Another field, equal to its source. The seed is that of its entries. The only refusal is for
-/// want of memory.
+/// want of memory. A number, a Boolean, a Date or at most 16 bytes without parameters, and a List
+/// or a Dictionary without members, take none.
 ///
 /// ```
 /// let twin = copy(alloc, &seed, &field)?;
 /// ```
 pub fn copy(alloc: Global, seed: &RandomState, field: &Field) -> Result<Field, OutOfMemory>
-    ensures { IfOk result (λ copy. copy ≡ field.now) }
+    ensures copied { IfOk result (λ copy. copy ≡ field.now) }
+    // What stands in place is not refused for want of memory.
+    ensures in_place { FieldInPlace field.now → IsOk result }
 {
     match field {
         Field::Item(item) => Ok(Field::Item(item.copy(alloc, seed)?)),

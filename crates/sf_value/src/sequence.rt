@@ -225,6 +225,8 @@ impl<T> DerefSlice for Sequence<T> {
 }
 
 impl<T: Part> Part for Sequence<T> {
+    ghost in_place = { λ s. s ≡ [] };
+
     ghost decides = { pointwise_decides T.decides };
 
     fn same(&self, other: &Sequence<T>) -> bool {

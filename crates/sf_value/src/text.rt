@@ -1,9 +1,10 @@
 //! Strings (RFC 9651 section 3.3.3).
 ghost use Rattle.std.specs.Prelude.{◌≡◌, ℕ, List, [], ◌↔◌};
-ghost use Rattle.std.specs.Prelude.{IsTrue, IfOk, MatchResult};
+ghost use Rattle.std.specs.Prelude.{IsTrue, IsOk, IfOk, IfErr, MatchResult};
 ghost use Rattle.sf_value.specs.Grammar.Words.{Every};
 ghost use Rattle.sf_value.specs.Grammar.Classes.{is_visible as is_visible_byte};
-ghost use Rattle.sf_value.specs.Faults.{bad_place, IsStringFault};
+ghost use Rattle.sf_value.specs.Faults.{bad_place, IsStringFault, IsOfBytes};
+ghost use Rattle.sf_value.specs.InPlace.{FitsInPlace};
 
 use crate::bytes::ShortBytes;
 use crate::fault::{OutOfMemory, TextFault};
@@ -32,12 +33,15 @@ impl Model for Text {
 
 impl Text {
     /// The string of these bytes, which may be none. It is refused as `BadByte` at the first byte
-    /// that no string holds, else as `OutOfMemory`, and never as `Empty`.
+    /// that no string holds, else as `OutOfMemory`, and never as `Empty`. Up to 16 bytes take no
+    /// memory.
     #[tactic(auto, using(crate::proofs::Words::every_from_place))]
     pub fn new(alloc: Global, bytes: &[u8]) -> Result<Text, TextFault>
         // these bytes; or the cause: the first bad one, or a string and no memory for it
         ensures exact { MatchResult result (λ text. text ≡ bytes.now) (IsStringFault bytes.now) }
         ensures text { IfOk result (λ text. Every is_visible_byte text) }
+        // At most 16 bytes are not refused for want of memory.
+        ensures in_place { FitsInPlace bytes.now → IfErr result IsOfBytes }
     {
         if let Some(place) = bad_byte(bytes) {
             return Err(TextFault::BadByte { place });
@@ -57,9 +61,12 @@ impl Text {
         Text { bytes }
     }
 
-    /// Another string, equal to this one. The only refusal is for want of memory.
+    /// Another string, equal to this one. The only refusal is for want of memory. Up to 16
+    /// bytes take none.
     pub fn copy(&self, alloc: Global) -> Result<Text, OutOfMemory>
-        ensures { IfOk result (λ copy. copy ≡ self.now) }
+        ensures copied { IfOk result (λ copy. copy ≡ self.now) }
+        // At most 16 bytes are not refused for want of memory.
+        ensures in_place { FitsInPlace self.now → IsOk result }
     {
         Ok(Text {
             bytes: ShortBytes::from_slice(alloc, self.as_bytes())?,

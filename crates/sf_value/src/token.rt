@@ -1,8 +1,9 @@
 //! Tokens (RFC 9651 section 3.3.4).
-ghost use Rattle.std.specs.Prelude.{◌≡◌, ℕ, List, IfOk, MatchResult};
+ghost use Rattle.std.specs.Prelude.{◌≡◌, ℕ, List, IsOk, IfOk, IfErr, MatchResult};
 ghost use Rattle.sf_value.specs.Grammar.Classes.{is_token_start, is_in_token};
 ghost use Rattle.sf_value.specs.Grammar.Tokens.{IsToken};
-ghost use Rattle.sf_value.specs.Faults.{IsTokenFault};
+ghost use Rattle.sf_value.specs.Faults.{IsTokenFault, IsOfBytes};
+ghost use Rattle.sf_value.specs.InPlace.{FitsInPlace};
 
 use crate::bytes::ShortBytes;
 use crate::fault::{OutOfMemory, TextFault};
@@ -32,11 +33,14 @@ impl Model for Token {
 
 impl Token {
     /// The token of these bytes. It is refused as `Empty` where there is no byte, else as `BadByte`
-    /// at the first byte that may not stand in its place, else as `OutOfMemory`.
+    /// at the first byte that may not stand in its place, else as `OutOfMemory`. Up to 16 bytes
+    /// take no memory.
     pub fn new(alloc: Global, bytes: &[u8]) -> Result<Token, TextFault>
         // these bytes; or the cause: no byte, the first bad one, or a token and no memory for it
         ensures exact { MatchResult result (λ token. token ≡ bytes.now) (IsTokenFault bytes.now) }
         ensures token { IfOk result (λ token. IsToken token) }
+        // At most 16 bytes are not refused for want of memory.
+        ensures in_place { FitsInPlace bytes.now → IfErr result IsOfBytes }
     {
         Ok(Token {
             bytes: word_bytes::<Token>(alloc, bytes)?,
@@ -53,9 +57,12 @@ impl Token {
         Token { bytes }
     }
 
-    /// Another token, equal to this one. The only refusal is for want of memory.
+    /// Another token, equal to this one. The only refusal is for want of memory. Up to 16 bytes take
+    /// none.
     pub fn copy(&self, alloc: Global) -> Result<Token, OutOfMemory>
-        ensures { IfOk result (λ copy. copy ≡ self.now) }
+        ensures copied { IfOk result (λ copy. copy ≡ self.now) }
+        // At most 16 bytes are not refused for want of memory.
+        ensures in_place { FitsInPlace self.now → IsOk result }
     {
         Ok(Token {
             bytes: ShortBytes::from_slice(alloc, self.as_bytes())?,

@@ -1,7 +1,8 @@
 //! What keys and tokens have in common: a first byte of one class, then bytes of another.
-ghost use Rattle.std.specs.Prelude.{◌≡◌, ℕ, Bool, IfOk, MatchResult};
+ghost use Rattle.std.specs.Prelude.{◌≡◌, ℕ, Bool, IfOk, IfErr, MatchResult};
 ghost use Rattle.sf_value.specs.Grammar.Words.{IsWord};
-ghost use Rattle.sf_value.specs.Faults.{bad_place, bad_word_place, IsWordFault};
+ghost use Rattle.sf_value.specs.Faults.{bad_place, bad_word_place, IsWordFault, IsOfBytes};
+ghost use Rattle.sf_value.specs.InPlace.{FitsInPlace};
 
 use crate::bytes::ShortBytes;
 use crate::fault::TextFault;
@@ -30,6 +31,8 @@ pub fn word_bytes<W: Word>(alloc: Global, bytes: &[u8]) -> Result<ShortBytes, Te
     ensures exact { MatchResult result (λ word. word ≡ bytes.now)
         (IsWordFault W.start W.more bytes.now) }
     ensures word { IfOk result (λ word. IsWord W.start W.more word) }
+    // At most 16 bytes are not refused for want of memory.
+    ensures in_place { FitsInPlace bytes.now → IfErr result IsOfBytes }
 {
     if bytes.is_empty() {
         return Err(TextFault::Empty);

@@ -5,6 +5,7 @@ use Rattle.std.proofs.Common.{arith, length-append}
 use Rattle.std.proofs.Math.Seq.{take-append_seam, drop-append_seam}
 use Rattle.std.specs.Str.{bytes_eq}
 use Rattle.sf_value.specs.declared.dialect.Dialect.{Dialect}
+use Rattle.sf_value.specs.declared.value.Item.{Item}
 use Rattle.sf_value.specs.declared.value.Member.{Member}
 use Rattle.sf_value.specs.declared.value.Member.TheVariants as member
 use Rattle.sf_value.specs.Grammar.Pairs.{Pairs, value_at}
@@ -12,7 +13,8 @@ use Rattle.sf_value.proofs.Settling.{same_key}
 use Rattle.sf_value.specs.declared.value.Bare.{Bare}
 use Rattle.sf_view.specs.declared.node.Node.{Node}
 use Rattle.sf_view.specs.declared.node.Role.{Role}
-use Rattle.sf_view.specs.View.{piece, DescribesMember, DescribesPairs, DescribesBare, DescribesParams}
+use Rattle.sf_view.specs.declared.node.Role.TheVariants as role_is
+use Rattle.sf_view.specs.View.{piece, DescribesMember, DescribesPairs, DescribesBare, DescribesParams, DescribesItem}
 use Rattle.sf_view.specs.Finding.{IsHop, NoHop}
 
 -- what the first node of a member says
@@ -24,9 +26,9 @@ pub record Opens (source k : List ℕ) (front : List Node) : Type 0 where
   pub within : first.key_at + first.key_length ≤ length source
   pub key : piece first.key_at first.key_length source ≡ k
 
-pub opens : (d : Dialect) (source k : List ℕ) (front : List Node) (m : Member)
-    → DescribesMember d source k front m → Opens source k front
-opens d source k front (member.Item i) (n, ms, e, h, r) = record {
+pub item_opens : (d : Dialect) (source : List ℕ) (r : Role) (k : List ℕ) (front : List Node)
+    (i : Item) → DescribesItem d source r k front i → Opens source k front
+item_opens d source r k front i (n, ms, e, h, more) = record {
   first = n;
   more = ms;
   begins = e;
@@ -34,6 +36,10 @@ opens d source k front (member.Item i) (n, ms, e, h, r) = record {
   within = h.key_within;
   key = h.key;
 }
+
+pub opens : (d : Dialect) (source k : List ℕ) (front : List Node) (m : Member)
+    → DescribesMember d source k front m → Opens source k front
+opens d source k front (member.Item i) t = item_opens d source role_is.Member k front i t
 opens d source k front (member.Inner l) (n, is, ps, e, h, r, q) = record {
   first = n;
   more = is ++ ps;
@@ -69,6 +75,49 @@ param_parts d source r ns (p ∷ ps) (n, ms, e, h, more) =
 abbrev pub AllOpen : {X : Type 0} → List ℕ → (List ℕ → List Node → X → Type 0) → Type 0
 AllOpen {X} source P = (k : List ℕ) (front : List Node) (x : X) → P k front x → Opens source k front
 
+heads : (m n : Node) (ms ns : List Node) → m ∷ ms ≡ n ∷ ns → m ≡ n
+heads m n ms ns e = cc
+
+-- the part that was hopped over is the one that nodes describe
+pub record SamePart (k own_key : List ℕ) (front later own back : List Node) : Type 0 where
+  pub key : k ≡ own_key
+  pub here : front ≡ own
+  pub others : later ≡ back
+
+pub same_part : (source j : List ℕ) (nodes own back : List Node) (k : List ℕ)
+    (front later : List Node) → Opens source j own → nodes ≡ own ++ back
+    → IsHop source nodes k front later → SamePart k j front later own back
+same_part source j nodes own back k front later o e h =
+    let both : front ++ later ≡ own ++ back = sym h.split ∙ e in
+    let one : h.first ≡ o.first =
+    heads h.first o.first (h.more ++ later) (o.more ++ back)
+    (ap (λ y. y ++ later) (sym h.begins) ∙ both ∙ ap (λ y. y ++ back) o.begins) in
+    let size : length front ≡ length own = h.span ∙ ap (λ y. y.span) one ∙ sym o.span in
+    record {
+      key = h.key ∙ ap (λ y. piece y.key_at y.key_length source) one ∙ o.key;
+      here =
+          sym (take-append_seam front later)
+          ∙ ap (λ y. take y (front ++ later)) size
+          ∙ ap (take (length own)) both
+          ∙ take-append_seam own back;
+      others =
+          sym (drop-append_seam front later)
+          ∙ ap (λ y. drop y (front ++ later)) size
+          ∙ ap (drop (length own)) both
+          ∙ drop-append_seam own back;
+    }
+
+-- where nodes describe a part there is one to hop over
+pub no_part : (source j : List ℕ) (nodes own back : List Node) → Opens source j own
+    → nodes ≡ own ++ back → NoHop source nodes → ⊥
+no_part source j nodes own back o e n =
+    let e' : nodes ≡ o.first ∷ (o.more ++ back) = e ∙ ap (λ y. y ++ back) o.begins in
+    let n' : NoHop source (o.first ∷ (o.more ++ back)) = subst (NoHop source) e' n in
+    let sizes = ap length o.begins in
+    let all = length-append o.more back in
+    let s = o.span in
+    n' o.within (omega arith) (omega arith)
+
 -- the same front and the same rest
 record Hopped {X : Type 0} (P : List ℕ → List Node → X → Type 0) (k : List ℕ)
     (front later : List Node) (p : List ℕ × X) (ps : Pairs X) : Type 0 where
@@ -76,35 +125,17 @@ record Hopped {X : Type 0} (P : List ℕ → List Node → X → Type 0) (k : Li
   describes : P p.0 front p.1
   rest : DescribesPairs P later ps
 
-heads : (m n : Node) (ms ns : List Node) → m ∷ ms ≡ n ∷ ns → m ≡ n
-heads m n ms ns e = cc
-
 hopped : {X : Type 0} (P : List ℕ → List Node → X → Type 0) (source : List ℕ)
     → AllOpen source P → (nodes : List Node) (k : List ℕ) (front later : List Node)
     (p : List ℕ × X) (ps : Pairs X)
     → IsHop source nodes k front later → DescribesPairs P nodes (p ∷ ps)
     → Hopped P k front later p ps
 hopped P source opened nodes k front later p ps h (own, back, e, t, r) =
-    let o = opened p.0 own p.1 t in
-    let both : front ++ later ≡ own ++ back = sym h.split ∙ e in
-    let one : h.first ≡ o.first =
-    heads h.first o.first (h.more ++ later) (o.more ++ back)
-    (ap (λ y. y ++ later) (sym h.begins) ∙ both ∙ ap (λ y. y ++ back) o.begins) in
-    let size : length front ≡ length own = h.span ∙ ap (λ y. y.span) one ∙ sym o.span in
-    let front_is : front ≡ own =
-    sym (take-append_seam front later)
-    ∙ ap (λ y. take y (front ++ later)) size
-    ∙ ap (take (length own)) both
-    ∙ take-append_seam own back in
-    let later_is : later ≡ back =
-    sym (drop-append_seam front later)
-    ∙ ap (λ y. drop y (front ++ later)) size
-    ∙ ap (drop (length own)) both
-    ∙ drop-append_seam own back in
+    let o = same_part source p.0 nodes own back k front later (opened p.0 own p.1 t) e h in
     record {
-      key = h.key ∙ ap (λ y. piece y.key_at y.key_length source) one ∙ o.key;
-      describes = subst (λ y. P p.0 y p.1) (sym front_is) t;
-      rest = subst (λ y. DescribesPairs P y ps) (sym later_is) r;
+      key = o.key;
+      describes = subst (λ y. P p.0 y p.1) (sym o.here) t;
+      rest = subst (λ y. DescribesPairs P y ps) (sym o.others) r;
     }
 
 -- where no part begins there is none
@@ -113,13 +144,7 @@ none_left : {X : Type 0} (P : List ℕ → List Node → X → Type 0) (source :
     → NoHop source nodes → DescribesPairs P nodes ps → ps ≡ []
 none_left P source opened nodes [] n t = refl
 none_left P source opened nodes (p ∷ ps) n (own, back, e, t, r) =
-    let o = opened p.0 own p.1 t in
-    let e' : nodes ≡ o.first ∷ (o.more ++ back) = e ∙ ap (λ y. y ++ back) o.begins in
-    let n' : NoHop source (o.first ∷ (o.more ++ back)) = subst (NoHop source) e' n in
-    let sizes = ap length o.begins in
-    let all = length-append o.more back in
-    let s = o.span in
-    absurd (n' o.within (omega arith) (omega arith))
+    absurd (no_part source p.0 nodes own back (opened p.0 own p.1 t) e n)
 
 -- the rest holds the key as all does
 pub record Left {X : Type 0} (P : List ℕ → List Node → X → Type 0) (key : List ℕ) (ps : Pairs X)
@@ -145,7 +170,7 @@ pub left_none : {X : Type 0} (P : List ℕ → List Node → X → Type 0) (sour
 left_none P source opened key ps rest l n =
     l.same ∙ ap (value_at key) (none_left P source opened rest l.pairs n l.describes)
 
-some_hop : (source : List ℕ) (k : List ℕ) (nodes front later : List Node)
+pub some_hop : (source : List ℕ) (k : List ℕ) (nodes front later : List Node)
     → IsHop source nodes k front later → nodes ≡ [] → ⊥
 some_hop source k nodes front later h e =
     let e' : [] ≡ h.first ∷ (h.more ++ later) =

@@ -1,6 +1,6 @@
 -- What a view describes.
-use Rattle.std.specs.Prelude.{◌≡◌, ℕ, ◌≤◌, ◌<◌, ◌^◌, Bool, true, false, List as Seq, [], ◌∷◌}
-use Rattle.std.specs.Prelude.{length, ℤ, Option, Some, None, ◌+◌}
+use Rattle.std.specs.Prelude.{◌≡◌, ℕ, ◌≤◌, ◌<◌, ◌^◌, Bool, true, false, List as Seq}
+use Rattle.std.specs.Prelude.{Option, Some, None}
 use Rattle.sf_value.specs.declared.dialect.Dialect.{Dialect}
 use Rattle.sf_value.specs.declared.value.Field.{Field}
 use Rattle.sf_value.specs.declared.value.Kind.{Kind}
@@ -12,10 +12,9 @@ use Rattle.sf_value.specs.declared.value.Bare.{Bare}
 use Rattle.sf_value.specs.declared.value.Bare.TheVariants.{Integer, Decimal, Text, Token}
 use Rattle.sf_value.specs.declared.value.Bare.TheVariants.{Blob, Boolean, Date, Shown}
 use Rattle.sf_view.specs.declared.node.Node.{Node}
-use Rattle.sf_view.specs.declared.node.Role.{Role}
 use Rattle.sf_view.specs.declared.view.BareView.{BareView}
 use Rattle.sf_view.specs.declared.view.BareView.TheVariants as view_is
-use Rattle.sf_view.specs.View.{type_of, number_of, DescribesText, DescribesBare, DescribesField}
+use Rattle.sf_view.specs.View.{type_of, number_of, DescribesText, DescribesField}
 
 -- this view is of the text, and its nodes describe the field that the text spells, the only one
 pub record IsViewed (d : Dialect) (kind : Kind) (t : Seq ℕ) (v : PartView) : Type 0 where
@@ -34,16 +33,6 @@ IsExcused size room TooLong = 2 ^ 32 ≤ size
 abbrev pub reason : Bool → Unviewed
 reason true = Declined
 reason false = ShortBuffer
-
--- the first node describes this bare item
-pub record BeginsWith (d : Dialect) (v : PartView) (x : Bare) : Type 0 where
-  pub first : Node
-  pub more : Seq Node
-  pub begins : v.nodes.now ≡ first ∷ more
-  pub role : Role
-  pub key : Seq ℕ
-  pub span : ℕ
-  pub describes : DescribesBare d v.text.now role key span first x
 
 -- a node that points to these bytes describes this bare item
 pub record NodeShows (d : Dialect) (n : Node) (bytes : Seq ℕ) (x : Bare) : Type 0 where

@@ -2,15 +2,18 @@
 #![tactic(auto)]
 
 mod bare;
+mod bytes;
 mod classes;
 mod display_string;
 mod item;
 mod keys;
 mod lookup;
 mod node;
+mod parts;
 mod series;
 mod view;
 
+pub use bytes::Bytes;
 pub use lookup::entry;
 pub use node::{Node, NodeType, Role};
 pub use series::scan_text;

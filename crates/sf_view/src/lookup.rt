@@ -13,7 +13,10 @@ use crate::node::Node;
 
 /// The first part: its key, its nodes, and those behind it.
 #[inline]
-fn hop<'a>(source: &'a [u8], nodes: &'a [Node]) -> Option<(&'a [u8], &'a [Node], &'a [Node])>
+pub(crate) fn hop<'a>(
+    source: &'a [u8],
+    nodes: &'a [Node],
+) -> Option<(&'a [u8], &'a [Node], &'a [Node])>
     ensures hop { IfSome result (λ r. IsHop source.now nodes.now r.0.now r.1.now r.2.now) }
     ensures none { IfNone result (NoHop source.now nodes.now) }
     ensures shorter { IfSome result (λ r. length r.2.now < length nodes.now) }

@@ -1,12 +1,16 @@
 //! A whole text with its nodes, and what they describe.
-ghost use Rattle.std.specs.Prelude.{◌≡◌, length, IfOk, IfErr, IfSome, IfNone, None};
+ghost use Rattle.std.specs.Prelude.{◌≡◌, ◌∷◌, [], ℕ, List, length, IfOk, IfErr, IfSome, IfNone, None};
 ghost use Rattle.sf_value.specs.declared.dialect.Dialect.{Dialect as Which};
 ghost use Rattle.sf_value.specs.declared.value.Bare.{Bare};
+ghost use Rattle.sf_value.specs.declared.value.Inner.{Inner};
+ghost use Rattle.sf_value.specs.declared.value.Item.{Item};
 ghost use Rattle.sf_value.specs.declared.value.Member.{Member};
 ghost use Rattle.sf_value.specs.Grammar.Pairs.{Pairs, value_at};
-ghost use Rattle.sf_view.specs.View.{DescribesEntries};
-ghost use Rattle.sf_view.specs.Finding.{Finds};
-ghost use Rattle.sf_view.specs.Views.{IsViewed, IsExcused, reason, BeginsWith, NodeShows, ShowsBare};
+ghost use Rattle.sf_view.specs.declared.node.NodeType.TheVariants as type_is;
+ghost use Rattle.sf_view.specs.declared.node.Role.{Role as Place};
+ghost use Rattle.sf_view.specs.View.{DescribesEntries, DescribesParams, DescribesItem, DescribesInner};
+ghost use Rattle.sf_view.specs.Finding.{Finds, FindsParam};
+ghost use Rattle.sf_view.specs.Views.{IsViewed, IsExcused, reason, NodeShows, ShowsBare};
 
 use crate::keys::{bytes_at, first_node};
 use crate::lookup::entry;
@@ -101,11 +105,12 @@ impl<'a> View<'a> {
         Ok(View { text, nodes: front })
     }
 
-    /// The member of a Dictionary with this key; `None` if there is none. It allocates nothing, and
-    /// takes time in the number of members.
+    /// The member of a Dictionary with this key, or the parameter with this key; `None` if there is
+    /// none. It allocates nothing, and takes time in the number of members or of parameters.
     ///
     /// ```
     /// view.get(b"u") // of u=1, i: the view of the Integer 1
+    /// view.get(b"u")?.params().get(b"q") // of u=1;q=2: the view of the Integer 2
     /// ```
     pub fn get(&self, key: &[u8]) -> Option<View<'a>>
         // Whatever members the nodes describe, those found describe the one with this key.
@@ -117,6 +122,13 @@ impl<'a> View<'a> {
         // If none are found, no member has this key.
         ensures none { (d : Which) (ps : Pairs Member)
             → DescribesEntries d self.now.text.now self.now.nodes.now ps
+            → IfNone result (value_at key.now ps ≡ None) }
+        // Whatever parameters the nodes describe, the same holds.
+        ensures found_param { (d : Which) (r : Place) (ps : Pairs Bare)
+            → DescribesParams d self.now.text.now r self.now.nodes.now ps
+            → IfSome result (λ p. FindsParam d self.now.text.now key.now r ps p.nodes.now) }
+        ensures none_param { (d : Which) (r : Place) (ps : Pairs Bare)
+            → DescribesParams d self.now.text.now r self.now.nodes.now ps
             → IfNone result (value_at key.now ps ≡ None) }
     {
         match entry(self.text, self.nodes, key) {
@@ -131,8 +143,18 @@ impl<'a> View<'a> {
     /// The bare item of an Item, or the value of a parameter: what the first node describes; `None`
     /// for an Inner List. It allocates nothing.
     pub fn bare(&self) -> Option<BareView<'a>>
-        // Whatever bare item the first node describes, this is it.
-        ensures { (d : Which) (x : Bare) → BeginsWith d self.now x → ShowsBare d result x }
+        // Whatever Item the nodes describe, this is its bare item.
+        ensures item { (d : Which) (r : Place) (k : List ℕ) (i : Item)
+            → DescribesItem d self.now.text.now r k self.now.nodes.now i
+            → ShowsBare d result i.bare }
+        // Whatever parameter the node describes, this is its value.
+        ensures param { (d : Which) (r : Place) (k : List ℕ) (x : Bare)
+            → DescribesParams d self.now.text.now r self.now.nodes.now ((k, x) ∷ [])
+            → ShowsBare d result x }
+        // An Inner List has no bare item.
+        ensures inner { (d : Which) (k : List ℕ) (l : Inner)
+            → DescribesInner d self.now.text.now k self.now.nodes.now l
+            → result ≡ None }
     {
         let node = first_node(self.nodes)?;
         let bytes = bytes_at(self.text, node.text_at as usize, node.text_length as usize)?;
@@ -142,7 +164,8 @@ impl<'a> View<'a> {
 
 /// The bare item of a node that points to these bytes; `None` for an Inner List.
 fn bare_of<'a>(node: Node, bytes: &'a [u8]) -> Option<BareView<'a>>
-    ensures { (d : Which) (x : Bare) → NodeShows d node bytes.now x → ShowsBare d result x }
+    ensures bare { (d : Which) (x : Bare) → NodeShows d node bytes.now x → ShowsBare d result x }
+    ensures inner { node.node_type ≡ type_is.InnerList → result ≡ None }
 {
     let coded = node.coded;
     match node.node_type {

@@ -14,7 +14,7 @@ pub struct Refusal {
 }
 
 #[repr(C)]
-#[derive(Clone, Copy)]
+#[derive(Clone, Copy, Debug, PartialEq, Eq)]
 pub struct Node {
     pub number: i64,
     pub key_at: usize,
@@ -33,7 +33,7 @@ pub struct Sizes {
 }
 
 #[repr(C)]
-#[derive(Clone, Copy)]
+#[derive(Clone, Copy, Debug, PartialEq, Eq)]
 pub struct PriorityFlags {
     pub urgency: u8,
     pub incremental: u8,
@@ -54,14 +54,14 @@ pub struct Policy {
 }
 
 #[repr(C)]
-#[derive(Clone, Copy)]
+#[derive(Clone, Copy, Debug, PartialEq, Eq)]
 pub struct Piece {
     pub at: usize,
     pub length: usize,
 }
 
 #[repr(C)]
-#[derive(Clone, Copy)]
+#[derive(Clone, Copy, Debug, PartialEq, Eq)]
 pub struct Hop {
     pub name: Piece,
     pub why_token: Piece,
@@ -112,14 +112,63 @@ const _: () = {
     assert!(size_of::<Joined>() == 24);
 };
 
+// An `sf_status`.
 pub const OK: u32 = 0;
 pub const REFUSED: u32 = 1;
 pub const SECOND_REFUSED: u32 = 2;
 pub const SHORT: u32 = 3;
+pub const NO_MEMORY: u32 = 4;
 pub const EMPTY: u32 = 5;
+pub const BAD_CALL: u32 = 6;
 pub const NOT_A_CACHE: u32 = 7;
+pub const INVALID: u32 = 8;
+
+// An `sf_kind`.
+pub const ITEM: u32 = 1;
+pub const LIST: u32 = 2;
+pub const DICT: u32 = 3;
+
+// An `sf_dialect`.
+pub const RFC9651: u32 = 9651;
+pub const RFC8941: u32 = 8941;
+
+// An `sf_role`.
+pub const MEMBER: u32 = 11;
+pub const INNER_ITEM: u32 = 12;
+pub const PARAMETER: u32 = 13;
+pub const INNER_PARAMETER: u32 = 14;
+
+// An `sf_type`.
+pub const INNER_LIST: u32 = 21;
+pub const INTEGER: u32 = 22;
+pub const DECIMAL: u32 = 23;
+pub const STRING: u32 = 24;
+pub const TOKEN: u32 = 25;
+pub const BYTE_SEQUENCE: u32 = 26;
+pub const BOOLEAN: u32 = 27;
+pub const DATE: u32 = 28;
+pub const DISPLAY_STRING: u32 = 29;
+
+// An `sf_outcome`.
+pub const UNSAID: u16 = 0;
+pub const HIT: u16 = 1;
+pub const FORWARDED: u16 = 2;
+pub const CONFLICT: u16 = 3;
+
+// An `sf_forward`.
+pub const NO_FORWARD: u16 = 0;
+pub const BYPASS: u16 = 1;
+pub const METHOD: u16 = 2;
+pub const URI_MISS: u16 = 3;
+pub const VARY_MISS: u16 = 4;
+pub const MISS: u16 = 5;
+pub const REQUEST: u16 = 6;
+pub const STALE: u16 = 7;
+pub const PARTIAL: u16 = 8;
+pub const OTHER: u16 = 9;
 
 extern "C" {
+    pub fn sf_version() -> u32;
     pub fn sf_check(
         seed: *const [u8; 16],
         dialect: u32,
@@ -127,6 +176,20 @@ extern "C" {
         text: *const c_void,
         length: usize,
         refusal: *mut Refusal,
+    ) -> u32;
+    pub fn sf_refusal_text(
+        refusal: *const Refusal,
+        buffer: *mut c_void,
+        buffer_length: usize,
+        required: *mut usize,
+    ) -> u32;
+    pub fn sf_refusal_in_text(
+        refusal: *const Refusal,
+        text: *const c_void,
+        length: usize,
+        buffer: *mut c_void,
+        buffer_length: usize,
+        required: *mut usize,
     ) -> u32;
     pub fn sf_normalise(
         seed: *const [u8; 16],
@@ -174,6 +237,12 @@ extern "C" {
         client: *const PriorityFlags,
         server: *const PriorityFlags,
     ) -> PriorityFlags;
+    pub fn sf_priority_text(
+        priority: *const PriorityFlags,
+        buffer: *mut c_void,
+        buffer_length: usize,
+        required: *mut usize,
+    ) -> u32;
     pub fn sf_cache_control(
         seed: *const [u8; 16],
         text: *const c_void,
@@ -191,6 +260,15 @@ extern "C" {
         bytes_room: usize,
         path: *mut Path,
         refusal: *mut Refusal,
+    ) -> u32;
+    pub fn sf_hop_text(
+        seed: *const [u8; 16],
+        hop: *const Hop,
+        bytes: *const c_void,
+        bytes_length: usize,
+        buffer: *mut c_void,
+        buffer_length: usize,
+        required: *mut usize,
     ) -> u32;
     pub fn sf_join(
         line: *const c_void,

@@ -1,103 +1,300 @@
-//! Cache-Status: the path of a response (RFC 9211).
-
-use crate::{fault, grow, raw, start, Fault, Seed, NO_REFUSAL};
+use crate::call::{error, lengthen, resize, seed, start, written, NO_REFUSAL};
+use crate::{raw, Error, Parser, Seed};
 use std::fmt;
 
 /// A name of a cache, or a detail. The String `a` and the Token `a` are two names.
-#[derive(Clone, Copy, Debug, PartialEq, Eq)]
+///
+/// ```
+/// let path = sf::Path::parse("edge;hit").unwrap();
+/// let name = path.hops().next().unwrap().name;
+/// assert_eq!(name, sf::Name::Token("edge"));
+/// assert_ne!(name, sf::Name::String("edge"));
+/// assert_eq!(name.as_str(), "edge");
+/// ```
+#[derive(Clone, Copy, Debug, PartialEq, Eq, Hash)]
 pub enum Name<'a> {
     /// It is a String.
-    String(&'a [u8]),
+    String(&'a str),
     /// It is a Token.
-    Token(&'a [u8]),
+    Token(&'a str),
 }
 
-/// Why a cache forwarded a request to the next server (RFC 9211 section 2.2).
-#[derive(Clone, Copy, Debug, PartialEq, Eq)]
+impl<'a> Name<'a> {
+    /// Its text, whichever it is.
+    ///
+    /// ```
+    /// assert_eq!(sf::Name::String("a").as_str(), sf::Name::Token("a").as_str());
+    /// ```
+    #[must_use]
+    pub fn as_str(self) -> &'a str {
+        let (Name::String(text) | Name::Token(text)) = self;
+        text
+    }
+}
+
+/// Why a cache forwarded a request (RFC 9211 section 2.2).
+///
+/// ```
+/// let path = sf::Path::parse("edge;fwd=uri-miss").unwrap();
+/// let forwarded = path.hops().next().unwrap().outcome.forwarded().unwrap();
+/// assert_eq!(forwarded.why, sf::Forward::UriMiss);
+/// ```
+#[derive(Clone, Copy, Debug, PartialEq, Eq, Hash)]
 pub enum Forward<'a> {
-    /// `bypass`: the cache was configured not to handle this request.
+    /// `bypass`: the cache was configured not to handle the request.
     Bypass,
-    /// `method`: the request's method requires it.
+    /// `method`: the semantics of the request's method require it.
     Method,
-    /// `uri-miss`: no response of the URI was stored.
+    /// `uri-miss`: no stored response matched the URI.
     UriMiss,
-    /// `vary-miss`: one was, and none that matches the request's headers.
+    /// `vary-miss`: one matched the URI, but none matched the request's headers.
     VaryMiss,
-    /// `miss`: one of the two above, and the cache does not tell which.
+    /// `miss`: one of the two above; the cache does not say which.
     Miss,
-    /// `request`: a fresh one was, and the request's directives forbade its use.
+    /// `request`: a fresh one matched, but the request did not allow its use.
     Request,
     /// `stale`: the stored response was stale.
     Stale,
-    /// `partial`: it did not have all the ranges that were asked for.
+    /// `partial`: the stored response lacked a part of what was requested.
     Partial,
     /// Another token.
-    Other(&'a [u8]),
+    Other(&'a str),
 }
 
-/// What is said of a request that a cache forwarded.
-#[derive(Clone, Copy, Debug, PartialEq, Eq)]
-pub struct Passed<'a> {
-    /// Why: `fwd` (RFC 9211 section 2.2).
+/// What the field says of a request that a cache forwarded.
+///
+/// ```
+/// let path = sf::Path::parse("edge;fwd=stale;fwd-status=304;collapsed").unwrap();
+/// let forwarded = path.hops().next().unwrap().outcome.forwarded().unwrap();
+/// assert_eq!((forwarded.status, forwarded.collapsed), (Some(304), Some(true)));
+/// assert_eq!(forwarded.stored, None);
+/// ```
+#[derive(Clone, Copy, Debug, PartialEq, Eq, Hash)]
+pub struct Forwarded<'a> {
+    /// `fwd`: why (RFC 9211 section 2.2).
     pub why: Forward<'a>,
-    /// What the next server answered, from 100 to 999: `fwd-status` (section 2.3).
+    /// `fwd-status`: the status code of the next hop's response, from 100 to 999 (section 2.3).
     pub status: Option<u16>,
-    /// Whether the cache stored the response: `stored` (section 2.5).
+    /// `stored`: whether the cache stored the response (section 2.5).
     pub stored: Option<bool>,
-    /// Whether the request was made one with others: `collapsed` (section 2.6).
+    /// `collapsed`: whether the request was collapsed with others (section 2.6).
     pub collapsed: Option<bool>,
 }
 
 /// What a cache did with a request (RFC 9211 sections 2.1 and 2.2).
-#[derive(Clone, Copy, Debug, PartialEq, Eq)]
+///
+/// ```
+/// let path = sf::Path::parse("a, b;hit").unwrap();
+/// let outcomes: Vec<_> = path.hops().map(|hop| hop.outcome).collect();
+/// assert_eq!(outcomes, [sf::Outcome::Unsaid, sf::Outcome::Hit]);
+/// ```
+#[derive(Clone, Copy, Debug, PartialEq, Eq, Hash)]
 pub enum Outcome<'a> {
-    /// Neither `hit` nor `fwd` is said.
+    /// `hit` is not true, and `fwd` is absent.
     Unsaid,
-    /// It answered from its store: `hit` is true, and `fwd` is not said.
+    /// It answered from its store: `hit` is true, and `fwd` is absent.
     Hit,
-    /// It forwarded the request: `fwd` is said, and `hit` is not true.
-    Forwarded(Passed<'a>),
-    /// `hit` is true and `fwd` is said, though the RFC asks for only one of the two.
-    Conflict(Passed<'a>),
+    /// It forwarded the request: `fwd` is present, and `hit` is not true.
+    Forwarded(Forwarded<'a>),
+    /// `hit` is true and `fwd` is present, though the RFC allows only one of them.
+    Conflict(Forwarded<'a>),
+}
+
+impl<'a> Outcome<'a> {
+    /// What the field says of the forwarded request, if `fwd` is present.
+    ///
+    /// ```
+    /// let path = sf::Path::parse("a;hit, b;fwd=miss").unwrap();
+    /// let outcomes: Vec<_> = path.hops().map(|hop| hop.outcome.forwarded().is_some()).collect();
+    /// assert_eq!(outcomes, [false, true]);
+    /// ```
+    #[must_use]
+    pub fn forwarded(self) -> Option<Forwarded<'a>> {
+        match self {
+            Outcome::Forwarded(forwarded) | Outcome::Conflict(forwarded) => Some(forwarded),
+            Outcome::Unsaid | Outcome::Hit => None,
+        }
+    }
 }
 
 /// A cache on the path of a response, and what it did (RFC 9211 section 2).
-#[derive(Clone, Copy, Debug, PartialEq, Eq)]
+///
+/// ```
+/// let path = sf::Path::parse("\"edge\"; hit; ttl=30; key=\"k\"").unwrap();
+/// let hop = path.hops().next().unwrap();
+/// assert_eq!((hop.ttl, hop.key, hop.detail), (Some(30), Some("k"), None));
+/// ```
+#[derive(Clone, Copy, Debug, PartialEq, Eq, Hash)]
 pub struct Hop<'a> {
     /// The cache's name.
     pub name: Name<'a>,
     /// What it did with the request.
     pub outcome: Outcome<'a>,
-    /// For how many seconds the response is still fresh; where negative, since how many it is
-    /// stale: `ttl` (section 2.4).
+    /// `ttl`: the remaining freshness lifetime in seconds; if negative, how long the response has been
+    /// stale (section 2.4).
     pub ttl: Option<i64>,
-    /// The cache key: `key` (section 2.7).
-    pub key: Option<&'a [u8]>,
-    /// What else the cache tells: `detail` (section 2.8).
+    /// `key`: the cache key (section 2.7).
+    pub key: Option<&'a str>,
+    /// `detail`: further information from the cache (section 2.8).
     pub detail: Option<Name<'a>>,
 }
 
-/// The path of a response, the cache nearest the origin first.
-pub struct Path {
-    hops: Vec<raw::Hop>,
-    bytes: Vec<u8>,
-    served: Option<usize>,
-}
+impl<'a> Hop<'a> {
+    /// A hop that says nothing but the cache's name. Set what it says by its fields.
+    ///
+    /// ```
+    /// let hop = sf::Hop {
+    ///     outcome: sf::Outcome::Hit,
+    ///     ttl: Some(30),
+    ///     ..sf::Hop::new(sf::Name::Token("edge"))
+    /// };
+    /// assert_eq!(hop.serialize().unwrap(), "edge;hit;ttl=30");
+    /// ```
+    #[must_use]
+    pub fn new(name: Name<'a>) -> Hop<'a> {
+        Hop {
+            name,
+            outcome: Outcome::Unsaid,
+            ttl: None,
+            key: None,
+            detail: None,
+        }
+    }
 
-// The hops, for `Debug`.
-struct Hops<'a>(&'a Path);
-
-impl fmt::Debug for Hops<'_> {
-    fn fmt(&self, f: &mut fmt::Formatter<'_>) -> fmt::Result {
-        f.debug_list().entries(self.0.hops()).finish()
+    /// Writes the text of a Cache-Status field whose only member is this hop: a field line of its own,
+    /// which a cache adds after the lines that came from the caches nearer the origin.
+    ///
+    /// # Errors
+    ///
+    /// [`Error::Invalid`] if the field can't say this: the bytes of a Token or a String are not those of
+    /// one, the status is not from 100 to 999, or the ttl is not in the range of an Integer.
+    ///
+    /// ```
+    /// let mut hop = sf::Hop::new(sf::Name::String("edge 1"));
+    /// hop.outcome = sf::Outcome::Forwarded(sf::Forwarded::new(sf::Forward::UriMiss));
+    /// assert_eq!(hop.serialize().unwrap(), "\"edge 1\";fwd=uri-miss");
+    /// assert_eq!(sf::Hop::new(sf::Name::Token("edge 1")).serialize(), Err(sf::Error::Invalid));
+    /// ```
+    pub fn serialize(&self) -> Result<String, Error> {
+        let mut bytes = Vec::new();
+        let hop = raw_hop(self, &mut bytes)?;
+        let seed = seed(None);
+        // SAFETY: as in `Parser::check`; the buffer is borrowed alone.
+        written(|buffer, length, required| unsafe {
+            raw::sf_hop_text(
+                &seed.bytes,
+                &hop,
+                start(&bytes),
+                bytes.len(),
+                buffer,
+                length,
+                required,
+            )
+        })
     }
 }
 
+impl<'a> Forwarded<'a> {
+    /// A forwarded request of which the field says nothing but why.
+    ///
+    /// ```
+    /// let forwarded = sf::Forwarded::new(sf::Forward::Stale);
+    /// assert_eq!(forwarded.status, None);
+    /// ```
+    #[must_use]
+    pub fn new(why: Forward<'a>) -> Forwarded<'a> {
+        Forwarded {
+            why,
+            status: None,
+            stored: None,
+            collapsed: None,
+        }
+    }
+}
+
+/// A text behind the bytes so far.
+fn piece(bytes: &mut Vec<u8>, text: &str) -> Result<raw::Piece, Error> {
+    let at = bytes.len();
+    lengthen(bytes, at + text.len())?;
+    if let Some(end) = bytes.get_mut(at..) {
+        end.copy_from_slice(text.as_bytes());
+    }
+    let length = text.len();
+    Ok(raw::Piece { at, length })
+}
+
+/// A hop for the library, with the bytes that it refers to.
+fn raw_hop(hop: &Hop<'_>, bytes: &mut Vec<u8>) -> Result<raw::Hop, Error> {
+    let mut to = NO_HOP;
+    to.name = piece(bytes, hop.name.as_str())?;
+    to.name_is_token = u8::from(matches!(hop.name, Name::Token(_)));
+    to.outcome = match hop.outcome {
+        Outcome::Unsaid => raw::UNSAID,
+        Outcome::Hit => raw::HIT,
+        Outcome::Forwarded(_) => raw::FORWARDED,
+        Outcome::Conflict(_) => raw::CONFLICT,
+    };
+    if let Some(forwarded) = hop.outcome.forwarded() {
+        to.why = match forwarded.why {
+            Forward::Bypass => raw::BYPASS,
+            Forward::Method => raw::METHOD,
+            Forward::UriMiss => raw::URI_MISS,
+            Forward::VaryMiss => raw::VARY_MISS,
+            Forward::Miss => raw::MISS,
+            Forward::Request => raw::REQUEST,
+            Forward::Stale => raw::STALE,
+            Forward::Partial => raw::PARTIAL,
+            Forward::Other(_) => raw::OTHER,
+        };
+        if let Forward::Other(token) = forwarded.why {
+            to.why_token = piece(bytes, token)?;
+        }
+        to.status = forwarded.status.unwrap_or(0);
+        to.says_status = u8::from(forwarded.status.is_some());
+        to.stored = u8::from(forwarded.stored == Some(true));
+        to.says_stored = u8::from(forwarded.stored.is_some());
+        to.collapsed = u8::from(forwarded.collapsed == Some(true));
+        to.says_collapsed = u8::from(forwarded.collapsed.is_some());
+    }
+    to.ttl = hop.ttl.unwrap_or(0);
+    to.says_ttl = u8::from(hop.ttl.is_some());
+    to.key = piece(bytes, hop.key.unwrap_or(""))?;
+    to.says_key = u8::from(hop.key.is_some());
+    to.detail = piece(bytes, hop.detail.map_or("", Name::as_str))?;
+    to.says_detail = u8::from(hop.detail.is_some());
+    to.detail_is_token = u8::from(matches!(hop.detail, Some(Name::Token(_))));
+    Ok(to)
+}
+
+/// The path of a response, the cache nearest the origin first.
+///
+/// ```
+/// let path = sf::Path::parse("origin; fwd=miss, edge; hit; ttl=30").unwrap();
+/// let names: Vec<_> = path.hops().map(|hop| hop.name.as_str()).collect();
+/// assert_eq!(names, ["origin", "edge"]);
+/// assert_eq!(path.served_by(), Some(1));
+/// ```
+#[derive(Clone)]
+pub struct Path {
+    hops: Vec<raw::Hop>,
+    bytes: String,
+    served_by: Option<usize>,
+}
+
+impl PartialEq for Path {
+    fn eq(&self, other: &Path) -> bool {
+        self.hops().eq(other.hops())
+    }
+}
+
+impl Eq for Path {}
+
+#[allow(clippy::missing_fields_in_debug)] // the bytes are those of the hops
 impl fmt::Debug for Path {
     fn fmt(&self, f: &mut fmt::Formatter<'_>) -> fmt::Result {
         f.debug_struct("Path")
-            .field("hops", &Hops(self))
-            .field("served_by", &self.served)
+            .field("hops", &self.hops().collect::<Vec<_>>())
+            .field("served_by", &self.served_by)
             .finish()
     }
 }
@@ -110,8 +307,8 @@ const NO_HOP: raw::Hop = raw::Hop {
     key: NO_PIECE,
     detail: NO_PIECE,
     ttl: 0,
-    outcome: 0,
-    why: 0,
+    outcome: raw::UNSAID,
+    why: raw::NO_FORWARD,
     status: 0,
     says_status: 0,
     stored: 0,
@@ -125,87 +322,133 @@ const NO_HOP: raw::Hop = raw::Hop {
     detail_is_token: 0,
 };
 
-/// The path of a response by the text of its Cache-Status field (RFC 9211 section 2).
-pub fn cache_status(seed: &Seed, text: &[u8]) -> Result<Path, Fault> {
-    let mut path = Path {
-        hops: Vec::new(),
-        bytes: Vec::new(),
-        served: None,
-    };
-    loop {
-        let mut refusal = NO_REFUSAL;
-        let mut told = raw::Path {
-            hops: 0,
-            bytes: 0,
-            served: 0,
-            nameless: 0,
-            is_served: 0,
-        };
-        // SAFETY: as in `check_in`; both rooms are borrowed alone.
-        let status = unsafe {
-            raw::sf_cache_status(
-                &seed.bytes,
-                start(text),
-                text.len(),
-                path.hops.as_mut_ptr(),
-                path.hops.len(),
-                path.bytes.as_mut_ptr().cast(),
-                path.bytes.len(),
-                &mut told,
-                &mut refusal,
-            )
-        };
-        match status {
-            raw::OK => {
-                path.served = (told.is_served != 0).then_some(told.served);
-                return Ok(path);
+impl Path {
+    /// Reads the text of a Cache-Status field (RFC 9211 section 2).
+    ///
+    /// # Errors
+    ///
+    /// [`Error::Refused`] if the text is not a well-formed List, [`Error::NotACache`] if a member is
+    /// not an Item of a String or a Token.
+    ///
+    /// ```
+    /// assert_eq!(sf::Path::parse("a;hit").unwrap().served_by(), Some(0));
+    /// assert_eq!(sf::Path::parse("a, 7").unwrap_err(), sf::Error::NotACache(1));
+    /// ```
+    pub fn parse(text: impl AsRef<[u8]>) -> Result<Path, Error> {
+        Parser::new().path(text)
+    }
+
+    pub(crate) fn read(seed: &Seed, text: &[u8]) -> Result<Path, Error> {
+        let mut hops = Vec::new();
+        let mut bytes = Vec::new();
+        // Most paths have fewer hops and bytes; with more of them the text is parsed twice.
+        resize(&mut hops, text.len() / 16 + 1, NO_HOP)?;
+        resize(&mut bytes, text.len(), 0)?;
+        loop {
+            let mut refusal = NO_REFUSAL;
+            let mut sizes = raw::Path {
+                hops: 0,
+                bytes: 0,
+                served: 0,
+                nameless: 0,
+                is_served: 0,
+            };
+            // SAFETY: as in `Parser::check`; both buffers are borrowed alone.
+            let status = unsafe {
+                raw::sf_cache_status(
+                    &seed.bytes,
+                    start(text),
+                    text.len(),
+                    hops.as_mut_ptr(),
+                    hops.len(),
+                    bytes.as_mut_ptr().cast(),
+                    bytes.len(),
+                    &mut sizes,
+                    &mut refusal,
+                )
+            };
+            let is_short = sizes.hops > hops.len() || sizes.bytes > bytes.len();
+            match status {
+                raw::OK => {
+                    hops.truncate(sizes.hops);
+                    bytes.truncate(sizes.bytes);
+                    let path = Path {
+                        hops,
+                        bytes: crate::call::text(bytes)?,
+                        served_by: (sizes.is_served != 0).then_some(sizes.served),
+                    };
+                    return path.is_sound().then_some(path).ok_or(Error::OtherLibrary);
+                }
+                raw::SHORT if is_short => {
+                    resize(&mut hops, sizes.hops, NO_HOP)?;
+                    resize(&mut bytes, sizes.bytes, 0)?;
+                }
+                raw::NOT_A_CACHE => return Err(Error::NotACache(sizes.nameless)),
+                status => return Err(error(status, &refusal)),
             }
-            raw::SHORT => {
-                grow(&mut path.hops, told.hops, NO_HOP)?;
-                grow(&mut path.bytes, told.bytes, 0)?;
-            }
-            raw::NOT_A_CACHE => return Err(Fault::NotACache(told.nameless)),
-            status => return Err(fault(status, refusal)),
         }
     }
-}
 
-impl Path {
+    /// Whether all that the hops refer to is there, as it is if the library is the one that this crate
+    /// is for. The methods below rely on it.
+    fn is_sound(&self) -> bool {
+        self.hops.iter().all(|hop| {
+            [hop.name, hop.why_token, hop.key, hop.detail]
+                .iter()
+                .all(|&piece| self.slice(piece).is_some())
+        })
+    }
+
     /// The hops, the cache nearest the origin first.
-    pub fn hops(&self) -> impl ExactSizeIterator<Item = Hop<'_>> {
+    ///
+    /// ```
+    /// assert_eq!(sf::Path::parse("a, b").unwrap().hops().len(), 2);
+    /// ```
+    #[must_use]
+    pub fn hops(&self) -> impl DoubleEndedIterator<Item = Hop<'_>> + ExactSizeIterator + Clone {
         self.hops.iter().map(|hop| self.hop(hop))
     }
 
-    /// The place of the hop that the response came from, counted from 0: the last one whose outcome
-    /// is a hit. `None` where the response came from the origin or the field does not tell.
+    /// The index of the hop that served the response: the last one whose outcome is a hit. `None` if
+    /// there is none: the response came from the origin, or the field does not say.
+    ///
+    /// ```
+    /// assert_eq!(sf::Path::parse("a;hit, b;fwd=miss").unwrap().served_by(), Some(0));
+    /// assert_eq!(sf::Path::parse("a;fwd=miss").unwrap().served_by(), None);
+    /// ```
     #[must_use]
     pub fn served_by(&self) -> Option<usize> {
-        self.served
+        self.served_by
     }
 
-    fn piece(&self, piece: raw::Piece) -> &[u8] {
-        &self.bytes[piece.at..piece.at + piece.length]
+    fn slice(&self, piece: raw::Piece) -> Option<&str> {
+        self.bytes
+            .get(piece.at..piece.at.checked_add(piece.length)?)
+    }
+
+    fn text(&self, piece: raw::Piece) -> &str {
+        self.slice(piece).unwrap_or_default()
     }
 
     fn name(&self, piece: raw::Piece, is_token: u8) -> Name<'_> {
         match is_token {
-            0 => Name::String(self.piece(piece)),
-            _ => Name::Token(self.piece(piece)),
+            0 => Name::String(self.text(piece)),
+            _ => Name::Token(self.text(piece)),
         }
     }
 
-    fn passed(&self, hop: &raw::Hop) -> Passed<'_> {
-        Passed {
+    fn forwarded(&self, hop: &raw::Hop) -> Forwarded<'_> {
+        Forwarded {
             why: match hop.why {
-                1 => Forward::Bypass,
-                2 => Forward::Method,
-                3 => Forward::UriMiss,
-                4 => Forward::VaryMiss,
-                5 => Forward::Miss,
-                6 => Forward::Request,
-                7 => Forward::Stale,
-                8 => Forward::Partial,
-                _ => Forward::Other(self.piece(hop.why_token)),
+                raw::BYPASS => Forward::Bypass,
+                raw::METHOD => Forward::Method,
+                raw::URI_MISS => Forward::UriMiss,
+                raw::VARY_MISS => Forward::VaryMiss,
+                raw::MISS => Forward::Miss,
+                raw::REQUEST => Forward::Request,
+                raw::STALE => Forward::Stale,
+                raw::PARTIAL => Forward::Partial,
+                _ => Forward::Other(self.text(hop.why_token)),
             },
             status: (hop.says_status != 0).then_some(hop.status),
             stored: (hop.says_stored != 0).then_some(hop.stored != 0),
@@ -217,13 +460,13 @@ impl Path {
         Hop {
             name: self.name(hop.name, hop.name_is_token),
             outcome: match hop.outcome {
-                0 => Outcome::Unsaid,
-                1 => Outcome::Hit,
-                2 => Outcome::Forwarded(self.passed(hop)),
-                _ => Outcome::Conflict(self.passed(hop)),
+                raw::UNSAID => Outcome::Unsaid,
+                raw::HIT => Outcome::Hit,
+                raw::FORWARDED => Outcome::Forwarded(self.forwarded(hop)),
+                _ => Outcome::Conflict(self.forwarded(hop)),
             },
             ttl: (hop.says_ttl != 0).then_some(hop.ttl),
-            key: (hop.says_key != 0).then(|| self.piece(hop.key)),
+            key: (hop.says_key != 0).then(|| self.text(hop.key)),
             detail: (hop.says_detail != 0).then(|| self.name(hop.detail, hop.detail_is_token)),
         }
     }

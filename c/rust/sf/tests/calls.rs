@@ -1,192 +1,313 @@
-//! The wrapper from safe Rust: what each call answers.
+//! The crate from outside: what each call returns.
 
 use sf::{
-    cache_control, cache_status, check, check_in, equal, equal_in, join, merge, normalise,
-    normalise_in, parse, parse_in, priority, Dialect, Fault, Forward, Hop, Kind, Name, Outcome,
-    Passed, Policy, Priority, Refusal, Role, Seed, Type,
+    check, equal, join, normalise, BareItem, Date, Decimal, Dialect, Dictionary, Error, Forward,
+    Forwarded, Hop, Item, Kind, List, Member, Name, Outcome, Parsed, Parser, Path, Policy,
+    Priority, Refusal, Role, Seed, Type,
 };
 
-const SEED: [u8; 16] = *b"sixteen bytes of";
+fn old() -> Parser {
+    Parser::new().with_dialect(Dialect::Rfc8941)
+}
 
-fn seed() -> Seed {
-    Seed::from_bytes(SEED)
+#[allow(clippy::needless_pass_by_value)]
+fn refusal<T>(result: Result<T, Error>) -> Refusal {
+    match result {
+        Err(Error::Refused(refusal)) => refusal,
+        Err(error) => panic!("{error}"),
+        Ok(_) => panic!("accepted"),
+    }
 }
 
 #[test]
-fn a_text_is_refused_at_its_place() {
-    let refusal = Refusal {
-        place: 2,
-        found: Some(b'2'),
-        expected: 1 << b' ',
-        may_end: true,
-    };
-    assert_eq!(
-        check(&seed(), Kind::Item, b"1 2"),
-        Err(Fault::Refused(refusal))
-    );
-    let ended = check(&seed(), Kind::Item, b"1.");
+fn a_text_is_refused_at_its_offset() {
+    let refused = refusal(check(Kind::Item, "1 2"));
+    assert_eq!((refused.offset, refused.found), (2, Some(b'2')));
+    assert_eq!((refused.expected, refused.may_end), (1 << b' ', true));
+    assert!(refused.expects(b' ') && !refused.expects(b'2') && !refused.expects(0xff));
+
+    let ended = refusal(check(Kind::Item, "1."));
     let digits = (b'0'..=b'9').fold(0, |set, digit| set | 1u128 << digit);
-    let refusal = Refusal {
-        place: 2,
-        found: None,
-        expected: digits,
-        may_end: false,
-    };
-    assert_eq!(ended, Err(Fault::Refused(refusal)));
-    assert_eq!(check(&seed(), Kind::Item, b"@1"), Ok(()));
-    assert!(check_in(&seed(), Dialect::Rfc8941, Kind::Item, b"@1").is_err());
+    assert_eq!((ended.offset, ended.found), (2, None));
+    assert_eq!((ended.expected, ended.may_end), (digits, false));
+
+    assert_eq!(check(Kind::Item, "@1"), Ok(()));
+    assert!(old().check(Kind::Item, "@1").is_err());
+    assert!(check(Kind::Item, b"\xff").is_err());
+}
+
+#[test]
+fn a_refusal_is_shown() {
+    let shown = |kind, text: &str| refusal(check(kind, text)).in_text(text).to_string();
+    assert_eq!(
+        shown(Kind::Item, "1 2"),
+        "byte 0x32 '2' at place 2, expected a space or the end\nline 1, place 2:\n1 2\n  ^"
+    );
+    assert_eq!(
+        shown(Kind::Item, "1."),
+        "the text ended at place 2, expected a digit\nline 1, place 2:\n1.\n  ^"
+    );
+    // A text that is not the one that was refused.
+    let other = refusal(check(Kind::Item, "1 2")).in_text("").to_string();
+    assert!(other.ends_with("\n\n^"));
+    let message = refusal(check(Kind::Item, "1 2")).to_string();
+    assert_eq!(
+        message,
+        "byte 0x32 '2' at place 2, expected a space or the end"
+    );
+    // Longer than the first buffer.
+    let long = format!("\"{}\" 1", "a".repeat(1000));
+    assert!(shown(Kind::Item, &long).contains(&long));
 }
 
 #[test]
 fn texts_are_normalised_and_compared() {
-    let canonical = normalise(&seed(), Kind::List, b":YQ:,:YQ:");
-    assert_eq!(canonical.unwrap(), b":YQ==:, :YQ==:");
-    assert_eq!(normalise(&seed(), Kind::List, b"").unwrap(), b"");
-    assert_eq!(equal(&seed(), Kind::Dict, b"u=1,i", b"u=1, i=?1"), Ok(true));
     assert_eq!(
-        equal(&seed(), Kind::Dict, b"a=1, b=2", b"b=2, a=1"),
-        Ok(false)
+        normalise(Kind::List, ":YQ:,:YQ:").unwrap(),
+        ":YQ==:, :YQ==:"
     );
-    let second = equal(&seed(), Kind::Item, b"a", b"a,");
-    assert!(matches!(second, Err(Fault::SecondRefused(refusal)) if refusal.place == 1));
+    assert_eq!(normalise(Kind::List, "").unwrap(), "");
+    assert_eq!(equal(Kind::Dict, "u=1,i", "u=1, i=?1"), Ok(true));
+    assert_eq!(equal(Kind::Dict, "a=1, b=2", "b=2, a=1"), Ok(false));
+    let second = equal(Kind::Item, "a", "a,");
+    assert!(matches!(second, Err(Error::SecondRefused(refusal)) if refusal.offset == 1));
 }
 
 #[test]
-fn a_dialect_is_asked_for() {
-    let (old, new) = (Dialect::Rfc8941, Dialect::Rfc9651);
-    assert_eq!(
-        normalise_in(&seed(), new, Kind::Item, b"@01").unwrap(),
-        b"@1"
-    );
-    assert_eq!(normalise_in(&seed(), old, Kind::Item, b"01").unwrap(), b"1");
+fn a_dialect_is_chosen() {
+    let new = Parser::new().with_seed(Seed::from_bytes(*b"sixteen bytes of"));
+    assert_eq!(new.normalise(Kind::Item, "@01").unwrap(), "@1");
+    assert_eq!(old().normalise(Kind::Item, "01").unwrap(), "1");
+    let refused = refusal(old().normalise(Kind::Item, "@01"));
+    assert_eq!((refused.offset, refused.found), (0, Some(b'@')));
+    assert_eq!(new.equal(Kind::List, "@1", "@01"), Ok(true));
+    assert_eq!(old().equal(Kind::List, "1", "01"), Ok(true));
     assert!(matches!(
-        normalise_in(&seed(), old, Kind::Item, b"@01"),
-        Err(Fault::Refused(refusal)) if refusal.place == 0 && refusal.found == Some(b'@')
+        old().equal(Kind::List, "1", "1, @1"),
+        Err(Error::SecondRefused(refusal)) if refusal.offset == 3
     ));
-    assert_eq!(equal_in(&seed(), new, Kind::List, b"@1", b"@01"), Ok(true));
-    assert_eq!(equal_in(&seed(), old, Kind::List, b"1", b"01"), Ok(true));
-    assert!(matches!(
-        equal_in(&seed(), old, Kind::List, b"1", b"1, @1"),
-        Err(Fault::SecondRefused(refusal)) if refusal.place == 3
-    ));
-    let text = b"a=%\"b\"";
-    let value = parse_in(&seed(), new, Kind::Dict, text).unwrap();
-    assert_eq!(
-        value.members().next().unwrap().get(),
-        Type::DisplayString(b"b")
-    );
-    let value = parse_in(&seed(), old, Kind::Dict, b"a").unwrap();
-    assert_eq!(value.members().next().unwrap().get(), Type::Boolean(true));
-    let refused = parse_in(&seed(), old, Kind::Dict, text);
-    assert!(matches!(refused, Err(Fault::Refused(refusal)) if refusal.place == 2));
+    let text = "a=%\"b\"";
+    assert!(new.parse::<Dictionary>(text).is_ok());
+    assert_eq!(refusal(old().parse::<Dictionary>(text)).offset, 2);
+    assert_eq!(refusal(old().tree(Kind::Dict, text)).offset, 2);
 }
 
 #[test]
-fn a_fault_is_told_in_words() {
-    let fault = check(&seed(), Kind::Item, b"1 2").unwrap_err();
-    assert_eq!(fault.to_string(), "the text is refused at 2: byte 32");
-    let fault = equal(&seed(), Kind::Item, b"1", b"").unwrap_err();
+fn an_error_has_a_message() {
+    let message = |error: Error| error.to_string();
     assert_eq!(
-        fault.to_string(),
-        "the second text is refused at 0: it ended"
+        message(check(Kind::Item, "1 2").unwrap_err()),
+        "byte 0x32 '2' at place 2, expected a space or the end"
     );
-    let fault = cache_status(&seed(), b"7").unwrap_err();
-    assert_eq!(fault.to_string(), "member 0 names no cache");
-    assert_eq!(Fault::OutOfMemory.to_string(), "out of memory");
+    assert!(message(equal(Kind::Item, "1", "").unwrap_err())
+        .starts_with("the second text: the text ended at place 0, expected "));
+    assert_eq!(
+        message(Path::parse("7").unwrap_err()),
+        "member 0 does not name a cache"
+    );
+    assert_eq!(message(Error::OutOfMemory), "out of memory");
+    let boxed: Box<dyn std::error::Error + Send + Sync> = Error::OutOfMemory.into();
+    assert_eq!(boxed.to_string(), "out of memory");
 }
 
 #[test]
 fn lines_are_joined() {
-    assert_eq!(join(&[]).unwrap(), b"");
-    assert_eq!(join(&[b""]).unwrap(), b"");
-    assert_eq!(join(&[b"", b""]).unwrap(), b", ");
-    assert_eq!(
-        join(&[b"a;q=1.0,b", b"(c  d)"]).unwrap(),
-        b"a;q=1.0,b, (c  d)"
-    );
+    assert_eq!(join([] as [&str; 0]).unwrap(), b"");
+    assert_eq!(join([""]).unwrap(), b"");
+    assert_eq!(join(["", ""]).unwrap(), b", ");
+    assert_eq!(join(["a;q=1.0,b", "(c  d)"]).unwrap(), b"a;q=1.0,b, (c  d)");
+    let list = Parser::new().parse_lines::<List>(["a", "b, c"]).unwrap();
+    assert_eq!(list.len(), 3);
+    assert_eq!(list.to_string(), "a, b, c");
+    let refused = refusal(Parser::new().parse_lines::<List>(["a", "b c"]));
+    assert_eq!(refused.offset, 5);
+    let none = Parser::new().parse_lines::<List>([] as [&str; 0]).unwrap();
+    assert!(none.is_empty());
 }
 
 #[test]
-fn a_value_is_walked() {
-    let value = parse(&seed(), Kind::Dict, b"a=1,b;x, a=(1  2 );y=:YQ:").unwrap();
-    let members: Vec<_> = value.members().collect();
-    assert_eq!(members.len(), 2);
-    assert_eq!(members[0].key(), b"a");
-    assert_eq!(members[0].role(), Role::Member);
-    assert_eq!(members[0].get(), Type::InnerList);
-    let inside: Vec<_> = members[0]
-        .parts()
-        .map(|part| (part.role(), part.key(), part.get()))
+fn each_type_is_read() {
+    let text = "-2, 3.5, \"s\\\"\", t/*, :Yg==:, ?0, @-7, %\"%c3%bc\"";
+    let list = List::parse(text).unwrap();
+    let items: Vec<_> = list
+        .iter()
+        .filter_map(Member::as_item)
+        .map(|item| item.bare_item.clone())
         .collect();
-    let none: &[u8] = b"";
     assert_eq!(
-        inside,
+        items,
         [
-            (Role::InnerItem, none, Type::Integer(1)),
-            (Role::InnerItem, none, Type::Integer(2)),
-            (Role::Parameter, b"y", Type::ByteSequence(b"a")),
+            BareItem::Integer(-2),
+            BareItem::Decimal(Decimal::from_thousandths(3500)),
+            BareItem::String("s\"".to_string()),
+            BareItem::Token("t/*".to_string()),
+            BareItem::ByteSequence(b"b".to_vec()),
+            BareItem::Boolean(false),
+            BareItem::Date(Date::from_unix_seconds(-7)),
+            BareItem::DisplayString("\u{fc}".to_string()),
         ]
     );
-    assert_eq!(members[1].get(), Type::Boolean(true));
-    assert_eq!(members[1].parts().count(), 1);
-    assert_eq!(
-        parse(&seed(), Kind::List, b"").unwrap().members().count(),
-        0
-    );
-}
-
-#[test]
-fn each_type_is_told() {
-    let text = b"(1), -2, 3.5, \"s\", t, :Yg==:, ?0, @-7, %\"%c3%bc\"";
-    let value = parse(&seed(), Kind::List, text).unwrap();
-    let types: Vec<_> = value.members().map(|member| member.get()).collect();
+    let tree = Parser::new()
+        .tree(Kind::List, format!("(1), {text}"))
+        .unwrap();
+    let types: Vec<_> = tree.members().map(|member| member.get()).collect();
     assert_eq!(
         types,
         [
             Type::InnerList,
             Type::Integer(-2),
-            Type::Decimal(3500),
-            Type::String(b"s"),
-            Type::Token(b"t"),
+            Type::Decimal(Decimal::from_thousandths(3500)),
+            Type::String("s\""),
+            Type::Token("t/*"),
             Type::ByteSequence(b"b"),
             Type::Boolean(false),
-            Type::Date(-7),
-            Type::DisplayString("\u{fc}".as_bytes()),
+            Type::Date(Date::from_unix_seconds(-7)),
+            Type::DisplayString("\u{fc}"),
         ]
     );
 }
 
 #[test]
-fn answers_are_shown() {
-    let value = parse(&seed(), Kind::Item, b"1;a").unwrap();
+fn an_accessor_is_of_one_type() {
+    let texts = ["1", "1.0", "\"a\"", "a", ":YQ==:", "?1", "@1", "%\"a\""];
+    for (index, text) in texts.iter().enumerate() {
+        let item = Item::parse(text).unwrap().into_value().bare_item;
+        let is = [
+            item.as_integer().is_some(),
+            item.as_decimal().is_some(),
+            item.as_string().is_some(),
+            item.as_token().is_some(),
+            item.as_byte_sequence().is_some(),
+            item.as_boolean().is_some(),
+            item.as_date().is_some(),
+            item.as_display_string().is_some(),
+        ];
+        let expected: Vec<_> = (0..8).map(|number| number == index).collect();
+        assert_eq!(is[..], expected[..], "{text}");
+    }
+}
+
+#[test]
+fn a_dictionary_is_read() {
+    let field = Dictionary::parse("a=1,b;x, a=(1  2;z );y=:YQ:").unwrap();
+    let keys: Vec<_> = field.iter().map(|(key, _)| key).collect();
+    assert_eq!(keys, ["a", "b"]);
+    let inner = field.get("a").and_then(Member::as_inner_list).unwrap();
+    let numbers: Vec<_> = inner
+        .items
+        .iter()
+        .map(|item| item.bare_item.as_integer())
+        .collect();
+    assert_eq!(numbers, [Some(1), Some(2)]);
+    assert_eq!(inner.items[1].params.len(), 1);
     assert_eq!(
-        format!("{:?}", value),
-        "Value([Part { role: Member, key: [], type: Integer(1), parts: [Part { role: Parameter, \
-         key: [97], type: Boolean(true), parts: [] }] }])"
+        inner.params.get("y").and_then(BareItem::as_byte_sequence),
+        Some(&b"a"[..])
     );
-    let path = cache_status(&seed(), b"a;hit").unwrap();
+    let b = field.get("b").unwrap();
+    assert_eq!(b.as_item().unwrap().bare_item, BareItem::Boolean(true));
+    assert!(b.as_inner_list().is_none());
+    assert_eq!(b.params().get("x"), Some(&BareItem::Boolean(true)));
+    assert_eq!(b.params().get("y"), None);
+    assert!(field.get("c").is_none());
+    assert!(Dictionary::parse("").unwrap().is_empty());
+    assert_eq!(field.to_string(), "a=(1 2;z);y=:YQ==:, b;x");
+    assert_eq!(format!("{:>6}|", Item::parse("a; b").unwrap()), "   a;b|");
+}
+
+#[test]
+fn fields_are_compared_and_cloned() {
+    let field = Dictionary::parse("u=1,i").unwrap();
+    assert_eq!(field, Dictionary::parse("u=1,  i=?1").unwrap());
+    assert_ne!(field, Dictionary::parse("i, u=1").unwrap());
+    assert_eq!(field.clone(), field);
+    assert_eq!(field.clone().into_value(), *field);
+    assert_ne!(Item::parse("a").unwrap(), Item::parse("\"a\"").unwrap());
+    assert_ne!(Item::parse("1").unwrap(), Item::parse("1.0").unwrap());
+    let parsed: Parsed<Item> = "1".parse().unwrap();
+    assert_eq!(parsed, Item::parse(" 1 ").unwrap());
+    assert!("1 2".parse::<Parsed<Item>>().is_err());
+    let tree = |text| Parser::new().tree(Kind::Dict, text).unwrap();
+    assert_eq!(tree("u=1,i"), tree("u=1,  i=?1"));
+    assert_ne!(tree("u=1,i"), tree("u=2,i"));
+}
+
+#[test]
+fn a_tree_is_walked() {
+    let tree = Parser::new()
+        .tree(Kind::Dict, "a=1,b;x, a=(1  2 );y=:YQ:")
+        .unwrap();
+    let members: Vec<_> = tree.members().collect();
+    assert_eq!(members.len(), 2);
+    assert_eq!((members[0].key(), members[0].role()), ("a", Role::Member));
+    assert_eq!(members[0].get(), Type::InnerList);
+    let inside: Vec<_> = members[0]
+        .children()
+        .map(|child| (child.role(), child.key(), child.get()))
+        .collect();
     assert_eq!(
-        format!("{:?}", path),
-        "Path { hops: [Hop { name: Token([97]), outcome: Hit, ttl: None, key: None, \
+        inside,
+        [
+            (Role::InnerItem, "", Type::Integer(1)),
+            (Role::InnerItem, "", Type::Integer(2)),
+            (Role::Parameter, "y", Type::ByteSequence(b"a")),
+        ]
+    );
+    assert_eq!(members[0].param("y"), Some(Type::ByteSequence(b"a")));
+    assert_eq!(members[1].get(), Type::Boolean(true));
+    assert_eq!(members[1].children().count(), 1);
+    assert!(tree.get("b").is_some() && tree.get("x").is_none());
+    let empty = Parser::new().tree(Kind::List, "").unwrap();
+    assert_eq!(empty.members().count(), 0);
+}
+
+// With more nodes than the first call has space for.
+#[test]
+fn a_text_of_many_nodes_is_parsed() {
+    let text = vec!["1"; 1000].join(",");
+    assert_eq!(List::parse(&text).unwrap().len(), 1000);
+    let text = vec!["%\"%c3%bc\""; 1000].join(",");
+    assert_eq!(List::parse(&text).unwrap().len(), 1000);
+    let text = vec!["a"; 1000].join(",");
+    let path = Path::parse(&text).unwrap();
+    assert_eq!(path.hops().len(), 1000);
+    assert!(path.hops().all(|hop| hop.name == Name::Token("a")));
+}
+
+#[test]
+fn values_are_shown() {
+    let tree = Parser::new().tree(Kind::Item, "1;a").unwrap();
+    assert_eq!(
+        format!("{tree:?}"),
+        "Tree([Node { role: Member, key: \"\", type: Integer(1), children: [Node { \
+         role: Parameter, key: \"a\", type: Boolean(true), children: [] }] }])"
+    );
+    assert_eq!(
+        format!("{:?}", Path::parse("a;hit").unwrap()),
+        "Path { hops: [Hop { name: Token(\"a\"), outcome: Hit, ttl: None, key: None, \
          detail: None }], served_by: Some(0) }"
     );
+    assert_eq!(format!("{:?}", Seed::from_bytes([7; 16])), "Seed(..)");
 }
 
 #[test]
 fn priorities_are_merged() {
-    let client = priority(&seed(), b"u=5, i").unwrap();
-    let server = priority(&seed(), b"u=1").unwrap();
-    let both = Priority {
-        urgency: Some(1),
-        incremental: Some(true),
-    };
-    assert_eq!(merge(client, server), both);
-    assert_eq!(priority(&seed(), b"u=8").unwrap(), Priority::default());
+    let client = Priority::parse("u=5, i").unwrap();
+    let server = Priority::parse("u=1").unwrap();
+    let merged = client.merged_with(server);
+    assert_eq!((merged.urgency, merged.incremental), (Some(1), Some(true)));
+    assert_eq!((merged.urgency(), merged.incremental()), (1, true));
+    for text in ["u=1, i", "u=0", "u=7, i=?0", "i", ""] {
+        assert_eq!(Priority::parse(text).unwrap().serialize().unwrap(), text);
+    }
+    let nothing = Priority::parse("u=8").unwrap();
+    assert_eq!(nothing, Priority::default());
+    assert_eq!((nothing.urgency(), nothing.incremental()), (3, false));
 }
 
 #[test]
 fn policies_are_read() {
-    let policy = cache_control(&seed(), b"max-age=30, s-maxage=90, no-store=?0").unwrap();
+    let policy = Policy::parse("max-age=30, s-maxage=90, no-store=?0").unwrap();
     let expected = Policy {
         max_age: Some(30),
         s_maxage: Some(90),
@@ -196,36 +317,40 @@ fn policies_are_read() {
     assert_eq!(expected.lifetime(true), Some(90));
     assert_eq!(expected.lifetime(false), Some(30));
     assert_eq!(Policy::default().lifetime(true), None);
-    assert_eq!(cache_control(&seed(), b""), Ok(None));
-    assert!(cache_control(&seed(), b"max-age=60,").is_err());
+    assert_eq!(Policy::parse(""), Ok(None));
+    assert!(Policy::parse("max-age=60,").is_err());
+    let all = "must-revalidate, no-store, no-cache, private";
+    let all = Policy::parse(all).unwrap().unwrap();
+    assert!(all.must_revalidate && all.no_store && all.no_cache && all.is_private);
 }
 
 #[test]
-fn a_path_is_told() {
-    let text = b"origin; fwd=stale; fwd-status=304; collapsed, \"edge\"; hit; ttl=30; key=\"k\"";
-    let path = cache_status(&seed(), text).unwrap();
-    let passed = Passed {
+fn a_path_is_read() {
+    let text = "origin; fwd=stale; fwd-status=304; collapsed, \"edge\"; hit; ttl=30; key=\"k\"";
+    let path = Path::parse(text).unwrap();
+    let forwarded = Forwarded {
         why: Forward::Stale,
         status: Some(304),
         stored: None,
         collapsed: Some(true),
     };
     let origin = Hop {
-        name: Name::Token(b"origin"),
-        outcome: Outcome::Forwarded(passed),
+        name: Name::Token("origin"),
+        outcome: Outcome::Forwarded(forwarded),
         ttl: None,
         key: None,
         detail: None,
     };
     let edge = Hop {
-        name: Name::String(b"edge"),
+        name: Name::String("edge"),
         outcome: Outcome::Hit,
         ttl: Some(30),
-        key: Some(b"k"),
+        key: Some("k"),
         detail: None,
     };
     assert_eq!(path.hops().collect::<Vec<_>>(), [origin, edge]);
     assert_eq!(path.served_by(), Some(1));
+    assert_eq!(path, path.clone());
 
     let reasons: [(&str, Forward<'_>); 9] = [
         ("bypass", Forward::Bypass),
@@ -236,24 +361,78 @@ fn a_path_is_told() {
         ("request", Forward::Request),
         ("stale", Forward::Stale),
         ("partial", Forward::Partial),
-        ("odd", Forward::Other(b"odd")),
+        ("odd", Forward::Other("odd")),
     ];
     for (word, why) in reasons {
-        let text = format!("c;fwd={word}");
-        let path = cache_status(&seed(), text.as_bytes()).unwrap();
+        let path = Path::parse(format!("c;fwd={word}")).unwrap();
         let hop = path.hops().next().unwrap();
-        assert!(matches!(hop.outcome, Outcome::Forwarded(passed) if passed.why == why));
+        assert!(matches!(hop.outcome, Outcome::Forwarded(forwarded) if forwarded.why == why));
     }
-    let path = cache_status(&seed(), b"c").unwrap();
+    let path = Path::parse("c").unwrap();
     assert_eq!(path.hops().next().unwrap().outcome, Outcome::Unsaid);
 
-    let path = cache_status(&seed(), b"c;hit;fwd=odd;detail=d").unwrap();
+    let path = Path::parse("c;hit;fwd=odd;detail=d").unwrap();
     let hop = path.hops().next().unwrap();
-    let odd = Forward::Other(b"odd");
-    assert!(matches!(hop.outcome, Outcome::Conflict(passed) if passed.why == odd));
-    assert_eq!(hop.detail, Some(Name::Token(b"d")));
+    let odd = Forward::Other("odd");
+    assert!(matches!(hop.outcome, Outcome::Conflict(forwarded) if forwarded.why == odd));
+    assert_eq!(hop.detail, Some(Name::Token("d")));
     assert_eq!(path.served_by(), None);
-    assert_eq!(cache_status(&seed(), b"").unwrap().hops().len(), 0);
-    let nameless = cache_status(&seed(), b"a, (b), 7").err();
-    assert_eq!(nameless, Some(Fault::NotACache(1)));
+    assert_eq!(Path::parse("").unwrap().hops().len(), 0);
+    assert_eq!(Path::parse("a, (b), 7").err(), Some(Error::NotACache(1)));
+}
+
+#[test]
+fn a_hop_is_written() {
+    let lines = [
+        "ExampleCache;hit",
+        "\"CDN Company Here\";hit;ttl=545",
+        "OriginCache;hit;ttl=1100",
+        "a;fwd=bypass",
+        "a;fwd=odd;fwd-status=304;stored;collapsed",
+        "a;fwd=stale;stored=?0;collapsed=?0",
+        "a;hit;fwd=miss",
+        "\"a\\\"b\";key=\"k\";detail=\"d\"",
+        "a;ttl=-412;detail=d",
+    ];
+    for line in lines {
+        let path = Path::parse(line).unwrap();
+        let hop = path.hops().next().unwrap();
+        let again = hop.serialize().unwrap();
+        assert_eq!(Path::parse(&again).unwrap(), path, "{line}");
+    }
+    for why in [
+        Forward::Bypass,
+        Forward::Method,
+        Forward::UriMiss,
+        Forward::VaryMiss,
+        Forward::Miss,
+        Forward::Request,
+        Forward::Stale,
+        Forward::Partial,
+        Forward::Other("odd"),
+    ] {
+        let mut hop = Hop::new(Name::Token("a"));
+        hop.outcome = Outcome::Forwarded(Forwarded::new(why));
+        let path = Path::parse(hop.serialize().unwrap()).unwrap();
+        assert_eq!(path.hops().collect::<Vec<_>>(), [hop]);
+    }
+    let invalid = |change: &dyn Fn(&mut Hop<'_>)| {
+        let mut hop = Hop::new(Name::Token("a"));
+        change(&mut hop);
+        assert_eq!(hop.serialize(), Err(Error::Invalid));
+    };
+    invalid(&|hop| hop.name = Name::Token(""));
+    invalid(&|hop| hop.name = Name::String("\u{fc}"));
+    invalid(&|hop| hop.ttl = Some(1_000_000_000_000_000));
+    invalid(&|hop| hop.key = Some("\n"));
+    invalid(&|hop| hop.detail = Some(Name::Token("a b")));
+    invalid(&|hop| {
+        let mut forwarded = Forwarded::new(Forward::Miss);
+        forwarded.status = Some(99);
+        hop.outcome = Outcome::Forwarded(forwarded);
+    });
+    assert_eq!(
+        Error::Invalid.to_string(),
+        "not a value of a structured field"
+    );
 }

@@ -1,6 +1,6 @@
-//! Want of memory in the wrapper's own vectors: a fault, and no abort.
+//! Failed allocations of the crate's own vectors: an error, and no abort.
 
-use sf::{cache_status, join, normalise, parse, Fault, Kind, Seed};
+use sf::{join, normalise, Dictionary, Error, Hop, Kind, List, Name, Parser, Path, Priority};
 use std::alloc::{GlobalAlloc, Layout, System};
 use std::cell::Cell;
 use std::ptr::null_mut;
@@ -33,7 +33,7 @@ unsafe impl GlobalAlloc for Scarce {
     }
 
     unsafe fn dealloc(&self, block: *mut u8, layout: Layout) {
-        System.dealloc(block, layout)
+        System.dealloc(block, layout);
     }
 
     unsafe fn realloc(&self, block: *mut u8, layout: Layout, size: usize) -> *mut u8 {
@@ -47,32 +47,41 @@ unsafe impl GlobalAlloc for Scarce {
 #[global_allocator]
 static SCARCE: Scarce = Scarce;
 
-// The call with each of its allocations refused, until none is.
-fn each_refusal<T>(call: impl Fn() -> Result<T, Fault>) {
+// The call with each of its allocations refused in turn, until none is.
+fn each_refused<T>(call: impl Fn() -> Result<T, Error>) {
+    drop(call()); // what the standard library allocates once for a thread
     for count in 0..100 {
         LEFT.with(|left| left.set(count));
-        let answer = call();
+        let result = call();
         let is_refused = LEFT.with(|left| left.replace(-1)) < 0;
-        match answer {
+        match result {
             Ok(_) => {
                 assert!(!is_refused);
-                assert!(count > 0, "it takes no memory");
+                assert!(count > 0, "it does not allocate");
                 return;
             }
-            Err(fault) => {
+            Err(error) => {
                 assert!(is_refused);
-                assert_eq!(fault, Fault::OutOfMemory);
+                assert_eq!(error, Error::OutOfMemory);
             }
         }
     }
-    panic!("no answer");
+    panic!("no result");
 }
 
 #[test]
-fn want_of_memory_is_a_fault() {
-    let seed = Seed::from_bytes(*b"sixteen bytes of");
-    each_refusal(|| join(&[b"a", b"b, c"]));
-    each_refusal(|| normalise(&seed, Kind::List, b":YQ:,:YQ:"));
-    each_refusal(|| parse(&seed, Kind::Dict, b"a=(1 2);x=:YQ:, b"));
-    each_refusal(|| cache_status(&seed, b"a;fwd=miss, \"b\";hit"));
+fn a_failed_allocation_is_an_error() {
+    each_refused(|| join(["a", "b, c"]));
+    each_refused(|| normalise(Kind::List, ":YQ:,:YQ:"));
+    each_refused(|| Parser::new().tree(Kind::Dict, "a=(1 2);x=:YQ:, b"));
+    each_refused(|| Dictionary::parse("a=(1 \"c\");x=:YQ:, b;y=t, c=%\"d\""));
+    each_refused(|| List::parse("1,2,3,4,5,6,7,8"));
+    each_refused(|| Parser::new().parse_lines::<List>(["a", "(b c);d"]));
+    let list = List::parse("a ,b").unwrap();
+    each_refused(|| list.serialize());
+    each_refused(|| Path::parse("a;fwd=miss, \"b\";hit"));
+    let hop = Hop::new(Name::String("edge"));
+    each_refused(|| hop.serialize());
+    let priority = Priority::parse("u=1").unwrap();
+    each_refused(|| priority.serialize());
 }

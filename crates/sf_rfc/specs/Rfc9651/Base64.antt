@@ -52,8 +52,9 @@ missing size n = (size - n % size) % size
 
 -- decoding: the characters before the first "=", then "=" alone. The last group has two, three or
 -- four characters, and may be followed by "=" up to four. Where "=" is missing it is synthesised
--- (4.2.7 step 7: also where one of two is missing); pad bits are not looked at (4.2.7: they should
--- not fail). unsure: that "=" in part, as in "Zg=", is padding that is synthesised
+-- (4.2.7 step 7), and pad bits are not looked at (4.2.7: they should not fail). Left open is a
+-- group that lacks one of its two "=", as "Zg=": here the other is synthesised too, since missing
+-- "=" should not fail
 abbrev pub base64_decode : List ℕ → Option (List ℕ)
 base64_decode t =
     let characters : List ℕ = before 61 t in

@@ -1,5 +1,5 @@
 -- Parsing fields: RFC 9651 sections 4.2 to 4.2.3, and 4.2.3.2 and 4.2.3.3.
-use Rattle.std.specs.Prelude.{ℕ, zero, suc, Bool, true, false, ◌==◌, List as Seq, [], ◌∷◌, ◌++◌, ◌||◌, drop}
+use Rattle.std.specs.Prelude.{ℕ, zero, suc, true, false, ◌==◌, List as Seq, [], ◌∷◌, ◌++◌, ◌||◌, drop}
 use Rattle.std.specs.Prelude.{length, Option, Some, None}
 use Rattle.sf_value.specs.declared.dialect.Dialect.{Dialect}
 use Rattle.sf_value.specs.declared.value.Bare.{Bare}
@@ -96,7 +96,7 @@ inner_loop d (suc n) items (c ∷ t) = elim (first_is (λ x. x == 41) (discard i
       ])
 ]
 
--- 1: a first character that is no "(" fails, else it is consumed; 2: inner_list is empty; 3, 4
+-- 1: a first character that is no "(" fails, otherwise it is consumed; 2: inner_list is empty; 3, 4
 abbrev pub parse_inner : Dialect → Parse Inner
 parse_inner d [] = None
 parse_inner d (c ∷ t) = elim (c == 40) [
@@ -206,7 +206,7 @@ parse_field d kind t = elim (all_are is_ascii t) [
   | true ↦ and_then (parse_type d kind (discard is_SP t)) parse_end
 ]
 
--- the further field lines, each behind a comma and SP
+-- the further field lines, each after a comma and SP
 abbrev pub combine_more : Seq (Seq ℕ) → Seq ℕ
 combine_more [] = []
 combine_more (m ∷ ms) = 44 ∷ 32 ∷ (m ++ combine_more ms)

@@ -1,5 +1,5 @@
 -- Parsing bare items: RFC 9651 sections 4.2.4 to 4.2.10, and 4.2.3.1.
-use Rattle.std.specs.Prelude.{ℕ, ◌+◌, ◌-◌, ◌*◌, Bool, true, false, not, ◌==◌, nat_lt, ◌&&◌, ◌||◌}
+use Rattle.std.specs.Prelude.{ℕ, ◌+◌, ◌-◌, ◌*◌, Bool, true, false, ◌==◌, nat_lt, ◌&&◌, ◌||◌}
 use Rattle.std.specs.Prelude.{ℤ, pos, negsuc, ◌*ℤ◌, List, [], ◌∷◌, ◌++◌, length, drop, replicate}
 use Rattle.std.specs.Prelude.{codes, Option, Some, None}
 use Rattle.sf_value.specs.declared.dialect.Dialect.{Dialect}
@@ -43,7 +43,7 @@ number_loop type number (char ∷ t) = elim (is_DIGIT char) [
     | false ↦ number_loop type (number ++ char ∷ []) t
   ]
   | false ↦ elim (is_integer type && char == 46) [
-    -- 7.3.1: "." behind more than 12 characters fails
+    -- 7.3.1: "." after more than 12 characters fails
     | true ↦ elim (nat_lt 12 (length number)) [
       | true ↦ None
       -- 7.3.2: append it, and it is a decimal now; 7.6
@@ -57,7 +57,7 @@ number_loop type number (char ∷ t) = elim (is_DIGIT char) [
   ]
 ]
 
--- digits in base 10, behind digits of value n
+-- digits in base 10, after digits of value n
 abbrev pub base10 : ℕ → List ℕ → ℕ
 base10 n [] = n
 base10 n (c ∷ t) = base10 (n * 10 + (c - 48)) t
@@ -66,7 +66,7 @@ base10 n (c ∷ t) = base10 (n * 10 + (c - 48)) t
 abbrev pub after_point : List ℕ → List ℕ
 after_point number = drop 1 (from 46 number)
 
--- a decimal number in thousandths: its digits without the ".", with zeros until three stand behind
+-- a decimal number in thousandths: its digits without the ".", with zeros up to three after it
 abbrev pub in_thousandths : List ℕ → ℕ
 in_thousandths number =
     let f : List ℕ = after_point number in
@@ -159,7 +159,7 @@ abbrev pub can_be_in_base64 : ℕ → Bool
 can_be_in_base64 c = is_ALPHA c || is_DIGIT c || is_any_of (codes "+/=") c
 
 -- 1: a first character that is no ":" fails; 2: discard it
--- 3: no ":" before the end fails; 4: b64_content is what stands before it; 5: consume the ":"
+-- 3: no ":" before the end fails; 4: b64_content is what is before it; 5: consume the ":"
 -- 6: another character in b64_content fails; 7: base64-decode; 8: return
 abbrev pub parse_byte_sequence : Parse (List ℕ)
 parse_byte_sequence [] = None

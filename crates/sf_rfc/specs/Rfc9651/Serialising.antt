@@ -123,7 +123,7 @@ abbrev pub serialise_dictionary_loop : Seq ℕ → Seq (Seq ℕ × Member) → O
 -- 3: output
 serialise_dictionary_loop output [] = Some output
 -- 2.1: the key
--- 2.2, 2.3: what comes behind it
+-- 2.2, 2.3: what comes after it
 -- 2.4: if more remain, 2.4.1: ","; 2.4.2: one SP
 serialise_dictionary_loop output (p ∷ ps) = and_then (serialise_key p.0) (λ k.
     and_then (serialise_behind p.1) (λ s.

@@ -56,7 +56,7 @@ serialise_fraction f = elim (f == 0) [
 ]
 
 -- 1: by its type it is a decimal number
--- 2: with three digits behind the point there is nothing to round
+-- 2: with three digits after the point there is nothing to round
 -- 3: more than 12 digits before the point fail
 -- 4, 5: from the empty string on, "-" if it is less than 0
 -- 6: the whole part in base 10, which is "0" if it is zero
@@ -91,7 +91,7 @@ serialise_string s = only_if (all_are is_ascii s && all_are (λ c. not (is_unpri
 
 -- 4.1.7, Serialising a Token
 
--- 2: the characters behind the first
+-- 2: the characters after the first
 abbrev pub remaining : List ℕ → List ℕ
 remaining [] = []
 remaining (c ∷ t) = t

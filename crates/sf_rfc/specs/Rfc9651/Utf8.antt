@@ -12,7 +12,7 @@ abbrev pub octet : ℕ → ℕ → Rule
 octet low high [] = None
 octet low high (c ∷ t) = only_if (in_range low high c) t
 
--- one rule behind another
+-- one rule after another
 abbrev pub then : Rule → Rule → Rule
 then p q t = and_then (p t) q
 

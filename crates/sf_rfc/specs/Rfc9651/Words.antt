@@ -3,7 +3,7 @@ use Rattle.std.specs.Prelude.{ℕ, suc, Bool, true, false, ◌&&◌, ◌==◌, L
 use Rattle.std.specs.Prelude.{Some}
 use Rattle.std.specs.Prelude.{None}
 
--- an algorithm that takes a front of its input: a value and the rest, or failure
+-- an algorithm that takes a prefix of its input: a value and the rest, or failure
 abbrev pub Parse : Type 0 → Type 0
 Parse V = List ℕ → Option (V × List ℕ)
 
@@ -17,7 +17,7 @@ abbrev pub or_else : {A : Type 0} → Option A → Option A → Option A
 or_else (Some a) o = Some a
 or_else None o = o
 
--- s if the test holds, else failure
+-- s if the test holds, otherwise failure
 abbrev pub only_if : {A : Type 0} → Bool → A → Option A
 only_if true a = Some a
 only_if false a = None
@@ -37,7 +37,7 @@ abbrev pub discard : (ℕ → Bool) → List ℕ → List ℕ
 discard p [] = []
 discard p (c ∷ t) = elim (p c) [ true ↦ discard p t | false ↦ c ∷ t ]
 
--- what stands before the first instance of the character, and what stands from it on
+-- what is before the first instance of the character, and what is from it on
 abbrev pub before : ℕ → List ℕ → List ℕ
 before x [] = []
 before x (c ∷ t) = elim (c == x) [ true ↦ [] | false ↦ c ∷ before x t ]

@@ -23,6 +23,7 @@ use Rattle.sf_use.specs.declared.cache_status.hop.Hop.{Hop}
 use Rattle.sf_value.specs.Lookups.{as_boolean, as_integer, as_text}
 use Rattle.sf_use.specs.CacheStatus.Parameters.{as_name}
 use Rattle.sf_use.specs.CacheStatus.Reasons.{forward_of, token_of}
+use Rattle.sf_use.specs.Ranges.{IsHopStatus}
 use Rattle.sf_use.specs.CacheStatus.Hops.{hop_named, hops_of, member_hop, outcome_of, status_of}
 use Rattle.sf_use.specs.CacheStatus.Hops.{passed_by_token}
 use Rattle.sf_use.specs.CacheStatus.Members.{bare_of, entry, hit_value, parameters_of, passed_by}
@@ -61,10 +62,10 @@ name-back : (o : Option Name) → option_and_then as_name (option_map bare_of o)
 name-back None = refl
 name-back (Some n) = bare-back n
 
-in-range : (n : ℕ) → (100 ≤ n) × (n ≤ 999) → status_of (Some (pos n)) ≡ Some n
+in-range : (n : ℕ) → IsHopStatus n → status_of (Some (pos n)) ≡ Some n
 in-range n h = grind (arith, nat_tests)
 
-status-back : (o : Option ℕ) → ForSome o (λ n. (100 ≤ n) × (n ≤ 999))
+status-back : (o : Option ℕ) → ForSome o IsHopStatus
     → status_of (option_and_then as_integer (option_map (λ n. Integer (pos n)) o)) ≡ o
 status-back None h = refl
 status-back (Some n) h = in-range n (h n refl)
@@ -80,7 +81,7 @@ reason-back Stale = refl
 reason-back Partial = refl
 reason-back (Other token) = refl
 
-passed-back : (ps : Pairs Bare) (p : Passed) → ForSome p.status (λ n. (100 ≤ n) × (n ≤ 999))
+passed-back : (ps : Pairs Bare) (p : Passed) → ForSome p.status IsHopStatus
     → value_at (codes "fwd-status") ps ≡ status_value (Some p)
     → value_at (codes "stored") ps ≡ stored_value (Some p)
     → value_at (codes "collapsed") ps ≡ collapsed_value (Some p)
@@ -100,7 +101,7 @@ passed-back ps p h status stored collapsed =
     })
 
 outcome-back : (ps : Pairs Bare) (o : Outcome)
-    → ForSome (option_and_then (λ p. p.status) (passed_by o)) (λ n. (100 ≤ n) × (n ≤ 999))
+    → ForSome (option_and_then (λ p. p.status) (passed_by o)) IsHopStatus
     → value_at (codes "hit") ps ≡ hit_value o
     → value_at (codes "fwd") ps ≡ why_value (passed_by o)
     → value_at (codes "fwd-status") ps ≡ status_value (passed_by o)

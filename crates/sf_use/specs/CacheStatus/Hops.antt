@@ -1,5 +1,5 @@
 -- The hops that a List means.
-use Rattle.std.specs.Prelude.{ℕ, ℤ, pos, negsuc, Bool, true, false, nat_le, ◌&&◌, codes, unwrap_or}
+use Rattle.std.specs.Prelude.{ℕ, ℤ, pos, negsuc, Bool, true, false, codes, unwrap_or}
 use Rattle.std.specs.Prelude.{List as Seq, [], position, is_none, Option, Some, None}
 use Rattle.std.specs.Prelude.{Result, Ok, Err}
 use Rattle.std.specs.List.{filter_map}
@@ -18,13 +18,14 @@ use Rattle.sf_use.specs.declared.cache_status.hop.Outcome.{Outcome}
 use Rattle.sf_use.specs.declared.cache_status.hop.Outcome.TheVariants.{Hit, Forwarded, Conflict}
 use Rattle.sf_use.specs.declared.cache_status.hop.Outcome.TheVariants.{Unsaid}
 use Rattle.sf_use.specs.declared.cache_status.hop.Hop.{Hop}
+use Rattle.sf_use.specs.Ranges.{is_hop_status}
 use Rattle.sf_use.specs.CacheStatus.Parameters.{as_name, boolean_at, integer_at, name_at, text_at}
 use Rattle.sf_use.specs.CacheStatus.Parameters.{token_at}
 use Rattle.sf_use.specs.CacheStatus.Reasons.{forward_of}
 
--- a status code has three digits. Ours: another number counts as absent
+-- a status code. Ours: another number counts as absent
 abbrev pub status_of : Option ℤ → Option ℕ
-status_of (Some (pos n)) = allow (nat_le 100 n && nat_le n 999) n
+status_of (Some (pos n)) = allow (is_hop_status n) n
 status_of (Some (negsuc n)) = None
 status_of None = None
 

@@ -1,6 +1,6 @@
 -- What is written is read back. The law stands as the contract of a function in
 -- `src/laws.rt`.
-use Rattle.std.specs.Prelude.{◌≡◌, ◌≤◌, [], ◌∷◌, Ok}
+use Rattle.std.specs.Prelude.{◌≡◌, [], ◌∷◌, Ok}
 use Rattle.std.specs.Option.{option_and_then, ForSome}
 use Rattle.sf_value.specs.Grammar.Fields.{list_of}
 use Rattle.sf_use.specs.declared.cache_status.hop.Forward.{Forward}
@@ -11,6 +11,7 @@ use Rattle.sf_use.specs.declared.cache_status.hop.Outcome.TheVariants.{Hit, Forw
 use Rattle.sf_use.specs.declared.cache_status.hop.Outcome.TheVariants.{Unsaid}
 use Rattle.sf_use.specs.declared.cache_status.hop.Hop.{Hop}
 use Rattle.sf_use.specs.CacheStatus.Reasons.{forward_of}
+use Rattle.sf_use.specs.Ranges.{IsHopStatus}
 use Rattle.sf_use.specs.CacheStatus.Hops.{hops}
 use Rattle.sf_use.specs.CacheStatus.Members.{entry, passed_by}
 
@@ -32,10 +33,10 @@ plain_outcome Unsaid = Unsaid
 abbrev pub plain : Hop → Hop
 plain h = record h { outcome = plain_outcome h.outcome }
 
--- the status has three digits, as each `HopStatus` has
+-- the status is a status code, as each `HopStatus` is
 abbrev pub HasStatusInRange : Hop → Type 0
 HasStatusInRange h =
-    ForSome (option_and_then (λ p. p.status) (passed_by h.outcome)) (λ n. (100 ≤ n) × (n ≤ 999))
+    ForSome (option_and_then (λ p. p.status) (passed_by h.outcome)) IsHopStatus
 
 -- the member of a hop means that hop
 abbrev pub ReadsBack : Type 0

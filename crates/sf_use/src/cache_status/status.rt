@@ -1,5 +1,6 @@
 //! The status code of the response to a forwarded request.
-ghost use Rattle.std.specs.Prelude.{◌≡◌, ◌≤◌, ◌↔◌, IsOk, IfOk};
+ghost use Rattle.std.specs.Prelude.{◌≡◌, ◌↔◌, IsOk, IfOk};
+ghost use Rattle.sf_use.specs.Ranges.{IsHopStatus};
 
 use sf_value::OutOfRange;
 use std::marker::Model;
@@ -17,13 +18,14 @@ pub struct HopStatus {
 }
 
 impl Model for HopStatus {
-    ghost use Rattle.std.specs.Prelude.{ℕ, ◌≤◌};
+    ghost use Rattle.std.specs.Prelude.{ℕ};
+    ghost use Rattle.sf_use.specs.Ranges.{IsHopStatus};
 
     ghost Value = { ℕ };
 
     ghost view = { λ s. s.code };
 
-    ghost invariant = { λ s. (100 ≤ s.code) × (s.code ≤ 999) };
+    ghost invariant = { λ s. IsHopStatus s.code };
 
     ghost inverse = { λ n. record { code = n } };
 }
@@ -32,7 +34,7 @@ impl HopStatus {
     /// Returns the status of a code of three digits, or `OutOfRange` if it doesn't have three. Does
     /// not allocate.
     pub fn new(code: u16) -> Result<HopStatus, OutOfRange>
-        ensures range { IsOk result ↔ ((100 ≤ code) × (code ≤ 999)) }
+        ensures range { IsOk result ↔ IsHopStatus code }
         ensures code { IfOk result (λ status. status ≡ code) }
     {
         if 100 <= code && code <= 999 {
@@ -45,7 +47,7 @@ impl HopStatus {
     /// Returns the code. Does not allocate.
     pub fn get(&self) -> u16
         ensures code { result ≡ self.now }
-        ensures range { (100 ≤ self.now) × (self.now ≤ 999) }
+        ensures range { IsHopStatus self.now }
     {
         self.code
     }
@@ -55,10 +57,10 @@ impl HopStatus {
 impl TryFrom<u16> for HopStatus {
     type Error = OutOfRange;
 
-    ghost use Rattle.std.specs.Prelude.{◌≤◌};
     ghost use Rattle.std.specs.Result.{OkIff};
+    ghost use Rattle.sf_use.specs.Ranges.{IsHopStatus};
 
-    ghost try_from_gives = { λ n r. OkIff r ((100 ≤ n) × (n ≤ 999)) n };
+    ghost try_from_gives = { λ n r. OkIff r (IsHopStatus n) n };
 
     fn try_from(code: u16) -> Result<HopStatus, OutOfRange> {
         HopStatus::new(code)

@@ -12,10 +12,6 @@ join [] = []
 join (l ∷ []) = l
 join (l ∷ m ∷ ls) = l ++ comma ∷ space ∷ join (m ∷ ls)
 
--- the lines are accepted: their joined text spells some value
-abbrev pub Accepted : Dialect → Kind → List (List ℕ) → Type 0
-Accepted d kind lines = (v : Field) × SpellsField d kind (join lines) v
-
 -- some continuation, an empty one included, makes this prefix a text of L
 abbrev pub Continues : {V : Type 0} → (List ℕ → V → Type 0) → List ℕ → Type 0
 Continues {V = V} L p = (u : List ℕ) × (v : V) × L (p ++ u) v

@@ -5,10 +5,10 @@ pub returns-in-Start-clause-went : goal.returns-in-Start-clause-went
 returns-in-Start-clause-went c =
     rw c.in-Start.is
     (unencoded_went _ _ _ _ _ c.long_prefix.ensures.whole c.long_prefix.ensures.every
-    c.in_ok-extend-in-Start.ensures)
+    c.in_ok-extend-in-Start.ensures.bytes)
 
 pub returns-in-Start-clause-leads : goal.returns-in-Start-clause-leads
 returns-in-Start-clause-leads c =
     let leads = rw c.in-Start.is at c.requires in
     rw c.in-Start.is
-    (leads_run _ _ _ leads c.long_prefix.ensures.every c.in_ok-extend-in-Start.ensures)
+    (leads_run _ _ _ leads c.long_prefix.ensures.every c.in_ok-extend-in-Start.ensures.bytes)

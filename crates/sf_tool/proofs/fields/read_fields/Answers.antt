@@ -6,6 +6,7 @@ use Rattle.sf_tool.specs.OneLine.{IsLineFault, FindsNoRoom}
 use Rattle.sf_tool.specs.Lines.{trim, lines_of}
 use Rattle.sf_tool.proofs.Room.{IsListedMap-empty, IsListedMap-adds, many-names}
 use Rattle.sf_tool.proofs.LineByLine.{ReadsOn, reads_on-start, reads_on-adds, reads_on-refused}
+use Rattle.sf_tool.proofs.LineByLine.{reads_on-memory}
 use Rattle.sf_tool.proofs.fields.read_fields.Goals as goal
 
 -- the lines from the first on
@@ -39,6 +40,23 @@ returns-in-Err-Refused c =
     λ room. many-names targets headers number _ small c.loop-line.invariant.listed room.1 in
     reads_on-refused targets c.args.input.now _ c.trimmed.result.now number headers reads many
     refused
+
+pub returns-in-Err-OutOfMemory : goal.returns-in-Err-OutOfMemory
+returns-in-Err-OutOfMemory c =
+    let e = cut c.loop-line.rest.now c.in-Some.line.now c.in-Some.more.now c.trimmed.result.now
+    c.in-Some.ensures.lines c.trimmed.ensures in
+    let targets = c.args.targets.now in
+    let number = c.loop-line.number in
+    let headers = c.loop-line.headers in
+    let P : LineFault → Type 0 = λ fault. IsLineFault targets c.trimmed.result.now headers fault in
+    let taken = subst P c.in-Err-OutOfMemory.field-0-is c.in-Err-OutOfMemory.ensures in
+    let reads =
+    subst (λ ls. ReadsOn targets (lines_of c.args.input.now) ls number headers) e
+    c.loop-line.invariant.reads in (
+      number,
+      reads_on-memory targets c.args.input.now _ c.trimmed.result.now number headers reads
+          taken,
+    )
 
 pub loop-line-preserved : goal.loop-line-preserved
 loop-line-preserved c =

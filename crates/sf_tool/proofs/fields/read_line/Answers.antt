@@ -1,59 +1,85 @@
-use Rattle.std.proofs.Common.{◌≡◌, List, ℕ, true, false, rules, subst, ◌∙◌, ap}
-use Rattle.http_header.specs.FieldName.{IsFieldName}
+use Rattle.std.proofs.Common.{◌≡◌, List, ℕ, true, false, rules, subst, ◌∙◌, ap, sym}
+use Rattle.std.specs.Prelude.{Result, Ok, Err, IsErr, MatchResult}
 use Rattle.http_header.specs.FieldValue.{IsFieldValue, plain_value}
 use Rattle.http_header.specs.Token.{lowercase}
 use Rattle.sf_tool.specs.Lines.{trim}
-use Rattle.sf_tool.specs.Fields.{is_listed, name_of, value_of}
+use Rattle.sf_tool.specs.Fields.{is_header_name, is_listed, value_of}
+use Rattle.sf_tool.specs.OneLine.{IsLine}
 use Rattle.sf_tool.proofs.Names.{refused-without_colon, refused-without_name, dropped-unlisted}
 use Rattle.sf_tool.proofs.Names.{taken-listed, refused-value}
 use Rattle.sf_tool.proofs.fields.read_line.Goals as goal
 
-pub returns-in-None : goal.returns-in-None
-returns-in-None c =
-    refused-without_colon c.args.targets.now c.args.line.now (search rules) c.in-None.ensures
+failed : {X Y : Type 0} (r : Result X Y) (P : X → Type 0) (Q : Type 0) → IsErr r → Q
+    → MatchResult r P (λ _. Q)
+failed (Ok x) P Q e q = absurd cc
+failed (Err y) P Q e q = q
 
-pub returns-in-Err-Invalid : goal.returns-in-Err-Invalid
-returns-in-Err-Invalid c =
-    let P : List ℕ → Type 0 = λ word. ¬ (IsFieldName word) in
-    let bad = subst P c.in-Some.ensures.1 (c.in-Err-Invalid.ensures.invalid.0 (search rules)) in
-    refused-without_name c.args.targets.now c.args.line.now c.in-Some.ensures.0 bad
+pub returns-in_default : goal.returns-in_default
+returns-in_default c =
+    refused-without_colon c.args.targets.now c.args.line.now (search rules) c.in_default.ensures
+
+pub returns-in_default-header_name : goal.returns-in_default-header_name
+returns-in_default-header_name c =
+    let P : List ℕ → Type 0 = λ word. is_header_name word ≡ false in
+    refused-without_name c.args.targets.now c.args.line.now c.in-Some.ensures.0
+    (subst P c.in-Some.ensures.1 c.in_default-header_name.ensures)
 
 pub returns-then-not-is_listed : goal.returns-then-not-is_listed
 returns-then-not-is_listed c =
-    let P : List ℕ → Type 0 = λ word. ¬ (¬ (IsFieldName word)) in
+    let P : List ℕ → Type 0 = λ word. is_header_name word ≡ true in
+    let Q : List ℕ → Type 0 = λ word. is_listed c.args.targets.now (lowercase word) ≡ false in
     let word = c.in-Some.ensures.1 in
-    let named = subst P word (λ bad. let e = c.in-Ok.ensures.invalid.1 bad in cc) in
-    let name : c.in-Ok.name ≡ name_of c.args.line.now = c.in-Ok.ensures.ok ∙ ap lowercase word in
-    let Q : List ℕ → Type 0 = λ name. is_listed c.args.targets.now name ≡ false in
-    let other = subst Q name (search rules) in
-    dropped-unlisted c.args.targets.now c.args.line.now c.in-Some.ensures.0 named other
+    dropped-unlisted c.args.targets.now c.args.line.now c.in-Some.ensures.0
+    (subst P word c.in-Some-header_name.ensures.0) (subst Q word (search rules))
 
-pub returns-in-Ok-from_bytes : goal.returns-in-Ok-from_bytes
-returns-in-Ok-from_bytes c =
-    let P : List ℕ → Type 0 = λ word. ¬ (¬ (IsFieldName word)) in
+pub returns-in_err-name-in-Ok : goal.returns-in_err-name-in-Ok
+returns-in_err-name-in-Ok c =
+    let P : List ℕ → Type 0 = λ word. is_header_name word ≡ true in
+    let Q : List ℕ → Type 0 = λ word. is_listed c.args.targets.now (lowercase word) ≡ true in
     let word = c.in-Some.ensures.1 in
-    let named = subst P word (λ bad. let e = c.in-Ok.ensures.invalid.1 bad in cc) in
-    let name : c.in-Ok.name ≡ name_of c.args.line.now = c.in-Ok.ensures.ok ∙ ap lowercase word in
-    let Q : List ℕ → Type 0 = λ name. is_listed c.args.targets.now name ≡ true in
-    let here = subst Q name (search rules) in
     let passed : c.trimmed.result.now ≡ value_of c.args.line.now =
     c.trimmed.ensures ∙ ap trim c.in-Some.ensures.2 in
     let R : List ℕ → Type 0 = λ value. ¬ (¬ (IsFieldValue value)) in
-    let valued = subst R passed (λ bad. let e = c.in-Ok-from_bytes.ensures.invalid.1 bad in cc) in
-    let taken = taken-listed c.args.targets.now c.args.line.now c.in-Some.ensures.0 named here
-    valued in
-    (taken.0, taken.1, name, c.in-Ok-from_bytes.ensures.ok ∙ ap plain_value passed)
+    let taken = taken-listed c.args.targets.now c.args.line.now c.in-Some.ensures.0
+    (subst P word c.in-Some-header_name.ensures.0) (subst Q word (search rules))
+    (subst R passed (λ bad. let e = c.in-Ok.ensures.invalid.1 bad in cc)) in
+    failed c.from_residual.result (IsLine c.args.targets.now c.args.line.now) _
+    c.from_residual.ensures.0 taken
 
-pub returns-in-Err-Invalid-from_bytes : goal.returns-in-Err-Invalid-from_bytes
-returns-in-Err-Invalid-from_bytes c =
-    let P : List ℕ → Type 0 = λ word. ¬ (¬ (IsFieldName word)) in
+pub returns-in-Ok : goal.returns-in-Ok
+returns-in-Ok c =
+    let P : List ℕ → Type 0 = λ word. is_header_name word ≡ true in
+    let Q : List ℕ → Type 0 = λ word. is_listed c.args.targets.now (lowercase word) ≡ true in
     let word = c.in-Some.ensures.1 in
-    let named = subst P word (λ bad. let e = c.in-Ok.ensures.invalid.1 bad in cc) in
-    let name : c.in-Ok.name ≡ name_of c.args.line.now = c.in-Ok.ensures.ok ∙ ap lowercase word in
-    let Q : List ℕ → Type 0 = λ name. is_listed c.args.targets.now name ≡ true in
-    let here = subst Q name (search rules) in
+    let passed : c.trimmed.result.now ≡ value_of c.args.line.now =
+    c.trimmed.ensures ∙ ap trim c.in-Some.ensures.2 in
+    let R : List ℕ → Type 0 = λ value. ¬ (¬ (IsFieldValue value)) in
+    let taken = taken-listed c.args.targets.now c.args.line.now c.in-Some.ensures.0
+    (subst P word c.in-Some-header_name.ensures.0) (subst Q word (search rules))
+    (subst R passed (λ bad. let e = c.in-Ok.ensures.invalid.1 bad in cc)) in
+    let named = rw c.in_ok-name-in-Ok.was at c.in-Some-header_name.ensures.1 in
+    (taken, named ∙ ap lowercase word, c.in-Ok.ensures.ok ∙ ap plain_value passed)
+
+pub returns-in-Err-Invalid : goal.returns-in-Err-Invalid
+returns-in-Err-Invalid c =
+    let P : List ℕ → Type 0 = λ word. is_header_name word ≡ true in
+    let Q : List ℕ → Type 0 = λ word. is_listed c.args.targets.now (lowercase word) ≡ true in
+    let word = c.in-Some.ensures.1 in
     let passed : c.trimmed.result.now ≡ value_of c.args.line.now =
     c.trimmed.ensures ∙ ap trim c.in-Some.ensures.2 in
     let R : List ℕ → Type 0 = λ value. ¬ (IsFieldValue value) in
-    let bad = subst R passed (c.in-Err-Invalid-from_bytes.ensures.invalid.0 (search rules)) in
-    refused-value c.args.targets.now c.args.line.now c.in-Some.ensures.0 named here bad
+    refused-value c.args.targets.now c.args.line.now c.in-Some.ensures.0
+    (subst P word c.in-Some-header_name.ensures.0) (subst Q word (search rules))
+    (subst R passed (c.in-Err-Invalid.ensures.invalid.0 (search rules)))
+
+pub returns : goal.returns
+returns c =
+    let P : List ℕ → Type 0 = λ word. is_header_name word ≡ true in
+    let Q : List ℕ → Type 0 = λ word. is_listed c.args.targets.now (lowercase word) ≡ true in
+    let word = c.in-Some.ensures.1 in
+    let passed : c.trimmed.result.now ≡ value_of c.args.line.now =
+    c.trimmed.ensures ∙ ap trim c.in-Some.ensures.2 in
+    let R : List ℕ → Type 0 = λ value. ¬ (¬ (IsFieldValue value)) in
+    taken-listed c.args.targets.now c.args.line.now c.in-Some.ensures.0
+    (subst P word c.in-Some-header_name.ensures.0) (subst Q word (search rules))
+    (subst R passed (λ bad. let e = c.in-Err-OutOfMemory.ensures.invalid.1 bad in cc))

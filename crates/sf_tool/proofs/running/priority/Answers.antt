@@ -1,12 +1,12 @@
-use Rattle.sf_value.specs.declared.dialect.Dialect.TheVariants.{Rfc9651}
+use Rattle.std.proofs.Common.{Ok}
 use Rattle.sf_value.specs.declared.value.Kind.TheVariants as kind
+use Rattle.sf_use.specs.Priority.{asked_in}
 use Rattle.sf_tool.specs.declared.request.Request.TheVariants.{Priority}
-use Rattle.sf_tool.proofs.Tells.{tells_refused}
+use Rattle.sf_tool.proofs.Tells.{tells_ask_fault}
 use Rattle.sf_tool.proofs.running.priority.Goals as goal
 
-pub returns-in-Err-Field : goal.returns-in-Err-Field
-returns-in-Err-Field g c =
-    tells_refused Priority Rfc9651 kind.Dict c.args.input.now c.in-Err-Field.refusal _ _ _
-    (λ line r. r)
-    (rw c.in-Err-Field.field-0-is at c.in-Err-Field.ensures.asks)
-    c.answer_refusal.ensures
+pub returns-in-Err : goal.returns-in-Err
+returns-in-Err g c =
+    tells_ask_fault Priority kind.Dict (λ v. Ok (asked_in v)) c.args.input.now c.in-Err.fault _ _ _
+    tt (λ line r. r) (λ index m. let other = m.2 in absurd cc) c.in-Err.ensures.asks
+    c.answer_ask_fault.ensures

@@ -1,7 +1,8 @@
-use Rattle.std.proofs.Common.{refl}
+use Rattle.std.proofs.Common.{inl, refl}
 use Rattle.sf_tool.specs.declared.request.Request.TheVariants.{Targeted}
 use Rattle.sf_tool.specs.declared.status.Status.TheVariants.{Accepted}
 use Rattle.sf_tool.specs.ChoiceLines.{choice_lines}
+use Rattle.sf_tool.proofs.LineByLine.{fields_allocate}
 use Rattle.sf_tool.proofs.Places.{is_place}
 use Rattle.sf_tool.proofs.Tells.{tells_text, tells_input_fault}
 use Rattle.sf_tool.proofs.running.targeted.Goals as goal
@@ -24,3 +25,12 @@ returns-in-Ok-select g c =
     tells_text (Targeted c.args.names.now) c.args.input.now
     (choice_lines c.args.names.now.items c.in-Ok-select.choice) Accepted _ _ _
     (_, read, c.in-Ok-select.choice, chosen, refl) (rw names at c.answer_choice.ensures)
+
+pub returns : goal.returns
+returns g c =
+    let read = rw c.as_slice-names.ensures.value at c.in-Ok.ensures in
+    let reached = c.in-Err-select.ensures.reached in
+    inl (
+      fields_allocate c.args.names.now.items c.args.input.now c.in-Ok.headers _ read reached.2,
+      refl,
+    )

@@ -21,7 +21,7 @@ pub invariant_of-self-in-Token : goal.invariant_of-self-in-Token
 invariant_of-self-in-Token c =
     let token = rw c.in-Token.is at c.self.invariant in
     rw c.in-Token.is
-    (word_run_kept is_token_start is_in_token _ _ _ c.in_ok-extend-in-Token.ensures
+    (word_run_kept is_token_start is_in_token _ _ _ c.in_ok-extend-in-Token.ensures.bytes
     c.long_prefix.ensures.every token)
 
 pub returns-in-Token-clause-went : goal.returns-in-Token-clause-went
@@ -30,7 +30,7 @@ returns-in-Token-clause-went c =
     (went_above (word_step is_in_token) bare_step InToken (λ s t b e. ap (option_map InToken) e) _ _
     _ _
     (word_went is_in_token _ _ _ _ _ c.long_prefix.ensures.whole c.long_prefix.ensures.every
-    c.in_ok-extend-in-Token.ensures))
+    c.in_ok-extend-in-Token.ensures.bytes))
 
 pub returns-in-Blob-clause-went : goal.returns-in-Blob-clause-went
 returns-in-Blob-clause-went c =

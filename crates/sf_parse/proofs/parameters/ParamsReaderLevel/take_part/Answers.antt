@@ -20,7 +20,7 @@ pub invariant_of-self-in-InKey : goal.invariant_of-self-in-InKey
 invariant_of-self-in-InKey c =
     let key = rw c.in-InKey.is at c.self.invariant in
     rw c.in-InKey.is
-    (word_run_kept is_key_start is_in_key _ _ _ c.in_ok-extend-in-InKey.ensures
+    (word_run_kept is_key_start is_in_key _ _ _ c.in_ok-extend-in-InKey.ensures.bytes
     c.short_prefix-in-InKey.ensures.every key)
 
 pub returns-in-InKey-clause-went : goal.returns-in-InKey-clause-went
@@ -30,7 +30,7 @@ returns-in-InKey-clause-went c =
     rw (← c.self.view_is, c.in-InKey.is)
     (went_above (word_step is_in_key) (params_step d) (InParamKey ps) (key_in_params d ps) _ _ _ _
     (word_went is_in_key _ _ _ _ _ c.short_prefix-in-InKey.ensures.whole
-    c.short_prefix-in-InKey.ensures.every c.in_ok-extend-in-InKey.ensures))
+    c.short_prefix-in-InKey.ensures.every c.in_ok-extend-in-InKey.ensures.bytes))
 
 pub returns-in-InValue-clause-went : goal.returns-in-InValue-clause-went
 returns-in-InValue-clause-went c =

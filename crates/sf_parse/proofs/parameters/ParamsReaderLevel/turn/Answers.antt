@@ -6,6 +6,6 @@ use Rattle.sf_parse.proofs.parameters.ParamsReaderLevel.turn.Goals as goal
 pub invariant_of-self-in-InKey : goal.invariant_of-self-in-InKey
 invariant_of-self-in-InKey c =
     let key = rw c.in-InKey.is at c.self.invariant in
-    rw (c.in-InKey.is, c.in_ok-push-in-InKey.ensures)
+    rw (c.in-InKey.is, c.in_ok-push-in-InKey.ensures.bytes)
     (word_push is_key_start is_in_key _ _ key
     (sym c.has_one.ensures ∙ c.if-not-has_one.false))

@@ -5,8 +5,8 @@ pub returns-in_ok-extend-in-Inside-clause-went : goal.returns-in_ok-extend-in-In
 returns-in_ok-extend-in-Inside-clause-went c =
     rw c.in-Inside.is
     (text_went _ _ _ _ _ c.long_prefix.ensures.whole c.long_prefix.ensures.every
-    c.in_ok-extend-in-Inside.ensures)
+    c.in_ok-extend-in-Inside.ensures.bytes)
 
 pub returns-in_ok-extend-in-Inside-clause-visible : goal.returns-in_ok-extend-in-Inside-clause-visible
 returns-in_ok-extend-in-Inside-clause-visible c =
-    λ h. visible_run _ _ _ c.in_ok-extend-in-Inside.ensures c.long_prefix.ensures.every h
+    λ h. visible_run _ _ _ c.in_ok-extend-in-Inside.ensures.bytes c.long_prefix.ensures.every h

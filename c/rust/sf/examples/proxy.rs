@@ -1,0 +1,57 @@
+//! A caching proxy's decisions on a request that it forwards, and on the response, by their fields on
+//! standard input: a line `> Name: value` is of the request, and `< Name: value` of the response.
+
+use sf::{Error, Forward, Forwarded, Hop, Name, Outcome, Policy, Priority};
+use std::io::{self, BufRead};
+
+/// This cache's own field, and the one of all caches of its kind (RFC 9213 section 2.2).
+const TARGET_LIST: [&str; 2] = ["ExampleCDN-Cache-Control", "CDN-Cache-Control"];
+
+/// The default if the field is malformed, as if it were absent.
+fn or_ignored<T: Default>(result: Result<T, Error>) -> Result<T, Error> {
+    match result {
+        Err(Error::Refused(_)) => Ok(T::default()),
+        result => result,
+    }
+}
+
+fn main() -> Result<(), Box<dyn std::error::Error>> {
+    let lines: Vec<String> = io::stdin().lock().lines().collect::<Result<_, _>>()?;
+    let field = |side: char, name: &str| {
+        sf::join(lines.iter().filter_map(|line| {
+            let (found, value) = line.strip_prefix(side)?.split_once(':')?;
+            (found.trim().eq_ignore_ascii_case(name)).then(|| value.trim())
+        }))
+    };
+
+    let asked = or_ignored(Priority::parse(field('>', "Priority")?))?;
+    let both = asked.merged_with(or_ignored(Priority::parse(field('<', "Priority")?))?);
+    let how = ["", ", incremental"][usize::from(both.incremental())];
+    println!("urgency {}{how}", both.urgency());
+
+    let mut target = ("no targeted field", None);
+    for name in TARGET_LIST.into_iter().rev() {
+        let policy = or_ignored(Policy::parse(field('<', name)?))?;
+        target = policy.map_or(target, |policy| (name, Some(policy)));
+    }
+    let (name, policy) = target;
+    let stored = policy.filter(|policy| !policy.no_store && !policy.is_private);
+    let lifetime = stored.and_then(|policy| policy.lifetime(true));
+    let what = ["don't store it", "store it"][usize::from(stored.is_some())];
+    let fresh = lifetime.map(|seconds| format!(", fresh for {seconds} s"));
+    println!("by {name}: {what}{}", fresh.unwrap_or_default());
+
+    let text = both.serialize()?;
+    if !text.is_empty() {
+        println!("Priority: {text}");
+    }
+    let mut hop = Hop::new(Name::Token("ExampleCDN"));
+    let mut forwarded = Forwarded::new(Forward::UriMiss);
+    forwarded.stored = Some(stored.is_some());
+    hop.outcome = Outcome::Forwarded(forwarded);
+    hop.ttl = lifetime.map(i64::try_from).transpose()?;
+    let path = [field('<', "Cache-Status")?, hop.serialize()?.into()];
+    let path = sf::join(path.iter().filter(|line| !line.is_empty()))?;
+    println!("Cache-Status: {}", String::from_utf8_lossy(&path));
+    Ok(())
+}

@@ -1,0 +1,142 @@
+-- The hop that a struct gives, to be written (RFC 9211 section 2). Any number but 0 sets a flag, and
+-- what a flag leaves out is not looked at.
+use Rattle.std.specs.Prelude.{◌≡◌, ◌≢◌, ℕ, ℤ, ◌+◌, ◌<◌, ◌≤◌, ◌^◌, ◌==◌, not, nat_abs, Bool}
+use Rattle.std.specs.Prelude.{List, [], ◌∷◌, length, Option, Some, None, Ok}
+use Rattle.sf_value.specs.declared.dialect.Dialect.TheVariants.{Rfc9651}
+use Rattle.sf_value.specs.declared.fault.TextFault.{TextFault}
+use Rattle.sf_value.specs.declared.fault.TextFault.TheVariants as text_fault
+use Rattle.sf_value.specs.declared.value.Field.{Field}
+use Rattle.sf_value.specs.declared.value.Field.TheVariants as field
+use Rattle.sf_value.specs.declared.value.Kind.TheVariants as kind
+use Rattle.sf_value.specs.Grammar.Canonical.{canon}
+use Rattle.sf_value.specs.Grammar.Classes.{is_visible}
+use Rattle.sf_value.specs.Grammar.Tokens.{IsToken}
+use Rattle.sf_value.specs.Grammar.Words.{Every}
+use Rattle.sf_parse.specs.Parsers.{IsOnly}
+use Rattle.sf_use.specs.declared.cache_status.hop.Name.{Name}
+use Rattle.sf_use.specs.declared.cache_status.hop.Name.TheVariants as name
+use Rattle.sf_use.specs.declared.cache_status.hop.Forward.{Forward}
+use Rattle.sf_use.specs.declared.cache_status.hop.Forward.TheVariants.{Bypass, Method, UriMiss}
+use Rattle.sf_use.specs.declared.cache_status.hop.Forward.TheVariants.{VaryMiss, Miss, Request}
+use Rattle.sf_use.specs.declared.cache_status.hop.Forward.TheVariants.{Stale, Partial, Other}
+use Rattle.sf_use.specs.declared.cache_status.hop.Passed.{Passed}
+use Rattle.sf_use.specs.declared.cache_status.hop.Outcome.{Outcome}
+use Rattle.sf_use.specs.declared.cache_status.hop.Outcome.TheVariants.{Hit, Forwarded, Conflict}
+use Rattle.sf_use.specs.declared.cache_status.hop.Outcome.TheVariants.{Unsaid}
+use Rattle.sf_use.specs.declared.cache_status.hop.Hop.{Hop}
+use Rattle.sf_use.specs.CacheStatus.Hops.{hops}
+use Rattle.sf_use.specs.CacheStatus.Laws.{plain}
+use Rattle.sf_use.specs.CacheStatus.Members.{entry}
+use Rattle.sf_c.specs.declared.hops.Piece.{Piece}
+use Rattle.sf_c.specs.declared.hops.HopNode.{HopNode}
+use Rattle.sf_c.specs.declared.status.Status.{Status}
+use Rattle.sf_c.specs.declared.status.Status.TheVariants.{Answered, Short, OutOfMemory, Invalid}
+use Rattle.sf_c.specs.Tellings.{piece}
+use Rattle.sf_c.specs.TextBuffers.{PutsText, TextBuffer}
+
+-- the bytes that a piece points to, which are there
+abbrev pub AreBytes : List ℕ → Piece → List ℕ → Type 0
+AreBytes bytes p text =
+    (p.at + p.length ≤ length bytes) × (text ≡ piece p.at p.length bytes)
+
+-- a value that is given if its flag is set
+abbrev pub GivesMaybe : {X : Type 0} → ℕ → (X → Type 0) → Option X → Type 0
+GivesMaybe flag P None = flag ≡ 0
+GivesMaybe flag P (Some x) = (flag ≢ 0) × P x
+
+-- a String
+abbrev pub GivesString : List ℕ → Piece → List ℕ → Type 0
+GivesString bytes p text = AreBytes bytes p text × Every is_visible text
+
+-- a Token
+abbrev pub GivesToken : List ℕ → Piece → List ℕ → Type 0
+GivesToken bytes p token = AreBytes bytes p token × IsToken token
+
+-- a name or a detail: a Token if the flag is set, otherwise a String
+abbrev pub GivesName : List ℕ → Piece → ℕ → Name → Type 0
+GivesName bytes p flag (name.Text text) = (flag ≡ 0) × GivesString bytes p text
+GivesName bytes p flag (name.Token token) = (flag ≢ 0) × GivesToken bytes p token
+
+-- why the request was forwarded (2.2)
+abbrev pub GivesWhy : List ℕ → HopNode → Forward → Type 0
+GivesWhy bytes n Bypass = n.why ≡ 1
+GivesWhy bytes n Method = n.why ≡ 2
+GivesWhy bytes n UriMiss = n.why ≡ 3
+GivesWhy bytes n VaryMiss = n.why ≡ 4
+GivesWhy bytes n Miss = n.why ≡ 5
+GivesWhy bytes n Request = n.why ≡ 6
+GivesWhy bytes n Stale = n.why ≡ 7
+GivesWhy bytes n Partial = n.why ≡ 8
+GivesWhy bytes n (Other token) = (n.why ≡ 9) × GivesToken bytes n.why_token token
+
+-- a status from 100 to 999 (2.3)
+abbrev pub GivesStatus : ℕ → ℕ → Type 0
+GivesStatus number status = (status ≡ number) × (100 ≤ number) × (number ≤ 999)
+
+-- a flag of the request
+abbrev pub GivesFlag : ℕ → Bool → Type 0
+GivesFlag number flag = flag ≡ not (number == 0)
+
+-- what is known of a request that was forwarded
+abbrev pub GivesPassed : List ℕ → HopNode → Passed → Type 0
+GivesPassed bytes n p =
+    GivesWhy bytes n p.why
+    × GivesMaybe n.says_status (GivesStatus n.status) p.status
+    × GivesMaybe n.says_stored (GivesFlag n.stored) p.stored
+    × GivesMaybe n.says_collapsed (GivesFlag n.collapsed) p.collapsed
+
+-- what the cache did (2.1 and 2.2)
+abbrev pub GivesOutcome : List ℕ → HopNode → Outcome → Type 0
+GivesOutcome bytes n Unsaid = n.outcome ≡ 0
+GivesOutcome bytes n Hit = n.outcome ≡ 1
+GivesOutcome bytes n (Forwarded p) = (n.outcome ≡ 2) × GivesPassed bytes n p
+GivesOutcome bytes n (Conflict p) = (n.outcome ≡ 3) × GivesPassed bytes n p
+
+-- an Integer
+abbrev pub GivesInteger : ℤ → ℤ → Type 0
+GivesInteger number n = (n ≡ number) × (nat_abs number < 10 ^ 15)
+
+-- the hop that a struct gives, which points into these bytes
+abbrev pub GivesHop : List ℕ → HopNode → Hop → Type 0
+GivesHop bytes n h =
+    GivesName bytes n.name n.name_is_token h.name
+    × GivesOutcome bytes n h.outcome
+    × GivesMaybe n.says_ttl (GivesInteger n.ttl) h.ttl
+    × GivesMaybe n.says_key (GivesString bytes n.key) h.key
+    × GivesMaybe n.says_detail (GivesName bytes n.detail n.detail_is_token) h.detail
+
+-- why there is no value: none is given, or there is no memory for it
+abbrev pub GivesNone : {X : Type 0} → (X → Type 0) → Status → Type 0
+GivesNone P Invalid = (x : _) → P x → ⊥
+GivesNone P OutOfMemory = Unit {0}
+GivesNone P status = ⊥
+
+-- the status for bytes that are no String or Token
+abbrev pub fault_status : TextFault → Status
+fault_status text_fault.Empty = Invalid
+fault_status (text_fault.BadByte place) = Invalid
+fault_status text_fault.OutOfMemory = OutOfMemory
+
+-- the text of a Cache-Status field whose only member is that of the hop
+abbrev pub hop_text : Hop → List ℕ
+hop_text h = canon (field.List (record { members = entry h ∷ [] }))
+
+-- the text is a Cache-Status field that is read as this hop alone; a token of fwd that the RFC
+-- defines is read as its reason
+abbrev pub IsReadAs : List ℕ → Hop → Type 0
+IsReadAs text h = (v : Field) × IsOnly Rfc9651 kind.List text v × (hops v ≡ Ok (plain h ∷ []))
+
+-- the text of a Cache-Status field with the hop that the struct gives as its only member
+abbrev pub WritesHop : TextBuffer → TextBuffer → List ℕ → HopNode → Option Status → Type 0
+WritesHop old new bytes n (Some Invalid) = ((h : Hop) → GivesHop bytes n h → ⊥) × (new ≡ old)
+WritesHop old new bytes n (Some Answered) =
+    (h : Hop)
+    × GivesHop bytes n h
+    × IsReadAs (hop_text h) h
+    × PutsText old new (hop_text h) (Some Answered)
+WritesHop old new bytes n (Some Short) =
+    (h : Hop)
+    × GivesHop bytes n h
+    × PutsText old new (hop_text h) (Some Short)
+WritesHop old new bytes n (Some OutOfMemory) = new ≡ old
+WritesHop old new bytes n status = ⊥

@@ -1,0 +1,28 @@
+-- A text in the caller's buffer.
+use Rattle.std.specs.Prelude.{◌≡◌, ℕ, ◌<◌, ◌≤◌, List, length, Option, Some}
+use Rattle.sf_c.specs.Normal.{IsAtFront}
+use Rattle.sf_c.specs.declared.status.Status.{Status}
+use Rattle.sf_c.specs.declared.status.Status.TheVariants.{Answered, Short, OutOfMemory}
+
+-- what a call that answers with a text may write to
+pub record TextBuffer : Type 0 where
+  pub buffer : List ℕ
+  pub required : ℕ
+
+-- the text is at the front of a buffer that is long enough; a shorter one is left as it was. The
+-- length of the text is given in both cases
+abbrev pub PutsText : TextBuffer → TextBuffer → List ℕ → Option Status → Type 0
+PutsText old new text (Some Answered) =
+    (new.required ≡ length text)
+    × (length text ≤ length old.buffer)
+    × IsAtFront text old.buffer new.buffer
+PutsText old new text (Some Short) =
+    (new.required ≡ length text)
+    × (length old.buffer < length text)
+    × (new.buffer ≡ old.buffer)
+PutsText old new text status = ⊥
+
+-- so it is, or an allocation failed and all is left as it was
+abbrev pub Writes : TextBuffer → TextBuffer → List ℕ → Option Status → Type 0
+Writes old new text (Some OutOfMemory) = new ≡ old
+Writes old new text status = PutsText old new text status

@@ -1,0 +1,294 @@
+//! The member of a Cache-Status field for a hop.
+ghost use Rattle.std.specs.Prelude.{◌≡◌, [], ◌∷◌, Some, IfOk, MatchResult};
+ghost use Rattle.sf_value.specs.declared.dialect.Dialect.TheVariants.{Rfc9651};
+ghost use Rattle.sf_value.specs.declared.value.Kind.TheVariants as kind_is;
+ghost use Rattle.sf_value.specs.Grammar.Fields.{list_of};
+ghost use Rattle.sf_value.specs.Grammar.Valid.{Valid};
+ghost use Rattle.sf_use.specs.CacheStatus.Members.{entry};
+ghost use Rattle.sf_c.specs.GivenHops.{AreBytes, GivesFlag, GivesHop, GivesInteger, GivesMaybe};
+ghost use Rattle.sf_c.specs.GivenHops.{GivesName, GivesNone, GivesOutcome, GivesPassed};
+ghost use Rattle.sf_c.specs.GivenHops.{fault_status, hop_text};
+ghost use Rattle.sf_c.specs.GivenHops.{GivesStatus, GivesString, GivesToken, GivesWhy, WritesHop};
+ghost use Rattle.sf_c.specs.Statuses.{status_at};
+
+use crate::hops::{HopNode, Piece};
+use crate::room::put_text;
+use crate::seed::Seed;
+use crate::status::Status;
+use sf_use::{Forward, Hop, HopStatus, Name, Outcome, Passed, append_hop};
+use sf_value::{Field, Int, List, OutOfMemory, Sequence, Text, TextFault, Token};
+use sf_write::to_text;
+use std::alloc::Global;
+use std::hash::RandomState;
+
+/// The text of a Cache-Status field whose only member is this hop (RFC 9211 section 2): a line of
+/// its own, to be sent after those that came from the caches nearer the origin. The pieces of the
+/// hop are in `bytes`. `Answered` if the buffer holds the text; `Short` if it is too small;
+/// `Invalid` if the struct gives no hop; or `OutOfMemory`.
+#[unsafe(no_mangle)]
+pub extern "C" fn sf_hop_text(
+    alloc: Global,
+    seed: &Seed,
+    hop: &HopNode,
+    bytes: &[u8],
+    buffer: &mut [u8],
+    required: &mut usize,
+) -> u32
+    // The text of the hop that the struct gives, or why there is none.
+    ensures { WritesHop (record { buffer = buffer.old; required = required.old })
+        (record { buffer = buffer.new; required = required.new }) bytes.now hop.now
+        (status_at result) }
+{
+    write(alloc, seed, hop, bytes, buffer, required).code()
+}
+
+/// As [`sf_hop_text`] answers.
+fn write(
+    alloc: Global,
+    seed: &Seed,
+    hop: &HopNode,
+    bytes: &[u8],
+    buffer: &mut [u8],
+    required: &mut usize,
+) -> Status
+    ensures { WritesHop (record { buffer = buffer.old; required = required.old })
+        (record { buffer = buffer.new; required = required.new }) bytes.now hop.now
+        (Some result) }
+{
+    let hop = match hop_of(alloc, hop, bytes) {
+        Ok(hop) => hop,
+        Err(status) => return status,
+    };
+    let Some(state) = seed.state() else {
+        return Status::OutOfMemory;
+    };
+    match text_of(alloc, &state, &hop) {
+        Ok(text) => put_text(text.as_slice(), buffer, required),
+        Err(_) => Status::OutOfMemory,
+    }
+}
+
+/// The text of a List whose only member is that of the hop.
+fn text_of(alloc: Global, seed: &RandomState, hop: &Hop) -> Result<Vec<u8>, OutOfMemory>
+    ensures text { IfOk result (λ text. text.items ≡ hop_text hop.now) }
+    ensures valid { IfOk result
+        (λ _. Valid Rfc9651 kind_is.List (list_of (entry hop.now ∷ []))) }
+{
+    let mut list = List {
+        members: Sequence::new(alloc),
+    };
+    append_hop(alloc, seed, &mut list, hop)?;
+    to_text(alloc, &Field::List(list))
+}
+
+/// The hop that the struct gives.
+fn hop_of(alloc: Global, hop: &HopNode, bytes: &[u8]) -> Result<Hop, Status>
+    ensures { MatchResult result (λ made. GivesHop bytes.now hop.now made)
+        (GivesNone (GivesHop bytes.now hop.now)) }
+{
+    let name = name_of(alloc, bytes, hop.name, hop.name_is_token)?;
+    let outcome = outcome_of(alloc, hop, bytes)?;
+    let ttl = match ttl_of(hop) {
+        Ok(ttl) => ttl,
+        Err(status) => return Err(status),
+    };
+    let key = key_of(alloc, bytes, hop.key, hop.says_key)?;
+    let detail = match detail_of(alloc, hop, bytes) {
+        Ok(detail) => detail,
+        Err(status) => return Err(status),
+    };
+    Ok(Hop {
+        name,
+        outcome,
+        ttl,
+        key,
+        detail,
+    })
+}
+
+/// The bytes of a piece.
+fn bytes_of<'a>(bytes: &'a [u8], piece: Piece) -> Result<&'a [u8], Status>
+    ensures { MatchResult result (λ part. AreBytes bytes.now piece part.now)
+        (GivesNone (AreBytes bytes.now piece)) }
+{
+    if piece.at > bytes.len() || piece.length > bytes.len() - piece.at {
+        return Err(Status::Invalid);
+    }
+    Ok(&bytes[piece.at..piece.at + piece.length])
+}
+
+/// The status for bytes that are no String or Token.
+fn status_of_fault(fault: TextFault) -> Status
+    ensures { result ≡ fault_status fault }
+{
+    match fault {
+        TextFault::OutOfMemory => Status::OutOfMemory,
+        TextFault::Empty | TextFault::BadByte { .. } => Status::Invalid,
+    }
+}
+
+/// A String.
+fn string_of(alloc: Global, bytes: &[u8], piece: Piece) -> Result<Text, Status>
+    ensures { MatchResult result (λ text. GivesString bytes.now piece text)
+        (GivesNone (GivesString bytes.now piece)) }
+{
+    match Text::new(alloc, bytes_of(bytes, piece)?) {
+        Ok(text) => Ok(text),
+        Err(fault) => Err(status_of_fault(fault)),
+    }
+}
+
+/// A Token.
+fn token_of(alloc: Global, bytes: &[u8], piece: Piece) -> Result<Token, Status>
+    ensures { MatchResult result (λ token. GivesToken bytes.now piece token)
+        (GivesNone (GivesToken bytes.now piece)) }
+{
+    match Token::new(alloc, bytes_of(bytes, piece)?) {
+        Ok(token) => Ok(token),
+        Err(fault) => Err(status_of_fault(fault)),
+    }
+}
+
+/// A name, or a detail.
+fn name_of(alloc: Global, bytes: &[u8], piece: Piece, is_token: u8) -> Result<Name, Status>
+    ensures { MatchResult result (λ name. GivesName bytes.now piece is_token name)
+        (GivesNone (GivesName bytes.now piece is_token)) }
+{
+    if is_token == 0 {
+        return match string_of(alloc, bytes, piece) {
+            Ok(text) => Ok(Name::Text(text)),
+            Err(status) => Err(status),
+        };
+    }
+    match token_of(alloc, bytes, piece) {
+        Ok(token) => Ok(Name::Token(token)),
+        Err(status) => Err(status),
+    }
+}
+
+/// What the cache did.
+fn outcome_of(alloc: Global, hop: &HopNode, bytes: &[u8]) -> Result<Outcome, Status>
+    ensures { MatchResult result (λ outcome. GivesOutcome bytes.now hop.now outcome)
+        (GivesNone (GivesOutcome bytes.now hop.now)) }
+{
+    match hop.outcome {
+        0 => Ok(Outcome::Unsaid),
+        1 => Ok(Outcome::Hit),
+        2 => match passed_of(alloc, hop, bytes) {
+            Ok(passed) => Ok(Outcome::Forwarded(passed)),
+            Err(status) => Err(status),
+        },
+        3 => match passed_of(alloc, hop, bytes) {
+            Ok(passed) => Ok(Outcome::Conflict(passed)),
+            Err(status) => Err(status),
+        },
+        _ => Err(Status::Invalid),
+    }
+}
+
+/// What is known of a request that was forwarded.
+fn passed_of(alloc: Global, hop: &HopNode, bytes: &[u8]) -> Result<Passed, Status>
+    ensures { MatchResult result (λ passed. GivesPassed bytes.now hop.now passed)
+        (GivesNone (GivesPassed bytes.now hop.now)) }
+{
+    let why = why_of(alloc, hop, bytes)?;
+    let status = status_of(hop.says_status, hop.status)?;
+    Ok(Passed {
+        why,
+        status,
+        stored: flag_of(hop.says_stored, hop.stored),
+        collapsed: flag_of(hop.says_collapsed, hop.collapsed),
+    })
+}
+
+/// Why the request was forwarded.
+fn why_of(alloc: Global, hop: &HopNode, bytes: &[u8]) -> Result<Forward, Status>
+    ensures { MatchResult result (λ why. GivesWhy bytes.now hop.now why)
+        (GivesNone (GivesWhy bytes.now hop.now)) }
+{
+    match hop.why {
+        1 => Ok(Forward::Bypass),
+        2 => Ok(Forward::Method),
+        3 => Ok(Forward::UriMiss),
+        4 => Ok(Forward::VaryMiss),
+        5 => Ok(Forward::Miss),
+        6 => Ok(Forward::Request),
+        7 => Ok(Forward::Stale),
+        8 => Ok(Forward::Partial),
+        9 => match token_of(alloc, bytes, hop.why_token) {
+            Ok(token) => Ok(Forward::Other(token)),
+            Err(status) => Err(status),
+        },
+        _ => Err(Status::Invalid),
+    }
+}
+
+/// The status that the next server answered with, if there is one.
+fn status_of(says: u8, status: u16) -> Result<Option<HopStatus>, Status>
+    ensures { MatchResult result (λ made. GivesMaybe says (GivesStatus status) made)
+        (GivesNone (GivesMaybe says (GivesStatus status))) }
+{
+    if says == 0 {
+        return Ok(None);
+    }
+    match HopStatus::new(status) {
+        Ok(status) => Ok(Some(status)),
+        Err(_) => Err(Status::Invalid),
+    }
+}
+
+/// A flag, if there is one.
+fn flag_of(says: u8, flag: u8) -> Option<bool>
+    ensures { GivesMaybe says (GivesFlag flag) result }
+{
+    if says == 0 {
+        return None;
+    }
+    Some(flag != 0)
+}
+
+/// The seconds for which the response is fresh, if they are given.
+fn ttl_of(hop: &HopNode) -> Result<Option<Int>, Status>
+    ensures { MatchResult result
+        (λ made. GivesMaybe hop.now.says_ttl (GivesInteger hop.now.ttl) made)
+        (GivesNone (GivesMaybe hop.now.says_ttl (GivesInteger hop.now.ttl))) }
+{
+    if hop.says_ttl == 0 {
+        return Ok(None);
+    }
+    match Int::new(hop.ttl) {
+        Ok(ttl) => Ok(Some(ttl)),
+        Err(_) => Err(Status::Invalid),
+    }
+}
+
+/// The cache key, if there is one.
+fn key_of(alloc: Global, bytes: &[u8], piece: Piece, says: u8) -> Result<Option<Text>, Status>
+    ensures { MatchResult result (λ made. GivesMaybe says (GivesString bytes.now piece) made)
+        (GivesNone (GivesMaybe says (GivesString bytes.now piece))) }
+{
+    if says == 0 {
+        return Ok(None);
+    }
+    match string_of(alloc, bytes, piece) {
+        Ok(key) => Ok(Some(key)),
+        Err(status) => Err(status),
+    }
+}
+
+/// The detail, if there is one.
+fn detail_of(alloc: Global, hop: &HopNode, bytes: &[u8]) -> Result<Option<Name>, Status>
+    ensures { MatchResult result
+        (λ made. GivesMaybe hop.now.says_detail
+        (GivesName bytes.now hop.now.detail hop.now.detail_is_token) made)
+        (GivesNone (GivesMaybe hop.now.says_detail
+        (GivesName bytes.now hop.now.detail hop.now.detail_is_token))) }
+{
+    if hop.says_detail == 0 {
+        return Ok(None);
+    }
+    match name_of(alloc, bytes, hop.detail, hop.detail_is_token) {
+        Ok(detail) => Ok(Some(detail)),
+        Err(status) => Err(status),
+    }
+}

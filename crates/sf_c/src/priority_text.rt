@@ -1,0 +1,74 @@
+//! The text of a Priority field.
+ghost use Rattle.std.specs.Prelude.{◌≡◌, ◌≤◌, [], ◌∷◌, Some, decimal};
+ghost use Rattle.sf_value.specs.declared.value.Field.TheVariants as field_is;
+ghost use Rattle.sf_value.specs.Grammar.Canonical.{canon};
+ghost use Rattle.sf_c.specs.Priorities.{asked_by, asking};
+ghost use Rattle.sf_c.specs.Statuses.{status_at};
+ghost use Rattle.sf_c.specs.TextBuffers.{PutsText};
+
+use crate::priority::PriorityFlags;
+use crate::room::put_text;
+use crate::status::Status;
+use sf_use::{Asked, Urgency};
+
+/// The text of a Priority field (RFC 9218 section 5) that sets what the struct sets, and nothing
+/// else: `u` if it sets an urgency, then `i` if it sets the flag, also to their defaults.
+/// `Answered` if the buffer holds it, otherwise `Short`. An empty text means that no field is sent.
+/// Does not allocate.
+#[unsafe(no_mangle)]
+pub extern "C" fn sf_priority_text(
+    priority: &PriorityFlags,
+    buffer: &mut [u8],
+    required: &mut usize,
+) -> u32
+    // The buffer holds the canonical text of the Dictionary, or is too small for it.
+    ensures puts { PutsText (record { buffer = buffer.old; required = required.old })
+        (record { buffer = buffer.new; required = required.new })
+        (canon (field_is.Dict (asking (asked_by priority.now)))) (status_at result) }
+    ensures short { required.new ≤ 9 }
+{
+    write(priority.asked(), buffer, required).code()
+}
+
+/// Writes the text that asks for this.
+fn write(asked: Asked, buffer: &mut [u8], required: &mut usize) -> Status
+    ensures puts { PutsText (record { buffer = buffer.old; required = required.old })
+        (record { buffer = buffer.new; required = required.new })
+        (canon (field_is.Dict (asking asked))) (Some result) }
+    ensures short { required.new ≤ 9 }
+{
+    match (asked.urgency, asked.incremental) {
+        (None, None) => return put_text(b"", buffer, required),
+        (None, Some(true)) => return put_text(b"i", buffer, required),
+        (None, Some(false)) => return put_text(b"i=?0", buffer, required),
+        (Some(urgency), None) => {
+            let text = [b'u', b'=', digit(urgency)];
+            return put_text(&text, buffer, required);
+        }
+        (Some(urgency), Some(true)) => {
+            let text = [b'u', b'=', digit(urgency), b',', b' ', b'i'];
+            return put_text(&text, buffer, required);
+        }
+        (Some(urgency), Some(false)) => {
+            let text = [
+                b'u',
+                b'=',
+                digit(urgency),
+                b',',
+                b' ',
+                b'i',
+                b'=',
+                b'?',
+                b'0',
+            ];
+            return put_text(&text, buffer, required);
+        }
+    }
+}
+
+/// The digit of an urgency.
+fn digit(urgency: Urgency) -> u8
+    ensures { result ∷ [] ≡ decimal urgency }
+{
+    b'0' + urgency.get()
+}

@@ -1,0 +1,112 @@
+-- What is printed of the lines of an input.
+use Rattle.std.specs.Prelude.{◌≡◌, ℕ, suc, zero, ◌+◌, ◌⊎◌, Bool, true, false, ◌||◌, if◌then◌else◌}
+use Rattle.std.specs.Prelude.{List, [], ◌++◌, length, get_or, Option, Some, None, codes}
+use Rattle.std.specs.Prelude.{decimal, Result, Ok, Err}
+use Rattle.std.specs.Str.Lines.{lines}
+use Rattle.sf_value.specs.declared.value.Field.{Field as Value}
+use Rattle.sf_value.specs.Grammar.Canonical.{canon}
+use Rattle.sf_parse.specs.declared.refusal.Refusal.{Refusal}
+use Rattle.sf_parse.specs.declared.refusal.Refusal.TheVariants as refusal
+use Rattle.sf_parse.specs.RefusalTexts.{refusal_text}
+use Rattle.sf_parse.specs.Spots.{LinePlace, marked_text, printed}
+use Rattle.sf_field.specs.Lines.{ParsesLines}
+use Rattle.sf_lint.specs.declared.head.Line.{Line}
+use Rattle.sf_lint.specs.declared.head.Line.TheVariants.{Empty, Folded, Start, Field, Nameless}
+use Rattle.sf_lint.specs.declared.settings.FieldType.{FieldType}
+use Rattle.sf_lint.specs.declared.settings.Settings.{Settings}
+use Rattle.sf_lint.specs.Head.{IsRepeated, line_of, message_from, values_in}
+use Rattle.sf_lint.specs.Marks.{mark_in}
+use Rattle.sf_lint.specs.Settings.{type_of}
+
+-- what is printed unless only refusals are
+abbrev pub shown : Settings → List ℕ → List ℕ
+shown settings text = if settings.quiet then [] else text
+
+-- a field that is accepted: its name, and the canonical text of its value
+abbrev pub accepted_text : List ℕ → Value → List ℕ
+accepted_text name v = codes "ok " ++ (name ++ (codes ": " ++ (canon v ++ codes "\n")))
+
+-- where a field is refused, whose message has these lines from the n-th on
+abbrev pub mark_of : ℕ → List ℕ → List (List ℕ) → Refusal → Option LinePlace
+mark_of n name lines (refusal.Syntax place found expected may_end) = mark_in n name lines place
+mark_of n name lines refusal.OutOfMemory = None
+mark_of n name lines (refusal.TooLong limit) = None
+mark_of n name lines (refusal.ReadFault place) = None
+
+-- a field that is refused: its name, the refusal in words, the line as it is in the input with its
+-- number, and a caret under the place
+abbrev pub refused_text : ℕ → List ℕ → List (List ℕ) → Refusal → List ℕ
+refused_text n name lines r =
+    codes "refused "
+    ++ (name ++ (codes ": "
+    ++ ((refusal_text r ++ marked_text (mark_of n name lines r)) ++ codes "\n")))
+
+-- a line that is none of a head
+abbrev pub bad_line_text : ℕ → List ℕ → List ℕ
+bad_line_text n why = codes "refused line " ++ (decimal n ++ (codes ": " ++ (why ++ codes "\n")))
+
+abbrev pub others_text : ℕ → List ℕ
+others_text n = codes "other fields: " ++ (decimal n ++ codes "\n")
+
+-- what is told of some lines: a text, whether something is refused, and how many field lines are of
+-- fields that are not structured
+abbrev pub IsTold : List ℕ → Bool → ℕ → List ℕ → Bool → ℕ → Type 0
+IsTold text refused others t r o = (t ≡ text) × (r ≡ refused) × (o ≡ others)
+
+-- the values of a field are parsed so
+abbrev pub TellsParsed : Settings → List ℕ → ℕ → List (List ℕ) → Result Value Refusal
+    → List ℕ → Bool → ℕ → Type 0
+TellsParsed s name n lines (Ok v) = IsTold (shown s (accepted_text name v)) false 0
+TellsParsed s name n lines (Err r) = IsTold (refused_text n name lines r) true 0
+
+-- a structured field, of which the first line is the n-th of the input and the first of these lines
+-- of its message: the values of its lines, joined, spell a value, or are refused
+abbrev pub TellsField : Settings → FieldType → List ℕ → ℕ → List (List ℕ)
+    → List ℕ → Bool → ℕ → Type 0
+TellsField s type name n lines t r o =
+    (parsed : Result Value Refusal)
+    × ParsesLines type.dialect type.kind (values_in name lines) parsed
+    × TellsParsed s name n lines parsed t r o
+
+-- a field line, of a field of this type, if it is structured: the field is told at its first line
+abbrev pub TellsNamed : Settings → List (List ℕ) → ℕ → List ℕ → Option FieldType
+    → List ℕ → Bool → ℕ → Type 0
+TellsNamed s lines n name None t r o = IsTold [] false 1 t r o
+TellsNamed s lines n name (Some type) t r o =
+    (IsRepeated name lines n × IsTold [] false 0 t r o)
+    ⊎ ((¬ (IsRepeated name lines n))
+    × TellsField s type name (n + 1) (message_from lines n) t r o)
+
+-- the n-th line, by what it is
+abbrev pub TellsLine : Settings → List (List ℕ) → ℕ → Line → List ℕ → Bool → ℕ → Type 0
+TellsLine s lines n Empty = IsTold [] false 0
+TellsLine s lines n Folded = IsTold (bad_line_text (n + 1) (codes "obsolete line folding")) true 0
+TellsLine s lines n Start = IsTold (shown s (printed (get_or lines n []) ++ codes "\n")) false 0
+TellsLine s lines n (Field name) = TellsNamed s lines n name (type_of s name)
+TellsLine s lines n Nameless = IsTold (bad_line_text (n + 1) (codes "not a field line")) true 0
+
+-- one line more is told behind those before it
+pub record TellsMore (before line : List ℕ → Bool → ℕ → Type 0) (t : List ℕ) (r : Bool) (o : ℕ)
+    : Type 0 where
+  pub text : List ℕ
+  pub refused : Bool
+  pub others : ℕ
+  pub line_text : List ℕ
+  pub line_refused : Bool
+  pub line_others : ℕ
+  pub told : before text refused others
+  pub line_told : line line_text line_refused line_others
+  pub sum : IsTold (text ++ line_text) (refused || line_refused) (others + line_others) t r o
+
+-- the first n lines, in order
+abbrev pub Tells : Settings → List (List ℕ) → ℕ → List ℕ → Bool → ℕ → Type 0
+Tells s lines zero = IsTold [] false 0
+Tells s lines (suc n) =
+    TellsMore (Tells s lines n) (TellsLine s lines n (line_of (get_or lines n [])))
+
+-- an input: what its lines tell, and how many fields are not structured
+abbrev pub Reports : Settings → List ℕ → List ℕ → Bool → Type 0
+Reports s input text refused =
+    (told : List ℕ) × (others : ℕ)
+    × Tells s (lines input) (length (lines input)) told refused others
+    × (text ≡ told ++ shown s (others_text others))

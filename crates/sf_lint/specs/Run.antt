@@ -1,0 +1,28 @@
+-- What a run reads and writes.
+use Rattle.std.specs.Prelude.{◌≡◌, ℕ, ◌⊎◌, Bool, true, false, List}
+use Rattle.sf_value.specs.Devices.{SourceState, SinkState}
+use Rattle.sf_tool.specs.declared.status.Status.{Status}
+use Rattle.sf_tool.specs.declared.status.Status.TheVariants.{Accepted, Refused, Stopped}
+use Rattle.sf_tool.specs.Run.{TellsText, IsWhole, IsTooLong, ReadInPart}
+use Rattle.sf_tool.specs.Texts.{too_long_line}
+use Rattle.sf_lint.specs.declared.settings.Settings.{Settings}
+use Rattle.sf_lint.specs.Report.{Reports}
+
+abbrev pub status_of : Bool → Status
+status_of true = Refused
+status_of false = Accepted
+
+-- the report of an input was to be written; where memory was wanting nothing was
+abbrev pub Answers : Settings → List ℕ → SinkState → SinkState → Status → Type 0
+Answers settings input old new status =
+    ((new ≡ old) × (status ≡ Stopped))
+    ⊎ ((text : List ℕ) × (refused : Bool) × Reports settings input text refused
+    × TellsText text (status_of refused) old new status)
+
+-- the whole input was read and then answered; or it was too long, and that was told, whatever
+-- memory there was; or it was not all read, and nothing was written
+abbrev pub Ran : Settings → SourceState → SourceState → SinkState → SinkState → Status → Type 0
+Ran settings source source' sink sink' status =
+    ((input : List ℕ) × IsWhole source source' input × Answers settings input sink sink' status)
+    ⊎ ((IsTooLong source source' × TellsText too_long_line Refused sink sink' status)
+    ⊎ (ReadInPart source source' × (sink' ≡ sink) × (status ≡ Stopped)))

@@ -1,0 +1,119 @@
+//! The lines of heads.
+ghost use Rattle.std.specs.Prelude.{◌≡◌, ◌∷◌, ◌<◌, ◌≤◌, length, map, IfOk};
+ghost use Rattle.std.specs.Str.Lines.{lines};
+ghost use Rattle.sf_lint.specs.Head.{word_after, begins_with_protocol, is_start as is_start_in};
+ghost use Rattle.sf_lint.specs.Head.{is_named as is_named_in, line_of};
+ghost use Rattle.sf_tool.specs.Fields.{value_of as value_in};
+ghost use Rattle.std.specs.List.{before_first};
+ghost use Rattle.sf_value.specs.Grammar.Classes.{is_sp};
+
+use http_header::{HeaderName, HeaderNameError};
+use sf_tool::{split_at_first, split_line, trimmed};
+use sf_value::{OutOfMemory, is_ows};
+use std::alloc::Global;
+
+/// What a line of an input is.
+#[derive(Debug, Drop)]
+pub enum Line {
+    /// No byte: the end of a head.
+    Empty,
+    /// It begins with a space or a tab: obsolete line folding (RFC 9112 section 5.2).
+    Folded,
+    /// A status line or a request line (RFC 9112 sections 3 and 4), which begins a message.
+    Start,
+    /// A field line (RFC 9112 section 5), with its name in lower case.
+    Field(HeaderName),
+    /// None of these: there is no colon, or what is before the first one is not a header name.
+    Nameless,
+}
+
+/// Returns what is before the first space, or the whole line if there is none.
+fn first_word(line: &[u8]) -> &[u8]
+    ensures { result.now ≡ before_first is_sp line.now }
+{
+    match split_at_first(line, b' ') {
+        Some((word, _)) => word,
+        None => line,
+    }
+}
+
+/// Returns what is after the first space; nothing if there is none.
+fn after_word(line: &[u8]) -> &[u8]
+    ensures { result.now ≡ word_after line.now }
+{
+    match split_at_first(line, b' ') {
+        Some((_, rest)) => rest,
+        None => &[],
+    }
+}
+
+/// Returns whether the bytes begin with the name of the protocol.
+fn has_protocol(bytes: &[u8]) -> bool
+    ensures { result ≡ begins_with_protocol bytes.now }
+{
+    bytes.starts_with(b"HTTP/")
+}
+
+/// Returns whether the line begins a message: it is a status line or a request line.
+pub(crate) fn is_start(line: &[u8]) -> bool
+    ensures { result ≡ is_start_in line.now }
+{
+    has_protocol(line)
+        || (!first_word(line).contains(&b':') && has_protocol(after_word(after_word(line))))
+}
+
+/// Returns whether the line has a colon, and this name before it in any case.
+pub(crate) fn is_named(line: &[u8], name: &[u8]) -> bool
+    ensures { result ≡ is_named_in name.now line.now }
+{
+    match split_at_first(line, b':') {
+        Some((word, _)) => word.eq_ignore_ascii_case(name),
+        None => false,
+    }
+}
+
+/// Returns what is after the first colon, without the spaces and tabs at its ends.
+pub(crate) fn value_of(line: &[u8]) -> &[u8]
+    ensures { result.now ≡ value_in line.now }
+{
+    match split_at_first(line, b':') {
+        Some((_, rest)) => trimmed(rest),
+        None => &[],
+    }
+}
+
+/// Returns what a line is.
+pub(crate) fn read_line(alloc: Global, line: &[u8]) -> Result<Line, OutOfMemory>
+    ensures { IfOk result (λ read. read ≡ line_of line.now) }
+{
+    if line.is_empty() {
+        return Ok(Line::Empty);
+    }
+    if is_ows(line[0]) {
+        return Ok(Line::Folded);
+    }
+    if is_start(line) {
+        return Ok(Line::Start);
+    }
+    let Some((word, _)) = split_at_first(line, b':') else {
+        return Ok(Line::Nameless);
+    };
+    match HeaderName::from_bytes(alloc, word) {
+        Ok(name) => Ok(Line::Field(name)),
+        Err(HeaderNameError::Invalid) => Ok(Line::Nameless),
+        Err(HeaderNameError::OutOfMemory) => Err(OutOfMemory),
+    }
+}
+
+/// Returns the lines of an input, without their ends.
+pub(crate) fn split_lines(alloc: Global, input: &[u8]) -> Result<Vec<&[u8]>, OutOfMemory>
+    ensures { IfOk result (λ all. map (λ line. line.now) all.items ≡ lines input.now) }
+{
+    let mut all = Vec::new(alloc);
+    let mut rest = input;
+    while let Some((line, more)) = split_line(rest) {
+        all.push(line)?;
+        rest = more;
+    }
+    Ok(all)
+}

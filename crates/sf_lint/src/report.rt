@@ -1,0 +1,318 @@
+//! What is printed of the lines of an input.
+ghost use Rattle.std.specs.Prelude.{◌≡◌, ◌+◌, ◌<◌, ◌≤◌, ◌^◌, ◌↔◌, ◌++◌, true, false, length, map, get_or, IfOk, IfErr, IsTrue};
+ghost use Rattle.std.specs.Prelude.{codes, decimal, string_bytes, []};
+ghost use Rattle.sf_field.specs.Lines.{ParsesLines};
+ghost use Rattle.sf_parse.specs.Spots.{printed as printed_in};
+ghost use Rattle.sf_value.specs.declared.value.Field.{Field};
+ghost use Rattle.std.specs.List.{before_first};
+ghost use Rattle.sf_lint.specs.Head.{IsRepeated, is_start as is_start_in, values_in};
+ghost use Rattle.sf_lint.specs.Report.{TellsLine, TellsField, Tells, Reports, shown as shown_in};
+ghost use Rattle.sf_lint.specs.Report.{accepted_text, refused_text, others_text, bad_line_text};
+ghost use Rattle.sf_lint.specs.Head.{line_of};
+ghost use Rattle.sf_lint.specs.declared.head.Line.TheVariants as line;
+
+use crate::head::{Line, is_named, is_start, read_line, split_lines, value_of};
+use crate::marking::find_mark;
+use crate::settings::{FieldType, Settings, type_of};
+use http_header::HeaderName;
+use sf_field::parse_from;
+use sf_parse::{InLine, Refusal};
+use sf_value::{Field, OutOfMemory, is_visible};
+use sf_write::display;
+use std::alloc::Global;
+use std::hash::RandomState;
+
+/// What is told of one line or of several.
+#[derive(Drop)]
+pub(crate) struct Told {
+    /// The text that is printed.
+    pub text: Vec<u8>,
+    /// Whether a line or a field was refused.
+    pub refused: bool,
+    /// How many field lines are of fields that are not structured.
+    pub others: u64,
+}
+
+/// Returns the text, or nothing if only what is refused is printed.
+fn shown(alloc: Global, settings: &Settings, text: Vec<u8>) -> Vec<u8>
+    ensures { result.items ≡ shown_in settings.now text.items }
+{
+    if settings.quiet {
+        Vec::new(alloc)
+    } else {
+        text
+    }
+}
+
+/// Returns what tells nothing.
+fn nothing(alloc: Global) -> Told
+    ensures { (result.text.items ≡ []) × (result.refused ≡ false) × (result.others ≡ 0) }
+{
+    Told {
+        text: Vec::new(alloc),
+        refused: false,
+        others: 0,
+    }
+}
+
+/// Returns whether a line with this name is before the n-th in its message.
+fn is_repeated(name: &[u8], lines: &[&[u8]], n: usize) -> bool
+    requires { n ≤ length lines.now }
+    ensures { IsTrue result ↔ IsRepeated name.now (map (λ line. line.now) lines.now) n }
+{
+    let mut left = n;
+    while left > 0 {
+        left -= 1;
+        if is_start(lines[left]) {
+            return false;
+        }
+        if is_named(lines[left], name) {
+            return true;
+        }
+    }
+    false
+}
+
+/// Returns the lines before the first one that begins a message.
+fn message_in<'a, 'b>(lines: &'b [&'a [u8]]) -> &'b [&'a [u8]]
+    ensures { map (λ line. line.now) result.now
+        ≡ before_first is_start_in (map (λ line. line.now) lines.now) }
+{
+    for (i, line) in lines.iter().enumerate() {
+        if is_start(line) {
+            return &lines[..i];
+        }
+    }
+    lines
+}
+
+/// Returns the values of the lines that have this name.
+fn values<'a>(alloc: Global, name: &[u8], lines: &[&'a [u8]]) -> Result<Vec<&'a [u8]>, OutOfMemory>
+    ensures { IfOk result (λ all. map (λ value. value.now) all.items
+        ≡ values_in name.now (map (λ line. line.now) lines.now)) }
+{
+    let mut all = Vec::new(alloc);
+    for line in lines {
+        if is_named(line, name) {
+            all.push(value_of(line))?;
+        }
+    }
+    Ok(all)
+}
+
+/// Returns the text for a field that is accepted.
+fn accepted(alloc: Global, name: &str, field: Field) -> Result<Vec<u8>, OutOfMemory>
+    ensures { IfOk result (λ text. text.items ≡ accepted_text name.now field) }
+{
+    let text = format!(in alloc; "ok {name}: {}\n", display(&field))?;
+    drop(field);
+    Ok(text.into_bytes())
+}
+
+/// Returns the text for a field that is refused; the lines of its message from its first one on are
+/// given, and the number of that one.
+fn refused(
+    alloc: Global,
+    name: &str,
+    refusal: Refusal,
+    number: usize,
+    lines: &[&[u8]],
+) -> Result<Vec<u8>, OutOfMemory>
+    requires { number + length lines.now < 2 ^ 64 }
+    ensures { IfOk result (λ text. text.items
+        ≡ refused_text number name.now (map (λ line. line.now) lines.now) refusal) }
+{
+    let spot = match refusal {
+        Refusal::Syntax { place, .. } => find_mark(name.as_bytes(), number, lines, place),
+        _ => None,
+    };
+    let shown = InLine { refusal, spot };
+    let text = format!(in alloc; "refused {name}: {shown}\n")?;
+    Ok(text.into_bytes())
+}
+
+/// Tells of a structured field. The lines are those of its message from its first one on, whose
+/// number is given.
+fn tell_field(
+    alloc: Global,
+    seed: &RandomState,
+    settings: &Settings,
+    field_type: FieldType,
+    name: &str,
+    number: usize,
+    lines: &[&[u8]],
+) -> Result<Told, OutOfMemory>
+    requires { number + length lines.now < 2 ^ 64 }
+    // The canonical text of the value that the lines of this name spell, or their refusal.
+    ensures told { IfOk result (λ told. TellsField settings.now field_type name.now number
+        (map (λ line. line.now) lines.now) told.text.items told.refused told.others) }
+    ensures few { IfOk result (λ told. told.others ≤ 1) }
+{
+    let values = values(alloc, name.as_bytes(), lines)?;
+    let parsed = parse_from(
+        alloc,
+        seed,
+        field_type.dialect,
+        field_type.kind,
+        values.as_slice().iter(),
+    );
+    match parsed {
+        Ok(field) => {
+            let text = accepted(alloc, name, field)?;
+            return Ok(Told {
+                text: shown(alloc, settings, text),
+                refused: false,
+                others: 0,
+            });
+        }
+        Err(Refusal::OutOfMemory) => return Err(OutOfMemory),
+        Err(refusal) => {
+            let text = refused(alloc, name, refusal, number, lines)?;
+            return Ok(Told {
+                text,
+                refused: true,
+                others: 0,
+            });
+        }
+    }
+}
+
+/// Tells of a field line, of a field that may be structured.
+fn tell_named(
+    alloc: Global,
+    seed: &RandomState,
+    settings: &Settings,
+    name: &HeaderName,
+    lines: &[&[u8]],
+    n: usize,
+) -> Result<Told, OutOfMemory>
+    requires { (n < length lines.now) × (length lines.now < 2 ^ 63) }
+    ensures told { IfOk result (λ told. TellsLine settings.now (map (λ line. line.now) lines.now) n
+        (line.Field name.now) told.text.items told.refused told.others) }
+    ensures few { IfOk result (λ told. told.others ≤ 1) }
+{
+    let Some(field_type) = type_of(settings, name) else {
+        return Ok(Told {
+            text: Vec::new(alloc),
+            refused: false,
+            others: 1,
+        });
+    };
+    if is_repeated(name.as_bytes(), lines, n) {
+        return Ok(nothing(alloc));
+    }
+    let message = message_in(&lines[n..]);
+    tell_field(
+        alloc,
+        seed,
+        settings,
+        field_type,
+        name.as_str(),
+        n + 1,
+        message,
+    )
+}
+
+/// Returns the start line of a message, one character for each of its bytes.
+fn start_text(alloc: Global, line: &[u8]) -> Result<Vec<u8>, OutOfMemory>
+    ensures { IfOk result (λ text. text.items ≡ printed_in line.now ++ codes "\n") }
+{
+    let mut text = Vec::new(alloc);
+    for byte in line {
+        text.push(if is_visible(*byte) { *byte } else { b'?' })?;
+    }
+    text.push(b'\n')?;
+    Ok(text)
+}
+
+/// Tells of a line that is no line of a head.
+fn tell_bad_line(alloc: Global, number: usize, why: &str) -> Result<Told, OutOfMemory>
+    ensures { IfOk result (λ told. (told.text.items ≡ bad_line_text number why.now)
+        × (told.refused ≡ true) × (told.others ≡ 0)) }
+{
+    let text = format!(in alloc; "refused line {number}: {why}\n")?;
+    Ok(Told {
+        text: text.into_bytes(),
+        refused: true,
+        others: 0,
+    })
+}
+
+/// Tells of the n-th line.
+fn tell_line(
+    alloc: Global,
+    seed: &RandomState,
+    settings: &Settings,
+    lines: &[&[u8]],
+    n: usize,
+) -> Result<Told, OutOfMemory>
+    requires { (n < length lines.now) × (length lines.now < 2 ^ 63) }
+    // What the line tells: by what it is, and among the lines of its message.
+    ensures told { IfOk result (λ told. TellsLine settings.now (map (λ line. line.now) lines.now) n
+        (line_of (get_or (map (λ line. line.now) lines.now) n []))
+        told.text.items told.refused told.others) }
+    // It is at most one field line.
+    ensures few { IfOk result (λ told. told.others ≤ 1) }
+{
+    match read_line(alloc, lines[n])? {
+        Line::Empty => return Ok(nothing(alloc)),
+        Line::Folded => return tell_bad_line(alloc, n + 1, "obsolete line folding"),
+        Line::Start => {
+            let text = start_text(alloc, lines[n])?;
+            return Ok(Told {
+                text: shown(alloc, settings, text),
+                refused: false,
+                others: 0,
+            });
+        }
+        Line::Field(name) => return tell_named(alloc, seed, settings, &name, lines, n),
+        Line::Nameless => return tell_bad_line(alloc, n + 1, "not a field line"),
+    }
+}
+
+/// Tells of all lines, in order.
+fn tell_lines(
+    alloc: Global,
+    seed: &RandomState,
+    settings: &Settings,
+    lines: &[&[u8]],
+) -> Result<Told, OutOfMemory>
+    requires { length lines.now < 2 ^ 63 }
+    ensures { IfOk result (λ told. Tells settings.now (map (λ line. line.now) lines.now)
+        (length lines.now) told.text.items told.refused told.others) }
+{
+    let mut all = nothing(alloc);
+    for n in 0..lines.len() {
+        let told = tell_line(alloc, seed, settings, lines, n)?;
+        all.text.extend_from_slice(told.text.as_slice())?;
+        all.refused |= told.refused;
+        all.others += told.others;
+    }
+    Ok(all)
+}
+
+/// Returns the line with the number of fields that are not structured.
+fn others_line(alloc: Global, others: u64) -> Result<Vec<u8>, OutOfMemory>
+    ensures { IfOk result (λ text. text.items ≡ others_text others) }
+{
+    let text = format!(in alloc; "other fields: {others}\n")?;
+    Ok(text.into_bytes())
+}
+
+/// Returns what is printed of an input, and whether something in it was refused.
+pub(crate) fn report(
+    alloc: Global,
+    seed: &RandomState,
+    settings: &Settings,
+    input: &[u8],
+) -> Result<Told, OutOfMemory>
+    requires { length input.now ≤ 2 ^ 32 }
+    // What each line tells, in order, and then how many fields are not structured.
+    ensures { IfOk result (λ told. Reports settings.now input.now told.text.items told.refused) }
+{
+    let lines = split_lines(alloc, input)?;
+    let mut told = tell_lines(alloc, seed, settings, lines.as_slice())?;
+    let line = shown(alloc, settings, others_line(alloc, told.others)?);
+    told.text.extend_from_slice(line.as_slice())?;
+    Ok(told)
+}

@@ -1,0 +1,81 @@
+//! Running the check of an input.
+ghost use Rattle.std.specs.Prelude.{◌≡◌, ◌≤◌, ◌⊎◌, length};
+ghost use Rattle.sf_lint.specs.Run.{Answers, Ran, status_of as status_in};
+ghost use Rattle.sf_tool.specs.declared.status.Status.TheVariants as status_is;
+ghost use Rattle.sf_tool.specs.Run.{input_limit};
+
+use crate::report::report;
+use crate::settings::Settings;
+use sf_tool::{INPUT_LIMIT, ReadAllFault, Status, answer_made, answer_too_long, read_all};
+use sf_value::{Sink, Source};
+use std::alloc::Global;
+use std::hash::RandomState;
+
+/// Checks the heads of an input: reads all of it from the source, computes, and then writes to the
+/// sink.
+///
+/// An input longer than [`INPUT_LIMIT`] is refused after one byte beyond the limit was read,
+/// whatever memory is left. No byte is asked for after that, or after the end of the input. If a
+/// read fails, or an allocation, the result is `Stopped`, and nothing was written; a failed read is
+/// not repeated. If a write fails, the result is `Stopped`, and a prefix of the answer was written.
+/// Otherwise the whole answer was written, and the result is `Refused` if a field or a line is
+/// refused, and `Accepted` if none is. The result is never `Usage`, and the sink is not flushed. The
+/// source is asked for at most 262,144 bytes at a time, and the whole answer is sent to the sink at
+/// once.
+///
+/// ```
+/// let settings = Settings { fields: Vec::new(alloc), quiet: false };
+/// let mut source = Reading::new(b"Priority: u=1,i\r\n".as_slice());
+/// let mut sink = Writing::new(Vec::new(alloc));
+/// run(alloc, &seed, &settings, &mut source, &mut sink); // Accepted, and "ok priority: u=1, i\n.."
+/// ```
+pub fn run<R: Source, W: Sink>(
+    alloc: Global,
+    seed: &RandomState,
+    settings: &Settings,
+    source: &mut R,
+    sink: &mut W,
+) -> Status
+    // The whole input is read and answered, or refused as too long; otherwise nothing is written.
+    ensures { Ran settings.now (R.state source.old) (R.state source.new)
+        (W.state sink.old) (W.state sink.new) result }
+{
+    match read_all(alloc, INPUT_LIMIT, source) {
+        Ok(input) => answer(alloc, seed, settings, input.as_slice(), sink),
+        Err(ReadAllFault::TooLong { max: _ }) => answer_too_long(sink),
+        Err(_) => Status::Stopped,
+    }
+}
+
+/// Returns the status of a report.
+fn status_of(refused: bool) -> Status
+    ensures status { result ≡ status_in refused }
+    ensures answered { result ≡ status_is.Accepted ⊎ result ≡ status_is.Refused }
+{
+    if refused {
+        Status::Refused
+    } else {
+        Status::Accepted
+    }
+}
+
+/// Answers an input.
+fn answer<W: Sink>(
+    alloc: Global,
+    seed: &RandomState,
+    settings: &Settings,
+    input: &[u8],
+    sink: &mut W,
+) -> Status
+    requires { length input.now ≤ input_limit }
+    // The whole answer was written; or a prefix of it, and a write failed; or nothing.
+    ensures { Answers settings.now input.now (W.state sink.old) (W.state sink.new) result }
+{
+    match report(alloc, seed, settings, input) {
+        Ok(told) => {
+            let status = status_of(told.refused);
+            answer_made(told.text.as_slice(), status, sink)
+        }
+        Err(_) => Status::Stopped,
+    }
+}

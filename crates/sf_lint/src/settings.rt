@@ -1,0 +1,81 @@
+//! Which fields are structured, and what is printed.
+ghost use Rattle.std.specs.Prelude.{◌≡◌};
+ghost use Rattle.sf_lint.specs.Settings.{custom_kind as custom_kind_in, is_targeted as is_targeted_in};
+ghost use Rattle.sf_lint.specs.Settings.{type_of as type_in};
+
+use crate::registry::{dialect_of, kind_of};
+use http_header::HeaderName;
+use sf_value::{Dialect, Kind};
+
+/// A field that is not registered, with its kind. Its dialect is that of RFC 9651.
+#[derive(Debug, Drop)]
+pub struct CustomField {
+    /// The name of the field.
+    pub name: HeaderName,
+    /// What its value is.
+    pub kind: Kind,
+}
+
+/// Which fields are checked beside the registered ones, and how much is printed.
+#[derive(Debug, Drop)]
+pub struct Settings {
+    /// Fields that are structured beside the registered ones. The first of a name counts, also if the
+    /// name is registered.
+    pub fields: Vec<CustomField>,
+    /// Whether only what is refused is printed.
+    pub quiet: bool,
+}
+
+/// What the value of a structured field is, and in which dialect it is written.
+#[derive(Clone, Copy, Debug, PartialEq, Eq)]
+pub struct FieldType {
+    /// The dialect of the field's specification.
+    pub dialect: Dialect,
+    /// What its value is.
+    pub kind: Kind,
+}
+
+/// The kind that is given for the name, if there is one.
+fn custom_kind(fields: &[CustomField], name: &HeaderName) -> Option<Kind>
+    ensures { result ≡ custom_kind_in fields.now name.now }
+{
+    for field in fields {
+        if field.name == *name {
+            return Some(field.kind);
+        }
+    }
+    None
+}
+
+/// Whether the name is that of a targeted cache control field (RFC 9213): it ends in
+/// `-cache-control`.
+fn is_targeted(name: &[u8]) -> bool
+    ensures { result ≡ is_targeted_in name.now }
+{
+    name.ends_with(b"-cache-control")
+}
+
+/// What a field of this name is, in lower case: None if it is not structured.
+pub(crate) fn type_of(settings: &Settings, name: &HeaderName) -> Option<FieldType>
+    ensures { result ≡ type_in settings.now name.now }
+{
+    if let Some(kind) = custom_kind(settings.fields.as_slice(), name) {
+        return Some(FieldType {
+            dialect: Dialect::Rfc9651,
+            kind,
+        });
+    }
+    if let Some(kind) = kind_of(name.as_str()) {
+        return Some(FieldType {
+            dialect: dialect_of(name.as_str()),
+            kind,
+        });
+    }
+    if is_targeted(name.as_bytes()) {
+        return Some(FieldType {
+            dialect: Dialect::Rfc8941,
+            kind: Kind::Dict,
+        });
+    }
+    None
+}

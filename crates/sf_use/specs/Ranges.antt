@@ -1,0 +1,28 @@
+-- The ranges of urgencies and of status codes.
+use Rattle.std.specs.Prelude.{ℕ, ◌≤◌, nat_le, Bool, ◌&&◌}
+
+-- the urgency of what is least urgent, and the default (RFC 9218 section 4.1)
+abbrev pub least_urgent : ℕ
+least_urgent = 7
+
+abbrev pub usual_urgency : ℕ
+usual_urgency = 3
+
+-- an urgency is a number from 0, of what is most urgent
+abbrev pub IsUrgency : ℕ → Type 0
+IsUrgency n = n ≤ least_urgent
+
+-- the numbers of three digits (RFC 9110 section 15)
+abbrev pub least_status : ℕ
+least_status = 100
+
+abbrev pub greatest_status : ℕ
+greatest_status = 999
+
+-- a status code has three digits
+abbrev pub IsHopStatus : ℕ → Type 0
+IsHopStatus n = (least_status ≤ n) × (n ≤ greatest_status)
+
+-- the same as a test
+abbrev pub is_hop_status : ℕ → Bool
+is_hop_status n = nat_le least_status n && nat_le n greatest_status

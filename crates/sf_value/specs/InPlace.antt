@@ -1,0 +1,6 @@
+-- Bytes that a value keeps in place, which take no memory.
+use Rattle.std.specs.Prelude.{ℕ, ◌≤◌, List, length}
+
+-- at most 16 bytes
+abbrev pub FitsInPlace : List ℕ → Type 0
+FitsInPlace bytes = length bytes ≤ 16

@@ -1,0 +1,42 @@
+-- The bytes of Strings, Byte Sequences and Display Strings, read from their text.
+use Rattle.std.specs.Prelude.{◌≡◌, ℕ, ◌<◌, List, [], ◌∷◌, ◌++◌, ◌⊎◌}
+use Rattle.sf_value.specs.Ascii.{quote}
+use Rattle.sf_value.specs.declared.dialect.Dialect.{Dialect}
+use Rattle.sf_value.specs.declared.value.Bare.TheVariants.{Text, Blob, Shown}
+use Rattle.sf_value.specs.Grammar.Strings.{escaped}
+use Rattle.sf_value.specs.Grammar.ByteSequences.{letter, Sextets}
+use Rattle.sf_value.specs.Grammar.DisplayStrings.{EncodedBytes}
+use Rattle.sf_view.specs.declared.bytes.Coding.{Coding}
+use Rattle.sf_view.specs.declared.bytes.Coding.TheVariants as coding
+use Rattle.sf_view.specs.declared.view.Slice.{Slice}
+use Rattle.sf_view.specs.View.{DescribesText}
+
+-- the slice is that of these bytes: of a String, a Byte Sequence or a Display String
+abbrev pub HasBytes : Dialect → Slice → List ℕ → Type 0
+HasBytes d s t =
+    DescribesText d s.coded s.bytes.now (Text t)
+    ⊎ DescribesText d s.coded s.bytes.now (Blob t)
+    ⊎ DescribesText d s.coded s.bytes.now (Shown t)
+
+-- the rest of the text spells these bytes: as they are, between quotes, percent-encoded, or in
+-- base64 at the first, second or third byte of a group. Of a byte whose character was read, the low
+-- bits are kept: the rest spells what it would behind bytes 0 and a character of these bits
+abbrev pub Remains : Coding → List ℕ → List ℕ → Type 0
+Remains coding.Plain rest s = rest ≡ s
+Remains coding.Escaped rest s = rest ≡ escaped s ++ quote ∷ []
+Remains coding.Percent rest s = EncodedBytes rest s
+Remains coding.First rest s = Sextets rest s
+Remains (coding.Second low) rest s = (low < 16) × Sextets (letter 0 ∷ letter low ∷ rest) (0 ∷ s)
+Remains (coding.Third low) rest s =
+    (low < 4) × Sextets (letter 0 ∷ letter 0 ∷ letter low ∷ rest) (0 ∷ 0 ∷ s)
+
+-- the first of these bytes, and what remains after it
+pub record TakesByte (b : ℕ) (P : List ℕ → Type 0) (s : List ℕ) : Type 0 where
+  pub left : List ℕ
+  pub split : s ≡ b ∷ left
+  pub remains : P left
+
+-- the text is empty, or begins with no character of base64
+abbrev pub NoLetter : List ℕ → Type 0
+NoLetter [] = Unit {0}
+NoLetter (b ∷ t) = (x : ℕ) → x < 64 → letter x ≡ b → ⊥

@@ -1,0 +1,338 @@
+//! The bytes of Strings, Byte Sequences and Display Strings, read from their text.
+ghost use Rattle.std.specs.Prelude.{◌≡◌, ◌++◌, ◌∷◌, [], ◌≤◌, ◌<◌, ◌/◌, ◌%◌, ℕ, List, length, take, IfSome, IfNone};
+ghost use Rattle.sf_value.specs.declared.dialect.Dialect.{Dialect as Which};
+ghost use Rattle.sf_parse.specs.Machine.Blobs.{sextet as sextet_of};
+ghost use Rattle.sf_view.specs.declared.bytes.Coding.TheVariants as coding_is;
+ghost use Rattle.sf_value.specs.Grammar.ByteSequences.{letter};
+ghost use Rattle.sf_value.specs.Grammar.DisplayStrings.{hex};
+ghost use Rattle.sf_view.specs.Decoding.{HasBytes, Remains, TakesByte, NoLetter};
+
+use crate::display_string::unhex;
+use crate::view::Slice;
+
+/// How the rest of a text spells bytes.
+#[derive(Clone, Copy, Debug, Drop)]
+enum Coding {
+    /// As they are.
+    Plain,
+    /// As those of a String, up to its closing quote.
+    Escaped,
+    /// As those of a Display String, up to its closing quote.
+    Percent,
+    /// In base64, at the first byte of a group.
+    First,
+    /// At the second, of which the character before holds these bits.
+    Second(u8),
+    /// At the third, of which the character before holds these bits.
+    Third(u8),
+}
+
+/// The bytes of a String, a Byte Sequence or a Display String, decoded one at a time. It allocates
+/// nothing.
+#[derive(Clone, Copy, Debug, Drop)]
+pub struct Bytes<'a> {
+    coding: Coding,
+    rest: &'a [u8],
+}
+
+impl<'a> Slice<'a> {
+    /// The bytes, decoded one at a time. It allocates nothing.
+    pub fn bytes(&self) -> Bytes<'a>
+        ensures { (d : Which) (t : List ℕ) → HasBytes d self.now t
+            → Remains result.coding result.rest.now t }
+    {
+        if !self.coded {
+            return Bytes {
+                coding: Coding::Plain,
+                rest: self.bytes,
+            };
+        }
+        let Some((first, inside)) = first_of(self.bytes) else {
+            return Bytes {
+                coding: Coding::Plain,
+                rest: self.bytes,
+            };
+        };
+        match first {
+            b'"' => return Bytes {
+                coding: Coding::Escaped,
+                rest: inside,
+            },
+            b':' => return Bytes {
+                coding: Coding::First,
+                rest: inside,
+            },
+            _ => return shown_bytes(inside),
+        }
+    }
+
+    /// The bytes: of the text itself if they are not coded, or decoded into the buffer, which is
+    /// left as it was behind them. `None` if the buffer is too short; one as long as
+    /// [`Slice::bytes`] of the slice never is. It allocates nothing.
+    pub fn decode(&self, buffer: &'a mut [u8]) -> Option<&'a [u8]>
+        // Whatever bytes the slice is of, these are they.
+        ensures decoded { (d : Which) (t : List ℕ) → HasBytes d self.now t
+            → IfSome result (λ b. b.now ≡ t) }
+        // The buffer is too short only if it is shorter than they are.
+        ensures short { (d : Which) (t : List ℕ) → HasBytes d self.now t
+            → IfNone result (length buffer.old < length t) }
+    {
+        if !self.coded {
+            return Some(self.bytes);
+        }
+        let bytes = self.bytes();
+        let Some(count) = fill(bytes.coding, bytes.rest, buffer) else {
+            return None;
+        };
+        let (front, _) = buffer.split_at(count);
+        Some(front)
+    }
+}
+
+/// Those of a Display String behind its percent sign.
+#[inline]
+fn shown_bytes(text: &[u8]) -> Bytes
+    ensures coding { result.coding ≡ coding_is.Percent }
+    ensures rest { (c : ℕ) (rest : List ℕ) → text.now ≡ c ∷ rest → result.rest.now ≡ rest }
+{
+    match text {
+        [_, rest @ ..] => return Bytes {
+            coding: Coding::Percent,
+            rest,
+        },
+        [] => return Bytes {
+            coding: Coding::Percent,
+            rest: text,
+        },
+    }
+}
+
+/// Decodes bytes into the buffer: how many they are; `None` if the buffer is too short.
+fn fill(start: Coding, text: &[u8], buffer: &mut [u8]) -> Option<usize>
+    ensures within { IfSome result (λ n. n ≤ length buffer.new) }
+    ensures decoded { (t : List ℕ) → Remains start text.now t
+        → IfSome result (λ n. take n buffer.new ≡ t) }
+    ensures short { (t : List ℕ) → Remains start text.now t
+        → IfNone result (length buffer.old < length t) }
+{
+    let mut coding = start;
+    let mut rest = text;
+    let mut count = 0;
+    loop {
+        let Some((byte, next, later)) = take_byte(coding, rest) else {
+            return Some(count);
+        };
+        if count >= buffer.len() {
+            return None;
+        }
+        buffer[count] = byte;
+        count += 1;
+        coding = next;
+        rest = later;
+    }
+}
+
+/// The first byte, and how the text behind it spells those after it.
+#[inline]
+fn take_byte(coding: Coding, rest: &[u8]) -> Option<(u8, Coding, &[u8])>
+    ensures some { (s : List ℕ) → Remains coding rest.now s
+        → IfSome result (λ r. TakesByte r.0 (Remains r.1 r.2.now) s) }
+    ensures none { (s : List ℕ) → Remains coding rest.now s → IfNone result (s ≡ []) }
+    ensures shorter { IfSome result (λ r. length r.2.now < length rest.now) }
+{
+    match coding {
+        Coding::Plain => {
+            let Some((byte, later)) = first_of(rest) else {
+                return None;
+            };
+            return Some((byte, Coding::Plain, later));
+        }
+        Coding::Escaped => {
+            let Some((byte, later)) = unescaped(rest) else {
+                return None;
+            };
+            return Some((byte, Coding::Escaped, later));
+        }
+        Coding::Percent => {
+            let Some((byte, later)) = unencoded(rest) else {
+                return None;
+            };
+            return Some((byte, Coding::Percent, later));
+        }
+        Coding::First => {
+            let Some((byte, low, later)) = first_byte(rest) else {
+                return None;
+            };
+            return Some((byte, Coding::Second(low), later));
+        }
+        Coding::Second(low) => {
+            let Some((byte, more, later)) = second_byte(low, rest) else {
+                return None;
+            };
+            return Some((byte, Coding::Third(more), later));
+        }
+        Coding::Third(low) => {
+            let Some((byte, later)) = third_byte(low, rest) else {
+                return None;
+            };
+            return Some((byte, Coding::First, later));
+        }
+    }
+}
+
+/// The first byte of a text, and the rest.
+#[inline]
+fn first_of(text: &[u8]) -> Option<(u8, &[u8])>
+    ensures some { IfSome result (λ r. text.now ≡ r.0 ∷ r.1.now) }
+    ensures none { IfNone result (text.now ≡ []) }
+{
+    match text {
+        [first, rest @ ..] => Some((*first, rest)),
+        [] => None,
+    }
+}
+
+/// The first byte of a String; `None` at its closing quote.
+#[inline]
+fn unescaped(text: &[u8]) -> Option<(u8, &[u8])>
+    ensures some { (s : List ℕ) → Remains coding_is.Escaped text.now s
+        → IfSome result (λ r. TakesByte r.0 (Remains coding_is.Escaped r.1.now) s) }
+    ensures none { (s : List ℕ) → Remains coding_is.Escaped text.now s → IfNone result (s ≡ []) }
+    ensures shorter { IfSome result (λ r. length r.1.now < length text.now) }
+{
+    let Some((first, rest)) = first_of(text) else {
+        return None;
+    };
+    if first == b'"' {
+        return None;
+    }
+    if first != b'\\' {
+        return Some((first, rest));
+    }
+    let Some((byte, later)) = first_of(rest) else {
+        return None;
+    };
+    Some((byte, later))
+}
+
+/// The first byte of a Display String; `None` at its closing quote.
+#[inline]
+fn unencoded(text: &[u8]) -> Option<(u8, &[u8])>
+    ensures some { (s : List ℕ) → Remains coding_is.Percent text.now s
+        → IfSome result (λ r. TakesByte r.0 (Remains coding_is.Percent r.1.now) s) }
+    ensures none { (s : List ℕ) → Remains coding_is.Percent text.now s → IfNone result (s ≡ []) }
+    ensures shorter { IfSome result (λ r. length r.1.now < length text.now) }
+{
+    let Some((first, rest)) = first_of(text) else {
+        return None;
+    };
+    if first == b'"' {
+        return None;
+    }
+    if first != b'%' {
+        return Some((first, rest));
+    }
+    let Some((byte, later)) = hex_byte(rest) else {
+        return None;
+    };
+    Some((byte, later))
+}
+
+/// The byte of two hexadecimal digits.
+#[inline]
+fn hex_byte(text: &[u8]) -> Option<(u8, &[u8])>
+    ensures some { (c : ℕ) (rest : List ℕ) → c < 256 → text.now ≡ hex (c / 16) ∷ hex (c % 16) ∷ rest
+        → IfSome result (λ r. (r.0 ≡ c) × (r.1.now ≡ rest)) }
+    ensures none { (c : ℕ) (rest : List ℕ) → c < 256 → text.now ≡ hex (c / 16) ∷ hex (c % 16) ∷ rest
+        → IfNone result ⊥ }
+    ensures shorter { IfSome result (λ r. length r.1.now < length text.now) }
+{
+    match text {
+        [high, low, rest @ ..] => {
+            let (Some(a), Some(b)) = (unhex(*high), unhex(*low)) else {
+                return None;
+            };
+            return Some((a * 16 + b, rest));
+        }
+        _ => return None,
+    }
+}
+
+/// The value of a character of base64 (RFC 4648 section 4).
+#[inline]
+fn sextet(byte: u8) -> Option<u8>
+    ensures value { result ≡ sextet_of byte }
+    // It is below 64.
+    ensures small { IfSome result (λ value. value < 64) }
+{
+    match byte {
+        b'A'..=b'Z' => Some(byte - b'A'),
+        b'a'..=b'z' => Some(byte - 71),
+        b'0'..=b'9' => Some(byte + 4),
+        b'+' => Some(62),
+        b'/' => Some(63),
+        _ => None,
+    }
+}
+
+/// The value of the character of base64 that a text begins with, and the rest.
+#[inline]
+fn character(text: &[u8]) -> Option<(u8, &[u8])>
+    ensures some { IfSome result (λ r. (r.0 < 64) × (text.now ≡ letter r.0 ∷ r.1.now)) }
+    ensures none { IfNone result (NoLetter text.now) }
+{
+    let Some((first, rest)) = first_of(text) else {
+        return None;
+    };
+    let Some(value) = sextet(first) else {
+        return None;
+    };
+    Some((value, rest))
+}
+
+/// The first byte of a group of base64, and the bits of the next that its second character holds.
+#[inline]
+fn first_byte(text: &[u8]) -> Option<(u8, u8, &[u8])>
+    ensures some { (s : List ℕ) → Remains coding_is.First text.now s
+        → IfSome result (λ r. TakesByte r.0 (Remains (coding_is.Second r.1) r.2.now) s) }
+    ensures none { (s : List ℕ) → Remains coding_is.First text.now s → IfNone result (s ≡ []) }
+    ensures shorter { IfSome result (λ r. length r.2.now < length text.now) }
+{
+    let Some((first, more)) = character(text) else {
+        return None;
+    };
+    let Some((second, rest)) = character(more) else {
+        return None;
+    };
+    Some((first * 4 + second / 16, second % 16, rest))
+}
+
+/// The second byte of a group, whose high bits are given, and the bits of the next.
+#[inline]
+fn second_byte(high: u8, text: &[u8]) -> Option<(u8, u8, &[u8])>
+    ensures some { (s : List ℕ) → Remains (coding_is.Second high) text.now s
+        → IfSome result (λ r. TakesByte r.0 (Remains (coding_is.Third r.1) r.2.now) s) }
+    ensures none { (s : List ℕ) → Remains (coding_is.Second high) text.now s
+        → IfNone result (s ≡ []) }
+    ensures shorter { IfSome result (λ r. length r.2.now < length text.now) }
+{
+    let Some((value, rest)) = character(text) else {
+        return None;
+    };
+    Some((high % 16 * 16 + value / 4, value % 4, rest))
+}
+
+/// The third byte of a group, whose high bits are given.
+#[inline]
+fn third_byte(high: u8, text: &[u8]) -> Option<(u8, &[u8])>
+    ensures some { (s : List ℕ) → Remains (coding_is.Third high) text.now s
+        → IfSome result (λ r. TakesByte r.0 (Remains coding_is.First r.1.now) s) }
+    ensures none { (s : List ℕ) → Remains (coding_is.Third high) text.now s
+        → IfNone result (s ≡ []) }
+    ensures shorter { IfSome result (λ r. length r.1.now < length text.now) }
+{
+    let Some((value, rest)) = character(text) else {
+        return None;
+    };
+    Some((high % 4 * 64 + value, rest))
+}
