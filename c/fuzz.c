@@ -128,8 +128,10 @@ static void same_nodes(const value *v, const value *w) {
     CHECK(a->key_at <= v->sizes.bytes && a->key_length <= v->sizes.bytes - a->key_at);
     CHECK(a->text_at <= v->sizes.bytes && a->text_length <= v->sizes.bytes - a->text_at);
     CHECK(a->span >= 1 && a->span <= v->sizes.nodes - i);
-    CHECK(a->role <= SF_PARAMETER && a->type <= SF_DISPLAY_STRING);
-    CHECK(a->role != SF_PARAMETER || (a->key_length > 0 && a->span == 1));
+    CHECK(a->role >= SF_MEMBER && a->role <= SF_INNER_PARAMETER);
+    CHECK(a->type >= SF_INNER_LIST && a->type <= SF_DISPLAY_STRING);
+    CHECK(a->role < SF_PARAMETER || (a->key_length > 0 && a->span == 1));
+    CHECK(a->type != SF_INNER_LIST || a->role == SF_MEMBER);
     CHECK(a->role == b->role && a->type == b->type && a->number == b->number);
     CHECK(a->span == b->span);
     shape(a->role * 16 + a->type, i > 0 ? v->nodes[i - 1].type + 1 : 0, a->span < 8 ? a->span : 8);
@@ -378,7 +380,8 @@ int LLVMFuzzerTestOneInput(const uint8_t *data, size_t size);
 int LLVMFuzzerTestOneInput(const uint8_t *data, size_t size) {
   if (size == 0)
     return 0;
-  uint32_t kind = data[0] % 3, dialect = data[0] / 3 % 2;
+  uint32_t kind = SF_ITEM + data[0] % 3;
+  uint32_t dialect = data[0] / 3 % 2 == 0 ? SF_RFC9651 : SF_RFC8941;
   size_t length = size - 1;
   none_is_a_place = data[0] / 6 % 2;
   uint8_t *text = take_room(data + 1, length);

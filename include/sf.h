@@ -17,8 +17,10 @@
  * program's malloc and realloc must return memory that is aligned as C requires.
  *
  * Each function returns an sf_status, except sf_priority_merge, sf_lifetime, sf_version and
- * sf_status_name; a dialect is an sf_dialect, and a kind is an sf_kind. All are passed as integers of a fixed width, since the
- * width of an enum is not fixed, and since any number may be passed.
+ * sf_status_name; a dialect is an sf_dialect, and a kind is an sf_kind. All are passed as integers
+ * of a fixed width, since the width of an enum is not fixed, and since any number may be passed.
+ * The constants for kinds, dialects, roles and types all differ, and none is 0: an argument in the
+ * place of another is SF_BAD_CALL.
  *
  * Bytes are octets, and texts are not NUL-terminated. A place is an offset in bytes, counted from
  * 0. The library requires a size_t of 64 bits.
@@ -108,15 +110,15 @@ uint32_t sf_version(void);
 
 /* The kind of a field, which the definition of the field states. */
 typedef enum sf_kind {
-  SF_ITEM = 0, /* RFC 9651 section 3.3 */
-  SF_LIST = 1, /* section 3.1 */
-  SF_DICT = 2  /* section 3.2 */
+  SF_ITEM = 1, /* RFC 9651 section 3.3 */
+  SF_LIST = 2, /* section 3.1 */
+  SF_DICT = 3  /* section 3.2 */
 } sf_kind;
 
 /* The RFC by which a text is parsed. What RFC 8941 accepts has the same value by RFC 9651. */
 typedef enum sf_dialect {
-  SF_RFC9651 = 0, /* all types of sf_type */
-  SF_RFC8941 = 1  /* its predecessor, without Dates and Display Strings */
+  SF_RFC9651 = 9651, /* all types of sf_type */
+  SF_RFC8941 = 8941  /* its predecessor, without Dates and Display Strings */
 } sf_dialect;
 
 /*
@@ -223,22 +225,23 @@ uint32_t sf_equal(const sf_seed *seed, uint32_t dialect, uint32_t kind, const vo
 
 /* The role of a node in a parsed value. */
 typedef enum sf_role {
-  SF_MEMBER = 0,     /* the Item of an Item field, or a member of a List or Dictionary */
-  SF_INNER_ITEM = 1, /* an Item of an Inner List */
-  SF_PARAMETER = 2   /* a parameter of the Item or Inner List before it */
+  SF_MEMBER = 11,         /* the Item of an Item field, or a member of a List or Dictionary */
+  SF_INNER_ITEM = 12,     /* an Item of an Inner List */
+  SF_PARAMETER = 13,      /* a parameter of an Item: of the last one before it */
+  SF_INNER_PARAMETER = 14 /* a parameter of an Inner List: of the last one before it */
 } sf_role;
 
 /* The type of a node (RFC 9651 section 3). */
 typedef enum sf_type {
-  SF_INNER_LIST = 0,     /* 3.1.1: number 0, no bytes */
-  SF_INTEGER = 1,        /* 3.3.1: number, from -SF_NUMBER_MAX to SF_NUMBER_MAX */
-  SF_DECIMAL = 2,        /* 3.3.2: number, in thousandths, in the same range */
-  SF_STRING = 3,         /* 3.3.3: bytes, unescaped, without quotes */
-  SF_TOKEN = 4,          /* 3.3.4: bytes */
-  SF_BYTE_SEQUENCE = 5,  /* 3.3.5: bytes, decoded */
-  SF_BOOLEAN = 6,        /* 3.3.6: number, 1 for true and 0 for false */
-  SF_DATE = 7,           /* 3.3.7: number, in seconds since 1970-01-01T00:00:00Z, in that range */
-  SF_DISPLAY_STRING = 8  /* 3.3.8: bytes, UTF-8, decoded */
+  SF_INNER_LIST = 21,    /* 3.1.1: number 0, no bytes */
+  SF_INTEGER = 22,       /* 3.3.1: number, from -SF_NUMBER_MAX to SF_NUMBER_MAX */
+  SF_DECIMAL = 23,       /* 3.3.2: number, in thousandths, in the same range */
+  SF_STRING = 24,        /* 3.3.3: bytes, unescaped, without quotes */
+  SF_TOKEN = 25,         /* 3.3.4: bytes */
+  SF_BYTE_SEQUENCE = 26, /* 3.3.5: bytes, decoded */
+  SF_BOOLEAN = 27,       /* 3.3.6: number, 1 for true and 0 for false */
+  SF_DATE = 28,          /* 3.3.7: number, in seconds since 1970-01-01T00:00:00Z, in that range */
+  SF_DISPLAY_STRING = 29 /* 3.3.8: bytes, UTF-8, decoded */
 } sf_type;
 
 /*

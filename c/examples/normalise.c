@@ -37,7 +37,7 @@ static int add(char **text, size_t *room, sf_joined *joined, const char *line, s
 static int kind_of(const char *word, uint32_t *kind) {
   static const char *const words[] = {"item", "list", "dict"};
   for (*kind = SF_ITEM; *kind <= SF_DICT; ++*kind)
-    if (strcmp(word, words[*kind]) == 0)
+    if (strcmp(word, words[*kind - SF_ITEM]) == 0)
       return 1;
   return 0;
 }

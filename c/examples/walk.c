@@ -37,13 +37,13 @@ static void print_text(const char *text, size_t length) {
 /* What a node itself says: its key, its type, and its number or its bytes. */
 static void print(const sf_node *node, const char *bytes, int depth) {
   printf("%*s", 2 * depth, "");
-  if (node->role == SF_PARAMETER)
+  if (node->role == SF_PARAMETER || node->role == SF_INNER_PARAMETER)
     printf(";");
   if (node->key_length > 0) {
     print_text(bytes + node->key_at, node->key_length);
     printf(" ");
   }
-  printf("%s", types[node->type]);
+  printf("%s", types[node->type - SF_INNER_LIST]);
   switch (node->type) {
   case SF_INTEGER:
   case SF_BOOLEAN:
@@ -79,7 +79,7 @@ static void walk(const sf_node *node, const sf_node *end, const char *bytes, int
 int main(int argc, char **argv) {
   static const char *const kinds[] = {"item", "list", "dict"};
   uint32_t kind = SF_ITEM;
-  while (argc == 3 && kind <= SF_DICT && strcmp(argv[1], kinds[kind]) != 0)
+  while (argc == 3 && kind <= SF_DICT && strcmp(argv[1], kinds[kind - SF_ITEM]) != 0)
     ++kind;
   if (argc != 3 || kind > SF_DICT) {
     fprintf(stderr, "usage: walk item|list|dict TEXT\n");

@@ -432,7 +432,21 @@ static void worked_texts(void) {
 
 /* Numbers that are no kind or no dialect. */
 static void bad_calls(void) {
-  static const uint32_t numbers[][2] = {{2, 0}, {0, 3}, {2, 3}, {UINT32_MAX, 0}, {0, UINT32_MAX}};
+  static const uint32_t numbers[][2] = {{SF_LIST, SF_RFC9651},
+                                        {SF_ITEM, SF_RFC8941},
+                                        {0, 0},
+                                        {0, SF_ITEM},
+                                        {SF_RFC9651, 0},
+                                        {1, 1},
+                                        {SF_RFC9651, SF_DICT + 1},
+                                        {SF_RFC9651 + 1, SF_ITEM},
+                                        {SF_RFC8941 - 1, SF_ITEM},
+                                        {SF_RFC9651, SF_MEMBER},
+                                        {SF_RFC9651, SF_INNER_LIST},
+                                        {SF_RFC9651, SF_RFC9651},
+                                        {SF_DICT, SF_DICT},
+                                        {UINT32_MAX, SF_ITEM},
+                                        {SF_RFC9651, UINT32_MAX}};
   for (size_t i = 0; i < sizeof numbers / sizeof *numbers; ++i) {
     const char *about = "bad call";
     uint32_t dialect = numbers[i][0], kind = numbers[i][1], status, equal = 4711;
@@ -487,8 +501,8 @@ static int is_piece(const unsigned char *bytes, size_t size, size_t at, size_t l
          (length == 0 || memcmp(bytes + at, text, length) == 0);
 }
 
-/* A call that writes a text: to a buffer of each length that is too small, of exactly the length, and
- * of longer ones. The call names buffer, size and required. */
+/* A call that writes a text: to a buffer of each length that is too small, of exactly the length,
+ * and of longer ones. The call names buffer, size and required. */
 #define WRITES(call, expected)                                                                     \
   do {                                                                                             \
     size_t whole = strlen(expected);                                                               \
@@ -648,7 +662,7 @@ static void nodes_of_values(void) {
   static const row dict[] = {{SF_MEMBER, SF_INNER_LIST, 0, "a", "", 4},
                              {SF_INNER_ITEM, SF_INTEGER, 1, "", "", 1},
                              {SF_INNER_ITEM, SF_INTEGER, 2, "", "", 1},
-                             {SF_PARAMETER, SF_BYTE_SEQUENCE, 0, "y", "a", 1},
+                             {SF_INNER_PARAMETER, SF_BYTE_SEQUENCE, 0, "y", "a", 1},
                              {SF_MEMBER, SF_BOOLEAN, 1, "b", "", 2},
                              {SF_PARAMETER, SF_BOOLEAN, 1, "x", "", 1}};
   PARSED(SF_DICT, "a=1,b;x, a=(1  2 );y=:YQ:", dict, 5);
@@ -660,9 +674,14 @@ static void nodes_of_values(void) {
                              {SF_INNER_ITEM, SF_TOKEN, 0, "", "ghi", 2},
                              {SF_PARAMETER, SF_INTEGER, 4, "jk", "", 1},
                              {SF_INNER_ITEM, SF_TOKEN, 0, "", "l", 1},
-                             {SF_PARAMETER, SF_STRING, 0, "q", "9", 1},
-                             {SF_PARAMETER, SF_TOKEN, 0, "r", "w", 1}};
+                             {SF_INNER_PARAMETER, SF_STRING, 0, "q", "9", 1},
+                             {SF_INNER_PARAMETER, SF_TOKEN, 0, "r", "w", 1}};
   PARSED(SF_LIST, "abc;a=1;b=2; cde_456, (ghi;jk=4 l);q=\"9\";r=w", list, 22);
+  static const row of_both[] = {{SF_MEMBER, SF_INNER_LIST, 0, "", "", 4},
+                                {SF_INNER_ITEM, SF_TOKEN, 0, "", "a", 2},
+                                {SF_PARAMETER, SF_BOOLEAN, 1, "b", "", 1},
+                                {SF_INNER_PARAMETER, SF_BOOLEAN, 1, "b", "", 1}};
+  PARSED(SF_LIST, "(a;b);b", of_both, 3);
   static const row inner[] = {{SF_MEMBER, SF_INNER_LIST, 0, "", "", 1}};
   PARSED(SF_LIST, "( )", inner, 0);
   parsed(SF_LIST, "", NULL, 0, 0);
@@ -1369,27 +1388,27 @@ static void want_of_memory(void) {
   sf_refusal refusal = untouched;
 
   const char *about = "sf_check, no memory";
-  EACH_REFUSAL(sf_check(&seed, 0, SF_LIST, large, sizeof large - 1, &refusal), 1,
+  EACH_REFUSAL(sf_check(&seed, SF_RFC9651, SF_LIST, large, sizeof large - 1, &refusal), 1,
                is_untouched(&refusal));
 
   about = "sf_normalise, no memory";
   unsigned char room[400];
   size_t wanted = 4711, length;
   memset(room, 0xa5, sizeof room);
-  CALL(sf_normalise(&seed, 0, SF_LIST, large, sizeof large - 1, room, sizeof room, &wanted,
+  CALL(sf_normalise(&seed, SF_RFC9651, SF_LIST, large, sizeof large - 1, room, sizeof room, &wanted,
                     &refusal));
   CHECK(status == SF_OK);
   length = wanted;
   EACH_REFUSAL((memset(room, 0xa5, sizeof room), wanted = 4711,
-                sf_normalise(&seed, 0, SF_LIST, large, sizeof large - 1, room, sizeof room, &wanted,
-                             &refusal)),
+                sf_normalise(&seed, SF_RFC9651, SF_LIST, large, sizeof large - 1, room, sizeof room,
+                             &wanted, &refusal)),
                wanted == length && all_are(room + length, sizeof room - length),
                wanted == 4711 && all_are(room, sizeof room) && is_untouched(&refusal));
 
   about = "sf_equal, no memory";
   uint32_t equal = 4711;
-  EACH_REFUSAL((equal = 4711, sf_equal(&seed, 0, SF_LIST, large, sizeof large - 1, room, length,
-                                       &equal, &refusal)),
+  EACH_REFUSAL((equal = 4711, sf_equal(&seed, SF_RFC9651, SF_LIST, large, sizeof large - 1, room,
+                                       length, &equal, &refusal)),
                equal == 1, equal == 4711 && is_untouched(&refusal));
 
   about = "sf_parse, no memory";
@@ -1397,8 +1416,8 @@ static void want_of_memory(void) {
   sf_sizes sizes = {4711, 4712};
   EACH_REFUSAL((memset(nodes, 0xa5, sizeof nodes), memset(room, 0xa5, sizeof room),
                 sizes.nodes = 4711,
-                sf_parse(&seed, 0, SF_LIST, large, sizeof large - 1, nodes, 100, room, sizeof room,
-                         &sizes, &refusal)),
+                sf_parse(&seed, SF_RFC9651, SF_LIST, large, sizeof large - 1, nodes, 100, room,
+                         sizeof room, &sizes, &refusal)),
                sizes.nodes == 43 && nodes[4].span == 7,
                sizes.nodes == 4711 && all_are((unsigned char *)nodes, sizeof nodes) &&
                    all_are(room, sizeof room) && is_untouched(&refusal));
@@ -1462,7 +1481,7 @@ static void want_of_memory(void) {
   static const char spaces[] = "    -007     ";
   refused_once = 0;
   refused_from = 1;
-  CALL(sf_check(&seed, 0, SF_ITEM, spaces, sizeof spaces - 1, &refusal));
+  CALL(sf_check(&seed, SF_RFC9651, SF_ITEM, spaces, sizeof spaces - 1, &refusal));
   CHECK(status == SF_OK);
   sf_joined joined = {0, 0, 0};
   CALL(sf_join("a", 1, room, sizeof room, &joined));

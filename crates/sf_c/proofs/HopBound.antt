@@ -33,6 +33,7 @@ use Rattle.sf_use.specs.CacheStatus.Reasons.{forward_of, reasons, token_of}
 use Rattle.sf_use.specs.CacheStatus.Hops.{hop_named, hops, member_hop, outcome_by, passed_at}
 use Rattle.sf_use.specs.CacheStatus.Hops.{passed_by_token, unless}
 use Rattle.sf_use.specs.CacheStatus.Members.{passed_by}
+use Rattle.sf_c.specs.declared.node_types.Role.TheVariants.{Parameter}
 use Rattle.sf_c.specs.Nodes.{text_of, told_field, told_member, told_members, told_params}
 use Rattle.sf_c.specs.Laws.{HopsAreFew, HopBytesAreFew}
 use Rattle.sf_c.specs.Tellings.{told_size}
@@ -51,27 +52,27 @@ Apart f g = (k : Seq ℕ) → f k ≡ true → g k ≡ true → ⊥
 
 -- what is looked up among parameters has at most their bytes
 one_taken : (f : Seq ℕ → Bool) (ps : Pairs Bare)
-    → taken (lookup f ps) ≤ told_size (told_params ps)
+    → taken (lookup f ps) ≤ told_size (told_params Parameter ps)
 one_taken f [] = omega arith
 one_taken f (p ∷ ps) = go (f p.0) refl (one_taken f ps)
   where
-    go : (b : Bool) → f p.0 ≡ b → taken (lookup f ps) ≤ told_size (told_params ps)
-        → taken (lookup f (p ∷ ps)) ≤ told_size (told_params (p ∷ ps))
+    go : (b : Bool) → f p.0 ≡ b → taken (lookup f ps) ≤ told_size (told_params Parameter ps)
+        → taken (lookup f (p ∷ ps)) ≤ told_size (told_params Parameter (p ∷ ps))
     go true e rest = rw e (omega arith)
     go false e rest = rw e (omega arith)
 
 -- so have two that differ
 two_taken : (f g : Seq ℕ → Bool) → Apart f g → (ps : Pairs Bare)
-    → taken (lookup f ps) + taken (lookup g ps) ≤ told_size (told_params ps)
+    → taken (lookup f ps) + taken (lookup g ps) ≤ told_size (told_params Parameter ps)
 two_taken f g d [] = omega arith
 two_taken f g d (p ∷ ps) =
     go (f p.0) refl (g p.0) refl (one_taken f ps) (one_taken g ps) (two_taken f g d ps)
   where
     go : (b : Bool) → f p.0 ≡ b → (c : Bool) → g p.0 ≡ c
-        → taken (lookup f ps) ≤ told_size (told_params ps)
-        → taken (lookup g ps) ≤ told_size (told_params ps)
-        → taken (lookup f ps) + taken (lookup g ps) ≤ told_size (told_params ps)
-        → taken (lookup f (p ∷ ps)) + taken (lookup g (p ∷ ps)) ≤ told_size (told_params (p ∷ ps))
+        → taken (lookup f ps) ≤ told_size (told_params Parameter ps)
+        → taken (lookup g ps) ≤ told_size (told_params Parameter ps)
+        → taken (lookup f ps) + taken (lookup g ps) ≤ told_size (told_params Parameter ps)
+        → taken (lookup f (p ∷ ps)) + taken (lookup g (p ∷ ps)) ≤ told_size (told_params Parameter (p ∷ ps))
     go true e true i one other both = absurd (d p.0 e i)
     go true e false i one other both = rw (e, i) (omega arith)
     go false e true i one other both = rw (e, i) (omega arith)
@@ -80,20 +81,20 @@ two_taken f g d (p ∷ ps) =
 -- and three
 three_taken : (f g h : Seq ℕ → Bool) → Apart f g → Apart f h → Apart g h → (ps : Pairs Bare)
     → taken (lookup f ps) + taken (lookup g ps) + taken (lookup h ps)
-    ≤ told_size (told_params ps)
+    ≤ told_size (told_params Parameter ps)
 three_taken f g h d m n [] = omega arith
 three_taken f g h d m n (p ∷ ps) =
     go (f p.0) refl (g p.0) refl (h p.0) refl (two_taken f g d ps) (two_taken f h m ps)
     (two_taken g h n ps) (three_taken f g h d m n ps)
   where
     go : (b : Bool) → f p.0 ≡ b → (c : Bool) → g p.0 ≡ c → (a : Bool) → h p.0 ≡ a
-        → taken (lookup f ps) + taken (lookup g ps) ≤ told_size (told_params ps)
-        → taken (lookup f ps) + taken (lookup h ps) ≤ told_size (told_params ps)
-        → taken (lookup g ps) + taken (lookup h ps) ≤ told_size (told_params ps)
+        → taken (lookup f ps) + taken (lookup g ps) ≤ told_size (told_params Parameter ps)
+        → taken (lookup f ps) + taken (lookup h ps) ≤ told_size (told_params Parameter ps)
+        → taken (lookup g ps) + taken (lookup h ps) ≤ told_size (told_params Parameter ps)
         → taken (lookup f ps) + taken (lookup g ps) + taken (lookup h ps)
-        ≤ told_size (told_params ps)
+        ≤ told_size (told_params Parameter ps)
         → taken (lookup f (p ∷ ps)) + taken (lookup g (p ∷ ps)) + taken (lookup h (p ∷ ps))
-        ≤ told_size (told_params (p ∷ ps))
+        ≤ told_size (told_params Parameter (p ∷ ps))
     go true e true i b j fg fh gh all = absurd (d p.0 e i)
     go true e false i true j fg fh gh all = absurd (m p.0 e j)
     go true e false i false j fg fh gh all = rw (e, i, j) (omega arith)
@@ -182,7 +183,7 @@ passed_back false (Some p) = refl
 
 -- a hop has at most the bytes of its name and its parameters
 hop_few : (ps : Pairs Bare) (n : Name)
-    → hop_size (told_hop (hop_named ps n)) ≤ length (bytes_of n) + told_size (told_params ps)
+    → hop_size (told_hop (hop_named ps n)) ≤ length (bytes_of n) + told_size (told_params Parameter ps)
 hop_few ps n =
     let back = ap (λ o. length (why_token o))
     (passed_back (unwrap_or (boolean_at (codes "hit") ps) false) (passed_at ps)) in
@@ -201,7 +202,7 @@ few None = 0
 few (Some h) = hop_size (told_hop h)
 
 bare_few : (x : Bare) (ps : Pairs Bare)
-    → few (option_map (hop_named ps) (as_name x)) ≤ length (text_of x) + told_size (told_params ps)
+    → few (option_map (hop_named ps) (as_name x)) ≤ length (text_of x) + told_size (told_params Parameter ps)
 bare_few (Integer n) ps = omega arith
 bare_few (Decimal n) ps = omega arith
 bare_few (Text s) ps = hop_few ps (name.Text s)

@@ -30,6 +30,9 @@ use Rattle.sf_value.specs.Grammar.Canonical.{canon_more, canon_items, canon_inne
 use Rattle.sf_value.specs.Grammar.Canonical.{canon_flag, canon_entry, canon_commas}
 use Rattle.sf_value.specs.Grammar.Canonical.{canon_series, canon, canon_shown, fraction}
 use Rattle.sf_value.specs.Grammar.Canonical.{is_negative}
+use Rattle.sf_c.specs.declared.node_types.Role.{Role}
+use Rattle.sf_c.specs.declared.node_types.Role.TheVariants.{InnerItem, InnerParameter, Parameter}
+use Rattle.sf_c.specs.declared.node_types.Role.TheVariants as roles
 use Rattle.sf_c.specs.Tellings.{Told, told_size}
 use Rattle.sf_c.specs.Nodes.{text_of, told_params, told_item, told_items, told_inner}
 use Rattle.sf_c.specs.Nodes.{told_member, told_members, told_entries, told_field}
@@ -138,11 +141,11 @@ small_append ts us a b c d h k =
     let s = k.size in
     record { parts = omega arith; size = omega arith }
 
-params_small : (d : Dialect) (ps : Pairs Bare) → AreParams d ps
-    → Small (told_params ps) (length (canon_params ps)) (length (canon_params ps))
-params_small d [] valid = record { parts = omega arith; size = omega arith }
-params_small d (p ∷ ps) valid =
-    let h = params_small d ps valid.1 in
+params_small : (d : Dialect) (role : Role) (ps : Pairs Bare) → AreParams d ps
+    → Small (told_params role ps) (length (canon_params ps)) (length (canon_params ps))
+params_small d role [] valid = record { parts = omega arith; size = omega arith }
+params_small d role (p ∷ ps) valid =
+    let h = params_small d role ps valid.1 in
     let a = h.parts in
     let b = h.size in
     let key = key_long p.0 valid.0.0 in
@@ -151,10 +154,10 @@ params_small d (p ∷ ps) valid =
     let f = length-append (canon_value p.1) (canon_params ps) in
     record { parts = omega arith; size = omega arith }
 
-item_small : (d : Dialect) (role : ℕ) (key : Seq ℕ) (i : Item) → ValidItem d i
+item_small : (d : Dialect) (role : Role) (key : Seq ℕ) (i : Item) → ValidItem d i
     → Small (told_item role key i) (1 + length (canon_item i)) (length key + length (canon_item i))
 item_small d role key i valid =
-    let h = params_small d i.params valid.1.0 in
+    let h = params_small d Parameter i.params valid.1.0 in
     let a = h.parts in
     let b = h.size in
     let bare = bare_long d i.bare valid.0 in
@@ -166,8 +169,8 @@ more_small : (d : Dialect) (is : Seq Item) → Each (ValidItem d) is
     → Small (told_items is) (length (canon_more is)) (length (canon_more is))
 more_small d [] valid = record { parts = omega arith; size = omega arith }
 more_small d (i ∷ is) valid =
-    let h = small_append (told_item 1 [] i) (told_items is) _ _ _ _
-    (item_small d 1 [] i valid.0) (more_small d is valid.1) in
+    let h = small_append (told_item InnerItem [] i) (told_items is) _ _ _ _
+    (item_small d InnerItem [] i valid.0) (more_small d is valid.1) in
     let a = h.parts in
     let b = h.size in
     let e = length-append (canon_item i) (canon_more is) in
@@ -177,8 +180,8 @@ items_small : (d : Dialect) (is : Seq Item) → Each (ValidItem d) is
     → Small (told_items is) (1 + length (canon_items is)) (length (canon_items is))
 items_small d [] valid = record { parts = omega arith; size = omega arith }
 items_small d (i ∷ is) valid =
-    let h = small_append (told_item 1 [] i) (told_items is) _ _ _ _
-    (item_small d 1 [] i valid.0) (more_small d is valid.1) in
+    let h = small_append (told_item InnerItem [] i) (told_items is) _ _ _ _
+    (item_small d InnerItem [] i valid.0) (more_small d is valid.1) in
     let a = h.parts in
     let b = h.size in
     let e = length-append (canon_item i) (canon_more is) in
@@ -187,8 +190,8 @@ items_small d (i ∷ is) valid =
 inner_small : (d : Dialect) (key : Seq ℕ) (l : Inner) → ValidInner d l
     → Small (told_inner key l) (1 + length (canon_inner l)) (length key + length (canon_inner l))
 inner_small d key l valid =
-    let h = small_append (told_items l.items) (told_params l.params) _ _ _ _
-    (items_small d l.items valid.0) (params_small d l.params valid.1.0) in
+    let h = small_append (told_items l.items) (told_params InnerParameter l.params) _ _ _ _
+    (items_small d l.items valid.0) (params_small d InnerParameter l.params valid.1.0) in
     let a = h.parts in
     let b = h.size in
     let e = length-append (canon_items l.items) (41 ∷ canon_params l.params) in
@@ -196,7 +199,7 @@ inner_small d key l valid =
 
 member_small : (d : Dialect) (key : Seq ℕ) (m : Member) → ValidMember d m
     → Small (told_member key m) (1 + length (canon_member m)) (length key + length (canon_member m))
-member_small d key (member.Item i) valid = item_small d 0 key i valid
+member_small d key (member.Item i) valid = item_small d roles.Member key i valid
 member_small d key (member.Inner l) valid = inner_small d key l valid
 
 -- behind a key of a Dictionary
@@ -228,7 +231,7 @@ flag_long (Shown s) ps =
 entry_small : (d : Dialect) (key : Seq ℕ) (m : Member) → IsKey key → ValidMember d m
     → Small (told_member key m) (1 + length (canon_entry (key, m))) (length (canon_entry (key, m)))
 entry_small d key (member.Item i) named valid =
-    let h = params_small d i.params valid.1.0 in
+    let h = params_small d Parameter i.params valid.1.0 in
     let a = h.parts in
     let b = h.size in
     let long = key_long key named in
@@ -293,7 +296,7 @@ entries_small d (p ∷ ps) valid =
 field_small : (d : Dialect) (k : Kind) (v : Field) → Valid d k v
     → Small (told_field v) (1 + length (canon v)) (length (canon v))
 field_small d kind.Item (field.Item i) valid =
-    let h = item_small d 0 [] i valid in
+    let h = item_small d roles.Member [] i valid in
     let a = h.parts in
     let b = h.size in
     record { parts = omega arith; size = omega arith }

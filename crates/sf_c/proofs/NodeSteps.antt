@@ -6,12 +6,14 @@ use Rattle.sf_value.specs.declared.value.Inner.{Inner}
 use Rattle.sf_value.specs.declared.value.Item.{Item}
 use Rattle.sf_value.specs.declared.value.Member.{Member}
 use Rattle.sf_value.specs.Grammar.Pairs.{Pairs}
+use Rattle.sf_c.specs.declared.node_types.Role.{Role}
+use Rattle.sf_c.specs.declared.node_types.Role.TheVariants.{InnerItem, InnerParameter, Parameter}
 use Rattle.sf_c.specs.Nodes.{told_params, told_item, told_items, told_inside}
 use Rattle.sf_c.specs.Nodes.{told_member, told_members}
 
 -- the next of the Items
 pub next_told : (items : List Item) (i : ℕ) (x : Item) → i < length items → x ≡ get_or items i x
-    → told_items (drop i items) ≡ told_item 1 [] x ++ told_items (drop (i + 1) items)
+    → told_items (drop i items) ≡ told_item InnerItem [] x ++ told_items (drop (i + 1) items)
 next_told items i x h e = ap told_items (drop-cons items i x h) ∙ rw (add-one, ← e)
 
 -- the next of the members
@@ -20,9 +22,9 @@ pub next_member : (ms : List Member) (i : ℕ) (x : Member) → i < length ms �
 next_member ms i x h e = ap told_members (drop-cons ms i x h) ∙ rw (add-one, ← e)
 
 -- a node for each parameter
-pub length_params : (ps : Pairs Bare) → length (told_params ps) ≡ length ps
-length_params [] = refl
-length_params (p ∷ ps) = let e = length_params ps in omega arith
+pub length_params : (role : Role) (ps : Pairs Bare) → length (told_params role ps) ≡ length ps
+length_params role [] = refl
+length_params role (p ∷ ps) = let e = length_params role ps in omega arith
 
 -- an Item has a node and one for each parameter
 pub length_next : (items : List Item) (i : ℕ) (x : Item) → i < length items
@@ -31,14 +33,14 @@ pub length_next : (items : List Item) (i : ℕ) (x : Item) → i < length items
     ≡ (1 + length x.params) + length (told_items (drop (i + 1) items))
 length_next items i x h e =
     let next = ap length (next_told items i x h e) in
-    let both = length-append (told_item 1 [] x) (told_items (drop (i + 1) items)) in
-    let params = length_params x.params in
+    let both = length-append (told_item InnerItem [] x) (told_items (drop (i + 1) items)) in
+    let params = length_params Parameter x.params in
     omega arith
 
 -- what is inside an Inner List
 pub length_inside : (l : Inner)
     → length (told_inside l) ≡ length (told_items l.items) + length l.params
 length_inside l =
-    let both = length-append (told_items l.items) (told_params l.params) in
-    let params = length_params l.params in
+    let both = length-append (told_items l.items) (told_params InnerParameter l.params) in
+    let params = length_params InnerParameter l.params in
     omega arith

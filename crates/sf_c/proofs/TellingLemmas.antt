@@ -105,7 +105,7 @@ pub told_more : (bytes now key text : List ℕ) (ns ms : List Node) (n : Node)
     ≡ map (told_by bytes) ns
     ++ record {
       role = n.role;
-      sort = n.sort;
+      node_type = n.node_type;
       number = n.number;
       key = key;
       text = text;
@@ -165,7 +165,7 @@ holds_more bytes now key text ns ms n e f p h =
     let second = length-append (bytes ++ key) text in
     let last : Told = record {
       role = n.role;
-      sort = n.sort;
+      node_type = n.node_type;
       number = n.number;
       key = key;
       text = text;

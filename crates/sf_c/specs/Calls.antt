@@ -7,16 +7,16 @@ use Rattle.sf_value.specs.declared.value.Kind.TheVariants.{Item, List, Dict}
 use Rattle.sf_c.specs.declared.status.Status.{Status}
 use Rattle.sf_c.specs.declared.status.Status.TheVariants.{BadCall}
 
--- the dialect of a number
+-- the dialect of a number, which is that of its RFC
 abbrev pub dialect_at : ℕ → Option Dialect
-dialect_at n = if n == 0 then Some Rfc9651 else (if n == 1 then Some Rfc8941 else None)
+dialect_at n = if n == 9651 then Some Rfc9651 else (if n == 8941 then Some Rfc8941 else None)
 
--- the kind of a number
+-- the kind of a number; no number is that of a dialect
 abbrev pub kind_at : ℕ → Option Kind
 kind_at n =
-    if n == 0 then Some Item
-    else (if n == 1 then Some List
-    else (if n == 2 then Some Dict else None))
+    if n == 1 then Some Item
+    else (if n == 2 then Some List
+    else (if n == 3 then Some Dict else None))
 
 -- the status and what is there afterwards are those of a call by this dialect and kind; where there
 -- is no such kind or dialect the status is BadCall, and all is left as it was

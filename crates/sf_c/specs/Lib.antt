@@ -12,6 +12,7 @@ pub mod Priorities
 pub mod Policies
 pub mod Joining
 pub mod Tellings
+pub mod NodeTypes
 pub mod Nodes
 pub mod Flattening
 pub mod Hops

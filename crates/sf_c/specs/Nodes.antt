@@ -10,18 +10,23 @@ use Rattle.sf_value.specs.declared.value.Member.TheVariants as member
 use Rattle.sf_value.specs.declared.value.Field.{Field}
 use Rattle.sf_value.specs.declared.value.Field.TheVariants as field
 use Rattle.sf_value.specs.Grammar.Pairs.{Pairs}
+use Rattle.sf_c.specs.declared.node_types.NodeType.{NodeType}
+use Rattle.sf_c.specs.declared.node_types.NodeType.TheVariants as types
+use Rattle.sf_c.specs.declared.node_types.Role.{Role}
+use Rattle.sf_c.specs.declared.node_types.Role.TheVariants as roles
+use Rattle.sf_c.specs.NodeTypes.{role_number, type_number}
 use Rattle.sf_c.specs.Tellings.{Told}
 
--- the number of a type
-abbrev pub sort_of : Bare → ℕ
-sort_of (Integer n) = 1
-sort_of (Decimal m) = 2
-sort_of (Text s) = 3
-sort_of (Token s) = 4
-sort_of (Blob s) = 5
-sort_of (Boolean b) = 6
-sort_of (Date n) = 7
-sort_of (Shown s) = 8
+-- the type of a bare item
+abbrev pub type_of : Bare → NodeType
+type_of (Integer n) = types.Integer
+type_of (Decimal m) = types.Decimal
+type_of (Text s) = types.Text
+type_of (Token s) = types.Token
+type_of (Blob s) = types.Blob
+type_of (Boolean b) = types.Boolean
+type_of (Date n) = types.Date
+type_of (Shown s) = types.Shown
 
 -- an Integer, the thousandths of a Decimal, the second of a Date, or 1 for true
 abbrev pub number_of : Bare → ℤ
@@ -39,42 +44,42 @@ text_of (Blob s) = s
 text_of (Shown s) = s
 text_of x = []
 
--- a bare item in this role (0 the Item of the field or a member, 1 an Item of an Inner List, 2 a
--- parameter), with this key, and with so many nodes
-abbrev pub told : ℕ → Seq ℕ → ℕ → Bare → Told
+-- a bare item in this role, with this key, and with so many nodes
+abbrev pub told : Role → Seq ℕ → ℕ → Bare → Told
 told role key span x = record {
-  role = role;
-  sort = sort_of x;
+  role = role_number role;
+  node_type = type_number (type_of x);
   number = number_of x;
   key = key;
   text = text_of x;
   span = span;
 }
 
--- parameters: a node for each
-abbrev pub told_params : Pairs Bare → Seq Told
-told_params [] = []
-told_params (p ∷ ps) = told 2 p.0 1 p.1 ∷ told_params ps
+-- parameters of an Item or of an Inner List: a node for each
+abbrev pub told_params : Role → Pairs Bare → Seq Told
+told_params role [] = []
+told_params role (p ∷ ps) = told role p.0 1 p.1 ∷ told_params role ps
 
 -- an Item: its bare item, then its parameters
-abbrev pub told_item : ℕ → Seq ℕ → Item → Seq Told
-told_item role key i = told role key (1 + length i.params) i.bare ∷ told_params i.params
+abbrev pub told_item : Role → Seq ℕ → Item → Seq Told
+told_item role key i =
+    told role key (1 + length i.params) i.bare ∷ told_params roles.Parameter i.params
 
 -- the Items of an Inner List
 abbrev pub told_items : Seq Item → Seq Told
 told_items [] = []
-told_items (i ∷ is) = told_item 1 [] i ++ told_items is
+told_items (i ∷ is) = told_item roles.InnerItem [] i ++ told_items is
 
 -- the Items of an Inner List, then its parameters
 abbrev pub told_inside : Inner → Seq Told
-told_inside l = told_items l.items ++ told_params l.params
+told_inside l = told_items l.items ++ told_params roles.InnerParameter l.params
 
 -- an Inner List: a node of its own, then what is inside
 abbrev pub told_inner : Seq ℕ → Inner → Seq Told
 told_inner key l =
     record {
-      role = 0;
-      sort = 0;
+      role = role_number roles.Member;
+      node_type = type_number types.InnerList;
       number = pos 0;
       key = key;
       text = [];
@@ -84,7 +89,7 @@ told_inner key l =
 
 -- a member, with the key that it has in a Dictionary
 abbrev pub told_member : Seq ℕ → Member → Seq Told
-told_member key (member.Item i) = told_item 0 key i
+told_member key (member.Item i) = told_item roles.Member key i
 told_member key (member.Inner l) = told_inner key l
 
 -- the members of a List
@@ -99,6 +104,6 @@ told_entries (p ∷ ps) = told_member p.0 p.1 ++ told_entries ps
 
 -- a field
 abbrev pub told_field : Field → Seq Told
-told_field (field.Item i) = told_item 0 [] i
+told_field (field.Item i) = told_item roles.Member [] i
 told_field (field.List l) = told_members l.members
 told_field (field.Dict d) = told_entries d.members

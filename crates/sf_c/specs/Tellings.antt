@@ -6,7 +6,7 @@ use Rattle.sf_c.specs.declared.nodes.Node.{Node}
 -- a part of a value: its role, its type, its number, its key, its bytes, and how many parts it has
 pub record Told : Type 0 where
   pub role : ℕ
-  pub sort : ℕ
+  pub node_type : ℕ
   pub number : ℤ
   pub key : List ℕ
   pub text : List ℕ
@@ -20,7 +20,7 @@ piece at count bytes = take count (drop at bytes)
 abbrev pub told_by : List ℕ → Node → Told
 told_by bytes n = record {
   role = n.role;
-  sort = n.sort;
+  node_type = n.node_type;
   number = n.number;
   key = piece n.key_at n.key_length bytes;
   text = piece n.text_at n.text_length bytes;

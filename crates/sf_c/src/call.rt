@@ -15,8 +15,8 @@ pub(crate) fn dialect_of(number: u32) -> Option<Dialect>
     ensures { result ≡ dialect_at number }
 {
     match number {
-        0 => Some(Dialect::Rfc9651),
-        1 => Some(Dialect::Rfc8941),
+        9651 => Some(Dialect::Rfc9651),
+        8941 => Some(Dialect::Rfc8941),
         _ => None,
     }
 }
@@ -26,9 +26,9 @@ pub(crate) fn kind_of(number: u32) -> Option<Kind>
     ensures { result ≡ kind_at number }
 {
     match number {
-        0 => Some(Kind::Item),
-        1 => Some(Kind::List),
-        2 => Some(Kind::Dict),
+        1 => Some(Kind::Item),
+        2 => Some(Kind::List),
+        3 => Some(Kind::Dict),
         _ => None,
     }
 }

@@ -3,8 +3,10 @@ ghost use Rattle.std.specs.Prelude.{◌≡◌, ◌+◌, ◌++◌, ◌≤◌, [],
 ghost use Rattle.std.specs.Prelude.{IfOk, MatchResult};
 ghost use Rattle.sf_c.specs.Tellings.{told_size, TellAtFront};
 ghost use Rattle.sf_c.specs.Nodes.{told, told_entries, told_field, told_inner, told_inside};
+ghost use Rattle.sf_c.specs.NodeTypes.{role_number, type_number};
 ghost use Rattle.sf_c.specs.Nodes.{told_item, told_items, told_member, told_members, told_params};
 
+use crate::node_types::{NodeType, Role};
 use crate::room::put;
 use sf_value::{Bare, Entries, Field, Inner, Item, Member, OutOfMemory};
 use std::alloc::Global;
@@ -27,11 +29,10 @@ pub struct Node {
     pub text_length: usize,
     /// How many nodes this part has, itself one of them: the next sibling stands so many further.
     pub span: usize,
-    /// 0 for the field's Item or a member, 1 for an Item of an Inner List, 2 for a parameter.
+    /// The number of its [`Role`].
     pub role: u32,
-    /// The type: 0 for an Inner List, then from 1 on Integer, Decimal, String, Token, Byte
-    /// Sequence, Boolean, Date and Display String.
-    pub sort: u32,
+    /// The number of its [`NodeType`].
+    pub node_type: u32,
 }
 
 /// How many nodes and bytes a value has. In C an `sf_sizes`.
@@ -54,8 +55,8 @@ pub(crate) struct Flat {
 /// What a node of its own says, without its key and its bytes.
 #[derive(Clone, Copy)]
 struct Part {
-    role: u32,
-    sort: u32,
+    role: Role,
+    node_type: NodeType,
     number: i64,
     span: usize,
 }
@@ -107,8 +108,8 @@ impl Flat {
     /// One more node, with its key and its bytes; or all as it was.
     fn push(&mut self, part: Part, key: &[u8], text: &[u8]) -> Result<(), OutOfMemory>
         ensures { IfOk result (λ _. self.new ≡ self.old ++ record {
-          role = part.role;
-          sort = part.sort;
+          role = role_number part.role;
+          node_type = type_number part.node_type;
           number = part.number;
           key = key.now;
           text = text.now;
@@ -125,8 +126,8 @@ impl Flat {
             text_at,
             text_length: text.len(),
             span: part.span,
-            role: part.role,
-            sort: part.sort,
+            role: part.role.code(),
+            node_type: part.node_type.code(),
         };
         if self.nodes.push(node).is_err() {
             self.bytes.truncate(key_at);
@@ -155,15 +156,15 @@ fn extend(bytes: &mut Vec<u8>, key: &[u8], text: &[u8]) -> Result<(), OutOfMemor
 /// A number, in the place of its bytes.
 fn push_number(
     flat: &mut Flat,
-    role: u32,
+    role: Role,
     key: &[u8],
     span: usize,
-    sort: u32,
+    node_type: NodeType,
     number: i64,
 ) -> Result<(), OutOfMemory>
     ensures { IfOk result (λ _. flat.new ≡ flat.old ++ record {
-      role = role;
-      sort = sort;
+      role = role_number role;
+      node_type = type_number node_type;
       number = number;
       key = key.now;
       text = [];
@@ -172,7 +173,7 @@ fn push_number(
 {
     let part = Part {
         role,
-        sort,
+        node_type,
         number,
         span,
     };
@@ -182,15 +183,15 @@ fn push_number(
 /// Bytes, in the place of a number.
 fn push_text(
     flat: &mut Flat,
-    role: u32,
+    role: Role,
     key: &[u8],
     span: usize,
-    sort: u32,
+    node_type: NodeType,
     text: &[u8],
 ) -> Result<(), OutOfMemory>
     ensures { IfOk result (λ _. flat.new ≡ flat.old ++ record {
-      role = role;
-      sort = sort;
+      role = role_number role;
+      node_type = type_number node_type;
       number = pos 0;
       key = key.now;
       text = text.now;
@@ -199,7 +200,7 @@ fn push_text(
 {
     let part = Part {
         role,
-        sort,
+        node_type,
         number: 0,
         span,
     };
@@ -209,7 +210,7 @@ fn push_text(
 /// A bare item.
 fn push_bare(
     flat: &mut Flat,
-    role: u32,
+    role: Role,
     key: &[u8],
     span: usize,
     bare: &Bare,
@@ -217,23 +218,23 @@ fn push_bare(
     ensures { IfOk result (λ _. flat.new ≡ flat.old ++ told role key.now span bare.now ∷ []) }
 {
     match bare {
-        Bare::Integer(n) => push_number(flat, role, key, span, 1, n.get()),
-        Bare::Decimal(n) => push_number(flat, role, key, span, 2, n.get()),
-        Bare::Text(text) => push_text(flat, role, key, span, 3, text.as_bytes()),
-        Bare::Token(token) => push_text(flat, role, key, span, 4, token.as_bytes()),
-        Bare::Blob(blob) => push_text(flat, role, key, span, 5, blob.as_bytes()),
-        Bare::Boolean(b) => push_number(flat, role, key, span, 6, i64::from(*b)),
-        Bare::Date(n) => push_number(flat, role, key, span, 7, n.get()),
-        Bare::Shown(shown) => push_text(flat, role, key, span, 8, shown.as_bytes()),
+        Bare::Integer(n) => push_number(flat, role, key, span, NodeType::Integer, n.get()),
+        Bare::Decimal(n) => push_number(flat, role, key, span, NodeType::Decimal, n.get()),
+        Bare::Text(text) => push_text(flat, role, key, span, NodeType::Text, text.as_bytes()),
+        Bare::Token(token) => push_text(flat, role, key, span, NodeType::Token, token.as_bytes()),
+        Bare::Blob(blob) => push_text(flat, role, key, span, NodeType::Blob, blob.as_bytes()),
+        Bare::Boolean(b) => push_number(flat, role, key, span, NodeType::Boolean, i64::from(*b)),
+        Bare::Date(n) => push_number(flat, role, key, span, NodeType::Date, n.get()),
+        Bare::Shown(shown) => push_text(flat, role, key, span, NodeType::Shown, shown.as_bytes()),
     }
 }
 
 /// Parameters.
-fn push_params(flat: &mut Flat, params: &Entries<Bare>) -> Result<(), OutOfMemory>
-    ensures { IfOk result (λ _. flat.new ≡ flat.old ++ told_params params.now) }
+fn push_params(flat: &mut Flat, role: Role, params: &Entries<Bare>) -> Result<(), OutOfMemory>
+    ensures { IfOk result (λ _. flat.new ≡ flat.old ++ told_params role params.now) }
 {
     for (key, value) in params {
-        push_bare(flat, 2, key, 1, value)?;
+        push_bare(flat, role, key, 1, value)?;
     }
     Ok(())
 }
@@ -253,12 +254,12 @@ fn one_more(count: usize) -> Result<usize, OutOfMemory>
 }
 
 /// An Item.
-fn push_item(flat: &mut Flat, role: u32, key: &[u8], item: &Item) -> Result<(), OutOfMemory>
+fn push_item(flat: &mut Flat, role: Role, key: &[u8], item: &Item) -> Result<(), OutOfMemory>
     ensures { IfOk result (λ _. flat.new ≡ flat.old ++ told_item role key.now item.now) }
 {
     let span = one_more(item.params.len())?;
     push_bare(flat, role, key, span, &item.bare)?;
-    push_params(flat, &item.params)
+    push_params(flat, Role::Parameter, &item.params)
 }
 
 /// The Items of an Inner List.
@@ -266,7 +267,7 @@ fn push_items(flat: &mut Flat, items: &[Item]) -> Result<(), OutOfMemory>
     ensures { IfOk result (λ _. flat.new ≡ flat.old ++ told_items items.now) }
 {
     for item in items {
-        push_item(flat, 1, b"", item)?;
+        push_item(flat, Role::InnerItem, b"", item)?;
     }
     Ok(())
 }
@@ -296,7 +297,7 @@ fn push_inside(flat: &mut Flat, inner: &Inner) -> Result<(), OutOfMemory>
     ensures { IfOk result (λ _. flat.new ≡ flat.old ++ told_inside inner.now) }
 {
     push_items(flat, inner.items.as_slice())?;
-    push_params(flat, &inner.params)
+    push_params(flat, Role::InnerParameter, &inner.params)
 }
 
 /// An Inner List.
@@ -305,7 +306,7 @@ fn push_inner(flat: &mut Flat, key: &[u8], inner: &Inner) -> Result<(), OutOfMem
 {
     let count = count_inside(inner)?;
     let span = one_more(count)?;
-    push_number(flat, 0, key, span, 0, 0)?;
+    push_number(flat, Role::Member, key, span, NodeType::InnerList, 0)?;
     push_inside(flat, inner)
 }
 
@@ -314,7 +315,7 @@ fn push_member(flat: &mut Flat, key: &[u8], member: &Member) -> Result<(), OutOf
     ensures { IfOk result (λ _. flat.new ≡ flat.old ++ told_member key.now member.now) }
 {
     match member {
-        Member::Item(item) => push_item(flat, 0, key, item),
+        Member::Item(item) => push_item(flat, Role::Member, key, item),
         Member::Inner(inner) => push_inner(flat, key, inner),
     }
 }
@@ -345,7 +346,7 @@ pub(crate) fn flatten(alloc: Global, field: &Field) -> Result<Flat, OutOfMemory>
 {
     let mut flat = Flat::new(alloc);
     match field {
-        Field::Item(item) => push_item(&mut flat, 0, b"", item)?,
+        Field::Item(item) => push_item(&mut flat, Role::Member, b"", item)?,
         Field::List(list) => push_members(&mut flat, list.members.as_slice())?,
         Field::Dict(dict) => push_entries(&mut flat, &dict.members)?,
     }

@@ -124,29 +124,30 @@ pub const NOT_A_CACHE: u32 = 7;
 pub const INVALID: u32 = 8;
 
 // An `sf_kind`.
-pub const ITEM: u32 = 0;
-pub const LIST: u32 = 1;
-pub const DICT: u32 = 2;
+pub const ITEM: u32 = 1;
+pub const LIST: u32 = 2;
+pub const DICT: u32 = 3;
 
 // An `sf_dialect`.
-pub const RFC9651: u32 = 0;
-pub const RFC8941: u32 = 1;
+pub const RFC9651: u32 = 9651;
+pub const RFC8941: u32 = 8941;
 
 // An `sf_role`.
-pub const MEMBER: u32 = 0;
-pub const INNER_ITEM: u32 = 1;
-pub const PARAMETER: u32 = 2;
+pub const MEMBER: u32 = 11;
+pub const INNER_ITEM: u32 = 12;
+pub const PARAMETER: u32 = 13;
+pub const INNER_PARAMETER: u32 = 14;
 
 // An `sf_type`.
-pub const INNER_LIST: u32 = 0;
-pub const INTEGER: u32 = 1;
-pub const DECIMAL: u32 = 2;
-pub const STRING: u32 = 3;
-pub const TOKEN: u32 = 4;
-pub const BYTE_SEQUENCE: u32 = 5;
-pub const BOOLEAN: u32 = 6;
-pub const DATE: u32 = 7;
-pub const DISPLAY_STRING: u32 = 8;
+pub const INNER_LIST: u32 = 21;
+pub const INTEGER: u32 = 22;
+pub const DECIMAL: u32 = 23;
+pub const STRING: u32 = 24;
+pub const TOKEN: u32 = 25;
+pub const BYTE_SEQUENCE: u32 = 26;
+pub const BOOLEAN: u32 = 27;
+pub const DATE: u32 = 28;
+pub const DISPLAY_STRING: u32 = 29;
 
 // An `sf_outcome`.
 pub const UNSAID: u16 = 0;
