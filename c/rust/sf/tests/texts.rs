@@ -47,7 +47,7 @@ const PARTS: [&[u8]; 40] = [
     b"",
 ];
 
-// Numbers that look random and are the same in each run, by the multiplier of Knuth.s MMIX.
+// Numbers that look random and are the same in each run, by the multiplier of Knuth's MMIX.
 struct Numbers(u64);
 
 impl Numbers {
