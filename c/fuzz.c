@@ -120,6 +120,23 @@ static int same_piece(const uint8_t *a, size_t a_at, const uint8_t *b, size_t b_
   return length == 0 || memcmp(a + a_at, b + b_at, length) == 0;
 }
 
+static const uint8_t *place(const uint8_t *bytes, size_t at) {
+  return bytes == NULL ? NULL : bytes + at;
+}
+
+/* Each parameter of a node is found by its key, and no other. */
+static void parameters_found(const value *v, size_t i) {
+  const sf_node *node = &v->nodes[i];
+  uint32_t role = node->type == SF_INNER_LIST ? SF_INNER_PARAMETER : SF_PARAMETER;
+  for (size_t k = 0; node->role != role && k < node->span; ++k) {
+    size_t index = SIZE_MAX;
+    if (node[k].role == role)
+      CHECK(sf_find(node, node->span, v->bytes, v->sizes.bytes, role,
+                    place(v->bytes, node[k].key_at), node[k].key_length, &index) == SF_OK &&
+            index == k);
+  }
+}
+
 /* The nodes nest, point into the bytes, and are those of another value. */
 static void same_nodes(const value *v, const value *w) {
   CHECK(v->sizes.nodes == w->sizes.nodes && v->sizes.bytes == w->sizes.bytes);
@@ -136,6 +153,11 @@ static void same_nodes(const value *v, const value *w) {
     CHECK(a->span == b->span);
     shape(a->role * 16 + a->type, i > 0 ? v->nodes[i - 1].type + 1 : 0, a->span < 8 ? a->span : 8);
     CHECK(a->key_length == b->key_length && a->text_length == b->text_length);
+    size_t index = SIZE_MAX;
+    CHECK(sf_find(v->nodes, v->sizes.nodes, v->bytes, v->sizes.bytes, a->role,
+                  place(v->bytes, a->key_at), a->key_length, &index) == SF_OK);
+    CHECK(a->role == SF_MEMBER && a->key_length > 0 ? index == i : index <= i);
+    parameters_found(v, i);
     CHECK(same_piece(v->bytes, a->key_at, w->bytes, b->key_at, a->key_length));
     CHECK(same_piece(v->bytes, a->text_at, w->bytes, b->text_at, a->text_length));
   }

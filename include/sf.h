@@ -74,7 +74,8 @@ typedef enum sf_status {
   SF_EMPTY = 5,          /* the field has no members */
   SF_BAD_CALL = 6,       /* no such kind or dialect, or a length greater than that of its buffer */
   SF_NOT_A_CACHE = 7,    /* a member of a Cache-Status List does not name a cache */
-  SF_INVALID = 8         /* what is to be written is not a value */
+  SF_INVALID = 8,        /* what is to be written is not a value */
+  SF_ABSENT = 9          /* no node has the key */
 } sf_status;
 
 /* Returns the name of a status, such as "SF_REFUSED", for messages; "SF_?" if there is no such
@@ -99,6 +100,8 @@ static inline const char *sf_status_name(uint32_t status) {
     return "SF_NOT_A_CACHE";
   case SF_INVALID:
     return "SF_INVALID";
+  case SF_ABSENT:
+    return "SF_ABSENT";
   default:
     return "SF_?";
   }
@@ -296,6 +299,21 @@ typedef struct sf_sizes {
 uint32_t sf_parse(const sf_seed *seed, uint32_t dialect, uint32_t kind, const void *text,
                   size_t text_length, sf_node *nodes, size_t nodes_room, void *bytes,
                   size_t bytes_room, sf_sizes *sizes, sf_refusal *refusal);
+
+/*
+ * Finds the first of the nodes_length nodes that has this role and this key. For a member of a
+ * Dictionary, pass all its nodes and SF_MEMBER; for a parameter of the Item or Inner List nodes[i],
+ * pass nodes + i and nodes[i].span, with SF_PARAMETER or SF_INNER_PARAMETER. In each of these there
+ * is at most one such node.
+ *
+ *   SF_OK      it is nodes[*index]
+ *   SF_ABSENT  there is none; *index is unchanged
+ *
+ * The nodes may be any; one whose key is not within the bytes_length bytes is not found. The call
+ * takes time in proportion to nodes_length. Does not allocate.
+ */
+uint32_t sf_find(const sf_node *nodes, size_t nodes_length, const void *bytes, size_t bytes_length,
+                 uint32_t role, const void *key, size_t key_length, size_t *index);
 
 /* The parameters of a Priority field (RFC 9218 section 4), with defaults for absent ones. */
 typedef struct sf_priority_flags {

@@ -242,7 +242,8 @@ static void macros(void) {
   CHECK(strcmp(sf_status_name(SF_BAD_CALL), "SF_BAD_CALL") == 0);
   CHECK(strcmp(sf_status_name(SF_NOT_A_CACHE), "SF_NOT_A_CACHE") == 0);
   CHECK(strcmp(sf_status_name(SF_INVALID), "SF_INVALID") == 0);
-  CHECK(strcmp(sf_status_name(SF_INVALID + 1), "SF_?") == 0);
+  CHECK(strcmp(sf_status_name(SF_ABSENT), "SF_ABSENT") == 0);
+  CHECK(strcmp(sf_status_name(SF_ABSENT + 1), "SF_?") == 0);
   CHECK(strcmp(sf_status_name(UINT32_MAX), "SF_?") == 0);
 
   about = "room";
@@ -582,6 +583,69 @@ static void refusals_in_words(void) {
   refusal.found = 0;
   WRITES(sf_refusal_text(&refusal, buffer, size, required),
          "byte 0x00 at place 0, expected 0x7f");
+}
+
+/* A node by its role and its key, among some of the nodes of a Dictionary. */
+static void finding(void) {
+  const char *about = "a=1, bb=(x;y z;y=2;bb);y=3;a, c;a=4, yy";
+  static const struct {
+    size_t from, count;
+    uint32_t role;
+    const char *key;
+    long index; /* -1: there is none */
+  } rows[] = {
+      {0, 12, SF_MEMBER, "a", 0},           {0, 12, SF_MEMBER, "bb", 1},
+      {0, 12, SF_MEMBER, "c", 9},           {0, 12, SF_MEMBER, "yy", 11},
+      {0, 12, SF_MEMBER, "y", -1},          {0, 12, SF_MEMBER, "b", -1},
+      {0, 12, SF_MEMBER, "bbb", -1},        {0, 12, SF_MEMBER, "", -1},
+      {1, 8, SF_INNER_PARAMETER, "y", 6},   {1, 8, SF_INNER_PARAMETER, "a", 7},
+      {1, 8, SF_INNER_PARAMETER, "bb", -1}, {1, 8, SF_PARAMETER, "y", 2},
+      {4, 3, SF_PARAMETER, "y", 1},         {4, 3, SF_PARAMETER, "bb", 2},
+      {9, 2, SF_PARAMETER, "a", 1},         {9, 2, SF_INNER_PARAMETER, "a", -1},
+      {0, 9, SF_MEMBER, "c", -1},           {0, 0, SF_MEMBER, "a", -1},
+      {0, 12, 0, "a", -1},                  {0, 12, SF_INNER_ITEM, "", 2},
+      {0, 12, UINT32_MAX, "a", -1},
+  };
+  uint32_t status;
+  sf_node parsed_nodes[12];
+  unsigned char parsed_bytes[40];
+  sf_sizes sizes;
+  sf_refusal refusal = untouched;
+  CALL(sf_parse(&seed, SF_RFC9651, SF_DICT, about, strlen(about), parsed_nodes, 12, parsed_bytes,
+                sizeof parsed_bytes, &sizes, &refusal));
+  CHECK(status == SF_OK && sizes.nodes == 12);
+  unsigned char *bytes = take_room(parsed_bytes, sizes.bytes);
+  for (size_t i = 0; i < sizeof rows / sizeof *rows; ++i) {
+    sf_node *nodes = take_room(parsed_nodes + rows[i].from, rows[i].count * sizeof *nodes);
+    size_t length = strlen(rows[i].key);
+    unsigned char *key = take_room(rows[i].key, length);
+    size_t *index = take_room(NULL, sizeof *index);
+    size_t before = *index;
+    CALL(sf_find(nodes, rows[i].count, bytes, sizes.bytes, rows[i].role, key, length, index));
+    CHECK(status == (rows[i].index < 0 ? SF_ABSENT : SF_OK));
+    CHECK(*index == (rows[i].index < 0 ? before : (size_t)rows[i].index));
+    give_room(index);
+    give_room(key);
+    give_room(nodes);
+  }
+
+  /* nodes of the caller's, whose keys are not there */
+  about = "keys past the bytes";
+  sf_node wild[3];
+  memset(wild, 0, sizeof wild);
+  for (size_t i = 0; i < 3; ++i)
+    wild[i].role = SF_MEMBER;
+  wild[0].key_at = SIZE_MAX;
+  wild[0].key_length = 1;
+  wild[1].key_at = sizes.bytes;
+  wild[1].key_length = SIZE_MAX;
+  wild[2].key_at = sizes.bytes;
+  size_t index = 4711;
+  CALL(sf_find(wild, 3, bytes, sizes.bytes, SF_MEMBER, "a", 1, &index));
+  CHECK(status == SF_ABSENT && index == 4711);
+  CALL(sf_find(wild, 3, bytes, sizes.bytes, SF_MEMBER, NULL, 0, &index));
+  CHECK(status == SF_OK && index == 2);
+  give_room(bytes);
 }
 
 /* What a node is to tell. */
@@ -1486,6 +1550,13 @@ static void want_of_memory(void) {
   sf_joined joined = {0, 0, 0};
   CALL(sf_join("a", 1, room, sizeof room, &joined));
   CHECK(status == SF_OK);
+  sf_node node;
+  memset(&node, 0, sizeof node);
+  node.role = SF_MEMBER;
+  node.key_length = 1;
+  size_t index = 4711;
+  CALL(sf_find(&node, 1, "a", 1, SF_MEMBER, "a", 1, &index));
+  CHECK(status == SF_OK && index == 0);
   sf_priority_flags sets = {1, 1, 1, 1};
   CALL(sf_priority_text(&sets, room, sizeof room, &wanted));
   CHECK(status == SF_OK && wanted == 6 && memcmp(room, "u=1, i", 6) == 0);
@@ -1502,6 +1573,7 @@ static void all(void) {
     comparing();
     refusals_in_words();
     nodes_of_values();
+    finding();
     priorities();
     priority_texts();
     policies();

@@ -14,6 +14,7 @@ pub mod Joining
 pub mod Tellings
 pub mod NodeTypes
 pub mod Nodes
+pub mod Finding
 pub mod Flattening
 pub mod Hops
 pub mod Paths

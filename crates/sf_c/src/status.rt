@@ -23,6 +23,8 @@ pub enum Status {
     NotACache,
     /// 8: what is to be written is no value.
     Invalid,
+    /// 9: no node has the key.
+    Absent,
 }
 
 impl Status {
@@ -40,6 +42,7 @@ impl Status {
             Status::BadCall => 6,
             Status::NotACache => 7,
             Status::Invalid => 8,
+            Status::Absent => 9,
         }
     }
 }
