@@ -122,6 +122,7 @@ pub const EMPTY: u32 = 5;
 pub const BAD_CALL: u32 = 6;
 pub const NOT_A_CACHE: u32 = 7;
 pub const INVALID: u32 = 8;
+pub const ABSENT: u32 = 9;
 
 // An `sf_kind`.
 pub const ITEM: u32 = 1;
@@ -225,6 +226,16 @@ extern "C" {
         bytes_room: usize,
         sizes: *mut Sizes,
         refusal: *mut Refusal,
+    ) -> u32;
+    pub fn sf_find(
+        nodes: *const Node,
+        nodes_length: usize,
+        bytes: *const c_void,
+        bytes_length: usize,
+        role: u32,
+        key: *const c_void,
+        key_length: usize,
+        index: *mut usize,
     ) -> u32;
     pub fn sf_priority(
         seed: *const [u8; 16],

@@ -1,0 +1,120 @@
+//! Texts put together at random, which no call may panic on, and on which the calls must agree.
+
+use sf::{
+    check, equal, normalise, Dictionary, Error, Field, Item, Kind, List, Parsed, Parser, Path,
+};
+
+const PARTS: [&[u8]; 40] = [
+    b"a",
+    b"*b",
+    b"u",
+    b"=",
+    b"1",
+    b"-0",
+    b"12.5",
+    b"1.",
+    b"999999999999999",
+    b";",
+    b",",
+    b" ",
+    b"  ",
+    b"\t",
+    b"(",
+    b")",
+    b"\"",
+    b"\"s\"",
+    b"\"\\\"\"",
+    b"\\",
+    b"tok/en",
+    b":",
+    b":YQ==:",
+    b":YQ:",
+    b"?",
+    b"?0",
+    b"?1",
+    b"@7",
+    b"@-1",
+    b"%\"%c3%bc\"",
+    b"%\"",
+    b"%\"%ff\"",
+    b"hit",
+    b"fwd=miss",
+    b"\0",
+    b"\x7f",
+    b"\xff",
+    b"max-age=60",
+    b"i",
+    b"",
+];
+
+// Numbers that look random and are the same in each run, by the multiplier of Knuth's MMIX.
+struct Numbers(u64);
+
+impl Numbers {
+    fn below(&mut self, bound: usize) -> usize {
+        self.0 = self
+            .0
+            .wrapping_mul(6_364_136_223_846_793_005)
+            .wrapping_add(1_442_695_040_888_963_407);
+        usize::try_from(self.0 >> 33).unwrap_or(0) % bound
+    }
+}
+
+fn agree<T>(kind: Kind, text: &[u8])
+where
+    T: Field + PartialEq + std::fmt::Debug,
+{
+    let parsed: Result<Parsed<T>, Error> = Parser::new().parse(text);
+    let checked = check(kind, text);
+    let tree = Parser::new().tree(kind, text);
+    let canonical = normalise(kind, text);
+    match parsed {
+        Ok(field) => {
+            assert!(checked.is_ok() && tree.is_ok());
+            let again = field.serialize().unwrap();
+            assert_eq!(Ok(&again), canonical.as_ref());
+            assert_eq!(field, Parser::new().parse(&again).unwrap());
+            assert_eq!(tree, Parser::new().tree(kind, &again));
+            assert_eq!(normalise(kind, &again).as_ref(), Ok(&again));
+            assert_eq!(equal(kind, text, &again), Ok(true));
+        }
+        Err(error) => {
+            assert_eq!(checked, Err(error));
+            assert_eq!(tree.unwrap_err(), error);
+            assert_eq!(canonical, Err(error));
+            let refusal = error.refusal().unwrap();
+            let offset = usize::try_from(refusal.offset).unwrap();
+            assert_eq!(refusal.found, text.get(offset).copied());
+            assert!(refusal.found.map_or(true, |byte| !refusal.expects(byte)));
+            let shown = refusal.in_text(text).to_string();
+            assert!(shown.starts_with(&refusal.to_string()) && shown.ends_with('^'));
+        }
+    }
+}
+
+#[test]
+fn any_text_is_parsed_or_refused() {
+    let mut numbers = Numbers(1);
+    let mut accepted = 0;
+    for _ in 0..4000 {
+        let mut text = Vec::new();
+        for _ in 0..numbers.below(9) {
+            text.extend_from_slice(PARTS[numbers.below(PARTS.len())]);
+        }
+        agree::<Item>(Kind::Item, &text);
+        agree::<List>(Kind::List, &text);
+        agree::<Dictionary>(Kind::Dict, &text);
+        accepted += usize::from(check(Kind::List, &text).is_ok());
+        match Path::parse(&text) {
+            Ok(path) => {
+                let lines: Vec<_> = path.hops().map(|hop| hop.serialize().unwrap()).collect();
+                assert_eq!(Path::parse(sf::join(&lines).unwrap()), Ok(path));
+            }
+            Err(error) => assert_eq!(
+                check(Kind::List, &text).is_ok(),
+                matches!(error, Error::NotACache(_))
+            ),
+        }
+    }
+    assert!(accepted > 100, "{accepted}");
+}
