@@ -2,7 +2,9 @@
 -- lines of heads, and last what is printed of them and what a run reads and writes.
 pub mod Registry
 pub mod Settings
+pub mod Options
 pub mod Head
 pub mod Marks
+pub mod Meanings
 pub mod Report
 pub mod Run

@@ -16,6 +16,7 @@ use Rattle.sf_lint.specs.declared.settings.FieldType.{FieldType}
 use Rattle.sf_lint.specs.declared.settings.Settings.{Settings}
 use Rattle.sf_lint.specs.Head.{IsRepeated, line_of, message_from, values_in}
 use Rattle.sf_lint.specs.Marks.{mark_in}
+use Rattle.sf_lint.specs.Meanings.{meaning_of}
 use Rattle.sf_lint.specs.Settings.{type_of}
 
 -- what is printed unless only refusals are
@@ -25,6 +26,11 @@ shown settings text = if settings.quiet then [] else text
 -- a field that is accepted: its name, and the canonical text of its value
 abbrev pub accepted_text : List ℕ → Value → List ℕ
 accepted_text name v = codes "ok " ++ (name ++ (codes ": " ++ (canon v ++ codes "\n")))
+
+-- a field of which a member names no cache, where each has to
+abbrev pub no_cache_text : List ℕ → ℕ → List ℕ
+no_cache_text name index =
+    codes "refused " ++ (name ++ (codes ": member " ++ (decimal index ++ codes " names no cache\n")))
 
 -- where a field is refused, whose message has these lines from the n-th on
 abbrev pub mark_of : ℕ → List ℕ → List (List ℕ) → Refusal → Option LinePlace
@@ -53,10 +59,16 @@ others_text n = codes "other fields: " ++ (decimal n ++ codes "\n")
 abbrev pub IsTold : List ℕ → Bool → ℕ → List ℕ → Bool → ℕ → Type 0
 IsTold text refused others t r o = (t ≡ text) × (r ≡ refused) × (o ≡ others)
 
+-- a field has this value and this meaning: its canonical text and the lines of its meaning are told;
+-- or that a member names no cache
+abbrev pub TellsValue : Settings → List ℕ → Value → Result (List ℕ) ℕ → List ℕ → Bool → ℕ → Type 0
+TellsValue s name v (Ok text) = IsTold (shown s (accepted_text name v ++ text)) false 0
+TellsValue s name v (Err index) = IsTold (no_cache_text name index) true 0
+
 -- the values of a field are parsed so
 abbrev pub TellsParsed : Settings → List ℕ → ℕ → List (List ℕ) → Result Value Refusal
     → List ℕ → Bool → ℕ → Type 0
-TellsParsed s name n lines (Ok v) = IsTold (shown s (accepted_text name v)) false 0
+TellsParsed s name n lines (Ok v) = TellsValue s name v (meaning_of name v)
 TellsParsed s name n lines (Err r) = IsTold (refused_text n name lines r) true 0
 
 -- a structured field, of which the first line is the n-th of the input and the first of these lines

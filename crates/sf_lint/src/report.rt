@@ -7,15 +7,18 @@ ghost use Rattle.sf_value.specs.declared.value.Field.{Field};
 ghost use Rattle.std.specs.List.{before_first};
 ghost use Rattle.sf_lint.specs.Head.{IsRepeated, is_start as is_start_in, values_in};
 ghost use Rattle.sf_lint.specs.Report.{TellsLine, TellsField, Tells, Reports, shown as shown_in};
+ghost use Rattle.sf_lint.specs.Meanings.{meaning_of};
+ghost use Rattle.sf_lint.specs.Report.{no_cache_text, TellsValue};
 ghost use Rattle.sf_lint.specs.Report.{accepted_text, refused_text, others_text, bad_line_text};
 ghost use Rattle.sf_lint.specs.Head.{line_of};
 ghost use Rattle.sf_lint.specs.declared.head.Line.TheVariants as line;
 
 use crate::head::{Line, is_named, is_start, read_line, split_lines, value_of};
 use crate::marking::find_mark;
+use crate::meaning::meaning;
 use crate::settings::{FieldType, Settings, type_of};
 use http_header::HeaderName;
-use sf_field::parse_from;
+use sf_field::{UseFault, parse_from};
 use sf_parse::{InLine, Refusal};
 use sf_value::{Field, OutOfMemory, is_visible};
 use sf_write::display;
@@ -101,12 +104,51 @@ fn values<'a>(alloc: Global, name: &[u8], lines: &[&'a [u8]]) -> Result<Vec<&'a 
 }
 
 /// Returns the text for a field that is accepted.
-fn accepted(alloc: Global, name: &str, field: Field) -> Result<Vec<u8>, OutOfMemory>
-    ensures { IfOk result (λ text. text.items ≡ accepted_text name.now field) }
+fn accepted(alloc: Global, name: &str, field: &Field) -> Result<Vec<u8>, OutOfMemory>
+    ensures { IfOk result (λ text. text.items ≡ accepted_text name.now field.now) }
 {
-    let text = format!(in alloc; "ok {name}: {}\n", display(&field))?;
-    drop(field);
+    let text = format!(in alloc; "ok {name}: {}\n", display(field))?;
     Ok(text.into_bytes())
+}
+
+/// Returns the text for a field of which a member names no cache.
+fn without_cache(alloc: Global, name: &str, index: usize) -> Result<Vec<u8>, OutOfMemory>
+    ensures { IfOk result (λ text. text.items ≡ no_cache_text name.now index) }
+{
+    let text = format!(in alloc; "refused {name}: member {index} names no cache\n")?;
+    Ok(text.into_bytes())
+}
+
+/// Tells of a field that has a value: its canonical text, and what it means.
+fn tell_value(
+    alloc: Global,
+    settings: &Settings,
+    name: &str,
+    field: &Field,
+) -> Result<Told, OutOfMemory>
+    ensures told { IfOk result (λ told. TellsValue settings.now name.now field.now
+        (meaning_of name.now field.now) told.text.items told.refused told.others) }
+    ensures few { IfOk result (λ told. told.others ≤ 1) }
+{
+    match meaning(alloc, name, field) {
+        Ok(lines) => {
+            let mut text = accepted(alloc, name, field)?;
+            text.extend_from_slice(lines.as_slice())?;
+            return Ok(Told {
+                text: shown(alloc, settings, text),
+                refused: false,
+                others: 0,
+            });
+        }
+        Err(UseFault::NotACache { index }) => {
+            return Ok(Told {
+                text: without_cache(alloc, name, index)?,
+                refused: true,
+                others: 0,
+            });
+        }
+        Err(UseFault::OutOfMemory) => return Err(OutOfMemory),
+    }
 }
 
 /// Returns the text for a field that is refused; the lines of its message from its first one on are
@@ -158,12 +200,9 @@ fn tell_field(
     );
     match parsed {
         Ok(field) => {
-            let text = accepted(alloc, name, field)?;
-            return Ok(Told {
-                text: shown(alloc, settings, text),
-                refused: false,
-                others: 0,
-            });
+            let told = tell_value(alloc, settings, name, &field);
+            drop(field);
+            return told;
         }
         Err(Refusal::OutOfMemory) => return Err(OutOfMemory),
         Err(refusal) => {

@@ -49,7 +49,7 @@ fn custom_kind(fields: &[CustomField], name: &HeaderName) -> Option<Kind>
 
 /// Whether the name is that of a targeted cache control field (RFC 9213): it ends in
 /// `-cache-control`.
-fn is_targeted(name: &[u8]) -> bool
+pub(crate) fn is_targeted(name: &[u8]) -> bool
     ensures { result ≡ is_targeted_in name.now }
 {
     name.ends_with(b"-cache-control")

@@ -31,7 +31,7 @@ fn heads(rt: HostRuntime) -> Result<(), Fail> {
         (b"", b"other fields: 0\n", Status::Accepted),
         (
             b"HTTP/2 200 \r\ncache-status: OriginCache; hit; ttl=1100\r\npriority: u=1,i\r\nserver: x\r\n\r\n",
-            b"HTTP/2 200 \nok cache-status: OriginCache;hit;ttl=1100\nok priority: u=1, i\nother fields: 1\n",
+            b"HTTP/2 200 \nok cache-status: OriginCache;hit;ttl=1100\nhop 0 OriginCache hit ttl=1100\nserved 0\nok priority: u=1, i\nurgency 1 incremental true\nother fields: 1\n",
             Status::Accepted,
         ),
         (
@@ -50,12 +50,12 @@ fn heads(rt: HostRuntime) -> Result<(), Fail> {
         ),
         (
             b"GET /a:b HTTP/1.1\nPriority: u=1\n\nHTTP/1.1 200 OK\npriority: i\nPRIORITY: u=2\n",
-            b"GET /a:b HTTP/1.1\nok priority: u=1\nHTTP/1.1 200 OK\nok priority: i, u=2\nother fields: 0\n",
+            b"GET /a:b HTTP/1.1\nok priority: u=1\nurgency 1 incremental false\nHTTP/1.1 200 OK\nok priority: i, u=2\nurgency 2 incremental true\nother fields: 0\n",
             Status::Accepted,
         ),
         (
             b"Example-CDN-Cache-Control: max-age=60\nDeprecation: @1688169599\nSec-GPC: @1\n",
-            b"ok example-cdn-cache-control: max-age=60\nok deprecation: @1688169599\n\
+            b"ok example-cdn-cache-control: max-age=60\nlifetime shared 60\nlifetime private 60\nok deprecation: @1688169599\n\
               refused sec-gpc: byte 0x40 '@' at place 0, expected \
               a letter, a digit, a quote, `*`, `-`, `:`, `?` or a space\n\
               line 3, place 9:\nSec-GPC: @1\n         ^\nother fields: 0\n",

@@ -1,6 +1,8 @@
 //! Tests of `sf_lint`. It has tests alone: `heads` for inputs of [`sf_lint::run`] whose answer is
-//! known.
+//! known, and `words` for the words of the command line.
 #![tactic(auto)]
 
 #[cfg(test)]
 mod heads;
+#[cfg(test)]
+mod words;

@@ -43,7 +43,7 @@ fn put_flags<W: Sink>(policy: &Policy, before: Sent, out: &mut W) -> Sent
 }
 
 /// Writes the lines of a policy: its lifetimes, then the directives that are set.
-fn put_policy<W: Sink>(policy: &Policy, before: Sent, out: &mut W) -> Sent
+pub fn put_policy<W: Sink>(policy: &Policy, before: Sent, out: &mut W) -> Sent
     ensures { Follows W.state W.send_gives out.old out.new before result (policy_lines policy.now) }
 {
     let sent = put(b"lifetime shared ", before, out);

@@ -20,7 +20,10 @@ mod status;
 mod tree;
 
 pub use answering::{answer_made, answer_too_long};
+pub use choice::put_policy;
 pub use cutting::{split_at_first, split_line, trimmed, without_lead};
+pub use path::put_path;
+pub use priority::put_priority;
 pub use reading::{ReadAllFault, read_all};
 pub use request::{MAX_NAMES, Request, RequestFault, read_request};
 pub use running::{INPUT_LIMIT, run};

@@ -157,7 +157,7 @@ fn put_served<W: Sink>(served: Option<usize>, before: Sent, out: &mut W) -> Sent
 }
 
 /// Writes the lines of a path.
-pub(crate) fn put_path<W: Sink>(path: &CachePath, before: Sent, out: &mut W) -> Sent
+pub fn put_path<W: Sink>(path: &CachePath, before: Sent, out: &mut W) -> Sent
     ensures { Follows W.state W.send_gives out.old out.new before result (path_lines path.now) }
 {
     let sent = put_hops(path.hops(), before, out);

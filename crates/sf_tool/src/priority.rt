@@ -21,7 +21,7 @@ fn put_incremental<W: Sink>(incremental: bool, before: Sent, out: &mut W) -> Sen
 }
 
 /// Writes the line of a priority.
-pub(crate) fn put_priority<W: Sink>(priority: Priority, before: Sent, out: &mut W) -> Sent
+pub fn put_priority<W: Sink>(priority: Priority, before: Sent, out: &mut W) -> Sent
     ensures { Follows W.state W.send_gives out.old out.new before result (priority_line priority) }
 {
     let sent = put(b"urgency ", before, out);

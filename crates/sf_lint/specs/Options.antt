@@ -1,0 +1,131 @@
+-- The words of the command line, as clap reads them.
+use Rattle.std.specs.Prelude.{◌≡◌, Bool, true, false, ℕ, List, [], ◌∷◌, map, codes, Option}
+use Rattle.std.specs.Prelude.{Some, None, if◌then◌else◌, ⊤}
+use Rattle.std.specs.List.{after_first}
+use Rattle.std.specs.Option.{option_map}
+use Rattle.std.specs.Str.{bytes_eq}
+use Rattle.clap.specs.Faults.{fault_of}
+use Rattle.clap.specs.Kinds.{IsAmong}
+use Rattle.clap.specs.Simple.{App, matches_of, new_rule, new_shape}
+use Rattle.clap.specs.Walk.{Row, Rule, Text, all_of, first_of}
+use Rattle.clap.specs.declared.builder.action.ArgAction.TheVariants.{Append, SetTrue}
+use Rattle.clap.specs.declared.error.kind.ErrorKind.TheVariants.{DisplayHelp, DisplayVersion}
+use Rattle.sf_value.specs.declared.value.Kind.{Kind}
+use Rattle.sf_value.specs.declared.value.Kind.TheVariants as kind
+use Rattle.sf_tool.specs.Fields.{is_colon, has_name, name_of}
+use Rattle.sf_tool.specs.declared.status.Status.{Status}
+use Rattle.sf_tool.specs.declared.status.Status.TheVariants as status
+use Rattle.sf_lint.specs.declared.settings.CustomField.{CustomField}
+use Rattle.sf_lint.specs.declared.settings.Settings.{Settings}
+use Rattle.sf_lint.specs.declared.options.OptionsFault.{OptionsFault}
+use Rattle.sf_lint.specs.declared.options.OptionsFault.TheVariants.{Usage, Help, Version}
+use Rattle.sf_lint.specs.declared.options.OptionsFault.TheVariants.{OutOfMemory}
+
+-- `--field`, any number of times
+abbrev pub field_option : Rule
+field_option =
+    record (new_rule (codes "field")) { long = Some (codes "field"); action = Some Append }
+
+-- `--quiet`
+abbrev pub quiet_option : Rule
+quiet_option =
+    record (new_rule (codes "quiet")) { long = Some (codes "quiet"); action = Some SetTrue }
+
+-- the program
+abbrev pub command_line : App
+command_line = record {
+  top = record (new_shape (codes "sflint")) {
+    rules = field_option ∷ quiet_option ∷ [];
+    has_version = true;
+  };
+  subs = [];
+}
+
+-- the kind that a word names
+abbrev pub kind_named : Text → Option Kind
+kind_named word =
+    if bytes_eq word (codes "item") then Some kind.Item
+    else if bytes_eq word (codes "list") then Some kind.List
+    else if bytes_eq word (codes "dict") then Some kind.Dict
+    else None
+
+abbrev pub field_with : Text → Kind → CustomField
+field_with name kind = record { name = name; kind = kind }
+
+-- the field of a word: a header name in any case, a colon and a kind
+abbrev pub custom_of : Text → Option CustomField
+custom_of word =
+    if has_name word then option_map (field_with (name_of word)) (kind_named (after_first is_colon word))
+    else None
+
+-- each word names its field
+abbrev pub AreFields : List Text → List CustomField → Type 0
+AreFields words fields = map custom_of words ≡ map Some fields
+
+-- a flag that is given has the value `true`
+abbrev pub is_true : Option Text → Bool
+is_true None = false
+is_true (Some word) = bytes_eq word (codes "true")
+
+abbrev pub is_quiet : List Row → Bool
+is_quiet rows = is_true (first_of (codes "quiet") rows)
+
+-- the words of `--field`
+abbrev pub field_words : Option (List Text) → List Text
+field_words None = []
+field_words (Some words) = words
+
+-- what was given makes these settings
+abbrev pub AreGiven : List Row → Settings → Type 0
+AreGiven rows settings =
+    AreFields (field_words (all_of (codes "field") rows)) settings.fields.items
+    × (settings.quiet ≡ is_quiet rows)
+
+-- clap finds no fault in the words, and what it finds in them makes the settings
+abbrev pub AreSettingsOf : List Text → Settings → Type 0
+AreSettingsOf words settings =
+    (fault_of command_line words ≡ []) × AreGiven (matches_of command_line words) settings
+
+-- a fault is Usage only where the words make no settings, and Help or Version only where they ask
+-- for it; of want of memory nothing is told
+abbrev pub IsFaultOf : List Text → OptionsFault → Type 0
+IsFaultOf words Usage = (settings : Settings) → ¬ (AreSettingsOf words settings)
+IsFaultOf words Help = IsAmong DisplayHelp (fault_of command_line words)
+IsFaultOf words Version = IsAmong DisplayVersion (fault_of command_line words)
+IsFaultOf words OutOfMemory = ⊤
+
+-- the same of what was given
+abbrev pub IsGivenFault : List Row → OptionsFault → Type 0
+IsGivenFault rows Usage = (settings : Settings) → ¬ (AreGiven rows settings)
+IsGivenFault rows Help = ⊥
+IsGivenFault rows Version = ⊥
+IsGivenFault rows OutOfMemory = ⊤
+
+-- the same of the words of `--field`
+abbrev pub IsFieldsFault : List Text → OptionsFault → Type 0
+IsFieldsFault words Usage = (fields : List CustomField) → ¬ (AreFields words fields)
+IsFieldsFault words Help = ⊥
+IsFieldsFault words Version = ⊥
+IsFieldsFault words OutOfMemory = ⊤
+
+-- how the command ends
+abbrev pub fault_status : OptionsFault → Status
+fault_status Usage = status.Usage
+fault_status Help = status.Accepted
+fault_status Version = status.Accepted
+fault_status OutOfMemory = status.Stopped
+
+-- what stands on standard output
+abbrev pub fault_text : OptionsFault → Option (List ℕ)
+fault_text Usage = None
+fault_text Help = Some (codes "usage: sflint [--field NAME:item|list|dict].. [--quiet]\n\nReads the heads of HTTP messages from standard input, as curl -sI prints them, and\nshows each structured field: its canonical text and its meaning, or why it is refused.\n\n  --field NAME:KIND  a field that is not registered, with its kind: item, list or dict\n  --quiet            show only what is refused\n  --help             show this help\n  --version          show the version\n\nThe status is 0 if everything is accepted, 1 if something is refused, 2 if the arguments\nare wrong, and 3 if an allocation or a device fails.\n")
+fault_text Version = Some (codes "sflint 0.1.0\n")
+fault_text OutOfMemory = None
+
+-- what stands on standard error, in a line
+abbrev pub fault_line : Status → Option (List ℕ)
+fault_line status.Accepted = None
+fault_line status.Refused = None
+fault_line status.Usage =
+    Some (codes "sflint: usage: sflint [--field NAME:item|list|dict].. [--quiet]; or --help")
+fault_line status.Stopped = Some (codes "sflint: out of memory or a device failed")
