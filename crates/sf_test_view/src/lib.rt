@@ -3,4 +3,6 @@
 #![tactic(auto)]
 
 #[cfg(test)]
+mod trees;
+#[cfg(test)]
 mod views;

@@ -1,5 +1,5 @@
 -- The bytes of Strings, Byte Sequences and Display Strings, read from their text.
-use Rattle.std.specs.Prelude.{◌≡◌, ℕ, ◌<◌, List, [], ◌∷◌, ◌++◌, ◌⊎◌}
+use Rattle.std.specs.Prelude.{◌≡◌, ℕ, ◌<◌, List, [], ◌∷◌, ◌++◌, ◌⊎◌, Option, Some, None}
 use Rattle.sf_value.specs.Ascii.{quote}
 use Rattle.sf_value.specs.declared.dialect.Dialect.{Dialect}
 use Rattle.sf_value.specs.declared.value.Bare.TheVariants.{Text, Blob, Shown}
@@ -35,6 +35,12 @@ pub record TakesByte (b : ℕ) (P : List ℕ → Type 0) (s : List ℕ) : Type 0
   pub left : List ℕ
   pub split : s ≡ b ∷ left
   pub remains : P left
+
+-- the first of the bytes that a text spells, if there is one, and how another spells those behind it
+abbrev pub GivesByte : Coding → List ℕ → Option ℕ → Coding → List ℕ → Type 0
+GivesByte c rest None c' rest' = (s : List ℕ) → Remains c rest s → s ≡ []
+GivesByte c rest (Some b) c' rest' =
+    (s : List ℕ) → Remains c rest s → TakesByte b (Remains c' rest') s
 
 -- the text is empty, or begins with no character of base64
 abbrev pub NoLetter : List ℕ → Type 0

@@ -9,6 +9,9 @@ use crate::display_string::scan_shown;
 use crate::node::NodeType;
 use sf_value::Dialect;
 
+/// The most digits of a Decimal before its point (RFC 9651 section 3.3.2).
+const WHOLE_DIGITS: usize = 12;
+
 /// What a bare item is.
 #[derive(Clone, Copy, Drop)]
 pub(crate) struct Part {
@@ -154,7 +157,7 @@ fn scan_number(text: &[u8]) -> Option<(Part, &[u8])>
             rest,
         ));
     };
-    if count > 12 {
+    if count > WHOLE_DIGITS {
         return None;
     }
     let (thousandths, left) = fraction(after_point)?;

@@ -1,11 +1,12 @@
 //! The bytes of Strings, Byte Sequences and Display Strings, read from their text.
+ghost use Rattle.std.specs.Iterator.{at_most};
 ghost use Rattle.std.specs.Prelude.{◌≡◌, ◌++◌, ◌∷◌, [], ◌≤◌, ◌<◌, ◌/◌, ◌%◌, ℕ, List, length, take, IfSome, IfNone};
 ghost use Rattle.sf_value.specs.declared.dialect.Dialect.{Dialect as Which};
 ghost use Rattle.sf_parse.specs.Machine.Blobs.{sextet as sextet_of};
 ghost use Rattle.sf_view.specs.declared.bytes.Coding.TheVariants as coding_is;
 ghost use Rattle.sf_value.specs.Grammar.ByteSequences.{letter};
 ghost use Rattle.sf_value.specs.Grammar.DisplayStrings.{hex};
-ghost use Rattle.sf_view.specs.Decoding.{HasBytes, Remains, TakesByte, NoLetter};
+ghost use Rattle.sf_view.specs.Decoding.{HasBytes, Remains, TakesByte, GivesByte, NoLetter};
 
 use crate::display_string::unhex;
 use crate::view::Slice;
@@ -86,6 +87,24 @@ impl<'a> Slice<'a> {
         };
         let (front, _) = buffer.split_at(count);
         Some(front)
+    }
+}
+
+impl Iterator for Bytes<'_> {
+    type Item = u8;
+
+    ghost next_gives = { λ old byte new.
+        GivesByte old.coding old.rest.now byte new.coding new.rest.now };
+
+    ghost remaining = { λ bytes. at_most (length bytes.rest.now) };
+
+    fn next(&mut self) -> Option<u8> {
+        let Some((byte, coding, rest)) = take_byte(self.coding, self.rest) else {
+            return None;
+        };
+        self.coding = coding;
+        self.rest = rest;
+        Some(byte)
     }
 }
 
