@@ -4,7 +4,7 @@ ghost use Rattle.sf_value.specs.declared.value.Field.TheVariants as field_is;
 ghost use Rattle.sf_value.specs.declared.value.Kind.TheVariants as kind_is;
 ghost use Rattle.std.specs.Prelude.{◌≡◌, ℕ, List as Seq, [], ◌∷◌, IfErr};
 ghost use Rattle.sf_value.specs.Grammar.Words.{Every};
-ghost use Rattle.sf_parse.specs.AllocationFree.{number_byte};
+ghost use Rattle.sf_parse.specs.AllocationFree.{scalar_byte};
 ghost use Rattle.sf_parse.specs.AllocationFreeParsers.{IsOther};
 ghost use Rattle.sf_parse.specs.Parsers.{Makes};
 ghost use Rattle.sf_field.specs.Lines.{ParsesLines};
@@ -16,7 +16,7 @@ use std::alloc::Global;
 use std::hash::RandomState;
 
 /// Parses the lines as an Item, as [`crate::parse_lines`] does. Parsing a single line of spaces,
-/// `-` and digits does not allocate.
+/// digits and `-.?@` does not allocate.
 ///
 /// ```
 /// let item = parse_item_lines(alloc, &seed, lines.as_slice())?;
@@ -25,8 +25,8 @@ pub fn parse_item_lines(alloc: Global, seed: &RandomState, lines: &[Blob]) -> Re
     // The joined lines spell this Item and no other value, or this is their exact refusal, or an
     // allocation failed.
     ensures parses { Makes field_is.Item (ParsesLines Rfc9651 kind_is.Item lines.now) result }
-    // Parsing a single line of spaces, `-` and digits does not allocate.
-    ensures allocation_free { (line : Seq ℕ) → lines.now ≡ line ∷ [] → Every number_byte line
+    // Parsing a single line of spaces, digits and `-.?@` does not allocate.
+    ensures allocation_free { (line : Seq ℕ) → lines.now ≡ line ∷ [] → Every scalar_byte line
         → IfErr result IsOther }
 {
     match parse_lines(alloc, seed, Kind::Item, lines)? {

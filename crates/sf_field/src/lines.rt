@@ -7,7 +7,7 @@ ghost use Rattle.sf_value.specs.Grammar.Words.{Every};
 ghost use Rattle.sf_value.specs.declared.dialect.Dialect.TheVariants.{Rfc9651};
 ghost use Rattle.sf_value.specs.declared.value.Kind.TheVariants as kind_is;
 ghost use Rattle.sf_parse.specs.Parsers.{Fed};
-ghost use Rattle.sf_parse.specs.AllocationFree.{number_byte};
+ghost use Rattle.sf_parse.specs.AllocationFree.{scalar_byte};
 ghost use Rattle.sf_parse.specs.AllocationFreeParsers.{IsAllocationFree, KeptAllocationFree};
 ghost use Rattle.sf_parse.specs.AllocationFreeParsers.{NotForMemory};
 ghost use Rattle.sf_field.specs.Lines.{ParsesLines};
@@ -80,9 +80,9 @@ pub fn parse_from<'a, L: FieldLines<'a>>(
     // The joined lines spell this value and no other, or this is their exact refusal, or an
     // allocation failed.
     ensures parses { ParsesLines dialect kind (L.lines lines) result }
-    // Parsing a single line of spaces, `-` and digits does not allocate.
+    // Parsing a single line of spaces, digits and `-.?@` does not allocate.
     ensures allocation_free { kind ≡ kind_is.Item → (line : List ℕ) → L.lines lines ≡ line ∷ []
-        → Every number_byte line → NotForMemory result }
+        → Every scalar_byte line → NotForMemory result }
 {
     let mut parser = Parser::new_in(alloc, seed, dialect, kind, u64::MAX);
     feed_lines(&mut parser, lines)?;
@@ -104,9 +104,9 @@ pub fn parse_lines_in(
     // The joined lines spell this value and no other, or this is their exact refusal, or an
     // allocation failed.
     ensures parses { ParsesLines dialect kind lines.now result }
-    // Parsing a single line of spaces, `-` and digits does not allocate.
+    // Parsing a single line of spaces, digits and `-.?@` does not allocate.
     ensures allocation_free { kind ≡ kind_is.Item → (line : List ℕ) → lines.now ≡ line ∷ []
-        → Every number_byte line → NotForMemory result }
+        → Every scalar_byte line → NotForMemory result }
 {
     parse_from(alloc, seed, dialect, kind, lines.iter())
 }
@@ -125,9 +125,9 @@ pub fn parse_lines(
     // The joined lines spell this value and no other, or this is their exact refusal, or an
     // allocation failed.
     ensures parses { ParsesLines Rfc9651 kind lines.now result }
-    // Parsing a single line of spaces, `-` and digits does not allocate.
+    // Parsing a single line of spaces, digits and `-.?@` does not allocate.
     ensures allocation_free { kind ≡ kind_is.Item → (line : List ℕ) → lines.now ≡ line ∷ []
-        → Every number_byte line → NotForMemory result }
+        → Every scalar_byte line → NotForMemory result }
 {
     parse_from(alloc, seed, Dialect::Rfc9651, kind, lines.iter())
 }
@@ -160,9 +160,9 @@ fn feed_lines<'a, L: FieldLines<'a>>(parser: &mut Parser, mut lines: L) -> Resul
     requires { parser.old.after_line ≡ false }
     // The joined text is fed; a refusal holds whatever text comes after it.
     ensures fed { Fed parser.old parser.new result (join (L.lines lines)) }
-    // A parser that has not allocated stays so over a single line of spaces, `-` and digits.
+    // A parser that has not allocated stays so over a single line of spaces, digits and `-.?@`.
     ensures allocation_free { IsAllocationFree parser.old → (line : List ℕ)
-        → L.lines lines ≡ line ∷ [] → Every number_byte line
+        → L.lines lines ≡ line ∷ [] → Every scalar_byte line
         → KeptAllocationFree parser.new result }
 {
     // A parser that refused before does so again, also if there is no line.

@@ -11,7 +11,7 @@ use Rattle.sf_parse.specs.Machine.States.{State}
 use Rattle.sf_parse.specs.Machine.Language.{run}
 use Rattle.sf_parse.specs.Machine.Fields.{Residual, step}
 use Rattle.sf_parse.specs.Parsers.{Progress, Took, Sound, RefusedFor, SameSettings, Fed}
-use Rattle.sf_parse.specs.AllocationFree.{number_byte}
+use Rattle.sf_parse.specs.AllocationFree.{scalar_byte}
 use Rattle.sf_parse.specs.AllocationFreeParsers.{AllocationFreeState}
 use Rattle.sf_parse.specs.Prefixes.{LongestPrefix, Went}
 use Rattle.sf_parse.specs.Feeding.{FedTo}
@@ -85,9 +85,9 @@ fed_taken p q chunk rest g h a same c r =
 
 pub allocation_free_taken : (d : Dialect) (s u : State) (chunk rest : List ℕ)
     → AllocationFreeState s
-    → Every number_byte chunk → LongestPrefix (step d) s chunk rest u → AllocationFreeState u
+    → Every scalar_byte chunk → LongestPrefix (step d) s chunk rest u → AllocationFreeState u
 allocation_free_taken d s u chunk rest h w a =
-    kept_by_prefix (step d) AllocationFreeState number_byte (allocation_free_step d) s u chunk rest
+    kept_by_prefix (step d) AllocationFreeState scalar_byte (allocation_free_step d) s u chunk rest
     h w a.went
 
 at_seam : (xs : List ℕ) (b : ℕ) (more : List ℕ) → get_or (xs ++ b ∷ more) (length xs) 0 ≡ b

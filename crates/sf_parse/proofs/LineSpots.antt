@@ -1,13 +1,13 @@
 -- Each place of joined lines is at a spot.
-use Rattle.std.proofs.Common.{◌≡◌, ℕ, zero, suc, ◌+◌, ◌-◌, ◌<◌, ◌≤◌, ◌⊎◌, inl, inr, true, false}
-use Rattle.std.proofs.Common.{List, [], ◌∷◌, ◌++◌, length, min, Option, None, Some, refl, sym, ap}
+use Rattle.std.proofs.Common.{◌≡◌, ℕ, zero, suc, ◌-◌, ◌<◌, ◌≤◌, ◌⊎◌, inl, inr}
+use Rattle.std.proofs.Common.{List, [], ◌∷◌, ◌++◌, length, min, Option, None, Some, refl, ap}
 use Rattle.std.proofs.Common.{arith, rules, ◌∙◌}
 use Rattle.std.specs.Prelude.{nat_lt, slice_get, MatchOption}
 use Rattle.std.proofs.lemmas.Bool.{cases_Bool}
 use Rattle.std.proofs.lemmas.Option.{slice_get_past}
 use Rattle.sf_value.specs.Ascii.{comma, space}
 use Rattle.sf_value.specs.Grammar.Lines.{join}
-use Rattle.sf_parse.specs.Spots.{LinePlace, place_in, IsSpot, IsBehindLine, PlacesAreSpots}
+use Rattle.sf_parse.specs.Spots.{LinePlace, place_in, IsSpot, PlacesAreSpots}
 
 get_left : (xs ys : List ℕ) (i : ℕ) → i < length xs → slice_get (xs ++ ys) i ≡ slice_get xs i
 get_left [] ys i h = absurd (let n : ⊥ = omega arith in n)

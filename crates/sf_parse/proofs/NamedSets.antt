@@ -1,5 +1,5 @@
 -- The names of a set stand for the set.
-use Rattle.std.proofs.Common.{◌≡◌, ◌≢◌, ℕ, zero, suc, ◌+◌, ◌-◌, ◌*◌, ◌/◌, ◌%◌, ◌^◌, ◌<◌, ◌≤◌, ◌⊎◌}
+use Rattle.std.proofs.Common.{◌≡◌, ◌≢◌, ℕ, zero, suc, ◌+◌, ◌-◌, ◌/◌, ◌%◌, ◌^◌, ◌<◌, ◌≤◌, ◌⊎◌}
 use Rattle.std.proofs.Common.{inl, inr, Bool, true, false, List, [], ◌∷◌, ◌++◌, bit_and, min}
 use Rattle.std.proofs.Common.{refl, sym, ap, subst, ◌∙◌, arith, rules}
 use Rattle.std.specs.Prelude.{◌==◌, ◌↔◌, nat_lt}
@@ -11,7 +11,7 @@ use lib.Bits.{and_le_l}
 use Rattle.sf_parse.specs.declared.names.Name.{Name}
 use Rattle.sf_parse.specs.declared.names.Name.TheVariants.{Byte}
 use Rattle.sf_parse.specs.ByteSets.{is_in}
-use Rattle.sf_parse.specs.Names.{name_at, set_of, fitting, names_of, end_name, IsNamed}
+use Rattle.sf_parse.specs.Names.{name_at, set_of, fitting, end_name, IsNamed}
 use Rattle.sf_parse.specs.Names.{NamesAreTheSet}
 
 -- the bits of a part, taken out of a whole that has them all

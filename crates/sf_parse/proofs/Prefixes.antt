@@ -287,3 +287,18 @@ pub push_tried : {S E : Type 0} (next : S → ℕ → Option S) (P : ℕ → Typ
     → IfOk r (λ took. LongestPrefix next s (b ∷ []) (unless took b) u)
 push_tried next P s t u b part (Ok took) w h f k = push_turn next P s t u b part took w h f k
 push_tried next P s t u b part (Err k) w h f e = e
+
+-- what holds of a state and the bytes to come, and with a byte less, holds behind those taken
+free_run : {S : Type 0} (next : S → ℕ → Option S) (free : S → List ℕ → Type 0)
+    → ((s t : S) (b : ℕ) (more : List ℕ) → free s (b ∷ more) → next s b ≡ Some t → free t more)
+    → (s t : S) (p rest : List ℕ) → free s (p ++ rest) → run next s p ≡ Some t → free t rest
+free_run next free keeps s t [] rest h e = let k : s ≡ t = cc in subst (λ y. free y rest) k h
+free_run next free keeps s t (b ∷ p) rest h e =
+    let c = and_then_cases (next s b) (λ s'. run next s' p) t e in
+    free_run next free keeps c.0 t p rest (keeps s c.0 b (p ++ rest) h c.1) c.2
+
+pub free_went : {S : Type 0} (next : S → ℕ → Option S) (free : S → List ℕ → Type 0)
+    → ((s t : S) (b : ℕ) (more : List ℕ) → free s (b ∷ more) → next s b ≡ Some t → free t more)
+    → (s t : S) (chunk rest : List ℕ) → free s chunk → Went next s chunk rest t → free t rest
+free_went next free keeps s t chunk rest h a =
+    free_run next free keeps s t a.taken rest (subst (free s) a.split h) a.leads

@@ -15,9 +15,9 @@ use Rattle.sf_parse.specs.declared.refusal.Refusal.TheVariants.{OutOfMemory, Syn
 use Rattle.sf_parse.specs.declared.refusal.Refusal.TheVariants.{ReadFault}
 use Rattle.sf_parse.specs.Machine.Fields.{begin}
 use Rattle.sf_parse.specs.Parsers.{Progress, Took, Fed, RefusedFor, Finishes}
-use Rattle.sf_parse.specs.AllocationFree.{number_byte}
+use Rattle.sf_parse.specs.AllocationFree.{scalar_byte}
 use Rattle.sf_parse.specs.AllocationFreeParsers.{IsAllocationFree, IsOther, NotForMemory}
-use Rattle.sf_parse.specs.Reading.{GaveAll, IsNumberText, Wanted, ReadAndParsed}
+use Rattle.sf_parse.specs.Reading.{GaveAll, IsScalarText, Wanted, ReadAndParsed}
 use Rattle.sf_parse.proofs.Reached.{reached_nothing, reached_viable}
 use Rattle.sf_value.proofs.Gives.{gave_none, gave_more}
 
@@ -33,7 +33,7 @@ pub record ReadSoFar (old now : SourceState) (kind : Kind) (max given : ℕ) (p 
   pub same_max : p.max ≡ max
   pub within : given ≤ max
   pub viable : Viable Rfc9651 kind text
-  pub allocation_free : IsNumberText kind text → IsAllocationFree p
+  pub allocation_free : IsScalarText kind text → IsAllocationFree p
 
 every_prefix : (t : ℕ → Bool) (a b : List ℕ) → Every t (a ++ b) → Every t a
 every_prefix t [] b h = tt
@@ -43,9 +43,9 @@ every_behind : (t : ℕ → Bool) (a b : List ℕ) → Every t (a ++ b) → Ever
 every_behind t [] b h = h
 every_behind t (x ∷ a) b h = every_behind t a b h.1
 
-allocation_free_prefix : (kind : Kind) (a b : List ℕ) → IsNumberText kind (a ++ b)
-    → IsNumberText kind a
-allocation_free_prefix kind a b h = (h.0, every_prefix number_byte a b h.1)
+allocation_free_prefix : (kind : Kind) (a b : List ℕ) → IsScalarText kind (a ++ b)
+    → IsScalarText kind a
+allocation_free_prefix kind a b h = (h.0, every_prefix scalar_byte a b h.1)
 
 pub reads_start : (s : SourceState) (kind : Kind) (max : ℕ) (p : Progress) → Took p []
     → p.dialect ≡ Rfc9651 → p.kind ≡ kind → p.max ≡ max → (kind ≡ kind_is.Item → IsAllocationFree p)
@@ -65,7 +65,7 @@ reads_start s kind max p t d k m allocation_free = record {
 
 pub reads_more : (old a b : SourceState) (kind : Kind) (max given n : ℕ) (p q : Progress)
     (ys : List ℕ) → ReadSoFar old a kind max given p → GivesOnce a b ys → length ys ≡ n
-    → Fed p q (Ok tt) ys → (IsAllocationFree p → Every number_byte ys → IsAllocationFree q)
+    → Fed p q (Ok tt) ys → (IsAllocationFree p → Every scalar_byte ys → IsAllocationFree q)
     → ReadSoFar old b kind max (given + n) q
 reads_more old a b kind max given n p q ys r g e f allocation_free =
     let fed = f.answer.1 r.text r.took in
@@ -86,7 +86,7 @@ reads_more old a b kind max given n p q ys r g e f allocation_free =
           (subst (λ d. Viable d p.kind (r.text ++ ys)) r.dialect fed.1);
       allocation_free = λ h.
           allocation_free (r.allocation_free (allocation_free_prefix kind r.text ys h))
-          (every_behind number_byte r.text ys h.1);
+          (every_behind scalar_byte r.text ys h.1);
     }
 
 at_most : (m n k given top : ℕ) → m ≡ given → k ≡ m + n → given + n ≤ top → k ≤ top
@@ -95,7 +95,7 @@ at_most m n k given top c e l = omega arith
 pub reads_refused : (old a b : SourceState) (kind : Kind) (max given : ℕ) (p q : Progress)
     (ys : List ℕ) (e : Refusal) → ReadSoFar old a kind max given p → GivesOnce a b ys
     → given + length ys ≤ capped (max + 1) → Fed p q (Err e) ys
-    → (IsAllocationFree p → Every number_byte ys → IsOther e)
+    → (IsAllocationFree p → Every scalar_byte ys → IsOther e)
     → ReadAndParsed Rfc9651 kind old b max (Err e)
 reads_refused old a b kind max given p q ys e r g l f allocation_free = at e refused other
   where
@@ -116,13 +116,13 @@ reads_refused old a b kind max given p q ys e r g l f allocation_free = at e ref
         (subst (λ m. RefusedFor p.dialect p.kind m (text ++ more) e) r.same_max
         (f.answer.1 r.text r.took more)))
 
-    other : IsNumberText kind text → IsOther e
+    other : IsScalarText kind text → IsOther e
     other h =
         allocation_free (r.allocation_free (allocation_free_prefix kind r.text ys h))
-        (every_behind number_byte r.text ys h.1)
+        (every_behind scalar_byte r.text ys h.1)
 
     at : (e : Refusal) → ((more : List ℕ) → RefusedFor Rfc9651 kind max (text ++ more) e)
-        → (IsNumberText kind text → IsOther e) → ReadAndParsed Rfc9651 kind old b max (Err e)
+        → (IsScalarText kind text → IsOther e) → ReadAndParsed Rfc9651 kind old b max (Err e)
     at OutOfMemory h o = (text, (o, inl (gave, bound)))
     at (Syntax place None expected may) h o = absurd (h [])
     at (Syntax place (Some c) expected may) h o =
@@ -140,13 +140,13 @@ reads_failed old a b kind max given p r f =
     (r.text, record { mid = a; gave = r.gave; failed = f }, r.count, r.within, r.viable)
 
 wanted : (old b : SourceState) (kind : Kind) (max : ℕ) (text : List ℕ) → GaveAll old b text
-    → length text ≤ max → max < 2 ^ 64 → ¬ (IsNumberText kind text) → Wanted kind old b max text
+    → length text ≤ max → max < 2 ^ 64 → ¬ (IsScalarText kind text) → Wanted kind old b max text
 wanted old b kind max text g l m n =
     elim g [ inl e ↦ (n, inr (e, l)) | inr f ↦ (n, inl (f.0, omega arith)) ]
 
 ended : (old b : SourceState) (kind : Kind) (max : ℕ) (text : List ℕ) (r : Result Field Refusal)
     → GaveAll old b text → length text ≤ max → max < 2 ^ 64
-    → (IsNumberText kind text → NotForMemory r)
+    → (IsScalarText kind text → NotForMemory r)
     → Finishes Rfc9651 kind text r → ReadAndParsed Rfc9651 kind old b max r
 ended old b kind max text (Ok v) g l m n f = (text, g, l, f)
 ended old b kind max text (Err OutOfMemory) g l m n f = (text, wanted old b kind max text g l m n)

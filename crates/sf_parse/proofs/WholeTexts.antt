@@ -8,7 +8,6 @@ use Rattle.sf_value.specs.declared.dialect.Dialect.{Dialect}
 use Rattle.sf_value.specs.declared.value.Field.{Field}
 use Rattle.sf_value.specs.declared.value.Kind.{Kind}
 use Rattle.sf_value.specs.declared.value.Kind.TheVariants as kind_is
-use Rattle.sf_value.specs.Grammar.Words.{Every}
 use Rattle.sf_parse.specs.declared.refusal.Refusal.TheVariants.{Syntax}
 use Rattle.sf_parse.specs.Machine.States.{State}
 use Rattle.sf_parse.specs.Machine.Fields.{step, finish, begin}
@@ -17,9 +16,8 @@ use Rattle.sf_parse.specs.Expected.{Marks}
 use Rattle.sf_parse.specs.Prefixes.{LongestPrefix}
 use Rattle.sf_parse.specs.Reached.{Reached}
 use Rattle.sf_parse.specs.Parsers.{IsSyntax, IsOnly, Parses}
-use Rattle.sf_parse.specs.AllocationFree.{number_byte}
-use Rattle.sf_parse.specs.AllocationFreeParsers.{AllocationFreeState}
-use Rattle.sf_parse.proofs.Feeding.{allocation_free_taken}
+use Rattle.sf_parse.specs.AllocationFree.{TakesNoMemory, FieldFree}
+use Rattle.sf_parse.proofs.AllocationFreeSteps.{field_free_went}
 use Rattle.sf_parse.proofs.Reached.{reached_nothing, reaches_more}
 use Rattle.sf_parse.proofs.Refusals.{stops_exact, ends_exact, ends_only}
 
@@ -76,9 +74,19 @@ whole_value d kind s t text [] found v e a f n g =
 whole_value d kind s t text (b ∷ rest) found v e a f n g =
     absurd (let k : true ≡ false = sym (ap is_some f) ∙ n in cc)
 
--- spaces, minus signs and digits leave it allocation-free
-pub whole_allocation_free : (d : Dialect) (s t : State) (text rest : List ℕ) → s
-    ≡ begin kind_is.Item
-    → Every number_byte text → LongestPrefix (step d) s text rest t → AllocationFreeState t
-whole_allocation_free d s t text rest e w a =
-    allocation_free_taken d s t text rest (subst AllocationFreeState (sym e) tt) w a
+-- a text that takes no memory takes none in the first state
+pub begins_free : (kind : Kind) (text : List ℕ) → TakesNoMemory kind text
+    → FieldFree (begin kind) text
+begins_free kind_is.Item text h = h
+begins_free kind_is.List text h = h
+begins_free kind_is.Dict text h = h
+
+-- and no byte is left
+pub whole_free : (d : Dialect) (kind : Kind) (s t : State) (text rest : List ℕ) (found : Option ℕ)
+    → s ≡ begin kind → TakesNoMemory kind text → LongestPrefix (step d) s text rest t
+    → found ≡ slice_get rest 0 → is_some found ≡ false → FieldFree t []
+whole_free d kind s t text [] found e h a f n =
+    field_free_went d s t text [] (subst (λ y. FieldFree y text) (sym e) (begins_free kind text h))
+    a.went
+whole_free d kind s t text (b ∷ rest) found e h a f n =
+    absurd (let k : true ≡ false = sym (ap is_some f) ∙ n in cc)

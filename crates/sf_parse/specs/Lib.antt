@@ -23,6 +23,6 @@ pub mod EntryView
 pub mod MemberView
 pub mod ItemView
 pub mod ParamsView
-pub mod NumbersStay
+pub mod StaysFree
 pub mod BareView
 pub mod ByteRuns

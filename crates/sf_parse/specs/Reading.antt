@@ -12,7 +12,7 @@ use Rattle.sf_parse.specs.declared.refusal.Refusal.{Refusal}
 use Rattle.sf_parse.specs.declared.refusal.Refusal.TheVariants.{OutOfMemory, Syntax, TooLong}
 use Rattle.sf_parse.specs.declared.refusal.Refusal.TheVariants.{ReadFault}
 use Rattle.sf_parse.specs.Parsers.{IsSyntax, Finishes}
-use Rattle.sf_parse.specs.AllocationFree.{number_byte}
+use Rattle.sf_parse.specs.AllocationFree.{scalar_byte}
 
 -- calls gave these bytes to the source's end, which one call answered; or these are as many as a
 -- count holds, and no further one was asked for
@@ -20,14 +20,14 @@ abbrev pub GaveAll : SourceState → SourceState → List ℕ → Type 0
 GaveAll old new bytes =
     GaveAndEnded old new bytes ⊎ (Gave old new bytes × (2 ^ 64 - 1 ≤ length bytes))
 
--- spaces, `-` and digits alone for an Item, which take no memory
-abbrev pub IsNumberText : Kind → List ℕ → Type 0
-IsNumberText kind text = (kind ≡ kind_is.Item) × Every number_byte text
+-- spaces, digits and `-.?@` alone for an Item, which take no memory
+abbrev pub IsScalarText : Kind → List ℕ → Type 0
+IsScalarText kind text = (kind ≡ kind_is.Item) × Every scalar_byte text
 
 -- memory was wanting on the way, or when the text was ended
 abbrev pub Wanted : Kind → SourceState → SourceState → ℕ → List ℕ → Type 0
 Wanted kind old new max text =
-    ¬ (IsNumberText kind text)
+    ¬ (IsScalarText kind text)
     × ((Gave old new text × (length text ≤ capped (max + 1)))
     ⊎ (GaveAndEnded old new text × (length text ≤ max)))
 

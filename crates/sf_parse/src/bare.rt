@@ -1,13 +1,13 @@
 //! A bare item that is being read (RFC 9651 section 4.2.3.1).
 ghost use Rattle.std.specs.Prelude.{◌≡◌, true, ⊤, IfNone, IfOk, IsOk};
-ghost use Rattle.sf_parse.specs.AllocationFree.{number_byte, AllocationFreeBare};
+ghost use Rattle.sf_parse.specs.AllocationFree.{BareFree};
 ghost use Rattle.sf_parse.specs.Expected.{Marks};
 ghost use Rattle.sf_parse.specs.Prefixes.{Starts};
 ghost use Rattle.sf_parse.specs.BareView.{bare_stuck};
 ghost use Rattle.sf_parse.specs.Machine.Bares.{InBoolean, bare_start, bare_step, bare_finish};
 ghost use Rattle.sf_parse.specs.declared.boolean.BooleanState.TheVariants.{WithValue};
 ghost use Rattle.sf_parse.specs.Machine.Tests.{bare_begins, bare_takes, bare_ends};
-ghost use Rattle.sf_parse.specs.NumbersStay.{plain_bare_step};
+ghost use Rattle.sf_parse.specs.StaysFree.{bare_keeps};
 
 use crate::blob::{BlobPhase, Held};
 use crate::boolean::BooleanState;
@@ -81,8 +81,8 @@ impl BareReader {
         // The new state is the one that the byte begins, or none begins with it.
         ensures start { IfOk result (λ took. Starts took (bare_start context.now.dialect byte)
             self.new) }
-        // A space, `-` or a digit takes no memory.
-        ensures allocation_free { number_byte byte ≡ true → IsOk result }
+        // It takes no memory.
+        ensures allocation_free { IsOk result }
     {
         if self.number.start(byte) {
             self.kind = BareKind::Number;
@@ -191,9 +191,9 @@ impl Level for BareReader {
 
     ghost ends = { bare_ends };
 
-    ghost allocation_free = { λ d s. AllocationFreeBare s };
+    ghost allocation_free = { λ d s more. BareFree s more };
 
-    ghost keeps = { λ d s t b h e k. plain_bare_step s t b h k };
+    ghost keeps = { λ d s t b more h e. bare_keeps s t b more h e };
 
     fn take_part<'a>(
         &mut self,

@@ -125,9 +125,9 @@ impl Level for EntryReader {
 
     ghost ends = { entry_ends };
 
-    ghost allocation_free = { λ d s. ⊥ };
+    ghost allocation_free = { λ d s more. ⊥ };
 
-    ghost keeps = { λ d s t b h e k. absurd h };
+    ghost keeps = { λ d s t b more h e. absurd h };
 
     fn take_part<'a>(
         &mut self,

@@ -1,13 +1,12 @@
 //! Whole texts, each parsed by the reader of its kind (RFC 9651 section 4.2).
 ghost use Rattle.std.specs.Option.{option_map};
-ghost use Rattle.std.specs.Prelude.{◌≡◌, ℕ, IfOk, IsOk, refl};
-ghost use Rattle.sf_value.specs.Grammar.Words.{Every};
+ghost use Rattle.std.specs.Prelude.{◌≡◌, ℕ, List as Seq, [], IfOk, IsOk, refl};
 ghost use Rattle.sf_value.specs.declared.dialect.Dialect.{Dialect};
 ghost use Rattle.sf_value.specs.declared.value.Kind.{Kind};
 ghost use Rattle.sf_value.specs.declared.value.Kind.TheVariants as kind_is;
 ghost use Rattle.sf_parse.specs.Parsers.{Parses};
-ghost use Rattle.sf_parse.specs.AllocationFree.{number_byte};
-ghost use Rattle.sf_parse.specs.AllocationFreeParsers.{AllocationFreeState, NotForMemory};
+ghost use Rattle.sf_parse.specs.AllocationFree.{TakesNoMemory, FieldFree};
+ghost use Rattle.sf_parse.specs.AllocationFreeParsers.{NotForMemory};
 ghost use Rattle.sf_parse.specs.FieldSteps.{top_steps, list_steps, dict_steps};
 ghost use Rattle.sf_parse.specs.Machine.States.{State, InList, InDict};
 ghost use Rattle.sf_parse.specs.Machine.Fields.{begin as begin_at, step as step_of};
@@ -40,17 +39,14 @@ pub trait WholeField: Level + Drop {
     /// Before the first byte. It takes no memory.
     fn begin(context: &Context) -> Self
         // Its state is the first one of its kind.
-        ensures begin { state result ≡ begin_at kind }
-        // Where that is an allocation-free state of an Item, it is one of the level too.
-        ensures allocation_free { AllocationFreeState (state result)
-            → Self.allocation_free context.now.dialect result };
+        ensures { state result ≡ begin_at kind };
 
     /// The field, if it may end here. What is left is the reader alone.
     fn finish_field(&mut self, context: &Context) -> Result<Option<Field>, OutOfMemory>
         // The field is the value that the state has at the end, if it has one.
         ensures value { IfOk result (λ field. field ≡ finish_of (state self.old)) }
-        // In an allocation-free state of an Item the end takes no memory.
-        ensures allocation_free { AllocationFreeState (state self.old) → IsOk result };
+        // Where no byte more takes no memory, the end takes none.
+        ensures allocation_free { FieldFree (state self.old) [] → IsOk result };
 
     // the machine of fields goes on just as the level does, and its tests tell the same
     ghost steps: { (d : Dialect) (s : Self) (b : ℕ)
@@ -59,6 +55,10 @@ pub trait WholeField: Level + Drop {
     ghost takes_too: { (d : Dialect) (s : Self) → Self.takes d s ≡ takes_at d (state s) };
 
     ghost ends_too: { (s : Self) → Self.ends s ≡ may_end_at (state s) };
+
+    // what takes no memory in the state takes none in the level
+    ghost free_too: { (d : Dialect) (s : Self) (more : Seq ℕ) → FieldFree (state s) more
+        → Self.allocation_free d s more };
 }
 
 impl WholeField for TopReader {
@@ -71,6 +71,8 @@ impl WholeField for TopReader {
     ghost takes_too = { λ d s. refl };
 
     ghost ends_too = { λ s. refl };
+
+    ghost free_too = { λ d s more h. h };
 
     fn begin(context: &Context) -> TopReader {
         TopReader::new(context)
@@ -95,6 +97,8 @@ impl WholeField for ListReader {
 
     ghost ends_too = { λ s. refl };
 
+    ghost free_too = { λ d s more h. h };
+
     fn begin(context: &Context) -> ListReader {
         SeriesReader::new(context, MemberReader::new(context))
     }
@@ -118,6 +122,8 @@ impl WholeField for DictReader {
 
     ghost ends_too = { λ s. refl };
 
+    ghost free_too = { λ d s more h. h };
+
     fn begin(context: &Context) -> DictReader {
         SeriesReader::new(context, EntryReader::new(context))
     }
@@ -134,9 +140,8 @@ impl WholeField for DictReader {
 pub fn parse_whole<W: WholeField>(context: &Context, text: &[u8]) -> Result<Field, Refusal>
     // The text spells just this value, or this is its exact refusal; else memory was wanting.
     ensures parses { Parses context.now.dialect W.kind text.now result }
-    // Of an Item, spaces, `-` and digits are not refused for want of memory.
-    ensures allocation_free { W.kind ≡ kind_is.Item → Every number_byte text.now
-        → NotForMemory result }
+    // A text that takes no memory is not refused for want of it.
+    ensures allocation_free { TakesNoMemory W.kind text.now → NotForMemory result }
 {
     let mut field = W::begin(context);
     read_whole(&mut field, context, text)
@@ -149,15 +154,11 @@ fn read_whole<W: WholeField>(
     text: &[u8],
 ) -> Result<Field, Refusal>
     // Nothing was read.
-    requires begin { W.state field.old ≡ begin_at W.kind }
-    // An allocation-free state of an Item is one of the level too.
-    requires allocation_free { AllocationFreeState (W.state field.old)
-        → W.allocation_free context.now.dialect field.old }
+    requires { W.state field.old ≡ begin_at W.kind }
     // The text spells just this value, or this is its exact refusal; else memory was wanting.
     ensures parses { Parses context.now.dialect W.kind text.now result }
-    // Of an Item, spaces, `-` and digits are not refused for want of memory.
-    ensures allocation_free { W.kind ≡ kind_is.Item → Every number_byte text.now
-        → NotForMemory result }
+    // A text that takes no memory is not refused for want of it.
+    ensures allocation_free { TakesNoMemory W.kind text.now → NotForMemory result }
 {
     let rest = field.take(context, text)?;
     let found = rest.first().copied();

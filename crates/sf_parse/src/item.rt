@@ -1,10 +1,10 @@
 //! An Item that is being read (RFC 9651 section 4.2.3).
 ghost use Rattle.std.specs.Option.{option_map};
-ghost use Rattle.std.specs.Prelude.{◌≡◌, [], true, false, IfOk, IfNone, IsOk};
+ghost use Rattle.std.specs.Prelude.{◌≡◌, ℕ, List as Seq, [], true, false, IfOk, IfNone, IsOk};
 ghost use Rattle.sf_value.specs.declared.value.Bare.{Bare};
 ghost use Rattle.sf_value.specs.declared.value.Bare.TheVariants as bare_is;
-ghost use Rattle.sf_parse.specs.AllocationFree.{number_byte, AllocationFreeItem};
-ghost use Rattle.sf_parse.specs.NumbersStay.{plain_item_step};
+ghost use Rattle.sf_parse.specs.AllocationFree.{ItemFree};
+ghost use Rattle.sf_parse.specs.StaysFree.{item_keeps};
 ghost use Rattle.sf_parse.specs.Prefixes.{Starts};
 ghost use Rattle.sf_parse.specs.ItemView.{item_stuck};
 ghost use Rattle.sf_parse.specs.SeriesView.{Ends};
@@ -68,8 +68,8 @@ impl ItemReader {
         // The new state is the one that the byte begins, or none begins with it.
         ensures start { IfOk result (λ took. Starts took (item_start context.now.dialect byte)
             self.new) }
-        // A space, `-` or a digit takes no memory.
-        ensures allocation_free { number_byte byte ≡ true → IsOk result }
+        // It takes no memory.
+        ensures allocation_free { IsOk result }
     {
         self.in_params = false;
         self.bare.start(context, byte)
@@ -122,8 +122,8 @@ impl ItemReader {
             (item_finish self.old)) given.old given.new) }
         // Where nothing was added the reader stays as it is.
         ensures kept { IfOk result (λ ended. ended ≡ false → self.new ≡ self.old) }
-        // A number takes no memory where adding it takes none.
-        ensures allocation_free { G.free → AllocationFreeItem self.old → IsOk result }
+        // Without parameters the end takes no memory where adding the item takes none.
+        ensures allocation_free { G.free → (more : Seq ℕ) → ItemFree self.old more → IsOk result }
     {
         if !self.in_params {
             let Some(bare) = self.bare.finish(context) else {
@@ -154,9 +154,9 @@ impl Level for ItemReader {
 
     ghost ends = { item_ends };
 
-    ghost allocation_free = { λ d s. AllocationFreeItem s };
+    ghost allocation_free = { λ d s more. ItemFree s more };
 
-    ghost keeps = { plain_item_step };
+    ghost keeps = { item_keeps };
 
     fn take_part<'a>(
         &mut self,

@@ -1,9 +1,10 @@
 //! A field of kind Item that is being read: an Item between spaces (RFC 9651 section 4.2).
 ghost use Rattle.std.specs.Option.{option_map};
-ghost use Rattle.std.specs.Prelude.{◌≡◌, IfOk, IsOk};
+ghost use Rattle.std.specs.Prelude.{◌≡◌, [], IfOk, IsOk};
 ghost use Rattle.sf_value.specs.declared.value.Field.TheVariants as field;
-ghost use Rattle.sf_parse.specs.TopView.{top_stuck, StaysAllocationFree, stays_allocation_free};
-ghost use Rattle.sf_parse.specs.AllocationFreeParsers.{AllocationFreeState};
+ghost use Rattle.sf_parse.specs.TopView.{top_stuck};
+ghost use Rattle.sf_parse.specs.AllocationFree.{FieldFree};
+ghost use Rattle.sf_parse.specs.StaysFree.{field_keeps};
 ghost use Rattle.sf_parse.specs.Machine.States.{BeforeItem};
 ghost use Rattle.sf_parse.specs.Machine.Fields.{step as step_of, finish as finish_of};
 ghost use Rattle.sf_parse.specs.Machine.Tests.{takes as takes_at, may_end as may_end_at};
@@ -65,8 +66,8 @@ impl TopReader {
     pub fn finish(&mut self, context: &Context) -> Result<Option<Item>, OutOfMemory>
         // The item is the value that the state has at the end, if it has one.
         ensures value { IfOk result (λ item. option_map field.Item item ≡ finish_of self.old) }
-        // In an allocation-free state of an Item the end takes no memory.
-        ensures allocation_free { AllocationFreeState self.old → IsOk result }
+        // Where no byte more takes no memory, the end takes none.
+        ensures allocation_free { FieldFree self.old [] → IsOk result }
     {
         match self.phase {
             TopPhase::Before => return Ok(None),
@@ -92,9 +93,9 @@ impl Level for TopReader {
 
     ghost ends = { may_end_at };
 
-    ghost allocation_free = { StaysAllocationFree };
+    ghost allocation_free = { λ d s more. FieldFree s more };
 
-    ghost keeps = { stays_allocation_free };
+    ghost keeps = { field_keeps };
 
     fn take_part<'a>(
         &mut self,

@@ -1,8 +1,6 @@
 //! What every level of the grammar has in common: it takes the longest prefix of a chunk.
-ghost use Rattle.std.specs.Prelude.{◌≡◌, ℕ, Bool, true, [], ◌∷◌, Option, Some, IfOk, IsOk};
-ghost use Rattle.sf_value.specs.Grammar.Words.{Every};
+ghost use Rattle.std.specs.Prelude.{◌≡◌, ℕ, Bool, List, [], ◌∷◌, Option, Some, IfOk, IsOk};
 ghost use Rattle.sf_value.specs.declared.dialect.Dialect.{Dialect};
-ghost use Rattle.sf_parse.specs.AllocationFree.{number_byte};
 ghost use Rattle.sf_parse.specs.Expected.{Marks};
 ghost use Rattle.sf_parse.specs.Prefixes.{Went, FirstIs, LongestPrefix, unless};
 ghost use Rattle.sf_parse.specs.Machine.Language.{Steps};
@@ -23,8 +21,8 @@ pub trait Level {
 
     ghost ends: { Self → Bool };
 
-    // the states that take no memory for a further space, minus sign or digit
-    ghost allocation_free: { Dialect → Self → Type 0 };
+    // the states and further bytes that take no memory
+    ghost allocation_free: { Dialect → Self → List ℕ → Type 0 };
 
     /// Takes what the part that is open can go on with, and gives back the rest.
     fn take_part<'a>(&mut self, context: &Context, chunk: &'a [u8]) -> Result<&'a [u8], OutOfMemory>
@@ -34,9 +32,8 @@ pub trait Level {
         // The part that is open can't go on with the first byte of the rest.
         ensures stuck { IfOk result (λ rest. FirstIs (stuck context.now.dialect self.new)
             rest.now) }
-        // In an allocation-free state spaces, `-` and digits take no memory.
-        ensures allocation_free { allocation_free context.now.dialect self.old
-            → Every number_byte chunk.now
+        // Where the chunk takes no memory, none is wanting.
+        ensures allocation_free { allocation_free context.now.dialect self.old chunk.now
             → IsOk result };
 
     /// Takes a byte with which the part that is open can't go on, or tells that the level can't
@@ -45,9 +42,9 @@ pub trait Level {
         // A byte that the part can't take leads the machine on, or can't and the state stays.
         ensures step { IfOk result (λ took. stuck context.now.dialect self.old byte
             → Steps took (next context.now.dialect self.old byte) self.old self.new) }
-        // In an allocation-free state spaces, `-` and digits take no memory.
-        ensures allocation_free { allocation_free context.now.dialect self.old → number_byte byte
-            ≡ true → IsOk result };
+        // Where the byte and others behind it take no memory, none is wanting.
+        ensures allocation_free { (more : List ℕ)
+            → allocation_free context.now.dialect self.old (byte ∷ more) → IsOk result };
 
     /// Takes a byte that the part that is open goes on with, or tells that the part can't.
     fn push_part(&mut self, context: &Context, byte: u8) -> Result<bool, OutOfMemory>
@@ -57,9 +54,9 @@ pub trait Level {
         // With a byte that is not taken the part that is open can't go on.
         ensures stuck { IfOk result (λ took. FirstIs (stuck context.now.dialect self.new)
             (unless took byte)) }
-        // In an allocation-free state spaces, `-` and digits take no memory.
-        ensures allocation_free { allocation_free context.now.dialect self.old → number_byte byte
-            ≡ true → IsOk result };
+        // Where the byte and others behind it take no memory, none is wanting.
+        ensures allocation_free { (more : List ℕ)
+            → allocation_free context.now.dialect self.old (byte ∷ more) → IsOk result };
 
     /// The bytes below 128 that the level can go on with, a bit for each.
     fn expected(&self, dialect: Dialect) -> u128
@@ -69,9 +66,9 @@ pub trait Level {
     fn may_end(&self) -> bool
         ensures { result ≡ ends self.now };
 
-    // a number byte leaves an allocation-free state allocation-free
-    ghost keeps: { (d : Dialect) (s t : Self) (b : ℕ) → allocation_free d s → number_byte b ≡ true
-        → next d s b ≡ Some t → allocation_free d t };
+    // what takes no memory takes none behind its first byte
+    ghost keeps: { (d : Dialect) (s t : Self) (b : ℕ) (more : List ℕ)
+        → allocation_free d s (b ∷ more) → next d s b ≡ Some t → allocation_free d t more };
 
     /// Takes one byte, or tells that the level can't go on with it: as `take` does, with no look
     /// for a run.
@@ -81,9 +78,9 @@ pub trait Level {
         ensures prefix { IfOk result
             (λ took. LongestPrefix (next context.now.dialect) self.old (byte ∷ [])
             (unless took byte) self.new) }
-        // In an allocation-free state spaces, `-` and digits take no memory.
-        ensures allocation_free { allocation_free context.now.dialect self.old → number_byte byte
-            ≡ true → IsOk result }
+        // Where the byte and others behind it take no memory, none is wanting.
+        ensures allocation_free { (more : List ℕ)
+            → allocation_free context.now.dialect self.old (byte ∷ more) → IsOk result }
     {
         if self.push_part(context, byte)? {
             return Ok(true);
@@ -102,9 +99,8 @@ pub trait Level {
         ensures prefix { IfOk result
             (λ rest. LongestPrefix (next context.now.dialect) self.old chunk.now
             rest.now self.new) }
-        // In an allocation-free state spaces, `-` and digits take no memory.
-        ensures allocation_free { allocation_free context.now.dialect self.old
-            → Every number_byte chunk.now
+        // Where the chunk takes no memory, none is wanting.
+        ensures allocation_free { allocation_free context.now.dialect self.old chunk.now
             → IsOk result }
     {
         let mut rest = chunk;

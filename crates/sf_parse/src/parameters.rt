@@ -121,9 +121,9 @@ impl Level for ParamsReader {
 
     ghost ends = { params_ends };
 
-    ghost allocation_free = { λ d s. ⊥ };
+    ghost allocation_free = { λ d s more. ⊥ };
 
-    ghost keeps = { λ d s t b h e k. absurd h };
+    ghost keeps = { λ d s t b more h e. absurd h };
 
     fn take_part<'a>(
         &mut self,

@@ -7,7 +7,7 @@ ghost use Rattle.sf_value.specs.declared.value.Kind.TheVariants as kind_is;
 ghost use Rattle.sf_parse.specs.Prefixes.{FirstIs, Halts};
 ghost use Rattle.sf_parse.specs.Parsers.{Took, StandsAt, Fed, Finishes, in_line};
 ghost use Rattle.sf_parse.specs.Feeding.{FedTo, TakenAllocationFree};
-ghost use Rattle.sf_parse.specs.AllocationFree.{number_byte};
+ghost use Rattle.sf_parse.specs.AllocationFree.{scalar_byte};
 ghost use Rattle.sf_parse.specs.AllocationFreeParsers.{IsAllocationFree, IsOther};
 ghost use Rattle.sf_parse.specs.AllocationFreeParsers.{KeptAllocationFree, NotForMemory};
 ghost use Rattle.sf_parse.specs.Machine.Fields.{step as step_of};
@@ -99,7 +99,7 @@ impl Parser {
         ensures took { Took result [] }
         // No field line came before.
         ensures lines { result.after_line ≡ false }
-        // A parser for an Item takes no memory while only spaces, `-` and digits come.
+        // A parser for an Item takes no memory while only spaces, digits and `-.?@` come.
         ensures allocation_free { kind ≡ kind_is.Item → IsAllocationFree result }
     {
         Parser::new_in(alloc, seed, Dialect::Rfc9651, kind, max)
@@ -121,7 +121,7 @@ impl Parser {
         ensures took { Took result [] }
         // No field line came before.
         ensures lines { result.after_line ≡ false }
-        // A parser for an Item takes no memory while only spaces, `-` and digits come.
+        // A parser for an Item takes no memory while only spaces, digits and `-.?@` come.
         ensures allocation_free { kind ≡ kind_is.Item → IsAllocationFree result }
     {
         let context = Context {
@@ -164,8 +164,8 @@ impl Parser {
         // The field can't go on with the first byte of the rest.
         ensures stops { IfOk result (λ rest. FirstIs (Halts (step_of self.new.dialect)
             self.new.state) rest.now) }
-        // While only spaces, `-` and digits of an Item come, none is refused for want of memory.
-        ensures allocation_free { IsAllocationFree self.old → Every number_byte prefix.now
+        // While only spaces, digits and `-.?@` of an Item come, none is refused for want of memory.
+        ensures allocation_free { IsAllocationFree self.old → Every scalar_byte prefix.now
             → TakenAllocationFree self.new result }
     {
         let rest = match self.state.take(&self.context, prefix) {
@@ -216,8 +216,8 @@ impl Parser {
         ensures lines { self.new.after_line ≡ self.old.after_line }
         // A parser that refused gives the same refusal and stays as it is.
         ensures again { IfSome self.old.refusal (λ e. (result ≡ Err e) × (self.new ≡ self.old)) }
-        // While only spaces, `-` and digits of an Item come, none is refused for want of memory.
-        ensures allocation_free { IsAllocationFree self.old → Every number_byte chunk.now
+        // While only spaces, digits and `-.?@` of an Item come, none is refused for want of memory.
+        ensures allocation_free { IsAllocationFree self.old → Every scalar_byte chunk.now
             → KeptAllocationFree self.new result }
     {
         if let Some(refusal) = self.refusal {
@@ -259,9 +259,9 @@ impl Parser {
         ensures lines { OnOk result (self.new.after_line ≡ true) }
         // A parser that refused gives the same refusal and stays as it is.
         ensures again { IfSome self.old.refusal (λ e. (result ≡ Err e) × (self.new ≡ self.old)) }
-        // A first line of spaces, `-` and digits of an Item is not refused for want of memory.
+        // A first line of spaces, digits and `-.?@` of an Item is not refused for want of memory.
         ensures allocation_free { IsAllocationFree self.old → self.old.after_line ≡ false
-            → Every number_byte line.now
+            → Every scalar_byte line.now
             → KeptAllocationFree self.new result }
     {
         if self.after_line {
@@ -283,7 +283,7 @@ impl Parser {
         ensures unrefused { IfNone result (self.now.refusal ≡ None) }
         // Without a refusal the text may end.
         ensures whole { IfNone result (may_end self.now.state ≡ true) }
-        // After only spaces, `-` and digits of an Item, the refusal is not for want of memory.
+        // After only spaces, digits and `-.?@` of an Item, the refusal is not for want of memory.
         ensures allocation_free { IsAllocationFree self.now → IfSome result IsOther }
     {
         if let Some(refusal) = self.refusal {
@@ -307,7 +307,7 @@ impl Parser {
         ensures ended { (s : List ℕ) → Took self s → Finishes self.dialect self.kind s result }
         // A parser that refused gives the same refusal.
         ensures again { IfSome self.refusal (λ e. result ≡ Err e) }
-        // After only spaces, `-` and digits of an Item, the end is not refused for want of memory.
+        // After only spaces, digits and `-.?@` of an Item, the end is not refused for want of memory.
         ensures allocation_free { IsAllocationFree self → NotForMemory result }
     {
         if let Some(refusal) = self.refusal_at_end() {

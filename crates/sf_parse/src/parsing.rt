@@ -5,7 +5,7 @@ ghost use Rattle.sf_value.specs.declared.dialect.Dialect.TheVariants.{Rfc9651};
 ghost use Rattle.sf_value.specs.declared.value.Field.TheVariants as field_is;
 ghost use Rattle.sf_value.specs.declared.value.Kind.TheVariants as kind_is;
 ghost use Rattle.sf_parse.specs.Parsers.{Parses, Makes};
-ghost use Rattle.sf_parse.specs.AllocationFree.{number_byte};
+ghost use Rattle.sf_parse.specs.AllocationFree.{scalar_byte, TakesNoMemory};
 ghost use Rattle.sf_parse.specs.AllocationFreeParsers.{IsOther, NotForMemory};
 
 use crate::context::Context;
@@ -18,7 +18,9 @@ use std::hash::RandomState;
 
 /// The value that the text spells, in the dialect of RFC 9651 (section 4.2). A text that spells
 /// none is refused with Syntax, and want of memory with OutOfMemory; it is never TooLong or
-/// ReadFault. Where an Item is asked for, a text of spaces, `-` and digits takes no memory.
+/// ReadFault. Where an Item is asked for, a text of spaces, digits and `-.?@` takes no memory, nor
+/// do at most 16 bytes without `;`, `:` and `%`, such as a short Token or String; nor does an empty
+/// List or Dictionary.
 ///
 /// ```
 /// let field = parse_text(alloc, &seed, Kind::Dict, b"u=1, i")?;
@@ -31,9 +33,11 @@ pub fn parse_text(
 ) -> Result<Field, Refusal>
     // The text spells just this value, or this is its exact refusal; else memory was wanting.
     ensures parses { Parses Rfc9651 kind text.now result }
-    // Of an Item, spaces, `-` and digits are not refused for want of memory.
-    ensures allocation_free { kind ≡ kind_is.Item → Every number_byte text.now
+    // Of an Item, spaces, digits and `-.?@` are not refused for want of memory.
+    ensures allocation_free { kind ≡ kind_is.Item → Every scalar_byte text.now
         → NotForMemory result }
+    // Nor are short Tokens and Strings, and empty Lists and Dictionaries.
+    ensures in_place { TakesNoMemory kind text.now → NotForMemory result }
 {
     parse_text_in(alloc, seed, Dialect::Rfc9651, kind, text)
 }
@@ -52,9 +56,11 @@ pub fn parse_text_in(
 ) -> Result<Field, Refusal>
     // The text spells just this value, or this is its exact refusal; else memory was wanting.
     ensures parses { Parses dialect kind text.now result }
-    // Of an Item, spaces, `-` and digits are not refused for want of memory.
-    ensures allocation_free { kind ≡ kind_is.Item → Every number_byte text.now
+    // Of an Item, spaces, digits and `-.?@` are not refused for want of memory.
+    ensures allocation_free { kind ≡ kind_is.Item → Every scalar_byte text.now
         → NotForMemory result }
+    // Nor are short Tokens and Strings, and empty Lists and Dictionaries.
+    ensures in_place { TakesNoMemory kind text.now → NotForMemory result }
 {
     let context = Context {
         alloc,
@@ -69,7 +75,7 @@ pub fn parse_text_in(
 }
 
 /// The Item that the text spells, in the dialect of RFC 9651 (section 4.2), as [`parse_text`] gives
-/// it where an Item is asked for, and refused as it refuses. A text of spaces, `-` and digits takes
+/// it where an Item is asked for, and refused as it refuses. A text of spaces, digits and `-.?@` takes
 /// no memory.
 ///
 /// ```
@@ -79,8 +85,10 @@ pub fn parse_text_in(
 pub fn parse_item(alloc: Global, seed: &RandomState, text: &[u8]) -> Result<Item, Refusal>
     // The text spells just this Item, or this is its exact refusal; else memory was wanting.
     ensures parses { Makes field_is.Item (Parses Rfc9651 kind_is.Item text.now) result }
-    // Spaces, `-` and digits are not refused for want of memory.
-    ensures allocation_free { Every number_byte text.now → IfErr result IsOther }
+    // Spaces, digits and `-.?@` are not refused for want of memory.
+    ensures allocation_free { Every scalar_byte text.now → IfErr result IsOther }
+    // Nor are short Tokens and Strings.
+    ensures in_place { TakesNoMemory kind_is.Item text.now → IfErr result IsOther }
 {
     match parse_text(alloc, seed, Kind::Item, text)? {
         Field::Item(item) => Ok(item),
@@ -98,7 +106,9 @@ pub fn parse_item(alloc: Global, seed: &RandomState, text: &[u8]) -> Result<Item
 /// ```
 pub fn parse_list(alloc: Global, seed: &RandomState, text: &[u8]) -> Result<List, Refusal>
     // The text spells just this List, or this is its exact refusal; else memory was wanting.
-    ensures { Makes field_is.List (Parses Rfc9651 kind_is.List text.now) result }
+    ensures parses { Makes field_is.List (Parses Rfc9651 kind_is.List text.now) result }
+    // An empty List is not refused for want of memory.
+    ensures in_place { TakesNoMemory kind_is.List text.now → IfErr result IsOther }
 {
     match parse_text(alloc, seed, Kind::List, text)? {
         Field::List(list) => Ok(list),
@@ -117,7 +127,9 @@ pub fn parse_list(alloc: Global, seed: &RandomState, text: &[u8]) -> Result<List
 /// ```
 pub fn parse_dict(alloc: Global, seed: &RandomState, text: &[u8]) -> Result<Dict, Refusal>
     // The text spells just this Dictionary, or this is its exact refusal; else memory was wanting.
-    ensures { Makes field_is.Dict (Parses Rfc9651 kind_is.Dict text.now) result }
+    ensures parses { Makes field_is.Dict (Parses Rfc9651 kind_is.Dict text.now) result }
+    // An empty Dictionary is not refused for want of memory.
+    ensures in_place { TakesNoMemory kind_is.Dict text.now → IfErr result IsOther }
 {
     match parse_text(alloc, seed, Kind::Dict, text)? {
         Field::Dict(dict) => Ok(dict),

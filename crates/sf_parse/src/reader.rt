@@ -13,7 +13,7 @@ use std::hash::RandomState;
 /// behind the reader's end. The answer is, in this order over the bytes given: Syntax with a found
 /// byte, where the first `max` of them are no good prefix; ReadFault, where a read failed; TooLong,
 /// where more than `max` came; else, at the reader's end, the value, or Syntax without a found
-/// byte. An Item of spaces, `-` and digits takes no memory.
+/// byte. An Item of spaces, digits and `-.?@` takes no memory.
 ///
 /// ```
 /// let mut source = Reading::new(b"u=1, i".as_slice());

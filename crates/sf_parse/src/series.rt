@@ -1,11 +1,13 @@
 //! Members with commas between them that are being read: the members of a List or a Dictionary (RFC
 //! 9651 sections 4.2.1 and 4.2.2).
-ghost use Rattle.std.specs.Prelude.{◌≡◌, ℕ, Bool, false, Option, IfOk};
+ghost use Rattle.std.specs.Prelude.{◌≡◌, ℕ, Bool, [], false, Option, IfOk, IsOk};
 ghost use Rattle.sf_value.specs.declared.dialect.Dialect.{Dialect};
 ghost use Rattle.sf_parse.specs.Expected.{Marks};
 ghost use Rattle.sf_parse.specs.Prefixes.{Starts};
 ghost use Rattle.sf_parse.specs.SeriesView.{series_next, series_end, series_stuck, Ends};
 ghost use Rattle.sf_parse.specs.Machine.Series.{Begin};
+ghost use Rattle.sf_parse.specs.AllocationFree.{SeriesFree};
+ghost use Rattle.sf_parse.specs.StaysFree.{series_keeps};
 ghost use Rattle.sf_parse.specs.Machine.Tests.{series_takes, series_ends};
 
 use crate::context::Context;
@@ -97,7 +99,9 @@ impl<P: SeriesMember<G>, G: Drop> SeriesReader<P, G> {
     /// What the members gave, if the last one is whole. What is left is the reader alone.
     pub fn finish(&mut self, context: &Context) -> Result<Option<G>, OutOfMemory>
         // It is what the members gave, if they may end.
-        ensures { IfOk result (λ given. given ≡ series_end P.added P.none self.old) }
+        ensures value { IfOk result (λ given. given ≡ series_end P.added P.none self.old) }
+        // Before the first member the end takes no memory.
+        ensures allocation_free { SeriesFree self.old [] → IsOk result }
     {
         match self.phase {
             SeriesPhase::Begin => return Ok(Some(P::none(context))),
@@ -124,9 +128,10 @@ impl<P: SeriesMember<G>, G: Drop> Level for SeriesReader<P, G> {
 
     ghost ends = { λ s. series_ends P.ends s };
 
-    ghost allocation_free = { λ d s. ⊥ };
+    ghost allocation_free = { λ d s more. SeriesFree s more };
 
-    ghost keeps = { λ d s t b h e k. absurd h };
+    ghost keeps = { λ d s t b more h e.
+        series_keeps (P.first d) (P.next d) P.added P.none s t b more h e };
 
     fn take_part<'a>(
         &mut self,

@@ -1,7 +1,7 @@
 //! A field that is being read (RFC 9651 section 4.2).
 ghost use Rattle.std.specs.Prelude.{◌≡◌, [], ◌∷◌, true, IfOk, IsOk};
 ghost use Rattle.sf_value.specs.Grammar.Words.{Every};
-ghost use Rattle.sf_parse.specs.AllocationFree.{number_byte};
+ghost use Rattle.sf_parse.specs.AllocationFree.{scalar_byte};
 ghost use Rattle.sf_parse.specs.AllocationFreeParsers.{AllocationFreeState};
 ghost use Rattle.sf_parse.specs.Expected.{Marks};
 ghost use Rattle.sf_parse.specs.StateView.{state_of};
@@ -45,9 +45,9 @@ impl FieldState {
         // The bytes before the rest lead to the new state, which can't take the first of the rest.
         ensures prefix { IfOk result (λ rest. LongestPrefix (step_of context.now.dialect)
             (state_of self.old) chunk.now rest.now (state_of self.new)) }
-        // In an allocation-free state of an Item spaces, `-` and digits take no memory.
+        // In an allocation-free state of an Item spaces, digits and `-.?@` take no memory.
         ensures allocation_free { AllocationFreeState (state_of self.old)
-            → Every number_byte chunk.now → IsOk result }
+            → Every scalar_byte chunk.now → IsOk result }
     {
         if let Some((byte, more)) = chunk.split_first() {
             if more.is_empty() {
@@ -67,9 +67,9 @@ impl FieldState {
         // The bytes before the rest lead to the new state, which can't take the first of the rest.
         ensures prefix { IfOk result (λ rest. LongestPrefix (step_of context.now.dialect)
             (state_of self.old) chunk.now rest.now (state_of self.new)) }
-        // In an allocation-free state of an Item spaces, `-` and digits take no memory.
+        // In an allocation-free state of an Item spaces, digits and `-.?@` take no memory.
         ensures allocation_free { AllocationFreeState (state_of self.old)
-            → Every number_byte chunk.now → IsOk result }
+            → Every scalar_byte chunk.now → IsOk result }
     {
         match self {
             FieldState::Item(top) => top.take(context, chunk),
@@ -84,8 +84,8 @@ impl FieldState {
         // A byte that is taken leads the machine on; with any other it can't go on, and stays.
         ensures prefix { IfOk result (λ took. LongestPrefix (step_of context.now.dialect)
             (state_of self.old) (byte ∷ []) (unless took byte) (state_of self.new)) }
-        // In an allocation-free state of an Item spaces, `-` and digits take no memory.
-        ensures allocation_free { AllocationFreeState (state_of self.old) → number_byte byte ≡ true
+        // In an allocation-free state of an Item spaces, digits and `-.?@` take no memory.
+        ensures allocation_free { AllocationFreeState (state_of self.old) → scalar_byte byte ≡ true
             → IsOk result }
     {
         match self {

@@ -1,6 +1,7 @@
 //! A String that is being read (RFC 9651 section 4.2.5).
-ghost use Rattle.std.specs.Prelude.{◌≡◌, ℕ, List, IfOk};
+ghost use Rattle.std.specs.Prelude.{◌≡◌, ℕ, List, [], ◌∷◌, ◌++◌, IfOk, IsOk};
 ghost use Rattle.sf_value.specs.Grammar.Words.{Every};
+ghost use Rattle.sf_value.specs.InPlace.{FitsInPlace};
 ghost use Rattle.sf_value.specs.Grammar.Classes.{is_visible as is_visible_byte};
 ghost use Rattle.sf_parse.specs.Expected.{Marks};
 ghost use Rattle.sf_parse.specs.Prefixes.{Went};
@@ -34,6 +35,8 @@ impl TextPhase {
             (text_of self.old text.old) (text_of self.new text.new)) }
         // The bytes so far stay visible ones.
         ensures visible { Every is_visible_byte text.old → Every is_visible_byte text.new }
+        // Where it fits in place with the byte, none is wanting.
+        ensures in_place { FitsInPlace (text.old ++ byte ∷ []) → IsOk result }
     {
         match *self {
             TextPhase::Inside => {
@@ -74,6 +77,8 @@ impl TextPhase {
             rest.now (text_of self text.new)) }
         // The bytes so far stay visible ones.
         ensures visible { Every is_visible_byte text.old → Every is_visible_byte text.new }
+        // Where it fits in place with the chunk, none is wanting.
+        ensures in_place { FitsInPlace (text.old ++ chunk.now) → IsOk result }
     {
         match self {
             TextPhase::Inside => {

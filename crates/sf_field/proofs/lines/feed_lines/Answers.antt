@@ -2,7 +2,7 @@ use Rattle.std.proofs.Common.{[], sym, ap, ◌∙◌, subst, inl, inr}
 use Rattle.std.proofs.lemmas.Result.{err_from_is_err_and}
 use Rattle.sf_value.specs.Grammar.Lines.{join}
 use Rattle.sf_value.specs.Grammar.Words.{Every}
-use Rattle.sf_parse.specs.AllocationFree.{number_byte}
+use Rattle.sf_parse.specs.AllocationFree.{scalar_byte}
 use Rattle.sf_parse.proofs.FedLines.{fed_before}
 use Rattle.sf_field.proofs.Feeding.{FedSoFar, behind, joined, fed_nothing, fed_line, fed_refused}
 use Rattle.sf_field.proofs.Feeding.{alone_next}
@@ -50,7 +50,7 @@ loop-line-preserved g c =
           (c.loop-line.invariant.alone line e) in
           c.in_ok-feed_line.ensures.allocation_free
           (c.loop-line.invariant.allocation_free h line e w) only.1
-          (subst (Every number_byte) (sym only.0) w);
+          (subst (Every scalar_byte) (sym only.0) w);
       alone = λ line e.
           inr (alone_next line after _ _ _ c.in-Some.ensures
           (c.loop-line.invariant.alone line e)).2;

@@ -1,7 +1,7 @@
 use Rattle.std.proofs.Common.{◌≡◌, ℕ, List, [], ◌∷◌, length}
 use Rattle.sf_value.specs.Grammar.Lines.{join}
 use Rattle.sf_value.specs.Grammar.Words.{Every}
-use Rattle.sf_parse.specs.AllocationFree.{number_byte}
+use Rattle.sf_parse.specs.AllocationFree.{scalar_byte}
 use Rattle.sf_parse.specs.AllocationFreeParsers.{IsAllocationFree}
 use Rattle.sf_field.proofs.Feeding.{FedSoFar, Alone, behind}
 use Rattle.sf_field.proofs.lines.feed_lines.Given as goal
@@ -13,7 +13,7 @@ invariant-loop-line g l = record {
       (behind l.parser.after_line (g.L.FieldLines.lines l.lines));
   allocation_free : IsAllocationFree l.fn.parser → (line : List ℕ)
       → g.L.FieldLines.lines l.initial.lines ≡ line ∷ []
-      → Every number_byte line → IsAllocationFree l.parser;
+      → Every scalar_byte line → IsAllocationFree l.parser;
   alone : (line : List ℕ) → g.L.FieldLines.lines l.initial.lines ≡ line ∷ []
       → Alone line l.parser.after_line (g.L.FieldLines.lines l.lines);
 }

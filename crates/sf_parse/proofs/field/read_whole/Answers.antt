@@ -1,8 +1,9 @@
-use Rattle.std.proofs.Common.{sym, ap, ◌∙◌, subst}
+use Rattle.std.proofs.Common.{sym, ◌∙◌, subst}
+use Rattle.sf_parse.specs.AllocationFree.{FieldFree}
 use Rattle.sf_parse.specs.Expected.{Marks}
-use Rattle.sf_parse.specs.Machine.Fields.{step, begin}
+use Rattle.sf_parse.specs.Machine.Fields.{step}
 use Rattle.sf_parse.proofs.Prefixes.{prefix_above, never}
-use Rattle.sf_parse.proofs.WholeTexts.{whole_refused, whole_value, whole_allocation_free}
+use Rattle.sf_parse.proofs.WholeTexts.{whole_refused, whole_value, whole_free, begins_free}
 use Rattle.sf_parse.proofs.field.read_whole.Goals as goal
 
 pub returns-then-is_some-clause-parses : goal.returns-then-is_some-clause-parses
@@ -11,7 +12,7 @@ returns-then-is_some-clause-parses g c =
     let law = g.met.W.WholeField in
     let prefix = prefix_above (g.W.Level.next d) (step d) g.W.WholeField.state (law.steps d) _ _ _ _
     c.in_ok-rest.ensures.prefix in
-    whole_refused d _ _ _ _ _ _ _ _ c.requires.begin prefix
+    whole_refused d _ _ _ _ _ _ _ _ c.requires prefix
     (c.copied-found.ensures ∙ c.first.ensures.value)
     (subst (Marks c.expected.result) (law.takes_too d _) c.expected.ensures)
     (c.may_end-may_end.ensures ∙ law.ends_too _)
@@ -23,7 +24,7 @@ returns-clause-parses g c =
     let law = g.met.W.WholeField in
     let prefix = prefix_above (g.W.Level.next d) (step d) g.W.WholeField.state (law.steps d) _ _ _ _
     c.in_ok-rest.ensures.prefix in
-    whole_value d _ _ _ _ _ _ _ c.requires.begin prefix
+    whole_value d _ _ _ _ _ _ _ c.requires prefix
     (c.copied-found.ensures ∙ c.first.ensures.value) (sym c.is_some.ensures ∙ c.if-is_some.false)
     (sym c.in_ok-value.ensures.value ∙ c.in-Some.is)
 
@@ -33,6 +34,15 @@ returns-in_err-value-clause-allocation_free g c =
     let law = g.met.W.WholeField in
     let prefix = prefix_above (g.W.Level.next d) (step d) g.W.WholeField.state (law.steps d) _ _ _ _
     c.in_ok-rest.ensures.prefix in
-    λ item w.
-    never (c.in_err-value.ensures.allocation_free
-    (whole_allocation_free d _ _ _ _ (c.requires.begin ∙ ap begin item) w prefix))
+    λ w. never (c.in_err-value.ensures.allocation_free
+    (whole_free d g.W.WholeField.kind _ _ _ _ _ c.requires w prefix
+    (c.copied-found.ensures ∙ c.first.ensures.value)
+    (sym c.is_some.ensures ∙ c.if-is_some.false)))
+
+pub returns-in_err-rest-clause-allocation_free : goal.returns-in_err-rest-clause-allocation_free
+returns-in_err-rest-clause-allocation_free g c =
+    let d = c.args.context.now.dialect in
+    let law = g.met.W.WholeField in
+    λ w. never (c.in_err-rest.ensures.allocation_free (law.free_too d _ _
+    (subst (λ s. FieldFree s c.args.text.now) (sym c.requires)
+    (begins_free g.W.WholeField.kind c.args.text.now w))))

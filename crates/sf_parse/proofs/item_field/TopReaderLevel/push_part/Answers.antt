@@ -1,4 +1,4 @@
-use Rattle.std.proofs.Common.{refl, []}
+use Rattle.std.proofs.Common.{refl}
 use Rattle.sf_parse.specs.Machine.Items.{item_step}
 use Rattle.sf_parse.specs.Machine.States.{InTop}
 use Rattle.sf_parse.specs.Machine.Fields.{step}
@@ -16,4 +16,4 @@ returns-in-Inside-clause-went c =
 pub returns-in-Inside-clause-allocation_free : goal.returns-in-Inside-clause-allocation_free
 returns-in-Inside-clause-allocation_free c =
     rw (← c.self.view_is, c.in-Inside.is)
-    (λ h w. c.push.ensures.allocation_free (h [] _ tt refl) w)
+    (λ more h. c.push.ensures.allocation_free more h)

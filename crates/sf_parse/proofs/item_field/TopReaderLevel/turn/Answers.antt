@@ -1,8 +1,8 @@
-use Rattle.std.proofs.Common.{refl, []}
+use Rattle.std.proofs.Common.{◌∷◌}
 use Rattle.sf_parse.proofs.Prefixes.{never}
 use Rattle.sf_parse.proofs.item_field.TopReaderLevel.turn.Goals as goal
 
 pub returns-in_err-end-in-Inside-clause-allocation_free : goal.returns-in_err-end-in-Inside-clause-allocation_free
 returns-in_err-end-in-Inside-clause-allocation_free c =
     rw (← c.self.view_is, c.in-Inside.is)
-    (λ h p. never (c.in_err-end-in-Inside.ensures.allocation_free tt (h [] _ tt refl)))
+    (λ more h. never (c.in_err-end-in-Inside.ensures.allocation_free tt (_ ∷ more) h))

@@ -1,7 +1,5 @@
-use Rattle.sf_value.specs.Grammar.Words.{Every}
 use Rattle.std.proofs.Common.{subst}
-use Rattle.sf_parse.specs.AllocationFree.{number_byte}
-use Rattle.sf_parse.proofs.Prefixes.{never, went_more, every_rest, kept_by_prefix}
+use Rattle.sf_parse.proofs.Prefixes.{never, went_more, free_went}
 use Rattle.sf_parse.proofs.Prefixes.{prefix_none, turn_on, turn_stop}
 use Rattle.sf_parse.proofs.level.Level.take.Goals as goal
 
@@ -9,11 +7,9 @@ pub returns-in_err-rest-clause-allocation_free : goal.returns-in_err-rest-clause
 returns-in_err-rest-clause-allocation_free g c =
     let d = c.args.context.now.dialect in
     let next = g.Self.Level.next d in
-    λ h w. never (c.in_err-rest.ensures.allocation_free
-    (kept_by_prefix next (g.Self.Level.allocation_free d) number_byte (g.met.Self.Level.keeps d) _ _
-    _ _ h w
-    c.loop-self.invariant)
-    (every_rest next number_byte _ _ _ _ c.loop-self.invariant w))
+    λ h. never (c.in_err-rest.ensures.allocation_free
+    (free_went next (g.Self.Level.allocation_free d) (g.met.Self.Level.keeps d) _ _ _ _ h
+    c.loop-self.invariant))
 
 pub returns-in_default-clause-prefix : goal.returns-in_default-clause-prefix
 returns-in_default-clause-prefix g c =
@@ -25,12 +21,11 @@ pub returns-in_err-turn-clause-allocation_free : goal.returns-in_err-turn-clause
 returns-in_err-turn-clause-allocation_free g c =
     let d = c.args.context.now.dialect in
     let next = g.Self.Level.next d in
-    let keeps = g.met.Self.Level.keeps d in
+    let free = g.Self.Level.allocation_free d in
     let went = went_more next _ _ _ _ _ _ c.loop-self.invariant c.in_ok-rest.ensures.went in
-    λ h w. never (c.in_err-turn.ensures.allocation_free
-    (kept_by_prefix next (g.Self.Level.allocation_free d) number_byte keeps _ _ _ _ h w went)
-    (subst (Every number_byte) c.in-Some.ensures.cases.0
-    (every_rest next number_byte _ _ _ _ went w)).0)
+    λ h. never (c.in_err-turn.ensures.allocation_free _
+    (subst (free c.take_part.new.self) c.in-Some.ensures.cases.0
+    (free_went next free (g.met.Self.Level.keeps d) _ _ _ _ h went)))
 
 pub returns-then-not-branch-clause-prefix : goal.returns-then-not-branch-clause-prefix
 returns-then-not-branch-clause-prefix g c =

@@ -1,7 +1,7 @@
 use Rattle.std.proofs.Common.{subst}
 use Rattle.std.proofs.lemmas.Result.{err_from_is_err_and}
 use Rattle.sf_value.specs.Grammar.Words.{Every}
-use Rattle.sf_parse.specs.AllocationFree.{number_byte}
+use Rattle.sf_parse.specs.AllocationFree.{scalar_byte}
 use Rattle.sf_parse.proofs.Prefixes.{every_split}
 use Rattle.sf_parse.proofs.Feeding.{refused_before, refused_behind, prefix_split, suffix_split}
 use Rattle.sf_parse.proofs.parser.Parser.feed.Goals as goal
@@ -17,7 +17,7 @@ returns-in_err-rest-clause-allocation_free c =
     let p = err_from_is_err_and c.from_residual.result c.from_residual.ensures.1 in
     rw (p.1, p.2)
     (λ h w. c.in_err-rest.ensures.allocation_free h
-    (every_split number_byte _ _ (subst (Every number_byte) c.split_at.ensures.by_index.0 w)).0)
+    (every_split scalar_byte _ _ (subst (Every scalar_byte) c.split_at.ensures.by_index.0 w)).0)
 
 pub returns-in-Some-split_first-clause-fed : goal.returns-in-Some-split_first-clause-fed
 returns-in-Some-split_first-clause-fed c =

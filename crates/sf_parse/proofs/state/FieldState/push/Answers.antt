@@ -7,13 +7,13 @@ use Rattle.sf_parse.specs.SeriesView.{series_next}
 use Rattle.sf_parse.specs.MemberEnds.{with_member, with_entry}
 use Rattle.sf_parse.specs.FieldSteps.{list_steps, dict_steps}
 use Rattle.sf_parse.proofs.Prefixes.{all_of_byte}
-use Rattle.sf_parse.proofs.AllocationFreeSteps.{allocation_free_stays}
+use Rattle.sf_parse.proofs.AllocationFreeSteps.{scalars_free}
 use Rattle.sf_parse.proofs.state.FieldState.push.Goals as goal
 
 pub returns-in-Item-clause-allocation_free : goal.returns-in-Item-clause-allocation_free
 returns-in-Item-clause-allocation_free c =
     rw c.in-Item.is
-    (λ h w. c.push.ensures.allocation_free (allocation_free_stays c.args.context.now.dialect _ h) w)
+    (λ h w. c.push.ensures.allocation_free [] (scalars_free _ _ h (w, tt)))
 
 pub returns-in-List-clause-prefix : goal.returns-in-List-clause-prefix
 returns-in-List-clause-prefix c =
