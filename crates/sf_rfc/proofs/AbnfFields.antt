@@ -33,7 +33,7 @@ use Rattle.sf_rfc.specs.Rfc9651.AbnfNotation.{Rule, text, either, then, many, so
 use Rattle.sf_rfc.specs.Rfc9651.AbnfNotation.{SP, OWS}
 use Rattle.sf_rfc.specs.Rfc9651.Abnf.{bare_item, key, parameters, sf_item, inner_list, list_member}
 use Rattle.sf_rfc.specs.Rfc9651.Abnf.{with_commas, dict_member, sf_dictionary}
-use Rattle.sf_rfc.specs.AbnfLaws.{if_sent, field_rule, white_space_behind}
+use Rattle.sf_rfc.specs.AbnfLaws.{if_sent, field_rule, white_space_after}
 use Rattle.sf_rfc.proofs.AbnfCharacters.{key_start, in_key, every_many, spaces, some_spaces}
 use Rattle.sf_rfc.proofs.AbnfCharacters.{white_space}
 use Rattle.sf_rfc.proofs.AbnfBareItems.{bare_keeps}
@@ -250,7 +250,7 @@ module _ (d : Dialect) where
       (p.0, suffix, e, key_keeps p.0 w, inl (params_keep suffix ps h))
 
   pub spelled_keeps : (kind : Kind) (t : Seq ℕ) (v : Field) → SpellsField d kind t v
-      → Between (field_rule d v) (white_space_behind v) t
+      → Between (field_rule d v) (white_space_after v) t
   spelled_keeps kind.Item t (field.Item i) (gap, body, tail, e, g, h, w) =
       (gap, body, tail, e, spaces gap g, item_keeps body i h, spaces tail w)
   spelled_keeps kind.Item t (field.List l) h = elim h [ ]

@@ -9,6 +9,7 @@ use Rattle.sf_value.specs.Grammar.Fields.{SpellsField}
 use Rattle.sf_value.specs.Grammar.Valid.{Valid}
 use Rattle.sf_value.specs.Grammar.Canonical.{canon}
 use Rattle.sf_rfc.specs.Rfc9651.AbnfNotation.{Rule, text, many, SP, OWS}
+use Rattle.sf_rfc.specs.Rfc9651.Parsing.{parse_field}
 use Rattle.sf_rfc.specs.Rfc9651.Serialising.{serialise}
 use Rattle.sf_rfc.specs.Rfc9651.Abnf.{sf_item, sf_list, sf_dictionary}
 
@@ -36,9 +37,9 @@ SerialisedKeepsAbnf =
     → (t : Seq ℕ) × (serialise v ≡ Some t) × field_rule d v t
 
 -- the white space that parsing discards after a field (4.2; 4.2.1 and 4.2.2 discard HTAB too)
-abbrev pub white_space_behind : Field → Rule
-white_space_behind (field.Item i) = many SP
-white_space_behind v = OWS
+abbrev pub white_space_after : Field → Rule
+white_space_after (field.Item i) = many SP
+white_space_after v = OWS
 
 -- every text of a field keeps to the ABNF between white space, which the ABNF has no rule for
 abbrev pub SpelledKeepsAbnf : Type 0
@@ -48,7 +49,7 @@ SpelledKeepsAbnf =
     × (t ≡ gap ++ (body ++ tail))
     × many SP gap
     × field_rule d v body
-    × white_space_behind v tail
+    × white_space_after v tail
 
 -- the rule of a kind of field
 abbrev pub kind_rule : Dialect → Kind → Rule
@@ -71,4 +72,10 @@ IsTrimmed t = Begins t × Ends t
 abbrev pub AbnfIsTrimmed : Type 0
 AbnfIsTrimmed =
     (d : Dialect) (kind : Kind) (t : Seq ℕ) (v : Field) → SpellsField d kind t v
+    → (kind_rule d kind t ↔ IsTrimmed t)
+
+-- and so for what the steps of the RFC parse (4.2)
+abbrev pub ParsedIsTrimmed : Type 0
+ParsedIsTrimmed =
+    (d : Dialect) (kind : Kind) (t : Seq ℕ) (v : Field) → parse_field d kind t ≡ Some v
     → (kind_rule d kind t ↔ IsTrimmed t)

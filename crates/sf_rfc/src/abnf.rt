@@ -1,7 +1,7 @@
 //! Laws of the ABNF (RFC 9651 appendix C; RFC 8941 section 3), each as the contract of a function
 //! that does nothing.
 ghost use Rattle.sf_rfc.specs.AbnfLaws.{CanonKeepsAbnf, SerialisedKeepsAbnf, SpelledKeepsAbnf};
-ghost use Rattle.sf_rfc.specs.AbnfLaws.{AbnfIsTrimmed};
+ghost use Rattle.sf_rfc.specs.AbnfLaws.{AbnfIsTrimmed, ParsedIsTrimmed};
 
 /// The canonical text of a valid field keeps to the ABNF; that of a List or a Dictionary with no
 /// members, which is not sent, is empty.
@@ -25,4 +25,10 @@ pub fn spelled_keeps_abnf()
 /// ends with white space.
 pub fn abnf_is_trimmed()
     ensures { AbnfIsTrimmed }
+{}
+
+/// A text that parses by the RFC's steps (section 4.2) keeps to the ABNF exactly if it is not empty
+/// and neither begins nor ends with white space.
+pub fn parsed_is_trimmed()
+    ensures { ParsedIsTrimmed }
 {}
