@@ -1,6 +1,6 @@
 //! Texts by both ways: the tree of each, and its view, have the same parts.
 use sf_parse::parse_text_in;
-use sf_value::{Bare, Dialect, Entries, Field, Inner, Item, Kind, Member};
+use sf_value::{Bare, Dialect, Entries, Field, Inner, Item, Kind, Member, same};
 use sf_view::{BareView, Node, Slice, View};
 use std::alloc::Global;
 use std::hash::RandomState;
@@ -237,6 +237,41 @@ fn views_have_the_parts_of_trees(rt: HostRuntime) -> Result<(), Fail> {
     let seed = RandomState::new(&rt)?;
     for (kind, text) in &TEXTS {
         check(&rt, rt.alloc(), &seed, *kind, text)?;
+    }
+    Ok(())
+}
+
+/// The bare item of an Item field, copied.
+fn copied(alloc: Global, text: &[u8]) -> Option<Bare> {
+    let mut buffer = [Node::NONE; 8];
+    let view = View::scan(Dialect::Rfc9651, Kind::Item, text, &mut buffer).ok()?;
+    view.bare()?.to_bare(alloc).ok()
+}
+
+static BARE_ITEMS: [&[u8]; 9] = [
+    b"-42",
+    b"4.5",
+    b"\"a\\\"b\"",
+    b"\"plain\"",
+    b"a/b",
+    b":AAECAwQFBgcICQ:",
+    b"?0",
+    b"@1659578233",
+    b"%\"%f0%9f%92%a9%25\"",
+];
+
+#[test]
+fn copies_are_those_of_trees(rt: HostRuntime) -> Result<(), Fail> {
+    let seed = RandomState::new(&rt)?;
+    for text in &BARE_ITEMS {
+        let field = parse_text_in(rt.alloc(), &seed, Dialect::Rfc9651, Kind::Item, text)?;
+        match copied(rt.alloc(), text) {
+            Some(bare) => {
+                let copy = Field::Item(Item::new(rt.alloc(), &seed, bare));
+                assert!(&rt; same(&copy, &field));
+            }
+            None => assert!(&rt; false),
+        }
     }
     Ok(())
 }

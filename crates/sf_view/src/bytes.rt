@@ -13,7 +13,7 @@ use crate::view::Slice;
 
 /// How the rest of a text spells bytes.
 #[derive(Clone, Copy, Debug, Drop)]
-enum Coding {
+pub(crate) enum Coding {
     /// As they are.
     Plain,
     /// As those of a String, up to its closing quote.
@@ -32,8 +32,8 @@ enum Coding {
 /// nothing.
 #[derive(Clone, Copy, Debug, Drop)]
 pub struct Bytes<'a> {
-    coding: Coding,
-    rest: &'a [u8],
+    pub(crate) coding: Coding,
+    pub(crate) rest: &'a [u8],
 }
 
 impl<'a> Slice<'a> {
@@ -153,7 +153,7 @@ fn fill(start: Coding, text: &[u8], buffer: &mut [u8]) -> Option<usize>
 
 /// The first byte, and how the text behind it spells those after it.
 #[inline]
-fn take_byte(coding: Coding, rest: &[u8]) -> Option<(u8, Coding, &[u8])>
+pub(crate) fn take_byte(coding: Coding, rest: &[u8]) -> Option<(u8, Coding, &[u8])>
     ensures some { (s : List ℕ) → Remains coding rest.now s
         → IfSome result (λ r. TakesByte r.0 (Remains r.1 r.2.now) s) }
     ensures none { (s : List ℕ) → Remains coding rest.now s → IfNone result (s ≡ []) }

@@ -4,6 +4,7 @@
 mod bare;
 mod bytes;
 mod classes;
+mod copies;
 mod display_string;
 mod item;
 mod keys;
@@ -14,6 +15,7 @@ mod series;
 mod view;
 
 pub use bytes::Bytes;
+pub use copies::CopyFault;
 pub use lookup::entry;
 pub use node::{Node, NodeType, Role};
 pub use series::scan_text;

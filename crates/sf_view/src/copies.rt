@@ -1,0 +1,158 @@
+//! Bare items of views, copied to values of their own.
+ghost use Rattle.std.specs.Prelude.{◌≡◌, ◌++◌, ℕ, List, IfOk, IfSome};
+ghost use Rattle.sf_value.specs.declared.dialect.Dialect.{Dialect as Which};
+ghost use Rattle.sf_value.specs.declared.value.Bare.{Bare as Value};
+ghost use Rattle.sf_value.specs.declared.value.Bare.TheVariants as value_is;
+ghost use Rattle.sf_view.specs.Decoding.{HasBytes, Remains};
+ghost use Rattle.sf_view.specs.Views.{IsBorrowed};
+
+use crate::bytes::{Coding, take_byte};
+use crate::view::{BareView, Slice};
+use sf_value::{
+    Bare, Blob, Int, OutOfMemory, ShortBytes, Shown, Text, TextFault, Thousandths, Token,
+};
+use std::alloc::Global;
+use std::str;
+
+/// Why a bare item has no copy.
+#[derive(Clone, Copy, Debug, PartialEq, Eq)]
+pub enum CopyFault {
+    /// An allocation failed.
+    OutOfMemory,
+    /// The nodes are not those of an accepted text.
+    Unscanned,
+}
+
+impl BareView<'_> {
+    /// The bare item, copied to a value of its own. It allocates.
+    ///
+    /// ```
+    /// view.get(b"u")?.bare()?.to_bare(alloc)
+    /// ```
+    pub fn to_bare(&self, alloc: Global) -> Result<Bare, CopyFault>
+        // Whatever bare item this is, the copy is that one.
+        ensures { (d : Which) (x : Value) → IsBorrowed d self.now x → IfOk result (λ b. b ≡ x) }
+    {
+        match self {
+            BareView::Integer(number) => return integer(*number),
+            BareView::Decimal(number) => return decimal(*number),
+            BareView::Text(slice) => return text(alloc, *slice),
+            BareView::Token(bytes) => return token(alloc, bytes),
+            BareView::Blob(slice) => return blob(alloc, *slice),
+            BareView::Boolean(value) => return Ok(Bare::Boolean(*value)),
+            BareView::Date(second) => return date(*second),
+            BareView::Shown(slice) => return shown(alloc, *slice),
+        }
+    }
+}
+
+fn integer(number: i64) -> Result<Bare, CopyFault>
+    ensures { IfOk result (λ b. b ≡ value_is.Integer number) }
+{
+    match Int::new(number) {
+        Ok(number) => return Ok(Bare::Integer(number)),
+        Err(_) => return Err(CopyFault::Unscanned),
+    }
+}
+
+fn decimal(number: i64) -> Result<Bare, CopyFault>
+    ensures { IfOk result (λ b. b ≡ value_is.Decimal number) }
+{
+    match Thousandths::new(number) {
+        Ok(number) => return Ok(Bare::Decimal(number)),
+        Err(_) => return Err(CopyFault::Unscanned),
+    }
+}
+
+fn date(second: i64) -> Result<Bare, CopyFault>
+    ensures { IfOk result (λ b. b ≡ value_is.Date second) }
+{
+    match Int::new(second) {
+        Ok(second) => return Ok(Bare::Date(second)),
+        Err(_) => return Err(CopyFault::Unscanned),
+    }
+}
+
+fn token(alloc: Global, bytes: &[u8]) -> Result<Bare, CopyFault>
+    ensures { IfOk result (λ b. b ≡ value_is.Token bytes.now) }
+{
+    match Token::new(alloc, bytes) {
+        Ok(token) => return Ok(Bare::Token(token)),
+        Err(fault) => return Err(fault_of(fault)),
+    }
+}
+
+fn text(alloc: Global, slice: Slice) -> Result<Bare, CopyFault>
+    ensures { (d : Which) (t : List ℕ) → HasBytes d slice.entry t
+        → IfOk result (λ b. b ≡ value_is.Text t) }
+{
+    let Ok(bytes) = decoded(alloc, slice) else {
+        return Err(CopyFault::OutOfMemory);
+    };
+    match Text::new(alloc, bytes.as_bytes()) {
+        Ok(text) => return Ok(Bare::Text(text)),
+        Err(fault) => return Err(fault_of(fault)),
+    }
+}
+
+fn blob(alloc: Global, slice: Slice) -> Result<Bare, CopyFault>
+    ensures { (d : Which) (t : List ℕ) → HasBytes d slice.entry t
+        → IfOk result (λ b. b ≡ value_is.Blob t) }
+{
+    let Ok(bytes) = decoded(alloc, slice) else {
+        return Err(CopyFault::OutOfMemory);
+    };
+    Ok(Bare::Blob(Blob::from_bytes(bytes)))
+}
+
+fn shown(alloc: Global, slice: Slice) -> Result<Bare, CopyFault>
+    ensures { (d : Which) (t : List ℕ) → HasBytes d slice.entry t
+        → IfOk result (λ b. b ≡ value_is.Shown t) }
+{
+    let Ok(bytes) = decoded(alloc, slice) else {
+        return Err(CopyFault::OutOfMemory);
+    };
+    let Ok(text) = str::from_utf8(bytes.as_bytes()) else {
+        return Err(CopyFault::Unscanned);
+    };
+    match Shown::new(alloc, text) {
+        Ok(shown) => return Ok(Bare::Shown(shown)),
+        Err(_) => return Err(CopyFault::OutOfMemory),
+    }
+}
+
+/// The fault of a String or a Token.
+fn fault_of(fault: TextFault) -> CopyFault {
+    match fault {
+        TextFault::OutOfMemory => CopyFault::OutOfMemory,
+        TextFault::Empty | TextFault::BadByte { .. } => CopyFault::Unscanned,
+    }
+}
+
+/// The bytes of a slice.
+fn decoded(alloc: Global, slice: Slice) -> Result<ShortBytes, OutOfMemory>
+    ensures { (d : Which) (t : List ℕ) → HasBytes d slice.entry t → IfOk result (λ bytes. bytes ≡ t) }
+{
+    if !slice.coded {
+        return ShortBytes::from_slice(alloc, slice.bytes);
+    }
+    let start = slice.bytes();
+    collect(alloc, start.coding, start.rest)
+}
+
+/// The bytes that a text spells.
+fn collect(alloc: Global, start: Coding, text: &[u8]) -> Result<ShortBytes, OutOfMemory>
+    ensures { (t : List ℕ) → Remains start text.now t → IfOk result (λ bytes. bytes ≡ t) }
+{
+    let mut all = ShortBytes::new(alloc);
+    let mut coding = start;
+    let mut rest = text;
+    loop {
+        let Some((byte, next, later)) = take_byte(coding, rest) else {
+            return Ok(all);
+        };
+        all.push(byte)?;
+        coding = next;
+        rest = later;
+    }
+}
