@@ -1,6 +1,5 @@
 -- Where a part of a hop is not given, no hop is; and a text that is written is that of the hop.
-use Rattle.std.proofs.Common.{◌≡◌, ℕ, ◌≤◌, List, [], ◌∷◌, Option, None, Some, refl, sym, ◌∙◌, subst}
-use Rattle.std.proofs.Common.{arith}
+use Rattle.std.proofs.Common.{◌≡◌, ℕ, ◌≤◌, List, [], ◌∷◌, Option, None, Some, arith}
 use Rattle.std.specs.Option.{option_and_then, ForSome}
 use Rattle.sf_value.specs.declared.dialect.Dialect.TheVariants.{Rfc9651}
 use Rattle.sf_value.specs.declared.value.Field.{Field}
@@ -22,7 +21,7 @@ use Rattle.sf_c.specs.declared.status.Status.{Status}
 use Rattle.sf_c.specs.declared.status.Status.TheVariants.{Answered, Refused, SecondRefused, Short}
 use Rattle.sf_c.specs.declared.status.Status.TheVariants.{OutOfMemory, Empty, BadCall}
 use Rattle.sf_c.specs.declared.status.Status.TheVariants.{NotACache, Invalid, Absent}
-use Rattle.sf_c.specs.GivenHops.{GivesHop, GivesInteger, GivesMaybe, GivesName, GivesNone}
+use Rattle.sf_c.specs.GivenHops.{GivesHop, GivesMaybe, GivesNone}
 use Rattle.sf_c.specs.GivenHops.{GivesOutcome, GivesPassed, GivesStatus, IsReadAs, WritesHop}
 use Rattle.sf_c.specs.GivenHops.{hop_text}
 use Rattle.sf_c.specs.TextBuffers.{PutsText, TextBuffer}

@@ -1,8 +1,8 @@
 -- The Dictionary of u and i can be written, and is read as the same.
-use Rattle.std.proofs.Common.{◌≡◌, ℕ, pos, ◌<◌, ◌≤◌, Bool, true, false, [], ◌∷◌, ◌++◌, refl, arith}
-use Rattle.std.proofs.Common.{Option, Some, None, ap}
+use Rattle.std.proofs.Common.{◌≡◌, ℕ, ◌<◌, Bool, true, false, ◌++◌, refl, arith}
+use Rattle.std.proofs.Common.{Option, Some, None}
 use Rattle.std.proofs.lemmas.Bool.Decides.{nat_tests}
-use Rattle.std.specs.Prelude.{◌^◌, ◌==◌, nat_le, if◌then◌else◌, codes}
+use Rattle.std.specs.Prelude.{◌^◌, ◌==◌, nat_le, if◌then◌else◌}
 use Rattle.std.specs.List.{IsDistinct}
 use Rattle.sf_value.specs.declared.dialect.Dialect.TheVariants.{Rfc9651}
 use Rattle.sf_value.specs.declared.value.Field.{Field}

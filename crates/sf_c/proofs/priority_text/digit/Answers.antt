@@ -1,4 +1,4 @@
-use Rattle.std.proofs.Common.{arith, sym, ◌≡◌, ◌∙◌, ◌+◌, ◌<◌, ◌∷◌, [], ap}
+use Rattle.std.proofs.Common.{arith, sym, ◌∙◌, ◌+◌, ◌<◌, ◌∷◌, [], ap}
 use Rattle.std.proofs.lemmas.Fmt.{decimal_digit}
 use Rattle.sf_c.proofs.priority_text.digit.Goals as goal
 
