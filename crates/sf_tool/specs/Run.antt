@@ -15,7 +15,7 @@ use Rattle.sf_write.specs.Writing.{Wrote, WrotePrefix}
 use Rattle.sf_parse.specs.declared.refusal.Refusal.{Refusal}
 use Rattle.sf_parse.specs.declared.refusal.Refusal.TheVariants.{OutOfMemory, Syntax, TooLong}
 use Rattle.sf_parse.specs.declared.refusal.Refusal.TheVariants.{ReadFault}
-use Rattle.sf_parse.specs.AllocationFree.{number_byte}
+use Rattle.sf_parse.specs.AllocationFree.{scalar_byte}
 use Rattle.sf_parse.specs.Parsers.{IsOnly, IsSyntax}
 use Rattle.sf_field.specs.Headers.{Headers}
 use Rattle.sf_field.specs.declared.asking.AskFault.{AskFault}
@@ -144,12 +144,12 @@ pub record BrokeOff (request : Request) (input : List ℕ) (old new : SinkState)
   pub answers : Answers request input text status
   pub wrote : WrotePrefix old new 0 after text
 
--- an Item is asked of a line of spaces, `-` and digits, for which no memory is taken
+-- an Item is asked of a line of spaces, digits and `-.?@`, for which no memory is taken
 abbrev pub IsNumberLine : Kind → List (List ℕ) → Type 0
 IsNumberLine asked lines =
-    (asked ≡ kind.Item) × ((line : List ℕ) × (lines ≡ line ∷ []) × Every number_byte line)
+    (asked ≡ kind.Item) × ((line : List ℕ) × (lines ≡ line ∷ []) × Every scalar_byte line)
 
--- an answer to the request may take memory: for a value that is no number; for the first listed
+-- an answer to the request may take memory: for a value that is no such line; for the first listed
 -- fields of an input, before a line that is refused
 abbrev pub MayAllocate : Request → List ℕ → Type 0
 MayAllocate (Show d kind) input = ¬ (IsNumberLine kind (lines_of input))
