@@ -1,16 +1,21 @@
 -- What fields mean to a cache or a server, in the lines that the command `sf` prints.
-use Rattle.std.specs.Prelude.{◌≡◌, ℕ, List as Seq, [], Result, Ok, Err, codes, if◌then◌else◌, ⊤}
+use Rattle.std.specs.Prelude.{◌≡◌, ℕ, Bool, true, false, ◌&&◌, List as Seq, [], ◌++◌, Result, Ok, Err}
+use Rattle.std.specs.Prelude.{Option, is_some, is_none, codes, if◌then◌else◌, ⊤}
 use Rattle.std.specs.Str.{bytes_eq}
 use Rattle.std.specs.declared.vec.Vec.{Vec}
 use Rattle.std.specs.declared.alloc.Global.{Global}
 use Rattle.sf_value.specs.declared.value.Field.{Field}
 use Rattle.sf_value.specs.declared.value.Field.TheVariants.{Item, List, Dict}
+use Rattle.sf_value.specs.declared.value.Member.{Member}
+use Rattle.sf_value.specs.Grammar.Pairs.{Pairs, value_at}
 use Rattle.sf_field.specs.declared.consumer.UseFault.{UseFault}
 use Rattle.sf_field.specs.declared.consumer.UseFault.TheVariants.{NotACache, OutOfMemory}
 use Rattle.sf_use.specs.declared.cache_status.hop.Hop.{Hop}
 use Rattle.sf_use.specs.CacheStatus.Hops.{hops}
-use Rattle.sf_use.specs.Priority.{asked_in, filled}
-use Rattle.sf_use.specs.Targeted.{directives}
+use Rattle.sf_use.specs.declared.priority.Asked.{Asked}
+use Rattle.sf_use.specs.declared.targeted.Policy.{Policy}
+use Rattle.sf_use.specs.Priority.{asked, filled}
+use Rattle.sf_use.specs.Targeted.{policy}
 use Rattle.sf_tool.specs.ChoiceLines.{policy_lines}
 use Rattle.sf_tool.specs.PathLines.{path_lines}
 use Rattle.sf_tool.specs.PriorityLine.{priority_line}
@@ -21,21 +26,47 @@ abbrev pub path_text : Result (Seq Hop) ℕ → Result (Seq ℕ) ℕ
 path_text (Ok path) = Ok (path_lines path)
 path_text (Err index) = Err index
 
+-- a member is there, and says nothing: it has another type than its specification gives it, or is out
+-- of range
+abbrev pub is_ignored : {X : Type 0} → Option Member → Option X → Bool
+is_ignored member said = is_some member && is_none said
+
+-- the line for a member that is ignored
+abbrev pub ignored_line : Seq ℕ → Bool → Seq ℕ
+ignored_line key true = codes "ignored " ++ (key ++ codes "\n")
+ignored_line key false = []
+
+-- the members of a Priority field that are ignored (RFC 9218 section 4), and what it asks for with
+-- the defaults filled in
+abbrev pub priority_lines : Pairs Member → Asked → Seq ℕ
+priority_lines members a =
+    (ignored_line (codes "u") (is_ignored (value_at (codes "u") members) a.urgency)
+    ++ ignored_line (codes "i") (is_ignored (value_at (codes "i") members) a.incremental))
+    ++ priority_line (filled a)
+
+-- the members of a targeted field that are ignored (RFC 9213 section 2.1), and its policy; any value
+-- but false sets the other directives
+abbrev pub targeted_lines : Pairs Member → Policy → Seq ℕ
+targeted_lines members p =
+    (ignored_line (codes "max-age") (is_ignored (value_at (codes "max-age") members) p.max_age)
+    ++ ignored_line (codes "s-maxage") (is_ignored (value_at (codes "s-maxage") members) p.s_maxage))
+    ++ policy_lines p
+
 -- a List as Cache-Status (RFC 9211)
 abbrev pub path_meaning : Field → Result (Seq ℕ) ℕ
 path_meaning (List l) = path_text (hops (List l))
 path_meaning (Item i) = Ok []
 path_meaning (Dict d) = Ok []
 
--- a Dictionary as Priority (RFC 9218), with the defaults filled in
+-- a Dictionary as Priority (RFC 9218)
 abbrev pub priority_meaning : Field → Result (Seq ℕ) ℕ
-priority_meaning (Dict d) = Ok (priority_line (filled (asked_in (Dict d))))
+priority_meaning (Dict d) = Ok (priority_lines d.members (asked d))
 priority_meaning (Item i) = Ok []
 priority_meaning (List l) = Ok []
 
 -- a Dictionary as a targeted cache control field (RFC 9213)
 abbrev pub policy_meaning : Field → Result (Seq ℕ) ℕ
-policy_meaning (Dict d) = Ok (policy_lines (directives (Dict d)))
+policy_meaning (Dict d) = Ok (targeted_lines d.members (policy d))
 policy_meaning (Item i) = Ok []
 policy_meaning (List l) = Ok []
 

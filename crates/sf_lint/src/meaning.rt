@@ -1,16 +1,20 @@
 //! What a field means to a cache or a server, in the lines that `sf` prints.
-ghost use Rattle.std.specs.Prelude.{◌≡◌, IfOk};
+ghost use Rattle.std.specs.Prelude.{◌≡◌, ◌++◌, IfOk};
+ghost use Rattle.sf_use.specs.Priority.{asked};
+ghost use Rattle.sf_use.specs.Targeted.{policy};
 ghost use Rattle.sf_tool.specs.ChoiceLines.{policy_lines};
 ghost use Rattle.sf_tool.specs.PathLines.{path_lines};
 ghost use Rattle.sf_tool.specs.PriorityLine.{priority_line};
 ghost use Rattle.sf_lint.specs.Meanings.{IsMeaning, meaning_of, path_meaning};
-ghost use Rattle.sf_lint.specs.Meanings.{priority_meaning, policy_meaning};
+ghost use Rattle.sf_lint.specs.Meanings.{priority_meaning, policy_meaning, ignored_line};
+ghost use Rattle.sf_lint.specs.Meanings.{priority_lines, targeted_lines, is_ignored};
+ghost use Rattle.std.specs.Option.{option_copied};
 
 use crate::settings::is_targeted;
 use sf_field::{Consumer, UseFault};
 use sf_tool::{put_path, put_policy, put_priority};
-use sf_use::{CachePath, CacheStatus, Directives, Policy, Priority, PriorityField};
-use sf_value::{Field, OutOfMemory, Writing};
+use sf_use::{CachePath, CacheStatus, Policy, Priority};
+use sf_value::{Dict, Field, Member, OutOfMemory, Writing};
 use std::alloc::Global;
 
 /// Returns the lines of a path.
@@ -46,6 +50,58 @@ fn policy_text(alloc: Global, policy: &Policy) -> Result<Vec<u8>, OutOfMemory>
     }
 }
 
+/// Returns the line for a member that is ignored; nothing if it is not.
+fn ignored_text(alloc: Global, key: &str, is_ignored: bool) -> Result<Vec<u8>, OutOfMemory>
+    ensures { IfOk result (λ text. text.items ≡ ignored_line key.now is_ignored) }
+{
+    if !is_ignored {
+        return Ok(Vec::new(alloc));
+    }
+    let text = format!(in alloc; "ignored {key}\n")?;
+    Ok(text.into_bytes())
+}
+
+/// Returns whether a member is there, and says no seconds.
+fn is_silent(member: Option<&Member>, seconds: Option<u64>) -> bool
+    ensures { result ≡ is_ignored (option_copied member.entry) seconds }
+{
+    member.is_some() && seconds.is_none()
+}
+
+/// Returns three texts as one.
+fn joined(first: Vec<u8>, second: Vec<u8>, third: Vec<u8>) -> Result<Vec<u8>, OutOfMemory>
+    ensures { IfOk result (λ text. text.items ≡ (first.items ++ second.items) ++ third.items) }
+{
+    let mut text = first;
+    text.extend_from_slice(second.as_slice())?;
+    text.extend_from_slice(third.as_slice())?;
+    Ok(text)
+}
+
+/// Returns the members of a Priority field that are ignored, and what it asks for.
+fn priority_texts(alloc: Global, dict: &Dict) -> Result<Vec<u8>, OutOfMemory>
+    ensures { IfOk result (λ text. text.items ≡ priority_lines dict.now.members (asked dict.now)) }
+{
+    let asked = Priority::from_dict(dict);
+    let has_urgency = dict.get(b"u").is_some();
+    let urgency = ignored_text(alloc, "u", has_urgency && asked.urgency.is_none())?;
+    let has_flag = dict.get(b"i").is_some();
+    let flag = ignored_text(alloc, "i", has_flag && asked.incremental.is_none())?;
+    joined(urgency, flag, priority_text(alloc, asked.with_defaults())?)
+}
+
+/// Returns the members of a targeted field that are ignored, and its policy.
+fn targeted_texts(alloc: Global, dict: &Dict) -> Result<Vec<u8>, OutOfMemory>
+    ensures { IfOk result (λ text. text.items ≡ targeted_lines dict.now.members (policy dict.now)) }
+{
+    let policy = Policy::from_dict(dict);
+    let age = is_silent(dict.get(b"max-age"), policy.max_age);
+    let age = ignored_text(alloc, "max-age", age)?;
+    let shared = is_silent(dict.get(b"s-maxage"), policy.s_maxage);
+    let shared = ignored_text(alloc, "s-maxage", shared)?;
+    joined(age, shared, policy_text(alloc, &policy)?)
+}
+
 /// Returns the path of a Cache-Status field (RFC 9211).
 fn path_of(alloc: Global, field: &Field) -> Result<Vec<u8>, UseFault>
     ensures { IsMeaning (path_meaning field.now) result }
@@ -64,12 +120,7 @@ fn priority_of(alloc: Global, field: &Field) -> Result<Vec<u8>, UseFault>
     ensures { IsMeaning (priority_meaning field.now) result }
 {
     match field {
-        Field::Dict(_) => {
-            return match PriorityField.answer(alloc, field) {
-                Ok(asked) => Ok(priority_text(alloc, asked.with_defaults())?),
-                Err(fault) => Err(fault),
-            };
-        }
+        Field::Dict(dict) => return Ok(priority_texts(alloc, dict)?),
         _ => return Ok(Vec::new(alloc)),
     }
 }
@@ -79,10 +130,7 @@ fn policy_of(alloc: Global, field: &Field) -> Result<Vec<u8>, UseFault>
     ensures { IsMeaning (policy_meaning field.now) result }
 {
     match field {
-        Field::Dict(_) => {
-            let policy = Directives.answer(alloc, field)?;
-            return Ok(policy_text(alloc, &policy)?);
-        }
+        Field::Dict(dict) => return Ok(targeted_texts(alloc, dict)?),
         _ => return Ok(Vec::new(alloc)),
     }
 }

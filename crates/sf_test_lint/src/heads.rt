@@ -1,7 +1,8 @@
 //! Heads whose answer is known.
-use sf_lint::{Settings, run};
+use http_header::HeaderName;
+use sf_lint::{CustomField, Settings, run};
 use sf_tool::Status;
-use sf_value::{Reading, Writing};
+use sf_value::{Kind, Reading, Writing};
 use std::hash::RandomState;
 use std::process::Abort;
 use std::test::Fail;
@@ -64,6 +65,127 @@ fn heads(rt: HostRuntime) -> Result<(), Fail> {
     ];
     for row in rows {
         expect_row(&rt, &seed, row);
+    }
+    Ok(())
+}
+
+/// A head with twelve structured fields, of which three are wrong.
+#[test]
+fn twelve_fields(rt: HostRuntime) -> Result<(), Fail> {
+    let seed = RandomState::new(&rt)?;
+    let row: Row = (
+        b"HTTP/2 200 \r\n\
+          date: Tue, 25 Nov 2025 10:00:00 GMT\r\n\
+          content-type: text/html; charset=utf-8\r\n\
+          accept-ch: Sec-CH-UA-Model,Sec-CH-DPR\r\n\
+          cache-status: \"cdn.example\"; fwd=stale; fwd-status=304, edge;hit;ttl=30\r\n\
+          cdn-cache-control: max-age=600,no-store\r\n\
+          cross-origin-opener-policy: same-origin; report-to=\"coop\"\r\n\
+          deprecation: @1688169599\r\n\
+          no-vary-search: params=(\"utm_source\" \"utm_medium\"\r\n\
+          origin-agent-cluster: ?true\r\n\
+          permissions-policy: geolocation=(), camera=(self  \"https://a.example\")\r\n\
+          priority: u=1, i\r\n\
+          reporting-endpoints: default=\"https://r.example/\"\r\n\
+          repr-digest: sha-256=4REjxQ4yrqUVicfSKYNO/cF9zNj5ANbzgDZt3/h3Qxo=\r\n\
+          supports-loading-mode: fenced-frame\r\n\
+          server: example\r\n\
+          \r\n",
+        b"HTTP/2 200 \n\
+          ok accept-ch: Sec-CH-UA-Model, Sec-CH-DPR\n\
+          ok cache-status: \"cdn.example\";fwd=stale;fwd-status=304, edge;hit;ttl=30\n\
+          hop 0 \"cdn.example\" forwarded stale status=304\n\
+          hop 1 edge hit ttl=30\n\
+          served 1\n\
+          ok cdn-cache-control: max-age=600, no-store\n\
+          lifetime shared 600\n\
+          lifetime private 600\n\
+          no-store\n\
+          ok cross-origin-opener-policy: same-origin;report-to=\"coop\"\n\
+          ok deprecation: @1688169599\n\
+          refused no-vary-search: the text ended at place 33, expected `)`, `;` or a space\n\
+          line 9, place 49:\n\
+          no-vary-search: params=(\"utm_source\" \"utm_medium\"\n                                                 ^\n\
+          refused origin-agent-cluster: byte 0x74 't' at place 1, expected `0` or `1`\n\
+          line 10, place 23:\n\
+          origin-agent-cluster: ?true\n                       ^\n\
+          ok permissions-policy: geolocation=(), camera=(self \"https://a.example\")\n\
+          ok priority: u=1, i\n\
+          urgency 1 incremental true\n\
+          ok reporting-endpoints: default=\"https://r.example/\"\n\
+          refused repr-digest: byte 0x52 'R' at place 9, expected \
+          a digit, `,`, `.`, `;`, a tab, a space or the end\n\
+          line 14, place 22:\n\
+          repr-digest: sha-256=4REjxQ4yrqUVicfSKYNO/cF9zNj5ANbzgDZt3/h3Qxo=\n                      ^\n\
+          ok supports-loading-mode: fenced-frame\n\
+          other fields: 3\n",
+        Status::Refused,
+    );
+    expect_row(&rt, &seed, row);
+    Ok(())
+}
+
+/// Members of another type, or out of range.
+#[test]
+fn ignored_members(rt: HostRuntime) -> Result<(), Fail> {
+    let seed = RandomState::new(&rt)?;
+    let rows: [Row; 2] = [
+        (
+            b"Priority: u=9, i=1\n",
+            b"ok priority: u=9, i=1\nignored u\nignored i\nurgency 3 incremental false\nother fields: 0\n",
+            Status::Accepted,
+        ),
+        (
+            b"CDN-Cache-Control: max-age=-1, s-maxage=5\n",
+            b"ok cdn-cache-control: max-age=-1, s-maxage=5\nignored max-age\n\
+              lifetime shared 5\nlifetime private none\nother fields: 0\n",
+            Status::Accepted,
+        ),
+    ];
+    for row in rows {
+        expect_row(&rt, &seed, row);
+    }
+    Ok(())
+}
+
+/// With `quiet`, and with fields that are given.
+#[test]
+fn settings(rt: HostRuntime) -> Result<(), Fail> {
+    let seed = RandomState::new(&rt)?;
+    let rows: [Row; 3] = [
+        (
+            b"HTTP/2 200\nPriority: u=1\nServer: a\n",
+            b"",
+            Status::Accepted,
+        ),
+        (
+            b"HTTP/2 200\nCache-Status: 7; hit\nX-Date: @1\nCache-Status: a\n",
+            b"refused cache-status: member 0 names no cache\n",
+            Status::Refused,
+        ),
+        (
+            b"X-Date: @1\nX-Date: @2\n",
+            b"refused x-date: byte 0x2c ',' at place 2, expected a digit, `;`, a space or the end\n\
+              line 1, place 10:\nX-Date: @1\n          ^\n",
+            Status::Refused,
+        ),
+    ];
+    for row in rows {
+        let (input, text, status) = row;
+        let mut fields = Vec::new(rt.alloc());
+        fields.push(CustomField {
+            name: HeaderName::from_static("x-date"),
+            kind: Kind::Item,
+        })?;
+        let settings = Settings {
+            fields,
+            quiet: true,
+        };
+        let mut source = Reading::new(input);
+        let mut sink = Writing::new(Vec::new(rt.alloc()));
+        let answer = run(rt.alloc(), &seed, &settings, &mut source, &mut sink);
+        assert_eq!(&rt; sink.into_inner().as_slice(), text);
+        assert_eq!(&rt; answer, status);
     }
     Ok(())
 }
