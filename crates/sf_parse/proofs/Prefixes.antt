@@ -119,11 +119,6 @@ pub every_split : (q : ℕ → Bool) (a b : List ℕ) → Every q (a ++ b) → E
 every_split q [] b h = (tt, h)
 every_split q (x ∷ a) b h = let k = every_split q a b h.1 in ((h.0, k.0), k.1)
 
--- a prefix and what is left of bytes of a kind
-pub every_rest : {S : Type 0} (next : S → ℕ → Option S) (q : ℕ → Bool) (s t : S)
-    (chunk rest : List ℕ) → Went next s chunk rest t → Every q chunk → Every q rest
-every_rest next q s t chunk rest a w = (every_split q a.taken rest (subst (Every q) a.split w)).1
-
 pub kept_by_prefix : {S : Type 0} (next : S → ℕ → Option S) (P : S → Type 0) (q : ℕ → Bool)
     → ((s t : S) (b : ℕ) → P s → q b ≡ true → next s b ≡ Some t → P t)
     → (s t : S) (chunk rest : List ℕ) → P s → Every q chunk → Went next s chunk rest t → P t

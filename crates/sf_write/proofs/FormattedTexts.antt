@@ -1,5 +1,5 @@
 -- Chunks that are written to a formatter one after another, and the text that they make.
-use Rattle.std.proofs.Common.{◌≡◌, ℕ, List, [], ◌∷◌, refl, sym, ap, ◌∙◌, subst}
+use Rattle.std.proofs.Common.{◌≡◌, ℕ, List, [], ◌∷◌, sym, ap, ◌∙◌}
 use Rattle.std.proofs.Output.{has_written_append, has_written_of_eq, has_written_to_eq}
 use Rattle.std.proofs.Output.{writes_in_calls_nil}
 use Rattle.std.specs.List.{FoldsTo, concat}

@@ -1,4 +1,3 @@
-use Rattle.std.proofs.Common.{◌≡◌}
 use Rattle.sf_value.specs.declared.dialect.Dialect.TheVariants.{Rfc9651}
 use Rattle.sf_value.specs.Grammar.Fields.{kind_of}
 use Rattle.sf_write.proofs.AsciiTexts.{spelled_utf8}

@@ -1,4 +1,4 @@
-use Rattle.std.proofs.Common.{◌≡◌, ◌<◌, ◌++◌, Err, rules, arith, length, length-take, take, drop}
+use Rattle.std.proofs.Common.{◌<◌, Err, rules, arith, length, length-take}
 use Rattle.std.proofs.lemmas.List.{nil_from_length}
 use Rattle.sf_write.proofs.Joining.{unwritten_all, unwritten_less, sent_once, refused_once, unwritten_none}
 use Rattle.sf_write.proofs.Joining.{uncalled_all, uncalled_less, uncalled_none}
