@@ -1,8 +1,9 @@
 -- Algorithms with a wrong step do not agree with the grammar, whatever else they do: one that takes
--- a digit as a key, one that takes a Decimal with four digits after its point, and one that discards
--- HTAB before an Item.
-use Rattle.std.proofs.Common.{◌≡◌, ℕ, pos, ◌≤◌, Bool, true, false, ◌==◌, List, [], ◌∷◌, ◌++◌, length}
-use Rattle.std.proofs.Common.{Option, Some, drop, get_or, refl, sym, ap, ◌∙◌, inl, inr, true≢false}
+-- a digit as a key, one that takes a Decimal with four digits after its point, and one that
+-- discards HTAB before an Item.
+use Rattle.std.proofs.Common.{◌≡◌, ℕ, pos, ◌≤◌, Bool, true, false, ◌==◌, List, [], ◌∷◌, ◌++◌}
+use Rattle.std.proofs.Common.{length, Option, Some, drop, get_or, sym, ap, ◌∙◌, inl, inr}
+use Rattle.std.proofs.Common.{true≢false}
 use Rattle.std.proofs.Common.{append-nil, append_assoc, arith, ◌↔◌}
 use Rattle.std.specs.Prelude.{codes}
 use Rattle.std.proofs.lemmas.Bool.Decides.{nat_tests}
