@@ -1,8 +1,8 @@
 -- Algorithms with a wrong step do not agree with the grammar, whatever else they do: one that takes
 -- a digit as a key, one that takes a Decimal with four digits after its point, and one that
 -- discards HTAB before an Item.
-use Rattle.std.proofs.Common.{◌≡◌, ℕ, pos, ◌≤◌, Bool, true, false, ◌==◌, List, [], ◌∷◌, ◌++◌}
-use Rattle.std.proofs.Common.{length, Option, Some, drop, get_or, sym, ap, ◌∙◌, inl, inr}
+use Rattle.std.proofs.Common.{◌≡◌, ℕ, ℤ, pos, ◌≤◌, Bool, true, false, ◌==◌, List, [], ◌∷◌}
+use Rattle.std.proofs.Common.{◌++◌, length, Option, Some, drop, get_or, sym, ap, ◌∙◌, inl, inr}
 use Rattle.std.proofs.Common.{true≢false}
 use Rattle.std.proofs.Common.{append-nil, append_assoc, arith, ◌↔◌}
 use Rattle.std.specs.Prelude.{codes}
@@ -30,7 +30,7 @@ digit_key f e k =
     let (front, g, (h, (start, more))) = k.sound (codes "1") [] (codes "1") e in
     true≢false (sym start)
 
--- a Decimal with four digits after its point, in thousandths
+-- a Decimal with four digits after its point, whatever its value
 four_digits : (neg : Bool) (w f : List ℕ) → Every is_digit w → 1 ≤ length w → length f ≤ 3
     → codes "1.2345" ≡ sign neg ++ (w ++ 46 ∷ f) → ⊥
 four_digits true w f h l m e = true≢false (ap (λ t. get_or t 0 0 == 49) e)
@@ -47,19 +47,18 @@ is_decimal : Bare → Bool
 is_decimal (Decimal m) = true
 is_decimal x = false
 
-not_spelled : (front : List ℕ) → codes "1.2345" ≡ front ++ []
-    → SpellsNumber front (Decimal (pos 12345)) → ⊥
+not_spelled : (x : ℤ) (front : List ℕ) → codes "1.2345" ≡ front ++ []
+    → SpellsNumber front (Decimal x) → ⊥
 unfolding is_decimal
-not_spelled front e (inl (n, f, s)) = true≢false (ap is_decimal f)
-not_spelled front e (inr (m, f, (neg, w, u, g, k, j, v))) =
+not_spelled x front e (inl (n, f, s)) = true≢false (ap is_decimal f)
+not_spelled x front e (inr (m, f, (neg, w, u, g, k, j, v))) =
     four_digits neg w u k.each (let a = k.enough in omega arith) (let a = j.fits in omega arith)
     (e ∙ append-nil front ∙ g)
 
-long_decimal : (f : Parse Bare) → f (codes "1.2345") ≡ Some (Decimal (pos 12345), [])
+long_decimal : (f : Parse Bare) (x : ℤ) → f (codes "1.2345") ≡ Some (Decimal x, [])
     → Agrees Bare SpellsNumber f is_in_number → ⊥
-long_decimal f e k =
-    let (front, g, s) = k.sound (codes "1.2345") [] (Decimal (pos 12345)) e in
-    not_spelled front g s
+long_decimal f x e k =
+    let (front, g, s) = k.sound (codes "1.2345") [] (Decimal x) e in not_spelled x front g s
 
 -- HTAB before an Item
 abbrev five : Field
