@@ -12,6 +12,7 @@ pub mod AbnfWhiteSpace
 pub mod FieldLines
 pub mod Examples
 pub mod Freedoms
+pub mod WrongSteps
 pub mod ParsingSteps
 pub mod ParsingWords
 pub mod ParsingNumbers
