@@ -65,11 +65,16 @@ abbrev pub TellsValue : Settings → List ℕ → Value → Result (List ℕ) �
 TellsValue s name v (Ok text) = IsTold (shown s (accepted_text name v ++ text)) false 0
 TellsValue s name v (Err index) = IsTold (no_cache_text name index) true 0
 
+-- a field is refused so; want of memory is no refusal of a field
+abbrev pub TellsRefusal : List ℕ → ℕ → List (List ℕ) → Refusal → List ℕ → Bool → ℕ → Type 0
+TellsRefusal name n lines r text refused others =
+    (¬ (r ≡ refusal.OutOfMemory)) × IsTold (refused_text n name lines r) true 0 text refused others
+
 -- the values of a field are parsed so
 abbrev pub TellsParsed : Settings → List ℕ → ℕ → List (List ℕ) → Result Value Refusal
     → List ℕ → Bool → ℕ → Type 0
 TellsParsed s name n lines (Ok v) = TellsValue s name v (meaning_of name v)
-TellsParsed s name n lines (Err r) = IsTold (refused_text n name lines r) true 0
+TellsParsed s name n lines (Err r) = TellsRefusal name n lines r
 
 -- a structured field, of which the first line is the n-th of the input and the first of these lines
 -- of its message: the values of its lines, joined, spell a value, or are refused

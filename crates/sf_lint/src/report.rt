@@ -8,7 +8,7 @@ ghost use Rattle.std.specs.List.{before_first};
 ghost use Rattle.sf_lint.specs.Head.{IsRepeated, is_start as is_start_in, values_in};
 ghost use Rattle.sf_lint.specs.Report.{TellsLine, TellsField, Tells, Reports, shown as shown_in};
 ghost use Rattle.sf_lint.specs.Meanings.{meaning_of};
-ghost use Rattle.sf_lint.specs.Report.{no_cache_text, TellsValue};
+ghost use Rattle.sf_lint.specs.Report.{no_cache_text, TellsValue, TellsRefusal};
 ghost use Rattle.sf_lint.specs.Report.{accepted_text, refused_text, others_text, bad_line_text};
 ghost use Rattle.sf_lint.specs.Head.{line_of};
 ghost use Rattle.sf_lint.specs.declared.head.Line.TheVariants as line;
@@ -173,6 +173,32 @@ fn refused(
     Ok(text.into_bytes())
 }
 
+/// Tells of a field that is refused.
+fn tell_refusal(
+    alloc: Global,
+    name: &str,
+    refusal: Refusal,
+    number: usize,
+    lines: &[&[u8]],
+) -> Result<Told, OutOfMemory>
+    requires { number + length lines.now < 2 ^ 64 }
+    ensures told { IfOk result (λ told. TellsRefusal name.now number
+        (map (λ line. line.now) lines.now) refusal told.text.items told.refused told.others) }
+    ensures few { IfOk result (λ told. told.others ≤ 1) }
+{
+    match refusal {
+        Refusal::OutOfMemory => return Err(OutOfMemory),
+        _ => {
+            let text = refused(alloc, name, refusal, number, lines)?;
+            return Ok(Told {
+                text,
+                refused: true,
+                others: 0,
+            });
+        }
+    }
+}
+
 /// Tells of a structured field. The lines are those of its message from its first one on, whose
 /// number is given.
 fn tell_field(
@@ -204,15 +230,7 @@ fn tell_field(
             drop(field);
             return told;
         }
-        Err(Refusal::OutOfMemory) => return Err(OutOfMemory),
-        Err(refusal) => {
-            let text = refused(alloc, name, refusal, number, lines)?;
-            return Ok(Told {
-                text,
-                refused: true,
-                others: 0,
-            });
-        }
+        Err(refusal) => return tell_refusal(alloc, name, refusal, number, lines),
     }
 }
 
