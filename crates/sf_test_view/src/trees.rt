@@ -248,6 +248,13 @@ fn copied(alloc: Global, text: &[u8]) -> Option<Bare> {
     view.bare()?.to_bare(alloc).ok()
 }
 
+/// The Item of an Item field, copied with its parameters.
+fn copied_item(alloc: Global, seed: &RandomState, text: &[u8]) -> Option<Item> {
+    let mut buffer = [Node::NONE; 8];
+    let view = View::scan(Dialect::Rfc9651, Kind::Item, text, &mut buffer).ok()?;
+    view.to_item(alloc, seed).ok()
+}
+
 static BARE_ITEMS: [&[u8]; 9] = [
     b"-42",
     b"4.5",
@@ -270,6 +277,26 @@ fn copies_are_those_of_trees(rt: HostRuntime) -> Result<(), Fail> {
                 let copy = Field::Item(Item::new(rt.alloc(), &seed, bare));
                 assert!(&rt; same(&copy, &field));
             }
+            None => assert!(&rt; false),
+        }
+    }
+    Ok(())
+}
+
+static WITH_PARAMETERS: [&[u8]; 4] = [
+    b"1; a; b=?0",
+    b"5; foo=bar",
+    b"a;b=\"\\\"\";c=:YQ==:;d=%\"%25\";e=1.5;f",
+    b":YQ==:;q=@0",
+];
+
+#[test]
+fn copied_items_are_those_of_trees(rt: HostRuntime) -> Result<(), Fail> {
+    let seed = RandomState::new(&rt)?;
+    for text in &WITH_PARAMETERS {
+        let field = parse_text_in(rt.alloc(), &seed, Dialect::Rfc9651, Kind::Item, text)?;
+        match copied_item(rt.alloc(), &seed, text) {
+            Some(item) => assert!(&rt; same(&Field::Item(item), &field)),
             None => assert!(&rt; false),
         }
     }

@@ -1,17 +1,23 @@
 //! Bare items of views, copied to values of their own.
-ghost use Rattle.std.specs.Prelude.{◌≡◌, ◌++◌, ℕ, List, IfOk, IfSome};
+ghost use Rattle.std.specs.Prelude.{◌≡◌, ◌∷◌, [], ℕ, List, IfOk};
 ghost use Rattle.sf_value.specs.declared.dialect.Dialect.{Dialect as Which};
 ghost use Rattle.sf_value.specs.declared.value.Bare.{Bare as Value};
 ghost use Rattle.sf_value.specs.declared.value.Bare.TheVariants as value_is;
+ghost use Rattle.sf_value.specs.declared.value.Item.{Item as ItemValue};
+ghost use Rattle.sf_value.specs.Grammar.Pairs.{Pairs, HasDistinctKeys, settle};
+ghost use Rattle.sf_view.specs.declared.node.Role.{Role as Place};
+ghost use Rattle.sf_view.specs.View.{DescribesItem, DescribesParams};
 ghost use Rattle.sf_view.specs.Decoding.{HasBytes, Remains};
 ghost use Rattle.sf_view.specs.Views.{IsBorrowed};
 
 use crate::bytes::{Coding, take_byte};
-use crate::view::{BareView, Slice};
+use crate::view::{BareView, Slice, View};
 use sf_value::{
-    Bare, Blob, Int, OutOfMemory, ShortBytes, Shown, Text, TextFault, Thousandths, Token,
+    Bare, Blob, Entries, Int, Item, Key, OutOfMemory, ShortBytes, Shown, Text, TextFault,
+    Thousandths, Token,
 };
 use std::alloc::Global;
+use std::hash::RandomState;
 use std::str;
 
 /// Why a bare item has no copy.
@@ -43,6 +49,64 @@ impl BareView<'_> {
             BareView::Date(second) => return date(*second),
             BareView::Shown(slice) => return shown(alloc, *slice),
         }
+    }
+}
+
+impl View<'_> {
+    /// The Item, copied to a value of its own, with its parameters. It allocates.
+    ///
+    /// ```
+    /// view.get(b"u")?.to_item(alloc, &seed)
+    /// ```
+    pub fn to_item(&self, alloc: Global, seed: &RandomState) -> Result<Item, CopyFault>
+        // Whatever Item the nodes describe, the copy is that one.
+        ensures { (d : Which) (r : Place) (k : List ℕ) (i : ItemValue)
+            → DescribesItem d self.now.text.now r k self.now.nodes.now i
+            → HasDistinctKeys i.params
+            → IfOk result (λ x. x ≡ i) }
+    {
+        let Some(view) = self.bare() else {
+            return Err(CopyFault::Unscanned);
+        };
+        let bare = view.to_bare(alloc)?;
+        let params = params(alloc, seed, self.params())?;
+        Ok(Item { bare, params })
+    }
+}
+
+/// The parameters that nodes describe. If a key is repeated, the last value is at its first place.
+fn params(alloc: Global, seed: &RandomState, view: View) -> Result<Entries<Bare>, CopyFault>
+    ensures { (d : Which) (r : Place) (ps : Pairs Value)
+        → DescribesParams d view.entry.text.now r view.entry.nodes.now ps
+        → IfOk result (λ all. all ≡ settle ps) }
+{
+    let mut all = Entries::new(alloc, seed);
+    let mut rest = view;
+    loop {
+        let Some((param, others)) = rest.split_first() else {
+            return Ok(all);
+        };
+        let (key, value) = pair(alloc, param)?;
+        let Ok(_) = all.set(key, value) else {
+            return Err(CopyFault::OutOfMemory);
+        };
+        rest = others;
+    }
+}
+
+/// The key and the value of a parameter.
+fn pair(alloc: Global, param: View) -> Result<(Key, Bare), CopyFault>
+    ensures { (d : Which) (r : Place) (k : List ℕ) (x : Value)
+        → DescribesParams d param.entry.text.now r param.entry.nodes.now ((k, x) ∷ [])
+        → IfOk result (λ p. (p.0 ≡ k) × (p.1 ≡ x)) }
+{
+    let Some(view) = param.bare() else {
+        return Err(CopyFault::Unscanned);
+    };
+    let value = view.to_bare(alloc)?;
+    match Key::new(alloc, param.key()) {
+        Ok(key) => return Ok((key, value)),
+        Err(fault) => return Err(fault_of(fault)),
     }
 }
 

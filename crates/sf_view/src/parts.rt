@@ -1,5 +1,5 @@
 //! The parts of a view, in order: members, Items of an Inner List, parameters.
-ghost use Rattle.std.specs.Prelude.{◌≡◌, ◌≤◌, ◌∷◌, [], ℕ, IfSome, IfNone, None, List, length, take, drop};
+ghost use Rattle.std.specs.Prelude.{◌≡◌, ◌≤◌, ◌<◌, ◌∷◌, [], ℕ, IfSome, IfNone, None, List, length, take, drop};
 ghost use Rattle.sf_value.specs.declared.dialect.Dialect.{Dialect as Which};
 ghost use Rattle.sf_value.specs.declared.value.Bare.{Bare};
 ghost use Rattle.sf_value.specs.declared.value.Inner.{Inner};
@@ -34,6 +34,8 @@ impl<'a> View<'a> {
         // Both views are of the same text.
         ensures text { IfSome result (λ r. (r.0.text.now ≡ self.now.text.now)
             × (r.1.text.now ≡ self.now.text.now)) }
+        // The others are fewer.
+        ensures fewer { IfSome result (λ r. length r.1.nodes.now < length self.now.nodes.now) }
         // Whatever members the nodes describe, these are the first of them and the others.
         ensures members { (d : Which) (ms : List Member)
             → DescribesMembers d self.now.text.now self.now.nodes.now ms

@@ -1,0 +1,20 @@
+use Rattle.std.proofs.Common.{◌≡◌, ℕ, List, length}
+use Rattle.sf_value.specs.declared.dialect.Dialect.{Dialect}
+use Rattle.sf_value.specs.declared.value.Bare.{Bare}
+use Rattle.sf_value.specs.Grammar.Pairs.{Pairs, settle}
+use Rattle.sf_view.specs.declared.node.Role.{Role}
+use Rattle.sf_view.specs.View.{DescribesParams}
+use Rattle.sf_view.proofs.Copying.{ParamsLeft}
+use Rattle.sf_view.proofs.copies.params.Given as goal
+
+abbrev pub invariant-loop-param : goal.invariant-loop-param
+invariant-loop-param l = record {
+  text : l.rest.text.now ≡ l.view.text.now;
+  settled : settle l.all ≡ l.all;
+  left : (d : Dialect) (r : Role) (ps : Pairs Bare)
+      → DescribesParams d l.view.text.now r l.view.nodes.now ps
+      → ParamsLeft d l.rest.text.now r l.rest.nodes.now l.all ps;
+}
+
+abbrev pub decreases-loop-param : goal.decreases-loop-param
+decreases-loop-param l = length l.rest.nodes.now
