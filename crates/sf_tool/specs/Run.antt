@@ -198,7 +198,7 @@ pub record ReadInPart (old new : SourceState) : Type 0 where
 abbrev pub Ran : Request → SourceState → SourceState → SinkState → SinkState → Status → Type 0
 Ran request source source' sink sink' status =
     ((input : List ℕ) × IsWhole source source' input × Tells request input sink sink' status)
-    ⊎ ((IsTooLong source source' × TellsText too_long_line Refused sink sink' status)
+    ⊎ ((IsTooLong source source' × TellsText (too_long_line input_limit) Refused sink sink' status)
     ⊎ (ReadInPart source source' × (sink' ≡ sink) × (status ≡ Stopped)))
 
 -- a refusal was answered: its line was to be written, or memory was wanting

@@ -28,6 +28,6 @@ refusal_line place found expected may_end =
     codes "refused at " ++ (decimal place ++ (found_text found
     ++ (codes " expected" ++ (set_text (runs_of expected) ++ end_text may_end))))
 
--- the line for an input that is longer than any that is read
-abbrev pub too_long_line : List ℕ
-too_long_line = codes "refused too long 1048576\n"
+-- the line for an input that is longer than this limit
+abbrev pub too_long_line : ℕ → List ℕ
+too_long_line limit = codes "refused too long " ++ (decimal limit ++ codes "\n")

@@ -60,7 +60,7 @@ pub fn run<R: Source, W: Sink>(
 {
     match read_all(alloc, INPUT_LIMIT, source) {
         Ok(input) => answer_at_once(alloc, seed, request, input.as_slice(), sink),
-        Err(ReadAllFault::TooLong { max: _ }) => answer_too_long(sink),
+        Err(ReadAllFault::TooLong { max: _ }) => answer_too_long(INPUT_LIMIT, sink),
         Err(_) => Status::Stopped,
     }
 }

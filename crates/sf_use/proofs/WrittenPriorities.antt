@@ -1,6 +1,6 @@
 -- The Dictionary that asks for a priority can be written, and is read as the same.
 use Rattle.std.proofs.Common.{ℕ, pos, ◌<◌, ◌==◌, Bool, true, false, ◌∷◌, [], ◌++◌, refl, arith}
-use Rattle.std.specs.Prelude.{◌^◌, cond, codes}
+use Rattle.std.specs.Prelude.{◌^◌, if◌then◌else◌, codes}
 use Rattle.std.specs.List.{IsDistinct}
 use Rattle.sf_value.specs.declared.dialect.Dialect.TheVariants.{Rfc9651}
 use Rattle.sf_value.specs.declared.value.Bare.TheVariants.{Integer}
@@ -18,7 +18,7 @@ use Rattle.sf_use.specs.PriorityLaws.{ReadFromText}
 -- u and i are keys, and the urgency is an Integer
 valid_members : (n : ℕ) → IsUrgency n → (usual i : Bool)
     → ValidEntries Rfc9651
-    (cond usual [] ((codes "u", plain (Integer (pos n))) ∷ []) ++ incremental_written i)
+    ((if usual then [] else (codes "u", plain (Integer (pos n))) ∷ []) ++ incremental_written i)
 unfolding IsDistinct
 valid_members n h true true = ((((refl, tt), (tt, (tt, tt))), tt), (tt, tt))
 valid_members n h true false = (tt, tt)

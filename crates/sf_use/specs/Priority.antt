@@ -1,5 +1,5 @@
 -- What a Priority field asks for, and how it is written (RFC 9218 sections 4, 5 and 8).
-use Rattle.std.specs.Prelude.{ℕ, pos, nat_le, ◌==◌, cond, Bool, true, false}
+use Rattle.std.specs.Prelude.{ℕ, pos, nat_le, ◌==◌, if◌then◌else◌, Bool, true, false}
 use Rattle.std.specs.Prelude.{[], ◌∷◌, ◌++◌, Option, Some, None, unwrap_or, codes}
 use Rattle.std.specs.Option.{option_or}
 use Rattle.sf_value.specs.declared.value.Bare.{Bare}
@@ -17,7 +17,7 @@ use Rattle.sf_use.specs.declared.priority.Priority.{Priority}
 
 -- an Integer that is an urgency
 abbrev pub urgency_in : Bare → Option ℕ
-urgency_in (Integer (pos n)) = cond (nat_le n least_urgent) (Some n) None
+urgency_in (Integer (pos n)) = if nat_le n least_urgent then Some n else None
 urgency_in x = None
 
 -- the urgency that a member says, whatever its parameters
@@ -69,7 +69,7 @@ plain x = member.Item (item x [])
 -- the member u, where it says more than the default
 abbrev pub urgency_written : ℕ → Pairs Member
 urgency_written n =
-    cond (n == usual_urgency) [] ((codes "u", plain (Integer (pos n))) ∷ [])
+    if n == usual_urgency then [] else (codes "u", plain (Integer (pos n))) ∷ []
 
 -- the member i, where it says more than the default
 abbrev pub incremental_written : Bool → Pairs Member

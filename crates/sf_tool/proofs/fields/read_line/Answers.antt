@@ -1,4 +1,4 @@
-use Rattle.std.proofs.Common.{◌≡◌, List, ℕ, true, false, rules, subst, ◌∙◌, ap, sym}
+use Rattle.std.proofs.Common.{◌≡◌, List, ℕ, true, false, rules, subst, ◌∙◌, ap}
 use Rattle.std.specs.Prelude.{Result, Ok, Err, IsErr, MatchResult}
 use Rattle.http_header.specs.FieldValue.{IsFieldValue, plain_value}
 use Rattle.http_header.specs.Token.{lowercase}

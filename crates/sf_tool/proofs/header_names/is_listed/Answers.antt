@@ -1,4 +1,4 @@
-use Rattle.std.proofs.Common.{rules, sym}
+use Rattle.std.proofs.Common.{sym}
 use Rattle.sf_tool.proofs.Names.{listed-here, not-listed-here}
 use Rattle.sf_tool.proofs.header_names.is_listed.Goals as goal
 

@@ -1,5 +1,5 @@
 use Rattle.std.proofs.Common.{◌≡◌, ◌<◌, ◌++◌, ◌∷◌, [], ap, ap₂, sym, ◌∙◌, map, length, arith}
-use Rattle.std.proofs.Common.{true, false, rules, subst}
+use Rattle.std.proofs.Common.{true, false, subst}
 use Rattle.std.specs.Borrow.{Bor}
 use Rattle.std.proofs.lemmas.List.{get_or-map, length-map}
 use Rattle.http_header.specs.Token.{lowercase}
