@@ -3,7 +3,7 @@ use Rattle.std.specs.Prelude.{◌≡◌, ℕ, ◌⊎◌, Bool, true, false, List
 use Rattle.sf_value.specs.Devices.{SourceState, SinkState}
 use Rattle.sf_tool.specs.declared.status.Status.{Status}
 use Rattle.sf_tool.specs.declared.status.Status.TheVariants.{Accepted, Refused, Stopped}
-use Rattle.sf_tool.specs.Run.{TellsText, IsWhole, IsTooLong, ReadInPart}
+use Rattle.sf_tool.specs.Run.{TellsText, IsWhole, IsTooLong, ReadInPart, input_limit}
 use Rattle.sf_tool.specs.Texts.{too_long_line}
 use Rattle.sf_lint.specs.declared.settings.Settings.{Settings}
 use Rattle.sf_lint.specs.Report.{Reports}
@@ -24,5 +24,5 @@ Answers settings input old new status =
 abbrev pub Ran : Settings → SourceState → SourceState → SinkState → SinkState → Status → Type 0
 Ran settings source source' sink sink' status =
     ((input : List ℕ) × IsWhole source source' input × Answers settings input sink sink' status)
-    ⊎ ((IsTooLong source source' × TellsText too_long_line Refused sink sink' status)
+    ⊎ ((IsTooLong source source' × TellsText (too_long_line input_limit) Refused sink sink' status)
     ⊎ (ReadInPart source source' × (sink' ≡ sink) × (status ≡ Stopped)))

@@ -42,7 +42,7 @@ pub fn run<R: Source, W: Sink>(
 {
     match read_all(alloc, INPUT_LIMIT, source) {
         Ok(input) => answer(alloc, seed, settings, input.as_slice(), sink),
-        Err(ReadAllFault::TooLong { max: _ }) => answer_too_long(sink),
+        Err(ReadAllFault::TooLong { max: _ }) => answer_too_long(INPUT_LIMIT, sink),
         Err(_) => Status::Stopped,
     }
 }

@@ -102,13 +102,8 @@ pub(crate) fn answer_refusal<W: Sink>(refusal: Refusal, sink: &mut W) -> Status
     }
 }
 
-<<<<<<< HEAD
-/// Writes the line for an input that is too long.
-pub fn answer_too_long<W: Sink>(sink: &mut W) -> Status
-=======
 /// Writes the line for an input that is longer than this limit.
-pub(crate) fn answer_too_long<W: Sink>(limit: u64, sink: &mut W) -> Status
->>>>>>> 673f4d8e427ac1416d0445525266a8df49fdefb6
+pub fn answer_too_long<W: Sink>(limit: u64, sink: &mut W) -> Status
     // Refused if the whole line was written; Stopped if a write failed after a prefix of it.
     ensures { TellsText (too_long_line limit) status_is.Refused
         (W.state sink.old) (W.state sink.new) result }
