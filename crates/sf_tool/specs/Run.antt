@@ -145,16 +145,16 @@ pub record BrokeOff (request : Request) (input : List ℕ) (old new : SinkState)
   pub wrote : WrotePrefix old new 0 after text
 
 -- an Item is asked of a line of spaces, digits and `-.?@`, for which no memory is taken
-abbrev pub IsNumberLine : Kind → List (List ℕ) → Type 0
-IsNumberLine asked lines =
+abbrev pub IsScalarLine : Kind → List (List ℕ) → Type 0
+IsScalarLine asked lines =
     (asked ≡ kind.Item) × ((line : List ℕ) × (lines ≡ line ∷ []) × Every scalar_byte line)
 
 -- an answer to the request may take memory: for a value that is no such line; for the first listed
 -- fields of an input, before a line that is refused
 abbrev pub MayAllocate : Request → List ℕ → Type 0
-MayAllocate (Show d kind) input = ¬ (IsNumberLine kind (lines_of input))
-MayAllocate (Check d kind) input = ¬ (IsNumberLine kind (lines_of input))
-MayAllocate (Normalise d kind) input = ¬ (IsNumberLine kind (lines_of input))
+MayAllocate (Show d kind) input = ¬ (IsScalarLine kind (lines_of input))
+MayAllocate (Check d kind) input = ¬ (IsScalarLine kind (lines_of input))
+MayAllocate (Normalise d kind) input = ¬ (IsScalarLine kind (lines_of input))
 MayAllocate CacheStatus input = ⊤
 MayAllocate (Targeted names) input = (n : ℕ) × MayAllocateAt names.items input n
 MayAllocate Priority input = ⊤

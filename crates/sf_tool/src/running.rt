@@ -8,7 +8,7 @@ ghost use Rattle.sf_tool.specs.declared.status.Status.TheVariants as status_is;
 ghost use Rattle.sf_tool.specs.Lines.{lines_of as lines_in};
 ghost use Rattle.sf_tool.specs.ChoiceLines.{choice_lines, IsPlaceOf};
 ghost use Rattle.sf_tool.specs.Run.{Ran, Tells, TellsInputFault, TellsText};
-ghost use Rattle.sf_tool.specs.Run.{input_limit, view_request, IsNumberLine, IsOfText, IsAskOfText};
+ghost use Rattle.sf_tool.specs.Run.{input_limit, view_request, IsScalarLine, IsOfText, IsAskOfText};
 
 use crate::answering::{
     View, answer_ask_fault, answer_chosen, answer_fallback, answer_made, answer_path,
@@ -80,7 +80,7 @@ fn parse_input(
     // The error is Syntax or OutOfMemory, never TooLong or ReadFault.
     ensures of_text { IfErr result IsOfText }
     // Parsing a line of spaces, `-` and digits as an Item does not allocate.
-    ensures allocation_free { IsNumberLine kind (lines_in input.now) → NotForMemory result }
+    ensures allocation_free { IsScalarLine kind (lines_in input.now) → NotForMemory result }
 {
     parse_from(alloc, seed, dialect, kind, InputLines::new(input))
 }
