@@ -2,7 +2,7 @@
  * dialect and what pointer stands beside a length of 0; the rest is a text. A text that is
  * accepted is normalised, parsed again and compared; its nodes and those of its canonical text are
  * the same, and so is its path of caches; rooms that are one short are answered with what is
- * wanted; the lines of the text, joined one by one, are the text again; the text is accepted
+ * required; the lines of the text, joined one by one, are the text again; the text is accepted
  * exactly where pieces of it are that are cut at some of its commas, and then it is equal to their
  * canonical texts, joined; a refusal agrees with the front of the text that it names.
  *
@@ -53,26 +53,26 @@ static int is_expected(const sf_refusal *refusal, unsigned byte) {
  * it names could have stood there. */
 static void refused(uint32_t dialect, uint32_t kind, const uint8_t *text, size_t length,
                     const sf_refusal *refusal) {
-  CHECK(refusal->place <= length);
-  CHECK((refusal->found == SF_ENDED) == (refusal->place == length));
-  CHECK(refusal->found == SF_ENDED || refusal->found == text[refusal->place]);
+  CHECK(refusal->offset <= length);
+  CHECK((refusal->found == SF_ENDED) == (refusal->offset == length));
+  CHECK(refusal->found == SF_ENDED || refusal->found == text[refusal->offset]);
   CHECK(refusal->found < 0 || !is_expected(refusal, (unsigned)refusal->found));
   CHECK(refusal->expected_low != 0 || refusal->expected_high != 0);
   CHECK(refusal->may_end <= (refusal->found != SF_ENDED));
-  shape(refusal->place < 16 ? refusal->place : 16, refusal->expected_low, refusal->expected_high);
+  shape(refusal->offset < 16 ? refusal->offset : 16, refusal->expected_low, refusal->expected_high);
 
-  size_t place = (size_t)refusal->place;
+  size_t place = (size_t)refusal->offset;
   uint8_t *front = take_room(NULL, place + 1);
   if (place > 0)
     memcpy(front, text, place);
   sf_refusal other;
   uint32_t status = sf_check(&seed, dialect, kind, front, place, &other);
   CHECK(status == (refusal->may_end ? SF_OK : SF_REFUSED));
-  CHECK(status == SF_OK || (other.place == place && other.found == -1));
+  CHECK(status == SF_OK || (other.offset == place && other.found == -1));
   for (unsigned byte = 0; byte < 256; ++byte) {
     front[place] = (uint8_t)byte;
     status = sf_check(&seed, dialect, kind, front, place + 1, &other);
-    int fits = status == SF_OK || other.place == place + 1;
+    int fits = status == SF_OK || other.offset == place + 1;
     CHECK(fits == is_expected(refusal, byte));
   }
   give_room(front);
@@ -91,7 +91,7 @@ static value parse(uint32_t dialect, uint32_t kind, const uint8_t *text, size_t 
   uint32_t status = sf_parse(&seed, dialect, kind, text, length, NULL, 0, NULL, 0, &v.sizes,
                              &refusal);
   CHECK(status == (v.sizes.nodes == 0 && v.sizes.bytes == 0 ? SF_OK : SF_SHORT));
-  CHECK(v.sizes.nodes <= SF_NODES_ROOM(length) && v.sizes.bytes <= SF_BYTES_ROOM(length));
+  CHECK(v.sizes.nodes <= SF_NODES_SIZE(length) && v.sizes.bytes <= SF_BYTES_SIZE(length));
   v.nodes = take_room(NULL, v.sizes.nodes * sizeof *v.nodes);
   v.bytes = take_room(NULL, v.sizes.bytes);
   sf_sizes sizes = {0, 0};
@@ -165,29 +165,29 @@ static void same_nodes(const value *v, const value *w) {
 
 static void accepted(uint32_t dialect, uint32_t kind, const uint8_t *text, size_t length) {
   sf_refusal refusal;
-  size_t wanted = 0, again = 0;
+  size_t required = 0, again = 0;
   uint32_t equal = 0;
   uint32_t status =
-      sf_normalise(&seed, dialect, kind, text, length, NULL, 0, &wanted, &refusal);
-  CHECK(status == (wanted == 0 ? SF_OK : SF_SHORT));
-  CHECK(wanted <= SF_CANONICAL_ROOM(length));
-  uint8_t *canonical = take_room(NULL, wanted);
-  if (wanted > 0) {
-    status = sf_normalise(&seed, dialect, kind, text, length, canonical, wanted - 1, &again,
+      sf_normalise(&seed, dialect, kind, text, length, NULL, 0, &required, &refusal);
+  CHECK(status == (required == 0 ? SF_OK : SF_SHORT));
+  CHECK(required <= SF_CANONICAL_SIZE(length));
+  uint8_t *canonical = take_room(NULL, required);
+  if (required > 0) {
+    status = sf_normalise(&seed, dialect, kind, text, length, canonical, required - 1, &again,
                           &refusal);
-    CHECK(status == SF_SHORT && again == wanted);
+    CHECK(status == SF_SHORT && again == required);
   }
-  status = sf_normalise(&seed, dialect, kind, text, length, canonical, wanted, &again, &refusal);
-  CHECK(status == SF_OK && again == wanted);
+  status = sf_normalise(&seed, dialect, kind, text, length, canonical, required, &again, &refusal);
+  CHECK(status == SF_OK && again == required);
 
   /* the canonical text is its own, and an equal value */
-  uint8_t *twice = take_room(NULL, wanted);
-  status = sf_normalise(&seed, dialect, kind, canonical, wanted, twice, wanted, &again, &refusal);
-  CHECK(status == SF_OK && again == wanted && same_piece(twice, 0, canonical, 0, wanted));
-  status = sf_equal(&seed, dialect, kind, text, length, canonical, wanted, &equal, &refusal);
+  uint8_t *twice = take_room(NULL, required);
+  status = sf_normalise(&seed, dialect, kind, canonical, required, twice, required, &again, &refusal);
+  CHECK(status == SF_OK && again == required && same_piece(twice, 0, canonical, 0, required));
+  status = sf_equal(&seed, dialect, kind, text, length, canonical, required, &equal, &refusal);
   CHECK(status == SF_OK && equal == 1);
 
-  value v = parse(dialect, kind, text, length), w = parse(dialect, kind, canonical, wanted);
+  value v = parse(dialect, kind, text, length), w = parse(dialect, kind, canonical, required);
   same_nodes(&v, &w);
   drop(v);
   drop(w);
@@ -211,7 +211,7 @@ static void joining(const uint8_t *text, size_t length) {
     i += 1;
   }
   CHECK(joined.length == length && same_piece(room, 0, text, 0, length));
-  CHECK(sf_join("a", 1, room, length, &joined) == SF_SHORT && joined.wanted == length + 3);
+  CHECK(sf_join("a", 1, room, length, &joined) == SF_SHORT && joined.required == length + 3);
   give_room(room);
 }
 
@@ -222,7 +222,7 @@ static void pieces(uint32_t dialect, uint32_t kind, const uint8_t *text, size_t 
   uint32_t bits = 2166136261u;
   for (size_t i = 0; i < length; ++i)
     bits = (bits ^ text[i]) * 16777619u;
-  size_t room = SF_CANONICAL_ROOM(length) + 2 * length, line_room = SF_CANONICAL_ROOM(length);
+  size_t room = SF_CANONICAL_SIZE(length) + 2 * length, line_room = SF_CANONICAL_SIZE(length);
   uint8_t *whole = take_room(NULL, room), *line = take_room(NULL, line_room);
   sf_joined joined = {0, 0, 0};
   sf_refusal refusal;
@@ -233,14 +233,14 @@ static void pieces(uint32_t dialect, uint32_t kind, const uint8_t *text, size_t 
     if (i < from || (i < length && (text[i] != ',' || bits >> 31 != 0)))
       continue;
     uint8_t *piece = part(text, from, i);
-    size_t wanted = 0;
-    uint32_t status = sf_normalise(&seed, dialect, kind, piece, i - from, line, line_room, &wanted,
+    size_t required = 0;
+    uint32_t status = sf_normalise(&seed, dialect, kind, piece, i - from, line, line_room, &required,
                                    &refusal);
     give_room(piece);
     CHECK(status == SF_OK || status == SF_REFUSED);
-    if (status == SF_REFUSED || wanted == 0)
+    if (status == SF_REFUSED || required == 0)
       continue;
-    CHECK(sf_join(line, wanted, whole, room, &joined) == SF_OK);
+    CHECK(sf_join(line, required, whole, room, &joined) == SF_OK);
     is_whole = i == length;
     from = i + 1;
     while (from < length && (text[from] == ' ' || text[from] == '\t'))
@@ -272,7 +272,7 @@ static caches tell(const uint8_t *text, size_t length) {
   if (status == SF_NOT_A_CACHE)
     return c;
   CHECK(status == (c.path.hops == 0 ? SF_OK : SF_SHORT));
-  CHECK(c.path.hops <= SF_NODES_ROOM(length) && c.path.bytes <= SF_BYTES_ROOM(length));
+  CHECK(c.path.hops <= SF_NODES_SIZE(length) && c.path.bytes <= SF_BYTES_SIZE(length));
   c.hops = take_room(NULL, c.path.hops * sizeof *c.hops);
   c.bytes = take_room(NULL, c.path.bytes);
   sf_path path = {0, 0, 0, 0, 0};
@@ -300,17 +300,17 @@ static void one_hop(const sf_hop *hop, size_t size) {
   CHECK(is_within(hop->name, size) && is_within(hop->why_token, size));
   CHECK(is_within(hop->key, size) && is_within(hop->detail, size));
   CHECK(hop->outcome <= SF_CONFLICT && hop->why <= SF_OTHER);
-  shape(hop->outcome * 16u + hop->why, hop->says_status * 4u + hop->says_stored * 2u +
-        hop->says_collapsed, hop->says_ttl * 4u + hop->says_key * 2u + hop->says_detail);
+  shape(hop->outcome * 16u + hop->why, hop->has_status * 4u + hop->has_stored * 2u +
+        hop->has_collapsed, hop->has_ttl * 4u + hop->has_key * 2u + hop->has_detail);
   CHECK((hop->why != SF_NO_FORWARD) == (hop->outcome >= SF_FORWARDED));
   CHECK((hop->why != SF_NO_FORWARD) == (hop->why_token.length > 0));
-  CHECK(hop->says_status <= 1 && hop->says_stored <= 1 && hop->says_collapsed <= 1);
-  CHECK(hop->says_ttl <= 1 && hop->says_key <= 1 && hop->says_detail <= 1);
-  CHECK(hop->says_status ? hop->status >= 100 && hop->status <= 999 : hop->status == 0);
-  CHECK(hop->stored <= hop->says_stored && hop->collapsed <= hop->says_collapsed);
-  CHECK(hop->says_ttl || hop->ttl == 0);
-  CHECK(hop->says_key || hop->key.length == 0);
-  CHECK(hop->says_detail || (hop->detail.length == 0 && !hop->detail_is_token));
+  CHECK(hop->has_status <= 1 && hop->has_stored <= 1 && hop->has_collapsed <= 1);
+  CHECK(hop->has_ttl <= 1 && hop->has_key <= 1 && hop->has_detail <= 1);
+  CHECK(hop->has_status ? hop->status >= 100 && hop->status <= 999 : hop->status == 0);
+  CHECK(hop->stored <= hop->has_stored && hop->collapsed <= hop->has_collapsed);
+  CHECK(hop->has_ttl || hop->ttl == 0);
+  CHECK(hop->has_key || hop->key.length == 0);
+  CHECK(hop->has_detail || (hop->detail.length == 0 && !hop->detail_is_token));
 }
 
 static int same_range(const uint8_t *a, sf_piece p, const uint8_t *b, sf_piece q) {
@@ -340,11 +340,11 @@ static void write_again(const sf_hop *hop, const uint8_t *bytes, size_t size) {
 /* The path of a text and that of its canonical text. */
 static void paths(const uint8_t *text, size_t length) {
   sf_refusal refusal;
-  size_t wanted = SF_CANONICAL_ROOM(length);
-  uint8_t *canonical = take_room(NULL, wanted);
-  CHECK(sf_normalise(&seed, SF_RFC9651, SF_LIST, text, length, canonical, wanted, &wanted,
+  size_t required = SF_CANONICAL_SIZE(length);
+  uint8_t *canonical = take_room(NULL, required);
+  CHECK(sf_normalise(&seed, SF_RFC9651, SF_LIST, text, length, canonical, required, &required,
                      &refusal) == SF_OK);
-  caches c = tell(text, length), d = tell(canonical, wanted);
+  caches c = tell(text, length), d = tell(canonical, required);
   CHECK(memcmp(&c.path, &d.path, offsetof(sf_path, is_served) + sizeof c.path.is_served) == 0);
   CHECK(c.hops == NULL || memcmp(c.hops, d.hops, c.path.hops * sizeof *c.hops) == 0);
   CHECK(same_piece(c.bytes, 0, d.bytes, 0, c.bytes == NULL ? 0 : c.path.bytes));
@@ -386,15 +386,15 @@ static void consumers(const uint8_t *text, size_t length, int is_dict) {
   uint64_t shared = 0, alone = 0;
   uint32_t in_shared = sf_lifetime(&policy, 1, &shared);
   uint32_t in_private = sf_lifetime(&policy, 0, &alone);
-  CHECK(in_private == policy.says_max_age && in_shared >= in_private);
-  CHECK(policy.says_s_maxage || shared == alone);
+  CHECK(in_private == policy.has_max_age && in_shared >= in_private);
+  CHECK(policy.has_s_maxage || shared == alone);
 }
 
 static int has_members(uint32_t dialect, uint32_t kind, const uint8_t *text, size_t length) {
   sf_refusal refusal;
-  size_t wanted = 0;
-  sf_normalise(&seed, dialect, kind, text, length, NULL, 0, &wanted, &refusal);
-  return wanted > 0;
+  size_t required = 0;
+  sf_normalise(&seed, dialect, kind, text, length, NULL, 0, &required, &refusal);
+  return required > 0;
 }
 
 int LLVMFuzzerTestOneInput(const uint8_t *data, size_t size);

@@ -22,8 +22,8 @@
  * The constants for kinds, dialects, roles and types all differ, and none is 0: an argument in the
  * place of another is SF_BAD_CALL.
  *
- * Bytes are octets, and texts are not NUL-terminated. A place is an offset in bytes, counted from
- * 0. The library requires a size_t of 64 bits.
+ * Bytes are octets, and texts are not NUL-terminated. Offsets are in bytes and begin at 0. The
+ * library requires a size_t of 64 bits.
  */
 #ifndef SF_H
 #define SF_H
@@ -135,7 +135,7 @@ typedef struct sf_seed {
 
 /* Where and why a text is refused (RFC 9651 section 4.2). */
 typedef struct sf_refusal {
-  uint64_t place;         /* length of the text's longest prefix that some well-formed text of the
+  uint64_t offset;        /* length of the text's longest prefix that some well-formed text of the
                              kind begins with */
   uint64_t expected_low;  /* bit b: byte b is allowed at that offset, for b from 0 to 63 */
   uint64_t expected_high; /* bit b: byte 64 + b is allowed there */
@@ -181,33 +181,35 @@ uint32_t sf_refusal_text(const sf_refusal *refusal, void *buffer, size_t buffer_
  *     ^
  *
  * Each byte of the text is one character there: a question mark if the byte is not printable. If
- * the place is greater than the length of the text, the caret is at its end. The results are those
+ * the offset is greater than the length of the text, the caret is at its end. The results are those
  * of sf_refusal_text.
  */
 uint32_t sf_refusal_in_text(const sf_refusal *refusal, const void *text, size_t text_length,
                             void *buffer, size_t buffer_length, size_t *required);
 
 /* The size in bytes of a buffer that is large enough for the canonical text of any text of this
- * length: eight fifths of it, so SF_CANONICAL_ROOM(5) is 8. The result is a size_t whatever integer
+ * length: eight fifths of it, so SF_CANONICAL_SIZE(5) is 8. The result is a size_t whatever integer
  * type the length has, and valid for lengths up to SIZE_MAX / 8 * 5. The macro evaluates its
  * argument twice. */
-#define SF_CANONICAL_ROOM(length)                                                                  \
+#define SF_CANONICAL_SIZE(length)                                                                  \
   (sizeof(char) * (length) / 5 * 8 + sizeof(char) * (length) % 5 * 8 / 5)
 
 /*
- * Writes the canonical text (RFC 9651 section 4.1) of the value of a text to the buffer room. Two
- * texts of a kind have equal values if and only if their canonical texts are equal, and the
- * canonical text of a canonical text is that text itself.
+ * Writes the canonical text (RFC 9651 section 4.1) of the value of a text to buffer. Two texts of a
+ * kind have equal values if and only if their canonical texts are equal, and the canonical text of
+ * a canonical text is that text itself.
  *
- *   SF_OK         the first *wanted bytes of room are the canonical text; the others are unchanged
- *   SF_SHORT      the canonical text has *wanted bytes, more than room_length; room is unchanged
+ *   SF_OK         the first *required bytes of buffer are the canonical text; the others are
+ *                 unchanged
+ *   SF_SHORT      the canonical text has *required bytes, more than buffer_length; buffer is
+ *                 unchanged
  *   SF_REFUSED    the text is malformed; refusal says where and why
  *   SF_NO_MEMORY, SF_BAD_CALL
  *
- * Unless SF_OK or SF_SHORT is returned, room and *wanted are unchanged.
+ * Unless SF_OK or SF_SHORT is returned, buffer and *required are unchanged.
  */
 uint32_t sf_normalise(const sf_seed *seed, uint32_t dialect, uint32_t kind, const void *text,
-                      size_t text_length, void *room, size_t room_length, size_t *wanted,
+                      size_t text_length, void *buffer, size_t buffer_length, size_t *required,
                       sf_refusal *refusal);
 
 /*
@@ -269,10 +271,10 @@ typedef struct sf_node {
 
 /* The sizes of buffers that are large enough for the value of any text of this length: in nodes or
  * hops, four fifths of the length, rounded to the nearest integer; and in bytes, eight fifths. The
- * type, the largest length and the double evaluation are those of SF_CANONICAL_ROOM. */
-#define SF_NODES_ROOM(length)                                                                      \
+ * type, the largest length and the double evaluation are those of SF_CANONICAL_SIZE. */
+#define SF_NODES_SIZE(length)                                                                      \
   (sizeof(char) * (length) / 5 * 4 + (sizeof(char) * (length) % 5 * 8 + 5) / 10)
-#define SF_BYTES_ROOM(length) SF_CANONICAL_ROOM(length)
+#define SF_BYTES_SIZE(length) SF_CANONICAL_SIZE(length)
 
 /* The numbers of nodes and bytes of a value. */
 typedef struct sf_sizes {
@@ -293,12 +295,12 @@ typedef struct sf_sizes {
  *   SF_NO_MEMORY, SF_BAD_CALL
  *
  * The bytes are those of each node in order, first its key and then its text, with nothing between
- * them. Buffers of SF_NODES_ROOM(text_length) nodes and SF_BYTES_ROOM(text_length) bytes are always
+ * them. Buffers of SF_NODES_SIZE(text_length) nodes and SF_BYTES_SIZE(text_length) bytes are always
  * large enough. Unless SF_OK or SF_SHORT is returned, both buffers and sizes are unchanged.
  */
 uint32_t sf_parse(const sf_seed *seed, uint32_t dialect, uint32_t kind, const void *text,
-                  size_t text_length, sf_node *nodes, size_t nodes_room, void *bytes,
-                  size_t bytes_room, sf_sizes *sizes, sf_refusal *refusal);
+                  size_t text_length, sf_node *nodes, size_t nodes_capacity, void *bytes,
+                  size_t bytes_capacity, sf_sizes *sizes, sf_refusal *refusal);
 
 /*
  * Finds the first of the nodes_length nodes that has this role and this key. For a member of a
@@ -320,8 +322,8 @@ typedef struct sf_priority_flags {
   uint8_t urgency;          /* from SF_URGENCY_FIRST to SF_URGENCY_LAST; SF_URGENCY_DEFAULT if the
                                field does not set it (4.1) */
   uint8_t incremental;      /* 1 if the response is of use as it arrives, otherwise 0 (4.2) */
-  uint8_t says_urgency;     /* 1 if the field sets the urgency, otherwise 0 */
-  uint8_t says_incremental; /* 1 if the field sets incremental, otherwise 0 */
+  uint8_t has_urgency;      /* 1 if the field sets the urgency, otherwise 0 */
+  uint8_t has_incremental;  /* 1 if the field sets incremental, otherwise 0 */
 } sf_priority_flags;
 
 /*
@@ -341,7 +343,7 @@ uint32_t sf_priority(const sf_seed *seed, const void *text, size_t text_length,
  * Merges the priorities of a client's request and a server's response (RFC 9218 section 8). Each
  * parameter is the server's if the server sets it, otherwise the client's if the client sets it,
  * otherwise the default. In the arguments, any number but 0 counts as 1 in the last three members,
- * urgency and incremental count only if says_urgency and says_incremental are set, and an urgency
+ * urgency and incremental count only if has_urgency and has_incremental are set, and an urgency
  * above SF_URGENCY_LAST counts as not set.
  */
 sf_priority_flags sf_priority_merge(const sf_priority_flags *client,
@@ -352,7 +354,7 @@ sf_priority_flags sf_priority_merge(const sf_priority_flags *client,
 
 /*
  * Writes the text of a Priority field (RFC 9218 section 5) that sets what *priority sets, and
- * nothing else: u if says_urgency is set, then i if says_incremental is set, also to the defaults.
+ * nothing else: u if has_urgency is set, then i if has_incremental is set, also to the defaults.
  * sf_priority reads it as the same. If the text is empty, the field is not to be sent (RFC 9651
  * section 4.1).
  *
@@ -368,8 +370,8 @@ uint32_t sf_priority_text(const sf_priority_flags *priority, void *buffer, size_
 typedef struct sf_policy {
   uint64_t max_age;        /* max-age in seconds; 0 if absent */
   uint64_t s_maxage;       /* s-maxage in seconds; 0 if absent */
-  uint8_t says_max_age;    /* 1 if max-age is present with an Integer of at least 0, otherwise 0 */
-  uint8_t says_s_maxage;   /* the same for s-maxage */
+  uint8_t has_max_age;     /* 1 if max-age is present with an Integer of at least 0, otherwise 0 */
+  uint8_t has_s_maxage;    /* the same for s-maxage */
   uint8_t must_revalidate; /* 1 if the directive is set, otherwise 0 */
   uint8_t no_store;        /* the same for no-store */
   uint8_t no_cache;        /* the same for no-cache */
@@ -446,14 +448,14 @@ typedef struct sf_hop {
   uint16_t outcome;        /* an sf_outcome */
   uint16_t why;            /* fwd: an sf_forward (2.2) */
   uint16_t status;         /* fwd-status: the status code of the next hop's response (2.3) */
-  uint8_t says_status;     /* 1 if fwd-status is present, otherwise 0 */
+  uint8_t has_status;      /* 1 if fwd-status is present, otherwise 0 */
   uint8_t stored;          /* stored: 1 if the cache stored the response (2.5) */
-  uint8_t says_stored;     /* 1 if stored is present, otherwise 0 */
+  uint8_t has_stored;      /* 1 if stored is present, otherwise 0 */
   uint8_t collapsed;       /* collapsed: 1 if the request was collapsed with others (2.6) */
-  uint8_t says_collapsed;  /* 1 if collapsed is present, otherwise 0 */
-  uint8_t says_ttl;        /* 1 if ttl is present, otherwise 0 */
-  uint8_t says_key;        /* 1 if key is present, otherwise 0 */
-  uint8_t says_detail;     /* 1 if detail is present, otherwise 0 */
+  uint8_t has_collapsed;   /* 1 if collapsed is present, otherwise 0 */
+  uint8_t has_ttl;         /* 1 if ttl is present, otherwise 0 */
+  uint8_t has_key;         /* 1 if key is present, otherwise 0 */
+  uint8_t has_detail;      /* 1 if detail is present, otherwise 0 */
   uint8_t name_is_token;   /* 1 if the name is a Token, 0 if it is a String */
   uint8_t detail_is_token; /* 1 if detail is present and a Token, otherwise 0 */
 } sf_hop;
@@ -484,12 +486,12 @@ typedef struct sf_path {
  *
  * The bytes are those of each hop in order, of its name, why_token, key and detail, with nothing
  * between them; an empty range is at the offset at which it would begin. Buffers of
- * SF_NODES_ROOM(text_length) hops and SF_BYTES_ROOM(text_length) bytes are always large enough.
+ * SF_NODES_SIZE(text_length) hops and SF_BYTES_SIZE(text_length) bytes are always large enough.
  * Unless SF_OK or SF_SHORT is returned, both buffers are unchanged, and so is *path, except that
  * SF_NOT_A_CACHE, and no other status, writes path->nameless.
  */
 uint32_t sf_cache_status(const sf_seed *seed, const void *text, size_t text_length, sf_hop *hops,
-                         size_t hops_room, void *bytes, size_t bytes_room, sf_path *path,
+                         size_t hops_capacity, void *bytes, size_t bytes_capacity, sf_path *path,
                          sf_refusal *refusal);
 
 /*
@@ -518,24 +520,24 @@ uint32_t sf_hop_text(const sf_seed *seed, const sf_hop *hop, const void *bytes, 
 
 /* The state of joining the lines of a field. Begin with zeros: sf_joined joined = {0, 0, 0}; */
 typedef struct sf_joined {
-  size_t length;  /* number of bytes of joined text at the beginning of room */
-  size_t wanted;  /* after SF_SHORT, the required length of room */
+  size_t length;  /* number of bytes of joined text at the beginning of buffer */
+  size_t required; /* after SF_SHORT, the required length of buffer */
   uint32_t begun; /* 0 before the first line; any other number counts as 1 */
 } sf_joined;
 
 /*
- * Appends one line of a field to the lines that are already in the buffer room, with a comma and a
+ * Appends one line of a field to the lines that are already in buffer, with a comma and a
  * space between two lines (RFC 9651 section 4.2). The result is the text that the functions above
  * take. Call this for each line in order. If a field has no lines, its text is empty.
  *
- *   SF_OK        the first joined->length bytes of room are the text with this line; the others and
- *                joined->wanted are unchanged; joined->begun is 1
- *   SF_SHORT     room has to be joined->wanted bytes long, or longer than a size_t can state if
+ *   SF_OK        the first joined->length bytes of buffer are the text with this line; the others
+ *                and joined->required are unchanged; joined->begun is 1
+ *   SF_SHORT     buffer has to be joined->required bytes long, or longer than a size_t can state if
  *                that is SIZE_MAX; all else is unchanged. Call again with a longer buffer that
  *                begins with the same bytes
- *   SF_BAD_CALL  joined->length is greater than room_length; everything is unchanged
+ *   SF_BAD_CALL  joined->length is greater than buffer_length; everything is unchanged
  */
-uint32_t sf_join(const void *line, size_t line_length, void *room, size_t room_length,
+uint32_t sf_join(const void *line, size_t line_length, void *buffer, size_t buffer_length,
                  sf_joined *joined);
 
 #ifdef __cplusplus

@@ -26,11 +26,11 @@ static int add(char **text, size_t *room, sf_joined *joined, const char *line, s
   uint32_t status = sf_join(line, length, *text, *room, joined);
   if (status != SF_SHORT)
     return status == SF_OK;
-  char *longer = realloc(*text, joined->wanted);
+  char *longer = realloc(*text, joined->required);
   if (longer == NULL)
     return 0;
   *text = longer;
-  *room = joined->wanted;
+  *room = joined->required;
   return sf_join(line, length, *text, *room, joined) == SF_OK;
 }
 
@@ -72,25 +72,25 @@ int main(int argc, char **argv) {
     return 3;
   }
 
-  size_t wanted = SF_CANONICAL_ROOM(joined.length); /* never too small */
-  char *canonical = malloc(wanted + 1);
+  size_t required = SF_CANONICAL_SIZE(joined.length); /* never too small */
+  char *canonical = malloc(required + 1);
   if (canonical == NULL) {
     fprintf(stderr, "normalise: out of memory\n");
     return 3;
   }
   sf_refusal refusal;
   int answer = 0;
-  switch (sf_normalise(&seed, SF_RFC9651, kind, text, joined.length, canonical, wanted, &wanted,
+  switch (sf_normalise(&seed, SF_RFC9651, kind, text, joined.length, canonical, required, &required,
                        &refusal)) {
   case SF_OK:
-    fwrite(canonical, 1, wanted, stdout);
+    fwrite(canonical, 1, required, stdout);
     printf("\n");
     break;
   case SF_REFUSED:
     if (refusal.found < 0)
-      printf("refused at %llu: the text ended\n", (unsigned long long)refusal.place);
+      printf("refused at %llu: the text ended\n", (unsigned long long)refusal.offset);
     else
-      printf("refused at %llu: byte 0x%02x\n", (unsigned long long)refusal.place,
+      printf("refused at %llu: byte 0x%02x\n", (unsigned long long)refusal.offset,
              (unsigned)refusal.found);
     answer = 1;
     break;

@@ -40,15 +40,15 @@ static void print_hop(const sf_hop *hop, const char *bytes) {
   printf(" %s", outcomes[hop->outcome]);
   if (hop->why != SF_NO_FORWARD)
     print_piece(": ", bytes, hop->why_token);
-  if (hop->says_status)
+  if (hop->has_status)
     printf(", status %u", (unsigned)hop->status);
-  print_flag("stored", hop->says_stored, hop->stored);
-  print_flag("collapsed", hop->says_collapsed, hop->collapsed);
-  if (hop->says_ttl)
+  print_flag("stored", hop->has_stored, hop->stored);
+  print_flag("collapsed", hop->has_collapsed, hop->collapsed);
+  if (hop->has_ttl)
     printf(", ttl %lld", (long long)hop->ttl);
-  if (hop->says_key)
+  if (hop->has_key)
     print_piece(", key ", bytes, hop->key);
-  if (hop->says_detail) {
+  if (hop->has_detail) {
     printf(", detail ");
     print_name(bytes, hop->detail, hop->detail_is_token);
   }
@@ -103,7 +103,7 @@ int main(int argc, char **argv) {
     printf("member %llu names no cache\n", (unsigned long long)path.nameless);
     break;
   case SF_REFUSED:
-    printf("refused at %llu\n", (unsigned long long)refusal.place);
+    printf("refused at %llu\n", (unsigned long long)refusal.offset);
     break;
   default:
     answer = 3;

@@ -44,7 +44,7 @@ static void give_up(const char *why) {
 
 static void add_line(field *to, const char *value, size_t length) {
   while (sf_join(value, length, to->text, to->size, &to->joined) == SF_SHORT) {
-    to->size = to->joined.wanted;
+    to->size = to->joined.required;
     to->text = realloc(to->text, to->size);
     if (to->text == NULL)
       give_up("out of memory");
@@ -108,8 +108,8 @@ int main(void) {
   if (sf_priority_text(&both, text, sizeof text, &length) == SF_OK && length > 0)
     printf("Priority: %.*s\n", (int)length, text);
   sf_hop hop = {.name = {0, sizeof name_here - 1}, .name_is_token = 1, .outcome = SF_FORWARDED,
-                .why = SF_URI_MISS, .stored = (uint8_t)is_stored, .says_stored = 1,
-                .ttl = (int64_t)seconds, .says_ttl = (uint8_t)has_ttl};
+                .why = SF_URI_MISS, .stored = (uint8_t)is_stored, .has_stored = 1,
+                .ttl = (int64_t)seconds, .has_ttl = (uint8_t)has_ttl};
   if (sf_hop_text(&seed, &hop, name_here, sizeof name_here, text, sizeof text, &length) != SF_OK)
     give_up("out of memory");
   add_line(&fields[PATH], text, length);

@@ -48,12 +48,12 @@ int main(int argc, char **argv) {
   fclose(random);
 
   size_t length = strlen(argv[2]), written;
-  char *text = malloc(SF_CANONICAL_ROOM(length) + 1);
+  char *text = malloc(SF_CANONICAL_SIZE(length) + 1);
   if (text == NULL)
     return 3;
   sf_refusal refusal;
   uint32_t status = sf_normalise(&seed, SF_RFC9651, kind, argv[2], length, text,
-                                 SF_CANONICAL_ROOM(length), &written, &refusal);
+                                 SF_CANONICAL_SIZE(length), &written, &refusal);
   if (status == SF_OK)
     text[written] = '\0';
   else {

@@ -92,7 +92,7 @@ int main(int argc, char **argv) {
   fclose(random);
 
   size_t length = strlen(argv[2]);
-  sf_sizes sizes = {SF_NODES_ROOM(length), SF_BYTES_ROOM(length)}; /* never too small */
+  sf_sizes sizes = {SF_NODES_SIZE(length), SF_BYTES_SIZE(length)}; /* never too small */
   sf_node *nodes = malloc(sizes.nodes * sizeof *nodes + 1);
   char *bytes = malloc(sizes.bytes + 1);
   if (nodes == NULL || bytes == NULL)
@@ -103,7 +103,7 @@ int main(int argc, char **argv) {
   if (status == SF_OK)
     walk(nodes, nodes + sizes.nodes, bytes, 0);
   else if (status == SF_REFUSED)
-    printf("refused at %llu\n", (unsigned long long)refusal.place);
+    printf("refused at %llu\n", (unsigned long long)refusal.offset);
   free(nodes);
   free(bytes);
   if (fflush(stdout) != 0 || ferror(stdout))

@@ -1,5 +1,5 @@
 /* Every function of sf.h, called as C calls it: the worked texts in both dialects, rooms of exactly
- * the size that is wanted, one short and empty, length 0 with NULL and with a pointer one past a
+ * the size that is required, one short and empty, length 0 with NULL and with a pointer one past a
  * block, numbers that are no kind, malloc refused at each call in turn, and a thread for each
  * processor. Texts and rooms end where a page begins that can't be read (rooms.h).
  *
@@ -156,7 +156,7 @@ static void layouts(void) {
   const char *about = "layout";
   SIZE(sf_seed, 16);
   SIZE(sf_refusal, 32);
-  AT(sf_refusal, place, 0);
+  AT(sf_refusal, offset, 0);
   AT(sf_refusal, expected_low, 8);
   AT(sf_refusal, expected_high, 16);
   AT(sf_refusal, found, 24);
@@ -176,13 +176,13 @@ static void layouts(void) {
   SIZE(sf_priority_flags, 4);
   AT(sf_priority_flags, urgency, 0);
   AT(sf_priority_flags, incremental, 1);
-  AT(sf_priority_flags, says_urgency, 2);
-  AT(sf_priority_flags, says_incremental, 3);
+  AT(sf_priority_flags, has_urgency, 2);
+  AT(sf_priority_flags, has_incremental, 3);
   SIZE(sf_policy, 24);
   AT(sf_policy, max_age, 0);
   AT(sf_policy, s_maxage, 8);
-  AT(sf_policy, says_max_age, 16);
-  AT(sf_policy, says_s_maxage, 17);
+  AT(sf_policy, has_max_age, 16);
+  AT(sf_policy, has_s_maxage, 17);
   AT(sf_policy, must_revalidate, 18);
   AT(sf_policy, no_store, 19);
   AT(sf_policy, no_cache, 20);
@@ -199,14 +199,14 @@ static void layouts(void) {
   AT(sf_hop, outcome, 72);
   AT(sf_hop, why, 74);
   AT(sf_hop, status, 76);
-  AT(sf_hop, says_status, 78);
+  AT(sf_hop, has_status, 78);
   AT(sf_hop, stored, 79);
-  AT(sf_hop, says_stored, 80);
+  AT(sf_hop, has_stored, 80);
   AT(sf_hop, collapsed, 81);
-  AT(sf_hop, says_collapsed, 82);
-  AT(sf_hop, says_ttl, 83);
-  AT(sf_hop, says_key, 84);
-  AT(sf_hop, says_detail, 85);
+  AT(sf_hop, has_collapsed, 82);
+  AT(sf_hop, has_ttl, 83);
+  AT(sf_hop, has_key, 84);
+  AT(sf_hop, has_detail, 85);
   AT(sf_hop, name_is_token, 86);
   AT(sf_hop, detail_is_token, 87);
   SIZE(sf_path, 40);
@@ -217,7 +217,7 @@ static void layouts(void) {
   AT(sf_path, is_served, 32);
   SIZE(sf_joined, 24);
   AT(sf_joined, length, 0);
-  AT(sf_joined, wanted, 8);
+  AT(sf_joined, required, 8);
   AT(sf_joined, begun, 16);
 }
 
@@ -251,19 +251,19 @@ static void macros(void) {
   uint32_t word = UINT32_MAX;
   unsigned char byte = 255;
   size_t most = SIZE_MAX / 8 * 5;
-  CHECK(SF_CANONICAL_ROOM(number) == 3200000000u);
-  CHECK(SF_NODES_ROOM(number) == 1600000000u && SF_BYTES_ROOM(number) == 3200000000u);
-  CHECK(SF_CANONICAL_ROOM(word) == UINT64_C(6871947672));
-  CHECK(SF_CANONICAL_ROOM(byte) == 408 && SF_NODES_ROOM(byte) == 204);
-  CHECK(SF_CANONICAL_ROOM(most) == SIZE_MAX / 8 * 8 && SF_NODES_ROOM(most) == SIZE_MAX / 8 * 4);
-  CHECK(SF_CANONICAL_ROOM(number - 1999999999 + 1) == 3); /* the length is an expression */
+  CHECK(SF_CANONICAL_SIZE(number) == 3200000000u);
+  CHECK(SF_NODES_SIZE(number) == 1600000000u && SF_BYTES_SIZE(number) == 3200000000u);
+  CHECK(SF_CANONICAL_SIZE(word) == UINT64_C(6871947672));
+  CHECK(SF_CANONICAL_SIZE(byte) == 408 && SF_NODES_SIZE(byte) == 204);
+  CHECK(SF_CANONICAL_SIZE(most) == SIZE_MAX / 8 * 8 && SF_NODES_SIZE(most) == SIZE_MAX / 8 * 4);
+  CHECK(SF_CANONICAL_SIZE(number - 1999999999 + 1) == 3); /* the length is an expression */
   for (size_t length = 0; length < 100; ++length)
-    CHECK(SF_CANONICAL_ROOM(length) == length * 8 / 5 &&
-          SF_NODES_ROOM(length) == (length * 8 + 5) / 10);
+    CHECK(SF_CANONICAL_SIZE(length) == length * 8 / 5 &&
+          SF_NODES_SIZE(length) == (length * 8 + 5) / 10);
 }
 
 /* The nodes of a text and of its canonical text are the same, in rooms of exactly their size; a
- * room that is one short, or empty, is answered with what is wanted. */
+ * room that is one short, or empty, is answered with what is required. */
 static void same_value(uint32_t dialect, uint32_t kind, const char *about, const void *text,
                        size_t length, const void *canonical, size_t canonical_length) {
   uint32_t status;
@@ -271,7 +271,7 @@ static void same_value(uint32_t dialect, uint32_t kind, const char *about, const
   sf_sizes sizes = {4711, 4712}, again = {4711, 4712};
   CALL(sf_parse(&seed, dialect, kind, text, length, NULL, 0, NULL, 0, &sizes, &refusal));
   CHECK(status == (sizes.nodes == 0 && sizes.bytes == 0 ? SF_OK : SF_SHORT));
-  CHECK(sizes.nodes <= SF_NODES_ROOM(length) && sizes.bytes <= SF_BYTES_ROOM(length));
+  CHECK(sizes.nodes <= SF_NODES_SIZE(length) && sizes.bytes <= SF_BYTES_SIZE(length));
 
   size_t size = sizes.nodes * sizeof(sf_node);
   unsigned char *bytes = take_room(NULL, sizes.bytes), *other = take_room(NULL, sizes.bytes);
@@ -316,9 +316,9 @@ static void accepted(uint32_t dialect, uint32_t kind, const char *from, size_t l
   /* A room of exactly the size, a longer one, and each shorter one. */
   for (size_t room = 0; room <= canonical_length + 3; ++room) {
     unsigned char *out = take_room(NULL, room);
-    size_t wanted = 4711;
-    CALL(sf_normalise(&seed, dialect, kind, text, length, out, room, &wanted, &refusal));
-    CHECK(wanted == canonical_length);
+    size_t required = 4711;
+    CALL(sf_normalise(&seed, dialect, kind, text, length, out, room, &required, &refusal));
+    CHECK(required == canonical_length);
     if (room < canonical_length) {
       CHECK(status == SF_SHORT);
       CHECK(all_are(out, room));
@@ -329,7 +329,7 @@ static void accepted(uint32_t dialect, uint32_t kind, const char *from, size_t l
     }
     give_room(out);
   }
-  CHECK(canonical_length <= SF_CANONICAL_ROOM(length));
+  CHECK(canonical_length <= SF_CANONICAL_SIZE(length));
 
   /* It is equal to its canonical text. */
   unsigned char *other = take_room(canonical, canonical_length);
@@ -351,19 +351,19 @@ static void refused(uint32_t dialect, uint32_t kind, const char *from, size_t le
   sf_refusal refusal = untouched;
   CALL(sf_check(&seed, dialect, kind, text, length, &refusal));
   CHECK(status == SF_REFUSED);
-  CHECK(refusal.place == place);
+  CHECK(refusal.offset == place);
   CHECK(refusal.found == found);
   CHECK(is_set(&refusal, set));
-  CHECK((refusal.found == SF_ENDED) == (refusal.place == length));
+  CHECK((refusal.found == SF_ENDED) == (refusal.offset == length));
   CHECK(refusal.found != SF_ENDED || refusal.may_end == 0);
 
   sf_refusal same = untouched;
   unsigned char out[4];
   memset(out, 0xa5, sizeof out);
-  size_t wanted = 4711;
-  CALL(sf_normalise(&seed, dialect, kind, text, length, out, sizeof out, &wanted, &same));
+  size_t required = 4711;
+  CALL(sf_normalise(&seed, dialect, kind, text, length, out, sizeof out, &required, &same));
   CHECK(status == SF_REFUSED && memcmp(&same, &refusal, sizeof same) == 0);
-  CHECK(all_are(out, sizeof out) && wanted == 4711);
+  CHECK(all_are(out, sizeof out) && required == 4711);
 
   uint32_t equal = 4711;
   same = untouched;
@@ -402,7 +402,7 @@ static void older(uint32_t kind, const char *text, size_t length, const char *ca
   sf_refusal refusal = untouched;
   uint32_t status;
   CALL(sf_check(&seed, SF_RFC8941, kind, text, length, &refusal));
-  CHECK(status == SF_REFUSED && refusal.place == place && refusal.found == text[place]);
+  CHECK(status == SF_REFUSED && refusal.offset == place && refusal.found == text[place]);
 }
 
 /* A text that RFC 9651 refuses, by RFC 8941. */
@@ -411,7 +411,7 @@ static void refused_too(uint32_t kind, const char *text, size_t length) {
   sf_refusal refusal = untouched;
   uint32_t status;
   CALL(sf_check(&seed, SF_RFC8941, kind, text, length, &refusal));
-  CHECK(status == SF_REFUSED && refusal.place <= length);
+  CHECK(status == SF_REFUSED && refusal.offset <= length);
 }
 
 static void worked_texts(void) {
@@ -452,14 +452,14 @@ static void bad_calls(void) {
     const char *about = "bad call";
     uint32_t dialect = numbers[i][0], kind = numbers[i][1], status, equal = 4711;
     sf_refusal refusal = untouched;
-    size_t wanted = 4711;
+    size_t required = 4711;
     sf_sizes sizes = {4711, 4712};
     unsigned char *bytes = take_room(NULL, 4);
     sf_node *nodes = take_room(NULL, 2 * sizeof *nodes);
     CALL(sf_check(&seed, dialect, kind, "a", 1, &refusal));
     CHECK(status == SF_BAD_CALL);
-    CALL(sf_normalise(&seed, dialect, kind, "a", 1, bytes, 4, &wanted, &refusal));
-    CHECK(status == SF_BAD_CALL && wanted == 4711);
+    CALL(sf_normalise(&seed, dialect, kind, "a", 1, bytes, 4, &required, &refusal));
+    CHECK(status == SF_BAD_CALL && required == 4711);
     CALL(sf_equal(&seed, dialect, kind, "a", 1, "a", 1, &equal, &refusal));
     CHECK(status == SF_BAD_CALL && equal == 4711);
     CALL(sf_parse(&seed, dialect, kind, "a", 1, nodes, 2, bytes, 4, &sizes, &refusal));
@@ -569,7 +569,7 @@ static void refusals_in_words(void) {
          "the text ended at place 18446744073709551615, expected a quote or the end"
          "\nline 1, place 2:\nab\n  ^");
   refusal.found = INT32_MIN;
-  refusal.place = 0;
+  refusal.offset = 0;
   refusal.may_end = 0;
   unsigned char *none = take_room(NULL, 0);
   WRITES(sf_refusal_in_text(&refusal, none, 0, buffer, size, required),
@@ -691,7 +691,7 @@ static void parsed(uint32_t kind, const char *from, const row *rows, size_t coun
       give_room(bytes);
     }
   }
-  CHECK(count <= SF_NODES_ROOM(length) && size <= SF_BYTES_ROOM(length));
+  CHECK(count <= SF_NODES_SIZE(length) && size <= SF_BYTES_SIZE(length));
   CHECK(is_untouched(&refusal));
   give_room(text);
 }
@@ -780,7 +780,7 @@ static void priorities(void) {
   sf_priority_flags priority = {9, 9, 9, 9}, nines = {9, 9, 9, 9};
   sf_refusal refusal = untouched;
   CALL(sf_priority(&seed, about, 5, &priority, &refusal));
-  CHECK(status == SF_REFUSED && refusal.place == 5 && refusal.found == -1);
+  CHECK(status == SF_REFUSED && refusal.offset == 5 && refusal.found == -1);
   CHECK(is_set(&refusal, "09 20 2a 61-7a"));
   CHECK(memcmp(&priority, &nines, sizeof nines) == 0);
 
@@ -854,8 +854,8 @@ static void policies(void) {
     CHECK(status == SF_OK && is_untouched(&refusal));
     CHECK(policy.max_age == rows[i].says.max_age);
     CHECK(policy.s_maxage == rows[i].says.s_maxage);
-    CHECK(policy.says_max_age == rows[i].says.says_max_age);
-    CHECK(policy.says_s_maxage == rows[i].says.says_s_maxage);
+    CHECK(policy.has_max_age == rows[i].says.has_max_age);
+    CHECK(policy.has_s_maxage == rows[i].says.has_s_maxage);
     CHECK(policy.must_revalidate == rows[i].says.must_revalidate);
     CHECK(policy.no_store == rows[i].says.no_store);
     CHECK(policy.no_cache == rows[i].says.no_cache);
@@ -878,7 +878,7 @@ static void policies(void) {
   CHECK(status == SF_EMPTY && is_untouched(&refusal));
   give_room(none);
   CALL(sf_cache_control(&seed, "max-age=60,", 11, &policy, &refusal));
-  CHECK(status == SF_REFUSED && refusal.place == 11 && refusal.found == -1);
+  CHECK(status == SF_REFUSED && refusal.offset == 11 && refusal.found == -1);
   CHECK(is_set(&refusal, "09 20 2a 61-7a"));
   CHECK(memcmp(&policy, &ones, sizeof ones) == 0);
   /* any number but 0 sets a flag, and names a shared cache */
@@ -914,13 +914,13 @@ static int is_hop(const unsigned char *bytes, size_t size, const sf_hop *hop, co
          hop->name_is_token == row->name_is_token && hop->outcome == row->outcome &&
          hop->why == row->why &&
          is_said(bytes, size, hop->why_token, hop->why != SF_NO_FORWARD, row->why_token) &&
-         is_number(hop->status, hop->says_status, row->status) &&
-         is_number(hop->stored, hop->says_stored, row->stored) &&
-         is_number(hop->collapsed, hop->says_collapsed, row->collapsed) &&
-         hop->says_ttl == (row->ttl != NULL) &&
+         is_number(hop->status, hop->has_status, row->status) &&
+         is_number(hop->stored, hop->has_stored, row->stored) &&
+         is_number(hop->collapsed, hop->has_collapsed, row->collapsed) &&
+         hop->has_ttl == (row->ttl != NULL) &&
          hop->ttl == (row->ttl == NULL ? 0 : strtoll(row->ttl, NULL, 10)) &&
-         is_said(bytes, size, hop->key, hop->says_key, row->key) &&
-         is_said(bytes, size, hop->detail, hop->says_detail, row->detail) &&
+         is_said(bytes, size, hop->key, hop->has_key, row->key) &&
+         is_said(bytes, size, hop->detail, hop->has_detail, row->detail) &&
          hop->detail_is_token == row->detail_is_token;
 }
 
@@ -953,7 +953,7 @@ static void told(const char *from, const hop_row *rows, size_t count, size_t siz
       give_room(bytes);
     }
   }
-  CHECK(count <= SF_NODES_ROOM(length) && size <= SF_BYTES_ROOM(length));
+  CHECK(count <= SF_NODES_SIZE(length) && size <= SF_BYTES_SIZE(length));
   CHECK(is_untouched(&refusal));
   give_room(text);
 }
@@ -1026,7 +1026,7 @@ static void paths(void) {
   CHECK(is_untouched(&refusal));
   path.nameless = 4714;
   CALL(sf_cache_status(&seed, about, 2, &hop, 1, &byte, 1, &path, &refusal));
-  CHECK(status == SF_REFUSED && refusal.place == 2 && refusal.found == -1);
+  CHECK(status == SF_REFUSED && refusal.offset == 2 && refusal.found == -1);
   CHECK(path.hops == 4711 && path.bytes == 4712 && path.served == 4713 && path.nameless == 4714);
   CHECK(path.is_served == 4715 && byte == 0xa5 && all_are((unsigned char *)&hop, sizeof hop));
 }
@@ -1064,7 +1064,7 @@ static void written_hops(void) {
   hop.name_is_token = 1;
   hop.outcome = SF_HIT;
   hop_written(&hop, "edge", "edge;hit");
-  hop.says_ttl = 1;
+  hop.has_ttl = 1;
   hop.ttl = -30;
   hop_written(&hop, "edge", "edge;hit;ttl=-30");
   hop.ttl = SF_NUMBER_MAX;
@@ -1073,9 +1073,9 @@ static void written_hops(void) {
   hop_refused(&hop, "edge", "a ttl that is no Integer");
   hop.ttl = -SF_NUMBER_MAX - 1;
   hop_refused(&hop, "edge", "a ttl that is no Integer");
-  hop.says_ttl = 0;
+  hop.has_ttl = 0;
   hop_written(&hop, "edge", "edge;hit");
-  hop.says_key = 255;
+  hop.has_key = 255;
   hop.key = (sf_piece){4, 3};
   hop_written(&hop, "edgea\"b", "edge;hit;key=\"a\\\"b\"");
   hop_refused(&hop, "edgeab", "a key past the bytes");
@@ -1087,15 +1087,15 @@ static void written_hops(void) {
   hop_refused(&hop, "edgea\"b", "an empty key past the bytes");
   hop.key = (sf_piece){4, 1};
   hop_refused(&hop, "edge\x7f", "a key that is no String");
-  hop.says_key = 0;
-  hop.says_detail = 1;
+  hop.has_key = 0;
+  hop.has_detail = 1;
   hop.detail = (sf_piece){0, 2};
   hop_written(&hop, "edge", "edge;hit;detail=\"ed\"");
   hop.detail_is_token = 1;
   hop_written(&hop, "edge", "edge;hit;detail=ed");
   hop.detail.length = 0;
   hop_refused(&hop, "edge", "a detail that is no Token");
-  hop.says_detail = 0;
+  hop.has_detail = 0;
   hop_refused(&hop, "ed e", "a name that is no Token");
   hop.name_is_token = 0;
   hop_written(&hop, "ed e", "\"ed e\";hit");
@@ -1104,10 +1104,10 @@ static void written_hops(void) {
   /* what was forwarded counts if the outcome says so */
   hop.why = SF_STALE;
   hop.status = 304;
-  hop.says_status = 1;
+  hop.has_status = 1;
   hop.stored = 1;
-  hop.says_stored = 1;
-  hop.says_collapsed = 1;
+  hop.has_stored = 1;
+  hop.has_collapsed = 1;
   hop_written(&hop, "edge", "\"edge\";hit");
   hop.outcome = SF_UNSAID;
   hop_written(&hop, "edge", "\"edge\"");
@@ -1123,7 +1123,7 @@ static void written_hops(void) {
   hop.status = SF_FWD_STATUS_MAX + 1;
   hop_refused(&hop, "edge", "no status");
   hop.status = SF_FWD_STATUS_MAX;
-  hop.says_stored = hop.says_collapsed = 0;
+  hop.has_stored = hop.has_collapsed = 0;
   static const char *const reasons[] = {
       "\"edge\";fwd=bypass;fwd-status=999",    "\"edge\";fwd=method;fwd-status=999",
       "\"edge\";fwd=uri-miss;fwd-status=999",  "\"edge\";fwd=vary-miss;fwd-status=999",
@@ -1158,7 +1158,7 @@ static void written_hops(void) {
   const char *about = text;
   uint32_t status;
   sf_hop hops[5];
-  char bytes[SF_BYTES_ROOM(sizeof text)];
+  char bytes[SF_BYTES_SIZE(sizeof text)];
   sf_path path;
   sf_refusal refusal = untouched;
   CALL(sf_cache_status(&seed, text, sizeof text - 1, hops, 5, bytes, sizeof bytes, &path,
@@ -1190,7 +1190,7 @@ static void structs(void) {
     size_t length = strlen(about);
     unsigned char *text = take_room(about, length);
     sf_refusal *refusal = take_room(&untouched, sizeof untouched);
-    size_t *wanted = take_room(NULL, sizeof *wanted);
+    size_t *required = take_room(NULL, sizeof *required);
     uint32_t *equal = take_room(NULL, sizeof *equal);
     sf_sizes *sizes = take_room(NULL, sizeof *sizes);
     sf_path *path = take_room(NULL, sizeof *path);
@@ -1204,7 +1204,7 @@ static void structs(void) {
     CALL(sf_check(secret, SF_RFC9651, kind, text, length, refusal));
     right = status;
     CHECK(right == SF_OK || right == SF_REFUSED);
-    CALL(sf_normalise(secret, SF_RFC9651, kind, text, length, bytes, 40, wanted, refusal));
+    CALL(sf_normalise(secret, SF_RFC9651, kind, text, length, bytes, 40, required, refusal));
     CHECK(status == right);
     CALL(sf_equal(secret, SF_RFC9651, kind, text, length, text, length, equal, refusal));
     CHECK(status == right);
@@ -1226,7 +1226,7 @@ static void structs(void) {
     CHECK(length == 0 || memcmp(text, about, length) == 0);
     give_room(text);
     give_room(refusal);
-    give_room(wanted);
+    give_room(required);
     give_room(equal);
     give_room(sizes);
     give_room(path);
@@ -1269,7 +1269,7 @@ static void joining(void) {
         if (fits)
           length = next;
         else
-          CHECK(joined.wanted == next);
+          CHECK(joined.required == next);
         CHECK(joined.length == length && joined.begun == (l > 0 || fits));
         CHECK(length == 0 || memcmp(text, about, length) == 0);
         CHECK(room == length || all_are(text + length, room - length));
@@ -1283,7 +1283,7 @@ static void joining(void) {
   unsigned char room[4] = {0xa5, 0xa5, 0xa5, 0xa5};
   sf_joined joined = {5, 6, 1};
   CALL(sf_join("a", 1, room, sizeof room, &joined));
-  CHECK(status == SF_BAD_CALL && joined.length == 5 && joined.wanted == 6 && joined.begun == 1);
+  CHECK(status == SF_BAD_CALL && joined.length == 5 && joined.required == 6 && joined.begun == 1);
   joined.length = SIZE_MAX;
   unsigned char *none = take_room(NULL, 0);
   CALL(sf_join(none, 0, none, 0, &joined));
@@ -1293,7 +1293,7 @@ static void joining(void) {
   joined.begun = 9; /* any number but 0 says that it has begun */
   CALL(sf_join("a", 1, room, sizeof room, &joined));
   CHECK(status == SF_OK && joined.length == 3 && memcmp(room, ", a", 3) == 0 && room[3] == 0xa5);
-  CHECK(joined.begun == 1 && joined.wanted == 6);
+  CHECK(joined.begun == 1 && joined.required == 6);
 }
 
 /* Malloc refused at its n-th call, alone or from there on, for each n: the answer is the right one
@@ -1328,7 +1328,7 @@ static const char directives[] = "max-age=30, s-maxage=90, a;b;c, d=(e f), g=\"h
 /* All that one call may write. */
 typedef struct answer {
   sf_refusal refusal;
-  size_t wanted;
+  size_t required;
   uint32_t equal;
   sf_sizes sizes;
   sf_priority_flags priority;
@@ -1363,7 +1363,7 @@ static uint32_t ask(question asked, uint32_t dialect, uint32_t kind, const void 
   case TO_CHECK:
     return sf_check(&seed, dialect, kind, text, length, &a->refusal);
   case TO_NORMALISE:
-    return sf_normalise(&seed, dialect, kind, text, length, a->bytes, sizeof a->bytes, &a->wanted,
+    return sf_normalise(&seed, dialect, kind, text, length, a->bytes, sizeof a->bytes, &a->required,
                         &a->refusal);
   case TO_COMPARE:
     return sf_equal(&seed, dialect, kind, text, length, text, length, &a->equal, &a->refusal);
@@ -1384,7 +1384,7 @@ static uint32_t ask(question asked, uint32_t dialect, uint32_t kind, const void 
 
 /* Whether two answers are the same, but for what stands between members. */
 static int is_same(const answer *a, const answer *b) {
-  return memcmp(&a->refusal, &b->refusal, sizeof a->refusal) == 0 && a->wanted == b->wanted &&
+  return memcmp(&a->refusal, &b->refusal, sizeof a->refusal) == 0 && a->required == b->required &&
          a->equal == b->equal && memcmp(&a->sizes, &b->sizes, sizeof a->sizes) == 0 &&
          memcmp(&a->priority, &b->priority, sizeof a->priority) == 0 &&
          memcmp(&a->policy, &b->policy, offsetof(sf_policy, is_private) + 1) == 0 &&
@@ -1457,17 +1457,17 @@ static void want_of_memory(void) {
 
   about = "sf_normalise, no memory";
   unsigned char room[400];
-  size_t wanted = 4711, length;
+  size_t required = 4711, length;
   memset(room, 0xa5, sizeof room);
-  CALL(sf_normalise(&seed, SF_RFC9651, SF_LIST, large, sizeof large - 1, room, sizeof room, &wanted,
+  CALL(sf_normalise(&seed, SF_RFC9651, SF_LIST, large, sizeof large - 1, room, sizeof room, &required,
                     &refusal));
   CHECK(status == SF_OK);
-  length = wanted;
-  EACH_REFUSAL((memset(room, 0xa5, sizeof room), wanted = 4711,
+  length = required;
+  EACH_REFUSAL((memset(room, 0xa5, sizeof room), required = 4711,
                 sf_normalise(&seed, SF_RFC9651, SF_LIST, large, sizeof large - 1, room, sizeof room,
-                             &wanted, &refusal)),
-               wanted == length && all_are(room + length, sizeof room - length),
-               wanted == 4711 && all_are(room, sizeof room) && is_untouched(&refusal));
+                             &required, &refusal)),
+               required == length && all_are(room + length, sizeof room - length),
+               required == 4711 && all_are(room, sizeof room) && is_untouched(&refusal));
 
   about = "sf_equal, no memory";
   uint32_t equal = 4711;
@@ -1496,10 +1496,10 @@ static void want_of_memory(void) {
   about = "sf_cache_control, no memory";
   sf_policy policy;
   memset(&policy, 9, sizeof policy);
-  EACH_REFUSAL((policy.says_max_age = 9, sf_cache_control(&seed, directives, sizeof directives - 1,
+  EACH_REFUSAL((policy.has_max_age = 9, sf_cache_control(&seed, directives, sizeof directives - 1,
                                                           &policy, &refusal)),
                policy.max_age == 30 && policy.s_maxage == 90,
-               policy.says_max_age == 9 && is_untouched(&refusal));
+               policy.has_max_age == 9 && is_untouched(&refusal));
 
   about = "sf_cache_status, no memory";
   static const char caches[] = "origin; fwd=stale; fwd-status=304; collapsed; key=\"abc\", "
@@ -1519,14 +1519,14 @@ static void want_of_memory(void) {
   static const char shown[] = "byte 0x32 '2' at place 2, expected a space or the end\n"
                               "line 1, place 2:\n1 2\n  ^";
   sf_refusal why = {2, UINT64_C(1) << 32, 0, '2', 1};
-  EACH_REFUSAL((memset(room, 0xa5, sizeof room), wanted = 4711,
-                sf_refusal_text(&why, room, sizeof room, &wanted)),
-               wanted == sizeof message - 1 && memcmp(room, message, wanted) == 0,
-               wanted == 4711 && all_are(room, sizeof room));
-  EACH_REFUSAL((memset(room, 0xa5, sizeof room), wanted = 4711,
-                sf_refusal_in_text(&why, "1 2", 3, room, sizeof room, &wanted)),
-               wanted == sizeof shown - 1 && memcmp(room, shown, wanted) == 0,
-               wanted == 4711 && all_are(room, sizeof room));
+  EACH_REFUSAL((memset(room, 0xa5, sizeof room), required = 4711,
+                sf_refusal_text(&why, room, sizeof room, &required)),
+               required == sizeof message - 1 && memcmp(room, message, required) == 0,
+               required == 4711 && all_are(room, sizeof room));
+  EACH_REFUSAL((memset(room, 0xa5, sizeof room), required = 4711,
+                sf_refusal_in_text(&why, "1 2", 3, room, sizeof room, &required)),
+               required == sizeof shown - 1 && memcmp(room, shown, required) == 0,
+               required == 4711 && all_are(room, sizeof room));
 
   about = "sf_hop_text, no memory";
   static const char line[] = "cccccccccccccccccccc;fwd=odd;fwd-status=100;ttl=-3;stored=?0;"
@@ -1534,11 +1534,11 @@ static void want_of_memory(void) {
   static const char pieces[] = "ccccccccccccccccccccoddkdddddddddddddddddddd";
   sf_hop hop = {{0, 20}, {20, 3}, {23, 1}, {24, 20}, -3, SF_FORWARDED, SF_OTHER, 100, 1, 0, 1,
                 1, 1, 1, 1, 1, 1, 0};
-  EACH_REFUSAL((memset(room, 0xa5, sizeof room), wanted = 4711,
-                sf_hop_text(&seed, &hop, pieces, sizeof pieces - 1, room, sizeof room, &wanted)),
-               wanted == sizeof line - 1 && memcmp(room, line, wanted) == 0 &&
-                   all_are(room + wanted, sizeof room - wanted),
-               wanted == 4711 && all_are(room, sizeof room));
+  EACH_REFUSAL((memset(room, 0xa5, sizeof room), required = 4711,
+                sf_hop_text(&seed, &hop, pieces, sizeof pieces - 1, room, sizeof room, &required)),
+               required == sizeof line - 1 && memcmp(room, line, required) == 0 &&
+                   all_are(room + required, sizeof room - required),
+               required == 4711 && all_are(room, sizeof room));
 
   /* what takes no memory is answered without */
   about = "no memory is taken";
@@ -1558,8 +1558,8 @@ static void want_of_memory(void) {
   CALL(sf_find(&node, 1, "a", 1, SF_MEMBER, "a", 1, &index));
   CHECK(status == SF_OK && index == 0);
   sf_priority_flags sets = {1, 1, 1, 1};
-  CALL(sf_priority_text(&sets, room, sizeof room, &wanted));
-  CHECK(status == SF_OK && wanted == 6 && memcmp(room, "u=1, i", 6) == 0);
+  CALL(sf_priority_text(&sets, room, sizeof room, &required));
+  CHECK(status == SF_OK && required == 6 && memcmp(room, "u=1, i", 6) == 0);
   refused_from = 0;
 }
 
@@ -1595,9 +1595,9 @@ static void past_the_end(size_t text_length, size_t room_length) {
   if (child == 0) {
     fclose(stderr);
     sf_refusal refusal;
-    size_t wanted;
+    size_t required;
     void *text = take_room("a,b", 3), *room = take_room(NULL, 3);
-    sf_normalise(&seed, SF_RFC9651, SF_LIST, text, text_length, room, room_length, &wanted,
+    sf_normalise(&seed, SF_RFC9651, SF_LIST, text, text_length, room, room_length, &required,
                  &refusal);
     _exit(0);
   }

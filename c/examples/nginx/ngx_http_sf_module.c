@@ -88,7 +88,7 @@ static ngx_int_t passed(ngx_http_request_t *r, uint32_t status, const ngx_str_t 
                         const ngx_str_t *text, const sf_refusal *refusal) {
   if (status == SF_REFUSED)
     ngx_log_error(NGX_LOG_INFO, r->connection->log, 0, "%V is malformed at byte %uL: \"%V\"", name,
-                  refusal->place, text);
+                  refusal->offset, text);
   return status == SF_NO_MEMORY ? NGX_ERROR : NGX_OK;
 }
 
@@ -208,7 +208,7 @@ static sf_hop hop_of(ngx_http_request_t *r, const ngx_str_t *cache) {
   case NGX_HTTP_CACHE_STALE:
   case NGX_HTTP_CACHE_UPDATING:
     hop.outcome = SF_HIT;
-    hop.says_ttl = 1;
+    hop.has_ttl = 1;
     hop.ttl = (int64_t)r->cache->valid_sec - (int64_t)ngx_time();
     return hop;
   case NGX_HTTP_CACHE_REVALIDATED:
@@ -226,7 +226,7 @@ static sf_hop hop_of(ngx_http_request_t *r, const ngx_str_t *cache) {
   }
 #endif
   if (status >= SF_FWD_STATUS_MIN && status <= SF_FWD_STATUS_MAX) {
-    hop.says_status = 1;
+    hop.has_status = 1;
     hop.status = (uint16_t)status;
   }
   return hop;

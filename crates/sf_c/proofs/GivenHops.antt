@@ -101,8 +101,8 @@ outcome_in_range : (bytes : List ℕ) (n : HopNode) (o : Outcome) → GivesOutco
     → ForSome (option_and_then (λ p. p.status) (passed_by o)) (λ s. (100 ≤ s) × (s ≤ 999))
 outcome_in_range bytes n Unsaid g = λ x e. absurd cc
 outcome_in_range bytes n Hit g = λ x e. absurd cc
-outcome_in_range bytes n (Forwarded p) g = status_in_range n.says_status n.status p.status g.1.1
-outcome_in_range bytes n (Conflict p) g = status_in_range n.says_status n.status p.status g.1.1
+outcome_in_range bytes n (Forwarded p) g = status_in_range n.has_status n.status p.status g.1.1
+outcome_in_range bytes n (Conflict p) g = status_in_range n.has_status n.status p.status g.1.1
 
 -- what is written of it is read as it
 pub read_as : (bytes : List ℕ) (n : HopNode) (h : Hop) → GivesHop bytes n h

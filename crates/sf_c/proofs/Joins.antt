@@ -87,7 +87,7 @@ pub puts_one : (old : JoinRoom) (line comma mid new : List ℕ) → comma ≡ se
       room = new;
       joined = record {
         length = old.joined.length + (length comma + length line);
-        wanted = old.joined.wanted;
+        required = old.joined.required;
         begun = 1;
       };
     }) line
@@ -117,7 +117,7 @@ puts_one old line comma mid new is fits e f =
       longer = omega arith;
       fits = fits;
       begun = refl;
-      wanted = refl;
+      required = refl;
       front = ap (take all) whole
           ∙ front_at all text (drop (n + length comma + length line) room) long
           ∙ append_assoc (take n room) comma line

@@ -89,8 +89,8 @@ same_passed v w a b c d e f g h i j = rw (g, h, i, j) refl
 
 abbrev passed_from : HopSays → Seq ℕ → Passed
 passed_from says token =
-    passed (why_by says.why token) (said says.says_status says.status)
-    (said says.says_stored (says.stored == 1)) (said says.says_collapsed (says.collapsed == 1))
+    passed (why_by says.why token) (said says.has_status says.status)
+    (said says.has_stored (says.stored == 1)) (said says.has_collapsed (says.collapsed == 1))
 
 passed_is : (p : Passed) (h : Hop)
     → passed_from (says_passed (Some p) h) (why_token (Some p)) ≡ p
@@ -116,8 +116,8 @@ abbrev hop_from : ToldHop → Hop
 hop_from t =
     hop (name_by t.says.name_is_token t.name)
     (outcome_from t.says.outcome (passed_from t.says t.why_token))
-    (said t.says.says_ttl t.says.ttl) (said t.says.says_key t.key)
-    (said t.says.says_detail (name_by t.says.detail_is_token t.detail))
+    (said t.says.has_ttl t.says.ttl) (said t.says.has_key t.key)
+    (said t.says.has_detail (name_by t.says.detail_is_token t.detail))
 
 hop_is : (n : Name) (o : Outcome) (ttl : Option ℤ) (key : Option (Seq ℕ)) (detail : Option Name)
     → hop_from (told_hop (hop n o ttl key detail)) ≡ hop n o ttl key detail

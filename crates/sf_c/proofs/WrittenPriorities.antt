@@ -90,10 +90,10 @@ priority_is_read p =
     let a = asked_by p in
     let v : Field = field.Dict (asking a) in
     let spelled = canon_spells Rfc9651 kind.Dict v
-    (valid_said p.says_urgency p.urgency a.incremental) in (
+    (valid_said p.has_urgency p.urgency a.incremental) in (
       record {
         spelled = spelled;
         only = λ w k. one_value Rfc9651 kind.Dict (canon v) w v k spelled;
       },
-      read_said p.says_urgency p.urgency a.incremental,
+      read_said p.has_urgency p.urgency a.incremental,
     )

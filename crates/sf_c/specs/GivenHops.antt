@@ -81,9 +81,9 @@ GivesFlag number flag = flag ≡ not (number == 0)
 abbrev pub GivesPassed : List ℕ → HopNode → Passed → Type 0
 GivesPassed bytes n p =
     GivesWhy bytes n p.why
-    × GivesMaybe n.says_status (GivesStatus n.status) p.status
-    × GivesMaybe n.says_stored (GivesFlag n.stored) p.stored
-    × GivesMaybe n.says_collapsed (GivesFlag n.collapsed) p.collapsed
+    × GivesMaybe n.has_status (GivesStatus n.status) p.status
+    × GivesMaybe n.has_stored (GivesFlag n.stored) p.stored
+    × GivesMaybe n.has_collapsed (GivesFlag n.collapsed) p.collapsed
 
 -- what the cache did (2.1 and 2.2)
 abbrev pub GivesOutcome : List ℕ → HopNode → Outcome → Type 0
@@ -101,9 +101,9 @@ abbrev pub GivesHop : List ℕ → HopNode → Hop → Type 0
 GivesHop bytes n h =
     GivesName bytes n.name n.name_is_token h.name
     × GivesOutcome bytes n h.outcome
-    × GivesMaybe n.says_ttl (GivesInteger n.ttl) h.ttl
-    × GivesMaybe n.says_key (GivesString bytes n.key) h.key
-    × GivesMaybe n.says_detail (GivesName bytes n.detail n.detail_is_token) h.detail
+    × GivesMaybe n.has_ttl (GivesInteger n.ttl) h.ttl
+    × GivesMaybe n.has_key (GivesString bytes n.key) h.key
+    × GivesMaybe n.has_detail (GivesName bytes n.detail n.detail_is_token) h.detail
 
 -- why there is no value: none is given, or there is no memory for it
 abbrev pub GivesNone : {X : Type 0} → (X → Type 0) → Status → Type 0

@@ -25,15 +25,15 @@ pub record HopSays : Type 0 where
   pub outcome : ℕ
   pub why : ℕ
   pub status : ℕ
-  pub says_status : ℕ
+  pub has_status : ℕ
   pub stored : ℕ
-  pub says_stored : ℕ
+  pub has_stored : ℕ
   pub collapsed : ℕ
-  pub says_collapsed : ℕ
+  pub has_collapsed : ℕ
   pub ttl : ℤ
-  pub says_ttl : ℕ
-  pub says_key : ℕ
-  pub says_detail : ℕ
+  pub has_ttl : ℕ
+  pub has_key : ℕ
+  pub has_detail : ℕ
   pub name_is_token : ℕ
   pub detail_is_token : ℕ
 
@@ -51,15 +51,15 @@ says_by n = record {
   outcome = n.outcome;
   why = n.why;
   status = n.status;
-  says_status = n.says_status;
+  has_status = n.has_status;
   stored = n.stored;
-  says_stored = n.says_stored;
+  has_stored = n.has_stored;
   collapsed = n.collapsed;
-  says_collapsed = n.says_collapsed;
+  has_collapsed = n.has_collapsed;
   ttl = n.ttl;
-  says_ttl = n.says_ttl;
-  says_key = n.says_key;
-  says_detail = n.says_detail;
+  has_ttl = n.has_ttl;
+  has_key = n.has_key;
+  has_detail = n.has_detail;
   name_is_token = n.name_is_token;
   detail_is_token = n.detail_is_token;
 }
@@ -124,15 +124,15 @@ says_passed passed h = record {
   outcome = outcome_number h.outcome;
   why = why_number passed;
   status = unwrap_or (option_and_then (λ p. p.status) passed) 0;
-  says_status = flag_number (is_some (option_and_then (λ p. p.status) passed));
+  has_status = flag_number (is_some (option_and_then (λ p. p.status) passed));
   stored = flag_number (unwrap_or (option_and_then (λ p. p.stored) passed) false);
-  says_stored = flag_number (is_some (option_and_then (λ p. p.stored) passed));
+  has_stored = flag_number (is_some (option_and_then (λ p. p.stored) passed));
   collapsed = flag_number (unwrap_or (option_and_then (λ p. p.collapsed) passed) false);
-  says_collapsed = flag_number (is_some (option_and_then (λ p. p.collapsed) passed));
+  has_collapsed = flag_number (is_some (option_and_then (λ p. p.collapsed) passed));
   ttl = unwrap_or h.ttl (pos 0);
-  says_ttl = flag_number (is_some h.ttl);
-  says_key = flag_number (is_some h.key);
-  says_detail = flag_number (is_some h.detail);
+  has_ttl = flag_number (is_some h.ttl);
+  has_key = flag_number (is_some h.key);
+  has_detail = flag_number (is_some h.detail);
   name_is_token = flag_number (is_token h.name);
   detail_is_token = flag_number (detail_is_token h.detail);
 }

@@ -31,7 +31,7 @@ pub record PutsOne (old new : JoinRoom) (line : List ℕ) : Type 0 where
   pub longer : new.joined.length ≡ old.joined.length + length (added old.joined line)
   pub fits : new.joined.length ≤ length old.room
   pub begun : new.joined.begun ≡ 1
-  pub wanted : new.joined.wanted ≡ old.joined.wanted
+  pub required : new.joined.required ≡ old.joined.required
   pub front : take new.joined.length new.room
       ≡ take old.joined.length old.room ++ added old.joined line
   pub behind : drop new.joined.length new.room ≡ drop new.joined.length old.room
@@ -41,9 +41,9 @@ pub record PutsOne (old new : JoinRoom) (line : List ℕ) : Type 0 where
 pub record WantsMore (old new : JoinRoom) (line : List ℕ) : Type 0 where
   pub within : old.joined.length ≤ length old.room
   pub short : length old.room < old.joined.length + length (added old.joined line)
-  pub wanted : new.joined.wanted ≡ capped (old.joined.length + length (added old.joined line))
+  pub required : new.joined.required ≡ capped (old.joined.length + length (added old.joined line))
   pub room : new.room ≡ old.room
-  pub still : new.joined ≡ record old.joined { wanted = new.joined.wanted }
+  pub still : new.joined ≡ record old.joined { required = new.joined.required }
 
 -- the line is joined, or the room is too small, or shorter than the text that is to stand in it
 abbrev pub PutsLine : JoinRoom → JoinRoom → List ℕ → Option Status → Type 0

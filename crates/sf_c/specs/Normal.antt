@@ -14,7 +14,7 @@ use Rattle.sf_c.specs.Refusals.{SaysRefusal, flag_number}
 -- what normalising may write to
 pub record TextRoom : Type 0 where
   pub room : List ℕ
-  pub wanted : ℕ
+  pub required : ℕ
   pub refusal : SyntaxRefusal
 
 -- the text stands at the front of the room, and the rest is left as it was
@@ -27,21 +27,21 @@ abbrev pub Normalises : TextRoom → TextRoom → List ℕ → Dialect → Kind 
 Normalises old new t d k Answered =
     (v : Field)
     × IsOnly d k t v
-    × (new.wanted ≡ length (canon v))
-    × (5 * new.wanted ≤ 8 * length t)
-    × (new.wanted ≤ length old.room)
+    × (new.required ≡ length (canon v))
+    × (5 * new.required ≤ 8 * length t)
+    × (new.required ≤ length old.room)
     × IsAtFront (canon v) old.room new.room
     × (new.refusal ≡ old.refusal)
 Normalises old new t d k Short =
     (v : Field)
     × IsOnly d k t v
-    × (new.wanted ≡ length (canon v))
-    × (5 * new.wanted ≤ 8 * length t)
-    × (length old.room < new.wanted)
+    × (new.required ≡ length (canon v))
+    × (5 * new.required ≤ 8 * length t)
+    × (length old.room < new.required)
     × (new.room ≡ old.room)
     × (new.refusal ≡ old.refusal)
 Normalises old new t d k Refused =
-    SaysRefusal d k t new.refusal × (new.room ≡ old.room) × (new.wanted ≡ old.wanted)
+    SaysRefusal d k t new.refusal × (new.room ≡ old.room) × (new.required ≡ old.required)
 Normalises old new t d k OutOfMemory = new ≡ old
 Normalises old new t d k status = ⊥
 

@@ -19,8 +19,8 @@ abbrev pub SaysPolicy : PolicyFlags → Policy → Type 0
 SaysPolicy p says =
     (p.max_age ≡ unwrap_or says.max_age 0)
     × (p.s_maxage ≡ unwrap_or says.s_maxage 0)
-    × (p.says_max_age ≡ flag_number (is_some says.max_age))
-    × (p.says_s_maxage ≡ flag_number (is_some says.s_maxage))
+    × (p.has_max_age ≡ flag_number (is_some says.max_age))
+    × (p.has_s_maxage ≡ flag_number (is_some says.s_maxage))
     × (p.must_revalidate ≡ flag_number says.must_revalidate)
     × (p.no_store ≡ flag_number says.no_store)
     × (p.no_cache ≡ flag_number says.no_cache)
@@ -33,8 +33,8 @@ seconds_at says n = if says == 0 then None else Some n
 -- the policy of a struct; any number but 0 sets a flag
 abbrev pub policy_by : PolicyFlags → Policy
 policy_by p = record {
-  max_age = seconds_at p.says_max_age p.max_age;
-  s_maxage = seconds_at p.says_s_maxage p.s_maxage;
+  max_age = seconds_at p.has_max_age p.max_age;
+  s_maxage = seconds_at p.has_s_maxage p.s_maxage;
   must_revalidate = not (p.must_revalidate == 0);
   no_store = not (p.no_store == 0);
   no_cache = not (p.no_cache == 0);

@@ -22,8 +22,8 @@ abbrev pub SaysAsked : PriorityFlags → Asked → Type 0
 SaysAsked p asked =
     (p.urgency ≡ (filled asked).urgency)
     × (p.incremental ≡ flag_number (filled asked).incremental)
-    × (p.says_urgency ≡ flag_number (is_some asked.urgency))
-    × (p.says_incremental ≡ flag_number (is_some asked.incremental))
+    × (p.has_urgency ≡ flag_number (is_some asked.urgency))
+    × (p.has_incremental ≡ flag_number (is_some asked.incremental))
 
 -- an urgency that is said, from 0 to 7
 abbrev pub urgency_at : ℕ → ℕ → Option ℕ
@@ -36,8 +36,8 @@ flag_at says n = if says == 0 then None else Some (not (n == 0))
 -- what a struct asks for
 abbrev pub asked_by : PriorityFlags → Asked
 asked_by p = record {
-  urgency = urgency_at p.says_urgency p.urgency;
-  incremental = flag_at p.says_incremental p.incremental;
+  urgency = urgency_at p.has_urgency p.urgency;
+  incremental = flag_at p.has_incremental p.incremental;
 }
 
 -- what reading a priority may write to

@@ -14,8 +14,8 @@ use sf_write::to_text;
 use std::alloc::Global;
 
 /// The canonical text (RFC 9651 section 4.1) of the value that the text spells: `Answered` and the
-/// text stands at the front of the room, `wanted` bytes of it, and the rest of the room is left as
-/// it was; `Short` where the room has less than `wanted` bytes; `Refused` where no value is
+/// text stands at the front of the room, `required` bytes of it, and the rest of the room is left as
+/// it was; `Short` where the room has less than `required` bytes; `Refused` where no value is
 /// spelled, and then `refusal` says where and why; `OutOfMemory`; or `BadCall`. A room of eight
 /// fifths of the text's length is never short.
 #[unsafe(no_mangle)]
@@ -26,19 +26,19 @@ pub extern "C" fn sf_normalise(
     kind: u32,
     text: &[u8],
     room: &mut [u8],
-    wanted: &mut usize,
+    required: &mut usize,
     refusal: &mut SyntaxRefusal,
 ) -> u32
     // BadCall just for a number that names nothing; else the canonical text, or why there is none
     ensures { Called (dialect_at dialect) (kind_at kind) (status_at result)
         (λ old new. Normalises old new text.now)
-        (record { room = room.old; wanted = wanted.old; refusal = refusal.old })
-        (record { room = room.new; wanted = wanted.new; refusal = refusal.new }) }
+        (record { room = room.old; required = required.old; refusal = refusal.old })
+        (record { room = room.new; required = required.new; refusal = refusal.new }) }
 {
     let (Some(dialect), Some(kind)) = (dialect_of(dialect), kind_of(kind)) else {
         return Status::BadCall.code();
     };
-    normalise(alloc, seed, dialect, kind, text, room, wanted, refusal).code()
+    normalise(alloc, seed, dialect, kind, text, room, required, refusal).code()
 }
 
 /// Whether the two texts spell equal values (RFC 9651 section 2; order counts): `Answered` and
@@ -78,12 +78,12 @@ fn normalise(
     kind: Kind,
     text: &[u8],
     room: &mut [u8],
-    wanted: &mut usize,
+    required: &mut usize,
     refusal: &mut SyntaxRefusal,
 ) -> Status
     // the canonical text stands at the front of the room, or the status says why not
-    ensures { Normalises (record { room = room.old; wanted = wanted.old; refusal = refusal.old })
-        (record { room = room.new; wanted = wanted.new; refusal = refusal.new })
+    ensures { Normalises (record { room = room.old; required = required.old; refusal = refusal.old })
+        (record { room = room.new; required = required.new; refusal = refusal.new })
         text.now dialect kind result }
 {
     let field = match parse(alloc, seed, dialect, kind, text, refusal) {
@@ -94,7 +94,7 @@ fn normalise(
     let Ok(canonical) = to_text(alloc, &field) else {
         return Status::OutOfMemory;
     };
-    *wanted = canonical.len();
+    *required = canonical.len();
     if room.len() < canonical.len() {
         return Status::Short;
     }

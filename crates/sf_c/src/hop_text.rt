@@ -92,7 +92,7 @@ fn hop_of(alloc: Global, hop: &HopNode, bytes: &[u8]) -> Result<Hop, Status>
         Ok(ttl) => ttl,
         Err(status) => return Err(status),
     };
-    let key = key_of(alloc, bytes, hop.key, hop.says_key)?;
+    let key = key_of(alloc, bytes, hop.key, hop.has_key)?;
     let detail = match detail_of(alloc, hop, bytes) {
         Ok(detail) => detail,
         Err(status) => return Err(status),
@@ -192,12 +192,12 @@ fn passed_of(alloc: Global, hop: &HopNode, bytes: &[u8]) -> Result<Passed, Statu
         (GivesNone (GivesPassed bytes.now hop.now)) }
 {
     let why = why_of(alloc, hop, bytes)?;
-    let status = status_of(hop.says_status, hop.status)?;
+    let status = status_of(hop.has_status, hop.status)?;
     Ok(Passed {
         why,
         status,
-        stored: flag_of(hop.says_stored, hop.stored),
-        collapsed: flag_of(hop.says_collapsed, hop.collapsed),
+        stored: flag_of(hop.has_stored, hop.stored),
+        collapsed: flag_of(hop.has_collapsed, hop.collapsed),
     })
 }
 
@@ -250,10 +250,10 @@ fn flag_of(says: u8, flag: u8) -> Option<bool>
 /// The seconds for which the response is fresh, if they are given.
 fn ttl_of(hop: &HopNode) -> Result<Option<Int>, Status>
     ensures { MatchResult result
-        (λ made. GivesMaybe hop.now.says_ttl (GivesInteger hop.now.ttl) made)
-        (GivesNone (GivesMaybe hop.now.says_ttl (GivesInteger hop.now.ttl))) }
+        (λ made. GivesMaybe hop.now.has_ttl (GivesInteger hop.now.ttl) made)
+        (GivesNone (GivesMaybe hop.now.has_ttl (GivesInteger hop.now.ttl))) }
 {
-    if hop.says_ttl == 0 {
+    if hop.has_ttl == 0 {
         return Ok(None);
     }
     match Int::new(hop.ttl) {
@@ -279,12 +279,12 @@ fn key_of(alloc: Global, bytes: &[u8], piece: Piece, says: u8) -> Result<Option<
 /// The detail, if there is one.
 fn detail_of(alloc: Global, hop: &HopNode, bytes: &[u8]) -> Result<Option<Name>, Status>
     ensures { MatchResult result
-        (λ made. GivesMaybe hop.now.says_detail
+        (λ made. GivesMaybe hop.now.has_detail
         (GivesName bytes.now hop.now.detail hop.now.detail_is_token) made)
-        (GivesNone (GivesMaybe hop.now.says_detail
+        (GivesNone (GivesMaybe hop.now.has_detail
         (GivesName bytes.now hop.now.detail hop.now.detail_is_token))) }
 {
-    if hop.says_detail == 0 {
+    if hop.has_detail == 0 {
         return Ok(None);
     }
     match name_of(alloc, bytes, hop.detail, hop.detail_is_token) {

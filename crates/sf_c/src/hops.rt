@@ -49,21 +49,21 @@ pub struct HopNode {
     /// said.
     pub status: u16,
     /// 1 where `fwd-status` is said, else 0.
-    pub says_status: u8,
+    pub has_status: u8,
     /// 1 where the response was stored: `stored` (section 2.5), else 0.
     pub stored: u8,
     /// 1 where `stored` is said, else 0.
-    pub says_stored: u8,
+    pub has_stored: u8,
     /// 1 where the request was collapsed with others: `collapsed` (section 2.6), else 0.
     pub collapsed: u8,
     /// 1 where `collapsed` is said, else 0.
-    pub says_collapsed: u8,
+    pub has_collapsed: u8,
     /// 1 where `ttl` is said, else 0.
-    pub says_ttl: u8,
+    pub has_ttl: u8,
     /// 1 where `key` is said, else 0.
-    pub says_key: u8,
+    pub has_key: u8,
     /// 1 where `detail` is said, else 0.
-    pub says_detail: u8,
+    pub has_detail: u8,
     /// 1 where the name is a Token, 0 where it is a String.
     pub name_is_token: u8,
     /// 1 where `detail` is a Token, else 0.
@@ -290,14 +290,14 @@ fn node_of(hop: &Hop, name: Piece, why_token: Piece, key: Piece, detail: Piece) 
         outcome: outcome_number(&hop.outcome),
         why: why_number(&hop.outcome),
         status: code_of(status),
-        says_status: u8::from(status.is_some()),
+        has_status: u8::from(status.is_some()),
         stored: u8::from(stored.unwrap_or(false)),
-        says_stored: u8::from(stored.is_some()),
+        has_stored: u8::from(stored.is_some()),
         collapsed: u8::from(collapsed.unwrap_or(false)),
-        says_collapsed: u8::from(collapsed.is_some()),
-        says_ttl: u8::from(hop.ttl.is_some()),
-        says_key: u8::from(hop.key.is_some()),
-        says_detail: u8::from(hop.detail.is_some()),
+        has_collapsed: u8::from(collapsed.is_some()),
+        has_ttl: u8::from(hop.ttl.is_some()),
+        has_key: u8::from(hop.key.is_some()),
+        has_detail: u8::from(hop.detail.is_some()),
         name_is_token: u8::from(is_token(&hop.name)),
         detail_is_token: u8::from(detail_is_token(&hop.detail)),
     }

@@ -13,14 +13,14 @@ pub struct Joined {
     /// How many bytes of joined text stand at the front of the room.
     pub length: usize,
     /// How long the room must be for the line that was too long for it.
-    pub wanted: usize,
+    pub required: usize,
     /// 0 before the first line, else 1.
     pub begun: u32,
 }
 
 /// Puts one more line of a field behind those that are joined in the room, with a comma and a space
 /// between two (RFC 9651 section 4.2): `Answered`; `Short` where the room is too small, and then
-/// `joined.wanted` says how long it must be, and the room is left as it was; or `BadCall` where
+/// `joined.required` says how long it must be, and the room is left as it was; or `BadCall` where
 /// `joined.length` is greater than the room.
 #[unsafe(no_mangle)]
 pub extern "C" fn sf_join(line: &[u8], room: &mut [u8], joined: &mut Joined) -> u32
@@ -50,7 +50,7 @@ fn join(line: &[u8], room: &mut [u8], joined: &mut Joined) -> Status
     }
     let free = room.len() - joined.length;
     if free < comma.len() || free - comma.len() < line.len() {
-        joined.wanted = joined
+        joined.required = joined
             .length
             .saturating_add(comma.len())
             .saturating_add(line.len());

@@ -22,9 +22,9 @@ pub struct PriorityFlags {
     /// 1 where the response is of use while it arrives, else 0.
     pub incremental: u8,
     /// 1 where the field says the urgency, else 0.
-    pub says_urgency: u8,
+    pub has_urgency: u8,
     /// 1 where the field says whether the response is incremental, else 0.
-    pub says_incremental: u8,
+    pub has_incremental: u8,
 }
 
 impl PriorityFlags {
@@ -37,8 +37,8 @@ impl PriorityFlags {
         PriorityFlags {
             urgency: filled.urgency.get(),
             incremental: u8::from(filled.incremental),
-            says_urgency: u8::from(asked.urgency.is_some()),
-            says_incremental: u8::from(asked.incremental.is_some()),
+            has_urgency: u8::from(asked.urgency.is_some()),
+            has_incremental: u8::from(asked.incremental.is_some()),
         }
     }
 
@@ -47,8 +47,8 @@ impl PriorityFlags {
         ensures { result ≡ asked_by self.now }
     {
         Asked {
-            urgency: urgency_of(self.says_urgency, self.urgency),
-            incremental: flag_of(self.says_incremental, self.incremental),
+            urgency: urgency_of(self.has_urgency, self.urgency),
+            incremental: flag_of(self.has_incremental, self.incremental),
         }
     }
 }

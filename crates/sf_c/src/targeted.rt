@@ -21,9 +21,9 @@ pub struct PolicyFlags {
     /// `s-maxage` in seconds; 0 where it is not said.
     pub s_maxage: u64,
     /// 1 where the field says `max-age`, else 0.
-    pub says_max_age: u8,
+    pub has_max_age: u8,
     /// 1 where the field says `s-maxage`, else 0.
-    pub says_s_maxage: u8,
+    pub has_s_maxage: u8,
     /// 1 where `must-revalidate` is set, else 0.
     pub must_revalidate: u8,
     /// 1 where `no-store` is set, else 0.
@@ -43,8 +43,8 @@ impl PolicyFlags {
         PolicyFlags {
             max_age: policy.max_age.unwrap_or(0),
             s_maxage: policy.s_maxage.unwrap_or(0),
-            says_max_age: u8::from(policy.max_age.is_some()),
-            says_s_maxage: u8::from(policy.s_maxage.is_some()),
+            has_max_age: u8::from(policy.max_age.is_some()),
+            has_s_maxage: u8::from(policy.s_maxage.is_some()),
             must_revalidate: u8::from(policy.must_revalidate),
             no_store: u8::from(policy.no_store),
             no_cache: u8::from(policy.no_cache),
@@ -57,8 +57,8 @@ impl PolicyFlags {
         ensures { result ≡ policy_by self.now }
     {
         Policy {
-            max_age: seconds_of(self.says_max_age, self.max_age),
-            s_maxage: seconds_of(self.says_s_maxage, self.s_maxage),
+            max_age: seconds_of(self.has_max_age, self.max_age),
+            s_maxage: seconds_of(self.has_s_maxage, self.s_maxage),
             must_revalidate: self.must_revalidate != 0,
             no_store: self.no_store != 0,
             no_cache: self.no_cache != 0,

@@ -6,7 +6,7 @@ use std::mem::size_of;
 
 #[repr(C)]
 pub struct Refusal {
-    pub place: u64,
+    pub offset: u64,
     pub expected_low: u64,
     pub expected_high: u64,
     pub found: i32,
@@ -37,16 +37,16 @@ pub struct Sizes {
 pub struct PriorityFlags {
     pub urgency: u8,
     pub incremental: u8,
-    pub says_urgency: u8,
-    pub says_incremental: u8,
+    pub has_urgency: u8,
+    pub has_incremental: u8,
 }
 
 #[repr(C)]
 pub struct Policy {
     pub max_age: u64,
     pub s_maxage: u64,
-    pub says_max_age: u8,
-    pub says_s_maxage: u8,
+    pub has_max_age: u8,
+    pub has_s_maxage: u8,
     pub must_revalidate: u8,
     pub no_store: u8,
     pub no_cache: u8,
@@ -71,14 +71,14 @@ pub struct Hop {
     pub outcome: u16,
     pub why: u16,
     pub status: u16,
-    pub says_status: u8,
+    pub has_status: u8,
     pub stored: u8,
-    pub says_stored: u8,
+    pub has_stored: u8,
     pub collapsed: u8,
-    pub says_collapsed: u8,
-    pub says_ttl: u8,
-    pub says_key: u8,
-    pub says_detail: u8,
+    pub has_collapsed: u8,
+    pub has_ttl: u8,
+    pub has_key: u8,
+    pub has_detail: u8,
     pub name_is_token: u8,
     pub detail_is_token: u8,
 }
@@ -95,7 +95,7 @@ pub struct Path {
 #[repr(C)]
 pub struct Joined {
     pub length: usize,
-    pub wanted: usize,
+    pub required: usize,
     pub begun: u32,
 }
 
@@ -200,7 +200,7 @@ extern "C" {
         length: usize,
         room: *mut c_void,
         room_length: usize,
-        wanted: *mut usize,
+        required: *mut usize,
         refusal: *mut Refusal,
     ) -> u32;
     pub fn sf_equal(
@@ -308,7 +308,7 @@ mod tests {
 
     #[test]
     fn members_stand_where_the_header_has_them() {
-        assert_eq!(at!(Refusal, place), 0);
+        assert_eq!(at!(Refusal, offset), 0);
         assert_eq!(at!(Refusal, expected_low), 8);
         assert_eq!(at!(Refusal, expected_high), 16);
         assert_eq!(at!(Refusal, found), 24);
@@ -325,12 +325,12 @@ mod tests {
         assert_eq!(at!(Sizes, bytes), 8);
         assert_eq!(at!(PriorityFlags, urgency), 0);
         assert_eq!(at!(PriorityFlags, incremental), 1);
-        assert_eq!(at!(PriorityFlags, says_urgency), 2);
-        assert_eq!(at!(PriorityFlags, says_incremental), 3);
+        assert_eq!(at!(PriorityFlags, has_urgency), 2);
+        assert_eq!(at!(PriorityFlags, has_incremental), 3);
         assert_eq!(at!(Policy, max_age), 0);
         assert_eq!(at!(Policy, s_maxage), 8);
-        assert_eq!(at!(Policy, says_max_age), 16);
-        assert_eq!(at!(Policy, says_s_maxage), 17);
+        assert_eq!(at!(Policy, has_max_age), 16);
+        assert_eq!(at!(Policy, has_s_maxage), 17);
         assert_eq!(at!(Policy, must_revalidate), 18);
         assert_eq!(at!(Policy, no_store), 19);
         assert_eq!(at!(Policy, no_cache), 20);
@@ -345,14 +345,14 @@ mod tests {
         assert_eq!(at!(Hop, outcome), 72);
         assert_eq!(at!(Hop, why), 74);
         assert_eq!(at!(Hop, status), 76);
-        assert_eq!(at!(Hop, says_status), 78);
+        assert_eq!(at!(Hop, has_status), 78);
         assert_eq!(at!(Hop, stored), 79);
-        assert_eq!(at!(Hop, says_stored), 80);
+        assert_eq!(at!(Hop, has_stored), 80);
         assert_eq!(at!(Hop, collapsed), 81);
-        assert_eq!(at!(Hop, says_collapsed), 82);
-        assert_eq!(at!(Hop, says_ttl), 83);
-        assert_eq!(at!(Hop, says_key), 84);
-        assert_eq!(at!(Hop, says_detail), 85);
+        assert_eq!(at!(Hop, has_collapsed), 82);
+        assert_eq!(at!(Hop, has_ttl), 83);
+        assert_eq!(at!(Hop, has_key), 84);
+        assert_eq!(at!(Hop, has_detail), 85);
         assert_eq!(at!(Hop, name_is_token), 86);
         assert_eq!(at!(Hop, detail_is_token), 87);
         assert_eq!(at!(Path, hops), 0);
@@ -361,7 +361,7 @@ mod tests {
         assert_eq!(at!(Path, nameless), 24);
         assert_eq!(at!(Path, is_served), 32);
         assert_eq!(at!(Joined, length), 0);
-        assert_eq!(at!(Joined, wanted), 8);
+        assert_eq!(at!(Joined, required), 8);
         assert_eq!(at!(Joined, begun), 16);
     }
 }

@@ -5,7 +5,7 @@ use sf_sys as raw;
 use std::ffi::c_void;
 
 pub(crate) const NO_REFUSAL: raw::Refusal = raw::Refusal {
-    place: 0,
+    offset: 0,
     expected_low: 0,
     expected_high: 0,
     found: -1,

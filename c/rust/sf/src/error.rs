@@ -62,7 +62,7 @@ impl Refusal {
 impl From<&raw::Refusal> for Refusal {
     fn from(refusal: &raw::Refusal) -> Refusal {
         Refusal {
-            offset: refusal.place,
+            offset: refusal.offset,
             found: u8::try_from(refusal.found).ok(),
             expected: u128::from(refusal.expected_high) << 64 | u128::from(refusal.expected_low),
             may_end: refusal.may_end != 0,
@@ -74,7 +74,7 @@ impl From<&Refusal> for raw::Refusal {
     fn from(refusal: &Refusal) -> raw::Refusal {
         let [high, low] = halves(refusal.expected);
         raw::Refusal {
-            place: refusal.offset,
+            offset: refusal.offset,
             expected_low: low,
             expected_high: high,
             found: refusal.found.map_or(-1, i32::from),
@@ -84,7 +84,7 @@ impl From<&Refusal> for raw::Refusal {
 }
 
 /// The high and the low half of a set.
-#[allow(clippy::cast_possible_truncation)] // that is what is wanted
+#[allow(clippy::cast_possible_truncation)] // that is what is required
 fn halves(set: u128) -> [u64; 2] {
     [(set >> 64) as u64, set as u64]
 }

@@ -356,7 +356,7 @@ pub fn join(lines: impl IntoIterator<Item = impl AsRef<[u8]>>) -> Result<Vec<u8>
     let mut buffer: Vec<u8> = Vec::new();
     let mut joined = raw::Joined {
         length: 0,
-        wanted: 0,
+        required: 0,
         begun: 0,
     };
     for line in lines {
@@ -374,8 +374,8 @@ pub fn join(lines: impl IntoIterator<Item = impl AsRef<[u8]>>) -> Result<Vec<u8>
             };
             match status {
                 raw::OK => break,
-                raw::SHORT if joined.wanted > buffer.len() => {
-                    lengthen(&mut buffer, joined.wanted)?;
+                raw::SHORT if joined.required > buffer.len() => {
+                    lengthen(&mut buffer, joined.required)?;
                 }
                 status => return Err(error(status, &NO_REFUSAL)),
             }

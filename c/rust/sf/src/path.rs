@@ -250,18 +250,18 @@ fn raw_hop(hop: &Hop<'_>, bytes: &mut Vec<u8>) -> Result<raw::Hop, Error> {
             to.why_token = piece(bytes, token)?;
         }
         to.status = forwarded.status.unwrap_or(0);
-        to.says_status = u8::from(forwarded.status.is_some());
+        to.has_status = u8::from(forwarded.status.is_some());
         to.stored = u8::from(forwarded.stored == Some(true));
-        to.says_stored = u8::from(forwarded.stored.is_some());
+        to.has_stored = u8::from(forwarded.stored.is_some());
         to.collapsed = u8::from(forwarded.collapsed == Some(true));
-        to.says_collapsed = u8::from(forwarded.collapsed.is_some());
+        to.has_collapsed = u8::from(forwarded.collapsed.is_some());
     }
     to.ttl = hop.ttl.unwrap_or(0);
-    to.says_ttl = u8::from(hop.ttl.is_some());
+    to.has_ttl = u8::from(hop.ttl.is_some());
     to.key = piece(bytes, hop.key.unwrap_or(""))?;
-    to.says_key = u8::from(hop.key.is_some());
+    to.has_key = u8::from(hop.key.is_some());
     to.detail = piece(bytes, hop.detail.map_or("", Name::as_str))?;
-    to.says_detail = u8::from(hop.detail.is_some());
+    to.has_detail = u8::from(hop.detail.is_some());
     to.detail_is_token = u8::from(matches!(hop.detail, Some(Name::Token(_))));
     Ok(to)
 }
@@ -310,14 +310,14 @@ const NO_HOP: raw::Hop = raw::Hop {
     outcome: raw::UNSAID,
     why: raw::NO_FORWARD,
     status: 0,
-    says_status: 0,
+    has_status: 0,
     stored: 0,
-    says_stored: 0,
+    has_stored: 0,
     collapsed: 0,
-    says_collapsed: 0,
-    says_ttl: 0,
-    says_key: 0,
-    says_detail: 0,
+    has_collapsed: 0,
+    has_ttl: 0,
+    has_key: 0,
+    has_detail: 0,
     name_is_token: 0,
     detail_is_token: 0,
 };
@@ -450,9 +450,9 @@ impl Path {
                 raw::PARTIAL => Forward::Partial,
                 _ => Forward::Other(self.text(hop.why_token)),
             },
-            status: (hop.says_status != 0).then_some(hop.status),
-            stored: (hop.says_stored != 0).then_some(hop.stored != 0),
-            collapsed: (hop.says_collapsed != 0).then_some(hop.collapsed != 0),
+            status: (hop.has_status != 0).then_some(hop.status),
+            stored: (hop.has_stored != 0).then_some(hop.stored != 0),
+            collapsed: (hop.has_collapsed != 0).then_some(hop.collapsed != 0),
         }
     }
 
@@ -465,9 +465,9 @@ impl Path {
                 raw::FORWARDED => Outcome::Forwarded(self.forwarded(hop)),
                 _ => Outcome::Conflict(self.forwarded(hop)),
             },
-            ttl: (hop.says_ttl != 0).then_some(hop.ttl),
-            key: (hop.says_key != 0).then(|| self.text(hop.key)),
-            detail: (hop.says_detail != 0).then(|| self.name(hop.detail, hop.detail_is_token)),
+            ttl: (hop.has_ttl != 0).then_some(hop.ttl),
+            key: (hop.has_key != 0).then(|| self.text(hop.key)),
+            detail: (hop.has_detail != 0).then(|| self.name(hop.detail, hop.detail_is_token)),
         }
     }
 }

@@ -28,8 +28,8 @@ pub struct Policy {
 impl From<&raw::Policy> for Policy {
     fn from(policy: &raw::Policy) -> Policy {
         Policy {
-            max_age: (policy.says_max_age != 0).then_some(policy.max_age),
-            s_maxage: (policy.says_s_maxage != 0).then_some(policy.s_maxage),
+            max_age: (policy.has_max_age != 0).then_some(policy.max_age),
+            s_maxage: (policy.has_s_maxage != 0).then_some(policy.s_maxage),
             must_revalidate: policy.must_revalidate != 0,
             no_store: policy.no_store != 0,
             no_cache: policy.no_cache != 0,
@@ -43,8 +43,8 @@ impl From<&Policy> for raw::Policy {
         raw::Policy {
             max_age: policy.max_age.unwrap_or(0),
             s_maxage: policy.s_maxage.unwrap_or(0),
-            says_max_age: u8::from(policy.max_age.is_some()),
-            says_s_maxage: u8::from(policy.s_maxage.is_some()),
+            has_max_age: u8::from(policy.max_age.is_some()),
+            has_s_maxage: u8::from(policy.s_maxage.is_some()),
             must_revalidate: u8::from(policy.must_revalidate),
             no_store: u8::from(policy.no_store),
             no_cache: u8::from(policy.no_cache),

@@ -21,8 +21,8 @@ pub struct Priority {
 impl From<raw::PriorityFlags> for Priority {
     fn from(flags: raw::PriorityFlags) -> Priority {
         Priority {
-            urgency: (flags.says_urgency != 0).then_some(flags.urgency),
-            incremental: (flags.says_incremental != 0).then_some(flags.incremental != 0),
+            urgency: (flags.has_urgency != 0).then_some(flags.urgency),
+            incremental: (flags.has_incremental != 0).then_some(flags.incremental != 0),
         }
     }
 }
@@ -32,8 +32,8 @@ impl From<Priority> for raw::PriorityFlags {
         raw::PriorityFlags {
             urgency: priority.urgency.unwrap_or(3),
             incremental: u8::from(priority.incremental.unwrap_or(false)),
-            says_urgency: u8::from(priority.urgency.is_some()),
-            says_incremental: u8::from(priority.incremental.is_some()),
+            has_urgency: u8::from(priority.urgency.is_some()),
+            has_incremental: u8::from(priority.incremental.is_some()),
         }
     }
 }
