@@ -37,7 +37,7 @@ fn kind_named(name: u8) -> Option<Kind>
     }
 }
 
-/// Whether the text is accepted; `false` also for want of memory.
+/// Whether the text is accepted; `false` also if an allocation fails.
 fn is_accepted(alloc: Global, seed: &RandomState, kind: Kind, text: &[u8]) -> bool
     // only a text that spells a value of the kind is accepted
     ensures { IsTrue result → IsAccepted kind text.now }
@@ -48,8 +48,8 @@ fn is_accepted(alloc: Global, seed: &RandomState, kind: Kind, text: &[u8]) -> bo
     }
 }
 
-/// The length of the canonical text of the value that the text spells; `None` where it is refused,
-/// and for want of memory.
+/// The length of the canonical text of the value that the text spells; `None` if it is refused, and
+/// if an allocation fails.
 fn canonical_len(alloc: Global, seed: &RandomState, kind: Kind, text: &[u8]) -> Option<usize>
     // so long is the canonical text of the value that the text spells
     ensures { IfSome result (HasCanonical kind text.now) }
@@ -63,9 +63,8 @@ fn canonical_len(alloc: Global, seed: &RandomState, kind: Kind, text: &[u8]) -> 
     }
 }
 
-/// Parses the text so many times as a field of the kind that the letter `i`, `l` or `d` names. 1
-/// where it is accepted; 0 where it is refused, for want of memory, for no times and for another
-/// letter.
+/// Parses the text so many times as a field of the kind that the letter `i`, `l` or `d` names. 1 if
+/// it is accepted; 0 if it is refused, if an allocation fails, for no times and for another letter.
 ///
 /// ```c
 /// size_t sf_bench_parse(uint8_t kind, const uint8_t *text, size_t len, size_t times);
@@ -87,7 +86,7 @@ pub extern "C" fn sf_bench_parse(alloc: Global, name: u8, text: &[u8], times: us
 }
 
 /// Parses the text so many times, as [`sf_bench_parse`] does, and writes its canonical text. The
-/// length of the canonical text; 0 where the other answers 0, and where that text is empty.
+/// length of the canonical text; 0 if the other answers 0, and where that text is empty.
 ///
 /// ```c
 /// size_t sf_bench_normalise(uint8_t kind, const uint8_t *text, size_t len, size_t times);

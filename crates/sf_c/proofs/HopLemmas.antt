@@ -1,4 +1,4 @@
--- What the structs of hops tell stays when more bytes and more hops come.
+-- What the structs of hops describe stays when more bytes and more hops come.
 use Rattle.std.proofs.Common.{◌≡◌, ℕ, ◌+◌, ◌≤◌, List, [], ◌∷◌, ◌++◌, length, drop, map, refl}
 use Rattle.std.proofs.Common.{ap, ◌∙◌, sym, arith, length-append, append_assoc}
 use Rattle.std.proofs.lemmas.List.{append-nil, length-map, map-append}
@@ -91,7 +91,7 @@ pub record PutsHop (b0 b1 b2 b3 b4 n w k d : List ℕ) (x : HopNode) : Type 0 wh
   pub key : PutsPiece b2 b3 k x.key
   pub detail : PutsPiece b3 b4 d x.detail
 
--- where they stand in the end
+-- where they are in the end
 pieces_there : (b0 b1 b2 b3 b4 n w k d : List ℕ) (x : HopNode)
     → PutsHop b0 b1 b2 b3 b4 n w k d x
     → IsHopWithin b4 x
@@ -128,7 +128,7 @@ hops_there b0 b1 b2 b3 b4 n w k d x ns p h =
     let h4 = put_keeps_hops b3 b4 d ns x.detail p.detail h3.0 in
     (h4.0, h4.1 ∙ h3.1 ∙ h2.1 ∙ h1.1)
 
--- the struct tells the hop whose texts they are
+-- the struct describes the hop whose texts they are
 pub record TextsOf (h : Hop) (n w k d : List ℕ) : Type 0 where
   pub name : n ≡ bytes_of h.name
   pub why : w ≡ why_token (passed_by h.outcome)
@@ -241,7 +241,7 @@ hop_held b0 b1 b2 b3 b4 n w k d x h ns ms p t s e a =
       whole,
     )
 
--- hops and bytes that are put into rooms which are long enough
+-- hops and bytes that are put into buffers which are long enough
 pub hops_at_front : (ts : List ToldHop) (hops new_hops some_hops : List HopNode)
     (bytes new_bytes some_bytes : List ℕ) → map (told_hop_by some_bytes) some_hops ≡ ts
     → HopsHoldUp some_bytes some_hops → length ts ≤ length hops → hops_size ts ≤ length bytes

@@ -1,4 +1,4 @@
--- Lines that are joined one after another, and what is put into a room.
+-- Lines that are joined one after another, and what is put into a buffer.
 use Rattle.std.proofs.Common.{◌≡◌, ℕ, ◌+◌, ◌≤◌, zero, suc, ◌==◌, cond, List, [], ◌∷◌, ◌++◌}
 use Rattle.std.proofs.Common.{length, take, drop, refl, ap, ◌∙◌, sym, subst, arith, rules, tests}
 use Rattle.std.proofs.Common.{append_assoc, length-append}
@@ -10,7 +10,7 @@ use Rattle.std.specs.Prelude.{◌↔◌}
 use Rattle.sf_value.specs.Grammar.Lines.{join}
 use Rattle.sf_c.specs.Joining.{JoinRoom, PutsOne, separator_of}
 
--- one more line behind others
+-- one more line after others
 pub join-push : (m : List ℕ) (ms : List (List ℕ)) (line : List ℕ)
     → join ((m ∷ ms) ++ line ∷ []) ≡ (join (m ∷ ms) ++ 44 ∷ 32 ∷ []) ++ line
 join-push m [] line = sym (append_assoc m (44 ∷ 32 ∷ []) line)
@@ -21,7 +21,7 @@ join-push m (n ∷ ms) line =
     ∙ append_assoc m (44 ∷ 32 ∷ (join (n ∷ ms) ++ 44 ∷ 32 ∷ [])) line
     )
 
--- the front of a room, at a length that is known
+-- the front of a buffer, at a length that is known
 pub front_at : (n : ℕ) (xs ys : List ℕ) → length xs ≡ n → take n (xs ++ ys) ≡ xs
 front_at n xs ys e =
     let P : ℕ → Type 0 = λ m. take m (xs ++ ys) ≡ xs in subst P e (take-append_seam xs ys)
@@ -38,7 +38,7 @@ front_length n room x h =
     let b = length-take-le n room h in
     omega arith
 
--- two pieces put one behind the other
+-- two pieces put one after the other
 pub put_twice : (n : ℕ) (room mid new x y : List ℕ) → n ≤ length room
     → mid ≡ (take n room ++ x) ++ drop (n + length x) room
     → new ≡ (take (n + length x) mid ++ y) ++ drop (n + length x + length y) mid
@@ -75,7 +75,7 @@ pub push_some : (ls : List (List ℕ)) (line : List ℕ) → ls ++ line ∷ [] �
 push_some [] line e = absurd cc
 push_some (m ∷ ms) line e = absurd cc
 
--- a separator and a line that are put where there is room
+-- a separator and a line that are put if there is capacity
 pub puts_one : (old : JoinRoom) (line comma mid new : List ℕ) → comma ≡ separator_of old.joined
     → old.joined.length + (length comma + length line) ≤ length old.room
     → mid

@@ -117,7 +117,7 @@ bare_long d (Boolean b) h = omega arith
 bare_long d (Date n) h = omega arith
 bare_long d (Shown s) h = omega arith
 
--- valid parameters, whether or not a key stands twice
+-- valid parameters, whether or not a key is twice
 abbrev AreParams : Dialect → Pairs Bare → Type 0
 AreParams d = Each (λ p. IsKey p.0 × ValidBare d p.1)
 
@@ -202,7 +202,7 @@ member_small : (d : Dialect) (key : Seq ℕ) (m : Member) → ValidMember d m
 member_small d key (member.Item i) valid = item_small d roles.Member key i valid
 member_small d key (member.Inner l) valid = inner_small d key l valid
 
--- behind a key of a Dictionary
+-- after a key of a Dictionary
 flag_long : (x : Bare) (ps : Pairs Bare)
     → length (canon_params ps) + length (text_of x) ≤ length (canon_flag x ps)
 flag_long (Boolean true) ps = omega arith

@@ -1,4 +1,4 @@
--- What lists of parts tell, a part at a time, and how many parts they have.
+-- What lists of parts describe, a part at a time, and how many parts they have.
 use Rattle.std.proofs.Common.{◌≡◌, ℕ, ◌+◌, ◌<◌, List, [], ◌∷◌, ◌++◌, length, drop, get_or, refl, ap}
 use Rattle.std.proofs.Common.{◌∙◌, add-one, drop-cons, length-append, arith}
 use Rattle.sf_value.specs.declared.value.Bare.{Bare}

@@ -1,4 +1,4 @@
--- Structs tell one path: no two hops say the same.
+-- Structs describe one path: no two hops say the same.
 use Rattle.std.proofs.Common.{◌≡◌, ℕ, ℤ, pos, Bool, true, false, ◌==◌, cond, List as Seq, [], ◌∷◌}
 use Rattle.std.proofs.Common.{Option, Some, None, map, refl, sym, ap, ◌∙◌}
 use Rattle.std.specs.Prelude.{is_some, unwrap_or}

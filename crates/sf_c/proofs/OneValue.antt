@@ -1,4 +1,4 @@
--- Nodes tell one value: no two fields of a kind have the same parts.
+-- Nodes describe one value: no two fields of a kind have the same parts.
 use Rattle.std.proofs.Common.{◌≡◌, ℕ, ◌+◌, ℤ, pos, negsuc, zero, suc, Bool, true, false, ◌==◌}
 use Rattle.std.proofs.Common.{List as Seq, [], ◌∷◌, ◌++◌, length, refl, sym, ap, ◌∙◌, arith, cond}
 use Rattle.std.proofs.Common.{append_assoc}
@@ -135,7 +135,7 @@ one_split (x ∷ xs) (y ∷ ys) us vs l e =
 same_item : (i j : Item) → i.bare ≡ j.bare → i.params ≡ j.params → i ≡ j
 same_item i j a b = ap (λ x. item x i.params) a ∙ ap (λ ps. item j.bare ps) b
 
--- what stands first among parts: an Item
+-- what is first among parts: an Item
 pub one_item : (r r' : Role) (k k' : Seq ℕ) (i j : Item) (cs ds : Seq Told)
     → told_item r k i ++ cs ≡ told_item r' k' j ++ ds → (i ≡ j) × (k ≡ k') × (cs ≡ ds)
 one_item r r' k k' i j cs ds e =
@@ -188,7 +188,7 @@ inner_of is ps = record { items = is; params = ps }
 same_inner : (l m : Inner) → l.items ≡ m.items → l.params ≡ m.params → l ≡ m
 same_inner l m a b = ap (λ is. inner_of is l.params) a ∙ ap (λ ps. inner_of m.items ps) b
 
--- what stands first among parts: an Inner List
+-- what is first among parts: an Inner List
 one_inner : (k k' : Seq ℕ) (l m : Inner) (cs ds : Seq Told)
     → told_inner k l ++ cs ≡ told_inner k' m ++ ds → (l ≡ m) × (k ≡ k') × (cs ≡ ds)
 one_inner k k' l m cs ds e =
@@ -199,7 +199,7 @@ one_inner k k' l m cs ds e =
     let parts = one_items l.items m.items l.params m.params rest.0 in
     (same_inner l m parts.0 parts.1, ap key_of both.0, rest.1)
 
--- what stands first among parts: a member
+-- what is first among parts: a member
 one_member : (k k' : Seq ℕ) (m n : Member) (cs ds : Seq Told)
     → told_member k m ++ cs ≡ told_member k' n ++ ds → (m ≡ n) × (k ≡ k') × (cs ≡ ds)
 one_member k k' (member.Item i) (member.Item j) cs ds e =

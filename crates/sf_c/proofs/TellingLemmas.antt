@@ -1,4 +1,4 @@
--- What nodes tell stays when more bytes and more nodes come.
+-- What nodes describe stays when more bytes and more nodes come.
 use Rattle.std.proofs.Common.{◌≡◌, ℕ, ◌+◌, ◌≤◌, List, [], ◌∷◌, ◌++◌, length, take, drop, map, refl}
 use Rattle.std.proofs.Common.{ap, ◌∙◌, sym, arith, length-append, append_assoc}
 use Rattle.std.proofs.Common.{cond, true, false, Result, Ok, Err}
@@ -10,7 +10,7 @@ use Rattle.sf_c.specs.declared.nodes.Node.{Node}
 use Rattle.sf_c.specs.Tellings.{Told, piece, told_by, told_size, IsWithin, AreWithin, HoldsUp}
 use Rattle.sf_c.specs.Tellings.{TellAtFront, AreInOrder, told_bytes}
 
--- bytes that are there stay where they are when more come behind them
+-- bytes that are there stay where they are when more come after them
 pub piece-append : (at count : ℕ) (bytes more : List ℕ) → at + count ≤ length bytes
     → piece at count (bytes ++ more) ≡ piece at count bytes
 piece-append at count bytes more h =
@@ -19,7 +19,7 @@ piece-append at count bytes more h =
     ap (take count) (drop-append-le at bytes more before)
     ∙ take-append-le count (drop at bytes) more enough
 
--- what comes behind bytes is the piece there
+-- what comes after bytes is the piece there
 pub piece_last : (bytes more : List ℕ) → piece (length bytes) (length more) (bytes ++ more) ≡ more
 piece_last bytes more =
     ap (take (length more)) (drop-append_seam bytes more) ∙ take-length more
@@ -58,7 +58,7 @@ map-told_by-append bytes more [] h = refl
 map-told_by-append bytes more (n ∷ ns) h =
     rw (told_by-append bytes more n h.0, map-told_by-append bytes more ns h.1) refl
 
--- a node of this key and this text, which stand behind the bytes before
+-- a node of this key and this text, which are after the bytes before
 pub record Points (bytes key text : List ℕ) (n : Node) : Type 0 where
   pub key_at : n.key_at ≡ length bytes
   pub key_length : n.key_length ≡ length key
@@ -128,7 +128,7 @@ pub told_size-append : (ts us : List Told) → told_size (ts ++ us) ≡ told_siz
 told_size-append [] us = omega arith
 told_size-append (t ∷ ts) us = let e = told_size-append ts us in omega arith
 
--- where the last node stands
+-- where the last node is
 in_order_more : (at : ℕ) (bytes now key text : List ℕ) (ns : List Node) (n : Node)
     → now ≡ (bytes ++ key) ++ text → Points bytes key text n → AreInOrder at ns (length bytes)
     → AreInOrder at (ns ++ n ∷ []) (length now)
@@ -189,7 +189,7 @@ pub holds_still : (bytes now : List ℕ) (ns ms : List Node) → now ≡ bytes �
     → HoldsUp bytes ns → HoldsUp now ms
 holds_still bytes now ns ms e f h = rw (e, f) h
 
--- what is put behind bytes and taken away again
+-- what is put after bytes and taken away again
 pub taken_back : (bytes more now : List ℕ) (n : ℕ) → n ≡ length bytes
     → now ≡ take n (bytes ++ more) → now ≡ bytes
 taken_back bytes more now n e f = f ∙ rw e (take-append_seam bytes more)
@@ -200,7 +200,7 @@ pub pushed : {A E : Type 0} (r : Result A E) (xs ys zs : List Node) → xs ≡ c
 pushed (Ok a) xs ys zs e h = e
 pushed (Err b) xs ys zs e h = let never : true ≡ false = h in absurd cc
 
--- nodes and bytes that are put into rooms which are long enough
+-- nodes and bytes that are put into buffers which are long enough
 pub tell_at_front : (ts : List Told) (nodes new_nodes some_nodes : List Node)
     (bytes new_bytes some_bytes : List ℕ) → map (told_by some_bytes) some_nodes ≡ ts
     → HoldsUp some_bytes some_nodes → length ts ≤ length nodes → told_size ts ≤ length bytes

@@ -1,4 +1,4 @@
--- What C names by numbers, and what a call by such names answers.
+-- What C names by numbers, and what a call by such names returns.
 use Rattle.std.specs.Prelude.{◌≡◌, ℕ, ◌==◌, if◌then◌else◌, Option, Some, None}
 use Rattle.sf_value.specs.declared.dialect.Dialect.{Dialect}
 use Rattle.sf_value.specs.declared.dialect.Dialect.TheVariants.{Rfc8941, Rfc9651}
@@ -18,8 +18,8 @@ kind_at n =
     else (if n == 2 then Some List
     else (if n == 3 then Some Dict else None))
 
--- the status and what is there afterwards are those of a call by this dialect and kind; where there
--- is no such kind or dialect the status is BadCall, and all is left as it was
+-- the status and what is there afterwards are those of a call by this dialect and kind; if there is
+-- no such kind or dialect the status is BadCall, and all is left as it was
 abbrev pub Called : {Room : Type 0} → Option Dialect → Option Kind → Option Status
     → (Room → Room → Dialect → Kind → Status → Type 0) → Room → Room → Type 0
 Called (Some d) (Some k) (Some s) P old new = P old new d k s

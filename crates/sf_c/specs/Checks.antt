@@ -1,4 +1,4 @@
--- What checking a text answers.
+-- What checking a text returns.
 use Rattle.std.specs.Prelude.{◌≡◌, ℕ, List}
 use Rattle.sf_value.specs.declared.dialect.Dialect.{Dialect}
 use Rattle.sf_value.specs.declared.value.Field.{Field}
@@ -9,7 +9,7 @@ use Rattle.sf_c.specs.declared.status.Status.{Status}
 use Rattle.sf_c.specs.declared.status.Status.TheVariants.{Answered, Refused, OutOfMemory}
 use Rattle.sf_c.specs.Refusals.{SaysRefusal}
 
--- the text t spells a value, or the struct says its refusal; the struct is else left as it was
+-- the text t spells a value, or the struct says its refusal; the struct is otherwise left as it was
 abbrev pub Checks : SyntaxRefusal → SyntaxRefusal → List ℕ → Dialect → Kind → Status → Type 0
 Checks old new t d k Answered = ((v : Field) × IsOnly d k t v) × (new ≡ old)
 Checks old new t d k Refused = SaysRefusal d k t new

@@ -1,4 +1,4 @@
--- What a search for a key among nodes answers.
+-- What a search for a key among nodes returns.
 use Rattle.std.specs.Prelude.{◌≡◌, ℕ, ◌+◌, nat_le, ◌==◌, ◌&&◌, Bool, List, length, position}
 use Rattle.std.specs.Prelude.{Option, Some, None}
 use Rattle.std.specs.Str.{bytes_eq}

@@ -1,4 +1,4 @@
--- What parsing a text into nodes answers.
+-- What parsing a text into nodes returns.
 use Rattle.std.specs.Prelude.{◌≡◌, ℕ, ◌+◌, ◌*◌, ◌<◌, ◌≤◌, ◌⊎◌, List, length}
 use Rattle.sf_value.specs.declared.dialect.Dialect.{Dialect}
 use Rattle.sf_value.specs.declared.value.Field.{Field}
@@ -29,8 +29,8 @@ AreSizes t sizes v =
     × (10 * sizes.nodes ≤ 8 * length t + 5)
     × (5 * sizes.bytes ≤ 8 * length t)
 
--- the fronts of the rooms tell the value that the text t spells, the only one; or a room is too
--- small; or the struct says the refusal. All else is left as it was
+-- the starts of the buffers describe the value that the text t spells, the only one; or a buffer is
+-- too small; or the struct says the refusal. All else is left as it was
 abbrev pub Flattens : NodeRoom → NodeRoom → List ℕ → Dialect → Kind → Status → Type 0
 Flattens old new t d k Answered =
     (v : Field)

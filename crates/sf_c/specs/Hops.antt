@@ -1,4 +1,4 @@
--- What the structs of hops tell (RFC 9211 section 2).
+-- What the structs of hops describe (RFC 9211 section 2).
 use Rattle.std.specs.Prelude.{◌≡◌, ℕ, ℤ, pos, ◌+◌, ◌≤◌, Bool, true, false, List, [], ◌∷◌, ◌++◌}
 use Rattle.std.specs.Prelude.{length, drop, map, Option, is_some, unwrap_or}
 use Rattle.std.specs.Option.{option_and_then, option_map}
@@ -68,7 +68,7 @@ says_by n = record {
 abbrev pub piece_of : List ℕ → Piece → List ℕ
 piece_of bytes p = piece p.at p.length bytes
 
--- what a struct tells, which points into these bytes
+-- what a struct describes, which points into these bytes
 abbrev pub told_hop_by : List ℕ → HopNode → ToldHop
 told_hop_by bytes n = record {
   name = piece_of bytes n.name;
@@ -187,7 +187,7 @@ hops_bytes (t ∷ ts) = hop_bytes t ++ hops_bytes ts
 abbrev pub end_of : Piece → ℕ
 end_of p = p.at + p.length
 
--- the pieces of a hop stand one behind another, the first at this place
+-- the pieces of a hop are one after another, the first at this place
 abbrev pub IsHopInOrder : ℕ → HopNode → Type 0
 IsHopInOrder at n =
     (n.name.at ≡ at)
@@ -195,12 +195,12 @@ IsHopInOrder at n =
     × (n.key.at ≡ end_of n.why_token)
     × (n.detail.at ≡ end_of n.key)
 
--- those of hops stand one behind another from this place on, and end at that one
+-- those of hops are one after another from this place on, and end at that one
 abbrev pub AreHopsInOrder : ℕ → List HopNode → ℕ → Type 0
 AreHopsInOrder at [] end = at ≡ end
 AreHopsInOrder at (n ∷ ns) end = IsHopInOrder at n × AreHopsInOrder (end_of n.detail) ns end
 
--- the structs point to bytes that are there, one piece behind another, and no byte is in vain
+-- the structs point to bytes that are there, one piece after another, and no byte is in vain
 abbrev pub HopsHoldUp : List ℕ → List HopNode → Type 0
 HopsHoldUp bytes ns =
     AreHopsWithin bytes ns
@@ -208,13 +208,13 @@ HopsHoldUp bytes ns =
     × AreHopsInOrder 0 ns (length bytes)
     × (bytes ≡ hops_bytes (map (told_hop_by bytes) ns))
 
--- the text stands behind the bytes that were there, and the piece is that of it
+-- the text is after the bytes that were there, and the piece is that of it
 abbrev pub PutsPiece : List ℕ → List ℕ → List ℕ → Piece → Type 0
 PutsPiece old new text p =
     (new ≡ old ++ text) × (p.at ≡ length old) × (p.length ≡ length text)
 
--- the structs and the bytes at the fronts of two rooms tell these hops: the bytes are their pieces
--- in order, and no other. What stands behind them is left as it was
+-- the structs and the bytes at the start of two buffers describe these hops: the bytes are their
+-- pieces in order, and no other. What is after them is left as it was
 pub record HopsAtFront (ts : List ToldHop) (hops new_hops : List HopNode)
     (bytes new_bytes : List ℕ) : Type 0 where
   pub some_hops : List HopNode

@@ -13,7 +13,7 @@ pub record JoinRoom : Type 0 where
   pub room : List ℕ
   pub joined : Joined
 
--- nothing stands before the first line, and a comma and a space before each other one
+-- nothing is before the first line, and a comma and a space before each other one
 abbrev pub separator_of : Joined → List ℕ
 separator_of j = if j.begun == 0 then [] else comma ∷ space ∷ []
 
@@ -21,11 +21,11 @@ separator_of j = if j.begun == 0 then [] else comma ∷ space ∷ []
 abbrev pub added : Joined → List ℕ → List ℕ
 added j line = separator_of j ++ line
 
--- these lines stand joined at the front of the room
+-- these lines are joined at the start of the buffer
 abbrev pub AreJoined : List (List ℕ) → JoinRoom → Type 0
 AreJoined ls r = ((r.joined.begun ≡ 0) ↔ (ls ≡ [])) × (take r.joined.length r.room ≡ join ls)
 
--- the line is joined to the others, and what stands behind the text is left as it was
+-- the line is joined to the others, and what is after the text is left as it was
 pub record PutsOne (old new : JoinRoom) (line : List ℕ) : Type 0 where
   pub joins : (ls : List (List ℕ)) → AreJoined ls old → AreJoined (ls ++ line ∷ []) new
   pub longer : new.joined.length ≡ old.joined.length + length (added old.joined line)
@@ -37,7 +37,7 @@ pub record PutsOne (old new : JoinRoom) (line : List ℕ) : Type 0 where
   pub behind : drop new.joined.length new.room ≡ drop new.joined.length old.room
   pub kept : length new.room ≡ length old.room
 
--- the room is too small for the text with this line, and nothing is put
+-- the buffer is too small for the text with this line, and nothing is put
 pub record WantsMore (old new : JoinRoom) (line : List ℕ) : Type 0 where
   pub within : old.joined.length ≤ length old.room
   pub short : length old.room < old.joined.length + length (added old.joined line)
@@ -45,7 +45,7 @@ pub record WantsMore (old new : JoinRoom) (line : List ℕ) : Type 0 where
   pub room : new.room ≡ old.room
   pub still : new.joined ≡ record old.joined { required = new.joined.required }
 
--- the line is joined, or the room is too small, or shorter than the text that is to stand in it
+-- the line is joined, or the buffer is too small, or shorter than the text that is to be in it
 abbrev pub PutsLine : JoinRoom → JoinRoom → List ℕ → Option Status → Type 0
 PutsLine old new line (Some Answered) = PutsOne old new line
 PutsLine old new line (Some Short) = WantsMore old new line

@@ -1,5 +1,4 @@
--- The laws of the nodes and of the hops. Each stands as the contract of a function in
--- `src/laws.rt`.
+-- The laws of the nodes and of the hops. Each is the contract of a function in `src/laws.rt`.
 use Rattle.std.specs.Prelude.{◌≡◌, ℕ, ◌+◌, ◌*◌, ◌≤◌, List, length, map, Ok}
 use Rattle.sf_value.specs.declared.dialect.Dialect.{Dialect}
 use Rattle.sf_value.specs.declared.value.Field.{Field}
@@ -21,7 +20,7 @@ use Rattle.sf_c.specs.Tellings.{told_by, told_size}
 use Rattle.sf_c.specs.Nodes.{told_field}
 use Rattle.sf_c.specs.Hops.{hops_size, told_hop, told_hop_by}
 
--- nodes that tell two values of a kind tell one
+-- nodes that describe two values of a kind describe one
 abbrev pub TellOneValue : Type 0
 TellOneValue =
     (bytes : List ℕ) (nodes : List Node) (v w : Field) → kind_of v ≡ kind_of w
@@ -39,14 +38,14 @@ BytesAreFew =
     (d : Dialect) (kind : Kind) (t : List ℕ) (v : Field)
     → SpellsField d kind t v → 5 * told_size (told_field v) ≤ 8 * length t
 
--- structs that tell two paths tell one
+-- structs that describe two paths describe one
 abbrev pub TellOnePath : Type 0
 TellOnePath =
     (bytes : List ℕ) (hops : List HopNode) (hs js : List Hop)
     → map (told_hop_by bytes) hops ≡ map told_hop hs
     → map (told_hop_by bytes) hops ≡ map told_hop js → hs ≡ js
 
--- how many hops the path that a text tells may have
+-- how many hops the path that a text spells may have
 abbrev pub HopsAreFew : Type 0
 HopsAreFew =
     (d : Dialect) (kind : Kind) (t : List ℕ) (v : Field) (hs : List Hop)

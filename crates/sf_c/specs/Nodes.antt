@@ -1,4 +1,4 @@
--- What the nodes of a value tell, in the order of the canonical text.
+-- What the nodes of a value describe, in the order of the canonical text.
 use Rattle.std.specs.Prelude.{ℕ, ◌+◌, ℤ, pos, true, List as Seq, [], ◌∷◌, ◌++◌, length}
 use Rattle.sf_value.specs.declared.value.Bare.{Bare}
 use Rattle.sf_value.specs.declared.value.Bare.TheVariants.{Integer, Decimal, Text, Token}

@@ -1,4 +1,4 @@
--- What normalising a text and comparing two answers.
+-- What normalising a text and comparing two returns.
 use Rattle.std.specs.Prelude.{◌≡◌, ℕ, ◌*◌, ◌<◌, ◌≤◌, ◌↔◌, Bool, true, List, ◌++◌, length, drop}
 use Rattle.sf_value.specs.declared.dialect.Dialect.{Dialect}
 use Rattle.sf_value.specs.declared.value.Field.{Field}
@@ -17,12 +17,12 @@ pub record TextRoom : Type 0 where
   pub required : ℕ
   pub refusal : SyntaxRefusal
 
--- the text stands at the front of the room, and the rest is left as it was
+-- the text is at the start of the buffer, and the rest is left as it was
 abbrev pub IsAtFront : List ℕ → List ℕ → List ℕ → Type 0
 IsAtFront text old new = new ≡ text ++ drop (length text) old
 
 -- the canonical text of the value that the text t spells, which is at most eight fifths as long as
--- t, is put into a room that is long enough; all else is left as it was
+-- t, is put into a buffer that is long enough; all else is left as it was
 abbrev pub Normalises : TextRoom → TextRoom → List ℕ → Dialect → Kind → Status → Type 0
 Normalises old new t d k Answered =
     (v : Field)

@@ -9,8 +9,8 @@ use Rattle.sf_c.specs.declared.status.Status.{Status}
 use Rattle.sf_c.specs.declared.status.Status.TheVariants.{Refused, OutOfMemory}
 use Rattle.sf_c.specs.Refusals.{SaysRefusal}
 
--- the value that the text spells, the only one; or the struct says its refusal; or memory was
--- wanting. The struct is else left as it was
+-- the value that the text spells, the only one; or the struct says its refusal; or an allocation
+-- failed. The struct is otherwise left as it was
 abbrev pub ParsesOrSays : SyntaxRefusal → SyntaxRefusal → List ℕ → Dialect → Kind
     → Result Field Status → Type 0
 ParsesOrSays old new t d k (Ok v) = IsOnly d k t v × (new ≡ old)

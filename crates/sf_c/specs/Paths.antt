@@ -33,17 +33,17 @@ pub record PathRoom : Type 0 where
   pub path : Path
   pub refusal : SyntaxRefusal
 
--- the rooms are as they were
+-- the buffers are as they were
 abbrev pub KeepsRooms : PathRoom → PathRoom → Type 0
 KeepsRooms old new = (new.hops ≡ old.hops) × (new.bytes ≡ old.bytes)
 
--- one of the rooms is too small for the path
+-- one of the buffers is too small for the path
 abbrev pub IsTooSmall : PathRoom → Path → Type 0
 IsTooSmall r p = (length r.hops < p.hops) ⊎ (length r.bytes < p.bytes)
 
--- the text spells a List, and the fronts of the rooms tell its hops; or a room is too small; or a
--- member names no cache, the first such at this place; or the struct says the refusal. All else is
--- left as it was
+-- the text spells a List, and the starts of the buffers describe its hops; or a buffer is too
+-- small; or a member names no cache, the first such at this place; or the struct says the refusal.
+-- All else is left as it was
 abbrev pub TellsPath : PathRoom → PathRoom → Seq ℕ → Option Status → Type 0
 TellsPath old new t (Some Answered) =
     (v : Field) × (hs : Seq Hop)

@@ -70,7 +70,7 @@ SaysToCache old new t (Some Refused) =
 SaysToCache old new t (Some OutOfMemory) = new ≡ old
 SaysToCache old new t status = ⊥
 
--- 1 and the lifetime by the policy, or 0 where it says none; any number but 0 is a shared cache
+-- 1 and the lifetime by the policy, or 0 if it says none; any number but 0 is a shared cache
 abbrev pub LifeAnswer : Option ℕ → ℕ → ℕ → ℕ → Type 0
 LifeAnswer (Some n) old new said = (said ≡ 1) × (new ≡ n)
 LifeAnswer None old new said = (said ≡ 0) × (new ≡ old)

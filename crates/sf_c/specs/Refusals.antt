@@ -8,12 +8,12 @@ use Rattle.sf_parse.specs.declared.refusal.Refusal.{Refusal}
 use Rattle.sf_parse.specs.declared.refusal.Refusal.TheVariants.{Syntax}
 use Rattle.sf_c.specs.declared.refusal.SyntaxRefusal.{SyntaxRefusal}
 
--- the byte that was found, or -1 where the text ended
+-- the byte that was found, or -1 if the text ended
 abbrev pub found_number : Option ℕ → ℤ
 found_number (Some b) = pos b
 found_number None = negsuc 0
 
--- 1 where it holds
+-- 1 if it holds
 abbrev pub flag_number : Bool → ℕ
 flag_number true = 1
 flag_number false = 0

@@ -1,4 +1,4 @@
--- What a node tells.
+-- What a node describes.
 use Rattle.std.specs.Prelude.{◌≡◌, ℕ, ℤ, ◌+◌, ◌≤◌, List, [], ◌∷◌, ◌++◌, length, take, drop}
 use Rattle.std.specs.Prelude.{map}
 use Rattle.sf_c.specs.declared.nodes.Node.{Node}
@@ -16,7 +16,7 @@ pub record Told : Type 0 where
 abbrev pub piece : ℕ → ℕ → List ℕ → List ℕ
 piece at count bytes = take count (drop at bytes)
 
--- what a node tells, which points into these bytes
+-- what a node describes, which points into these bytes
 abbrev pub told_by : List ℕ → Node → Told
 told_by bytes n = record {
   role = n.role;
@@ -47,7 +47,7 @@ abbrev pub told_bytes : List Told → List ℕ
 told_bytes [] = []
 told_bytes (t ∷ ts) = t.key ++ (t.text ++ told_bytes ts)
 
--- the keys and texts of nodes stand one behind another from this place on, and end at that one
+-- the keys and texts of nodes are one after another from this place on, and end at that one
 abbrev pub AreInOrder : ℕ → List Node → ℕ → Type 0
 AreInOrder at [] end = at ≡ end
 AreInOrder at (n ∷ ns) end =
@@ -55,7 +55,7 @@ AreInOrder at (n ∷ ns) end =
     × (n.text_at ≡ at + n.key_length)
     × AreInOrder (n.text_at + n.text_length) ns end
 
--- the nodes point to bytes that are there, one piece behind another, and no byte is in vain
+-- the nodes point to bytes that are there, one piece after another, and no byte is in vain
 abbrev pub HoldsUp : List ℕ → List Node → Type 0
 HoldsUp bytes ns =
     AreWithin bytes ns
@@ -63,8 +63,8 @@ HoldsUp bytes ns =
     × AreInOrder 0 ns (length bytes)
     × (bytes ≡ told_bytes (map (told_by bytes) ns))
 
--- the nodes and the bytes at the fronts of two rooms tell these parts: the bytes are the keys and
--- texts in their order, and no other. What stands behind them is left as it was
+-- the nodes and the bytes at the start of two buffers describe these parts: the bytes are the keys
+-- and texts in their order, and no other. What is after them is left as it was
 pub record TellAtFront (ts : List Told) (nodes new_nodes : List Node) (bytes new_bytes : List ℕ)
     : Type 0 where
   pub some_nodes : List Node

@@ -9,7 +9,7 @@ pub record TextBuffer : Type 0 where
   pub buffer : List ℕ
   pub required : ℕ
 
--- the text is at the front of a buffer that is long enough; a shorter one is left as it was. The
+-- the text is at the start of a buffer that is long enough; a shorter one is left as it was. The
 -- length of the text is given in both cases
 abbrev pub PutsText : TextBuffer → TextBuffer → List ℕ → Option Status → Type 0
 PutsText old new text (Some Answered) =

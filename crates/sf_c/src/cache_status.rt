@@ -24,21 +24,21 @@ pub struct Path {
     pub hops: usize,
     /// How many bytes, those of names, tokens, keys and details.
     pub bytes: usize,
-    /// The place of the hop that the response came from, counted from 0; 0 where there is none.
+    /// The place of the hop that the response came from, counted from 0; 0 if there is none.
     pub served: usize,
     /// The place of the first member that names no cache, counted from 0, where the answer is
     /// `NotACache`.
     pub nameless: usize,
-    /// 1 where a hop answered from its store, else 0.
+    /// 1 if a hop answered from its store, otherwise 0.
     pub is_served: u32,
 }
 
 /// The path of a response by the text of its Cache-Status field (RFC 9211 section 2), the cache
 /// nearest the origin first: `Answered` and the first `path.hops` hops and the first `path.bytes`
-/// bytes tell it, and the others are left as they were; `Short` where one of the rooms is smaller
-/// than `path` says, and both are left as they were; `NotACache` where a member names no cache, and
-/// then `path.nameless` is the place of the first such member; `Refused` where the text spells no
-/// List, and then `refusal` says where and why; or `OutOfMemory`.
+/// bytes describe it, and the others are left as they were; `Short` if one of the buffers is
+/// smaller than `path` says, and both are left as they were; `NotACache` if a member names no
+/// cache, and then `path.nameless` is the place of the first such member; `Refused` if the text
+/// spells no List, and then `refusal` says where and why; or `OutOfMemory`.
 #[unsafe(no_mangle)]
 pub extern "C" fn sf_cache_status(
     alloc: Global,
@@ -49,12 +49,13 @@ pub extern "C" fn sf_cache_status(
     path: &mut Path,
     refusal: &mut SyntaxRefusal,
 ) -> u32
-    // the rooms tell the hops of the List, or the status says why not; all else is left as it was
+    // the buffers describe the hops of the List, or the status says why not; all else is left as it
+    // was
     ensures tells { TellsPath
         (record { hops = hops.old; bytes = bytes.old; path = path.old; refusal = refusal.old })
         (record { hops = hops.new; bytes = bytes.new; path = path.new; refusal = refusal.new })
         text.now (status_at result) }
-    // where they are told: hops at most four fifths of the text's length, rounded to the nearest
+    // if they are described: hops at most four fifths of the text's length, rounded to the nearest
     // number, and bytes at most eight fifths
     ensures few { SaysFew text.now path.new (status_at result) }
 {
@@ -71,12 +72,13 @@ fn path_of(
     path: &mut Path,
     refusal: &mut SyntaxRefusal,
 ) -> Status
-    // the rooms tell the hops of the List, or the status says why not; all else is left as it was
+    // the buffers describe the hops of the List, or the status says why not; all else is left as it
+    // was
     ensures tells { TellsPath
         (record { hops = hops.old; bytes = bytes.old; path = path.old; refusal = refusal.old })
         (record { hops = hops.new; bytes = bytes.new; path = path.new; refusal = refusal.new })
         text.now (Some result) }
-    // where they are told: hops at most four fifths of the text's length, rounded to the nearest
+    // if they are described: hops at most four fifths of the text's length, rounded to the nearest
     // number, and bytes at most eight fifths
     ensures few { SaysFew text.now path.new (Some result) }
 {

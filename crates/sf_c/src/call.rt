@@ -34,7 +34,7 @@ pub(crate) fn kind_of(number: u32) -> Option<Kind>
 }
 
 /// The value that the text spells, or the status that says why there is none; a refusal is put into
-/// its struct, which is else left as it was.
+/// its struct, which is otherwise left as it was.
 pub(crate) fn parse(
     alloc: Global,
     seed: &Seed,

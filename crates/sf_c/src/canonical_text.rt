@@ -14,9 +14,9 @@ use sf_write::to_text;
 use std::alloc::Global;
 
 /// The canonical text (RFC 9651 section 4.1) of the value that the text spells: `Answered` and the
-/// text stands at the front of the room, `required` bytes of it, and the rest of the room is left as
-/// it was; `Short` where the room has less than `required` bytes; `Refused` where no value is
-/// spelled, and then `refusal` says where and why; `OutOfMemory`; or `BadCall`. A room of eight
+/// text is at the start of the buffer, `required` bytes of it, and the rest of the buffer is left
+/// as it was; `Short` if the buffer has less than `required` bytes; `Refused` if no value is
+/// spelled, and then `refusal` says where and why; `OutOfMemory`; or `BadCall`. A buffer of eight
 /// fifths of the text's length is never short.
 #[unsafe(no_mangle)]
 pub extern "C" fn sf_normalise(
@@ -29,7 +29,8 @@ pub extern "C" fn sf_normalise(
     required: &mut usize,
     refusal: &mut SyntaxRefusal,
 ) -> u32
-    // BadCall just for a number that names nothing; else the canonical text, or why there is none
+    // BadCall just for a number that names nothing; otherwise the canonical text, or why there is
+    // none
     ensures { Called (dialect_at dialect) (kind_at kind) (status_at result)
         (λ old new. Normalises old new text.now)
         (record { room = room.old; required = required.old; refusal = refusal.old })
@@ -42,7 +43,7 @@ pub extern "C" fn sf_normalise(
 }
 
 /// Whether the two texts spell equal values (RFC 9651 section 2; order counts): `Answered` and
-/// `equal` is 1 or 0; `Refused` where the first spells no value, `SecondRefused` where the second
+/// `equal` is 1 or 0; `Refused` if the first spells no value, `SecondRefused` if the second
 /// doesn't, and then `refusal` says where and why; `OutOfMemory`; or `BadCall`.
 #[unsafe(no_mangle)]
 pub extern "C" fn sf_equal(
@@ -55,7 +56,7 @@ pub extern "C" fn sf_equal(
     equal_out: &mut u32,
     refusal: &mut SyntaxRefusal,
 ) -> u32
-    // BadCall just for a number that names nothing; else whether the texts spell equal values
+    // BadCall just for a number that names nothing; otherwise whether the texts spell equal values
     ensures { Called (dialect_at dialect) (kind_at kind) (status_at result)
         (λ old new. Equals old new first.now second.now)
         (record { equal = equal_out.old; refusal = refusal.old })
@@ -81,7 +82,7 @@ fn normalise(
     required: &mut usize,
     refusal: &mut SyntaxRefusal,
 ) -> Status
-    // the canonical text stands at the front of the room, or the status says why not
+    // the canonical text is at the start of the buffer, or the status says why not
     ensures { Normalises (record { room = room.old; required = required.old; refusal = refusal.old })
         (record { room = room.new; required = required.new; refusal = refusal.new })
         text.now dialect kind result }

@@ -10,9 +10,9 @@ use crate::status::Status;
 use sf_value::{Dialect, Kind};
 use std::alloc::Global;
 
-/// Whether the text spells a value of the kind in the dialect (RFC 9651 section 4.2): `Answered`
-/// where it does; `Refused` where not, and then `refusal` says where and why, and is else left as
-/// it was; `OutOfMemory`; or `BadCall` for a number that is no kind or no dialect.
+/// Whether the text spells a value of the kind in the dialect (RFC 9651 section 4.2): `Answered` if
+/// it does; `Refused` if not, and then `refusal` says where and why, and is otherwise left as it
+/// was; `OutOfMemory`; or `BadCall` for a number that is no kind or no dialect.
 #[unsafe(no_mangle)]
 pub extern "C" fn sf_check(
     alloc: Global,
@@ -22,7 +22,7 @@ pub extern "C" fn sf_check(
     text: &[u8],
     refusal: &mut SyntaxRefusal,
 ) -> u32
-    // BadCall just for a number that names nothing; else whether the text spells a value
+    // BadCall just for a number that names nothing; otherwise whether the text spells a value
     ensures { Called (dialect_at dialect) (kind_at kind) (status_at result)
         (λ old new. Checks old new text.now) refusal.old refusal.new }
 {

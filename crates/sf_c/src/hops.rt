@@ -30,47 +30,46 @@ pub struct Piece {
 pub struct HopNode {
     /// The cache's name.
     pub name: Piece,
-    /// The token of `fwd` (section 2.2); empty where it is not said.
+    /// The token of `fwd` (section 2.2); empty if it is not said.
     pub why_token: Piece,
-    /// The cache key: `key` (section 2.7); empty where it is not said.
+    /// The cache key: `key` (section 2.7); empty if it is not said.
     pub key: Piece,
-    /// What else the cache tells: `detail` (section 2.8); empty where it is not said.
+    /// What else the cache tells: `detail` (section 2.8); empty if it is not said.
     pub detail: Piece,
-    /// For how many seconds the response is still fresh: `ttl` (section 2.4); 0 where it is not
-    /// said.
+    /// For how many seconds the response is still fresh: `ttl` (section 2.4); 0 if it is not said.
     pub ttl: i64,
-    /// What it did: 0 where neither `hit` nor `fwd` is said, 1 for a hit, 2 where it forwarded the
+    /// What it did: 0 if neither `hit` nor `fwd` is said, 1 for a hit, 2 where it forwarded the
     /// request, 3 where both are said.
     pub outcome: u16,
-    /// Why it forwarded the request: 0 where it is not said, then from 1 on `bypass`, `method`,
+    /// Why it forwarded the request: 0 if it is not said, then from 1 on `bypass`, `method`,
     /// `uri-miss`, `vary-miss`, `miss`, `request`, `stale`, `partial`, and 9 for another token.
     pub why: u16,
-    /// The status that the next server answered: `fwd-status` (section 2.3); 0 where it is not
-    /// said.
+    /// The status that the next server answered: `fwd-status` (section 2.3); 0 if it is not said.
     pub status: u16,
-    /// 1 where `fwd-status` is said, else 0.
+    /// 1 if `fwd-status` is said, otherwise 0.
     pub has_status: u8,
-    /// 1 where the response was stored: `stored` (section 2.5), else 0.
+    /// 1 if the response was stored: `stored` (section 2.5), otherwise 0.
     pub stored: u8,
-    /// 1 where `stored` is said, else 0.
+    /// 1 if `stored` is said, otherwise 0.
     pub has_stored: u8,
-    /// 1 where the request was collapsed with others: `collapsed` (section 2.6), else 0.
+    /// 1 if the request was collapsed with others: `collapsed` (section 2.6), otherwise 0.
     pub collapsed: u8,
-    /// 1 where `collapsed` is said, else 0.
+    /// 1 if `collapsed` is said, otherwise 0.
     pub has_collapsed: u8,
-    /// 1 where `ttl` is said, else 0.
+    /// 1 if `ttl` is said, otherwise 0.
     pub has_ttl: u8,
-    /// 1 where `key` is said, else 0.
+    /// 1 if `key` is said, otherwise 0.
     pub has_key: u8,
-    /// 1 where `detail` is said, else 0.
+    /// 1 if `detail` is said, otherwise 0.
     pub has_detail: u8,
-    /// 1 where the name is a Token, 0 where it is a String.
+    /// 1 if the name is a Token, 0 if it is a String.
     pub name_is_token: u8,
-    /// 1 where `detail` is a Token, else 0.
+    /// 1 if `detail` is a Token, otherwise 0.
     pub detail_is_token: u8,
 }
 
-/// The structs of hops, and the bytes that they point into. Contracts see what the structs tell.
+/// The structs of hops, and the bytes that they point into. Contracts see what the structs
+/// describe.
 #[derive(Drop)]
 pub(crate) struct FlatPath {
     hops: Vec<HopNode>,
@@ -113,11 +112,11 @@ impl FlatPath {
         self.bytes.as_slice().len()
     }
 
-    /// Puts the hops and the bytes at the fronts of rooms that are long enough.
+    /// Puts the hops and the bytes at the start of buffers that are long enough.
     pub(crate) fn write(&self, hops: &mut [HopNode], bytes: &mut [u8])
         requires hops { length self.now ≤ length hops.old }
         requires bytes { hops_size self.now ≤ length bytes.old }
-        // the fronts of the rooms tell the hops, and what stands behind them is left as it was
+        // the starts of the buffers describe the hops, and what is after them is left as it was
         ensures { HopsAtFront self.now hops.old hops.new bytes.old bytes.new }
     {
         put(hops, 0, self.hops.as_slice());
@@ -141,9 +140,9 @@ impl FlatPath {
     }
 }
 
-/// A text behind the bytes.
+/// A text after the bytes.
 fn put_piece(bytes: &mut Vec<u8>, text: &[u8]) -> Result<Piece, OutOfMemory>
-    // the text stands behind the bytes that were there, and the piece is that of it
+    // the text is after the bytes that were there, and the piece is that of it
     ensures { IfOk result (λ piece. PutsPiece bytes.old.items bytes.new.items text.now piece) }
 {
     let at = bytes.as_slice().len();
@@ -171,7 +170,7 @@ fn is_token(name: &Name) -> bool
     matches!(name, Name::Token(_))
 }
 
-/// The bytes of a cache key; none where it is not said.
+/// The bytes of a cache key; none if it is not said.
 fn key_bytes(key: &Option<Text>) -> &[u8]
     ensures { result.now ≡ unwrap_or key.now [] }
 {
@@ -181,7 +180,7 @@ fn key_bytes(key: &Option<Text>) -> &[u8]
     }
 }
 
-/// The bytes of a detail; none where it is not said.
+/// The bytes of a detail; none if it is not said.
 fn detail_bytes(detail: &Option<Name>) -> &[u8]
     ensures { result.now ≡ bytes_of_detail detail.now }
 {
@@ -201,7 +200,7 @@ fn detail_is_token(detail: &Option<Name>) -> bool
     }
 }
 
-/// The token of the reason for forwarding; empty where it is not said.
+/// The token of the reason for forwarding; empty if it is not said.
 fn why_token(outcome: &Outcome) -> &[u8]
     ensures { result.now ≡ token_of_why (passed_by outcome.now) }
 {
@@ -240,7 +239,7 @@ fn reason_number(why: &Forward) -> u16
     }
 }
 
-/// The number of the reason for forwarding; 0 where it is not said.
+/// The number of the reason for forwarding; 0 if it is not said.
 fn why_number(outcome: &Outcome) -> u16
     ensures { result ≡ number_of_why (passed_by outcome.now) }
 {
@@ -250,7 +249,7 @@ fn why_number(outcome: &Outcome) -> u16
     }
 }
 
-/// A status code; 0 where it is not said.
+/// A status code; 0 if it is not said.
 fn code_of(status: Option<HopStatus>) -> u16
     ensures { result ≡ unwrap_or status 0 }
 {
@@ -260,7 +259,7 @@ fn code_of(status: Option<HopStatus>) -> u16
     }
 }
 
-/// The seconds of a `ttl`; 0 where it is not said.
+/// The seconds of a `ttl`; 0 if it is not said.
 fn seconds_of(ttl: Option<Int>) -> i64
     ensures { result ≡ unwrap_or ttl (pos 0) }
 {
@@ -270,7 +269,7 @@ fn seconds_of(ttl: Option<Int>) -> i64
     }
 }
 
-/// The struct of a hop whose bytes stand in these pieces.
+/// The struct of a hop whose bytes are in these pieces.
 fn node_of(hop: &Hop, name: Piece, why_token: Piece, key: Piece, detail: Piece) -> HopNode
     ensures name { result.name ≡ name }
     ensures why_token { result.why_token ≡ why_token }

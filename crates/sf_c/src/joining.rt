@@ -10,37 +10,37 @@ use crate::status::Status;
 #[repr(C)]
 #[derive(Clone, Copy, Debug, Drop)]
 pub struct Joined {
-    /// How many bytes of joined text stand at the front of the room.
+    /// How many bytes of joined text are at the start of the buffer.
     pub length: usize,
-    /// How long the room must be for the line that was too long for it.
+    /// How long the buffer must be for the line that was too long for it.
     pub required: usize,
-    /// 0 before the first line, else 1.
+    /// 0 before the first line, otherwise 1.
     pub begun: u32,
 }
 
-/// Puts one more line of a field behind those that are joined in the room, with a comma and a space
-/// between two (RFC 9651 section 4.2): `Answered`; `Short` where the room is too small, and then
-/// `joined.required` says how long it must be, and the room is left as it was; or `BadCall` where
-/// `joined.length` is greater than the room.
+/// Puts one more line of a field after those that are joined in the buffer, with a comma and a
+/// space between two (RFC 9651 section 4.2): `Answered`; `Short` if the buffer is too small, and
+/// then `joined.required` says how long it must be, and the buffer is left as it was; or `BadCall`
+/// if `joined.length` is greater than the buffer.
 #[unsafe(no_mangle)]
 pub extern "C" fn sf_join(line: &[u8], room: &mut [u8], joined: &mut Joined) -> u32
-    // the line is joined, or the room is too small for it, or for the text said to stand in it
+    // the line is joined, or the buffer is too small for it, or for the text said to be in it
     ensures { PutsLine (record { room = room.old; joined = joined.old })
         (record { room = room.new; joined = joined.new }) line.now (status_at result) }
 {
     join(line, room, joined).code()
 }
 
-/// What stands before the next line.
+/// What is before the next line.
 fn separator(joined: &Joined) -> &'static [u8]
     ensures { result.now ≡ separator_of joined.now }
 {
     if joined.begun == 0 { b"" } else { b", " }
 }
 
-/// Puts the line behind those that are joined, where there is room.
+/// Puts the line after those that are joined, if there is capacity.
 fn join(line: &[u8], room: &mut [u8], joined: &mut Joined) -> Status
-    // the line is joined, or the room is too small for it, or for the text said to stand in it
+    // the line is joined, or the buffer is too small for it, or for the text said to be in it
     ensures { PutsLine (record { room = room.old; joined = joined.old })
         (record { room = room.new; joined = joined.new }) line.now (Some result) }
 {

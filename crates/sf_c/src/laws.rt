@@ -4,7 +4,7 @@ ghost use Rattle.sf_c.specs.Laws.{HopBytesAreFew, HopsAreFew, PriorityIsRead, Te
 
 use sf_value::laws::{canon_is_short, spelled_is_valid};
 
-/// Nodes, with the bytes that they point into, tell at most one value of a kind.
+/// Nodes, with the bytes that they point into, describe at most one value of a kind.
 pub fn nodes_tell_one_value()
     ensures { TellOneValue }
 {}
@@ -19,12 +19,12 @@ pub fn nodes_are_few()
     spelled_is_valid();
 }
 
-/// Structs of hops, with the bytes that they point into, tell at most one path.
+/// Structs of hops, with the bytes that they point into, describe at most one path.
 pub fn hops_tell_one_path()
     ensures { TellOnePath }
 {}
 
-/// The path that a text tells has at most four fifths of the text's length in hops, rounded to the
+/// The path that a text spells has at most four fifths of the text's length in hops, rounded to the
 /// nearest number, and at most eight fifths of it in bytes.
 pub fn hops_are_few()
     ensures hops { HopsAreFew }

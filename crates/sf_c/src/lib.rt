@@ -2,9 +2,9 @@
 //! `include/sf.h`.
 //!
 //! Numbers, slices as a pointer and a length, and structs in C's layout cross; nothing owned does.
-//! The caller gives the room for an answer, and where that is too small the answer says how much
+//! The caller gives the buffer for an answer, and where that is too small the answer says how much
 //! was required. Each export is total: on any input it returns one of the [`Status`]es, and what it
-//! may write, and where, stands in its contract. `specs/` says what each answer means, by the
+//! may write, and where, is in its contract. `specs/` says what each answer means, by the
 //! definitions of the crates below.
 #![tactic(auto)]
 

@@ -16,18 +16,18 @@ use std::marker::Model;
 #[repr(C)]
 #[derive(Clone, Copy, Debug, Drop)]
 pub struct Node {
-    /// The number of an Integer or a Date, the thousandths of a Decimal, 1 for Boolean true; else
-    /// 0.
+    /// The number of an Integer or a Date, the thousandths of a Decimal, 1 for Boolean true;
+    /// otherwise 0.
     pub number: i64,
-    /// Where the key stands among the bytes.
+    /// Where the key is among the bytes.
     pub key_at: usize,
-    /// The length of the key; 0 where there is none.
+    /// The length of the key; 0 if there is none.
     pub key_length: usize,
     /// Where the bytes of a String, a Token, a Byte Sequence or a Display String stand, decoded.
     pub text_at: usize,
     /// The length of these bytes; 0 for another type.
     pub text_length: usize,
-    /// How many nodes this part has, itself one of them: the next sibling stands so many further.
+    /// How many nodes this part has, itself one of them: the next sibling is so many further.
     pub span: usize,
     /// The number of its [`Role`].
     pub role: u32,
@@ -45,7 +45,7 @@ pub struct Sizes {
     pub bytes: usize,
 }
 
-/// The nodes of a value, and the bytes that they point into. Contracts see what the nodes tell.
+/// The nodes of a value, and the bytes that they point into. Contracts see what the nodes describe.
 #[derive(Drop)]
 pub(crate) struct Flat {
     nodes: Vec<Node>,
@@ -94,11 +94,11 @@ impl Flat {
         }
     }
 
-    /// Puts the nodes and the bytes at the fronts of rooms that are long enough.
+    /// Puts the nodes and the bytes at the start of buffers that are long enough.
     pub(crate) fn write(&self, nodes: &mut [Node], bytes: &mut [u8])
         requires nodes { length self.now ≤ length nodes.old }
         requires bytes { told_size self.now ≤ length bytes.old }
-        // the fronts of the rooms tell the nodes, and what stands behind them is left as it was
+        // the starts of the buffers describe the nodes, and what is after them is left as it was
         ensures { TellAtFront self.now nodes.old nodes.new bytes.old bytes.new }
     {
         put(nodes, 0, self.nodes.as_slice());
@@ -137,7 +137,7 @@ impl Flat {
     }
 }
 
-/// A key and a text behind the bytes; or these as they were.
+/// A key and a text after the bytes; or these as they were.
 fn extend(bytes: &mut Vec<u8>, key: &[u8], text: &[u8]) -> Result<(), OutOfMemory>
     ensures { MatchResult result (λ _. bytes.new.items ≡ (bytes.old.items ++ key.now) ++ text.now)
         (λ _. bytes.new.items ≡ bytes.old.items) }

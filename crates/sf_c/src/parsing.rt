@@ -1,4 +1,4 @@
-//! A value as nodes, into the caller's rooms.
+//! A value as nodes, into the caller's buffers.
 ghost use Rattle.sf_c.specs.Calls.{Called, dialect_at, kind_at};
 ghost use Rattle.sf_c.specs.Flattening.{Flattens};
 ghost use Rattle.sf_c.specs.Statuses.{status_at};
@@ -13,8 +13,8 @@ use sf_value::{Dialect, Kind};
 use std::alloc::Global;
 
 /// The value that the text spells, as nodes: `Answered` and the first `sizes.nodes` nodes and the
-/// first `sizes.bytes` bytes tell it, and the others are left as they were; `Short` where one of
-/// the rooms is smaller than `sizes` says, and both are left as they were; `Refused` where no value
+/// first `sizes.bytes` bytes describe it, and the others are left as they were; `Short` if one of
+/// the buffers is smaller than `sizes` says, and both are left as they were; `Refused` if no value
 /// is spelled, and then `refusal` says where and why; `OutOfMemory`; or `BadCall`.
 #[unsafe(no_mangle)]
 pub extern "C" fn sf_parse(
@@ -28,7 +28,8 @@ pub extern "C" fn sf_parse(
     sizes: &mut Sizes,
     refusal: &mut SyntaxRefusal,
 ) -> u32
-    // BadCall just for a number that names nothing; else the value as nodes, or why there is none
+    // BadCall just for a number that names nothing; otherwise the value as nodes, or why there is
+    // none
     ensures { Called (dialect_at dialect) (kind_at kind) (status_at result)
         (λ old new. Flattens old new text.now)
         (record { nodes = nodes.old; bytes = bytes.old; sizes = sizes.old; refusal = refusal.old })
@@ -60,7 +61,7 @@ fn parse_flat(
     sizes: &mut Sizes,
     refusal: &mut SyntaxRefusal,
 ) -> Status
-    // the rooms tell the value that the text spells, or the status says why not
+    // the buffers describe the value that the text spells, or the status says why not
     ensures { Flattens
         (record { nodes = nodes.old; bytes = bytes.old; sizes = sizes.old; refusal = refusal.old })
         (record { nodes = nodes.new; bytes = bytes.new; sizes = sizes.new; refusal = refusal.new })

@@ -17,13 +17,13 @@ use std::alloc::Global;
 #[repr(C)]
 #[derive(Clone, Copy, Debug, Drop)]
 pub struct PriorityFlags {
-    /// The urgency, from 0 to 7; 3 where it is not said.
+    /// The urgency, from 0 to 7; 3 if it is not said.
     pub urgency: u8,
-    /// 1 where the response is of use while it arrives, else 0.
+    /// 1 if the response is of use while it arrives, otherwise 0.
     pub incremental: u8,
-    /// 1 where the field says the urgency, else 0.
+    /// 1 if the field says the urgency, otherwise 0.
     pub has_urgency: u8,
-    /// 1 where the field says whether the response is incremental, else 0.
+    /// 1 if the field says whether the response is incremental, otherwise 0.
     pub has_incremental: u8,
 }
 
@@ -54,7 +54,7 @@ impl PriorityFlags {
 }
 
 /// What the text of a Priority field asks for (RFC 9218 section 5): `Answered` and `priority` says
-/// it; `Refused` where the text spells no Dictionary, and then `refusal` says where and why; or
+/// it; `Refused` if the text spells no Dictionary, and then `refusal` says where and why; or
 /// `OutOfMemory`.
 #[unsafe(no_mangle)]
 pub extern "C" fn sf_priority(
@@ -72,11 +72,12 @@ pub extern "C" fn sf_priority(
 }
 
 /// What a client and a server ask for together (RFC 9218 section 8): each part as the server says
-/// it, where it does, else as the client does; defaults are filled in. A flag counts as 1 where it
+/// it, if it does, otherwise as the client does; defaults are filled in. A flag counts as 1 if it
 /// is not 0, and an urgency above 7 as not said.
 #[unsafe(no_mangle)]
 pub extern "C" fn sf_priority_merge(client: &PriorityFlags, server: &PriorityFlags) -> PriorityFlags
-    // each part as the server says it, where it does, else as the client does; else the default
+    // each part as the server says it, if it does, otherwise as the client does; otherwise the
+    // default
     ensures { SaysAsked result (merged (asked_by client.now) (asked_by server.now)) }
 {
     PriorityFlags::of(merge(client.asked(), server.asked()))

@@ -6,16 +6,16 @@ ghost use Rattle.sf_c.specs.Refusals.{SaysSyntax, found_number};
 #[repr(C)]
 #[derive(Clone, Copy, Debug, Drop)]
 pub struct SyntaxRefusal {
-    /// The length in bytes of the longest front that some text of the kind begins with.
+    /// The length in bytes of the longest viable prefix.
     pub place: u64,
-    /// The bytes from 0 to 63 that could have followed that front: bit b is set exactly if byte b
+    /// The bytes from 0 to 63 that could have followed that prefix: bit b is set exactly if byte b
     /// could.
     pub expected_low: u64,
     /// The same for the bytes from 64 to 127.
     pub expected_high: u64,
-    /// The byte found there, or -1 where the text ended.
+    /// The byte found there, or -1 if the text ended.
     pub found: i32,
-    /// 1 where that front is a text of the kind itself, else 0.
+    /// 1 if that prefix is a text of the kind itself, otherwise 0.
     pub may_end: u32,
 }
 

@@ -36,7 +36,7 @@ pub extern "C" fn sf_refusal_text(
     buffer: &mut [u8],
     required: &mut usize,
 ) -> u32
-    // The message is at the front of the buffer, or the buffer is too small for it.
+    // The message is at the start of the buffer, or the buffer is too small for it.
     ensures { Writes (record { buffer = buffer.old; required = required.old })
         (record { buffer = buffer.new; required = required.new })
         (refusal_text (refusal_by refusal.now)) (status_at result) }
@@ -59,7 +59,7 @@ pub extern "C" fn sf_refusal_in_text(
     buffer: &mut [u8],
     required: &mut usize,
 ) -> u32
-    // The message and the text with the caret are at the front of the buffer, or it is too small.
+    // The message and the text with the caret are at the start of the buffer, or it is too small.
     ensures { Writes (record { buffer = buffer.old; required = required.old })
         (record { buffer = buffer.new; required = required.new })
         (shown_by refusal.now text.now) (status_at result) }

@@ -1,10 +1,10 @@
-//! The caller's room.
+//! The caller's buffer.
 ghost use Rattle.std.specs.Prelude.{◌≡◌, ◌+◌, ◌≤◌, ◌++◌, length, take, drop, Some};
 ghost use Rattle.sf_c.specs.TextBuffers.{PutsText};
 
 use crate::status::Status;
 
-/// Puts items at a place of the room.
+/// Puts items at a place of the buffer.
 pub(crate) fn put<T: Copy>(room: &mut [T], at: usize, items: &[T])
     requires { at + length items.now ≤ length room.old }
     ensures { room.new
@@ -15,7 +15,7 @@ pub(crate) fn put<T: Copy>(room: &mut [T], at: usize, items: &[T])
 
 /// Puts a text into the caller's buffer, or says how long the buffer must be.
 pub(crate) fn put_text(text: &[u8], buffer: &mut [u8], required: &mut usize) -> Status
-    // The text is at the front of the buffer, or the buffer is too small for it.
+    // The text is at the start of the buffer, or the buffer is too small for it.
     ensures puts { PutsText (record { buffer = buffer.old; required = required.old })
         (record { buffer = buffer.new; required = required.new }) text.now (Some result) }
     ensures required { required.new ≡ length text.now }

@@ -11,13 +11,13 @@ pub enum Status {
     Refused,
     /// 2: the second text of a call that takes two spells no value.
     SecondRefused,
-    /// 3: the room is too small for the answer, and stayed as it was.
+    /// 3: the buffer is too small for the answer, and stayed as it was.
     Short,
-    /// 4: memory was wanting.
+    /// 4: an allocation failed.
     OutOfMemory,
     /// 5: the field has no member, so it says nothing.
     Empty,
-    /// 6: there is no such kind or dialect, or a length is greater than its room.
+    /// 6: there is no such kind or dialect, or a length is greater than its buffer.
     BadCall,
     /// 7: a member of a Cache-Status List names no cache.
     NotACache,

@@ -16,21 +16,21 @@ use std::alloc::Global;
 #[repr(C)]
 #[derive(Clone, Copy, Debug, Drop)]
 pub struct PolicyFlags {
-    /// `max-age` in seconds; 0 where it is not said.
+    /// `max-age` in seconds; 0 if it is not said.
     pub max_age: u64,
-    /// `s-maxage` in seconds; 0 where it is not said.
+    /// `s-maxage` in seconds; 0 if it is not said.
     pub s_maxage: u64,
-    /// 1 where the field says `max-age`, else 0.
+    /// 1 if the field says `max-age`, otherwise 0.
     pub has_max_age: u8,
-    /// 1 where the field says `s-maxage`, else 0.
+    /// 1 if the field says `s-maxage`, otherwise 0.
     pub has_s_maxage: u8,
-    /// 1 where `must-revalidate` is set, else 0.
+    /// 1 if `must-revalidate` is set, otherwise 0.
     pub must_revalidate: u8,
-    /// 1 where `no-store` is set, else 0.
+    /// 1 if `no-store` is set, otherwise 0.
     pub no_store: u8,
-    /// 1 where `no-cache` is set, else 0.
+    /// 1 if `no-cache` is set, otherwise 0.
     pub no_cache: u8,
-    /// 1 where `private` is set, else 0.
+    /// 1 if `private` is set, otherwise 0.
     pub is_private: u8,
 }
 
@@ -68,8 +68,8 @@ impl PolicyFlags {
 }
 
 /// What the text of one targeted field says to a cache (RFC 9213 section 2.1): `Answered` and
-/// `policy` says it; `Empty` where the Dictionary has no member, so that the next target counts
-/// (section 2.2); `Refused` where the text spells no Dictionary, and then `refusal` says where and
+/// `policy` says it; `Empty` if the Dictionary has no member, so that the next target counts
+/// (section 2.2); `Refused` if the text spells no Dictionary, and then `refusal` says where and
 /// why; or `OutOfMemory`.
 #[unsafe(no_mangle)]
 pub extern "C" fn sf_cache_control(
@@ -79,7 +79,7 @@ pub extern "C" fn sf_cache_control(
     policy: &mut PolicyFlags,
     refusal: &mut SyntaxRefusal,
 ) -> u32
-    // the policy of a Dictionary; Empty where it has no member; or why the text spells none
+    // the policy of a Dictionary; Empty if it has no member; or why the text spells none
     ensures { SaysToCache (record { policy = policy.old; refusal = refusal.old })
         (record { policy = policy.new; refusal = refusal.new }) text.now (status_at result) }
 {
@@ -87,11 +87,11 @@ pub extern "C" fn sf_cache_control(
 }
 
 /// For how many seconds a response is fresh by this policy, in a shared cache where `shared` is not
-/// 0, else in a private one (RFC 9111 section 4.2.1): 1 and `seconds` is that, or 0 where the
+/// 0, otherwise in a private one (RFC 9111 section 4.2.1): 1 and `seconds` is that, or 0 if the
 /// policy does not say, and then `seconds` is left as it was.
 #[unsafe(no_mangle)]
 pub extern "C" fn sf_lifetime(policy: &PolicyFlags, shared: u32, seconds: &mut u64) -> u32
-    // 1 and the lifetime by the policy, or 0 where it says none
+    // 1 and the lifetime by the policy, or 0 if it says none
     ensures { LifeIs (policy_by policy.now) shared seconds.old seconds.new result }
 {
     match policy.policy().lifetime(shared != 0) {
@@ -112,7 +112,7 @@ fn seconds_of(says: u8, seconds: u64) -> Option<u64>
 
 /// What a Dictionary says, which may have no member.
 fn directed(dict: &Dict, policy: &mut PolicyFlags) -> Status
-    // Empty where there is no member; else the struct says the policy
+    // Empty if there is no member; otherwise the struct says the policy
     ensures { Directs policy.old policy.new dict.now result }
 {
     if dict.members.is_empty() {
@@ -130,7 +130,7 @@ fn direct(
     policy: &mut PolicyFlags,
     refusal: &mut SyntaxRefusal,
 ) -> Status
-    // the policy of a Dictionary; Empty where it has no member; or why the text spells none
+    // the policy of a Dictionary; Empty if it has no member; or why the text spells none
     ensures { SaysToCache (record { policy = policy.old; refusal = refusal.old })
         (record { policy = policy.new; refusal = refusal.new }) text.now (Some result) }
 {

@@ -6,7 +6,7 @@ use Rattle.sf_parse.specs.declared.refusal.Refusal.{Refusal}
 use Rattle.sf_parse.specs.Parsers.{Progress, Fed, in_line}
 use Rattle.sf_parse.proofs.FedLines.{fed_after, fed_before}
 
--- lines as they are fed: behind a line, each has a comma and a space before it
+-- lines as they are fed: after a line, each has a comma and a space before it
 abbrev pub behind : Bool → List (List ℕ) → List ℕ
 behind after [] = []
 behind after (l ∷ ls) = in_line after l ++ behind true ls
@@ -19,7 +19,7 @@ pub joined : (ls : List (List ℕ)) → join ls ≡ behind false ls
 joined [] = refl
 joined (l ∷ ls) = join_behind l ls
 
--- a front of all was fed, and this is left
+-- a prefix of all was fed, and this is left
 pub record FedSoFar (o p : Progress) (all left : List ℕ) : Type 0 where
   pub front : List ℕ
   pub split : all ≡ front ++ left
@@ -58,7 +58,7 @@ fed_refused o p q e all left piece more l s f =
 abbrev pub Alone : List ℕ → Bool → List (List ℕ) → Type 0
 Alone line after left = ((left ≡ line ∷ []) × (after ≡ false)) ⊎ (left ≡ [])
 
--- the next one is that line, no line was fed before, and none is left behind it
+-- the next one is that line, no line was fed before, and none is left after it
 pub alone_next : (line : List ℕ) (after : Bool) (left : List (List ℕ)) (next : List ℕ)
     (more : List (List ℕ)) → left ≡ next ∷ more → Alone line after left
     → (next ≡ line) × (after ≡ false) × (more ≡ [])

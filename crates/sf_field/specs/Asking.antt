@@ -1,4 +1,4 @@
--- What asking a consumer about field lines answers.
+-- What asking a consumer about field lines returns.
 use Rattle.std.specs.Prelude.{◌≡◌, ℕ, ◌↔◌, List, [], ◌∷◌, Result, Ok, Err, IsOk, ⊤}
 use Rattle.sf_value.specs.declared.dialect.Dialect.TheVariants.{Rfc9651}
 use Rattle.sf_value.specs.declared.value.Field.{Field}
@@ -18,8 +18,8 @@ abbrev pub Means : {A : Type 0} → Kind → (Field → Result A ℕ) → List (
 Means kind meaning lines meant =
     (v : Field) × IsOnly Rfc9651 kind (join lines) v × (meaning v ≡ meant)
 
--- the answer is what the lines mean; the fault is what they mean, or their refusal; or memory was
--- wanting for an answer that they have
+-- the answer is what the lines mean; the fault is what they mean, or their refusal; or an
+-- allocation failed for an answer that they have
 abbrev pub Asks : {A : Type 0} → Kind → (Field → Result A ℕ) → List (List ℕ) → Result A AskFault
     → Type 0
 Asks kind meaning lines (Ok answer) = Means kind meaning lines (Ok answer)
@@ -29,7 +29,7 @@ Asks kind meaning lines (Err (fault.Answer (NotACache index))) =
 Asks kind meaning lines (Err (fault.Answer OutOfMemory)) =
     (v : Field) × IsOnly Rfc9651 kind (join lines) v × IsOk (meaning v)
 
--- memory was not wanting to parse the lines
+-- no allocation failed to parse the lines
 abbrev pub ParsedOrRefused : {A : Type 0} → Result A AskFault → Type 0
 ParsedOrRefused (Ok answer) = ⊤
 ParsedOrRefused (Err (fault.Field refusal)) = IsOther refusal

@@ -12,15 +12,15 @@ use Rattle.sf_field.specs.Lines.{ParsesLines}
 abbrev pub Headers : Type 0
 Headers = Entries FieldValue
 
--- values as they stand
+-- values as they are
 abbrev pub value_lines : List FieldValue → List (List ℕ)
 value_lines values = map (λ v. v.bytes) values
 
--- the values under the name as they stand, in the map's order
+-- the values under the name as they are, in the map's order
 abbrev pub lines_under : Headers → List ℕ → List (List ℕ)
 lines_under headers name = value_lines (get_all headers name)
 
--- None where the name is absent; else its values are parsed as lines
+-- None if the name is absent; otherwise its values are parsed as lines
 abbrev pub ParsesHeaders : Kind → Headers → List ℕ → Result (Option Field) Refusal → Type 0
 ParsesHeaders kind headers name (Ok None) = ¬ (ContainsKey headers name)
 ParsesHeaders kind headers name (Ok (Some v)) =

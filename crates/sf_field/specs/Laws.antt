@@ -1,4 +1,4 @@
--- The laws of normal texts. Each stands as the contract of a function in `src/laws.rt`.
+-- The laws of normal texts. Each is the contract of a function in `src/laws.rt`.
 use Rattle.std.specs.Prelude.{◌≡◌, ℕ, ◌^◌, ◌<◌, ◌↔◌, List, [], ◌∷◌, length, Result, Ok, Err, ⊤}
 use Rattle.std.specs.Prelude.{Option, Some, None}
 use Rattle.sf_value.specs.declared.dialect.Dialect.{Dialect}
@@ -52,7 +52,7 @@ NormalIsOne =
 abbrev pub BuiltSpells : Type 0
 BuiltSpells = (d : Dialect) (kind : Kind) (v : Field) → Valid d kind v → IsOnly d kind (canon v) v
 
--- the answer is this value, or memory was wanting
+-- the answer is this value, or an allocation failed
 abbrev pub IsBack : Field → Result Field Refusal → Type 0
 IsBack v (Ok w) = w ≡ v
 IsBack v (Err OutOfMemory) = ⊤
@@ -66,7 +66,7 @@ BuiltIsParsed =
     (d : Dialect) (kind : Kind) (v : Field) → Valid d kind v → (r : Result Field Refusal)
     → Parses d kind (canon v) r → IsBack v r
 
--- and so has who parses it as the only line, where it is shorter than 2^64 bytes
+-- and so has who parses it as the only line, if it is shorter than 2^64 bytes
 abbrev pub BuiltLineIsParsed : Type 0
 BuiltLineIsParsed =
     (d : Dialect) (kind : Kind) (v : Field) → Valid d kind v → length (canon v) < 2 ^ 64
@@ -78,8 +78,8 @@ IsReadBack v (Ok None) = ⊥
 IsReadBack v (Ok (Some w)) = w ≡ v
 IsReadBack v (Err e) = IsBack v (Err e)
 
--- a field that is set in a header map is read from it again, where it is sent and its text is
--- shorter than 2^64 bytes
+-- a field that is set in a header map is read from it again, if it is sent and its text is shorter
+-- than 2^64 bytes
 abbrev pub SetIsRead : Type 0
 SetIsRead =
     (headers : Headers) (name : List ℕ) (kind : Kind) (v : Field)

@@ -1,4 +1,4 @@
--- What parsing field lines answers.
+-- What parsing field lines returns.
 use Rattle.std.specs.Prelude.{◌≡◌, ℕ, ◌-◌, ◌^◌, ◌<◌, List, length, take, Some, None}
 use Rattle.std.specs.Prelude.{Result, Ok, Err, ⊤}
 use Rattle.sf_value.specs.declared.dialect.Dialect.{Dialect}
@@ -11,7 +11,7 @@ use Rattle.sf_parse.specs.declared.refusal.Refusal.TheVariants.{ReadFault}
 use Rattle.sf_parse.specs.Parsers.{Parses}
 
 -- of a text of n bytes the answer rests on no more than 2^64 - 1: the text is no longer, or the
--- byte that is found stands among the first so many
+-- byte that is found is among the first so many
 abbrev pub IsCounted : ℕ → Result Field Refusal → Type 0
 IsCounted n (Ok v) = n < 2 ^ 64
 IsCounted n (Err OutOfMemory) = ⊤
@@ -20,8 +20,8 @@ IsCounted n (Err (Syntax place (Some b) expected may_end)) = place < 2 ^ 64 - 1
 IsCounted n (Err (TooLong limit)) = ⊥
 IsCounted n (Err (ReadFault place)) = ⊥
 
--- the lines are parsed as their joined text; it is TooLong where it has 2^64 bytes or more, of
--- which the first 2^64 - 1 are viable
+-- the lines are parsed as their joined text; it is TooLong if it has 2^64 bytes or more, of which
+-- the first 2^64 - 1 are viable
 abbrev pub ParsesLines : Dialect → Kind → List (List ℕ) → Result Field Refusal → Type 0
 ParsesLines d kind lines (Err (TooLong limit)) =
     (limit ≡ 2 ^ 64 - 1) × (limit < length (join lines)) × Viable d kind (take limit (join lines))

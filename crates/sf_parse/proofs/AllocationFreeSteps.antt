@@ -71,7 +71,7 @@ allocation_free_step d (AfterItem i) t b h p e =
 allocation_free_step d (InList s) t b h p e = absurd h
 allocation_free_step d (InDict s) t b h p e = absurd h
 
--- in an allocation-free state scalar bytes take no memory
+-- in an allocation-free state scalar bytes do not allocate
 pub scalars_free : (s : State) (more : List ℕ) → AllocationFreeState s → Every scalar_byte more
     → FieldFree s more
 scalars_free BeforeItem more h w = inl w
@@ -81,7 +81,7 @@ scalars_free (AfterItem i) more h w = tt
 scalars_free (InList s) more h w = absurd h
 scalars_free (InDict s) more h w = absurd h
 
--- what takes no memory takes none behind the bytes that were taken
+-- what does not allocate takes none after the bytes that were taken
 pub field_free_went : (d : Dialect) (s t : State) (chunk rest : List ℕ) → FieldFree s chunk
     → Went (step d) s chunk rest t → FieldFree t rest
 field_free_went d s t chunk rest h a = free_went (step d) FieldFree (field_keeps d) s t chunk rest h a

@@ -1,4 +1,4 @@
--- Tables of 256 bytes that give each byte's value, or a limit where it has none.
+-- Tables of 256 bytes that give each byte's value, or a limit if it has none.
 use Rattle.std.proofs.Common.{◌≡◌, ℕ, ◌<◌, ◌≤◌, Bool, true, false, ◌==◌, not, List, get_or, Option}
 use Rattle.std.proofs.Common.{Some, None}
 use Rattle.std.proofs.Common.{refl, ap, eqb-true, arith, bit_and, nat_eq}

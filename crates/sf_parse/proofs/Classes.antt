@@ -19,7 +19,7 @@ none_of p [] h b e = absurd cc
 none_of p (c ∷ cs) h b e = ⊎_elim (λ k. ap p (eqb-true b c k)
     ∙ h.0) (λ k. none_of p cs h.1 b k) (or_cases (b == c) (is_one_of cs b) e)
 
--- a test that fails at what may stand behind a bare item
+-- a test that fails at what may be after a bare item
 pub not_follow : (p : ℕ → Bool) → NoneOf p (9 ∷ 32 ∷ 41 ∷ 44 ∷ 59 ∷ []) → (b : ℕ) → p b ≡ true
     → is_follow b ≡ true → ⊥
 not_follow p h b e f = let n = none_of p (9 ∷ 32 ∷ 41 ∷ 44 ∷ 59 ∷ []) h b f in cc

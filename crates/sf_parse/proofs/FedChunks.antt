@@ -62,7 +62,7 @@ fed_stop p q b bits may g h n m e same c r = record {
   answer = (r, λ s t more. (h, stops_at p s more b bits may g t n m e));
 }
 
--- a byte stands past the limit
+-- a byte is past the limit
 pub fed_past : (p q : Progress) (b : ℕ) → Sound p.refusal p.state p.count p.max
     → p.max ≤ p.count → SameSettings p q → q.count ≡ p.count → q.refusal ≡ Some (TooLong p.max)
     → Fed p q (Err (TooLong p.max)) (b ∷ [])

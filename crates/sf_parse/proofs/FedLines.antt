@@ -1,4 +1,4 @@
--- One chunk fed behind another, and a field line behind another.
+-- One chunk fed after another, and a field line after another.
 use Rattle.std.proofs.Common.{◌≡◌, ℕ, ◌+◌, ◌≤◌, Bool, true, false, List, ◌∷◌, ◌++◌, [], length}
 use Rattle.std.proofs.Common.{Result}
 use Rattle.std.proofs.Common.{Ok, Err, sym, ap, ◌∙◌, subst, arith, append_assoc, length-append}
@@ -59,7 +59,7 @@ fed_after o p q r x y a f = record {
           (same_refused o p (((s ++ x) ++ y) ++ more) e a.settings k),
     )
 
--- a refusal stands whatever comes behind
+-- a refusal remains, whatever comes after
 pub fed_before : (o q : Progress) (e : Refusal) (x y : List ℕ)
     → Fed o q (Err e) x → Fed o q (Err e) (x ++ y)
 fed_before o q e x y f = record {
@@ -96,14 +96,14 @@ fed_line o p q x e f =
       );
     })
 
--- a line behind another: the comma and the space are refused
+-- a line after another: the comma and the space are refused
 pub comma_refused : (o q : Progress) (e : Refusal) (after : Bool) (line : List ℕ) → after ≡ true
     → Fed o q (Err e) (44 ∷ 32 ∷ []) → Fed o q (Err e) (in_line after line)
 comma_refused o q e after line t f =
     subst (λ b. Fed o q (Err e) (in_line b line)) (sym t)
     (fed_before o q e (44 ∷ 32 ∷ []) line f)
 
--- a line behind another: they are taken, and then the line is fed
+-- a line after another: they are taken, and then the line is fed
 pub line_behind : (o p q : Progress) (r : Result (Unit {0}) Refusal) (after : Bool) (line : List ℕ)
     → after ≡ true → Fed o p (Ok tt) (44 ∷ 32 ∷ []) → Fed p q r line
     → Fed o q r (in_line after line)

@@ -1,4 +1,4 @@
--- What a parser took at once, and one chunk behind another.
+-- What a parser took at once, and one chunk after another.
 use Rattle.std.proofs.Common.{◌≡◌, ℕ, ◌+◌, ◌-◌, ◌≤◌, ◌↔◌, List, [], ◌∷◌, ◌++◌, length}
 use Rattle.std.proofs.Common.{get_or, Option, Some, None, Ok, Err, refl, sym, ap, ◌∙◌, subst}
 use Rattle.std.proofs.Common.{append_assoc, append-nil, length-append, arith}
@@ -22,7 +22,7 @@ use Rattle.sf_parse.proofs.AllocationFreeSteps.{allocation_free_step}
 use Rattle.sf_parse.proofs.Reached.{reaches_more, reached_viable}
 use Rattle.sf_parse.proofs.FedChunks.{FedPrefix, taken, stopped_in}
 
--- a text was taken behind another
+-- a text was taken after another
 took_run : (p q : Progress) (s t : List ℕ) → Sound p.refusal p.state p.count p.max → Took p s
     → run (step p.dialect) p.state t ≡ Some q.state → SameSettings p q
     → q.count ≡ p.count + length t → q.refusal ≡ None → Took q (s ++ t)
@@ -94,7 +94,7 @@ at_seam : (xs : List ℕ) (b : ℕ) (more : List ℕ) → get_or (xs ++ b ∷ mo
 at_seam [] b more = refl
 at_seam (x ∷ xs) b more = at_seam xs b more
 
--- a byte is refused behind a prefix
+-- a byte is refused after a prefix
 pub refused_behind : (o p q : Progress) (x : List ℕ) (b : ℕ) (more chunk : List ℕ) (e : Refusal)
     → Fed o p (Ok tt) x → Fed p q (Err e) (b ∷ []) → chunk ≡ x ++ b ∷ more → Fed o q (Err e) chunk
 refused_behind o p q x b more chunk e a f s =
@@ -123,7 +123,7 @@ pub all_taken : (x rest : List ℕ) → length rest ≡ 0 → x ++ rest ≡ x
 all_taken x [] e = append-nil x
 all_taken x (b ∷ rest) e = absurd (let k : ⊥ = omega arith in k)
 
--- where a byte behind a prefix stands: before the limit, and behind it
+-- where a byte after a prefix is: before the limit, and after it
 pub prefix_split : (chunk f suffix x rest : List ℕ) (b : ℕ) (more : List ℕ) → chunk ≡ f ++ suffix
     → f ≡ x ++ rest → rest ≡ b ∷ more → chunk ≡ x ++ b ∷ (more ++ suffix)
 prefix_split chunk f suffix x rest b more e s k =

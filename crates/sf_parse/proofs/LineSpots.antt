@@ -22,7 +22,7 @@ get_right (x ∷ xs) ys (suc i) h =
     let e : i - length xs ≡ suc i - suc (length xs) = omega arith in
     get_right xs ys i (omega arith) ∙ ap (λ n. slice_get ys n) e
 
--- behind a line, the comma and the space come what comes of the other lines
+-- after a line, the comma and the space come what comes of the other lines
 get_next : (l : List ℕ) (rest : List ℕ) (place : ℕ) → 2 ≤ place - length l
     → slice_get (l ++ comma ∷ space ∷ rest) place ≡ slice_get rest (place - length l - 2)
 get_next l rest place h =
@@ -31,7 +31,7 @@ get_next l rest place h =
     get_right l (comma ∷ space ∷ rest) place at
     ∙ ap (λ n. slice_get (comma ∷ space ∷ rest) n) two
 
--- right behind a line, and one further
+-- right after a line, and one further
 get_between : (l : List ℕ) (rest : List ℕ) (place : ℕ) → length l ≤ place → place - length l < 2
     → (slice_get (l ++ comma ∷ space ∷ rest) place ≡ Some comma)
     ⊎ (slice_get (l ++ comma ∷ space ∷ rest) place ≡ Some space)

@@ -68,7 +68,7 @@ pub item_in_field : (d : Dialect) (s t : ItemState) (b : ℕ) → item_step d s 
 item_in_field d s t b e =
     ap (λ o. onward InTop o (item_finish s) (λ i. allow (is_sp b) (AfterItem i))) e
 
--- the parameters behind a whole bare item
+-- the parameters after a whole bare item
 pub params_part : {E : Type 0} (d : Dialect) (o : Option Bare) (s : BareState) (p q : ParamsState)
     (chunk : List ℕ) (r : Result (Bor (List ℕ)) E) → IsSome o
     → IfOk r (λ rest. LongestPrefix (params_step d) p chunk rest.now q)
@@ -116,7 +116,7 @@ params_of_item d x p t (b ∷ xs) e =
     (subst (λ s. run (item_step d) s xs ≡ Some t) k.2 c.2) in
     (more.0, more.1, ap (λ o. option_and_then (λ s. run (params_step d) s xs) o) k.1 ∙ more.2)
 
--- the parameters behind the bracket of an inner list
+-- the parameters after the bracket of an inner list
 closing_went : (d : Dialect) (is : List Item) (x : Bare) (p : ParamsState) (t : ItemState)
     (chunk rest : List ℕ) → LongestPrefix (item_step d) (InParams x p) chunk rest t
     → Went (member_step d) (InMany (Closing is p)) chunk rest (InMany (closing_of is t))
@@ -140,7 +140,7 @@ closing_kept d (InBare s) t chunk rest h a = absurd h
 closing_kept d (InParams x p) t chunk rest h a =
     subst IsInParams (sym (params_of_item d x p t a.went.taken a.went.leads).1) tt
 
--- where the parameters behind the bracket stop
+-- where the parameters after the bracket stop
 pub closing_stops : (d : Dialect) (is : List Item) (s : ItemState) (b : ℕ) → item_step d s b ≡ None
     → member_stuck d (InMany (closing_of is s)) b
 closing_stops d is (InBare s) b e = tt
@@ -199,7 +199,7 @@ flag_kept d k (InMany s) t chunk rest h a = absurd h
 pub space_before : (d : Dialect) (b : ℕ) → is_sp b ≡ true → step d BeforeItem b ≡ Some BeforeItem
 space_before d b h = rw h refl
 
--- spaces behind an item
+-- spaces after an item
 pub space_behind : (d : Dialect) (o : Option Item) → IsSome o → (b : ℕ) → is_sp b ≡ true
     → step d (after_of o) b ≡ Some (after_of o)
 space_behind d (Some i) k b h = rw h refl

@@ -1,4 +1,4 @@
--- Fronts of chunks that machines take: none, one behind another, and seen from a level above.
+-- Fronts of chunks that machines take: none, one after another, and seen from a level above.
 use Rattle.std.specs.Option.{option_map}
 use Rattle.std.proofs.Common.{◌≡◌, ℕ, Bool, true, false, List, [], ◌∷◌, ◌++◌, length}
 use Rattle.std.proofs.Common.{Option, Some, None, Result, Ok, Err, IfOk, refl, sym, ap, ◌∙◌, subst}
@@ -16,7 +16,7 @@ run_append next s t (b ∷ p) q e =
     let c = and_then_cases (next s b) (λ s'. run next s' p) t e in
     rw c.1 (run_append next c.0 t p q c.2)
 
--- one prefix behind another
+-- one prefix after another
 pub went_more : {S : Type 0} (next : S → ℕ → Option S) (s t u : S) (chunk rest more : List ℕ)
     → Went next s chunk rest t → Went next t rest more u → Went next s chunk more u
 went_more next s t u chunk rest more a b = record {
@@ -274,7 +274,7 @@ all_of_byte next above into h s t b (Ok took) a =
     prefix_above next above into h s t (b ∷ []) (unless took b) a
 all_of_byte next above into h s t b (Err k) a = a
 
--- a step that is tried behind the open part
+-- a step that is tried after the open part
 pub push_tried : {S E : Type 0} (next : S → ℕ → Option S) (P : ℕ → Type 0) (s t u : S) (b : ℕ)
     (part : Bool) (r : Result Bool E) → Went next s (b ∷ []) (unless part b) t
     → FirstIs P (unless part b) → part ≡ false
@@ -283,7 +283,7 @@ pub push_tried : {S E : Type 0} (next : S → ℕ → Option S) (P : ℕ → Typ
 push_tried next P s t u b part (Ok took) w h f k = push_turn next P s t u b part took w h f k
 push_tried next P s t u b part (Err k) w h f e = e
 
--- what holds of a state and the bytes to come, and with a byte less, holds behind those taken
+-- what holds of a state and the bytes to come, and with a byte less, holds after those taken
 free_run : {S : Type 0} (next : S → ℕ → Option S) (free : S → List ℕ → Type 0)
     → ((s t : S) (b : ℕ) (more : List ℕ) → free s (b ∷ more) → next s b ≡ Some t → free t more)
     → (s t : S) (p rest : List ℕ) → free s (p ++ rest) → run next s p ≡ Some t → free t rest

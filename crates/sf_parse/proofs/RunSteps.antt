@@ -57,7 +57,7 @@ in_front-apart b (r ∷ rs) h =
       | inr f ↦ rw f refl
     ]
 
--- what follows a run begins above the byte behind it, which is not in the set
+-- what follows a run begins above the byte after it, which is not in the set
 behind : (set b n : ℕ) → (n ≡ 0) ⊎ (is_in set b ≡ false) → BeginsFrom (suc b) (runs_from set b n)
 behind set b zero h = rw (runs-none set b) tt
 behind set b (suc n) h =

@@ -11,7 +11,7 @@ Ascends-less : (a b : ℕ) (rs : List (ℕ × ℕ)) → a ≤ b → Ascends b rs
 Ascends-less a b [] h p = tt
 Ascends-less a b (r ∷ rs) h p = (omega arith, p.1, p.2)
 
--- a byte joins the first run, or stands before it with a gap
+-- a byte joins the first run, or is before it with a gap
 Ascends-in_front : (b : ℕ) (rs : List (ℕ × ℕ)) → Ascends (suc b) rs → Ascends b (in_front b rs)
 Ascends-in_front b [] p = (omega arith, omega arith, tt)
 Ascends-in_front b (r ∷ rs) p =

@@ -74,7 +74,7 @@ whole_value d kind s t text [] found v e a f n g =
 whole_value d kind s t text (b ∷ rest) found v e a f n g =
     absurd (let k : true ≡ false = sym (ap is_some f) ∙ n in cc)
 
--- a text that takes no memory takes none in the first state
+-- a text that does not allocate takes none in the first state
 pub begins_free : (kind : Kind) (text : List ℕ) → TakesNoMemory kind text
     → FieldFree (begin kind) text
 begins_free kind_is.Item text h = h

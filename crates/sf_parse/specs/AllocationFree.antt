@@ -1,4 +1,4 @@
--- Texts that take no memory: spaces, numbers, Booleans and Dates, and short Tokens and Strings.
+-- Texts that do not allocate: spaces, numbers, Booleans and Dates, and short Tokens and Strings.
 use Rattle.std.specs.Prelude.{ℕ, Bool, ◌==◌, ◌||◌, not, List, ◌++◌, ◌⊎◌, ⊤}
 use Rattle.sf_value.specs.Ascii.{minus, point, question_mark, at_sign, semicolon, colon, percent}
 use Rattle.sf_value.specs.InPlace.{FitsInPlace}
@@ -28,7 +28,7 @@ short_byte b = not (b == semicolon || b == colon || b == percent)
 abbrev pub IsShortText : List ℕ → Type 0
 IsShortText text = FitsInPlace text × Every short_byte text
 
--- a text of this kind that takes no memory
+-- a text of this kind that does not allocate
 abbrev pub TakesNoMemory : Kind → List ℕ → Type 0
 TakesNoMemory kind.Item text = Every scalar_byte text ⊎ IsShortText text
 TakesNoMemory kind.List text = Every is_sp text
@@ -40,7 +40,7 @@ text_bytes (Inside bytes) = bytes
 text_bytes (Escaped bytes) = bytes
 text_bytes (Closed bytes) = bytes
 
--- in this state of a bare item these bytes take no memory
+-- in this state of a bare item these bytes do not allocate
 abbrev pub BareFree : BareState → List ℕ → Type 0
 BareFree (InNumber s) more = ⊤
 BareFree (InText s) more = FitsInPlace (text_bytes s ++ more)
@@ -73,7 +73,7 @@ FieldFree (AfterItem i) more = ⊤
 FieldFree (InList s) more = SeriesFree s more
 FieldFree (InDict s) more = SeriesFree s more
 
--- the bare item is a number, a Boolean or a Date, which takes no memory
+-- the bare item is a number, a Boolean or a Date, which does not allocate
 abbrev pub AllocationFreeBare : BareState → Type 0
 AllocationFreeBare (InNumber s) = ⊤
 AllocationFreeBare (InText s) = ⊥

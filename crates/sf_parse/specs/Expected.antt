@@ -10,7 +10,7 @@ use Rattle.sf_parse.specs.Machine.Tests.{passes, utf8_takes}
 abbrev pub MarksBelow : ℕ → ℕ → (ℕ → Bool) → Type 0
 MarksBelow bound bits test = (b : ℕ) → bit_at bits b ≡ (if nat_lt b bound && test b then 1 else 0)
 
--- the bits of the bytes that pass the test, and that may stand in a text
+-- the bits of the bytes that pass the test, and that may be in a text
 abbrev pub Marks : ℕ → (ℕ → Bool) → Type 0
 Marks bits test = MarksBelow 128 bits test
 

@@ -16,7 +16,7 @@ abbrev pub item_of : Bool → BareState → ParamsState → ItemState
 item_of true s ps = with_params (bare_finish s) s ps
 item_of false s ps = InBare s
 
--- parameters stand behind a whole bare item
+-- parameters are after a whole bare item
 abbrev pub FitsItem : Bool → BareState → Type 0
 FitsItem true s = IsSome (bare_finish s)
 FitsItem false s = ⊤

@@ -1,5 +1,5 @@
--- The laws of the grammar that follow from its machine. Each stands as the contract of a function
--- in `src/laws.rt`.
+-- The laws of the grammar that follow from its machine. Each is the contract of a function in
+-- `src/laws.rt`.
 use Rattle.std.specs.Option.{option_and_then}
 use Rattle.std.specs.Prelude.{◌≡◌, ℕ, ◌↔◌, List, [], ◌∷◌, ◌++◌, length, Some, None, ◌⊎◌}
 use Rattle.sf_value.specs.Ascii.{percent, at_sign}
@@ -54,7 +54,7 @@ IsEnd =
     → run (step d) (begin kind) p ≡ Some s
     → SpellsField d kind p v ↔ (finish s ≡ Some v)
 
--- where the machine takes p and can't take the next byte, the refusal stands behind p
+-- where the machine takes p and can't take the next byte, the refusal is after p
 abbrev pub StopsAt : Type 0
 StopsAt =
     (d : Dialect) (kind : Kind) (p q : List ℕ) (b : ℕ) (s : State)
@@ -74,7 +74,7 @@ AnyChunks =
     (d : Dialect) (s : State) (p q : List ℕ)
     → run (step d) s (p ++ q) ≡ option_and_then (λ t. run (step d) t q) (run (step d) s p)
 
--- the byte b stands at place n
+-- the byte b is at place n
 abbrev pub At : List ℕ → ℕ → ℕ → Type 0
 At t n b = (p q : List ℕ) × (t ≡ p ++ b ∷ q) × (length p ≡ n)
 

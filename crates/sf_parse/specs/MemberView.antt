@@ -9,7 +9,7 @@ use Rattle.sf_parse.specs.Machine.Members.{MemberState, InOne, InMany}
 use Rattle.sf_parse.specs.declared.member.MemberPhase.{MemberPhase}
 use Rattle.sf_parse.specs.declared.member.MemberPhase.TheVariants as phase
 
--- the parameters that the reader of items reads are those behind the bracket
+-- the parameters that the reader of items reads are those after the bracket
 abbrev pub closing_of : List Item → ItemState → InnerState
 closing_of is (InBare s) = Room is
 closing_of is (InParams x s) = Closing is s
@@ -26,7 +26,7 @@ abbrev pub IsInParams : ItemState → Type 0
 IsInParams (InBare s) = ⊥
 IsInParams (InParams x s) = ⊤
 
--- behind the bracket the reader of items is in parameters
+-- after the bracket the reader of items is in parameters
 abbrev pub FitsMember : MemberPhase → ItemState → Type 0
 FitsMember phase.One s = ⊤
 FitsMember phase.Room s = ⊤

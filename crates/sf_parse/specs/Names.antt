@@ -96,12 +96,12 @@ name_text Digit = codes "a digit"
 name_text (Byte b) = byte_text b
 name_text End = codes "the end"
 
--- what stands before a further name, by those behind it
+-- what is before a further name, by those after it
 abbrev pub joint : List Name → List ℕ
 joint [] = codes " or "
 joint (next ∷ names) = codes ", "
 
--- the names behind the first, each behind its joint
+-- the names after the first, each after its joint
 abbrev pub and_more : List Name → List ℕ
 and_more [] = []
 and_more (name ∷ names) = joint names ++ (name_text name ++ and_more names)

@@ -33,7 +33,7 @@ pub record Took (p : Progress) (s : List ℕ) : Type 0 where
       ↔ SpellsField p.dialect p.kind (s ++ u) v
   pub unrefused : p.refusal ≡ None
 
--- where a parser that refused stands
+-- where a parser that refused is
 abbrev pub StandsAt : Refusal → ℕ → ℕ → Type 0
 StandsAt OutOfMemory count max = ⊤
 StandsAt (Syntax place found expected may_end) count max = count ≡ place
@@ -80,7 +80,7 @@ pub record SameSettings (old new : Progress) : Type 0 where
   pub kind : new.kind ≡ old.kind
   pub max : new.max ≡ old.max
 
--- what became of the bytes x behind a text s that was taken
+-- what became of the bytes x after a text s that was taken
 abbrev pub FedAnswer : Progress → Progress → Result (Unit {0}) Refusal → List ℕ → Type 0
 FedAnswer old new (Ok u) x =
     (new.refusal ≡ old.refusal)
@@ -91,13 +91,13 @@ FedAnswer old new (Err e) x =
     × ((s : List ℕ) → Took old s → (more : List ℕ)
     → RefusedFor old.dialect old.kind old.max ((s ++ x) ++ more) e)
 
--- the bytes x were fed; a refusal stands whatever comes behind them
+-- the bytes x were fed; a refusal remains, whatever comes after them
 pub record Fed (old new : Progress) (result : Result (Unit {0}) Refusal) (x : List ℕ) : Type 0 where
   pub settings : SameSettings old new
   pub counted : new.count ≤ old.count + length x
   pub answer : FedAnswer old new result x
 
--- a field line as it stands in the joined text: behind another one a comma and a space come first
+-- a field line as it is in the joined text: after another one a comma and a space come first
 abbrev pub in_line : Bool → List ℕ → List ℕ
 in_line true line = comma ∷ space ∷ line
 in_line false line = line

@@ -18,7 +18,7 @@ pub record Reached (d : Dialect) (kind : Kind) (s : State) (p : List ℕ) : Type
 abbrev pub ReachedNothing : Type 0
 ReachedNothing = (d : Dialect) (kind : Kind) → Reached d kind (begin kind) []
 
--- a state to which further bytes lead is reached by the text with them behind it
+-- a state to which further bytes lead is reached by the text with them after it
 abbrev pub ReachesMore : Type 0
 ReachesMore = (d : Dialect) (kind : Kind) (s t : State) (p x : List ℕ) → Reached d kind s p
     → run (step d) s x ≡ Some t → Reached d kind t (p ++ x)
@@ -39,12 +39,12 @@ abbrev pub ReachedEnd : Type 0
 ReachedEnd = (d : Dialect) (kind : Kind) (s : State) (p : List ℕ) (v : Field) → Reached d kind s p
     → SpellsField d kind p v ↔ (finish s ≡ Some v)
 
--- where the step can't take the next byte, the refusal stands behind the text
+-- where the step can't take the next byte, the refusal is at the end of the text
 abbrev pub ReachedStops : Type 0
 ReachedStops = (d : Dialect) (kind : Kind) (s : State) (p q : List ℕ) (b : ℕ) → Reached d kind s p
     → step d s b ≡ None → IsPlace d kind (p ++ b ∷ q) (length p)
 
--- where no byte is left, it stands at the end of the text
+-- where no byte is left, it is at the end of the text
 abbrev pub ReachedAll : Type 0
 ReachedAll = (d : Dialect) (kind : Kind) (s : State) (p : List ℕ) → Reached d kind s p
     → IsPlace d kind p (length p)

@@ -1,4 +1,4 @@
--- What parsing a reader's text answers.
+-- What parsing a reader's text returns.
 use Rattle.std.specs.Prelude.{◌≡◌, ℕ, ◌+◌, ◌-◌, ◌^◌, ◌<◌, ◌≤◌, ◌⊎◌, List, ◌++◌, length, take}
 use Rattle.std.specs.Prelude.{Some, None, Result, Ok, Err}
 use Rattle.sf_value.specs.Devices.{SourceState, capped, Gave, GaveAndEnded, GaveAndFailed}
@@ -20,11 +20,11 @@ abbrev pub GaveAll : SourceState → SourceState → List ℕ → Type 0
 GaveAll old new bytes =
     GaveAndEnded old new bytes ⊎ (Gave old new bytes × (2 ^ 64 - 1 ≤ length bytes))
 
--- spaces, digits and `-.?@` alone for an Item, which take no memory
+-- spaces, digits and `-.?@` alone for an Item, which do not allocate
 abbrev pub IsScalarText : Kind → List ℕ → Type 0
 IsScalarText kind text = (kind ≡ kind_is.Item) × Every scalar_byte text
 
--- memory was wanting on the way, or when the text was ended
+-- an allocation failed on the way, or when the text was ended
 abbrev pub Wanted : Kind → SourceState → SourceState → ℕ → List ℕ → Type 0
 Wanted kind old new max text =
     ¬ (IsScalarText kind text)
@@ -41,8 +41,8 @@ ReadToEnd d kind old new max r =
     × Finishes d kind text r
 
 -- The answer over the bytes given: a byte below the limit that no text of the kind goes on with,
--- whatever comes behind; a failed read behind a viable prefix; more bytes than the limit, so many
--- of which are viable; or the end of the reader's text, which is asked for once.
+-- whatever comes after; a failed read after a viable prefix; more bytes than the limit, so many of
+-- which are viable; or the end of the reader's text, which is asked for once.
 abbrev pub ReadAndParsed : Dialect → Kind → SourceState → SourceState → ℕ → Result Field Refusal
     → Type 0
 ReadAndParsed d kind old new max (Ok v) = ReadToEnd d kind old new max (Ok v)

@@ -7,7 +7,7 @@ use Rattle.sf_parse.specs.declared.refusal.Refusal.{Refusal}
 use Rattle.sf_parse.specs.declared.refusal.Refusal.TheVariants.{OutOfMemory, Syntax, TooLong}
 use Rattle.sf_parse.specs.declared.refusal.Refusal.TheVariants.{ReadFault}
 
--- the byte that was found: its two digits, and itself where it is printable
+-- the byte that was found: its two digits, and itself if it is printable
 abbrev pub found_text : ℕ → List ℕ
 found_text b =
     codes "0x" ++ (hex_byte b ++ (if is_visible b then codes " '" ++ b ∷ codes "'" else []))

@@ -1,4 +1,4 @@
--- Where in the lines of a field a refusal stands.
+-- Where in the lines of a field a refusal is.
 use Rattle.std.specs.Prelude.{ℕ, suc, ◌+◌, ◌-◌, min, nat_lt, if◌then◌else◌, List, [], ◌∷◌, ◌++◌}
 use Rattle.std.specs.Prelude.{length}
 use Rattle.std.specs.Prelude.{map, replicate, codes, decimal, Option, Some, None, MatchOption}
@@ -18,8 +18,8 @@ pub record LinePlace : Type 0 where
   pub place : ℕ
   pub text : List ℕ
 
--- where in lines, numbered from n on, a place of their joined text stands: the comma and the space
--- behind a line belong to its end, and so does what lies behind the last
+-- where in lines, numbered from n on, a place of their joined text is: the comma and the space
+-- after a line belong to its end, and so does what lies after the last
 abbrev pub place_in : ℕ → List (List ℕ) → ℕ → Option LinePlace
 place_in n [] place = None
 place_in n (l ∷ []) place =
@@ -29,14 +29,14 @@ place_in n (l ∷ m ∷ ls) place =
     then Some (record { line = n; place = min place (length l); text = l })
     else place_in (suc n) (m ∷ ls) (place - length l - 2)
 
--- what is behind a line: the comma or the space before the next one, and nothing behind the last
+-- what is after a line: the comma or the space before the next one, and nothing after the last
 abbrev pub IsBehindLine : List (List ℕ) → Option ℕ → Type 0
 IsBehindLine [] byte = byte ≡ None
 IsBehindLine (l ∷ ls) byte = (byte ≡ Some comma) ⊎ (byte ≡ Some space)
 
 -- the spot is that of a place of the joined lines, numbered from n on: it is in the line of its
 -- number, and the byte at the place of the joined text is the one at its place of the line, or is
--- behind the line
+-- after the line
 pub record IsSpot (n : ℕ) (lines : List (List ℕ)) (place : ℕ) (p : LinePlace) : Type 0 where
   pub before : List (List ℕ)
   pub behind : List (List ℕ)
@@ -52,7 +52,7 @@ PlacesAreSpots =
     (lines : List (List ℕ)) (place : ℕ)
     → MatchOption (place_in 1 lines place) (lines ≡ []) (IsSpot 1 lines place)
 
--- where in the lines of a field a refusal stands, if it is one of their text; the first is line 1
+-- where in the lines of a field a refusal is, if it is one of their text; the first is line 1
 abbrev pub stands_at : Refusal → List (List ℕ) → Option LinePlace
 stands_at (Syntax place found expected may_end) lines = place_in 1 lines place
 stands_at _ lines = None
@@ -62,7 +62,7 @@ abbrev pub line_place : Option Spot → Option LinePlace
 line_place None = None
 line_place (Some s) = Some (record { line = s.line; place = s.place; text = s.text.now })
 
--- a byte of a line, or a question mark where it is not printable
+-- a byte of a line, or a question mark if it is not printable
 abbrev pub printed_byte : ℕ → ℕ
 printed_byte b = if is_visible b then b else question_mark
 

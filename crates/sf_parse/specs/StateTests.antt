@@ -10,11 +10,11 @@ use Rattle.sf_parse.specs.Machine.Fields.{step, finish}
 use Rattle.sf_parse.specs.Machine.Tests.{takes, may_end}
 use Rattle.sf_parse.specs.Reached.{Reached}
 
--- the test tells whether the step takes the byte
+-- the test decides whether the step takes the byte
 abbrev pub TakesStep : Type 0
 TakesStep = (d : Dialect) (s : State) (b : ℕ) → is_some (step d s b) ≡ takes d s b
 
--- the test tells whether the state has a value at the end
+-- the test decides whether the state has a value at the end
 abbrev pub MayEnd : Type 0
 MayEnd = (s : State) → is_some (finish s) ≡ may_end s
 
@@ -32,7 +32,7 @@ EndsText = (d : Dialect) (kind : Kind) (s : State) (p : List ℕ) → Reached d 
 abbrev pub NextBelow : Type 0
 NextBelow = (d : Dialect) (kind : Kind) (p : List ℕ) (b : ℕ) → Viable d kind (p ++ b ∷ []) → b < 128
 
--- behind a text that reached a state some byte may come
+-- after a text that reached a state some byte may come
 abbrev pub SomeNext : Type 0
 SomeNext = (d : Dialect) (kind : Kind) (s : State) (p : List ℕ) → Reached d kind s p → (b : ℕ)
     × Next d kind p b

@@ -1,4 +1,4 @@
--- What takes no memory takes none with a byte less, in the state that the byte leads to.
+-- What does not allocate takes none with a byte less, in the state that the byte leads to.
 use Rattle.std.specs.Option.{option_map, option_or}
 use Rattle.std.specs.Prelude.{◌≡◌, ℕ, Bool, true, false, ◌==◌, List, [], ◌∷◌, ◌++◌}
 use Rattle.std.specs.Prelude.{◌⊎◌, Option, Some, None}

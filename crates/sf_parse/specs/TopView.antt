@@ -7,18 +7,18 @@ use Rattle.sf_parse.specs.Machine.States.{State, BeforeItem, InTop, AfterItem, I
 use Rattle.sf_parse.specs.declared.item_field.TopPhase.{TopPhase}
 use Rattle.sf_parse.specs.declared.item_field.TopPhase.TheVariants as phase
 
--- there is one behind a space
+-- there is one after a space
 abbrev pub after_of : Option Item → State
 after_of (Some i) = AfterItem i
 after_of None = BeforeItem
 
--- before the item, in it, or among the spaces behind it
+-- before the item, in it, or among the spaces after it
 abbrev pub top_of : TopPhase → ItemState → Option Item → State
 top_of phase.Before s whole = BeforeItem
 top_of phase.Inside s whole = InTop s
 top_of phase.Behind s whole = after_of whole
 
--- spaces stand behind a whole item
+-- spaces are after a whole item
 abbrev pub FitsTop : TopPhase → Option Item → Type 0
 FitsTop phase.Before whole = ⊤
 FitsTop phase.Inside whole = ⊤

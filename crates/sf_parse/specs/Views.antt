@@ -20,7 +20,7 @@ use Rattle.sf_parse.specs.declared.display_string.Utf8State.TheVariants as utf8
 use Rattle.sf_parse.specs.declared.display_string.ShownPhase.{ShownPhase}
 use Rattle.sf_parse.specs.declared.display_string.ShownPhase.TheVariants as shown_phase
 
--- behind the point there is a whole part
+-- after the point there is a whole part
 abbrev pub number_of : Bool → Option ℕ → ℕ → ℕ → NumberState
 number_of negative None digits value = Whole negative digits value
 number_of negative (Some whole) digits value = Fraction negative whole digits value

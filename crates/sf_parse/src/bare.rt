@@ -62,7 +62,7 @@ impl Model for BareReader {
 }
 
 impl BareReader {
-    /// A reader that no bare item was begun in. It takes no memory.
+    /// A reader that no bare item was begun in. It does not allocate.
     pub fn new(context: &Context) -> BareReader {
         BareReader {
             kind: BareKind::Boolean,
@@ -76,12 +76,12 @@ impl BareReader {
         }
     }
 
-    /// Begins a bare item with this byte, or tells that none begins with it.
+    /// Begins a bare item with this byte, or reports that none begins with it.
     pub fn start(&mut self, context: &Context, byte: u8) -> Result<bool, OutOfMemory>
         // The new state is the one that the byte begins, or none begins with it.
         ensures start { IfOk result (λ took. Starts took (bare_start context.now.dialect byte)
             self.new) }
-        // It takes no memory.
+        // It does not allocate.
         ensures allocation_free { IsOk result }
     {
         if self.number.start(byte) {

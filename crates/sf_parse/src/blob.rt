@@ -21,20 +21,20 @@ pub enum Held {
     H3(u8, u8, u8),
 }
 
-/// Where in a byte sequence the text is, behind its opening colon.
+/// Where in a byte sequence the text is, after its opening colon.
 #[derive(Clone, Copy)]
 pub enum BlobPhase {
     /// In a group.
     Group(Held),
     /// Where so many `=` may still come.
     Padded(u8),
-    /// Behind the closing colon.
+    /// After the closing colon.
     Ended,
 }
 
 impl BlobPhase {
-    /// Takes one more byte, or tells that the byte sequence can't go on with it and stays as it is.
-    /// Its bytes so far are `bytes`.
+    /// Takes one more byte, or reports that the byte sequence can't go on with it and stays as it
+    /// is. Its bytes so far are `bytes`.
     pub fn step(&mut self, bytes: &mut ShortBytes, byte: u8) -> Result<bool, OutOfMemory>
         // The values of the open group are below 64.
         requires { FitsBlob self.old }
@@ -86,7 +86,7 @@ impl BlobPhase {
         }
     }
 
-    /// The bytes of the last group, and the first byte behind it.
+    /// The bytes of the last group, and the first byte after it.
     fn close(
         &mut self,
         tail: &[u8],
@@ -96,7 +96,7 @@ impl BlobPhase {
     ) -> Result<bool, OutOfMemory>
         // The values of the open group are below 64.
         requires fits { FitsBlob self.old }
-        // Behind the last group the byte leads the machine on, or can't and the state stays.
+        // After the last group the byte leads the machine on, or can't and the state stays.
         ensures step { IfOk result (λ took. Steps took (pad_step (bytes.old ++ tail.now) more byte)
             (blob_of self.old bytes.old) (blob_of self.new bytes.new)) }
         // So are those of the new one.
@@ -177,7 +177,7 @@ impl BlobPhase {
 /// How many bytes are decoded at a time: those of 32 groups.
 const BLOCK: usize = 96;
 
-/// The value of each byte as a character of base64 (RFC 4648 section 4); 64 where it is none.
+/// The value of each byte as a character of base64 (RFC 4648 section 4); 64 if it is none.
 #[rattlefmt::skip]
 static SEXTETS: [u8; 256] = [
     64, 64, 64, 64, 64, 64, 64, 64, 64, 64, 64, 64, 64, 64, 64, 64,
@@ -227,7 +227,7 @@ fn group_bytes(a: u8, b: u8, c: u8, d: u8) -> Option<(u8, u8, u8)>
 fn decode_groups<'a>(chunk: &'a [u8], block: &mut [u8; BLOCK]) -> (usize, &'a [u8])
     ensures within { result.0 ≤ 96 }
     // Where no group is open, the characters before the rest lead to a state with the bytes of the
-    // block behind those so far.
+    // block after those so far.
     ensures went { (bs : List ℕ) → Went blob_step (Group bs H0) chunk.now result.1.now
         (Group (bs ++ take result.0 block.new) H0) }
 {
@@ -249,7 +249,7 @@ fn decode_groups<'a>(chunk: &'a [u8], block: &mut [u8; BLOCK]) -> (usize, &'a [u
     (count, rest)
 }
 
-/// Takes whole groups, behind a whole one, a block by one growth.
+/// Takes whole groups, after a whole one, a block by one growth.
 fn take_groups<'a>(bytes: &mut ShortBytes, chunk: &'a [u8]) -> Result<&'a [u8], OutOfMemory>
     // The bytes before the rest lead the machine from the old state to the new one.
     ensures { IfOk result (λ rest. Went blob_step (Group bytes.old H0) chunk.now rest.now

@@ -10,14 +10,14 @@ use crate::sets::BITS;
 /// What was read of a boolean.
 #[derive(Clone, Copy)]
 pub enum BooleanState {
-    /// Behind the question mark.
+    /// After the question mark.
     QuestionMark,
-    /// Behind the digit.
+    /// After the digit.
     WithValue(bool),
 }
 
 impl BooleanState {
-    /// Takes one more byte, or tells that the boolean can't go on with it and stays as it is.
+    /// Takes one more byte, or reports that the boolean can't go on with it and stays as it is.
     pub fn step(&mut self, byte: u8) -> bool
         // The byte leads the machine on, or can't and the state stays.
         ensures { Steps result (boolean_step self.old byte) self.old self.new }

@@ -26,7 +26,7 @@ impl Model for Runs {
 
 /// The runs of a set of bytes below 128, such as the `expected` of [`crate::Refusal::Syntax`]: byte
 /// b is in the set if bit b is set. Each run is its first and its last byte; they ascend, and each
-/// is as long as it can be. It takes no memory.
+/// is as long as it can be. It does not allocate.
 ///
 /// ```
 /// runs_of(0x3ff << 48).next() // Some((b'0', b'9'))
@@ -80,7 +80,7 @@ fn run_end(set: u128, first: u8) -> u8
     requires within { first < 128 }
     // The byte is in the set.
     requires set { is_in set first ≡ true }
-    // The runs from this byte on are the one that ends here, and those behind it.
+    // The runs from this byte on are the one that ends here, and those after it.
     ensures run { runs_from set first (128 - first)
         ≡ (first, result) ∷ runs_from set (result + 1) (128 - (result + 1)) }
     ensures forward { first ≤ result }
@@ -95,7 +95,7 @@ fn run_end(set: u128, first: u8) -> u8
 
 /// The first run of the set from this byte on.
 fn next_run(set: u128, from: u8) -> Option<(u8, u8)>
-    // The runs from this byte on are this one and those behind it, or none.
+    // The runs from this byte on are this one and those after it, or none.
     ensures run { MatchOption result (runs_from set from (128 - from) ≡ [])
         (λ r. runs_from set from (128 - from) ≡ r ∷ runs_from set (r.1 + 1) (128 - (r.1 + 1))) }
     ensures within { IfSome result (λ r. r.1 < 128) }

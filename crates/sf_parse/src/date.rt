@@ -11,7 +11,7 @@ use crate::sets::{DIGITS, MINUS, set_if};
 use sf_value::Int;
 use std::marker::Model;
 
-/// What was read of a date behind its `@`: the sign, and the digits.
+/// What was read of a date after its `@`: the sign, and the digits.
 #[derive(Drop)]
 pub struct DateReader {
     begun: bool,
@@ -33,7 +33,7 @@ impl Model for DateReader {
 }
 
 impl DateReader {
-    /// Behind the `@`.
+    /// After the `@`.
     pub fn open() -> DateReader
         ensures { result ≡ Sign }
     {
@@ -45,7 +45,7 @@ impl DateReader {
         }
     }
 
-    /// Takes one more byte, or tells that the date can't go on with it and stays as it is.
+    /// Takes one more byte, or reports that the date can't go on with it and stays as it is.
     #[tactic(auto, using(crate::proofs::Numerals::room, crate::proofs::Numerals::next_digit))]
     pub fn step(&mut self, byte: u8) -> bool
         // The byte leads the machine on, or can't and the state stays.

@@ -29,15 +29,15 @@ pub enum Utf8State {
 /// Where in a display string the text is.
 #[derive(Clone, Copy)]
 pub enum ShownPhase {
-    /// Behind the `%` before the opening quote.
+    /// After the `%` before the opening quote.
     Quote,
     /// Between the quotes.
     Unencoded,
-    /// Behind a `%`.
+    /// After a `%`.
     Percent,
-    /// Behind the first digit of an escape, of this value.
+    /// After the first digit of an escape, of this value.
     Hex(u8),
-    /// Behind the closing quote.
+    /// After the closing quote.
     Done,
 }
 
@@ -49,7 +49,7 @@ pub struct ShownPlace {
 }
 
 impl Utf8State {
-    /// Behind one more byte of well-formed UTF-8 (RFC 3629 section 4).
+    /// After one more byte of well-formed UTF-8 (RFC 3629 section 4).
     pub fn after(self, byte: u8) -> Option<Utf8State>
         // It is the next place in a character, if the byte may come there.
         ensures { option_map utf8_of result ≡ utf8_step (utf8_of self) byte }
@@ -78,7 +78,7 @@ impl Utf8State {
 }
 
 impl ShownPlace {
-    /// Behind the first `%`.
+    /// After the first `%`.
     pub const OPEN: ShownPlace = ShownPlace {
         phase: ShownPhase::Quote,
         chars: Utf8State::Start,
@@ -109,7 +109,7 @@ impl ShownPlace {
         Ok(true)
     }
 
-    /// Takes one more byte, or tells that the display string can't go on with it and stays as it
+    /// Takes one more byte, or reports that the display string can't go on with it and stays as it
     /// is. Its bytes so far are `bytes`.
     pub fn step(&mut self, bytes: &mut ShortBytes, byte: u8) -> Result<bool, OutOfMemory>
         // The bytes so far lead to the place in a character, and fit the phase.
@@ -259,7 +259,7 @@ impl ShownPlace {
     }
 }
 
-/// Behind a byte of a character that so many bytes complete.
+/// After a byte of a character that so many bytes complete.
 fn wanted(more: u8) -> Utf8State
     // It is the place in a character that the grammar has there.
     ensures { utf8_of result ≡ wants more }
@@ -274,7 +274,7 @@ fn wanted(more: u8) -> Utf8State
     }
 }
 
-/// Behind the first byte of a character.
+/// After the first byte of a character.
 fn first_byte(byte: u8) -> Option<Utf8State>
     // It is what the table of well-formed UTF-8 says of the byte.
     ensures { option_map utf8_of result ≡ look_up rows byte }
@@ -297,7 +297,7 @@ fn first_byte(byte: u8) -> Option<Utf8State>
 /// How many escapes are read at a time.
 const BLOCK: usize = 64;
 
-/// The value of each byte as a lower-case hexadecimal digit; 16 where it is none.
+/// The value of each byte as a lower-case hexadecimal digit; 16 if it is none.
 #[rattlefmt::skip]
 static DIGITS: [u8; 256] = [
     16, 16, 16, 16, 16, 16, 16, 16, 16, 16, 16, 16, 16, 16, 16, 16,
@@ -350,7 +350,7 @@ fn read_escapes<'a>(
     block: &mut [u8; BLOCK],
 ) -> (usize, Utf8State, &'a [u8])
     ensures within { result.0 ≤ 64 }
-    // The escapes before the rest lead to a state with the bytes of the block behind those so far.
+    // The escapes before the rest lead to a state with the bytes of the block after those so far.
     ensures went { (bs : List ℕ)
         → Went shown_step (Unencoded bs (utf8_of from)) chunk.now result.2.now
         (Unencoded (bs ++ take result.0 block.new) (utf8_of result.1)) }
@@ -394,7 +394,7 @@ fn take_escapes<'a>(
     // The bytes before the rest lead the machine from the old state to the new one.
     ensures went { IfOk result (λ rest. Went shown_step (Unencoded bytes.old (utf8_of chars.old))
         chunk.now rest.now (Unencoded bytes.new (utf8_of chars.new))) }
-    // So do they then to the new place, even where memory was wanting.
+    // So do they then to the new place, even if an allocation failed.
     ensures leads { Leads bytes.new (utf8_of chars.new) }
 {
     let mut block = [0; BLOCK];
@@ -415,7 +415,7 @@ fn take_unencoded<'a>(
     // The bytes before the rest lead the machine from the old state to the new one.
     ensures went { IfOk result (λ rest. Went shown_step (Unencoded bytes.old (utf8_of chars))
         chunk.now rest.now (Unencoded bytes.new (utf8_of chars))) }
-    // So do they then, even where memory was wanting.
+    // So do they then, even if an allocation failed.
     ensures leads { Leads bytes.new (utf8_of chars) }
 {
     match chars {
@@ -439,7 +439,7 @@ fn take_chars<'a>(
     // The bytes before the rest lead the machine from the old state to the new one.
     ensures went { IfOk result (λ rest. Went shown_step (Unencoded bytes.old (utf8_of chars.old))
         chunk.now rest.now (Unencoded bytes.new (utf8_of chars.new))) }
-    // So do they then to the new place, even where memory was wanting.
+    // So do they then to the new place, even if an allocation failed.
     ensures leads { Leads bytes.new (utf8_of chars.new) }
 {
     let mut rest = chunk;

@@ -23,7 +23,7 @@ use std::mem;
 pub enum EntryPhase {
     /// In its key.
     InKey,
-    /// Behind the equals sign.
+    /// After the equals sign.
     Equals,
     /// In its value.
     InMemberValue,
@@ -31,8 +31,8 @@ pub enum EntryPhase {
     InFlag,
 }
 
-/// What was read of a dictionary's member. The parameters behind a key alone are read as those of
-/// an item of Boolean true.
+/// What was read of a dictionary's member. The parameters after a key alone are read as those of an
+/// item of Boolean true.
 #[derive(Drop)]
 pub struct EntryReader {
     phase: EntryPhase,
@@ -53,7 +53,7 @@ impl Model for EntryReader {
 }
 
 impl EntryReader {
-    /// A reader that no member was begun in. It takes no memory.
+    /// A reader that no member was begun in. It does not allocate.
     pub fn new(context: &Context) -> EntryReader {
         EntryReader {
             phase: EntryPhase::InKey,
@@ -62,7 +62,7 @@ impl EntryReader {
         }
     }
 
-    /// Begins a member with this byte, or tells that none begins with it.
+    /// Begins a member with this byte, or reports that none begins with it.
     pub fn start(&mut self, context: &Context, byte: u8) -> Result<bool, OutOfMemory>
         // The new state is the one that the byte begins, or none begins with it.
         ensures { IfOk result (λ took. Starts took (entry_start byte) self.new) }
@@ -75,7 +75,7 @@ impl EntryReader {
         Ok(true)
     }
 
-    /// Puts the member at its key, if it is whole, or tells that it is not, and changes nothing.
+    /// Puts the member at its key, if it is whole, or reports that it is not, and changes nothing.
     /// What is left is the reader alone.
     pub fn end(
         &mut self,

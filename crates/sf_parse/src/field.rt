@@ -36,7 +36,7 @@ pub trait WholeField: Level + Drop {
     // what was read, as a state of the machine of fields
     ghost state: { Self → State };
 
-    /// Before the first byte. It takes no memory.
+    /// Before the first byte. It does not allocate.
     fn begin(context: &Context) -> Self
         // Its state is the first one of its kind.
         ensures { state result ≡ begin_at kind };
@@ -45,7 +45,7 @@ pub trait WholeField: Level + Drop {
     fn finish_field(&mut self, context: &Context) -> Result<Option<Field>, OutOfMemory>
         // The field is the value that the state has at the end, if it has one.
         ensures value { IfOk result (λ field. field ≡ finish_of (state self.old)) }
-        // Where no byte more takes no memory, the end takes none.
+        // Where no byte more does not allocate, the end takes none.
         ensures allocation_free { FieldFree (state self.old) [] → IsOk result };
 
     // the machine of fields goes on just as the level does, and its tests tell the same
@@ -56,7 +56,7 @@ pub trait WholeField: Level + Drop {
 
     ghost ends_too: { (s : Self) → Self.ends s ≡ may_end_at (state s) };
 
-    // what takes no memory in the state takes none in the level
+    // what does not allocate in the state does not in the level
     ghost free_too: { (d : Dialect) (s : Self) (more : Seq ℕ) → FieldFree (state s) more
         → Self.allocation_free d s more };
 }
@@ -138,9 +138,10 @@ impl WholeField for DictReader {
 
 /// The value that the text spells as a field of this kind, or its exact refusal.
 pub fn parse_whole<W: WholeField>(context: &Context, text: &[u8]) -> Result<Field, Refusal>
-    // The text spells just this value, or this is its exact refusal; else memory was wanting.
+    // The text spells just this value, or this is its exact refusal; otherwise an allocation
+    // failed.
     ensures parses { Parses context.now.dialect W.kind text.now result }
-    // A text that takes no memory is not refused for want of it.
+    // A text that does not allocate is not refused for want of it.
     ensures allocation_free { TakesNoMemory W.kind text.now → NotForMemory result }
 {
     let mut field = W::begin(context);
@@ -155,9 +156,10 @@ fn read_whole<W: WholeField>(
 ) -> Result<Field, Refusal>
     // Nothing was read.
     requires { W.state field.old ≡ begin_at W.kind }
-    // The text spells just this value, or this is its exact refusal; else memory was wanting.
+    // The text spells just this value, or this is its exact refusal; otherwise an allocation
+    // failed.
     ensures parses { Parses context.now.dialect W.kind text.now result }
-    // A text that takes no memory is not refused for want of it.
+    // A text that does not allocate is not refused for want of it.
     ensures allocation_free { TakesNoMemory W.kind text.now → NotForMemory result }
 {
     let rest = field.take(context, text)?;

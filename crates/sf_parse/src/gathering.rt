@@ -4,20 +4,20 @@ ghost use Rattle.sf_value.specs.declared.value.Member.TheVariants as member_is;
 
 use sf_value::{Item, Member, OutOfMemory, Sequence};
 
-/// Takes the parts of a value, one behind the other. A part is built where it is added, so that no
+/// Takes the parts of a value, one after the other. A part is built where it is added, so that no
 /// answer carries it about.
 pub trait Gather<T> {
     // what there is with one part more
     ghost with: { Self → T → Self };
 
-    // whether a part more takes no memory
+    // whether a part more does not allocate
     ghost free: { Type 0 };
 
     /// Adds a part at the end.
     fn add(&mut self, part: T) -> Result<(), OutOfMemory>
         // There is one part more.
         ensures added { OnOk result (self.new ≡ with self.old part) }
-        // Where a part more takes no memory, none is wanting.
+        // Where a part more does not allocate, no allocation fails.
         ensures free { free → IsOk result };
 }
 

@@ -41,7 +41,7 @@ impl Model for ItemReader {
     ghost invariant = { λ r. FitsItem r.in_params r.bare };
 }
 
-// Written out, so that a reader is let go where it stands and not moved first.
+// Written out, so that a reader is dropped where it is and not moved first.
 impl Drop for ItemReader {
     #[inline(always)]
     fn drop(self) {
@@ -54,7 +54,7 @@ impl Drop for ItemReader {
 }
 
 impl ItemReader {
-    /// A reader that no item was begun in. It takes no memory.
+    /// A reader that no item was begun in. It does not allocate.
     pub fn new(context: &Context) -> ItemReader {
         ItemReader {
             in_params: false,
@@ -63,19 +63,19 @@ impl ItemReader {
         }
     }
 
-    /// Begins an item with this byte, or tells that none begins with it.
+    /// Begins an item with this byte, or reports that none begins with it.
     pub fn start(&mut self, context: &Context, byte: u8) -> Result<bool, OutOfMemory>
         // The new state is the one that the byte begins, or none begins with it.
         ensures start { IfOk result (λ took. Starts took (item_start context.now.dialect byte)
             self.new) }
-        // It takes no memory.
+        // It does not allocate.
         ensures allocation_free { IsOk result }
     {
         self.in_params = false;
         self.bare.start(context, byte)
     }
 
-    /// Begins the parameters of Boolean true, behind the first semicolon.
+    /// Begins the parameters of Boolean true, after the first semicolon.
     pub fn open_flag(&mut self, context: &Context)
         // The parameters of Boolean true are open, and none is whole.
         ensures { self.new ≡ InParams (bare_is.Boolean true) (Opened []) }
@@ -87,7 +87,7 @@ impl ItemReader {
         self.in_params = true;
     }
 
-    /// Begins parameters that belong to no bare item: those behind a closing bracket.
+    /// Begins parameters that belong to no bare item: those after a closing bracket.
     pub fn begin_params(&mut self, context: &Context)
         // They are those of Boolean true, which stands for no bare item here, and none was begun.
         ensures { self.new ≡ InParams (bare_is.Boolean true) (Between []) }
@@ -109,8 +109,8 @@ impl ItemReader {
         self.params.finish(context)
     }
 
-    /// Adds the item, if it is whole, or tells that it is not, and changes nothing. What is left is
-    /// the reader alone.
+    /// Adds the item, if it is whole, or reports that it is not, and changes nothing. What is left
+    /// is the reader alone.
     #[inline(always)]
     pub fn end<G: Gather<Item>>(
         &mut self,
@@ -122,7 +122,7 @@ impl ItemReader {
             (item_finish self.old)) given.old given.new) }
         // Where nothing was added the reader stays as it is.
         ensures kept { IfOk result (λ ended. ended ≡ false → self.new ≡ self.old) }
-        // Without parameters the end takes no memory where adding the item takes none.
+        // Without parameters the end does not allocate where adding the item takes none.
         ensures allocation_free { G.free → (more : Seq ℕ) → ItemFree self.old more → IsOk result }
     {
         if !self.in_params {

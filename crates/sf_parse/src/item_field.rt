@@ -26,7 +26,7 @@ pub enum TopPhase {
     Before,
     /// In the item.
     Inside,
-    /// Behind a space after the item.
+    /// After a space after the item.
     Behind,
 }
 
@@ -51,7 +51,7 @@ impl Model for TopReader {
 }
 
 impl TopReader {
-    /// Before the item. It takes no memory.
+    /// Before the item. It does not allocate.
     pub fn new(context: &Context) -> TopReader
         ensures { result ≡ BeforeItem }
     {
@@ -66,7 +66,7 @@ impl TopReader {
     pub fn finish(&mut self, context: &Context) -> Result<Option<Item>, OutOfMemory>
         // The item is the value that the state has at the end, if it has one.
         ensures value { IfOk result (λ item. option_map field.Item item ≡ finish_of self.old) }
-        // Where no byte more takes no memory, the end takes none.
+        // Where no byte more does not allocate, the end takes none.
         ensures allocation_free { FieldFree self.old [] → IsOk result }
     {
         match self.phase {

@@ -30,7 +30,7 @@ pub fn machine_reads()
 {}
 
 /// A prefix of a text is viable exactly if the machine is not stuck on it; the bytes that may come
-/// next are those that the step takes; where it takes no further one, there the refusal stands.
+/// next are those that the step takes; where it takes no further one, there the refusal is.
 pub fn refusals_are_exact()
     ensures viable { IsViable }
     ensures next { IsNext }
@@ -78,8 +78,9 @@ pub fn names_are_the_set()
     ensures { NamesAreTheSet }
 {}
 
-/// Where a refusal is shown in a line, there the byte of the joined lines is: it is the byte at that
-/// place of that line, or at the line's end the comma or the space behind it, or the end of all.
+/// Where a refusal is shown in a line, there the byte of the joined lines is: it is the byte at
+/// that place of that line, or at the line's end the comma or the space after it, or the end of
+/// all.
 pub fn places_are_spots()
     ensures { PlacesAreSpots }
 {}

@@ -21,7 +21,7 @@ pub trait Level {
 
     ghost ends: { Self → Bool };
 
-    // the states and further bytes that take no memory
+    // the states and further bytes that do not allocate
     ghost allocation_free: { Dialect → Self → List ℕ → Type 0 };
 
     /// Takes what the part that is open can go on with, and gives back the rest.
@@ -32,29 +32,29 @@ pub trait Level {
         // The part that is open can't go on with the first byte of the rest.
         ensures stuck { IfOk result (λ rest. FirstIs (stuck context.now.dialect self.new)
             rest.now) }
-        // Where the chunk takes no memory, none is wanting.
+        // Where the chunk does not allocate, no allocation fails.
         ensures allocation_free { allocation_free context.now.dialect self.old chunk.now
             → IsOk result };
 
-    /// Takes a byte with which the part that is open can't go on, or tells that the level can't
+    /// Takes a byte with which the part that is open can't go on, or reports that the level can't
     /// either, and stays as it is.
     fn turn(&mut self, context: &Context, byte: u8) -> Result<bool, OutOfMemory>
         // A byte that the part can't take leads the machine on, or can't and the state stays.
         ensures step { IfOk result (λ took. stuck context.now.dialect self.old byte
             → Steps took (next context.now.dialect self.old byte) self.old self.new) }
-        // Where the byte and others behind it take no memory, none is wanting.
+        // Where the byte and others after it do not allocate, no allocation fails.
         ensures allocation_free { (more : List ℕ)
             → allocation_free context.now.dialect self.old (byte ∷ more) → IsOk result };
 
-    /// Takes a byte that the part that is open goes on with, or tells that the part can't.
+    /// Takes a byte that the part that is open goes on with, or reports that the part can't.
     fn push_part(&mut self, context: &Context, byte: u8) -> Result<bool, OutOfMemory>
-        // The byte, where it is taken, leads the machine on; else the state stays.
+        // The byte, where it is taken, leads the machine on; otherwise the state stays.
         ensures went { IfOk result (λ took. Went (next context.now.dialect) self.old (byte ∷ [])
             (unless took byte) self.new) }
         // With a byte that is not taken the part that is open can't go on.
         ensures stuck { IfOk result (λ took. FirstIs (stuck context.now.dialect self.new)
             (unless took byte)) }
-        // Where the byte and others behind it take no memory, none is wanting.
+        // Where the byte and others after it do not allocate, no allocation fails.
         ensures allocation_free { (more : List ℕ)
             → allocation_free context.now.dialect self.old (byte ∷ more) → IsOk result };
 
@@ -66,11 +66,11 @@ pub trait Level {
     fn may_end(&self) -> bool
         ensures { result ≡ ends self.now };
 
-    // what takes no memory takes none behind its first byte
+    // what does not allocate takes none after its first byte
     ghost keeps: { (d : Dialect) (s t : Self) (b : ℕ) (more : List ℕ)
         → allocation_free d s (b ∷ more) → next d s b ≡ Some t → allocation_free d t more };
 
-    /// Takes one byte, or tells that the level can't go on with it: as `take` does, with no look
+    /// Takes one byte, or reports that the level can't go on with it: as `take` does, with no look
     /// for a run.
     #[inline(always)]
     final fn push(&mut self, context: &Context, byte: u8) -> Result<bool, OutOfMemory>
@@ -78,7 +78,7 @@ pub trait Level {
         ensures prefix { IfOk result
             (λ took. LongestPrefix (next context.now.dialect) self.old (byte ∷ [])
             (unless took byte) self.new) }
-        // Where the byte and others behind it take no memory, none is wanting.
+        // Where the byte and others after it do not allocate, no allocation fails.
         ensures allocation_free { (more : List ℕ)
             → allocation_free context.now.dialect self.old (byte ∷ more) → IsOk result }
     {
@@ -99,7 +99,7 @@ pub trait Level {
         ensures prefix { IfOk result
             (λ rest. LongestPrefix (next context.now.dialect) self.old chunk.now
             rest.now self.new) }
-        // Where the chunk takes no memory, none is wanting.
+        // Where the chunk does not allocate, no allocation fails.
         ensures allocation_free { allocation_free context.now.dialect self.old chunk.now
             → IsOk result }
     {

@@ -4,7 +4,7 @@
 //! only the open construct. It refuses at the exact byte, with exactly the bytes that could have
 //! followed ([`Refusal::Syntax`]), whatever the chunks. [`parse_text`] parses a text at once,
 //! [`parse_reader`] what a reader gives. A refusal says itself in words, alone or beside the line
-//! that it stands in ([`InLine`]), and [`runs_of`] lists the bytes that it names.
+//! that it is in ([`InLine`]), and [`runs_of`] lists the bytes that it names.
 //!
 //! ```text
 //! let mut parser = Parser::new(alloc, &seed, Kind::Item, u64::MAX);

@@ -29,16 +29,16 @@ use std::mem;
 pub enum MemberPhase {
     /// In an item that is the member.
     One,
-    /// In an inner list, behind the opening bracket or a space.
+    /// In an inner list, after the opening bracket or a space.
     Room,
     /// In an item of an inner list.
     InItem,
-    /// In the parameters behind the closing bracket of an inner list.
+    /// In the parameters after the closing bracket of an inner list.
     Closing,
 }
 
 /// What was read of a member: the whole items of an inner list, and the item that is open. The
-/// parameters behind a closing bracket are read by the reader of items.
+/// parameters after a closing bracket are read by the reader of items.
 pub struct MemberReader {
     phase: MemberPhase,
     item: ItemReader,
@@ -57,7 +57,7 @@ impl Model for MemberReader {
     ghost invariant = { λ r. FitsMember r.phase r.item };
 }
 
-// Written out, so that a reader is let go where it stands and not moved first.
+// Written out, so that a reader is dropped where it is and not moved first.
 impl Drop for MemberReader {
     #[inline(always)]
     fn drop(self) {
@@ -70,7 +70,7 @@ impl Drop for MemberReader {
 }
 
 impl MemberReader {
-    /// A reader that no member was begun in. It takes no memory.
+    /// A reader that no member was begun in. It does not allocate.
     pub fn new(context: &Context) -> MemberReader {
         MemberReader {
             phase: MemberPhase::One,
@@ -79,7 +79,7 @@ impl MemberReader {
         }
     }
 
-    /// Begins a member with this byte, or tells that none begins with it.
+    /// Begins a member with this byte, or reports that none begins with it.
     pub fn start(&mut self, context: &Context, byte: u8) -> Result<bool, OutOfMemory>
         // The new state is the one that the byte begins, or none begins with it.
         ensures { IfOk result (λ took. Starts took (member_start context.now.dialect byte)
@@ -94,7 +94,7 @@ impl MemberReader {
         self.item.start(context, byte)
     }
 
-    /// Begins the parameters of Boolean true, behind the first semicolon.
+    /// Begins the parameters of Boolean true, after the first semicolon.
     pub fn open_flag(&mut self, context: &Context)
         // The parameters of Boolean true are open, and none is whole.
         ensures { self.new ≡ InOne (InParams (bare_is.Boolean true) (Opened [])) }
@@ -110,7 +110,7 @@ impl MemberReader {
         BareReader::first_bytes(dialect) | OPEN
     }
 
-    /// The inner list behind whose bracket the text is, if its last parameter is whole.
+    /// The inner list after whose bracket the text is, if its last parameter is whole.
     #[inline(never)]
     fn finish_inner(&mut self, context: &Context) -> Result<Option<Inner>, OutOfMemory>
         // In an inner list, it is the value that the state has at the end, if it has one.
@@ -157,8 +157,8 @@ impl MemberReader {
         }
     }
 
-    /// Adds the member, if it is whole, or tells that it is not, and changes nothing. What is left
-    /// is the reader alone.
+    /// Adds the member, if it is whole, or reports that it is not, and changes nothing. What is
+    /// left is the reader alone.
     pub fn end(
         &mut self,
         context: &Context,
@@ -177,7 +177,7 @@ impl MemberReader {
         }
     }
 
-    /// The same of the inner list behind whose bracket the text is.
+    /// The same of the inner list after whose bracket the text is.
     #[inline(never)]
     fn end_inner(
         &mut self,

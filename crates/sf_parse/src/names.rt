@@ -43,7 +43,7 @@ struct Names {
 impl Names {
     /// Takes the first of them.
     fn next(&mut self) -> Option<Name>
-        // It is the first of the names left, and the others are left then; None where none is left.
+        // It is the first of the names left, and the others are left then; None if none is left.
         ensures { MatchOption result (names_left self.old ≡ [])
             (λ name. names_left self.old ≡ name ∷ names_left self.new) }
     {
@@ -63,7 +63,7 @@ impl Names {
         None
     }
 
-    /// What stands between the name that came last and the first of these.
+    /// What is between the name that came last and the first of these.
     fn joint(&self) -> &'static str
         ensures { result.now ≡ joint_of (names_left self.now) }
     {

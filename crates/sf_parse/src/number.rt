@@ -59,7 +59,7 @@ impl NumberReader {
         }
     }
 
-    /// Begins a number with this byte, or tells that none begins with it, and stays as it is.
+    /// Begins a number with this byte, or reports that none begins with it, and stays as it is.
     pub fn start(&mut self, byte: u8) -> bool
         // The new state is the one that the byte begins, or none begins with it.
         ensures start { Starts result (number_start byte) self.new }
@@ -85,7 +85,7 @@ impl NumberReader {
         }
     }
 
-    /// Takes one more byte, or tells that the number can't go on with it and stays as it is.
+    /// Takes one more byte, or reports that the number can't go on with it and stays as it is.
     #[tactic(auto, using(crate::proofs::Numerals::room, crate::proofs::Numerals::whole_fits, crate::proofs::Numerals::next_digit))]
     pub fn step(&mut self, byte: u8) -> bool
         // The byte leads the machine on, or can't and the state stays.

@@ -18,13 +18,13 @@ use std::mem;
 /// Where in parameters the text is.
 #[derive(Clone, Copy)]
 pub enum ParamsPhase {
-    /// Behind a bare item or a parameter.
+    /// After a bare item or a parameter.
     Between,
-    /// Behind a semicolon.
+    /// After a semicolon.
     Opened,
     /// In a key.
     InKey,
-    /// Behind an equals sign.
+    /// After an equals sign.
     Equals,
     /// In a value.
     InValue,
@@ -52,7 +52,7 @@ impl Model for ParamsReader {
 }
 
 impl ParamsReader {
-    /// Behind what the parameters belong to. It takes no memory.
+    /// After what the parameters belong to. It does not allocate.
     pub fn new(context: &Context) -> ParamsReader
         ensures { result ≡ Between [] }
     {
@@ -64,7 +64,7 @@ impl ParamsReader {
         }
     }
 
-    /// Begins anew, behind what the parameters belong to.
+    /// Begins anew, after what the parameters belong to.
     pub fn begin(&mut self, context: &Context)
         ensures { self.new ≡ Between [] }
     {
@@ -72,7 +72,7 @@ impl ParamsReader {
         self.params = Entries::new(context.alloc, &context.seed);
     }
 
-    /// Begins anew, behind the first semicolon.
+    /// Begins anew, after the first semicolon.
     pub fn open(&mut self, context: &Context)
         ensures { self.new ≡ Opened [] }
     {

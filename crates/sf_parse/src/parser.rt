@@ -90,7 +90,7 @@ impl fmt::Debug for Parser {
 
 impl Parser {
     /// A parser for a text of this kind, of at most `max` bytes, in the dialect of RFC 9651. It
-    /// takes no memory.
+    /// does not allocate.
     pub fn new(alloc: Global, seed: &RandomState, kind: Kind, max: u64) -> Parser
         ensures dialect { result.dialect ≡ dialect_is.Rfc9651 }
         ensures kind { result.kind ≡ kind }
@@ -99,14 +99,14 @@ impl Parser {
         ensures took { Took result [] }
         // No field line came before.
         ensures lines { result.after_line ≡ false }
-        // A parser for an Item takes no memory while only spaces, digits and `-.?@` come.
+        // A parser for an Item does not allocate while only spaces, digits and `-.?@` come.
         ensures allocation_free { kind ≡ kind_is.Item → IsAllocationFree result }
     {
         Parser::new_in(alloc, seed, Dialect::Rfc9651, kind, max)
     }
 
-    /// A parser for a text of this kind, of at most `max` bytes, in this dialect. It takes no
-    /// memory.
+    /// A parser for a text of this kind, of at most `max` bytes, in this dialect. It does not
+    /// allocate.
     pub fn new_in(
         alloc: Global,
         seed: &RandomState,
@@ -121,7 +121,7 @@ impl Parser {
         ensures took { Took result [] }
         // No field line came before.
         ensures lines { result.after_line ≡ false }
-        // A parser for an Item takes no memory while only spaces, digits and `-.?@` come.
+        // A parser for an Item does not allocate while only spaces, digits and `-.?@` come.
         ensures allocation_free { kind ≡ kind_is.Item → IsAllocationFree result }
     {
         let context = Context {
@@ -154,7 +154,7 @@ impl Parser {
         requires unrefused { self.old.refusal ≡ None }
         // The prefix lies within the limit.
         requires room { self.old.count + length prefix.now ≤ self.old.max }
-        // Ok took the bytes before the rest; a refusal stands whatever comes behind the prefix.
+        // Ok took the bytes before the rest; a refusal remains, whatever comes after the prefix.
         ensures fed { MatchResult result (λ rest. FedTo self.old self.new prefix.now rest.now)
             (λ e. Fed self.old self.new (Err e) prefix.now) }
         // The count goes up by the bytes before the rest.
@@ -164,7 +164,7 @@ impl Parser {
         // The field can't go on with the first byte of the rest.
         ensures stops { IfOk result (λ rest. FirstIs (Halts (step_of self.new.dialect)
             self.new.state) rest.now) }
-        // While only spaces, digits and `-.?@` of an Item come, none is refused for want of memory.
+        // While only spaces, digits and `-.?@` of an Item come, none is refused as out of memory.
         ensures allocation_free { IsAllocationFree self.old → Every scalar_byte prefix.now
             → TakenAllocationFree self.new result }
     {
@@ -185,10 +185,10 @@ impl Parser {
         // Below the limit the field can't go on with the byte.
         requires stops { self.old.count < self.old.max
             → Halts (step_of self.old.dialect) self.old.state byte }
-        // The refusal stands whatever comes behind the byte.
+        // The refusal remains whatever comes after the byte.
         ensures fed { Fed self.old self.new (Err result) (byte ∷ []) }
         ensures lines { self.new.after_line ≡ self.old.after_line }
-        // It is not for want of memory.
+        // It is not out of memory.
         ensures other { IsOther result }
     {
         if self.count >= self.max {
@@ -207,16 +207,16 @@ impl Parser {
     }
 
     /// Takes the next chunk, or refuses the text: with Syntax at a byte that can't follow, with
-    /// TooLong behind the limit, or with OutOfMemory for want of memory. A parser that refused once
-    /// gives the same refusal to every later call, whatever the chunk.
+    /// TooLong after the limit, or with OutOfMemory if an allocation fails. A parser that refused
+    /// once gives the same refusal to every later call, whatever the chunk.
     pub fn feed(&mut self, chunk: &[u8]) -> Result<(), Refusal>
-        // Ok took the chunk; a refusal stands whatever comes behind it.
+        // Ok took the chunk; a refusal remains, whatever comes after it.
         ensures fed { Fed self.old self.new result chunk.now }
         // A chunk is no field line.
         ensures lines { self.new.after_line ≡ self.old.after_line }
         // A parser that refused gives the same refusal and stays as it is.
         ensures again { IfSome self.old.refusal (λ e. (result ≡ Err e) × (self.new ≡ self.old)) }
-        // While only spaces, digits and `-.?@` of an Item come, none is refused for want of memory.
+        // While only spaces, digits and `-.?@` of an Item come, none is refused as out of memory.
         ensures allocation_free { IsAllocationFree self.old → Every scalar_byte chunk.now
             → KeptAllocationFree self.new result }
     {
@@ -242,7 +242,7 @@ impl Parser {
         self.after_line = true;
     }
 
-    /// Takes the next field line, or refuses the text: as `feed` does of the line, behind a comma
+    /// Takes the next field line, or refuses the text: as `feed` does of the line, after a comma
     /// and a space where a line was fed before, so that the whole text is that of the lines joined
     /// (RFC 9651 section 4.2). A parser that refused once gives the same refusal again.
     ///
@@ -252,14 +252,14 @@ impl Parser {
     /// parser.finish()? // the List a, b, c
     /// ```
     pub fn feed_line(&mut self, line: &[u8]) -> Result<(), Refusal>
-        // Ok took the line, behind a comma and a space where a line came before; a refusal stands
-        // whatever comes behind it.
+        // Ok took the line, after a comma and a space where a line came before; a refusal remains,
+        // whatever comes after it.
         ensures fed { Fed self.old self.new result (in_line self.old.after_line line.now) }
         // Once a line was taken, the next one is joined to it.
         ensures lines { OnOk result (self.new.after_line ≡ true) }
         // A parser that refused gives the same refusal and stays as it is.
         ensures again { IfSome self.old.refusal (λ e. (result ≡ Err e) × (self.new ≡ self.old)) }
-        // A first line of spaces, digits and `-.?@` of an Item is not refused for want of memory.
+        // A first line of spaces, digits and `-.?@` of an Item is not refused as out of memory.
         ensures allocation_free { IsAllocationFree self.old → self.old.after_line ≡ false
             → Every scalar_byte line.now
             → KeptAllocationFree self.new result }
@@ -283,7 +283,7 @@ impl Parser {
         ensures unrefused { IfNone result (self.now.refusal ≡ None) }
         // Without a refusal the text may end.
         ensures whole { IfNone result (may_end self.now.state ≡ true) }
-        // After only spaces, digits and `-.?@` of an Item, the refusal is not for want of memory.
+        // After only spaces, digits and `-.?@` of an Item, the refusal is not out of memory.
         ensures allocation_free { IsAllocationFree self.now → IfSome result IsOther }
     {
         if let Some(refusal) = self.refusal {
@@ -301,13 +301,14 @@ impl Parser {
     }
 
     /// The value of what was taken. It fails with the refusal that a call before gave, with Syntax
-    /// where the text may not end here, and with OutOfMemory for want of memory.
+    /// if the text may not end here, and with OutOfMemory if an allocation fails.
     pub fn finish(self) -> Result<Field, Refusal>
-        // It is the one value of all bytes taken, or Syntax at their end; else memory was wanting.
+        // It is the one value of all bytes taken, or Syntax at their end; otherwise an allocation
+        // failed.
         ensures ended { (s : List ℕ) → Took self s → Finishes self.dialect self.kind s result }
         // A parser that refused gives the same refusal.
         ensures again { IfSome self.refusal (λ e. result ≡ Err e) }
-        // After only spaces, digits and `-.?@` of an Item, the end is not refused for want of memory.
+        // After only spaces, digits and `-.?@` of an Item, the end is not refused as out of memory.
         ensures allocation_free { IsAllocationFree self → NotForMemory result }
     {
         if let Some(refusal) = self.refusal_at_end() {

@@ -17,10 +17,10 @@ use std::alloc::Global;
 use std::hash::RandomState;
 
 /// The value that the text spells, in the dialect of RFC 9651 (section 4.2). A text that spells
-/// none is refused with Syntax, and want of memory with OutOfMemory; it is never TooLong or
-/// ReadFault. Where an Item is asked for, a text of spaces, digits and `-.?@` takes no memory, nor
-/// do at most 16 bytes without `;`, `:` and `%`, such as a short Token or String; nor does an empty
-/// List or Dictionary.
+/// none is refused with Syntax, and a failed allocation with OutOfMemory; it is never TooLong or
+/// ReadFault. Where an Item is asked for, a text of spaces, digits and `-.?@` does not allocate,
+/// nor do at most 16 bytes without `;`, `:` and `%`, such as a short Token or String; nor does an
+/// empty List or Dictionary.
 ///
 /// ```
 /// let field = parse_text(alloc, &seed, Kind::Dict, b"u=1, i")?;
@@ -31,9 +31,10 @@ pub fn parse_text(
     kind: Kind,
     text: &[u8],
 ) -> Result<Field, Refusal>
-    // The text spells just this value, or this is its exact refusal; else memory was wanting.
+    // The text spells just this value, or this is its exact refusal; otherwise an allocation
+    // failed.
     ensures parses { Parses Rfc9651 kind text.now result }
-    // Of an Item, spaces, digits and `-.?@` are not refused for want of memory.
+    // Of an Item, spaces, digits and `-.?@` are not refused as out of memory.
     ensures allocation_free { kind ≡ kind_is.Item → Every scalar_byte text.now
         → NotForMemory result }
     // Nor are short Tokens and Strings, and empty Lists and Dictionaries.
@@ -54,9 +55,10 @@ pub fn parse_text_in(
     kind: Kind,
     text: &[u8],
 ) -> Result<Field, Refusal>
-    // The text spells just this value, or this is its exact refusal; else memory was wanting.
+    // The text spells just this value, or this is its exact refusal; otherwise an allocation
+    // failed.
     ensures parses { Parses dialect kind text.now result }
-    // Of an Item, spaces, digits and `-.?@` are not refused for want of memory.
+    // Of an Item, spaces, digits and `-.?@` are not refused as out of memory.
     ensures allocation_free { kind ≡ kind_is.Item → Every scalar_byte text.now
         → NotForMemory result }
     // Nor are short Tokens and Strings, and empty Lists and Dictionaries.
@@ -75,17 +77,17 @@ pub fn parse_text_in(
 }
 
 /// The Item that the text spells, in the dialect of RFC 9651 (section 4.2), as [`parse_text`] gives
-/// it where an Item is asked for, and refused as it refuses. A text of spaces, digits and `-.?@` takes
-/// no memory.
+/// it where an Item is asked for, and refused as it refuses. A text of spaces, digits and `-.?@`
+/// does not allocate.
 ///
 /// ```
 /// let item = parse_item(alloc, &seed, b"a;q=1")?;
 /// item.param(b"q")?.as_integer() // Some(1)
 /// ```
 pub fn parse_item(alloc: Global, seed: &RandomState, text: &[u8]) -> Result<Item, Refusal>
-    // The text spells just this Item, or this is its exact refusal; else memory was wanting.
+    // The text spells just this Item, or this is its exact refusal; otherwise an allocation failed.
     ensures parses { Makes field_is.Item (Parses Rfc9651 kind_is.Item text.now) result }
-    // Spaces, digits and `-.?@` are not refused for want of memory.
+    // Spaces, digits and `-.?@` are not refused as out of memory.
     ensures allocation_free { Every scalar_byte text.now → IfErr result IsOther }
     // Nor are short Tokens and Strings.
     ensures in_place { TakesNoMemory kind_is.Item text.now → IfErr result IsOther }
@@ -98,16 +100,16 @@ pub fn parse_item(alloc: Global, seed: &RandomState, text: &[u8]) -> Result<Item
 }
 
 /// The List that the text spells, in the dialect of RFC 9651 (section 4.2), as [`parse_text`] gives
-/// it where a List is asked for, and refused as it refuses: with Syntax, or for want of memory.
+/// it where a List is asked for, and refused as it refuses: with Syntax, or as out of memory.
 ///
 /// ```
 /// let list = parse_list(alloc, &seed, b"a, (b c)")?;
 /// list.members.len() // 2
 /// ```
 pub fn parse_list(alloc: Global, seed: &RandomState, text: &[u8]) -> Result<List, Refusal>
-    // The text spells just this List, or this is its exact refusal; else memory was wanting.
+    // The text spells just this List, or this is its exact refusal; otherwise an allocation failed.
     ensures parses { Makes field_is.List (Parses Rfc9651 kind_is.List text.now) result }
-    // An empty List is not refused for want of memory.
+    // An empty List is not refused as out of memory.
     ensures in_place { TakesNoMemory kind_is.List text.now → IfErr result IsOther }
 {
     match parse_text(alloc, seed, Kind::List, text)? {
@@ -118,7 +120,7 @@ pub fn parse_list(alloc: Global, seed: &RandomState, text: &[u8]) -> Result<List
 }
 
 /// The Dictionary that the text spells, in the dialect of RFC 9651 (section 4.2), as [`parse_text`]
-/// gives it where a Dictionary is asked for, and refused as it refuses: with Syntax, or for want of
+/// gives it where a Dictionary is asked for, and refused as it refuses: with Syntax, or as out of
 /// memory.
 ///
 /// ```
@@ -126,9 +128,10 @@ pub fn parse_list(alloc: Global, seed: &RandomState, text: &[u8]) -> Result<List
 /// dict.get(b"u") // Some(Member::Item(1))
 /// ```
 pub fn parse_dict(alloc: Global, seed: &RandomState, text: &[u8]) -> Result<Dict, Refusal>
-    // The text spells just this Dictionary, or this is its exact refusal; else memory was wanting.
+    // The text spells just this Dictionary, or this is its exact refusal; otherwise an allocation
+    // failed.
     ensures parses { Makes field_is.Dict (Parses Rfc9651 kind_is.Dict text.now) result }
-    // An empty Dictionary is not refused for want of memory.
+    // An empty Dictionary is not refused as out of memory.
     ensures in_place { TakesNoMemory kind_is.Dict text.now → IfErr result IsOther }
 {
     match parse_text(alloc, seed, Kind::Dict, text)? {

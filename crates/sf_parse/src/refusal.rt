@@ -21,13 +21,13 @@ use std::fmt;
 /// ```
 #[derive(Clone, Copy, Debug, PartialEq, Eq)]
 pub enum Refusal {
-    /// A growth was refused for want of memory.
+    /// A growth was refused as out of memory.
     OutOfMemory,
     /// The text spells no value (RFC 9651 section 4.2).
     Syntax {
         /// The length of the longest prefix that some text of the kind begins with.
         place: u64,
-        /// The byte at that place, or None where the text ended.
+        /// The byte at that place, or None if the text ended.
         found: Option<u8>,
         /// The bytes that could have followed that prefix: bit b is set exactly if byte b could. It
         /// is never 0. [`crate::runs_of`] lists them.
@@ -47,8 +47,7 @@ pub enum Refusal {
     },
 }
 
-/// The byte that was found, shown as `0x32 '2'`, or without the character where it is not
-/// printable.
+/// The byte that was found, shown as `0x32 '2'`, or without the character if it is not printable.
 #[derive(Clone, Copy, Drop)]
 struct Found {
     byte: u8,
@@ -70,8 +69,8 @@ impl fmt::Display for Found {
 /// In words, as ``byte 0x32 '2' at place 2, expected a space or the end``. Of the bytes that could
 /// have followed, each class that is there whole is named, the wider ones first (RFC 9651 sections
 /// 3.1.2, 3.3.3 and 3.3.4, RFC 4648 section 4, letters and digits), and then each byte that is
-/// left: `-` stands between backquotes, a space, a tab, a quote and a backquote are called so, and
-/// any other is hexadecimal. Places and lengths are decimal. It takes no memory.
+/// left: `-` is between backquotes, a space, a tab, a quote and a backquote are called so, and any
+/// other is hexadecimal. Places and lengths are decimal. It does not allocate.
 impl fmt::Display for Refusal {
     ghost output = { λ refusal. Some (refusal_text refusal) };
 

@@ -163,8 +163,8 @@ fn all_of<C: ByteClass>(bytes: &[u8]) -> bool
     all
 }
 
-/// The bytes of the class that the chunk begins with, and the rest. Behind the first 16 bytes
-/// blocks of 16 are looked at.
+/// The bytes of the class that the chunk begins with, and the rest. After the first 16 bytes blocks
+/// of 16 are looked at.
 #[inline]
 pub fn long_prefix<C: ByteClass>(chunk: &[u8]) -> (&[u8], &[u8])
     // Together they are the chunk.

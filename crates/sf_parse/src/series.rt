@@ -31,7 +31,7 @@ pub trait SeriesMember<G>: Level {
     // what was given with this member, where it may end
     ghost added: { Self → G → Option G };
 
-    /// Where no member is whole yet. It takes no memory.
+    /// Where no member is whole yet. It does not allocate.
     fn none(context: &Context) -> G
         ensures { result ≡ none };
 
@@ -39,12 +39,12 @@ pub trait SeriesMember<G>: Level {
     fn first_bytes(dialect: Dialect) -> u128
         ensures { Marks result (begins dialect) };
 
-    /// Begins a member with this byte, or tells that none begins with it.
+    /// Begins a member with this byte, or reports that none begins with it.
     fn start(&mut self, context: &Context, byte: u8) -> Result<bool, OutOfMemory>
         // The new state is the one that the byte begins, or none begins with it.
         ensures { IfOk result (λ took. Starts took (first context.now.dialect byte) self.new) };
 
-    /// Adds the member, if it is whole, or tells that it is not, and changes nothing.
+    /// Adds the member, if it is whole, or reports that it is not, and changes nothing.
     fn end(&mut self, context: &Context, given: &mut G) -> Result<bool, OutOfMemory>
         // The member was added to what was given, or may not end and nothing was added.
         ensures ended { IfOk result (λ ended. Ends ended (added self.old given.old) given.old
@@ -60,9 +60,9 @@ pub enum SeriesPhase {
     Begin,
     /// In a member.
     InMember,
-    /// Behind a member.
+    /// After a member.
     Gap,
-    /// Behind a comma.
+    /// After a comma.
     Comma,
 }
 
@@ -100,7 +100,7 @@ impl<P: SeriesMember<G>, G: Drop> SeriesReader<P, G> {
     pub fn finish(&mut self, context: &Context) -> Result<Option<G>, OutOfMemory>
         // It is what the members gave, if they may end.
         ensures value { IfOk result (λ given. given ≡ series_end P.added P.none self.old) }
-        // Before the first member the end takes no memory.
+        // Before the first member the end does not allocate.
         ensures allocation_free { SeriesFree self.old [] → IsOk result }
     {
         match self.phase {

@@ -40,7 +40,7 @@ pub const LOWER_HEX: u128 = DIGITS | 0x3f << b'a';
 /// The digits of a Boolean (RFC 9651 section 3.3.6).
 pub const BITS: u128 = 3 << b'0';
 
-/// The bytes of strings (section 3.3.3), and those that a backslash stands before.
+/// The bytes of strings (section 3.3.3), and those that a backslash is before.
 pub const VISIBLE: u128 = (1 << 127) - (1 << b' ');
 
 pub const ESCAPED: u128 = QUOTE | 1 << b'\\';
@@ -77,7 +77,7 @@ pub const BARE_8941: u128 = MINUS | DIGITS | QUOTE | TOKEN_START | 1 << b'?' | C
 
 pub const BARE_9651: u128 = BARE_8941 | 1 << b'@' | PERCENT;
 
-/// The set where this holds, else no byte.
+/// The set where this holds, otherwise no byte.
 #[inline]
 pub fn set_if(holds: bool, set: u128) -> u128
     ensures { result ≡ (if holds then set else 0) }

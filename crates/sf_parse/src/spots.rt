@@ -1,4 +1,4 @@
-//! Where in the lines of a field a refusal stands.
+//! Where in the lines of a field a refusal is.
 ghost use Rattle.std.specs.Prelude.{◌≡◌, [], ◌∷◌, Some, replicate};
 ghost use Rattle.std.specs.Char.{encode_utf8};
 ghost use Rattle.sf_value.specs.Ascii.{space};
@@ -14,15 +14,15 @@ use std::fmt;
 pub struct Spot<'a> {
     /// Which line of the field it is. The first is line 1.
     pub line: usize,
-    /// How many bytes of the line stand before the place: from 0 to the length of the line.
+    /// How many bytes of the line are before the place: from 0 to the length of the line.
     pub place: usize,
     /// The line itself.
     pub text: &'a [u8],
 }
 
-/// A refusal and the field line that it stands in, shown together: the refusal in words, the number
-/// of the line and the place in it, the line, and a caret under that place. Each byte of the line
-/// is one character, a question mark where it is not printable.
+/// A refusal and the field line that it is in, shown together: the refusal in words, the number of
+/// the line and the place in it, the line, and a caret under that place. Each byte of the line is
+/// one character, a question mark if it is not printable.
 ///
 /// ```
 /// println!(rt; "{}", refusal.in_text(b"1 2"))?;
@@ -35,15 +35,15 @@ pub struct Spot<'a> {
 pub struct InLine<'a> {
     /// Why the text was refused.
     pub refusal: Refusal,
-    /// Where it stands. None where the refusal has no place in the text, or there is no line: then
-    /// the words are shown alone.
+    /// Where it is. None if the refusal has no place in the text, or there is no line: then the
+    /// words are shown alone.
     pub spot: Option<Spot<'a>>,
 }
 
 impl Refusal {
     /// The refusal in the lines that were refused, of which one is shown. They are joined by a
     /// comma and a space (RFC 9651 section 4.2), and a place that falls on these belongs to the end
-    /// of the line before them. It takes no memory, nor does showing it.
+    /// of the line before them. It does not allocate, nor does showing it.
     ///
     /// ```
     /// if let Err(refusal) = parse_lines(alloc, &seed, Kind::List, &lines) {
@@ -52,7 +52,7 @@ impl Refusal {
     /// ```
     pub fn in_lines<'a>(&self, lines: &'a [Blob]) -> InLine<'a>
         ensures refusal { result.refusal ≡ self.now }
-        // The spot is where the refusal stands in the lines.
+        // The spot is where the refusal is in the lines.
         ensures spot { line_place result.spot ≡ stands_at self.now lines.now }
     {
         let spot = match *self {
@@ -74,7 +74,7 @@ impl Refusal {
     /// ```
     pub fn in_text<'a>(&self, text: &'a [u8]) -> InLine<'a>
         ensures refusal { result.refusal ≡ self.now }
-        // The spot is where the refusal stands in the text as the only line.
+        // The spot is where the refusal is in the text as the only line.
         ensures spot { line_place result.spot ≡ stands_at self.now (text.now ∷ []) }
     {
         let spot = match *self {
@@ -142,9 +142,9 @@ impl fmt::Display for InLine<'_> {
     }
 }
 
-/// The spot of a place of the joined text, counted in bytes from 0; None where there is no line.
+/// The spot of a place of the joined text, counted in bytes from 0; None if there is no line.
 fn find_spot<'a>(lines: &'a [Blob], place: u64) -> Option<Spot<'a>>
-    // It is where the place of the joined lines stands in them; the first is line 1.
+    // It is where the place of the joined lines is in them; the first is line 1.
     ensures { line_place result ≡ place_in 1 lines.now place }
 {
     let mut left = lines;

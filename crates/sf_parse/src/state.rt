@@ -25,7 +25,7 @@ pub enum FieldState {
 }
 
 impl FieldState {
-    /// Before the first byte of a field of this kind. It takes no memory.
+    /// Before the first byte of a field of this kind. It does not allocate.
     #[inline(never)]
     pub fn begin(context: &Context, kind: Kind) -> FieldState
         // Its state is the first one of the kind.
@@ -45,7 +45,7 @@ impl FieldState {
         // The bytes before the rest lead to the new state, which can't take the first of the rest.
         ensures prefix { IfOk result (λ rest. LongestPrefix (step_of context.now.dialect)
             (state_of self.old) chunk.now rest.now (state_of self.new)) }
-        // In an allocation-free state of an Item spaces, digits and `-.?@` take no memory.
+        // In an allocation-free state of an Item spaces, digits and `-.?@` do not allocate.
         ensures allocation_free { AllocationFreeState (state_of self.old)
             → Every scalar_byte chunk.now → IsOk result }
     {
@@ -67,7 +67,7 @@ impl FieldState {
         // The bytes before the rest lead to the new state, which can't take the first of the rest.
         ensures prefix { IfOk result (λ rest. LongestPrefix (step_of context.now.dialect)
             (state_of self.old) chunk.now rest.now (state_of self.new)) }
-        // In an allocation-free state of an Item spaces, digits and `-.?@` take no memory.
+        // In an allocation-free state of an Item spaces, digits and `-.?@` do not allocate.
         ensures allocation_free { AllocationFreeState (state_of self.old)
             → Every scalar_byte chunk.now → IsOk result }
     {
@@ -78,13 +78,13 @@ impl FieldState {
         }
     }
 
-    /// Takes one byte, or tells that the field can't go on with it.
+    /// Takes one byte, or reports that the field can't go on with it.
     #[inline(never)]
     pub fn push(&mut self, context: &Context, byte: u8) -> Result<bool, OutOfMemory>
         // A byte that is taken leads the machine on; with any other it can't go on, and stays.
         ensures prefix { IfOk result (λ took. LongestPrefix (step_of context.now.dialect)
             (state_of self.old) (byte ∷ []) (unless took byte) (state_of self.new)) }
-        // In an allocation-free state of an Item spaces, digits and `-.?@` take no memory.
+        // In an allocation-free state of an Item spaces, digits and `-.?@` do not allocate.
         ensures allocation_free { AllocationFreeState (state_of self.old) → scalar_byte byte ≡ true
             → IsOk result }
     {
@@ -124,7 +124,7 @@ impl FieldState {
     pub fn finish(&mut self, context: &Context) -> Result<Option<Field>, OutOfMemory>
         // The field is the value that the state has at the end, if it has one.
         ensures value { IfOk result (λ field. field ≡ finish_of (state_of self.old)) }
-        // In an allocation-free state of an Item the end takes no memory.
+        // In an allocation-free state of an Item the end does not allocate.
         ensures allocation_free { AllocationFreeState (state_of self.old) → IsOk result }
     {
         match self {

@@ -14,19 +14,19 @@ use crate::runs::{Unescaped, long_prefix};
 use crate::sets::{ESCAPED, VISIBLE};
 use sf_value::{OutOfMemory, ShortBytes, is_visible};
 
-/// Where in a string the text is, behind its opening quote.
+/// Where in a string the text is, after its opening quote.
 #[derive(Clone, Copy)]
 pub enum TextPhase {
     /// Between the quotes.
     Inside,
-    /// Behind a backslash.
+    /// After a backslash.
     Escaped,
-    /// Behind the closing quote.
+    /// After the closing quote.
     Closed,
 }
 
 impl TextPhase {
-    /// Takes one more byte, or tells that the string can't go on with it and stays as it is. The
+    /// Takes one more byte, or reports that the string can't go on with it and stays as it is. The
     /// bytes of the string so far are `text`.
     #[tactic(auto, using(sf_value::proofs::Words::every_push))]
     pub fn step(&mut self, text: &mut ShortBytes, byte: u8) -> Result<bool, OutOfMemory>
@@ -35,7 +35,7 @@ impl TextPhase {
             (text_of self.old text.old) (text_of self.new text.new)) }
         // The bytes so far stay visible ones.
         ensures visible { Every is_visible_byte text.old → Every is_visible_byte text.new }
-        // Where it fits in place with the byte, none is wanting.
+        // Where it fits in place with the byte, no allocation fails.
         ensures in_place { FitsInPlace (text.old ++ byte ∷ []) → IsOk result }
     {
         match *self {
@@ -77,7 +77,7 @@ impl TextPhase {
             rest.now (text_of self text.new)) }
         // The bytes so far stay visible ones.
         ensures visible { Every is_visible_byte text.old → Every is_visible_byte text.new }
-        // Where it fits in place with the chunk, none is wanting.
+        // Where it fits in place with the chunk, no allocation fails.
         ensures in_place { FitsInPlace (text.old ++ chunk.now) → IsOk result }
     {
         match self {

@@ -98,7 +98,7 @@ canon_integer (negsuc n) h = let s = small (suc n) 0 h in (
   ap (signed true) (sym (numeral (suc n) s).value),
 )
 
--- the digits behind the point
+-- the digits after the point
 record Fraction (f : ℕ) (w : List ℕ) : Type 0 where
   digits : AreDigits 1 3 0 w
   value : value_from 0 w * 10 ^ (3 - length w) ≡ f

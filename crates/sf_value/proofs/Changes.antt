@@ -137,7 +137,7 @@ module _ {V : Type 0} where
   lent-within None (p ∷ ps) zero h e = absurd cc
   lent-within None (p ∷ ps) (suc i) h e = lent-within None ps i (omega (arith, h)) e
 
-  -- and one fewer is left behind it
+  -- and one fewer is left after it
   pub fewer-left : (ps : Pairs V) (i : ℕ) (w : V) → i < length ps
       → length (set_value_at ps i w) - (i + 1) < length ps - i
   fewer-left ps i w h = omega (arith, h, length-set_value_at ps i w)

@@ -17,7 +17,7 @@ use Rattle.sf_value.proofs.Settling.{distinct-without}
 use Rattle.sf_value.proofs.SlotLists.{place, has_key, place_missing, Searched}
 
 module _ {V : Type 0} (k : List ℕ) where
-  -- behind the pair that has the key there is none
+  -- after the pair that has the key there is none
   without-behind : (q : List ℕ) (ps : Pairs V) → IsAbsent q ps → bytes_eq k q ≡ true
       → ps ≡ without k ps
   without-behind q ps h t =

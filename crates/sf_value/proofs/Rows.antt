@@ -1,5 +1,5 @@
--- Worked values and texts, computed by the definitions. What stands on the right of each equation
--- was written by hand, from the RFCs.
+-- Worked values and texts, computed by the definitions. What is on the right of each equation was
+-- written by hand, from the RFCs.
 use Rattle.std.proofs.Common.{◌≡◌, ℕ, pos, negsuc, true, false, List, [], ◌∷◌, ◌++◌, Option}
 use Rattle.std.proofs.Common.{Some, None, refl}
 use Rattle.std.specs.Prelude.{codes, map}

@@ -1,4 +1,4 @@
--- Lemmas on entries that stand in a vector.
+-- Lemmas on entries that are in a vector.
 use Rattle.std.proofs.Common.{◌≡◌, ℕ, suc, ◌+◌, Bool, true, false, cond, List, [], ◌∷◌, ◌++◌}
 use Rattle.std.proofs.Common.{Option, Some, None, refl, sym, ap, ◌∙◌, subst, get_or}
 use Rattle.std.proofs.Common.{arith}
@@ -50,7 +50,7 @@ module _ {V : Type 0} where
   abbrev pub has_key : List ℕ → Slot V → Bool
   has_key k s = bytes_eq k s.key
 
-  -- what is known of the place of a key, at which the slot d stands
+  -- what is known of the place of a key, at which the slot d is
   record IsPlace (k : List ℕ) (ss : List (Slot V)) (i : ℕ) (d : Slot V) : Type 0 where
     pub value : Some (get_or ss i d).value ≡ value_at k (slot_pairs ss)
     pub put : (v : V) (e : Slot V) → e.key ≡ (get_or ss i d).key → e.value ≡ v

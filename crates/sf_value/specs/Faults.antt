@@ -37,7 +37,7 @@ IsStringFault bs Empty = ⊥
 IsStringFault bs (BadByte place) = bad_place is_visible bs ≡ Some place
 IsStringFault bs OutOfMemory = Every is_visible bs
 
--- it is not for want of memory
+-- it is not out of memory
 abbrev pub IsOfBytes : TextFault → Type 0
 IsOfBytes Empty = ⊤
 IsOfBytes (BadByte place) = ⊤

@@ -1,4 +1,4 @@
--- Bytes that a value keeps in place, which take no memory.
+-- Bytes that a value keeps in place, which do not allocate.
 use Rattle.std.specs.Prelude.{ℕ, ◌≤◌, List, length}
 
 -- at most 16 bytes

@@ -1,4 +1,4 @@
--- The laws of the definitions that know no machine. Each stands as the contract of a function in
+-- The laws of the definitions that know no machine. Each is the contract of a function in
 -- `src/laws.rt`.
 use Rattle.std.specs.Prelude.{◌≡◌, ℕ, ◌*◌, ◌≤◌, ◌↔◌, List, [], ◌++◌, length}
 use Rattle.std.specs.Str.{IsUtf8}

@@ -67,7 +67,7 @@ module _ {V : Type 0} where
   abbrev pub values_left : IterMut V → ℕ
   values_left values = length values.entries.now - values.index
 
-  -- that value is w, and the one behind it comes next
+  -- that value is w, and the one after it comes next
   abbrev pub with_lent : IterMut V → V → IterMut V
   with_lent values w = record {
     entries = record values.entries { now = set_value_at values.entries.now values.index w };

@@ -27,11 +27,11 @@ impl Model for Blob {
 }
 
 impl Blob {
-    /// The byte sequence of these bytes, which may be none. The only refusal is for want of memory.
-    /// Up to 16 bytes take none.
+    /// The byte sequence of these bytes, which may be none. It fails only if an allocation fails.
+    /// Up to 16 bytes do not allocate.
     pub fn new(alloc: Global, bytes: &[u8]) -> Result<Blob, OutOfMemory>
         ensures blob { IfOk result (λ blob. blob ≡ bytes.now) }
-        // At most 16 bytes are not refused for want of memory.
+        // At most 16 bytes are not refused as out of memory.
         ensures in_place { FitsInPlace bytes.now → IsOk result }
     {
         Ok(Blob {
@@ -39,7 +39,7 @@ impl Blob {
         })
     }
 
-    /// The byte sequence of these bytes, which may be none. It takes no memory.
+    /// The byte sequence of these bytes, which may be none. It does not allocate.
     #[inline]
     pub fn from_bytes(bytes: ShortBytes) -> Blob
         ensures { result ≡ bytes }
@@ -47,17 +47,17 @@ impl Blob {
         Blob { bytes }
     }
 
-    /// Another byte sequence, equal to this one. The only refusal is for want of memory. Up to 16
-    /// bytes take none.
+    /// Another byte sequence, equal to this one. It fails only if an allocation fails. Up to 16
+    /// bytes do not allocate.
     pub fn copy(&self, alloc: Global) -> Result<Blob, OutOfMemory>
         ensures copied { IfOk result (λ copy. copy ≡ self.now) }
-        // At most 16 bytes are not refused for want of memory.
+        // At most 16 bytes are not refused as out of memory.
         ensures in_place { FitsInPlace self.now → IsOk result }
     {
         Blob::new(alloc, self.as_bytes())
     }
 
-    /// Its bytes. It takes no memory.
+    /// Its bytes. It does not allocate.
     pub fn as_bytes(&self) -> &[u8]
         ensures bytes { result.now ≡ self.now }
         ensures byte { Every is_byte self.now }
@@ -65,7 +65,7 @@ impl Blob {
         self.bytes.as_bytes()
     }
 
-    /// Whether it has no byte. It takes no memory.
+    /// Whether it has no byte. It does not allocate.
     pub fn is_empty(&self) -> bool
         ensures { IsTrue result ↔ (self.now ≡ []) }
     {

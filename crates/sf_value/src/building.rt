@@ -13,7 +13,7 @@ use std::alloc::Global;
 use std::hash::RandomState;
 
 impl Item {
-    /// The Item of a bare item, with no parameters. It takes no memory. The seed is that of its
+    /// The Item of a bare item, with no parameters. It does not allocate. The seed is that of its
     /// parameters: see [`Entries::new`].
     ///
     /// ```
@@ -27,7 +27,7 @@ impl Item {
     }
 
     /// The Item with one more parameter. The value of a key that is there is replaced in its place,
-    /// which takes no memory.
+    /// which does not allocate.
     ///
     /// ```
     /// let item = Item::new(alloc, &seed, Bare::Token(Token::new(alloc, b"a")?))
@@ -47,7 +47,7 @@ impl Item {
 }
 
 impl Inner {
-    /// The Inner List with no Items and no parameters. It takes no memory.
+    /// The Inner List with no Items and no parameters. It does not allocate.
     ///
     /// ```
     /// let inner = Inner::new(alloc, &seed); // ()
@@ -62,7 +62,7 @@ impl Inner {
         }
     }
 
-    /// The Inner List with one more Item at its end. The only refusal is for want of memory.
+    /// The Inner List with one more Item at its end. It fails only if an allocation fails.
     ///
     /// ```
     /// let inner = Inner::new(alloc, &seed).with_item(first)?.with_item(second)?;
@@ -76,7 +76,7 @@ impl Inner {
     }
 
     /// The Inner List with one more parameter of the whole. The value of a key that is there is
-    /// replaced in its place, which takes no memory.
+    /// replaced in its place, which does not allocate.
     pub fn with_param(self, key: Key, value: Bare) -> Result<Inner, OutOfMemory>
         // a key that is there keeps its place and is overwritten; a new one goes last
         ensures new { IfOk result (λ more. more ≡ inner self.items (put self.params key value)) }
@@ -90,7 +90,7 @@ impl Inner {
 }
 
 impl List {
-    /// The List with no members. It takes no memory.
+    /// The List with no members. It does not allocate.
     pub fn new(alloc: Global) -> List
         ensures { result ≡ record { members = [] } }
     {
@@ -99,7 +99,7 @@ impl List {
         }
     }
 
-    /// The List with one more member at its end. The only refusal is for want of memory.
+    /// The List with one more member at its end. It fails only if an allocation fails.
     ///
     /// ```
     /// let list = List::new(alloc).with(Member::Item(item))?.with(Member::Inner(inner))?;
@@ -114,7 +114,7 @@ impl List {
 }
 
 impl Dict {
-    /// The Dictionary with no members. It takes no memory. The seed is that of its members: see
+    /// The Dictionary with no members. It does not allocate. The seed is that of its members: see
     /// [`Entries::new`].
     pub fn new(alloc: Global, seed: &RandomState) -> Dict
         ensures { result ≡ record { members = [] } }
@@ -125,7 +125,7 @@ impl Dict {
     }
 
     /// The Dictionary with one more member. The value of a key that is there is replaced in its
-    /// place, which takes no memory.
+    /// place, which does not allocate.
     ///
     /// ```
     /// let dict = Dict::new(alloc, &seed).with(Key::new(alloc, b"u")?, Member::Item(item))?;

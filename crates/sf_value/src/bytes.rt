@@ -1,4 +1,4 @@
-//! Bytes of which the first few stand in place.
+//! Bytes of which the first few are in place.
 ghost use Rattle.std.specs.Prelude.{◌≡◌, ℕ, List, [], ◌∷◌, ◌++◌, ◌↔◌, IsTrue, IsOk, IfOk};
 ghost use Rattle.std.specs.Prelude.{MatchResult};
 ghost use Rattle.sf_value.specs.Grammar.Words.{Every};
@@ -10,12 +10,12 @@ use smallvec::SmallVec;
 use std::alloc::Global;
 use std::marker::Model;
 
-/// How many bytes stand in place.
+/// How many bytes are in place.
 const ROOM: usize = 16;
 
-/// Bytes that are gathered: up to 16 stand in the value itself and take no memory, more than that
-/// stand in memory of their own. The keys, strings, tokens, byte sequences and display strings of
-/// values stand on it. Contracts see the list of the bytes.
+/// Bytes that are gathered: up to 16 are in the value itself and do not allocate, more than that
+/// are in memory of their own. The keys, strings, tokens, byte sequences and display strings of
+/// values are on it. Contracts see the list of the bytes.
 ///
 /// ```
 /// let mut bytes = ShortBytes::new(alloc);
@@ -39,7 +39,7 @@ impl Model for ShortBytes {
 }
 
 impl ShortBytes {
-    /// No bytes. It takes no memory.
+    /// No bytes. It does not allocate.
     #[inline]
     pub fn new(alloc: Global) -> ShortBytes
         ensures { result ≡ [] }
@@ -49,7 +49,7 @@ impl ShortBytes {
         }
     }
 
-    /// One byte. It takes no memory.
+    /// One byte. It does not allocate.
     #[inline]
     pub fn one(alloc: Global, byte: u8) -> ShortBytes
         ensures { result ≡ byte ∷ [] }
@@ -59,11 +59,11 @@ impl ShortBytes {
         ShortBytes { bytes }
     }
 
-    /// These bytes. Up to 16 take no memory. The only refusal is for want of memory.
+    /// These bytes. Up to 16 do not allocate. It fails only if an allocation fails.
     #[inline]
     pub fn from_slice(alloc: Global, bytes: &[u8]) -> Result<ShortBytes, OutOfMemory>
         ensures bytes { IfOk result (λ short. short ≡ bytes.now) }
-        // At most 16 bytes are not refused for want of memory.
+        // At most 16 bytes are not refused as out of memory.
         ensures in_place { FitsInPlace bytes.now → IsOk result }
     {
         Ok(ShortBytes {
@@ -71,31 +71,33 @@ impl ShortBytes {
         })
     }
 
-    /// Adds a byte at the end. For want of memory the bytes stay as they were. Up to 16 take none.
+    /// Adds a byte at the end. If an allocation fails, the bytes stay as they were. Up to 16 bytes
+    /// do not allocate.
     #[inline]
     pub fn push(&mut self, byte: u8) -> Result<(), OutOfMemory>
         ensures bytes { MatchResult result (λ _. self.new ≡ self.old ++ byte ∷ [])
             (λ _. self.new ≡ self.old) }
-        // At most 16 bytes are not refused for want of memory.
+        // At most 16 bytes are not refused as out of memory.
         ensures in_place { FitsInPlace (self.old ++ byte ∷ []) → IsOk result }
     {
         self.bytes.push(byte)?;
         Ok(())
     }
 
-    /// Adds bytes at the end. For want of memory the bytes stay as they were. Up to 16 take none.
+    /// Adds bytes at the end. If an allocation fails, the bytes stay as they were. Up to 16 bytes
+    /// do not allocate.
     #[inline]
     pub fn extend(&mut self, run: &[u8]) -> Result<(), OutOfMemory>
         ensures bytes { MatchResult result (λ _. self.new ≡ self.old ++ run.now)
             (λ _. self.new ≡ self.old) }
-        // At most 16 bytes are not refused for want of memory.
+        // At most 16 bytes are not refused as out of memory.
         ensures in_place { FitsInPlace (self.old ++ run.now) → IsOk result }
     {
         self.bytes.extend_from_slice(run)?;
         Ok(())
     }
 
-    /// The bytes. It takes no memory.
+    /// The bytes. It does not allocate.
     #[inline]
     pub fn as_bytes(&self) -> &[u8]
         ensures bytes { result.now ≡ self.now }
@@ -106,7 +108,7 @@ impl ShortBytes {
         bytes
     }
 
-    /// Whether there is no byte. It takes no memory.
+    /// Whether there is no byte. It does not allocate.
     #[inline]
     pub fn is_empty(&self) -> bool
         ensures { IsTrue result ↔ (self.now ≡ []) }
@@ -123,7 +125,7 @@ impl ShortBytes {
         }
     }
 
-    /// The bytes as a vector, or as they were for want of memory.
+    /// The bytes as a vector, or as they were if an allocation fails.
     pub(crate) fn into_vec(self) -> Result<Vec<u8>, ShortBytes>
         ensures { MatchResult result (λ v. v.items ≡ self) (λ b. b ≡ self) }
     {
@@ -137,8 +139,8 @@ impl ShortBytes {
     }
 }
 
-// Written out, so that proofs about what holds such bytes don't look into them where they are let
-// go.
+// Written out, so that proofs about what holds such bytes don't look into them where they are
+// dropped.
 impl Drop for ShortBytes {
     fn drop(self) {
         let ShortBytes { bytes: _ } = self;

@@ -14,8 +14,8 @@ pub struct Failed;
 
 /// What bytes come from.
 ///
-/// A device of your own is seen by contracts through its `state`: the bytes still to come, or that
-/// it does not tell them; how many bytes it gave; how many calls answered its end; how many calls
+/// A custom device is seen by contracts through its `state`: the bytes still to come, or that it
+/// does not show them; how many bytes it gave; how many calls returned its end; how many calls
 /// failed. The counts stay at 2^64 - 1 once they are there.
 ///
 /// ```
@@ -23,13 +23,13 @@ pub struct Failed;
 /// let count = source.pull(&mut block)?; // so many stand at the start; 0 at the end
 /// ```
 pub trait Source {
-    // The bytes still to come, where it tells them, how many bytes it gave, how often it answered
-    // its end, and how many calls failed.
+    // The bytes still to come, if it shows them, how many bytes it gave, how often it returned its
+    // end, and how many calls failed.
     ghost state: { Self → SourceState };
 
-    /// Puts the next bytes at the start of the block, and answers how many. It answers 0 into a
+    /// Puts the next bytes at the start of the block, and returns how many. It returns 0 into a
     /// block that is not empty only where no byte is still to come. Into an empty block it gives
-    /// nothing, and does not fail. After `Failed` no byte was given, and the source may tell its
+    /// nothing, and does not fail. After `Failed` no byte was given, and the source may show its
     /// bytes no longer.
     fn pull(&mut self, block: &mut [u8]) -> Result<usize, Failed>
         ensures { Pulls (state self.old) (state self.new) result block.new };
@@ -37,23 +37,23 @@ pub trait Source {
 
 /// What bytes go to.
 ///
-/// A device of your own is seen by contracts through its `state`: the bytes taken, or that it does
-/// not tell them; how many calls failed, a count that stays at 2^64 - 1 once it is there. A device
-/// that does not tell its bytes may say by `send_gives` how a call that took some changed it.
+/// A custom device is seen by contracts through its `state`: the bytes taken, or that it does not
+/// show them; how many calls failed, a count that stays at 2^64 - 1 once it is there. A device that
+/// does not show its bytes may say by `send_gives` how a call that took some changed it.
 ///
 /// ```
 /// let count = sink.send(b"a, b")?; // how many of the four bytes went out
 /// ```
 pub trait Sink {
-    // The bytes taken, where it tells them, and how many calls failed.
+    // The bytes taken, if it shows them, and how many calls failed.
     ghost state: { Self → SinkState };
 
     // How a call that took these bytes changed the sink, beyond its state: by default nothing is
     // said.
     ghost send_gives: { Self → List ℕ → Self → Type 0 } = { λ _ _ _. Unit {0} };
 
-    /// Takes bytes from the start of those handed in, and answers how many: at least one, where
-    /// any were handed in; where none were, it does not fail. After `Failed` no byte was taken.
+    /// Takes bytes from the start of those handed in, and returns how many: at least one, where any
+    /// were handed in; where none were, it does not fail. After `Failed` no byte was taken.
     fn send(&mut self, bytes: &[u8]) -> Result<usize, Failed>
         ensures sends { Sends (state self.old) (state self.new) result bytes.now }
         ensures gives { IfOk result (λ n. send_gives self.old (take n bytes.now) self.new) };
@@ -89,7 +89,7 @@ pub struct Writing<W> {
 }
 
 impl<R: Read> Reading<R> {
-    /// The source of this reader's bytes, with its counts at 0. It takes no memory.
+    /// The source of this reader's bytes, with its counts at 0. It does not allocate.
     pub fn new(reader: R) -> Reading<R>
         // the bytes to come are the reader's, and nothing is counted yet
         ensures state { ⟦<Reading<R> as Source>⟧.state result
@@ -105,32 +105,32 @@ impl<R: Read> Reading<R> {
         }
     }
 
-    /// How many bytes it gave so far, up to 2^64 - 1. It takes no memory.
+    /// How many bytes it gave so far, up to 2^64 - 1. It does not allocate.
     pub fn given(&self) -> u64
         ensures { result ≡ (⟦<Reading<R> as Source>⟧.state self.now).given }
     {
         self.given
     }
 
-    /// How many calls answered the reader's end so far, up to 2^64 - 1. It takes no memory.
+    /// How many calls returned the reader's end so far, up to 2^64 - 1. It does not allocate.
     pub fn ends(&self) -> u64
         ensures { result ≡ (⟦<Reading<R> as Source>⟧.state self.now).ends }
     {
         self.ends
     }
 
-    /// How many calls failed so far, up to 2^64 - 1. It takes no memory.
+    /// How many calls failed so far, up to 2^64 - 1. It does not allocate.
     pub fn failures(&self) -> u64
         ensures { result ≡ (⟦<Reading<R> as Source>⟧.state self.now).failures }
     {
         self.failures
     }
 
-    /// The reader back, as the calls so far left it. It takes no memory.
+    /// The reader back, as the calls so far left it. It does not allocate.
     pub fn into_inner(self) -> R
         // its bytes to come are those of the source
         ensures to_come { R.remaining result ≡ (⟦<Reading<R> as Source>⟧.state self).to_come }
-        // it is the reader that stood within
+        // it is the reader that was within
         ensures reader { result ≡ reader_of self }
     {
         let Reading {
@@ -144,8 +144,8 @@ impl<R: Read> Reading<R> {
 }
 
 impl<W: Write> Writing<W> {
-    /// The sink that hands its bytes to this writer, with the count of failed calls at 0. It takes
-    /// no memory.
+    /// The sink that hands its bytes to this writer, with the count of failed calls at 0. It does
+    /// not allocate.
     pub fn new(writer: W) -> Writing<W>
         // the bytes taken are those that the writer holds, and no failure is counted yet
         ensures state { ⟦<Writing<W> as Sink>⟧.state result
@@ -159,18 +159,18 @@ impl<W: Write> Writing<W> {
         }
     }
 
-    /// How many calls failed so far, up to 2^64 - 1. It takes no memory.
+    /// How many calls failed so far, up to 2^64 - 1. It does not allocate.
     pub fn failures(&self) -> u64
         ensures { result ≡ (⟦<Writing<W> as Sink>⟧.state self.now).failures }
     {
         self.failures
     }
 
-    /// The writer back, as the calls so far left it. It takes no memory.
+    /// The writer back, as the calls so far left it. It does not allocate.
     pub fn into_inner(self) -> W
         // the writer holds the bytes taken
         ensures taken { W.contents result ≡ (⟦<Writing<W> as Sink>⟧.state self).taken }
-        // it is the writer that stood within
+        // it is the writer that was within
         ensures writer { result ≡ writer_of self }
     {
         let Writing {

@@ -33,12 +33,12 @@ impl Model for Shown {
 }
 
 impl Shown {
-    /// The display string of this text, which may be empty. The only refusal is for want of memory.
+    /// The display string of this text, which may be empty. It fails only if an allocation fails.
     /// Up to 16 bytes of UTF-8 take none.
     #[tactic(auto, using(crate::proofs::Utf8Table::from_utf8))]
     pub fn new(alloc: Global, text: &str) -> Result<Shown, OutOfMemory>
         ensures shown { IfOk result (λ shown. shown ≡ text.now) }
-        // At most 16 bytes are not refused for want of memory.
+        // At most 16 bytes are not refused as out of memory.
         ensures in_place { FitsInPlace text.now → IsOk result }
     {
         Ok(Shown {
@@ -46,7 +46,7 @@ impl Shown {
         })
     }
 
-    /// The display string of these UTF-8 bytes. It takes no memory.
+    /// The display string of these UTF-8 bytes. It does not allocate.
     #[inline]
     pub fn from_bytes(bytes: ShortBytes) -> Shown
         requires { WellFormed Start bytes }
@@ -55,11 +55,11 @@ impl Shown {
         Shown { bytes }
     }
 
-    /// Another display string, equal to this one. The only refusal is for want of memory. Up to 16
-    /// bytes take none.
+    /// Another display string, equal to this one. It fails only if an allocation fails. Up to 16
+    /// bytes do not allocate.
     pub fn copy(&self, alloc: Global) -> Result<Shown, OutOfMemory>
         ensures copied { IfOk result (λ copy. copy ≡ self.now) }
-        // At most 16 bytes are not refused for want of memory.
+        // At most 16 bytes are not refused as out of memory.
         ensures in_place { FitsInPlace self.now → IsOk result }
     {
         Ok(Shown {
@@ -67,7 +67,7 @@ impl Shown {
         })
     }
 
-    /// The UTF-8 bytes of the text. It takes no memory.
+    /// The UTF-8 bytes of the text. It does not allocate.
     #[tactic(auto, using(crate::proofs::Utf8Table::to_utf8))]
     pub fn as_bytes(&self) -> &[u8]
         ensures bytes { result.now ≡ self.now }
@@ -78,7 +78,7 @@ impl Shown {
         self.bytes.as_bytes()
     }
 
-    /// The text. It takes no memory.
+    /// The text. It does not allocate.
     pub fn as_str(&self) -> &str
         ensures { result.now ≡ self.now }
     {
@@ -86,7 +86,7 @@ impl Shown {
         unsafe { str::from_utf8_unchecked(self.as_bytes()) }
     }
 
-    /// Whether the text is empty. It takes no memory.
+    /// Whether the text is empty. It does not allocate.
     pub fn is_empty(&self) -> bool
         ensures { IsTrue result ↔ (self.now ≡ []) }
     {
@@ -95,7 +95,7 @@ impl Shown {
 }
 
 /// Whether a byte of a display string is written as itself: each from 0x20 to 0x7E but `"` and `%`
-/// (RFC 9651 section 4.1.11). It takes no memory.
+/// (RFC 9651 section 4.1.11). It does not allocate.
 pub fn stands_for_itself(byte: u8) -> bool
     ensures { result ≡ is_unencoded byte }
 {

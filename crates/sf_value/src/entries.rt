@@ -22,7 +22,7 @@ use std::hash::RandomState;
 use std::marker::Model;
 
 /// Values by key, in the order in which the keys came first: the parameters of an Item or an Inner
-/// List (RFC 9651 section 3.1.2), and the members of a Dictionary (section 3.2). No key stands
+/// List (RFC 9651 section 3.1.2), and the members of a Dictionary (section 3.2). No key occurs
 /// twice. Contracts see the list of the pairs of a key's bytes and its value.
 ///
 /// ```
@@ -95,7 +95,7 @@ impl<V> Model for IntoIter<V> {
 }
 
 impl<V> Entries<V> {
-    /// No entries. It takes no memory. The seed is that of the hashes that look keys up; take one
+    /// No entries. It does not allocate. The seed is that of the hashes that look keys up; take one
     /// that strangers cannot guess, where they choose the keys.
     pub fn new(alloc: Global, seed: &RandomState) -> Entries<V>
         ensures { result ≡ [] }
@@ -105,32 +105,32 @@ impl<V> Entries<V> {
         }
     }
 
-    /// How many entries there are. It takes no memory.
+    /// How many entries there are. It does not allocate.
     pub fn len(&self) -> usize
         ensures len { result ≡ length self.now }
-        // each key is one, and none stands twice
+        // each key is one, and none occurs twice
         ensures entries { AreEntries self.now }
     {
         self.store.len()
     }
 
-    /// Whether there is no entry. It takes no memory.
+    /// Whether there is no entry. It does not allocate.
     pub fn is_empty(&self) -> bool
         ensures { IsTrue result ↔ (self.now ≡ []) }
     {
         self.len() == 0
     }
 
-    /// The value of the key of these bytes; `None` where it has none, also where the bytes are no
-    /// key. It takes no memory.
+    /// The value of the key of these bytes; `None` if it has none, also where the bytes are no key.
+    /// It does not allocate.
     pub fn get(&self, key: &[u8]) -> Option<&V>
         ensures { option_copied result ≡ value_at key.now self.now }
     {
         self.store.get(key)
     }
 
-    /// The value of the key of these bytes, to be changed; `None` where it has none. It takes no
-    /// memory.
+    /// The value of the key of these bytes, to be changed; `None` if it has none. It does not
+    /// allocate.
     ///
     /// ```
     /// if let Some(value) = entries.get_mut(b"q") {
@@ -146,14 +146,14 @@ impl<V> Entries<V> {
         self.store.value_mut(place)
     }
 
-    /// Whether the key of these bytes has a value. It takes no memory.
+    /// Whether the key of these bytes has a value. It does not allocate.
     pub fn contains_key(&self, key: &[u8]) -> bool
         ensures { IsTrue result ↔ IsSome (value_at key.now self.now) }
     {
         self.get(key).is_some()
     }
 
-    /// The key and the value at a place, counted from 0; `None` past the end. It takes no memory.
+    /// The key and the value at a place, counted from 0; `None` past the end. It does not allocate.
     pub fn at(&self, index: usize) -> Option<(&[u8], &V)>
         ensures { option_map deref_entry result ≡ slice_get self.now index }
     {
@@ -161,7 +161,7 @@ impl<V> Entries<V> {
     }
 
     /// The value at a place, counted from 0, to be changed; `None` past the end. Its key is the one
-    /// that [`Entries::at`] tells, and no call changes it. It takes no memory.
+    /// that [`Entries::at`] tells, and no call changes it. It does not allocate.
     ///
     /// ```
     /// for place in 0..entries.len() {
@@ -179,7 +179,7 @@ impl<V> Entries<V> {
         self.store.value_mut(index)
     }
 
-    /// The entries in order, each as its key's bytes and its value. It takes no memory.
+    /// The entries in order, each as its key's bytes and its value. It does not allocate.
     pub fn iter(&self) -> Iter<'_, V>
         ensures rest { result ≡ self.now }
         // a loop takes them in order from the start, and a whole loop takes them all
@@ -190,7 +190,7 @@ impl<V> Entries<V> {
         }
     }
 
-    /// The values in order, to be changed one after another. It takes no memory.
+    /// The values in order, to be changed one after another. It does not allocate.
     ///
     /// ```
     /// let mut values = entries.iter_mut();
@@ -212,7 +212,7 @@ impl<V> Entries<V> {
 }
 
 impl<'a, V> IterMut<'a, V> {
-    /// The bytes of the key whose value comes next; `None` behind the last. It takes no memory.
+    /// The bytes of the key whose value comes next; `None` after the last. It does not allocate.
     pub fn key(&self) -> Option<&[u8]>
         ensures { option_copied result ≡ option_map (λ entry. entry.0)
             (slice_get (lent_entries self.now).now (lent_index self.now)) }
@@ -221,9 +221,9 @@ impl<'a, V> IterMut<'a, V> {
         Some(key)
     }
 
-    /// The next value, to be changed; `None` behind the last. It takes no memory.
+    /// The next value, to be changed; `None` after the last. It does not allocate.
     pub fn next(&mut self) -> Option<&mut V>
-        // what it ends as is the value of its key, and the one behind it comes next; all else is as
+        // what it ends as is the value of its key, and the one after it comes next; all else is as
         // it was
         ensures* writes_back { sem 𝓛 (LendsNext V.row self.entry result) }
         ensures value { option_copied_mut result ≡ option_map (λ entry. entry.1)
@@ -242,9 +242,10 @@ impl<'a, V> IterMut<'a, V> {
 }
 
 impl<V: Drop> Entries<V> {
-    /// Puts a value at a key. A new key goes last, and the answer is `None`. The value of a key
-    /// that is there is replaced in its place, and the old one is the answer; this takes no memory.
-    /// For want of memory the entries stay as they were, and the key and the value come back.
+    /// Puts a value at a key. A new key goes last, and the result is `None`. The value of a key
+    /// that is there is replaced in its place, and the old one is the result; this does not
+    /// allocate. If an allocation fails, the entries stay as they were, and the key and the value
+    /// come back.
     pub fn put(&mut self, key: Key, value: V) -> Result<Option<V>, (Key, V)>
         // a key that is there keeps its place and is overwritten; a new one goes last
         ensures new { IfOk result (λ _. self.new ≡ settle (self.old ++ (key, value) ∷ [])) }
@@ -258,7 +259,7 @@ impl<V: Drop> Entries<V> {
     }
 
     /// Puts a value at a key, as [`Entries::put`] does, where neither the old value nor a pair that
-    /// comes back is wanted. For want of memory the entries stay as they were.
+    /// comes back is wanted. If an allocation fails, the entries stay as they were.
     ///
     /// ```
     /// entries.set(Key::new(alloc, b"q")?, Bare::Integer(Int::new(1)?))?;
@@ -273,8 +274,8 @@ impl<V: Drop> Entries<V> {
         self.store.set(key, value)
     }
 
-    /// Takes out the key of these bytes, and answers its value; `None` where it has none. The other
-    /// entries keep their order. It takes no memory.
+    /// Takes out the key of these bytes, and returns its value; `None` if it has none. The other
+    /// entries keep their order. It does not allocate.
     ///
     /// ```
     /// entries.remove(b"a") // Some(3), and the entry of b"b" is now the first
@@ -287,7 +288,7 @@ impl<V: Drop> Entries<V> {
     }
 }
 
-// Written out, so that proofs about what holds entries don't look into them where they are let go.
+// Written out, so that proofs about what holds entries don't look into them where they are dropped.
 impl<V: Drop> Drop for Entries<V> {
     #[inline(always)]
     fn drop(self) {

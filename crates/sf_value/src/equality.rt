@@ -1,5 +1,5 @@
-//! `==` on values: equality of trees, in which order counts, as [`crate::same`] tells it. It takes
-//! no memory.
+//! `==` on values: equality of trees, in which order counts, as [`crate::same`] decides it. It does
+//! not allocate.
 ghost use Rattle.std.specs.Prelude.{◌≡◌, ◌↔◌, IsTrue, nat_eq};
 ghost use Rattle.std.specs.Cmp.{decided, partial_equiv_from_equiv};
 ghost use Rattle.std.specs.Cmp.Lexicographic.{pointwise, pointwise_decides, nat_list_eq_equiv};

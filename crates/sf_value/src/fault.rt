@@ -15,8 +15,8 @@ pub struct OutOfMemory;
 #[derive(Clone, Copy, Debug, PartialEq, Eq)]
 pub struct OutOfRange;
 
-/// Why bytes are no key, token or string. Where several causes hold, the one that stands first here
-/// is answered.
+/// Why bytes are no key, token or string. Where several causes hold, the one that is first here is
+/// answered.
 ///
 /// ```
 /// match Key::new(alloc, bytes) {

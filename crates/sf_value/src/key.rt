@@ -33,14 +33,14 @@ impl Model for Key {
 }
 
 impl Key {
-    /// The key of these bytes. It is refused as `Empty` where there is no byte, else as `BadByte`
-    /// at the first byte that may not stand in its place, else as `OutOfMemory`. Up to 16 bytes
-    /// take no memory.
+    /// The key of these bytes. It is refused as `Empty` if there is no byte, otherwise as `BadByte`
+    /// at the first byte that may not be in its place, otherwise as `OutOfMemory`. Up to 16 bytes
+    /// do not allocate.
     pub fn new(alloc: Global, bytes: &[u8]) -> Result<Key, TextFault>
         // these bytes; or the cause: no byte, the first bad one, or a key and no memory for it
         ensures exact { MatchResult result (λ key. key ≡ bytes.now) (IsKeyFault bytes.now) }
         ensures key { IfOk result (λ key. IsKey key) }
-        // At most 16 bytes are not refused for want of memory.
+        // At most 16 bytes are not refused as out of memory.
         ensures in_place { FitsInPlace bytes.now → IfErr result IsOfBytes }
     {
         Ok(Key {
@@ -48,7 +48,7 @@ impl Key {
         })
     }
 
-    /// The key of these bytes, which are known to be one. It takes no memory: a parser, which
+    /// The key of these bytes, which are known to be one. It does not allocate: a parser, which
     /// tests each byte as it comes, makes keys so.
     #[inline]
     pub fn from_bytes(bytes: ShortBytes) -> Key
@@ -58,12 +58,12 @@ impl Key {
         Key { bytes }
     }
 
-    /// The key of one byte, one that [`can_start_key`] accepts. It takes no memory, and is never
+    /// The key of one byte, one that [`can_start_key`] accepts. It does not allocate, and is never
     /// refused.
     pub fn first(alloc: Global, byte: u8) -> Result<Key, OutOfMemory>
         requires { is_key_start byte ≡ true }
         ensures key { IfOk result (λ key. key ≡ byte ∷ []) }
-        // One byte is not refused for want of memory.
+        // One byte is not refused as out of memory.
         ensures in_place { IsOk result }
     {
         let mut bytes = ShortBytes::new(alloc);
@@ -71,11 +71,11 @@ impl Key {
         Ok(Key { bytes })
     }
 
-    /// Another key, equal to this one. The only refusal is for want of memory. Up to 16 bytes take
-    /// none.
+    /// Another key, equal to this one. It fails only if an allocation fails. Up to 16 bytes do not
+    /// allocate.
     pub fn copy(&self, alloc: Global) -> Result<Key, OutOfMemory>
         ensures copied { IfOk result (λ copy. copy ≡ self.now) }
-        // At most 16 bytes are not refused for want of memory.
+        // At most 16 bytes are not refused as out of memory.
         ensures in_place { FitsInPlace self.now → IsOk result }
     {
         Ok(Key {
@@ -83,7 +83,7 @@ impl Key {
         })
     }
 
-    /// Its bytes, at least one. It takes no memory.
+    /// Its bytes, at least one. It does not allocate.
     pub fn as_bytes(&self) -> &[u8]
         ensures bytes { result.now ≡ self.now }
         ensures key { IsKey self.now }
@@ -106,8 +106,8 @@ impl Word for Key {
     }
 }
 
-/// Whether a key may begin with this byte: `a` to `z` and `*` (RFC 9651 section 3.1.2). It takes no
-/// memory.
+/// Whether a key may begin with this byte: `a` to `z` and `*` (RFC 9651 section 3.1.2). It does not
+/// allocate.
 pub fn can_start_key(byte: u8) -> bool
     ensures { result ≡ is_key_start byte }
 {
@@ -115,7 +115,7 @@ pub fn can_start_key(byte: u8) -> bool
 }
 
 /// Whether a key may go on with this byte: `a` to `z`, `0` to `9`, `_`, `-`, `.` and `*` (RFC 9651
-/// section 3.1.2). It takes no memory.
+/// section 3.1.2). It does not allocate.
 pub fn can_be_in_key(byte: u8) -> bool
     ensures { result ≡ is_in_key byte }
 {

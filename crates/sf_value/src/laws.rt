@@ -14,7 +14,7 @@ pub fn canon_spells()
     ensures { CanonSpells }
 {}
 
-/// What a text spells is valid: its numbers are in range, its alphabets kept, no key stands twice.
+/// What a text spells is valid: its numbers are in range, its alphabets kept, no key occurs twice.
 pub fn spelled_is_valid()
     ensures { SpelledIsValid }
 {}

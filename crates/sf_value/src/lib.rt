@@ -7,7 +7,7 @@
 //! the order of their first places; the members of a `List` and the `Item`s of an `Inner` are a
 //! [`Sequence`], a `Vec` in all but name. Each type keeps what the RFC asks of it, so any value can
 //! be written: an [`Int`] has at most 15 digits, a `Key` or a [`Token`] has its alphabet, no key
-//! stands twice.
+//! occurs twice.
 //!
 //! Nothing here knows of texts but in `specs/`: [`same`] compares fields as trees, in which order
 //! counts, and [`copy`] copies one. What allocates is passed the allocator first and returns a

@@ -18,7 +18,7 @@ use crate::token::Token;
 use crate::value::{Bare, Dict, Field, Inner, Item, List, Member};
 
 impl Bare {
-    /// The number of an Integer; `None` where it is of another type.
+    /// The number of an Integer; `None` if it is of another type.
     ///
     /// ```
     /// Bare::Integer(Int::new(7)?).as_integer() // Some(7)
@@ -33,7 +33,7 @@ impl Bare {
         }
     }
 
-    /// The number of a Decimal; `None` where it is of another type.
+    /// The number of a Decimal; `None` if it is of another type.
     pub fn as_decimal(&self) -> Option<Thousandths>
         ensures { result ≡ decimal_of self.now }
     {
@@ -43,7 +43,7 @@ impl Bare {
         }
     }
 
-    /// The string of a String; `None` where it is of another type.
+    /// The string of a String; `None` if it is of another type.
     pub fn as_text(&self) -> Option<&Text>
         ensures { option_copied result ≡ text_of self.now }
     {
@@ -53,7 +53,7 @@ impl Bare {
         }
     }
 
-    /// The token of a Token; `None` where it is of another type.
+    /// The token of a Token; `None` if it is of another type.
     pub fn as_token(&self) -> Option<&Token>
         ensures { option_copied result ≡ token_of self.now }
     {
@@ -63,7 +63,7 @@ impl Bare {
         }
     }
 
-    /// The bytes of a Byte Sequence; `None` where it is of another type.
+    /// The bytes of a Byte Sequence; `None` if it is of another type.
     pub fn as_blob(&self) -> Option<&Blob>
         ensures { option_copied result ≡ blob_of self.now }
     {
@@ -73,7 +73,7 @@ impl Bare {
         }
     }
 
-    /// The truth of a Boolean; `None` where it is of another type.
+    /// The truth of a Boolean; `None` if it is of another type.
     pub fn as_boolean(&self) -> Option<bool>
         ensures { result ≡ boolean_of self.now }
     {
@@ -83,7 +83,7 @@ impl Bare {
         }
     }
 
-    /// The seconds of a Date, from 1970-01-01T00:00:00Z on; `None` where it is of another type.
+    /// The seconds of a Date, from 1970-01-01T00:00:00Z on; `None` if it is of another type.
     pub fn as_date(&self) -> Option<Int>
         ensures { result ≡ date_of self.now }
     {
@@ -93,7 +93,7 @@ impl Bare {
         }
     }
 
-    /// The text of a Display String; `None` where it is of another type.
+    /// The text of a Display String; `None` if it is of another type.
     pub fn as_shown(&self) -> Option<&Shown>
         ensures { option_copied result ≡ shown_of self.now }
     {
@@ -103,7 +103,7 @@ impl Bare {
         }
     }
 
-    /// The string of a String, taken out; `None` where it is of another type.
+    /// The string of a String, taken out; `None` if it is of another type.
     pub fn into_text(self) -> Option<Text>
         ensures { result ≡ text_of self }
     {
@@ -113,7 +113,7 @@ impl Bare {
         }
     }
 
-    /// The token of a Token, taken out; `None` where it is of another type.
+    /// The token of a Token, taken out; `None` if it is of another type.
     pub fn into_token(self) -> Option<Token>
         ensures { result ≡ token_of self }
     {
@@ -123,7 +123,7 @@ impl Bare {
         }
     }
 
-    /// The bytes of a Byte Sequence, taken out; `None` where it is of another type.
+    /// The bytes of a Byte Sequence, taken out; `None` if it is of another type.
     pub fn into_blob(self) -> Option<Blob>
         ensures { result ≡ blob_of self }
     {
@@ -133,7 +133,7 @@ impl Bare {
         }
     }
 
-    /// The text of a Display String, taken out; `None` where it is of another type.
+    /// The text of a Display String, taken out; `None` if it is of another type.
     pub fn into_shown(self) -> Option<Shown>
         ensures { result ≡ shown_of self }
     {
@@ -145,8 +145,8 @@ impl Bare {
 }
 
 impl Item {
-    /// The value of the parameter with this key; `None` where there is none, also where the bytes
-    /// are no key.
+    /// The value of the parameter with this key; `None` if there is none, also where the bytes are
+    /// no key.
     ///
     /// ```
     /// let item = parse_item(alloc, &seed, b"a;q=1")?;
@@ -161,8 +161,8 @@ impl Item {
 }
 
 impl Inner {
-    /// The value of the parameter of the whole Inner List with this key; `None` where there is
-    /// none, also where the bytes are no key.
+    /// The value of the parameter of the whole Inner List with this key; `None` if there is none,
+    /// also where the bytes are no key.
     pub fn param(&self, key: &[u8]) -> Option<&Bare>
         ensures { option_copied result ≡ value_at key.now self.now.params }
     {
@@ -171,7 +171,7 @@ impl Inner {
 }
 
 impl Member {
-    /// The Item; `None` where the member is an Inner List.
+    /// The Item; `None` if the member is an Inner List.
     pub fn as_item(&self) -> Option<&Item>
         ensures { option_copied result ≡ member_item self.now }
     {
@@ -181,7 +181,7 @@ impl Member {
         }
     }
 
-    /// The Inner List; `None` where the member is an Item.
+    /// The Inner List; `None` if the member is an Item.
     pub fn as_inner(&self) -> Option<&Inner>
         ensures { option_copied result ≡ member_inner self.now }
     {
@@ -191,7 +191,7 @@ impl Member {
         }
     }
 
-    /// The Item, taken out; `None` where the member is an Inner List.
+    /// The Item, taken out; `None` if the member is an Inner List.
     pub fn into_item(self) -> Option<Item>
         ensures { result ≡ member_item self }
     {
@@ -201,7 +201,7 @@ impl Member {
         }
     }
 
-    /// The Inner List, taken out; `None` where the member is an Item.
+    /// The Inner List, taken out; `None` if the member is an Item.
     pub fn into_inner(self) -> Option<Inner>
         ensures { result ≡ member_inner self }
     {
@@ -213,7 +213,7 @@ impl Member {
 }
 
 impl Dict {
-    /// The member with this key; `None` where there is none, also where the bytes are no key.
+    /// The member with this key; `None` if there is none, also where the bytes are no key.
     ///
     /// ```
     /// let dict = parse_dict(alloc, &seed, b"u=1, i")?;
@@ -227,7 +227,7 @@ impl Dict {
 }
 
 impl Field {
-    /// The Item; `None` where the field is of another kind.
+    /// The Item; `None` if the field is of another kind.
     pub fn as_item(&self) -> Option<&Item>
         ensures { option_copied result ≡ field_item self.now }
     {
@@ -237,7 +237,7 @@ impl Field {
         }
     }
 
-    /// The List; `None` where the field is of another kind.
+    /// The List; `None` if the field is of another kind.
     pub fn as_list(&self) -> Option<&List>
         ensures { option_copied result ≡ field_list self.now }
     {
@@ -247,7 +247,7 @@ impl Field {
         }
     }
 
-    /// The Dictionary; `None` where the field is of another kind.
+    /// The Dictionary; `None` if the field is of another kind.
     pub fn as_dict(&self) -> Option<&Dict>
         ensures { option_copied result ≡ field_dict self.now }
     {
@@ -257,7 +257,7 @@ impl Field {
         }
     }
 
-    /// The Item, taken out; `None` where the field is of another kind.
+    /// The Item, taken out; `None` if the field is of another kind.
     pub fn into_item(self) -> Option<Item>
         ensures { result ≡ field_item self }
     {
@@ -267,7 +267,7 @@ impl Field {
         }
     }
 
-    /// The List, taken out; `None` where the field is of another kind.
+    /// The List, taken out; `None` if the field is of another kind.
     pub fn into_list(self) -> Option<List>
         ensures { result ≡ field_list self }
     {
@@ -277,7 +277,7 @@ impl Field {
         }
     }
 
-    /// The Dictionary, taken out; `None` where the field is of another kind.
+    /// The Dictionary, taken out; `None` if the field is of another kind.
     pub fn into_dict(self) -> Option<Dict>
         ensures { result ≡ field_dict self }
     {

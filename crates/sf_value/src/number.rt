@@ -33,7 +33,7 @@ impl Model for Int {
 
 /// A whole number of thousandths, of at most 15 digits, from -999,999,999,999,999 to
 /// 999,999,999,999,999: the value of a Decimal (RFC 9651 section 3.3.2), which has at most 12
-/// digits before the point and 3 behind it. So 1500 stands for 1.5. Contracts see the number of
+/// digits before the point and 3 after it. So 1500 stands for 1.5. Contracts see the number of
 /// thousandths.
 ///
 /// ```
@@ -56,8 +56,8 @@ impl Model for Thousandths {
 }
 
 impl Int {
-    /// The number, where it has at most 15 digits; `OutOfRange` exactly where it has more. It takes
-    /// no memory.
+    /// The number, where it has at most 15 digits; `OutOfRange` exactly where it has more. It does
+    /// not allocate.
     pub fn new(value: i64) -> Result<Int, OutOfRange>
         ensures short { IsOk result ↔ (nat_abs value < 10 ^ 15) }
         ensures value { IfOk result (λ n. n ≡ value) }
@@ -69,7 +69,7 @@ impl Int {
         }
     }
 
-    /// The number that it was made of. It takes no memory.
+    /// The number that it was made of. It does not allocate.
     pub fn get(&self) -> i64
         ensures value { result ≡ self.now }
         ensures short { nat_abs self.now < 10 ^ 15 }
@@ -80,7 +80,7 @@ impl Int {
 
 impl Thousandths {
     /// The Decimal of so many thousandths, where that number has at most 15 digits; `OutOfRange`
-    /// exactly where it has more. It takes no memory.
+    /// exactly where it has more. It does not allocate.
     pub fn new(value: i64) -> Result<Thousandths, OutOfRange>
         ensures short { IsOk result ↔ (nat_abs value < 10 ^ 15) }
         ensures value { IfOk result (λ n. n ≡ value) }
@@ -92,7 +92,7 @@ impl Thousandths {
         }
     }
 
-    /// The number of thousandths that it was made of. It takes no memory.
+    /// The number of thousandths that it was made of. It does not allocate.
     pub fn get(&self) -> i64
         ensures value { result ≡ self.now }
         ensures short { nat_abs self.now < 10 ^ 15 }

@@ -17,20 +17,20 @@ use std::hash::RandomState;
 /// A part of a value: a bare item, an Item, an Inner List, a member, and entries and sequences of
 /// such. Whole fields are compared and copied by [`same`] and [`copy`].
 pub trait Part: PartialEq + Drop {
-    // whether a copy takes no memory
+    // whether a copy does not allocate
     ghost in_place: { Self → Type 0 };
 
     /// Whether the two are equal: the same type, the same bytes or numbers, and the same parts in
-    /// the same order. It takes no memory.
+    /// the same order. It does not allocate.
     fn same(&self, other: &Self) -> bool
         ensures { IsTrue result ↔ (self.now ≡ other.now) };
 
-    /// Another value, equal to this one. The seed is that of its entries. The only refusal is for
-    /// want of memory. What stands in place takes none: a bare item that is no text or is of at
-    /// most 16 bytes, such an Item without parameters, and no entries.
+    /// Another value, equal to this one. The seed is that of its entries. It fails only if an
+    /// allocation fails. What is in place takes none: a bare item that is no text or is of at most
+    /// 16 bytes, such an Item without parameters, and no entries.
     fn copy(&self, alloc: Global, seed: &RandomState) -> Result<Self, OutOfMemory>
         ensures copied { IfOk result (λ copy. copy ≡ self.now) }
-        // What stands in place is not refused for want of memory.
+        // What is in place is not refused as out of memory.
         ensures in_place { in_place self.now → IsOk result };
 
     // `==` holds of equal parts, and of no others
@@ -154,7 +154,7 @@ impl Part for Member {
 }
 
 /// Whether two fields are equal. The order of members, items and parameters counts, and fields of
-/// two kinds are never equal, though their texts may be. It takes no memory.
+/// two kinds are never equal, though their texts may be. It does not allocate.
 ///
 /// ```
 /// same(&field, &copy(alloc, &seed, &field)?) // true
@@ -178,8 +178,8 @@ pub fn same(a: &Field, b: &Field) -> bool
     }
 }
 
-/// Another field, equal to its source. The seed is that of its entries. The only refusal is for
-/// want of memory. A number, a Boolean, a Date or at most 16 bytes without parameters, and a List
+/// Another field, equal to its source. The seed is that of its entries. It fails only if an
+/// allocation fails. A number, a Boolean, a Date or at most 16 bytes without parameters, and a List
 /// or a Dictionary without members, take none.
 ///
 /// ```
@@ -187,7 +187,7 @@ pub fn same(a: &Field, b: &Field) -> bool
 /// ```
 pub fn copy(alloc: Global, seed: &RandomState, field: &Field) -> Result<Field, OutOfMemory>
     ensures copied { IfOk result (λ copy. copy ≡ field.now) }
-    // What stands in place is not refused for want of memory.
+    // What is in place is not refused as out of memory.
     ensures in_place { FieldInPlace field.now → IsOk result }
 {
     match field {

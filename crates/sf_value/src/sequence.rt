@@ -42,7 +42,7 @@ impl<T> Model for Sequence<T> {
 }
 
 impl<T> Sequence<T> {
-    /// No values. It takes no memory.
+    /// No values. It does not allocate.
     pub fn new(alloc: Global) -> Sequence<T>
         ensures { result ≡ [] }
     {
@@ -51,14 +51,14 @@ impl<T> Sequence<T> {
         }
     }
 
-    /// The values of a `Vec`. It takes no memory.
+    /// The values of a `Vec`. It does not allocate.
     pub fn from_vec(items: Vec<T>) -> Sequence<T>
         ensures { result ≡ items.items }
     {
         Sequence { items }
     }
 
-    /// The values, as a `Vec`. It takes no memory.
+    /// The values, as a `Vec`. It does not allocate.
     pub fn into_vec(self) -> Vec<T>
         ensures { result.items ≡ self }
     {
@@ -66,28 +66,28 @@ impl<T> Sequence<T> {
         items
     }
 
-    /// The values, as a slice. It takes no memory.
+    /// The values, as a slice. It does not allocate.
     pub fn as_slice(&self) -> &[T]
         ensures { result.now ≡ self.now }
     {
         self.items.as_slice()
     }
 
-    /// How many values there are. It takes no memory.
+    /// How many values there are. It does not allocate.
     pub fn len(&self) -> usize
         ensures { result ≡ length self.now }
     {
         self.items.len()
     }
 
-    /// Whether there is no value. It takes no memory.
+    /// Whether there is no value. It does not allocate.
     pub fn is_empty(&self) -> bool
         ensures { IsTrue result ↔ (self.now ≡ []) }
     {
         self.items.is_empty()
     }
 
-    /// The values in order. It takes no memory.
+    /// The values in order. It does not allocate.
     pub fn iter(&self) -> slice::Iter<'_, T>
         ensures rest { iter_rest result ≡ self.now }
         // a loop takes them in order from the start, and a whole loop takes them all
@@ -96,8 +96,8 @@ impl<T> Sequence<T> {
         self.items.iter()
     }
 
-    /// Adds a value at the end. For want of memory the values stay as they were, and the one handed
-    /// in comes back in the error, which `?` makes an [`OutOfMemory`] of.
+    /// Adds a value at the end. If an allocation fails, the values stay as they were, and the one
+    /// handed in comes back in the error, which `?` makes an [`OutOfMemory`] of.
     ///
     /// ```
     /// members.push(Member::Item(item))?;
@@ -110,13 +110,13 @@ impl<T> Sequence<T> {
         self.items.push(item)
     }
 
-    /// Takes the last value out; `None` where there is none. It takes no memory.
+    /// Takes the last value out; `None` if there is none. It does not allocate.
     ///
     /// ```
     /// members.pop() // Some(member)
     /// ```
     pub fn pop(&mut self) -> Option<T>
-        // none where there was none; else the last one, and the others stay
+        // none if there was none; otherwise the last one, and the others stay
         ensures { MatchOption result ((self.old ≡ []) × (self.new ≡ []))
             (λ last. self.old ≡ self.new ++ last ∷ []) }
     {
@@ -124,7 +124,7 @@ impl<T> Sequence<T> {
     }
 
     /// Puts a value at a place, counted from 0 and no greater than the length; those from there on
-    /// move up. For want of memory as `push`.
+    /// move up. If an allocation fails, as `push`.
     ///
     /// ```
     /// members.insert(0, member)?; // the first one now
@@ -139,8 +139,8 @@ impl<T> Sequence<T> {
         self.items.insert(index, item)
     }
 
-    /// Takes out the value at a place, counted from 0 and less than the length; those behind it
-    /// move down. It takes no memory.
+    /// Takes out the value at a place, counted from 0 and less than the length; those after it move
+    /// down. It does not allocate.
     ///
     /// ```
     /// let first = members.remove(0);
@@ -153,7 +153,7 @@ impl<T> Sequence<T> {
         self.items.remove(index)
     }
 
-    /// The values, as a slice whose items may be changed. It takes no memory.
+    /// The values, as a slice whose items may be changed. It does not allocate.
     ///
     /// ```
     /// for member in members.as_mut_slice() {

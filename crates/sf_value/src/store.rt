@@ -31,8 +31,8 @@ const FEW: usize = 8;
 pub(crate) struct Slot<V> {
     pub(crate) key: Key,
     pub(crate) value: V,
-    /// That of the map which takes the place of the vector when there are more than a few. It
-    /// stands here, in the memory of the vector, so that entries are no larger than one.
+    /// That of the map which takes the place of the vector when there are more than a few. It is
+    /// here, in the memory of the vector, so that entries are no larger than one.
     seed: RandomState,
 }
 
@@ -159,7 +159,7 @@ impl<V: Drop> Store<V> {
 
     /// Puts a value at a key, as `Entries::put` does. Only a new key takes memory.
     pub(crate) fn put(&mut self, key: Key, value: V) -> Result<Option<V>, (Key, V)>
-        // each key is one, and none stands twice
+        // each key is one, and none occurs twice
         requires entries { AreEntries (stored self.old) }
         // the seed is at hand: a vector has a slot, which holds it
         requires seed { HasSeed self.old }
@@ -208,7 +208,7 @@ impl<V: Drop> Store<V> {
     /// Puts a value at a key, as `Entries::set` does. Only a new key takes memory.
     #[inline(never)]
     pub(crate) fn set(&mut self, key: Key, value: V) -> Result<(), OutOfMemory>
-        // each key is one, and none stands twice
+        // each key is one, and none occurs twice
         requires entries { AreEntries (stored self.old) }
         // the seed is at hand: a vector has a slot, which holds it
         requires seed { HasSeed self.old }
@@ -231,9 +231,9 @@ impl<V: Drop> Store<V> {
         }
     }
 
-    /// Takes out the key of these bytes, and answers its value. The others keep their order.
+    /// Takes out the key of these bytes, and returns its value. The others keep their order.
     pub(crate) fn remove(&mut self, key: &[u8]) -> Option<V>
-        // each key is one, and none stands twice
+        // each key is one, and none occurs twice
         requires entries { AreEntries (stored self.old) }
         // the seed is at hand: a vector has a slot, which holds it
         requires seed { HasSeed self.old }
@@ -272,9 +272,9 @@ fn place_of<V>(slots: &[Slot<V>], key: &[u8]) -> Option<usize>
     slots.iter().position(|slot| key == slot.key.as_bytes())
 }
 
-/// Puts the entries into an empty map that has room for them.
+/// Puts the entries into an empty map that has capacity for them.
 fn fill<V: Drop>(map: &mut Many<V>, slots: Vec<Slot<V>>)
-    // no key stands twice
+    // no key occurs twice
     requires distinct { HasDistinctKeys (slot_pairs slots.items) }
     requires empty { map.old.entries ≡ [] }
     // so many more entries fit with no more memory
@@ -289,10 +289,10 @@ fn fill<V: Drop>(map: &mut Many<V>, slots: Vec<Slot<V>>)
     }
 }
 
-/// The map of these entries, which leave the vector. For want of memory they stay.
+/// The map of these entries, which leave the vector. If an allocation fails, they stay.
 fn grown<V: Drop>(slots: &mut Vec<Slot<V>>) -> Result<Box<Many<V>>, OutOfMemory>
     requires some { 0 < vec_len slots.old }
-    // no key stands twice
+    // no key occurs twice
     requires distinct { HasDistinctKeys (slot_pairs slots.old.items) }
     ensures all { IfOk result (λ map. map.value.entries ≡ slot_pairs slots.old.items) }
     ensures same { OnErr result (slots.new.items ≡ slots.old.items) }

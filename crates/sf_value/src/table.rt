@@ -13,7 +13,7 @@ pub(crate) type Many<V> = IndexMap<Key, V, RandomState>;
 
 /// Puts a value at a key, as `Entries::put` does. Only a new key takes memory.
 pub(crate) fn put<V>(map: &mut Many<V>, key: Key, value: V) -> Result<Option<V>, (Key, V)>
-    // each key is one, and none stands twice
+    // each key is one, and none occurs twice
     requires { AreEntries map.old.entries }
     // and so it stays
     ensures entries { AreEntries map.new.entries }
@@ -36,7 +36,7 @@ pub(crate) fn put<V>(map: &mut Many<V>, key: Key, value: V) -> Result<Option<V>,
 
 /// Puts a value at a key, as `Entries::set` does: what `put` answers is not carried about.
 pub(crate) fn set<V: Drop>(map: &mut Many<V>, key: Key, value: V) -> Result<(), OutOfMemory>
-    // each key is one, and none stands twice
+    // each key is one, and none occurs twice
     requires { AreEntries map.old.entries }
     // and so it stays
     ensures entries { AreEntries map.new.entries }

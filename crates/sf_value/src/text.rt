@@ -33,14 +33,14 @@ impl Model for Text {
 
 impl Text {
     /// The string of these bytes, which may be none. It is refused as `BadByte` at the first byte
-    /// that no string holds, else as `OutOfMemory`, and never as `Empty`. Up to 16 bytes take no
-    /// memory.
+    /// that no string holds, otherwise as `OutOfMemory`, and never as `Empty`. Up to 16 bytes do
+    /// not allocate.
     #[tactic(auto, using(crate::proofs::Words::every_from_place))]
     pub fn new(alloc: Global, bytes: &[u8]) -> Result<Text, TextFault>
         // these bytes; or the cause: the first bad one, or a string and no memory for it
         ensures exact { MatchResult result (λ text. text ≡ bytes.now) (IsStringFault bytes.now) }
         ensures text { IfOk result (λ text. Every is_visible_byte text) }
-        // At most 16 bytes are not refused for want of memory.
+        // At most 16 bytes are not refused as out of memory.
         ensures in_place { FitsInPlace bytes.now → IfErr result IsOfBytes }
     {
         if let Some(place) = bad_byte(bytes) {
@@ -51,7 +51,7 @@ impl Text {
         })
     }
 
-    /// The string of these bytes, which are known to be one. It takes no memory: a parser, which
+    /// The string of these bytes, which are known to be one. It does not allocate: a parser, which
     /// tests each byte as it comes, makes strings so.
     #[inline]
     pub fn from_bytes(bytes: ShortBytes) -> Text
@@ -61,11 +61,11 @@ impl Text {
         Text { bytes }
     }
 
-    /// Another string, equal to this one. The only refusal is for want of memory. Up to 16
-    /// bytes take none.
+    /// Another string, equal to this one. It fails only if an allocation fails. Up to 16 bytes do
+    /// not allocate.
     pub fn copy(&self, alloc: Global) -> Result<Text, OutOfMemory>
         ensures copied { IfOk result (λ copy. copy ≡ self.now) }
-        // At most 16 bytes are not refused for want of memory.
+        // At most 16 bytes are not refused as out of memory.
         ensures in_place { FitsInPlace self.now → IsOk result }
     {
         Ok(Text {
@@ -73,7 +73,7 @@ impl Text {
         })
     }
 
-    /// Its bytes, without quotes and escapes. It takes no memory.
+    /// Its bytes, without quotes and escapes. It does not allocate.
     pub fn as_bytes(&self) -> &[u8]
         ensures bytes { result.now ≡ self.now }
         ensures text { Every is_visible_byte self.now }
@@ -81,7 +81,7 @@ impl Text {
         self.bytes.as_bytes()
     }
 
-    /// Whether it has no byte. It takes no memory.
+    /// Whether it has no byte. It does not allocate.
     pub fn is_empty(&self) -> bool
         ensures { IsTrue result ↔ (self.now ≡ []) }
     {
@@ -89,7 +89,8 @@ impl Text {
     }
 }
 
-/// Whether a string may hold this byte: 0x20 to 0x7E (RFC 9651 section 3.3.3). It takes no memory.
+/// Whether a string may hold this byte: 0x20 to 0x7E (RFC 9651 section 3.3.3). It does not
+/// allocate.
 pub fn is_visible(byte: u8) -> bool
     ensures { result ≡ is_visible_byte byte }
 {

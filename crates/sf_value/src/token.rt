@@ -32,14 +32,14 @@ impl Model for Token {
 }
 
 impl Token {
-    /// The token of these bytes. It is refused as `Empty` where there is no byte, else as `BadByte`
-    /// at the first byte that may not stand in its place, else as `OutOfMemory`. Up to 16 bytes
-    /// take no memory.
+    /// The token of these bytes. It is refused as `Empty` if there is no byte, otherwise as
+    /// `BadByte` at the first byte that may not be in its place, otherwise as `OutOfMemory`. Up to
+    /// 16 bytes do not allocate.
     pub fn new(alloc: Global, bytes: &[u8]) -> Result<Token, TextFault>
         // these bytes; or the cause: no byte, the first bad one, or a token and no memory for it
         ensures exact { MatchResult result (λ token. token ≡ bytes.now) (IsTokenFault bytes.now) }
         ensures token { IfOk result (λ token. IsToken token) }
-        // At most 16 bytes are not refused for want of memory.
+        // At most 16 bytes are not refused as out of memory.
         ensures in_place { FitsInPlace bytes.now → IfErr result IsOfBytes }
     {
         Ok(Token {
@@ -47,7 +47,7 @@ impl Token {
         })
     }
 
-    /// The token of these bytes, which are known to be one. It takes no memory: a parser, which
+    /// The token of these bytes, which are known to be one. It does not allocate: a parser, which
     /// tests each byte as it comes, makes tokens so.
     #[inline]
     pub fn from_bytes(bytes: ShortBytes) -> Token
@@ -57,11 +57,11 @@ impl Token {
         Token { bytes }
     }
 
-    /// Another token, equal to this one. The only refusal is for want of memory. Up to 16 bytes take
-    /// none.
+    /// Another token, equal to this one. It fails only if an allocation fails. Up to 16 bytes do
+    /// not allocate.
     pub fn copy(&self, alloc: Global) -> Result<Token, OutOfMemory>
         ensures copied { IfOk result (λ copy. copy ≡ self.now) }
-        // At most 16 bytes are not refused for want of memory.
+        // At most 16 bytes are not refused as out of memory.
         ensures in_place { FitsInPlace self.now → IsOk result }
     {
         Ok(Token {
@@ -69,7 +69,7 @@ impl Token {
         })
     }
 
-    /// Its bytes, at least one. It takes no memory.
+    /// Its bytes, at least one. It does not allocate.
     pub fn as_bytes(&self) -> &[u8]
         ensures bytes { result.now ≡ self.now }
         ensures token { IsToken self.now }
@@ -92,8 +92,8 @@ impl Word for Token {
     }
 }
 
-/// Whether a token may begin with this byte: a letter or `*` (RFC 9651 section 3.3.4). It takes no
-/// memory.
+/// Whether a token may begin with this byte: a letter or `*` (RFC 9651 section 3.3.4). It does not
+/// allocate.
 pub fn can_start_token(byte: u8) -> bool
     ensures { result ≡ is_token_start byte }
 {
@@ -101,7 +101,7 @@ pub fn can_start_token(byte: u8) -> bool
 }
 
 /// Whether a token may go on with this byte: a letter, a digit, `:`, `/` or one of
-/// ``!#$%&'*+-.^_`|~`` (RFC 9651 section 3.3.4). It takes no memory.
+/// ``!#$%&'*+-.^_`|~`` (RFC 9651 section 3.3.4). It does not allocate.
 pub fn can_be_in_token(byte: u8) -> bool
     ensures { result ≡ is_in_token byte }
 {

@@ -139,7 +139,7 @@ pub enum Kind {
 }
 
 impl Field {
-    /// Which of the three kinds the field is of. It takes no memory.
+    /// Which of the three kinds the field is of. It does not allocate.
     pub fn kind(&self) -> Kind
         ensures { result ≡ kind_of self.now }
     {

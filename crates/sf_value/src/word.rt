@@ -31,7 +31,7 @@ pub fn word_bytes<W: Word>(alloc: Global, bytes: &[u8]) -> Result<ShortBytes, Te
     ensures exact { MatchResult result (λ word. word ≡ bytes.now)
         (IsWordFault W.start W.more bytes.now) }
     ensures word { IfOk result (λ word. IsWord W.start W.more word) }
-    // At most 16 bytes are not refused for want of memory.
+    // At most 16 bytes are not refused as out of memory.
     ensures in_place { FitsInPlace bytes.now → IfErr result IsOfBytes }
 {
     if bytes.is_empty() {

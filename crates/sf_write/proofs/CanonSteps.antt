@@ -23,7 +23,7 @@ value_written (Blob s) h = refl
 value_written (Date n) h = refl
 value_written (Shown s) h = refl
 
--- behind a key of a Dictionary an Item stands as a parameter's value does, with its parameters
+-- after a key of a Dictionary an Item is as a parameter's value does, with its parameters
 pub flag_is : (x : Bare) (ps : Pairs Bare) → canon_flag x ps ≡ canon_value x ++ canon_params ps
 flag_is (Boolean true) ps = refl
 flag_is (Boolean false) ps = refl
@@ -35,12 +35,12 @@ flag_is (Blob s) ps = refl
 flag_is (Date n) ps = refl
 flag_is (Shown s) ps = refl
 
--- the next of the Items behind the first
+-- the next of the Items after the first
 pub next_item : (items : List Item) (i : ℕ) (x : Item) → i < length items → x ≡ get_or items i x
     → canon_more (drop i items) ≡ 32 ∷ (canon_item x ++ canon_more (drop (i + 1) items))
 next_item items i x h e = ap canon_more (drop-cons items i x h) ∙ rw (add-one, ← e)
 
--- the next of what stands behind a comma
+-- the next of what is after a comma
 pub next_comma : {X : Type 0} (f : X → List ℕ) (xs : List X) (i : ℕ) (x : X) → i < length xs
     → x ≡ get_or xs i x
     → canon_commas f (drop i xs) ≡ 44 ∷ 32 ∷ (f x ++ canon_commas f (drop (i + 1) xs))

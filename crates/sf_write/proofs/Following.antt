@@ -1,4 +1,4 @@
--- Texts put one behind another: a fault of an earlier one is the answer of all.
+-- Texts put one after another: a fault of an earlier one is the answer of all.
 use Rattle.std.proofs.Common.{◌≡◌, ℕ, List, [], ◌++◌}
 use Rattle.std.proofs.Common.{Result, Ok, Err, refl, ◌∙◌, arith}
 use Rattle.std.specs.Fmt.{WritesInCalls}

@@ -7,7 +7,7 @@ use Rattle.sf_value.specs.Grammar.DisplayStrings.{hex, is_unencoded}
 use Rattle.sf_value.specs.Grammar.Canonical.{canon_shown}
 
 module _ (as_is : ℕ → Bool) where
-  -- behind a run stands a byte that doesn't belong to it
+  -- after a run is a byte that doesn't belong to it
   run_stops : (s : List ℕ) (b : ℕ) (more : List ℕ) → drop (prefix_len as_is s) s ≡ b ∷ more
       → as_is b ≡ false
   run_stops [] b more e = absurd cc
@@ -42,12 +42,12 @@ module _ (as_is : ℕ → Bool) where
             itself b s e ∙ ap (λ t. b ∷ t) rest ∙ rw (e, next)
         by false e rest = rw e
 
-    -- the run, and the text of what stands behind it
+    -- the run, and the text of what is after it
     pub run_prefix : (s prefix behind : List ℕ) (n : ℕ) → n ≡ prefix_len as_is s → prefix ≡ take n s
         → behind ≡ drop n s → text s ≡ prefix ++ text behind
     run_prefix s prefix behind n e f b = rw (f, b, e) (run_goes s)
 
-    -- a byte behind the run, by what it stands as
+    -- a byte after the run, by what it is as
     pub run_byte : (escape : ℕ → List ℕ)
         → ((b : ℕ) (s : List ℕ) → as_is b ≡ false → text (b ∷ s) ≡ escape b ++ text s)
         → (s behind more : List ℕ) (n b : ℕ) → n ≡ prefix_len as_is s → behind ≡ drop n s

@@ -36,7 +36,7 @@ pub next_of : {X : Type 0} (xs : List X) (i : ℕ) (x : X) → i < length xs →
     → drop i xs ≡ x ∷ drop (i + 1) xs
 next_of xs i x h e = drop-cons xs i x h ∙ rw (add-one, ← e) refl
 
--- entries whose values are valid are valid, since each key is one and none stands twice
+-- entries whose values are valid are valid, since each key is one and none occurs twice
 pub entries_valid : {V : Type 0} (P : V → Type 0) (ps : Pairs V) → AreEntries ps
     → Each (λ p. P p.1) ps → Each (λ p. IsKey p.0 × P p.1) ps × HasDistinctKeys ps
 entries_valid {V = V} P ps h k = (both ps h.keys k, h.distinct)

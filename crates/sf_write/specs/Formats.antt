@@ -1,4 +1,4 @@
--- What stands between a text and the formatter that it is printed by.
+-- What is between a text and the formatter that it is printed by.
 use Rattle.std.specs.Prelude.{◌≡◌, ℕ, List}
 use Rattle.std.specs.Fmt.{HasWritten, IsPlainFormatter}
 use Rattle.sf_write.specs.declared.formats.Formatting.{Formatting}

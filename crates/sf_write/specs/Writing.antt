@@ -27,8 +27,8 @@ abbrev pub Writes : SinkState → SinkState → ℕ → Result ℕ WriteFault �
 Writes old new before (Ok after) text = Wrote old new before after text
 Writes old new before (Err fault) text = WrotePrefix old new before fault.written text
 
--- the text is put behind earlier ones: it goes out where none of these failed, and their count goes
--- on; behind a fault nothing goes out, and the fault stays. Where all went out, calls of send took
+-- the text is put after earlier ones: it goes out where none of these failed, and their count goes
+-- on; after a fault nothing goes out, and the fault stays. Where all went out, calls of send took
 -- it
 pub record Follows {S : Type 0} (state : S → SinkState) (gives : S → List ℕ → S → Type 0)
     (old new : S) (before after : Result ℕ WriteFault) (text : List ℕ) : Type 0 where
@@ -36,7 +36,7 @@ pub record Follows {S : Type 0} (state : S → SinkState) (gives : S → List �
   pub stays : IfErr before (λ _. (state new ≡ state old) × (after ≡ before))
   pub calls : IfOk after (λ _. WritesInCalls gives old text new)
 
--- all of the text went out and no call failed; n is its length, or 2^64 - 1 where it is longer
+-- all of the text went out and no call failed; n is its length, or 2^64 - 1 if it is longer
 pub record WritesAll (old new : SinkState) (n : ℕ) (text : List ℕ) : Type 0 where
   pub taken : Appends old.taken new.taken text
   pub failures : new.failures ≡ old.failures

@@ -80,7 +80,7 @@ bare_lives (InShown s) g = let l = shown_lives s g in
 bare_lives (InDate s) g = let l = date_lives s g in
     record { text = l.text; value = Date l.value; whole = (l.value, l.whole, refl) }
 
--- A bare item that may end doesn't go on with what may stand behind it.
+-- A bare item that may end doesn't go on with what may be after it.
 pub bare_apart : (s : BareState) (x : Bare) (b : ℕ) (t : BareState) → bare_finish s ≡ Some x
     → bare_step s b ≡ Some t → is_follow b ≡ true → ⊥
 bare_apart (InNumber (Whole neg count a)) x b t e n f = whole_apart neg count a b t n f

@@ -56,7 +56,7 @@ pads_gives bytes n b u v s e h = ⊎_elim
     room : (m n : ℕ) → m ≤ n - 1 → 0 < n → suc m ≤ n
     room m n h k = omega arith
 
--- What stands in a group when no further letter comes
+-- What is in a group when no further letter comes
 IsLast : Held → List ℕ → List ℕ → Type 0
 IsLast h s t = (is_last h ≡ true) × (s ≡ last_bytes h) × Pads (lacking h) t
 

@@ -53,7 +53,7 @@ module _ (d : Dialect) where
   abbrev Closes : List Item → List ℕ → Inner → Type 0
   Closes is = ResidualInner d (Closing is (Between []))
 
-  -- behind the bracket or spaces
+  -- after the bracket or spaces
   abbrev Opens : List Item → List ℕ → Inner → Type 0
   Opens is = Past is_sp (Either (After 41 (Closes is)) (Then (SpellsItem d) (λ i. MoreItems d 1 (is
       ++ i ∷ []))))
@@ -136,7 +136,7 @@ module _ (d : Dialect) where
         ),
       )
 
-  -- behind an item
+  -- after an item
   abbrev Behind : List Item → List ℕ → Inner → Type 0
   Behind is = Either (After 32 (MoreItems d 0 is)) (After 41 (Closes is))
 
@@ -383,7 +383,7 @@ module _ (d : Dialect) where
   member_lives (InMany s) g = let l = inner_lives s g in
       record { text = l.text; value = member.Inner l.value; whole = (l.value, l.whole, refl) }
 
-  -- A member that may end doesn't go on with what may stand behind it.
+  -- A member that may end doesn't go on with what may be after it.
   pub member_apart : (s : MemberState) (v : Member) (b : ℕ) (t : MemberState)
       → member_finish s ≡ Some v → member_step d s b ≡ Some t → is_after b ≡ true → ⊥
   member_apart (InOne s) v b t e n f =

@@ -90,7 +90,7 @@ module _ (d : Dialect) where
   item_lives (InParams x s) g = let l = params_lives d s g in
       record { text = l.text; value = item x l.value; whole = (l.value, l.whole, refl) }
 
-  -- An item that may end doesn't go on with what may stand behind it.
+  -- An item that may end doesn't go on with what may be after it.
   pub item_apart : (s : ItemState) (v : Item) (b : ℕ) (t : ItemState) → item_finish s ≡ Some v
       → item_step d s b ≡ Some t → is_after b ≡ true → ⊥
   item_apart (InBare s) v b t e n f =

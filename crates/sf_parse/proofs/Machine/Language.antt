@@ -275,7 +275,7 @@ reads_into {GoodT = GoodT} {ResidualT = ResidualT} into {next = next} good_into 
       ended = ra.ended;
     }
 
--- A prefix that isn't empty, and what B reads behind it.
+-- A prefix that isn't empty, and what B reads after it.
 pub reads_first : {S T X V : Type 0} {GoodS : S → Type 0} {GoodT : T → Type 0}
     {ResidualS : S → List ℕ
     → X → Type 0} {ResidualT : T → List ℕ → V → Type 0} (into : S → T) {A : List ℕ → X → Type 0}

@@ -50,7 +50,7 @@ key_apart ps x b t e n = ⊎_elim
     (otherwise_cases (allow (b == 61) (EqualsParam ps x))
     (between_step (put ps x (Boolean true)) b) t n)
 
--- Parameters that may end don't go on with what may stand behind an item.
+-- Parameters that may end don't go on with what may be after an item.
 pub after_follows : (b : ℕ) → is_after b ≡ true → is_follow b ≡ true
 after_follows b e = grind arith
 

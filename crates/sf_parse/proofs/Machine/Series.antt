@@ -24,7 +24,7 @@ pub record SeriesLaws (S X V : Type 0) (k : Series S X V) : Type 0 where
   pub reads : (s : S) → k.Good s
       → Reads S X k.Good k.Residual (k.Residual s) (k.step s) (k.finish s)
   pub lives : (s : S) → k.Good s → Live X (k.Residual s)
-  -- a member, for the text behind a comma
+  -- a member, for the text after a comma
   pub one : Live X k.Spells
   pub apart : (s : S) (x : X) (b : ℕ) (t : S) → k.finish s ≡ Some x → k.step s b ≡ Some t
       → is_after b ≡ true → ⊥
@@ -44,7 +44,7 @@ module _ {S X V : Type 0} (k : Series S X V) (law : SeriesLaws S X V k) where
   abbrev ReadsSeries : (List ℕ → V → Type 0) → (ℕ → Option (SeriesState S V)) → Option V → Type 0
   ReadsSeries = Reads (SeriesState S V) V (GoodSeries k.Good k.Settled) (ResidualSeries k)
 
-  -- behind a member
+  -- after a member
   abbrev Behind : V → List ℕ → V → Type 0
   Behind given = Past is_ows (Either (After 44 (ResidualSeries k (Comma given))) (Nothing given))
 

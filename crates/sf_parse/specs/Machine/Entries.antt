@@ -20,7 +20,7 @@ use Rattle.sf_parse.specs.Machine.Members.{MemberState}
 
 pub data EntryState : Type 0 where
   InKey : (key : List ℕ) → EntryState
-  -- behind an equals sign
+  -- after an equals sign
   Equals : (key : List ℕ) → EntryState
   InMemberValue : (key : List ℕ) (state : MemberState) → EntryState
   -- in the parameters of Boolean true

@@ -56,7 +56,7 @@ dict_series d = record {
   all = λ ps raw. settle (ps ++ raw);
 }
 
--- spaces behind an item
+-- spaces after an item
 abbrev pub Tail : Item → List ℕ → Field → Type 0
 Tail i = Past is_sp (Nothing (field.Item i))
 

@@ -19,10 +19,10 @@ use Rattle.sf_parse.specs.Machine.Items.{ItemState}
 use Rattle.sf_parse.specs.Machine.Items.{ResidualItem, GoodItem, item_start, item_step, item_finish}
 
 pub data InnerState : Type 0 where
-  -- behind the bracket or spaces
+  -- after the bracket or spaces
   Room : (items : List Item) → InnerState
   InItem : (items : List Item) (state : ItemState) → InnerState
-  -- behind the closing bracket
+  -- after the closing bracket
   Closing : (items : List Item) (state : ParamsState) → InnerState
 
 -- further items, a bracket and parameters

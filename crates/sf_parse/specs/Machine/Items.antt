@@ -16,7 +16,7 @@ pub data ItemState : Type 0 where
   InBare : (state : BareState) → ItemState
   InParams : (bare : Bare) (state : ParamsState) → ItemState
 
--- the item of a bare item and parameters behind it
+-- the item of a bare item and parameters after it
 abbrev pub ItemOf : Dialect → Bare → List ℕ → Item → Type 0
 ItemOf d x = Mapped (item x) (MoreParams d [])
 

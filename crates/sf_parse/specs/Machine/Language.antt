@@ -16,7 +16,7 @@ Then {X = X} A B t v = (x : X) × (prefix suffix : List ℕ) × (t ≡ prefix ++
 abbrev pub Mapped : {X V : Type 0} → (X → V) → (List ℕ → X → Type 0) → List ℕ → V → Type 0
 Mapped {X = X} f A t v = (x : X) × A t x × (v ≡ f x)
 
--- goes on in the first part where that takes the byte, else in what follows its value
+-- goes on in the first part where that takes the byte, otherwise in what follows its value
 abbrev pub onward : {S T X : Type 0} → (S → T) → Option S → Option X → (X → Option T) → Option T
 onward into (Some s) end after = Some (into s)
 onward into None (Some x) after = after x
@@ -83,10 +83,10 @@ abbrev pub Steps : {S : Type 0} → Bool → Option S → S → S → Type 0
 Steps true next old new = next ≡ Some new
 Steps false next old new = (next ≡ None) × (new ≡ old)
 
--- what may stand behind a bare item
+-- what may be after a bare item
 abbrev pub is_follow : ℕ → Bool
 is_follow b = is_one_of (tab ∷ space ∷ close_bracket ∷ comma ∷ semicolon ∷ []) b
 
--- what may stand behind an item
+-- what may be after an item
 abbrev pub is_after : ℕ → Bool
 is_after b = is_one_of (tab ∷ space ∷ close_bracket ∷ comma ∷ []) b

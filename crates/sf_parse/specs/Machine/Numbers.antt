@@ -10,7 +10,7 @@ use Rattle.sf_value.specs.Grammar.Numbers.{SpellsInteger, SpellsDecimal}
 use Rattle.sf_value.specs.declared.value.Bare.{Bare}
 use Rattle.sf_value.specs.declared.value.Bare.TheVariants.{Integer, Decimal}
 
--- so many digits of a whole part and their value; behind a point, the same of the fraction
+-- so many digits of a whole part and their value; after a point, the same of the fraction
 pub data NumberState : Type 0 where
   Whole : (neg : Bool) (count value : ℕ) → NumberState
   Fraction : (neg : Bool) (whole count value : ℕ) → NumberState

@@ -17,13 +17,13 @@ use Rattle.sf_parse.specs.Machine.Bares.{BareState}
 use Rattle.sf_parse.specs.Machine.Bares.{ResidualBare, GoodBare, bare_start, bare_step, bare_finish}
 
 pub data ParamsState : Type 0 where
-  -- behind a bare item or a parameter
+  -- after a bare item or a parameter
   Between : (params : Pairs Bare) → ParamsState
-  -- behind a semicolon
+  -- after a semicolon
   Opened : (params : Pairs Bare) → ParamsState
   -- in a key
   InParamKey : (params : Pairs Bare) (key : List ℕ) → ParamsState
-  -- behind an equals sign
+  -- after an equals sign
   EqualsParam : (params : Pairs Bare) (key : List ℕ) → ParamsState
   -- in a value
   InValue : (params : Pairs Bare) (key : List ℕ) (state : BareState) → ParamsState
@@ -40,7 +40,7 @@ PutParams d ps k x = MoreParams d (put ps k x)
 abbrev pub ValueParams : Dialect → Pairs Bare → List ℕ → List ℕ → Pairs Bare → Type 0
 ValueParams d ps k = Then (SpellsBare d) (PutParams d ps k)
 
--- what stands behind a key
+-- what is after a key
 abbrev pub KeyParams : Dialect → Pairs Bare → List ℕ → List ℕ → Pairs Bare → Type 0
 KeyParams d ps k = Either (After equals (ValueParams d ps k)) (PutParams d ps k (Boolean true))
 

@@ -11,9 +11,9 @@ use Rattle.sf_parse.specs.Machine.Language.{Then, Either, Past, Nothing, onward}
 pub data SeriesState (S V : Type 0) : Type 0 where
   Begin : SeriesState S V
   InMember : (given : V) (state : S) → SeriesState S V
-  -- behind a member
+  -- after a member
   Gap : (given : V) → SeriesState S V
-  -- behind a comma
+  -- after a comma
   Comma : (given : V) → SeriesState S V
 
 -- what the whole members gave
@@ -58,7 +58,7 @@ GoodSeries Good Settled (InMember given s) = Settled given × Good s
 GoodSeries Good Settled (Gap given) = Settled given
 GoodSeries Good Settled (Comma given) = Settled given
 
--- behind a member: a comma, or white space before it
+-- after a member: a comma, or white space before it
 abbrev pub gap_step : {S V : Type 0} → V → ℕ → Option (SeriesState S V)
 gap_step given b = option_or (allow (is_ows b) (Gap given)) (allow (b == comma) (Comma given))
 

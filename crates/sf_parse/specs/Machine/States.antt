@@ -11,7 +11,7 @@ use Rattle.sf_parse.specs.Machine.Series.{SeriesState}
 pub data State : Type 0 where
   BeforeItem : State
   InTop : (state : ItemState) → State
-  -- behind a space after an Item
+  -- after a space after an Item
   AfterItem : (whole : Item) → State
   InList : (state : SeriesState MemberState (List Member)) → State
   InDict : (state : SeriesState EntryState (Pairs Member)) → State

@@ -13,8 +13,8 @@ alphabet = codes "ABCDEFGHIJKLMNOPQRSTUVWXYZabcdefghijklmnopqrstuvwxyz0123456789
 unfoldable pub letter : ℕ → ℕ
 letter x = slice_index alphabet x
 
--- base64 without padding: three bytes are four characters of six bits, the highest bits first;
--- low stands in the bits of a last character that no byte fills
+-- base64 without padding: three bytes are four characters of six bits, the highest bits first; low
+-- is in the bits of a last character that no byte fills
 abbrev pub unpadded : ℕ → List ℕ → List ℕ
 unpadded low [] = []
 unpadded low (a ∷ []) = letter (a / 4) ∷ letter (a % 4 * 16 + low) ∷ []

@@ -20,12 +20,12 @@ use Rattle.sf_value.specs.Grammar.Strings.{escaped}
 use Rattle.sf_value.specs.Grammar.ByteSequences.{unpadded, needed}
 use Rattle.sf_value.specs.Grammar.DisplayStrings.{hex, is_unencoded}
 
--- whether a - stands before the number
+-- whether a - is before the number
 abbrev pub is_negative : ℤ → Bool
 is_negative (pos n) = false
 is_negative (negsuc n) = true
 
--- the digits behind the point: at least one, and no needless zero at the end
+-- the digits after the point: at least one, and no needless zero at the end
 abbrev pub fraction : ℕ → Seq ℕ
 fraction f =
     if f % 100 == 0 then (digit_zero + f / 100) ∷ []
@@ -92,12 +92,12 @@ abbrev pub canon_member : Member → Seq ℕ
 canon_member (member.Item i) = canon_item i
 canon_member (member.Inner l) = canon_inner l
 
--- behind the key of an Item: for Boolean true the parameters alone
+-- after the key of an Item: for Boolean true the parameters alone
 abbrev pub canon_flag : Bare → Pairs Bare → Seq ℕ
 canon_flag (Boolean true) ps = canon_params ps
 canon_flag x ps = equals ∷ (canon_bare x ++ canon_params ps)
 
--- behind a key (4.1.2)
+-- after a key (4.1.2)
 abbrev pub canon_behind : Member → Seq ℕ
 canon_behind (member.Item i) = canon_flag i.bare i.params
 canon_behind (member.Inner l) = equals ∷ canon_inner l

@@ -30,6 +30,6 @@ Viable d kind = Continues (SpellsField d kind)
 abbrev pub IsPlace : Dialect → Kind → List ℕ → ℕ → Type 0
 IsPlace d kind = IsLongest Field (SpellsField d kind)
 
--- a byte that may come next; none above 127 stands in a text
+-- a byte that may come next; none above 127 is in a text
 abbrev pub Next : Dialect → Kind → List ℕ → ℕ → Type 0
 Next d kind p b = (b < 128) × Viable d kind (p ++ b ∷ [])

@@ -15,7 +15,7 @@ abbrev pub sign : Bool → List ℕ
 sign false = []
 sign true = minus ∷ []
 
--- the value of the digits w behind digits of value a
+-- the value of the digits w after digits of value a
 abbrev pub value_from : ℕ → List ℕ → ℕ
 value_from a [] = a
 value_from a (d ∷ w) = value_from (10 * a + (d - digit_zero)) w

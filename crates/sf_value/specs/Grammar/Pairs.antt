@@ -8,7 +8,7 @@ use Rattle.std.specs.Str.{bytes_eq}
 abbrev pub Pairs : Type 0 → Type 0
 Pairs V = List (List ℕ × V)
 
--- the value at the key's last place, or v where it has none
+-- the value at the key's last place, or v if it has none
 abbrev pub latest : {V : Type 0} → List ℕ → V → Pairs V → V
 latest k v [] = v
 latest k v (p ∷ ps) = latest k (if bytes_eq k p.0 then p.1 else v) ps
@@ -31,6 +31,6 @@ put ps k v = settle (ps ++ (k, v) ∷ [])
 abbrev pub value_at : {V : Type 0} → List ℕ → Pairs V → Option V
 value_at k ps = lookup (bytes_eq k) ps
 
--- no key stands twice
+-- no key occurs twice
 abbrev pub HasDistinctKeys : {V : Type 0} → Pairs V → Type 0
 HasDistinctKeys ps = IsDistinct bytes_eq (keys_of ps)

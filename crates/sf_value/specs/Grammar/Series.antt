@@ -21,7 +21,7 @@ SpellsSeries P t [] = t ≡ []
 SpellsSeries P t (x ∷ xs) =
     (prefix suffix : List ℕ) × (t ≡ prefix ++ suffix) × P prefix x × SpellsCommas P suffix xs
 
--- SP alone for no member; else SP, a series, OWS (4.2, 4.2.1, 4.2.2)
+-- SP alone for no member; otherwise SP, a series, OWS (4.2, 4.2.1, 4.2.2)
 abbrev pub SpellsWhole : {X : Type 0} → (List ℕ → X → Type 0) → List ℕ → List X → Type 0
 SpellsWhole P t [] = Every is_sp t
 SpellsWhole P t (x ∷ xs) =

@@ -9,7 +9,7 @@ pub data Utf8 : Type 0 where
   Start : Utf8
   Wants : (more low high : ℕ) → Utf8
 
--- behind a byte of a character that so many bytes complete
+-- after a byte of a character that so many bytes complete
 abbrev pub wants : ℕ → Utf8
 wants zero = Start
 wants (suc n) = Wants n 128 191
