@@ -1,6 +1,6 @@
 //! Texts by both ways: the tree of each, and its view, have the same parts.
 use sf_parse::parse_text_in;
-use sf_value::{Bare, Dialect, Entries, Field, Inner, Item, Kind, Member, same};
+use sf_value::{Bare, Dialect, Entries, Field, Inner, Item, Kind, List, Member, same};
 use sf_view::{BareView, Node, Slice, View};
 use std::alloc::Global;
 use std::hash::RandomState;
@@ -276,6 +276,37 @@ fn copies_are_those_of_trees(rt: HostRuntime) -> Result<(), Fail> {
             Some(bare) => {
                 let copy = Field::Item(Item::new(rt.alloc(), &seed, bare));
                 assert!(&rt; same(&copy, &field));
+            }
+            None => assert!(&rt; false),
+        }
+    }
+    Ok(())
+}
+
+/// The Inner List that a List begins with, copied.
+fn copied_inner(alloc: Global, seed: &RandomState, text: &[u8]) -> Option<Inner> {
+    let mut buffer = [Node::NONE; 16];
+    let view = View::scan(Dialect::Rfc9651, Kind::List, text, &mut buffer).ok()?;
+    let (first, _) = view.split_first()?;
+    first.to_inner(alloc, seed).ok()
+}
+
+static INNER_LISTS: [&[u8]; 4] = [
+    b"()",
+    b"( 1  2 );a",
+    b"(\"foo\"; a=1;b=2 :YQ==:);lvl=5;q=\"\\\"\"",
+    b"(a;b c;d=1;e);f;g=h",
+];
+
+#[test]
+fn copied_inner_lists_are_those_of_trees(rt: HostRuntime) -> Result<(), Fail> {
+    let seed = RandomState::new(&rt)?;
+    for text in &INNER_LISTS {
+        let field = parse_text_in(rt.alloc(), &seed, Dialect::Rfc9651, Kind::List, text)?;
+        match copied_inner(rt.alloc(), &seed, text) {
+            Some(inner) => {
+                let list = List::new(rt.alloc()).with(Member::Inner(inner))?;
+                assert!(&rt; same(&Field::List(list), &field));
             }
             None => assert!(&rt; false),
         }

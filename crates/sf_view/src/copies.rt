@@ -3,18 +3,20 @@ ghost use Rattle.std.specs.Prelude.{◌≡◌, ◌∷◌, [], ℕ, List, IfOk};
 ghost use Rattle.sf_value.specs.declared.dialect.Dialect.{Dialect as Which};
 ghost use Rattle.sf_value.specs.declared.value.Bare.{Bare as Value};
 ghost use Rattle.sf_value.specs.declared.value.Bare.TheVariants as value_is;
+ghost use Rattle.sf_value.specs.declared.value.Inner.{Inner as InnerValue};
 ghost use Rattle.sf_value.specs.declared.value.Item.{Item as ItemValue};
+ghost use Rattle.sf_value.specs.Grammar.Words.{Each};
 ghost use Rattle.sf_value.specs.Grammar.Pairs.{Pairs, HasDistinctKeys, settle};
 ghost use Rattle.sf_view.specs.declared.node.Role.{Role as Place};
-ghost use Rattle.sf_view.specs.View.{DescribesItem, DescribesParams};
+ghost use Rattle.sf_view.specs.View.{DescribesItem, DescribesItems, DescribesInner, DescribesParams};
 ghost use Rattle.sf_view.specs.Decoding.{HasBytes, Remains};
 ghost use Rattle.sf_view.specs.Views.{IsBorrowed};
 
 use crate::bytes::{Coding, take_byte};
 use crate::view::{BareView, Slice, View};
 use sf_value::{
-    Bare, Blob, Entries, Int, Item, Key, OutOfMemory, ShortBytes, Shown, Text, TextFault,
-    Thousandths, Token,
+    Bare, Blob, Entries, Inner, Int, Item, Key, OutOfMemory, Sequence, ShortBytes, Shown, Text,
+    TextFault, Thousandths, Token,
 };
 use std::alloc::Global;
 use std::hash::RandomState;
@@ -59,7 +61,7 @@ impl View<'_> {
     /// view.get(b"u")?.to_item(alloc, &seed)
     /// ```
     pub fn to_item(&self, alloc: Global, seed: &RandomState) -> Result<Item, CopyFault>
-        // Whatever Item the nodes describe, the copy is that one.
+        // Whatever Item the nodes describe, the copy is that one, if no key is repeated in it.
         ensures { (d : Which) (r : Place) (k : List ℕ) (i : ItemValue)
             → DescribesItem d self.now.text.now r k self.now.nodes.now i
             → HasDistinctKeys i.params
@@ -71,6 +73,48 @@ impl View<'_> {
         let bare = view.to_bare(alloc)?;
         let params = params(alloc, seed, self.params())?;
         Ok(Item { bare, params })
+    }
+
+    /// The Inner List, copied to a value of its own, with its Items and parameters. It allocates.
+    ///
+    /// ```
+    /// view.get(b"l")?.to_inner(alloc, &seed) // of l=(1 2)
+    /// ```
+    pub fn to_inner(&self, alloc: Global, seed: &RandomState) -> Result<Inner, CopyFault>
+        // Whatever Inner List the nodes describe, the copy is that one, if no key is repeated in it.
+        ensures { (d : Which) (k : List ℕ) (l : InnerValue)
+            → DescribesInner d self.now.text.now k self.now.nodes.now l
+            → Each (λ i. HasDistinctKeys i.params) l.items
+            → HasDistinctKeys l.params
+            → IfOk result (λ x. x ≡ l) }
+    {
+        let Some(inside) = self.items() else {
+            return Err(CopyFault::Unscanned);
+        };
+        let items = items(alloc, seed, inside)?;
+        let params = params(alloc, seed, self.params())?;
+        Ok(Inner { items, params })
+    }
+}
+
+/// The Items that nodes describe.
+fn items(alloc: Global, seed: &RandomState, view: View) -> Result<Sequence<Item>, CopyFault>
+    ensures { (d : Which) (is : List ItemValue)
+        → DescribesItems d view.entry.text.now view.entry.nodes.now is
+        → Each (λ i. HasDistinctKeys i.params) is
+        → IfOk result (λ all. all ≡ is) }
+{
+    let mut all = Sequence::new(alloc);
+    let mut rest = view;
+    loop {
+        let Some((part, others)) = rest.split_first() else {
+            return Ok(all);
+        };
+        let item = part.to_item(alloc, seed)?;
+        let Ok(_) = all.push(item) else {
+            return Err(CopyFault::OutOfMemory);
+        };
+        rest = others;
     }
 }
 
