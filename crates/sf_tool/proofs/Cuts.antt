@@ -32,7 +32,7 @@ last_part : (text : List ℕ) → 0 < length text → lines_of_parts (text ∷ [
 last_part [] h = absurd (omega arith)
 last_part (x ∷ xs) h = rw eqb-suc-zero refl
 
--- the last line, where it has no line feed
+-- the last line, if it has no line feed
 pub lines-last : (text : List ℕ) → 0 < length text
     → position_or_len is_line_feed text ≡ length text → lines text ≡ text ∷ []
 lines-last text some none =

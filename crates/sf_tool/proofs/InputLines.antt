@@ -25,7 +25,7 @@ length-strip : (l : List ℕ) → length (strip_carriage_return l) ≤ length l
 length-strip l = grind (arith, length-take (length l - 1) l)
 
 -- with the comma and the space before each, lines take at most three bytes for each byte that they
--- are cut from: of a text with a line feed, if what stands behind the first does
+-- are cut from: of a text with a line feed, if what is after the first does
 cut_short : (text : List ℕ) → position_or_len is_line_feed text < length text
     → length (behind true (lines_of (after_first is_line_feed text)))
     ≤ 3 * length (after_first is_line_feed text)
@@ -88,7 +88,7 @@ length-joined input =
     subst (λ t. length t ≤ 3 * length input) (sym (joined (lines_of input)))
     (omega (arith, short, unbegun (lines_of input)))
 
--- an input within the limit is refused for its text or for want of memory, never as too long
+-- an input within the limit is refused for its text or if an allocation fails, never as too long
 pub of_text : (d : Dialect) (kind : Kind) (input : List ℕ) (r : Result Field Refusal)
     → length input ≤ input_limit → ParsesLines d kind (lines_of input) r → IfErr r IsOfText
 of_text d kind input (Ok v) small p = tt

@@ -1,4 +1,4 @@
--- A map of values under listed names has room for one more, where the names are few.
+-- A map of values under listed names has capacity for one more, where the names are few.
 use Rattle.std.proofs.Common.{◌≡◌, ℕ, suc, ◌+◌, ◌<◌, ◌≤◌, ◌^◌, ◌⊎◌, inl, inr, true, false, List, []}
 use Rattle.std.proofs.Common.{◌∷◌, ◌++◌, length, bytes_eq, refl, sym, ap, ◌∙◌, arith, subst}
 use Rattle.std.proofs.Common.{length-append}

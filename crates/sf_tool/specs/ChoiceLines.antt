@@ -11,7 +11,7 @@ abbrev pub lifetime_text : Option ℕ → List ℕ
 lifetime_text None = codes "none"
 lifetime_text (Some seconds) = decimal seconds
 
--- the line of a directive, where it is set
+-- the line of a directive, if it is set
 abbrev pub flag_line : List ℕ → Bool → List ℕ
 flag_line line true = line
 flag_line line false = []

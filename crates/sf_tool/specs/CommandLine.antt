@@ -24,7 +24,7 @@ abbrev pub kind_option : Rule
 kind_option =
     record (new_rule (codes "kind")) { long = Some (codes "kind"); required = true }
 
--- `--dialect`, which is rfc9651 where it is not given
+-- `--dialect`, which is rfc9651 if it is not given
 abbrev pub dialect_option : Rule
 dialect_option = record (new_rule (codes "dialect")) {
   long = Some (codes "dialect");
@@ -106,7 +106,7 @@ IsRequestOf words request =
     × ((found : Text × List Row) × (subcommand_of command_line words ≡ Some found)
     × AsksFor found.0 found.1 request)
 
--- a fault is Usage only where the words ask for no request; of want of memory nothing is told
+-- a fault is Usage only where the words ask for no request; of a failed allocation nothing is said
 abbrev pub IsUsageOf : List Text → RequestFault → Type 0
 IsUsageOf words Usage = (request : Request) → ¬ (IsRequestOf words request)
 IsUsageOf words OutOfMemory = ⊤

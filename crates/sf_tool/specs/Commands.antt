@@ -22,8 +22,8 @@ MayAllocate words =
     (length words ≤ 64)
     × ((n : ℕ) × (n < length words) × (list_all is_header_name (take (n + 1) words) ≡ true))
 
--- Usage, where a command that was found in the words asks for no request; memory is wanting for the
--- names of `targeted` alone
+-- Usage, where a command that was found in the words asks for no request; an allocation fails for
+-- the names of `targeted` alone
 abbrev pub IsCommandFault : Text → List Row → RequestFault → Type 0
 IsCommandFault word rows Usage = AsksForNone word rows
 IsCommandFault word rows OutOfMemory =
@@ -39,7 +39,7 @@ abbrev pub IsFoundFault : Option (Text × List Row) → RequestFault → Type 0
 IsFoundFault None fault = fault ≡ Usage
 IsFoundFault (Some found) fault = IsCommandFault found.0 found.1 fault
 
--- Usage, where the words are no names that `targeted` takes; memory is wanting only for a name,
+-- Usage, where the words are no names that `targeted` takes; an allocation fails only for a name,
 -- before any word that is none
 abbrev pub IsNamesFault : List Text → RequestFault → Type 0
 IsNamesFault words Usage = (names : List Text) → ¬ (AreNames words names)

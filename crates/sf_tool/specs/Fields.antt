@@ -29,7 +29,7 @@ is_control b = nat_lt b space || b == del
 abbrev pub is_field_value : List ℕ → Bool
 is_field_value value = list_all (λ b. b == tab || not (is_control b)) value
 
--- what stands before the first colon
+-- what is before the first colon
 abbrev pub word_of : List ℕ → List ℕ
 word_of line = before_first is_colon line
 
@@ -37,7 +37,7 @@ word_of line = before_first is_colon line
 abbrev pub name_of : List ℕ → List ℕ
 name_of line = lowercase (word_of line)
 
--- what stands after the first colon, without the blanks at its ends
+-- what is after the first colon, without the blanks at its ends
 abbrev pub value_of : List ℕ → List ℕ
 value_of line = trim (after_first is_colon line)
 
@@ -80,15 +80,15 @@ listed_fields targets lines = map field_of (filter (is_of_listed targets) lines)
 abbrev pub headers_of : Targets → List (List ℕ) → Headers
 headers_of targets lines = append_all [] (listed_fields targets lines)
 
--- the map of the lines before has no room for the field of this line: it is full of names, which
--- takes a list of 24,576 or more, and a command line has 64 at most
+-- the map of the lines before has no capacity for the field of this line: it is full of names,
+-- which takes a list of 24,576 or more, and a command line has 64 at most
 abbrev pub IsOver : Targets → List (List ℕ) → List ℕ → Type 0
 IsOver targets before line =
     (24576 ≤ length targets)
     × (is_of_listed targets line ≡ true)
     × RefusesAppend (headers_of targets before) (name_of line)
 
--- the line of this number is refused, for what it is or since its field finds no room
+-- the line of this number is refused, for what it is or since its field has no capacity left
 abbrev pub IsRefusedAt : Targets → List (List ℕ) → ℕ → Type 0
 IsRefusedAt targets lines n =
     (is_refused targets (get_or lines n []) ≡ true)

@@ -18,7 +18,7 @@ IsLine targets line Refused = is_refused targets line ≡ true
 IsLine targets line (Listed name value) =
     IsTaken targets line × (name ≡ name_of line) × (value ≡ plain_value (value_of line))
 
--- the map has no room for the field of the line
+-- the map has no capacity for the field of the line
 abbrev pub FindsNoRoom : Targets → List ℕ → Headers → Type 0
 FindsNoRoom targets line headers =
     (is_of_listed targets line ≡ true) × RefusesAppend headers (name_of line)

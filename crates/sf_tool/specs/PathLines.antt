@@ -24,7 +24,7 @@ outcome_text (Forwarded passed) = codes " forwarded " ++ token_of passed.why
 outcome_text (Conflict passed) = codes " conflict " ++ token_of passed.why
 outcome_text Unsaid = codes " unsaid"
 
--- a part with its label, where it is present
+-- a part with its label, if it is present
 abbrev pub part : {X : Type 0} → List ℕ → (X → List ℕ) → Option X → List ℕ
 part label text None = []
 part label text (Some x) = label ++ text x
@@ -53,7 +53,7 @@ key_part h = part (codes " key=") (λ key. canon_bare (Text key)) h.key
 abbrev pub detail_part : Hop → List ℕ
 detail_part h = part (codes " detail=") name_text h.detail
 
--- the parts behind the outcome, and the end of the line
+-- the parts after the outcome, and the end of the line
 abbrev pub parts : Hop → List ℕ
 parts h =
     status_part h.outcome

@@ -1,4 +1,4 @@
--- What reading a source to its end, or to a limit, answers.
+-- What reading a source to its end, or to a limit, returns.
 use Rattle.std.specs.Prelude.{◌≡◌, ℕ, ◌+◌, ◌<◌, ◌≤◌, List, length}
 use Rattle.sf_value.specs.Devices.{SourceState, Gave, GaveAndEnded, GaveAndFailed}
 use Rattle.sf_tool.specs.declared.reading.ReadAllFault.{ReadAllFault}
@@ -10,7 +10,7 @@ abbrev pub ReadToEnd : SourceState → SourceState → ℕ → List ℕ → Type
 ReadToEnd old new max bytes = GaveAndEnded old new bytes × (length bytes ≤ max)
 
 -- which bytes were given, and why reading ended: for some of them, within the limit, no memory was
--- left; a read failed behind them; or there was one more than the limit
+-- left; a read failed after them; or there was one more than the limit
 abbrev pub StoppedFor : SourceState → SourceState → ℕ → ReadAllFault → Type 0
 StoppedFor old new max OutOfMemory =
     (bytes : List ℕ) × Gave old new bytes × (0 < length bytes) × (length bytes ≤ max)

@@ -106,7 +106,7 @@ TellsPath t text Refused =
 TellsPath t text Usage = ⊥
 TellsPath t text Stopped = ⊥
 
--- the choice among the fields of these names that stand in the input; or the line of a refusal for
+-- the choice among the fields of these names that are in the input; or the line of a refusal for
 -- the first line that is refused
 abbrev pub TellsChoice : List (List ℕ) → List ℕ → List ℕ → Status → Type 0
 TellsChoice names input text Accepted =
@@ -136,7 +136,7 @@ pub record Finished (request : Request) (input : List ℕ) (old new : SinkState)
   pub answers : Answers request input text status
   pub wrote : Wrote old new 0 after text
 
--- a write failed, and before it a front of the text of an input went out
+-- a write failed, and before it a prefix of the text of an input went out
 pub record BrokeOff (request : Request) (input : List ℕ) (old new : SinkState) : Type 0 where
   pub text : List ℕ
   pub status : Status
@@ -169,7 +169,7 @@ Tells request input old new Stopped =
     (MayAllocate request input × (new ≡ old)) ⊎ BrokeOff request input old new
 
 -- this text was to be written, with a status where all of it went out; where it did not, a write
--- failed behind a front of it
+-- failed after a front of it
 abbrev pub TellsText : List ℕ → Status → SinkState → SinkState → Status → Type 0
 TellsText text status old new Accepted =
     (Accepted ≡ status) × ((after : ℕ) × Wrote old new 0 after text)
@@ -186,7 +186,7 @@ IsWhole old new input = GaveAndEnded old new input × (length input ≤ input_li
 abbrev pub IsTooLong : SourceState → SourceState → Type 0
 IsTooLong old new = (bytes : List ℕ) × Gave old new bytes × (length bytes ≡ input_limit + 1)
 
--- bytes within the limit were read: for some of them memory was wanting, or a read failed and was
+-- bytes within the limit were read: an allocation for some of them failed, or a read failed and was
 -- the last
 pub record ReadInPart (old new : SourceState) : Type 0 where
   pub bytes : List ℕ
@@ -201,7 +201,7 @@ Ran request source source' sink sink' status =
     ⊎ ((IsTooLong source source' × TellsText (too_long_line input_limit) Refused sink sink' status)
     ⊎ (ReadInPart source source' × (sink' ≡ sink) × (status ≡ Stopped)))
 
--- a refusal was answered: its line was to be written, or memory was wanting
+-- a refusal was answered: its line was to be written, or an allocation failed
 abbrev pub TellsRefusal : Refusal → SinkState → SinkState → Status → Type 0
 TellsRefusal (Syntax place found expected may_end) old new result =
     TellsText (refusal_line place found expected may_end) Refused old new result
@@ -209,7 +209,7 @@ TellsRefusal OutOfMemory old new result = (result ≡ Stopped) × (new ≡ old)
 TellsRefusal (TooLong limit) old new result = ⊥
 TellsRefusal (ReadFault place) old new result = ⊥
 
--- a refusal for the text or for want of memory
+-- a refusal for the text or as out of memory
 abbrev pub IsOfText : Refusal → Type 0
 IsOfText OutOfMemory = ⊤
 IsOfText (Syntax place found expected may_end) = ⊤
@@ -221,8 +221,8 @@ abbrev pub IsAskOfText : AskFault → Type 0
 IsAskOfText (ask.Field refusal) = IsOfText refusal
 IsAskOfText (ask.Answer fault) = ⊤
 
--- a fault of a consumer was answered: the line of the refusal, or of the member that names no cache,
--- was to be written, or memory was wanting
+-- a fault of a consumer was answered: the line of the refusal, or of the member that names no
+-- cache, was to be written, or an allocation failed
 abbrev pub TellsAskFault : AskFault → SinkState → SinkState → Status → Type 0
 TellsAskFault (ask.Field refusal) old new result = TellsRefusal refusal old new result
 TellsAskFault (ask.Answer (use_fault.NotACache index)) old new result =
@@ -230,7 +230,7 @@ TellsAskFault (ask.Answer (use_fault.NotACache index)) old new result =
 TellsAskFault (ask.Answer use_fault.OutOfMemory) old new result =
     (result ≡ Stopped) × (new ≡ old)
 
--- a refused line was answered: its number was to be written, or memory was wanting
+-- a refused line was answered: its number was to be written, or an allocation failed
 abbrev pub TellsInputFault : InputFault → SinkState → SinkState → Status → Type 0
 TellsInputFault (input_fault.Line number) old new result =
     TellsText (refused_line number) Refused old new result

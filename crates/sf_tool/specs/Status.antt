@@ -22,7 +22,7 @@ usage_line = codes "sf: usage: sf show, check or normalise --kind item, list or 
 abbrev pub stopped_line : List ℕ
 stopped_line = codes "sf: out of memory or a device failed"
 
--- what stands on standard error, in a line: nothing where the input was answered
+-- what is on standard error, in a line: nothing where the input was answered
 abbrev pub line_of : Status → Option (List ℕ)
 line_of Accepted = None
 line_of Refused = None

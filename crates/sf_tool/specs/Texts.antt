@@ -8,7 +8,7 @@ abbrev pub run_text : ℕ × ℕ → List ℕ
 run_text run =
     if run.0 == run.1 then hex_byte run.0 else hex_byte run.0 ++ 45 ∷ hex_byte run.1
 
--- each run behind a space
+-- each run after a space
 abbrev pub set_text : List (ℕ × ℕ) → List ℕ
 set_text [] = []
 set_text (run ∷ runs) = (32 ∷ run_text run) ++ set_text runs

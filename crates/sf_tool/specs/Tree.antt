@@ -1,4 +1,4 @@
--- The indented tree that `show` prints of a field: each line stands under its parent with two more
+-- The indented tree that `show` prints of a field: each line is under its parent with two more
 -- spaces.
 use Rattle.std.specs.Prelude.{ℕ, ◌+◌, ◌*◌, List as Seq, [], ◌∷◌, ◌++◌, length, replicate, codes}
 use Rattle.std.specs.Prelude.{decimal}
@@ -15,7 +15,7 @@ use Rattle.sf_value.specs.declared.value.Field.TheVariants as field
 use Rattle.sf_value.specs.Grammar.Pairs.{Pairs}
 use Rattle.sf_value.specs.Grammar.Canonical.{canon_bare}
 
--- what stands before a line at this depth
+-- what is before a line at this depth
 abbrev pub margin : ℕ → Seq ℕ
 margin depth = replicate (2 * depth) space
 
@@ -44,7 +44,7 @@ param_lines depth [] = []
 param_lines depth (p ∷ ps) =
     margin depth ++ (codes "; " ++ (p.0 ++ (codes " " ++ (bare_line p.1 ++ param_lines depth ps))))
 
--- an Item at this depth, behind what stands before it in its line; its parameters stand below it
+-- an Item at this depth, after what is before it in its line; its parameters are below it
 abbrev pub item_lines : ℕ → Item → Seq ℕ
 item_lines depth i = bare_line i.bare ++ param_lines (depth + 1) i.params
 
@@ -69,7 +69,7 @@ abbrev pub members_lines : Seq Member → Seq ℕ
 members_lines [] = []
 members_lines (m ∷ ms) = margin 1 ++ (member_lines 1 m ++ members_lines ms)
 
--- the members of a Dictionary, each behind its key
+-- the members of a Dictionary, each after its key
 abbrev pub entries_lines : Pairs Member → Seq ℕ
 entries_lines [] = []
 entries_lines (p ∷ ps) =

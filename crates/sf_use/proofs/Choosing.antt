@@ -83,7 +83,7 @@ offers h n (Err (TooLong limit)) (Ok offer) r m = absurd cc
 offers h n (Err (TooLong limit)) (Err e) r m = tt
 offers h n (Err (ReadFault place)) o r m = absurd m
 
--- memory is wanting only for a field that is present
+-- an allocation fails only for a field that is present
 pub present : (h : Headers) (n : List ℕ) (read : Result (Option Field) Refusal)
     (o : Result (Option Policy) NoMemory) → ParsesHeaders kind.Dict h n read
     → OffersAsRead read o → IfErr o (λ e. ContainsKey h n)

@@ -26,7 +26,7 @@ use Rattle.sf_use.specs.declared.targeted.Policy.{Policy}
 use Rattle.sf_use.proofs.Choosing.{same_dict}
 use Rattle.sf_use.proofs.Replacing.{behind}
 
--- a name stands in a list or not
+-- a name is in a list or not
 stands : (ks : List (List ℕ)) (name : List ℕ) → Contains ks name ⊎ ¬ (Contains ks name)
 stands [] name = inr (λ c. omega (arith, c.1))
 stands (k ∷ ks) name = at (bytes_eq k name) refl (stands ks name)

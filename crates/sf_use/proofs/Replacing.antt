@@ -16,7 +16,7 @@ use Rattle.sf_field.specs.Headers.{Headers, lines_under}
 use Rattle.sf_use.specs.TargetedLaws.{SameText, Normalised, ChosenAsReplaced}
 use Rattle.sf_use.proofs.Choosing.{chosen_as_canonical}
 
--- a name that is not the first is behind it
+-- a name that is not the first is after it
 pub behind : (k : List ℕ) (ks : List (List ℕ)) (name : List ℕ) → bytes_eq k name ≡ false
     → Contains (k ∷ ks) name → Contains ks name
 behind k ks name n (zero, lt, is) =

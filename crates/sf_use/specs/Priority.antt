@@ -48,7 +48,7 @@ abbrev pub asked_in : Field → Asked
 asked_in (field.Dict d) = asked d
 asked_in f = record { urgency = None; incremental = None }
 
--- each part as the server says it, where it does, else as the client does (section 8)
+-- each part as the server says it, if it does, otherwise as the client does (section 8)
 abbrev pub merged : Asked → Asked → Asked
 merged client server = record {
   urgency = option_or server.urgency client.urgency;

@@ -1,4 +1,4 @@
--- The laws of priorities. Each stands as the contract of a function in `src/laws.rt`.
+-- The laws of priorities. Each is the contract of a function in `src/laws.rt`.
 use Rattle.std.specs.Prelude.{◌≡◌, [], ◌∷◌, Ok}
 use Rattle.sf_value.specs.declared.value.Field.TheVariants as field
 use Rattle.sf_value.specs.declared.value.Kind.TheVariants as kind

@@ -26,7 +26,7 @@ abbrev pub not_false : Bare → Bool
 not_false (Boolean b) = b
 not_false x = true
 
--- a directive is set where it is there and is no Item of Boolean false
+-- a directive is set if it is there and is no Item of Boolean false
 abbrev pub is_set : Option Member → Bool
 is_set None = false
 is_set (Some (member.Item i)) = not_false i.bare
@@ -52,8 +52,8 @@ abbrev pub directives : Field → Policy
 directives (field.Dict d) = policy d
 directives f = policy nothing
 
--- for how many seconds a response is fresh: in a shared cache s-maxage stands before max-age
--- (RFC 9111 section 4.2.1), in a private one max-age alone counts
+-- for how many seconds a response is fresh: in a shared cache s-maxage is before max-age (RFC 9111
+-- section 4.2.1), in a private one max-age alone counts
 abbrev pub life : Policy → Bool → Option ℕ
 life p true = option_or p.s_maxage p.max_age
 life p false = p.max_age

@@ -26,8 +26,8 @@ pub record Usable (headers : Headers) (name : Seq ℕ) (d : Dict) : Type 0 where
   pub spelled : SpellsField Rfc9651 kind.Dict (join (lines_under headers name)) (field.Dict d)
   pub filled : d.members ≢ []
 
--- what the field of this name offers: the policy of a Dictionary that can be used, or nothing,
--- where there is none
+-- what the field of this name offers: the policy of a Dictionary that can be used, or nothing, if
+-- there is none
 abbrev pub IsOffer : Headers → Seq ℕ → Option Policy → Type 0
 IsOffer headers name (Some p) = (d : Dict) × Usable headers name d × (p ≡ policy d)
 IsOffer headers name None = (d : Dict) → Usable headers name d → ⊥
@@ -56,7 +56,7 @@ IsReached targets headers =
     × ContainsKey headers (get_or targets index [])
     × All (λ n. IsOffer headers n None) (take index targets)
 
--- a refusal of what stands in memory: no source was read
+-- a refusal of what is in memory: no source was read
 abbrev pub IsOfHeaders : Refusal → Type 0
 IsOfHeaders OutOfMemory = ⊤
 IsOfHeaders (Syntax place found expected may_end) = ⊤

@@ -1,5 +1,4 @@
--- The laws of the choice of a targeted field. Each stands as the contract of a function in
--- `src/laws.rt`.
+-- The laws of the choice of a targeted field. Each is the contract of a function in `src/laws.rt`.
 use Rattle.std.specs.Prelude.{◌≡◌, ◌⊎◌, ◌↔◌, ℕ, List as Seq, [], ◌∷◌, take, slice_get, All}
 use Rattle.std.specs.Prelude.{Some, None}
 use Rattle.http_header.specs.FieldValue.{plain_value}
@@ -57,7 +56,7 @@ ChosenAsReplaced =
     → IsChosen targets headers c
     ↔ IsChosen targets (insert headers name (plain_value (canon value))) c
 
--- the first target, in the order of the list, with an offer (RFC 9213 section 2.2); Fallback where
+-- the first target, in the order of the list, with an offer (RFC 9213 section 2.2); Fallback if
 -- there is none
 abbrev pub IsFirst : Seq (Seq ℕ) → Headers → Choice → Type 0
 IsFirst targets headers (choice.Field index p) =

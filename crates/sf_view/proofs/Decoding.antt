@@ -383,7 +383,7 @@ third_none text (c ∷ s) high n (small, (low, suffix, lt, h, f, p)) =
     let n' = subst NoLetter three.1 n in
     absurd (n' (c % 64) (omega arith) refl)
 
--- so many bytes were decoded, and the rest spells those behind them
+-- so many bytes were decoded, and the rest spells those after them
 pub record Decoded (code : Coding) (rest done t : List ℕ) : Type 0 where
   pub left : List ℕ
   pub split : t ≡ done ++ left

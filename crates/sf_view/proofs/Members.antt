@@ -194,7 +194,7 @@ member_there d source ms x place zero none t =
     subst (λ y. DescribesMember d source y ms x) (ap (λ y. piece place.at y source) none)
     (t (omega arith))
 
--- the nodes that were put stand at the front
+-- the nodes that were put are at the front
 front_there : (old new : List Node) (count : ℕ) (ns : List Node) → Puts old new 0 count ns
     → take count new ≡ ns
 front_there old new count ns p = p.there

@@ -28,7 +28,7 @@ use Rattle.sf_view.proofs.Ends.{end_further, end_piece, end_within}
 use Rattle.sf_view.proofs.Scanned.{number_describes}
 use Rattle.sf_view.proofs.Putting.{puts_none, puts_then, puts_one, puts_first}
 
--- where the key of a parameter stands
+-- where the key of a parameter is
 key_there : (whole : ℕ) (text named after : List ℕ) (place : KeyPlace)
     → Behind is_sp text named → (k : ScansKey whole named place after)
     → (source : List ℕ) → IsEnd source (59 ∷ text) → length source ≡ whole
@@ -223,7 +223,7 @@ params_scan d source r text rest old new at count s same apart = record {
   describes = s.describes;
 }
 
--- behind a node
+-- after a node
 pub rest_none : (d : Dialect) (source text : List ℕ) (n : Node) (old : List Node) (at : ℕ)
     → n.span ≡ 1 → at < length old
     → ScansRest d source text text n old (set old at n) at (at + 1)

@@ -20,7 +20,7 @@ HasBytes d s t =
 
 -- the rest of the text spells these bytes: as they are, between quotes, percent-encoded, or in
 -- base64 at the first, second or third byte of a group. Of a byte whose character was read, the low
--- bits are kept: the rest spells what it would behind bytes 0 and a character of these bits
+-- bits are kept: the rest spells what it would after bytes 0 and a character of these bits
 abbrev pub Remains : Coding → List ℕ → List ℕ → Type 0
 Remains coding.Plain rest s = rest ≡ s
 Remains coding.Escaped rest s = rest ≡ escaped s ++ quote ∷ []
@@ -36,7 +36,7 @@ pub record TakesByte (b : ℕ) (P : List ℕ → Type 0) (s : List ℕ) : Type 0
   pub split : s ≡ b ∷ left
   pub remains : P left
 
--- the first of the bytes that a text spells, if there is one, and how another spells those behind it
+-- the first of the bytes that a text spells, if there is one, and how another spells those after it
 abbrev pub GivesByte : Coding → List ℕ → Option ℕ → Coding → List ℕ → Type 0
 GivesByte c rest None c' rest' = (s : List ℕ) → Remains c rest s → s ≡ []
 GivesByte c rest (Some b) c' rest' =

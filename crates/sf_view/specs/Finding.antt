@@ -35,7 +35,7 @@ pub record IsHop (source : List ℕ) (nodes : List Node) (k : List ℕ) (front l
   pub key : k ≡ piece first.key_at first.key_length source
   pub span : length front ≡ first.span
 
--- the nodes begin with no part that stands in the source
+-- the nodes begin with no part that is in the source
 abbrev pub NoHop : List ℕ → List Node → Type 0
 NoHop source [] = Unit {0}
 NoHop source (n ∷ ns) =

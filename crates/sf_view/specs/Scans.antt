@@ -1,4 +1,4 @@
--- What scanning the front of a text answers.
+-- What scanning the start of a text returns.
 use Rattle.std.specs.Prelude.{◌≡◌, ℕ, ℤ, pos, ◌+◌, ◌≤◌, Bool, List, [], ◌∷◌, ◌++◌, length, take}
 use Rattle.sf_value.specs.declared.dialect.Dialect.{Dialect}
 use Rattle.sf_value.specs.declared.value.Bare.{Bare}
@@ -38,7 +38,7 @@ is_unescaped b = is_visible b && not (is_escaped b)
 abbrev pub is_base64 : ℕ → Bool
 is_base64 b = is_alpha b || is_digit b || is_one_of (codes "+/") b
 
--- bytes that pass the test stand before the rest
+-- bytes that pass the test are before the rest
 pub record Behind (p : ℕ → Bool) (text rest : List ℕ) : Type 0 where
   pub front : List ℕ
   pub split : text ≡ front ++ rest
@@ -49,7 +49,7 @@ pub record IsEnd (source text : List ℕ) : Type 0 where
   pub before : List ℕ
   pub whole : source ≡ before ++ text
 
--- a key stands at the front of the text, of which so much and what stands before is the source
+-- a key is at the start of the text, of which so much and what is before is the source
 pub record ScansKey (whole : ℕ) (text : List ℕ) (place : KeyPlace) (rest : List ℕ) : Type 0 where
   pub front : List ℕ
   pub split : text ≡ front ++ rest
@@ -57,7 +57,7 @@ pub record ScansKey (whole : ℕ) (text : List ℕ) (place : KeyPlace) (rest : L
   pub at : place.at + length text ≡ whole
   pub size : place.length ≡ length front
 
--- digits at the front of the text, with their value and number
+-- digits at the start of the text, with their value and number
 pub record ScansDigits (text : List ℕ) (v n : ℕ) (rest : List ℕ) : Type 0 where
   pub front : List ℕ
   pub split : text ≡ front ++ rest
@@ -65,7 +65,7 @@ pub record ScansDigits (text : List ℕ) (v n : ℕ) (rest : List ℕ) : Type 0 
   pub value : v ≡ value_from 0 front
   pub count : n ≡ length front
 
--- one to three digits at the front of the text, and the thousandths that they make
+-- one to three digits at the start of the text, and the thousandths that they make
 pub record ScansFraction (text : List ℕ) (v : ℕ) (rest : List ℕ) : Type 0 where
   pub front : List ℕ
   pub split : text ≡ front ++ rest
@@ -83,7 +83,7 @@ pub record NumberDescribes (p : Part) (x : Bare) : Type 0 where
   pub coded : p.coded ≡ false
   pub none : text_of x ≡ []
 
--- the front of the text spells a number, of which the part describes
+-- the start of the text spells a number, of which the part describes
 pub record ScansNumber (text : List ℕ) (p : Part) (rest : List ℕ) : Type 0 where
   pub front : List ℕ
   pub value : Bare
@@ -91,7 +91,7 @@ pub record ScansNumber (text : List ℕ) (p : Part) (rest : List ℕ) : Type 0 w
   pub spelled : (d : Dialect) → SpellsBare d front value
   pub describes : NumberDescribes p value
 
--- the front of the text spells a Date, of which the part describes
+-- the start of the text spells a Date, of which the part describes
 pub record ScansDate (text : List ℕ) (p : Part) (rest : List ℕ) : Type 0 where
   pub front : List ℕ
   pub value : ℤ
@@ -99,7 +99,7 @@ pub record ScansDate (text : List ℕ) (p : Part) (rest : List ℕ) : Type 0 whe
   pub spelled : SpellsDate front value
   pub describes : NumberDescribes p (Date value)
 
--- behind so many characters that no group of four holds, = signs and a colon stand before the rest
+-- after so many characters that no group of four holds, = signs and a colon are before the rest
 abbrev pub pads_at : ℕ → ℕ
 pads_at over = if over == 2 then 2 else (if over == 3 then 1 else 0)
 
@@ -122,7 +122,7 @@ pub record PartDescribes (d : Dialect) (source : List ℕ) (p : Part) (x : Bare)
   pub within : p.at + p.length ≤ length source
   pub text : DescribesText d p.coded (piece p.at p.length source) x
 
--- the front of the text spells a bare item, of which the part describes in any source that ends so
+-- the start of the text spells a bare item, of which the part describes in any source that ends so
 pub record ScansBare (d : Dialect) (whole : ℕ) (text : List ℕ) (p : Part) (rest : List ℕ)
     : Type 0 where
   pub front : List ℕ
@@ -171,13 +171,13 @@ keys_from source (suc k) (n ∷ ns) = keys_from source k ns
 abbrev pub AreApart : List ℕ → List Node → Type 0
 AreApart source ns = IsDistinct bytes_eq (keys_from source 0 ns)
 
--- nodes were put behind those that were there
+-- nodes were put after those that were there
 pub record Puts (old new : List Node) (at count : ℕ) (ns : List Node) : Type 0 where
   pub within : count ≤ length new
   pub from : count ≡ at + length ns
   pub there : take count new ≡ take at old ++ ns
 
--- the front of the text spells a parameter: its key, and a bare item of which the part describes
+-- the start of the text spells a parameter: its key, and a bare item of which the part describes
 pub record ScansParam (d : Dialect) (whole : ℕ) (text : List ℕ) (place : KeyPlace) (p : Part)
     (rest : List ℕ) : Type 0 where
   pub front : List ℕ
@@ -190,7 +190,7 @@ pub record ScansParam (d : Dialect) (whole : ℕ) (text : List ℕ) (place : Key
   pub describes : (source : List ℕ) → IsEnd source text → length source ≡ whole
       → PartDescribes d source p value
 
--- the front of the text spells parameters, repeated keys included, and nodes that were put describe
+-- the start of the text spells parameters, repeated keys included, and nodes that were put describe
 -- them
 pub record ScansRaw (d : Dialect) (source : List ℕ) (r : Role) (text rest : List ℕ) (old new : List Node)
     (at count : ℕ) : Type 0 where
@@ -202,7 +202,7 @@ pub record ScansRaw (d : Dialect) (source : List ℕ) (r : Role) (text rest : Li
   pub puts : Puts old new at count nodes
   pub describes : IsEnd source text → DescribesParams d source r nodes raw
 
--- the front of the text spells parameters, and nodes that were put describe them
+-- the start of the text spells parameters, and nodes that were put describe them
 pub record ScansParams (d : Dialect) (source : List ℕ) (r : Role) (text rest : List ℕ) (old new : List Node)
     (at count : ℕ) : Type 0 where
   pub front : List ℕ
@@ -213,7 +213,7 @@ pub record ScansParams (d : Dialect) (source : List ℕ) (r : Role) (text rest :
   pub puts : Puts old new at count nodes
   pub describes : IsEnd source text → DescribesParams d source r nodes values
 
--- the same, behind a node that spans them
+-- the same, after a node that spans them
 pub record ScansRest (d : Dialect) (source text rest : List ℕ) (node : Node) (old new : List Node)
     (at count : ℕ) : Type 0 where
   pub front : List ℕ
@@ -224,7 +224,7 @@ pub record ScansRest (d : Dialect) (source text rest : List ℕ) (node : Node) (
   pub puts : Puts old new at count (spanning (1 + length nodes) node ∷ nodes)
   pub describes : IsEnd source text → DescribesParams d source role_is.Parameter nodes values
 
--- the front of the text spells an Item, and nodes that were put describe it
+-- the start of the text spells an Item, and nodes that were put describe it
 pub record ScansItem (d : Dialect) (source text rest : List ℕ) (r : Role) (place : KeyPlace)
     (old new : List Node) (at count : ℕ) : Type 0 where
   pub front : List ℕ
@@ -250,7 +250,7 @@ opening_of key k = record {
   coded = false;
 }
 
--- the front of the text spells the Items of an Inner List, a closing bracket follows, and nodes
+-- the start of the text spells the Items of an Inner List, a closing bracket follows, and nodes
 -- that were put describe them
 pub record ScansItems (d : Dialect) (source text rest : List ℕ) (old new : List Node)
     (at count : ℕ) : Type 0 where
@@ -262,7 +262,7 @@ pub record ScansItems (d : Dialect) (source text rest : List ℕ) (old new : Lis
   pub puts : Puts old new at count nodes
   pub describes : IsEnd source text → DescribesItems d source nodes values
 
--- Items were read, and behind them spaces where there is one: with any behind they are Items
+-- Items were read, and after them spaces where there is one: with any after they are Items
 pub record ItemsSoFar (d : Dialect) (source text rest : List ℕ) (old new : List Node)
     (at count : ℕ) : Type 0 where
   pub front : List ℕ
@@ -274,7 +274,7 @@ pub record ItemsSoFar (d : Dialect) (source text rest : List ℕ) (old new : Lis
   pub puts : Puts old new at count nodes
   pub describes : IsEnd source text → DescribesItems d source nodes values
 
--- the front of the text spells a member, and nodes that were put describe it
+-- the start of the text spells a member, and nodes that were put describe it
 pub record ScansMember (d : Dialect) (source text rest : List ℕ) (place : KeyPlace)
     (old new : List Node) (at count : ℕ) : Type 0 where
   pub front : List ℕ
@@ -286,7 +286,7 @@ pub record ScansMember (d : Dialect) (source text rest : List ℕ) (place : KeyP
   pub describes : IsEnd source text → place.at + place.length ≤ length source
       → DescribesMember d source (piece place.at place.length source) nodes value
 
--- the front of the text spells a member of a Dictionary, and nodes that were put describe it
+-- the start of the text spells a member of a Dictionary, and nodes that were put describe it
 pub record ScansEntry (d : Dialect) (source text rest : List ℕ) (old new : List Node)
     (at count : ℕ) : Type 0 where
   pub front : List ℕ

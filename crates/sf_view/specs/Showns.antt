@@ -16,12 +16,12 @@ utf8_of (utf8.Wants more low high) = Wants more low high
 abbrev pub between : Utf8
 between = Start
 
--- an escape of this byte stands before the rest
+-- an escape of this byte is before the rest
 pub record IsEscape (text : List ℕ) (c : ℕ) (rest : List ℕ) : Type 0 where
   pub byte : is_byte c ≡ true
   pub split : text ≡ percent ∷ hex (c / 16) ∷ hex (c % 16) ∷ rest
 
--- what may be read of plain bytes at a place in a character
+-- what may be read of unescaped bytes at a place in a character
 abbrev pub PlainBefore : Utf8 → List ℕ → List ℕ → Type 0
 PlainBefore Start text rest = (front : List ℕ) × (text ≡ front ++ rest) × Every is_unencoded front
 PlainBefore (Wants n low high) text rest = text ≡ rest

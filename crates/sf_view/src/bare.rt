@@ -40,7 +40,7 @@ fn number_of(node_type: NodeType, number: i64) -> Part
     }
 }
 
-/// A bare item of bytes: what stands before the rest, of a text of which so much is left.
+/// A bare item of bytes: what is before the rest, of a text of which so much is left.
 #[inline]
 pub(crate) fn bytes_of(
     whole: usize,
@@ -114,7 +114,7 @@ fn digit(text: &[u8]) -> Option<(u64, &[u8])>
     None
 }
 
-/// The fraction behind a point, in thousandths, and the rest.
+/// The fraction after a point, in thousandths, and the rest.
 #[inline]
 fn fraction(text: &[u8]) -> Option<(u64, &[u8])>
     ensures small { IfSome result (λ r. r.0 < 1000) }
@@ -218,7 +218,7 @@ fn scan_string(whole: usize, text: &[u8]) -> Option<(Part, &[u8])>
     ))
 }
 
-/// What closes a Byte Sequence of which so many characters stand over, and the rest.
+/// What closes a Byte Sequence of which so many characters are left over, and the rest.
 #[inline]
 fn behind_pads(over: usize, text: &[u8]) -> Option<&[u8]>
     requires { over < 4 }

@@ -68,7 +68,7 @@ impl<'a> Slice<'a> {
     }
 
     /// The bytes: of the text itself if they are not coded, or decoded into the buffer, which is
-    /// left as it was behind them. `None` if the buffer is too short; one as long as
+    /// left as it was after them. `None` if the buffer is too short; one as long as
     /// [`Slice::bytes`] of the slice never is. It allocates nothing.
     pub fn decode(&self, buffer: &'a mut [u8]) -> Option<&'a [u8]>
         // Whatever bytes the slice is of, these are they.
@@ -108,7 +108,7 @@ impl Iterator for Bytes<'_> {
     }
 }
 
-/// Those of a Display String behind its percent sign.
+/// Those of a Display String after its percent sign.
 #[inline]
 fn shown_bytes(text: &[u8]) -> Bytes
     ensures coding { result.coding ≡ coding_is.Percent }
@@ -151,7 +151,7 @@ fn fill(start: Coding, text: &[u8], buffer: &mut [u8]) -> Option<usize>
     }
 }
 
-/// The first byte, and how the text behind it spells those after it.
+/// The first byte, and how the text after it spells those after it.
 #[inline]
 pub(crate) fn take_byte(coding: Coding, rest: &[u8]) -> Option<(u8, Coding, &[u8])>
     ensures some { (s : List ℕ) → Remains coding rest.now s

@@ -18,7 +18,7 @@ pub(crate) fn first_node(nodes: &[Node]) -> Option<Node>
     }
 }
 
-/// So many bytes from a place on; `None` where they aren't there.
+/// So many bytes from a place on; `None` if they aren't there.
 #[inline]
 pub(crate) fn bytes_at(source: &[u8], at: usize, size: usize) -> Option<&[u8]>
     ensures none { IfNone result (length source.now < at + size) }
@@ -32,7 +32,7 @@ pub(crate) fn bytes_at(source: &[u8], at: usize, size: usize) -> Option<&[u8]>
     Some(bytes)
 }
 
-/// The nodes behind so many.
+/// The nodes after so many.
 #[inline]
 fn nodes_behind(nodes: &[Node], span: usize) -> Option<&[Node]>
     ensures { IfSome result (λ later. (later.now ≡ drop span nodes.now) × (span ≤ length nodes.now)) }
@@ -44,7 +44,7 @@ fn nodes_behind(nodes: &[Node], span: usize) -> Option<&[Node]>
     Some(later)
 }
 
-/// The key of the first part, and the nodes behind that part; `None` where it isn't in the source.
+/// The key of the first part, and the nodes after that part; `None` if it isn't in the source.
 #[inline]
 fn first_key<'a>(source: &'a [u8], nodes: &'a [Node]) -> Option<(&'a [u8], &'a [Node])>
     ensures keys { IfSome result (λ r. keys_from source.now 0 nodes.now
@@ -119,8 +119,7 @@ fn tag(key: &[u8]) -> u32
 /// How many places are looked at for a tag.
 const PROBES: usize = 16;
 
-/// Puts a tag into the table; `false` where it stands there already, or there was no place near its
-/// own.
+/// Puts a tag into the table; `false` if it is there already, or there was no place near its own.
 #[inline]
 fn enter(table: &mut [u32], tag: u32) -> bool
     ensures same { length table.new ≡ length table.old }

@@ -11,7 +11,7 @@ ghost use Rattle.sf_view.specs.declared.node.Role.{Role as Place};
 use crate::keys::{bytes_at, first_node};
 use crate::node::Node;
 
-/// The first part: its key, its nodes, and those behind it.
+/// The first part: its key, its nodes, and those after it.
 #[inline]
 pub(crate) fn hop<'a>(
     source: &'a [u8],

@@ -149,7 +149,7 @@ fn first_key_of<'a>(source: &'a [u8], nodes: &[Node]) -> Option<&'a [u8]>
     bytes_at(source, node.key_at as usize, node.key_length as usize)
 }
 
-/// The nodes behind the first.
+/// The nodes after the first.
 #[inline]
 fn behind_first(nodes: &[Node]) -> &[Node]
     ensures { result.now ≡ drop 1 nodes.now }

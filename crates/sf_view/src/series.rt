@@ -73,7 +73,7 @@ fn whole_dict(dialect: Dialect, text: &[u8], nodes: &mut [Node]) -> Option<usize
     }
 }
 
-/// The nodes of the text, in the room; `None` says nothing.
+/// The nodes of the text, in the buffer; `None` says nothing.
 pub fn scan_text(dialect: Dialect, kind: Kind, text: &[u8], nodes: &mut [Node]) -> Option<usize>
     ensures same { length nodes.new ≡ length nodes.old }
     // the text spells a field, the only one, and the first so many nodes describe it

@@ -1,4 +1,4 @@
--- A key or a token is refused for want of memory alone.
+-- A key or a token is refused as out of memory alone.
 use Rattle.std.proofs.Common.{◌≡◌, ℕ, Bool, not, List, [], ◌∷◌}
 use Rattle.std.proofs.Common.{None, refl, length, arith}
 use Rattle.std.proofs.lemmas.Bool.Decides.{nat_tests}

@@ -54,7 +54,7 @@ value-present k (p ∷ t) d = by (bytes_eq k p.0) refl p.1 refl (value-present k
     by false e None f rest = rw (f, e) rest
     by false e (Some v) f rest = rw (f, e) rest
 
--- a parameter of another key is put behind those that are there
+-- a parameter of another key is put after those that are there
 pub put_behind : (ps qs : Pairs Bare) (t : Table) (k : List ℕ) (o : Option Bare)
     → HasDistinctKeys (t ++ (k, o) ∷ []) → ps ≡ present t → qs ≡ added ps k o
     → qs ≡ present (t ++ (k, o) ∷ [])

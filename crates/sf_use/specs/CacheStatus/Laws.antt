@@ -1,5 +1,4 @@
--- What is written is read back. The law stands as the contract of a function in
--- `src/laws.rt`.
+-- What is written is read back. The law is the contract of a function in `src/laws.rt`.
 use Rattle.std.specs.Prelude.{◌≡◌, [], ◌∷◌, Ok}
 use Rattle.std.specs.Option.{option_and_then, ForSome}
 use Rattle.sf_value.specs.Grammar.Fields.{list_of}

@@ -44,7 +44,7 @@ abbrev pub bare_of : Name → Bare
 bare_of (name.Text t) = Text t
 bare_of (name.Token t) = Token t
 
--- true where hit is true, else absent
+-- true where hit is true, otherwise absent
 abbrev pub flag : Bool → Option Bare
 flag true = Some (Boolean true)
 flag false = None

@@ -12,7 +12,7 @@ IsLastHit hops (Some place) =
     IsSomeAnd (slice_get hops place) (λ h. h.outcome ≡ Hit)
     × All (λ h. h.outcome ≢ Hit) (drop (suc place) hops)
 
--- a place one later; where there is none, the first if it is a hit
+-- a place one later; if there is none, the first if it is a hit
 abbrev pub later : Option ℕ → Bool → Option ℕ
 later (Some place) first = Some (suc place)
 later None true = Some 0
