@@ -50,7 +50,7 @@ pub field-line : (line name : List ℕ) → 0 < length line → is_ows (get_or l
 field-line line name some blank start at good e =
     named line name some blank start (rw (colon line at, good) refl) e
 
--- what holds of a place and of those behind it
+-- what holds of a place and of those after it
 pub from_less : (P : ℕ → Type 0) (n i : ℕ) → P i → ((k : ℕ) → i + 1 ≤ k → k < n → P k)
     → (k : ℕ) → i ≤ k → k < n → P k
 from_less P n i here later k from below = elim (cases_lt i k) [
@@ -58,7 +58,7 @@ from_less P n i here later k from below = elim (cases_lt i k) [
   | inr upto ↦ let same : i ≡ k = omega arith in subst P same here
 ]
 
--- behind a start line no line has the name
+-- after a start line no line has the name
 pub unrepeated : (name : List ℕ) (lines : List (List ℕ)) (n i : ℕ) → i < n
     → is_start (get_or lines i []) ≡ true
     → ((k : ℕ) → i + 1 ≤ k → k < n → is_named name (get_or lines k []) ≡ false)
@@ -68,7 +68,7 @@ unrepeated name lines n i lt start unnamed r = elim (cases_lt i r.0) [
   | inr upto ↦ false≢true (sym (r.3 i upto lt) ∙ start)
 ]
 
--- a line has the name, and it and those behind it are no start lines
+-- a line has the name, and it and those after it are no start lines
 pub repeated : (name : List ℕ) (lines : List (List ℕ)) (n i : ℕ) → i < n
     → is_named name (get_or lines i []) ≡ true → is_start (get_or lines i []) ≡ false
     → ((k : ℕ) → i + 1 ≤ k → k < n → is_start (get_or lines k []) ≡ false)

@@ -12,7 +12,7 @@ use Rattle.sf_lint.specs.declared.head.Line.TheVariants.{Empty, Folded, Start, F
 abbrev pub begins_with_protocol : List ℕ → Bool
 begins_with_protocol bytes = starts_with (λ a b. a == b) bytes (codes "HTTP/")
 
--- what stands after the first space
+-- what is after the first space
 abbrev pub word_after : List ℕ → List ℕ
 word_after line = after_first is_sp line
 
@@ -47,7 +47,7 @@ line_of (b ∷ bs) = line_with b (b ∷ bs)
 abbrev pub is_named : List ℕ → List ℕ → Bool
 is_named name line = list_any is_colon line && str_eq_ignore_ascii_case (word_of line) name
 
--- a line of this name stands before the n-th, and no start line after it: in the same message
+-- a line of this name is before the n-th, and no start line after it: in the same message
 abbrev pub IsRepeated : List ℕ → List (List ℕ) → ℕ → Type 0
 IsRepeated name lines n =
     (j : ℕ) × (j < n) × (is_named name (get_or lines j []) ≡ true)

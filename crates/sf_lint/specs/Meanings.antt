@@ -79,7 +79,7 @@ meaning_of name v =
     else if is_targeted name then policy_meaning v
     else Ok []
 
--- the meaning, or the fault that it is; of want of memory nothing is told
+-- the meaning, or the fault that it is; of a failed allocation nothing is said
 abbrev pub IsMeaning : Result (Seq ℕ) ℕ → Result (Vec ℕ Global) UseFault → Type 0
 IsMeaning meant (Ok text) = meant ≡ Ok text.items
 IsMeaning meant (Err (NotACache index)) = meant ≡ Err index

@@ -87,7 +87,7 @@ AreSettingsOf words settings =
     (fault_of command_line words ≡ []) × AreGiven (matches_of command_line words) settings
 
 -- a fault is Usage only where the words make no settings, and Help or Version only where they ask
--- for it; of want of memory nothing is told
+-- for it; of a failed allocation nothing is said
 abbrev pub IsFaultOf : List Text → OptionsFault → Type 0
 IsFaultOf words Usage = (settings : Settings) → ¬ (AreSettingsOf words settings)
 IsFaultOf words Help = IsAmong DisplayHelp (fault_of command_line words)
@@ -115,14 +115,14 @@ fault_status Help = status.Accepted
 fault_status Version = status.Accepted
 fault_status OutOfMemory = status.Stopped
 
--- what stands on standard output
+-- what is on standard output
 abbrev pub fault_text : OptionsFault → Option (List ℕ)
 fault_text Usage = None
 fault_text Help = Some (codes "usage: sflint [--field NAME:item|list|dict].. [--quiet]\n\nReads the heads of HTTP messages from standard input, as curl -sI prints them, and\nshows each structured field: its canonical text and its meaning, or why it is refused.\n\n  --field NAME:KIND  a field that is not registered, with its kind: item, list or dict\n  --quiet            show only what is refused\n  --help             show this help\n  --version          show the version\n\nThe status is 0 if everything is accepted, 1 if something is refused, 2 if the arguments\nare wrong, and 3 if an allocation or a device fails.\n")
 fault_text Version = Some (codes "sflint 0.1.0\n")
 fault_text OutOfMemory = None
 
--- what stands on standard error, in a line
+-- what is on standard error, in a line
 abbrev pub fault_line : Status → Option (List ℕ)
 fault_line status.Accepted = None
 fault_line status.Refused = None

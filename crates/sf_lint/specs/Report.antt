@@ -65,7 +65,7 @@ abbrev pub TellsValue : Settings → List ℕ → Value → Result (List ℕ) �
 TellsValue s name v (Ok text) = IsTold (shown s (accepted_text name v ++ text)) false 0
 TellsValue s name v (Err index) = IsTold (no_cache_text name index) true 0
 
--- a field is refused so; want of memory is no refusal of a field
+-- a field is refused so; a failed allocation is no refusal of a field
 abbrev pub TellsRefusal : List ℕ → ℕ → List (List ℕ) → Refusal → List ℕ → Bool → ℕ → Type 0
 TellsRefusal name n lines r text refused others =
     (¬ (r ≡ refusal.OutOfMemory)) × IsTold (refused_text n name lines r) true 0 text refused others
@@ -102,7 +102,7 @@ TellsLine s lines n Start = IsTold (shown s (printed (get_or lines n []) ++ code
 TellsLine s lines n (Field name) = TellsNamed s lines n name (type_of s name)
 TellsLine s lines n Nameless = IsTold (bad_line_text (n + 1) (codes "not a field line")) true 0
 
--- one line more is told behind those before it
+-- one line more is told after those before it
 pub record TellsMore (before line : List ℕ → Bool → ℕ → Type 0) (t : List ℕ) (r : Bool) (o : ℕ)
     : Type 0 where
   pub text : List ℕ

@@ -12,7 +12,7 @@ abbrev pub status_of : Bool → Status
 status_of true = Refused
 status_of false = Accepted
 
--- the report of an input was to be written; where memory was wanting nothing was
+-- the report of an input was to be written; if an allocation failed nothing was
 abbrev pub Answers : Settings → List ℕ → SinkState → SinkState → Status → Type 0
 Answers settings input old new status =
     ((new ≡ old) × (status ≡ Stopped))

@@ -34,7 +34,7 @@ abbrev pub type_by : List ℕ → Option Kind → Option FieldType
 type_by name None = type_by_name name (kind_of name)
 type_by name (Some kind) = Some (record { dialect = Rfc9651; kind = kind })
 
--- the type of the field of this name, if it is structured: the one that is given; else that of the
--- registry; else that of a targeted field
+-- the type of the field of this name, if it is structured: the one that is given; otherwise that of
+-- the registry; otherwise that of a targeted field
 abbrev pub type_of : Settings → List ℕ → Option FieldType
 type_of settings name = type_by name (custom_kind settings.fields.items name)

@@ -1,4 +1,4 @@
-//! Where in an input a refusal of a field stands.
+//! Where in an input a refusal of a field is.
 ghost use Rattle.std.specs.Prelude.{◌≡◌, ◌+◌, ◌≤◌, ◌<◌, ◌^◌, length, map};
 ghost use Rattle.sf_parse.specs.Spots.{line_place};
 ghost use Rattle.sf_lint.specs.Marks.{offset_of as offset_in, mark_in};
