@@ -22,16 +22,16 @@ static int fill(sf_seed *seed) {
 }
 
 /* Joins a line to the text, which grows as it must. */
-static int add(char **text, size_t *room, sf_joined *joined, const char *line, size_t length) {
-  uint32_t status = sf_join(line, length, *text, *room, joined);
+static int add(char **text, size_t *capacity, sf_joined *joined, const char *line, size_t length) {
+  uint32_t status = sf_join(line, length, *text, *capacity, joined);
   if (status != SF_SHORT)
     return status == SF_OK;
   char *longer = realloc(*text, joined->required);
   if (longer == NULL)
     return 0;
   *text = longer;
-  *room = joined->required;
-  return sf_join(line, length, *text, *room, joined) == SF_OK;
+  *capacity = joined->required;
+  return sf_join(line, length, *text, *capacity, joined) == SF_OK;
 }
 
 static int kind_of(const char *word, uint32_t *kind) {
@@ -55,13 +55,13 @@ int main(int argc, char **argv) {
   }
 
   char *text = NULL, *line = NULL;
-  size_t room = 0, line_room = 0;
+  size_t capacity = 0, line_capacity = 0;
   sf_joined joined = {0, 0, 0};
   ssize_t length;
-  while ((length = getline(&line, &line_room, stdin)) >= 0) {
+  while ((length = getline(&line, &line_capacity, stdin)) >= 0) {
     if (length > 0 && line[length - 1] == '\n')
       --length;
-    if (!add(&text, &room, &joined, line, (size_t)length)) {
+    if (!add(&text, &capacity, &joined, line, (size_t)length)) {
       fprintf(stderr, "normalise: out of memory\n");
       return 3;
     }

@@ -55,7 +55,7 @@ static void print_hop(const sf_hop *hop, const char *bytes) {
   printf("\n");
 }
 
-/* The path, once a first call with no room has told how long it is. */
+/* The path, once a first call with empty buffers has returned how long it is. */
 static uint32_t print_path(const sf_seed *seed, const char *text, size_t length, sf_path *path,
                            sf_refusal *refusal) {
   uint32_t status = sf_cache_status(seed, text, length, NULL, 0, NULL, 0, path, refusal);

@@ -263,7 +263,7 @@ static void macros(void) {
 }
 
 /* The nodes of a text and of its canonical text are the same, in rooms of exactly their size; a
- * room that is one short, or empty, is answered with what is required. */
+ * buffer that is one byte too small, or empty, gets SF_SHORT and the required size. */
 static void same_value(uint32_t dialect, uint32_t kind, const char *about, const void *text,
                        size_t length, const void *canonical, size_t canonical_length) {
   uint32_t status;
@@ -1240,7 +1240,7 @@ static void structs(void) {
   give_room(secret);
 }
 
-/* Lines, joined into a room that is exactly as long as the text, or one short for some line. */
+/* Lines, joined into a buffer that is as long as the text, or one byte too small for some line. */
 static void joining(void) {
   static const struct {
     const char *lines[4], *text;
