@@ -1,5 +1,5 @@
 -- Feeding a text piece by piece, and lines one by one.
-use Rattle.std.proofs.Common.{◌≡◌, ℕ, Bool, true, false, List, [], ◌∷◌, ◌++◌, ◌⊎◌, inl, inr}
+use Rattle.std.proofs.Common.{◌≡◌, ℕ, Bool, true, false, List, [], ◌∷◌, ◌++◌}
 use Rattle.std.proofs.Common.{Ok, Err, refl, sym, ap, ◌∙◌, subst, append-nil, append_assoc}
 use Rattle.sf_value.specs.Grammar.Lines.{join}
 use Rattle.sf_parse.specs.declared.refusal.Refusal.{Refusal}
@@ -53,17 +53,3 @@ fed_refused o p q e all left piece more l s f =
     subst (Fed o q (Err e))
     (append_assoc l.front piece more ∙ sym (l.split ∙ ap (λ z. l.front ++ z) s))
     (fed_before o q e (l.front ++ piece) more (fed_after o p q (Err e) l.front piece l.fed f))
-
--- of one line, it is still to come and no line was fed; or none is left
-abbrev pub Alone : List ℕ → Bool → List (List ℕ) → Type 0
-Alone line after left = ((left ≡ line ∷ []) × (after ≡ false)) ⊎ (left ≡ [])
-
--- the next one is that line, no line was fed before, and none is left after it
-pub alone_next : (line : List ℕ) (after : Bool) (left : List (List ℕ)) (next : List ℕ)
-    (more : List (List ℕ)) → left ≡ next ∷ more → Alone line after left
-    → (next ≡ line) × (after ≡ false) × (more ≡ [])
-alone_next line after left next more s (inl (e, f)) =
-    let here : next ∷ more ≡ line ∷ [] = sym s ∙ e in
-    (cc, f, cc)
-alone_next line after left next more s (inr e) =
-    let never : next ∷ more ≡ [] = sym s ∙ e in cc

@@ -1,8 +1,7 @@
 //! The meaning of field lines to a consumer.
-ghost use Rattle.std.specs.Prelude.{◌≡◌, ℕ, List, [], ◌∷◌, Some};
-ghost use Rattle.sf_value.specs.Grammar.Words.{Every};
-ghost use Rattle.sf_value.specs.declared.value.Kind.TheVariants as kind_is;
-ghost use Rattle.sf_parse.specs.AllocationFree.{scalar_byte};
+ghost use Rattle.std.specs.Prelude.{◌≡◌, Some};
+ghost use Rattle.sf_value.specs.Grammar.Lines.{join};
+ghost use Rattle.sf_parse.specs.AllocationFree.{TakesNoMemory};
 ghost use Rattle.sf_field.specs.Faults.{ask_fault_text};
 ghost use Rattle.sf_field.specs.declared.asking.AskFault.TheVariants as fault_is;
 ghost use Rattle.sf_field.specs.Asking.{Asks, MeansAsCanonical, ParsedOrRefused};
@@ -66,8 +65,6 @@ impl From<UseFault> for AskFault {
 /// Returns what the lines mean to a consumer: parses them as its kind, as [`crate::parse_from`]
 /// does, and passes the value to [`Consumer::answer`]. Accepted lines have the meaning of their
 /// canonical text as one line. Out of memory for the answer is returned only if the value has one.
-/// If the consumer reads an Item, parsing a single line of spaces, digits and `-.?@` does not
-/// allocate.
 ///
 /// ```
 /// let values = headers.get_all(&name).iter();
@@ -83,9 +80,8 @@ pub fn ask_from<'a, C: Consumer, L: FieldLines<'a>>(
     ensures answers { Asks C.KIND (C.meaning consumer.now) (L.lines lines) result }
     // Accepted lines mean what their canonical text means.
     ensures canonical { MeansAsCanonical C.KIND (C.meaning consumer.now) (L.lines lines) }
-    // Parsing a single line of spaces, digits and `-.?@` does not allocate.
-    ensures allocation_free { C.KIND ≡ kind_is.Item → (line : List ℕ) → L.lines lines ≡ line ∷ []
-        → Every scalar_byte line → ParsedOrRefused result }
+    // Lines whose joined text does not allocate are not refused as out of memory.
+    ensures allocation_free { TakesNoMemory C.KIND (join (L.lines lines)) → ParsedOrRefused result }
 {
     let field = parse_from(alloc, seed, Dialect::Rfc9651, C::KIND, lines)?;
     let answer = consumer.answer(alloc, &field);
@@ -108,9 +104,8 @@ pub fn ask<C: Consumer>(
     ensures answers { Asks C.KIND (C.meaning consumer.now) lines.now result }
     // Accepted lines mean what their canonical text means.
     ensures canonical { MeansAsCanonical C.KIND (C.meaning consumer.now) lines.now }
-    // Parsing a single line of spaces, digits and `-.?@` does not allocate.
-    ensures allocation_free { C.KIND ≡ kind_is.Item → (line : List ℕ) → lines.now ≡ line ∷ []
-        → Every scalar_byte line → ParsedOrRefused result }
+    // Lines whose joined text does not allocate are not refused as out of memory.
+    ensures allocation_free { TakesNoMemory C.KIND (join lines.now) → ParsedOrRefused result }
 {
     ask_from(alloc, seed, consumer, lines.iter())
 }

@@ -1,8 +1,7 @@
 //! Field lines in a header map.
-ghost use Rattle.std.specs.Prelude.{◌≡◌, ℕ, List, [], ◌∷◌, IfErr};
-ghost use Rattle.sf_value.specs.Grammar.Words.{Every};
-ghost use Rattle.sf_value.specs.declared.value.Kind.TheVariants as kind_is;
-ghost use Rattle.sf_parse.specs.AllocationFree.{scalar_byte};
+ghost use Rattle.std.specs.Prelude.{◌≡◌, ℕ, List, [], IfErr};
+ghost use Rattle.sf_value.specs.Grammar.Lines.{join};
+ghost use Rattle.sf_parse.specs.AllocationFree.{TakesNoMemory};
 ghost use Rattle.sf_parse.specs.AllocationFreeParsers.{IsOther};
 ghost use Rattle.sf_field.specs.Headers.{ParsesHeaders, lines_under, value_lines};
 
@@ -25,7 +24,6 @@ impl<'a> FieldLines<'a> for ValueIter<'a, HeaderValue> {
 
 /// Parses the values of a name in a header map; None if the name is absent. The values are the
 /// field lines, unchanged and in the map's order, and are parsed as by [`crate::parse_lines`].
-/// Parsing a single value of spaces, digits and `-.?@` as an Item does not allocate.
 ///
 /// ```
 /// let priority = HeaderName::from_static("priority");
@@ -40,9 +38,8 @@ pub fn from_headers(
 ) -> Result<Option<Field>, Refusal>
     // None if the name is absent; otherwise its values are parsed as field lines.
     ensures parses { ParsesHeaders kind headers.now name.now result }
-    // Parsing a single value of spaces, digits and `-.?@` does not allocate.
-    ensures allocation_free { kind ≡ kind_is.Item → (value : List ℕ)
-        → lines_under headers.now name.now ≡ value ∷ [] → Every scalar_byte value
+    // Values whose joined text does not allocate are not refused as out of memory.
+    ensures allocation_free { TakesNoMemory kind (join (lines_under headers.now name.now))
         → IfErr result IsOther }
 {
     if !headers.contains_key(name) {

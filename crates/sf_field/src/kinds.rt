@@ -2,9 +2,9 @@
 ghost use Rattle.sf_value.specs.declared.dialect.Dialect.TheVariants.{Rfc9651};
 ghost use Rattle.sf_value.specs.declared.value.Field.TheVariants as field_is;
 ghost use Rattle.sf_value.specs.declared.value.Kind.TheVariants as kind_is;
-ghost use Rattle.std.specs.Prelude.{◌≡◌, ℕ, List as Seq, [], ◌∷◌, IfErr};
-ghost use Rattle.sf_value.specs.Grammar.Words.{Every};
-ghost use Rattle.sf_parse.specs.AllocationFree.{scalar_byte};
+ghost use Rattle.std.specs.Prelude.{IfErr};
+ghost use Rattle.sf_value.specs.Grammar.Lines.{join};
+ghost use Rattle.sf_parse.specs.AllocationFree.{TakesNoMemory};
 ghost use Rattle.sf_parse.specs.AllocationFreeParsers.{IsOther};
 ghost use Rattle.sf_parse.specs.Parsers.{Makes};
 ghost use Rattle.sf_field.specs.Lines.{ParsesLines};
@@ -15,8 +15,7 @@ use sf_value::{Blob, Dict, Field, Item, Kind, List};
 use std::alloc::Global;
 use std::hash::RandomState;
 
-/// Parses the lines as an Item, as [`crate::parse_lines`] does. Parsing a single line of spaces,
-/// digits and `-.?@` does not allocate.
+/// Parses the lines as an Item, as [`crate::parse_lines`] does.
 ///
 /// ```
 /// let item = parse_item_lines(alloc, &seed, lines.as_slice())?;
@@ -25,9 +24,8 @@ pub fn parse_item_lines(alloc: Global, seed: &RandomState, lines: &[Blob]) -> Re
     // The joined lines spell this Item and no other value, or this is their exact refusal, or an
     // allocation failed.
     ensures parses { Makes field_is.Item (ParsesLines Rfc9651 kind_is.Item lines.now) result }
-    // Parsing a single line of spaces, digits and `-.?@` does not allocate.
-    ensures allocation_free { (line : Seq ℕ) → lines.now ≡ line ∷ [] → Every scalar_byte line
-        → IfErr result IsOther }
+    // Lines whose joined text does not allocate are not refused as out of memory.
+    ensures allocation_free { TakesNoMemory kind_is.Item (join lines.now) → IfErr result IsOther }
 {
     match parse_lines(alloc, seed, Kind::Item, lines)? {
         Field::Item(item) => Ok(item),
@@ -44,7 +42,9 @@ pub fn parse_item_lines(alloc: Global, seed: &RandomState, lines: &[Blob]) -> Re
 pub fn parse_list_lines(alloc: Global, seed: &RandomState, lines: &[Blob]) -> Result<List, Refusal>
     // The joined lines spell this List and no other value, or this is their exact refusal, or an
     // allocation failed.
-    ensures { Makes field_is.List (ParsesLines Rfc9651 kind_is.List lines.now) result }
+    ensures parses { Makes field_is.List (ParsesLines Rfc9651 kind_is.List lines.now) result }
+    // Lines whose joined text is of spaces are not refused as out of memory.
+    ensures allocation_free { TakesNoMemory kind_is.List (join lines.now) → IfErr result IsOther }
 {
     match parse_lines(alloc, seed, Kind::List, lines)? {
         Field::List(list) => Ok(list),
@@ -61,7 +61,9 @@ pub fn parse_list_lines(alloc: Global, seed: &RandomState, lines: &[Blob]) -> Re
 pub fn parse_dict_lines(alloc: Global, seed: &RandomState, lines: &[Blob]) -> Result<Dict, Refusal>
     // The joined lines spell this Dictionary and no other value, or this is their exact refusal, or
     // an allocation failed.
-    ensures { Makes field_is.Dict (ParsesLines Rfc9651 kind_is.Dict lines.now) result }
+    ensures parses { Makes field_is.Dict (ParsesLines Rfc9651 kind_is.Dict lines.now) result }
+    // Lines whose joined text is of spaces are not refused as out of memory.
+    ensures allocation_free { TakesNoMemory kind_is.Dict (join lines.now) → IfErr result IsOther }
 {
     match parse_lines(alloc, seed, Kind::Dict, lines)? {
         Field::Dict(dict) => Ok(dict),

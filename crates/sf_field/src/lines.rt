@@ -3,11 +3,9 @@ ghost use Rattle.std.specs.Prelude.{◌≡◌, ℕ, List, [], ◌∷◌, false, 
 ghost use Rattle.std.specs.Prelude.{Err};
 ghost use Rattle.std.specs.Slice.Iter.{iter_rest};
 ghost use Rattle.sf_value.specs.Grammar.Lines.{join};
-ghost use Rattle.sf_value.specs.Grammar.Words.{Every};
 ghost use Rattle.sf_value.specs.declared.dialect.Dialect.TheVariants.{Rfc9651};
-ghost use Rattle.sf_value.specs.declared.value.Kind.TheVariants as kind_is;
 ghost use Rattle.sf_parse.specs.Parsers.{Fed};
-ghost use Rattle.sf_parse.specs.AllocationFree.{scalar_byte};
+ghost use Rattle.sf_parse.specs.AllocationFree.{TakesNoMemory};
 ghost use Rattle.sf_parse.specs.AllocationFreeParsers.{IsAllocationFree, KeptAllocationFree};
 ghost use Rattle.sf_parse.specs.AllocationFreeParsers.{NotForMemory};
 ghost use Rattle.sf_field.specs.Lines.{ParsesLines};
@@ -62,8 +60,8 @@ impl<'a> FieldLines<'a> for slice::Iter<'a, &'a [u8]> {
 
 /// Parses lines in a dialect, as one text joined by a comma and a space, from any type that has
 /// them. The place of a refusal is an offset in the joined text. The error is TooLong only if that
-/// text has 2^64 bytes or more, and never ReadFault. Parsing a single line of spaces, `-` and
-/// digits as an Item does not allocate.
+/// text has 2^64 bytes or more, and never ReadFault. Parsing does not allocate for lines whose
+/// joined text does not, as [`sf_parse::parse_text`] says.
 ///
 /// ```
 /// let vary = HeaderName::from_static("vary");
@@ -80,9 +78,8 @@ pub fn parse_from<'a, L: FieldLines<'a>>(
     // The joined lines spell this value and no other, or this is their exact refusal, or an
     // allocation failed.
     ensures parses { ParsesLines dialect kind (L.lines lines) result }
-    // Parsing a single line of spaces, digits and `-.?@` does not allocate.
-    ensures allocation_free { kind ≡ kind_is.Item → (line : List ℕ) → L.lines lines ≡ line ∷ []
-        → Every scalar_byte line → NotForMemory result }
+    // Lines whose joined text does not allocate are not refused as out of memory.
+    ensures allocation_free { TakesNoMemory kind (join (L.lines lines)) → NotForMemory result }
 {
     let mut parser = Parser::new_in(alloc, seed, dialect, kind, u64::MAX);
     feed_lines(&mut parser, lines)?;
@@ -104,9 +101,8 @@ pub fn parse_lines_in(
     // The joined lines spell this value and no other, or this is their exact refusal, or an
     // allocation failed.
     ensures parses { ParsesLines dialect kind lines.now result }
-    // Parsing a single line of spaces, digits and `-.?@` does not allocate.
-    ensures allocation_free { kind ≡ kind_is.Item → (line : List ℕ) → lines.now ≡ line ∷ []
-        → Every scalar_byte line → NotForMemory result }
+    // Lines whose joined text does not allocate are not refused as out of memory.
+    ensures allocation_free { TakesNoMemory kind (join lines.now) → NotForMemory result }
 {
     parse_from(alloc, seed, dialect, kind, lines.iter())
 }
@@ -125,9 +121,8 @@ pub fn parse_lines(
     // The joined lines spell this value and no other, or this is their exact refusal, or an
     // allocation failed.
     ensures parses { ParsesLines Rfc9651 kind lines.now result }
-    // Parsing a single line of spaces, digits and `-.?@` does not allocate.
-    ensures allocation_free { kind ≡ kind_is.Item → (line : List ℕ) → lines.now ≡ line ∷ []
-        → Every scalar_byte line → NotForMemory result }
+    // Lines whose joined text does not allocate are not refused as out of memory.
+    ensures allocation_free { TakesNoMemory kind (join lines.now) → NotForMemory result }
 {
     parse_from(alloc, seed, Dialect::Rfc9651, kind, lines.iter())
 }
@@ -160,10 +155,10 @@ fn feed_lines<'a, L: FieldLines<'a>>(parser: &mut Parser, mut lines: L) -> Resul
     requires { parser.old.after_line ≡ false }
     // The joined text is fed; a refusal holds whatever text comes after it.
     ensures fed { Fed parser.old parser.new result (join (L.lines lines)) }
-    // A parser that has not allocated stays so over a single line of spaces, digits and `-.?@`.
-    ensures allocation_free { IsAllocationFree parser.old → (line : List ℕ)
-        → L.lines lines ≡ line ∷ [] → Every scalar_byte line
-        → KeptAllocationFree parser.new result }
+    // Lines whose joined text does not allocate are not refused as out of memory, and neither is
+    // the end.
+    ensures allocation_free { IsAllocationFree parser.old (join (L.lines lines))
+        → KeptAllocationFree parser.new [] result }
 {
     // A parser that refused before does so again, also if there is no line.
     parser.feed(b"")?;

@@ -1,6 +1,6 @@
 -- What a parser took, a byte longer, and where it stops.
 use Rattle.std.proofs.Common.{◌≡◌, ℕ, ◌+◌, ◌<◌, ◌≤◌, ◌↔◌, Bool, false, List, [], ◌∷◌, ◌++◌, length}
-use Rattle.std.proofs.Common.{take, drop, get_or, Some, None, Ok, Err, refl, sym, ap, ◌∙◌}
+use Rattle.std.proofs.Common.{take, drop, get_or, Option, Some, None, Ok, Err, refl, sym, ap, ◌∙◌}
 use Rattle.std.proofs.Common.{subst, append_assoc, length-append, arith, take-append-drop}
 use Rattle.std.proofs.Common.{length-take}
 use Rattle.std.proofs.lemmas.List.{take_more}
@@ -15,7 +15,8 @@ use Rattle.sf_parse.specs.Machine.Tests.{takes, may_end}
 use Rattle.sf_parse.specs.Reached.{Reached}
 use Rattle.sf_parse.specs.Expected.{Marks}
 use Rattle.sf_parse.specs.Parsers.{Progress, Took, Sound, IsSyntax, RefusedFor}
-use Rattle.sf_parse.specs.Parsers.{SameSettings, Fed, FedAnswer, Finishes}
+use Rattle.sf_parse.specs.Parsers.{SameSettings, Fed, FedAnswer, Finishes, Refuses, StandsAt}
+use Rattle.sf_parse.specs.AllocationFreeParsers.{IsOther}
 use Rattle.sf_parse.proofs.Reached.{reached_nothing, reached_viable}
 use Rattle.sf_parse.proofs.Refusals.{stops_exact, ends_exact, ends_only}
 
@@ -50,17 +51,35 @@ stops_at p s q b bits may g t n m e =
     (subst (λ c. IsSyntax p.dialect p.kind (s ++ b ∷ q) c (Some b) bits may) (sym t.count)
     (stops_exact p.dialect p.kind p.state s q b bits may (taken p s g t) n m e))
 
+-- a refusal of a state is where it is said to be, and not for want of memory
+pub refuses_at : (takes : ℕ → Bool) (ends : Bool) (place max : ℕ) (found : Option ℕ) (e : Refusal)
+    → Refuses takes ends place found e → StandsAt e place max
+refuses_at takes ends place max found e r = subst (λ y. StandsAt y place max) (sym r.syntax) refl
+
+pub refuses_other : (takes : ℕ → Bool) (ends : Bool) (place : ℕ) (found : Option ℕ) (e : Refusal)
+    → Refuses takes ends place found e → IsOther e
+refuses_other takes ends place found e r = subst IsOther (sym r.syntax) tt
+
+-- the same of equal tests
+pub refuses_too : (f g : ℕ → Bool) (a b : Bool) (place : ℕ) (found : Option ℕ) (e : Refusal)
+    → f ≡ g → a ≡ b → Refuses f a place found e → Refuses g b place found e
+refuses_too f g a b place found e h k r =
+    subst (λ y. Refuses y b place found e) h (subst (λ y. Refuses f y place found e) k r)
+
 -- a byte was refused
-pub fed_stop : (p q : Progress) (b bits : ℕ) (may : Bool) → Sound p.refusal p.state p.count p.max
-    → p.count < p.max → step p.dialect p.state b ≡ None → Marks bits (takes p.dialect p.state)
-    → may ≡ may_end p.state → SameSettings p q → q.count ≡ p.count
-    → q.refusal ≡ Some (Syntax p.count (Some b) bits may)
-    → Fed p q (Err (Syntax p.count (Some b) bits may)) (b ∷ [])
-fed_stop p q b bits may g h n m e same c r = record {
-  settings = same;
-  counted = omega arith;
-  answer = (r, λ s t more. (h, stops_at p s more b bits may g t n m e));
-}
+pub fed_stop : (p q : Progress) (b : ℕ) (e : Refusal) → Sound p.refusal p.state p.count p.max
+    → p.count < p.max → step p.dialect p.state b ≡ None
+    → Refuses (takes p.dialect p.state) (may_end p.state) p.count (Some b) e → SameSettings p q
+    → q.count ≡ p.count → q.refusal ≡ Some e → Fed p q (Err e) (b ∷ [])
+fed_stop p q b e g h n m same c r =
+    subst (λ y. Fed p q (Err y) (b ∷ [])) (sym m.syntax) (record {
+      settings = same;
+      counted = omega arith;
+      answer = (
+        r ∙ ap Some m.syntax,
+        λ s t more. (h, stops_at p s more b m.expected (may_end p.state) g t n m.marks refl),
+      );
+    })
 
 -- a byte is past the limit
 pub fed_past : (p q : Progress) (b : ℕ) → Sound p.refusal p.state p.count p.max
@@ -86,16 +105,18 @@ fed_past p q b g h same c r = record {
   );
 }
 
-pub finish_stop : (p : Progress) (bits : ℕ) → Sound p.refusal p.state p.count p.max
-    → Marks bits (takes p.dialect p.state) → false ≡ may_end p.state
-    → (s : List ℕ) → Took p s
-    → Finishes p.dialect p.kind s (Err (Syntax p.count None bits false))
-finish_stop p bits g m e s t = (
-  t.count,
-  refl,
-  subst (λ c. IsSyntax p.dialect p.kind s c None bits false) (sym t.count)
-      (ends_exact p.dialect p.kind p.state s bits (taken p s g t) m e),
-)
+pub finish_stop : (p : Progress) (e : Refusal) → Sound p.refusal p.state p.count p.max
+    → Refuses (takes p.dialect p.state) (may_end p.state) p.count None e
+    → false ≡ may_end p.state
+    → (s : List ℕ) → Took p s → Finishes p.dialect p.kind s (Err e)
+finish_stop p e g m n s t =
+    subst (λ y. Finishes p.dialect p.kind s (Err y))
+    (ap (Syntax p.count None m.expected) n ∙ sym m.syntax) (
+      t.count,
+      refl,
+      subst (λ c. IsSyntax p.dialect p.kind s c None m.expected false) (sym t.count)
+          (ends_exact p.dialect p.kind p.state s m.expected (taken p s g t) m.marks n),
+    )
 
 pub finish_with : (p : Progress) (v : Field) → Sound p.refusal p.state p.count p.max
     → finish p.state ≡ Some v → (s : List ℕ) → Took p s → Finishes p.dialect p.kind s (Ok v)

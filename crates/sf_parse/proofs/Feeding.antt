@@ -3,7 +3,6 @@ use Rattle.std.proofs.Common.{◌≡◌, ℕ, ◌+◌, ◌-◌, ◌≤◌, ◌�
 use Rattle.std.proofs.Common.{get_or, Option, Some, None, Ok, Err, refl, sym, ap, ◌∙◌, subst}
 use Rattle.std.proofs.Common.{append_assoc, append-nil, length-append, arith}
 use Rattle.std.proofs.Math.Seq.{take-append_seam}
-use Rattle.sf_value.specs.Grammar.Words.{Every}
 use Rattle.sf_value.specs.Grammar.Fields.{SpellsField}
 use Rattle.sf_value.specs.declared.dialect.Dialect.{Dialect}
 use Rattle.sf_parse.specs.declared.refusal.Refusal.{Refusal}
@@ -11,14 +10,11 @@ use Rattle.sf_parse.specs.Machine.States.{State}
 use Rattle.sf_parse.specs.Machine.Language.{run}
 use Rattle.sf_parse.specs.Machine.Fields.{Residual, step}
 use Rattle.sf_parse.specs.Parsers.{Progress, Took, Sound, RefusedFor, SameSettings, Fed}
-use Rattle.sf_parse.specs.AllocationFree.{scalar_byte}
-use Rattle.sf_parse.specs.AllocationFreeParsers.{AllocationFreeState}
+use Rattle.sf_parse.specs.AllocationFreeParsers.{IsAllocationFree}
 use Rattle.sf_parse.specs.Prefixes.{LongestPrefix, Went}
 use Rattle.sf_parse.specs.Feeding.{FedTo}
 use Rattle.sf_parse.proofs.Machines
 use Rattle.sf_parse.proofs.Machine.Fields.{machine}
-use Rattle.sf_parse.proofs.Prefixes.{kept_by_prefix}
-use Rattle.sf_parse.proofs.AllocationFreeSteps.{allocation_free_step}
 use Rattle.sf_parse.proofs.Reached.{reaches_more, reached_viable}
 use Rattle.sf_parse.proofs.FedChunks.{FedPrefix, taken, stopped_in}
 
@@ -83,12 +79,17 @@ fed_taken p q chunk rest g h a same c r =
       fed_run p q a.went.taken g (omega arith) a.went.leads same (omega arith) r,
     )
 
-pub allocation_free_taken : (d : Dialect) (s u : State) (chunk rest : List ℕ)
-    → AllocationFreeState s
-    → Every scalar_byte chunk → LongestPrefix (step d) s chunk rest u → AllocationFreeState u
-allocation_free_taken d s u chunk rest h w a =
-    kept_by_prefix (step d) AllocationFreeState scalar_byte (allocation_free_step d) s u chunk rest
-    h w a.went
+-- what does not allocate, where a chunk is split, and where nothing of it is left
+pub free_split : (p : Progress) (chunk f suffix more : List ℕ) → chunk ≡ f ++ suffix
+    → IsAllocationFree p (chunk ++ more) → IsAllocationFree p (f ++ (suffix ++ more))
+free_split p chunk f suffix more e h =
+    subst (IsAllocationFree p) (ap (λ y. y ++ more) e ∙ append_assoc f suffix more) h
+
+pub free_taken : (p : Progress) (rest suffix more : List ℕ) → length rest ≡ 0 → length suffix ≡ 0
+    → IsAllocationFree p (rest ++ (suffix ++ more)) → IsAllocationFree p more
+free_taken p [] [] more e f h = h
+free_taken p (b ∷ rest) suffix more e f h = absurd (let k : ⊥ = omega arith in k)
+free_taken p [] (b ∷ suffix) more e f h = absurd (let k : ⊥ = omega arith in k)
 
 at_seam : (xs : List ℕ) (b : ℕ) (more : List ℕ) → get_or (xs ++ b ∷ more) (length xs) 0 ≡ b
 at_seam [] b more = refl

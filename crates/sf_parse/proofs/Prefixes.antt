@@ -106,25 +106,10 @@ part_above next above into h s t x chunk (Ok rest) e a =
     (went_above next above into h s t chunk rest.now a.went)
 part_above next above into h s t x chunk (Err k) e a = a
 
--- what each byte of a kind keeps, a run of them keeps
-pub kept_by_run : {S : Type 0} (next : S → ℕ → Option S) (P : S → Type 0) (q : ℕ → Bool)
-    → ((s t : S) (b : ℕ) → P s → q b ≡ true → next s b ≡ Some t → P t)
-    → (s t : S) (p : List ℕ) → P s → Every q p → run next s p ≡ Some t → P t
-kept_by_run next P q h s t [] g w e = subst P (let k : s ≡ t = cc in k) g
-kept_by_run next P q h s t (b ∷ p) g w e =
-    let c = and_then_cases (next s b) (λ s'. run next s' p) t e in
-    kept_by_run next P q h c.0 t p (h s c.0 b g w.0 c.1) w.1 c.2
-
+-- what all bytes of a list have, those of each part have
 pub every_split : (q : ℕ → Bool) (a b : List ℕ) → Every q (a ++ b) → Every q a × Every q b
 every_split q [] b h = (tt, h)
 every_split q (x ∷ a) b h = let k = every_split q a b h.1 in ((h.0, k.0), k.1)
-
-pub kept_by_prefix : {S : Type 0} (next : S → ℕ → Option S) (P : S → Type 0) (q : ℕ → Bool)
-    → ((s t : S) (b : ℕ) → P s → q b ≡ true → next s b ≡ Some t → P t)
-    → (s t : S) (chunk rest : List ℕ) → P s → Every q chunk → Went next s chunk rest t → P t
-kept_by_prefix next P q h s t chunk rest g w a =
-    kept_by_run next P q h s t a.taken g
-    (every_split q a.taken rest (subst (Every q) a.split w)).0 a.leads
 
 -- an Err is not Ok
 pub never : {P : Type 0} → false ≡ true → P

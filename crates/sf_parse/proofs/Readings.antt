@@ -1,23 +1,21 @@
 -- A reader's text, read and fed block by block.
 use Rattle.std.proofs.Common.{◌≡◌, ℕ, ◌+◌, ◌^◌, ◌<◌, ◌≤◌, Bool, List, [], ◌∷◌, ◌++◌, length}
 use Rattle.std.proofs.Common.{Some, None, inl, inr}
-use Rattle.std.proofs.Common.{Result, Ok, Err, refl, ◌∙◌, subst, append-nil}
+use Rattle.std.proofs.Common.{Result, Ok, Err, refl, sym, ◌∙◌, subst, append-nil, append_assoc}
 use Rattle.std.proofs.Common.{length-append, arith}
 use Rattle.sf_value.specs.Devices.{SourceState, capped, Gave, GivesOnce, EndsOnce, FailsOnce}
 use Rattle.sf_value.specs.declared.dialect.Dialect.TheVariants.{Rfc9651}
 use Rattle.sf_value.specs.declared.value.Field.{Field}
 use Rattle.sf_value.specs.declared.value.Kind.{Kind}
-use Rattle.sf_value.specs.declared.value.Kind.TheVariants as kind_is
 use Rattle.sf_value.specs.Grammar.Lines.{Viable}
-use Rattle.sf_value.specs.Grammar.Words.{Every}
 use Rattle.sf_parse.specs.declared.refusal.Refusal.{Refusal}
 use Rattle.sf_parse.specs.declared.refusal.Refusal.TheVariants.{OutOfMemory, Syntax, TooLong}
 use Rattle.sf_parse.specs.declared.refusal.Refusal.TheVariants.{ReadFault}
 use Rattle.sf_parse.specs.Machine.Fields.{begin}
 use Rattle.sf_parse.specs.Parsers.{Progress, Took, Fed, RefusedFor, Finishes}
-use Rattle.sf_parse.specs.AllocationFree.{scalar_byte}
+use Rattle.sf_parse.specs.AllocationFree.{TakesNoMemory}
 use Rattle.sf_parse.specs.AllocationFreeParsers.{IsAllocationFree, IsOther, NotForMemory}
-use Rattle.sf_parse.specs.Reading.{GaveAll, IsScalarText, Wanted, ReadAndParsed}
+use Rattle.sf_parse.specs.Reading.{GaveAll, Wanted, ReadAndParsed}
 use Rattle.sf_parse.proofs.Reached.{reached_nothing, reached_viable}
 use Rattle.sf_value.proofs.Gives.{gave_none, gave_more}
 
@@ -33,22 +31,12 @@ pub record ReadSoFar (old now : SourceState) (kind : Kind) (max given : ℕ) (p 
   pub same_max : p.max ≡ max
   pub within : given ≤ max
   pub viable : Viable Rfc9651 kind text
-  pub allocation_free : IsScalarText kind text → IsAllocationFree p
-
-every_prefix : (t : ℕ → Bool) (a b : List ℕ) → Every t (a ++ b) → Every t a
-every_prefix t [] b h = tt
-every_prefix t (x ∷ a) b h = (h.0, every_prefix t a b h.1)
-
-every_behind : (t : ℕ → Bool) (a b : List ℕ) → Every t (a ++ b) → Every t b
-every_behind t [] b h = h
-every_behind t (x ∷ a) b h = every_behind t a b h.1
-
-allocation_free_prefix : (kind : Kind) (a b : List ℕ) → IsScalarText kind (a ++ b)
-    → IsScalarText kind a
-allocation_free_prefix kind a b h = (h.0, every_prefix scalar_byte a b h.1)
+  -- while what was given begins a text that does not allocate, the parser does not either
+  pub allocation_free : (more : List ℕ) → TakesNoMemory kind (text ++ more) → IsAllocationFree p more
 
 pub reads_start : (s : SourceState) (kind : Kind) (max : ℕ) (p : Progress) → Took p []
-    → p.dialect ≡ Rfc9651 → p.kind ≡ kind → p.max ≡ max → (kind ≡ kind_is.Item → IsAllocationFree p)
+    → p.dialect ≡ Rfc9651 → p.kind ≡ kind → p.max ≡ max
+    → ((text : List ℕ) → TakesNoMemory kind text → IsAllocationFree p text)
     → ReadSoFar s s kind max 0 p
 reads_start s kind max p t d k m allocation_free = record {
   text = [];
@@ -60,12 +48,13 @@ reads_start s kind max p t d k m allocation_free = record {
   same_max = m;
   within = omega arith;
   viable = reached_viable Rfc9651 kind (begin kind) [] (reached_nothing Rfc9651 kind);
-  allocation_free = λ h. allocation_free h.0;
+  allocation_free = allocation_free;
 }
 
 pub reads_more : (old a b : SourceState) (kind : Kind) (max given n : ℕ) (p q : Progress)
     (ys : List ℕ) → ReadSoFar old a kind max given p → GivesOnce a b ys → length ys ≡ n
-    → Fed p q (Ok tt) ys → (IsAllocationFree p → Every scalar_byte ys → IsAllocationFree q)
+    → Fed p q (Ok tt) ys
+    → ((more : List ℕ) → IsAllocationFree p (ys ++ more) → IsAllocationFree q more)
     → ReadSoFar old b kind max (given + n) q
 reads_more old a b kind max given n p q ys r g e f allocation_free =
     let fed = f.answer.1 r.text r.took in
@@ -84,9 +73,9 @@ reads_more old a b kind max given n p q ys r g e f allocation_free =
       viable =
           subst (λ k. Viable Rfc9651 k (r.text ++ ys)) r.same_kind
           (subst (λ d. Viable d p.kind (r.text ++ ys)) r.dialect fed.1);
-      allocation_free = λ h.
-          allocation_free (r.allocation_free (allocation_free_prefix kind r.text ys h))
-          (every_behind scalar_byte r.text ys h.1);
+      allocation_free = λ more h.
+          allocation_free more (r.allocation_free (ys ++ more)
+          (subst (TakesNoMemory kind) (append_assoc r.text ys more) h));
     }
 
 at_most : (m n k given top : ℕ) → m ≡ given → k ≡ m + n → given + n ≤ top → k ≤ top
@@ -95,7 +84,7 @@ at_most m n k given top c e l = omega arith
 pub reads_refused : (old a b : SourceState) (kind : Kind) (max given : ℕ) (p q : Progress)
     (ys : List ℕ) (e : Refusal) → ReadSoFar old a kind max given p → GivesOnce a b ys
     → given + length ys ≤ capped (max + 1) → Fed p q (Err e) ys
-    → (IsAllocationFree p → Every scalar_byte ys → IsOther e)
+    → ((more : List ℕ) → IsAllocationFree p (ys ++ more) → IsOther e)
     → ReadAndParsed Rfc9651 kind old b max (Err e)
 reads_refused old a b kind max given p q ys e r g l f allocation_free = at e refused other
   where
@@ -116,13 +105,13 @@ reads_refused old a b kind max given p q ys e r g l f allocation_free = at e ref
         (subst (λ m. RefusedFor p.dialect p.kind m (text ++ more) e) r.same_max
         (f.answer.1 r.text r.took more)))
 
-    other : IsScalarText kind text → IsOther e
+    other : TakesNoMemory kind text → IsOther e
     other h =
-        allocation_free (r.allocation_free (allocation_free_prefix kind r.text ys h))
-        (every_behind scalar_byte r.text ys h.1)
+        allocation_free [] (r.allocation_free (ys ++ [])
+        (subst (λ y. TakesNoMemory kind (r.text ++ y)) (sym (append-nil ys)) h))
 
     at : (e : Refusal) → ((more : List ℕ) → RefusedFor Rfc9651 kind max (text ++ more) e)
-        → (IsScalarText kind text → IsOther e) → ReadAndParsed Rfc9651 kind old b max (Err e)
+        → (TakesNoMemory kind text → IsOther e) → ReadAndParsed Rfc9651 kind old b max (Err e)
     at OutOfMemory h o = (text, (o, inl (gave, bound)))
     at (Syntax place None expected may) h o = absurd (h [])
     at (Syntax place (Some c) expected may) h o =
@@ -140,13 +129,13 @@ reads_failed old a b kind max given p r f =
     (r.text, record { mid = a; gave = r.gave; failed = f }, r.count, r.within, r.viable)
 
 wanted : (old b : SourceState) (kind : Kind) (max : ℕ) (text : List ℕ) → GaveAll old b text
-    → length text ≤ max → max < 2 ^ 64 → ¬ (IsScalarText kind text) → Wanted kind old b max text
+    → length text ≤ max → max < 2 ^ 64 → ¬ (TakesNoMemory kind text) → Wanted kind old b max text
 wanted old b kind max text g l m n =
     elim g [ inl e ↦ (n, inr (e, l)) | inr f ↦ (n, inl (f.0, omega arith)) ]
 
 ended : (old b : SourceState) (kind : Kind) (max : ℕ) (text : List ℕ) (r : Result Field Refusal)
     → GaveAll old b text → length text ≤ max → max < 2 ^ 64
-    → (IsScalarText kind text → NotForMemory r)
+    → (TakesNoMemory kind text → NotForMemory r)
     → Finishes Rfc9651 kind text r → ReadAndParsed Rfc9651 kind old b max r
 ended old b kind max text (Ok v) g l m n f = (text, g, l, f)
 ended old b kind max text (Err OutOfMemory) g l m n f = (text, wanted old b kind max text g l m n)
@@ -165,23 +154,26 @@ finished kind max given old a p r k f =
 -- as many bytes were given as a count holds
 pub reads_full : (old a : SourceState) (kind : Kind) (max given limit : ℕ) (p : Progress)
     (r : Result Field Refusal) → ReadSoFar old a kind max given p → max < 2 ^ 64
-    → limit ≡ capped (max + 1) → limit ≤ given → (IsAllocationFree p → NotForMemory r)
+    → limit ≡ capped (max + 1) → limit ≤ given → (IsAllocationFree p [] → NotForMemory r)
     → ((s : List ℕ) → Took p s → Finishes p.dialect p.kind s r)
     → ReadAndParsed Rfc9651 kind old a max r
 reads_full old a kind max given limit p r k m e l n f =
     let c = k.count in
     let w = k.within in
     ended old a kind max k.text r (inr (k.gave, omega arith)) (omega arith) m
-    (λ h. n (k.allocation_free h)) (finished kind max given old a p r k f)
+    (λ h. n (k.allocation_free [] (subst (TakesNoMemory kind) (sym (append-nil k.text)) h)))
+    (finished kind max given old a p r k f)
 
 -- the reader came to its end
 pub reads_ended : (old a b : SourceState) (kind : Kind) (max given : ℕ) (p : Progress)
     (r : Result Field Refusal) → ReadSoFar old a kind max given p → max < 2 ^ 64 → EndsOnce a b
-    → (IsAllocationFree p → NotForMemory r)
+    → (IsAllocationFree p [] → NotForMemory r)
     → ((s : List ℕ) → Took p s → Finishes p.dialect p.kind s r)
     → ReadAndParsed Rfc9651 kind old b max r
 reads_ended old a b kind max given p r k m e n f =
     let c = k.count in
     let w = k.within in
     ended old b kind max k.text r (inl (record { mid = a; gave = k.gave; ended = e }))
-    (omega arith) m (λ h. n (k.allocation_free h)) (finished kind max given old a p r k f)
+    (omega arith) m
+    (λ h. n (k.allocation_free [] (subst (TakesNoMemory kind) (sym (append-nil k.text)) h)))
+    (finished kind max given old a p r k f)

@@ -8,6 +8,7 @@ use Rattle.sf_value.specs.declared.dialect.Dialect.{Dialect}
 use Rattle.sf_value.specs.declared.value.Field.{Field}
 use Rattle.sf_value.specs.declared.value.Kind.{Kind}
 use Rattle.sf_value.specs.declared.value.Kind.TheVariants as kind_is
+use Rattle.sf_parse.specs.declared.refusal.Refusal.{Refusal}
 use Rattle.sf_parse.specs.declared.refusal.Refusal.TheVariants.{Syntax}
 use Rattle.sf_parse.specs.Machine.States.{State}
 use Rattle.sf_parse.specs.Machine.Fields.{step, finish, begin}
@@ -15,7 +16,7 @@ use Rattle.sf_parse.specs.Machine.Tests.{takes, may_end}
 use Rattle.sf_parse.specs.Expected.{Marks}
 use Rattle.sf_parse.specs.Prefixes.{LongestPrefix}
 use Rattle.sf_parse.specs.Reached.{Reached}
-use Rattle.sf_parse.specs.Parsers.{IsSyntax, IsOnly, Parses}
+use Rattle.sf_parse.specs.Parsers.{IsSyntax, IsOnly, Parses, Refuses}
 use Rattle.sf_parse.specs.AllocationFree.{TakesNoMemory, FieldFree}
 use Rattle.sf_parse.proofs.AllocationFreeSteps.{field_free_went}
 use Rattle.sf_parse.proofs.Reached.{reached_nothing, reaches_more}
@@ -34,14 +35,13 @@ place_is taken rest text e =
     let l : length text ≡ length (taken ++ rest) = ap length e in
     omega (arith, length-append taken rest)
 
--- a byte is left, or the text may not end
-pub whole_refused : (d : Dialect) (kind : Kind) (s t : State) (text rest : List ℕ)
+whole_syntax : (d : Dialect) (kind : Kind) (s t : State) (text rest : List ℕ)
     (found : Option ℕ) (bits : ℕ) (may : Bool) → s ≡ begin kind
     → LongestPrefix (step d) s text rest t
     → found ≡ slice_get rest 0 → Marks bits (takes d t) → may ≡ may_end t
     → (is_some found ≡ true) ⊎ ((is_some found ≡ false) × (may ≡ false))
     → Parses d kind text (Err (Syntax (length text - length rest) found bits may))
-whole_refused d kind s t text (b ∷ rest) (Some c) bits may e a f m k h =
+whole_syntax d kind s t text (b ∷ rest) (Some c) bits may e a f m k h =
     let byte : b ≡ c = cc in
     let prefix = prefix_took d kind s t text (b ∷ rest) e a in
     subst (λ p. IsSyntax d kind text p (Some c) bits may)
@@ -49,8 +49,8 @@ whole_refused d kind s t text (b ∷ rest) (Some c) bits may e a f m k h =
     (subst (λ y. IsSyntax d kind text (length a.went.taken) (Some y) bits may) byte
     (subst (λ y. IsSyntax d kind y (length a.went.taken) (Some b) bits may) (sym a.went.split)
     (stops_exact d kind t a.went.taken rest b bits may prefix a.stops m k)))
-whole_refused d kind s t text [] None bits may e a f m k (inl h) = absurd cc
-whole_refused d kind s t text [] None bits may e a f m k (inr h) =
+whole_syntax d kind s t text [] None bits may e a f m k (inl h) = absurd cc
+whole_syntax d kind s t text [] None bits may e a f m k (inr h) =
     let prefix = prefix_took d kind s t text [] e a in
     let all : text ≡ a.went.taken = a.went.split ∙ append-nil a.went.taken in
     subst (λ c. Parses d kind text (Err (Syntax (length text - 0) None bits c))) (sym h.1) (
@@ -60,8 +60,20 @@ whole_refused d kind s t text [] None bits may e a f m k (inr h) =
           (subst (λ y. IsSyntax d kind y (length a.went.taken) None bits false) (sym all)
           (ends_exact d kind t a.went.taken bits prefix m (sym h.1 ∙ k))),
     )
-whole_refused d kind s t text [] (Some c) bits may e a f m k h = absurd cc
-whole_refused d kind s t text (b ∷ rest) None bits may e a f m k h = absurd cc
+whole_syntax d kind s t text [] (Some c) bits may e a f m k h = absurd cc
+whole_syntax d kind s t text (b ∷ rest) None bits may e a f m k h = absurd cc
+
+-- a byte is left, or the text may not end
+pub whole_refused : (d : Dialect) (kind : Kind) (s t : State) (text rest : List ℕ)
+    (found : Option ℕ) (may : Bool) (e : Refusal) → s ≡ begin kind
+    → LongestPrefix (step d) s text rest t → found ≡ slice_get rest 0 → may ≡ may_end t
+    → Refuses (takes d t) (may_end t) (length text - length rest) found e
+    → (is_some found ≡ true) ⊎ ((is_some found ≡ false) × (may ≡ false))
+    → Parses d kind text (Err e)
+whole_refused d kind s t text rest found may e b a f k m h =
+    subst (λ y. Parses d kind text (Err y))
+    (ap (Syntax (length text - length rest) found m.expected) k ∙ sym m.syntax)
+    (whole_syntax d kind s t text rest found m.expected may b a f m.marks k h)
 
 -- no byte is left, and the state has a value
 pub whole_value : (d : Dialect) (kind : Kind) (s t : State) (text rest : List ℕ)

@@ -72,18 +72,3 @@ FieldFree (InTop s) more = ItemFree s more
 FieldFree (AfterItem i) more = ⊤
 FieldFree (InList s) more = SeriesFree s more
 FieldFree (InDict s) more = SeriesFree s more
-
--- the bare item is a number, a Boolean or a Date, which does not allocate
-abbrev pub AllocationFreeBare : BareState → Type 0
-AllocationFreeBare (InNumber s) = ⊤
-AllocationFreeBare (InText s) = ⊥
-AllocationFreeBare (InToken s) = ⊥
-AllocationFreeBare (InBoolean s) = ⊤
-AllocationFreeBare (InDate s) = ⊤
-AllocationFreeBare (InBlob s) = ⊥
-AllocationFreeBare (InShown s) = ⊥
-
--- the item is such a one, and no parameter was begun
-abbrev pub AllocationFreeItem : ItemState → Type 0
-AllocationFreeItem (InBare s) = AllocationFreeBare s
-AllocationFreeItem (InParams x s) = ⊥

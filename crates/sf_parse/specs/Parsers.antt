@@ -11,6 +11,7 @@ use Rattle.sf_value.specs.Grammar.Lines.{Viable, IsPlace}
 use Rattle.sf_parse.specs.declared.refusal.Refusal.{Refusal}
 use Rattle.sf_parse.specs.declared.refusal.Refusal.TheVariants.{OutOfMemory, Syntax, TooLong}
 use Rattle.sf_parse.specs.declared.refusal.Refusal.TheVariants.{ReadFault}
+use Rattle.sf_parse.specs.Expected.{Marks}
 use Rattle.sf_parse.specs.Machine.States.{State}
 use Rattle.sf_parse.specs.Machine.Fields.{Residual, Good}
 
@@ -39,6 +40,13 @@ StandsAt OutOfMemory count max = ⊤
 StandsAt (Syntax place found expected may_end) count max = count ≡ place
 StandsAt (TooLong limit) count max = (limit ≡ max) × (count ≡ max)
 StandsAt (ReadFault place) count max = ⊥
+
+-- the refusal of a byte, or of the end, at a place in a state that takes these bytes
+pub record Refuses (takes : ℕ → Bool) (ends : Bool) (place : ℕ) (found : Option ℕ) (e : Refusal)
+    : Type 0 where
+  pub expected : ℕ
+  pub marks : Marks expected takes
+  pub syntax : e ≡ Syntax place found expected ends
 
 -- what every parser keeps
 abbrev pub Sound : Option Refusal → State → ℕ → ℕ → Type 0

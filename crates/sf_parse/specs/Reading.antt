@@ -5,14 +5,12 @@ use Rattle.sf_value.specs.Devices.{SourceState, capped, Gave, GaveAndEnded, Gave
 use Rattle.sf_value.specs.declared.dialect.Dialect.{Dialect}
 use Rattle.sf_value.specs.declared.value.Field.{Field}
 use Rattle.sf_value.specs.declared.value.Kind.{Kind}
-use Rattle.sf_value.specs.declared.value.Kind.TheVariants as kind_is
 use Rattle.sf_value.specs.Grammar.Lines.{Viable}
-use Rattle.sf_value.specs.Grammar.Words.{Every}
 use Rattle.sf_parse.specs.declared.refusal.Refusal.{Refusal}
 use Rattle.sf_parse.specs.declared.refusal.Refusal.TheVariants.{OutOfMemory, Syntax, TooLong}
 use Rattle.sf_parse.specs.declared.refusal.Refusal.TheVariants.{ReadFault}
 use Rattle.sf_parse.specs.Parsers.{IsSyntax, Finishes}
-use Rattle.sf_parse.specs.AllocationFree.{scalar_byte}
+use Rattle.sf_parse.specs.AllocationFree.{TakesNoMemory}
 
 -- calls gave these bytes to the source's end, which one call answered; or these are as many as a
 -- count holds, and no further one was asked for
@@ -20,14 +18,10 @@ abbrev pub GaveAll : SourceState → SourceState → List ℕ → Type 0
 GaveAll old new bytes =
     GaveAndEnded old new bytes ⊎ (Gave old new bytes × (2 ^ 64 - 1 ≤ length bytes))
 
--- spaces, digits and `-.?@` alone for an Item, which do not allocate
-abbrev pub IsScalarText : Kind → List ℕ → Type 0
-IsScalarText kind text = (kind ≡ kind_is.Item) × Every scalar_byte text
-
--- an allocation failed on the way, or when the text was ended
+-- an allocation failed on the way, or when the text was ended, of a text that allocates
 abbrev pub Wanted : Kind → SourceState → SourceState → ℕ → List ℕ → Type 0
 Wanted kind old new max text =
-    ¬ (IsScalarText kind text)
+    ¬ (TakesNoMemory kind text)
     × ((Gave old new text × (length text ≤ capped (max + 1)))
     ⊎ (GaveAndEnded old new text × (length text ≤ max)))
 

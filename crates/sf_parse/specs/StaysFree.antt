@@ -1,7 +1,7 @@
 -- What does not allocate takes none with a byte less, in the state that the byte leads to.
 use Rattle.std.specs.Option.{option_map, option_or}
 use Rattle.std.specs.Prelude.{◌≡◌, ℕ, Bool, true, false, ◌==◌, List, [], ◌∷◌, ◌++◌}
-use Rattle.std.specs.Prelude.{◌⊎◌, Option, Some, None}
+use Rattle.std.specs.Prelude.{◌⊎◌, Option, Some, None, ⊤}
 use Rattle.std.proofs.Common.{refl, sym, subst, ◌∙◌, arith, append_assoc, length-append, ⊎_elim, inl, inr}
 use Rattle.sf_value.specs.InPlace.{FitsInPlace}
 use Rattle.sf_value.specs.Grammar.Words.{Every, allow}
@@ -27,7 +27,7 @@ use Rattle.sf_parse.specs.Machine.States.{State, BeforeItem, InTop, AfterItem, I
 use Rattle.sf_parse.specs.Machine.Fields.{step, list_series, dict_series}
 use Rattle.sf_parse.specs.SeriesView.{series_next}
 use Rattle.sf_parse.specs.AllocationFree.{scalar_byte, short_byte, no_semicolon, text_bytes, BareFree}
-use Rattle.sf_parse.specs.AllocationFree.{ItemFree, SeriesFree, FieldFree, AllocationFreeBare}
+use Rattle.sf_parse.specs.AllocationFree.{ItemFree, SeriesFree, FieldFree}
 
 -- what a choice, a test and a step gave
 map_cases : {X Y : Type 0} (f : X → Y) (o : Option X) (y : Y) → option_map f o ≡ Some y
@@ -220,7 +220,7 @@ scalar_opens_none b p = grind arith
 short_opens_none : (b : ℕ) → short_byte b ≡ true → no_semicolon b ≡ true
 short_opens_none b p = grind arith
 
-pub no_scalar_opens : (t : List ℕ) → Every scalar_byte t → Every no_semicolon t
+no_scalar_opens : (t : List ℕ) → Every scalar_byte t → Every no_semicolon t
 no_scalar_opens = every_less scalar_byte no_semicolon scalar_opens_none
 
 scalar_bytes : (b : ℕ) → scalar_byte b ≡ true
@@ -233,15 +233,25 @@ short_bytes b p = (grind arith, grind arith)
 clash : {A : Type 0} (c : Bool) → c ≡ false → c ≡ true → A
 clash c e f = let k : false ≡ true = sym e ∙ f in absurd cc
 
+-- a number, a Boolean or a Date, which does not allocate
+abbrev pub ScalarBare : BareState → Type 0
+ScalarBare (InNumber s) = ⊤
+ScalarBare (InText s) = ⊥
+ScalarBare (InToken s) = ⊥
+ScalarBare (InBoolean s) = ⊤
+ScalarBare (InDate s) = ⊤
+ScalarBare (InBlob s) = ⊥
+ScalarBare (InShown s) = ⊥
+
 -- a scalar begins as one
-pub scalar_begun : (d : Dialect) (b : ℕ) (s : BareState) → scalar_byte b ≡ true
-    → bare_start d b ≡ Some s → AllocationFreeBare s
+scalar_begun : (d : Dialect) (b : ℕ) (s : BareState) → scalar_byte b ≡ true
+    → bare_start d b ≡ Some s → ScalarBare s
 scalar_begun d b s p e =
     let k = scalar_bytes b p in
-    begun AllocationFreeBare d b (λ n. tt) (λ t. clash _ k.0 t) (λ t. clash _ k.1 t) tt tt
+    begun ScalarBare d b (λ n. tt) (λ t. clash _ k.0 t) (λ t. clash _ k.1 t) tt tt
     (λ t. clash _ k.2 t) (λ t. clash _ k.3 t) s e
 
-pub scalar_free : (s : BareState) (more : List ℕ) → AllocationFreeBare s → BareFree s more
+scalar_free : (s : BareState) (more : List ℕ) → ScalarBare s → BareFree s more
 scalar_free (InNumber s) more h = tt
 scalar_free (InText s) more h = absurd h
 scalar_free (InToken s) more h = absurd h

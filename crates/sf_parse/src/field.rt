@@ -1,12 +1,14 @@
 //! Whole texts, each parsed by the reader of its kind (RFC 9651 section 4.2).
 ghost use Rattle.std.specs.Option.{option_map};
-ghost use Rattle.std.specs.Prelude.{◌≡◌, ℕ, List as Seq, [], IfOk, IsOk, refl};
+ghost use Rattle.std.specs.Prelude.{◌≡◌, ℕ, List as Seq, [], IfOk, IsOk, IfErr, refl};
 ghost use Rattle.sf_value.specs.declared.dialect.Dialect.{Dialect};
+ghost use Rattle.sf_value.specs.declared.value.Field.{Field};
+ghost use Rattle.sf_value.specs.declared.value.Field.TheVariants as field_is;
 ghost use Rattle.sf_value.specs.declared.value.Kind.{Kind};
 ghost use Rattle.sf_value.specs.declared.value.Kind.TheVariants as kind_is;
-ghost use Rattle.sf_parse.specs.Parsers.{Parses};
+ghost use Rattle.sf_parse.specs.Parsers.{Parses, Makes};
 ghost use Rattle.sf_parse.specs.AllocationFree.{TakesNoMemory, FieldFree};
-ghost use Rattle.sf_parse.specs.AllocationFreeParsers.{NotForMemory};
+ghost use Rattle.sf_parse.specs.AllocationFreeParsers.{IsOther};
 ghost use Rattle.sf_parse.specs.FieldSteps.{top_steps, list_steps, dict_steps};
 ghost use Rattle.sf_parse.specs.Machine.States.{State, InList, InDict};
 ghost use Rattle.sf_parse.specs.Machine.Fields.{begin as begin_at, step as step_of};
@@ -20,7 +22,7 @@ use crate::level::Level;
 use crate::member::MemberReader;
 use crate::refusal::Refusal;
 use crate::series::SeriesReader;
-use sf_value::{Dict, Entries, Field, List, Member, OutOfMemory, Sequence};
+use sf_value::{Dict, Entries, Item, List, Member, OutOfMemory, Sequence};
 
 /// The members of a List that are being read.
 pub type ListReader = SeriesReader<MemberReader, Sequence<Member>>;
@@ -30,8 +32,14 @@ pub type DictReader = SeriesReader<EntryReader, Entries<Member>>;
 
 /// A field of one kind that is being read.
 pub trait WholeField: Level + Drop {
+    /// What a whole field of the kind is.
+    type Whole;
+
     // the kind
     ghost kind: { Kind };
+
+    // the field that it is
+    ghost field: { Self.Whole → Field };
 
     // what was read, as a state of the machine of fields
     ghost state: { Self → State };
@@ -41,10 +49,10 @@ pub trait WholeField: Level + Drop {
         // Its state is the first one of its kind.
         ensures { state result ≡ begin_at kind };
 
-    /// The field, if it may end here. What is left is the reader alone.
-    fn finish_field(&mut self, context: &Context) -> Result<Option<Field>, OutOfMemory>
+    /// What was read, if the field may end here. What is left is the reader alone.
+    fn finish_whole(&mut self, context: &Context) -> Result<Option<Self::Whole>, OutOfMemory>
         // The field is the value that the state has at the end, if it has one.
-        ensures value { IfOk result (λ field. field ≡ finish_of (state self.old)) }
+        ensures value { IfOk result (λ whole. option_map field whole ≡ finish_of (state self.old)) }
         // Where no byte more does not allocate, the end takes none.
         ensures allocation_free { FieldFree (state self.old) [] → IsOk result };
 
@@ -62,7 +70,11 @@ pub trait WholeField: Level + Drop {
 }
 
 impl WholeField for TopReader {
+    type Whole = Item;
+
     ghost kind = { kind_is.Item };
+
+    ghost field = { field_is.Item };
 
     ghost state = { λ s. s };
 
@@ -78,16 +90,17 @@ impl WholeField for TopReader {
         TopReader::new(context)
     }
 
-    fn finish_field(&mut self, context: &Context) -> Result<Option<Field>, OutOfMemory> {
-        match self.finish(context)? {
-            Some(item) => Ok(Some(Field::Item(item))),
-            None => Ok(None),
-        }
+    fn finish_whole(&mut self, context: &Context) -> Result<Option<Item>, OutOfMemory> {
+        self.finish(context)
     }
 }
 
 impl WholeField for ListReader {
+    type Whole = List;
+
     ghost kind = { kind_is.List };
+
+    ghost field = { field_is.List };
 
     ghost state = { InList };
 
@@ -103,16 +116,20 @@ impl WholeField for ListReader {
         SeriesReader::new(context, MemberReader::new(context))
     }
 
-    fn finish_field(&mut self, context: &Context) -> Result<Option<Field>, OutOfMemory> {
+    fn finish_whole(&mut self, context: &Context) -> Result<Option<List>, OutOfMemory> {
         match self.finish(context)? {
-            Some(members) => Ok(Some(Field::List(List { members }))),
+            Some(members) => Ok(Some(List { members })),
             None => Ok(None),
         }
     }
 }
 
 impl WholeField for DictReader {
+    type Whole = Dict;
+
     ghost kind = { kind_is.Dict };
+
+    ghost field = { field_is.Dict };
 
     ghost state = { InDict };
 
@@ -128,21 +145,21 @@ impl WholeField for DictReader {
         SeriesReader::new(context, EntryReader::new(context))
     }
 
-    fn finish_field(&mut self, context: &Context) -> Result<Option<Field>, OutOfMemory> {
+    fn finish_whole(&mut self, context: &Context) -> Result<Option<Dict>, OutOfMemory> {
         match self.finish(context)? {
-            Some(members) => Ok(Some(Field::Dict(Dict { members }))),
+            Some(members) => Ok(Some(Dict { members })),
             None => Ok(None),
         }
     }
 }
 
-/// The value that the text spells as a field of this kind, or its exact refusal.
-pub fn parse_whole<W: WholeField>(context: &Context, text: &[u8]) -> Result<Field, Refusal>
+/// What the text spells as a field of this kind, or its exact refusal.
+pub fn parse_whole<W: WholeField>(context: &Context, text: &[u8]) -> Result<W::Whole, Refusal>
     // The text spells just this value, or this is its exact refusal; otherwise an allocation
     // failed.
-    ensures parses { Parses context.now.dialect W.kind text.now result }
-    // A text that does not allocate is not refused for want of it.
-    ensures allocation_free { TakesNoMemory W.kind text.now → NotForMemory result }
+    ensures parses { Makes W.field (Parses context.now.dialect W.kind text.now) result }
+    // A text that does not allocate is not refused as out of memory.
+    ensures allocation_free { TakesNoMemory W.kind text.now → IfErr result IsOther }
 {
     let mut field = W::begin(context);
     read_whole(&mut field, context, text)
@@ -153,27 +170,23 @@ fn read_whole<W: WholeField>(
     field: &mut W,
     context: &Context,
     text: &[u8],
-) -> Result<Field, Refusal>
+) -> Result<W::Whole, Refusal>
     // Nothing was read.
     requires { W.state field.old ≡ begin_at W.kind }
     // The text spells just this value, or this is its exact refusal; otherwise an allocation
     // failed.
-    ensures parses { Parses context.now.dialect W.kind text.now result }
-    // A text that does not allocate is not refused for want of it.
-    ensures allocation_free { TakesNoMemory W.kind text.now → NotForMemory result }
+    ensures parses { Makes W.field (Parses context.now.dialect W.kind text.now) result }
+    // A text that does not allocate is not refused as out of memory.
+    ensures allocation_free { TakesNoMemory W.kind text.now → IfErr result IsOther }
 {
     let rest = field.take(context, text)?;
     let found = rest.first().copied();
     let may_end = field.may_end();
     if found.is_some() || !may_end {
-        return Err(Refusal::Syntax {
-            place: (text.len() - rest.len()) as u64,
-            found,
-            expected: field.expected(context.dialect),
-            may_end,
-        });
+        let place = (text.len() - rest.len()) as u64;
+        return Err(field.refuse(context.dialect, place, found));
     }
-    match field.finish_field(context)? {
+    match field.finish_whole(context)? {
         Some(value) => Ok(value),
         None => unreachable!(),
     }

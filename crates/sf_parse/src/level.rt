@@ -4,8 +4,10 @@ ghost use Rattle.sf_value.specs.declared.dialect.Dialect.{Dialect};
 ghost use Rattle.sf_parse.specs.Expected.{Marks};
 ghost use Rattle.sf_parse.specs.Prefixes.{Went, FirstIs, LongestPrefix, unless};
 ghost use Rattle.sf_parse.specs.Machine.Language.{Steps};
+ghost use Rattle.sf_parse.specs.Parsers.{Refuses};
 
 use crate::context::Context;
+use crate::refusal::Refusal;
 use sf_value::{Dialect, OutOfMemory};
 
 /// A level of the grammar that is being read: contracts see its state of the machine.
@@ -69,6 +71,19 @@ pub trait Level {
     // what does not allocate takes none after its first byte
     ghost keeps: { (d : Dialect) (s t : Self) (b : ℕ) (more : List ℕ)
         → allocation_free d s (b ∷ more) → next d s b ≡ Some t → allocation_free d t more };
+
+    /// The refusal of the byte that was found at this place, or of the end if none was.
+    final fn refuse(&self, dialect: Dialect, place: u64, found: Option<u8>) -> Refusal
+        // It names the bytes that the level can go on with, and whether it may end.
+        ensures { Refuses (takes dialect self.now) (ends self.now) place found result }
+    {
+        Refusal::Syntax {
+            place,
+            found,
+            expected: self.expected(dialect),
+            may_end: self.may_end(),
+        }
+    }
 
     /// Takes one byte, or reports that the level can't go on with it: as `take` does, with no look
     /// for a run.

@@ -1,13 +1,12 @@
 //! The parser that is handed chunks.
-ghost use Rattle.std.specs.Prelude.{◌≡◌, ℕ, ◌+◌, ◌<◌, ◌≤◌, List, [], ◌∷◌, length, true, Some, None};
+ghost use Rattle.std.specs.Prelude.{◌≡◌, ℕ, ◌+◌, ◌<◌, ◌≤◌, List, [], ◌∷◌, ◌++◌, length, true};
+ghost use Rattle.std.specs.Prelude.{Some, None};
 ghost use Rattle.std.specs.Prelude.{IfSome, IfNone, IfOk, OnOk, Err, MatchResult, false};
-ghost use Rattle.sf_value.specs.Grammar.Words.{Every};
 ghost use Rattle.sf_value.specs.declared.dialect.Dialect.TheVariants as dialect_is;
-ghost use Rattle.sf_value.specs.declared.value.Kind.TheVariants as kind_is;
 ghost use Rattle.sf_parse.specs.Prefixes.{FirstIs, Halts};
 ghost use Rattle.sf_parse.specs.Parsers.{Took, StandsAt, Fed, Finishes, in_line};
 ghost use Rattle.sf_parse.specs.Feeding.{FedTo, TakenAllocationFree};
-ghost use Rattle.sf_parse.specs.AllocationFree.{scalar_byte};
+ghost use Rattle.sf_parse.specs.AllocationFree.{TakesNoMemory};
 ghost use Rattle.sf_parse.specs.AllocationFreeParsers.{IsAllocationFree, IsOther};
 ghost use Rattle.sf_parse.specs.AllocationFreeParsers.{KeptAllocationFree, NotForMemory};
 ghost use Rattle.sf_parse.specs.Machine.Fields.{step as step_of};
@@ -99,8 +98,9 @@ impl Parser {
         ensures took { Took result [] }
         // No field line came before.
         ensures lines { result.after_line ≡ false }
-        // A parser for an Item does not allocate while only spaces, digits and `-.?@` come.
-        ensures allocation_free { kind ≡ kind_is.Item → IsAllocationFree result }
+        // A text of the kind that does not allocate is fed and ended without an allocation.
+        ensures allocation_free { (text : List ℕ) → TakesNoMemory kind text
+            → IsAllocationFree result text }
     {
         Parser::new_in(alloc, seed, Dialect::Rfc9651, kind, max)
     }
@@ -121,14 +121,11 @@ impl Parser {
         ensures took { Took result [] }
         // No field line came before.
         ensures lines { result.after_line ≡ false }
-        // A parser for an Item does not allocate while only spaces, digits and `-.?@` come.
-        ensures allocation_free { kind ≡ kind_is.Item → IsAllocationFree result }
+        // A text of the kind that does not allocate is fed and ended without an allocation.
+        ensures allocation_free { (text : List ℕ) → TakesNoMemory kind text
+            → IsAllocationFree result text }
     {
-        let context = Context {
-            alloc,
-            seed: *seed,
-            dialect,
-        };
+        let context = Context::new(alloc, seed, dialect);
         Parser {
             context,
             kind,
@@ -164,9 +161,9 @@ impl Parser {
         // The field can't go on with the first byte of the rest.
         ensures stops { IfOk result (λ rest. FirstIs (Halts (step_of self.new.dialect)
             self.new.state) rest.now) }
-        // While only spaces, digits and `-.?@` of an Item come, none is refused as out of memory.
-        ensures allocation_free { IsAllocationFree self.old → Every scalar_byte prefix.now
-            → TakenAllocationFree self.new result }
+        // Bytes that do not allocate are not refused as out of memory, nor do those after them.
+        ensures allocation_free { (more : List ℕ) → IsAllocationFree self.old (prefix.now ++ more)
+            → TakenAllocationFree self.new more result }
     {
         let rest = match self.state.take(&self.context, prefix) {
             Ok(rest) => rest,
@@ -196,12 +193,9 @@ impl Parser {
             self.refusal = Some(refusal);
             return refusal;
         }
-        let refusal = Refusal::Syntax {
-            place: self.count,
-            found: Some(byte),
-            expected: self.state.expected(self.context.dialect),
-            may_end: self.state.may_end(),
-        };
+        let refusal = self
+            .state
+            .refuse(self.context.dialect, self.count, Some(byte));
         self.refusal = Some(refusal);
         refusal
     }
@@ -216,9 +210,10 @@ impl Parser {
         ensures lines { self.new.after_line ≡ self.old.after_line }
         // A parser that refused gives the same refusal and stays as it is.
         ensures again { IfSome self.old.refusal (λ e. (result ≡ Err e) × (self.new ≡ self.old)) }
-        // While only spaces, digits and `-.?@` of an Item come, none is refused as out of memory.
-        ensures allocation_free { IsAllocationFree self.old → Every scalar_byte chunk.now
-            → KeptAllocationFree self.new result }
+        // A chunk that does not allocate is not refused as out of memory, and neither is what comes
+        // after it, if that does not allocate.
+        ensures allocation_free { (more : List ℕ) → IsAllocationFree self.old (chunk.now ++ more)
+            → KeptAllocationFree self.new more result }
     {
         if let Some(refusal) = self.refusal {
             return Err(refusal);
@@ -259,10 +254,11 @@ impl Parser {
         ensures lines { OnOk result (self.new.after_line ≡ true) }
         // A parser that refused gives the same refusal and stays as it is.
         ensures again { IfSome self.old.refusal (λ e. (result ≡ Err e) × (self.new ≡ self.old)) }
-        // A first line of spaces, digits and `-.?@` of an Item is not refused as out of memory.
-        ensures allocation_free { IsAllocationFree self.old → self.old.after_line ≡ false
-            → Every scalar_byte line.now
-            → KeptAllocationFree self.new result }
+        // A line that does not allocate is not refused as out of memory, and neither is what comes
+        // after it, if that does not allocate.
+        ensures allocation_free { (more : List ℕ)
+            → IsAllocationFree self.old (in_line self.old.after_line line.now ++ more)
+            → KeptAllocationFree self.new more result }
     {
         if self.after_line {
             self.feed(b", ")?;
@@ -283,8 +279,8 @@ impl Parser {
         ensures unrefused { IfNone result (self.now.refusal ≡ None) }
         // Without a refusal the text may end.
         ensures whole { IfNone result (may_end self.now.state ≡ true) }
-        // After only spaces, digits and `-.?@` of an Item, the refusal is not out of memory.
-        ensures allocation_free { IsAllocationFree self.now → IfSome result IsOther }
+        // If the end does not allocate, the refusal is not out of memory.
+        ensures allocation_free { IsAllocationFree self.now [] → IfSome result IsOther }
     {
         if let Some(refusal) = self.refusal {
             return Some(refusal);
@@ -292,12 +288,7 @@ impl Parser {
         if self.state.may_end() {
             return None;
         }
-        Some(Refusal::Syntax {
-            place: self.count,
-            found: None,
-            expected: self.state.expected(self.context.dialect),
-            may_end: false,
-        })
+        Some(self.state.refuse(self.context.dialect, self.count, None))
     }
 
     /// The value of what was taken. It fails with the refusal that a call before gave, with Syntax
@@ -308,8 +299,8 @@ impl Parser {
         ensures ended { (s : List ℕ) → Took self s → Finishes self.dialect self.kind s result }
         // A parser that refused gives the same refusal.
         ensures again { IfSome self.refusal (λ e. result ≡ Err e) }
-        // After only spaces, digits and `-.?@` of an Item, the end is not refused as out of memory.
-        ensures allocation_free { IsAllocationFree self → NotForMemory result }
+        // An end that does not allocate is not refused as out of memory.
+        ensures allocation_free { IsAllocationFree self [] → NotForMemory result }
     {
         if let Some(refusal) = self.refusal_at_end() {
             return Err(refusal);

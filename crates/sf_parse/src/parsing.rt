@@ -1,11 +1,10 @@
 //! Whole texts.
-ghost use Rattle.std.specs.Prelude.{◌≡◌, IfErr};
-ghost use Rattle.sf_value.specs.Grammar.Words.{Every};
+ghost use Rattle.std.specs.Prelude.{IfErr};
 ghost use Rattle.sf_value.specs.declared.dialect.Dialect.TheVariants.{Rfc9651};
 ghost use Rattle.sf_value.specs.declared.value.Field.TheVariants as field_is;
 ghost use Rattle.sf_value.specs.declared.value.Kind.TheVariants as kind_is;
 ghost use Rattle.sf_parse.specs.Parsers.{Parses, Makes};
-ghost use Rattle.sf_parse.specs.AllocationFree.{scalar_byte, TakesNoMemory};
+ghost use Rattle.sf_parse.specs.AllocationFree.{TakesNoMemory};
 ghost use Rattle.sf_parse.specs.AllocationFreeParsers.{IsOther, NotForMemory};
 
 use crate::context::Context;
@@ -34,11 +33,8 @@ pub fn parse_text(
     // The text spells just this value, or this is its exact refusal; otherwise an allocation
     // failed.
     ensures parses { Parses Rfc9651 kind text.now result }
-    // Of an Item, spaces, digits and `-.?@` are not refused as out of memory.
-    ensures allocation_free { kind ≡ kind_is.Item → Every scalar_byte text.now
-        → NotForMemory result }
-    // Nor are short Tokens and Strings, and empty Lists and Dictionaries.
-    ensures in_place { TakesNoMemory kind text.now → NotForMemory result }
+    // A text that does not allocate is not refused as out of memory.
+    ensures allocation_free { TakesNoMemory kind text.now → NotForMemory result }
 {
     parse_text_in(alloc, seed, Dialect::Rfc9651, kind, text)
 }
@@ -58,21 +54,14 @@ pub fn parse_text_in(
     // The text spells just this value, or this is its exact refusal; otherwise an allocation
     // failed.
     ensures parses { Parses dialect kind text.now result }
-    // Of an Item, spaces, digits and `-.?@` are not refused as out of memory.
-    ensures allocation_free { kind ≡ kind_is.Item → Every scalar_byte text.now
-        → NotForMemory result }
-    // Nor are short Tokens and Strings, and empty Lists and Dictionaries.
-    ensures in_place { TakesNoMemory kind text.now → NotForMemory result }
+    // A text that does not allocate is not refused as out of memory.
+    ensures allocation_free { TakesNoMemory kind text.now → NotForMemory result }
 {
-    let context = Context {
-        alloc,
-        seed: *seed,
-        dialect,
-    };
+    let context = Context::new(alloc, seed, dialect);
     match kind {
-        Kind::Item => parse_whole::<TopReader>(&context, text),
-        Kind::List => parse_whole::<ListReader>(&context, text),
-        Kind::Dict => parse_whole::<DictReader>(&context, text),
+        Kind::Item => Ok(Field::Item(parse_whole::<TopReader>(&context, text)?)),
+        Kind::List => Ok(Field::List(parse_whole::<ListReader>(&context, text)?)),
+        Kind::Dict => Ok(Field::Dict(parse_whole::<DictReader>(&context, text)?)),
     }
 }
 
@@ -87,16 +76,10 @@ pub fn parse_text_in(
 pub fn parse_item(alloc: Global, seed: &RandomState, text: &[u8]) -> Result<Item, Refusal>
     // The text spells just this Item, or this is its exact refusal; otherwise an allocation failed.
     ensures parses { Makes field_is.Item (Parses Rfc9651 kind_is.Item text.now) result }
-    // Spaces, digits and `-.?@` are not refused as out of memory.
-    ensures allocation_free { Every scalar_byte text.now → IfErr result IsOther }
-    // Nor are short Tokens and Strings.
-    ensures in_place { TakesNoMemory kind_is.Item text.now → IfErr result IsOther }
+    // A text that does not allocate is not refused as out of memory.
+    ensures allocation_free { TakesNoMemory kind_is.Item text.now → IfErr result IsOther }
 {
-    match parse_text(alloc, seed, Kind::Item, text)? {
-        Field::Item(item) => Ok(item),
-        Field::List(_) => unreachable!(),
-        Field::Dict(_) => unreachable!(),
-    }
+    parse_whole::<TopReader>(&Context::new(alloc, seed, Dialect::Rfc9651), text)
 }
 
 /// The List that the text spells, in the dialect of RFC 9651 (section 4.2), as [`parse_text`] gives
@@ -110,13 +93,9 @@ pub fn parse_list(alloc: Global, seed: &RandomState, text: &[u8]) -> Result<List
     // The text spells just this List, or this is its exact refusal; otherwise an allocation failed.
     ensures parses { Makes field_is.List (Parses Rfc9651 kind_is.List text.now) result }
     // An empty List is not refused as out of memory.
-    ensures in_place { TakesNoMemory kind_is.List text.now → IfErr result IsOther }
+    ensures allocation_free { TakesNoMemory kind_is.List text.now → IfErr result IsOther }
 {
-    match parse_text(alloc, seed, Kind::List, text)? {
-        Field::List(list) => Ok(list),
-        Field::Item(_) => unreachable!(),
-        Field::Dict(_) => unreachable!(),
-    }
+    parse_whole::<ListReader>(&Context::new(alloc, seed, Dialect::Rfc9651), text)
 }
 
 /// The Dictionary that the text spells, in the dialect of RFC 9651 (section 4.2), as [`parse_text`]
@@ -132,11 +111,7 @@ pub fn parse_dict(alloc: Global, seed: &RandomState, text: &[u8]) -> Result<Dict
     // failed.
     ensures parses { Makes field_is.Dict (Parses Rfc9651 kind_is.Dict text.now) result }
     // An empty Dictionary is not refused as out of memory.
-    ensures in_place { TakesNoMemory kind_is.Dict text.now → IfErr result IsOther }
+    ensures allocation_free { TakesNoMemory kind_is.Dict text.now → IfErr result IsOther }
 {
-    match parse_text(alloc, seed, Kind::Dict, text)? {
-        Field::Dict(dict) => Ok(dict),
-        Field::Item(_) => unreachable!(),
-        Field::List(_) => unreachable!(),
-    }
+    parse_whole::<DictReader>(&Context::new(alloc, seed, Dialect::Rfc9651), text)
 }

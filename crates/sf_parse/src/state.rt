@@ -1,9 +1,7 @@
 //! A field that is being read (RFC 9651 section 4.2).
-ghost use Rattle.std.specs.Prelude.{◌≡◌, [], ◌∷◌, true, IfOk, IsOk};
-ghost use Rattle.sf_value.specs.Grammar.Words.{Every};
-ghost use Rattle.sf_parse.specs.AllocationFree.{scalar_byte};
-ghost use Rattle.sf_parse.specs.AllocationFreeParsers.{AllocationFreeState};
-ghost use Rattle.sf_parse.specs.Expected.{Marks};
+ghost use Rattle.std.specs.Prelude.{◌≡◌, ℕ, List, [], ◌∷◌, IfOk, IsOk};
+ghost use Rattle.sf_parse.specs.AllocationFree.{FieldFree};
+ghost use Rattle.sf_parse.specs.Parsers.{Refuses};
 ghost use Rattle.sf_parse.specs.StateView.{state_of};
 ghost use Rattle.sf_parse.specs.Prefixes.{LongestPrefix, unless};
 ghost use Rattle.sf_parse.specs.Machine.Fields.{begin as begin_at, step as step_of};
@@ -14,6 +12,7 @@ use crate::context::Context;
 use crate::field::{DictReader, ListReader, WholeField};
 use crate::item_field::TopReader;
 use crate::level::Level;
+use crate::refusal::Refusal;
 use sf_value::{Dialect, Field, Kind, OutOfMemory};
 
 /// What was read of a field, by its kind.
@@ -45,9 +44,8 @@ impl FieldState {
         // The bytes before the rest lead to the new state, which can't take the first of the rest.
         ensures prefix { IfOk result (λ rest. LongestPrefix (step_of context.now.dialect)
             (state_of self.old) chunk.now rest.now (state_of self.new)) }
-        // In an allocation-free state of an Item spaces, digits and `-.?@` do not allocate.
-        ensures allocation_free { AllocationFreeState (state_of self.old)
-            → Every scalar_byte chunk.now → IsOk result }
+        // A chunk that does not allocate in this state is taken without.
+        ensures allocation_free { FieldFree (state_of self.old) chunk.now → IsOk result }
     {
         if let Some((byte, more)) = chunk.split_first() {
             if more.is_empty() {
@@ -67,9 +65,8 @@ impl FieldState {
         // The bytes before the rest lead to the new state, which can't take the first of the rest.
         ensures prefix { IfOk result (λ rest. LongestPrefix (step_of context.now.dialect)
             (state_of self.old) chunk.now rest.now (state_of self.new)) }
-        // In an allocation-free state of an Item spaces, digits and `-.?@` do not allocate.
-        ensures allocation_free { AllocationFreeState (state_of self.old)
-            → Every scalar_byte chunk.now → IsOk result }
+        // A chunk that does not allocate in this state is taken without.
+        ensures allocation_free { FieldFree (state_of self.old) chunk.now → IsOk result }
     {
         match self {
             FieldState::Item(top) => top.take(context, chunk),
@@ -84,8 +81,8 @@ impl FieldState {
         // A byte that is taken leads the machine on; with any other it can't go on, and stays.
         ensures prefix { IfOk result (λ took. LongestPrefix (step_of context.now.dialect)
             (state_of self.old) (byte ∷ []) (unless took byte) (state_of self.new)) }
-        // In an allocation-free state of an Item spaces, digits and `-.?@` do not allocate.
-        ensures allocation_free { AllocationFreeState (state_of self.old) → scalar_byte byte ≡ true
+        // A byte that does not allocate in this state, with others after it, is taken without.
+        ensures allocation_free { (more : List ℕ) → FieldFree (state_of self.old) (byte ∷ more)
             → IsOk result }
     {
         match self {
@@ -95,16 +92,17 @@ impl FieldState {
         }
     }
 
-    /// The bytes below 128 that the field can go on with, a bit for each.
+    /// The refusal of the byte that was found at this place, or of the end if none was.
     #[inline(never)]
-    pub fn expected(&self, dialect: Dialect) -> u128
-        // The bits are those of the bytes that the state takes.
-        ensures { Marks result (takes_at dialect (state_of self.now)) }
+    pub fn refuse(&self, dialect: Dialect, place: u64, found: Option<u8>) -> Refusal
+        // It names the bytes that the state takes, and whether it may end.
+        ensures { Refuses (takes_at dialect (state_of self.now)) (may_end_at (state_of self.now))
+            place found result }
     {
         match self {
-            FieldState::Item(top) => top.expected(dialect),
-            FieldState::List(list) => list.expected(dialect),
-            FieldState::Dict(dict) => dict.expected(dialect),
+            FieldState::Item(top) => top.refuse(dialect, place, found),
+            FieldState::List(list) => list.refuse(dialect, place, found),
+            FieldState::Dict(dict) => dict.refuse(dialect, place, found),
         }
     }
 
@@ -124,13 +122,13 @@ impl FieldState {
     pub fn finish(&mut self, context: &Context) -> Result<Option<Field>, OutOfMemory>
         // The field is the value that the state has at the end, if it has one.
         ensures value { IfOk result (λ field. field ≡ finish_of (state_of self.old)) }
-        // In an allocation-free state of an Item the end does not allocate.
-        ensures allocation_free { AllocationFreeState (state_of self.old) → IsOk result }
+        // If no byte more does not allocate, neither does the end.
+        ensures allocation_free { FieldFree (state_of self.old) [] → IsOk result }
     {
         match self {
-            FieldState::Item(top) => top.finish_field(context),
-            FieldState::List(list) => list.finish_field(context),
-            FieldState::Dict(dict) => dict.finish_field(context),
+            FieldState::Item(top) => Ok(top.finish_whole(context)?.map(Field::Item)),
+            FieldState::List(list) => Ok(list.finish_whole(context)?.map(Field::List)),
+            FieldState::Dict(dict) => Ok(dict.finish_whole(context)?.map(Field::Dict)),
         }
     }
 }

@@ -1,11 +1,9 @@
-use Rattle.std.proofs.Common.{[], sym, ap, ◌∙◌, subst, inl, inr}
+use Rattle.std.proofs.Common.{List, ℕ, [], sym, ap, ◌∙◌, subst}
 use Rattle.std.proofs.lemmas.Result.{err_from_is_err_and}
 use Rattle.sf_value.specs.Grammar.Lines.{join}
-use Rattle.sf_value.specs.Grammar.Words.{Every}
-use Rattle.sf_parse.specs.AllocationFree.{scalar_byte}
+use Rattle.sf_parse.specs.AllocationFreeParsers.{IsAllocationFree}
 use Rattle.sf_parse.proofs.FedLines.{fed_before}
 use Rattle.sf_field.proofs.Feeding.{FedSoFar, behind, joined, fed_nothing, fed_line, fed_refused}
-use Rattle.sf_field.proofs.Feeding.{alone_next}
 use Rattle.sf_field.proofs.lines.feed_lines.Goals as goal
 
 pub returns-in_err-feed-clause-fed : goal.returns-in_err-feed-clause-fed
@@ -15,17 +13,23 @@ returns-in_err-feed-clause-fed g c =
     (fed_before c.args.parser.now c.feed.new.self c.in_err-feed.field-0.0 []
     (join (g.L.FieldLines.lines c.args.lines)) c.in_err-feed.ensures.fed)
 
+pub returns-in_err-feed-clause-allocation_free : goal.returns-in_err-feed-clause-allocation_free
+returns-in_err-feed-clause-allocation_free g c =
+    let p = err_from_is_err_and c.from_residual.result c.from_residual.ensures.1 in
+    rw (p.1, p.2) (λ h. c.in_err-feed.ensures.allocation_free _ h)
+
 pub loop-line-init : goal.loop-line-init
 loop-line-init g c =
     let all = g.L.FieldLines.lines c.args.lines in
     let flag = c.in_ok-feed.ensures.lines ∙ c.requires in
+    let left = joined all ∙ ap (λ b. behind b all) (sym flag) in
     record {
       so_far =
-          subst (FedSoFar c.args.parser.now c.feed.new.self (join all))
-          (joined all ∙ ap (λ b. behind b all) (sym flag))
+          subst (FedSoFar c.args.parser.now c.feed.new.self (join all)) left
           (fed_nothing _ _ _ c.in_ok-feed.ensures.fed);
-      allocation_free = λ h line e w. c.in_ok-feed.ensures.allocation_free h tt;
-      alone = λ line e. inl (e, flag);
+      allocation_free = λ h.
+          subst (IsAllocationFree c.feed.new.self) left
+          (c.in_ok-feed.ensures.allocation_free (join all) h);
     }
 
 pub returns-in_err-feed_line-clause-fed : goal.returns-in_err-feed_line-clause-fed
@@ -37,21 +41,29 @@ returns-in_err-feed_line-clause-fed g c =
     (fed_refused _ c.loop-line.parser _ _ _ _ _ _ c.loop-line.invariant.so_far next
     c.in_err-feed_line.ensures.fed)
 
+pub returns-in_err-feed_line-clause-allocation_free : goal.returns-in_err-feed_line-clause-allocation_free
+returns-in_err-feed_line-clause-allocation_free g c =
+    let p = err_from_is_err_and c.from_residual-in_err-feed_line.result
+    c.from_residual-in_err-feed_line.ensures.1 in
+    let next = ap (behind c.loop-line.parser.after_line) c.in-Some.ensures in
+    rw (p.1, p.2)
+    (λ h. c.in_err-feed_line.ensures.allocation_free _
+    (subst (IsAllocationFree c.loop-line.parser) next
+    (c.loop-line.invariant.allocation_free h)))
+
 pub loop-line-preserved : goal.loop-line-preserved
 loop-line-preserved g c =
     let after = c.loop-line.parser.after_line in
+    let next = ap (behind after) c.in-Some.ensures in
     record {
       so_far =
           fed_line _ _ c.feed_line.new.self _ _ c.in-Some.line.now _ after
-          c.in_ok-feed_line.ensures.lines c.loop-line.invariant.so_far
-          (ap (behind after) c.in-Some.ensures) c.in_ok-feed_line.ensures.fed;
-      allocation_free = λ h line e w.
-          let only = alone_next line after _ _ _ c.in-Some.ensures
-          (c.loop-line.invariant.alone line e) in
-          c.in_ok-feed_line.ensures.allocation_free
-          (c.loop-line.invariant.allocation_free h line e w) only.1
-          (subst (Every scalar_byte) (sym only.0) w);
-      alone = λ line e.
-          inr (alone_next line after _ _ _ c.in-Some.ensures
-          (c.loop-line.invariant.alone line e)).2;
+          c.in_ok-feed_line.ensures.lines c.loop-line.invariant.so_far next
+          c.in_ok-feed_line.ensures.fed;
+      allocation_free = λ h.
+          subst (λ b. IsAllocationFree c.feed_line.new.self (behind b _))
+          (sym c.in_ok-feed_line.ensures.lines)
+          (c.in_ok-feed_line.ensures.allocation_free _
+          (subst (IsAllocationFree c.loop-line.parser) next
+          (c.loop-line.invariant.allocation_free h)));
     }

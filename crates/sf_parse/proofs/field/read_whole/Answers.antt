@@ -1,8 +1,9 @@
-use Rattle.std.proofs.Common.{sym, ◌∙◌, subst}
+use Rattle.std.specs.Option.{option_map}
+use Rattle.std.proofs.Common.{sym, ap, ◌∙◌, subst}
 use Rattle.sf_parse.specs.AllocationFree.{FieldFree}
-use Rattle.sf_parse.specs.Expected.{Marks}
 use Rattle.sf_parse.specs.Machine.Fields.{step}
 use Rattle.sf_parse.proofs.Prefixes.{prefix_above, never}
+use Rattle.sf_parse.proofs.FedChunks.{refuses_other, refuses_too}
 use Rattle.sf_parse.proofs.WholeTexts.{whole_refused, whole_value, whole_free, begins_free}
 use Rattle.sf_parse.proofs.field.read_whole.Goals as goal
 
@@ -13,10 +14,13 @@ returns-then-is_some-clause-parses g c =
     let prefix = prefix_above (g.W.Level.next d) (step d) g.W.WholeField.state (law.steps d) _ _ _ _
     c.in_ok-rest.ensures.prefix in
     whole_refused d _ _ _ _ _ _ _ _ c.requires prefix
-    (c.copied-found.ensures ∙ c.first.ensures.value)
-    (subst (Marks c.expected.result) (law.takes_too d _) c.expected.ensures)
-    (c.may_end-may_end.ensures ∙ law.ends_too _)
+    (c.copied-found.ensures ∙ c.first.ensures.value) (c.may_end-may_end.ensures ∙ law.ends_too _)
+    (refuses_too _ _ _ _ _ _ _ (law.takes_too d _) (law.ends_too _) c.refuse.ensures)
     (rw c.is_some.ensures at c.then-is_some.either)
+
+pub returns-then-is_some-clause-allocation_free : goal.returns-then-is_some-clause-allocation_free
+returns-then-is_some-clause-allocation_free g c =
+    λ w. refuses_other _ _ _ _ _ c.refuse.ensures
 
 pub returns-clause-parses : goal.returns-clause-parses
 returns-clause-parses g c =
@@ -26,7 +30,7 @@ returns-clause-parses g c =
     c.in_ok-rest.ensures.prefix in
     whole_value d _ _ _ _ _ _ _ c.requires prefix
     (c.copied-found.ensures ∙ c.first.ensures.value) (sym c.is_some.ensures ∙ c.if-is_some.false)
-    (sym c.in_ok-value.ensures.value ∙ c.in-Some.is)
+    (sym c.in_ok-value.ensures.value ∙ ap (option_map g.W.WholeField.field) c.in-Some.is)
 
 pub returns-in_err-value-clause-allocation_free : goal.returns-in_err-value-clause-allocation_free
 returns-in_err-value-clause-allocation_free g c =

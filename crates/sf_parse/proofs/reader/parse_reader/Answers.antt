@@ -32,7 +32,7 @@ returns-in_err-feed-in-Ok g c =
     (reads_refused _ _ _ c.args.kind c.args.max c.loop-given.given _ _ chunk _
     c.loop-given.invariant.0
     (c.in-Ok.ensures.1 some) bound (rw here at c.in_err-feed-in-Ok.ensures.fed)
-    (λ p. rw here at (c.in_err-feed-in-Ok.ensures.allocation_free p)))
+    (λ more h. rw here at (c.in_err-feed-in-Ok.ensures.allocation_free more) h))
 
 pub loop-given-preserved : goal.loop-given-preserved
 loop-given-preserved g c =
@@ -46,7 +46,7 @@ loop-given-preserved g c =
       reads_more _ _ _ c.args.kind c.args.max c.loop-given.given n _ _ chunk
           c.loop-given.invariant.0
           (c.in-Ok.ensures.1 some) size (rw here at c.in_ok-feed-in-Ok.ensures.fed)
-          (λ p. rw here at (c.in_ok-feed-in-Ok.ensures.allocation_free p)),
+          (λ more h. rw here at (c.in_ok-feed-in-Ok.ensures.allocation_free more) h),
       search rules,
     )
 

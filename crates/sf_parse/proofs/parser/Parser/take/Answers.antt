@@ -1,5 +1,7 @@
 use Rattle.std.proofs.Common.{refl, ap, ◌∙◌}
-use Rattle.sf_parse.proofs.Feeding.{sound_taken, fed_taken, allocation_free_taken}
+use Rattle.sf_parse.proofs.AllocationFreeSteps.{field_free_first, field_free_after}
+use Rattle.sf_parse.proofs.Feeding.{sound_taken, fed_taken}
+use Rattle.sf_parse.proofs.Prefixes.{never}
 use Rattle.sf_parse.proofs.parser.Parser.take.Goals as goal
 
 pub invariant_of-self-2 : goal.invariant_of-self-2
@@ -18,9 +20,14 @@ returns-clause-fed c =
 pub returns-clause-allocation_free : goal.returns-clause-allocation_free
 returns-clause-allocation_free c =
     rw (← c.self.view_is)
-    (λ h w. record {
+    (λ more h. record {
       unrefused = h.unrefused;
       state =
-          allocation_free_taken c.self.inside.context.dialect _ _ _ _ h.state w
-          c.in-Ok.ensures.prefix;
+          field_free_after c.self.inside.context.dialect _ _ _ _ more h.state
+          c.in-Ok.ensures.prefix.went;
     })
+
+pub returns-in-Err-clause-allocation_free : goal.returns-in-Err-clause-allocation_free
+returns-in-Err-clause-allocation_free c =
+    rw (← c.self.view_is)
+    (λ more h. never (c.in-Err.ensures.allocation_free (field_free_first _ _ more h.state)))

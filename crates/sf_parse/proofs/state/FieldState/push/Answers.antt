@@ -7,13 +7,20 @@ use Rattle.sf_parse.specs.SeriesView.{series_next}
 use Rattle.sf_parse.specs.MemberEnds.{with_member, with_entry}
 use Rattle.sf_parse.specs.FieldSteps.{list_steps, dict_steps}
 use Rattle.sf_parse.proofs.Prefixes.{all_of_byte}
-use Rattle.sf_parse.proofs.AllocationFreeSteps.{scalars_free}
 use Rattle.sf_parse.proofs.state.FieldState.push.Goals as goal
 
 pub returns-in-Item-clause-allocation_free : goal.returns-in-Item-clause-allocation_free
 returns-in-Item-clause-allocation_free c =
     rw c.in-Item.is
-    (λ h w. c.push.ensures.allocation_free [] (scalars_free _ _ h (w, tt)))
+    (λ more h. c.push.ensures.allocation_free more h)
+
+pub returns-in-List-clause-allocation_free : goal.returns-in-List-clause-allocation_free
+returns-in-List-clause-allocation_free c =
+    rw c.in-List.is (λ more h. c.push-in-List.ensures.allocation_free more h)
+
+pub returns-in-Dict-clause-allocation_free : goal.returns-in-Dict-clause-allocation_free
+returns-in-Dict-clause-allocation_free c =
+    rw c.in-Dict.is (λ more h. c.push-in-Dict.ensures.allocation_free more h)
 
 pub returns-in-List-clause-prefix : goal.returns-in-List-clause-prefix
 returns-in-List-clause-prefix c =
