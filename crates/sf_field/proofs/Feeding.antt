@@ -4,6 +4,7 @@ use Rattle.std.proofs.Common.{Ok, Err, refl, sym, ap, ◌∙◌, subst, append-n
 use Rattle.sf_value.specs.Grammar.Lines.{join}
 use Rattle.sf_parse.specs.declared.refusal.Refusal.{Refusal}
 use Rattle.sf_parse.specs.Parsers.{Progress, Fed, in_line}
+use Rattle.sf_parse.specs.AllocationFreeParsers.{IsAllocationFree}
 use Rattle.sf_parse.proofs.FedLines.{fed_after, fed_before}
 
 -- lines as they are fed: after a line, each has a comma and a space before it
@@ -53,3 +54,8 @@ fed_refused o p q e all left piece more l s f =
     subst (Fed o q (Err e))
     (append_assoc l.front piece more ∙ sym (l.split ∙ ap (λ z. l.front ++ z) s))
     (fed_before o q e (l.front ++ piece) more (fed_after o p q (Err e) l.front piece l.fed f))
+
+-- what is left allocates no more once a line was fed
+pub free_next : (p : Progress) (ls : List (List ℕ)) → p.after_line ≡ true
+    → IsAllocationFree p (behind true ls) → IsAllocationFree p (behind p.after_line ls)
+free_next p ls t h = subst (λ b. IsAllocationFree p (behind b ls)) (sym t) h

@@ -4,6 +4,7 @@ use Rattle.sf_value.specs.Grammar.Lines.{join}
 use Rattle.sf_parse.specs.AllocationFreeParsers.{IsAllocationFree}
 use Rattle.sf_parse.proofs.FedLines.{fed_before}
 use Rattle.sf_field.proofs.Feeding.{FedSoFar, behind, joined, fed_nothing, fed_line, fed_refused}
+use Rattle.sf_field.proofs.Feeding.{free_next}
 use Rattle.sf_field.proofs.lines.feed_lines.Goals as goal
 
 pub returns-in_err-feed-clause-fed : goal.returns-in_err-feed-clause-fed
@@ -61,8 +62,7 @@ loop-line-preserved g c =
           c.in_ok-feed_line.ensures.lines c.loop-line.invariant.so_far next
           c.in_ok-feed_line.ensures.fed;
       allocation_free = λ h.
-          subst (λ b. IsAllocationFree c.feed_line.new.self (behind b _))
-          (sym c.in_ok-feed_line.ensures.lines)
+          free_next c.feed_line.new.self _ c.in_ok-feed_line.ensures.lines
           (c.in_ok-feed_line.ensures.allocation_free _
           (subst (IsAllocationFree c.loop-line.parser) next
           (c.loop-line.invariant.allocation_free h)));
