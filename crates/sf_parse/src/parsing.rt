@@ -17,9 +17,9 @@ use std::hash::RandomState;
 
 /// The value that the text spells, in the dialect of RFC 9651 (section 4.2). A text that spells
 /// none is refused with Syntax, and a failed allocation with OutOfMemory; it is never TooLong or
-/// ReadFault. Where an Item is asked for, a text of spaces, digits and `-.?@` does not allocate,
-/// nor do at most 16 bytes without `;`, `:` and `%`, such as a short Token or String; nor does an
-/// empty List or Dictionary.
+/// ReadFault. If an Item is asked for, a text of spaces, digits and `-.?@` does not allocate, nor do
+/// at most 16 bytes without `;`, `:` and `%`, such as a short Token or String; nor does an empty List
+/// or Dictionary.
 ///
 /// ```
 /// let field = parse_text(alloc, &seed, Kind::Dict, b"u=1, i")?;
@@ -66,8 +66,7 @@ pub fn parse_text_in(
 }
 
 /// The Item that the text spells, in the dialect of RFC 9651 (section 4.2), as [`parse_text`] gives
-/// it where an Item is asked for, and refused as it refuses. A text of spaces, digits and `-.?@`
-/// does not allocate.
+/// it if an Item is asked for, and refused as it refuses. It allocates only if that does.
 ///
 /// ```
 /// let item = parse_item(alloc, &seed, b"a;q=1")?;
@@ -83,7 +82,7 @@ pub fn parse_item(alloc: Global, seed: &RandomState, text: &[u8]) -> Result<Item
 }
 
 /// The List that the text spells, in the dialect of RFC 9651 (section 4.2), as [`parse_text`] gives
-/// it where a List is asked for, and refused as it refuses: with Syntax, or as out of memory.
+/// it if a List is asked for, and refused as it refuses: with Syntax, or as out of memory.
 ///
 /// ```
 /// let list = parse_list(alloc, &seed, b"a, (b c)")?;
@@ -99,7 +98,7 @@ pub fn parse_list(alloc: Global, seed: &RandomState, text: &[u8]) -> Result<List
 }
 
 /// The Dictionary that the text spells, in the dialect of RFC 9651 (section 4.2), as [`parse_text`]
-/// gives it where a Dictionary is asked for, and refused as it refuses: with Syntax, or as out of
+/// gives it if a Dictionary is asked for, and refused as it refuses: with Syntax, or as out of
 /// memory.
 ///
 /// ```

@@ -11,6 +11,7 @@ use Rattle.sf_value.specs.Grammar.Lines.{join}
 use Rattle.sf_parse.specs.declared.refusal.Refusal.{Refusal}
 use Rattle.sf_parse.specs.declared.refusal.Refusal.TheVariants.{OutOfMemory, Syntax, TooLong}
 use Rattle.sf_parse.specs.declared.refusal.Refusal.TheVariants.{ReadFault}
+use Rattle.sf_parse.specs.AllocationFree.{TakesNoMemory}
 use Rattle.sf_parse.specs.AllocationFreeParsers.{NotForMemory}
 use Rattle.sf_parse.specs.Parsers.{IsSyntax}
 use Rattle.sf_write.specs.Writing.{Wrote}
@@ -34,7 +35,7 @@ use Rattle.sf_tool.specs.Texts.{refusal_line}
 use Rattle.sf_tool.specs.ChoiceLines.{refused_line}
 use Rattle.sf_tool.specs.Fields.{IsFaultOf}
 use Rattle.sf_tool.specs.PathLines.{not_a_cache_line}
-use Rattle.sf_tool.specs.Run.{joined, input_limit, view_request, view_text, IsScalarLine}
+use Rattle.sf_tool.specs.Run.{joined, input_limit, view_request, view_text}
 use Rattle.sf_tool.specs.Run.{MayAllocate, Refuses, Responds, Answers, Tells, TellsText}
 use Rattle.sf_tool.specs.Run.{TellsRefusal, TellsAskFault, TellsInputFault, IsOfText, IsAskOfText}
 
@@ -135,7 +136,7 @@ responds Verdict d kind input text status r = r
 responds Canonical d kind input text status r = r
 
 for-memory : (view : View) (d : Dialect) (kind : Kind) (input : List ℕ) (e : Refusal)
-    → (IsScalarLine kind (lines_of input) → NotForMemory (Err e)) → e ≡ OutOfMemory
+    → (TakesNoMemory kind (joined input) → NotForMemory (Err e)) → e ≡ OutOfMemory
     → MayAllocate (view_request view d kind) input
 for-memory Tree d kind input OutOfMemory free is = free
 for-memory Verdict d kind input OutOfMemory free is = free
@@ -154,7 +155,7 @@ tells_view view d kind input v old new result =
 
 pub tells_refusal : (view : View) (d : Dialect) (kind : Kind) (input : List ℕ) (e : Refusal)
     (old new : SinkState) (result : Status) → ParsesLines d kind (lines_of input) (Err e)
-    → (IsScalarLine kind (lines_of input) → NotForMemory (Err e))
+    → (TakesNoMemory kind (joined input) → NotForMemory (Err e))
     → TellsRefusal e old new result → Tells (view_request view d kind) input old new result
 tells_refusal view d kind input e old new result parses free =
     tells_refused (view_request view d kind) d kind input e old new result

@@ -10,12 +10,11 @@ use Rattle.sf_value.specs.Devices.{SourceState, SinkState, Gave, GaveAndEnded}
 use Rattle.sf_value.specs.Devices.{GaveAndFailed}
 use Rattle.sf_value.specs.Grammar.Canonical.{canon}
 use Rattle.sf_value.specs.Grammar.Lines.{join}
-use Rattle.sf_value.specs.Grammar.Words.{Every}
 use Rattle.sf_write.specs.Writing.{Wrote, WrotePrefix}
 use Rattle.sf_parse.specs.declared.refusal.Refusal.{Refusal}
 use Rattle.sf_parse.specs.declared.refusal.Refusal.TheVariants.{OutOfMemory, Syntax, TooLong}
 use Rattle.sf_parse.specs.declared.refusal.Refusal.TheVariants.{ReadFault}
-use Rattle.sf_parse.specs.AllocationFree.{scalar_byte}
+use Rattle.sf_parse.specs.AllocationFree.{TakesNoMemory}
 use Rattle.sf_parse.specs.Parsers.{IsOnly, IsSyntax}
 use Rattle.sf_field.specs.Headers.{Headers}
 use Rattle.sf_field.specs.declared.asking.AskFault.{AskFault}
@@ -144,17 +143,12 @@ pub record BrokeOff (request : Request) (input : List ℕ) (old new : SinkState)
   pub answers : Answers request input text status
   pub wrote : WrotePrefix old new 0 after text
 
--- an Item is asked of a line of spaces, digits and `-.?@`, for which no memory is taken
-abbrev pub IsScalarLine : Kind → List (List ℕ) → Type 0
-IsScalarLine asked lines =
-    (asked ≡ kind.Item) × ((line : List ℕ) × (lines ≡ line ∷ []) × Every scalar_byte line)
-
--- an answer to the request may take memory: for a value that is no such line; for the first listed
+-- an answer to the request may allocate: for lines whose joined text does; for the first listed
 -- fields of an input, before a line that is refused
 abbrev pub MayAllocate : Request → List ℕ → Type 0
-MayAllocate (Show d kind) input = ¬ (IsScalarLine kind (lines_of input))
-MayAllocate (Check d kind) input = ¬ (IsScalarLine kind (lines_of input))
-MayAllocate (Normalise d kind) input = ¬ (IsScalarLine kind (lines_of input))
+MayAllocate (Show d kind) input = ¬ (TakesNoMemory kind (joined input))
+MayAllocate (Check d kind) input = ¬ (TakesNoMemory kind (joined input))
+MayAllocate (Normalise d kind) input = ¬ (TakesNoMemory kind (joined input))
 MayAllocate CacheStatus input = ⊤
 MayAllocate (Targeted names) input = (n : ℕ) × MayAllocateAt names.items input n
 MayAllocate Priority input = ⊤

@@ -2,13 +2,14 @@
 ghost use Rattle.std.specs.Prelude.{◌≡◌, ◌≤◌, [], length, IfErr};
 ghost use Rattle.sf_field.specs.Asking.{Asks};
 ghost use Rattle.sf_field.specs.Lines.{ParsesLines};
+ghost use Rattle.sf_parse.specs.AllocationFree.{TakesNoMemory};
 ghost use Rattle.sf_parse.specs.AllocationFreeParsers.{NotForMemory};
 ghost use Rattle.sf_tool.specs.declared.request.Request.TheVariants as request_is;
 ghost use Rattle.sf_tool.specs.declared.status.Status.TheVariants as status_is;
 ghost use Rattle.sf_tool.specs.Lines.{lines_of as lines_in};
 ghost use Rattle.sf_tool.specs.ChoiceLines.{choice_lines, IsPlaceOf};
 ghost use Rattle.sf_tool.specs.Run.{Ran, Tells, TellsInputFault, TellsText};
-ghost use Rattle.sf_tool.specs.Run.{input_limit, view_request, IsScalarLine, IsOfText, IsAskOfText};
+ghost use Rattle.sf_tool.specs.Run.{input_limit, joined, view_request, IsOfText, IsAskOfText};
 
 use crate::answering::{
     View, answer_ask_fault, answer_chosen, answer_fallback, answer_made, answer_path,
@@ -79,8 +80,8 @@ fn parse_input(
     ensures parses { ParsesLines dialect kind (lines_in input.now) result }
     // The error is Syntax or OutOfMemory, never TooLong or ReadFault.
     ensures of_text { IfErr result IsOfText }
-    // Parsing a line of spaces, `-` and digits as an Item does not allocate.
-    ensures allocation_free { IsScalarLine kind (lines_in input.now) → NotForMemory result }
+    // Lines whose joined text does not allocate are not refused as out of memory.
+    ensures allocation_free { TakesNoMemory kind (joined input.now) → NotForMemory result }
 {
     parse_from(alloc, seed, dialect, kind, InputLines::new(input))
 }
