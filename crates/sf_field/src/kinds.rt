@@ -27,11 +27,10 @@ pub fn parse_item_lines(alloc: Global, seed: &RandomState, lines: &[Blob]) -> Re
     // Lines whose joined text does not allocate are not refused as out of memory.
     ensures allocation_free { TakesNoMemory kind_is.Item (join lines.now) → IfErr result IsOther }
 {
-    match parse_lines(alloc, seed, Kind::Item, lines)? {
-        Field::Item(item) => Ok(item),
-        Field::List(_) => unreachable!(),
-        Field::Dict(_) => unreachable!(),
-    }
+    let Field::Item(item) = parse_lines(alloc, seed, Kind::Item, lines)? else {
+        unreachable!();
+    };
+    Ok(item)
 }
 
 /// Parses the lines as a List, as [`crate::parse_lines`] does.
@@ -46,11 +45,10 @@ pub fn parse_list_lines(alloc: Global, seed: &RandomState, lines: &[Blob]) -> Re
     // Lines whose joined text is of spaces are not refused as out of memory.
     ensures allocation_free { TakesNoMemory kind_is.List (join lines.now) → IfErr result IsOther }
 {
-    match parse_lines(alloc, seed, Kind::List, lines)? {
-        Field::List(list) => Ok(list),
-        Field::Item(_) => unreachable!(),
-        Field::Dict(_) => unreachable!(),
-    }
+    let Field::List(list) = parse_lines(alloc, seed, Kind::List, lines)? else {
+        unreachable!();
+    };
+    Ok(list)
 }
 
 /// Parses the lines as a Dictionary, as [`crate::parse_lines`] does.
@@ -65,9 +63,8 @@ pub fn parse_dict_lines(alloc: Global, seed: &RandomState, lines: &[Blob]) -> Re
     // Lines whose joined text is of spaces are not refused as out of memory.
     ensures allocation_free { TakesNoMemory kind_is.Dict (join lines.now) → IfErr result IsOther }
 {
-    match parse_lines(alloc, seed, Kind::Dict, lines)? {
-        Field::Dict(dict) => Ok(dict),
-        Field::Item(_) => unreachable!(),
-        Field::List(_) => unreachable!(),
-    }
+    let Field::Dict(dict) = parse_lines(alloc, seed, Kind::Dict, lines)? else {
+        unreachable!();
+    };
+    Ok(dict)
 }

@@ -12,25 +12,24 @@ ghost use Rattle.sf_parse.specs.Spots.{PlacesAreSpots};
 ghost use Rattle.sf_parse.specs.StateTests.{TakesStep, MayEnd, TakesNext, EndsText, NextBelow};
 ghost use Rattle.sf_parse.specs.StateTests.{SomeNext};
 
-/// A text spells at most one value of a kind; valid values with one canonical text are one; lines
-/// that are accepted have one value, and its canonical text as the only line is accepted as that
-/// value.
+/// A text spells at most one value of a kind. Valid values with equal canonical texts are equal.
+/// Accepted lines spell one value, and its canonical text as the only line is accepted as that value.
 pub fn one_value()
     ensures one { OneValue }
     ensures canon { CanonOne }
     ensures lines { LinesOne }
 {}
 
-/// The machine reads the grammar: its value is the one that the text spells; what completes a state
-/// completes the bytes that led to it; the outcome hangs on the joined chunks alone.
+/// The value of the machine after a text is the one that the text spells; what completes a state
+/// completes the bytes that led to it; and how a text is cut into chunks makes no difference.
 pub fn machine_reads()
     ensures read { IsRead }
     ensures rest { IsResidual }
     ensures chunks { AnyChunks }
 {}
 
-/// A prefix of a text is viable exactly if the machine is not stuck on it; the bytes that may come
-/// next are those that the step takes; where it takes no further one, there the refusal is.
+/// A prefix is viable if and only if the machine is not stuck after it; the bytes that may follow are
+/// those that a step takes; and a refusal is at the first byte that no step takes.
 pub fn refusals_are_exact()
     ensures viable { IsViable }
     ensures next { IsNext }
@@ -73,14 +72,14 @@ pub fn runs_are_the_set()
     ensures whole { RunsAreWhole }
 {}
 
-/// The classes and the bytes that a refusal names are together just the set that it lists.
+/// The classes and the bytes that a refusal names are together exactly the set that it lists.
 pub fn names_are_the_set()
     ensures { NamesAreTheSet }
 {}
 
-/// Where a refusal is shown in a line, there the byte of the joined lines is: it is the byte at
-/// that place of that line, or at the line's end the comma or the space after it, or the end of
-/// all.
+/// The place in a line at which a refusal is shown is the place in the joined lines: the byte there
+/// is the same byte; at the line's end it is the comma or the space after the line, or no byte if it
+/// is the last line.
 pub fn places_are_spots()
     ensures { PlacesAreSpots }
 {}

@@ -21,7 +21,7 @@ use std::fmt;
 /// ```
 #[derive(Clone, Copy, Debug, PartialEq, Eq)]
 pub enum Refusal {
-    /// A growth was refused as out of memory.
+    /// An allocation failed.
     OutOfMemory,
     /// The text spells no value (RFC 9651 section 4.2).
     Syntax {
@@ -35,14 +35,14 @@ pub enum Refusal {
         /// Whether that prefix is a text of the kind itself.
         may_end: bool,
     },
-    /// The text has more bytes than this, and so many of them are a good prefix.
+    /// The text is longer than the limit, and its first bytes up to the limit are a viable prefix.
     TooLong {
         /// The limit, in bytes.
         max: u64,
     },
-    /// A read failed after so many bytes were given.
+    /// A read failed.
     ReadFault {
-        /// How many bytes were given before.
+        /// How many bytes the reader had given before.
         place: u64,
     },
 }
