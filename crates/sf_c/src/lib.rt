@@ -8,6 +8,7 @@
 //! definitions of the crates below.
 #![tactic(auto)]
 
+mod buffer;
 mod cache_status;
 mod call;
 mod canonical_text;
@@ -24,7 +25,6 @@ mod priority;
 mod priority_text;
 mod refusal;
 mod refusal_text;
-mod room;
 mod seed;
 mod status;
 mod targeted;
@@ -35,7 +35,7 @@ pub use canonical_text::{sf_equal, sf_normalise};
 pub use check::sf_check;
 pub use find::sf_find;
 pub use hop_text::sf_hop_text;
-pub use hops::{HopNode, Piece};
+pub use hops::{HopNode, Span};
 pub use joining::{Joined, sf_join};
 pub use node_types::{NodeType, Role};
 pub use nodes::{Node, Sizes};
