@@ -10,7 +10,7 @@ use Rattle.sf_value.specs.Grammar.Classes.{is_visible, is_token_start, is_in_tok
 use Rattle.sf_value.specs.Grammar.Tokens.{IsToken}
 use Rattle.sf_value.specs.Grammar.Words.{Every}
 use Rattle.sf_use.proofs.CacheStatusLemmas.Faultless.{refused_word}
-use Rattle.sf_c.specs.declared.hops.Span.{Span}
+use Rattle.sf_c.specs.declared.span.Span.{Span}
 use Rattle.sf_c.specs.GivenHops.{AreBytes, GivesNone, GivesString, GivesToken, fault_status}
 
 every-length : (p : ℕ → Bool) (bs : List ℕ) → Every p bs

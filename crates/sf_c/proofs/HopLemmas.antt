@@ -4,10 +4,11 @@ use Rattle.std.proofs.Common.{ap, ◌∙◌, sym, arith, length-append, append_a
 use Rattle.std.proofs.lemmas.List.{append-nil, length-map, map-append}
 use Rattle.sf_use.specs.declared.cache_status.hop.Hop.{Hop}
 use Rattle.sf_use.specs.CacheStatus.Members.{passed_by}
-use Rattle.sf_c.specs.declared.hops.Span.{Span}
+use Rattle.sf_c.specs.declared.span.Span.{Span}
 use Rattle.sf_c.specs.declared.hops.HopNode.{HopNode}
-use Rattle.sf_c.specs.Hops.{ToldHop, span_bytes, says_by, says_of, told_hop_by, told_hop}
-use Rattle.sf_c.specs.Hops.{bytes_of, detail_bytes, why_token, hops_size, IsSpanWithin}
+use Rattle.sf_c.specs.Spans.{IsSpanWithin, span_bytes}
+use Rattle.sf_c.specs.Hops.{ToldHop, says_by, says_of, told_hop_by, told_hop}
+use Rattle.sf_c.specs.Hops.{bytes_of, detail_bytes, why_token, hops_size}
 use Rattle.sf_c.specs.Hops.{IsHopWithin, AreHopsWithin, HopsHoldUp, PutsSpan, HopsAtFront}
 use Rattle.sf_c.specs.Hops.{hop_bytes, hops_bytes, end_of, AreHopsInOrder}
 use Rattle.sf_c.proofs.TellingLemmas.{bytes_at-append, bytes_at_last}

@@ -27,17 +27,16 @@ use Rattle.sf_use.specs.declared.cache_status.hop.Hop.{Hop}
 use Rattle.sf_use.specs.CacheStatus.Hops.{hops}
 use Rattle.sf_use.specs.CacheStatus.Laws.{plain}
 use Rattle.sf_use.specs.CacheStatus.Members.{entry}
-use Rattle.sf_c.specs.declared.hops.Span.{Span}
+use Rattle.sf_c.specs.declared.span.Span.{Span}
 use Rattle.sf_c.specs.declared.hops.HopNode.{HopNode}
 use Rattle.sf_c.specs.declared.status.Status.{Status}
 use Rattle.sf_c.specs.declared.status.Status.TheVariants.{Answered, Short, OutOfMemory, Invalid}
-use Rattle.sf_c.specs.Tellings.{bytes_at}
+use Rattle.sf_c.specs.Spans.{IsSpanWithin, span_bytes}
 use Rattle.sf_c.specs.TextBuffers.{PutsText, TextBuffer}
 
 -- the bytes that a span points to, which are there
 abbrev pub AreBytes : List ℕ → Span → List ℕ → Type 0
-AreBytes bytes p text =
-    (p.at + p.length ≤ length bytes) × (text ≡ bytes_at p.at p.length bytes)
+AreBytes bytes p text = IsSpanWithin bytes p × (text ≡ span_bytes bytes p)
 
 -- a value that is given if its flag is set
 abbrev pub GivesMaybe : {X : Type 0} → ℕ → (X → Type 0) → Option X → Type 0

@@ -15,10 +15,10 @@ use Rattle.sf_use.specs.declared.cache_status.hop.Outcome.TheVariants.{Unsaid}
 use Rattle.sf_use.specs.declared.cache_status.hop.Hop.{Hop}
 use Rattle.sf_use.specs.CacheStatus.Members.{passed_by}
 use Rattle.sf_use.specs.CacheStatus.Reasons.{token_of}
-use Rattle.sf_c.specs.declared.hops.Span.{Span}
+use Rattle.sf_c.specs.declared.span.Span.{Span}
 use Rattle.sf_c.specs.declared.hops.HopNode.{HopNode}
 use Rattle.sf_c.specs.Refusals.{flag_number}
-use Rattle.sf_c.specs.Tellings.{bytes_at}
+use Rattle.sf_c.specs.Spans.{IsSpanWithin, span_bytes}
 
 -- what a hop says in numbers; a number that is not said is 0
 pub record HopSays : Type 0 where
@@ -63,10 +63,6 @@ says_by n = record {
   name_is_token = n.name_is_token;
   detail_is_token = n.detail_is_token;
 }
-
--- the bytes of a span
-abbrev pub span_bytes : List ℕ → Span → List ℕ
-span_bytes bytes p = bytes_at p.at p.length bytes
 
 -- what a struct describes, which points into these bytes
 abbrev pub told_hop_by : List ℕ → HopNode → ToldHop
@@ -149,10 +145,6 @@ told_hop h = record {
   detail = detail_bytes h.detail;
   says = says_of h;
 }
-
--- the span is within the bytes
-abbrev pub IsSpanWithin : List ℕ → Span → Type 0
-IsSpanWithin bytes p = p.at + p.length ≤ length bytes
 
 -- the struct points to bytes that are there
 abbrev pub IsHopWithin : List ℕ → HopNode → Type 0

@@ -12,8 +12,9 @@ ghost use Rattle.sf_c.specs.GivenHops.{GivesStatus, GivesString, GivesToken, Giv
 ghost use Rattle.sf_c.specs.Statuses.{status_at};
 
 use crate::buffer::put_text;
-use crate::hops::{HopNode, Span};
+use crate::hops::HopNode;
 use crate::seed::Seed;
+use crate::span::Span;
 use crate::status::Status;
 use sf_use::{Forward, Hop, HopStatus, Name, Outcome, Passed, append_hop};
 use sf_value::{Field, Int, List, OutOfMemory, Sequence, Text, TextFault, Token};
@@ -111,10 +112,10 @@ fn bytes_of<'a>(bytes: &'a [u8], span: Span) -> Result<&'a [u8], Status>
     ensures { MatchResult result (λ part. AreBytes bytes.now span part.now)
         (GivesNone (AreBytes bytes.now span)) }
 {
-    if span.at > bytes.len() || span.length > bytes.len() - span.at {
-        return Err(Status::Invalid);
+    match span.of(bytes) {
+        Some(part) => Ok(part),
+        None => Err(Status::Invalid),
     }
-    Ok(&bytes[span.at..span.at + span.length])
 }
 
 /// The status for bytes that are no String or Token.

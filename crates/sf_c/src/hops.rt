@@ -9,20 +9,11 @@ ghost use Rattle.sf_c.specs.Hops.{why_token as token_of_why, hops_size, told_hop
 ghost use Rattle.sf_c.specs.Hops.{HopsAtFront, PutsSpan};
 
 use crate::buffer::put;
+use crate::span::Span;
 use sf_use::{Forward, Hop, HopStatus, Name, Outcome};
 use sf_value::{Int, OutOfMemory, Text};
 use std::alloc::Global;
 use std::marker::Model;
-
-/// Bytes among others. In C an `sf_span`.
-#[repr(C)]
-#[derive(Clone, Copy, Debug, Drop)]
-pub struct Span {
-    /// Where they begin.
-    pub at: usize,
-    /// How many they are.
-    pub length: usize,
-}
 
 /// A cache on the path of a response, and what it did (RFC 9211 section 2). In C an `sf_hop`.
 #[repr(C)]

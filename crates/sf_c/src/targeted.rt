@@ -127,7 +127,7 @@ fn directed(dict: &Dict, policy: &mut PolicyFlags) -> Status
 }
 
 /// What a text says.
-fn direct(
+pub(crate) fn direct(
     alloc: Global,
     seed: &Seed,
     text: &[u8],
