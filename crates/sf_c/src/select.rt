@@ -51,9 +51,10 @@ fn select(
                 *index = place;
                 return Status::Answered;
             }
+            Status::Empty => {}
             Status::BadCall => return Status::BadCall,
             Status::OutOfMemory => return Status::OutOfMemory,
-            _ => {}
+            _ => unreachable!(),
         }
     }
     Status::Empty
@@ -77,6 +78,7 @@ fn consider(
     match direct(alloc, seed, text, policy, &mut refusal) {
         Status::Answered => Status::Answered,
         Status::Empty => Status::Empty,
+        // A malformed field is ignored, too.
         Status::Refused => Status::Empty,
         Status::OutOfMemory => Status::OutOfMemory,
         _ => unreachable!(),
