@@ -25,6 +25,89 @@ pub struct Policy {
     pub is_private: bool,
 }
 
+impl From<&raw::Policy> for Policy {
+    fn from(policy: &raw::Policy) -> Policy {
+        Policy {
+            max_age: (policy.has_max_age != 0).then_some(policy.max_age),
+            s_maxage: (policy.has_s_maxage != 0).then_some(policy.s_maxage),
+            must_revalidate: policy.must_revalidate != 0,
+            no_store: policy.no_store != 0,
+            no_cache: policy.no_cache != 0,
+            is_private: policy.is_private != 0,
+        }
+    }
+}
+
+impl From<&Policy> for raw::Policy {
+    fn from(policy: &Policy) -> raw::Policy {
+        raw::Policy {
+            max_age: policy.max_age.unwrap_or(0),
+            s_maxage: policy.s_maxage.unwrap_or(0),
+            has_max_age: u8::from(policy.max_age.is_some()),
+            has_s_maxage: u8::from(policy.s_maxage.is_some()),
+            must_revalidate: u8::from(policy.must_revalidate),
+            no_store: u8::from(policy.no_store),
+            no_cache: u8::from(policy.no_cache),
+            is_private: u8::from(policy.is_private),
+        }
+    }
+}
+
+impl Policy {
+    /// Reads the text of one targeted field (RFC 9213 section 2.1); `None` if it has no members. After
+    /// `None` and after [`Error::Refused`] a cache ignores this field and uses the next of its target
+    /// list (section 2.2), as [`select`] does.
+    ///
+    /// # Errors
+    ///
+    /// [`Error::Refused`] if the text is not a well-formed Dictionary.
+    ///
+    /// ```
+    /// let policy = sf::Policy::parse("max-age=60, no-cache").unwrap().unwrap();
+    /// assert!(policy.no_cache && policy.max_age == Some(60));
+    /// assert_eq!(sf::Policy::parse(""), Ok(None));
+    /// ```
+    pub fn parse(text: impl AsRef<[u8]>) -> Result<Option<Policy>, Error> {
+        Parser::new().policy(text)
+    }
+
+    pub(crate) fn read(seed: &Seed, text: &[u8]) -> Result<Option<Policy>, Error> {
+        let mut refusal = NO_REFUSAL;
+        let mut policy = raw::Policy::from(&Policy::default());
+        // SAFETY: as in `Parser::check`.
+        let status = unsafe {
+            raw::sf_cache_control(
+                &seed.bytes,
+                start(text),
+                text.len(),
+                &mut policy,
+                &mut refusal,
+            )
+        };
+        match status {
+            raw::OK => Ok(Some((&policy).into())),
+            raw::EMPTY => Ok(None),
+            status => Err(error(status, &refusal)),
+        }
+    }
+
+    /// The freshness lifetime of a response in seconds, in a shared or in a private cache; `None` if
+    /// the policy sets none (RFC 9111 section 4.2.1).
+    ///
+    /// ```
+    /// let policy = sf::Policy { s_maxage: Some(90), ..sf::Policy::default() };
+    /// assert_eq!(policy.lifetime(true), Some(90));
+    /// assert_eq!(policy.lifetime(false), None);
+    /// ```
+    #[must_use]
+    pub fn lifetime(&self, shared: bool) -> Option<u64> {
+        let mut seconds = 0;
+        // SAFETY: the structs live for the call.
+        let has_one = unsafe { raw::sf_lifetime(&self.into(), u32::from(shared), &mut seconds) };
+        (has_one != 0).then_some(seconds)
+    }
+}
+
 /// Which field of a target list a cache obeys (RFC 9213 section 2.2).
 ///
 /// ```
@@ -117,87 +200,4 @@ impl Choice {
 /// ```
 pub fn select(fields: impl IntoIterator<Item = impl AsRef<[u8]>>) -> Result<Choice, Error> {
     Parser::new().select(fields)
-}
-
-impl From<&raw::Policy> for Policy {
-    fn from(policy: &raw::Policy) -> Policy {
-        Policy {
-            max_age: (policy.has_max_age != 0).then_some(policy.max_age),
-            s_maxage: (policy.has_s_maxage != 0).then_some(policy.s_maxage),
-            must_revalidate: policy.must_revalidate != 0,
-            no_store: policy.no_store != 0,
-            no_cache: policy.no_cache != 0,
-            is_private: policy.is_private != 0,
-        }
-    }
-}
-
-impl From<&Policy> for raw::Policy {
-    fn from(policy: &Policy) -> raw::Policy {
-        raw::Policy {
-            max_age: policy.max_age.unwrap_or(0),
-            s_maxage: policy.s_maxage.unwrap_or(0),
-            has_max_age: u8::from(policy.max_age.is_some()),
-            has_s_maxage: u8::from(policy.s_maxage.is_some()),
-            must_revalidate: u8::from(policy.must_revalidate),
-            no_store: u8::from(policy.no_store),
-            no_cache: u8::from(policy.no_cache),
-            is_private: u8::from(policy.is_private),
-        }
-    }
-}
-
-impl Policy {
-    /// Reads the text of one targeted field (RFC 9213 section 2.1); `None` if it has no members. After
-    /// `None` and after [`Error::Refused`] a cache ignores this field and uses the next of its target
-    /// list (section 2.2), as [`select`] does.
-    ///
-    /// # Errors
-    ///
-    /// [`Error::Refused`] if the text is not a well-formed Dictionary.
-    ///
-    /// ```
-    /// let policy = sf::Policy::parse("max-age=60, no-cache").unwrap().unwrap();
-    /// assert!(policy.no_cache && policy.max_age == Some(60));
-    /// assert_eq!(sf::Policy::parse(""), Ok(None));
-    /// ```
-    pub fn parse(text: impl AsRef<[u8]>) -> Result<Option<Policy>, Error> {
-        Parser::new().policy(text)
-    }
-
-    pub(crate) fn read(seed: &Seed, text: &[u8]) -> Result<Option<Policy>, Error> {
-        let mut refusal = NO_REFUSAL;
-        let mut policy = raw::Policy::from(&Policy::default());
-        // SAFETY: as in `Parser::check`.
-        let status = unsafe {
-            raw::sf_cache_control(
-                &seed.bytes,
-                start(text),
-                text.len(),
-                &mut policy,
-                &mut refusal,
-            )
-        };
-        match status {
-            raw::OK => Ok(Some((&policy).into())),
-            raw::EMPTY => Ok(None),
-            status => Err(error(status, &refusal)),
-        }
-    }
-
-    /// The freshness lifetime of a response in seconds, in a shared or in a private cache; `None` if
-    /// the policy sets none (RFC 9111 section 4.2.1).
-    ///
-    /// ```
-    /// let policy = sf::Policy { s_maxage: Some(90), ..sf::Policy::default() };
-    /// assert_eq!(policy.lifetime(true), Some(90));
-    /// assert_eq!(policy.lifetime(false), None);
-    /// ```
-    #[must_use]
-    pub fn lifetime(&self, shared: bool) -> Option<u64> {
-        let mut seconds = 0;
-        // SAFETY: the structs live for the call.
-        let has_one = unsafe { raw::sf_lifetime(&self.into(), u32::from(shared), &mut seconds) };
-        (has_one != 0).then_some(seconds)
-    }
 }
