@@ -1,16 +1,18 @@
 /* A fuzz target over the archive, for libFuzzer. The first byte of an input says the kind, the
- * dialect and what pointer stands beside a length of 0; the rest is a text. A text that is
- * accepted is normalised, parsed again and compared; its nodes and those of its canonical text are
- * the same, and so is its path of caches; rooms that are one short are answered with what is
- * required; the lines of the text, joined one by one, are the text again; the text is accepted
- * exactly where pieces of it are that are cut at some of its commas, and then it is equal to their
- * canonical texts, joined; a refusal agrees with the front of the text that it names.
+ * dialect and what pointer stands beside a length of 0; the rest is a text. A text that is accepted
+ * is normalised, parsed again and compared; its nodes and those of its canonical text are the same,
+ * and so is its path of caches; the field that is chosen among parts of the text is the first that
+ * has a policy; buffers that are one short are answered with what is required; the lines of the
+ * text, joined one by one, are the text again; the text is accepted exactly where parts of it are
+ * that are cut at some of its commas, and then it is equal to their canonical texts, joined; a
+ * refusal agrees with the front of the text that it names.
  *
  * The archive is not instrumented: the sanitizers see this file, and of the archive only what it
- * calls, as memcpy. So texts and rooms end where a page begins that can't be read (tests/rooms.h).
+ * calls, as memcpy. So texts and buffers end where a page begins that can't be read
+ * (tests/buffers.h).
  */
 #define _DEFAULT_SOURCE
-#include "tests/rooms.h"
+#include "tests/buffers.h"
 #include <sf.h>
 #include <stddef.h>
 #include <stdint.h>
@@ -41,7 +43,7 @@ static const sf_seed seed = {{2, 7, 1, 8, 2, 8, 1, 8, 2, 8, 4, 5, 9, 0, 4, 5}};
 
 /* The bytes of a text between two places. */
 static uint8_t *part(const uint8_t *text, size_t from, size_t to) {
-  return from < to ? take_room(text + from, to - from) : NULL;
+  return from < to ? take_buffer(text + from, to - from) : NULL;
 }
 
 static int is_expected(const sf_refusal *refusal, unsigned byte) {
@@ -62,7 +64,7 @@ static void refused(uint32_t dialect, uint32_t kind, const uint8_t *text, size_t
   shape(refusal->offset < 16 ? refusal->offset : 16, refusal->expected_low, refusal->expected_high);
 
   size_t place = (size_t)refusal->offset;
-  uint8_t *front = take_room(NULL, place + 1);
+  uint8_t *front = take_buffer(NULL, place + 1);
   if (place > 0)
     memcpy(front, text, place);
   sf_refusal other;
@@ -75,7 +77,7 @@ static void refused(uint32_t dialect, uint32_t kind, const uint8_t *text, size_t
     int fits = status == SF_OK || other.offset == place + 1;
     CHECK(fits == is_expected(refusal, byte));
   }
-  give_room(front);
+  give_buffer(front);
 }
 
 typedef struct value {
@@ -84,7 +86,7 @@ typedef struct value {
   sf_sizes sizes;
 } value;
 
-/* The value of a text that is accepted, in rooms of exactly its size. */
+/* The value of a text that is accepted, in buffers of exactly its size. */
 static value parse(uint32_t dialect, uint32_t kind, const uint8_t *text, size_t length) {
   value v = {NULL, NULL, {0, 0}};
   sf_refusal refusal;
@@ -92,8 +94,8 @@ static value parse(uint32_t dialect, uint32_t kind, const uint8_t *text, size_t 
                              &refusal);
   CHECK(status == (v.sizes.nodes == 0 && v.sizes.bytes == 0 ? SF_OK : SF_SHORT));
   CHECK(v.sizes.nodes <= SF_NODES_SIZE(length) && v.sizes.bytes <= SF_BYTES_SIZE(length));
-  v.nodes = take_room(NULL, v.sizes.nodes * sizeof *v.nodes);
-  v.bytes = take_room(NULL, v.sizes.bytes);
+  v.nodes = take_buffer(NULL, v.sizes.nodes * sizeof *v.nodes);
+  v.bytes = take_buffer(NULL, v.sizes.bytes);
   sf_sizes sizes = {0, 0};
   if (v.sizes.nodes > 0) {
     status = sf_parse(&seed, dialect, kind, text, length, v.nodes, v.sizes.nodes - 1, v.bytes,
@@ -112,11 +114,11 @@ static value parse(uint32_t dialect, uint32_t kind, const uint8_t *text, size_t 
 }
 
 static void drop(value v) {
-  give_room(v.nodes);
-  give_room(v.bytes);
+  give_buffer(v.nodes);
+  give_buffer(v.bytes);
 }
 
-static int same_piece(const uint8_t *a, size_t a_at, const uint8_t *b, size_t b_at, size_t length) {
+static int same_bytes(const uint8_t *a, size_t a_at, const uint8_t *b, size_t b_at, size_t length) {
   return length == 0 || memcmp(a + a_at, b + b_at, length) == 0;
 }
 
@@ -158,8 +160,8 @@ static void same_nodes(const value *v, const value *w) {
                   place(v->bytes, a->key_at), a->key_length, &index) == SF_OK);
     CHECK(a->role == SF_MEMBER && a->key_length > 0 ? index == i : index <= i);
     parameters_found(v, i);
-    CHECK(same_piece(v->bytes, a->key_at, w->bytes, b->key_at, a->key_length));
-    CHECK(same_piece(v->bytes, a->text_at, w->bytes, b->text_at, a->text_length));
+    CHECK(same_bytes(v->bytes, a->key_at, w->bytes, b->key_at, a->key_length));
+    CHECK(same_bytes(v->bytes, a->text_at, w->bytes, b->text_at, a->text_length));
   }
 }
 
@@ -171,7 +173,7 @@ static void accepted(uint32_t dialect, uint32_t kind, const uint8_t *text, size_
       sf_normalise(&seed, dialect, kind, text, length, NULL, 0, &required, &refusal);
   CHECK(status == (required == 0 ? SF_OK : SF_SHORT));
   CHECK(required <= SF_CANONICAL_SIZE(length));
-  uint8_t *canonical = take_room(NULL, required);
+  uint8_t *canonical = take_buffer(NULL, required);
   if (required > 0) {
     status = sf_normalise(&seed, dialect, kind, text, length, canonical, required - 1, &again,
                           &refusal);
@@ -181,9 +183,9 @@ static void accepted(uint32_t dialect, uint32_t kind, const uint8_t *text, size_
   CHECK(status == SF_OK && again == required);
 
   /* the canonical text is its own, and an equal value */
-  uint8_t *twice = take_room(NULL, required);
+  uint8_t *twice = take_buffer(NULL, required);
   status = sf_normalise(&seed, dialect, kind, canonical, required, twice, required, &again, &refusal);
-  CHECK(status == SF_OK && again == required && same_piece(twice, 0, canonical, 0, required));
+  CHECK(status == SF_OK && again == required && same_bytes(twice, 0, canonical, 0, required));
   status = sf_equal(&seed, dialect, kind, text, length, canonical, required, &equal, &refusal);
   CHECK(status == SF_OK && equal == 1);
 
@@ -191,13 +193,13 @@ static void accepted(uint32_t dialect, uint32_t kind, const uint8_t *text, size_
   same_nodes(&v, &w);
   drop(v);
   drop(w);
-  give_room(twice);
-  give_room(canonical);
+  give_buffer(twice);
+  give_buffer(canonical);
 }
 
-/* The pieces of a text between its commas with a space, joined again, are the text. */
+/* The parts of a text between its commas with a space, joined again, are the text. */
 static void joining(const uint8_t *text, size_t length) {
-  uint8_t *room = take_room(NULL, length);
+  uint8_t *buffer = take_buffer(NULL, length);
   sf_joined joined = {0, 0, 0};
   size_t from = 0;
   for (size_t i = 0; i <= length; ++i) {
@@ -205,25 +207,26 @@ static void joining(const uint8_t *text, size_t length) {
     if (!comma && i < length)
       continue;
     uint8_t *line = part(text, from, i);
-    CHECK(sf_join(line, i - from, room, length, &joined) == SF_OK);
-    give_room(line);
+    CHECK(sf_join(line, i - from, buffer, length, &joined) == SF_OK);
+    give_buffer(line);
     from = i + 2;
     i += 1;
   }
-  CHECK(joined.length == length && same_piece(room, 0, text, 0, length));
-  CHECK(sf_join("a", 1, room, length, &joined) == SF_SHORT && joined.required == length + 3);
-  give_room(room);
+  CHECK(joined.length == length && same_bytes(buffer, 0, text, 0, length));
+  CHECK(sf_join("a", 1, buffer, length, &joined) == SF_SHORT && joined.required == length + 3);
+  give_buffer(buffer);
 }
 
-/* The text against pieces of it. It is cut behind a piece that is accepted and not empty, at a
+/* The text against parts of it. It is cut behind a part that is accepted and not empty, at a
  * comma that its bytes choose, and the spaces behind the comma are left away. */
-static void pieces(uint32_t dialect, uint32_t kind, const uint8_t *text, size_t length,
-                   int is_some) {
+static void parts(uint32_t dialect, uint32_t kind, const uint8_t *text, size_t length,
+                  int is_some) {
   uint32_t bits = 2166136261u;
   for (size_t i = 0; i < length; ++i)
     bits = (bits ^ text[i]) * 16777619u;
-  size_t room = SF_CANONICAL_SIZE(length) + 2 * length, line_room = SF_CANONICAL_SIZE(length);
-  uint8_t *whole = take_room(NULL, room), *line = take_room(NULL, line_room);
+  size_t capacity = SF_CANONICAL_SIZE(length) + 2 * length,
+         line_capacity = SF_CANONICAL_SIZE(length);
+  uint8_t *whole = take_buffer(NULL, capacity), *line = take_buffer(NULL, line_capacity);
   sf_joined joined = {0, 0, 0};
   sf_refusal refusal;
   size_t from = 0;
@@ -232,15 +235,15 @@ static void pieces(uint32_t dialect, uint32_t kind, const uint8_t *text, size_t 
     bits = bits * 1664525u + 1013904223u;
     if (i < from || (i < length && (text[i] != ',' || bits >> 31 != 0)))
       continue;
-    uint8_t *piece = part(text, from, i);
+    uint8_t *line_text = part(text, from, i);
     size_t required = 0;
-    uint32_t status = sf_normalise(&seed, dialect, kind, piece, i - from, line, line_room, &required,
-                                   &refusal);
-    give_room(piece);
+    uint32_t status = sf_normalise(&seed, dialect, kind, line_text, i - from, line, line_capacity,
+                                   &required, &refusal);
+    give_buffer(line_text);
     CHECK(status == SF_OK || status == SF_REFUSED);
     if (status == SF_REFUSED || required == 0)
       continue;
-    CHECK(sf_join(line, required, whole, room, &joined) == SF_OK);
+    CHECK(sf_join(line, required, whole, capacity, &joined) == SF_OK);
     is_whole = i == length;
     from = i + 1;
     while (from < length && (text[from] == ' ' || text[from] == '\t'))
@@ -253,8 +256,8 @@ static void pieces(uint32_t dialect, uint32_t kind, const uint8_t *text, size_t 
           SF_OK);
     CHECK(equal == 1);
   }
-  give_room(line);
-  give_room(whole);
+  give_buffer(line);
+  give_buffer(whole);
 }
 
 typedef struct caches {
@@ -263,7 +266,7 @@ typedef struct caches {
   sf_path path;
 } caches;
 
-/* The path of a List, in rooms of exactly its size; no hops where a member names no cache. */
+/* The path of a List, in buffers of exactly its size; no hops where a member names no cache. */
 static caches tell(const uint8_t *text, size_t length) {
   caches c = {NULL, NULL, {0, 0, 0, 0, 0}};
   sf_refusal refusal;
@@ -273,8 +276,8 @@ static caches tell(const uint8_t *text, size_t length) {
     return c;
   CHECK(status == (c.path.hops == 0 ? SF_OK : SF_SHORT));
   CHECK(c.path.hops <= SF_NODES_SIZE(length) && c.path.bytes <= SF_BYTES_SIZE(length));
-  c.hops = take_room(NULL, c.path.hops * sizeof *c.hops);
-  c.bytes = take_room(NULL, c.path.bytes);
+  c.hops = take_buffer(NULL, c.path.hops * sizeof *c.hops);
+  c.bytes = take_buffer(NULL, c.path.bytes);
   sf_path path = {0, 0, 0, 0, 0};
   if (c.path.hops > 0) {
     status = sf_cache_status(&seed, text, length, c.hops, c.path.hops - 1, c.bytes, c.path.bytes,
@@ -292,8 +295,8 @@ static caches tell(const uint8_t *text, size_t length) {
   return c;
 }
 
-static int is_within(sf_piece piece, size_t size) {
-  return piece.at <= size && piece.length <= size - piece.at;
+static int is_within(sf_span span, size_t size) {
+  return span.at <= size && span.length <= size - span.at;
 }
 
 static void one_hop(const sf_hop *hop, size_t size) {
@@ -313,15 +316,15 @@ static void one_hop(const sf_hop *hop, size_t size) {
   CHECK(hop->has_detail || (hop->detail.length == 0 && !hop->detail_is_token));
 }
 
-static int same_range(const uint8_t *a, sf_piece p, const uint8_t *b, sf_piece q) {
-  return p.length == q.length && same_piece(a, p.at, b, q.at, p.length);
+static int same_range(const uint8_t *a, sf_span p, const uint8_t *b, sf_span q) {
+  return p.length == q.length && same_bytes(a, p.at, b, q.at, p.length);
 }
 
 /* A hop, written, is read as the same. */
 static void write_again(const sf_hop *hop, const uint8_t *bytes, size_t size) {
   size_t required = 0, again = 0;
   CHECK(sf_hop_text(&seed, hop, bytes, size, NULL, 0, &required) == SF_SHORT);
-  uint8_t *text = take_room(NULL, required);
+  uint8_t *text = take_buffer(NULL, required);
   CHECK(sf_hop_text(&seed, hop, bytes, size, text, required, &again) == SF_OK);
   CHECK(again == required);
   caches c = tell(text, required);
@@ -332,22 +335,22 @@ static void write_again(const sf_hop *hop, const uint8_t *bytes, size_t size) {
   CHECK(same_range(bytes, hop->detail, c.bytes, c.hops[0].detail));
   CHECK(memcmp(&hop->ttl, &c.hops[0].ttl,
                offsetof(sf_hop, detail_is_token) + 1 - offsetof(sf_hop, ttl)) == 0);
-  give_room(c.hops);
-  give_room(c.bytes);
-  give_room(text);
+  give_buffer(c.hops);
+  give_buffer(c.bytes);
+  give_buffer(text);
 }
 
 /* The path of a text and that of its canonical text. */
 static void paths(const uint8_t *text, size_t length) {
   sf_refusal refusal;
   size_t required = SF_CANONICAL_SIZE(length);
-  uint8_t *canonical = take_room(NULL, required);
+  uint8_t *canonical = take_buffer(NULL, required);
   CHECK(sf_normalise(&seed, SF_RFC9651, SF_LIST, text, length, canonical, required, &required,
                      &refusal) == SF_OK);
   caches c = tell(text, length), d = tell(canonical, required);
   CHECK(memcmp(&c.path, &d.path, offsetof(sf_path, is_served) + sizeof c.path.is_served) == 0);
   CHECK(c.hops == NULL || memcmp(c.hops, d.hops, c.path.hops * sizeof *c.hops) == 0);
-  CHECK(same_piece(c.bytes, 0, d.bytes, 0, c.bytes == NULL ? 0 : c.path.bytes));
+  CHECK(same_bytes(c.bytes, 0, d.bytes, 0, c.bytes == NULL ? 0 : c.path.bytes));
   long served = -1;
   for (size_t i = 0; c.hops != NULL && i < c.path.hops; ++i) {
     one_hop(&c.hops[i], c.path.bytes);
@@ -357,11 +360,36 @@ static void paths(const uint8_t *text, size_t length) {
   }
   CHECK(c.path.is_served == (served >= 0));
   CHECK(c.path.served == (served < 0 ? 0 : (size_t)served));
-  give_room(c.hops);
-  give_room(c.bytes);
-  give_room(d.hops);
-  give_room(d.bytes);
-  give_room(canonical);
+  give_buffer(c.hops);
+  give_buffer(c.bytes);
+  give_buffer(d.hops);
+  give_buffer(d.bytes);
+  give_buffer(canonical);
+}
+
+/* The choice among parts of a text, as if each were a field, is the first that has a policy. */
+static void selecting(const uint8_t *text, size_t length) {
+  enum { FIELDS = 5 };
+  sf_span *fields = take_buffer(NULL, FIELDS * sizeof *fields);
+  sf_policy policy, chosen;
+  sf_refusal refusal;
+  size_t first = FIELDS, index = FIELDS;
+  memset(&policy, 0, sizeof policy);
+  memset(&chosen, 0, sizeof chosen);
+  for (size_t i = 0; i < FIELDS; ++i) {
+    fields[i].at = i < FIELDS - 1 && length > 0 ? text[i * 7 % length] % (length + 1) : 0;
+    fields[i].length = i < FIELDS - 1 ? (length - fields[i].at) / (i + 1) : length;
+    uint8_t *field = part(text, fields[i].at, fields[i].at + fields[i].length);
+    if (first == FIELDS &&
+        sf_cache_control(&seed, field, fields[i].length, &policy, &refusal) == SF_OK)
+      first = i;
+    give_buffer(field);
+  }
+  uint32_t status = sf_select(&seed, text, length, fields, FIELDS, &index, &chosen);
+  CHECK(status == (first < FIELDS ? SF_OK : SF_EMPTY) && index == first);
+  CHECK(memcmp(&policy, &chosen, offsetof(sf_policy, is_private) + 1) == 0);
+  shape(first, policy.max_age < 8 ? policy.max_age : 8, policy.no_store);
+  give_buffer(fields);
 }
 
 static void consumers(const uint8_t *text, size_t length, int is_dict) {
@@ -388,6 +416,7 @@ static void consumers(const uint8_t *text, size_t length, int is_dict) {
   uint32_t in_private = sf_lifetime(&policy, 0, &alone);
   CHECK(in_private == policy.has_max_age && in_shared >= in_private);
   CHECK(policy.has_s_maxage || shared == alone);
+  selecting(text, length);
 }
 
 static int has_members(uint32_t dialect, uint32_t kind, const uint8_t *text, size_t length) {
@@ -406,7 +435,7 @@ int LLVMFuzzerTestOneInput(const uint8_t *data, size_t size) {
   uint32_t dialect = data[0] / 3 % 2 == 0 ? SF_RFC9651 : SF_RFC8941;
   size_t length = size - 1;
   none_is_a_place = data[0] / 6 % 2;
-  uint8_t *text = take_room(data + 1, length);
+  uint8_t *text = take_buffer(data + 1, length);
   sf_refusal refusal;
   uint32_t status = sf_check(&seed, dialect, kind, text, length, &refusal);
   CHECK(status == SF_OK || status == SF_REFUSED);
@@ -416,12 +445,11 @@ int LLVMFuzzerTestOneInput(const uint8_t *data, size_t size) {
     refused(dialect, kind, text, length, &refusal);
   joining(text, length);
   if (kind != SF_ITEM)
-    pieces(dialect, kind, text, length,
-           status == SF_OK && has_members(dialect, kind, text, length));
+    parts(dialect, kind, text, length, status == SF_OK && has_members(dialect, kind, text, length));
   if (kind == SF_LIST && dialect == SF_RFC9651 && status == SF_OK)
     paths(text, length);
   if (kind == SF_DICT && dialect == SF_RFC9651)
     consumers(text, length, status == SF_OK);
-  give_room(text);
+  give_buffer(text);
   return 0;
 }

@@ -71,8 +71,8 @@ typedef enum sf_status {
   SF_SECOND_REFUSED = 2, /* of two texts, the first is well-formed and the second is malformed */
   SF_SHORT = 3,          /* a buffer is too small */
   SF_NO_MEMORY = 4,      /* malloc or realloc failed */
-  SF_EMPTY = 5,          /* the field has no members */
-  SF_BAD_CALL = 6,       /* no such kind or dialect, or a length greater than that of its buffer */
+  SF_EMPTY = 5,          /* the field has no members; of sf_select, every field is ignored */
+  SF_BAD_CALL = 6,       /* no such kind or dialect, or a length or range past its buffer */
   SF_NOT_A_CACHE = 7,    /* a member of a Cache-Status List does not name a cache */
   SF_INVALID = 8,        /* what is to be written is not a value */
   SF_ABSENT = 9          /* no node has the key */
@@ -380,7 +380,7 @@ typedef struct sf_policy {
 
 /*
  * Reads the text of one targeted field (RFC 9213 section 2.1). After SF_REFUSED or SF_EMPTY, a
- * cache ignores this field and uses the next of its target list (section 2.2).
+ * cache ignores this field and uses the next of its target list (section 2.2), as sf_select does.
  *
  *   SF_OK         *policy is written
  *   SF_EMPTY      the Dictionary has no members
@@ -391,6 +391,32 @@ typedef struct sf_policy {
  */
 uint32_t sf_cache_control(const sf_seed *seed, const void *text, size_t text_length,
                           sf_policy *policy, sf_refusal *refusal);
+
+/* A range of bytes in a buffer of the caller's. */
+typedef struct sf_span {
+  size_t at;     /* offset of its first byte */
+  size_t length; /* number of bytes */
+} sf_span;
+
+/*
+ * Chooses the field that a cache obeys: the first of its target list that is not ignored (RFC 9213
+ * section 2.2). The fields are in the order of the list. Each is the range of its text in texts:
+ * the lines of the field, joined, or an empty range if the response does not have the field. A
+ * field is ignored if its text is not a well-formed Dictionary, or is one without members (section
+ * 2.1).
+ *
+ *   SF_OK         fields[*index] is the field, and *policy its directives; the fields before it are
+ *                 ignored
+ *   SF_EMPTY      every field is ignored: Cache-Control and Expires decide
+ *   SF_BAD_CALL   the range of a field is not within the texts_length bytes of texts, and the
+ *                 fields before it are ignored
+ *   SF_NO_MEMORY
+ *
+ * The fields after the first that is not ignored are not looked at. Unless SF_OK is returned,
+ * *index and *policy are unchanged. For an ignored field, sf_check says where it is malformed.
+ */
+uint32_t sf_select(const sf_seed *seed, const void *texts, size_t texts_length,
+                   const sf_span *fields, size_t fields_length, size_t *index, sf_policy *policy);
 
 /*
  * Returns the freshness lifetime of a response by a policy, in a shared cache if shared is not 0,
@@ -403,12 +429,6 @@ uint32_t sf_cache_control(const sf_seed *seed, const void *text, size_t text_len
  * The result is not an sf_status: do not compare it with SF_OK, which is 0.
  */
 uint32_t sf_lifetime(const sf_policy *policy, uint32_t shared, uint64_t *seconds);
-
-/* A range of the caller's buffer bytes. */
-typedef struct sf_piece {
-  size_t at;     /* offset of its first byte */
-  size_t length; /* number of bytes */
-} sf_piece;
 
 /* What a cache did with a request (RFC 9211 sections 2.1 and 2.2). */
 typedef enum sf_outcome {
@@ -439,10 +459,10 @@ typedef enum sf_forward {
  * without a fwd, so do fwd-status, stored and collapsed.
  */
 typedef struct sf_hop {
-  sf_piece name;           /* the cache's name */
-  sf_piece why_token;      /* fwd: its token, also if why is not SF_OTHER (2.2) */
-  sf_piece key;            /* key: the cache key (2.7) */
-  sf_piece detail;         /* detail: further information from the cache (2.8) */
+  sf_span name;            /* the cache's name */
+  sf_span why_token;       /* fwd: its token, also if why is not SF_OTHER (2.2) */
+  sf_span key;             /* key: the cache key (2.7) */
+  sf_span detail;          /* detail: further information from the cache (2.8) */
   int64_t ttl;             /* ttl: the remaining freshness lifetime in seconds; if negative, how
                               long the response has been stale (2.4); in the range of an Integer */
   uint16_t outcome;        /* an sf_outcome */

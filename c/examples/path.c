@@ -17,16 +17,16 @@
 #include <string.h>
 
 /* A name or a detail: in quotes where it is a String. */
-static void print_name(const char *bytes, sf_piece piece, int is_token) {
+static void print_name(const char *bytes, sf_span span, int is_token) {
   const char *quote = is_token ? "" : "\"";
   printf("%s", quote);
-  fwrite(bytes + piece.at, 1, piece.length, stdout);
+  fwrite(bytes + span.at, 1, span.length, stdout);
   printf("%s", quote);
 }
 
-static void print_piece(const char *before, const char *bytes, sf_piece piece) {
+static void print_span(const char *before, const char *bytes, sf_span span) {
   printf("%s", before);
-  fwrite(bytes + piece.at, 1, piece.length, stdout);
+  fwrite(bytes + span.at, 1, span.length, stdout);
 }
 
 static void print_flag(const char *word, int says, int set) {
@@ -39,7 +39,7 @@ static void print_hop(const sf_hop *hop, const char *bytes) {
   print_name(bytes, hop->name, hop->name_is_token);
   printf(" %s", outcomes[hop->outcome]);
   if (hop->why != SF_NO_FORWARD)
-    print_piece(": ", bytes, hop->why_token);
+    print_span(": ", bytes, hop->why_token);
   if (hop->has_status)
     printf(", status %u", (unsigned)hop->status);
   print_flag("stored", hop->has_stored, hop->stored);
@@ -47,7 +47,7 @@ static void print_hop(const sf_hop *hop, const char *bytes) {
   if (hop->has_ttl)
     printf(", ttl %lld", (long long)hop->ttl);
   if (hop->has_key)
-    print_piece(", key ", bytes, hop->key);
+    print_span(", key ", bytes, hop->key);
   if (hop->has_detail) {
     printf(", detail ");
     print_name(bytes, hop->detail, hop->detail_is_token);

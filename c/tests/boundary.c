@@ -1,13 +1,13 @@
-/* Every function of sf.h, called as C calls it: the worked texts in both dialects, rooms of exactly
- * the size that is required, one short and empty, length 0 with NULL and with a pointer one past a
- * block, numbers that are no kind, malloc refused at each call in turn, and a thread for each
- * processor. Texts and rooms end where a page begins that can't be read (rooms.h).
+/* Every function of sf.h, called as C calls it: the worked texts in both dialects, buffers of
+ * exactly the size that is required, one short and empty, length 0 with NULL and with a pointer one
+ * past a block, numbers that are no kind, malloc refused at each call in turn, and a thread for
+ * each processor. Texts and buffers end where a page begins that can't be read (buffers.h).
  *
  * Prints 'N passed, M failed'. It is linked with --wrap=malloc and --wrap=realloc and --wrap=free,
  * and counts blocks that the library takes and gives back. */
 #define _DEFAULT_SOURCE
 #define _POSIX_C_SOURCE 200809L
-#include "rooms.h"
+#include "buffers.h"
 #include "texts.h"
 #include <inttypes.h>
 #include <pthread.h>
@@ -108,7 +108,7 @@ static int is_untouched(const sf_refusal *refusal) {
 
 static int all_are(const unsigned char *bytes, size_t length) {
   for (size_t i = 0; i < length; ++i)
-    if (bytes[i] != ROOM_BYTE)
+    if (bytes[i] != BUFFER_BYTE)
       return 0;
   return 1;
 }
@@ -187,9 +187,9 @@ static void layouts(void) {
   AT(sf_policy, no_store, 19);
   AT(sf_policy, no_cache, 20);
   AT(sf_policy, is_private, 21);
-  SIZE(sf_piece, 16);
-  AT(sf_piece, at, 0);
-  AT(sf_piece, length, 8);
+  SIZE(sf_span, 16);
+  AT(sf_span, at, 0);
+  AT(sf_span, length, 8);
   SIZE(sf_hop, 88);
   AT(sf_hop, name, 0);
   AT(sf_hop, why_token, 16);
@@ -246,7 +246,7 @@ static void macros(void) {
   CHECK(strcmp(sf_status_name(SF_ABSENT + 1), "SF_?") == 0);
   CHECK(strcmp(sf_status_name(UINT32_MAX), "SF_?") == 0);
 
-  about = "room";
+  about = "sizes of buffers";
   int number = 2000000000;
   uint32_t word = UINT32_MAX;
   unsigned char byte = 255;
@@ -262,7 +262,7 @@ static void macros(void) {
           SF_NODES_SIZE(length) == (length * 8 + 5) / 10);
 }
 
-/* The nodes of a text and of its canonical text are the same, in rooms of exactly their size; a
+/* The nodes of a text and of its canonical text are the same, in buffers of exactly their size; a
  * buffer that is one byte too small, or empty, gets SF_SHORT and the required size. */
 static void same_value(uint32_t dialect, uint32_t kind, const char *about, const void *text,
                        size_t length, const void *canonical, size_t canonical_length) {
@@ -274,9 +274,9 @@ static void same_value(uint32_t dialect, uint32_t kind, const char *about, const
   CHECK(sizes.nodes <= SF_NODES_SIZE(length) && sizes.bytes <= SF_BYTES_SIZE(length));
 
   size_t size = sizes.nodes * sizeof(sf_node);
-  unsigned char *bytes = take_room(NULL, sizes.bytes), *other = take_room(NULL, sizes.bytes);
-  sf_node *nodes = take_room(NULL, size);
-  sf_node *others = take_room(NULL, size);
+  unsigned char *bytes = take_buffer(NULL, sizes.bytes), *other = take_buffer(NULL, sizes.bytes);
+  sf_node *nodes = take_buffer(NULL, size);
+  sf_node *others = take_buffer(NULL, size);
   if (sizes.nodes > 0) {
     CALL(sf_parse(&seed, dialect, kind, text, length, nodes, sizes.nodes - 1, bytes, sizes.bytes,
                   &again, &refusal));
@@ -297,56 +297,57 @@ static void same_value(uint32_t dialect, uint32_t kind, const char *about, const
   CHECK(size == 0 || memcmp(nodes, others, size) == 0);
   CHECK(sizes.bytes == 0 || memcmp(bytes, other, sizes.bytes) == 0);
   CHECK(is_untouched(&refusal));
-  give_room(nodes);
-  give_room(others);
-  give_room(bytes);
-  give_room(other);
+  give_buffer(nodes);
+  give_buffer(others);
+  give_buffer(bytes);
+  give_buffer(other);
 }
 
 static void accepted(uint32_t dialect, uint32_t kind, const char *from, size_t length,
                      const char *canonical, size_t canonical_length) {
   const char *about = from;
   uint32_t status;
-  unsigned char *text = take_room(from, length);
+  unsigned char *text = take_buffer(from, length);
   sf_refusal refusal = untouched;
 
   CALL(sf_check(&seed, dialect, kind, text, length, &refusal));
   CHECK(status == SF_OK);
 
-  /* A room of exactly the size, a longer one, and each shorter one. */
-  for (size_t room = 0; room <= canonical_length + 3; ++room) {
-    unsigned char *out = take_room(NULL, room);
+  /* A buffer of exactly the size, a longer one, and each shorter one. */
+  for (size_t capacity = 0; capacity <= canonical_length + 3; ++capacity) {
+    unsigned char *out = take_buffer(NULL, capacity);
     size_t required = 4711;
-    CALL(sf_normalise(&seed, dialect, kind, text, length, out, room, &required, &refusal));
+    CALL(sf_normalise(&seed, dialect, kind, text, length, out, capacity, &required, &refusal));
     CHECK(required == canonical_length);
-    if (room < canonical_length) {
+    if (capacity < canonical_length) {
       CHECK(status == SF_SHORT);
-      CHECK(all_are(out, room));
+      CHECK(all_are(out, capacity));
     } else {
       CHECK(status == SF_OK);
       CHECK(canonical_length == 0 || memcmp(out, canonical, canonical_length) == 0);
-      CHECK(room == canonical_length || all_are(out + canonical_length, room - canonical_length));
+      CHECK(capacity == canonical_length ||
+            all_are(out + canonical_length, capacity - canonical_length));
     }
-    give_room(out);
+    give_buffer(out);
   }
   CHECK(canonical_length <= SF_CANONICAL_SIZE(length));
 
   /* It is equal to its canonical text. */
-  unsigned char *other = take_room(canonical, canonical_length);
+  unsigned char *other = take_buffer(canonical, canonical_length);
   uint32_t equal = 4711;
   CALL(sf_equal(&seed, dialect, kind, text, length, other, canonical_length, &equal, &refusal));
   CHECK(status == SF_OK && equal == 1);
   same_value(dialect, kind, about, text, length, other, canonical_length);
-  give_room(other);
+  give_buffer(other);
   CHECK(is_untouched(&refusal));
-  give_room(text);
+  give_buffer(text);
 }
 
 static void refused(uint32_t dialect, uint32_t kind, const char *from, size_t length,
                     uint64_t place, int32_t found, const char *set) {
   const char *about = from;
   uint32_t status;
-  unsigned char *text = take_room(from, length);
+  unsigned char *text = take_buffer(from, length);
 
   sf_refusal refusal = untouched;
   CALL(sf_check(&seed, dialect, kind, text, length, &refusal));
@@ -384,7 +385,7 @@ static void refused(uint32_t dialect, uint32_t kind, const char *from, size_t le
   CHECK(status == SF_REFUSED && memcmp(&same, &refusal, sizeof same) == 0);
   CHECK(all_are((unsigned char *)&node, sizeof node) && byte == 0xa5);
   CHECK(sizes.nodes == 4711 && sizes.bytes == 4712);
-  give_room(text);
+  give_buffer(text);
 }
 
 /* A text that RFC 9651 accepts, by RFC 8941: it has the same value, or it is refused at the first
@@ -454,8 +455,8 @@ static void bad_calls(void) {
     sf_refusal refusal = untouched;
     size_t required = 4711;
     sf_sizes sizes = {4711, 4712};
-    unsigned char *bytes = take_room(NULL, 4);
-    sf_node *nodes = take_room(NULL, 2 * sizeof *nodes);
+    unsigned char *bytes = take_buffer(NULL, 4);
+    sf_node *nodes = take_buffer(NULL, 2 * sizeof *nodes);
     CALL(sf_check(&seed, dialect, kind, "a", 1, &refusal));
     CHECK(status == SF_BAD_CALL);
     CALL(sf_normalise(&seed, dialect, kind, "a", 1, bytes, 4, &required, &refusal));
@@ -466,8 +467,8 @@ static void bad_calls(void) {
     CHECK(status == SF_BAD_CALL && sizes.nodes == 4711 && sizes.bytes == 4712);
     CHECK(all_are(bytes, 4) && all_are((unsigned char *)nodes, 2 * sizeof *nodes));
     CHECK(is_untouched(&refusal));
-    give_room(bytes);
-    give_room(nodes);
+    give_buffer(bytes);
+    give_buffer(nodes);
   }
 }
 
@@ -495,9 +496,9 @@ static void comparing(void) {
   }
 }
 
-/* Whether a piece of the bytes is a text. */
-static int is_piece(const unsigned char *bytes, size_t size, size_t at, size_t length,
-                    const char *text) {
+/* Whether a span of the bytes is a text. */
+static int is_text(const unsigned char *bytes, size_t size, size_t at, size_t length,
+                   const char *text) {
   return at <= size && length <= size - at && length == strlen(text) &&
          (length == 0 || memcmp(bytes + at, text, length) == 0);
 }
@@ -508,8 +509,8 @@ static int is_piece(const unsigned char *bytes, size_t size, size_t at, size_t l
   do {                                                                                             \
     size_t whole = strlen(expected);                                                               \
     for (size_t size = 0; size <= whole + 3; ++size) {                                             \
-      unsigned char *buffer = take_room(NULL, size);                                               \
-      size_t *required = take_room(NULL, sizeof *required);                                        \
+      unsigned char *buffer = take_buffer(NULL, size);                                             \
+      size_t *required = take_buffer(NULL, sizeof *required);                                      \
       CALL(call);                                                                                  \
       CHECK(*required == whole && status == (size < whole ? SF_SHORT : SF_OK));                    \
       if (size < whole)                                                                            \
@@ -517,8 +518,8 @@ static int is_piece(const unsigned char *bytes, size_t size, size_t at, size_t l
       else                                                                                         \
         CHECK((whole == 0 || memcmp(buffer, expected, whole) == 0) &&                              \
               (size == whole || all_are(buffer + whole, size - whole)));                           \
-      give_room(required);                                                                         \
-      give_room(buffer);                                                                           \
+      give_buffer(required);                                                                       \
+      give_buffer(buffer);                                                                         \
     }                                                                                              \
   } while (0)
 
@@ -548,16 +549,16 @@ static void refusals_in_words(void) {
   for (size_t i = 0; i < sizeof rows / sizeof *rows; ++i) {
     const char *about = rows[i].text;
     size_t length = strlen(about);
-    unsigned char *text = take_room(about, length);
-    sf_refusal *refusal = take_room(&untouched, sizeof untouched);
+    unsigned char *text = take_buffer(about, length);
+    sf_refusal *refusal = take_buffer(&untouched, sizeof untouched);
     CALL(sf_check(&seed, SF_RFC9651, rows[i].kind, text, length, refusal));
     CHECK(status == SF_REFUSED);
     char shown[160];
     sprintf(shown, "%s%s", rows[i].message, rows[i].shown);
     WRITES(sf_refusal_text(refusal, buffer, size, required), rows[i].message);
     WRITES(sf_refusal_in_text(refusal, text, length, buffer, size, required), shown);
-    give_room(refusal);
-    give_room(text);
+    give_buffer(refusal);
+    give_buffer(text);
   }
 
   /* any numbers */
@@ -571,10 +572,10 @@ static void refusals_in_words(void) {
   refusal.found = INT32_MIN;
   refusal.offset = 0;
   refusal.may_end = 0;
-  unsigned char *none = take_room(NULL, 0);
+  unsigned char *none = take_buffer(NULL, 0);
   WRITES(sf_refusal_in_text(&refusal, none, 0, buffer, size, required),
          "the text ended at place 0, expected a quote\nline 1, place 0:\n\n^");
-  give_room(none);
+  give_buffer(none);
   refusal.found = 255;
   refusal.expected_low = 0;
   refusal.expected_high = UINT64_C(1) << 63;
@@ -614,19 +615,19 @@ static void finding(void) {
   CALL(sf_parse(&seed, SF_RFC9651, SF_DICT, about, strlen(about), parsed_nodes, 12, parsed_bytes,
                 sizeof parsed_bytes, &sizes, &refusal));
   CHECK(status == SF_OK && sizes.nodes == 12);
-  unsigned char *bytes = take_room(parsed_bytes, sizes.bytes);
+  unsigned char *bytes = take_buffer(parsed_bytes, sizes.bytes);
   for (size_t i = 0; i < sizeof rows / sizeof *rows; ++i) {
-    sf_node *nodes = take_room(parsed_nodes + rows[i].from, rows[i].count * sizeof *nodes);
+    sf_node *nodes = take_buffer(parsed_nodes + rows[i].from, rows[i].count * sizeof *nodes);
     size_t length = strlen(rows[i].key);
-    unsigned char *key = take_room(rows[i].key, length);
-    size_t *index = take_room(NULL, sizeof *index);
+    unsigned char *key = take_buffer(rows[i].key, length);
+    size_t *index = take_buffer(NULL, sizeof *index);
     size_t before = *index;
     CALL(sf_find(nodes, rows[i].count, bytes, sizes.bytes, rows[i].role, key, length, index));
     CHECK(status == (rows[i].index < 0 ? SF_ABSENT : SF_OK));
     CHECK(*index == (rows[i].index < 0 ? before : (size_t)rows[i].index));
-    give_room(index);
-    give_room(key);
-    give_room(nodes);
+    give_buffer(index);
+    give_buffer(key);
+    give_buffer(nodes);
   }
 
   /* nodes of the caller's, whose keys are not there */
@@ -645,7 +646,7 @@ static void finding(void) {
   CHECK(status == SF_ABSENT && index == 4711);
   CALL(sf_find(wild, 3, bytes, sizes.bytes, SF_MEMBER, NULL, 0, &index));
   CHECK(status == SF_OK && index == 2);
-  give_room(bytes);
+  give_buffer(bytes);
 }
 
 /* What a node is to tell. */
@@ -660,14 +661,14 @@ static void parsed(uint32_t kind, const char *from, const row *rows, size_t coun
   const char *about = from;
   uint32_t status;
   size_t length = strlen(from);
-  unsigned char *text = take_room(from, length);
+  unsigned char *text = take_buffer(from, length);
   sf_refusal refusal = untouched;
 
-  /* each room that is too small, and one that is longer */
+  /* each buffer that is too small, and one that is longer */
   for (size_t n = 0; n <= count + 1; ++n) {
     for (size_t b = 0; b <= size + 1; ++b) {
-      sf_node *nodes = take_room(NULL, n * sizeof *nodes);
-      unsigned char *bytes = take_room(NULL, b);
+      sf_node *nodes = take_buffer(NULL, n * sizeof *nodes);
+      unsigned char *bytes = take_buffer(NULL, b);
       sf_sizes sizes = {4711, 4712};
       CALL(sf_parse(&seed, SF_RFC9651, kind, text, length, nodes, n, bytes, b, &sizes, &refusal));
       CHECK(sizes.nodes == count && sizes.bytes == size);
@@ -681,19 +682,19 @@ static void parsed(uint32_t kind, const char *from, const row *rows, size_t coun
           CHECK(nodes[i].type == rows[i].type);
           CHECK(nodes[i].number == rows[i].number);
           CHECK(nodes[i].span == rows[i].span);
-          CHECK(is_piece(bytes, size, nodes[i].key_at, nodes[i].key_length, rows[i].key));
-          CHECK(is_piece(bytes, size, nodes[i].text_at, nodes[i].text_length, rows[i].text));
+          CHECK(is_text(bytes, size, nodes[i].key_at, nodes[i].key_length, rows[i].key));
+          CHECK(is_text(bytes, size, nodes[i].text_at, nodes[i].text_length, rows[i].text));
         }
         CHECK(n == count || all_are((unsigned char *)(nodes + count), sizeof *nodes));
         CHECK(b == size || bytes[size] == 0xa5);
       }
-      give_room(nodes);
-      give_room(bytes);
+      give_buffer(nodes);
+      give_buffer(bytes);
     }
   }
   CHECK(count <= SF_NODES_SIZE(length) && size <= SF_BYTES_SIZE(length));
   CHECK(is_untouched(&refusal));
-  give_room(text);
+  give_buffer(text);
 }
 
 #define PARSED(kind, text, rows, size) parsed(kind, text, rows, sizeof rows / sizeof *rows, size)
@@ -768,13 +769,13 @@ static void priorities(void) {
   for (size_t i = 0; i < sizeof rows / sizeof *rows; ++i) {
     const char *about = rows[i].text;
     size_t length = strlen(about);
-    unsigned char *text = take_room(about, length);
+    unsigned char *text = take_buffer(about, length);
     sf_priority_flags priority = {9, 9, 9, 9};
     sf_refusal refusal = untouched;
     CALL(sf_priority(&seed, text, length, &priority, &refusal));
     CHECK(status == SF_OK && memcmp(&priority, &rows[i].says, sizeof priority) == 0);
     CHECK(is_untouched(&refusal));
-    give_room(text);
+    give_buffer(text);
   }
   const char *about = "u=1, ";
   sf_priority_flags priority = {9, 9, 9, 9}, nines = {9, 9, 9, 9};
@@ -814,14 +815,14 @@ static void priority_texts(void) {
   uint32_t status;
   for (size_t i = 0; i < sizeof rows / sizeof *rows; ++i) {
     const char *about = rows[i].text;
-    sf_priority_flags *sets = take_room(&rows[i].sets, sizeof rows[i].sets);
+    sf_priority_flags *sets = take_buffer(&rows[i].sets, sizeof rows[i].sets);
     WRITES(sf_priority_text(sets, buffer, size, required), rows[i].text);
     CHECK(strlen(rows[i].text) <= SF_PRIORITY_SIZE);
     sf_priority_flags again = {9, 9, 9, 9}, merged = sf_priority_merge(sets, sets);
     sf_refusal refusal = untouched;
     CALL(sf_priority(&seed, rows[i].text, strlen(rows[i].text), &again, &refusal));
     CHECK(status == SF_OK && memcmp(&again, &merged, sizeof again) == 0);
-    give_room(sets);
+    give_buffer(sets);
   }
 }
 
@@ -846,7 +847,7 @@ static void policies(void) {
   for (size_t i = 0; i < sizeof rows / sizeof *rows; ++i) {
     const char *about = rows[i].text;
     size_t length = strlen(about);
-    unsigned char *text = take_room(about, length);
+    unsigned char *text = take_buffer(about, length);
     sf_policy policy;
     memset(&policy, 0, sizeof policy);
     sf_refusal refusal = untouched;
@@ -866,17 +867,17 @@ static void policies(void) {
     seconds = 4711;
     CHECK(sf_lifetime(&policy, 0, &seconds) == (rows[i].alone >= 0));
     CHECK(seconds == (rows[i].alone >= 0 ? (uint64_t)rows[i].alone : 4711));
-    give_room(text);
+    give_buffer(text);
   }
   const char *about = "no policy";
   sf_policy policy, ones;
   memset(&policy, 1, sizeof policy);
   memset(&ones, 1, sizeof ones);
   sf_refusal refusal = untouched;
-  unsigned char *none = take_room(NULL, 0);
+  unsigned char *none = take_buffer(NULL, 0);
   CALL(sf_cache_control(&seed, none, 0, &policy, &refusal));
   CHECK(status == SF_EMPTY && is_untouched(&refusal));
-  give_room(none);
+  give_buffer(none);
   CALL(sf_cache_control(&seed, "max-age=60,", 11, &policy, &refusal));
   CHECK(status == SF_REFUSED && refusal.offset == 11 && refusal.found == -1);
   CHECK(is_set(&refusal, "09 20 2a 61-7a"));
@@ -886,6 +887,92 @@ static void policies(void) {
   uint64_t seconds;
   CHECK(sf_lifetime(&large, UINT32_MAX, &seconds) == 1 && seconds == 8);
   CHECK(sf_lifetime(&large, 0, &seconds) == 1 && seconds == 7);
+}
+
+static int is_same_policy(const sf_policy *a, const sf_policy *b) {
+  return memcmp(a, b, offsetof(sf_policy, is_private) + 1) == 0; /* but for what is after it */
+}
+
+/* The first field of a target list that is not ignored. */
+static void selecting(void) {
+  static const struct {
+    const char *texts; /* those of the fields, with a bar between two */
+    long index;        /* -1: every field is ignored */
+    sf_policy chosen;
+  } rows[] = {
+      {"max-age=60", 0, {60, 0, 1, 0, 0, 0, 0, 0}},
+      {"max-age=60|max-age=600", 0, {60, 0, 1, 0, 0, 0, 0, 0}},
+      {"|s-maxage=600", 1, {0, 600, 0, 1, 0, 0, 0, 0}},
+      {"max-age=60,|no-store|no-cache", 1, {0, 0, 0, 0, 0, 1, 0, 0}},
+      {"a b||(a)|must-revalidate, private|", 3, {0, 0, 0, 0, 1, 0, 0, 1}},
+      {"max-age=1, max-age=2", 0, {2, 0, 1, 0, 0, 0, 0, 0}},
+      {"x|max-age=1", 0, {0, 0, 0, 0, 0, 0, 0, 0}}, /* it has a member, and no directive */
+      {"", -1, {0, 0, 0, 0, 0, 0, 0, 0}},
+      {"  |max-age=60,||7", -1, {0, 0, 0, 0, 0, 0, 0, 0}},
+  };
+  uint32_t status;
+  for (size_t i = 0; i < sizeof rows / sizeof *rows; ++i) {
+    const char *about = rows[i].texts;
+    size_t length = strlen(about), count = 0, from = 0;
+    sf_span spans[8];
+    for (size_t to = 0; to <= length; ++to) {
+      if (to < length && about[to] != '|')
+        continue;
+      spans[count].at = from;
+      spans[count++].length = to - from;
+      from = to + 1;
+    }
+    unsigned char *texts = take_buffer(about, length);
+    sf_span *fields = take_buffer(spans, count * sizeof *fields);
+    size_t *index = take_buffer(NULL, sizeof *index);
+    sf_policy *policy = take_buffer(NULL, sizeof *policy);
+    CALL(sf_select(&seed, texts, length, fields, count, index, policy));
+    if (rows[i].index >= 0) {
+      CHECK(status == SF_OK && *index == (size_t)rows[i].index);
+      CHECK(is_same_policy(policy, &rows[i].chosen));
+    } else {
+      CHECK(status == SF_EMPTY && all_are((unsigned char *)index, sizeof *index));
+      CHECK(all_are((unsigned char *)policy, sizeof *policy));
+    }
+    give_buffer(policy);
+    give_buffer(index);
+    give_buffer(fields);
+    give_buffer(texts);
+  }
+
+  /* the range of the field that is reached is not within the texts */
+  static const char about[] = "max-age=60";
+  static const struct {
+    sf_span fields[2];
+    uint32_t status;
+  } ranges[] = {
+      {{{0, 11}, {0, 10}}, SF_BAD_CALL},       {{{1, 10}, {0, 10}}, SF_BAD_CALL},
+      {{{11, 0}, {0, 10}}, SF_BAD_CALL},       {{{SIZE_MAX, 1}, {0, 10}}, SF_BAD_CALL},
+      {{{1, SIZE_MAX}, {0, 10}}, SF_BAD_CALL}, {{{10, 0}, {0, 11}}, SF_BAD_CALL},
+      {{{3, 5}, {SIZE_MAX, 0}}, SF_BAD_CALL},  {{{0, 10}, {0, 11}}, SF_OK},
+      {{{0, 10}, {SIZE_MAX, 2}}, SF_OK},       {{{10, 0}, {0, 8}}, SF_EMPTY},
+  };
+  unsigned char *texts = take_buffer(about, 10), *none = take_buffer(NULL, 0);
+  for (size_t i = 0; i < sizeof ranges / sizeof *ranges; ++i) {
+    size_t index = 4711;
+    sf_policy policy, nines;
+    memset(&policy, 9, sizeof policy);
+    memset(&nines, 9, sizeof nines);
+    CALL(sf_select(&seed, texts, 10, ranges[i].fields, 2, &index, &policy));
+    CHECK(status == ranges[i].status && index == (status == SF_OK ? 0 : 4711));
+    CHECK(status == SF_OK ? policy.max_age == 60 : memcmp(&policy, &nines, sizeof policy) == 0);
+  }
+  size_t index = 4711;
+  sf_policy policy;
+  CALL(sf_select(&seed, texts, 10, (const sf_span *)(const void *)none, 0, &index, &policy));
+  CHECK(status == SF_EMPTY && index == 4711);
+  static const sf_span nowhere = {0, 1}, absent = {0, 0};
+  CALL(sf_select(&seed, none, 0, &nowhere, 1, &index, &policy));
+  CHECK(status == SF_BAD_CALL && index == 4711);
+  CALL(sf_select(&seed, none, 0, &absent, 1, &index, &policy));
+  CHECK(status == SF_EMPTY && index == 4711);
+  give_buffer(texts);
+  give_buffer(none);
 }
 
 /* What a hop is to tell; a text that is NULL is not said. */
@@ -899,10 +986,10 @@ typedef struct hop_row {
   int detail_is_token;
 } hop_row;
 
-static int is_said(const unsigned char *bytes, size_t size, sf_piece piece, uint8_t says,
+static int is_said(const unsigned char *bytes, size_t size, sf_span span, uint8_t says,
                    const char *text) {
   return says == (text != NULL) &&
-         is_piece(bytes, size, piece.at, piece.length, text == NULL ? "" : text);
+         is_text(bytes, size, span.at, span.length, text == NULL ? "" : text);
 }
 
 static int is_number(unsigned number, uint8_t says, int row) {
@@ -924,17 +1011,17 @@ static int is_hop(const unsigned char *bytes, size_t size, const sf_hop *hop, co
          hop->detail_is_token == row->detail_is_token;
 }
 
-/* A path in each room that is too small, in rooms of exactly its size, and in longer ones. */
+/* A path in each buffer that is too small, in buffers of exactly its size, and in longer ones. */
 static void told(const char *from, const hop_row *rows, size_t count, size_t size, long served) {
   const char *about = from;
   uint32_t status;
   size_t length = strlen(from);
-  unsigned char *text = take_room(from, length);
+  unsigned char *text = take_buffer(from, length);
   sf_refusal refusal = untouched;
   for (size_t n = 0; n <= count + 1; ++n) {
     for (size_t b = 0; b <= size + 1; ++b) {
-      sf_hop *hops = take_room(NULL, n * sizeof *hops);
-      unsigned char *bytes = take_room(NULL, b);
+      sf_hop *hops = take_buffer(NULL, n * sizeof *hops);
+      unsigned char *bytes = take_buffer(NULL, b);
       sf_path path = {4711, 4712, 4713, 4714, 4715};
       CALL(sf_cache_status(&seed, text, length, hops, n, bytes, b, &path, &refusal));
       CHECK(path.hops == count && path.bytes == size && path.nameless == 4714);
@@ -949,13 +1036,13 @@ static void told(const char *from, const hop_row *rows, size_t count, size_t siz
         CHECK(n == count || all_are((unsigned char *)(hops + count), sizeof *hops));
         CHECK(b == size || bytes[size] == 0xa5);
       }
-      give_room(hops);
-      give_room(bytes);
+      give_buffer(hops);
+      give_buffer(bytes);
     }
   }
   CHECK(count <= SF_NODES_SIZE(length) && size <= SF_BYTES_SIZE(length));
   CHECK(is_untouched(&refusal));
-  give_room(text);
+  give_buffer(text);
 }
 
 #define TOLD(text, rows, size, served) told(text, rows, sizeof rows / sizeof *rows, size, served)
@@ -1016,11 +1103,11 @@ static void paths(void) {
   for (size_t i = 0; i < sizeof rows / sizeof *rows; ++i) {
     const char *about = rows[i].text;
     size_t length = strlen(about);
-    unsigned char *text = take_room(about, length);
+    unsigned char *text = take_buffer(about, length);
     CALL(sf_cache_status(&seed, text, length, &hop, 1, &byte, 1, &path, &refusal));
     CHECK(status == SF_NOT_A_CACHE && path.nameless == rows[i].place);
     CHECK(path.hops == 4711 && path.bytes == 4712 && path.served == 4713 && path.is_served == 4715);
-    give_room(text);
+    give_buffer(text);
   }
   const char *about = "a,";
   CHECK(is_untouched(&refusal));
@@ -1032,26 +1119,26 @@ static void paths(void) {
 }
 
 /* A hop, written and read back: the text is this one. */
-static void hop_written(const sf_hop *from, const char *pieces, const char *text) {
+static void hop_written(const sf_hop *from, const char *names, const char *text) {
   const char *about = text;
   uint32_t status;
-  size_t length = strlen(pieces);
-  sf_hop *hop = take_room(from, sizeof *from);
-  unsigned char *bytes = take_room(pieces, length);
+  size_t length = strlen(names);
+  sf_hop *hop = take_buffer(from, sizeof *from);
+  unsigned char *bytes = take_buffer(names, length);
   WRITES(sf_hop_text(&seed, hop, bytes, length, buffer, size, required), text);
   CHECK(memcmp(hop, from, sizeof *from) == 0);
-  give_room(hop);
-  give_room(bytes);
+  give_buffer(hop);
+  give_buffer(bytes);
 }
 
-static void hop_refused(const sf_hop *from, const char *pieces, const char *about) {
+static void hop_refused(const sf_hop *from, const char *names, const char *about) {
   uint32_t status;
-  size_t length = strlen(pieces), required = 4711;
-  unsigned char *bytes = take_room(pieces, length), buffer[64];
-  memset(buffer, ROOM_BYTE, sizeof buffer);
+  size_t length = strlen(names), required = 4711;
+  unsigned char *bytes = take_buffer(names, length), buffer[64];
+  memset(buffer, BUFFER_BYTE, sizeof buffer);
   CALL(sf_hop_text(&seed, from, bytes, length, buffer, sizeof buffer, &required));
   CHECK(status == SF_INVALID && required == 4711 && all_are(buffer, sizeof buffer));
-  give_room(bytes);
+  give_buffer(bytes);
 }
 
 static void written_hops(void) {
@@ -1076,20 +1163,20 @@ static void written_hops(void) {
   hop.has_ttl = 0;
   hop_written(&hop, "edge", "edge;hit");
   hop.has_key = 255;
-  hop.key = (sf_piece){4, 3};
+  hop.key = (sf_span){4, 3};
   hop_written(&hop, "edgea\"b", "edge;hit;key=\"a\\\"b\"");
   hop_refused(&hop, "edgeab", "a key past the bytes");
   hop.key.at = SIZE_MAX;
   hop_refused(&hop, "edgea\"b", "a key past all bytes");
-  hop.key = (sf_piece){7, 0};
+  hop.key = (sf_span){7, 0};
   hop_written(&hop, "edgea\"b", "edge;hit;key=\"\"");
   hop.key.at = 8;
   hop_refused(&hop, "edgea\"b", "an empty key past the bytes");
-  hop.key = (sf_piece){4, 1};
+  hop.key = (sf_span){4, 1};
   hop_refused(&hop, "edge\x7f", "a key that is no String");
   hop.has_key = 0;
   hop.has_detail = 1;
-  hop.detail = (sf_piece){0, 2};
+  hop.detail = (sf_span){0, 2};
   hop_written(&hop, "edge", "edge;hit;detail=\"ed\"");
   hop.detail_is_token = 1;
   hop_written(&hop, "edge", "edge;hit;detail=ed");
@@ -1139,7 +1226,7 @@ static void written_hops(void) {
   hop_refused(&hop, "edge", "no reason");
   hop.why = SF_OTHER;
   hop_refused(&hop, "edge", "a reason that is no Token");
-  hop.why_token = (sf_piece){4, 3};
+  hop.why_token = (sf_span){4, 3};
   hop_written(&hop, "edgeodd", "\"edge\";fwd=odd;fwd-status=999");
 
   /* all at once, also if malloc fails */
@@ -1173,7 +1260,7 @@ static void written_hops(void) {
   }
 }
 
-/* Each struct that a call is given, in a room of its own, as the answers are. */
+/* Each struct that a call is given, in a buffer of its own, as the answers are. */
 static void structs(void) {
   static const struct {
     uint32_t kind;
@@ -1183,23 +1270,23 @@ static void structs(void) {
       {SF_LIST, "7"},     {SF_LIST, ""},   {SF_DICT, "u=1, i"},      {SF_DICT, "max-age=5,"},
       {SF_DICT, ""},
   };
-  sf_seed *secret = take_room(&seed, sizeof seed);
+  sf_seed *secret = take_buffer(&seed, sizeof seed);
   for (size_t i = 0; i < sizeof rows / sizeof *rows; ++i) {
     const char *about = rows[i].text;
     uint32_t kind = rows[i].kind, status, right;
     size_t length = strlen(about);
-    unsigned char *text = take_room(about, length);
-    sf_refusal *refusal = take_room(&untouched, sizeof untouched);
-    size_t *required = take_room(NULL, sizeof *required);
-    uint32_t *equal = take_room(NULL, sizeof *equal);
-    sf_sizes *sizes = take_room(NULL, sizeof *sizes);
-    sf_path *path = take_room(NULL, sizeof *path);
-    sf_policy *policy = take_room(NULL, sizeof *policy);
-    sf_priority_flags *priority = take_room(NULL, sizeof *priority);
-    uint64_t *seconds = take_room(NULL, sizeof *seconds);
-    unsigned char *bytes = take_room(NULL, 40);
-    sf_node *nodes = take_room(NULL, 4 * sizeof *nodes);
-    sf_hop *hops = take_room(NULL, 4 * sizeof *hops);
+    unsigned char *text = take_buffer(about, length);
+    sf_refusal *refusal = take_buffer(&untouched, sizeof untouched);
+    size_t *required = take_buffer(NULL, sizeof *required);
+    uint32_t *equal = take_buffer(NULL, sizeof *equal);
+    sf_sizes *sizes = take_buffer(NULL, sizeof *sizes);
+    sf_path *path = take_buffer(NULL, sizeof *path);
+    sf_policy *policy = take_buffer(NULL, sizeof *policy);
+    sf_priority_flags *priority = take_buffer(NULL, sizeof *priority);
+    uint64_t *seconds = take_buffer(NULL, sizeof *seconds);
+    unsigned char *bytes = take_buffer(NULL, 40);
+    sf_node *nodes = take_buffer(NULL, 4 * sizeof *nodes);
+    sf_hop *hops = take_buffer(NULL, 4 * sizeof *hops);
 
     CALL(sf_check(secret, SF_RFC9651, kind, text, length, refusal));
     right = status;
@@ -1224,20 +1311,20 @@ static void structs(void) {
     }
     CHECK(memcmp(secret, &seed, sizeof seed) == 0);
     CHECK(length == 0 || memcmp(text, about, length) == 0);
-    give_room(text);
-    give_room(refusal);
-    give_room(required);
-    give_room(equal);
-    give_room(sizes);
-    give_room(path);
-    give_room(policy);
-    give_room(priority);
-    give_room(seconds);
-    give_room(bytes);
-    give_room(nodes);
-    give_room(hops);
+    give_buffer(text);
+    give_buffer(refusal);
+    give_buffer(required);
+    give_buffer(equal);
+    give_buffer(sizes);
+    give_buffer(path);
+    give_buffer(policy);
+    give_buffer(priority);
+    give_buffer(seconds);
+    give_buffer(bytes);
+    give_buffer(nodes);
+    give_buffer(hops);
   }
-  give_room(secret);
+  give_buffer(secret);
 }
 
 /* Lines, joined into a buffer that is as long as the text, or one byte too small for some line. */
@@ -1254,17 +1341,17 @@ static void joining(void) {
   for (size_t i = 0; i < sizeof rows / sizeof *rows; ++i) {
     const char *about = rows[i].text;
     size_t whole = strlen(about);
-    for (size_t room = 0; room <= whole + 2; ++room) {
-      unsigned char *text = take_room(NULL, room);
+    for (size_t capacity = 0; capacity <= whole + 2; ++capacity) {
+      unsigned char *text = take_buffer(NULL, capacity);
       sf_joined joined = {0, 0, 0};
       size_t length = 0;
       int fits = 1;
       for (size_t l = 0; fits && rows[i].lines[l] != NULL; ++l) {
         size_t line_length = strlen(rows[i].lines[l]);
-        unsigned char *line = take_room(rows[i].lines[l], line_length);
+        unsigned char *line = take_buffer(rows[i].lines[l], line_length);
         size_t next = length + (l > 0 ? 2 : 0) + line_length;
-        fits = next <= room;
-        CALL(sf_join(line, line_length, text, room, &joined));
+        fits = next <= capacity;
+        CALL(sf_join(line, line_length, text, capacity, &joined));
         CHECK(status == (fits ? SF_OK : SF_SHORT));
         if (fits)
           length = next;
@@ -1272,27 +1359,28 @@ static void joining(void) {
           CHECK(joined.required == next);
         CHECK(joined.length == length && joined.begun == (l > 0 || fits));
         CHECK(length == 0 || memcmp(text, about, length) == 0);
-        CHECK(room == length || all_are(text + length, room - length));
-        give_room(line);
+        CHECK(capacity == length || all_are(text + length, capacity - length));
+        give_buffer(line);
       }
       CHECK(!fits || length == whole);
-      give_room(text);
+      give_buffer(text);
     }
   }
   const char *about = "joined before";
-  unsigned char room[4] = {0xa5, 0xa5, 0xa5, 0xa5};
+  unsigned char buffer[4] = {0xa5, 0xa5, 0xa5, 0xa5};
   sf_joined joined = {5, 6, 1};
-  CALL(sf_join("a", 1, room, sizeof room, &joined));
+  CALL(sf_join("a", 1, buffer, sizeof buffer, &joined));
   CHECK(status == SF_BAD_CALL && joined.length == 5 && joined.required == 6 && joined.begun == 1);
   joined.length = SIZE_MAX;
-  unsigned char *none = take_room(NULL, 0);
+  unsigned char *none = take_buffer(NULL, 0);
   CALL(sf_join(none, 0, none, 0, &joined));
   CHECK(status == SF_BAD_CALL && joined.length == SIZE_MAX);
-  give_room(none);
+  give_buffer(none);
   joined.length = 0;
   joined.begun = 9; /* any number but 0 says that it has begun */
-  CALL(sf_join("a", 1, room, sizeof room, &joined));
-  CHECK(status == SF_OK && joined.length == 3 && memcmp(room, ", a", 3) == 0 && room[3] == 0xa5);
+  CALL(sf_join("a", 1, buffer, sizeof buffer, &joined));
+  CHECK(status == SF_OK && joined.length == 3 && memcmp(buffer, ", a", 3) == 0 &&
+        buffer[3] == 0xa5);
   CHECK(joined.begun == 1 && joined.required == 6);
 }
 
@@ -1347,6 +1435,7 @@ typedef enum question {
   TO_PARSE,
   TO_ASK_PRIORITY,
   TO_ASK_POLICY,
+  TO_SELECT, /* of a target list of one field */
   TO_ASK_PATH,
   QUESTIONS
 } question;
@@ -1359,6 +1448,7 @@ static int is_for(question asked, uint32_t dialect, uint32_t kind) {
 
 static uint32_t ask(question asked, uint32_t dialect, uint32_t kind, const void *text,
                     size_t length, answer *a) {
+  const sf_span field = {0, length};
   switch (asked) {
   case TO_CHECK:
     return sf_check(&seed, dialect, kind, text, length, &a->refusal);
@@ -1376,6 +1466,8 @@ static uint32_t ask(question asked, uint32_t dialect, uint32_t kind, const void 
     return sf_priority(&seed, text, length, &a->priority, &a->refusal);
   case TO_ASK_POLICY:
     return sf_cache_control(&seed, text, length, &a->policy, &a->refusal);
+  case TO_SELECT:
+    return sf_select(&seed, text, length, &field, 1, &a->required, &a->policy);
   default:
     return sf_cache_status(&seed, text, length, a->hops, 8, a->bytes, sizeof a->bytes, &a->path,
                            &a->refusal);
@@ -1387,7 +1479,7 @@ static int is_same(const answer *a, const answer *b) {
   return memcmp(&a->refusal, &b->refusal, sizeof a->refusal) == 0 && a->required == b->required &&
          a->equal == b->equal && memcmp(&a->sizes, &b->sizes, sizeof a->sizes) == 0 &&
          memcmp(&a->priority, &b->priority, sizeof a->priority) == 0 &&
-         memcmp(&a->policy, &b->policy, offsetof(sf_policy, is_private) + 1) == 0 &&
+         is_same_policy(&a->policy, &b->policy) &&
          memcmp(&a->path, &b->path, offsetof(sf_path, is_served) + sizeof a->path.is_served) == 0 &&
          memcmp(a->nodes, b->nodes, sizeof a->nodes) == 0 &&
          memcmp(a->hops, b->hops, sizeof a->hops) == 0 &&
@@ -1456,35 +1548,35 @@ static void want_of_memory(void) {
                is_untouched(&refusal));
 
   about = "sf_normalise, no memory";
-  unsigned char room[400];
+  unsigned char buffer[400];
   size_t required = 4711, length;
-  memset(room, 0xa5, sizeof room);
-  CALL(sf_normalise(&seed, SF_RFC9651, SF_LIST, large, sizeof large - 1, room, sizeof room, &required,
-                    &refusal));
+  memset(buffer, 0xa5, sizeof buffer);
+  CALL(sf_normalise(&seed, SF_RFC9651, SF_LIST, large, sizeof large - 1, buffer, sizeof buffer,
+                    &required, &refusal));
   CHECK(status == SF_OK);
   length = required;
-  EACH_REFUSAL((memset(room, 0xa5, sizeof room), required = 4711,
-                sf_normalise(&seed, SF_RFC9651, SF_LIST, large, sizeof large - 1, room, sizeof room,
-                             &required, &refusal)),
-               required == length && all_are(room + length, sizeof room - length),
-               required == 4711 && all_are(room, sizeof room) && is_untouched(&refusal));
+  EACH_REFUSAL((memset(buffer, 0xa5, sizeof buffer), required = 4711,
+                sf_normalise(&seed, SF_RFC9651, SF_LIST, large, sizeof large - 1, buffer,
+                             sizeof buffer, &required, &refusal)),
+               required == length && all_are(buffer + length, sizeof buffer - length),
+               required == 4711 && all_are(buffer, sizeof buffer) && is_untouched(&refusal));
 
   about = "sf_equal, no memory";
   uint32_t equal = 4711;
-  EACH_REFUSAL((equal = 4711, sf_equal(&seed, SF_RFC9651, SF_LIST, large, sizeof large - 1, room,
+  EACH_REFUSAL((equal = 4711, sf_equal(&seed, SF_RFC9651, SF_LIST, large, sizeof large - 1, buffer,
                                        length, &equal, &refusal)),
                equal == 1, equal == 4711 && is_untouched(&refusal));
 
   about = "sf_parse, no memory";
   sf_node nodes[100];
   sf_sizes sizes = {4711, 4712};
-  EACH_REFUSAL((memset(nodes, 0xa5, sizeof nodes), memset(room, 0xa5, sizeof room),
+  EACH_REFUSAL((memset(nodes, 0xa5, sizeof nodes), memset(buffer, 0xa5, sizeof buffer),
                 sizes.nodes = 4711,
-                sf_parse(&seed, SF_RFC9651, SF_LIST, large, sizeof large - 1, nodes, 100, room,
-                         sizeof room, &sizes, &refusal)),
+                sf_parse(&seed, SF_RFC9651, SF_LIST, large, sizeof large - 1, nodes, 100, buffer,
+                         sizeof buffer, &sizes, &refusal)),
                sizes.nodes == 43 && nodes[4].span == 7,
                sizes.nodes == 4711 && all_are((unsigned char *)nodes, sizeof nodes) &&
-                   all_are(room, sizeof room) && is_untouched(&refusal));
+                   all_are(buffer, sizeof buffer) && is_untouched(&refusal));
 
   about = "sf_priority, no memory";
   sf_priority_flags priority = {9, 9, 9, 9};
@@ -1501,44 +1593,55 @@ static void want_of_memory(void) {
                policy.max_age == 30 && policy.s_maxage == 90,
                policy.has_max_age == 9 && is_untouched(&refusal));
 
+  about = "sf_select, no memory";
+  static const char targets[] = "max-age=60, a b  max-age=30, s-maxage=90, a;b;c, d=(e f)";
+  static const sf_span fields[] = {{0, 15}, {0, 0}, {17, sizeof targets - 1 - 17}, {0, 10}};
+  size_t chosen = 4711;
+  EACH_REFUSAL((chosen = 4711, policy.has_max_age = 9,
+                sf_select(&seed, targets, sizeof targets - 1, fields, 4, &chosen, &policy)),
+               chosen == 2 && policy.max_age == 30 && policy.s_maxage == 90,
+               chosen == 4711 && policy.has_max_age == 9);
+
   about = "sf_cache_status, no memory";
   static const char caches[] = "origin; fwd=stale; fwd-status=304; collapsed; key=\"abc\", "
                                "\"edge\"; hit; ttl=30; detail=odd, a;fwd=none, b, c, d, e, f";
   sf_hop hops[9];
   sf_path path = {4711, 4712, 4713, 4714, 4715};
-  EACH_REFUSAL((memset(hops, 0xa5, sizeof hops), memset(room, 0xa5, sizeof room), path.hops = 4711,
-                sf_cache_status(&seed, caches, sizeof caches - 1, hops, 9, room, sizeof room, &path,
-                                &refusal)),
-               path.hops == 8 && path.served == 1 && path.is_served == 1 &&
-                   path.nameless == 4714 && hops[2].why == SF_OTHER,
+  EACH_REFUSAL((memset(hops, 0xa5, sizeof hops), memset(buffer, 0xa5, sizeof buffer),
+                path.hops = 4711,
+                sf_cache_status(&seed, caches, sizeof caches - 1, hops, 9, buffer, sizeof buffer,
+                                &path, &refusal)),
+               path.hops == 8 && path.served == 1 && path.is_served == 1 && path.nameless == 4714 &&
+                   hops[2].why == SF_OTHER,
                path.hops == 4711 && all_are((unsigned char *)hops, sizeof hops) &&
-                   all_are(room, sizeof room) && is_untouched(&refusal));
+                   all_are(buffer, sizeof buffer) && is_untouched(&refusal));
 
   about = "sf_refusal_text, no memory";
   static const char message[] = "byte 0x32 '2' at place 2, expected a space or the end";
   static const char shown[] = "byte 0x32 '2' at place 2, expected a space or the end\n"
                               "line 1, place 2:\n1 2\n  ^";
   sf_refusal why = {2, UINT64_C(1) << 32, 0, '2', 1};
-  EACH_REFUSAL((memset(room, 0xa5, sizeof room), required = 4711,
-                sf_refusal_text(&why, room, sizeof room, &required)),
-               required == sizeof message - 1 && memcmp(room, message, required) == 0,
-               required == 4711 && all_are(room, sizeof room));
-  EACH_REFUSAL((memset(room, 0xa5, sizeof room), required = 4711,
-                sf_refusal_in_text(&why, "1 2", 3, room, sizeof room, &required)),
-               required == sizeof shown - 1 && memcmp(room, shown, required) == 0,
-               required == 4711 && all_are(room, sizeof room));
+  EACH_REFUSAL((memset(buffer, 0xa5, sizeof buffer), required = 4711,
+                sf_refusal_text(&why, buffer, sizeof buffer, &required)),
+               required == sizeof message - 1 && memcmp(buffer, message, required) == 0,
+               required == 4711 && all_are(buffer, sizeof buffer));
+  EACH_REFUSAL((memset(buffer, 0xa5, sizeof buffer), required = 4711,
+                sf_refusal_in_text(&why, "1 2", 3, buffer, sizeof buffer, &required)),
+               required == sizeof shown - 1 && memcmp(buffer, shown, required) == 0,
+               required == 4711 && all_are(buffer, sizeof buffer));
 
   about = "sf_hop_text, no memory";
   static const char line[] = "cccccccccccccccccccc;fwd=odd;fwd-status=100;ttl=-3;stored=?0;"
                              "collapsed;key=\"k\";detail=\"dddddddddddddddddddd\"";
-  static const char pieces[] = "ccccccccccccccccccccoddkdddddddddddddddddddd";
+  static const char names[] = "ccccccccccccccccccccoddkdddddddddddddddddddd";
   sf_hop hop = {{0, 20}, {20, 3}, {23, 1}, {24, 20}, -3, SF_FORWARDED, SF_OTHER, 100, 1, 0, 1,
                 1, 1, 1, 1, 1, 1, 0};
-  EACH_REFUSAL((memset(room, 0xa5, sizeof room), required = 4711,
-                sf_hop_text(&seed, &hop, pieces, sizeof pieces - 1, room, sizeof room, &required)),
-               required == sizeof line - 1 && memcmp(room, line, required) == 0 &&
-                   all_are(room + required, sizeof room - required),
-               required == 4711 && all_are(room, sizeof room));
+  EACH_REFUSAL(
+      (memset(buffer, 0xa5, sizeof buffer), required = 4711,
+       sf_hop_text(&seed, &hop, names, sizeof names - 1, buffer, sizeof buffer, &required)),
+      required == sizeof line - 1 && memcmp(buffer, line, required) == 0 &&
+          all_are(buffer + required, sizeof buffer - required),
+      required == 4711 && all_are(buffer, sizeof buffer));
 
   /* what takes no memory is answered without */
   about = "no memory is taken";
@@ -1548,7 +1651,7 @@ static void want_of_memory(void) {
   CALL(sf_check(&seed, SF_RFC9651, SF_ITEM, spaces, sizeof spaces - 1, &refusal));
   CHECK(status == SF_OK);
   sf_joined joined = {0, 0, 0};
-  CALL(sf_join("a", 1, room, sizeof room, &joined));
+  CALL(sf_join("a", 1, buffer, sizeof buffer, &joined));
   CHECK(status == SF_OK);
   sf_node node;
   memset(&node, 0, sizeof node);
@@ -1558,8 +1661,8 @@ static void want_of_memory(void) {
   CALL(sf_find(&node, 1, "a", 1, SF_MEMBER, "a", 1, &index));
   CHECK(status == SF_OK && index == 0);
   sf_priority_flags sets = {1, 1, 1, 1};
-  CALL(sf_priority_text(&sets, room, sizeof room, &required));
-  CHECK(status == SF_OK && required == 6 && memcmp(room, "u=1, i", 6) == 0);
+  CALL(sf_priority_text(&sets, buffer, sizeof buffer, &required));
+  CHECK(status == SF_OK && required == 6 && memcmp(buffer, "u=1, i", 6) == 0);
   refused_from = 0;
 }
 
@@ -1577,6 +1680,7 @@ static void all(void) {
     priorities();
     priority_texts();
     policies();
+    selecting();
     paths();
     written_hops();
     structs();
@@ -1587,17 +1691,17 @@ static void all(void) {
   scarce_texts();
 }
 
-/* A length that is one more than that of the text, or of the room, ends the program: a byte past
+/* A length that is one more than that of the text, or of the buffer, ends the program: a byte past
  * the end can't be touched unseen. */
-static void past_the_end(size_t text_length, size_t room_length) {
+static void past_the_end(size_t text_length, size_t buffer_length) {
   const char *about = "past the end";
   pid_t child = fork();
   if (child == 0) {
     fclose(stderr);
     sf_refusal refusal;
     size_t required;
-    void *text = take_room("a,b", 3), *room = take_room(NULL, 3);
-    sf_normalise(&seed, SF_RFC9651, SF_LIST, text, text_length, room, room_length, &required,
+    void *text = take_buffer("a,b", 3), *buffer = take_buffer(NULL, 3);
+    sf_normalise(&seed, SF_RFC9651, SF_LIST, text, text_length, buffer, buffer_length, &required,
                  &refusal);
     _exit(0);
   }

@@ -10,7 +10,7 @@ use Rattle.sf_value.specs.Grammar.Classes.{is_visible, is_token_start, is_in_tok
 use Rattle.sf_value.specs.Grammar.Tokens.{IsToken}
 use Rattle.sf_value.specs.Grammar.Words.{Every}
 use Rattle.sf_use.proofs.CacheStatusLemmas.Faultless.{refused_word}
-use Rattle.sf_c.specs.declared.hops.Piece.{Piece}
+use Rattle.sf_c.specs.declared.span.Span.{Span}
 use Rattle.sf_c.specs.GivenHops.{AreBytes, GivesNone, GivesString, GivesToken, fault_status}
 
 every-length : (p : ℕ → Bool) (bs : List ℕ) → Every p bs
@@ -21,7 +21,7 @@ every-length p (b ∷ bs) h = rw (h.0, every-length p bs h.1) (omega arith)
 every-place : (p : ℕ → Bool) (bs : List ℕ) → Every p bs → bad_place p bs ≡ None
 every-place p bs h = rw (every-length p bs h) (grind (arith, nat_tests))
 
-pub no_string : (bytes : List ℕ) (p : Piece) (part : List ℕ) (fault : TextFault)
+pub no_string : (bytes : List ℕ) (p : Span) (part : List ℕ) (fault : TextFault)
     → AreBytes bytes p part → IsStringFault part fault
     → GivesNone (GivesString bytes p) (fault_status fault)
 no_string bytes p part Empty a e = absurd e
@@ -32,7 +32,7 @@ no_string bytes p part (BadByte place) a e =
     absurd cc
 no_string bytes p part OutOfMemory a e = tt
 
-pub no_token : (bytes : List ℕ) (p : Piece) (part : List ℕ) (fault : TextFault)
+pub no_token : (bytes : List ℕ) (p : Span) (part : List ℕ) (fault : TextFault)
     → AreBytes bytes p part → IsTokenFault part fault
     → GivesNone (GivesToken bytes p) (fault_status fault)
 no_token bytes p part Empty a e =

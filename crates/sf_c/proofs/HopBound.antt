@@ -72,7 +72,8 @@ two_taken f g d (p ∷ ps) =
         → taken (lookup f ps) ≤ told_size (told_params Parameter ps)
         → taken (lookup g ps) ≤ told_size (told_params Parameter ps)
         → taken (lookup f ps) + taken (lookup g ps) ≤ told_size (told_params Parameter ps)
-        → taken (lookup f (p ∷ ps)) + taken (lookup g (p ∷ ps)) ≤ told_size (told_params Parameter (p ∷ ps))
+        → taken (lookup f (p ∷ ps)) + taken (lookup g (p ∷ ps))
+        ≤ told_size (told_params Parameter (p ∷ ps))
     go true e true i one other both = absurd (d p.0 e i)
     go true e false i one other both = rw (e, i) (omega arith)
     go false e true i one other both = rw (e, i) (omega arith)
@@ -183,7 +184,8 @@ passed_back false (Some p) = refl
 
 -- a hop has at most the bytes of its name and its parameters
 hop_few : (ps : Pairs Bare) (n : Name)
-    → hop_size (told_hop (hop_named ps n)) ≤ length (bytes_of n) + told_size (told_params Parameter ps)
+    → hop_size (told_hop (hop_named ps n))
+    ≤ length (bytes_of n) + told_size (told_params Parameter ps)
 hop_few ps n =
     let back = ap (λ o. length (why_token o))
     (passed_back (unwrap_or (boolean_at (codes "hit") ps) false) (passed_at ps)) in
@@ -202,7 +204,8 @@ few None = 0
 few (Some h) = hop_size (told_hop h)
 
 bare_few : (x : Bare) (ps : Pairs Bare)
-    → few (option_map (hop_named ps) (as_name x)) ≤ length (text_of x) + told_size (told_params Parameter ps)
+    → few (option_map (hop_named ps) (as_name x))
+    ≤ length (text_of x) + told_size (told_params Parameter ps)
 bare_few (Integer n) ps = omega arith
 bare_few (Decimal n) ps = omega arith
 bare_few (Text s) ps = hop_few ps (name.Text s)

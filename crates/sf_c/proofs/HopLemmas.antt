@@ -4,22 +4,23 @@ use Rattle.std.proofs.Common.{ap, ◌∙◌, sym, arith, length-append, append_a
 use Rattle.std.proofs.lemmas.List.{append-nil, length-map, map-append}
 use Rattle.sf_use.specs.declared.cache_status.hop.Hop.{Hop}
 use Rattle.sf_use.specs.CacheStatus.Members.{passed_by}
-use Rattle.sf_c.specs.declared.hops.Piece.{Piece}
+use Rattle.sf_c.specs.declared.span.Span.{Span}
 use Rattle.sf_c.specs.declared.hops.HopNode.{HopNode}
-use Rattle.sf_c.specs.Hops.{ToldHop, piece_of, says_by, says_of, told_hop_by, told_hop}
-use Rattle.sf_c.specs.Hops.{bytes_of, detail_bytes, why_token, hops_size, IsPieceWithin}
-use Rattle.sf_c.specs.Hops.{IsHopWithin, AreHopsWithin, HopsHoldUp, PutsPiece, HopsAtFront}
+use Rattle.sf_c.specs.Spans.{IsSpanWithin, span_bytes}
+use Rattle.sf_c.specs.Hops.{ToldHop, says_by, says_of, told_hop_by, told_hop}
+use Rattle.sf_c.specs.Hops.{bytes_of, detail_bytes, why_token, hops_size}
+use Rattle.sf_c.specs.Hops.{IsHopWithin, AreHopsWithin, HopsHoldUp, PutsSpan, HopsAtFront}
 use Rattle.sf_c.specs.Hops.{hop_bytes, hops_bytes, end_of, AreHopsInOrder}
-use Rattle.sf_c.proofs.TellingLemmas.{piece-append, piece_last}
+use Rattle.sf_c.proofs.TellingLemmas.{bytes_at-append, bytes_at_last}
 use Rattle.std.specs.Prelude.{unwrap_or}
 
--- a piece of bytes is the same among more, and there
-piece_more : (bytes more : List ℕ) (p : Piece) → IsPieceWithin bytes p
-    → piece_of (bytes ++ more) p ≡ piece_of bytes p
-piece_more bytes more p h = piece-append p.at p.length bytes more h
+-- a span of bytes is the same among more, and there
+span_more : (bytes more : List ℕ) (p : Span) → IsSpanWithin bytes p
+    → span_bytes (bytes ++ more) p ≡ span_bytes bytes p
+span_more bytes more p h = bytes_at-append p.at p.length bytes more h
 
-within_more : (bytes more : List ℕ) (p : Piece) → IsPieceWithin bytes p
-    → IsPieceWithin (bytes ++ more) p
+within_more : (bytes more : List ℕ) (p : Span) → IsSpanWithin bytes p
+    → IsSpanWithin (bytes ++ more) p
 within_more bytes more p h = let longer = length-append bytes more in omega arith
 
 -- so is a hop
@@ -35,10 +36,10 @@ hop_within_more bytes more n h = (
 hop_more : (bytes more : List ℕ) (n : HopNode) → IsHopWithin bytes n
     → told_hop_by (bytes ++ more) n ≡ told_hop_by bytes n
 hop_more bytes more n h =
-    let name = piece_more bytes more n.name h.0 in
-    let why = piece_more bytes more n.why_token h.1 in
-    let key = piece_more bytes more n.key h.2 in
-    let detail = piece_more bytes more n.detail h.3 in
+    let name = span_more bytes more n.name h.0 in
+    let why = span_more bytes more n.why_token h.1 in
+    let key = span_more bytes more n.key h.2 in
+    let detail = span_more bytes more n.detail h.3 in
     rw (name, why, key, detail) refl
 
 -- and each of hops
@@ -60,7 +61,7 @@ hops_within_push bytes [] n h w = (w, tt)
 hops_within_push bytes (m ∷ ns) n h w = (h.0, hops_within_push bytes ns n h.1 w)
 
 -- a text that was put is there
-put_within : (old new text : List ℕ) (p : Piece) → PutsPiece old new text p → IsPieceWithin new p
+put_within : (old new text : List ℕ) (p : Span) → PutsSpan old new text p → IsSpanWithin new p
 put_within old new text p h =
     let now = ap length h.0 in
     let at = h.1 in
@@ -68,38 +69,38 @@ put_within old new text p h =
     let both = length-append old text in
     omega arith
 
-put_there : (old new text : List ℕ) (p : Piece) → PutsPiece old new text p
-    → piece_of new p ≡ text
-put_there old new text p h = rw (h.0, h.1, h.2) (piece_last old text)
+put_there : (old new text : List ℕ) (p : Span) → PutsSpan old new text p
+    → span_bytes new p ≡ text
+put_there old new text p h = rw (h.0, h.1, h.2) (bytes_at_last old text)
 
 -- what stays when one more text is put
-put_keeps : (old new text : List ℕ) (p q : Piece) → PutsPiece old new text q
-    → IsPieceWithin old p → IsPieceWithin new p × (piece_of new p ≡ piece_of old p)
+put_keeps : (old new text : List ℕ) (p q : Span) → PutsSpan old new text q
+    → IsSpanWithin old p → IsSpanWithin new p × (span_bytes new p ≡ span_bytes old p)
 put_keeps old new text p q h w =
-    rw h.0 (within_more old text p w, piece_more old text p w)
+    rw h.0 (within_more old text p w, span_more old text p w)
 
-put_keeps_hops : (old new text : List ℕ) (ns : List HopNode) (q : Piece)
-    → PutsPiece old new text q → AreHopsWithin old ns
+put_keeps_hops : (old new text : List ℕ) (ns : List HopNode) (q : Span)
+    → PutsSpan old new text q → AreHopsWithin old ns
     → AreHopsWithin new ns × (map (told_hop_by new) ns ≡ map (told_hop_by old) ns)
 put_keeps_hops old new text ns q h w =
     rw h.0 (hops_within_more old text ns w, hops_more old text ns w)
 
 -- the four texts of a hop, put one after another
 pub record PutsHop (b0 b1 b2 b3 b4 n w k d : List ℕ) (x : HopNode) : Type 0 where
-  pub name : PutsPiece b0 b1 n x.name
-  pub why : PutsPiece b1 b2 w x.why_token
-  pub key : PutsPiece b2 b3 k x.key
-  pub detail : PutsPiece b3 b4 d x.detail
+  pub name : PutsSpan b0 b1 n x.name
+  pub why : PutsSpan b1 b2 w x.why_token
+  pub key : PutsSpan b2 b3 k x.key
+  pub detail : PutsSpan b3 b4 d x.detail
 
 -- where they are in the end
-pieces_there : (b0 b1 b2 b3 b4 n w k d : List ℕ) (x : HopNode)
+spans_there : (b0 b1 b2 b3 b4 n w k d : List ℕ) (x : HopNode)
     → PutsHop b0 b1 b2 b3 b4 n w k d x
     → IsHopWithin b4 x
-    × (piece_of b4 x.name ≡ n)
-    × (piece_of b4 x.why_token ≡ w)
-    × (piece_of b4 x.key ≡ k)
-    × (piece_of b4 x.detail ≡ d)
-pieces_there b0 b1 b2 b3 b4 n w k d x p =
+    × (span_bytes b4 x.name ≡ n)
+    × (span_bytes b4 x.why_token ≡ w)
+    × (span_bytes b4 x.key ≡ k)
+    × (span_bytes b4 x.detail ≡ d)
+spans_there b0 b1 b2 b3 b4 n w k d x p =
     let n1 = put_within b0 b1 n x.name p.name in
     let n2 = put_keeps b1 b2 w x.name x.why_token p.why n1 in
     let n3 = put_keeps b2 b3 k x.name x.key p.key n2.0 in
@@ -139,7 +140,7 @@ hop_is : (b0 b1 b2 b3 b4 n w k d : List ℕ) (x : HopNode) (h : Hop)
     → PutsHop b0 b1 b2 b3 b4 n w k d x → TextsOf h n w k d → says_by x ≡ says_of h
     → told_hop_by b4 x ≡ told_hop h
 hop_is b0 b1 b2 b3 b4 n w k d x h p t s =
-    let there = pieces_there b0 b1 b2 b3 b4 n w k d x p in
+    let there = spans_there b0 b1 b2 b3 b4 n w k d x p in
     let name = there.1 ∙ t.name in
     let why = there.2 ∙ t.why in
     let key = there.3 ∙ t.key in
@@ -161,7 +162,7 @@ hops_size-append : (ts us : List ToldHop) → hops_size (ts ++ us) ≡ hops_size
 hops_size-append [] us = omega arith
 hops_size-append (t ∷ ts) us = let e = hops_size-append ts us in omega arith
 
--- where the pieces of the last hop stand
+-- where the spans of the last hop stand
 hops_order_more : (at : ℕ) (b0 b1 b2 b3 b4 n w k d : List ℕ) (x : HopNode) (ns : List HopNode)
     → PutsHop b0 b1 b2 b3 b4 n w k d x → AreHopsInOrder at ns (length b0)
     → AreHopsInOrder at (ns ++ x ∷ []) (length b4)
@@ -213,7 +214,7 @@ pub hop_held : (b0 b1 b2 b3 b4 n w k d : List ℕ) (x : HopNode) (h : Hop) (ns m
     → ms ≡ ns ++ x ∷ [] → HopsHoldUp b0 ns → HopsHoldUp b4 ms
 hop_held b0 b1 b2 b3 b4 n w k d x h ns ms p t s e a =
     let before = hops_there b0 b1 b2 b3 b4 n w k d x ns p a.0 in
-    let there = pieces_there b0 b1 b2 b3 b4 n w k d x p in
+    let there = spans_there b0 b1 b2 b3 b4 n w k d x p in
     let all = hop_told b0 b1 b2 b3 b4 n w k d x h ns ms p t s e a.0 in
     let told = ap hops_size all in
     let sum = hops_size-append (map (told_hop_by b0) ns) (told_hop h ∷ []) in

@@ -8,7 +8,7 @@ use Rattle.std.proofs.lemmas.Slice.{drop-append-drop}
 use Rattle.std.proofs.Math.Seq.{take-append_seam, drop-append_seam}
 use Rattle.std.specs.Prelude.{◌↔◌}
 use Rattle.sf_value.specs.Grammar.Lines.{join}
-use Rattle.sf_c.specs.Joining.{JoinRoom, PutsOne, separator_of}
+use Rattle.sf_c.specs.Joining.{JoinOutput, PutsOne, separator_of}
 
 -- one more line after others
 pub join-push : (m : List ℕ) (ms : List (List ℕ)) (line : List ℕ)
@@ -31,28 +31,29 @@ behind_at n xs ys e =
     let P : ℕ → Type 0 = λ m. drop m (xs ++ ys) ≡ ys in subst P e (drop-append_seam xs ys)
 
 -- how long the front with what was put is
-pub front_length : (n : ℕ) (room x : List ℕ) → n ≤ length room
-    → length (take n room ++ x) ≡ n + length x
-front_length n room x h =
-    let a = length-append (take n room) x in
-    let b = length-take-le n room h in
+pub front_length : (n : ℕ) (buffer x : List ℕ) → n ≤ length buffer
+    → length (take n buffer ++ x) ≡ n + length x
+front_length n buffer x h =
+    let a = length-append (take n buffer) x in
+    let b = length-take-le n buffer h in
     omega arith
 
--- two pieces put one after the other
-pub put_twice : (n : ℕ) (room mid new x y : List ℕ) → n ≤ length room
-    → mid ≡ (take n room ++ x) ++ drop (n + length x) room
+-- two texts, one put after the other
+pub put_twice : (n : ℕ) (buffer mid new x y : List ℕ) → n ≤ length buffer
+    → mid ≡ (take n buffer ++ x) ++ drop (n + length x) buffer
     → new ≡ (take (n + length x) mid ++ y) ++ drop (n + length x + length y) mid
-    → new ≡ ((take n room ++ x) ++ y) ++ drop (n + length x + length y) room
-put_twice n room mid new x y h e f =
-    let long = front_length n room x h in
-    let front : take (n + length x) mid ≡ take n room ++ x
-    = ap (take (n + length x)) e ∙ front_at (n + length x) (take n room ++ x) _ long in
+    → new ≡ ((take n buffer ++ x) ++ y) ++ drop (n + length x + length y) buffer
+put_twice n buffer mid new x y h e f =
+    let long = front_length n buffer x h in
+    let front : take (n + length x) mid ≡ take n buffer ++ x
+    = ap (take (n + length x)) e ∙ front_at (n + length x) (take n buffer ++ x) _ long in
     let more : n + length x ≤ n + length x + length y = omega arith in
-    let back : drop (n + length x + length y) mid ≡ drop (n + length x + length y) room
+    let back : drop (n + length x + length y) mid ≡ drop (n + length x + length y) buffer
     = ap (drop (n + length x + length y)) e
-    ∙ drop-append-drop (n + length x) room (take n room ++ x) (n + length x + length y) more long in
+    ∙ drop-append-drop (n + length x) buffer (take n buffer ++ x) (n + length x + length y) more
+    long in
     f ∙ ap (λ t. (t ++ y) ++ drop (n + length x + length y) mid) front
-    ∙ ap (λ t. ((take n room ++ x) ++ y) ++ t) back
+    ∙ ap (λ t. ((take n buffer ++ x) ++ y) ++ t) back
 
 -- lines that are joined, with one more
 pub joined_more : (ls : List (List ℕ)) (line text comma : List ℕ) (begun : ℕ) → text ≡ join ls
@@ -76,15 +77,16 @@ push_some [] line e = absurd cc
 push_some (m ∷ ms) line e = absurd cc
 
 -- a separator and a line that are put if there is capacity
-pub puts_one : (old : JoinRoom) (line comma mid new : List ℕ) → comma ≡ separator_of old.joined
-    → old.joined.length + (length comma + length line) ≤ length old.room
+pub puts_one : (old : JoinOutput) (line comma mid new : List ℕ) → comma ≡ separator_of old.joined
+    → old.joined.length + (length comma + length line) ≤ length old.buffer
     → mid
-    ≡ (take old.joined.length old.room ++ comma) ++ drop (old.joined.length + length comma) old.room
+    ≡ (take old.joined.length old.buffer ++ comma)
+    ++ drop (old.joined.length + length comma) old.buffer
     → new
     ≡ (take (old.joined.length + length comma) mid ++ line)
     ++ drop (old.joined.length + length comma + length line) mid
     → PutsOne old (record {
-      room = new;
+      buffer = new;
       joined = record {
         length = old.joined.length + (length comma + length line);
         required = old.joined.required;
@@ -93,37 +95,37 @@ pub puts_one : (old : JoinRoom) (line comma mid new : List ℕ) → comma ≡ se
     }) line
 puts_one old line comma mid new is fits e f =
     let n : ℕ = old.joined.length in
-    let room : List ℕ = old.room in
+    let buffer : List ℕ = old.buffer in
     let all : ℕ = n + (length comma + length line) in
-    let enough : n ≤ length room = omega arith in
+    let enough : n ≤ length buffer = omega arith in
     let same : n + length comma + length line ≡ all = omega arith in
-    let whole = put_twice n room mid new comma line enough e f in
-    let text : List ℕ = (take n room ++ comma) ++ line in
-    let first = front_length n room comma enough in
-    let second = length-append (take n room ++ comma) line in
+    let whole = put_twice n buffer mid new comma line enough e f in
+    let text : List ℕ = (take n buffer ++ comma) ++ line in
+    let first = front_length n buffer comma enough in
+    let second = length-append (take n buffer ++ comma) line in
     let long : length text ≡ all = omega arith in
     let adds : length (separator_of old.joined ++ line) ≡ length comma + length line
     = ap (λ t. length (t ++ line)) (sym is) ∙ length-append comma line in
     let sum = ap length whole in
-    let parts = length-append text (drop (n + length comma + length line) room) in
-    let rest = length-drop (n + length comma + length line) room in
+    let parts = length-append text (drop (n + length comma + length line) buffer) in
+    let rest = length-drop (n + length comma + length line) buffer in
     record {
       joins = λ ls a. (
         ((λ h. absurd (omega arith)), (λ h. absurd (push_some ls line h))),
         ap (take all) whole
-            ∙ front_at all text (drop (n + length comma + length line) room) long
-            ∙ joined_more ls line (take n room) comma old.joined.begun a.1 a.0 is,
+            ∙ front_at all text (drop (n + length comma + length line) buffer) long
+            ∙ joined_more ls line (take n buffer) comma old.joined.begun a.1 a.0 is,
       );
       longer = omega arith;
       fits = fits;
       begun = refl;
       required = refl;
       front = ap (take all) whole
-          ∙ front_at all text (drop (n + length comma + length line) room) long
-          ∙ append_assoc (take n room) comma line
-          ∙ ap (λ t. take n room ++ (t ++ line)) is;
+          ∙ front_at all text (drop (n + length comma + length line) buffer) long
+          ∙ append_assoc (take n buffer) comma line
+          ∙ ap (λ t. take n buffer ++ (t ++ line)) is;
       behind = ap (drop all) whole
-          ∙ behind_at all text (drop (n + length comma + length line) room) long
-          ∙ ap (λ k. drop k room) same;
+          ∙ behind_at all text (drop (n + length comma + length line) buffer) long
+          ∙ ap (λ k. drop k buffer) same;
       kept = omega arith;
     }

@@ -8,4 +8,5 @@ pub mod OneHop
 pub mod HopBound
 pub mod GivenTexts
 pub mod GivenHops
+pub mod Selecting
 pub mod WrittenPriorities

@@ -160,22 +160,29 @@ roles_differ t u e a b = let same = ap role_of e in omega (arith, same, a, b)
 
 -- Items before parameters
 one_items : (is js : Seq Item) (ps qs : Pairs Bare)
-    → told_items is ++ told_params InnerParameter ps ≡ told_items js ++ told_params InnerParameter qs → (is ≡ js) × (ps ≡ qs)
+    → told_items is ++ told_params InnerParameter ps
+    ≡ told_items js ++ told_params InnerParameter qs → (is ≡ js) × (ps ≡ qs)
 one_items [] [] ps qs e = (refl, one_params InnerParameter ps qs e)
 one_items [] (j ∷ js) [] qs e = absurd (empty_some _ _ e)
 one_items [] (j ∷ js) (p ∷ ps) qs e =
-    let first = heads (told InnerParameter p.0 1 p.1) (told InnerItem [] (1 + length j.params) j.bare) (told_params InnerParameter ps)
+    let first = heads (told InnerParameter p.0 1 p.1)
+    (told InnerItem [] (1 + length j.params) j.bare) (told_params InnerParameter ps)
     ((told_params Parameter j.params ++ told_items js) ++ told_params InnerParameter qs) e in
     absurd (roles_differ _ _ first.0 refl refl)
 one_items (i ∷ is) [] ps [] e = absurd (empty_some _ _ (sym e))
 one_items (i ∷ is) [] ps (q ∷ qs) e =
-    let first = heads (told InnerItem [] (1 + length i.params) i.bare) (told InnerParameter q.0 1 q.1)
-    ((told_params Parameter i.params ++ told_items is) ++ told_params InnerParameter ps) (told_params InnerParameter qs) e in
+    let first = heads (told InnerItem [] (1 + length i.params) i.bare)
+    (told InnerParameter q.0 1 q.1)
+    ((told_params Parameter i.params ++ told_items is) ++ told_params InnerParameter ps)
+    (told_params InnerParameter qs) e in
     absurd (roles_differ _ _ (sym first.0) refl refl)
 one_items (i ∷ is) (j ∷ js) ps qs e =
-    let moved = sym (append_assoc (told_item InnerItem [] i) (told_items is) (told_params InnerParameter ps)) ∙ e
+    let moved
+    = sym (append_assoc (told_item InnerItem [] i) (told_items is) (told_params InnerParameter ps))
+    ∙ e
     ∙ append_assoc (told_item InnerItem [] j) (told_items js) (told_params InnerParameter qs) in
-    let first = one_item InnerItem InnerItem [] [] i j (told_items is ++ told_params InnerParameter ps)
+    let first = one_item InnerItem InnerItem [] [] i j
+    (told_items is ++ told_params InnerParameter ps)
     (told_items js ++ told_params InnerParameter qs) moved in
     let rest = one_items is js ps qs first.2 in
     let item_is = first.0 in
@@ -203,7 +210,8 @@ one_inner k k' l m cs ds e =
 one_member : (k k' : Seq ℕ) (m n : Member) (cs ds : Seq Told)
     → told_member k m ++ cs ≡ told_member k' n ++ ds → (m ≡ n) × (k ≡ k') × (cs ≡ ds)
 one_member k k' (member.Item i) (member.Item j) cs ds e =
-    let one = one_item roles.Member roles.Member k k' i j cs ds e in (ap member.Item one.0, one.1, one.2)
+    let one = one_item roles.Member roles.Member k k' i j cs ds e in
+    (ap member.Item one.0, one.1, one.2)
 one_member k k' (member.Inner l) (member.Inner m) cs ds e =
     let one = one_inner k k' l m cs ds e in (ap member.Inner one.0, one.1, one.2)
 one_member k k' (member.Item i) (member.Inner m) cs ds e =

@@ -7,21 +7,22 @@ use Rattle.std.proofs.lemmas.List.{take-append-le, drop-append-le, length-drop, 
 use Rattle.std.proofs.lemmas.List.{append-nil, length-map}
 use Rattle.std.proofs.Math.Seq.{take-length, take-append_seam, drop-append_seam}
 use Rattle.sf_c.specs.declared.nodes.Node.{Node}
-use Rattle.sf_c.specs.Tellings.{Told, piece, told_by, told_size, IsWithin, AreWithin, HoldsUp}
+use Rattle.sf_c.specs.Tellings.{Told, bytes_at, told_by, told_size, IsWithin, AreWithin, HoldsUp}
 use Rattle.sf_c.specs.Tellings.{TellAtFront, AreInOrder, told_bytes}
 
 -- bytes that are there stay where they are when more come after them
-pub piece-append : (at count : ℕ) (bytes more : List ℕ) → at + count ≤ length bytes
-    → piece at count (bytes ++ more) ≡ piece at count bytes
-piece-append at count bytes more h =
+pub bytes_at-append : (at count : ℕ) (bytes more : List ℕ) → at + count ≤ length bytes
+    → bytes_at at count (bytes ++ more) ≡ bytes_at at count bytes
+bytes_at-append at count bytes more h =
     let before : at ≤ length bytes = omega arith in
     let enough : count ≤ length (drop at bytes) = omega (arith, length-drop at bytes) in
     ap (take count) (drop-append-le at bytes more before)
     ∙ take-append-le count (drop at bytes) more enough
 
--- what comes after bytes is the piece there
-pub piece_last : (bytes more : List ℕ) → piece (length bytes) (length more) (bytes ++ more) ≡ more
-piece_last bytes more =
+-- what comes after bytes is the span there
+pub bytes_at_last : (bytes more : List ℕ)
+    → bytes_at (length bytes) (length more) (bytes ++ more) ≡ more
+bytes_at_last bytes more =
     ap (take (length more)) (drop-append_seam bytes more) ∙ take-length more
 
 -- a node that points to bytes points to the same among more
@@ -48,8 +49,8 @@ AreWithin-push bytes (m ∷ ns) n h w = (h.0, AreWithin-push bytes ns n h.1 w)
 pub told_by-append : (bytes more : List ℕ) (n : Node) → IsWithin bytes n
     → told_by (bytes ++ more) n ≡ told_by bytes n
 told_by-append bytes more n h =
-    let key = piece-append n.key_at n.key_length bytes more h.0 in
-    let text = piece-append n.text_at n.text_length bytes more h.1 in
+    let key = bytes_at-append n.key_at n.key_length bytes more h.0 in
+    let text = bytes_at-append n.text_at n.text_length bytes more h.1 in
     rw (key, text) refl
 
 pub map-told_by-append : (bytes more : List ℕ) (ns : List Node) → AreWithin bytes ns
@@ -87,16 +88,16 @@ within_more bytes now key text ns ms n e f p h =
 
 -- its key and its text are these
 pub key_is : (bytes key text : List ℕ) (n : Node) → Points bytes key text n
-    → piece n.key_at n.key_length ((bytes ++ key) ++ text) ≡ key
+    → bytes_at n.key_at n.key_length ((bytes ++ key) ++ text) ≡ key
 key_is bytes key text n p =
     let whole = length-append bytes key in
     let fits : length bytes + length key ≤ length (bytes ++ key) = omega arith in
     rw (p.key_at, p.key_length)
-    (piece-append (length bytes) (length key) (bytes ++ key) text fits ∙ piece_last bytes key)
+    (bytes_at-append (length bytes) (length key) (bytes ++ key) text fits ∙ bytes_at_last bytes key)
 
 pub text_is : (bytes key text : List ℕ) (n : Node) → Points bytes key text n
-    → piece n.text_at n.text_length ((bytes ++ key) ++ text) ≡ text
-text_is bytes key text n p = rw (p.text_at, p.text_length) (piece_last (bytes ++ key) text)
+    → bytes_at n.text_at n.text_length ((bytes ++ key) ++ text) ≡ text
+text_is bytes key text n p = rw (p.text_at, p.text_length) (bytes_at_last (bytes ++ key) text)
 
 pub told_more : (bytes now key text : List ℕ) (ns ms : List Node) (n : Node)
     → now ≡ (bytes ++ key) ++ text → ms ≡ ns ++ n ∷ [] → Points bytes key text n

@@ -20,8 +20,8 @@ kind_at n =
 
 -- the status and what is there afterwards are those of a call by this dialect and kind; if there is
 -- no such kind or dialect the status is BadCall, and all is left as it was
-abbrev pub Called : {Room : Type 0} → Option Dialect → Option Kind → Option Status
-    → (Room → Room → Dialect → Kind → Status → Type 0) → Room → Room → Type 0
+abbrev pub Called : {Output : Type 0} → Option Dialect → Option Kind → Option Status
+    → (Output → Output → Dialect → Kind → Status → Type 0) → Output → Output → Type 0
 Called (Some d) (Some k) (Some s) P old new = P old new d k s
 Called (Some d) (Some k) None P old new = ⊥
 Called (Some d) None s P old new = (s ≡ Some BadCall) × (new ≡ old)

@@ -5,13 +5,13 @@ use Rattle.std.specs.Str.{bytes_eq}
 use Rattle.sf_c.specs.declared.nodes.Node.{Node}
 use Rattle.sf_c.specs.declared.status.Status.{Status}
 use Rattle.sf_c.specs.declared.status.Status.TheVariants.{Answered, Absent}
-use Rattle.sf_c.specs.Tellings.{piece}
+use Rattle.sf_c.specs.Tellings.{bytes_at}
 
 -- the node points to bytes that are there, and they are this key
 abbrev pub has_key : List ℕ → List ℕ → Node → Bool
 has_key bytes key n =
     nat_le (n.key_at + n.key_length) (length bytes)
-    && bytes_eq (piece n.key_at n.key_length bytes) key
+    && bytes_eq (bytes_at n.key_at n.key_length bytes) key
 
 -- and it has this role
 abbrev pub is_named : List ℕ → ℕ → List ℕ → Node → Bool

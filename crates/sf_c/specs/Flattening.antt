@@ -14,7 +14,7 @@ use Rattle.sf_c.specs.Refusals.{SaysRefusal}
 use Rattle.sf_c.specs.Tellings.{told_size, TellAtFront}
 
 -- what parsing into nodes may write to
-pub record NodeRoom : Type 0 where
+pub record NodeOutput : Type 0 where
   pub nodes : List Node
   pub bytes : List ℕ
   pub sizes : Sizes
@@ -31,7 +31,7 @@ AreSizes t sizes v =
 
 -- the starts of the buffers describe the value that the text t spells, the only one; or a buffer is
 -- too small; or the struct says the refusal. All else is left as it was
-abbrev pub Flattens : NodeRoom → NodeRoom → List ℕ → Dialect → Kind → Status → Type 0
+abbrev pub Flattens : NodeOutput → NodeOutput → List ℕ → Dialect → Kind → Status → Type 0
 Flattens old new t d k Answered =
     (v : Field)
     × IsOnly d k t v

@@ -1,5 +1,5 @@
--- The hop that a struct gives, to be written (RFC 9211 section 2). Any number but 0 sets a flag, and
--- what a flag leaves out is not looked at.
+-- The hop that a struct gives, to be written (RFC 9211 section 2). Any number but 0 sets a flag,
+-- and what a flag leaves out is not looked at.
 use Rattle.std.specs.Prelude.{◌≡◌, ◌≢◌, ℕ, ℤ, ◌+◌, ◌<◌, ◌≤◌, ◌^◌, ◌==◌, not, nat_abs, Bool}
 use Rattle.std.specs.Prelude.{List, [], ◌∷◌, length, Option, Some, None, Ok}
 use Rattle.sf_value.specs.declared.dialect.Dialect.TheVariants.{Rfc9651}
@@ -27,17 +27,16 @@ use Rattle.sf_use.specs.declared.cache_status.hop.Hop.{Hop}
 use Rattle.sf_use.specs.CacheStatus.Hops.{hops}
 use Rattle.sf_use.specs.CacheStatus.Laws.{plain}
 use Rattle.sf_use.specs.CacheStatus.Members.{entry}
-use Rattle.sf_c.specs.declared.hops.Piece.{Piece}
+use Rattle.sf_c.specs.declared.span.Span.{Span}
 use Rattle.sf_c.specs.declared.hops.HopNode.{HopNode}
 use Rattle.sf_c.specs.declared.status.Status.{Status}
 use Rattle.sf_c.specs.declared.status.Status.TheVariants.{Answered, Short, OutOfMemory, Invalid}
-use Rattle.sf_c.specs.Tellings.{piece}
+use Rattle.sf_c.specs.Spans.{IsSpanWithin, span_bytes}
 use Rattle.sf_c.specs.TextBuffers.{PutsText, TextBuffer}
 
--- the bytes that a piece points to, which are there
-abbrev pub AreBytes : List ℕ → Piece → List ℕ → Type 0
-AreBytes bytes p text =
-    (p.at + p.length ≤ length bytes) × (text ≡ piece p.at p.length bytes)
+-- the bytes that a span points to, which are there
+abbrev pub AreBytes : List ℕ → Span → List ℕ → Type 0
+AreBytes bytes p text = IsSpanWithin bytes p × (text ≡ span_bytes bytes p)
 
 -- a value that is given if its flag is set
 abbrev pub GivesMaybe : {X : Type 0} → ℕ → (X → Type 0) → Option X → Type 0
@@ -45,15 +44,15 @@ GivesMaybe flag P None = flag ≡ 0
 GivesMaybe flag P (Some x) = (flag ≢ 0) × P x
 
 -- a String
-abbrev pub GivesString : List ℕ → Piece → List ℕ → Type 0
+abbrev pub GivesString : List ℕ → Span → List ℕ → Type 0
 GivesString bytes p text = AreBytes bytes p text × Every is_visible text
 
 -- a Token
-abbrev pub GivesToken : List ℕ → Piece → List ℕ → Type 0
+abbrev pub GivesToken : List ℕ → Span → List ℕ → Type 0
 GivesToken bytes p token = AreBytes bytes p token × IsToken token
 
 -- a name or a detail: a Token if the flag is set, otherwise a String
-abbrev pub GivesName : List ℕ → Piece → ℕ → Name → Type 0
+abbrev pub GivesName : List ℕ → Span → ℕ → Name → Type 0
 GivesName bytes p flag (name.Text text) = (flag ≡ 0) × GivesString bytes p text
 GivesName bytes p flag (name.Token token) = (flag ≢ 0) × GivesToken bytes p token
 

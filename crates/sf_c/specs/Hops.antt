@@ -15,10 +15,10 @@ use Rattle.sf_use.specs.declared.cache_status.hop.Outcome.TheVariants.{Unsaid}
 use Rattle.sf_use.specs.declared.cache_status.hop.Hop.{Hop}
 use Rattle.sf_use.specs.CacheStatus.Members.{passed_by}
 use Rattle.sf_use.specs.CacheStatus.Reasons.{token_of}
-use Rattle.sf_c.specs.declared.hops.Piece.{Piece}
+use Rattle.sf_c.specs.declared.span.Span.{Span}
 use Rattle.sf_c.specs.declared.hops.HopNode.{HopNode}
 use Rattle.sf_c.specs.Refusals.{flag_number}
-use Rattle.sf_c.specs.Tellings.{piece}
+use Rattle.sf_c.specs.Spans.{IsSpanWithin, span_bytes}
 
 -- what a hop says in numbers; a number that is not said is 0
 pub record HopSays : Type 0 where
@@ -64,17 +64,13 @@ says_by n = record {
   detail_is_token = n.detail_is_token;
 }
 
--- the bytes of a piece
-abbrev pub piece_of : List ℕ → Piece → List ℕ
-piece_of bytes p = piece p.at p.length bytes
-
 -- what a struct describes, which points into these bytes
 abbrev pub told_hop_by : List ℕ → HopNode → ToldHop
 told_hop_by bytes n = record {
-  name = piece_of bytes n.name;
-  why_token = piece_of bytes n.why_token;
-  key = piece_of bytes n.key;
-  detail = piece_of bytes n.detail;
+  name = span_bytes bytes n.name;
+  why_token = span_bytes bytes n.why_token;
+  key = span_bytes bytes n.key;
+  detail = span_bytes bytes n.detail;
   says = says_by n;
 }
 
@@ -150,17 +146,13 @@ told_hop h = record {
   says = says_of h;
 }
 
--- the piece is within the bytes
-abbrev pub IsPieceWithin : List ℕ → Piece → Type 0
-IsPieceWithin bytes p = p.at + p.length ≤ length bytes
-
 -- the struct points to bytes that are there
 abbrev pub IsHopWithin : List ℕ → HopNode → Type 0
 IsHopWithin bytes n =
-    IsPieceWithin bytes n.name
-    × IsPieceWithin bytes n.why_token
-    × IsPieceWithin bytes n.key
-    × IsPieceWithin bytes n.detail
+    IsSpanWithin bytes n.name
+    × IsSpanWithin bytes n.why_token
+    × IsSpanWithin bytes n.key
+    × IsSpanWithin bytes n.detail
 
 -- so does each struct
 abbrev pub AreHopsWithin : List ℕ → List HopNode → Type 0
@@ -183,11 +175,11 @@ abbrev pub hops_bytes : List ToldHop → List ℕ
 hops_bytes [] = []
 hops_bytes (t ∷ ts) = hop_bytes t ++ hops_bytes ts
 
--- where a piece ends
-abbrev pub end_of : Piece → ℕ
+-- where a span ends
+abbrev pub end_of : Span → ℕ
 end_of p = p.at + p.length
 
--- the pieces of a hop are one after another, the first at this place
+-- the spans of a hop are one after another, the first at this place
 abbrev pub IsHopInOrder : ℕ → HopNode → Type 0
 IsHopInOrder at n =
     (n.name.at ≡ at)
@@ -200,7 +192,7 @@ abbrev pub AreHopsInOrder : ℕ → List HopNode → ℕ → Type 0
 AreHopsInOrder at [] end = at ≡ end
 AreHopsInOrder at (n ∷ ns) end = IsHopInOrder at n × AreHopsInOrder (end_of n.detail) ns end
 
--- the structs point to bytes that are there, one piece after another, and no byte is in vain
+-- the structs point to bytes that are there, one span after another, and no byte is in vain
 abbrev pub HopsHoldUp : List ℕ → List HopNode → Type 0
 HopsHoldUp bytes ns =
     AreHopsWithin bytes ns
@@ -208,13 +200,13 @@ HopsHoldUp bytes ns =
     × AreHopsInOrder 0 ns (length bytes)
     × (bytes ≡ hops_bytes (map (told_hop_by bytes) ns))
 
--- the text is after the bytes that were there, and the piece is that of it
-abbrev pub PutsPiece : List ℕ → List ℕ → List ℕ → Piece → Type 0
-PutsPiece old new text p =
+-- the text is after the bytes that were there, and the span is that of it
+abbrev pub PutsSpan : List ℕ → List ℕ → List ℕ → Span → Type 0
+PutsSpan old new text p =
     (new ≡ old ++ text) × (p.at ≡ length old) × (p.length ≡ length text)
 
 -- the structs and the bytes at the start of two buffers describe these hops: the bytes are their
--- pieces in order, and no other. What is after them is left as it was
+-- spans in order, and no other. What is after them is left as it was
 pub record HopsAtFront (ts : List ToldHop) (hops new_hops : List HopNode)
     (bytes new_bytes : List ℕ) : Type 0 where
   pub some_hops : List HopNode

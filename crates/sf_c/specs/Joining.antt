@@ -9,8 +9,8 @@ use Rattle.sf_c.specs.declared.status.Status.{Status}
 use Rattle.sf_c.specs.declared.status.Status.TheVariants.{Answered, Short, BadCall}
 
 -- what joining may write to
-pub record JoinRoom : Type 0 where
-  pub room : List ℕ
+pub record JoinOutput : Type 0 where
+  pub buffer : List ℕ
   pub joined : Joined
 
 -- nothing is before the first line, and a comma and a space before each other one
@@ -22,32 +22,32 @@ abbrev pub added : Joined → List ℕ → List ℕ
 added j line = separator_of j ++ line
 
 -- these lines are joined at the start of the buffer
-abbrev pub AreJoined : List (List ℕ) → JoinRoom → Type 0
-AreJoined ls r = ((r.joined.begun ≡ 0) ↔ (ls ≡ [])) × (take r.joined.length r.room ≡ join ls)
+abbrev pub AreJoined : List (List ℕ) → JoinOutput → Type 0
+AreJoined ls r = ((r.joined.begun ≡ 0) ↔ (ls ≡ [])) × (take r.joined.length r.buffer ≡ join ls)
 
 -- the line is joined to the others, and what is after the text is left as it was
-pub record PutsOne (old new : JoinRoom) (line : List ℕ) : Type 0 where
+pub record PutsOne (old new : JoinOutput) (line : List ℕ) : Type 0 where
   pub joins : (ls : List (List ℕ)) → AreJoined ls old → AreJoined (ls ++ line ∷ []) new
   pub longer : new.joined.length ≡ old.joined.length + length (added old.joined line)
-  pub fits : new.joined.length ≤ length old.room
+  pub fits : new.joined.length ≤ length old.buffer
   pub begun : new.joined.begun ≡ 1
   pub required : new.joined.required ≡ old.joined.required
-  pub front : take new.joined.length new.room
-      ≡ take old.joined.length old.room ++ added old.joined line
-  pub behind : drop new.joined.length new.room ≡ drop new.joined.length old.room
-  pub kept : length new.room ≡ length old.room
+  pub front : take new.joined.length new.buffer
+      ≡ take old.joined.length old.buffer ++ added old.joined line
+  pub behind : drop new.joined.length new.buffer ≡ drop new.joined.length old.buffer
+  pub kept : length new.buffer ≡ length old.buffer
 
 -- the buffer is too small for the text with this line, and nothing is put
-pub record WantsMore (old new : JoinRoom) (line : List ℕ) : Type 0 where
-  pub within : old.joined.length ≤ length old.room
-  pub short : length old.room < old.joined.length + length (added old.joined line)
+pub record WantsMore (old new : JoinOutput) (line : List ℕ) : Type 0 where
+  pub within : old.joined.length ≤ length old.buffer
+  pub short : length old.buffer < old.joined.length + length (added old.joined line)
   pub required : new.joined.required ≡ capped (old.joined.length + length (added old.joined line))
-  pub room : new.room ≡ old.room
+  pub buffer : new.buffer ≡ old.buffer
   pub still : new.joined ≡ record old.joined { required = new.joined.required }
 
 -- the line is joined, or the buffer is too small, or shorter than the text that is to be in it
-abbrev pub PutsLine : JoinRoom → JoinRoom → List ℕ → Option Status → Type 0
+abbrev pub PutsLine : JoinOutput → JoinOutput → List ℕ → Option Status → Type 0
 PutsLine old new line (Some Answered) = PutsOne old new line
 PutsLine old new line (Some Short) = WantsMore old new line
-PutsLine old new line (Some BadCall) = (length old.room < old.joined.length) × (new ≡ old)
+PutsLine old new line (Some BadCall) = (length old.buffer < old.joined.length) × (new ≡ old)
 PutsLine old new line status = ⊥

@@ -12,11 +12,13 @@ pub mod Priorities
 pub mod Policies
 pub mod Joining
 pub mod Tellings
+pub mod Spans
 pub mod NodeTypes
 pub mod Nodes
 pub mod Finding
 pub mod Flattening
 pub mod Hops
 pub mod Paths
+pub mod Selecting
 pub mod GivenHops
 pub mod Laws

@@ -12,8 +12,8 @@ use Rattle.sf_c.specs.declared.status.Status.TheVariants.{OutOfMemory}
 use Rattle.sf_c.specs.Refusals.{SaysRefusal, flag_number}
 
 -- what normalising may write to
-pub record TextRoom : Type 0 where
-  pub room : List ℕ
+pub record TextOutput : Type 0 where
+  pub buffer : List ℕ
   pub required : ℕ
   pub refusal : SyntaxRefusal
 
@@ -23,36 +23,36 @@ IsAtFront text old new = new ≡ text ++ drop (length text) old
 
 -- the canonical text of the value that the text t spells, which is at most eight fifths as long as
 -- t, is put into a buffer that is long enough; all else is left as it was
-abbrev pub Normalises : TextRoom → TextRoom → List ℕ → Dialect → Kind → Status → Type 0
+abbrev pub Normalises : TextOutput → TextOutput → List ℕ → Dialect → Kind → Status → Type 0
 Normalises old new t d k Answered =
     (v : Field)
     × IsOnly d k t v
     × (new.required ≡ length (canon v))
     × (5 * new.required ≤ 8 * length t)
-    × (new.required ≤ length old.room)
-    × IsAtFront (canon v) old.room new.room
+    × (new.required ≤ length old.buffer)
+    × IsAtFront (canon v) old.buffer new.buffer
     × (new.refusal ≡ old.refusal)
 Normalises old new t d k Short =
     (v : Field)
     × IsOnly d k t v
     × (new.required ≡ length (canon v))
     × (5 * new.required ≤ 8 * length t)
-    × (length old.room < new.required)
-    × (new.room ≡ old.room)
+    × (length old.buffer < new.required)
+    × (new.buffer ≡ old.buffer)
     × (new.refusal ≡ old.refusal)
 Normalises old new t d k Refused =
-    SaysRefusal d k t new.refusal × (new.room ≡ old.room) × (new.required ≡ old.required)
+    SaysRefusal d k t new.refusal × (new.buffer ≡ old.buffer) × (new.required ≡ old.required)
 Normalises old new t d k OutOfMemory = new ≡ old
 Normalises old new t d k status = ⊥
 
 -- what comparing may write to
-pub record EqualRoom : Type 0 where
+pub record EqualOutput : Type 0 where
   pub equal : ℕ
   pub refusal : SyntaxRefusal
 
 -- each of the two texts spells one value, and 1 says that they are equal, 0 that they are not; or
 -- the struct says the refusal of the first that spells none. All else is left as it was
-abbrev pub Equals : EqualRoom → EqualRoom → List ℕ → List ℕ → Dialect → Kind → Status → Type 0
+abbrev pub Equals : EqualOutput → EqualOutput → List ℕ → List ℕ → Dialect → Kind → Status → Type 0
 Equals old new s t d k Answered =
     (v w : Field) × (b : Bool)
     × IsOnly d k s v

@@ -27,24 +27,24 @@ SaysPath p hs =
     × (p.is_served ≡ flag_number (is_some (served hs)))
 
 -- what reading a path may write to
-pub record PathRoom : Type 0 where
+pub record PathOutput : Type 0 where
   pub hops : Seq HopNode
   pub bytes : Seq ℕ
   pub path : Path
   pub refusal : SyntaxRefusal
 
 -- the buffers are as they were
-abbrev pub KeepsRooms : PathRoom → PathRoom → Type 0
-KeepsRooms old new = (new.hops ≡ old.hops) × (new.bytes ≡ old.bytes)
+abbrev pub KeepsBuffers : PathOutput → PathOutput → Type 0
+KeepsBuffers old new = (new.hops ≡ old.hops) × (new.bytes ≡ old.bytes)
 
 -- one of the buffers is too small for the path
-abbrev pub IsTooSmall : PathRoom → Path → Type 0
+abbrev pub IsTooSmall : PathOutput → Path → Type 0
 IsTooSmall r p = (length r.hops < p.hops) ⊎ (length r.bytes < p.bytes)
 
 -- the text spells a List, and the starts of the buffers describe its hops; or a buffer is too
 -- small; or a member names no cache, the first such at this place; or the struct says the refusal.
 -- All else is left as it was
-abbrev pub TellsPath : PathRoom → PathRoom → Seq ℕ → Option Status → Type 0
+abbrev pub TellsPath : PathOutput → PathOutput → Seq ℕ → Option Status → Type 0
 TellsPath old new t (Some Answered) =
     (v : Field) × (hs : Seq Hop)
     × IsOnly Rfc9651 List t v
@@ -60,17 +60,17 @@ TellsPath old new t (Some Short) =
     × SaysPath new.path hs
     × (new.path.nameless ≡ old.path.nameless)
     × IsTooSmall old new.path
-    × KeepsRooms old new
+    × KeepsBuffers old new
     × (new.refusal ≡ old.refusal)
 TellsPath old new t (Some NotACache) =
     (v : Field)
     × IsOnly Rfc9651 List t v
     × (hops v ≡ Err new.path.nameless)
     × (new.path ≡ record old.path { nameless = new.path.nameless })
-    × KeepsRooms old new
+    × KeepsBuffers old new
     × (new.refusal ≡ old.refusal)
 TellsPath old new t (Some Refused) =
-    SaysRefusal Rfc9651 List t new.refusal × KeepsRooms old new × (new.path ≡ old.path)
+    SaysRefusal Rfc9651 List t new.refusal × KeepsBuffers old new × (new.path ≡ old.path)
 TellsPath old new t (Some OutOfMemory) = new ≡ old
 TellsPath old new t status = ⊥
 

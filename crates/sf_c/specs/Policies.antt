@@ -48,13 +48,13 @@ Directs old new d Empty = (d.members ≡ []) × (new ≡ old)
 Directs old new d status = ⊥
 
 -- what reading a targeted field may write to
-pub record PolicyRoom : Type 0 where
+pub record PolicyOutput : Type 0 where
   pub policy : PolicyFlags
   pub refusal : SyntaxRefusal
 
 -- the text spells a Dictionary with a member, and the struct says its policy; or it is Empty; or
 -- the other struct says the refusal. All else is left as it was
-abbrev pub SaysToCache : PolicyRoom → PolicyRoom → Seq ℕ → Option Status → Type 0
+abbrev pub SaysToCache : PolicyOutput → PolicyOutput → Seq ℕ → Option Status → Type 0
 SaysToCache old new t (Some Answered) =
     (d : Dict)
     × IsOnly Rfc9651 kind.Dict t (field.Dict d)

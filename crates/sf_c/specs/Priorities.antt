@@ -41,13 +41,13 @@ asked_by p = record {
 }
 
 -- what reading a priority may write to
-pub record PriorityRoom : Type 0 where
+pub record PriorityOutput : Type 0 where
   pub priority : PriorityFlags
   pub refusal : SyntaxRefusal
 
 -- the text spells a Dictionary, and the struct says what it asks for; or the other one says the
 -- refusal. All else is left as it was
-abbrev pub AsksFor : PriorityRoom → PriorityRoom → List ℕ → Option Status → Type 0
+abbrev pub AsksFor : PriorityOutput → PriorityOutput → List ℕ → Option Status → Type 0
 AsksFor old new t (Some Answered) =
     (v : Field)
     × IsOnly Rfc9651 Dict t v

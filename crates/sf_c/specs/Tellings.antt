@@ -13,8 +13,8 @@ pub record Told : Type 0 where
   pub span : ℕ
 
 -- so many bytes from a place on
-abbrev pub piece : ℕ → ℕ → List ℕ → List ℕ
-piece at count bytes = take count (drop at bytes)
+abbrev pub bytes_at : ℕ → ℕ → List ℕ → List ℕ
+bytes_at at count bytes = take count (drop at bytes)
 
 -- what a node describes, which points into these bytes
 abbrev pub told_by : List ℕ → Node → Told
@@ -22,8 +22,8 @@ told_by bytes n = record {
   role = n.role;
   node_type = n.node_type;
   number = n.number;
-  key = piece n.key_at n.key_length bytes;
-  text = piece n.text_at n.text_length bytes;
+  key = bytes_at n.key_at n.key_length bytes;
+  text = bytes_at n.text_at n.text_length bytes;
   span = n.span;
 }
 
@@ -55,7 +55,7 @@ AreInOrder at (n ∷ ns) end =
     × (n.text_at ≡ at + n.key_length)
     × AreInOrder (n.text_at + n.text_length) ns end
 
--- the nodes point to bytes that are there, one piece after another, and no byte is in vain
+-- the nodes point to bytes that are there, one after another, and no byte is in vain
 abbrev pub HoldsUp : List ℕ → List Node → Type 0
 HoldsUp bytes ns =
     AreWithin bytes ns

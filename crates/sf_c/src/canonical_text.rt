@@ -3,9 +3,9 @@ ghost use Rattle.sf_c.specs.Calls.{Called, dialect_at, kind_at};
 ghost use Rattle.sf_c.specs.Normal.{Normalises, Equals};
 ghost use Rattle.sf_c.specs.Statuses.{status_at};
 
+use crate::buffer::put;
 use crate::call::{dialect_of, kind_of, parse};
 use crate::refusal::SyntaxRefusal;
-use crate::room::put;
 use crate::seed::Seed;
 use crate::status::Status;
 use sf_value::laws::canon_is_short;
@@ -25,7 +25,7 @@ pub extern "C" fn sf_normalise(
     dialect: u32,
     kind: u32,
     text: &[u8],
-    room: &mut [u8],
+    buffer: &mut [u8],
     required: &mut usize,
     refusal: &mut SyntaxRefusal,
 ) -> u32
@@ -33,13 +33,13 @@ pub extern "C" fn sf_normalise(
     // none
     ensures { Called (dialect_at dialect) (kind_at kind) (status_at result)
         (λ old new. Normalises old new text.now)
-        (record { room = room.old; required = required.old; refusal = refusal.old })
-        (record { room = room.new; required = required.new; refusal = refusal.new }) }
+        (record { buffer = buffer.old; required = required.old; refusal = refusal.old })
+        (record { buffer = buffer.new; required = required.new; refusal = refusal.new }) }
 {
     let (Some(dialect), Some(kind)) = (dialect_of(dialect), kind_of(kind)) else {
         return Status::BadCall.code();
     };
-    normalise(alloc, seed, dialect, kind, text, room, required, refusal).code()
+    normalise(alloc, seed, dialect, kind, text, buffer, required, refusal).code()
 }
 
 /// Whether the two texts spell equal values (RFC 9651 section 2; order counts): `Answered` and
@@ -78,13 +78,14 @@ fn normalise(
     dialect: Dialect,
     kind: Kind,
     text: &[u8],
-    room: &mut [u8],
+    buffer: &mut [u8],
     required: &mut usize,
     refusal: &mut SyntaxRefusal,
 ) -> Status
     // the canonical text is at the start of the buffer, or the status says why not
-    ensures { Normalises (record { room = room.old; required = required.old; refusal = refusal.old })
-        (record { room = room.new; required = required.new; refusal = refusal.new })
+    ensures { Normalises
+        (record { buffer = buffer.old; required = required.old; refusal = refusal.old })
+        (record { buffer = buffer.new; required = required.new; refusal = refusal.new })
         text.now dialect kind result }
 {
     let field = match parse(alloc, seed, dialect, kind, text, refusal) {
@@ -96,10 +97,10 @@ fn normalise(
         return Status::OutOfMemory;
     };
     *required = canonical.len();
-    if room.len() < canonical.len() {
+    if buffer.len() < canonical.len() {
         return Status::Short;
     }
-    put(room, 0, canonical.as_slice());
+    put(buffer, 0, canonical.as_slice());
     Status::Answered
 }
 

@@ -11,9 +11,10 @@ ghost use Rattle.sf_c.specs.GivenHops.{fault_status, hop_text};
 ghost use Rattle.sf_c.specs.GivenHops.{GivesStatus, GivesString, GivesToken, GivesWhy, WritesHop};
 ghost use Rattle.sf_c.specs.Statuses.{status_at};
 
-use crate::hops::{HopNode, Piece};
-use crate::room::put_text;
+use crate::buffer::put_text;
+use crate::hops::HopNode;
 use crate::seed::Seed;
+use crate::span::Span;
 use crate::status::Status;
 use sf_use::{Forward, Hop, HopStatus, Name, Outcome, Passed, append_hop};
 use sf_value::{Field, Int, List, OutOfMemory, Sequence, Text, TextFault, Token};
@@ -22,7 +23,7 @@ use std::alloc::Global;
 use std::hash::RandomState;
 
 /// The text of a Cache-Status field whose only member is this hop (RFC 9211 section 2): a line of
-/// its own, to be sent after those that came from the caches nearer the origin. The pieces of the
+/// its own, to be sent after those that came from the caches nearer the origin. The spans of the
 /// hop are in `bytes`. `Answered` if the buffer holds the text; `Short` if it is too small;
 /// `Invalid` if the struct gives no hop; or `OutOfMemory`.
 #[unsafe(no_mangle)]
@@ -106,15 +107,15 @@ fn hop_of(alloc: Global, hop: &HopNode, bytes: &[u8]) -> Result<Hop, Status>
     })
 }
 
-/// The bytes of a piece.
-fn bytes_of<'a>(bytes: &'a [u8], piece: Piece) -> Result<&'a [u8], Status>
-    ensures { MatchResult result (λ part. AreBytes bytes.now piece part.now)
-        (GivesNone (AreBytes bytes.now piece)) }
+/// The bytes of a span.
+fn bytes_of<'a>(bytes: &'a [u8], span: Span) -> Result<&'a [u8], Status>
+    ensures { MatchResult result (λ part. AreBytes bytes.now span part.now)
+        (GivesNone (AreBytes bytes.now span)) }
 {
-    if piece.at > bytes.len() || piece.length > bytes.len() - piece.at {
-        return Err(Status::Invalid);
+    match span.of(bytes) {
+        Some(part) => Ok(part),
+        None => Err(Status::Invalid),
     }
-    Ok(&bytes[piece.at..piece.at + piece.length])
 }
 
 /// The status for bytes that are no String or Token.
@@ -128,39 +129,39 @@ fn status_of_fault(fault: TextFault) -> Status
 }
 
 /// A String.
-fn string_of(alloc: Global, bytes: &[u8], piece: Piece) -> Result<Text, Status>
-    ensures { MatchResult result (λ text. GivesString bytes.now piece text)
-        (GivesNone (GivesString bytes.now piece)) }
+fn string_of(alloc: Global, bytes: &[u8], span: Span) -> Result<Text, Status>
+    ensures { MatchResult result (λ text. GivesString bytes.now span text)
+        (GivesNone (GivesString bytes.now span)) }
 {
-    match Text::new(alloc, bytes_of(bytes, piece)?) {
+    match Text::new(alloc, bytes_of(bytes, span)?) {
         Ok(text) => Ok(text),
         Err(fault) => Err(status_of_fault(fault)),
     }
 }
 
 /// A Token.
-fn token_of(alloc: Global, bytes: &[u8], piece: Piece) -> Result<Token, Status>
-    ensures { MatchResult result (λ token. GivesToken bytes.now piece token)
-        (GivesNone (GivesToken bytes.now piece)) }
+fn token_of(alloc: Global, bytes: &[u8], span: Span) -> Result<Token, Status>
+    ensures { MatchResult result (λ token. GivesToken bytes.now span token)
+        (GivesNone (GivesToken bytes.now span)) }
 {
-    match Token::new(alloc, bytes_of(bytes, piece)?) {
+    match Token::new(alloc, bytes_of(bytes, span)?) {
         Ok(token) => Ok(token),
         Err(fault) => Err(status_of_fault(fault)),
     }
 }
 
 /// A name, or a detail.
-fn name_of(alloc: Global, bytes: &[u8], piece: Piece, is_token: u8) -> Result<Name, Status>
-    ensures { MatchResult result (λ name. GivesName bytes.now piece is_token name)
-        (GivesNone (GivesName bytes.now piece is_token)) }
+fn name_of(alloc: Global, bytes: &[u8], span: Span, is_token: u8) -> Result<Name, Status>
+    ensures { MatchResult result (λ name. GivesName bytes.now span is_token name)
+        (GivesNone (GivesName bytes.now span is_token)) }
 {
     if is_token == 0 {
-        return match string_of(alloc, bytes, piece) {
+        return match string_of(alloc, bytes, span) {
             Ok(text) => Ok(Name::Text(text)),
             Err(status) => Err(status),
         };
     }
-    match token_of(alloc, bytes, piece) {
+    match token_of(alloc, bytes, span) {
         Ok(token) => Ok(Name::Token(token)),
         Err(status) => Err(status),
     }
@@ -224,11 +225,11 @@ fn why_of(alloc: Global, hop: &HopNode, bytes: &[u8]) -> Result<Forward, Status>
 }
 
 /// The status that the next server answered with, if there is one.
-fn status_of(says: u8, status: u16) -> Result<Option<HopStatus>, Status>
-    ensures { MatchResult result (λ made. GivesMaybe says (GivesStatus status) made)
-        (GivesNone (GivesMaybe says (GivesStatus status))) }
+fn status_of(has_status: u8, status: u16) -> Result<Option<HopStatus>, Status>
+    ensures { MatchResult result (λ made. GivesMaybe has_status (GivesStatus status) made)
+        (GivesNone (GivesMaybe has_status (GivesStatus status))) }
 {
-    if says == 0 {
+    if has_status == 0 {
         return Ok(None);
     }
     match HopStatus::new(status) {
@@ -238,10 +239,10 @@ fn status_of(says: u8, status: u16) -> Result<Option<HopStatus>, Status>
 }
 
 /// A flag, if there is one.
-fn flag_of(says: u8, flag: u8) -> Option<bool>
-    ensures { GivesMaybe says (GivesFlag flag) result }
+fn flag_of(has_flag: u8, flag: u8) -> Option<bool>
+    ensures { GivesMaybe has_flag (GivesFlag flag) result }
 {
-    if says == 0 {
+    if has_flag == 0 {
         return None;
     }
     Some(flag != 0)
@@ -263,14 +264,14 @@ fn ttl_of(hop: &HopNode) -> Result<Option<Int>, Status>
 }
 
 /// The cache key, if there is one.
-fn key_of(alloc: Global, bytes: &[u8], piece: Piece, says: u8) -> Result<Option<Text>, Status>
-    ensures { MatchResult result (λ made. GivesMaybe says (GivesString bytes.now piece) made)
-        (GivesNone (GivesMaybe says (GivesString bytes.now piece))) }
+fn key_of(alloc: Global, bytes: &[u8], span: Span, has_key: u8) -> Result<Option<Text>, Status>
+    ensures { MatchResult result (λ made. GivesMaybe has_key (GivesString bytes.now span) made)
+        (GivesNone (GivesMaybe has_key (GivesString bytes.now span))) }
 {
-    if says == 0 {
+    if has_key == 0 {
         return Ok(None);
     }
-    match string_of(alloc, bytes, piece) {
+    match string_of(alloc, bytes, span) {
         Ok(key) => Ok(Some(key)),
         Err(status) => Err(status),
     }

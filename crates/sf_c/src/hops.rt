@@ -6,36 +6,27 @@ ghost use Rattle.sf_c.specs.Hops.{is_token as is_name_token, detail_is_token as 
 ghost use Rattle.sf_c.specs.Hops.{outcome_number as number_of_outcome};
 ghost use Rattle.sf_c.specs.Hops.{reason_number as number_of_reason, why_number as number_of_why};
 ghost use Rattle.sf_c.specs.Hops.{why_token as token_of_why, hops_size, told_hop, says_by, says_of};
-ghost use Rattle.sf_c.specs.Hops.{HopsAtFront, PutsPiece};
+ghost use Rattle.sf_c.specs.Hops.{HopsAtFront, PutsSpan};
 
-use crate::room::put;
+use crate::buffer::put;
+use crate::span::Span;
 use sf_use::{Forward, Hop, HopStatus, Name, Outcome};
 use sf_value::{Int, OutOfMemory, Text};
 use std::alloc::Global;
 use std::marker::Model;
-
-/// Bytes among others. In C an `sf_piece`.
-#[repr(C)]
-#[derive(Clone, Copy, Debug, Drop)]
-pub struct Piece {
-    /// Where they begin.
-    pub at: usize,
-    /// How many they are.
-    pub length: usize,
-}
 
 /// A cache on the path of a response, and what it did (RFC 9211 section 2). In C an `sf_hop`.
 #[repr(C)]
 #[derive(Clone, Copy, Debug, Drop)]
 pub struct HopNode {
     /// The cache's name.
-    pub name: Piece,
+    pub name: Span,
     /// The token of `fwd` (section 2.2); empty if it is not said.
-    pub why_token: Piece,
+    pub why_token: Span,
     /// The cache key: `key` (section 2.7); empty if it is not said.
-    pub key: Piece,
+    pub key: Span,
     /// What else the cache tells: `detail` (section 2.8); empty if it is not said.
-    pub detail: Piece,
+    pub detail: Span,
     /// For how many seconds the response is still fresh: `ttl` (section 2.4); 0 if it is not said.
     pub ttl: i64,
     /// What it did: 0 if neither `hit` nor `fwd` is said, 1 for a hit, 2 where it forwarded the
@@ -131,23 +122,23 @@ impl FlatPath {
             mut hops,
             mut bytes,
         } = self;
-        let name = put_piece(&mut bytes, bytes_of(&hop.name))?;
-        let why = put_piece(&mut bytes, why_token(&hop.outcome))?;
-        let key = put_piece(&mut bytes, key_bytes(&hop.key))?;
-        let detail = put_piece(&mut bytes, detail_bytes(&hop.detail))?;
+        let name = put_span(&mut bytes, bytes_of(&hop.name))?;
+        let why = put_span(&mut bytes, why_token(&hop.outcome))?;
+        let key = put_span(&mut bytes, key_bytes(&hop.key))?;
+        let detail = put_span(&mut bytes, detail_bytes(&hop.detail))?;
         hops.push(node_of(hop, name, why, key, detail))?;
         Ok(FlatPath { hops, bytes })
     }
 }
 
 /// A text after the bytes.
-fn put_piece(bytes: &mut Vec<u8>, text: &[u8]) -> Result<Piece, OutOfMemory>
-    // the text is after the bytes that were there, and the piece is that of it
-    ensures { IfOk result (λ piece. PutsPiece bytes.old.items bytes.new.items text.now piece) }
+fn put_span(bytes: &mut Vec<u8>, text: &[u8]) -> Result<Span, OutOfMemory>
+    // the text is after the bytes that were there, and the span is that of it
+    ensures { IfOk result (λ span. PutsSpan bytes.old.items bytes.new.items text.now span) }
 {
     let at = bytes.as_slice().len();
     bytes.extend_from_slice(text)?;
-    Ok(Piece {
+    Ok(Span {
         at,
         length: text.len(),
     })
@@ -269,8 +260,8 @@ fn seconds_of(ttl: Option<Int>) -> i64
     }
 }
 
-/// The struct of a hop whose bytes are in these pieces.
-fn node_of(hop: &Hop, name: Piece, why_token: Piece, key: Piece, detail: Piece) -> HopNode
+/// The struct of a hop whose bytes are in these spans.
+fn node_of(hop: &Hop, name: Span, why_token: Span, key: Span, detail: Span) -> HopNode
     ensures name { result.name ≡ name }
     ensures why_token { result.why_token ≡ why_token }
     ensures key { result.key ≡ key }

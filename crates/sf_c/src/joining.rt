@@ -3,7 +3,7 @@ ghost use Rattle.std.specs.Prelude.{◌≡◌, Some};
 ghost use Rattle.sf_c.specs.Joining.{PutsLine, separator_of};
 ghost use Rattle.sf_c.specs.Statuses.{status_at};
 
-use crate::room::put;
+use crate::buffer::put;
 use crate::status::Status;
 
 /// How far the lines of a field are joined. In C an `sf_joined`; it begins with zeros.
@@ -23,12 +23,12 @@ pub struct Joined {
 /// then `joined.required` says how long it must be, and the buffer is left as it was; or `BadCall`
 /// if `joined.length` is greater than the buffer.
 #[unsafe(no_mangle)]
-pub extern "C" fn sf_join(line: &[u8], room: &mut [u8], joined: &mut Joined) -> u32
+pub extern "C" fn sf_join(line: &[u8], buffer: &mut [u8], joined: &mut Joined) -> u32
     // the line is joined, or the buffer is too small for it, or for the text said to be in it
-    ensures { PutsLine (record { room = room.old; joined = joined.old })
-        (record { room = room.new; joined = joined.new }) line.now (status_at result) }
+    ensures { PutsLine (record { buffer = buffer.old; joined = joined.old })
+        (record { buffer = buffer.new; joined = joined.new }) line.now (status_at result) }
 {
-    join(line, room, joined).code()
+    join(line, buffer, joined).code()
 }
 
 /// What is before the next line.
@@ -39,16 +39,16 @@ fn separator(joined: &Joined) -> &'static [u8]
 }
 
 /// Puts the line after those that are joined, if there is capacity.
-fn join(line: &[u8], room: &mut [u8], joined: &mut Joined) -> Status
+fn join(line: &[u8], buffer: &mut [u8], joined: &mut Joined) -> Status
     // the line is joined, or the buffer is too small for it, or for the text said to be in it
-    ensures { PutsLine (record { room = room.old; joined = joined.old })
-        (record { room = room.new; joined = joined.new }) line.now (Some result) }
+    ensures { PutsLine (record { buffer = buffer.old; joined = joined.old })
+        (record { buffer = buffer.new; joined = joined.new }) line.now (Some result) }
 {
     let comma = separator(joined);
-    if joined.length > room.len() {
+    if joined.length > buffer.len() {
         return Status::BadCall;
     }
-    let free = room.len() - joined.length;
+    let free = buffer.len() - joined.length;
     if free < comma.len() || free - comma.len() < line.len() {
         joined.required = joined
             .length
@@ -56,8 +56,8 @@ fn join(line: &[u8], room: &mut [u8], joined: &mut Joined) -> Status
             .saturating_add(line.len());
         return Status::Short;
     }
-    put(room, joined.length, comma);
-    put(room, joined.length + comma.len(), line);
+    put(buffer, joined.length, comma);
+    put(buffer, joined.length + comma.len(), line);
     joined.length += comma.len() + line.len();
     joined.begun = 1;
     Status::Answered

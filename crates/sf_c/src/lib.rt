@@ -8,6 +8,7 @@
 //! definitions of the crates below.
 #![tactic(auto)]
 
+mod buffer;
 mod cache_status;
 mod call;
 mod canonical_text;
@@ -24,8 +25,9 @@ mod priority;
 mod priority_text;
 mod refusal;
 mod refusal_text;
-mod room;
 mod seed;
+mod select;
+mod span;
 mod status;
 mod targeted;
 mod version;
@@ -35,7 +37,7 @@ pub use canonical_text::{sf_equal, sf_normalise};
 pub use check::sf_check;
 pub use find::sf_find;
 pub use hop_text::sf_hop_text;
-pub use hops::{HopNode, Piece};
+pub use hops::HopNode;
 pub use joining::{Joined, sf_join};
 pub use node_types::{NodeType, Role};
 pub use nodes::{Node, Sizes};
@@ -45,6 +47,8 @@ pub use priority_text::sf_priority_text;
 pub use refusal::SyntaxRefusal;
 pub use refusal_text::{sf_refusal_in_text, sf_refusal_text};
 pub use seed::Seed;
+pub use select::sf_select;
+pub use span::Span;
 pub use status::Status;
 pub use targeted::{PolicyFlags, sf_cache_control, sf_lifetime};
 pub use version::sf_version;

@@ -6,8 +6,8 @@ ghost use Rattle.sf_c.specs.Nodes.{told, told_entries, told_field, told_inner, t
 ghost use Rattle.sf_c.specs.NodeTypes.{role_number, type_number};
 ghost use Rattle.sf_c.specs.Nodes.{told_item, told_items, told_member, told_members, told_params};
 
+use crate::buffer::put;
 use crate::node_types::{NodeType, Role};
-use crate::room::put;
 use sf_value::{Bare, Entries, Field, Inner, Item, Member, OutOfMemory};
 use std::alloc::Global;
 use std::marker::Model;

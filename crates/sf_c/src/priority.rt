@@ -84,20 +84,20 @@ pub extern "C" fn sf_priority_merge(client: &PriorityFlags, server: &PriorityFla
 }
 
 /// An urgency that is said and is one.
-fn urgency_of(says: u8, urgency: u8) -> Option<Urgency>
-    ensures { result ≡ urgency_at says urgency }
+fn urgency_of(has_urgency: u8, urgency: u8) -> Option<Urgency>
+    ensures { result ≡ urgency_at has_urgency urgency }
 {
-    if says == 0 {
+    if has_urgency == 0 {
         return None;
     }
     Urgency::new(urgency).ok()
 }
 
 /// A flag that is said.
-fn flag_of(says: u8, flag: u8) -> Option<bool>
-    ensures { result ≡ flag_at says flag }
+fn flag_of(has_flag: u8, flag: u8) -> Option<bool>
+    ensures { result ≡ flag_at has_flag flag }
 {
-    if says == 0 {
+    if has_flag == 0 {
         return None;
     }
     Some(flag != 0)

@@ -6,8 +6,8 @@ ghost use Rattle.sf_c.specs.Priorities.{asked_by, asking};
 ghost use Rattle.sf_c.specs.Statuses.{status_at};
 ghost use Rattle.sf_c.specs.TextBuffers.{PutsText};
 
+use crate::buffer::put_text;
 use crate::priority::PriorityFlags;
-use crate::room::put_text;
 use crate::status::Status;
 use sf_use::{Asked, Urgency};
 

@@ -6,8 +6,8 @@ ghost use Rattle.sf_c.specs.RefusalTexts.{shown_by};
 ghost use Rattle.sf_c.specs.Statuses.{status_at};
 ghost use Rattle.sf_c.specs.TextBuffers.{Writes};
 
+use crate::buffer::put_text;
 use crate::refusal::SyntaxRefusal;
-use crate::room::put_text;
 use crate::status::Status;
 use sf_parse::Refusal;
 use std::alloc::Global;

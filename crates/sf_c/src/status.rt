@@ -15,9 +15,9 @@ pub enum Status {
     Short,
     /// 4: an allocation failed.
     OutOfMemory,
-    /// 5: the field has no member, so it says nothing.
+    /// 5: the field has no member; of the fields of a target list, each is ignored.
     Empty,
-    /// 6: there is no such kind or dialect, or a length is greater than its buffer.
+    /// 6: there is no such kind or dialect, or a length or a span exceeds its buffer.
     BadCall,
     /// 7: a member of a Cache-Status List names no cache.
     NotACache,

@@ -104,10 +104,14 @@ pub extern "C" fn sf_lifetime(policy: &PolicyFlags, shared: u32, seconds: &mut u
 }
 
 /// Seconds that are said.
-fn seconds_of(says: u8, seconds: u64) -> Option<u64>
-    ensures { result ≡ seconds_at says seconds }
+fn seconds_of(has_seconds: u8, seconds: u64) -> Option<u64>
+    ensures { result ≡ seconds_at has_seconds seconds }
 {
-    if says == 0 { None } else { Some(seconds) }
+    if has_seconds == 0 {
+        None
+    } else {
+        Some(seconds)
+    }
 }
 
 /// What a Dictionary says, which may have no member.
@@ -123,7 +127,7 @@ fn directed(dict: &Dict, policy: &mut PolicyFlags) -> Status
 }
 
 /// What a text says.
-fn direct(
+pub(crate) fn direct(
     alloc: Global,
     seed: &Seed,
     text: &[u8],

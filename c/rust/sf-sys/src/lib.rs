@@ -55,7 +55,7 @@ pub struct Policy {
 
 #[repr(C)]
 #[derive(Clone, Copy, Debug, PartialEq, Eq)]
-pub struct Piece {
+pub struct Span {
     pub at: usize,
     pub length: usize,
 }
@@ -63,10 +63,10 @@ pub struct Piece {
 #[repr(C)]
 #[derive(Clone, Copy, Debug, PartialEq, Eq)]
 pub struct Hop {
-    pub name: Piece,
-    pub why_token: Piece,
-    pub key: Piece,
-    pub detail: Piece,
+    pub name: Span,
+    pub why_token: Span,
+    pub key: Span,
+    pub detail: Span,
     pub ttl: i64,
     pub outcome: u16,
     pub why: u16,
@@ -106,7 +106,7 @@ const _: () = {
     assert!(size_of::<Sizes>() == 16);
     assert!(size_of::<PriorityFlags>() == 4);
     assert!(size_of::<Policy>() == 24);
-    assert!(size_of::<Piece>() == 16);
+    assert!(size_of::<Span>() == 16);
     assert!(size_of::<Hop>() == 88);
     assert!(size_of::<Path>() == 40);
     assert!(size_of::<Joined>() == 24);
@@ -198,8 +198,8 @@ extern "C" {
         kind: u32,
         text: *const c_void,
         length: usize,
-        room: *mut c_void,
-        room_length: usize,
+        buffer: *mut c_void,
+        buffer_length: usize,
         required: *mut usize,
         refusal: *mut Refusal,
     ) -> u32;
@@ -221,9 +221,9 @@ extern "C" {
         text: *const c_void,
         length: usize,
         nodes: *mut Node,
-        nodes_room: usize,
+        nodes_capacity: usize,
         bytes: *mut c_void,
-        bytes_room: usize,
+        bytes_capacity: usize,
         sizes: *mut Sizes,
         refusal: *mut Refusal,
     ) -> u32;
@@ -261,14 +261,23 @@ extern "C" {
         policy: *mut Policy,
         refusal: *mut Refusal,
     ) -> u32;
+    pub fn sf_select(
+        seed: *const [u8; 16],
+        texts: *const c_void,
+        texts_length: usize,
+        fields: *const Span,
+        fields_length: usize,
+        index: *mut usize,
+        policy: *mut Policy,
+    ) -> u32;
     pub fn sf_cache_status(
         seed: *const [u8; 16],
         text: *const c_void,
         length: usize,
         hops: *mut Hop,
-        hops_room: usize,
+        hops_capacity: usize,
         bytes: *mut c_void,
-        bytes_room: usize,
+        bytes_capacity: usize,
         path: *mut Path,
         refusal: *mut Refusal,
     ) -> u32;
@@ -284,8 +293,8 @@ extern "C" {
     pub fn sf_join(
         line: *const c_void,
         line_length: usize,
-        room: *mut c_void,
-        room_length: usize,
+        buffer: *mut c_void,
+        buffer_length: usize,
         joined: *mut Joined,
     ) -> u32;
     pub fn sf_lifetime(policy: *const Policy, shared: u32, seconds: *mut u64) -> u32;
@@ -335,8 +344,8 @@ mod tests {
         assert_eq!(at!(Policy, no_store), 19);
         assert_eq!(at!(Policy, no_cache), 20);
         assert_eq!(at!(Policy, is_private), 21);
-        assert_eq!(at!(Piece, at), 0);
-        assert_eq!(at!(Piece, length), 8);
+        assert_eq!(at!(Span, at), 0);
+        assert_eq!(at!(Span, length), 8);
         assert_eq!(at!(Hop, name), 0);
         assert_eq!(at!(Hop, why_token), 16);
         assert_eq!(at!(Hop, key), 32);

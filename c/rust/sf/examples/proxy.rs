@@ -1,7 +1,7 @@
 //! A caching proxy's decisions on a request that it forwards, and on the response, by their fields on
 //! standard input: a line `> Name: value` is of the request, and `< Name: value` of the response.
 
-use sf::{Error, Forward, Forwarded, Hop, Name, Outcome, Policy, Priority};
+use sf::{Choice, Error, Forward, Forwarded, Hop, Name, Outcome, Priority};
 use std::io::{self, BufRead};
 
 /// This cache's own field, and the one of all caches of its kind (RFC 9213 section 2.2).
@@ -29,12 +29,12 @@ fn main() -> Result<(), Box<dyn std::error::Error>> {
     let how = ["", ", incremental"][usize::from(both.incremental())];
     println!("urgency {}{how}", both.urgency());
 
-    let mut target = ("no targeted field", None);
-    for name in TARGET_LIST.into_iter().rev() {
-        let policy = or_ignored(Policy::parse(field('<', name)?))?;
-        target = policy.map_or(target, |policy| (name, Some(policy)));
-    }
-    let (name, policy) = target;
+    let targets = TARGET_LIST.map(|name| field('<', name));
+    let targets: Vec<_> = targets.into_iter().collect::<Result<_, _>>()?;
+    let (name, policy) = match sf::select(targets)? {
+        Choice::Field { index, policy } => (TARGET_LIST[index], Some(policy)),
+        Choice::Fallback => ("no targeted field", None),
+    };
     let stored = policy.filter(|policy| !policy.no_store && !policy.is_private);
     let lifetime = stored.and_then(|policy| policy.lifetime(true));
     let what = ["don't store it", "store it"][usize::from(stored.is_some())];

@@ -47,6 +47,15 @@ pub(crate) fn lengthen(buffer: &mut Vec<u8>, length: usize) -> Result<(), Error>
     Ok(())
 }
 
+/// Appends elements to a buffer that may be lengthened again, so that it is seldom moved.
+pub(crate) fn append<T: Clone>(buffer: &mut Vec<T>, more: &[T]) -> Result<(), Error> {
+    buffer
+        .try_reserve(more.len())
+        .map_err(|_| Error::OutOfMemory)?;
+    buffer.extend_from_slice(more);
+    Ok(())
+}
+
 /// Makes space for so many elements more.
 pub(crate) fn reserve<T>(buffer: &mut Vec<T>, more: usize) -> Result<(), Error> {
     buffer

@@ -46,7 +46,7 @@ use sf_sys as raw;
 pub use error::{Error, Refusal, RefusalInText};
 pub use parser::{check, equal, join, normalise, Dialect, Field, Kind, Parser};
 pub use path::{Forward, Forwarded, Hop, Name, Outcome, Path};
-pub use policy::Policy;
+pub use policy::{select, Choice, Policy};
 pub use priority::Priority;
 pub use seed::Seed;
 pub use tree::{Node, Nodes, Role, Tree, Type};

@@ -1,5 +1,5 @@
 use crate::call::{error, lengthen, resize, seed, start, NO_REFUSAL};
-use crate::{raw, Error, Parsed, Path, Policy, Priority, Seed, Tree};
+use crate::{raw, Choice, Error, Parsed, Path, Policy, Priority, Seed, Tree};
 
 /// The kind of a field, which the definition of the field states (RFC 9651 section 3).
 ///
@@ -286,6 +286,24 @@ impl Parser {
     /// ```
     pub fn policy(&self, text: impl AsRef<[u8]>) -> Result<Option<Policy>, Error> {
         Policy::read(&seed(self.seed), text.as_ref())
+    }
+
+    /// Chooses the field of a target list that a cache obeys, by RFC 9651 whatever the dialect: see
+    /// [`select`](crate::select).
+    ///
+    /// # Errors
+    ///
+    /// [`Error::OutOfMemory`] only.
+    ///
+    /// ```
+    /// let choice = sf::Parser::new().select(["", "no-store"]).unwrap();
+    /// assert!(choice.policy().unwrap().no_store);
+    /// ```
+    pub fn select(
+        &self,
+        fields: impl IntoIterator<Item = impl AsRef<[u8]>>,
+    ) -> Result<Choice, Error> {
+        Choice::read(&seed(self.seed), fields)
     }
 
     /// Reads the text of a Cache-Status field, by RFC 9651 whatever the dialect: see [`Path::parse`].

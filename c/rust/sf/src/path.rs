@@ -213,20 +213,20 @@ impl<'a> Forwarded<'a> {
 }
 
 /// A text behind the bytes so far.
-fn piece(bytes: &mut Vec<u8>, text: &str) -> Result<raw::Piece, Error> {
+fn put(bytes: &mut Vec<u8>, text: &str) -> Result<raw::Span, Error> {
     let at = bytes.len();
     lengthen(bytes, at + text.len())?;
     if let Some(end) = bytes.get_mut(at..) {
         end.copy_from_slice(text.as_bytes());
     }
     let length = text.len();
-    Ok(raw::Piece { at, length })
+    Ok(raw::Span { at, length })
 }
 
 /// A hop for the library, with the bytes that it refers to.
 fn raw_hop(hop: &Hop<'_>, bytes: &mut Vec<u8>) -> Result<raw::Hop, Error> {
     let mut to = NO_HOP;
-    to.name = piece(bytes, hop.name.as_str())?;
+    to.name = put(bytes, hop.name.as_str())?;
     to.name_is_token = u8::from(matches!(hop.name, Name::Token(_)));
     to.outcome = match hop.outcome {
         Outcome::Unsaid => raw::UNSAID,
@@ -247,7 +247,7 @@ fn raw_hop(hop: &Hop<'_>, bytes: &mut Vec<u8>) -> Result<raw::Hop, Error> {
             Forward::Other(_) => raw::OTHER,
         };
         if let Forward::Other(token) = forwarded.why {
-            to.why_token = piece(bytes, token)?;
+            to.why_token = put(bytes, token)?;
         }
         to.status = forwarded.status.unwrap_or(0);
         to.has_status = u8::from(forwarded.status.is_some());
@@ -258,9 +258,9 @@ fn raw_hop(hop: &Hop<'_>, bytes: &mut Vec<u8>) -> Result<raw::Hop, Error> {
     }
     to.ttl = hop.ttl.unwrap_or(0);
     to.has_ttl = u8::from(hop.ttl.is_some());
-    to.key = piece(bytes, hop.key.unwrap_or(""))?;
+    to.key = put(bytes, hop.key.unwrap_or(""))?;
     to.has_key = u8::from(hop.key.is_some());
-    to.detail = piece(bytes, hop.detail.map_or("", Name::as_str))?;
+    to.detail = put(bytes, hop.detail.map_or("", Name::as_str))?;
     to.has_detail = u8::from(hop.detail.is_some());
     to.detail_is_token = u8::from(matches!(hop.detail, Some(Name::Token(_))));
     Ok(to)
@@ -299,13 +299,13 @@ impl fmt::Debug for Path {
     }
 }
 
-const NO_PIECE: raw::Piece = raw::Piece { at: 0, length: 0 };
+const NO_SPAN: raw::Span = raw::Span { at: 0, length: 0 };
 
 const NO_HOP: raw::Hop = raw::Hop {
-    name: NO_PIECE,
-    why_token: NO_PIECE,
-    key: NO_PIECE,
-    detail: NO_PIECE,
+    name: NO_SPAN,
+    why_token: NO_SPAN,
+    key: NO_SPAN,
+    detail: NO_SPAN,
     ttl: 0,
     outcome: raw::UNSAID,
     why: raw::NO_FORWARD,
@@ -395,7 +395,7 @@ impl Path {
         self.hops.iter().all(|hop| {
             [hop.name, hop.why_token, hop.key, hop.detail]
                 .iter()
-                .all(|&piece| self.slice(piece).is_some())
+                .all(|&span| self.slice(span).is_some())
         })
     }
 
@@ -421,19 +421,18 @@ impl Path {
         self.served_by
     }
 
-    fn slice(&self, piece: raw::Piece) -> Option<&str> {
-        self.bytes
-            .get(piece.at..piece.at.checked_add(piece.length)?)
+    fn slice(&self, span: raw::Span) -> Option<&str> {
+        self.bytes.get(span.at..span.at.checked_add(span.length)?)
     }
 
-    fn text(&self, piece: raw::Piece) -> &str {
-        self.slice(piece).unwrap_or_default()
+    fn text(&self, span: raw::Span) -> &str {
+        self.slice(span).unwrap_or_default()
     }
 
-    fn name(&self, piece: raw::Piece, is_token: u8) -> Name<'_> {
+    fn name(&self, span: raw::Span, is_token: u8) -> Name<'_> {
         match is_token {
-            0 => Name::String(self.text(piece)),
-            _ => Name::Token(self.text(piece)),
+            0 => Name::String(self.text(span)),
+            _ => Name::Token(self.text(span)),
         }
     }
 

@@ -1,4 +1,4 @@
-use crate::call::{error, start, NO_REFUSAL};
+use crate::call::{append, error, start, NO_REFUSAL};
 use crate::{raw, Error, Parser, Seed};
 
 /// The directives of a targeted field (RFC 9213 section 2.1, RFC 9111 section 5.2.2).
@@ -56,7 +56,7 @@ impl From<&Policy> for raw::Policy {
 impl Policy {
     /// Reads the text of one targeted field (RFC 9213 section 2.1); `None` if it has no members. After
     /// `None` and after [`Error::Refused`] a cache ignores this field and uses the next of its target
-    /// list (section 2.2).
+    /// list (section 2.2), as [`select`] does.
     ///
     /// # Errors
     ///
@@ -106,4 +106,98 @@ impl Policy {
         let has_one = unsafe { raw::sf_lifetime(&self.into(), u32::from(shared), &mut seconds) };
         (has_one != 0).then_some(seconds)
     }
+}
+
+/// Which field of a target list a cache obeys (RFC 9213 section 2.2).
+///
+/// ```
+/// let choice = sf::select(["max-age=60,", "", "max-age=600"]).unwrap();
+/// assert!(matches!(choice, sf::Choice::Field { index: 2, .. }));
+/// ```
+#[derive(Clone, Copy, Debug, PartialEq, Eq, Hash)]
+pub enum Choice {
+    /// This field; those before it are ignored.
+    Field {
+        /// The index of the field in the target list, from 0.
+        index: usize,
+        /// Its directives.
+        policy: Policy,
+    },
+    /// Each field is ignored: `Cache-Control` and `Expires` decide.
+    Fallback,
+}
+
+impl Choice {
+    /// The directives of the field that is obeyed, if there is one.
+    ///
+    /// ```
+    /// let choice = sf::select(["", "max-age=600"]).unwrap();
+    /// assert_eq!(choice.policy().and_then(|policy| policy.lifetime(true)), Some(600));
+    /// assert_eq!(sf::select([""]).unwrap().policy(), None);
+    /// ```
+    #[must_use]
+    pub fn policy(&self) -> Option<Policy> {
+        match self {
+            Choice::Field { policy, .. } => Some(*policy),
+            Choice::Fallback => None,
+        }
+    }
+
+    pub(crate) fn read(
+        seed: &Seed,
+        fields: impl IntoIterator<Item = impl AsRef<[u8]>>,
+    ) -> Result<Choice, Error> {
+        let mut texts = Vec::new();
+        let mut spans = Vec::new();
+        for field in fields {
+            let field = field.as_ref();
+            let span = raw::Span {
+                at: texts.len(),
+                length: field.len(),
+            };
+            append(&mut spans, &[span])?;
+            append(&mut texts, field)?;
+        }
+        let mut index = 0;
+        let mut policy = raw::Policy::from(&Policy::default());
+        // SAFETY: as in `Parser::check`, for both slices.
+        let status = unsafe {
+            raw::sf_select(
+                &seed.bytes,
+                start(&texts),
+                texts.len(),
+                spans.as_ptr(),
+                spans.len(),
+                &mut index,
+                &mut policy,
+            )
+        };
+        match status {
+            raw::OK => Ok(Choice::Field {
+                index,
+                policy: (&policy).into(),
+            }),
+            raw::EMPTY => Ok(Choice::Fallback),
+            status => Err(error(status, &NO_REFUSAL)),
+        }
+    }
+}
+
+/// Chooses the field that a cache obeys: the first of its target list that is not ignored (RFC 9213
+/// section 2.2). The texts of the fields are in the order of the list; that of a field that the
+/// response does not have is empty. A field is ignored if its text is not a well-formed Dictionary, or
+/// is one without members (section 2.1).
+///
+/// # Errors
+///
+/// [`Error::OutOfMemory`] only.
+///
+/// ```
+/// let own = sf::join(["max-age=60"]).unwrap(); // ExampleCDN-Cache-Control
+/// let others = sf::join(["max-age=600", "no-store"]).unwrap(); // CDN-Cache-Control
+/// let choice = sf::select([own, others]).unwrap();
+/// assert_eq!(choice.policy().and_then(|policy| policy.max_age), Some(60));
+/// ```
+pub fn select(fields: impl IntoIterator<Item = impl AsRef<[u8]>>) -> Result<Choice, Error> {
+    Parser::new().select(fields)
 }

@@ -1,9 +1,9 @@
 //! The crate from outside: what each call returns.
 
 use sf::{
-    check, equal, join, normalise, BareItem, Date, Decimal, Dialect, Dictionary, Error, Forward,
-    Forwarded, Hop, Item, Kind, List, Member, Name, Outcome, Parsed, Parser, Path, Policy,
-    Priority, Refusal, Role, Seed, Type,
+    check, equal, join, normalise, select, BareItem, Choice, Date, Decimal, Dialect, Dictionary,
+    Error, Forward, Forwarded, Hop, Item, Kind, List, Member, Name, Outcome, Parsed, Parser, Path,
+    Policy, Priority, Refusal, Role, Seed, Type,
 };
 
 fn old() -> Parser {
@@ -303,6 +303,38 @@ fn priorities_are_merged() {
     let nothing = Priority::parse("u=8").unwrap();
     assert_eq!(nothing, Priority::default());
     assert_eq!((nothing.urgency(), nothing.incremental()), (3, false));
+}
+
+#[test]
+fn a_field_of_a_target_list_is_chosen() {
+    let fields: [(&[&str], Option<(usize, u64)>); 9] = [
+        (&[], None),
+        (&[""], None),
+        (&["max-age=60,", "", "  "], None),
+        (&["max-age=60"], Some((0, 60))),
+        (&["max-age=60", "max-age=600"], Some((0, 60))),
+        (&["", "max-age=600"], Some((1, 600))),
+        (&["max-age=60,", "max-age=600", "max-age=1"], Some((1, 600))),
+        (&["a b", "", "(a)", "max-age=9, x", ""], Some((3, 9))),
+        (&["max-age=1, max-age=2"], Some((0, 2))),
+    ];
+    for (texts, expected) in fields {
+        let choice = select(texts).unwrap();
+        let expected = expected.map(|(index, seconds)| Choice::Field {
+            index,
+            policy: Policy {
+                max_age: Some(seconds),
+                ..Policy::default()
+            },
+        });
+        assert_eq!(choice, expected.unwrap_or(Choice::Fallback), "{texts:?}");
+        assert_eq!(
+            choice.policy().is_none(),
+            matches!(choice, Choice::Fallback)
+        );
+    }
+    let chosen = old().select(["@1", "max-age=60;x=@1"]).unwrap();
+    assert!(matches!(chosen, Choice::Field { index: 1, .. }));
 }
 
 #[test]

@@ -1,6 +1,8 @@
 //! Failed allocations of the crate's own vectors: an error, and no abort.
 
-use sf::{join, normalise, Dictionary, Error, Hop, Kind, List, Name, Parser, Path, Priority};
+use sf::{
+    join, normalise, select, Dictionary, Error, Hop, Kind, List, Name, Parser, Path, Priority,
+};
 use std::alloc::{GlobalAlloc, Layout, System};
 use std::cell::Cell;
 use std::ptr::null_mut;
@@ -80,6 +82,7 @@ fn a_failed_allocation_is_an_error() {
     let list = List::parse("a ,b").unwrap();
     each_refused(|| list.serialize());
     each_refused(|| Path::parse("a;fwd=miss, \"b\";hit"));
+    each_refused(|| select(["max-age=1,", "", "max-age=60"]));
     let hop = Hop::new(Name::String("edge"));
     each_refused(|| hop.serialize());
     let priority = Priority::parse("u=1").unwrap();

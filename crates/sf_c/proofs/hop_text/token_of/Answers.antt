@@ -4,5 +4,5 @@ use Rattle.sf_c.proofs.hop_text.token_of.Goals as goal
 pub returns-in-Err : goal.returns-in-Err
 returns-in-Err c =
     rw c.status_of_fault.ensures
-    (no_token c.args.bytes.now c.args.piece c.in_ok-bytes_of.field-0.now c.in-Err.fault
+    (no_token c.args.bytes.now c.args.span c.in_ok-bytes_of.field-0.now c.in-Err.fault
     c.in_ok-bytes_of.ensures c.in-Err.ensures.exact)

@@ -5,8 +5,8 @@ use Rattle.sf_c.proofs.hops.FlatPath.with.Goals as goal
 
 pub invariant_of-result : goal.invariant_of-result
 invariant_of-result c =
-    hop_held c.self.inside.bytes.items c.put_piece.new.bytes.items c.put_piece-2.new.bytes.items
-    c.put_piece-3.new.bytes.items c.put_piece-4.new.bytes.items c.bytes_of.result.now
+    hop_held c.self.inside.bytes.items c.put_span.new.bytes.items c.put_span-2.new.bytes.items
+    c.put_span-3.new.bytes.items c.put_span-4.new.bytes.items c.bytes_of.result.now
     c.why_token.result.now c.key_bytes.result.now c.detail_bytes.result.now c.node_of.result
     c.args.hop.now c.self.inside.hops.items c.push.new.self.items
     (record {
@@ -24,8 +24,8 @@ invariant_of-result c =
 
 pub returns : goal.returns
 returns c =
-    hop_told c.self.inside.bytes.items c.put_piece.new.bytes.items c.put_piece-2.new.bytes.items
-    c.put_piece-3.new.bytes.items c.put_piece-4.new.bytes.items c.bytes_of.result.now
+    hop_told c.self.inside.bytes.items c.put_span.new.bytes.items c.put_span-2.new.bytes.items
+    c.put_span-3.new.bytes.items c.put_span-4.new.bytes.items c.bytes_of.result.now
     c.why_token.result.now c.key_bytes.result.now c.detail_bytes.result.now c.node_of.result
     c.args.hop.now c.self.inside.hops.items c.push.new.self.items
     (record {

@@ -10,6 +10,6 @@ returns c =
     ≡ c.args.self.now = first_of (cc, search rules) in
     let hops = rw c.as_slice.ensures.value at c.put.ensures in
     let bytes = rw c.as_slice-2.ensures.value at c.put-2.ensures in
-    hops_at_front c.args.self.now c.args.hops.now c.put.new.room c.self.inside.hops.items
-    c.args.bytes.now c.put-2.new.room c.self.inside.bytes.items tells c.self.invariant
+    hops_at_front c.args.self.now c.args.hops.now c.put.new.buffer c.self.inside.hops.items
+    c.args.bytes.now c.put-2.new.buffer c.self.inside.bytes.items tells c.self.invariant
     c.requires.hops c.requires.bytes hops bytes

@@ -10,6 +10,6 @@ returns c =
     = first_of (cc, search rules) in
     let nodes = rw c.as_slice.ensures.value at c.put.ensures in
     let bytes = rw c.as_slice-2.ensures.value at c.put-2.ensures in
-    tell_at_front c.args.self.now c.args.nodes.now c.put.new.room c.self.inside.nodes.items
-    c.args.bytes.now c.put-2.new.room c.self.inside.bytes.items tells c.self.invariant
+    tell_at_front c.args.self.now c.args.nodes.now c.put.new.buffer c.self.inside.nodes.items
+    c.args.bytes.now c.put-2.new.buffer c.self.inside.bytes.items tells c.self.invariant
     c.requires.nodes c.requires.bytes nodes bytes

@@ -5,12 +5,12 @@ ghost use Rattle.sf_c.specs.TextBuffers.{PutsText};
 use crate::status::Status;
 
 /// Puts items at a place of the buffer.
-pub(crate) fn put<T: Copy>(room: &mut [T], at: usize, items: &[T])
-    requires { at + length items.now ≤ length room.old }
-    ensures { room.new
-        ≡ (take at room.old ++ items.now) ++ drop (at + length items.now) room.old }
+pub(crate) fn put<T: Copy>(buffer: &mut [T], at: usize, items: &[T])
+    requires { at + length items.now ≤ length buffer.old }
+    ensures { buffer.new
+        ≡ (take at buffer.old ++ items.now) ++ drop (at + length items.now) buffer.old }
 {
-    room[at..at + items.len()].copy_from_slice(items);
+    buffer[at..at + items.len()].copy_from_slice(items);
 }
 
 /// Puts a text into the caller's buffer, or says how long the buffer must be.

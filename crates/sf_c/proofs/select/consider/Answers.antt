@@ -1,0 +1,24 @@
+use Rattle.std.proofs.Common.{subst}
+use Rattle.sf_c.specs.Selecting.{IsIgnored}
+use Rattle.sf_c.proofs.Selecting.{ignored_empty, ignored_refused}
+use Rattle.sf_c.proofs.select.consider.Goals as goal
+
+pub returns-in-Empty : goal.returns-in-Empty
+returns-in-Empty c =
+    let there = c.in-Some.ensures in
+    let ignored =
+    ignored_empty
+    (record { policy = c.args.policy.now; refusal = c.of-refusal.result })
+    (record { policy = c.direct.new.policy; refusal = c.direct.new.refusal })
+    c.in-Some.text.now c.in-Empty.ensures in
+    (there.0, subst IsIgnored there.1 ignored, c.in-Empty.ensures.2.1)
+
+pub returns-in-Refused : goal.returns-in-Refused
+returns-in-Refused c =
+    let there = c.in-Some.ensures in
+    let ignored =
+    ignored_refused
+    (record { policy = c.args.policy.now; refusal = c.of-refusal.result })
+    (record { policy = c.direct.new.policy; refusal = c.direct.new.refusal })
+    c.in-Some.text.now c.in-Refused.ensures in
+    (there.0, subst IsIgnored there.1 ignored, c.in-Refused.ensures.1)

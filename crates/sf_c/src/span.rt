@@ -1,0 +1,28 @@
+//! A range of bytes of the caller's.
+ghost use Rattle.std.specs.Prelude.{◌≡◌, MatchOption};
+ghost use Rattle.sf_c.specs.Spans.{IsSpanWithin, span_bytes};
+
+/// A range of bytes of the caller's. In C an `sf_span`.
+#[repr(C)]
+#[derive(Clone, Copy, Debug, Drop)]
+pub struct Span {
+    /// Where it begins.
+    pub at: usize,
+    /// How many bytes it has.
+    pub length: usize,
+}
+
+impl Span {
+    /// Returns the bytes of the span, or `None` if it is not within these.
+    pub(crate) fn of<'a>(&self, bytes: &'a [u8]) -> Option<&'a [u8]>
+        // The bytes are there, or the span is not within them.
+        ensures { MatchOption result (IsSpanWithin bytes.now self.now → ⊥)
+            (λ part. IsSpanWithin bytes.now self.now
+            × (part.now ≡ span_bytes bytes.now self.now)) }
+    {
+        if self.at > bytes.len() || self.length > bytes.len() - self.at {
+            return None;
+        }
+        Some(&bytes[self.at..self.at + self.length])
+    }
+}
