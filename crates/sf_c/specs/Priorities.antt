@@ -11,6 +11,7 @@ use Rattle.sf_value.specs.Grammar.Pairs.{Pairs}
 use Rattle.sf_parse.specs.Parsers.{IsOnly}
 use Rattle.sf_use.specs.declared.priority.Asked.{Asked}
 use Rattle.sf_use.specs.Priority.{asked_in, filled, plain}
+use Rattle.sf_use.specs.Ranges.{least_urgent}
 use Rattle.sf_c.specs.declared.priority.PriorityFlags.{PriorityFlags}
 use Rattle.sf_c.specs.declared.refusal.SyntaxRefusal.{SyntaxRefusal}
 use Rattle.sf_c.specs.declared.status.Status.{Status}
@@ -25,9 +26,9 @@ SaysAsked p asked =
     × (p.has_urgency ≡ flag_number (is_some asked.urgency))
     × (p.has_incremental ≡ flag_number (is_some asked.incremental))
 
--- an urgency that is said, from 0 to 7
+-- an urgency that is said, of those that there are
 abbrev pub urgency_at : ℕ → ℕ → Option ℕ
-urgency_at says n = if says == 0 then None else (if nat_le n 7 then Some n else None)
+urgency_at says n = if says == 0 then None else (if nat_le n least_urgent then Some n else None)
 
 -- a flag that is said; any number but 0 sets it
 abbrev pub flag_at : ℕ → ℕ → Option Bool
