@@ -2,7 +2,6 @@
 use Rattle.std.proofs.Common.{◌≡◌, ℕ, ◌+◌, ◌<◌, List as Seq, [], ◌∷◌, ◌++◌, length, take, drop}
 use Rattle.std.proofs.Common.{suc, Some, get_or, refl, sym, ap, ◌∙◌, drop-cons, arith}
 use Rattle.std.proofs.lemmas.List.{length-take-le, take-append-drop, take_more}
-use Rattle.sf_value.specs.declared.value.Dict.{Dict}
 use Rattle.sf_value.specs.declared.value.Field.TheVariants as field
 use Rattle.sf_c.specs.declared.span.Span.{Span}
 use Rattle.sf_c.specs.declared.status.Status.TheVariants.{Empty, Refused}

@@ -1,7 +1,7 @@
 -- The hop that a struct gives, to be written (RFC 9211 section 2). Any number but 0 sets a flag,
 -- and what a flag leaves out is not looked at.
-use Rattle.std.specs.Prelude.{◌≡◌, ◌≢◌, ℕ, ℤ, ◌+◌, ◌<◌, ◌≤◌, ◌^◌, ◌==◌, not, nat_abs, Bool}
-use Rattle.std.specs.Prelude.{List, [], ◌∷◌, length, Option, Some, None, Ok}
+use Rattle.std.specs.Prelude.{◌≡◌, ◌≢◌, ℕ, ℤ, ◌<◌, ◌≤◌, ◌^◌, ◌==◌, not, nat_abs, Bool}
+use Rattle.std.specs.Prelude.{List, [], ◌∷◌, Option, Some, None, Ok}
 use Rattle.sf_value.specs.declared.dialect.Dialect.TheVariants.{Rfc9651}
 use Rattle.sf_value.specs.declared.fault.TextFault.{TextFault}
 use Rattle.sf_value.specs.declared.fault.TextFault.TheVariants as text_fault
