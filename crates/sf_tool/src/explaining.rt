@@ -1,5 +1,5 @@
 //! What a terminal shows of a refusal: why, in words, and the line that it is in.
-ghost use Rattle.std.specs.Prelude.{◌≡◌, ◌≢◌, ◌≤◌, ◌×◌, ◌↔◌, length, IfSome, IsTrue};
+ghost use Rattle.std.specs.Prelude.{◌≡◌, ◌≢◌, ◌≤◌, ◌↔◌, length, IfSome, IsTrue};
 ghost use Rattle.sf_parse.specs.declared.refusal.Refusal.TheVariants as refusal_is;
 ghost use Rattle.sf_parse.specs.Spots.{line_place, place_in};
 ghost use Rattle.sf_tool.specs.Explaining.{ExplainedBy, IsExplained, Shows};
