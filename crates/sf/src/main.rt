@@ -2,11 +2,11 @@
 //! does, how it ends and what it says of that are `sf_tool`'s.
 #![tactic(auto)]
 
-use sf_tool::{Request, RequestFault, Status, read_request, run};
+use sf_tool::{ErrorStream, Request, RequestFault, Status, read_request, run};
 use sf_value::{Reading, Writing};
 use std::env;
 use std::hash::RandomState;
-use std::io::Write;
+use std::io::{IsTerminal, Write};
 use std::process::ExitCode;
 
 fn main(rt: HostRuntime) -> ExitCode {
@@ -33,13 +33,27 @@ fn request_of(rt: &HostRuntime) -> Result<Request, RequestFault> {
     read_request(rt.alloc(), words.as_slice())
 }
 
-/// Answers the request from standard input to standard output, and flushes that.
+/// Answers the request from standard input to standard output, and flushes that. A refusal is
+/// explained on standard error if that is a terminal.
 fn answer(rt: &HostRuntime, request: &Request) -> Status {
     let Ok(seed) = RandomState::new(rt) else {
         return Status::Stopped;
     };
     let mut source = Reading::new(rt.stdin());
     let mut sink = Writing::new(rt.stdout());
-    let status = run(rt.alloc(), &seed, request, &mut source, &mut sink);
+    let stderr = rt.stderr();
+    let is_terminal = stderr.is_terminal();
+    let mut errors = ErrorStream {
+        device: Writing::new(stderr),
+        is_terminal,
+    };
+    let status = run(
+        rt.alloc(),
+        &seed,
+        request,
+        &mut source,
+        &mut sink,
+        &mut errors,
+    );
     status.after_flush(sink.into_inner().flush())
 }

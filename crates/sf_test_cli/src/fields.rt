@@ -1,7 +1,7 @@
 //! `show`, `check` and `normalise`.
-use crate::rows::{ACCEPTED, REFUSED, Row, expect_long, expect_rows};
+use crate::rows::{ACCEPTED, REFUSED, Row, expect_long, expect_rows, run_unseen};
 use sf_test_io::{Paced, Tally};
-use sf_tool::{Request, run};
+use sf_tool::Request;
 use sf_value::{Dialect, Kind};
 use std::alloc::{AllocError, Global};
 use std::hash::RandomState;
@@ -222,7 +222,7 @@ fn few_calls(rt: HostRuntime) -> Result<(), Fail> {
     ] {
         let mut source = Paced::new(input.as_slice(), 1_048_576, 0, 0);
         let mut sink = Tally::new(rt.alloc());
-        let answer = run(rt.alloc(), &seed, &request, &mut source, &mut sink);
+        let answer = run_unseen(&rt, &seed, &request, &mut source, &mut sink);
         assert_eq!(&rt; answer, ACCEPTED);
         assert_eq!(&rt; sink.taken.len(), written);
         assert_eq!(&rt; sink.calls, 1);

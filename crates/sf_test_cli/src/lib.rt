@@ -1,10 +1,12 @@
 //! Tests of the command. It has tests alone: `words` for its words, `fields`, `consumers` and
-//! `targeted` for inputs of [`sf_tool::run`] whose answer is known; in how many ways each input is
-//! read says the README.
+//! `targeted` for inputs of [`sf_tool::run`] whose answer is known, and `explaining` for what a
+//! terminal shows of a refusal; in how many ways each input is read says the README.
 #![tactic(auto)]
 
 #[cfg(test)]
 mod consumers;
+#[cfg(test)]
+mod explaining;
 #[cfg(test)]
 mod fields;
 #[cfg(test)]

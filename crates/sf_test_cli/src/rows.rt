@@ -1,7 +1,7 @@
 //! One row of a table, run in every way.
-use sf_test_io::{Paced, Trickle};
-use sf_tool::{Request, Status, run};
-use sf_value::{Reading, Writing};
+use sf_test_io::{Paced, Tally, Trickle};
+use sf_tool::{ErrorStream, Request, Status, run};
+use sf_value::{Reading, Sink, Source, Writing};
 use std::alloc::Global;
 use std::hash::RandomState;
 use std::process::Abort;
@@ -12,6 +12,23 @@ pub(crate) const REFUSED: Status = Status::Refused;
 
 /// An input, the whole output for it, and the status.
 pub(crate) type Row = (&'static [u8], &'static [u8], Status);
+
+/// Runs where standard error is no terminal, and nothing is written to it.
+pub(crate) fn run_unseen<R: Source, W: Sink>(
+    rt: &(impl Abort + AllocGlobal),
+    seed: &RandomState,
+    request: &Request,
+    source: &mut R,
+    sink: &mut W,
+) -> Status {
+    let mut errors = ErrorStream {
+        device: Tally::new(rt.alloc()),
+        is_terminal: false,
+    };
+    let answer = run(rt.alloc(), seed, request, source, sink, &mut errors);
+    assert_eq!(rt; errors.device.calls, 0);
+    answer
+}
 
 /// The input read at this pace, with a pause behind so many bytes.
 fn expect_paced(
@@ -25,7 +42,7 @@ fn expect_paced(
     let (input, text, status) = row;
     let mut source = Paced::new(input, pace, pause, 0);
     let mut sink = Writing::new(Vec::new(rt.alloc()));
-    let answer = run(rt.alloc(), seed, request, &mut source, &mut sink);
+    let answer = run_unseen(rt, seed, request, &mut source, &mut sink);
     let written = sink.into_inner();
     assert_eq!(rt; written.as_slice(), text);
     assert_eq!(rt; answer, status);
@@ -42,7 +59,7 @@ pub(crate) fn expect_whole(
     let (input, text, status) = row;
     let mut source = Reading::new(input);
     let mut sink = Writing::new(Vec::new(rt.alloc()));
-    let answer = run(rt.alloc(), seed, request, &mut source, &mut sink);
+    let answer = run_unseen(rt, seed, request, &mut source, &mut sink);
     let written = sink.into_inner();
     assert_eq!(rt; written.as_slice(), text);
     assert_eq!(rt; answer, status);
@@ -58,7 +75,7 @@ fn expect_failed_read(
 ) {
     let mut source = Paced::new(input, 1, 0, fails_at);
     let mut sink = Trickle::new(rt.alloc(), 0);
-    let answer = run(rt.alloc(), seed, request, &mut source, &mut sink);
+    let answer = run_unseen(rt, seed, request, &mut source, &mut sink);
     assert_eq!(rt; answer, Status::Stopped);
     assert_eq!(rt; source.calls, fails_at);
     assert_eq!(rt; sink.calls, 0);
@@ -75,7 +92,7 @@ fn expect_failed_write(
     let calls = (front.len() as u64).saturating_add(1);
     let mut source = Reading::new(input);
     let mut sink = Trickle::new(rt.alloc(), calls);
-    let answer = run(rt.alloc(), seed, request, &mut source, &mut sink);
+    let answer = run_unseen(rt, seed, request, &mut source, &mut sink);
     assert_eq!(rt; answer, Status::Stopped);
     assert_eq!(rt; sink.taken.as_slice(), front);
     assert_eq!(rt; sink.calls, calls);
@@ -120,12 +137,12 @@ pub(crate) fn expect_long(
 ) {
     let mut source = Reading::new(input);
     let mut sink = Writing::new(Vec::new(rt.alloc()));
-    let answer = run(rt.alloc(), seed, request, &mut source, &mut sink);
+    let answer = run_unseen(rt, seed, request, &mut source, &mut sink);
     assert_eq!(rt; answer, status);
     assert_eq!(rt; sink.into_inner().as_slice(), text);
     let mut source = Paced::new(input, 1000, 0, 0);
     let mut sink = Writing::new(Vec::new(rt.alloc()));
-    let answer = run(rt.alloc(), seed, request, &mut source, &mut sink);
+    let answer = run_unseen(rt, seed, request, &mut source, &mut sink);
     assert_eq!(rt; answer, status);
     assert_eq!(rt; sink.into_inner().as_slice(), text);
 }

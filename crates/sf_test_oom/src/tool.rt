@@ -3,8 +3,8 @@ use crate::expecting::seen_if;
 use http_header::HeaderName;
 use sf_test_alloc::{Seen, refusals, seen_without_memory};
 use sf_test_io::Paced;
-use sf_tool::{Request, RequestFault, Status, read_request, run};
-use sf_value::{Dialect, Kind, Writing};
+use sf_tool::{ErrorStream, Request, RequestFault, Status, read_request, run};
+use sf_value::{Dialect, Kind, Reading, Writing};
 use std::alloc::Global;
 use std::hash::RandomState;
 use std::test::Fail;
@@ -140,7 +140,11 @@ fn ran(alloc: Global, seed: &RandomState, request: &Request, row: Row, room: &mu
     room.clear();
     let mut sink = Writing::new(&mut *room);
     let mut source = Paced::new(input, 1, 0, 0);
-    let answer = run(alloc, seed, request, &mut source, &mut sink);
+    let mut errors = ErrorStream {
+        device: Writing::new(Vec::new(alloc)),
+        is_terminal: false,
+    };
+    let answer = run(alloc, seed, request, &mut source, &mut sink, &mut errors);
     if answer == Status::Stopped && room.is_empty() {
         Seen::Refused
     } else {
@@ -280,5 +284,60 @@ fn answers_without_memory(rt: HostRuntime) -> Result<(), Fail> {
         ran(alloc, &seed, &item, (b"", text, Status::Refused), &mut room)
     });
     assert_eq!(&rt; seen, Some(Seen::Right));
+    Ok(())
+}
+
+/// Runs at a terminal, whose bytes go into the second room: either the whole explanation or nothing
+/// is written, and the answer is there whatever memory is left for it.
+fn explained(
+    alloc: Global,
+    seed: &RandomState,
+    row: Row,
+    words: &[u8],
+    room: &mut Vec<u8>,
+    told: &mut Vec<u8>,
+) -> Seen {
+    let (input, text, status) = row;
+    room.clear();
+    told.clear();
+    let mut sink = Writing::new(&mut *room);
+    let mut errors = ErrorStream {
+        device: Writing::new(&mut *told),
+        is_terminal: true,
+    };
+    let mut source = Reading::new(input);
+    let item = Request::Check(Dialect::Rfc9651, Kind::Item);
+    let answer = run(alloc, seed, &item, &mut source, &mut sink, &mut errors);
+    drop(errors);
+    if answer == Status::Stopped && room.is_empty() && told.is_empty() {
+        return Seen::Refused;
+    }
+    if answer != status || room.as_slice() != text {
+        return Seen::Wrong;
+    }
+    if told.is_empty() {
+        return Seen::Refused;
+    }
+    seen_if(told.as_slice() == words)
+}
+
+/// An explanation for which memory is wanting is left out, and the answer stays.
+#[test]
+fn explanations(rt: HostRuntime) -> Result<(), Fail> {
+    let alloc = rt.alloc();
+    let seed = RandomState::new(&rt)?;
+    let mut room = Vec::with_capacity(alloc, 1000)?;
+    let mut told = Vec::with_capacity(alloc, 1000)?;
+    let row: Row = (
+        b"1 2",
+        b"refused at 2 found 0x32 expected 20 end\n",
+        Status::Refused,
+    );
+    let words =
+        b"byte 0x32 '2' at place 2, expected a space or the end\nline 1, place 2:\n1 2\n  ^\n";
+    let found = refusals(alloc, || {
+        explained(alloc, &seed, row, words.as_slice(), &mut room, &mut told)
+    });
+    assert!(rt; found > Some(0), "{found:?}");
     Ok(())
 }

@@ -1,12 +1,13 @@
 -- The first line of a text, and how long lines are.
-use Rattle.std.proofs.Common.{◌≡◌, ℕ, ◌<◌, ◌≤◌, false, List, [], ◌∷◌, length}
+use Rattle.std.proofs.Common.{◌≡◌, ℕ, ◌<◌, ◌≤◌, ◌⊎◌, inl, inr, false, not, List, [], ◌∷◌, length}
 use Rattle.std.proofs.Common.{◌-◌, length-drop, length-take, refl, ◌∙◌, ap, arith}
 use Rattle.std.specs.Prelude.{All}
 use Rattle.std.specs.List.{prefix_len, suffix_len, slice_split, position_or_len}
 use Rattle.std.specs.List.{before_first, after_first}
 use Rattle.std.specs.Str.Lines.{lines, lines_of_parts, strip_carriage_return}
 use Rattle.std.proofs.lemmas.List.Splits.{slice_split_first, slice_split_none, length-slice_split}
-use Rattle.std.proofs.lemmas.List.Sums.{fails_before_first}
+use Rattle.std.proofs.lemmas.Bool.{cases_lt}
+use Rattle.std.proofs.lemmas.List.Sums.{fails_before_first, prefix_len-le-length}
 use Rattle.std.proofs.Math.Dec.{eqb-suc-zero}
 use Rattle.sf_value.specs.Grammar.Classes.{is_ows}
 use Rattle.sf_tool.specs.Lines.{is_line_feed, without_lead, trim}
@@ -39,6 +40,20 @@ lines-last text some none =
     let fails : All (λ x. is_line_feed x ≡ false) text =
     λ k d h. fails_before_first is_line_feed text k d (omega arith) in
     ap lines_of_parts (slice_split_none is_line_feed text fails) ∙ last_part text some
+
+-- a text that is not empty has a line
+pub lines-some : (text : List ℕ) → 0 < length text → 0 < length (lines text)
+lines-some text some =
+    at (cases_lt (position_or_len is_line_feed text) (length text))
+  where
+    at : (position_or_len is_line_feed text < length text)
+        ⊎ (length text ≤ position_or_len is_line_feed text)
+        → 0 < length (lines text)
+    at (inl feed) = rw (lines-first text feed) (omega arith)
+    at (inr none) =
+        let all : position_or_len is_line_feed text ≡ length text =
+        omega (arith, none, prefix_len-le-length (λ b. not (is_line_feed b)) text) in
+        rw (lines-last text some all) (omega arith)
 
 -- the blanks at the ends of a line add nothing
 pub length-trim : (l : List ℕ) → length (trim l) ≤ length l

@@ -8,3 +8,4 @@ pub mod CommandLine
 pub mod SomeWords
 pub mod Tells
 pub mod Places
+pub mod Spots

@@ -13,4 +13,5 @@ pub mod Tree
 pub mod PathLines
 pub mod ChoiceLines
 pub mod PriorityLine
+pub mod Explaining
 pub mod Run

@@ -41,6 +41,7 @@ use Rattle.sf_tool.specs.PathLines.{path_lines, not_a_cache_line}
 use Rattle.sf_tool.specs.Fields.{AreFields, IsFirstRefused, MayAllocateAt}
 use Rattle.sf_tool.specs.ChoiceLines.{choice_lines, refused_line}
 use Rattle.sf_tool.specs.PriorityLine.{priority_line}
+use Rattle.sf_tool.specs.Explaining.{Explained, ExplainedBy, Explains, too_long_words}
 
 -- the length in bytes of the longest input that is read
 abbrev pub input_limit : ℕ
@@ -188,12 +189,16 @@ pub record ReadInPart (old new : SourceState) : Type 0 where
   pub given : (Gave old new bytes × (0 < length bytes)) ⊎ GaveAndFailed old new bytes
 
 -- the whole input was read and then answered; or it was too long, and that was told, whatever
--- memory there was; or it was not all read, and nothing was written
-abbrev pub Ran : Request → SourceState → SourceState → SinkState → SinkState → Status → Type 0
-Ran request source source' sink sink' status =
-    ((input : List ℕ) × IsWhole source source' input × Tells request input sink sink' status)
-    ⊎ ((IsTooLong source source' × TellsText (too_long_line input_limit) Refused sink sink' status)
-    ⊎ (ReadInPart source source' × (sink' ≡ sink) × (status ≡ Stopped)))
+-- memory there was; or it was not all read, and nothing was written. Where standard error is a
+-- terminal a refusal is explained on it, and else nothing is written there
+abbrev pub Ran : Request → Bool → SourceState → SourceState → SinkState → SinkState → SinkState
+    → SinkState → Status → Type 0
+Ran request is_terminal source source' sink sink' errors errors' status =
+    ((input : List ℕ) × IsWhole source source' input × Tells request input sink sink' status
+    × Explained is_terminal status (Explains request input) errors errors')
+    ⊎ ((IsTooLong source source' × TellsText (too_long_line input_limit) Refused sink sink' status
+    × ExplainedBy is_terminal status (too_long_words input_limit) errors errors')
+    ⊎ (ReadInPart source source' × (sink' ≡ sink) × (errors' ≡ errors) × (status ≡ Stopped)))
 
 -- a refusal was answered: its line was to be written, or an allocation failed
 abbrev pub TellsRefusal : Refusal → SinkState → SinkState → Status → Type 0

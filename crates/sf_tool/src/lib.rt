@@ -1,12 +1,14 @@
 //! The command `sf` as a library: [`read_request`] parses the command line, and [`run`] answers the
 //! request from a source to a sink. In `specs/`, `CommandLine` defines which arguments make which
-//! request; `Texts`, `Tree`, `PathLines`, `ChoiceLines` and `PriorityLine` define what is printed;
-//! and `Run` defines what a run reads, answers and writes.
+//! request; `Texts`, `Tree`, `PathLines`, `ChoiceLines` and `PriorityLine` define what is printed,
+//! and `Explaining` what a terminal shows of a refusal; and `Run` defines what a run reads, answers
+//! and writes.
 #![tactic(auto)]
 
 mod answering;
 mod choice;
 mod cutting;
+mod explaining;
 mod fields;
 mod header_names;
 mod path;
@@ -22,6 +24,7 @@ mod tree;
 pub use answering::{answer_made, answer_too_long};
 pub use choice::put_policy;
 pub use cutting::{split_at_first, split_line, trimmed, without_lead};
+pub use explaining::ErrorStream;
 pub use path::put_path;
 pub use priority::put_priority;
 pub use reading::{ReadAllFault, read_all};

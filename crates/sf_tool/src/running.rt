@@ -1,5 +1,5 @@
 //! Running a request.
-ghost use Rattle.std.specs.Prelude.{◌≡◌, ◌≤◌, [], length, IfErr};
+ghost use Rattle.std.specs.Prelude.{◌≡◌, ◌≤◌, [], length, IfErr, IfSome};
 ghost use Rattle.sf_field.specs.Asking.{Asks};
 ghost use Rattle.sf_field.specs.Lines.{ParsesLines};
 ghost use Rattle.sf_parse.specs.AllocationFree.{TakesNoMemory};
@@ -8,6 +8,7 @@ ghost use Rattle.sf_tool.specs.declared.request.Request.TheVariants as request_i
 ghost use Rattle.sf_tool.specs.declared.status.Status.TheVariants as status_is;
 ghost use Rattle.sf_tool.specs.Lines.{lines_of as lines_in};
 ghost use Rattle.sf_tool.specs.ChoiceLines.{choice_lines, IsPlaceOf};
+ghost use Rattle.sf_tool.specs.Explaining.{Explained, Explains, ExplainsField, ExplainsPath};
 ghost use Rattle.sf_tool.specs.Run.{Ran, Tells, TellsInputFault, TellsText};
 ghost use Rattle.sf_tool.specs.Run.{input_limit, joined, view_request, IsOfText, IsAskOfText};
 
@@ -16,12 +17,13 @@ use crate::answering::{
     answer_priority, answer_refusal, answer_refused_line, answer_too_long, answer_view,
 };
 use crate::cutting::InputLines;
+use crate::explaining::{ErrorStream, explain_too_long, no_cache_in_words, refusal_in_words, show};
 use crate::fields::{InputFault, read_fields};
 use crate::reading::{ReadAllFault, read_all};
 use crate::request::Request;
 use crate::status::Status;
 use http_header::HeaderName;
-use sf_field::{AskFault, Consumer, ask_from, parse_from};
+use sf_field::{AskFault, Consumer, UseFault, ask_from, parse_from};
 use sf_parse::Refusal;
 use sf_use::{CacheStatus, Choice, PriorityField, select};
 use sf_value::{Dialect, Field, Kind, Sink, Source, Writing};
@@ -32,6 +34,7 @@ use std::hash::RandomState;
 pub const INPUT_LIMIT: u64 = 1_048_576;
 
 /// Answers a request: reads the whole input from the source, computes, and then writes to the sink.
+/// If the input is refused and the error stream is a terminal, the refusal is then explained on it.
 ///
 /// An input longer than [`INPUT_LIMIT`] is refused after one byte beyond the limit was read,
 /// whatever memory is left. No byte is asked for after that, or after the end of the input. If a
@@ -42,27 +45,45 @@ pub const INPUT_LIMIT: u64 = 1_048_576;
 /// at most 262,144 bytes at a time, and the whole answer is sent to the sink at once if it can be
 /// allocated.
 ///
+/// The explanation is the refusal in words and its line with a caret, or the member that names no
+/// cache; a refused line of [`Request::Targeted`] has none. To explain an input, it is parsed once
+/// more. If an allocation for that fails, nothing is explained; if a write of it fails, that is not
+/// told. Neither changes the result or what was written to the sink.
+///
 /// ```
 /// let request = Request::Normalise(Dialect::Rfc9651, Kind::Item);
 /// let mut source = Reading::new(b" -0 \n".as_slice());
 /// let mut sink = Writing::new(Vec::new(alloc));
-/// let status = run(alloc, &seed, &request, &mut source, &mut sink); // Accepted, and "0\n"
+/// let mut errors = ErrorStream { device: Writing::new(Vec::new(alloc)), is_terminal: false };
+/// let status = run(alloc, &seed, &request, &mut source, &mut sink, &mut errors);
+/// // Accepted, and "0\n"
 /// ```
-pub fn run<R: Source, W: Sink>(
+pub fn run<R: Source, W: Sink, E: Sink>(
     alloc: Global,
     seed: &RandomState,
     request: &Request,
     source: &mut R,
     sink: &mut W,
+    errors: &mut ErrorStream<E>,
 ) -> Status
-    // The whole input is read and answered, or refused as too long; otherwise nothing is written.
-    ensures { Ran request.now (R.state source.old) (R.state source.new)
-        (W.state sink.old) (W.state sink.new) result }
+    // The whole input is read and answered, or refused as too long; otherwise nothing is written. A
+    // refusal is explained if the error stream is a terminal.
+    ensures { Ran request.now errors.old.is_terminal (R.state source.old) (R.state source.new)
+        (W.state sink.old) (W.state sink.new)
+        (E.state errors.old.device) (E.state errors.new.device) result }
 {
     match read_all(alloc, INPUT_LIMIT, source) {
-        Ok(input) => answer_at_once(alloc, seed, request, input.as_slice(), sink),
-        Err(ReadAllFault::TooLong { max: _ }) => answer_too_long(INPUT_LIMIT, sink),
-        Err(_) => Status::Stopped,
+        Ok(input) => {
+            let status = answer_at_once(alloc, seed, request, input.as_slice(), sink);
+            explain(alloc, seed, request, input.as_slice(), status, errors);
+            return status;
+        }
+        Err(ReadAllFault::TooLong { max: _ }) => {
+            let status = answer_too_long(INPUT_LIMIT, sink);
+            explain_too_long(INPUT_LIMIT, status, errors);
+            return status;
+        }
+        Err(_) => return Status::Stopped,
     }
 }
 
@@ -263,6 +284,84 @@ fn answer_at_once<W: Sink>(
         _ => {
             drop(made);
             answer(alloc, seed, request, input, sink)
+        }
+    }
+}
+
+/// Returns why the input's field is refused, in words; None if it is not, or an allocation failed.
+fn explain_field(
+    alloc: Global,
+    seed: &RandomState,
+    dialect: Dialect,
+    kind: Kind,
+    input: &[u8],
+) -> Option<Vec<u8>>
+    requires { length input.now ≤ input_limit }
+    ensures { IfSome result (λ text. ExplainsField dialect kind input.now text.items) }
+{
+    match parse_input(alloc, seed, dialect, kind, input) {
+        Ok(_) => return None,
+        Err(refusal) => return refusal_in_words(alloc, refusal, input),
+    }
+}
+
+/// Returns why the input is no path of caches, in words; None if it is one, or an allocation
+/// failed.
+fn explain_path(alloc: Global, seed: &RandomState, input: &[u8]) -> Option<Vec<u8>>
+    requires { length input.now ≤ input_limit }
+    ensures { IfSome result (λ text. ExplainsPath input.now text.items) }
+{
+    match ask_input(alloc, seed, &CacheStatus, input) {
+        Ok(_) => return None,
+        Err(AskFault::Field(refusal)) => return refusal_in_words(alloc, refusal, input),
+        Err(AskFault::Answer(UseFault::NotACache { index })) => {
+            return no_cache_in_words(alloc, index);
+        }
+        Err(AskFault::Answer(UseFault::OutOfMemory)) => return None,
+    }
+}
+
+/// Returns why the input is refused, in words; None if it is not, if there are none, or if an
+/// allocation failed.
+fn explanation(
+    alloc: Global,
+    seed: &RandomState,
+    request: &Request,
+    input: &[u8],
+) -> Option<Vec<u8>>
+    requires { length input.now ≤ input_limit }
+    ensures { IfSome result (λ text. Explains request.now input.now text.items) }
+{
+    match request {
+        Request::Show(dialect, kind)
+        | Request::Check(dialect, kind)
+        | Request::Normalise(dialect, kind) => {
+            return explain_field(alloc, seed, *dialect, *kind, input);
+        }
+        Request::CacheStatus => return explain_path(alloc, seed, input),
+        Request::Targeted(_) => return None,
+        Request::Priority => {
+            return explain_field(alloc, seed, Dialect::Rfc9651, Kind::Dict, input);
+        }
+    }
+}
+
+/// Explains why the input was refused, if it was and the error stream is a terminal.
+fn explain<E: Sink>(
+    alloc: Global,
+    seed: &RandomState,
+    request: &Request,
+    input: &[u8],
+    status: Status,
+    errors: &mut ErrorStream<E>,
+)
+    requires { length input.now ≤ input_limit }
+    ensures { Explained errors.old.is_terminal status (Explains request.now input.now)
+        (E.state errors.old.device) (E.state errors.new.device) }
+{
+    if errors.explains(status) {
+        if let Some(text) = explanation(alloc, seed, request, input) {
+            show(text.as_slice(), &mut errors.device);
         }
     }
 }

@@ -1,0 +1,109 @@
+//! What a terminal shows of a refusal: why, in words, and the line that it is in.
+ghost use Rattle.std.specs.Prelude.{◌≡◌, ◌≢◌, ◌≤◌, ◌↔◌, length, IfSome, IsTrue};
+ghost use Rattle.sf_parse.specs.declared.refusal.Refusal.TheVariants as refusal_is;
+ghost use Rattle.sf_parse.specs.Spots.{line_place, place_in};
+ghost use Rattle.sf_tool.specs.Explaining.{ExplainedBy, IsExplained, Shows};
+ghost use Rattle.sf_tool.specs.Explaining.{no_cache_words, refusal_words, too_long_words};
+ghost use Rattle.sf_tool.specs.Lines.{lines_of as lines_in};
+ghost use Rattle.sf_tool.specs.Run.{input_limit};
+
+use crate::cutting::{split_line, trimmed};
+use crate::refusing::put_number;
+use crate::status::Status;
+use sf_parse::{InLine, Refusal, Spot};
+use sf_value::Sink;
+use sf_write::put;
+use std::alloc::Global;
+
+/// Standard error, or a device in its place, on which a refusal is explained if it is a terminal.
+///
+/// ```
+/// let stderr = rt.stderr();
+/// let is_terminal = stderr.is_terminal();
+/// let errors = ErrorStream { device: Writing::new(stderr), is_terminal };
+/// ```
+#[derive(Debug, Drop)]
+pub struct ErrorStream<E> {
+    /// The device.
+    pub device: E,
+    /// Whether it is a terminal. Otherwise nothing is written to it.
+    pub is_terminal: bool,
+}
+
+impl<E> ErrorStream<E> {
+    /// Returns whether a run that ends so is explained: its input was refused, and the device is a
+    /// terminal.
+    pub(crate) fn explains(&self, status: Status) -> bool
+        ensures { IsTrue result ↔ IsExplained self.now.is_terminal status }
+    {
+        self.is_terminal && matches!(status, Status::Refused)
+    }
+}
+
+/// Writes a text. If that fails, nobody can be told.
+pub(crate) fn show<E: Sink>(text: &[u8], device: &mut E)
+    ensures { Shows text.now (E.state device.old) (E.state device.new) }
+{
+    let _ = put(text, Ok(0), device);
+}
+
+/// Explains that an input is longer than this limit.
+pub(crate) fn explain_too_long<E: Sink>(limit: u64, status: Status, errors: &mut ErrorStream<E>)
+    ensures { ExplainedBy errors.old.is_terminal status (too_long_words limit)
+        (E.state errors.old.device) (E.state errors.new.device) }
+{
+    if errors.explains(status) {
+        let sent = put(b"more than ", Ok(0), &mut errors.device);
+        let sent = put_number(limit, sent, &mut errors.device);
+        let _ = put(b" bytes\n", sent, &mut errors.device);
+    }
+}
+
+/// Returns where in the input's lines a place of their joined text is; None if there is no line.
+fn find_spot<'a>(input: &'a [u8], place: u64) -> Option<Spot<'a>>
+    requires { length input.now ≤ input_limit }
+    // The first line is line 1.
+    ensures { line_place result ≡ place_in 1 (lines_in input.now) place }
+{
+    let mut left = input;
+    let mut line = 1usize;
+    let mut rest = place;
+    while let Some((first, more)) = split_line(left) {
+        let text = trimmed(first);
+        let length = text.len() as u64;
+        if more.is_empty() || rest.saturating_sub(length) < 2 {
+            let place = rest.min(length) as usize;
+            return Some(Spot { line, place, text });
+        }
+        rest = rest - length - 2;
+        line += 1;
+        left = more;
+    }
+    None
+}
+
+/// Returns the refusal of the input's lines in words, with its line; None if an allocation failed,
+/// now or for the refusal.
+pub(crate) fn refusal_in_words(alloc: Global, refusal: Refusal, input: &[u8]) -> Option<Vec<u8>>
+    requires { length input.now ≤ input_limit }
+    ensures { IfSome result (λ text. (refusal ≢ refusal_is.OutOfMemory)
+        × (text.items ≡ refusal_words refusal (lines_in input.now))) }
+{
+    let spot = match refusal {
+        Refusal::Syntax { place, .. } => find_spot(input, place),
+        Refusal::OutOfMemory => return None,
+        Refusal::TooLong { .. } | Refusal::ReadFault { .. } => None,
+    };
+    let shown = InLine { refusal, spot };
+    let text = format!(in alloc; "{shown}\n").ok()?;
+    Some(text.into_bytes())
+}
+
+/// Returns the words for the member at this index, which names no cache; None if an allocation
+/// failed.
+pub(crate) fn no_cache_in_words(alloc: Global, index: usize) -> Option<Vec<u8>>
+    ensures { IfSome result (λ text. text.items ≡ no_cache_words index) }
+{
+    let text = format!(in alloc; "member {index} names no cache\n").ok()?;
+    Some(text.into_bytes())
+}
