@@ -3,6 +3,10 @@
 #![tactic(auto)]
 
 #[cfg(test)]
+mod copies;
+#[cfg(test)]
+mod memory;
+#[cfg(test)]
 mod trees;
 #[cfg(test)]
 mod views;

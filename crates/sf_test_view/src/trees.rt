@@ -1,6 +1,6 @@
 //! Texts by both ways: the tree of each, and its view, have the same parts.
 use sf_parse::parse_text_in;
-use sf_value::{Bare, Dialect, Entries, Field, Inner, Item, Kind, List, Member, same};
+use sf_value::{Bare, Dialect, Entries, Field, Inner, Item, Kind, Member};
 use sf_view::{BareView, Node, Slice, View};
 use std::alloc::Global;
 use std::hash::RandomState;
@@ -168,7 +168,7 @@ fn check(
 }
 
 // The examples of RFC 9651, and texts with each type, escape and kind of part.
-static TEXTS: [(Kind, &[u8]); 40] = [
+pub(crate) static TEXTS: [(Kind, &[u8]); 40] = [
     (
         Kind::List,
         b"\"foo\", \"bar\", \"It was the best of times.\"",
@@ -237,99 +237,6 @@ fn views_have_the_parts_of_trees(rt: HostRuntime) -> Result<(), Fail> {
     let seed = RandomState::new(&rt)?;
     for (kind, text) in &TEXTS {
         check(&rt, rt.alloc(), &seed, *kind, text)?;
-    }
-    Ok(())
-}
-
-/// The bare item of an Item field, copied.
-fn copied(alloc: Global, text: &[u8]) -> Option<Bare> {
-    let mut buffer = [Node::NONE; 8];
-    let view = View::scan(Dialect::Rfc9651, Kind::Item, text, &mut buffer).ok()?;
-    view.bare()?.to_bare(alloc).ok()
-}
-
-/// The Item of an Item field, copied with its parameters.
-fn copied_item(alloc: Global, seed: &RandomState, text: &[u8]) -> Option<Item> {
-    let mut buffer = [Node::NONE; 8];
-    let view = View::scan(Dialect::Rfc9651, Kind::Item, text, &mut buffer).ok()?;
-    view.to_item(alloc, seed).ok()
-}
-
-static BARE_ITEMS: [&[u8]; 9] = [
-    b"-42",
-    b"4.5",
-    b"\"a\\\"b\"",
-    b"\"plain\"",
-    b"a/b",
-    b":AAECAwQFBgcICQ:",
-    b"?0",
-    b"@1659578233",
-    b"%\"%f0%9f%92%a9%25\"",
-];
-
-#[test]
-fn copies_are_those_of_trees(rt: HostRuntime) -> Result<(), Fail> {
-    let seed = RandomState::new(&rt)?;
-    for text in &BARE_ITEMS {
-        let field = parse_text_in(rt.alloc(), &seed, Dialect::Rfc9651, Kind::Item, text)?;
-        match copied(rt.alloc(), text) {
-            Some(bare) => {
-                let copy = Field::Item(Item::new(rt.alloc(), &seed, bare));
-                assert!(&rt; same(&copy, &field));
-            }
-            None => assert!(&rt; false),
-        }
-    }
-    Ok(())
-}
-
-/// The Inner List that a List begins with, copied.
-fn copied_inner(alloc: Global, seed: &RandomState, text: &[u8]) -> Option<Inner> {
-    let mut buffer = [Node::NONE; 16];
-    let view = View::scan(Dialect::Rfc9651, Kind::List, text, &mut buffer).ok()?;
-    let (first, _) = view.split_first()?;
-    first.to_inner(alloc, seed).ok()
-}
-
-static INNER_LISTS: [&[u8]; 4] = [
-    b"()",
-    b"( 1  2 );a",
-    b"(\"foo\"; a=1;b=2 :YQ==:);lvl=5;q=\"\\\"\"",
-    b"(a;b c;d=1;e);f;g=h",
-];
-
-#[test]
-fn copied_inner_lists_are_those_of_trees(rt: HostRuntime) -> Result<(), Fail> {
-    let seed = RandomState::new(&rt)?;
-    for text in &INNER_LISTS {
-        let field = parse_text_in(rt.alloc(), &seed, Dialect::Rfc9651, Kind::List, text)?;
-        match copied_inner(rt.alloc(), &seed, text) {
-            Some(inner) => {
-                let list = List::new(rt.alloc()).with(Member::Inner(inner))?;
-                assert!(&rt; same(&Field::List(list), &field));
-            }
-            None => assert!(&rt; false),
-        }
-    }
-    Ok(())
-}
-
-static WITH_PARAMETERS: [&[u8]; 4] = [
-    b"1; a; b=?0",
-    b"5; foo=bar",
-    b"a;b=\"\\\"\";c=:YQ==:;d=%\"%25\";e=1.5;f",
-    b":YQ==:;q=@0",
-];
-
-#[test]
-fn copied_items_are_those_of_trees(rt: HostRuntime) -> Result<(), Fail> {
-    let seed = RandomState::new(&rt)?;
-    for text in &WITH_PARAMETERS {
-        let field = parse_text_in(rt.alloc(), &seed, Dialect::Rfc9651, Kind::Item, text)?;
-        match copied_item(rt.alloc(), &seed, text) {
-            Some(item) => assert!(&rt; same(&Field::Item(item), &field)),
-            None => assert!(&rt; false),
-        }
     }
     Ok(())
 }

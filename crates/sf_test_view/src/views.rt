@@ -54,7 +54,7 @@ static DICTIONARY: [Part; 11] = [
     ),
 ];
 
-const DICTIONARY_TEXT: &[u8] =
+pub(crate) const DICTIONARY_TEXT: &[u8] =
     b" u=-1 ,\ti; q=1.5, l=( a/b;x=\"y z\"  \"\\\"\");y=?0;z=@7, b=:YQ==:,s=%\"%c3%bc\" ";
 
 /// The bytes of the text from a place on; none if it has no such bytes.
@@ -100,7 +100,7 @@ fn has_view(dialect: Dialect, kind: Kind, text: &[u8]) -> bool {
     View::scan(dialect, kind, text, &mut buffer).is_ok()
 }
 
-static ACCEPTED: [(Kind, &[u8]); 34] = [
+pub(crate) static ACCEPTED: [(Kind, &[u8]); 34] = [
     (Kind::Item, b" -0 "),
     (Kind::Item, b"-0.5"),
     (Kind::Item, b"007"),
@@ -288,7 +288,7 @@ fn decodes(text: &[u8], room: usize, bytes: &[u8]) -> bool {
 }
 
 // The texts of RFC 9651 and of RFC 4648 section 10, with the bytes that they stand for.
-static CODED: [(&[u8], &[u8]); 16] = [
+pub(crate) static CODED: [(&[u8], &[u8]); 16] = [
     (b"\"hello world\"", b"hello world"),
     (b"\"\"", b""),
     (b"\"\\\"\\\\\"", b"\"\\"),

@@ -1,107 +1,167 @@
--- Parameters and Items are copied.
-use Rattle.std.proofs.Common.{◌≡◌, ℕ, List, [], ◌∷◌, ◌++◌, refl, sym, ap, ap₂, ◌∙◌, append-nil}
-use Rattle.std.proofs.Common.{append_assoc, subst}
+-- Parts are copied one after another.
+use Rattle.std.proofs.Common.{◌≡◌, ℕ, List, [], ◌∷◌, ◌++◌, refl, sym, ap, ◌∙◌, append-nil}
+use Rattle.std.proofs.Common.{append_assoc, subst, Option, Some, None}
 use Rattle.sf_value.specs.declared.dialect.Dialect.{Dialect}
-use Rattle.sf_value.specs.declared.value.Bare.{Bare}
+use Rattle.sf_value.specs.declared.value.Field.{Field}
 use Rattle.sf_value.specs.declared.value.Item.{Item}
+use Rattle.sf_value.specs.declared.value.Kind.{Kind}
 use Rattle.sf_value.specs.Grammar.Words.{Each}
-use Rattle.sf_value.specs.Grammar.Pairs.{Pairs, HasDistinctKeys, settle, put}
+use Rattle.sf_value.specs.Grammar.Pairs.{Pairs, HasDistinctKeys, settle}
+use Rattle.sf_value.specs.Grammar.Valid.{ValidItem, Valid}
 use Rattle.sf_value.proofs.Settling.{put_more, put_settled}
+use Rattle.sf_value.proofs.Validity.{spelled_valid}
 use Rattle.sf_view.specs.declared.node.Node.{Node}
-use Rattle.sf_view.specs.declared.node.Role.{Role}
-use Rattle.sf_view.specs.declared.node.Role.TheVariants as role_is
-use Rattle.sf_view.specs.View.{DescribesParams, DescribesItem, DescribesItems}
+use Rattle.sf_view.specs.declared.view.View.{View}
+use Rattle.sf_view.specs.Copies.{IsCopy, IsFieldOf}
+use Rattle.sf_view.specs.View.{DescribesField}
+use Rattle.sf_view.specs.Views.{IsViewed}
 use Rattle.sf_view.specs.Parts.{SplitsOff}
 
--- of these parameters some are copied, and the rest of the nodes describes the others
-pub record ParamsLeft (d : Dialect) (source : List ℕ) (r : Role) (nodes : List Node)
-    (all ps : Pairs Bare) : Type 0 where
-  pub left : Pairs Bare
-  pub describes : DescribesParams d source r nodes left
+-- of these parts some are copied, and the rest of the nodes describes the others, and a fact holds
+-- of each of those
+pub record PartsLeft {X : Type 0} (T : List Node → List X → Type 0) (E : X → Type 0)
+    (nodes : List Node) (all xs : List X) : Type 0 where
+  pub left : List X
+  pub describes : T nodes left
+  pub each : Each E left
+  pub same : all ++ left ≡ xs
+
+module _ {X : Type 0} (P : List Node → X → Type 0) (T : List Node → List X → Type 0)
+    (E : X → Type 0) where
+  pub parts_more : (nodes front later : List Node) (all more xs : List X) (x : X)
+      → PartsLeft T E nodes all xs
+      → ((ys : List X) → T nodes ys → SplitsOff P T ys front later)
+      → ((y : X) → P front y → E y → x ≡ y)
+      → more ≡ all ++ x ∷ [] → PartsLeft T E later more xs
+  parts_more nodes front later all more xs x l splits copy e =
+      let h = splits l.left l.describes in
+      let each = subst (Each E) h.parts l.each in
+      record {
+        left = h.others;
+        describes = h.rest;
+        each = each.1;
+        same =
+            ap (λ y. y ++ h.others) e
+            ∙ append_assoc all (x ∷ []) h.others
+            ∙ ap (λ y. all ++ y ∷ h.others) (copy h.value h.first each.0)
+            ∙ ap (λ y. all ++ y) (sym h.parts)
+            ∙ l.same;
+      }
+
+  -- a first part that has no copy
+  pub parts_stuck : (nodes front later : List Node) (all xs : List X)
+      → PartsLeft T E nodes all xs
+      → ((ys : List X) → T nodes ys → SplitsOff P T ys front later)
+      → ((y : X) → P front y → E y → ⊥) → ⊥
+  parts_stuck nodes front later all xs l splits stuck =
+      let h = splits l.left l.describes in
+      let each = subst (Each E) h.parts l.each in
+      stuck h.value h.first each.0
+
+pub parts_begin : {X : Type 0} (T : List Node → List X → Type 0) (E : X → Type 0)
+    (nodes : List Node) (xs : List X) → T nodes xs → Each E xs → PartsLeft T E nodes [] xs
+parts_begin T E nodes xs t e = record { left = xs; describes = t; each = e; same = refl }
+
+pub parts_done : {X : Type 0} (T : List Node → List X → Type 0) (E : X → Type 0)
+    (nodes : List Node) (all xs : List X) → PartsLeft T E nodes all xs
+    → ((ys : List X) → T nodes ys → ys ≡ []) → all ≡ xs
+parts_done T E nodes all xs l none =
+    sym (append-nil all) ∙ ap (λ y. all ++ y) (sym (none l.left l.describes)) ∙ l.same
+
+-- the same of parts with keys, of which a later one takes the place of one with its key
+pub record PairsLeft {X : Type 0} (T : List Node → Pairs X → Type 0) (E : List ℕ × X → Type 0)
+    (nodes : List Node) (all ps : Pairs X) : Type 0 where
+  pub left : Pairs X
+  pub describes : T nodes left
+  pub each : Each E left
   pub same : settle (all ++ left) ≡ settle ps
 
-pub params_begin : (d : Dialect) (source : List ℕ) (r : Role) (nodes : List Node) (ps : Pairs Bare)
-    → DescribesParams d source r nodes ps → ParamsLeft d source r nodes [] ps
-params_begin d source r nodes ps t = record { left = ps; describes = t; same = refl }
+module _ {X : Type 0} (P : List Node → List ℕ × X → Type 0) (T : List Node → Pairs X → Type 0)
+    (E : List ℕ × X → Type 0) where
+  pub pairs_more : (nodes front later : List Node) (all more ps : Pairs X) (key : List ℕ)
+      (value : X) → PairsLeft T E nodes all ps
+      → ((qs : Pairs X) → T nodes qs → SplitsOff P T qs front later)
+      → ((q : List ℕ × X) → P front q → E q → (key, value) ≡ q)
+      → more ≡ settle (all ++ (key, value) ∷ []) → PairsLeft T E later more ps
+  pairs_more nodes front later all more ps key value l splits copy e =
+      let h = splits l.left l.describes in
+      let each = subst (Each E) h.parts l.each in
+      record {
+        left = h.others;
+        describes = h.rest;
+        each = each.1;
+        same =
+            ap (λ y. settle (y ++ h.others)) e
+            ∙ put_more all key value h.others
+            ∙ ap (λ y. settle (all ++ y ∷ h.others)) (copy h.value h.first each.0)
+            ∙ ap (λ y. settle (all ++ y)) (sym h.parts)
+            ∙ l.same;
+      }
 
-pub params_more : (d : Dialect) (source : List ℕ) (r : Role) (nodes front later : List Node)
-    (all more ps : Pairs Bare) (key : List ℕ) (value : Bare)
-    → ParamsLeft d source r nodes all ps
-    → ((qs : Pairs Bare) → DescribesParams d source r nodes qs
-    → SplitsOff (λ ns p. DescribesParams d source r ns (p ∷ [])) (DescribesParams d source r) qs
-    front later)
-    → ((k : List ℕ) (x : Bare) → DescribesParams d source r front ((k, x) ∷ [])
-    → (key ≡ k) × (value ≡ x))
-    → more ≡ settle (all ++ (key, value) ∷ []) → ParamsLeft d source r later more ps
-params_more d source r nodes front later all more ps key value l splits is e =
-    let h = splits l.left l.describes in
-    let o = is h.value.0 h.value.1 h.first in
-    let pair : (key, value) ≡ h.value = ap₂ (λ k x. (k, x)) o.0 o.1 in
-    record {
-      left = h.others;
-      describes = h.rest;
-      same =
-          ap (λ y. settle (y ++ h.others)) e
-          ∙ put_more all key value h.others
-          ∙ ap (λ y. settle (all ++ y ∷ h.others)) pair
-          ∙ ap (λ y. settle (all ++ y)) (sym h.parts)
-          ∙ l.same;
-    }
+  -- a first part that has no copy
+  pub pairs_stuck : (nodes front later : List Node) (all ps : Pairs X)
+      → PairsLeft T E nodes all ps
+      → ((qs : Pairs X) → T nodes qs → SplitsOff P T qs front later)
+      → ((q : List ℕ × X) → P front q → E q → ⊥) → ⊥
+  pairs_stuck nodes front later all ps l splits stuck =
+      let h = splits l.left l.describes in
+      let each = subst (Each E) h.parts l.each in
+      stuck h.value h.first each.0
 
-pub params_done : (d : Dialect) (source : List ℕ) (r : Role) (nodes : List Node)
-    (all ps : Pairs Bare) → ParamsLeft d source r nodes all ps
-    → ((qs : Pairs Bare) → DescribesParams d source r nodes qs → qs ≡ [])
-    → settle all ≡ all → all ≡ settle ps
-params_done d source r nodes all ps l none settled =
+pub pairs_begin : {X : Type 0} (T : List Node → Pairs X → Type 0) (E : List ℕ × X → Type 0)
+    (nodes : List Node) (ps : Pairs X) → T nodes ps → Each E ps → PairsLeft T E nodes [] ps
+pairs_begin T E nodes ps t e = record { left = ps; describes = t; each = e; same = refl }
+
+pub pairs_done : {X : Type 0} (T : List Node → Pairs X → Type 0) (E : List ℕ × X → Type 0)
+    (nodes : List Node) (all ps : Pairs X) → PairsLeft T E nodes all ps
+    → ((qs : Pairs X) → T nodes qs → qs ≡ []) → settle all ≡ all → all ≡ settle ps
+pairs_done T E nodes all ps l none settled =
     sym settled
     ∙ ap settle (sym (append-nil all))
     ∙ ap (λ y. settle (all ++ y)) (sym (none l.left l.describes))
     ∙ l.same
 
-pub settled_more : (all more : Pairs Bare) (key : List ℕ) (value : Bare)
+pub settled_more : {X : Type 0} (all more : Pairs X) (key : List ℕ) (value : X)
     → more ≡ settle (all ++ (key, value) ∷ []) → settle more ≡ more
 settled_more all more key value e =
     ap settle e ∙ put_settled all key value ∙ sym e
 
--- of these Items some are copied, and the rest of the nodes describes the others
-pub record ItemsLeft (d : Dialect) (source : List ℕ) (nodes : List Node) (all is : List Item)
-    : Type 0 where
-  pub left : List Item
-  pub describes : DescribesItems d source nodes left
-  pub distinct : Each (λ i. HasDistinctKeys i.params) left
-  pub same : all ++ left ≡ is
+-- what holds of each if it holds of all
+pub each_if : {X : Type 0} (K : Type 0) (V : X → Type 0) (xs : List X) → (K → Each V xs)
+    → Each (λ x. K → V x) xs
+each_if K V [] f = tt
+each_if K V (x ∷ xs) f = (λ k. (f k).0, each_if K V xs (λ k. (f k).1))
 
-pub items_begin : (d : Dialect) (source : List ℕ) (nodes : List Node) (is : List Item)
-    → DescribesItems d source nodes is → Each (λ i. HasDistinctKeys i.params) is
-    → ItemsLeft d source nodes [] is
-items_begin d source nodes is t e = record { left = is; describes = t; distinct = e; same = refl }
+pub each_both : {X : Type 0} (K : Type 0) (W V : X → Type 0) (xs : List X) → Each W xs
+    → (K → Each V xs) → Each (λ x. W x × (K → V x)) xs
+each_both K W V [] w f = tt
+each_both K W V (x ∷ xs) w f = ((w.0, λ k. (f k).0), each_both K W V xs w.1 (λ k. (f k).1))
 
-pub items_more : (d : Dialect) (source : List ℕ) (nodes front later : List Node)
-    (all more is : List Item) (item : Item) → ItemsLeft d source nodes all is
-    → ((xs : List Item) → DescribesItems d source nodes xs
-    → SplitsOff (DescribesItem d source role_is.InnerItem []) (DescribesItems d source) xs front
-    later)
-    → ((x : Item) → DescribesItem d source role_is.InnerItem [] front x
-    → HasDistinctKeys x.params → item ≡ x)
-    → more ≡ all ++ item ∷ [] → ItemsLeft d source later more is
-items_more d source nodes front later all more is item l splits copy e =
-    let h = splits l.left l.describes in
-    let each = subst (Each (λ i. HasDistinctKeys i.params)) h.parts l.distinct in
-    let o = copy h.value h.first each.0 in
-    record {
-      left = h.others;
-      describes = h.rest;
-      distinct = each.1;
-      same =
-          ap (λ y. y ++ h.others) e
-          ∙ append_assoc all (item ∷ []) h.others
-          ∙ ap (λ y. all ++ y ∷ h.others) o
-          ∙ ap (λ y. all ++ y) (sym h.parts)
-          ∙ l.same;
-    }
+-- a copy that is there, and one that is not
+pub copied : {X : Type 0} (V : Type 0) (x y : X) (o : Option X) → IsCopy V x o → o ≡ Some y → y ≡ x
+copied V x y o h e = let s = subst (IsCopy V x) e h in s
 
-pub items_done : (d : Dialect) (source : List ℕ) (nodes : List Node) (all is : List Item)
-    → ItemsLeft d source nodes all is
-    → ((xs : List Item) → DescribesItems d source nodes xs → xs ≡ []) → all ≡ is
-items_done d source nodes all is l none =
-    sym (append-nil all) ∙ ap (λ y. all ++ y) (sym (none l.left l.describes)) ∙ l.same
+pub uncopied : {X : Type 0} (V : Type 0) (x : X) (o : Option X) → IsCopy V x o → o ≡ None → V → ⊥
+uncopied V x o h e = let s = subst (IsCopy V x) e h in s
+
+pub some_is : {X : Type 0} (x y : X) (o : Option X) → o ≡ Some x → o ≡ Some y → y ≡ x
+some_is x y o e f = let g : Some y ≡ Some x = sym f ∙ e in cc
+
+pub none_is : {X : Type 0} (x : X) (o : Option X) → o ≡ Some x → o ≡ None → ⊥
+none_is x o e f = let g : None ≡ Some x = sym f ∙ e in absurd cc
+
+-- no key is repeated in valid Items
+pub items_distinct : (d : Dialect) (is : List Item) → Each (ValidItem d) is
+    → Each (λ i. HasDistinctKeys i.params) is
+items_distinct d [] v = tt
+items_distinct d (i ∷ is) v = (v.0.1.1, items_distinct d is v.1)
+
+-- the field of a view is the one that its text spells
+pub viewed_is : (d : Dialect) (kind : Kind) (t : List ℕ) (view : View) (o : Option Field)
+    → IsViewed d kind t view
+    → ((v : Field) → DescribesField d view.text.now view.nodes.now v → Valid d kind v
+    → o ≡ Some v) → IsFieldOf d kind t o
+viewed_is d kind t view o w copy =
+    let t' = subst (λ y. DescribesField d y view.nodes.now w.value) (sym w.text) w.describes in
+    let e = copy w.value t' (spelled_valid d kind w.value t w.only.spelled) in
+    subst (IsFieldOf d kind t) (sym e) w.only

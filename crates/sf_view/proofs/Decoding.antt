@@ -1,13 +1,13 @@
 -- Bytes are decoded.
 use Rattle.std.proofs.Common.{◌≡◌, ◌≢◌, ℕ, ◌+◌, ◌*◌, ◌/◌, ◌%◌, ◌≤◌, ◌<◌, Bool, true, false, List, []}
 use Rattle.std.proofs.Common.{length, append_assoc, append-nil, length-append}
-use Rattle.std.proofs.Common.{◌∷◌, ◌++◌, refl, sym, ap, ap₂, ◌∙◌, subst, arith, inl, inr, ◌⊎◌}
+use Rattle.std.proofs.Common.{◌∷◌, ◌++◌, refl, sym, ap, ◌∙◌, subst, arith, inl, inr, ◌⊎◌}
 use Rattle.sf_value.specs.Ascii.{quote, backslash, percent}
 use Rattle.sf_value.specs.Grammar.Words.{Every}
 use Rattle.sf_value.specs.Grammar.Classes.{is_byte}
 use Rattle.sf_value.specs.Grammar.Strings.{is_escaped, escaped}
 use Rattle.sf_value.specs.Grammar.DisplayStrings.{hex, is_unencoded, EncodedBytes}
-use Rattle.sf_value.specs.Grammar.ByteSequences.{letter, unpadded, spare, needed, Pads, Sextets}
+use Rattle.sf_value.specs.Grammar.ByteSequences.{letter, unpadded, spare, needed, Pads}
 use Rattle.sf_parse.proofs.Quads.{letter_same, byte_small, pads_letter, first_small}
 use Rattle.sf_view.specs.declared.bytes.Coding.{Coding}
 use Rattle.sf_view.specs.declared.bytes.Coding.TheVariants as coding

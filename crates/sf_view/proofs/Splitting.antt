@@ -1,5 +1,5 @@
 -- The parts of a view, in order.
-use Rattle.std.proofs.Common.{◌≡◌, ◌≢◌, ℕ, ◌+◌, ◌≤◌, ◌<◌, List, [], ◌∷◌, ◌++◌, length, take, drop}
+use Rattle.std.proofs.Common.{◌≡◌, ◌≢◌, ℕ, List, [], ◌∷◌, ◌++◌, drop}
 use Rattle.std.proofs.Common.{refl, sym, ap, ap₂, ◌∙◌, subst, arith}
 use Rattle.sf_value.specs.declared.dialect.Dialect.{Dialect}
 use Rattle.sf_value.specs.declared.value.Bare.{Bare}
@@ -8,14 +8,13 @@ use Rattle.sf_value.specs.declared.value.Bare.TheVariants.{Blob, Boolean, Date, 
 use Rattle.sf_value.specs.declared.value.Inner.{Inner}
 use Rattle.sf_value.specs.declared.value.Item.{Item}
 use Rattle.sf_value.specs.declared.value.Member.{Member}
-use Rattle.sf_value.specs.declared.value.Member.TheVariants as member
 use Rattle.sf_value.specs.Grammar.Pairs.{Pairs}
 use Rattle.sf_value.specs.Grammar.Words.{Each}
 use Rattle.sf_view.specs.declared.node.Node.{Node}
 use Rattle.sf_view.specs.declared.node.NodeType.TheVariants as type_is
 use Rattle.sf_view.specs.declared.node.Role.{Role}
 use Rattle.sf_view.specs.declared.node.Role.TheVariants as role_is
-use Rattle.sf_view.specs.View.{piece, type_of, DescribesBare, DescribesParams, DescribesItem}
+use Rattle.sf_view.specs.View.{piece, type_of, DescribesParams, DescribesItem}
 use Rattle.sf_view.specs.View.{DescribesItems, DescribesInner, DescribesMember, DescribesMembers}
 use Rattle.sf_view.specs.View.{DescribesEntries}
 use Rattle.sf_view.specs.Finding.{IsHop, NoHop, StartsWithKey, NoKey, IsInside, IsAtParams}

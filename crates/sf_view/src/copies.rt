@@ -1,245 +1,458 @@
-//! Bare items of views, copied to values of their own.
-ghost use Rattle.std.specs.Prelude.{◌≡◌, ◌∷◌, [], ℕ, List, IfOk};
+//! Parts of views, up to the whole field, copied to values of their own.
+ghost use Rattle.std.specs.Prelude.{◌≡◌, ◌∷◌, ◌^◌, ◌<◌, [], ℕ, List as Seq, nat_abs, Some, None, IfOk};
 ghost use Rattle.sf_value.specs.declared.dialect.Dialect.{Dialect as Which};
 ghost use Rattle.sf_value.specs.declared.value.Bare.{Bare as Value};
 ghost use Rattle.sf_value.specs.declared.value.Bare.TheVariants as value_is;
+ghost use Rattle.sf_value.specs.declared.value.Field.{Field as FieldValue};
 ghost use Rattle.sf_value.specs.declared.value.Inner.{Inner as InnerValue};
 ghost use Rattle.sf_value.specs.declared.value.Item.{Item as ItemValue};
-ghost use Rattle.sf_value.specs.Grammar.Words.{Each};
+ghost use Rattle.sf_value.specs.declared.value.Member.{Member as MemberValue};
+ghost use Rattle.sf_value.specs.Grammar.Classes.{is_visible};
+ghost use Rattle.sf_value.specs.Grammar.Tokens.{IsKey, IsToken};
+ghost use Rattle.sf_value.specs.Grammar.Utf8.{WellFormed, Start};
+ghost use Rattle.sf_value.specs.Grammar.Valid.{Valid, ValidBare, ValidItem, ValidInner, ValidMember};
+ghost use Rattle.sf_value.specs.Grammar.Words.{Each, Every};
 ghost use Rattle.sf_value.specs.Grammar.Pairs.{Pairs, HasDistinctKeys, settle};
 ghost use Rattle.sf_view.specs.declared.node.Role.{Role as Place};
 ghost use Rattle.sf_view.specs.View.{DescribesItem, DescribesItems, DescribesInner, DescribesParams};
+ghost use Rattle.sf_view.specs.View.{DescribesMember, DescribesMembers, DescribesEntries, DescribesField};
 ghost use Rattle.sf_view.specs.Decoding.{HasBytes, Remains};
-ghost use Rattle.sf_view.specs.Views.{IsBorrowed};
+ghost use Rattle.sf_view.specs.Views.{IsBorrowed, IsViewed};
+ghost use Rattle.sf_view.specs.Copies.{IsCopy, IsFieldOf, list_of, dict_of};
 
 use crate::bytes::{Coding, take_byte};
 use crate::view::{BareView, Slice, View};
 use sf_value::{
-    Bare, Blob, Entries, Inner, Int, Item, Key, OutOfMemory, Sequence, ShortBytes, Shown, Text,
-    TextFault, Thousandths, Token,
+    Bare, Blob, Dict, Entries, Field, Inner, Int, Item, Key, Kind, List, Member, OutOfMemory,
+    Sequence, ShortBytes, Shown, Text, TextFault, Thousandths, Token,
 };
 use std::alloc::Global;
 use std::hash::RandomState;
 use std::str;
 
-/// Why a bare item has no copy.
-#[derive(Clone, Copy, Debug, PartialEq, Eq)]
-pub enum CopyFault {
-    /// An allocation failed.
-    OutOfMemory,
-    /// The nodes are not those of an accepted text.
-    Unscanned,
-}
-
 impl BareView<'_> {
-    /// The bare item, copied to a value of its own. It allocates.
+    /// The bare item, copied to a value of its own; `None` if there is none like this, as an
+    /// Integer of 16 digits, which no scan returns. It allocates.
     ///
     /// ```
     /// view.get(b"u")?.bare()?.to_bare(alloc)
     /// ```
-    pub fn to_bare(&self, alloc: Global) -> Result<Bare, CopyFault>
-        // Whatever bare item this is, the copy is that one.
-        ensures { (d : Which) (x : Value) → IsBorrowed d self.now x → IfOk result (λ b. b ≡ x) }
+    pub fn to_bare(&self, alloc: Global) -> Result<Option<Bare>, OutOfMemory>
+        // Whatever bare item this is, the copy is that one, and there is one if it is valid.
+        ensures { (d : Which) (x : Value) → IsBorrowed d self.now x
+            → IfOk result (IsCopy (ValidBare d x) x) }
     {
         match self {
-            BareView::Integer(number) => return integer(*number),
-            BareView::Decimal(number) => return decimal(*number),
+            BareView::Integer(number) => return Ok(integer(*number)),
+            BareView::Decimal(number) => return Ok(decimal(*number)),
             BareView::Text(slice) => return text(alloc, *slice),
             BareView::Token(bytes) => return token(alloc, bytes),
             BareView::Blob(slice) => return blob(alloc, *slice),
-            BareView::Boolean(value) => return Ok(Bare::Boolean(*value)),
-            BareView::Date(second) => return date(*second),
+            BareView::Boolean(value) => return Ok(Some(Bare::Boolean(*value))),
+            BareView::Date(second) => return Ok(date(*second)),
             BareView::Shown(slice) => return shown(alloc, *slice),
         }
     }
 }
 
 impl View<'_> {
-    /// The Item, copied to a value of its own, with its parameters. It allocates.
+    /// The Item, copied to a value of its own, with its parameters; `None` for an Inner List. It
+    /// allocates.
     ///
     /// ```
     /// view.get(b"u")?.to_item(alloc, &seed)
     /// ```
-    pub fn to_item(&self, alloc: Global, seed: &RandomState) -> Result<Item, CopyFault>
-        // Whatever Item the nodes describe, the copy is that one, if no key is repeated in it.
-        ensures { (d : Which) (r : Place) (k : List ℕ) (i : ItemValue)
+    pub fn to_item(&self, alloc: Global, seed: &RandomState) -> Result<Option<Item>, OutOfMemory>
+        // Whatever Item the nodes describe, the copy is that one, if no key is repeated in it; and
+        // there is one if the Item is valid.
+        ensures copy { (d : Which) (r : Place) (k : Seq ℕ) (i : ItemValue)
             → DescribesItem d self.now.text.now r k self.now.nodes.now i
             → HasDistinctKeys i.params
-            → IfOk result (λ x. x ≡ i) }
+            → IfOk result (IsCopy (ValidItem d i) i) }
+        // An Inner List has no copy as an Item.
+        ensures inner { (d : Which) (k : Seq ℕ) (l : InnerValue)
+            → DescribesInner d self.now.text.now k self.now.nodes.now l
+            → IfOk result (λ copy. copy ≡ None) }
     {
         let Some(view) = self.bare() else {
-            return Err(CopyFault::Unscanned);
+            return Ok(None);
         };
-        let bare = view.to_bare(alloc)?;
-        let params = params(alloc, seed, self.params())?;
-        Ok(Item { bare, params })
+        let Some(bare) = view.to_bare(alloc)? else {
+            return Ok(None);
+        };
+        let Some(params) = params(alloc, seed, self.params())? else {
+            return Ok(None);
+        };
+        Ok(Some(Item { bare, params }))
     }
 
-    /// The Inner List, copied to a value of its own, with its Items and parameters. It allocates.
+    /// The Inner List, copied to a value of its own, with its Items and parameters; `None` for an
+    /// Item. It allocates.
     ///
     /// ```
     /// view.get(b"l")?.to_inner(alloc, &seed) // of l=(1 2)
     /// ```
-    pub fn to_inner(&self, alloc: Global, seed: &RandomState) -> Result<Inner, CopyFault>
-        // Whatever Inner List the nodes describe, the copy is that one, if no key is repeated in it.
-        ensures { (d : Which) (k : List ℕ) (l : InnerValue)
+    pub fn to_inner(&self, alloc: Global, seed: &RandomState) -> Result<Option<Inner>, OutOfMemory>
+        // Whatever Inner List the nodes describe, the copy is that one, if no key is repeated in
+        // it; and there is one if the Inner List is valid.
+        ensures copy { (d : Which) (k : Seq ℕ) (l : InnerValue)
             → DescribesInner d self.now.text.now k self.now.nodes.now l
             → Each (λ i. HasDistinctKeys i.params) l.items
             → HasDistinctKeys l.params
-            → IfOk result (λ x. x ≡ l) }
+            → IfOk result (IsCopy (ValidInner d l) l) }
+        // An Item has no copy as an Inner List.
+        ensures item { (d : Which) (r : Place) (k : Seq ℕ) (i : ItemValue)
+            → DescribesItem d self.now.text.now r k self.now.nodes.now i
+            → IfOk result (λ copy. copy ≡ None) }
     {
         let Some(inside) = self.items() else {
-            return Err(CopyFault::Unscanned);
+            return Ok(None);
         };
-        let items = items(alloc, seed, inside)?;
-        let params = params(alloc, seed, self.params())?;
-        Ok(Inner { items, params })
+        let Some(items) = items(alloc, seed, inside)? else {
+            return Ok(None);
+        };
+        let Some(params) = params(alloc, seed, self.params())? else {
+            return Ok(None);
+        };
+        Ok(Some(Inner { items, params }))
+    }
+
+    /// The member of a List or of a Dictionary, copied to a value of its own; `None` only if the
+    /// nodes are not those of a member. It allocates.
+    ///
+    /// ```
+    /// view.get(b"u")?.to_member(alloc, &seed)
+    /// ```
+    pub fn to_member(
+        &self,
+        alloc: Global,
+        seed: &RandomState,
+    ) -> Result<Option<Member>, OutOfMemory>
+        // Whatever valid member the nodes describe, the copy is that one.
+        ensures { (d : Which) (k : Seq ℕ) (m : MemberValue)
+            → DescribesMember d self.now.text.now k self.now.nodes.now m
+            → ValidMember d m
+            → IfOk result (λ copy. copy ≡ Some m) }
+    {
+        match self.items() {
+            Some(_) => {
+                let Some(inner) = self.to_inner(alloc, seed)? else {
+                    return Ok(None);
+                };
+                return Ok(Some(Member::Inner(inner)));
+            }
+            None => {
+                let Some(item) = self.to_item(alloc, seed)? else {
+                    return Ok(None);
+                };
+                return Ok(Some(Member::Item(item)));
+            }
+        }
+    }
+
+    /// The List, copied to a value of its own; `None` only if the nodes are not those of a List. It
+    /// allocates.
+    pub fn to_list(&self, alloc: Global, seed: &RandomState) -> Result<Option<List>, OutOfMemory>
+        // Whatever valid members the nodes describe, the copy is the List of them.
+        ensures { (d : Which) (ms : Seq MemberValue)
+            → DescribesMembers d self.now.text.now self.now.nodes.now ms
+            → Each (ValidMember d) ms
+            → IfOk result (λ copy. copy ≡ Some (list_of ms)) }
+    {
+        let Some(members) = members(alloc, seed, *self)? else {
+            return Ok(None);
+        };
+        Ok(Some(List { members }))
+    }
+
+    /// The Dictionary, copied to a value of its own; `None` only if the nodes are not those of a
+    /// Dictionary. If a key is repeated, the last member is at its first place. It allocates.
+    pub fn to_dict(&self, alloc: Global, seed: &RandomState) -> Result<Option<Dict>, OutOfMemory>
+        // Whatever valid members the nodes describe, the copy is the Dictionary that they make.
+        ensures { (d : Which) (ps : Pairs MemberValue)
+            → DescribesEntries d self.now.text.now self.now.nodes.now ps
+            → Each (λ p. IsKey p.0 × ValidMember d p.1) ps
+            → IfOk result (λ copy. copy ≡ Some (dict_of (settle ps))) }
+    {
+        let Some(members) = entries(alloc, seed, *self)? else {
+            return Ok(None);
+        };
+        Ok(Some(Dict { members }))
+    }
+
+    /// The whole field, copied to a value of its own; `None` only if the view is not of a field of
+    /// this kind. It allocates.
+    ///
+    /// ```
+    /// let view = View::scan(Dialect::Rfc9651, Kind::Dict, text, &mut nodes)?;
+    /// view.to_field(alloc, &seed, Kind::Dict) // Ok(Some(field)): what parse_text returns
+    /// ```
+    pub fn to_field(
+        &self,
+        alloc: Global,
+        seed: &RandomState,
+        kind: Kind,
+    ) -> Result<Option<Field>, OutOfMemory>
+        // Of a view that a scan returned, the copy is the field that the text spells, the only one.
+        ensures scanned { (d : Which) (t : Seq ℕ) → IsViewed d kind t self.now
+            → IfOk result (IsFieldOf d kind t) }
+        // Whatever valid field the nodes describe, the copy is that one.
+        ensures copy { (d : Which) (v : FieldValue)
+            → DescribesField d self.now.text.now self.now.nodes.now v
+            → Valid d kind v
+            → IfOk result (λ copy. copy ≡ Some v) }
+    {
+        match kind {
+            Kind::Item => {
+                let Some(item) = self.to_item(alloc, seed)? else {
+                    return Ok(None);
+                };
+                return Ok(Some(Field::Item(item)));
+            }
+            Kind::List => {
+                let Some(list) = self.to_list(alloc, seed)? else {
+                    return Ok(None);
+                };
+                return Ok(Some(Field::List(list)));
+            }
+            Kind::Dict => {
+                let Some(dict) = self.to_dict(alloc, seed)? else {
+                    return Ok(None);
+                };
+                return Ok(Some(Field::Dict(dict)));
+            }
+        }
     }
 }
 
-/// The Items that nodes describe.
-fn items(alloc: Global, seed: &RandomState, view: View) -> Result<Sequence<Item>, CopyFault>
-    ensures { (d : Which) (is : List ItemValue)
-        → DescribesItems d view.entry.text.now view.entry.nodes.now is
-        → Each (λ i. HasDistinctKeys i.params) is
-        → IfOk result (λ all. all ≡ is) }
+/// The members of a List that nodes describe.
+fn members(
+    alloc: Global,
+    seed: &RandomState,
+    view: View,
+) -> Result<Option<Sequence<Member>>, OutOfMemory>
+    ensures { (d : Which) (ms : Seq MemberValue)
+        → DescribesMembers d view.entry.text.now view.entry.nodes.now ms
+        → Each (ValidMember d) ms
+        → IfOk result (λ all. all ≡ Some ms) }
 {
     let mut all = Sequence::new(alloc);
     let mut rest = view;
     loop {
         let Some((part, others)) = rest.split_first() else {
-            return Ok(all);
+            return Ok(Some(all));
         };
-        let item = part.to_item(alloc, seed)?;
+        let Some(member) = part.to_member(alloc, seed)? else {
+            return Ok(None);
+        };
+        let Ok(_) = all.push(member) else {
+            return Err(OutOfMemory);
+        };
+        rest = others;
+    }
+}
+
+/// The members of a Dictionary that nodes describe. If a key is repeated, the last member is at its
+/// first place.
+fn entries(
+    alloc: Global,
+    seed: &RandomState,
+    view: View,
+) -> Result<Option<Entries<Member>>, OutOfMemory>
+    ensures { (d : Which) (ps : Pairs MemberValue)
+        → DescribesEntries d view.entry.text.now view.entry.nodes.now ps
+        → Each (λ p. IsKey p.0 × ValidMember d p.1) ps
+        → IfOk result (λ all. all ≡ Some (settle ps)) }
+{
+    let mut all = Entries::new(alloc, seed);
+    let mut rest = view;
+    loop {
+        let Some((part, others)) = rest.split_first() else {
+            return Ok(Some(all));
+        };
+        let Some((key, member)) = keyed_member(alloc, seed, part)? else {
+            return Ok(None);
+        };
+        all.set(key, member)?;
+        rest = others;
+    }
+}
+
+/// The key and the value of a member of a Dictionary.
+fn keyed_member(
+    alloc: Global,
+    seed: &RandomState,
+    part: View,
+) -> Result<Option<(Key, Member)>, OutOfMemory>
+    ensures { (d : Which) (k : Seq ℕ) (m : MemberValue)
+        → DescribesMember d part.entry.text.now k part.entry.nodes.now m
+        → IsKey k
+        → ValidMember d m
+        → IfOk result (λ p. p ≡ Some (k, m)) }
+{
+    let Some(member) = part.to_member(alloc, seed)? else {
+        return Ok(None);
+    };
+    let Some(key) = key_of(alloc, part.key())? else {
+        return Ok(None);
+    };
+    Ok(Some((key, member)))
+}
+
+/// The Items that nodes describe.
+fn items(
+    alloc: Global,
+    seed: &RandomState,
+    view: View,
+) -> Result<Option<Sequence<Item>>, OutOfMemory>
+    ensures { (d : Which) (is : Seq ItemValue)
+        → DescribesItems d view.entry.text.now view.entry.nodes.now is
+        → Each (λ i. HasDistinctKeys i.params) is
+        → IfOk result (IsCopy (Each (ValidItem d) is) is) }
+{
+    let mut all = Sequence::new(alloc);
+    let mut rest = view;
+    loop {
+        let Some((part, others)) = rest.split_first() else {
+            return Ok(Some(all));
+        };
+        let Some(item) = part.to_item(alloc, seed)? else {
+            return Ok(None);
+        };
         let Ok(_) = all.push(item) else {
-            return Err(CopyFault::OutOfMemory);
+            return Err(OutOfMemory);
         };
         rest = others;
     }
 }
 
 /// The parameters that nodes describe. If a key is repeated, the last value is at its first place.
-fn params(alloc: Global, seed: &RandomState, view: View) -> Result<Entries<Bare>, CopyFault>
+fn params(
+    alloc: Global,
+    seed: &RandomState,
+    view: View,
+) -> Result<Option<Entries<Bare>>, OutOfMemory>
     ensures { (d : Which) (r : Place) (ps : Pairs Value)
         → DescribesParams d view.entry.text.now r view.entry.nodes.now ps
-        → IfOk result (λ all. all ≡ settle ps) }
+        → IfOk result (IsCopy (Each (λ p. IsKey p.0 × ValidBare d p.1) ps) (settle ps)) }
 {
     let mut all = Entries::new(alloc, seed);
     let mut rest = view;
     loop {
         let Some((param, others)) = rest.split_first() else {
-            return Ok(all);
+            return Ok(Some(all));
         };
-        let (key, value) = pair(alloc, param)?;
-        let Ok(_) = all.set(key, value) else {
-            return Err(CopyFault::OutOfMemory);
+        let Some((key, value)) = pair(alloc, param)? else {
+            return Ok(None);
         };
+        all.set(key, value)?;
         rest = others;
     }
 }
 
 /// The key and the value of a parameter.
-fn pair(alloc: Global, param: View) -> Result<(Key, Bare), CopyFault>
-    ensures { (d : Which) (r : Place) (k : List ℕ) (x : Value)
+fn pair(alloc: Global, param: View) -> Result<Option<(Key, Bare)>, OutOfMemory>
+    ensures { (d : Which) (r : Place) (k : Seq ℕ) (x : Value)
         → DescribesParams d param.entry.text.now r param.entry.nodes.now ((k, x) ∷ [])
-        → IfOk result (λ p. (p.0 ≡ k) × (p.1 ≡ x)) }
+        → IfOk result (IsCopy (IsKey k × ValidBare d x) (k, x)) }
 {
     let Some(view) = param.bare() else {
-        return Err(CopyFault::Unscanned);
+        return Ok(None);
     };
-    let value = view.to_bare(alloc)?;
-    match Key::new(alloc, param.key()) {
-        Ok(key) => return Ok((key, value)),
-        Err(fault) => return Err(fault_of(fault)),
+    let Some(value) = view.to_bare(alloc)? else {
+        return Ok(None);
+    };
+    let Some(key) = key_of(alloc, param.key())? else {
+        return Ok(None);
+    };
+    Ok(Some((key, value)))
+}
+
+/// The key of these bytes; `None` if they are none.
+fn key_of(alloc: Global, bytes: &[u8]) -> Result<Option<Key>, OutOfMemory>
+    ensures { IfOk result (IsCopy (IsKey bytes.now) bytes.now) }
+{
+    match Key::new(alloc, bytes) {
+        Ok(key) => return Ok(Some(key)),
+        Err(TextFault::OutOfMemory) => return Err(OutOfMemory),
+        Err(TextFault::Empty) => return Ok(None),
+        Err(TextFault::BadByte { .. }) => return Ok(None),
     }
 }
 
-fn integer(number: i64) -> Result<Bare, CopyFault>
-    ensures { IfOk result (λ b. b ≡ value_is.Integer number) }
+fn integer(number: i64) -> Option<Bare>
+    ensures { IsCopy (nat_abs number < 10 ^ 15) (value_is.Integer number) result }
 {
     match Int::new(number) {
-        Ok(number) => return Ok(Bare::Integer(number)),
-        Err(_) => return Err(CopyFault::Unscanned),
+        Ok(number) => return Some(Bare::Integer(number)),
+        Err(_) => return None,
     }
 }
 
-fn decimal(number: i64) -> Result<Bare, CopyFault>
-    ensures { IfOk result (λ b. b ≡ value_is.Decimal number) }
+fn decimal(number: i64) -> Option<Bare>
+    ensures { IsCopy (nat_abs number < 10 ^ 15) (value_is.Decimal number) result }
 {
     match Thousandths::new(number) {
-        Ok(number) => return Ok(Bare::Decimal(number)),
-        Err(_) => return Err(CopyFault::Unscanned),
+        Ok(number) => return Some(Bare::Decimal(number)),
+        Err(_) => return None,
     }
 }
 
-fn date(second: i64) -> Result<Bare, CopyFault>
-    ensures { IfOk result (λ b. b ≡ value_is.Date second) }
+fn date(second: i64) -> Option<Bare>
+    ensures { IsCopy (nat_abs second < 10 ^ 15) (value_is.Date second) result }
 {
     match Int::new(second) {
-        Ok(second) => return Ok(Bare::Date(second)),
-        Err(_) => return Err(CopyFault::Unscanned),
+        Ok(second) => return Some(Bare::Date(second)),
+        Err(_) => return None,
     }
 }
 
-fn token(alloc: Global, bytes: &[u8]) -> Result<Bare, CopyFault>
-    ensures { IfOk result (λ b. b ≡ value_is.Token bytes.now) }
+fn token(alloc: Global, bytes: &[u8]) -> Result<Option<Bare>, OutOfMemory>
+    ensures { IfOk result (IsCopy (IsToken bytes.now) (value_is.Token bytes.now)) }
 {
     match Token::new(alloc, bytes) {
-        Ok(token) => return Ok(Bare::Token(token)),
-        Err(fault) => return Err(fault_of(fault)),
+        Ok(token) => return Ok(Some(Bare::Token(token))),
+        Err(TextFault::OutOfMemory) => return Err(OutOfMemory),
+        Err(TextFault::Empty) => return Ok(None),
+        Err(TextFault::BadByte { .. }) => return Ok(None),
     }
 }
 
-fn text(alloc: Global, slice: Slice) -> Result<Bare, CopyFault>
-    ensures { (d : Which) (t : List ℕ) → HasBytes d slice.entry t
-        → IfOk result (λ b. b ≡ value_is.Text t) }
+fn text(alloc: Global, slice: Slice) -> Result<Option<Bare>, OutOfMemory>
+    ensures { (d : Which) (t : Seq ℕ) → HasBytes d slice.entry t
+        → IfOk result (IsCopy (Every is_visible t) (value_is.Text t)) }
 {
-    let Ok(bytes) = decoded(alloc, slice) else {
-        return Err(CopyFault::OutOfMemory);
-    };
+    let bytes = decoded(alloc, slice)?;
     match Text::new(alloc, bytes.as_bytes()) {
-        Ok(text) => return Ok(Bare::Text(text)),
-        Err(fault) => return Err(fault_of(fault)),
+        Ok(text) => return Ok(Some(Bare::Text(text))),
+        Err(TextFault::OutOfMemory) => return Err(OutOfMemory),
+        Err(TextFault::Empty) => return Ok(None),
+        Err(TextFault::BadByte { .. }) => return Ok(None),
     }
 }
 
-fn blob(alloc: Global, slice: Slice) -> Result<Bare, CopyFault>
-    ensures { (d : Which) (t : List ℕ) → HasBytes d slice.entry t
-        → IfOk result (λ b. b ≡ value_is.Blob t) }
+fn blob(alloc: Global, slice: Slice) -> Result<Option<Bare>, OutOfMemory>
+    ensures { (d : Which) (t : Seq ℕ) → HasBytes d slice.entry t
+        → IfOk result (λ b. b ≡ Some (value_is.Blob t)) }
 {
-    let Ok(bytes) = decoded(alloc, slice) else {
-        return Err(CopyFault::OutOfMemory);
-    };
-    Ok(Bare::Blob(Blob::from_bytes(bytes)))
+    let bytes = decoded(alloc, slice)?;
+    Ok(Some(Bare::Blob(Blob::from_bytes(bytes))))
 }
 
-fn shown(alloc: Global, slice: Slice) -> Result<Bare, CopyFault>
-    ensures { (d : Which) (t : List ℕ) → HasBytes d slice.entry t
-        → IfOk result (λ b. b ≡ value_is.Shown t) }
+fn shown(alloc: Global, slice: Slice) -> Result<Option<Bare>, OutOfMemory>
+    ensures { (d : Which) (t : Seq ℕ) → HasBytes d slice.entry t
+        → IfOk result (IsCopy (WellFormed Start t) (value_is.Shown t)) }
 {
-    let Ok(bytes) = decoded(alloc, slice) else {
-        return Err(CopyFault::OutOfMemory);
-    };
+    let bytes = decoded(alloc, slice)?;
     let Ok(text) = str::from_utf8(bytes.as_bytes()) else {
-        return Err(CopyFault::Unscanned);
+        return Ok(None);
     };
-    match Shown::new(alloc, text) {
-        Ok(shown) => return Ok(Bare::Shown(shown)),
-        Err(_) => return Err(CopyFault::OutOfMemory),
-    }
-}
-
-/// The fault of a String or a Token.
-fn fault_of(fault: TextFault) -> CopyFault {
-    match fault {
-        TextFault::OutOfMemory => CopyFault::OutOfMemory,
-        TextFault::Empty | TextFault::BadByte { .. } => CopyFault::Unscanned,
-    }
+    Ok(Some(Bare::Shown(Shown::new(alloc, text)?)))
 }
 
 /// The bytes of a slice.
 fn decoded(alloc: Global, slice: Slice) -> Result<ShortBytes, OutOfMemory>
-    ensures { (d : Which) (t : List ℕ) → HasBytes d slice.entry t → IfOk result (λ bytes. bytes ≡ t) }
+    ensures { (d : Which) (t : Seq ℕ) → HasBytes d slice.entry t → IfOk result (λ bytes. bytes ≡ t) }
 {
     if !slice.coded {
         return ShortBytes::from_slice(alloc, slice.bytes);
@@ -250,7 +463,7 @@ fn decoded(alloc: Global, slice: Slice) -> Result<ShortBytes, OutOfMemory>
 
 /// The bytes that a text spells.
 fn collect(alloc: Global, start: Coding, text: &[u8]) -> Result<ShortBytes, OutOfMemory>
-    ensures { (t : List ℕ) → Remains start text.now t → IfOk result (λ bytes. bytes ≡ t) }
+    ensures { (t : Seq ℕ) → Remains start text.now t → IfOk result (λ bytes. bytes ≡ t) }
 {
     let mut all = ShortBytes::new(alloc);
     let mut coding = start;

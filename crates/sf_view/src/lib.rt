@@ -15,7 +15,6 @@ mod series;
 mod view;
 
 pub use bytes::Bytes;
-pub use copies::CopyFault;
 pub use lookup::entry;
 pub use node::{Node, NodeType, Role};
 pub use series::scan_text;

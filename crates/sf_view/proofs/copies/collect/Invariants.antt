@@ -1,4 +1,4 @@
-use Rattle.std.proofs.Common.{◌≡◌, ℕ, ◌≤◌, List, length}
+use Rattle.std.proofs.Common.{ℕ, List, length}
 use Rattle.sf_view.specs.Decoding.{Remains}
 use Rattle.sf_view.proofs.Decoding.{Decoded}
 use Rattle.sf_view.proofs.copies.collect.Given as goal

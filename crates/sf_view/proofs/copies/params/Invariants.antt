@@ -1,10 +1,13 @@
-use Rattle.std.proofs.Common.{◌≡◌, ℕ, List, length}
+use Rattle.std.proofs.Common.{◌≡◌, length}
 use Rattle.sf_value.specs.declared.dialect.Dialect.{Dialect}
 use Rattle.sf_value.specs.declared.value.Bare.{Bare}
 use Rattle.sf_value.specs.Grammar.Pairs.{Pairs, settle}
+use Rattle.sf_value.specs.Grammar.Tokens.{IsKey}
+use Rattle.sf_value.specs.Grammar.Valid.{ValidBare}
+use Rattle.sf_value.specs.Grammar.Words.{Each}
 use Rattle.sf_view.specs.declared.node.Role.{Role}
 use Rattle.sf_view.specs.View.{DescribesParams}
-use Rattle.sf_view.proofs.Copying.{ParamsLeft}
+use Rattle.sf_view.proofs.Copying.{PairsLeft}
 use Rattle.sf_view.proofs.copies.params.Given as goal
 
 abbrev pub invariant-loop-param : goal.invariant-loop-param
@@ -13,7 +16,9 @@ invariant-loop-param l = record {
   settled : settle l.all ≡ l.all;
   left : (d : Dialect) (r : Role) (ps : Pairs Bare)
       → DescribesParams d l.view.text.now r l.view.nodes.now ps
-      → ParamsLeft d l.rest.text.now r l.rest.nodes.now l.all ps;
+      → PairsLeft (DescribesParams d l.rest.text.now r)
+      (λ p. Each (λ q. IsKey q.0 × ValidBare d q.1) ps → IsKey p.0 × ValidBare d p.1)
+      l.rest.nodes.now l.all ps;
 }
 
 abbrev pub decreases-loop-param : goal.decreases-loop-param

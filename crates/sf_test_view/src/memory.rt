@@ -1,0 +1,69 @@
+//! Copies of whole fields with little memory: each allocation fails in turn.
+use sf_parse::{Refusal, parse_text};
+use sf_test_alloc::{Seen, refusals};
+use sf_value::{Dialect, Field, Kind, OutOfMemory, same};
+use sf_view::{Node, View};
+use std::alloc::Global;
+use std::hash::RandomState;
+use std::test::Fail;
+
+/// Whether the copy is this field, or an allocation failed.
+fn seen(answer: Result<Option<Field>, OutOfMemory>, want: &Field) -> Seen {
+    match answer {
+        Ok(Some(field)) => {
+            if same(&field, want) {
+                Seen::Right
+            } else {
+                Seen::Wrong
+            }
+        }
+        Ok(None) => Seen::Wrong,
+        Err(OutOfMemory) => Seen::Refused,
+    }
+}
+
+/// How many budgets of memory were too small for the copy of a text's field.
+fn copy_refusals(
+    alloc: Global,
+    seed: &RandomState,
+    kind: Kind,
+    text: &[u8],
+) -> Result<Option<usize>, Refusal> {
+    let want = parse_text(alloc, seed, kind, text)?;
+    let mut buffer = [Node::NONE; 64];
+    let Some(view) = View::scan(Dialect::Rfc9651, kind, text, &mut buffer).ok() else {
+        return Ok(None);
+    };
+    Ok(refusals(alloc, || { seen(view.to_field(alloc, seed, kind), &want) }))
+}
+
+// Keys and bytes that fit where they are, longer ones, and more entries than fit in place.
+static TEXTS: [(Kind, &[u8]); 5] = [
+    (Kind::Item, b"\"x y\";p=tok;q=:YQ==:"),
+    (
+        Kind::Item,
+        b"\"a text with an escape: \\\"\";a-key-longer-than-16=a-token-longer-than-16",
+    ),
+    (
+        Kind::List,
+        b"(1 \"x y\";p *t);y=:YQ==:, b;x, \"c\", %\"f%c3%bc\", ()",
+    ),
+    (
+        Kind::Dict,
+        b"a=(1 \"x y\" *t :YQ==: %\"f%c3%bc\" @1 1.5 ?0;p=\"q\";r);y=:YQ==:, b;x, c=tok;q=0.5",
+    ),
+    (
+        Kind::Dict,
+        b"a,b,c,d,e,f,g,h,i,j,k,l,m,n,o,p,q,r,s,t,u,v,w,x,y,z,aa,bb",
+    ),
+];
+
+#[test]
+fn copies(rt: HostRuntime) -> Result<(), Fail> {
+    let seed = RandomState::new(&rt)?;
+    for (kind, text) in &TEXTS {
+        let found = copy_refusals(rt.alloc(), &seed, *kind, text)?;
+        assert!(rt; found > Some(0), "{found:?}");
+    }
+    Ok(())
+}

@@ -1,0 +1,19 @@
+use Rattle.sf_value.specs.Grammar.Classes.{is_token_start, is_in_token}
+use Rattle.sf_view.proofs.Faults.{refused_word}
+use Rattle.sf_view.proofs.copies.token.Goals as goal
+
+pub returns-in-Err-Empty : goal.returns-in-Err-Empty
+returns-in-Err-Empty c = λ token.
+    let h = c.in-Err-Empty in
+    let out =
+    refused_word is_token_start is_in_token c.args.bytes.now h.field-0 token h.ensures.exact in
+    let is = h.is in
+    absurd cc
+
+pub returns-in-Err-BadByte : goal.returns-in-Err-BadByte
+returns-in-Err-BadByte c = λ token.
+    let h = c.in-Err-BadByte in
+    let out =
+    refused_word is_token_start is_in_token c.args.bytes.now h.field-0 token h.ensures.exact in
+    let is = h.is in
+    absurd cc
