@@ -413,8 +413,8 @@ typedef struct sf_span {
  *   SF_NO_MEMORY
  *
  * After SF_OK, the fields after fields[*index] don't count, and their ranges may be any. Unless
- * SF_OK is returned, *index and *policy are unchanged. sf_check says which of the ignored fields are
- * malformed, and where.
+ * SF_OK is returned, *index and *policy are unchanged. sf_check says which of the ignored fields
+ * are malformed, and where.
  */
 uint32_t sf_select(const sf_seed *seed, const void *texts, size_t texts_length,
                    const sf_span *fields, size_t fields_length, size_t *index, sf_policy *policy);
