@@ -412,8 +412,9 @@ typedef struct sf_span {
  *                 fields before it are ignored
  *   SF_NO_MEMORY
  *
- * The fields after the first that is not ignored are not looked at. Unless SF_OK is returned,
- * *index and *policy are unchanged. For an ignored field, sf_check says where it is malformed.
+ * After SF_OK, the fields after fields[*index] don't count, and their ranges may be any. Unless
+ * SF_OK is returned, *index and *policy are unchanged. sf_check says which of the ignored fields
+ * are malformed, and where.
  */
 uint32_t sf_select(const sf_seed *seed, const void *texts, size_t texts_length,
                    const sf_span *fields, size_t fields_length, size_t *index, sf_policy *policy);
