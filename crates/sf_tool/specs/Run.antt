@@ -189,8 +189,8 @@ pub record ReadInPart (old new : SourceState) : Type 0 where
   pub given : (Gave old new bytes × (0 < length bytes)) ⊎ GaveAndFailed old new bytes
 
 -- the whole input was read and then answered; or it was too long, and that was told, whatever
--- memory there was; or it was not all read, and nothing was written. Where standard error is a
--- terminal a refusal is explained on it, and else nothing is written there
+-- memory there was; or it was not all read, and nothing was written. If the error stream is a
+-- terminal, a refusal is explained on it; otherwise nothing is written there
 abbrev pub Ran : Request → Bool → SourceState → SourceState → SinkState → SinkState → SinkState
     → SinkState → Status → Type 0
 Ran request is_terminal source source' sink sink' errors errors' status =
