@@ -13,6 +13,7 @@ ghost use Rattle.sf_lint.specs.Report.{accepted_text, refused_text, others_text,
 ghost use Rattle.sf_lint.specs.Head.{line_of};
 ghost use Rattle.sf_lint.specs.declared.head.Line.TheVariants as line;
 
+use crate::colours::Verdict;
 use crate::head::{Line, is_named, is_start, read_line, split_lines, value_of};
 use crate::marking::find_mark;
 use crate::meaning::meaning;
@@ -104,18 +105,30 @@ fn values<'a>(alloc: Global, name: &[u8], lines: &[&'a [u8]]) -> Result<Vec<&'a 
 }
 
 /// Returns the text for a field that is accepted.
-fn accepted(alloc: Global, name: &str, field: &Field) -> Result<Vec<u8>, OutOfMemory>
-    ensures { IfOk result (λ text. text.items ≡ accepted_text name.now field.now) }
+fn accepted(
+    alloc: Global,
+    settings: &Settings,
+    name: &str,
+    field: &Field,
+) -> Result<Vec<u8>, OutOfMemory>
+    ensures { IfOk result (λ text. text.items ≡ accepted_text settings.now name.now field.now) }
 {
-    let text = format!(in alloc; "ok {name}: {}\n", display(field))?;
+    let ok = Verdict::Ok.text(settings);
+    let text = format!(in alloc; "{ok} {name}: {}\n", display(field))?;
     Ok(text.into_bytes())
 }
 
 /// Returns the text for a field of which a member names no cache.
-fn without_cache(alloc: Global, name: &str, index: usize) -> Result<Vec<u8>, OutOfMemory>
-    ensures { IfOk result (λ text. text.items ≡ no_cache_text name.now index) }
+fn without_cache(
+    alloc: Global,
+    settings: &Settings,
+    name: &str,
+    index: usize,
+) -> Result<Vec<u8>, OutOfMemory>
+    ensures { IfOk result (λ text. text.items ≡ no_cache_text settings.now name.now index) }
 {
-    let text = format!(in alloc; "refused {name}: member {index} names no cache\n")?;
+    let refused = Verdict::Refused.text(settings);
+    let text = format!(in alloc; "{refused} {name}: member {index} names no cache\n")?;
     Ok(text.into_bytes())
 }
 
@@ -127,12 +140,12 @@ fn tell_value(
     field: &Field,
 ) -> Result<Told, OutOfMemory>
     ensures told { IfOk result (λ told. TellsValue settings.now name.now field.now
-        (meaning_of name.now field.now) told.text.items told.refused told.others) }
+        (meaning_of settings.now name.now field.now) told.text.items told.refused told.others) }
     ensures few { IfOk result (λ told. told.others ≤ 1) }
 {
-    match meaning(alloc, name, field) {
+    match meaning(alloc, settings, name, field) {
         Ok(lines) => {
-            let mut text = accepted(alloc, name, field)?;
+            let mut text = accepted(alloc, settings, name, field)?;
             text.extend_from_slice(lines.as_slice())?;
             return Ok(Told {
                 text: shown(alloc, settings, text),
@@ -142,7 +155,7 @@ fn tell_value(
         }
         Err(UseFault::NotACache { index }) => {
             return Ok(Told {
-                text: without_cache(alloc, name, index)?,
+                text: without_cache(alloc, settings, name, index)?,
                 refused: true,
                 others: 0,
             });
@@ -155,6 +168,7 @@ fn tell_value(
 /// given, and the number of that one.
 fn refused(
     alloc: Global,
+    settings: &Settings,
     name: &str,
     refusal: Refusal,
     number: usize,
@@ -162,34 +176,36 @@ fn refused(
 ) -> Result<Vec<u8>, OutOfMemory>
     requires { number + length lines.now < 2 ^ 64 }
     ensures { IfOk result (λ text. text.items
-        ≡ refused_text number name.now (map (λ line. line.now) lines.now) refusal) }
+        ≡ refused_text settings.now number name.now (map (λ line. line.now) lines.now) refusal) }
 {
     let spot = match refusal {
         Refusal::Syntax { place, .. } => find_mark(name.as_bytes(), number, lines, place),
         _ => None,
     };
     let shown = InLine { refusal, spot };
-    let text = format!(in alloc; "refused {name}: {shown}\n")?;
+    let refused = Verdict::Refused.text(settings);
+    let text = format!(in alloc; "{refused} {name}: {shown}\n")?;
     Ok(text.into_bytes())
 }
 
 /// Tells of a field that is refused.
 fn tell_refusal(
     alloc: Global,
+    settings: &Settings,
     name: &str,
     refusal: Refusal,
     number: usize,
     lines: &[&[u8]],
 ) -> Result<Told, OutOfMemory>
     requires { number + length lines.now < 2 ^ 64 }
-    ensures told { IfOk result (λ told. TellsRefusal name.now number
+    ensures told { IfOk result (λ told. TellsRefusal settings.now name.now number
         (map (λ line. line.now) lines.now) refusal told.text.items told.refused told.others) }
     ensures few { IfOk result (λ told. told.others ≤ 1) }
 {
     match refusal {
         Refusal::OutOfMemory => return Err(OutOfMemory),
         _ => {
-            let text = refused(alloc, name, refusal, number, lines)?;
+            let text = refused(alloc, settings, name, refusal, number, lines)?;
             return Ok(Told {
                 text,
                 refused: true,
@@ -230,7 +246,7 @@ fn tell_field(
             drop(field);
             return told;
         }
-        Err(refusal) => return tell_refusal(alloc, name, refusal, number, lines),
+        Err(refusal) => return tell_refusal(alloc, settings, name, refusal, number, lines),
     }
 }
 
@@ -283,11 +299,17 @@ fn start_text(alloc: Global, line: &[u8]) -> Result<Vec<u8>, OutOfMemory>
 }
 
 /// Tells of a line that is no line of a head.
-fn tell_bad_line(alloc: Global, number: usize, why: &str) -> Result<Told, OutOfMemory>
-    ensures { IfOk result (λ told. (told.text.items ≡ bad_line_text number why.now)
+fn tell_bad_line(
+    alloc: Global,
+    settings: &Settings,
+    number: usize,
+    why: &str,
+) -> Result<Told, OutOfMemory>
+    ensures { IfOk result (λ told. (told.text.items ≡ bad_line_text settings.now number why.now)
         × (told.refused ≡ true) × (told.others ≡ 0)) }
 {
-    let text = format!(in alloc; "refused line {number}: {why}\n")?;
+    let refused = Verdict::Refused.text(settings);
+    let text = format!(in alloc; "{refused} line {number}: {why}\n")?;
     Ok(Told {
         text: text.into_bytes(),
         refused: true,
@@ -313,7 +335,7 @@ fn tell_line(
 {
     match read_line(alloc, lines[n])? {
         Line::Empty => return Ok(nothing(alloc)),
-        Line::Folded => return tell_bad_line(alloc, n + 1, "obsolete line folding"),
+        Line::Folded => return tell_bad_line(alloc, settings, n + 1, "obsolete line folding"),
         Line::Start => {
             let text = start_text(alloc, lines[n])?;
             return Ok(Told {
@@ -323,7 +345,7 @@ fn tell_line(
             });
         }
         Line::Field(name) => return tell_named(alloc, seed, settings, &name, lines, n),
-        Line::Nameless => return tell_bad_line(alloc, n + 1, "not a field line"),
+        Line::Nameless => return tell_bad_line(alloc, settings, n + 1, "not a field line"),
     }
 }
 
