@@ -1,5 +1,5 @@
 -- The words that a line can begin with, and their colours.
-use Rattle.std.specs.Prelude.{ℕ, Bool, true, false, ◌&&◌, ◌==◌, if◌then◌else◌, List, ◌++◌, codes, length}
+use Rattle.std.specs.Prelude.{ℕ, Bool, true, ◌&&◌, ◌==◌, if◌then◌else◌, List, ◌++◌, codes, length}
 use Rattle.std.specs.Prelude.{Option, Some, None}
 use Rattle.sf_lint.specs.declared.colours.Verdict.{Verdict}
 use Rattle.sf_lint.specs.declared.colours.Verdict.TheVariants.{Ok, Refused, Ignored}

@@ -42,8 +42,8 @@ ignored_line s key false = []
 abbrev pub hop_key : ℕ → Seq ℕ → Seq ℕ
 hop_key n key = codes "hop " ++ (decimal n ++ (codes " " ++ key))
 
--- the line for the parameter at this key of the n-th member, if it is ignored: it is there, and what
--- is meant at its key is not
+-- the line for the parameter at this key of the n-th member, if it is ignored: it is there, and
+-- nothing is meant by it
 abbrev pub ignored_at : {X : Type 0} → Settings → ℕ → Pairs Bare → (Seq ℕ → Pairs Bare → Option X)
     → Seq ℕ → Seq ℕ
 ignored_at s n params meant key =
@@ -76,8 +76,8 @@ abbrev pub ignored_members : Settings → ℕ → Seq Member → Seq ℕ
 ignored_members s n [] = []
 ignored_members s n (m ∷ ms) = ignored_member s n m ++ ignored_members s (suc n) ms
 
--- the lines of a path, after those of what is ignored; or the place of the first member that names no
--- cache
+-- the lines of a path, after those of what is ignored; or the place of the first member that names
+-- no cache
 abbrev pub path_text : Seq ℕ → Result (Seq Hop) ℕ → Result (Seq ℕ) ℕ
 path_text ignored (Ok path) = Ok (ignored ++ path_lines path)
 path_text ignored (Err index) = Err index

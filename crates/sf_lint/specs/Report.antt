@@ -17,7 +17,7 @@ use Rattle.sf_lint.specs.declared.settings.FieldType.{FieldType}
 use Rattle.sf_lint.specs.declared.settings.Settings.{Settings}
 use Rattle.sf_lint.specs.Colours.{verdict_text}
 use Rattle.sf_lint.specs.Head.{IsRepeated, line_of, message_from, values_in}
-use Rattle.sf_lint.specs.Marks.{mark_in}
+use Rattle.sf_lint.specs.Marks.{mark_in, name_end}
 use Rattle.sf_lint.specs.Meanings.{meaning_of}
 use Rattle.sf_lint.specs.Settings.{type_of}
 
@@ -53,11 +53,13 @@ refused_text s n name lines r =
     ++ (codes " " ++ (name ++ (codes ": "
     ++ ((refusal_text r ++ marked_text (mark_of n name lines r)) ++ codes "\n"))))
 
--- a line that is none of a head
-abbrev pub bad_line_text : Settings → ℕ → List ℕ → List ℕ
-bad_line_text s n why =
+-- a line that is none of a head: its number, why, the line as it is in the input, and a caret under
+-- the place
+abbrev pub bad_line_text : Settings → ℕ → List ℕ → Option LinePlace → List ℕ
+bad_line_text s n why place =
     verdict_text s verdict.Refused
-    ++ (codes " line " ++ (decimal n ++ (codes ": " ++ (why ++ codes "\n"))))
+    ++ (codes " line " ++ (decimal n ++ (codes ": "
+    ++ (why ++ (marked_text place ++ codes "\n")))))
 
 abbrev pub others_text : ℕ → List ℕ
 others_text n = codes "other fields: " ++ (decimal n ++ codes "\n")
@@ -66,6 +68,11 @@ others_text n = codes "other fields: " ++ (decimal n ++ codes "\n")
 -- fields that are not structured
 abbrev pub IsTold : List ℕ → Bool → ℕ → List ℕ → Bool → ℕ → Type 0
 IsTold text refused others t r o = (t ≡ text) × (r ≡ refused) × (o ≡ others)
+
+-- the line of this number is none of a head, at this place of it
+abbrev pub TellsBadLine : Settings → ℕ → List ℕ → ℕ → List ℕ → List ℕ → Bool → ℕ → Type 0
+TellsBadLine s n why place line =
+    IsTold (bad_line_text s n why (Some (record { line = n; place = place; text = line }))) true 0
 
 -- a field has this value and this meaning: its canonical text and the lines of its meaning are told;
 -- or that a member names no cache
@@ -77,7 +84,8 @@ TellsValue s name v (Err index) = IsTold (no_cache_text s name index) true 0
 abbrev pub TellsRefusal : Settings → List ℕ → ℕ → List (List ℕ) → Refusal
     → List ℕ → Bool → ℕ → Type 0
 TellsRefusal s name n lines r text refused others =
-    (¬ (r ≡ refusal.OutOfMemory)) × IsTold (refused_text s n name lines r) true 0 text refused others
+    (¬ (r ≡ refusal.OutOfMemory))
+    × IsTold (refused_text s n name lines r) true 0 text refused others
 
 -- the values of a field are parsed so
 abbrev pub TellsParsed : Settings → List ℕ → ℕ → List (List ℕ) → Result Value Refusal
@@ -106,10 +114,13 @@ TellsNamed s lines n name (Some type) t r o =
 -- the n-th line, by what it is
 abbrev pub TellsLine : Settings → List (List ℕ) → ℕ → Line → List ℕ → Bool → ℕ → Type 0
 TellsLine s lines n Empty = IsTold [] false 0
-TellsLine s lines n Folded = IsTold (bad_line_text s (n + 1) (codes "obsolete line folding")) true 0
+TellsLine s lines n Folded =
+    TellsBadLine s (n + 1) (codes "obsolete line folding") 0 (get_or lines n [])
 TellsLine s lines n Start = IsTold (shown s (printed (get_or lines n []) ++ codes "\n")) false 0
 TellsLine s lines n (Field name) = TellsNamed s lines n name (type_of s name)
-TellsLine s lines n Nameless = IsTold (bad_line_text s (n + 1) (codes "not a field line")) true 0
+TellsLine s lines n Nameless =
+    TellsBadLine s (n + 1) (codes "not a field line") (name_end (get_or lines n []))
+    (get_or lines n [])
 
 -- one line more is told after those before it
 pub record TellsMore (before line : List ℕ → Bool → ℕ → Type 0) (t : List ℕ) (r : Bool) (o : ℕ)

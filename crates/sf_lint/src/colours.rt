@@ -45,7 +45,7 @@ impl Verdict {
 /// is_coloured(true, Some("1")) // false
 /// ```
 pub fn is_coloured(is_terminal: bool, no_color: Option<&str>) -> bool
-    ensures { result ≡ is_coloured_in is_terminal (option_map (λ value. value.now) no_color) }
+    ensures { result ≡ is_coloured_in is_terminal (option_map (λ value. value.now) no_color.entry) }
 {
     match no_color {
         Some(value) => is_terminal && value.is_empty(),

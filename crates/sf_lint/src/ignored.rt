@@ -1,5 +1,5 @@
-//! The parameters of Cache-Status (RFC 9211) that are ignored: each has another type or range than the
-//! RFC gives it, so that it says nothing.
+//! The parameters of Cache-Status (RFC 9211) that are ignored: each has another type or range than
+//! the RFC gives it, so that it says nothing.
 ghost use Rattle.std.specs.Prelude.{◌≡◌, ◌++◌, IfOk};
 ghost use Rattle.sf_value.specs.Grammar.Pairs.{value_at};
 ghost use Rattle.sf_value.specs.Lookups.{as_integer as integer_of};

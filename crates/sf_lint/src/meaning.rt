@@ -16,7 +16,7 @@ use crate::ignored::ignored_members;
 use crate::settings::{Settings, is_targeted};
 use sf_field::{Consumer, UseFault};
 use sf_tool::{put_path, put_policy, put_priority};
-use sf_use::{CachePath, CacheStatus, Policy, Priority};
+use sf_use::{CachePath, CacheStatus, Policy, Priority, Urgency};
 use sf_value::{Dict, Field, List, Member, OutOfMemory, Writing};
 use std::alloc::Global;
 
@@ -77,8 +77,26 @@ fn is_silent(member: Option<&Member>, seconds: Option<u64>) -> bool
     member.is_some() && seconds.is_none()
 }
 
+/// Returns whether a member is there, and says no urgency.
+fn is_no_urgency(member: Option<&Member>, urgency: Option<Urgency>) -> bool
+    ensures { result ≡ is_ignored (option_copied member.entry) urgency }
+{
+    member.is_some() && urgency.is_none()
+}
+
+/// Returns whether a member is there, and is no flag.
+fn is_no_flag(member: Option<&Member>, flag: Option<bool>) -> bool
+    ensures { result ≡ is_ignored (option_copied member.entry) flag }
+{
+    member.is_some() && flag.is_none()
+}
+
 /// Returns three texts as one.
-fn joined(first: Vec<u8>, second: Vec<u8>, third: Vec<u8>) -> Result<Vec<u8>, OutOfMemory>
+pub(crate) fn joined(
+    first: Vec<u8>,
+    second: Vec<u8>,
+    third: Vec<u8>,
+) -> Result<Vec<u8>, OutOfMemory>
     ensures { IfOk result (λ text. text.items ≡ (first.items ++ second.items) ++ third.items) }
 {
     let mut text = first;
@@ -109,15 +127,10 @@ fn priority_texts(alloc: Global, settings: &Settings, dict: &Dict) -> Result<Vec
         ≡ priority_lines settings.now dict.now.members (asked dict.now)) }
 {
     let asked = Priority::from_dict(dict);
-    let has_urgency = dict.get(b"u").is_some();
-    let urgency = ignored_text(alloc, settings, "u", has_urgency && asked.urgency.is_none())?;
-    let has_flag = dict.get(b"i").is_some();
-    let flag = ignored_text(
-        alloc,
-        settings,
-        "i",
-        has_flag && asked.incremental.is_none(),
-    )?;
+    let urgency = is_no_urgency(dict.get(b"u"), asked.urgency);
+    let urgency = ignored_text(alloc, settings, "u", urgency)?;
+    let flag = is_no_flag(dict.get(b"i"), asked.incremental);
+    let flag = ignored_text(alloc, settings, "i", flag)?;
     joined(urgency, flag, priority_text(alloc, asked.with_defaults())?)
 }
 

@@ -1,8 +1,9 @@
 //! What is printed of the lines of an input.
 ghost use Rattle.std.specs.Prelude.{◌≡◌, ◌+◌, ◌<◌, ◌≤◌, ◌^◌, ◌↔◌, ◌++◌, true, false, length, map, get_or, IfOk, IfErr, IsTrue};
-ghost use Rattle.std.specs.Prelude.{codes, decimal, string_bytes, []};
+ghost use Rattle.std.specs.Prelude.{codes, decimal, string_bytes, [], Some, replicate};
 ghost use Rattle.sf_field.specs.Lines.{ParsesLines};
-ghost use Rattle.sf_parse.specs.Spots.{printed as printed_in};
+ghost use Rattle.sf_parse.specs.Spots.{printed as printed_in, line_place};
+ghost use Rattle.sf_value.specs.Ascii.{space};
 ghost use Rattle.sf_value.specs.declared.value.Field.{Field};
 ghost use Rattle.std.specs.List.{before_first};
 ghost use Rattle.sf_lint.specs.Head.{IsRepeated, is_start as is_start_in, values_in};
@@ -11,16 +12,18 @@ ghost use Rattle.sf_lint.specs.Meanings.{meaning_of};
 ghost use Rattle.sf_lint.specs.Report.{no_cache_text, TellsValue, TellsRefusal};
 ghost use Rattle.sf_lint.specs.Report.{accepted_text, refused_text, others_text, bad_line_text};
 ghost use Rattle.sf_lint.specs.Head.{line_of};
+ghost use Rattle.sf_lint.specs.Colours.{verdict_text};
+ghost use Rattle.sf_lint.specs.declared.colours.Verdict.TheVariants as verdict;
 ghost use Rattle.sf_lint.specs.declared.head.Line.TheVariants as line;
 
 use crate::colours::Verdict;
 use crate::head::{Line, is_named, is_start, read_line, split_lines, value_of};
-use crate::marking::find_mark;
-use crate::meaning::meaning;
+use crate::marking::{find_mark, name_end};
+use crate::meaning::{joined, meaning};
 use crate::settings::{FieldType, Settings, type_of};
 use http_header::HeaderName;
 use sf_field::{UseFault, parse_from};
-use sf_parse::{InLine, Refusal};
+use sf_parse::{InLine, Refusal, Spot};
 use sf_value::{Field, OutOfMemory, is_visible};
 use sf_write::display;
 use std::alloc::Global;
@@ -286,8 +289,8 @@ fn tell_named(
     )
 }
 
-/// Returns the start line of a message, one character for each of its bytes.
-fn start_text(alloc: Global, line: &[u8]) -> Result<Vec<u8>, OutOfMemory>
+/// Returns a line as it is in the input, one character for each of its bytes.
+fn line_text(alloc: Global, line: &[u8]) -> Result<Vec<u8>, OutOfMemory>
     ensures { IfOk result (λ text. text.items ≡ printed_in line.now ++ codes "\n") }
 {
     let mut text = Vec::new(alloc);
@@ -298,20 +301,62 @@ fn start_text(alloc: Global, line: &[u8]) -> Result<Vec<u8>, OutOfMemory>
     Ok(text)
 }
 
-/// Tells of a line that is no line of a head.
+/// Returns a line with a caret under the place.
+fn caret_text(alloc: Global, place: usize) -> Result<Vec<u8>, OutOfMemory>
+    ensures { IfOk result (λ text. text.items ≡ replicate place space ++ codes "^\n") }
+{
+    let mut text = vec![in alloc; b' '; place]?;
+    text.extend_from_slice(b"^\n")?;
+    Ok(text)
+}
+
+/// Returns why a line is no line of a head, and where it is refused.
+fn bad_line_words(
+    alloc: Global,
+    settings: &Settings,
+    line: usize,
+    why: &str,
+    place: usize,
+) -> Result<Vec<u8>, OutOfMemory>
+    ensures { IfOk result (λ text. text.items ≡ verdict_text settings.now verdict.Refused
+        ++ (codes " line " ++ (decimal line ++ (codes ": " ++ (why.now
+        ++ (codes "\nline " ++ (decimal line ++ (codes ", place "
+        ++ (decimal place ++ codes ":\n"))))))))) }
+{
+    let refused = Verdict::Refused.text(settings);
+    let text = format!(in alloc; "{refused} line {line}: {why}\nline {line}, place {place}:\n")?;
+    Ok(text.into_bytes())
+}
+
+/// Returns the text for a line that is no line of a head, which is refused at the spot.
+fn bad_line(
+    alloc: Global,
+    settings: &Settings,
+    why: &str,
+    spot: Spot<'_>,
+) -> Result<Vec<u8>, OutOfMemory>
+    ensures { IfOk result (λ text. text.items
+        ≡ bad_line_text settings.now spot.entry.line why.now (line_place (Some spot.entry))) }
+{
+    let words = bad_line_words(alloc, settings, spot.line, why, spot.place)?;
+    let shown = line_text(alloc, spot.text)?;
+    let caret = caret_text(alloc, spot.place)?;
+    joined(words, shown, caret)
+}
+
+/// Tells of a line that is no line of a head, which is refused at the spot.
 fn tell_bad_line(
     alloc: Global,
     settings: &Settings,
-    number: usize,
     why: &str,
+    spot: Spot<'_>,
 ) -> Result<Told, OutOfMemory>
-    ensures { IfOk result (λ told. (told.text.items ≡ bad_line_text settings.now number why.now)
+    ensures { IfOk result (λ told. (told.text.items
+        ≡ bad_line_text settings.now spot.entry.line why.now (line_place (Some spot.entry)))
         × (told.refused ≡ true) × (told.others ≡ 0)) }
 {
-    let refused = Verdict::Refused.text(settings);
-    let text = format!(in alloc; "{refused} line {number}: {why}\n")?;
     Ok(Told {
-        text: text.into_bytes(),
+        text: bad_line(alloc, settings, why, spot)?,
         refused: true,
         others: 0,
     })
@@ -335,9 +380,16 @@ fn tell_line(
 {
     match read_line(alloc, lines[n])? {
         Line::Empty => return Ok(nothing(alloc)),
-        Line::Folded => return tell_bad_line(alloc, settings, n + 1, "obsolete line folding"),
+        Line::Folded => {
+            let spot = Spot {
+                line: n + 1,
+                place: 0,
+                text: lines[n],
+            };
+            return tell_bad_line(alloc, settings, "obsolete line folding", spot);
+        }
         Line::Start => {
-            let text = start_text(alloc, lines[n])?;
+            let text = line_text(alloc, lines[n])?;
             return Ok(Told {
                 text: shown(alloc, settings, text),
                 refused: false,
@@ -345,7 +397,14 @@ fn tell_line(
             });
         }
         Line::Field(name) => return tell_named(alloc, seed, settings, &name, lines, n),
-        Line::Nameless => return tell_bad_line(alloc, settings, n + 1, "not a field line"),
+        Line::Nameless => {
+            let spot = Spot {
+                line: n + 1,
+                place: name_end(lines[n]),
+                text: lines[n],
+            };
+            return tell_bad_line(alloc, settings, "not a field line", spot);
+        }
     }
 }
 

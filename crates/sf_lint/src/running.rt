@@ -1,6 +1,7 @@
 //! Running the check of an input.
 ghost use Rattle.std.specs.Prelude.{◌≡◌, ◌≤◌, ◌⊎◌, length};
-ghost use Rattle.sf_lint.specs.Run.{Answers, Ran, status_of as status_in, too_long_text as too_long_in};
+ghost use Rattle.sf_lint.specs.Run.{Answers, Ran, status_of as status_in};
+ghost use Rattle.sf_lint.specs.Run.{too_long_text as too_long_in};
 ghost use Rattle.sf_tool.specs.declared.status.Status.TheVariants as status_is;
 ghost use Rattle.sf_tool.specs.Run.{input_limit};
 

@@ -24,8 +24,8 @@ pub struct Settings {
     pub fields: Vec<CustomField>,
     /// Whether only what is refused is printed.
     pub quiet: bool,
-    /// Whether the words `ok`, `refused` and `ignored` are coloured where a line begins with them: in
-    /// green, red and yellow, by escape sequences for terminals.
+    /// Whether the words `ok`, `refused` and `ignored` are green, red and yellow where a line begins
+    /// with them, by escape sequences for terminals.
     pub colour: bool,
 }
 

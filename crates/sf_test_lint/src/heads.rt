@@ -34,7 +34,7 @@ fn expect_with(rt: &(impl Abort + AllocGlobal), seed: &RandomState, settings: Se
 #[test]
 fn heads(rt: HostRuntime) -> Result<(), Fail> {
     let seed = RandomState::new(&rt)?;
-    let rows: [Row; 6] = [
+    let rows: [Row; 7] = [
         (b"", b"other fields: 0\n", Status::Accepted),
         (
             b"HTTP/2 200 \r\ncache-status: OriginCache; hit; ttl=1100\r\npriority: u=1,i\r\nserver: x\r\n\r\n",
@@ -46,7 +46,18 @@ fn heads(rt: HostRuntime) -> Result<(), Fail> {
             b"HTTP/1.1 200 OK\nrefused priority: byte 0x2c ',' at place 2, expected \
               a letter, a digit, a quote, `(`, `*`, `-`, `:` or `?`\n\
               line 2, place 13:\nPriority:  u=,i\n             ^\n\
-              refused line 4: obsolete line folding\nrefused line 5: not a field line\nother fields: 1\n",
+              refused line 4: obsolete line folding\nline 4, place 0:\n b\n^\n\
+              refused line 5: not a field line\nline 5, place 8:\nnonsense\n        ^\nother fields: 1\n",
+            Status::Refused,
+        ),
+        // A byte that no field name has, before a colon and without one; no name; no tab is shown.
+        (
+            b"Bad name: x\nno colon\n: x\n\t\xff: x\nh\xc3\xa9: x\n",
+            b"refused line 1: not a field line\nline 1, place 3:\nBad name: x\n   ^\n\
+              refused line 2: not a field line\nline 2, place 2:\nno colon\n  ^\n\
+              refused line 3: not a field line\nline 3, place 0:\n: x\n^\n\
+              refused line 4: obsolete line folding\nline 4, place 0:\n??: x\n^\n\
+              refused line 5: not a field line\nline 5, place 1:\nh??: x\n ^\nother fields: 0\n",
             Status::Refused,
         ),
         (
@@ -212,7 +223,12 @@ fn colours(rt: HostRuntime) -> Result<(), Fail> {
               \x1b[31mrefused\x1b[0m cache-status: member 0 names no cache\nother fields: 0\n",
             Status::Refused,
         ),
-        (b"Server: refused\n", b"other fields: 1\n", Status::Accepted),
+        (
+            b"Server: refused\n refused\n",
+            b"\x1b[31mrefused\x1b[0m line 2: obsolete line folding\n\
+              line 2, place 0:\n refused\n^\nother fields: 1\n",
+            Status::Refused,
+        ),
     ];
     for row in rows {
         let settings = Settings {
