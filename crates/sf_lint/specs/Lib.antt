@@ -1,9 +1,11 @@
 -- The definitions that the contracts speak of: the registered fields and those that are given, the
--- lines of heads, and last what is printed of them and what a run reads and writes.
+-- lines of heads, and last what is printed of them, in which colours, and what a run reads and
+-- writes.
 pub mod Registry
 pub mod Settings
 pub mod Options
 pub mod Head
+pub mod Colours
 pub mod Marks
 pub mod Meanings
 pub mod Report

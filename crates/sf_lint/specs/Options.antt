@@ -75,11 +75,11 @@ abbrev pub field_words : Option (List Text) → List Text
 field_words None = []
 field_words (Some words) = words
 
--- what was given makes these settings
+-- what was given makes these settings; the output is not coloured, for no argument asks for it
 abbrev pub AreGiven : List Row → Settings → Type 0
 AreGiven rows settings =
     AreFields (field_words (all_of (codes "field") rows)) settings.fields.items
-    × (settings.quiet ≡ is_quiet rows)
+    × ((settings.quiet ≡ is_quiet rows) × (settings.colour ≡ false))
 
 -- clap finds no fault in the words, and what it finds in them makes the settings
 abbrev pub AreSettingsOf : List Text → Settings → Type 0

@@ -12,10 +12,12 @@ use Rattle.sf_parse.specs.Spots.{LinePlace, marked_text, printed}
 use Rattle.sf_field.specs.Lines.{ParsesLines}
 use Rattle.sf_lint.specs.declared.head.Line.{Line}
 use Rattle.sf_lint.specs.declared.head.Line.TheVariants.{Empty, Folded, Start, Field, Nameless}
+use Rattle.sf_lint.specs.declared.colours.Verdict.TheVariants as verdict
 use Rattle.sf_lint.specs.declared.settings.FieldType.{FieldType}
 use Rattle.sf_lint.specs.declared.settings.Settings.{Settings}
+use Rattle.sf_lint.specs.Colours.{verdict_text}
 use Rattle.sf_lint.specs.Head.{IsRepeated, line_of, message_from, values_in}
-use Rattle.sf_lint.specs.Marks.{mark_in}
+use Rattle.sf_lint.specs.Marks.{mark_in, name_end}
 use Rattle.sf_lint.specs.Meanings.{meaning_of}
 use Rattle.sf_lint.specs.Settings.{type_of}
 
@@ -24,13 +26,17 @@ abbrev pub shown : Settings → List ℕ → List ℕ
 shown settings text = if settings.quiet then [] else text
 
 -- a field that is accepted: its name, and the canonical text of its value
-abbrev pub accepted_text : List ℕ → Value → List ℕ
-accepted_text name v = codes "ok " ++ (name ++ (codes ": " ++ (canon v ++ codes "\n")))
+abbrev pub accepted_text : Settings → List ℕ → Value → List ℕ
+accepted_text s name v =
+    verdict_text s verdict.Ok
+    ++ (codes " " ++ (name ++ (codes ": " ++ (canon v ++ codes "\n"))))
 
 -- a field of which a member names no cache, where each has to
-abbrev pub no_cache_text : List ℕ → ℕ → List ℕ
-no_cache_text name index =
-    codes "refused " ++ (name ++ (codes ": member " ++ (decimal index ++ codes " names no cache\n")))
+abbrev pub no_cache_text : Settings → List ℕ → ℕ → List ℕ
+no_cache_text s name index =
+    verdict_text s verdict.Refused
+    ++ (codes " " ++ (name
+    ++ (codes ": member " ++ (decimal index ++ codes " names no cache\n"))))
 
 -- where a field is refused, whose message has these lines from the n-th on
 abbrev pub mark_of : ℕ → List ℕ → List (List ℕ) → Refusal → Option LinePlace
@@ -41,15 +47,19 @@ mark_of n name lines (refusal.ReadFault place) = None
 
 -- a field that is refused: its name, the refusal in words, the line as it is in the input with its
 -- number, and a caret under the place
-abbrev pub refused_text : ℕ → List ℕ → List (List ℕ) → Refusal → List ℕ
-refused_text n name lines r =
-    codes "refused "
-    ++ (name ++ (codes ": "
-    ++ ((refusal_text r ++ marked_text (mark_of n name lines r)) ++ codes "\n")))
+abbrev pub refused_text : Settings → ℕ → List ℕ → List (List ℕ) → Refusal → List ℕ
+refused_text s n name lines r =
+    verdict_text s verdict.Refused
+    ++ (codes " " ++ (name ++ (codes ": "
+    ++ ((refusal_text r ++ marked_text (mark_of n name lines r)) ++ codes "\n"))))
 
--- a line that is none of a head
-abbrev pub bad_line_text : ℕ → List ℕ → List ℕ
-bad_line_text n why = codes "refused line " ++ (decimal n ++ (codes ": " ++ (why ++ codes "\n")))
+-- a line that is none of a head: its number, why, the line as it is in the input, and a caret under
+-- the place
+abbrev pub bad_line_text : Settings → ℕ → List ℕ → Option LinePlace → List ℕ
+bad_line_text s n why place =
+    verdict_text s verdict.Refused
+    ++ (codes " line " ++ (decimal n ++ (codes ": "
+    ++ (why ++ (marked_text place ++ codes "\n")))))
 
 abbrev pub others_text : ℕ → List ℕ
 others_text n = codes "other fields: " ++ (decimal n ++ codes "\n")
@@ -59,22 +69,29 @@ others_text n = codes "other fields: " ++ (decimal n ++ codes "\n")
 abbrev pub IsTold : List ℕ → Bool → ℕ → List ℕ → Bool → ℕ → Type 0
 IsTold text refused others t r o = (t ≡ text) × (r ≡ refused) × (o ≡ others)
 
+-- the line of this number is none of a head, at this place of it
+abbrev pub TellsBadLine : Settings → ℕ → List ℕ → ℕ → List ℕ → List ℕ → Bool → ℕ → Type 0
+TellsBadLine s n why place line =
+    IsTold (bad_line_text s n why (Some (record { line = n; place = place; text = line }))) true 0
+
 -- a field has this value and this meaning: its canonical text and the lines of its meaning are told;
 -- or that a member names no cache
 abbrev pub TellsValue : Settings → List ℕ → Value → Result (List ℕ) ℕ → List ℕ → Bool → ℕ → Type 0
-TellsValue s name v (Ok text) = IsTold (shown s (accepted_text name v ++ text)) false 0
-TellsValue s name v (Err index) = IsTold (no_cache_text name index) true 0
+TellsValue s name v (Ok text) = IsTold (shown s (accepted_text s name v ++ text)) false 0
+TellsValue s name v (Err index) = IsTold (no_cache_text s name index) true 0
 
 -- a field is refused so; a failed allocation is no refusal of a field
-abbrev pub TellsRefusal : List ℕ → ℕ → List (List ℕ) → Refusal → List ℕ → Bool → ℕ → Type 0
-TellsRefusal name n lines r text refused others =
-    (¬ (r ≡ refusal.OutOfMemory)) × IsTold (refused_text n name lines r) true 0 text refused others
+abbrev pub TellsRefusal : Settings → List ℕ → ℕ → List (List ℕ) → Refusal
+    → List ℕ → Bool → ℕ → Type 0
+TellsRefusal s name n lines r text refused others =
+    (¬ (r ≡ refusal.OutOfMemory))
+    × IsTold (refused_text s n name lines r) true 0 text refused others
 
 -- the values of a field are parsed so
 abbrev pub TellsParsed : Settings → List ℕ → ℕ → List (List ℕ) → Result Value Refusal
     → List ℕ → Bool → ℕ → Type 0
-TellsParsed s name n lines (Ok v) = TellsValue s name v (meaning_of name v)
-TellsParsed s name n lines (Err r) = TellsRefusal name n lines r
+TellsParsed s name n lines (Ok v) = TellsValue s name v (meaning_of s name v)
+TellsParsed s name n lines (Err r) = TellsRefusal s name n lines r
 
 -- a structured field, of which the first line is the n-th of the input and the first of these lines
 -- of its message: the values of its lines, joined, spell a value, or are refused
@@ -97,10 +114,13 @@ TellsNamed s lines n name (Some type) t r o =
 -- the n-th line, by what it is
 abbrev pub TellsLine : Settings → List (List ℕ) → ℕ → Line → List ℕ → Bool → ℕ → Type 0
 TellsLine s lines n Empty = IsTold [] false 0
-TellsLine s lines n Folded = IsTold (bad_line_text (n + 1) (codes "obsolete line folding")) true 0
+TellsLine s lines n Folded =
+    TellsBadLine s (n + 1) (codes "obsolete line folding") 0 (get_or lines n [])
 TellsLine s lines n Start = IsTold (shown s (printed (get_or lines n []) ++ codes "\n")) false 0
 TellsLine s lines n (Field name) = TellsNamed s lines n name (type_of s name)
-TellsLine s lines n Nameless = IsTold (bad_line_text (n + 1) (codes "not a field line")) true 0
+TellsLine s lines n Nameless =
+    TellsBadLine s (n + 1) (codes "not a field line") (name_end (get_or lines n []))
+    (get_or lines n [])
 
 -- one line more is told after those before it
 pub record TellsMore (before line : List ℕ → Bool → ℕ → Type 0) (t : List ℕ) (r : Bool) (o : ℕ)

@@ -1,16 +1,22 @@
 -- What a run reads and writes.
-use Rattle.std.specs.Prelude.{◌≡◌, ℕ, ◌⊎◌, Bool, true, false, List}
+use Rattle.std.specs.Prelude.{◌≡◌, ℕ, ◌⊎◌, Bool, true, false, List, ◌++◌, codes, decimal}
 use Rattle.sf_value.specs.Devices.{SourceState, SinkState}
 use Rattle.sf_tool.specs.declared.status.Status.{Status}
 use Rattle.sf_tool.specs.declared.status.Status.TheVariants.{Accepted, Refused, Stopped}
 use Rattle.sf_tool.specs.Run.{TellsText, IsWhole, IsTooLong, ReadInPart, input_limit}
-use Rattle.sf_tool.specs.Texts.{too_long_line}
+use Rattle.sf_lint.specs.declared.colours.Verdict.TheVariants as verdict
 use Rattle.sf_lint.specs.declared.settings.Settings.{Settings}
+use Rattle.sf_lint.specs.Colours.{verdict_text}
 use Rattle.sf_lint.specs.Report.{Reports}
 
 abbrev pub status_of : Bool → Status
 status_of true = Refused
 status_of false = Accepted
+
+-- an input that is longer than the limit
+abbrev pub too_long_text : Settings → List ℕ
+too_long_text s =
+    verdict_text s verdict.Refused ++ (codes " too long " ++ (decimal input_limit ++ codes "\n"))
 
 -- the report of an input was to be written; if an allocation failed nothing was
 abbrev pub Answers : Settings → List ℕ → SinkState → SinkState → Status → Type 0
@@ -24,5 +30,5 @@ Answers settings input old new status =
 abbrev pub Ran : Settings → SourceState → SourceState → SinkState → SinkState → Status → Type 0
 Ran settings source source' sink sink' status =
     ((input : List ℕ) × IsWhole source source' input × Answers settings input sink sink' status)
-    ⊎ ((IsTooLong source source' × TellsText (too_long_line input_limit) Refused sink sink' status)
+    ⊎ ((IsTooLong source source' × TellsText (too_long_text settings) Refused sink sink' status)
     ⊎ (ReadInPart source source' × (sink' ≡ sink) × (status ≡ Stopped)))

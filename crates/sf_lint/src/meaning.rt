@@ -7,14 +7,17 @@ ghost use Rattle.sf_tool.specs.PathLines.{path_lines};
 ghost use Rattle.sf_tool.specs.PriorityLine.{priority_line};
 ghost use Rattle.sf_lint.specs.Meanings.{IsMeaning, meaning_of, path_meaning};
 ghost use Rattle.sf_lint.specs.Meanings.{priority_meaning, policy_meaning, ignored_line};
+ghost use Rattle.sf_lint.specs.Meanings.{ignored_members as ignored_members_in};
 ghost use Rattle.sf_lint.specs.Meanings.{priority_lines, targeted_lines, is_ignored};
 ghost use Rattle.std.specs.Option.{option_copied};
 
-use crate::settings::is_targeted;
+use crate::colours::Verdict;
+use crate::ignored::ignored_members;
+use crate::settings::{Settings, is_targeted};
 use sf_field::{Consumer, UseFault};
 use sf_tool::{put_path, put_policy, put_priority};
-use sf_use::{CachePath, CacheStatus, Policy, Priority};
-use sf_value::{Dict, Field, Member, OutOfMemory, Writing};
+use sf_use::{CachePath, CacheStatus, Policy, Priority, Urgency};
+use sf_value::{Dict, Field, List, Member, OutOfMemory, Writing};
 use std::alloc::Global;
 
 /// Returns the lines of a path.
@@ -51,13 +54,19 @@ fn policy_text(alloc: Global, policy: &Policy) -> Result<Vec<u8>, OutOfMemory>
 }
 
 /// Returns the line for a member that is ignored; nothing if it is not.
-fn ignored_text(alloc: Global, key: &str, is_ignored: bool) -> Result<Vec<u8>, OutOfMemory>
-    ensures { IfOk result (λ text. text.items ≡ ignored_line key.now is_ignored) }
+fn ignored_text(
+    alloc: Global,
+    settings: &Settings,
+    key: &str,
+    is_ignored: bool,
+) -> Result<Vec<u8>, OutOfMemory>
+    ensures { IfOk result (λ text. text.items ≡ ignored_line settings.now key.now is_ignored) }
 {
     if !is_ignored {
         return Ok(Vec::new(alloc));
     }
-    let text = format!(in alloc; "ignored {key}\n")?;
+    let ignored = Verdict::Ignored.text(settings);
+    let text = format!(in alloc; "{ignored} {key}\n")?;
     Ok(text.into_bytes())
 }
 
@@ -68,8 +77,26 @@ fn is_silent(member: Option<&Member>, seconds: Option<u64>) -> bool
     member.is_some() && seconds.is_none()
 }
 
+/// Returns whether a member is there, and says no urgency.
+fn is_no_urgency(member: Option<&Member>, urgency: Option<Urgency>) -> bool
+    ensures { result ≡ is_ignored (option_copied member.entry) urgency }
+{
+    member.is_some() && urgency.is_none()
+}
+
+/// Returns whether a member is there, and is no flag.
+fn is_no_flag(member: Option<&Member>, flag: Option<bool>) -> bool
+    ensures { result ≡ is_ignored (option_copied member.entry) flag }
+{
+    member.is_some() && flag.is_none()
+}
+
 /// Returns three texts as one.
-fn joined(first: Vec<u8>, second: Vec<u8>, third: Vec<u8>) -> Result<Vec<u8>, OutOfMemory>
+pub(crate) fn joined(
+    first: Vec<u8>,
+    second: Vec<u8>,
+    third: Vec<u8>,
+) -> Result<Vec<u8>, OutOfMemory>
     ensures { IfOk result (λ text. text.items ≡ (first.items ++ second.items) ++ third.items) }
 {
     let mut text = first;
@@ -78,75 +105,98 @@ fn joined(first: Vec<u8>, second: Vec<u8>, third: Vec<u8>) -> Result<Vec<u8>, Ou
     Ok(text)
 }
 
+/// Returns the parameters of a Cache-Status field that are ignored, and its path.
+fn path_texts(
+    alloc: Global,
+    settings: &Settings,
+    list: &List,
+    path: &CachePath,
+) -> Result<Vec<u8>, OutOfMemory>
+    ensures { IfOk result (λ text. text.items
+        ≡ ignored_members_in settings.now 0 list.now.members ++ path_lines path.now) }
+{
+    let mut text = ignored_members(alloc, settings, list.members.as_slice())?;
+    let lines = path_text(alloc, path)?;
+    text.extend_from_slice(lines.as_slice())?;
+    Ok(text)
+}
+
 /// Returns the members of a Priority field that are ignored, and what it asks for.
-fn priority_texts(alloc: Global, dict: &Dict) -> Result<Vec<u8>, OutOfMemory>
-    ensures { IfOk result (λ text. text.items ≡ priority_lines dict.now.members (asked dict.now)) }
+fn priority_texts(alloc: Global, settings: &Settings, dict: &Dict) -> Result<Vec<u8>, OutOfMemory>
+    ensures { IfOk result (λ text. text.items
+        ≡ priority_lines settings.now dict.now.members (asked dict.now)) }
 {
     let asked = Priority::from_dict(dict);
-    let has_urgency = dict.get(b"u").is_some();
-    let urgency = ignored_text(alloc, "u", has_urgency && asked.urgency.is_none())?;
-    let has_flag = dict.get(b"i").is_some();
-    let flag = ignored_text(alloc, "i", has_flag && asked.incremental.is_none())?;
+    let urgency = is_no_urgency(dict.get(b"u"), asked.urgency);
+    let urgency = ignored_text(alloc, settings, "u", urgency)?;
+    let flag = is_no_flag(dict.get(b"i"), asked.incremental);
+    let flag = ignored_text(alloc, settings, "i", flag)?;
     joined(urgency, flag, priority_text(alloc, asked.with_defaults())?)
 }
 
 /// Returns the members of a targeted field that are ignored, and its policy.
-fn targeted_texts(alloc: Global, dict: &Dict) -> Result<Vec<u8>, OutOfMemory>
-    ensures { IfOk result (λ text. text.items ≡ targeted_lines dict.now.members (policy dict.now)) }
+fn targeted_texts(alloc: Global, settings: &Settings, dict: &Dict) -> Result<Vec<u8>, OutOfMemory>
+    ensures { IfOk result (λ text. text.items
+        ≡ targeted_lines settings.now dict.now.members (policy dict.now)) }
 {
     let policy = Policy::from_dict(dict);
     let age = is_silent(dict.get(b"max-age"), policy.max_age);
-    let age = ignored_text(alloc, "max-age", age)?;
+    let age = ignored_text(alloc, settings, "max-age", age)?;
     let shared = is_silent(dict.get(b"s-maxage"), policy.s_maxage);
-    let shared = ignored_text(alloc, "s-maxage", shared)?;
+    let shared = ignored_text(alloc, settings, "s-maxage", shared)?;
     joined(age, shared, policy_text(alloc, &policy)?)
 }
 
-/// Returns the path of a Cache-Status field (RFC 9211).
-fn path_of(alloc: Global, field: &Field) -> Result<Vec<u8>, UseFault>
-    ensures { IsMeaning (path_meaning field.now) result }
+/// Returns the parameters of a Cache-Status field (RFC 9211) that are ignored, and its path.
+fn path_of(alloc: Global, settings: &Settings, field: &Field) -> Result<Vec<u8>, UseFault>
+    ensures { IsMeaning (path_meaning settings.now field.now) result }
 {
     match field {
-        Field::List(_) => {
+        Field::List(list) => {
             let path = CacheStatus.answer(alloc, field)?;
-            return Ok(path_text(alloc, &path)?);
+            return Ok(path_texts(alloc, settings, list, &path)?);
         }
         _ => return Ok(Vec::new(alloc)),
     }
 }
 
 /// Returns the priority of a Priority field (RFC 9218).
-fn priority_of(alloc: Global, field: &Field) -> Result<Vec<u8>, UseFault>
-    ensures { IsMeaning (priority_meaning field.now) result }
+fn priority_of(alloc: Global, settings: &Settings, field: &Field) -> Result<Vec<u8>, UseFault>
+    ensures { IsMeaning (priority_meaning settings.now field.now) result }
 {
     match field {
-        Field::Dict(dict) => return Ok(priority_texts(alloc, dict)?),
+        Field::Dict(dict) => return Ok(priority_texts(alloc, settings, dict)?),
         _ => return Ok(Vec::new(alloc)),
     }
 }
 
 /// Returns the policy of a targeted cache control field (RFC 9213).
-fn policy_of(alloc: Global, field: &Field) -> Result<Vec<u8>, UseFault>
-    ensures { IsMeaning (policy_meaning field.now) result }
+fn policy_of(alloc: Global, settings: &Settings, field: &Field) -> Result<Vec<u8>, UseFault>
+    ensures { IsMeaning (policy_meaning settings.now field.now) result }
 {
     match field {
-        Field::Dict(dict) => return Ok(targeted_texts(alloc, dict)?),
+        Field::Dict(dict) => return Ok(targeted_texts(alloc, settings, dict)?),
         _ => return Ok(Vec::new(alloc)),
     }
 }
 
 /// Returns what the field of this name means, in lines; nothing if it means nothing to a consumer.
-pub(crate) fn meaning(alloc: Global, name: &str, field: &Field) -> Result<Vec<u8>, UseFault>
-    ensures { IsMeaning (meaning_of name.now field.now) result }
+pub(crate) fn meaning(
+    alloc: Global,
+    settings: &Settings,
+    name: &str,
+    field: &Field,
+) -> Result<Vec<u8>, UseFault>
+    ensures { IsMeaning (meaning_of settings.now name.now field.now) result }
 {
     if name == "cache-status" {
-        return path_of(alloc, field);
+        return path_of(alloc, settings, field);
     }
     if name == "priority" {
-        return priority_of(alloc, field);
+        return priority_of(alloc, settings, field);
     }
     if is_targeted(name.as_bytes()) {
-        return policy_of(alloc, field);
+        return policy_of(alloc, settings, field);
     }
     Ok(Vec::new(alloc))
 }

@@ -77,7 +77,7 @@ pub fn status_line(status: Status) -> Option<&'static str>
 ///
 /// `--field NAME:KIND` can be given any number of times: the name is a header name in any case, and
 /// the kind `item`, `list` or `dict`. `--quiet` is given at most once. `--help` and `--version` are
-/// faults of their own.
+/// faults of their own. No argument asks for colours: the settings have none.
 ///
 /// ```
 /// let settings = read_settings(alloc, words.as_slice())?; // sflint --field X-List:list --quiet
@@ -138,12 +138,17 @@ fn settings_of(alloc: Global, given: &ArgMatches<'_>) -> Result<Settings, Option
     match given.get_strs("field") {
         Some(words) => {
             let fields = custom_fields(alloc, words)?;
-            return Ok(Settings { fields, quiet });
+            return Ok(Settings {
+                fields,
+                quiet,
+                colour: false,
+            });
         }
         None => {
             return Ok(Settings {
                 fields: Vec::new(alloc),
                 quiet,
+                colour: false,
             });
         }
     }

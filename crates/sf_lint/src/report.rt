@@ -1,8 +1,9 @@
 //! What is printed of the lines of an input.
 ghost use Rattle.std.specs.Prelude.{◌≡◌, ◌+◌, ◌<◌, ◌≤◌, ◌^◌, ◌↔◌, ◌++◌, true, false, length, map, get_or, IfOk, IfErr, IsTrue};
-ghost use Rattle.std.specs.Prelude.{codes, decimal, string_bytes, []};
+ghost use Rattle.std.specs.Prelude.{codes, decimal, string_bytes, [], Some, replicate};
 ghost use Rattle.sf_field.specs.Lines.{ParsesLines};
-ghost use Rattle.sf_parse.specs.Spots.{printed as printed_in};
+ghost use Rattle.sf_parse.specs.Spots.{printed as printed_in, line_place};
+ghost use Rattle.sf_value.specs.Ascii.{space};
 ghost use Rattle.sf_value.specs.declared.value.Field.{Field};
 ghost use Rattle.std.specs.List.{before_first};
 ghost use Rattle.sf_lint.specs.Head.{IsRepeated, is_start as is_start_in, values_in};
@@ -11,15 +12,18 @@ ghost use Rattle.sf_lint.specs.Meanings.{meaning_of};
 ghost use Rattle.sf_lint.specs.Report.{no_cache_text, TellsValue, TellsRefusal};
 ghost use Rattle.sf_lint.specs.Report.{accepted_text, refused_text, others_text, bad_line_text};
 ghost use Rattle.sf_lint.specs.Head.{line_of};
+ghost use Rattle.sf_lint.specs.Colours.{verdict_text};
+ghost use Rattle.sf_lint.specs.declared.colours.Verdict.TheVariants as verdict;
 ghost use Rattle.sf_lint.specs.declared.head.Line.TheVariants as line;
 
+use crate::colours::Verdict;
 use crate::head::{Line, is_named, is_start, read_line, split_lines, value_of};
-use crate::marking::find_mark;
-use crate::meaning::meaning;
+use crate::marking::{find_mark, name_end};
+use crate::meaning::{joined, meaning};
 use crate::settings::{FieldType, Settings, type_of};
 use http_header::HeaderName;
 use sf_field::{UseFault, parse_from};
-use sf_parse::{InLine, Refusal};
+use sf_parse::{InLine, Refusal, Spot};
 use sf_value::{Field, OutOfMemory, is_visible};
 use sf_write::display;
 use std::alloc::Global;
@@ -104,18 +108,30 @@ fn values<'a>(alloc: Global, name: &[u8], lines: &[&'a [u8]]) -> Result<Vec<&'a 
 }
 
 /// Returns the text for a field that is accepted.
-fn accepted(alloc: Global, name: &str, field: &Field) -> Result<Vec<u8>, OutOfMemory>
-    ensures { IfOk result (λ text. text.items ≡ accepted_text name.now field.now) }
+fn accepted(
+    alloc: Global,
+    settings: &Settings,
+    name: &str,
+    field: &Field,
+) -> Result<Vec<u8>, OutOfMemory>
+    ensures { IfOk result (λ text. text.items ≡ accepted_text settings.now name.now field.now) }
 {
-    let text = format!(in alloc; "ok {name}: {}\n", display(field))?;
+    let ok = Verdict::Ok.text(settings);
+    let text = format!(in alloc; "{ok} {name}: {}\n", display(field))?;
     Ok(text.into_bytes())
 }
 
 /// Returns the text for a field of which a member names no cache.
-fn without_cache(alloc: Global, name: &str, index: usize) -> Result<Vec<u8>, OutOfMemory>
-    ensures { IfOk result (λ text. text.items ≡ no_cache_text name.now index) }
+fn without_cache(
+    alloc: Global,
+    settings: &Settings,
+    name: &str,
+    index: usize,
+) -> Result<Vec<u8>, OutOfMemory>
+    ensures { IfOk result (λ text. text.items ≡ no_cache_text settings.now name.now index) }
 {
-    let text = format!(in alloc; "refused {name}: member {index} names no cache\n")?;
+    let refused = Verdict::Refused.text(settings);
+    let text = format!(in alloc; "{refused} {name}: member {index} names no cache\n")?;
     Ok(text.into_bytes())
 }
 
@@ -127,12 +143,12 @@ fn tell_value(
     field: &Field,
 ) -> Result<Told, OutOfMemory>
     ensures told { IfOk result (λ told. TellsValue settings.now name.now field.now
-        (meaning_of name.now field.now) told.text.items told.refused told.others) }
+        (meaning_of settings.now name.now field.now) told.text.items told.refused told.others) }
     ensures few { IfOk result (λ told. told.others ≤ 1) }
 {
-    match meaning(alloc, name, field) {
+    match meaning(alloc, settings, name, field) {
         Ok(lines) => {
-            let mut text = accepted(alloc, name, field)?;
+            let mut text = accepted(alloc, settings, name, field)?;
             text.extend_from_slice(lines.as_slice())?;
             return Ok(Told {
                 text: shown(alloc, settings, text),
@@ -142,7 +158,7 @@ fn tell_value(
         }
         Err(UseFault::NotACache { index }) => {
             return Ok(Told {
-                text: without_cache(alloc, name, index)?,
+                text: without_cache(alloc, settings, name, index)?,
                 refused: true,
                 others: 0,
             });
@@ -155,6 +171,7 @@ fn tell_value(
 /// given, and the number of that one.
 fn refused(
     alloc: Global,
+    settings: &Settings,
     name: &str,
     refusal: Refusal,
     number: usize,
@@ -162,34 +179,36 @@ fn refused(
 ) -> Result<Vec<u8>, OutOfMemory>
     requires { number + length lines.now < 2 ^ 64 }
     ensures { IfOk result (λ text. text.items
-        ≡ refused_text number name.now (map (λ line. line.now) lines.now) refusal) }
+        ≡ refused_text settings.now number name.now (map (λ line. line.now) lines.now) refusal) }
 {
     let spot = match refusal {
         Refusal::Syntax { place, .. } => find_mark(name.as_bytes(), number, lines, place),
         _ => None,
     };
     let shown = InLine { refusal, spot };
-    let text = format!(in alloc; "refused {name}: {shown}\n")?;
+    let refused = Verdict::Refused.text(settings);
+    let text = format!(in alloc; "{refused} {name}: {shown}\n")?;
     Ok(text.into_bytes())
 }
 
 /// Tells of a field that is refused.
 fn tell_refusal(
     alloc: Global,
+    settings: &Settings,
     name: &str,
     refusal: Refusal,
     number: usize,
     lines: &[&[u8]],
 ) -> Result<Told, OutOfMemory>
     requires { number + length lines.now < 2 ^ 64 }
-    ensures told { IfOk result (λ told. TellsRefusal name.now number
+    ensures told { IfOk result (λ told. TellsRefusal settings.now name.now number
         (map (λ line. line.now) lines.now) refusal told.text.items told.refused told.others) }
     ensures few { IfOk result (λ told. told.others ≤ 1) }
 {
     match refusal {
         Refusal::OutOfMemory => return Err(OutOfMemory),
         _ => {
-            let text = refused(alloc, name, refusal, number, lines)?;
+            let text = refused(alloc, settings, name, refusal, number, lines)?;
             return Ok(Told {
                 text,
                 refused: true,
@@ -230,7 +249,7 @@ fn tell_field(
             drop(field);
             return told;
         }
-        Err(refusal) => return tell_refusal(alloc, name, refusal, number, lines),
+        Err(refusal) => return tell_refusal(alloc, settings, name, refusal, number, lines),
     }
 }
 
@@ -270,8 +289,8 @@ fn tell_named(
     )
 }
 
-/// Returns the start line of a message, one character for each of its bytes.
-fn start_text(alloc: Global, line: &[u8]) -> Result<Vec<u8>, OutOfMemory>
+/// Returns a line as it is in the input, one character for each of its bytes.
+fn line_text(alloc: Global, line: &[u8]) -> Result<Vec<u8>, OutOfMemory>
     ensures { IfOk result (λ text. text.items ≡ printed_in line.now ++ codes "\n") }
 {
     let mut text = Vec::new(alloc);
@@ -282,14 +301,62 @@ fn start_text(alloc: Global, line: &[u8]) -> Result<Vec<u8>, OutOfMemory>
     Ok(text)
 }
 
-/// Tells of a line that is no line of a head.
-fn tell_bad_line(alloc: Global, number: usize, why: &str) -> Result<Told, OutOfMemory>
-    ensures { IfOk result (λ told. (told.text.items ≡ bad_line_text number why.now)
+/// Returns a line with a caret under the place.
+fn caret_text(alloc: Global, place: usize) -> Result<Vec<u8>, OutOfMemory>
+    ensures { IfOk result (λ text. text.items ≡ replicate place space ++ codes "^\n") }
+{
+    let mut text = vec![in alloc; b' '; place]?;
+    text.extend_from_slice(b"^\n")?;
+    Ok(text)
+}
+
+/// Returns why a line is no line of a head, and where it is refused.
+fn bad_line_words(
+    alloc: Global,
+    settings: &Settings,
+    line: usize,
+    why: &str,
+    place: usize,
+) -> Result<Vec<u8>, OutOfMemory>
+    ensures { IfOk result (λ text. text.items ≡ verdict_text settings.now verdict.Refused
+        ++ (codes " line " ++ (decimal line ++ (codes ": " ++ (why.now
+        ++ (codes "\nline " ++ (decimal line ++ (codes ", place "
+        ++ (decimal place ++ codes ":\n"))))))))) }
+{
+    let refused = Verdict::Refused.text(settings);
+    let text = format!(in alloc; "{refused} line {line}: {why}\nline {line}, place {place}:\n")?;
+    Ok(text.into_bytes())
+}
+
+/// Returns the text for a line that is no line of a head, which is refused at the spot.
+fn bad_line(
+    alloc: Global,
+    settings: &Settings,
+    why: &str,
+    spot: Spot<'_>,
+) -> Result<Vec<u8>, OutOfMemory>
+    ensures { IfOk result (λ text. text.items
+        ≡ bad_line_text settings.now spot.entry.line why.now (line_place (Some spot.entry))) }
+{
+    let words = bad_line_words(alloc, settings, spot.line, why, spot.place)?;
+    let shown = line_text(alloc, spot.text)?;
+    let caret = caret_text(alloc, spot.place)?;
+    joined(words, shown, caret)
+}
+
+/// Tells of a line that is no line of a head, which is refused at the spot.
+fn tell_bad_line(
+    alloc: Global,
+    settings: &Settings,
+    why: &str,
+    spot: Spot<'_>,
+) -> Result<Told, OutOfMemory>
+    ensures { IfOk result (λ told. (told.text.items
+        ≡ bad_line_text settings.now spot.entry.line why.now (line_place (Some spot.entry)))
         × (told.refused ≡ true) × (told.others ≡ 0)) }
 {
-    let text = format!(in alloc; "refused line {number}: {why}\n")?;
     Ok(Told {
-        text: text.into_bytes(),
+        text: bad_line(alloc, settings, why, spot)?,
         refused: true,
         others: 0,
     })
@@ -313,9 +380,16 @@ fn tell_line(
 {
     match read_line(alloc, lines[n])? {
         Line::Empty => return Ok(nothing(alloc)),
-        Line::Folded => return tell_bad_line(alloc, n + 1, "obsolete line folding"),
+        Line::Folded => {
+            let spot = Spot {
+                line: n + 1,
+                place: 0,
+                text: lines[n],
+            };
+            return tell_bad_line(alloc, settings, "obsolete line folding", spot);
+        }
         Line::Start => {
-            let text = start_text(alloc, lines[n])?;
+            let text = line_text(alloc, lines[n])?;
             return Ok(Told {
                 text: shown(alloc, settings, text),
                 refused: false,
@@ -323,7 +397,14 @@ fn tell_line(
             });
         }
         Line::Field(name) => return tell_named(alloc, seed, settings, &name, lines, n),
-        Line::Nameless => return tell_bad_line(alloc, n + 1, "not a field line"),
+        Line::Nameless => {
+            let spot = Spot {
+                line: n + 1,
+                place: name_end(lines[n]),
+                text: lines[n],
+            };
+            return tell_bad_line(alloc, settings, "not a field line", spot);
+        }
     }
 }
 

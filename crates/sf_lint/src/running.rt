@@ -1,12 +1,13 @@
 //! Running the check of an input.
 ghost use Rattle.std.specs.Prelude.{◌≡◌, ◌≤◌, ◌⊎◌, length};
 ghost use Rattle.sf_lint.specs.Run.{Answers, Ran, status_of as status_in};
+ghost use Rattle.sf_lint.specs.Run.{too_long_text as too_long_in};
 ghost use Rattle.sf_tool.specs.declared.status.Status.TheVariants as status_is;
 ghost use Rattle.sf_tool.specs.Run.{input_limit};
 
 use crate::report::report;
 use crate::settings::Settings;
-use sf_tool::{INPUT_LIMIT, ReadAllFault, Status, answer_made, answer_too_long, read_all};
+use sf_tool::{INPUT_LIMIT, ReadAllFault, Status, answer_made, read_all};
 use sf_value::{Sink, Source};
 use std::alloc::Global;
 use std::hash::RandomState;
@@ -24,7 +25,7 @@ use std::hash::RandomState;
 /// once.
 ///
 /// ```
-/// let settings = Settings { fields: Vec::new(alloc), quiet: false };
+/// let settings = Settings { fields: Vec::new(alloc), quiet: false, colour: false };
 /// let mut source = Reading::new(b"Priority: u=1,i\r\n".as_slice());
 /// let mut sink = Writing::new(Vec::new(alloc));
 /// run(alloc, &seed, &settings, &mut source, &mut sink); // Accepted, and "ok priority: u=1, i\n.."
@@ -42,8 +43,23 @@ pub fn run<R: Source, W: Sink>(
 {
     match read_all(alloc, INPUT_LIMIT, source) {
         Ok(input) => answer(alloc, seed, settings, input.as_slice(), sink),
-        Err(ReadAllFault::TooLong { max: _ }) => answer_too_long(INPUT_LIMIT, sink),
+        Err(ReadAllFault::TooLong { max: _ }) => answer_made(
+            too_long_text(settings),
+            Status::Refused,
+            sink,
+        ),
         Err(_) => Status::Stopped,
+    }
+}
+
+/// Returns the line for an input that is longer than the limit. Does not allocate.
+fn too_long_text(settings: &Settings) -> &'static [u8]
+    ensures { result.now ≡ too_long_in settings.now }
+{
+    if settings.colour {
+        b"\x1b[31mrefused\x1b[0m too long 1048576\n"
+    } else {
+        b"refused too long 1048576\n"
     }
 }
 

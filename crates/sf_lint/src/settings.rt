@@ -24,6 +24,9 @@ pub struct Settings {
     pub fields: Vec<CustomField>,
     /// Whether only what is refused is printed.
     pub quiet: bool,
+    /// Whether the words `ok`, `refused` and `ignored` are green, red and yellow where a line begins
+    /// with them, by escape sequences for terminals.
+    pub colour: bool,
 }
 
 /// What the value of a structured field is, and in which dialect it is written.

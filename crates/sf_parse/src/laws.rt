@@ -13,7 +13,8 @@ ghost use Rattle.sf_parse.specs.StateTests.{TakesStep, MayEnd, TakesNext, EndsTe
 ghost use Rattle.sf_parse.specs.StateTests.{SomeNext};
 
 /// A text spells at most one value of a kind. Valid values with equal canonical texts are equal.
-/// Accepted lines spell one value, and its canonical text as the only line is accepted as that value.
+/// Accepted lines spell one value, and its canonical text as the only line is accepted as that
+/// value.
 pub fn one_value()
     ensures one { OneValue }
     ensures canon { CanonOne }
@@ -28,8 +29,8 @@ pub fn machine_reads()
     ensures chunks { AnyChunks }
 {}
 
-/// A prefix is viable if and only if the machine is not stuck after it; the bytes that may follow are
-/// those that a step takes; and a refusal is at the first byte that no step takes.
+/// A prefix is viable if and only if the machine is not stuck after it; the bytes that may follow
+/// are those that a step takes; and a refusal is at the first byte that no step takes.
 pub fn refusals_are_exact()
     ensures viable { IsViable }
     ensures next { IsNext }
@@ -78,8 +79,8 @@ pub fn names_are_the_set()
 {}
 
 /// The place in a line at which a refusal is shown is the place in the joined lines: the byte there
-/// is the same byte; at the line's end it is the comma or the space after the line, or no byte if it
-/// is the last line.
+/// is the same byte; at the line's end it is the comma or the space after the line, or no byte if
+/// it is the last line.
 pub fn places_are_spots()
     ensures { PlacesAreSpots }
 {}

@@ -17,9 +17,9 @@ use std::hash::RandomState;
 
 /// The value that the text spells, in the dialect of RFC 9651 (section 4.2). A text that spells
 /// none is refused with Syntax, and a failed allocation with OutOfMemory; it is never TooLong or
-/// ReadFault. If an Item is asked for, a text of spaces, digits and `-.?@` does not allocate, nor do
-/// at most 16 bytes without `;`, `:` and `%`, such as a short Token or String; nor does an empty List
-/// or Dictionary.
+/// ReadFault. If an Item is asked for, a text of spaces, digits and `-.?@` does not allocate, nor
+/// do at most 16 bytes without `;`, `:` and `%`, such as a short Token or String; nor does an empty
+/// List or Dictionary.
 ///
 /// ```
 /// let field = parse_text(alloc, &seed, Kind::Dict, b"u=1, i")?;

@@ -8,12 +8,12 @@ use sf_value::{Field, Kind, Source};
 use std::alloc::Global;
 use std::hash::RandomState;
 
-/// Returns the value that the reader's text spells, in the dialect of RFC 9651. It asks for at most
-/// `max` + 1 bytes, a block of 512 at a time, repeats no read that failed, and asks for no byte after
-/// the reader's end. The result is, in this order over the bytes given: Syntax with a found byte if
-/// the first `max` bytes are no viable prefix; ReadFault if a read failed; TooLong if more than `max`
-/// bytes came; otherwise, at the reader's end, the value, or Syntax without a found byte. A text for
-/// which [`crate::parse_text`] does not allocate is not refused as out of memory.
+/// Returns the value that the reader's text spells, in the dialect of RFC 9651. It asks for at
+/// most `max` + 1 bytes, a block of 512 at a time, repeats no read that failed, and asks for no
+/// byte after the reader's end. The result is, in this order over the bytes given: Syntax with a
+/// found byte if the first `max` bytes are no viable prefix; ReadFault if a read failed; TooLong if
+/// more than `max` bytes came; otherwise, at the reader's end, the value, or Syntax without a found
+/// byte. A text for which [`crate::parse_text`] does not allocate is not refused as out of memory.
 ///
 /// ```
 /// let mut source = Reading::new(b"u=1, i".as_slice());

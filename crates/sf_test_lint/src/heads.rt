@@ -1,6 +1,6 @@
 //! Heads whose answer is known.
 use http_header::HeaderName;
-use sf_lint::{CustomField, Settings, run};
+use sf_lint::{CustomField, Settings, is_coloured, run};
 use sf_tool::Status;
 use sf_value::{Kind, Reading, Writing};
 use std::hash::RandomState;
@@ -10,13 +10,19 @@ use std::test::Fail;
 /// An input, the whole output for it, and the status.
 type Row = (&'static [u8], &'static [u8], Status);
 
-/// The input gives this output and this status.
+/// The input gives this output and this status, without colours.
 fn expect_row(rt: &(impl Abort + AllocGlobal), seed: &RandomState, row: Row) {
-    let (input, text, status) = row;
     let settings = Settings {
         fields: Vec::new(rt.alloc()),
         quiet: false,
+        colour: false,
     };
+    expect_with(rt, seed, settings, row);
+}
+
+/// The input gives this output and this status by these settings.
+fn expect_with(rt: &(impl Abort + AllocGlobal), seed: &RandomState, settings: Settings, row: Row) {
+    let (input, text, status) = row;
     let mut source = Reading::new(input);
     let mut sink = Writing::new(Vec::new(rt.alloc()));
     let answer = run(rt.alloc(), seed, &settings, &mut source, &mut sink);
@@ -28,7 +34,7 @@ fn expect_row(rt: &(impl Abort + AllocGlobal), seed: &RandomState, row: Row) {
 #[test]
 fn heads(rt: HostRuntime) -> Result<(), Fail> {
     let seed = RandomState::new(&rt)?;
-    let rows: [Row; 6] = [
+    let rows: [Row; 7] = [
         (b"", b"other fields: 0\n", Status::Accepted),
         (
             b"HTTP/2 200 \r\ncache-status: OriginCache; hit; ttl=1100\r\npriority: u=1,i\r\nserver: x\r\n\r\n",
@@ -40,7 +46,18 @@ fn heads(rt: HostRuntime) -> Result<(), Fail> {
             b"HTTP/1.1 200 OK\nrefused priority: byte 0x2c ',' at place 2, expected \
               a letter, a digit, a quote, `(`, `*`, `-`, `:` or `?`\n\
               line 2, place 13:\nPriority:  u=,i\n             ^\n\
-              refused line 4: obsolete line folding\nrefused line 5: not a field line\nother fields: 1\n",
+              refused line 4: obsolete line folding\nline 4, place 0:\n b\n^\n\
+              refused line 5: not a field line\nline 5, place 8:\nnonsense\n        ^\nother fields: 1\n",
+            Status::Refused,
+        ),
+        // A byte that no field name has, before a colon and without one; no name; no tab is shown.
+        (
+            b"Bad name: x\nno colon\n: x\n\t\xff: x\nh\xc3\xa9: x\n",
+            b"refused line 1: not a field line\nline 1, place 3:\nBad name: x\n   ^\n\
+              refused line 2: not a field line\nline 2, place 2:\nno colon\n  ^\n\
+              refused line 3: not a field line\nline 3, place 0:\n: x\n^\n\
+              refused line 4: obsolete line folding\nline 4, place 0:\n??: x\n^\n\
+              refused line 5: not a field line\nline 5, place 1:\nh??: x\n ^\nother fields: 0\n",
             Status::Refused,
         ),
         (
@@ -129,7 +146,7 @@ fn twelve_fields(rt: HostRuntime) -> Result<(), Fail> {
 #[test]
 fn ignored_members(rt: HostRuntime) -> Result<(), Fail> {
     let seed = RandomState::new(&rt)?;
-    let rows: [Row; 2] = [
+    let rows: [Row; 6] = [
         (
             b"Priority: u=9, i=1\n",
             b"ok priority: u=9, i=1\nignored u\nignored i\nurgency 3 incremental false\nother fields: 0\n",
@@ -141,9 +158,126 @@ fn ignored_members(rt: HostRuntime) -> Result<(), Fail> {
               lifetime shared 5\nlifetime private none\nother fields: 0\n",
             Status::Accepted,
         ),
+        // Each parameter of Cache-Status has another type than RFC 9211 gives it.
+        (
+            b"Cache-Status: A; hit=\"x\"; ttl=a; key=k; fwd=\"miss\"\n\
+              Cache-Status: B; detail=1; collapsed=a; stored=1; fwd-status=\"x\"; fwd=5\n",
+            b"ok cache-status: A;hit=\"x\";ttl=a;key=k;fwd=\"miss\", \
+              B;detail=1;collapsed=a;stored=1;fwd-status=\"x\";fwd=5\n\
+              ignored hop 0 hit\nignored hop 0 fwd\nignored hop 0 ttl\nignored hop 0 key\n\
+              ignored hop 1 fwd\nignored hop 1 fwd-status\nignored hop 1 stored\n\
+              ignored hop 1 collapsed\nignored hop 1 detail\n\
+              hop 0 A unsaid\nhop 1 B unsaid\nserved none\nother fields: 0\n",
+            Status::Accepted,
+        ),
+        // A status code has three digits, and a ttl has no fraction.
+        (
+            b"Cache-Status: A; fwd=miss; fwd-status=99, B; fwd-status=1000; ttl=1.5, \
+              C; fwd=miss; fwd-status=304; ttl=-1\n",
+            b"ok cache-status: A;fwd=miss;fwd-status=99, B;fwd-status=1000;ttl=1.5, \
+              C;fwd=miss;fwd-status=304;ttl=-1\n\
+              ignored hop 0 fwd-status\nignored hop 1 fwd-status\nignored hop 1 ttl\n\
+              hop 0 A forwarded miss\nhop 1 B unsaid\nhop 2 C forwarded miss status=304 ttl=-1\n\
+              served none\nother fields: 0\n",
+            Status::Accepted,
+        ),
+        // Not ignored: a false hit, a status without fwd, each type of detail, an unknown parameter.
+        (
+            b"Cache-Status: A; hit=?0; detail=b, \"C\"; fwd-status=304; detail=\"d\"; x=1\n",
+            b"ok cache-status: A;hit=?0;detail=b, \"C\";fwd-status=304;detail=\"d\";x=1\n\
+              hop 0 A unsaid detail=b\nhop 1 \"C\" unsaid detail=\"d\"\nserved none\nother fields: 0\n",
+            Status::Accepted,
+        ),
+        // Nothing is told as ignored of a field that is refused for a member.
+        (
+            b"Cache-Status: A; hit=1, 7\n",
+            b"refused cache-status: member 1 names no cache\nother fields: 0\n",
+            Status::Refused,
+        ),
     ];
     for row in rows {
         expect_row(&rt, &seed, row);
+    }
+    Ok(())
+}
+
+/// The words in colours: green, yellow and red.
+#[test]
+fn colours(rt: HostRuntime) -> Result<(), Fail> {
+    let seed = RandomState::new(&rt)?;
+    let rows: [Row; 3] = [
+        (
+            b"HTTP/2 200\nPriority: u=9\nSec-GPC: 1 2\nCache-Status: ok;hit=1\n",
+            b"HTTP/2 200\n\
+              \x1b[32mok\x1b[0m priority: u=9\n\x1b[33mignored\x1b[0m u\nurgency 3 incremental false\n\
+              \x1b[31mrefused\x1b[0m sec-gpc: byte 0x32 '2' at place 2, expected a space or the end\n\
+              line 3, place 11:\nSec-GPC: 1 2\n           ^\n\
+              \x1b[32mok\x1b[0m cache-status: ok;hit=1\n\x1b[33mignored\x1b[0m hop 0 hit\n\
+              hop 0 ok unsaid\nserved none\nother fields: 0\n",
+            Status::Refused,
+        ),
+        (
+            b"CDN-Cache-Control: max-age=a\nCache-Status: 1\n",
+            b"\x1b[32mok\x1b[0m cdn-cache-control: max-age=a\n\x1b[33mignored\x1b[0m max-age\n\
+              lifetime shared none\nlifetime private none\n\
+              \x1b[31mrefused\x1b[0m cache-status: member 0 names no cache\nother fields: 0\n",
+            Status::Refused,
+        ),
+        (
+            b"Server: refused\n refused\n",
+            b"\x1b[31mrefused\x1b[0m line 2: obsolete line folding\n\
+              line 2, place 0:\n refused\n^\nother fields: 1\n",
+            Status::Refused,
+        ),
+    ];
+    for row in rows {
+        let settings = Settings {
+            fields: Vec::new(rt.alloc()),
+            quiet: false,
+            colour: true,
+        };
+        expect_with(&rt, &seed, settings, row);
+    }
+    Ok(())
+}
+
+/// The line for an input that is too long.
+#[test]
+fn too_long(rt: HostRuntime) -> Result<(), Fail> {
+    let seed = RandomState::new(&rt)?;
+    let input = vec![in rt.alloc(); b'\n'; 1_048_577]?;
+    let rows: [(bool, &[u8]); 2] = [
+        (false, b"refused too long 1048576\n"),
+        (true, b"\x1b[31mrefused\x1b[0m too long 1048576\n"),
+    ];
+    for (colour, text) in rows {
+        let settings = Settings {
+            fields: Vec::new(rt.alloc()),
+            quiet: true,
+            colour,
+        };
+        let mut source = Reading::new(input.as_slice());
+        let mut sink = Writing::new(Vec::new(rt.alloc()));
+        let answer = run(rt.alloc(), &seed, &settings, &mut source, &mut sink);
+        assert_eq!(&rt; sink.into_inner().as_slice(), text);
+        assert_eq!(&rt; answer, Status::Refused);
+    }
+    Ok(())
+}
+
+/// Colours are for terminals, and only an empty `NO_COLOR` counts as none.
+#[test]
+fn no_color(rt: HostRuntime) -> Result<(), Fail> {
+    let rows: [(bool, Option<&str>, bool); 6] = [
+        (true, None, true),
+        (true, Some(""), true),
+        (true, Some("1"), false),
+        (true, Some("0"), false),
+        (false, None, false),
+        (false, Some(""), false),
+    ];
+    for (is_terminal, no_color, wanted) in rows {
+        assert_eq!(&rt; is_coloured(is_terminal, no_color), wanted);
     }
     Ok(())
 }
@@ -180,6 +314,7 @@ fn settings(rt: HostRuntime) -> Result<(), Fail> {
         let settings = Settings {
             fields,
             quiet: true,
+            colour: false,
         };
         let mut source = Reading::new(input);
         let mut sink = Writing::new(Vec::new(rt.alloc()));

@@ -20,19 +20,22 @@ fn expect(rt: &(impl Abort + AllocGlobal), words: &[&str], wanted: &str) -> Resu
 #[test]
 fn settings(rt: HostRuntime) -> Result<(), Fail> {
     let rows: [(&[&str], &str); 14] = [
-        (&["sflint"], "Ok(Settings { fields: [], quiet: false })"),
+        (
+            &["sflint"],
+            "Ok(Settings { fields: [], quiet: false, colour: false })",
+        ),
         (
             &["sflint", "--quiet"],
-            "Ok(Settings { fields: [], quiet: true })",
+            "Ok(Settings { fields: [], quiet: true, colour: false })",
         ),
         (
             &["sflint", "--field", "X-List:list", "--field=y:item"],
             "Ok(Settings { fields: [CustomField { name: \"x-list\", kind: List }, \
-             CustomField { name: \"y\", kind: Item }], quiet: false })",
+             CustomField { name: \"y\", kind: Item }], quiet: false, colour: false })",
         ),
         (
             &["sflint", "--field", "priority:dict", "--quiet"],
-            "Ok(Settings { fields: [CustomField { name: \"priority\", kind: Dict }], quiet: true })",
+            "Ok(Settings { fields: [CustomField { name: \"priority\", kind: Dict }], quiet: true, colour: false })",
         ),
         (&["sflint", "--help"], "Err(Help)"),
         (&["sflint", "--version"], "Err(Version)"),

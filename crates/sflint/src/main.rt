@@ -1,18 +1,22 @@
-//! The command `sflint`: it reads its words and standard input, and writes to standard output. What
-//! it does, how it ends and what it says of that are `sf_lint`'s.
+//! The command `sflint`: it reads its words and standard input, and writes to standard output, in
+//! colours if that is a terminal. What it does, how it ends and what it says of that are `sf_lint`'s.
 #![tactic(auto)]
 
-use sf_lint::{OptionsFault, Settings, read_settings, run, status_line};
+use sf_lint::{OptionsFault, Settings, is_coloured, read_settings, run, status_line};
 use sf_tool::Status;
 use sf_value::{Reading, Writing};
 use std::env;
+use std::env::VarError;
 use std::hash::RandomState;
-use std::io::Write;
+use std::io::{IsTerminal, Write};
 use std::process::ExitCode;
 
 fn main(rt: HostRuntime) -> ExitCode {
     let status = match settings_of(&rt) {
-        Ok(settings) => answer(&rt, &settings),
+        Ok(settings) => {
+            let colour = has_colours(&rt);
+            answer(&rt, &Settings { colour, ..settings })
+        }
         Err(fault) => tell(&rt, fault),
     };
     if let Some(line) = status_line(status) {
@@ -32,6 +36,17 @@ fn settings_of(rt: &HostRuntime) -> Result<Settings, OptionsFault> {
         Err(_) => return Err(OptionsFault::OutOfMemory),
     };
     read_settings(rt.alloc(), words.as_slice())
+}
+
+/// Whether the output is coloured: by where standard output goes, and by the environment.
+fn has_colours(rt: &HostRuntime) -> bool {
+    let is_terminal = rt.stdout().is_terminal();
+    match env::var(rt, "NO_COLOR") {
+        Ok(value) => is_coloured(is_terminal, Some(value.as_str())),
+        Err(VarError::NotPresent) => is_coloured(is_terminal, None),
+        // A value that is not Unicode is not empty.
+        Err(VarError::NotUnicode | VarError::OutOfMemory) => false,
+    }
 }
 
 /// Writes what stands for the fault on standard output, if something does.

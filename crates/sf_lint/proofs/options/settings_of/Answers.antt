@@ -1,4 +1,4 @@
-use Rattle.std.proofs.Common.{◌≡◌, List, Some, None, ap, codes, ◌∙◌, sym, subst, map}
+use Rattle.std.proofs.Common.{◌≡◌, List, Some, None, ap, codes, ◌∙◌, sym, subst, map, refl}
 use Rattle.std.specs.Prelude.{option_map, Option}
 use Rattle.std.specs.Borrow.{Bor}
 use Rattle.clap.specs.Words.{found_of, rows_of}
@@ -28,7 +28,7 @@ returns-in-Some c =
     ∙ ap (option_map texts) c.in-Some.is in
     let P : Option (List Text) → Type 0 =
     λ ws. AreFields (field_words ws) c.in_ok-fields-in-Some.fields.items in
-    (subst P (sym given) c.in_ok-fields-in-Some.ensures, c.is_quiet-quiet.ensures)
+    (subst P (sym given) c.in_ok-fields-in-Some.ensures, (c.is_quiet-quiet.ensures, refl))
 
 pub returns-in-None : goal.returns-in-None
 returns-in-None c =
@@ -38,4 +38,4 @@ returns-in-None c =
     ∙ ap (option_map texts) c.in-None.is in
     let P : Option (List Text) → Type 0 =
     λ ws. AreFields (field_words ws) c.new.result.items in
-    (subst P (sym given) (ap (map Some) (sym c.new.ensures.items)), c.is_quiet-quiet.ensures)
+    (subst P (sym given) (ap (map Some) (sym c.new.ensures.items)), (c.is_quiet-quiet.ensures, refl))

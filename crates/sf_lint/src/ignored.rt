@@ -1,0 +1,168 @@
+//! The parameters of Cache-Status (RFC 9211) that are ignored: each has another type or range than
+//! the RFC gives it, so that it says nothing.
+ghost use Rattle.std.specs.Prelude.{◌≡◌, ◌++◌, IfOk};
+ghost use Rattle.sf_value.specs.Grammar.Pairs.{value_at};
+ghost use Rattle.sf_value.specs.Lookups.{as_integer as integer_of};
+ghost use Rattle.sf_use.specs.CacheStatus.Hops.{status_of as status_in};
+ghost use Rattle.sf_use.specs.CacheStatus.Parameters.{boolean_at, integer_at, name_at};
+ghost use Rattle.sf_use.specs.CacheStatus.Parameters.{text_at, token_at};
+ghost use Rattle.sf_lint.specs.Meanings.{hop_key, ignored_line, is_ignored, status_at};
+ghost use Rattle.sf_lint.specs.Meanings.{ignored_params as params_in};
+ghost use Rattle.sf_lint.specs.Meanings.{ignored_member as member_in};
+ghost use Rattle.sf_lint.specs.Meanings.{ignored_members as members_in};
+
+use crate::colours::Verdict;
+use crate::settings::Settings;
+use sf_use::HopStatus;
+use sf_value::{Bare, Entries, Member, OutOfMemory};
+use std::alloc::Global;
+
+/// Returns whether the parameter at the key is present, and not a Boolean.
+fn is_no_boolean(params: &Entries<Bare>, key: &[u8]) -> bool
+    ensures { result ≡ is_ignored (value_at key.now params.now) (boolean_at key.now params.now) }
+{
+    match params.get(key) {
+        Some(bare) => bare.as_boolean().is_none(),
+        None => false,
+    }
+}
+
+/// Returns whether the parameter at the key is present, and not an Integer.
+fn is_no_integer(params: &Entries<Bare>, key: &[u8]) -> bool
+    ensures { result ≡ is_ignored (value_at key.now params.now) (integer_at key.now params.now) }
+{
+    match params.get(key) {
+        Some(bare) => bare.as_integer().is_none(),
+        None => false,
+    }
+}
+
+/// Returns whether the parameter at the key is present, and not a status code.
+fn is_no_status(params: &Entries<Bare>, key: &[u8]) -> bool
+    ensures { result ≡ is_ignored (value_at key.now params.now) (status_at key.now params.now) }
+{
+    match params.get(key) {
+        Some(bare) => status_of(bare).is_none(),
+        None => false,
+    }
+}
+
+/// Returns whether the parameter at the key is present, and not a Token.
+fn is_no_token(params: &Entries<Bare>, key: &[u8]) -> bool
+    ensures { result ≡ is_ignored (value_at key.now params.now) (token_at key.now params.now) }
+{
+    match params.get(key) {
+        Some(bare) => bare.as_token().is_none(),
+        None => false,
+    }
+}
+
+/// Returns whether the parameter at the key is present, and not a String.
+fn is_no_text(params: &Entries<Bare>, key: &[u8]) -> bool
+    ensures { result ≡ is_ignored (value_at key.now params.now) (text_at key.now params.now) }
+{
+    match params.get(key) {
+        Some(bare) => bare.as_text().is_none(),
+        None => false,
+    }
+}
+
+/// Returns whether the parameter at the key is present, and neither a String nor a Token.
+fn is_no_name(params: &Entries<Bare>, key: &[u8]) -> bool
+    ensures { result ≡ is_ignored (value_at key.now params.now) (name_at key.now params.now) }
+{
+    match params.get(key) {
+        Some(bare) => !matches!(bare, Bare::Text(_) | Bare::Token(_)),
+        None => false,
+    }
+}
+
+/// Returns the status code that a bare item is, if it is one.
+fn status_of(bare: &Bare) -> Option<HopStatus>
+    ensures { result ≡ status_in (integer_of bare.now) }
+{
+    let code = u16::try_from(bare.as_integer()?.get()).ok()?;
+    HopStatus::new(code).ok()
+}
+
+/// Returns the text, and after it the line for a parameter of the member of this number, if it is
+/// ignored.
+fn with_ignored(
+    alloc: Global,
+    settings: &Settings,
+    text: Vec<u8>,
+    number: usize,
+    key: &str,
+    is_ignored: bool,
+) -> Result<Vec<u8>, OutOfMemory>
+    ensures { IfOk result (λ longer. longer.items
+        ≡ text.items ++ ignored_line settings.now (hop_key number key.now) is_ignored) }
+{
+    if !is_ignored {
+        return Ok(text);
+    }
+    let mut text = text;
+    let ignored = Verdict::Ignored.text(settings);
+    let line = format!(in alloc; "{ignored} hop {number} {key}\n")?;
+    text.extend_from_slice(line.as_bytes())?;
+    Ok(text)
+}
+
+/// Returns the lines for the parameters of the member of this number that are ignored.
+fn ignored_params(
+    alloc: Global,
+    settings: &Settings,
+    number: usize,
+    params: &Entries<Bare>,
+) -> Result<Vec<u8>, OutOfMemory>
+    ensures { IfOk result (λ text. text.items ≡ params_in settings.now number params.now) }
+{
+    let text = Vec::new(alloc);
+    let is_ignored = is_no_boolean(params, b"hit");
+    let text = with_ignored(alloc, settings, text, number, "hit", is_ignored)?;
+    let is_ignored = is_no_token(params, b"fwd");
+    let text = with_ignored(alloc, settings, text, number, "fwd", is_ignored)?;
+    let is_ignored = is_no_status(params, b"fwd-status");
+    let text = with_ignored(alloc, settings, text, number, "fwd-status", is_ignored)?;
+    let is_ignored = is_no_integer(params, b"ttl");
+    let text = with_ignored(alloc, settings, text, number, "ttl", is_ignored)?;
+    let is_ignored = is_no_boolean(params, b"stored");
+    let text = with_ignored(alloc, settings, text, number, "stored", is_ignored)?;
+    let is_ignored = is_no_boolean(params, b"collapsed");
+    let text = with_ignored(alloc, settings, text, number, "collapsed", is_ignored)?;
+    let is_ignored = is_no_text(params, b"key");
+    let text = with_ignored(alloc, settings, text, number, "key", is_ignored)?;
+    let is_ignored = is_no_name(params, b"detail");
+    with_ignored(alloc, settings, text, number, "detail", is_ignored)
+}
+
+/// Returns the same of a member of Cache-Status.
+fn ignored_member(
+    alloc: Global,
+    settings: &Settings,
+    number: usize,
+    member: &Member,
+) -> Result<Vec<u8>, OutOfMemory>
+    ensures { IfOk result (λ text. text.items ≡ member_in settings.now number member.now) }
+{
+    match member {
+        Member::Item(item) => ignored_params(alloc, settings, number, &item.params),
+        Member::Inner(_) => Ok(Vec::new(alloc)),
+    }
+}
+
+/// Returns the same of all members of Cache-Status, in order.
+pub(crate) fn ignored_members(
+    alloc: Global,
+    settings: &Settings,
+    members: &[Member],
+) -> Result<Vec<u8>, OutOfMemory>
+    ensures { IfOk result (λ text. text.items ≡ members_in settings.now 0 members.now) }
+{
+    let mut text = Vec::new(alloc);
+    for (number, member) in members.iter().enumerate() {
+        let lines = ignored_member(alloc, settings, number, member)?;
+        text.extend_from_slice(lines.as_slice())?;
+    }
+    Ok(text)
+}
