@@ -114,9 +114,8 @@ fn requests(rt: HostRuntime) -> Result<(), Fail> {
 
 #[test]
 fn other_words(rt: HostRuntime) -> Result<(), Fail> {
-    let rows: [&[&str]; 8] = [
+    let rows: [&[&str]; 7] = [
         &["sf"],
-        &["sf", "help"],
         &["sf", "show"],
         &["sf", "check", "--kind", "text"],
         &["sf", "normalise", "--kind", "item", "--dialect", "rfc1"],
@@ -127,6 +126,21 @@ fn other_words(rt: HostRuntime) -> Result<(), Fail> {
     for words in rows {
         let found = request_refusals(rt.alloc(), words, Want::Usage)?;
         assert!(rt; found > Some(0), "{found:?}");
+    }
+    Ok(())
+}
+
+/// A first word that is no command takes no memory.
+#[test]
+fn stray_words(rt: HostRuntime) -> Result<(), Fail> {
+    let rows: [&[&str]; 3] = [
+        &["sf", "help"],
+        &["sf", "parse", "--kind", "item"],
+        &["sf", "", "check"],
+    ];
+    for words in rows {
+        let found = request_refusals(rt.alloc(), words, Want::Usage)?;
+        assert!(rt; found == Some(0), "{found:?}");
     }
     Ok(())
 }

@@ -5,6 +5,7 @@ pub mod Room
 pub mod InputLines
 pub mod LineByLine
 pub mod CommandLine
+pub mod FirstWord
 pub mod SomeWords
 pub mod Tells
 pub mod Places

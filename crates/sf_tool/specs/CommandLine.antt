@@ -1,5 +1,5 @@
 -- The words of the command line, as clap reads them.
-use Rattle.std.specs.Prelude.{◌≡◌, ◌≤◌, true, false, List, [], ◌∷◌, map, length, codes}
+use Rattle.std.specs.Prelude.{◌≡◌, ◌≤◌, ◌⊎◌, true, false, List, [], ◌∷◌, map, length, codes, slice_get}
 use Rattle.std.specs.Prelude.{Some, ⊤}
 use Rattle.std.specs.List.{list_all}
 use Rattle.clap.specs.Lexer.{usize_max}
@@ -8,6 +8,7 @@ use Rattle.clap.specs.Simple.{App, Shape, new_rule, new_shape, subcommand_of}
 use Rattle.clap.specs.Walk.{Row, Rule, Text, all_of, first_of}
 use Rattle.clap.specs.declared.builder.action.ArgAction.TheVariants.{Append}
 use Rattle.http_header.specs.Token.{lowercase}
+use Rattle.sf_value.specs.Ascii.{minus}
 use Rattle.sf_value.specs.declared.dialect.Dialect.{Dialect}
 use Rattle.sf_value.specs.declared.dialect.Dialect.TheVariants.{Rfc8941, Rfc9651}
 use Rattle.sf_value.specs.declared.value.Kind.{Kind}
@@ -105,6 +106,24 @@ IsRequestOf words request =
     (fault_of command_line words ≡ [])
     × ((found : Text × List Row) × (subcommand_of command_line words ≡ Some found)
     × AsksFor found.0 found.1 request)
+
+-- the word is the name of one of the six commands
+abbrev pub IsCommand : Text → Type 0
+IsCommand word =
+    (word ≡ codes "show")
+    ⊎ ((word ≡ codes "check")
+    ⊎ ((word ≡ codes "normalise")
+    ⊎ ((word ≡ codes "cache-status") ⊎ ((word ≡ codes "targeted") ⊎ (word ≡ codes "priority")))))
+
+-- the word begins as an option does
+abbrev pub IsOption : Text → Type 0
+IsOption word = slice_get word 0 ≡ Some minus
+
+-- the first argument after the program's name is a word that is no option and no command
+abbrev pub IsStray : List Text → Type 0
+IsStray [] = ⊥
+IsStray (program ∷ []) = ⊥
+IsStray (program ∷ word ∷ rest) = ¬ (IsOption word) × ¬ (IsCommand word)
 
 -- a fault is Usage only where the words ask for no request; of a failed allocation nothing is said
 abbrev pub IsUsageOf : List Text → RequestFault → Type 0

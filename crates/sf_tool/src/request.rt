@@ -1,6 +1,6 @@
 //! The command line.
 ghost use Rattle.std.specs.Prelude.{◌≡◌, ◌≢◌, ◌↔◌, [], map, true, false, Some, IfOk, IfErr, IsErrAnd};
-ghost use Rattle.std.specs.Prelude.{MatchResult, string_bytes};
+ghost use Rattle.std.specs.Prelude.{MatchResult, string_bytes, IsTrue, Err};
 ghost use Rattle.clap.specs.Words.{app_of, found_of, kind_of as kind_of_error, rows_of};
 ghost use Rattle.clap.specs.Words.{subcommand_rows_of};
 ghost use Rattle.sf_value.specs.declared.dialect.Dialect.{Dialect};
@@ -10,7 +10,7 @@ ghost use Rattle.sf_tool.specs.Request.{HasFewNames};
 ghost use Rattle.sf_tool.specs.Status.{fault_line, status_of};
 ghost use Rattle.sf_tool.specs.CommandLine.{command_line, kind_command, names_command};
 ghost use Rattle.sf_tool.specs.CommandLine.{NamesKind, NamesDialect, AsksFor, IsRequestOf};
-ghost use Rattle.sf_tool.specs.CommandLine.{IsUsageOf};
+ghost use Rattle.sf_tool.specs.CommandLine.{IsUsageOf, IsStray, IsOption, IsCommand};
 ghost use Rattle.sf_tool.specs.Commands.{AsksAsFound, IsCommandFault, IsFoundFault};
 ghost use Rattle.sf_tool.specs.Commands.{IsTargetedOf, IsNamesFault};
 
@@ -92,7 +92,8 @@ impl Error for RequestFault {}
 /// `--dialect rfc8941` or `--dialect rfc9651`, which is the default. `cache-status` and `priority`
 /// take nothing. `targeted` takes from 1 to [`MAX_NAMES`] header names (RFC 9110 section 5.1); a
 /// name that begins with a hyphen has to follow `--`. Everything else is `Usage`, including a
-/// request for help.
+/// request for help. A first argument that is no option and no command is found without an
+/// allocation.
 ///
 /// ```
 /// let request = read_request(alloc, words.as_slice())?; // sf targeted CDN-Cache-Control
@@ -103,11 +104,52 @@ pub fn read_request(alloc: Global, words: &[String]) -> Result<Request, RequestF
         (IsUsageOf (map string_bytes words.now)) }
     // A request that has names has from 1 to 64.
     ensures few { IfOk result HasFewNames }
+    // A first argument that is no option and no command is Usage, whatever memory there is.
+    ensures stray { IsStray (map string_bytes words.now) → result ≡ Err Usage }
 {
+    if is_stray(words) {
+        return Err(RequestFault::Usage);
+    }
     let Ok(command) = make_command(alloc) else {
         return Err(RequestFault::OutOfMemory);
     };
     request_in(alloc, command.try_get_matches_from(words))
+}
+
+/// Returns whether the first argument is a word that is no option and no command.
+fn is_stray(words: &[String]) -> bool
+    ensures { IsTrue result ↔ IsStray (map string_bytes words.now) }
+{
+    if words.len() < 2 {
+        return false;
+    }
+    let word = words[1].as_str();
+    !is_option(word) && !is_command(word)
+}
+
+/// Returns whether a word begins as an option does.
+fn is_option(word: &str) -> bool
+    ensures { IsTrue result ↔ IsOption word.now }
+{
+    match word.as_bytes().first() {
+        Some(byte) => *byte == b'-',
+        None => false,
+    }
+}
+
+/// Returns whether a word is the name of a command.
+fn is_command(word: &str) -> bool
+    ensures { IsTrue result ↔ IsCommand word.now }
+{
+    match word {
+        "show" => true,
+        "check" => true,
+        "normalise" => true,
+        "cache-status" => true,
+        "targeted" => true,
+        "priority" => true,
+        _ => false,
+    }
 }
 
 /// Returns the request of what clap parsed, or what its error means.

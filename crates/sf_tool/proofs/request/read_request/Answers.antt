@@ -1,9 +1,10 @@
-use Rattle.std.proofs.Common.{◌≡◌, true, map, string_bytes, subst}
+use Rattle.std.proofs.Common.{◌≡◌, true, map, string_bytes, subst, rules}
 use Rattle.std.specs.Prelude.{IfOk}
 use Rattle.clap.specs.Faults.{fault_of, is_simple_and_free}
 use Rattle.clap.specs.Kinds.{FailsBy}
 use Rattle.clap.specs.Simple.{App, HasMatchesOf}
 use Rattle.sf_tool.proofs.CommandLine.{command_line-is_free, request-few, request-read}
+use Rattle.sf_tool.proofs.FirstWord.{stray-fails}
 use Rattle.sf_tool.proofs.request.read_request.Goals as goal
 
 pub returns-clause-request : goal.returns-clause-request
@@ -21,3 +22,7 @@ returns-clause-request c =
 pub returns-clause-few : goal.returns-clause-few
 returns-clause-few c =
     request-few (map string_bytes c.args.words.now) c.request_in.result (returns-clause-request c)
+
+pub returns-then-is_stray-clause-request : goal.returns-then-is_stray-clause-request
+returns-then-is_stray-clause-request c =
+    λ request asks. stray-fails (map string_bytes c.args.words.now) (search rules) asks.0
