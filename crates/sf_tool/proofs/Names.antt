@@ -32,7 +32,7 @@ is_one_of-is (c ∷ cs) b =
 either-same : (a b c d : Bool) → a ≡ b → c ≡ d → (a || c) ≡ (b || d)
 either-same a b c d p q = rw (p, q) refl
 
-is_tchar-is : (b : ℕ) → is_token_byte b ≡ is_tchar b
+pub is_tchar-is : (b : ℕ) → is_token_byte b ≡ is_tchar b
 unfolding is_token_byte
 is_tchar-is b =
     let letters : is_ascii_alphanumeric b ≡ (is_alpha b || is_digit b) = grind (arith, nat_tests) in

@@ -1,5 +1,6 @@
 -- What a run shows on standard error of an input that is refused, if that is a terminal.
-use Rattle.std.specs.Prelude.{◌≡◌, ℕ, ◌⊎◌, Bool, true, List, ◌++◌, Result, Err, codes, decimal}
+use Rattle.std.specs.Prelude.{◌≡◌, ℕ, ◌+◌, ◌⊎◌, Bool, true, List, [], ◌++◌, Some, Result, Err, codes, decimal}
+use Rattle.std.specs.Prelude.{get_or}
 use Rattle.sf_value.specs.declared.dialect.Dialect.{Dialect}
 use Rattle.sf_value.specs.declared.dialect.Dialect.TheVariants.{Rfc9651}
 use Rattle.sf_value.specs.declared.value.Kind.{Kind}
@@ -20,6 +21,8 @@ use Rattle.sf_tool.specs.declared.request.Request.TheVariants.{CacheStatus, Targ
 use Rattle.sf_tool.specs.declared.status.Status.{Status}
 use Rattle.sf_tool.specs.declared.status.Status.TheVariants.{Refused}
 use Rattle.sf_tool.specs.Lines.{lines_of}
+use Rattle.sf_tool.specs.Fields.{Targets, IsFirstRefused, is_refused}
+use Rattle.sf_tool.specs.Marks.{bad_place}
 
 -- a refusal of these lines: its words, the line that it is in, and a caret under the place
 abbrev pub refusal_words : Refusal → List (List ℕ) → List ℕ
@@ -48,13 +51,27 @@ ExplainsPath input text =
     ⊎ ((index : ℕ) × Means kind.List hops (lines_of input) (Err index)
     × (text ≡ no_cache_words index))
 
--- why the input is refused, in words; a refused line of `targeted` has no further words
+-- a line that is no field line: its number in the input, from 0, and a caret under the place
+abbrev pub bad_line_words : ℕ → List ℕ → List ℕ
+bad_line_words n line =
+    codes "not a field line"
+    ++ (marked_text (Some (record { line = n + 1; place = bad_place line; text = line }))
+    ++ codes "\n")
+
+-- this is the first line that is refused, and it is refused for what it is
+abbrev pub ExplainsLine : Targets → List ℕ → List ℕ → Type 0
+ExplainsLine targets input text =
+    (n : ℕ) × IsFirstRefused targets input n
+    × (is_refused targets (get_or (lines_of input) n []) ≡ true)
+    × (text ≡ bad_line_words n (get_or (lines_of input) n []))
+
+-- why the input is refused, in words
 abbrev pub Explains : Request → List ℕ → List ℕ → Type 0
 Explains (Show d kind) input text = ExplainsField d kind input text
 Explains (Check d kind) input text = ExplainsField d kind input text
 Explains (Normalise d kind) input text = ExplainsField d kind input text
 Explains CacheStatus input text = ExplainsPath input text
-Explains (Targeted names) input text = ⊥
+Explains (Targeted names) input text = ExplainsLine names.items input text
 Explains Priority input text = ExplainsField Rfc9651 kind.Dict input text
 
 -- a text was written, or a prefix of it, and then a write failed

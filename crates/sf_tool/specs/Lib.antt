@@ -8,6 +8,7 @@ pub mod Reading
 pub mod Lines
 pub mod Fields
 pub mod OneLine
+pub mod Marks
 pub mod Texts
 pub mod Tree
 pub mod PathLines

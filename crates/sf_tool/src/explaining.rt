@@ -1,17 +1,24 @@
 //! What a terminal shows of a refusal: why, in words, and the line that it is in.
-ghost use Rattle.std.specs.Prelude.{◌≡◌, ◌≢◌, ◌≤◌, ◌↔◌, length, IfSome, IsTrue};
+ghost use Rattle.std.specs.Prelude.{◌≡◌, ◌≢◌, ◌≤◌, ◌↔◌, ◌+◌, ◌++◌, [], Some, true, length, get_or};
+ghost use Rattle.std.specs.Prelude.{IfSome, IfOk, IsTrue, codes, decimal};
 ghost use Rattle.sf_parse.specs.declared.refusal.Refusal.TheVariants as refusal_is;
-ghost use Rattle.sf_parse.specs.Spots.{line_place, place_in};
+ghost use Rattle.sf_parse.specs.Spots.{line_place, marked_text, place_in};
 ghost use Rattle.sf_tool.specs.Explaining.{ExplainedBy, IsExplained, Shows};
-ghost use Rattle.sf_tool.specs.Explaining.{no_cache_words, refusal_words, too_long_words};
+ghost use Rattle.sf_tool.specs.Explaining.{bad_line_words, no_cache_words, refusal_words};
+ghost use Rattle.sf_tool.specs.Explaining.{too_long_words};
+ghost use Rattle.sf_tool.specs.Fields.{is_refused};
 ghost use Rattle.sf_tool.specs.Lines.{lines_of as lines_in};
+ghost use Rattle.sf_tool.specs.Marks.{bad_place as bad_place_in};
 ghost use Rattle.sf_tool.specs.Run.{input_limit};
 
 use crate::cutting::{split_line, trimmed};
+use crate::fields::is_bad_line;
+use crate::marking::{bad_place, caret_text, line_text};
 use crate::refusing::put_number;
 use crate::status::Status;
+use http_header::HeaderName;
 use sf_parse::{InLine, Refusal, Spot};
-use sf_value::Sink;
+use sf_value::{OutOfMemory, Sink};
 use sf_write::put;
 use std::alloc::Global;
 
@@ -97,6 +104,73 @@ pub(crate) fn refusal_in_words(alloc: Global, refusal: Refusal, input: &[u8]) ->
     let shown = InLine { refusal, spot };
     let text = format!(in alloc; "{shown}\n").ok()?;
     Some(text.into_bytes())
+}
+
+/// Returns where the input's line of this number, from 0, is no field line; None if there is no such
+/// line.
+fn bad_spot<'a>(input: &'a [u8], number: u64) -> Option<Spot<'a>>
+    requires { length input.now ≤ input_limit }
+    // The line is counted from 1 in the spot.
+    ensures { IfSome result (λ spot. (spot.line ≡ number + 1)
+        × (spot.place ≡ bad_place_in spot.text.now)
+        × (spot.text.now ≡ get_or (lines_in input.now) number [])) }
+{
+    let mut left = input;
+    let mut line = 1usize;
+    let mut before = number;
+    while let Some((first, more)) = split_line(left) {
+        if before == 0 {
+            let text = trimmed(first);
+            let place = bad_place(text);
+            return Some(Spot { line, place, text });
+        }
+        before -= 1;
+        line += 1;
+        left = more;
+    }
+    None
+}
+
+/// Returns the words for a line that is no field line at this place.
+fn bad_line_start(alloc: Global, line: usize, place: usize) -> Result<Vec<u8>, OutOfMemory>
+    ensures { IfOk result (λ text. text.items ≡ codes "not a field line\nline "
+        ++ (decimal line ++ (codes ", place " ++ (decimal place ++ codes ":\n")))) }
+{
+    let text = format!(in alloc; "not a field line\nline {line}, place {place}:\n")?;
+    Ok(text.into_bytes())
+}
+
+/// Returns the words for a line that is no field line at this spot, with the line.
+fn bad_line(alloc: Global, spot: Spot<'_>) -> Result<Vec<u8>, OutOfMemory>
+    ensures { IfOk result (λ text. text.items ≡ codes "not a field line"
+        ++ (marked_text (line_place (Some spot.entry)) ++ codes "\n")) }
+{
+    let mut text = bad_line_start(alloc, spot.line, spot.place)?;
+    let shown = line_text(alloc, spot.text)?;
+    let caret = caret_text(alloc, spot.place)?;
+    text.extend_from_slice(shown.as_slice())?;
+    text.extend_from_slice(caret.as_slice())?;
+    Ok(text)
+}
+
+/// Returns why the input's line of this number, from 0, is refused for what it is, in words; None if
+/// it is not, or an allocation failed.
+pub(crate) fn bad_line_in_words(
+    alloc: Global,
+    targets: &[HeaderName],
+    number: u64,
+    input: &[u8],
+) -> Option<Vec<u8>>
+    requires { length input.now ≤ input_limit }
+    ensures { IfSome result (λ text.
+        (is_refused targets.now (get_or (lines_in input.now) number []) ≡ true)
+        × (text.items ≡ bad_line_words number (get_or (lines_in input.now) number []))) }
+{
+    let spot = bad_spot(input, number)?;
+    if !is_bad_line(alloc, targets, spot.text) {
+        return None;
+    }
+    bad_line(alloc, spot).ok()
 }
 
 /// Returns the words for the member at this index, which names no cache; None if an allocation

@@ -1,6 +1,6 @@
 //! The listed fields of an input of header lines.
-ghost use Rattle.std.specs.Prelude.{MatchResult};
-ghost use Rattle.sf_tool.specs.Fields.{IsTaken, AreFields, IsFaultOf};
+ghost use Rattle.std.specs.Prelude.{◌≡◌, true, MatchResult, IsTrue};
+ghost use Rattle.sf_tool.specs.Fields.{IsTaken, AreFields, IsFaultOf, is_refused};
 ghost use Rattle.sf_tool.specs.OneLine.{IsLine, IsLineFault, AddsField};
 
 use crate::cutting::{split_at_first, split_line, trimmed};
@@ -63,6 +63,13 @@ fn read_line(alloc: Global, targets: &[HeaderName], line: &[u8]) -> Result<Field
         Err(HeaderValueError::Invalid) => Ok(FieldLine::Refused),
         Err(HeaderValueError::OutOfMemory) => Err(OutOfMemory),
     }
+}
+
+/// Returns whether a line is refused for what it is; false also if an allocation failed.
+pub(crate) fn is_bad_line(alloc: Global, targets: &[HeaderName], line: &[u8]) -> bool
+    ensures { IsTrue result → is_refused targets.now line.now ≡ true }
+{
+    matches!(read_line(alloc, targets, line), Ok(FieldLine::Refused))
 }
 
 /// Adds the field of a line to the map, if its name is listed. The line is refused if the map is

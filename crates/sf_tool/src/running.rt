@@ -8,7 +8,8 @@ ghost use Rattle.sf_tool.specs.declared.request.Request.TheVariants as request_i
 ghost use Rattle.sf_tool.specs.declared.status.Status.TheVariants as status_is;
 ghost use Rattle.sf_tool.specs.Lines.{lines_of as lines_in};
 ghost use Rattle.sf_tool.specs.ChoiceLines.{choice_lines, IsPlaceOf};
-ghost use Rattle.sf_tool.specs.Explaining.{Explained, Explains, ExplainsField, ExplainsPath};
+ghost use Rattle.sf_tool.specs.Explaining.{Explained, Explains, ExplainsField, ExplainsLine};
+ghost use Rattle.sf_tool.specs.Explaining.{ExplainsPath};
 ghost use Rattle.sf_tool.specs.Run.{Ran, Tells, TellsInputFault, TellsText};
 ghost use Rattle.sf_tool.specs.Run.{input_limit, joined, view_request, IsOfText, IsAskOfText};
 
@@ -17,7 +18,9 @@ use crate::answering::{
     answer_priority, answer_refusal, answer_refused_line, answer_too_long, answer_view,
 };
 use crate::cutting::InputLines;
-use crate::explaining::{ErrorStream, explain_too_long, no_cache_in_words, refusal_in_words, show};
+use crate::explaining::{
+    ErrorStream, bad_line_in_words, explain_too_long, no_cache_in_words, refusal_in_words, show,
+};
 use crate::fields::{InputFault, read_fields};
 use crate::reading::{ReadAllFault, read_all};
 use crate::request::Request;
@@ -288,6 +291,23 @@ fn answer_at_once<W: Sink>(
     }
 }
 
+/// Returns why the first refused line of the input is refused, in words; None if none is, if it is
+/// not refused for what it is, or an allocation failed.
+fn explain_line(
+    alloc: Global,
+    seed: &RandomState,
+    names: &[HeaderName],
+    input: &[u8],
+) -> Option<Vec<u8>>
+    requires { length input.now ≤ input_limit }
+    ensures { IfSome result (λ text. ExplainsLine names.now input.now text.items) }
+{
+    match read_fields(alloc, seed, names, input) {
+        Err(InputFault::Line(number)) => return bad_line_in_words(alloc, names, number, input),
+        _ => return None,
+    }
+}
+
 /// Returns why the input's field is refused, in words; None if it is not, or an allocation failed.
 fn explain_field(
     alloc: Global,
@@ -339,7 +359,7 @@ fn explanation(
             return explain_field(alloc, seed, *dialect, *kind, input);
         }
         Request::CacheStatus => return explain_path(alloc, seed, input),
-        Request::Targeted(_) => return None,
+        Request::Targeted(names) => return explain_line(alloc, seed, names.as_slice(), input),
         Request::Priority => {
             return explain_field(alloc, seed, Dialect::Rfc9651, Kind::Dict, input);
         }

@@ -1,0 +1,5 @@
+use Rattle.sf_tool.proofs.running.explanation.Goals as goal
+
+pub returns-in-Targeted : goal.returns-in-Targeted
+returns-in-Targeted c =
+    rw c.in-Targeted.is (rw c.as_slice.ensures.value at c.explain_line.ensures)

@@ -1,0 +1,82 @@
+//! Where a line that is no field line is wrong, and how it is shown with a caret under the place.
+ghost use Rattle.std.specs.Prelude.{◌≡◌, ◌++◌, IfOk, codes, replicate};
+ghost use Rattle.std.specs.List.{prefix_len};
+ghost use Rattle.sf_parse.specs.Spots.{printed as printed_in};
+ghost use Rattle.sf_value.specs.Ascii.{space};
+ghost use Rattle.sf_value.specs.Grammar.Classes.{is_tchar};
+ghost use Rattle.sf_tool.specs.Marks.{name_end as name_end_in, is_line_byte, bad_place as bad_place_in};
+
+use http_header::is_token_char;
+use sf_value::{OutOfMemory, is_visible};
+use std::alloc::Global;
+
+/// Returns whether a field name can have the byte.
+fn can_be_in_name(byte: u8) -> bool
+    ensures { result ≡ is_tchar byte }
+{
+    is_token_char(byte)
+}
+
+/// Returns the place of the first byte that no field name has, or the length of the line if there is
+/// none.
+pub fn name_end(line: &[u8]) -> usize
+    ensures { result ≡ name_end_in line.now }
+{
+    let mut end = 0;
+    while end < line.len() && can_be_in_name(line[end]) {
+        end += 1;
+    }
+    end
+}
+
+/// Returns whether a field line can have the byte: a tab, or one that is no control byte.
+fn can_be_in_line(byte: u8) -> bool
+    ensures { result ≡ is_line_byte byte }
+{
+    byte == b'\t' || (byte >= b' ' && byte != 0x7f)
+}
+
+/// Returns the place of the first byte that no field line has, or the length of the line if there is
+/// none.
+fn line_end(line: &[u8]) -> usize
+    ensures { result ≡ prefix_len is_line_byte line.now }
+{
+    let mut end = 0;
+    while end < line.len() && can_be_in_line(line[end]) {
+        end += 1;
+    }
+    end
+}
+
+/// Returns the place at which a line is no field line: the first byte that no field name has; or, if
+/// that is the colon behind a name, the first that no field line has.
+pub(crate) fn bad_place(line: &[u8]) -> usize
+    ensures { result ≡ bad_place_in line.now }
+{
+    let end = name_end(line);
+    if end > 0 && end < line.len() && line[end] == b':' {
+        return line_end(line);
+    }
+    end
+}
+
+/// Returns a line as it is in the input, one character for each of its bytes.
+pub fn line_text(alloc: Global, line: &[u8]) -> Result<Vec<u8>, OutOfMemory>
+    ensures { IfOk result (λ text. text.items ≡ printed_in line.now ++ codes "\n") }
+{
+    let mut text = Vec::new(alloc);
+    for byte in line {
+        text.push(if is_visible(*byte) { *byte } else { b'?' })?;
+    }
+    text.push(b'\n')?;
+    Ok(text)
+}
+
+/// Returns a line with a caret under the place.
+pub fn caret_text(alloc: Global, place: usize) -> Result<Vec<u8>, OutOfMemory>
+    ensures { IfOk result (λ text. text.items ≡ replicate place space ++ codes "^\n") }
+{
+    let mut text = vec![in alloc; b' '; place]?;
+    text.extend_from_slice(b"^\n")?;
+    Ok(text)
+}
