@@ -1,8 +1,8 @@
--- Where in an input a refusal of a field or of a line is.
+-- Where in an input a refusal of a field is.
 use Rattle.std.specs.Prelude.{ℕ, suc, ◌+◌, ◌-◌, min, nat_lt, if◌then◌else◌, List, [], ◌∷◌, length}
 use Rattle.std.specs.Prelude.{Option, Some, None}
 use Rattle.std.specs.List.{prefix_len, after_first}
-use Rattle.sf_value.specs.Grammar.Classes.{is_ows, is_tchar}
+use Rattle.sf_value.specs.Grammar.Classes.{is_ows}
 use Rattle.sf_tool.specs.Fields.{is_colon, word_of, value_of}
 use Rattle.sf_parse.specs.Spots.{LinePlace}
 use Rattle.sf_lint.specs.Head.{is_named}
@@ -10,10 +10,6 @@ use Rattle.sf_lint.specs.Head.{is_named}
 -- how many bytes of a field line are before its value: the name, the colon and the blanks
 abbrev pub offset_of : List ℕ → ℕ
 offset_of line = length (word_of line) + 1 + prefix_len is_ows (after_first is_colon line)
-
--- the place of the first byte that no field name has (RFC 9110 section 5.1), or the end of the line
-abbrev pub name_end : List ℕ → ℕ
-name_end line = prefix_len is_tchar line
 
 -- a place of a line's value, as a place of the line; the comma and the space that join the value to
 -- the next one belong to its end

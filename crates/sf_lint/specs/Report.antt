@@ -10,6 +10,7 @@ use Rattle.sf_parse.specs.declared.refusal.Refusal.TheVariants as refusal
 use Rattle.sf_parse.specs.RefusalTexts.{refusal_text}
 use Rattle.sf_parse.specs.Spots.{LinePlace, marked_text, printed}
 use Rattle.sf_field.specs.Lines.{ParsesLines}
+use Rattle.sf_tool.specs.Marks.{name_end}
 use Rattle.sf_lint.specs.declared.head.Line.{Line}
 use Rattle.sf_lint.specs.declared.head.Line.TheVariants.{Empty, Folded, Start, Field, Nameless}
 use Rattle.sf_lint.specs.declared.colours.Verdict.TheVariants as verdict
@@ -17,7 +18,7 @@ use Rattle.sf_lint.specs.declared.settings.FieldType.{FieldType}
 use Rattle.sf_lint.specs.declared.settings.Settings.{Settings}
 use Rattle.sf_lint.specs.Colours.{verdict_text}
 use Rattle.sf_lint.specs.Head.{IsRepeated, line_of, message_from, values_in}
-use Rattle.sf_lint.specs.Marks.{mark_in, name_end}
+use Rattle.sf_lint.specs.Marks.{mark_in}
 use Rattle.sf_lint.specs.Meanings.{meaning_of}
 use Rattle.sf_lint.specs.Settings.{type_of}
 

@@ -1,11 +1,9 @@
-//! Where in an input a refusal of a field or of a line is.
+//! Where in an input a refusal of a field is.
 ghost use Rattle.std.specs.Prelude.{◌≡◌, ◌+◌, ◌≤◌, ◌<◌, ◌^◌, length, map};
 ghost use Rattle.sf_parse.specs.Spots.{line_place};
-ghost use Rattle.sf_value.specs.Grammar.Classes.{is_tchar};
-ghost use Rattle.sf_lint.specs.Marks.{offset_of as offset_in, mark_in, name_end as name_end_in};
+ghost use Rattle.sf_lint.specs.Marks.{offset_of as offset_in, mark_in};
 
 use crate::head::{is_named, value_of};
-use http_header::is_token_char;
 use sf_parse::Spot;
 use sf_tool::{split_at_first, without_lead};
 
@@ -45,23 +43,4 @@ pub(crate) fn find_mark<'a>(
         line += 1;
     }
     None
-}
-
-/// Returns whether a field name can have the byte.
-fn can_be_in_name(byte: u8) -> bool
-    ensures { result ≡ is_tchar byte }
-{
-    is_token_char(byte)
-}
-
-/// Returns the place of the first byte that no field name has, or the length of the line if there is
-/// none.
-pub(crate) fn name_end(line: &[u8]) -> usize
-    ensures { result ≡ name_end_in line.now }
-{
-    let mut end = 0;
-    while end < line.len() && can_be_in_name(line[end]) {
-        end += 1;
-    }
-    end
 }

@@ -1,9 +1,8 @@
 //! What is printed of the lines of an input.
 ghost use Rattle.std.specs.Prelude.{◌≡◌, ◌+◌, ◌<◌, ◌≤◌, ◌^◌, ◌↔◌, ◌++◌, true, false, length, map, get_or, IfOk, IfErr, IsTrue};
-ghost use Rattle.std.specs.Prelude.{codes, decimal, string_bytes, [], Some, replicate};
+ghost use Rattle.std.specs.Prelude.{codes, decimal, string_bytes, [], Some};
 ghost use Rattle.sf_field.specs.Lines.{ParsesLines};
-ghost use Rattle.sf_parse.specs.Spots.{printed as printed_in, line_place};
-ghost use Rattle.sf_value.specs.Ascii.{space};
+ghost use Rattle.sf_parse.specs.Spots.{line_place};
 ghost use Rattle.sf_value.specs.declared.value.Field.{Field};
 ghost use Rattle.std.specs.List.{before_first};
 ghost use Rattle.sf_lint.specs.Head.{IsRepeated, is_start as is_start_in, values_in};
@@ -18,13 +17,14 @@ ghost use Rattle.sf_lint.specs.declared.head.Line.TheVariants as line;
 
 use crate::colours::Verdict;
 use crate::head::{Line, is_named, is_start, read_line, split_lines, value_of};
-use crate::marking::{find_mark, name_end};
+use crate::marking::find_mark;
 use crate::meaning::{joined, meaning};
 use crate::settings::{FieldType, Settings, type_of};
 use http_header::HeaderName;
 use sf_field::{UseFault, parse_from};
 use sf_parse::{InLine, Refusal, Spot};
-use sf_value::{Field, OutOfMemory, is_visible};
+use sf_tool::{caret_text, line_text, name_end};
+use sf_value::{Field, OutOfMemory};
 use sf_write::display;
 use std::alloc::Global;
 use std::hash::RandomState;
@@ -287,27 +287,6 @@ fn tell_named(
         n + 1,
         message,
     )
-}
-
-/// Returns a line as it is in the input, one character for each of its bytes.
-fn line_text(alloc: Global, line: &[u8]) -> Result<Vec<u8>, OutOfMemory>
-    ensures { IfOk result (λ text. text.items ≡ printed_in line.now ++ codes "\n") }
-{
-    let mut text = Vec::new(alloc);
-    for byte in line {
-        text.push(if is_visible(*byte) { *byte } else { b'?' })?;
-    }
-    text.push(b'\n')?;
-    Ok(text)
-}
-
-/// Returns a line with a caret under the place.
-fn caret_text(alloc: Global, place: usize) -> Result<Vec<u8>, OutOfMemory>
-    ensures { IfOk result (λ text. text.items ≡ replicate place space ++ codes "^\n") }
-{
-    let mut text = vec![in alloc; b' '; place]?;
-    text.extend_from_slice(b"^\n")?;
-    Ok(text)
 }
 
 /// Returns why a line is no line of a head, and where it is refused.

@@ -2,7 +2,7 @@ use Rattle.std.proofs.Common.{◌≡◌, ℕ, ◌+◌, List, [], IfOk, map, get_
 use Rattle.std.specs.Borrow.{Bor}
 use Rattle.std.proofs.lemmas.List.{get_or-map}
 use Rattle.sf_lint.specs.Head.{line_of}
-use Rattle.sf_lint.specs.Marks.{name_end}
+use Rattle.sf_tool.specs.Marks.{name_end}
 use Rattle.sf_lint.specs.Report.{TellsBadLine, TellsLine}
 use Rattle.sf_lint.specs.declared.head.Line.{Line}
 use Rattle.sf_lint.specs.declared.head.Line.TheVariants.{Nameless}

@@ -1,6 +1,0 @@
-use Rattle.std.proofs.Common.{◌≡◌, take}
-use Rattle.sf_parse.specs.Spots.{printed}
-use Rattle.sf_lint.proofs.report.line_text.Given as goal
-
-abbrev pub invariant-loop-byte : goal.invariant-loop-byte
-invariant-loop-byte l = l.text.items ≡ printed (take l.byte-index l.line)
