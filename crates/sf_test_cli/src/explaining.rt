@@ -206,9 +206,39 @@ fn consumers(rt: HostRuntime) -> Result<(), Fail> {
         ),
     ];
     expect_rows(&rt, &seed, &Request::Priority, &priorities);
-    let fields: [Row; 2] = [
+    Ok(())
+}
+
+#[test]
+fn header_lines(rt: HostRuntime) -> Result<(), Fail> {
+    let seed = RandomState::new(&rt)?;
+    let fields: [Row; 6] = [
         (b"", b"fallback\n", ACCEPTED, b""),
-        (b"\nnonsense\n", b"refused line 1\n", REFUSED, b""),
+        (b"x: \x01\n", b"fallback\n", ACCEPTED, b""),
+        (
+            b"\nnonsense\n",
+            b"refused line 1\n",
+            REFUSED,
+            b"not a field line\nline 2, place 8:\nnonsense\n        ^\n",
+        ),
+        (
+            b" a b: 1\n",
+            b"refused line 0\n",
+            REFUSED,
+            b"not a field line\nline 1, place 1:\na b: 1\n ^\n",
+        ),
+        (
+            b": 1\n",
+            b"refused line 0\n",
+            REFUSED,
+            b"not a field line\nline 1, place 0:\n: 1\n^\n",
+        ),
+        (
+            b"x: 1\r\nCache-Control: a\x01b\r\n",
+            b"refused line 1\n",
+            REFUSED,
+            b"not a field line\nline 2, place 16:\nCache-Control: a?b\n                ^\n",
+        ),
     ];
     let mut names = Vec::new(rt.alloc());
     names.push(HeaderName::from_static("cache-control"))?;

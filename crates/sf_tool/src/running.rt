@@ -49,9 +49,10 @@ pub const INPUT_LIMIT: u64 = 1_048_576;
 /// allocated.
 ///
 /// The explanation is the refusal in words and its line with a caret, or the member that names no
-/// cache; a refused line of [`Request::Targeted`] has none. To explain an input, it is parsed once
-/// more. If an allocation for that fails, nothing is explained; if a write of it fails, that is not
-/// told. Neither changes the result or what was written to the sink.
+/// cache; a line of [`Request::Targeted`] that is refused since the header map is full has none. To
+/// explain an input, it is parsed once more. If an allocation for that fails, nothing is explained;
+/// if a write of it fails, that is not told. Neither changes the result or what was written to the
+/// sink.
 ///
 /// ```
 /// let request = Request::Normalise(Dialect::Rfc9651, Kind::Item);
