@@ -10,9 +10,9 @@ use crate::status::Status;
 #[repr(C)]
 #[derive(Clone, Copy, Debug, Drop)]
 pub struct Joined {
-    /// How many bytes of joined text are at the start of the buffer.
+    /// The number of bytes of joined text at the start of the buffer.
     pub length: usize,
-    /// How long the buffer must be for the line that was too long for it.
+    /// The length of buffer required for the line that did not fit.
     pub required: usize,
     /// 0 before the first line, otherwise 1.
     pub begun: u32,
@@ -38,7 +38,7 @@ fn separator(joined: &Joined) -> &'static [u8]
     if joined.begun == 0 { b"" } else { b", " }
 }
 
-/// Puts the line after those that are joined, if there is capacity.
+/// Puts the line after those that are joined, if the buffer has capacity for it.
 fn join(line: &[u8], buffer: &mut [u8], joined: &mut Joined) -> Status
     // the line is joined, or the buffer is too small for it, or for the text said to be in it
     ensures { PutsLine (record { buffer = buffer.old; joined = joined.old })

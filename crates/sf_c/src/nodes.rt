@@ -19,15 +19,15 @@ pub struct Node {
     /// The number of an Integer or a Date, the thousandths of a Decimal, 1 for Boolean true;
     /// otherwise 0.
     pub number: i64,
-    /// Where the key is among the bytes.
+    /// The offset of the key in the bytes.
     pub key_at: usize,
     /// The length of the key; 0 if there is none.
     pub key_length: usize,
-    /// Where the bytes of a String, a Token, a Byte Sequence or a Display String stand, decoded.
+    /// The offset of the decoded bytes of a String, a Token, a Byte Sequence or a Display String.
     pub text_at: usize,
     /// The length of these bytes; 0 for another type.
     pub text_length: usize,
-    /// How many nodes this part has, itself one of them: the next sibling is so many further.
+    /// The number of nodes of this part, including this one: the next sibling is that many further.
     pub span: usize,
     /// The number of its [`Role`].
     pub role: u32,
@@ -52,7 +52,7 @@ pub(crate) struct Flat {
     bytes: Vec<u8>,
 }
 
-/// What a node of its own says, without its key and its bytes.
+/// The role, type and number of a node, without its key and bytes.
 #[derive(Clone, Copy)]
 struct Part {
     role: Role,
@@ -239,14 +239,14 @@ fn push_params(flat: &mut Flat, role: Role, params: &Entries<Bare>) -> Result<()
     Ok(())
 }
 
-/// The sum; what is counted is less than 2^64 in all memory.
+/// The sum, which does not overflow: fewer than 2^64 of these fit in memory.
 fn add(count: usize, more: usize) -> Result<usize, OutOfMemory>
     ensures { IfOk result (λ n. n ≡ count + more) }
 {
     count.checked_add(more).ok_or(OutOfMemory)
 }
 
-/// How many nodes there are with one more.
+/// The number of nodes, and one more.
 fn one_more(count: usize) -> Result<usize, OutOfMemory>
     ensures { IfOk result (λ n. n ≡ 1 + count) }
 {
@@ -272,7 +272,7 @@ fn push_items(flat: &mut Flat, items: &[Item]) -> Result<(), OutOfMemory>
     Ok(())
 }
 
-/// How many nodes the Items have, and so many more.
+/// The number of nodes of the Items, added to this number.
 fn count_items(items: &[Item], more: usize) -> Result<usize, OutOfMemory>
     ensures { IfOk result (λ n. n ≡ more + length (told_items items.now)) }
 {
@@ -284,7 +284,7 @@ fn count_items(items: &[Item], more: usize) -> Result<usize, OutOfMemory>
     Ok(count)
 }
 
-/// How many nodes are inside an Inner List.
+/// The number of nodes inside an Inner List.
 fn count_inside(inner: &Inner) -> Result<usize, OutOfMemory>
     ensures { IfOk result (λ n. n ≡ length (told_inside inner.now)) }
 {

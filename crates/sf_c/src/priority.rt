@@ -83,7 +83,7 @@ pub extern "C" fn sf_priority_merge(client: &PriorityFlags, server: &PriorityFla
     PriorityFlags::of(merge(client.asked(), server.asked()))
 }
 
-/// An urgency that is said and is one.
+/// The urgency, if it is given and in range.
 fn urgency_of(has_urgency: u8, urgency: u8) -> Option<Urgency>
     ensures { result ≡ urgency_at has_urgency urgency }
 {
@@ -93,7 +93,7 @@ fn urgency_of(has_urgency: u8, urgency: u8) -> Option<Urgency>
     Urgency::new(urgency).ok()
 }
 
-/// A flag that is said.
+/// The flag, if it is given.
 fn flag_of(has_flag: u8, flag: u8) -> Option<bool>
     ensures { result ≡ flag_at has_flag flag }
 {
@@ -103,7 +103,7 @@ fn flag_of(has_flag: u8, flag: u8) -> Option<bool>
     Some(flag != 0)
 }
 
-/// What a text asks for.
+/// Reads what a text asks for.
 fn asked_of(
     alloc: Global,
     seed: &Seed,

@@ -86,9 +86,9 @@ pub extern "C" fn sf_cache_control(
     direct(alloc, seed, text, policy, refusal).code()
 }
 
-/// For how many seconds a response is fresh by this policy, in a shared cache where `shared` is not
-/// 0, otherwise in a private one (RFC 9111 section 4.2.1): 1 and `seconds` is that, or 0 if the
-/// policy does not say, and then `seconds` is left as it was.
+/// Returns 1 and sets `seconds` to the freshness lifetime by this policy, in a shared cache if
+/// `shared` is not 0, otherwise in a private one (RFC 9111 section 4.2.1); or returns 0 if the
+/// policy has none, and leaves `seconds` unchanged.
 #[unsafe(no_mangle)]
 pub extern "C" fn sf_lifetime(policy: &PolicyFlags, shared: u32, seconds: &mut u64) -> u32
     // 1 and the lifetime by the policy, or 0 if it says none
@@ -103,7 +103,7 @@ pub extern "C" fn sf_lifetime(policy: &PolicyFlags, shared: u32, seconds: &mut u
     }
 }
 
-/// Seconds that are said.
+/// The seconds, if they are given.
 fn seconds_of(has_seconds: u8, seconds: u64) -> Option<u64>
     ensures { result ≡ seconds_at has_seconds seconds }
 {
@@ -114,7 +114,7 @@ fn seconds_of(has_seconds: u8, seconds: u64) -> Option<u64>
     }
 }
 
-/// What a Dictionary says, which may have no member.
+/// Reads the policy of a Dictionary, which may have no members.
 fn directed(dict: &Dict, policy: &mut PolicyFlags) -> Status
     // Empty if there is no member; otherwise the struct says the policy
     ensures { Directs policy.old policy.new dict.now result }
@@ -126,7 +126,7 @@ fn directed(dict: &Dict, policy: &mut PolicyFlags) -> Status
     Status::Answered
 }
 
-/// What a text says.
+/// Reads the policy of a text.
 pub(crate) fn direct(
     alloc: Global,
     seed: &Seed,

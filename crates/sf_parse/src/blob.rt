@@ -21,12 +21,12 @@ pub enum Held {
     H3(u8, u8, u8),
 }
 
-/// Where in a byte sequence the text is, after its opening colon.
+/// The part of a Byte Sequence that is being read, after its opening colon.
 #[derive(Clone, Copy)]
 pub enum BlobPhase {
     /// In a group.
     Group(Held),
-    /// Where so many `=` may still come.
+    /// At the end, where this many `=` may still come.
     Padded(u8),
     /// After the closing colon.
     Ended,
@@ -115,11 +115,12 @@ impl BlobPhase {
         Ok(false)
     }
 
-    /// A byte where so many `=` may still come.
+    /// A byte at the end, where this many `=` may still come.
     fn pad(&mut self, more: u8, byte: u8) -> bool
         // The values of the open group are below 64.
         requires { FitsBlob self.old }
-        // Where so many `=` may come, the byte leads the machine on, or can't and the state stays.
+        // Where this many `=` may come, the byte leads the machine on; or it can't, and the state
+        // stays.
         ensures step { (bytes : List ℕ) → blob_of self.old bytes ≡ Padded bytes more
             → Steps result (pad_step bytes more byte) (blob_of self.old bytes)
             (blob_of self.new bytes) }
@@ -137,7 +138,7 @@ impl BlobPhase {
         false
     }
 
-    /// Takes whole groups, where none is open, and gives back the rest.
+    /// If no group is open, takes whole groups, and returns the rest.
     pub fn take_run<'a>(
         self,
         bytes: &mut ShortBytes,
@@ -174,7 +175,7 @@ impl BlobPhase {
     }
 }
 
-/// How many bytes are decoded at a time: those of 32 groups.
+/// The number of bytes that are decoded at a time: those of 32 groups.
 const BLOCK: usize = 96;
 
 /// The value of each byte as a character of base64 (RFC 4648 section 4); 64 if it is none.
@@ -212,7 +213,7 @@ fn sextet(byte: u8) -> Option<u8>
 /// The bytes of a whole group of four characters.
 #[inline]
 fn group_bytes(a: u8, b: u8, c: u8, d: u8) -> Option<(u8, u8, u8)>
-    // Where no group is open, the four characters lead to a state with these three bytes more.
+    // If no group is open, the four characters lead to a state with these three bytes more.
     ensures { IfSome result (λ out. (bs : List ℕ) → run blob_step (Group bs H0)
         (a ∷ b ∷ c ∷ d ∷ []) ≡ Some (Group (bs ++ out.0 ∷ out.1 ∷ out.2 ∷ []) H0)) }
 {
@@ -223,10 +224,10 @@ fn group_bytes(a: u8, b: u8, c: u8, d: u8) -> Option<(u8, u8, u8)>
     Some((x * 4 + y / 16, y % 16 * 16 + z / 4, z % 4 * 64 + w))
 }
 
-/// Decodes whole groups into the block until it is full: how many bytes they are of, and the rest.
+/// Decodes whole groups into the block until it is full. Returns the number of bytes, and the rest.
 fn decode_groups<'a>(chunk: &'a [u8], block: &mut [u8; BLOCK]) -> (usize, &'a [u8])
     ensures within { result.0 ≤ 96 }
-    // Where no group is open, the characters before the rest lead to a state with the bytes of the
+    // If no group is open, the characters before the rest lead to a state with the bytes of the
     // block after those so far.
     ensures went { (bs : List ℕ) → Went blob_step (Group bs H0) chunk.now result.1.now
         (Group (bs ++ take result.0 block.new) H0) }
@@ -249,7 +250,7 @@ fn decode_groups<'a>(chunk: &'a [u8], block: &mut [u8; BLOCK]) -> (usize, &'a [u
     (count, rest)
 }
 
-/// Takes whole groups, after a whole one, a block by one growth.
+/// Takes whole groups, after a whole one, with one growth of the buffer for each block.
 fn take_groups<'a>(bytes: &mut ShortBytes, chunk: &'a [u8]) -> Result<&'a [u8], OutOfMemory>
     // The bytes before the rest lead the machine from the old state to the new one.
     ensures { IfOk result (λ rest. Went blob_step (Group bytes.old H0) chunk.now rest.now
@@ -290,7 +291,7 @@ fn grow(held: Held, bytes: &mut ShortBytes, value: u8) -> Result<Held, OutOfMemo
     }
 }
 
-/// What may follow where so many `=` may still come.
+/// What may follow at the end, where this many `=` may still come.
 fn expected_pad(more: u8) -> u128
     // The bits are those of the bytes that may come.
     ensures { Marks result (pad_takes more) }
@@ -300,7 +301,7 @@ fn expected_pad(more: u8) -> u128
 
 /// What may follow an open group beside a character.
 fn expected_end(held: Held) -> u128
-    // The bits are those of the bytes that may come where this group is the last one.
+    // The bits are those of the bytes that may come if this group is the last one.
     ensures { Marks result (λ b. is_last (held_of held) && pad_takes (lacking (held_of held)) b) }
 {
     match held {

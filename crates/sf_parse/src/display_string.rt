@@ -18,15 +18,15 @@ use crate::runs::{UnencodedByte, long_prefix};
 use crate::sets::{FIRST_DIGITS, PERCENT, QUOTE, VISIBLE};
 use sf_value::{OutOfMemory, ShortBytes, is_visible};
 
-/// Between two characters, or within one of which `more` bytes come after the next, which lies
-/// from `low` to `high`.
+/// Between two characters; or in one, whose next byte is from `low` to `high`, with `more` bytes
+/// after it.
 #[derive(Clone, Copy)]
 pub enum Utf8State {
     Start,
     Wants { more: u8, low: u8, high: u8 },
 }
 
-/// Where in a display string the text is.
+/// The part of a Display String that is being read.
 #[derive(Clone, Copy)]
 pub enum ShownPhase {
     /// After the `%` before the opening quote.
@@ -41,7 +41,7 @@ pub enum ShownPhase {
     Done,
 }
 
-/// Where in a display string the text is, and where in a character its bytes so far.
+/// The part of a Display String that is being read, and of the character that is open.
 #[derive(Clone, Copy)]
 pub struct ShownPlace {
     pub phase: ShownPhase,
@@ -66,7 +66,7 @@ impl Utf8State {
         }
     }
 
-    /// Whether a byte may come whose high digit is this.
+    /// Whether a byte with this high digit may come.
     fn can_begin(self, digit: u8) -> bool
         ensures { result ≡ can_begin_at (utf8_of self) digit }
     {
@@ -84,7 +84,7 @@ impl ShownPlace {
         chars: Utf8State::Start,
     };
 
-    /// One more byte of the text, in what was read of characters.
+    /// Takes one more byte of the characters.
     #[tactic(auto, using(crate::proofs::Leading::leads_push))]
     fn push(&mut self, bytes: &mut ShortBytes, byte: u8) -> Result<bool, OutOfMemory>
         // The bytes so far lead to the place in a character, and fit the phase.
@@ -167,8 +167,8 @@ impl ShownPlace {
         }
     }
 
-    /// Takes bytes that stand for themselves and whole escapes, many by one growth, and gives back
-    /// the rest.
+    /// Takes unescaped bytes and whole escapes, many with one growth of the buffer, and returns the
+    /// rest.
     pub fn take_run<'a>(
         &mut self,
         bytes: &mut ShortBytes,
@@ -193,7 +193,7 @@ impl ShownPlace {
     fn takes_digit(self, byte: u8) -> bool
         // The first digit of an escape that is open is below 16.
         requires { IsDigitPhase self.phase }
-        // It can exactly where the machine can, whatever was read before.
+        // It can if and only if the machine can, whatever was read before.
         ensures { (bytes : List ℕ) → result ≡ digit_takes (shown_of self.phase bytes self.chars)
             byte }
     {
@@ -259,7 +259,7 @@ impl ShownPlace {
     }
 }
 
-/// After a byte of a character that so many bytes complete.
+/// After a byte of a character that this many more bytes complete.
 fn wanted(more: u8) -> Utf8State
     // It is the place in a character that the grammar has there.
     ensures { utf8_of result ≡ wants more }
@@ -294,7 +294,7 @@ fn first_byte(byte: u8) -> Option<Utf8State>
     Some(Utf8State::Wants { more, low, high })
 }
 
-/// How many escapes are read at a time.
+/// The number of escapes that are read at a time.
 const BLOCK: usize = 64;
 
 /// The value of each byte as a lower-case hexadecimal digit; 16 if it is none.
@@ -329,10 +329,10 @@ fn unhex(byte: u8) -> Option<u8>
     if value < 16 { Some(value) } else { None }
 }
 
-/// The byte that an escape of these digits stands for.
+/// The byte of an escape with these digits.
 #[inline]
 fn escaped(high: u8, low: u8) -> Option<u8>
-    // Where this byte may come in a character, the escape leads to a state with the byte more.
+    // If this byte may come in a character, the escape leads to a state with the byte more.
     ensures { IfSome result (λ c. (bs : List ℕ) (x y : Utf8) → utf8_step x c ≡ Some y
         → run shown_step (Unencoded bs x) (percent_sign ∷ high ∷ low ∷ [])
         ≡ Some (Unencoded (bs ++ c ∷ []) y)) }
@@ -342,8 +342,8 @@ fn escaped(high: u8, low: u8) -> Option<u8>
     Some(high * 16 + low)
 }
 
-/// Reads whole escapes into the block until it is full: how many they are, where in a character
-/// they lead, and the rest.
+/// Decodes whole escapes into the block until it is full. Returns their number, the place in a
+/// character after them, and the rest.
 fn read_escapes<'a>(
     from: Utf8State,
     chunk: &'a [u8],
@@ -354,7 +354,7 @@ fn read_escapes<'a>(
     ensures went { (bs : List ℕ)
         → Went shown_step (Unencoded bs (utf8_of from)) chunk.now result.2.now
         (Unencoded (bs ++ take result.0 block.new) (utf8_of result.1)) }
-    // Where the bytes so far lead to the first place in a character, they and the block lead to the
+    // If the bytes so far lead to the first place in a character, they and the block lead to the
     // last.
     ensures leads { (bs : List ℕ) → Leads bs (utf8_of from)
         → Leads (bs ++ take result.0 block.new) (utf8_of result.1) }
@@ -383,7 +383,7 @@ fn read_escapes<'a>(
     (count, chars, rest)
 }
 
-/// Takes whole escapes, a block by one growth, and gives back the rest.
+/// Takes whole escapes, with one growth of the buffer for each block, and returns the rest.
 fn take_escapes<'a>(
     chars: &mut Utf8State,
     bytes: &mut ShortBytes,
@@ -404,7 +404,7 @@ fn take_escapes<'a>(
     Ok(rest)
 }
 
-/// Takes the bytes that stand for themselves, where no character is open, and gives back the rest.
+/// If no character is open, takes unescaped bytes, and returns the rest.
 fn take_unencoded<'a>(
     chars: Utf8State,
     bytes: &mut ShortBytes,
@@ -428,7 +428,7 @@ fn take_unencoded<'a>(
     }
 }
 
-/// Takes bytes that stand for themselves and whole escapes, and gives back the rest.
+/// Takes unescaped bytes and whole escapes, and returns the rest.
 fn take_chars<'a>(
     chars: &mut Utf8State,
     bytes: &mut ShortBytes,

@@ -14,7 +14,7 @@ use crate::runs::{Unescaped, long_prefix};
 use crate::sets::{ESCAPED, VISIBLE};
 use sf_value::{OutOfMemory, ShortBytes, is_visible};
 
-/// Where in a string the text is, after its opening quote.
+/// The part of a String that is being read, after its opening quote.
 #[derive(Clone, Copy)]
 pub enum TextPhase {
     /// Between the quotes.
@@ -30,12 +30,12 @@ impl TextPhase {
     /// bytes of the string so far are `text`.
     #[tactic(auto, using(sf_value::proofs::Words::every_push))]
     pub fn step(&mut self, text: &mut ShortBytes, byte: u8) -> Result<bool, OutOfMemory>
-        // The byte leads the machine on, or can't and the state stays.
+        // The byte leads the machine on; or it can't, and the state stays.
         ensures step { IfOk result (λ took. Steps took (text_step (text_of self.old text.old) byte)
             (text_of self.old text.old) (text_of self.new text.new)) }
         // The bytes so far stay visible ones.
         ensures visible { Every is_visible_byte text.old → Every is_visible_byte text.new }
-        // Where it fits in place with the byte, no allocation fails.
+        // If the bytes with this one fit in place, no allocation fails.
         ensures in_place { FitsInPlace (text.old ++ byte ∷ []) → IsOk result }
     {
         match *self {
@@ -66,7 +66,7 @@ impl TextPhase {
         }
     }
 
-    /// Takes the bytes that stand for themselves, by one growth, and gives back the rest.
+    /// Takes the bytes that are not escaped, with one growth of the buffer, and returns the rest.
     pub fn take_run<'a>(
         self,
         text: &mut ShortBytes,
@@ -77,7 +77,7 @@ impl TextPhase {
             rest.now (text_of self text.new)) }
         // The bytes so far stay visible ones.
         ensures visible { Every is_visible_byte text.old → Every is_visible_byte text.new }
-        // Where it fits in place with the chunk, no allocation fails.
+        // If the bytes with the chunk fit in place, no allocation fails.
         ensures in_place { FitsInPlace (text.old ++ chunk.now) → IsOk result }
     {
         match self {

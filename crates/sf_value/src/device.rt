@@ -1,5 +1,6 @@
-//! The devices that texts come from and go to. What reads a text asks for a [`Source`], what writes
-//! one for a [`Sink`]; [`Reading`] and [`Writing`] make them of any reader and writer.
+//! The devices that texts are read from and written to. Calls that read a text take a [`Source`],
+//! and calls that write one a [`Sink`]; [`Reading`] and [`Writing`] make them of any reader and
+//! writer.
 ghost use Rattle.std.specs.Prelude.{◌≡◌, ℕ, List, ◌+◌, ◌≤◌, Some, IfOk, codes, take};
 ghost use Rattle.sf_value.specs.Devices.{SourceState, SinkState, Pulls, Sends};
 ghost use Rattle.sf_value.specs.Devices.{reader_of, writer_of};
@@ -8,59 +9,58 @@ use std::error::Error;
 use std::fmt;
 use std::io::{Read, Write};
 
-/// A call that gave or took no byte, for whatever cause.
+/// The error of a read or a write: no byte was read or written, whatever the cause.
 #[derive(Clone, Copy, Debug, PartialEq, Eq)]
 pub struct Failed;
 
-/// What bytes come from.
+/// A device that bytes are read from.
 ///
-/// A custom device is seen by contracts through its `state`: the bytes still to come, or that it
-/// does not show them; how many bytes it gave; how many calls returned its end; how many calls
-/// failed. The counts stay at 2^64 - 1 once they are there.
+/// Contracts see a custom device through its `state`: the bytes still to come, or that it does not
+/// show them; how many bytes it returned; how many calls returned the end; and how many calls
+/// failed. A count that reaches 2^64 - 1 stays there.
 ///
 /// ```
 /// let mut block = [0; 512];
-/// let count = source.pull(&mut block)?; // so many stand at the start; 0 at the end
+/// let count = source.pull(&mut block)?; // the first `count` bytes of the block; 0 at the end
 /// ```
 pub trait Source {
-    // The bytes still to come, if it shows them, how many bytes it gave, how often it returned its
-    // end, and how many calls failed.
+    // The bytes still to come, if it shows them, how many bytes it returned, how often it returned
+    // the end, and how many calls failed.
     ghost state: { Self → SourceState };
 
-    /// Puts the next bytes at the start of the block, and returns how many. It returns 0 into a
-    /// block that is not empty only where no byte is still to come. Into an empty block it gives
-    /// nothing, and does not fail. After `Failed` no byte was given, and the source may show its
-    /// bytes no longer.
+    /// Puts the next bytes at the start of the block, and returns how many. If the block is not
+    /// empty, it returns 0 only if no byte is left. If the block is empty, it returns 0 and does
+    /// not fail. A call that returns `Failed` has read no byte, and after it the source may no
+    /// longer show its bytes.
     fn pull(&mut self, block: &mut [u8]) -> Result<usize, Failed>
         ensures { Pulls (state self.old) (state self.new) result block.new };
 }
 
-/// What bytes go to.
+/// A device that bytes are written to.
 ///
-/// A custom device is seen by contracts through its `state`: the bytes taken, or that it does not
-/// show them; how many calls failed, a count that stays at 2^64 - 1 once it is there. A device that
-/// does not show its bytes may say by `send_gives` how a call that took some changed it.
+/// Contracts see a custom device through its `state`: the bytes written, or that it does not show
+/// them; and how many calls failed, a count that stays at 2^64 - 1 once it reaches that. A device
+/// that does not show its bytes may say by `send_gives` how a call that wrote some changed it.
 ///
 /// ```
-/// let count = sink.send(b"a, b")?; // how many of the four bytes went out
+/// let count = sink.send(b"a, b")?; // how many of the four bytes were written
 /// ```
 pub trait Sink {
-    // The bytes taken, if it shows them, and how many calls failed.
+    // The bytes written, if it shows them, and how many calls failed.
     ghost state: { Self → SinkState };
 
-    // How a call that took these bytes changed the sink, beyond its state: by default nothing is
-    // said.
+    // How a call that wrote these bytes changed the sink, beyond its state; nothing by default.
     ghost send_gives: { Self → List ℕ → Self → Type 0 } = { λ _ _ _. Unit {0} };
 
-    /// Takes bytes from the start of those handed in, and returns how many: at least one, where any
-    /// were handed in; where none were, it does not fail. After `Failed` no byte was taken.
+    /// Writes bytes from the start of `bytes`, and returns how many: at least one, unless `bytes`
+    /// is empty; then it does not fail. A call that returns `Failed` has written no byte.
     fn send(&mut self, bytes: &[u8]) -> Result<usize, Failed>
         ensures sends { Sends (state self.old) (state self.new) result bytes.now }
         ensures gives { IfOk result (λ n. send_gives self.old (take n bytes.now) self.new) };
 }
 
-/// Any reader as a source. No call is repeated, whatever its error, and none is made for an empty
-/// block.
+/// Any reader as a source. No read is repeated, whatever its error, and an empty block makes no
+/// read.
 ///
 /// ```
 /// let mut source = Reading::new(b"u=1, i".as_slice());
@@ -74,8 +74,8 @@ pub struct Reading<R> {
     failures: u64,
 }
 
-/// Any writer as a sink. No call is repeated, whatever its error, and none is made for no bytes; a
-/// write that takes no byte of some is `Failed`. It does not flush.
+/// Any writer as a sink. No write is repeated, whatever its error, and an empty slice makes no
+/// write; a write that returns 0 is `Failed`. It does not flush.
 ///
 /// ```
 /// let mut out = Writing::new(Vec::new(alloc));
@@ -91,10 +91,10 @@ pub struct Writing<W> {
 impl<R: Read> Reading<R> {
     /// The source of this reader's bytes, with its counts at 0. It does not allocate.
     pub fn new(reader: R) -> Reading<R>
-        // the bytes to come are the reader's, and nothing is counted yet
+        // The bytes to come are the reader's, and nothing is counted yet.
         ensures state { ⟦<Reading<R> as Source>⟧.state result
             ≡ record { to_come = R.remaining reader; given = 0; ends = 0; failures = 0 } }
-        // the reader within is the one handed in, as it was
+        // The reader is the one that was passed in, unchanged.
         ensures reader { reader_of result ≡ reader }
     {
         Reading {
@@ -105,7 +105,7 @@ impl<R: Read> Reading<R> {
         }
     }
 
-    /// How many bytes it gave so far, up to 2^64 - 1. It does not allocate.
+    /// How many bytes it returned so far, up to 2^64 - 1. It does not allocate.
     pub fn given(&self) -> u64
         ensures { result ≡ (⟦<Reading<R> as Source>⟧.state self.now).given }
     {

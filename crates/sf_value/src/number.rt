@@ -56,8 +56,8 @@ impl Model for Thousandths {
 }
 
 impl Int {
-    /// The number, where it has at most 15 digits; `OutOfRange` exactly where it has more. It does
-    /// not allocate.
+    /// The number if it has at most 15 digits; `OutOfRange` if and only if it has more. It does not
+    /// allocate.
     pub fn new(value: i64) -> Result<Int, OutOfRange>
         ensures short { IsOk result ↔ (nat_abs value < 10 ^ 15) }
         ensures value { IfOk result (λ n. n ≡ value) }
@@ -69,7 +69,7 @@ impl Int {
         }
     }
 
-    /// The number that it was made of. It does not allocate.
+    /// The number. It does not allocate.
     pub fn get(&self) -> i64
         ensures value { result ≡ self.now }
         ensures short { nat_abs self.now < 10 ^ 15 }
@@ -79,8 +79,8 @@ impl Int {
 }
 
 impl Thousandths {
-    /// The Decimal of so many thousandths, where that number has at most 15 digits; `OutOfRange`
-    /// exactly where it has more. It does not allocate.
+    /// The Decimal of this number of thousandths, if that has at most 15 digits; `OutOfRange` if
+    /// and only if it has more. It does not allocate.
     pub fn new(value: i64) -> Result<Thousandths, OutOfRange>
         ensures short { IsOk result ↔ (nat_abs value < 10 ^ 15) }
         ensures value { IfOk result (λ n. n ≡ value) }
@@ -92,7 +92,7 @@ impl Thousandths {
         }
     }
 
-    /// The number of thousandths that it was made of. It does not allocate.
+    /// The number of thousandths. It does not allocate.
     pub fn get(&self) -> i64
         ensures value { result ≡ self.now }
         ensures short { nat_abs self.now < 10 ^ 15 }
@@ -101,7 +101,7 @@ impl Thousandths {
     }
 }
 
-/// The number, where it has at most 15 digits, as [`Int::new`] gives it.
+/// The number if it has at most 15 digits, as by [`Int::new`].
 impl TryFrom<i64> for Int {
     type Error = OutOfRange;
 
@@ -123,7 +123,7 @@ impl From<i32> for Int {
     }
 }
 
-/// The number that it was made of.
+/// The number.
 impl From<Int> for i64 {
     ghost from_gives = { λ int n. n ≡ int };
 
@@ -132,8 +132,7 @@ impl From<Int> for i64 {
     }
 }
 
-/// The Decimal of so many thousandths, where they have at most 15 digits, as [`Thousandths::new`]
-/// gives it.
+/// The Decimal of this number of thousandths, as by [`Thousandths::new`].
 impl TryFrom<i64> for Thousandths {
     type Error = OutOfRange;
 
@@ -144,7 +143,7 @@ impl TryFrom<i64> for Thousandths {
     }
 }
 
-/// The Decimal of so many thousandths.
+/// The Decimal of this number of thousandths.
 impl From<i32> for Thousandths {
     ghost from_gives = { λ n number. number ≡ n };
 
@@ -155,7 +154,7 @@ impl From<i32> for Thousandths {
     }
 }
 
-/// The number of thousandths that it was made of.
+/// The number of thousandths.
 impl From<Thousandths> for i64 {
     ghost from_gives = { λ number n. n ≡ number };
 
