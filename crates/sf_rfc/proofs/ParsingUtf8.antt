@@ -8,7 +8,6 @@ use Rattle.sf_rfc.specs.Rfc9651.Words.{or_else}
 use Rattle.sf_rfc.specs.Rfc9651.Alphabets.{in_range}
 use Rattle.sf_rfc.specs.Rfc9651.Utf8.{Rule, octet, then, utf8_tail, utf8_char, utf8_octets}
 use Rattle.sf_rfc.specs.Rfc9651.Utf8.{utf8_1, utf8_2, utf8_3, utf8_4, is_utf8}
-use Rattle.sf_rfc.proofs.SerialisingUtf8.{above}
 use Rattle.sf_rfc.proofs.ParsingSteps.{never, and_then_cases, only_if_cases}
 
 or_else_cases : {A : Type 0} (o p : Option A) (a : A) → or_else o p ≡ Some a
@@ -53,90 +52,33 @@ first_formed low high x q t u row more e =
     let (c, i, h) = octet_cases low high t s a in
     subst (λ y. WellFormed Start y) (sym i) (x, row c h, more s b)
 
-ranges : (low high c : ℕ) → in_range low high c ≡ true → (low ≤ c) × (c ≤ high)
-ranges low high c h = (grind (arith, nat_tests), grind (arith, nat_tests))
-
+-- the row of each first byte
 row_1 : (c : ℕ) → in_range 0 127 c ≡ true → look_up rows c ≡ Some Start
 row_1 c h = rw h refl
 
 row_2 : (c : ℕ) → in_range 194 223 c ≡ true → look_up rows c ≡ Some (Wants 0 128 191)
-row_2 c h = let k = ranges 194 223 c h in rw (above 0 127 c (omega arith), h) refl
+row_2 c h = grind (arith, nat_tests)
 
 row_3 : (c : ℕ) → in_range 224 224 c ≡ true → look_up rows c ≡ Some (Wants 1 160 191)
-row_3 c h =
-    let k = ranges 224 224 c h in
-    rw (above 0 127 c (omega arith), above 194 223 c (omega arith), h) refl
+row_3 c h = grind (arith, nat_tests)
 
 row_4 : (c : ℕ) → in_range 225 236 c ≡ true → look_up rows c ≡ Some (Wants 1 128 191)
-row_4 c h =
-    let k = ranges 225 236 c h in
-    rw (above 0 127 c (omega arith), above 194 223 c (omega arith), above 224 224 c (omega arith), h)
-    refl
+row_4 c h = grind (arith, nat_tests)
 
 row_5 : (c : ℕ) → in_range 237 237 c ≡ true → look_up rows c ≡ Some (Wants 1 128 159)
-row_5 c h =
-    let k = ranges 237 237 c h in
-    rw (
-      above 0 127 c (omega arith),
-      above 194 223 c (omega arith),
-      above 224 224 c (omega arith),
-      above 225 236 c (omega arith),
-      h,
-    ) refl
+row_5 c h = grind (arith, nat_tests)
 
 row_6 : (c : ℕ) → in_range 238 239 c ≡ true → look_up rows c ≡ Some (Wants 1 128 191)
-row_6 c h =
-    let k = ranges 238 239 c h in
-    rw (
-      above 0 127 c (omega arith),
-      above 194 223 c (omega arith),
-      above 224 224 c (omega arith),
-      above 225 236 c (omega arith),
-      above 237 237 c (omega arith),
-      h,
-    ) refl
+row_6 c h = grind (arith, nat_tests)
 
 row_7 : (c : ℕ) → in_range 240 240 c ≡ true → look_up rows c ≡ Some (Wants 2 144 191)
-row_7 c h =
-    let k = ranges 240 240 c h in
-    rw (
-      above 0 127 c (omega arith),
-      above 194 223 c (omega arith),
-      above 224 224 c (omega arith),
-      above 225 236 c (omega arith),
-      above 237 237 c (omega arith),
-      above 238 239 c (omega arith),
-      h,
-    ) refl
+row_7 c h = grind (arith, nat_tests)
 
 row_8 : (c : ℕ) → in_range 241 243 c ≡ true → look_up rows c ≡ Some (Wants 2 128 191)
-row_8 c h =
-    let k = ranges 241 243 c h in
-    rw (
-      above 0 127 c (omega arith),
-      above 194 223 c (omega arith),
-      above 224 224 c (omega arith),
-      above 225 236 c (omega arith),
-      above 237 237 c (omega arith),
-      above 238 239 c (omega arith),
-      above 240 240 c (omega arith),
-      h,
-    ) refl
+row_8 c h = grind (arith, nat_tests)
 
 row_9 : (c : ℕ) → in_range 244 244 c ≡ true → look_up rows c ≡ Some (Wants 2 128 143)
-row_9 c h =
-    let k = ranges 244 244 c h in
-    rw (
-      above 0 127 c (omega arith),
-      above 194 223 c (omega arith),
-      above 224 224 c (omega arith),
-      above 225 236 c (omega arith),
-      above 237 237 c (omega arith),
-      above 238 239 c (omega arith),
-      above 240 240 c (omega arith),
-      above 241 243 c (omega arith),
-      h,
-    ) refl
+row_9 c h = grind (arith, nat_tests)
 
 -- a character and what follows it
 one_formed : (t u : List ℕ) → WellFormed Start u → utf8_1 t ≡ Some u → WellFormed Start t
