@@ -1,6 +1,7 @@
 -- What is well-formed by the table keeps to the rules of RFC 3629.
 use Rattle.std.proofs.Common.{◌≡◌, ℕ, zero, suc, ◌<◌, ◌≤◌, true, false, List, [], ◌∷◌, length}
 use Rattle.std.proofs.Common.{Some, refl, subst, arith, le_refl}
+use Rattle.std.proofs.lemmas.Bool.Decides.{nat_tests}
 use Rattle.sf_value.specs.Grammar.Utf8.{Utf8, Start, Wants, wants, within, rows}
 use Rattle.sf_value.specs.Grammar.Utf8.{WellFormed}
 use Rattle.sf_value.proofs.Utf8Table.{EachRow, looked_up}
@@ -36,165 +37,53 @@ takes_two b l h (c ∷ s) w =
     let k = next_is 0 128 191 c s w in
     (s, rw (above 0 127 b (omega arith), inside 194 223 b l h, k.0) refl, omega arith, k.1)
 
+-- a first byte with two bytes after it, of which the next is in this range
+two_more : (b low high : ℕ)
+    → ((c d : ℕ) (s : List ℕ) → in_range low high c ≡ true → in_range 128 191 d ≡ true
+    → utf8_char (b ∷ c ∷ d ∷ s) ≡ Some s)
+    → Takes b (Wants 1 low high)
+two_more b low high char [] w = absurd w
+two_more b low high char (c ∷ []) w = absurd (next_is 1 low high c [] w).1
+two_more b low high char (c ∷ d ∷ s) w =
+    let k = next_is 1 low high c (d ∷ s) w in
+    let j = next_is 0 128 191 d s k.1 in
+    (s, char c d s k.0 j.0, omega arith, j.1)
+
+-- and one with three
+three_more : (b low high : ℕ)
+    → ((c d f : ℕ) (s : List ℕ) → in_range low high c ≡ true → in_range 128 191 d ≡ true
+    → in_range 128 191 f ≡ true → utf8_char (b ∷ c ∷ d ∷ f ∷ s) ≡ Some s)
+    → Takes b (Wants 2 low high)
+three_more b low high char [] w = absurd w
+three_more b low high char (c ∷ []) w = absurd (next_is 2 low high c [] w).1
+three_more b low high char (c ∷ d ∷ []) w =
+    absurd (next_is 1 128 191 d [] (next_is 2 low high c (d ∷ []) w).1).1
+three_more b low high char (c ∷ d ∷ f ∷ s) w =
+    let k = next_is 2 low high c (d ∷ f ∷ s) w in
+    let j = next_is 1 128 191 d (f ∷ s) k.1 in
+    let i = next_is 0 128 191 f s j.1 in
+    (s, char c d f s k.0 j.0 i.0, omega arith, i.1)
+
 takes_224 : (b : ℕ) → 224 ≤ b → b ≤ 224 → Takes b (Wants 1 160 191)
-takes_224 b l h [] w = absurd w
-takes_224 b l h (c ∷ []) w = absurd (next_is 1 160 191 c [] w).1
-takes_224 b l h (c ∷ d ∷ s) w =
-    let k = next_is 1 160 191 c (d ∷ s) w in
-    let j = next_is 0 128 191 d s k.1 in (
-      s,
-      rw (
-        above 0 127 b (omega arith),
-        above 194 223 b (omega arith),
-        inside 224 224 b l h,
-        k.0,
-        j.0,
-      ) refl,
-      omega arith,
-      j.1,
-    )
+takes_224 b l h = two_more b 160 191 (λ c d s p q. grind (arith, nat_tests))
 
 takes_225 : (b : ℕ) → 225 ≤ b → b ≤ 236 → Takes b (Wants 1 128 191)
-takes_225 b l h [] w = absurd w
-takes_225 b l h (c ∷ []) w = absurd (next_is 1 128 191 c [] w).1
-takes_225 b l h (c ∷ d ∷ s) w =
-    let k = next_is 1 128 191 c (d ∷ s) w in
-    let j = next_is 0 128 191 d s k.1 in (
-      s,
-      rw (
-        above 0 127 b (omega arith),
-        above 194 223 b (omega arith),
-        above 224 224 b (omega arith),
-        inside 225 236 b l h,
-        k.0,
-        j.0,
-      ) refl,
-      omega arith,
-      j.1,
-    )
+takes_225 b l h = two_more b 128 191 (λ c d s p q. grind (arith, nat_tests))
 
 takes_237 : (b : ℕ) → 237 ≤ b → b ≤ 237 → Takes b (Wants 1 128 159)
-takes_237 b l h [] w = absurd w
-takes_237 b l h (c ∷ []) w = absurd (next_is 1 128 159 c [] w).1
-takes_237 b l h (c ∷ d ∷ s) w =
-    let k = next_is 1 128 159 c (d ∷ s) w in
-    let j = next_is 0 128 191 d s k.1 in (
-      s,
-      rw (
-        above 0 127 b (omega arith),
-        above 194 223 b (omega arith),
-        above 224 224 b (omega arith),
-        above 225 236 b (omega arith),
-        inside 237 237 b l h,
-        k.0,
-        j.0,
-      )
-          refl,
-      omega arith,
-      j.1,
-    )
+takes_237 b l h = two_more b 128 159 (λ c d s p q. grind (arith, nat_tests))
 
 takes_238 : (b : ℕ) → 238 ≤ b → b ≤ 239 → Takes b (Wants 1 128 191)
-takes_238 b l h [] w = absurd w
-takes_238 b l h (c ∷ []) w = absurd (next_is 1 128 191 c [] w).1
-takes_238 b l h (c ∷ d ∷ s) w =
-    let k = next_is 1 128 191 c (d ∷ s) w in
-    let j = next_is 0 128 191 d s k.1 in (
-      s,
-      rw (
-        above 0 127 b (omega arith),
-        above 194 223 b (omega arith),
-        above 224 224 b (omega arith),
-        above 225 236 b (omega arith),
-        above 237 237 b (omega arith),
-        inside 238 239 b l h,
-        k.0,
-        j.0,
-      ) refl,
-      omega arith,
-      j.1,
-    )
+takes_238 b l h = two_more b 128 191 (λ c d s p q. grind (arith, nat_tests))
 
 takes_240 : (b : ℕ) → 240 ≤ b → b ≤ 240 → Takes b (Wants 2 144 191)
-takes_240 b l h [] w = absurd w
-takes_240 b l h (c ∷ []) w = absurd (next_is 2 144 191 c [] w).1
-takes_240 b l h (c ∷ d ∷ []) w =
-    absurd (next_is 1 128 191 d [] (next_is 2 144 191 c (d ∷ []) w).1).1
-takes_240 b l h (c ∷ d ∷ f ∷ s) w =
-    let k = next_is 2 144 191 c (d ∷ f ∷ s) w in
-    let j = next_is 1 128 191 d (f ∷ s) k.1 in
-    let i = next_is 0 128 191 f s j.1 in (
-      s,
-      rw (
-        above 0 127 b (omega arith),
-        above 194 223 b (omega arith),
-        above 224 224 b (omega arith),
-        above 225 236 b (omega arith),
-        above 237 237 b (omega arith),
-        above 238 239 b (omega arith),
-        inside 240 240 b l h,
-        k.0,
-        j.0,
-        i.0,
-      ) refl,
-      omega arith,
-      i.1,
-    )
+takes_240 b l h = three_more b 144 191 (λ c d f s p q r. grind (arith, nat_tests))
 
 takes_241 : (b : ℕ) → 241 ≤ b → b ≤ 243 → Takes b (Wants 2 128 191)
-takes_241 b l h [] w = absurd w
-takes_241 b l h (c ∷ []) w = absurd (next_is 2 128 191 c [] w).1
-takes_241 b l h (c ∷ d ∷ []) w =
-    absurd (next_is 1 128 191 d [] (next_is 2 128 191 c (d ∷ []) w).1).1
-takes_241 b l h (c ∷ d ∷ f ∷ s) w =
-    let k = next_is 2 128 191 c (d ∷ f ∷ s) w in
-    let j = next_is 1 128 191 d (f ∷ s) k.1 in
-    let i = next_is 0 128 191 f s j.1 in (
-      s,
-      rw (
-        above 0 127 b (omega arith),
-        above 194 223 b (omega arith),
-        above 224 224 b (omega arith),
-        above 225 236 b (omega arith),
-        above 237 237 b (omega arith),
-        above 238 239 b (omega arith),
-        above 240 240 b (omega arith),
-        inside 241 243 b l h,
-        k.0,
-        j.0,
-        i.0,
-      ) refl,
-      omega arith,
-      i.1,
-    )
+takes_241 b l h = three_more b 128 191 (λ c d f s p q r. grind (arith, nat_tests))
 
 takes_244 : (b : ℕ) → 244 ≤ b → b ≤ 244 → Takes b (Wants 2 128 143)
-takes_244 b l h [] w = absurd w
-takes_244 b l h (c ∷ []) w = absurd (next_is 2 128 143 c [] w).1
-takes_244 b l h (c ∷ d ∷ []) w =
-    absurd (next_is 1 128 191 d [] (next_is 2 128 143 c (d ∷ []) w).1).1
-takes_244 b l h (c ∷ d ∷ f ∷ s) w =
-    let k = next_is 2 128 143 c (d ∷ f ∷ s) w in
-    let j = next_is 1 128 191 d (f ∷ s) k.1 in
-    let i = next_is 0 128 191 f s j.1 in (
-      s,
-      rw (
-        above 0 127 b (omega arith),
-        above 194 223 b (omega arith),
-        above 224 224 b (omega arith),
-        above 225 236 b (omega arith),
-        above 237 237 b (omega arith),
-        above 238 239 b (omega arith),
-        above 240 240 b (omega arith),
-        above 241 243 b (omega arith),
-        inside 244 244 b l h,
-        k.0,
-        j.0,
-        i.0,
-      ) refl,
-      omega arith,
-      i.1,
-    )
+takes_244 b l h = three_more b 128 143 (λ c d f s p q r. grind (arith, nat_tests))
 
 takes_one : (b : ℕ) → b ≤ 127 → Takes b Start
 takes_one b h s w = (s, rw (inside 0 127 b (omega arith) h) refl, le_refl (length s), w)
