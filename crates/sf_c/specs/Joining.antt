@@ -38,7 +38,7 @@ pub record PutsOne (old new : JoinOutput) (line : List ℕ) : Type 0 where
   pub kept : length new.buffer ≡ length old.buffer
 
 -- the buffer is too small for the text with this line, and nothing is put
-pub record WantsMore (old new : JoinOutput) (line : List ℕ) : Type 0 where
+pub record RequiresMore (old new : JoinOutput) (line : List ℕ) : Type 0 where
   pub within : old.joined.length ≤ length old.buffer
   pub short : length old.buffer < old.joined.length + length (added old.joined line)
   pub required : new.joined.required ≡ capped (old.joined.length + length (added old.joined line))
@@ -48,6 +48,6 @@ pub record WantsMore (old new : JoinOutput) (line : List ℕ) : Type 0 where
 -- the line is joined, or the buffer is too small, or shorter than the text that is to be in it
 abbrev pub PutsLine : JoinOutput → JoinOutput → List ℕ → Option Status → Type 0
 PutsLine old new line (Some Answered) = PutsOne old new line
-PutsLine old new line (Some Short) = WantsMore old new line
+PutsLine old new line (Some Short) = RequiresMore old new line
 PutsLine old new line (Some BadCall) = (length old.buffer < old.joined.length) × (new ≡ old)
 PutsLine old new line status = ⊥

@@ -15,7 +15,7 @@ use Rattle.sf_parse.specs.Machine.Fields.{begin}
 use Rattle.sf_parse.specs.Parsers.{Progress, Took, Fed, RefusedFor, Finishes}
 use Rattle.sf_parse.specs.AllocationFree.{TakesNoMemory}
 use Rattle.sf_parse.specs.AllocationFreeParsers.{IsAllocationFree, IsOther, NotForMemory}
-use Rattle.sf_parse.specs.Reading.{GaveAll, Wanted, ReadAndParsed}
+use Rattle.sf_parse.specs.Reading.{GaveAll, AllocationFailed, ReadAndParsed}
 use Rattle.sf_parse.proofs.Reached.{reached_nothing, reached_viable}
 use Rattle.sf_value.proofs.Gives.{gave_none, gave_more}
 
@@ -128,9 +128,9 @@ pub reads_failed : (old a b : SourceState) (kind : Kind) (max given : ℕ) (p : 
 reads_failed old a b kind max given p r f =
     (r.text, record { mid = a; gave = r.gave; failed = f }, r.count, r.within, r.viable)
 
-wanted : (old b : SourceState) (kind : Kind) (max : ℕ) (text : List ℕ) → GaveAll old b text
-    → length text ≤ max → max < 2 ^ 64 → ¬ (TakesNoMemory kind text) → Wanted kind old b max text
-wanted old b kind max text g l m n =
+allocation_failed : (old b : SourceState) (kind : Kind) (max : ℕ) (text : List ℕ) → GaveAll old b text
+    → length text ≤ max → max < 2 ^ 64 → ¬ (TakesNoMemory kind text) → AllocationFailed kind old b max text
+allocation_failed old b kind max text g l m n =
     elim g [ inl e ↦ (n, inr (e, l)) | inr f ↦ (n, inl (f.0, omega arith)) ]
 
 ended : (old b : SourceState) (kind : Kind) (max : ℕ) (text : List ℕ) (r : Result Field Refusal)
@@ -138,7 +138,7 @@ ended : (old b : SourceState) (kind : Kind) (max : ℕ) (text : List ℕ) (r : R
     → (TakesNoMemory kind text → NotForMemory r)
     → Finishes Rfc9651 kind text r → ReadAndParsed Rfc9651 kind old b max r
 ended old b kind max text (Ok v) g l m n f = (text, g, l, f)
-ended old b kind max text (Err OutOfMemory) g l m n f = (text, wanted old b kind max text g l m n)
+ended old b kind max text (Err OutOfMemory) g l m n f = (text, allocation_failed old b kind max text g l m n)
 ended old b kind max text (Err (Syntax place None expected may)) g l m n f = (text, g, l, f)
 ended old b kind max text (Err (Syntax place (Some c) expected may)) g l m n f = absurd f
 ended old b kind max text (Err (TooLong limit)) g l m n f = absurd f

@@ -19,8 +19,8 @@ GaveAll old new bytes =
     GaveAndEnded old new bytes ⊎ (Gave old new bytes × (2 ^ 64 - 1 ≤ length bytes))
 
 -- an allocation failed on the way, or when the text was ended, of a text that allocates
-abbrev pub Wanted : Kind → SourceState → SourceState → ℕ → List ℕ → Type 0
-Wanted kind old new max text =
+abbrev pub AllocationFailed : Kind → SourceState → SourceState → ℕ → List ℕ → Type 0
+AllocationFailed kind old new max text =
     ¬ (TakesNoMemory kind text)
     × ((Gave old new text × (length text ≤ capped (max + 1)))
     ⊎ (GaveAndEnded old new text × (length text ≤ max)))
@@ -41,7 +41,7 @@ abbrev pub ReadAndParsed : Dialect → Kind → SourceState → SourceState → 
     → Type 0
 ReadAndParsed d kind old new max (Ok v) = ReadToEnd d kind old new max (Ok v)
 ReadAndParsed d kind old new max (Err OutOfMemory) =
-    (text : List ℕ) × Wanted kind old new max text
+    (text : List ℕ) × AllocationFailed kind old new max text
 ReadAndParsed d kind old new max (Err (Syntax place None expected may_end)) =
     ReadToEnd d kind old new max (Err (Syntax place None expected may_end))
 ReadAndParsed d kind old new max (Err (Syntax place (Some b) expected may_end)) =
