@@ -1,7 +1,9 @@
 /* A fuzz target over the archive, for libFuzzer. The first byte of an input says the kind, the
  * dialect and what pointer stands beside a length of 0; the rest is a text. A text that is accepted
- * is normalised, parsed again and compared; its nodes and those of its canonical text are the same,
- * and so is its path of caches; the field that is chosen among parts of the text is the first that
+ * is normalised, parsed again and compared; its nodes and those of its canonical text say the same,
+ * as they do after they were copied by a builder, and are written as the canonical text; changed at
+ * random they are written as a text of the nodes, or refused; its path of caches is that of its
+ * canonical text, and so is its priority, also after it was changed; the field that is chosen among parts of the text is the first that
  * has a policy; buffers that are one short are answered with what is required; the lines of the
  * text, joined one by one, are the text again; the text is accepted exactly where parts of it are
  * that are cut at some of its commas, and then it is equal to their canonical texts, joined; a
@@ -46,6 +48,14 @@ static uint8_t *part(const uint8_t *text, size_t from, size_t to) {
   return from < to ? take_buffer(text + from, to - from) : NULL;
 }
 
+/* A number that the bytes of a text choose. */
+static uint32_t hash(const uint8_t *text, size_t length) {
+  uint32_t bits = 2166136261u;
+  for (size_t i = 0; i < length; ++i)
+    bits = (bits ^ text[i]) * 16777619u;
+  return bits;
+}
+
 static int is_expected(const sf_refusal *refusal, unsigned byte) {
   uint64_t word = byte < 64 ? refusal->expected_low : refusal->expected_high;
   return byte < 128 && (word >> (byte % 64) & 1) != 0;
@@ -80,7 +90,10 @@ static void refused(uint32_t dialect, uint32_t kind, const uint8_t *text, size_t
   give_buffer(front);
 }
 
+/* A parsed value: nodes with the text and the bytes that they point into. */
 typedef struct value {
+  const uint8_t *text;
+  size_t text_length;
   sf_node *nodes;
   uint8_t *bytes;
   sf_sizes sizes;
@@ -88,28 +101,35 @@ typedef struct value {
 
 /* The value of a text that is accepted, in buffers of exactly its size. */
 static value parse(uint32_t dialect, uint32_t kind, const uint8_t *text, size_t length) {
-  value v = {NULL, NULL, {0, 0}};
+  value v = {text, length, NULL, NULL, {0, 0}};
   sf_refusal refusal;
-  uint32_t status = sf_parse(&seed, dialect, kind, text, length, NULL, 0, NULL, 0, &v.sizes,
-                             &refusal);
-  CHECK(status == (v.sizes.nodes == 0 && v.sizes.bytes == 0 ? SF_OK : SF_SHORT));
-  CHECK(v.sizes.nodes <= SF_NODES_SIZE(length) && v.sizes.bytes <= SF_BYTES_SIZE(length));
-  v.nodes = take_buffer(NULL, v.sizes.nodes * sizeof *v.nodes);
-  v.bytes = take_buffer(NULL, v.sizes.bytes);
-  sf_sizes sizes = {0, 0};
-  if (v.sizes.nodes > 0) {
-    status = sf_parse(&seed, dialect, kind, text, length, v.nodes, v.sizes.nodes - 1, v.bytes,
-                      v.sizes.bytes, &sizes, &refusal);
-    CHECK(status == SF_SHORT && memcmp(&sizes, &v.sizes, sizeof sizes) == 0);
+  sf_sizes sizes = {0, 0}, again = {0, 0};
+  uint32_t status =
+      sf_parse(&seed, dialect, kind, text, length, NULL, 0, NULL, 0, &sizes, &refusal);
+  CHECK(status == (sizes.nodes == 0 ? SF_OK : SF_SHORT));
+  CHECK(sizes.nodes <= SF_NODES_SIZE(length) && sizes.bytes <= SF_BYTES_SIZE(length));
+  v.nodes = take_buffer(NULL, sizes.nodes * sizeof *v.nodes);
+  v.bytes = take_buffer(NULL, sizes.bytes);
+  status = sf_parse(&seed, dialect, kind, text, length, v.nodes, sizes.nodes, v.bytes, sizes.bytes,
+                    &v.sizes, &refusal);
+  CHECK(status == SF_OK && v.sizes.nodes == sizes.nodes && v.sizes.bytes <= sizes.bytes);
+  if (sizes.nodes > 0) {
+    status = sf_parse(&seed, dialect, kind, text, length, v.nodes, sizes.nodes - 1, v.bytes,
+                      sizes.bytes, &again, &refusal);
+    CHECK(status == SF_SHORT && memcmp(&again, &sizes, sizeof sizes) == 0);
   }
+  give_buffer(v.bytes);
   if (v.sizes.bytes > 0) {
-    status = sf_parse(&seed, dialect, kind, text, length, v.nodes, v.sizes.nodes, v.bytes,
-                      v.sizes.bytes - 1, &sizes, &refusal);
-    CHECK(status == SF_SHORT && memcmp(&sizes, &v.sizes, sizeof sizes) == 0);
+    v.bytes = take_buffer(NULL, v.sizes.bytes - 1);
+    status = sf_parse(&seed, dialect, kind, text, length, v.nodes, sizes.nodes, v.bytes,
+                      v.sizes.bytes - 1, &again, &refusal);
+    CHECK(status == SF_SHORT && memcmp(&again, &sizes, sizeof sizes) == 0);
+    give_buffer(v.bytes);
   }
-  status = sf_parse(&seed, dialect, kind, text, length, v.nodes, v.sizes.nodes, v.bytes,
-                    v.sizes.bytes, &sizes, &refusal);
-  CHECK(status == SF_OK && memcmp(&sizes, &v.sizes, sizeof sizes) == 0);
+  v.bytes = take_buffer(NULL, v.sizes.bytes);
+  status = sf_parse(&seed, dialect, kind, text, length, v.nodes, sizes.nodes, v.bytes,
+                    v.sizes.bytes, &again, &refusal);
+  CHECK(status == SF_OK && memcmp(&again, &v.sizes, sizeof again) == 0);
   return v;
 }
 
@@ -122,47 +142,180 @@ static int same_bytes(const uint8_t *a, size_t a_at, const uint8_t *b, size_t b_
   return length == 0 || memcmp(a + a_at, b + b_at, length) == 0;
 }
 
-static const uint8_t *place(const uint8_t *bytes, size_t at) {
-  return bytes == NULL ? NULL : bytes + at;
+static const char *key_of(const value *v, const sf_node *node) {
+  return sf_key(node, v->text, v->text_length, v->bytes);
+}
+
+static const char *bytes_of(const value *v, const sf_node *node) {
+  return sf_bytes(node, v->text, v->text_length, v->bytes);
+}
+
+/* Whether a range of a node is within the text, or within the bytes. */
+static int is_in(const value *v, size_t at, size_t length) {
+  return length == 0 || at + length <= v->text_length ||
+         (at >= v->text_length && at + length <= v->text_length + v->sizes.bytes);
+}
+
+static uint32_t find(const value *v, const sf_node *nodes, size_t count, uint32_t role,
+                     const sf_node *key, size_t *index) {
+  return sf_find(nodes, count, v->text, v->text_length, v->bytes, v->sizes.bytes, role,
+                 key_of(v, key), key->key_length, index);
 }
 
 /* Each parameter of a node is found by its key, and no other. */
 static void parameters_found(const value *v, size_t i) {
   const sf_node *node = &v->nodes[i];
   uint32_t role = node->type == SF_INNER_LIST ? SF_INNER_PARAMETER : SF_PARAMETER;
-  for (size_t k = 0; node->role != role && k < node->span; ++k) {
+  for (size_t k = 0; node->role != role && k < node->size; ++k) {
     size_t index = SIZE_MAX;
     if (node[k].role == role)
-      CHECK(sf_find(node, node->span, v->bytes, v->sizes.bytes, role,
-                    place(v->bytes, node[k].key_at), node[k].key_length, &index) == SF_OK &&
-            index == k);
+      CHECK(find(v, node, node->size, role, &node[k], &index) == SF_OK && index == k);
   }
 }
 
-/* The nodes nest, point into the bytes, and are those of another value. */
+/* Two nodes say the same. */
+static void same_node(const value *v, const sf_node *a, const value *w, const sf_node *b) {
+  CHECK(is_in(v, a->key_at, a->key_length) && is_in(v, a->text_at, a->text_length));
+  CHECK(is_in(w, b->key_at, b->key_length) && is_in(w, b->text_at, b->text_length));
+  CHECK(a->role == b->role && a->type == b->type && a->number == b->number && a->size == b->size);
+  CHECK(a->coded == 0 && b->coded == 0);
+  CHECK(a->key_length == b->key_length && a->text_length == b->text_length);
+  CHECK(a->key_length == 0 || memcmp(key_of(v, a), key_of(w, b), a->key_length) == 0);
+  CHECK(a->text_length == 0 || memcmp(bytes_of(v, a), bytes_of(w, b), a->text_length) == 0);
+}
+
+/* The nodes nest, point into the text and the bytes, and are those of another value. */
 static void same_nodes(const value *v, const value *w) {
-  CHECK(v->sizes.nodes == w->sizes.nodes && v->sizes.bytes == w->sizes.bytes);
+  CHECK(v->sizes.nodes == w->sizes.nodes);
   for (size_t i = 0; i < v->sizes.nodes; ++i) {
-    const sf_node *a = &v->nodes[i], *b = &w->nodes[i];
-    CHECK(a->key_at <= v->sizes.bytes && a->key_length <= v->sizes.bytes - a->key_at);
-    CHECK(a->text_at <= v->sizes.bytes && a->text_length <= v->sizes.bytes - a->text_at);
-    CHECK(a->span >= 1 && a->span <= v->sizes.nodes - i);
+    const sf_node *a = &v->nodes[i];
+    CHECK(a->size >= 1 && a->size <= v->sizes.nodes - i);
     CHECK(a->role >= SF_MEMBER && a->role <= SF_INNER_PARAMETER);
     CHECK(a->type >= SF_INNER_LIST && a->type <= SF_DISPLAY_STRING);
-    CHECK(a->role < SF_PARAMETER || (a->key_length > 0 && a->span == 1));
+    CHECK(a->role < SF_PARAMETER || (a->key_length > 0 && a->size == 1));
     CHECK(a->type != SF_INNER_LIST || a->role == SF_MEMBER);
-    CHECK(a->role == b->role && a->type == b->type && a->number == b->number);
-    CHECK(a->span == b->span);
-    shape(a->role * 16 + a->type, i > 0 ? v->nodes[i - 1].type + 1 : 0, a->span < 8 ? a->span : 8);
-    CHECK(a->key_length == b->key_length && a->text_length == b->text_length);
+    same_node(v, a, w, &w->nodes[i]);
+    shape(a->role * 16u + a->type, i > 0 ? v->nodes[i - 1].type + 1u : 0, a->size < 8 ? a->size : 8);
     size_t index = SIZE_MAX;
-    CHECK(sf_find(v->nodes, v->sizes.nodes, v->bytes, v->sizes.bytes, a->role,
-                  place(v->bytes, a->key_at), a->key_length, &index) == SF_OK);
+    CHECK(find(v, v->nodes, v->sizes.nodes, a->role, a, &index) == SF_OK);
     CHECK(a->role == SF_MEMBER && a->key_length > 0 ? index == i : index <= i);
     parameters_found(v, i);
-    CHECK(same_bytes(v->bytes, a->key_at, w->bytes, b->key_at, a->key_length));
-    CHECK(same_bytes(v->bytes, a->text_at, w->bytes, b->text_at, a->text_length));
   }
+}
+
+/* A copy of a value by a builder, in buffers of exactly its size. One element less is too little. */
+static value copy(const value *v) {
+  size_t bytes = 0;
+  for (size_t i = 0; i < v->sizes.nodes; ++i)
+    bytes += v->nodes[i].key_length + v->nodes[i].text_length;
+  value u = {NULL, 0, take_buffer(NULL, v->sizes.nodes * sizeof *u.nodes), take_buffer(NULL, bytes),
+             {v->sizes.nodes, bytes}};
+  for (int less = bytes > 0 ? 2 : 1; less >= 0; --less) {
+    sf_builder builder = sf_build(u.nodes, v->sizes.nodes - (less == 1 && v->sizes.nodes > 0),
+                                  u.bytes, bytes - (less == 2));
+    for (size_t i = 0; i < v->sizes.nodes; i += v->nodes[i].size)
+      sf_put_copy(&builder, v->nodes + i, v->text, v->text_length, v->bytes);
+    CHECK(builder.status == (less > 0 && v->sizes.nodes > 0 ? SF_SHORT : SF_OK));
+    CHECK(less > 0 || (builder.nodes_length == v->sizes.nodes && builder.bytes_length == bytes));
+  }
+  return u;
+}
+
+/* The nodes are written as a text. */
+static void written(uint32_t dialect, uint32_t kind, const value *v, const uint8_t *text,
+                    size_t length) {
+  size_t required = 0, again = 0, invalid = SIZE_MAX;
+  uint32_t status = sf_write(&seed, dialect, kind, v->nodes, v->sizes.nodes, v->text, v->text_length,
+                             v->bytes, v->sizes.bytes, NULL, 0, &required, &invalid);
+  CHECK(status == (required == 0 ? SF_OK : SF_SHORT) && required == length);
+  uint8_t *buffer = take_buffer(NULL, required);
+  if (required > 0) {
+    status = sf_write(&seed, dialect, kind, v->nodes, v->sizes.nodes, v->text, v->text_length,
+                      v->bytes, v->sizes.bytes, buffer, required - 1, &again, &invalid);
+    CHECK(status == SF_SHORT && again == required);
+  }
+  status = sf_write(&seed, dialect, kind, v->nodes, v->sizes.nodes, v->text, v->text_length,
+                    v->bytes, v->sizes.bytes, buffer, required, &again, &invalid);
+  CHECK(status == SF_OK && again == required && invalid == SIZE_MAX);
+  CHECK(same_bytes(buffer, 0, text, 0, required));
+  give_buffer(buffer);
+}
+
+/* One node with a change that the text chooses. If the nodes are still written, the nodes of the
+ * text say the same as the changed ones; otherwise the first wrong node is one of them, or one past
+ * the last. */
+static void write_changed(uint32_t dialect, uint32_t kind, const value *v, uint32_t bits) {
+  if (v->sizes.nodes == 0)
+    return;
+  sf_node *node = &v->nodes[bits % v->sizes.nodes], was = *node;
+  uint32_t other = bits >> 16 & 0xff;
+  switch (bits >> 8 & 15) {
+  case 0:
+    node->role = (uint8_t)(bits & 0x10000 ? other : SF_MEMBER + other % 5);
+    break;
+  case 1:
+  case 2:
+    node->type = (uint8_t)(bits & 0x10000 ? other : SF_INNER_LIST + other % 10);
+    break;
+  case 3:
+    node->size = other % 8;
+    break;
+  case 4:
+    node->key_at = other % 32;
+    break;
+  case 5:
+    node->key_length = other % 4;
+    break;
+  case 6:
+    node->text_at = other % 32;
+    break;
+  case 7:
+    node->text_length = other % 8;
+    break;
+  case 8:
+    node->number = (int64_t)other - 2;
+    break;
+  case 9:
+    node->number = bits & 0x10000 ? SF_NUMBER_MAX + 1 : -SF_NUMBER_MAX - 1;
+    break;
+  case 10:
+    node->coded = (uint8_t)other;
+    break;
+  case 11:
+    node->key_at = UINT32_MAX - other;
+    break;
+  case 12:
+    node->text_at = UINT32_MAX - other;
+    break;
+  case 13:
+    node->text_length = UINT32_MAX - other;
+    break;
+  default:
+    node->text_length += 1;
+  }
+  size_t required = 0, again = 0, invalid = SIZE_MAX;
+  uint32_t status = sf_write(&seed, dialect, kind, v->nodes, v->sizes.nodes, v->text, v->text_length,
+                             v->bytes, v->sizes.bytes, NULL, 0, &required, &invalid);
+  shape(bits >> 8 & 15, status, v->sizes.nodes < 8 ? v->sizes.nodes : 8);
+  CHECK(status == SF_OK || status == SF_SHORT || status == SF_INVALID);
+  if (status == SF_INVALID) {
+    CHECK(invalid <= v->sizes.nodes && required == 0);
+  } else {
+    CHECK(invalid == SIZE_MAX);
+    uint8_t *text = take_buffer(NULL, required);
+    status = sf_write(&seed, dialect, kind, v->nodes, v->sizes.nodes, v->text, v->text_length,
+                      v->bytes, v->sizes.bytes, text, required, &again, &invalid);
+    CHECK(status == SF_OK && again == required);
+    value w = parse(dialect, kind, text, required);
+    CHECK(w.sizes.nodes == v->sizes.nodes);
+    if (was.coded == node->coded && is_in(v, node->key_at, node->key_length) &&
+        is_in(v, node->text_at, node->text_length)) /* and not partly in either */
+      for (size_t i = 0; i < w.sizes.nodes; ++i)
+        same_node(v, &v->nodes[i], &w, &w.nodes[i]);
+    drop(w);
+    give_buffer(text);
+  }
+  *node = was;
 }
 
 static void accepted(uint32_t dialect, uint32_t kind, const uint8_t *text, size_t length) {
@@ -191,6 +344,14 @@ static void accepted(uint32_t dialect, uint32_t kind, const uint8_t *text, size_
 
   value v = parse(dialect, kind, text, length), w = parse(dialect, kind, canonical, required);
   same_nodes(&v, &w);
+  value u = copy(&v);
+  same_nodes(&u, &w);
+  written(dialect, kind, &v, canonical, required);
+  written(dialect, kind, &u, canonical, required);
+  uint32_t bits = hash(text, length);
+  for (int i = 0; i < 8; ++i, bits = bits * 1664525u + 1013904223u)
+    write_changed(dialect, kind, i % 2 == 0 ? &v : &u, bits);
+  drop(u);
   drop(v);
   drop(w);
   give_buffer(twice);
@@ -221,9 +382,7 @@ static void joining(const uint8_t *text, size_t length) {
  * comma that its bytes choose, and the spaces behind the comma are left away. */
 static void parts(uint32_t dialect, uint32_t kind, const uint8_t *text, size_t length,
                   int is_some) {
-  uint32_t bits = 2166136261u;
-  for (size_t i = 0; i < length; ++i)
-    bits = (bits ^ text[i]) * 16777619u;
+  uint32_t bits = hash(text, length);
   size_t capacity = SF_CANONICAL_SIZE(length) + 2 * length,
          line_capacity = SF_CANONICAL_SIZE(length);
   uint8_t *whole = take_buffer(NULL, capacity), *line = take_buffer(NULL, line_capacity);
@@ -392,6 +551,26 @@ static void selecting(const uint8_t *text, size_t length) {
   give_buffer(fields);
 }
 
+/* The field with a priority put into it says that priority, and is as long as it has to be. */
+static void change_priority(const uint8_t *text, size_t length, const sf_priority_flags *before) {
+  uint32_t bits = hash(text, length);
+  const sf_priority_flags sets = {(uint8_t)(bits % 8), (uint8_t)(bits >> 3 & 1),
+                                  (uint8_t)(bits >> 4 & 1), (uint8_t)(bits >> 5 & 1)};
+  sf_refusal refusal;
+  size_t required = 0, again = 0;
+  uint32_t status = sf_priority_change(&seed, text, length, &sets, NULL, 0, &required, &refusal);
+  CHECK(status == (required == 0 ? SF_OK : SF_SHORT));
+  uint8_t *changed = take_buffer(NULL, required);
+  CHECK(sf_priority_change(&seed, text, length, &sets, changed, required, &again, &refusal) ==
+        SF_OK);
+  CHECK(again == required);
+  sf_priority_flags now = {9, 9, 9, 9};
+  CHECK(sf_priority(&seed, changed, required, &now, &refusal) == SF_OK);
+  sf_priority_flags expected = sf_priority_merge(before, &sets);
+  CHECK(memcmp(&now, &expected, sizeof now) == 0);
+  give_buffer(changed);
+}
+
 static void consumers(const uint8_t *text, size_t length, int is_dict) {
   sf_refusal refusal;
   sf_priority_flags priority = {0, 0, 0, 0};
@@ -401,6 +580,7 @@ static void consumers(const uint8_t *text, size_t length, int is_dict) {
     CHECK(priority.urgency <= 7 && priority.incremental <= 1);
     sf_priority_flags both = sf_priority_merge(&priority, &priority);
     CHECK(memcmp(&both, &priority, sizeof both) == 0);
+    change_priority(text, length, &priority);
     char written[SF_PRIORITY_SIZE];
     size_t required = 0;
     CHECK(sf_priority_text(&priority, written, sizeof written, &required) == SF_OK);

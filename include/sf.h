@@ -16,20 +16,21 @@
  * from a signal handler, or in the child after a fork of a program with several threads. The
  * program's malloc and realloc must return memory that is aligned as C requires.
  *
- * Each function returns an sf_status, except sf_priority_merge, sf_lifetime, sf_version and
- * sf_status_name; a dialect is an sf_dialect, and a kind is an sf_kind. All are passed as integers
- * of a fixed width, since the width of an enum is not fixed, and since any number may be passed.
- * The constants for kinds, dialects, roles and types all differ, and none is 0: an argument in the
- * place of another is SF_BAD_CALL.
+ * Each function returns an sf_status, except sf_priority_merge, sf_lifetime, sf_version and, of the
+ * inline functions, those that say otherwise; a dialect is an sf_dialect, and a kind is an sf_kind.
+ * All are passed as integers of a fixed width, since the width of an enum is not fixed, and since
+ * any number may be passed. The constants for kinds, dialects, roles and types all differ, and none
+ * is 0: an argument in the place of another is SF_BAD_CALL.
  *
- * Bytes are octets, and texts are not NUL-terminated. Offsets are in bytes and begin at 0. The
- * library requires a size_t of 64 bits.
+ * Bytes are octets, and texts are not NUL-terminated, except what some inline functions put to an
+ * sf_builder. Offsets are in bytes and begin at 0. The library requires a size_t of 64 bits.
  */
 #ifndef SF_H
 #define SF_H
 
 #include <stddef.h>
 #include <stdint.h>
+#include <string.h>
 
 #if SIZE_MAX < UINT64_MAX
 #error "libsf.a is for machines where a size_t has 64 bits"
@@ -75,7 +76,8 @@ typedef enum sf_status {
   SF_BAD_CALL = 6,       /* no such kind or dialect, or a length or range past its buffer */
   SF_NOT_A_CACHE = 7,    /* a member of a Cache-Status List does not name a cache */
   SF_INVALID = 8,        /* what is to be written is not a value */
-  SF_ABSENT = 9          /* no node has the key */
+  SF_ABSENT = 9,         /* no node has the key */
+  SF_TOO_LONG = 10       /* the text has 4 GiB or more, or an offset would have to be that large */
 } sf_status;
 
 /* Returns the name of a status, such as "SF_REFUSED", for messages; "SF_?" if there is no such
@@ -102,6 +104,8 @@ static inline const char *sf_status_name(uint32_t status) {
     return "SF_INVALID";
   case SF_ABSENT:
     return "SF_ABSENT";
+  case SF_TOO_LONG:
+    return "SF_TOO_LONG";
   default:
     return "SF_?";
   }
@@ -150,6 +154,8 @@ typedef struct sf_refusal {
  *   SF_OK         it is
  *   SF_REFUSED    it is not; refusal says where and why
  *   SF_NO_MEMORY, SF_BAD_CALL
+ *
+ * Does not allocate for a well-formed text of less than 4 GiB.
  *
  * This and each function below writes refusal only if it returns SF_REFUSED or SF_SECOND_REFUSED.
  */
@@ -252,22 +258,44 @@ typedef enum sf_type {
 /*
  * A node of the tree of a value. The nodes are in the order of the value: an Item is one node,
  * followed by its parameters; an Inner List is one node, followed by its Items, each with its
- * parameters, and then by its own parameters. Keys and bytes are in the caller's buffer bytes, at
- * the given offsets.
+ * parameters, and then by its own parameters.
+ *
+ * An offset counts on from the text that was parsed into the caller's buffer bytes: if it is less
+ * than text_length, it is one in the text; from text_length on, offset - text_length is one in
+ * bytes. sf_key and sf_bytes return the pointers.
  */
 typedef struct sf_node {
-  int64_t number;     /* value of an Integer, Decimal, Boolean or Date; otherwise 0 */
-  size_t key_at;      /* offset of the key of a parameter or Dictionary member; without a key, the
-                         offset at which it would begin */
-  size_t key_length;  /* length of the key; 0 without a key */
-  size_t text_at;     /* offset of the bytes of a String, Token, Byte Sequence or Display String;
-                         for other types, the offset at which they would begin */
-  size_t text_length; /* their length; 0 for other types */
-  size_t span;        /* number of nodes in the subtree of this node, itself included: that many
-                         on is its next sibling or, after the last, the end of its parent */
-  uint32_t role;      /* an sf_role */
-  uint32_t type;      /* an sf_type */
+  int64_t number;       /* value of an Integer, Decimal, Boolean or Date; otherwise 0 */
+  uint32_t key_at;      /* offset of the key of a parameter or Dictionary member */
+  uint32_t key_length;  /* length of the key; 0 without a key */
+  uint32_t text_at;     /* offset of the bytes of a String, Token, Byte Sequence or Display String */
+  uint32_t text_length; /* their length; 0 for other types */
+  uint32_t size;        /* number of nodes in the subtree of this node, itself included: that many
+                           on is its next sibling or, after the last, the end of its parent */
+  uint8_t type;         /* an sf_type */
+  uint8_t role;         /* an sf_role */
+  uint8_t coded;        /* 0 in what sf_parse writes; what 1 means, sf_write says */
 } sf_node;
+
+/* Returns a pointer to the key of a node, which has key_length bytes. The text and bytes are those
+ * of the call of sf_parse that wrote the node. */
+static inline const char *sf_key(const sf_node *node, const void *text, size_t text_length,
+                                 const void *bytes) {
+  if (node->key_length == 0)
+    return "";
+  return node->key_at < text_length ? (const char *)text + node->key_at
+                                    : (const char *)bytes + (node->key_at - text_length);
+}
+
+/* Returns a pointer to the bytes of a String, Token, Byte Sequence or Display String, text_length
+ * of the node many. The text and bytes are those of the call of sf_parse that wrote the node. */
+static inline const char *sf_bytes(const sf_node *node, const void *text, size_t text_length,
+                                   const void *bytes) {
+  if (node->text_length == 0)
+    return "";
+  return node->text_at < text_length ? (const char *)text + node->text_at
+                                     : (const char *)bytes + (node->text_at - text_length);
+}
 
 /* The sizes of buffers that are large enough for the value of any text of this length: in nodes or
  * hops, four fifths of the length, rounded to the nearest integer; and in bytes, eight fifths. The
@@ -276,7 +304,7 @@ typedef struct sf_node {
   (sizeof(char) * (length) / 5 * 4 + (sizeof(char) * (length) % 5 * 8 + 5) / 10)
 #define SF_BYTES_SIZE(length) SF_CANONICAL_SIZE(length)
 
-/* The numbers of nodes and bytes of a value. */
+/* Numbers of nodes and bytes. */
 typedef struct sf_sizes {
   size_t nodes;
   size_t bytes;
@@ -285,18 +313,25 @@ typedef struct sf_sizes {
 /*
  * Parses a text and writes its value as nodes. If a key is repeated, its member or parameter
  * appears once, at the position of the first and with the value of the last (RFC 9651 section 4.2).
- * No two values of a kind have the same nodes and bytes.
+ * With the text and the bytes, nodes describe at most one value of a kind.
  *
- *   SF_OK         the first sizes->nodes nodes and the first sizes->bytes bytes are the value; the
- *                 others are unchanged
- *   SF_SHORT      the value has sizes->nodes nodes and sizes->bytes bytes, and one of the two
- *                 buffers is smaller; both are unchanged
+ *   SF_OK         the first sizes->nodes nodes are the value, with the text and the first
+ *                 sizes->bytes bytes, to which they point
+ *   SF_SHORT      the value has sizes->nodes nodes and, at most, requires sizes->bytes bytes, and
+ *                 one of the two buffers is smaller; buffers of these sizes are large enough
  *   SF_REFUSED    the text is malformed; refusal says where and why
+ *   SF_TOO_LONG   text_length is 4 GiB or more, or with the required bytes it would be
  *   SF_NO_MEMORY, SF_BAD_CALL
  *
- * The bytes are those of each node in order, first its key and then its text, with nothing between
- * them. Buffers of SF_NODES_SIZE(text_length) nodes and SF_BYTES_SIZE(text_length) bytes are always
- * large enough. Unless SF_OK or SF_SHORT is returned, both buffers and sizes are unchanged.
+ * Keys and bytes stay in the text where they can; only Strings with escapes, Byte Sequences and
+ * Display Strings are decoded into bytes. If a key is repeated, and rarely otherwise, all keys and
+ * bytes are copied there. The nodes are valid as long as the text and bytes are. Buffers of
+ * SF_NODES_SIZE(text_length) nodes and SF_BYTES_SIZE(text_length) bytes are always large enough. If
+ * the text is well-formed and the buffers are large enough, the call allocates only if keys are
+ * copied.
+ *
+ * Unless SF_OK is returned, the contents of nodes and bytes are unspecified, and so are those of
+ * the other nodes and bytes if it is. Unless SF_OK or SF_SHORT is returned, sizes is unchanged.
  */
 uint32_t sf_parse(const sf_seed *seed, uint32_t dialect, uint32_t kind, const void *text,
                   size_t text_length, sf_node *nodes, size_t nodes_capacity, void *bytes,
@@ -305,17 +340,337 @@ uint32_t sf_parse(const sf_seed *seed, uint32_t dialect, uint32_t kind, const vo
 /*
  * Finds the first of the nodes_length nodes that has this role and this key. For a member of a
  * Dictionary, pass all its nodes and SF_MEMBER; for a parameter of the Item or Inner List nodes[i],
- * pass nodes + i and nodes[i].span, with SF_PARAMETER or SF_INNER_PARAMETER. In each of these there
- * is at most one such node.
+ * pass nodes + i and nodes[i].size, with SF_PARAMETER or SF_INNER_PARAMETER. In each of these there
+ * is at most one such node. The text and bytes are those of the call of sf_parse that wrote the
+ * nodes.
  *
  *   SF_OK      it is nodes[*index]
  *   SF_ABSENT  there is none; *index is unchanged
  *
- * The nodes may be any; one whose key is not within the bytes_length bytes is not found. The call
- * takes time in proportion to nodes_length. Does not allocate.
+ * The nodes may be any; one whose key is not all in the text_length bytes of the text, or all in
+ * the bytes_length bytes after it, is not found. The call takes time in proportion to nodes_length.
+ * Does not allocate.
  */
-uint32_t sf_find(const sf_node *nodes, size_t nodes_length, const void *bytes, size_t bytes_length,
-                 uint32_t role, const void *key, size_t key_length, size_t *index);
+uint32_t sf_find(const sf_node *nodes, size_t nodes_length, const void *text, size_t text_length,
+                 const void *bytes, size_t bytes_length, uint32_t role, const void *key,
+                 size_t key_length, size_t *index);
+
+/*
+ * Writes the canonical text (RFC 9651 section 4.1) of the field that nodes describe to buffer: the
+ * nodes of sf_parse, changed or not, or the caller's. Offsets are those of sf_parse: below
+ * text_length they are in the text, from there on in bytes. The caller's own nodes may have all
+ * keys and bytes in bytes, with a text_length of 0.
+ *
+ *   SF_OK       the first *required bytes of buffer are the text; the others are unchanged
+ *   SF_SHORT    the text has *required bytes, more than buffer_length; buffer is unchanged
+ *   SF_INVALID  the nodes do not describe a valid field of this kind and dialect; *invalid is the
+ *               index of the first that is wrong, whatever comes after it, or 0 if there are none
+ *   SF_NO_MEMORY, SF_BAD_CALL
+ *
+ * Unless SF_OK or SF_SHORT is returned, buffer and *required are unchanged; unless SF_INVALID is
+ * returned, *invalid is. The text is accepted as the field that was written, by sf_check and the
+ * others. Nodes are in the order of sf_parse: each with the role and the type of its part; as size
+ * the number of nodes of the part; a key that is valid and occurs once among its siblings, or a
+ * key_length of 0 where there is none; and a number or bytes: the other is 0 or empty. Bytes are as
+ * they are in the value, with coded 0; or the text of the bare item as it is in a field, with its
+ * quotes or colons, with coded 1.
+ */
+uint32_t sf_write(const sf_seed *seed, uint32_t dialect, uint32_t kind, const sf_node *nodes,
+                  size_t nodes_length, const void *text, size_t text_length, const void *bytes,
+                  size_t bytes_length, void *buffer, size_t buffer_length, size_t *required,
+                  size_t *invalid);
+
+/*
+ * Builders make the nodes of a field that was not parsed, in two buffers of the caller's, and keep
+ * the sizes and offsets. These are the nodes of a Dictionary, and its text:
+ *
+ *   sf_node nodes[8];
+ *   char bytes[64], text[64];
+ *   size_t length, invalid;
+ *   sf_builder field = sf_build(nodes, 8, bytes, sizeof bytes);
+ *   sf_begin_inner_list(&field, "sig1");
+ *   sf_put_string(&field, NULL, "@method");
+ *   sf_put_string(&field, NULL, "@path");
+ *   sf_end_inner_list(&field);
+ *   sf_param_integer(&field, "created", 1);
+ *   sf_param_string(&field, "keyid", "k");
+ *   if (sf_write_built(&seed, SF_RFC9651, SF_DICT, &field, text, sizeof text, &length, &invalid) ==
+ *       SF_OK) the text is sig1=("@method" "@path");created=1;keyid="k"
+ *
+ * A node is required for each Item, each Inner List and each parameter, and as many bytes as all
+ * keys and bytes have. Both are copied, so a builder keeps no address of what it was given.
+ *
+ * The calls with a builder return nothing. If one fails, builder->status says why, nothing is put,
+ * and later calls do nothing:
+ *
+ *   SF_SHORT     one of the two buffers is too small
+ *   SF_BAD_CALL  a parameter with nothing before it that it could belong to, an Inner List in
+ *                another, or an end without a beginning
+ *   SF_TOO_LONG  the keys and bytes have 4 GiB or more
+ *
+ * Builders do not check what is put: sf_write does. It refuses a String that is none, a number out
+ * of range, a key twice, or a List where a Dictionary is to be written. None of these functions
+ * allocates, and none is in the library: all are inline.
+ */
+typedef struct sf_builder {
+  sf_node *nodes;        /* the first nodes_length are the nodes of what was put */
+  size_t nodes_length;
+  size_t nodes_capacity;
+  char *bytes;           /* the first bytes_length are their keys and bytes */
+  size_t bytes_length;
+  size_t bytes_capacity;
+  size_t last;           /* index of the last Item or Inner List: parameters are put to this one */
+  size_t inner_list;     /* index of the Inner List that was begun last */
+  uint32_t is_open;      /* 1 if it has not been ended, otherwise 0 */
+  uint32_t status;       /* SF_OK, or why the first call failed that did */
+} sf_builder;
+
+/* Returns a builder with these buffers, to which nothing was put. The buffers are the caller's for
+ * as long as the builder is used; builders need not be freed. */
+static inline sf_builder sf_build(sf_node *nodes, size_t nodes_capacity, void *bytes,
+                                  size_t bytes_capacity) {
+  sf_builder builder;
+  builder.nodes = nodes;
+  builder.nodes_length = 0;
+  builder.nodes_capacity = nodes_capacity;
+  builder.bytes = (char *)bytes;
+  builder.bytes_length = 0;
+  builder.bytes_capacity = bytes_capacity;
+  builder.last = 0;
+  builder.inner_list = 0;
+  builder.is_open = 0;
+  builder.status = SF_OK;
+  return builder;
+}
+
+/* Puts one node: for the functions below. */
+static inline void sf_put_node(sf_builder *builder, uint32_t role, uint32_t type, int64_t number,
+                               const void *key, size_t key_length, const void *text,
+                               size_t text_length) {
+  if (builder->status != SF_OK)
+    return;
+  size_t at = builder->bytes_length, left = builder->bytes_capacity - at;
+  if (builder->nodes_length >= builder->nodes_capacity || key_length > left ||
+      text_length > left - key_length) {
+    builder->status = SF_SHORT;
+    return;
+  }
+  if (builder->nodes_length >= UINT32_MAX || at + key_length + text_length > UINT32_MAX) {
+    builder->status = SF_TOO_LONG;
+    return;
+  }
+  sf_node *node = builder->nodes + builder->nodes_length;
+  memset(node, 0, sizeof *node);
+  node->number = number;
+  node->key_at = (uint32_t)at;
+  node->key_length = (uint32_t)key_length;
+  node->text_at = (uint32_t)(at + key_length);
+  node->text_length = (uint32_t)text_length;
+  node->size = 1;
+  node->type = (uint8_t)type;
+  node->role = (uint8_t)role;
+  if (key_length > 0)
+    memcpy(builder->bytes + at, key, key_length);
+  if (text_length > 0)
+    memcpy(builder->bytes + at + key_length, text, text_length);
+  if (role == SF_PARAMETER || role == SF_INNER_PARAMETER)
+    ++builder->nodes[builder->last].size;
+  else
+    builder->last = builder->nodes_length;
+  if (builder->is_open)
+    ++builder->nodes[builder->inner_list].size;
+  ++builder->nodes_length;
+  builder->bytes_length = at + key_length + text_length;
+}
+
+/*
+ * Puts a bare item with all that may be set, for keys and texts without a NUL at their end. The
+ * functions below call it. The number counts for an Integer, Decimal, Boolean or Date, and the text
+ * for the other types; of a type that is not that of a bare item, sf_write refuses the node.
+ *
+ * It is a member of the field, or an Item of the Inner List that is open. The key is that of a
+ * member of a Dictionary; for an Item, a member of a List, and an Item of an Inner List, key_length
+ * is 0.
+ */
+static inline void sf_put(sf_builder *builder, const void *key, size_t key_length, uint32_t type,
+                          int64_t number, const void *text, size_t text_length) {
+  sf_put_node(builder, builder->is_open ? SF_INNER_ITEM : SF_MEMBER, type, number, key, key_length,
+              text, text_length);
+}
+
+/* Puts a parameter, likewise: to the Item that was put last or, if an Inner List was ended since, to
+ * that. */
+static inline void sf_param(sf_builder *builder, const void *key, size_t key_length, uint32_t type,
+                            int64_t number, const void *text, size_t text_length) {
+  if (builder->status != SF_OK)
+    return;
+  if (builder->nodes_length == 0 || (builder->is_open && builder->last == builder->inner_list)) {
+    builder->status = SF_BAD_CALL;
+    return;
+  }
+  int is_inner = builder->nodes[builder->last].type == SF_INNER_LIST;
+  sf_put_node(builder, is_inner ? SF_INNER_PARAMETER : SF_PARAMETER, type, number, key, key_length,
+              text, text_length);
+}
+
+/* The length of a text that ends with a NUL; 0 if it is NULL. */
+static inline size_t sf_length(const char *text) { return text == NULL ? 0 : strlen(text); }
+
+/*
+ * Begins an Inner List, which is a member of the field. What is put until sf_end_inner_list are its
+ * Items and their parameters; the parameters that are put after the end, and before the next Item
+ * or Inner List, are its own.
+ *
+ * Here and below, keys and texts end with a NUL, and key is NULL but for a member of a Dictionary
+ * and for a parameter.
+ */
+static inline void sf_begin_inner_list(sf_builder *builder, const char *key) {
+  if (builder->status != SF_OK)
+    return;
+  if (builder->is_open) {
+    builder->status = SF_BAD_CALL;
+    return;
+  }
+  sf_put(builder, key, sf_length(key), SF_INNER_LIST, 0, NULL, 0);
+  builder->inner_list = builder->last;
+  builder->is_open = builder->status == SF_OK;
+}
+
+/* Ends the Inner List that is open. */
+static inline void sf_end_inner_list(sf_builder *builder) {
+  if (builder->status != SF_OK)
+    return;
+  if (!builder->is_open)
+    builder->status = SF_BAD_CALL;
+  builder->last = builder->inner_list;
+  builder->is_open = 0;
+}
+
+/* Puts an Integer. */
+static inline void sf_put_integer(sf_builder *builder, const char *key, int64_t number) {
+  sf_put(builder, key, sf_length(key), SF_INTEGER, number, NULL, 0);
+}
+
+/* Puts a Decimal of so many thousandths. */
+static inline void sf_put_decimal(sf_builder *builder, const char *key, int64_t thousandths) {
+  sf_put(builder, key, sf_length(key), SF_DECIMAL, thousandths, NULL, 0);
+}
+
+/* Puts a String. */
+static inline void sf_put_string(sf_builder *builder, const char *key, const char *text) {
+  sf_put(builder, key, sf_length(key), SF_STRING, 0, text, sf_length(text));
+}
+
+/* Puts a Token. */
+static inline void sf_put_token(sf_builder *builder, const char *key, const char *text) {
+  sf_put(builder, key, sf_length(key), SF_TOKEN, 0, text, sf_length(text));
+}
+
+/* Puts a Byte Sequence, which may have any bytes. */
+static inline void sf_put_byte_sequence(sf_builder *builder, const char *key, const void *bytes,
+                                        size_t bytes_length) {
+  sf_put(builder, key, sf_length(key), SF_BYTE_SEQUENCE, 0, bytes, bytes_length);
+}
+
+/* Puts a Boolean: true if is_true is not 0. */
+static inline void sf_put_boolean(sf_builder *builder, const char *key, int is_true) {
+  sf_put(builder, key, sf_length(key), SF_BOOLEAN, is_true != 0, NULL, 0);
+}
+
+/* Puts a Date, in seconds since 1970-01-01T00:00:00Z. */
+static inline void sf_put_date(sf_builder *builder, const char *key, int64_t seconds) {
+  sf_put(builder, key, sf_length(key), SF_DATE, seconds, NULL, 0);
+}
+
+/* Puts a Display String of UTF-8. sf_put is for one with a NUL in it. */
+static inline void sf_put_display_string(sf_builder *builder, const char *key, const char *text) {
+  sf_put(builder, key, sf_length(key), SF_DISPLAY_STRING, 0, text, sf_length(text));
+}
+
+/* Put a parameter, likewise. */
+static inline void sf_param_integer(sf_builder *builder, const char *key, int64_t number) {
+  sf_param(builder, key, sf_length(key), SF_INTEGER, number, NULL, 0);
+}
+
+static inline void sf_param_decimal(sf_builder *builder, const char *key, int64_t thousandths) {
+  sf_param(builder, key, sf_length(key), SF_DECIMAL, thousandths, NULL, 0);
+}
+
+static inline void sf_param_string(sf_builder *builder, const char *key, const char *text) {
+  sf_param(builder, key, sf_length(key), SF_STRING, 0, text, sf_length(text));
+}
+
+static inline void sf_param_token(sf_builder *builder, const char *key, const char *text) {
+  sf_param(builder, key, sf_length(key), SF_TOKEN, 0, text, sf_length(text));
+}
+
+static inline void sf_param_byte_sequence(sf_builder *builder, const char *key, const void *bytes,
+                                          size_t bytes_length) {
+  sf_param(builder, key, sf_length(key), SF_BYTE_SEQUENCE, 0, bytes, bytes_length);
+}
+
+static inline void sf_param_boolean(sf_builder *builder, const char *key, int is_true) {
+  sf_param(builder, key, sf_length(key), SF_BOOLEAN, is_true != 0, NULL, 0);
+}
+
+static inline void sf_param_date(sf_builder *builder, const char *key, int64_t seconds) {
+  sf_param(builder, key, sf_length(key), SF_DATE, seconds, NULL, 0);
+}
+
+static inline void sf_param_display_string(sf_builder *builder, const char *key,
+                                           const char *text) {
+  sf_param(builder, key, sf_length(key), SF_DISPLAY_STRING, 0, text, sf_length(text));
+}
+
+/*
+ * Puts a copy of a part of a parsed value: of an Item or Inner List with its parameters, or of a
+ * parameter. The node is one that sf_parse wrote, followed by those of its part, and the text and
+ * the bytes are those of that call. So a field is changed by copying what stays, in order:
+ *
+ *   for (const sf_node *node = nodes; node < nodes + sizes.nodes; node += node->size)
+ *     sf_put_copy(&field, node, text, text_length, bytes);
+ *
+ * An Item becomes a member, or an Item of the Inner List that is open, wherever it was.
+ */
+static inline void sf_put_copy(sf_builder *builder, const sf_node *node, const void *text,
+                               size_t text_length, const void *bytes) {
+  uint32_t was_open = builder->is_open;
+  for (uint32_t i = 0; i < node->size && builder->status == SF_OK; ++i) {
+    const sf_node *one = node + i;
+    const char *key = sf_key(one, text, text_length, bytes);
+    const char *its_bytes = sf_bytes(one, text, text_length, bytes);
+    if (one->role == SF_INNER_PARAMETER && builder->is_open && !was_open)
+      sf_end_inner_list(builder);
+    if (one->type == SF_INNER_LIST && was_open)
+      builder->status = SF_BAD_CALL;
+    else if (one->role == SF_PARAMETER || one->role == SF_INNER_PARAMETER)
+      sf_param(builder, key, one->key_length, one->type, one->number, its_bytes, one->text_length);
+    else
+      sf_put(builder, key, one->key_length, one->type, one->number, its_bytes, one->text_length);
+    if (builder->status != SF_OK)
+      return;
+    builder->nodes[builder->nodes_length - 1].coded = one->coded;
+    if (one->type == SF_INNER_LIST) {
+      builder->inner_list = builder->last;
+      builder->is_open = 1;
+    }
+  }
+  if (builder->is_open && !was_open)
+    sf_end_inner_list(builder);
+}
+
+/*
+ * Writes the canonical text of what was put, by sf_write, whose results it returns. If a call with
+ * the builder failed, it returns SF_BAD_CALL and writes nothing.
+ */
+static inline uint32_t sf_write_built(const sf_seed *seed, uint32_t dialect, uint32_t kind,
+                                      const sf_builder *builder, void *buffer, size_t buffer_length,
+                                      size_t *required, size_t *invalid) {
+  if (builder->status != SF_OK)
+    return SF_BAD_CALL;
+  return sf_write(seed, dialect, kind, builder->nodes, builder->nodes_length, NULL, 0,
+                  builder->bytes, builder->bytes_length, buffer, buffer_length, required, invalid);
+}
 
 /* The parameters of a Priority field (RFC 9218 section 4), with defaults for absent ones. */
 typedef struct sf_priority_flags {
@@ -334,7 +689,8 @@ typedef struct sf_priority_flags {
  *   SF_REFUSED    the text is not a well-formed Dictionary; refusal says where and why
  *   SF_NO_MEMORY
  *
- * Unless SF_OK is returned, *priority is unchanged.
+ * Unless SF_OK is returned, *priority is unchanged. Does not allocate for a well-formed text of less
+ * than 4 GiB.
  */
 uint32_t sf_priority(const sf_seed *seed, const void *text, size_t text_length,
                      sf_priority_flags *priority, sf_refusal *refusal);
@@ -366,6 +722,24 @@ sf_priority_flags sf_priority_merge(const sf_priority_flags *client,
 uint32_t sf_priority_text(const sf_priority_flags *priority, void *buffer, size_t buffer_length,
                           size_t *required);
 
+/*
+ * Writes the canonical text of a Priority field with what *priority sets put into it (RFC 9218
+ * section 4): u is overwritten in its place if has_urgency is set, i if has_incremental is set, and
+ * a new one goes last; all other members stay as they are. If the text is empty, the field is not
+ * to be sent.
+ *
+ *   SF_OK       the first *required bytes of buffer are the text; the others are unchanged
+ *   SF_SHORT    the text has *required bytes, more than buffer_length; buffer is unchanged
+ *   SF_REFUSED  the text is not a well-formed Dictionary; refusal says where and why
+ *   SF_NO_MEMORY
+ *
+ * Unless SF_OK or SF_SHORT is returned, buffer and *required are unchanged. In *priority, numbers
+ * count as in the arguments of sf_priority_merge.
+ */
+uint32_t sf_priority_change(const sf_seed *seed, const void *text, size_t text_length,
+                            const sf_priority_flags *priority, void *buffer, size_t buffer_length,
+                            size_t *required, sf_refusal *refusal);
+
 /* The directives of a targeted field (RFC 9213 section 2.1, RFC 9111 section 5.2.2). */
 typedef struct sf_policy {
   uint64_t max_age;        /* max-age in seconds; 0 if absent */
@@ -387,7 +761,8 @@ typedef struct sf_policy {
  *   SF_REFUSED    the text is not a well-formed Dictionary; refusal says where and why
  *   SF_NO_MEMORY
  *
- * Unless SF_OK is returned, *policy is unchanged.
+ * Unless SF_OK is returned, *policy is unchanged. Does not allocate for a well-formed text of less
+ * than 4 GiB.
  */
 uint32_t sf_cache_control(const sf_seed *seed, const void *text, size_t text_length,
                           sf_policy *policy, sf_refusal *refusal);
@@ -414,7 +789,7 @@ typedef struct sf_span {
  *
  * After SF_OK, the fields after fields[*index] don't count, and their ranges may be any. Unless
  * SF_OK is returned, *index and *policy are unchanged. sf_check says which of the ignored fields
- * are malformed, and where.
+ * are malformed, and where. Allocates only for fields that are malformed, or of 4 GiB or more.
  */
 uint32_t sf_select(const sf_seed *seed, const void *texts, size_t texts_length,
                    const sf_span *fields, size_t fields_length, size_t *index, sf_policy *policy);

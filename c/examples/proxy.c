@@ -102,11 +102,23 @@ int main(void) {
          is_stored ? "store it" : "don't store it");
   printf(has_ttl ? ", fresh for %llu s\n" : "\n", (unsigned long long)seconds);
 
-  /* The header lines. This cache's hop is the last of Cache-Status. */
-  char text[128];
-  size_t length;
-  if (sf_priority_text(&both, text, sizeof text, &length) == SF_OK && length > 0)
-    printf("Priority: %.*s\n", (int)length, text);
+  /* The header lines. The response's Priority has the merged parameters, and members that are not
+   * known here stay (RFC 9218 section 4); a malformed one is replaced. This cache's hop is the last
+   * of Cache-Status. */
+  field *priority = &fields[ANSWERED];
+  size_t length = 0, size = SF_CANONICAL_SIZE(priority->joined.length) + 2 + SF_PRIORITY_SIZE;
+  char *changed = malloc(size), text[128];
+  if (changed == NULL)
+    give_up("out of memory");
+  status = sf_priority_change(&seed, priority->text, priority->joined.length, &both, changed, size,
+                              &length, &refusal);
+  if (status == SF_REFUSED)
+    status = sf_priority_text(&both, changed, size, &length);
+  if (status != SF_OK)
+    give_up("out of memory");
+  if (length > 0)
+    printf("Priority: %.*s\n", (int)length, changed);
+  free(changed);
   sf_hop hop = {.name = {0, sizeof name_here - 1}, .name_is_token = 1, .outcome = SF_FORWARDED,
                 .why = SF_URI_MISS, .stored = (uint8_t)is_stored, .has_stored = 1,
                 .ttl = (int64_t)seconds, .has_ttl = (uint8_t)has_ttl};

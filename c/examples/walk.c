@@ -34,13 +34,22 @@ static void print_text(const char *text, size_t length) {
   }
 }
 
+/* A parsed value: its nodes point into the text and into the bytes. */
+typedef struct value {
+  const char *text;
+  size_t text_length;
+  sf_node *nodes;
+  char *bytes;
+} value;
+
 /* What a node itself says: its key, its type, and its number or its bytes. */
-static void print(const sf_node *node, const char *bytes, int depth) {
+static void print(const value *v, const sf_node *node, int depth) {
+  const char *bytes = sf_bytes(node, v->text, v->text_length, v->bytes);
   printf("%*s", 2 * depth, "");
   if (node->role == SF_PARAMETER || node->role == SF_INNER_PARAMETER)
     printf(";");
   if (node->key_length > 0) {
-    print_text(bytes + node->key_at, node->key_length);
+    print_text(sf_key(node, v->text, v->text_length, v->bytes), node->key_length);
     printf(" ");
   }
   printf("%s", types[node->type - SF_INNER_LIST]);
@@ -57,22 +66,22 @@ static void print(const sf_node *node, const char *bytes, int depth) {
   }
   case SF_BYTE_SEQUENCE:
     for (size_t i = 0; i < node->text_length; ++i)
-      printf(" %02x", (unsigned char)bytes[node->text_at + i]);
+      printf(" %02x", (unsigned char)bytes[i]);
     break;
   case SF_INNER_LIST:
     break;
   default:
     printf(" ");
-    print_text(bytes + node->text_at, node->text_length);
+    print_text(bytes, node->text_length);
   }
   printf("\n");
 }
 
 /* The siblings from a node to an end, and below each what it has. */
-static void walk(const sf_node *node, const sf_node *end, const char *bytes, int depth) {
-  for (; node < end; node += node->span) {
-    print(node, bytes, depth);
-    walk(node + 1, node + node->span, bytes, depth + 1);
+static void walk(const value *v, const sf_node *node, const sf_node *end, int depth) {
+  for (; node < end; node += node->size) {
+    print(v, node, depth);
+    walk(v, node + 1, node + node->size, depth + 1);
   }
 }
 
@@ -91,21 +100,21 @@ int main(int argc, char **argv) {
     return 3;
   fclose(random);
 
-  size_t length = strlen(argv[2]);
-  sf_sizes sizes = {SF_NODES_SIZE(length), SF_BYTES_SIZE(length)}; /* never too small */
-  sf_node *nodes = malloc(sizes.nodes * sizeof *nodes + 1);
-  char *bytes = malloc(sizes.bytes + 1);
-  if (nodes == NULL || bytes == NULL)
+  value v = {argv[2], strlen(argv[2]), NULL, NULL};
+  sf_sizes sizes = {SF_NODES_SIZE(v.text_length), SF_BYTES_SIZE(v.text_length)}; /* never too small */
+  v.nodes = malloc(sizes.nodes * sizeof *v.nodes + 1);
+  v.bytes = malloc(sizes.bytes + 1);
+  if (v.nodes == NULL || v.bytes == NULL)
     return 3;
   sf_refusal refusal;
-  uint32_t status = sf_parse(&seed, SF_RFC9651, kind, argv[2], length, nodes, sizes.nodes, bytes,
-                             sizes.bytes, &sizes, &refusal);
+  uint32_t status = sf_parse(&seed, SF_RFC9651, kind, v.text, v.text_length, v.nodes, sizes.nodes,
+                             v.bytes, sizes.bytes, &sizes, &refusal);
   if (status == SF_OK)
-    walk(nodes, nodes + sizes.nodes, bytes, 0);
+    walk(&v, v.nodes, v.nodes + sizes.nodes, 0);
   else if (status == SF_REFUSED)
     printf("refused at %llu\n", (unsigned long long)refusal.offset);
-  free(nodes);
-  free(bytes);
+  free(v.nodes);
+  free(v.bytes);
   if (fflush(stdout) != 0 || ferror(stdout))
     return 3;
   return status == SF_OK ? 0 : status == SF_REFUSED ? 1 : 3;

@@ -27,7 +27,7 @@ void *__wrap_malloc(size_t size);
 void *__wrap_realloc(void *block, size_t size);
 void __wrap_free(void *block);
 
-static __thread long calls;         /* of malloc and realloc */
+static __thread long calls;         /* of malloc and realloc, by the last call of the library */
 static __thread long refused_from;  /* the first call that is refused, counted from 1; 0: none is */
 static __thread int refused_once;   /* whether only that one is */
 static __thread long refusals;      /* how many were */
@@ -35,9 +35,11 @@ static __thread long blocks;        /* that were taken and not given back */
 static __thread int watching;       /* whether the library runs */
 
 static int refuses(void) {
-  if (!watching || refused_from == 0)
+  if (!watching)
     return 0;
   ++calls;
+  if (refused_from == 0)
+    return 0;
   if (refused_once ? calls != refused_from : calls < refused_from)
     return 0;
   ++refusals;
@@ -90,11 +92,18 @@ static void check(int holds, const char *what, int line, const char *about) {
 /* A call of the library, watched: what it takes it gives back. */
 #define CALL(call)                                                                                 \
   do {                                                                                             \
-    blocks = 0;                                                                                    \
+    blocks = calls = 0;                                                                            \
     watching = 1;                                                                                  \
     status = (call);                                                                               \
     watching = 0;                                                                                  \
     CHECK(blocks == 0);                                                                            \
+  } while (0)
+
+/* The same of a call that does not allocate. */
+#define FREE_CALL(call)                                                                            \
+  do {                                                                                             \
+    CALL(call);                                                                                    \
+    CHECK(calls == 0);                                                                             \
   } while (0)
 
 static const sf_seed seed = {{3, 1, 4, 1, 5, 9, 2, 6, 5, 3, 5, 8, 9, 7, 9, 3}};
@@ -161,15 +170,16 @@ static void layouts(void) {
   AT(sf_refusal, expected_high, 16);
   AT(sf_refusal, found, 24);
   AT(sf_refusal, may_end, 28);
-  SIZE(sf_node, 56);
+  SIZE(sf_node, 32);
   AT(sf_node, number, 0);
   AT(sf_node, key_at, 8);
-  AT(sf_node, key_length, 16);
-  AT(sf_node, text_at, 24);
-  AT(sf_node, text_length, 32);
-  AT(sf_node, span, 40);
-  AT(sf_node, role, 48);
-  AT(sf_node, type, 52);
+  AT(sf_node, key_length, 12);
+  AT(sf_node, text_at, 16);
+  AT(sf_node, text_length, 20);
+  AT(sf_node, size, 24);
+  AT(sf_node, type, 28);
+  AT(sf_node, role, 29);
+  AT(sf_node, coded, 30);
   SIZE(sf_sizes, 16);
   AT(sf_sizes, nodes, 0);
   AT(sf_sizes, bytes, 8);
@@ -243,7 +253,8 @@ static void macros(void) {
   CHECK(strcmp(sf_status_name(SF_NOT_A_CACHE), "SF_NOT_A_CACHE") == 0);
   CHECK(strcmp(sf_status_name(SF_INVALID), "SF_INVALID") == 0);
   CHECK(strcmp(sf_status_name(SF_ABSENT), "SF_ABSENT") == 0);
-  CHECK(strcmp(sf_status_name(SF_ABSENT + 1), "SF_?") == 0);
+  CHECK(strcmp(sf_status_name(SF_TOO_LONG), "SF_TOO_LONG") == 0);
+  CHECK(strcmp(sf_status_name(SF_TOO_LONG + 1), "SF_?") == 0);
   CHECK(strcmp(sf_status_name(UINT32_MAX), "SF_?") == 0);
 
   about = "sizes of buffers";
@@ -262,45 +273,131 @@ static void macros(void) {
           SF_NODES_SIZE(length) == (length * 8 + 5) / 10);
 }
 
-/* The nodes of a text and of its canonical text are the same, in buffers of exactly their size; a
- * buffer that is one byte too small, or empty, gets SF_SHORT and the required size. */
-static void same_value(uint32_t dialect, uint32_t kind, const char *about, const void *text,
-                       size_t length, const void *canonical, size_t canonical_length) {
+/* Whether a range is there, and is these bytes. */
+static int is_range(const char *at, size_t length, const char *bytes, size_t bytes_length) {
+  return length == bytes_length && (length == 0 || memcmp(at, bytes, length) == 0);
+}
+
+/* A parsed value: nodes with the text and the bytes that they point into. */
+typedef struct value {
+  const unsigned char *text;
+  size_t text_length;
+  sf_node *nodes;
+  unsigned char *bytes;
+  sf_sizes sizes;
+} value;
+
+static const char *key_of(const value *v, const sf_node *node) {
+  return sf_key(node, v->text, v->text_length, v->bytes);
+}
+
+static const char *bytes_of(const value *v, const sf_node *node) {
+  return sf_bytes(node, v->text, v->text_length, v->bytes);
+}
+
+/* Whether a range of a node is within the text, or within the bytes. */
+static int is_within(const value *v, size_t at, size_t length) {
+  return length == 0 || at + length <= v->text_length ||
+         (at >= v->text_length && at + length <= v->text_length + v->sizes.bytes);
+}
+
+/* Whether two nodes say the same. */
+static int is_same_node(const value *v, const sf_node *a, const value *w, const sf_node *b) {
+  return a->role == b->role && a->type == b->type && a->number == b->number && a->size == b->size &&
+         a->coded == 0 && b->coded == 0 && is_within(v, a->key_at, a->key_length) &&
+         is_within(v, a->text_at, a->text_length) && is_within(w, b->key_at, b->key_length) &&
+         is_within(w, b->text_at, b->text_length) &&
+         is_range(key_of(v, a), a->key_length, key_of(w, b), b->key_length) &&
+         is_range(bytes_of(v, a), a->text_length, bytes_of(w, b), b->text_length);
+}
+
+/* The value of a text that is accepted, in buffers of exactly its size. One that is smaller by an
+ * element gets SF_SHORT, with sizes that are large enough. */
+static value take_value(uint32_t dialect, uint32_t kind, const char *about,
+                        const unsigned char *text, size_t length) {
   uint32_t status;
   sf_refusal refusal = untouched;
+  value v = {text, length, NULL, NULL, {4711, 4712}};
   sf_sizes sizes = {4711, 4712}, again = {4711, 4712};
   CALL(sf_parse(&seed, dialect, kind, text, length, NULL, 0, NULL, 0, &sizes, &refusal));
-  CHECK(status == (sizes.nodes == 0 && sizes.bytes == 0 ? SF_OK : SF_SHORT));
+  CHECK(status == (sizes.nodes == 0 ? SF_OK : SF_SHORT));
   CHECK(sizes.nodes <= SF_NODES_SIZE(length) && sizes.bytes <= SF_BYTES_SIZE(length));
-
-  size_t size = sizes.nodes * sizeof(sf_node);
-  unsigned char *bytes = take_buffer(NULL, sizes.bytes), *other = take_buffer(NULL, sizes.bytes);
-  sf_node *nodes = take_buffer(NULL, size);
-  sf_node *others = take_buffer(NULL, size);
+  v.nodes = take_buffer(NULL, sizes.nodes * sizeof *v.nodes);
+  v.bytes = take_buffer(NULL, sizes.bytes);
+  CALL(sf_parse(&seed, dialect, kind, text, length, v.nodes, sizes.nodes, v.bytes, sizes.bytes,
+                &v.sizes, &refusal));
+  CHECK(status == SF_OK && v.sizes.nodes == sizes.nodes && v.sizes.bytes <= sizes.bytes);
   if (sizes.nodes > 0) {
-    CALL(sf_parse(&seed, dialect, kind, text, length, nodes, sizes.nodes - 1, bytes, sizes.bytes,
-                  &again, &refusal));
-    CHECK(status == SF_SHORT && memcmp(&again, &sizes, sizeof sizes) == 0);
+    CALL(sf_parse(&seed, dialect, kind, text, length, v.nodes, sizes.nodes - 1, v.bytes,
+                  sizes.bytes, &again, &refusal));
+    CHECK(status == SF_SHORT && again.nodes == sizes.nodes && again.bytes == sizes.bytes);
   }
-  if (sizes.bytes > 0) {
-    CALL(sf_parse(&seed, dialect, kind, text, length, nodes, sizes.nodes, bytes, sizes.bytes - 1,
-                  &again, &refusal));
-    CHECK(status == SF_SHORT && memcmp(&again, &sizes, sizeof sizes) == 0);
+  give_buffer(v.bytes);
+  if (v.sizes.bytes > 0) {
+    v.bytes = take_buffer(NULL, v.sizes.bytes - 1);
+    CALL(sf_parse(&seed, dialect, kind, text, length, v.nodes, sizes.nodes, v.bytes,
+                  v.sizes.bytes - 1, &again, &refusal));
+    CHECK(status == SF_SHORT && again.nodes == sizes.nodes && again.bytes == sizes.bytes);
+    give_buffer(v.bytes);
   }
-  CHECK(all_are((unsigned char *)nodes, size) && all_are(bytes, sizes.bytes));
-  CALL(sf_parse(&seed, dialect, kind, text, length, nodes, sizes.nodes, bytes, sizes.bytes, &again,
-                &refusal));
-  CHECK(status == SF_OK && memcmp(&again, &sizes, sizeof sizes) == 0);
-  CALL(sf_parse(&seed, dialect, kind, canonical, canonical_length, others, sizes.nodes, other,
-                sizes.bytes, &again, &refusal));
-  CHECK(status == SF_OK && memcmp(&again, &sizes, sizeof sizes) == 0);
-  CHECK(size == 0 || memcmp(nodes, others, size) == 0);
-  CHECK(sizes.bytes == 0 || memcmp(bytes, other, sizes.bytes) == 0);
+  v.bytes = take_buffer(NULL, v.sizes.bytes);
+  CALL(sf_parse(&seed, dialect, kind, text, length, v.nodes, sizes.nodes, v.bytes, v.sizes.bytes,
+                &again, &refusal));
+  CHECK(status == SF_OK && memcmp(&again, &v.sizes, sizeof again) == 0);
   CHECK(is_untouched(&refusal));
-  give_buffer(nodes);
-  give_buffer(others);
-  give_buffer(bytes);
-  give_buffer(other);
+  return v;
+}
+
+static void give_value(value v) {
+  give_buffer(v.nodes);
+  give_buffer(v.bytes);
+}
+
+/* The nodes of a text and of its canonical text say the same, and are written as the latter, also
+ * after they were copied by a builder. */
+static void same_value(uint32_t dialect, uint32_t kind, const char *about,
+                       const unsigned char *text, size_t length, const unsigned char *canonical,
+                       size_t canonical_length) {
+  uint32_t status;
+  value v = take_value(dialect, kind, about, text, length);
+  value w = take_value(dialect, kind, about, canonical, canonical_length);
+  CHECK(v.sizes.nodes == w.sizes.nodes);
+  size_t size = 0;
+  for (size_t i = 0; i < v.sizes.nodes; ++i) {
+    CHECK(is_same_node(&v, &v.nodes[i], &w, &w.nodes[i]));
+    size += v.nodes[i].key_length + v.nodes[i].text_length;
+  }
+  value u = {NULL, 0, take_buffer(NULL, v.sizes.nodes * sizeof *u.nodes), take_buffer(NULL, size),
+             {v.sizes.nodes, size}};
+  sf_builder builder = sf_build(u.nodes, v.sizes.nodes, u.bytes, size);
+  for (size_t i = 0; i < v.sizes.nodes; i += v.nodes[i].size)
+    sf_put_copy(&builder, v.nodes + i, text, length, v.bytes);
+  CHECK(builder.status == SF_OK && builder.nodes_length == v.sizes.nodes);
+  CHECK(builder.bytes_length == size);
+  for (size_t i = 0; i < v.sizes.nodes; ++i)
+    CHECK(is_same_node(&v, &v.nodes[i], &u, &u.nodes[i]));
+
+  for (size_t capacity = canonical_length - (canonical_length > 0);
+       capacity <= canonical_length + 1; ++capacity) {
+    unsigned char *out = take_buffer(NULL, capacity);
+    size_t required = 4711, invalid = 4711;
+    uint32_t right = capacity < canonical_length ? SF_SHORT : SF_OK;
+    CALL(sf_write(&seed, dialect, kind, v.nodes, v.sizes.nodes, text, length, v.bytes,
+                  v.sizes.bytes, out, capacity, &required, &invalid));
+    CHECK(status == right && required == canonical_length && invalid == 4711);
+    CHECK(status == SF_SHORT ? all_are(out, capacity)
+                             : is_range((char *)out, required, (const char *)canonical, required) &&
+                                   (capacity == required || out[required] == BUFFER_BYTE));
+    required = 4711;
+    CALL(sf_write_built(&seed, dialect, kind, &builder, out, capacity, &required, &invalid));
+    CHECK(status == right && required == canonical_length && invalid == 4711);
+    CHECK(status == SF_SHORT ||
+          is_range((char *)out, required, (const char *)canonical, required));
+    give_buffer(out);
+  }
+  give_value(u);
+  give_value(v);
+  give_value(w);
 }
 
 static void accepted(uint32_t dialect, uint32_t kind, const char *from, size_t length,
@@ -310,7 +407,7 @@ static void accepted(uint32_t dialect, uint32_t kind, const char *from, size_t l
   unsigned char *text = take_buffer(from, length);
   sf_refusal refusal = untouched;
 
-  CALL(sf_check(&seed, dialect, kind, text, length, &refusal));
+  FREE_CALL(sf_check(&seed, dialect, kind, text, length, &refusal));
   CHECK(status == SF_OK);
 
   /* A buffer of exactly the size, a longer one, and each shorter one. */
@@ -376,15 +473,18 @@ static void refused(uint32_t dialect, uint32_t kind, const char *from, size_t le
   CALL(sf_equal(&seed, dialect, kind, "a", 1, text, length, &equal, &same));
   CHECK(status == SF_SECOND_REFUSED && memcmp(&same, &refusal, sizeof same) == 0 && equal == 4711);
 
-  sf_node node;
-  unsigned char byte = 0xa5;
   sf_sizes sizes = {4711, 4712};
-  memset(&node, 0xa5, sizeof node);
-  same = untouched;
-  CALL(sf_parse(&seed, dialect, kind, text, length, &node, 1, &byte, 1, &sizes, &same));
-  CHECK(status == SF_REFUSED && memcmp(&same, &refusal, sizeof same) == 0);
-  CHECK(all_are((unsigned char *)&node, sizeof node) && byte == 0xa5);
-  CHECK(sizes.nodes == 4711 && sizes.bytes == 4712);
+  for (size_t capacity = 0; capacity <= length; ++capacity) {
+    sf_node *nodes = take_buffer(NULL, capacity * sizeof *nodes);
+    unsigned char *bytes = take_buffer(NULL, capacity);
+    same = untouched;
+    CALL(sf_parse(&seed, dialect, kind, text, length, nodes, capacity, bytes, capacity, &sizes,
+                  &same));
+    CHECK(status == SF_REFUSED && memcmp(&same, &refusal, sizeof same) == 0);
+    CHECK(sizes.nodes == 4711 && sizes.bytes == 4712);
+    give_buffer(nodes);
+    give_buffer(bytes);
+  }
   give_buffer(text);
 }
 
@@ -460,12 +560,17 @@ static void bad_calls(void) {
     CALL(sf_check(&seed, dialect, kind, "a", 1, &refusal));
     CHECK(status == SF_BAD_CALL);
     CALL(sf_normalise(&seed, dialect, kind, "a", 1, bytes, 4, &required, &refusal));
-    CHECK(status == SF_BAD_CALL && required == 4711);
+    CHECK(status == SF_BAD_CALL && required == 4711 && all_are(bytes, 4));
     CALL(sf_equal(&seed, dialect, kind, "a", 1, "a", 1, &equal, &refusal));
     CHECK(status == SF_BAD_CALL && equal == 4711);
     CALL(sf_parse(&seed, dialect, kind, "a", 1, nodes, 2, bytes, 4, &sizes, &refusal));
     CHECK(status == SF_BAD_CALL && sizes.nodes == 4711 && sizes.bytes == 4712);
-    CHECK(all_are(bytes, 4) && all_are((unsigned char *)nodes, 2 * sizeof *nodes));
+    size_t invalid = 4711;
+    sf_builder builder = sf_build(nodes, 2, bytes, 4);
+    sf_put_token(&builder, NULL, "a");
+    unsigned char out[4] = {BUFFER_BYTE, BUFFER_BYTE, BUFFER_BYTE, BUFFER_BYTE};
+    CALL(sf_write_built(&seed, dialect, kind, &builder, out, 4, &required, &invalid));
+    CHECK(status == SF_BAD_CALL && required == 4711 && invalid == 4711 && all_are(out, 4));
     CHECK(is_untouched(&refusal));
     give_buffer(bytes);
     give_buffer(nodes);
@@ -608,26 +713,52 @@ static void finding(void) {
       {0, 12, UINT32_MAX, "a", -1},
   };
   uint32_t status;
-  sf_node parsed_nodes[12];
-  unsigned char parsed_bytes[40];
-  sf_sizes sizes;
-  sf_refusal refusal = untouched;
-  CALL(sf_parse(&seed, SF_RFC9651, SF_DICT, about, strlen(about), parsed_nodes, 12, parsed_bytes,
-                sizeof parsed_bytes, &sizes, &refusal));
-  CHECK(status == SF_OK && sizes.nodes == 12);
-  unsigned char *bytes = take_buffer(parsed_bytes, sizes.bytes);
-  for (size_t i = 0; i < sizeof rows / sizeof *rows; ++i) {
-    sf_node *nodes = take_buffer(parsed_nodes + rows[i].from, rows[i].count * sizeof *nodes);
-    size_t length = strlen(rows[i].key);
-    unsigned char *key = take_buffer(rows[i].key, length);
-    size_t *index = take_buffer(NULL, sizeof *index);
-    size_t before = *index;
-    CALL(sf_find(nodes, rows[i].count, bytes, sizes.bytes, rows[i].role, key, length, index));
-    CHECK(status == (rows[i].index < 0 ? SF_ABSENT : SF_OK));
-    CHECK(*index == (rows[i].index < 0 ? before : (size_t)rows[i].index));
-    give_buffer(index);
-    give_buffer(key);
-    give_buffer(nodes);
+  value parsed = take_value(SF_RFC9651, SF_DICT, about, (const unsigned char *)about,
+                            strlen(about));
+  CHECK(parsed.sizes.nodes == 12 && parsed.sizes.bytes == 0);
+
+  /* the same with all keys in the bytes, and with some of them */
+  sf_node copied_nodes[12], mixed_nodes[12];
+  unsigned char copied_bytes[40];
+  sf_builder builder = sf_build(copied_nodes, 12, copied_bytes, sizeof copied_bytes);
+  for (size_t i = 0; i < 12; i += parsed.nodes[i].size)
+    sf_put_copy(&builder, parsed.nodes + i, about, parsed.text_length, NULL);
+  CHECK(builder.status == SF_OK && builder.nodes_length == 12);
+  unsigned char *text = take_buffer(about, parsed.text_length);
+  unsigned char *bytes = take_buffer(copied_bytes, builder.bytes_length);
+  for (size_t i = 0; i < 12; ++i) {
+    mixed_nodes[i] = i % 2 == 0 ? parsed.nodes[i] : copied_nodes[i];
+    if (i % 2 != 0)
+      mixed_nodes[i].key_at += (uint32_t)parsed.text_length;
+  }
+  const struct {
+    const sf_node *nodes;
+    const void *text;
+    size_t text_length;
+    const void *bytes;
+    size_t bytes_length;
+  } forms[] = {
+      {parsed.nodes, text, parsed.text_length, NULL, 0},
+      {copied_nodes, NULL, 0, bytes, builder.bytes_length},
+      {mixed_nodes, text, parsed.text_length, bytes, builder.bytes_length},
+  };
+  for (size_t form = 0; form < sizeof forms / sizeof *forms; ++form) {
+    for (size_t i = 0; i < sizeof rows / sizeof *rows; ++i) {
+      sf_node *nodes =
+          take_buffer(forms[form].nodes + rows[i].from, rows[i].count * sizeof *nodes);
+      size_t length = strlen(rows[i].key);
+      unsigned char *key = take_buffer(rows[i].key, length);
+      size_t *index = take_buffer(NULL, sizeof *index);
+      size_t before = *index;
+      FREE_CALL(sf_find(nodes, rows[i].count, forms[form].text, forms[form].text_length,
+                        forms[form].bytes, forms[form].bytes_length, rows[i].role, key, length,
+                        index));
+      CHECK(status == (rows[i].index < 0 ? SF_ABSENT : SF_OK));
+      CHECK(*index == (rows[i].index < 0 ? before : (size_t)rows[i].index));
+      give_buffer(index);
+      give_buffer(key);
+      give_buffer(nodes);
+    }
   }
 
   /* nodes of the caller's, whose keys are not there */
@@ -636,68 +767,91 @@ static void finding(void) {
   memset(wild, 0, sizeof wild);
   for (size_t i = 0; i < 3; ++i)
     wild[i].role = SF_MEMBER;
-  wild[0].key_at = SIZE_MAX;
+  wild[0].key_at = UINT32_MAX;
   wild[0].key_length = 1;
-  wild[1].key_at = sizes.bytes;
-  wild[1].key_length = SIZE_MAX;
-  wild[2].key_at = sizes.bytes;
+  wild[1].key_at = (uint32_t)builder.bytes_length;
+  wild[1].key_length = UINT32_MAX;
+  wild[2].key_at = (uint32_t)builder.bytes_length;
   size_t index = 4711;
-  CALL(sf_find(wild, 3, bytes, sizes.bytes, SF_MEMBER, "a", 1, &index));
+  CALL(sf_find(wild, 3, NULL, 0, bytes, builder.bytes_length, SF_MEMBER, "a", 1, &index));
   CHECK(status == SF_ABSENT && index == 4711);
-  CALL(sf_find(wild, 3, bytes, sizes.bytes, SF_MEMBER, NULL, 0, &index));
+  CALL(sf_find(wild, 3, bytes, builder.bytes_length, NULL, 0, SF_MEMBER, "a", 1, &index));
+  CHECK(status == SF_ABSENT && index == 4711);
+  CALL(sf_find(wild, 3, NULL, 0, bytes, builder.bytes_length, SF_MEMBER, NULL, 0, &index));
   CHECK(status == SF_OK && index == 2);
+  about = "a key partly in the text";
+  wild[0].key_at = 1;
+  wild[0].key_length = 2;
+  index = 4711;
+  CALL(sf_find(wild, 1, "ab", 2, "cd", 2, SF_MEMBER, "bc", 2, &index));
+  CHECK(status == SF_ABSENT && index == 4711);
   give_buffer(bytes);
+  give_buffer(text);
+  give_value(parsed);
 }
 
-/* What a node is to tell. */
+/* What a node is to say. */
 typedef struct row {
   uint32_t role, type;
   int64_t number;
   const char *key, *text;
-  size_t span;
+  size_t size;
 } row;
 
-static void parsed(uint32_t kind, const char *from, const row *rows, size_t count, size_t size) {
+static int is_row(const value *v, const sf_node *node, const row *expected) {
+  return node->role == expected->role && node->type == expected->type &&
+         node->number == expected->number && node->size == expected->size && node->coded == 0 &&
+         is_within(v, node->key_at, node->key_length) &&
+         is_within(v, node->text_at, node->text_length) &&
+         is_range(key_of(v, node), node->key_length, expected->key, strlen(expected->key)) &&
+         is_range(bytes_of(v, node), node->text_length, expected->text, strlen(expected->text));
+}
+
+/* The nodes of a text, in each buffer that is too small, in buffers of exactly their size, and in
+ * longer ones. If no key is repeated, so many bytes are decoded, and the call does not allocate;
+ * otherwise all keys and bytes are in the buffer. */
+static void parsed(uint32_t kind, const char *from, const row *rows, size_t count, size_t decoded,
+                   int is_repeated) {
   const char *about = from;
   uint32_t status;
-  size_t length = strlen(from);
+  size_t length = strlen(from), all_bytes = 0;
+  for (size_t i = 0; i < count; ++i)
+    all_bytes += strlen(rows[i].key) + strlen(rows[i].text);
+  size_t size = is_repeated ? all_bytes : decoded;
   unsigned char *text = take_buffer(from, length);
   sf_refusal refusal = untouched;
-
-  /* each buffer that is too small, and one that is longer */
   for (size_t n = 0; n <= count + 1; ++n) {
     for (size_t b = 0; b <= size + 1; ++b) {
-      sf_node *nodes = take_buffer(NULL, n * sizeof *nodes);
-      unsigned char *bytes = take_buffer(NULL, b);
-      sf_sizes sizes = {4711, 4712};
-      CALL(sf_parse(&seed, SF_RFC9651, kind, text, length, nodes, n, bytes, b, &sizes, &refusal));
-      CHECK(sizes.nodes == count && sizes.bytes == size);
-      if (n < count || b < size) {
-        CHECK(status == SF_SHORT);
-        CHECK(all_are((unsigned char *)nodes, n * sizeof *nodes) && all_are(bytes, b));
-      } else {
-        CHECK(status == SF_OK);
-        for (size_t i = 0; i < count; ++i) {
-          CHECK(nodes[i].role == rows[i].role);
-          CHECK(nodes[i].type == rows[i].type);
-          CHECK(nodes[i].number == rows[i].number);
-          CHECK(nodes[i].span == rows[i].span);
-          CHECK(is_text(bytes, size, nodes[i].key_at, nodes[i].key_length, rows[i].key));
-          CHECK(is_text(bytes, size, nodes[i].text_at, nodes[i].text_length, rows[i].text));
-        }
-        CHECK(n == count || all_are((unsigned char *)(nodes + count), sizeof *nodes));
-        CHECK(b == size || bytes[size] == 0xa5);
-      }
-      give_buffer(nodes);
-      give_buffer(bytes);
+      value v = {text, length, take_buffer(NULL, n * sizeof *v.nodes), take_buffer(NULL, b),
+                 {4711, 4712}};
+      CALL(sf_parse(&seed, SF_RFC9651, kind, text, length, v.nodes, n, v.bytes, b, &v.sizes,
+                    &refusal));
+      CHECK(status == (n < count || b < size ? SF_SHORT : SF_OK));
+      CHECK(v.sizes.nodes == count && v.sizes.bytes == (status == SF_OK ? size : all_bytes));
+      CHECK(status != SF_OK || is_repeated || n < SF_NODES_SIZE(length) || calls == 0);
+      for (size_t i = 0; status == SF_OK && i < count; ++i)
+        CHECK(is_row(&v, &v.nodes[i], &rows[i]));
+      give_value(v);
     }
   }
-  CHECK(count <= SF_NODES_SIZE(length) && size <= SF_BYTES_SIZE(length));
+  CHECK(count <= SF_NODES_SIZE(length) && all_bytes <= SF_BYTES_SIZE(length));
+
+  /* buffers of the sizes that are always large enough */
+  value v = {text, length, take_buffer(NULL, SF_NODES_SIZE(length) * sizeof *v.nodes),
+             take_buffer(NULL, SF_BYTES_SIZE(length)), {4711, 4712}};
+  CALL(sf_parse(&seed, SF_RFC9651, kind, text, length, v.nodes, SF_NODES_SIZE(length), v.bytes,
+                SF_BYTES_SIZE(length), &v.sizes, &refusal));
+  CHECK(status == SF_OK && v.sizes.nodes == count && v.sizes.bytes == size);
+  CHECK(is_repeated || calls == 0);
+  give_value(v);
   CHECK(is_untouched(&refusal));
   give_buffer(text);
 }
 
-#define PARSED(kind, text, rows, size) parsed(kind, text, rows, sizeof rows / sizeof *rows, size)
+#define PARSED(kind, text, rows, decoded)                                                          \
+  parsed(kind, text, rows, sizeof rows / sizeof *rows, decoded, 0)
+#define PARSED_REPEATED(kind, text, rows)                                                          \
+  parsed(kind, text, rows, sizeof rows / sizeof *rows, 0, 1)
 
 static void nodes_of_values(void) {
   static const row integer[] = {{SF_MEMBER, SF_INTEGER, -7, "", "", 1}};
@@ -715,9 +869,12 @@ static void nodes_of_values(void) {
   static const row decimal[] = {{SF_MEMBER, SF_DECIMAL, 1500, "", "", 3},
                                 {SF_PARAMETER, SF_BOOLEAN, 0, "q", "", 1},
                                 {SF_PARAMETER, SF_INTEGER, 1, "r", "", 1}};
-  PARSED(SF_ITEM, "01.500;q;q=?0;r=1", decimal, 2);
+  PARSED_REPEATED(SF_ITEM, "01.500;q;q=?0;r=1", decimal);
+  PARSED(SF_ITEM, "01.500;q=?0;r=1", decimal, 0);
   static const row string[] = {{SF_MEMBER, SF_STRING, 0, "", "a\"b\\", 1}};
   PARSED(SF_ITEM, "\"a\\\"b\\\\\"", string, 4);
+  static const row unescaped[] = {{SF_MEMBER, SF_STRING, 0, "", "a'b", 1}};
+  PARSED(SF_ITEM, "\"a'b\"", unescaped, 0);
   static const row bytes[] = {{SF_MEMBER, SF_BYTE_SEQUENCE, 0, "", "\x89", 1}};
   PARSED(SF_ITEM, ":iZ==:", bytes, 1);
   static const row display[] = {{SF_MEMBER, SF_DISPLAY_STRING, 0, "", "f\xc3\xbc", 1}};
@@ -730,7 +887,8 @@ static void nodes_of_values(void) {
                              {SF_INNER_PARAMETER, SF_BYTE_SEQUENCE, 0, "y", "a", 1},
                              {SF_MEMBER, SF_BOOLEAN, 1, "b", "", 2},
                              {SF_PARAMETER, SF_BOOLEAN, 1, "x", "", 1}};
-  PARSED(SF_DICT, "a=1,b;x, a=(1  2 );y=:YQ:", dict, 5);
+  PARSED_REPEATED(SF_DICT, "a=1,b;x, a=(1  2 );y=:YQ:", dict);
+  PARSED(SF_DICT, "a=(1  2 );y=:YQ:,b;x", dict, 1);
   static const row list[] = {{SF_MEMBER, SF_TOKEN, 0, "", "abc", 4},
                              {SF_PARAMETER, SF_INTEGER, 1, "a", "", 1},
                              {SF_PARAMETER, SF_INTEGER, 2, "b", "", 1},
@@ -741,16 +899,356 @@ static void nodes_of_values(void) {
                              {SF_INNER_ITEM, SF_TOKEN, 0, "", "l", 1},
                              {SF_INNER_PARAMETER, SF_STRING, 0, "q", "9", 1},
                              {SF_INNER_PARAMETER, SF_TOKEN, 0, "r", "w", 1}};
-  PARSED(SF_LIST, "abc;a=1;b=2; cde_456, (ghi;jk=4 l);q=\"9\";r=w", list, 22);
+  PARSED(SF_LIST, "abc;a=1;b=2; cde_456, (ghi;jk=4 l);q=\"9\";r=w", list, 0);
   static const row of_both[] = {{SF_MEMBER, SF_INNER_LIST, 0, "", "", 4},
                                 {SF_INNER_ITEM, SF_TOKEN, 0, "", "a", 2},
                                 {SF_PARAMETER, SF_BOOLEAN, 1, "b", "", 1},
                                 {SF_INNER_PARAMETER, SF_BOOLEAN, 1, "b", "", 1}};
-  PARSED(SF_LIST, "(a;b);b", of_both, 3);
+  PARSED(SF_LIST, "(a;b);b", of_both, 0);
   static const row inner[] = {{SF_MEMBER, SF_INNER_LIST, 0, "", "", 1}};
   PARSED(SF_LIST, "( )", inner, 0);
-  parsed(SF_LIST, "", NULL, 0, 0);
-  parsed(SF_DICT, "  ", NULL, 0, 0);
+  parsed(SF_LIST, "", NULL, 0, 0, 0);
+  parsed(SF_DICT, "  ", NULL, 0, 0, 0);
+}
+
+/* What is put to a builder: a letter for each call. */
+typedef struct step {
+  char call; /* ( begins an Inner List, ) ends it, = puts an Item, ; a parameter */
+  uint32_t type;
+  const char *key;
+  int64_t number;
+  const char *text;
+} step;
+
+/* By the call for the type. */
+static void put(sf_builder *to, const step *one) {
+  int is_param = one->call == ';';
+  switch (one->call == '(' || one->call == ')' ? (uint32_t)one->call : one->type) {
+  case '(':
+    sf_begin_inner_list(to, one->key);
+    break;
+  case ')':
+    sf_end_inner_list(to);
+    break;
+  case SF_INTEGER:
+    (is_param ? sf_param_integer : sf_put_integer)(to, one->key, one->number);
+    break;
+  case SF_DECIMAL:
+    (is_param ? sf_param_decimal : sf_put_decimal)(to, one->key, one->number);
+    break;
+  case SF_STRING:
+    (is_param ? sf_param_string : sf_put_string)(to, one->key, one->text);
+    break;
+  case SF_TOKEN:
+    (is_param ? sf_param_token : sf_put_token)(to, one->key, one->text);
+    break;
+  case SF_BYTE_SEQUENCE:
+    (is_param ? sf_param_byte_sequence : sf_put_byte_sequence)(to, one->key, one->text,
+                                                               strlen(one->text));
+    break;
+  case SF_BOOLEAN:
+    (is_param ? sf_param_boolean : sf_put_boolean)(to, one->key, (int)one->number);
+    break;
+  case SF_DATE:
+    (is_param ? sf_param_date : sf_put_date)(to, one->key, one->number);
+    break;
+  case SF_DISPLAY_STRING:
+    (is_param ? sf_param_display_string : sf_put_display_string)(to, one->key, one->text);
+    break;
+  default:
+    abort();
+  }
+}
+
+/* What was put has the nodes of this text, and is written as it. The steps in each buffer that is
+ * too small: the status stays, and what was put before stays. */
+static void built(uint32_t kind, const step *steps, size_t count, const char *text) {
+  const char *about = text;
+  uint32_t status;
+  value parsed_value = take_value(SF_RFC9651, kind, about, (const unsigned char *)text,
+                                  strlen(text));
+  size_t nodes_length = parsed_value.sizes.nodes, bytes_length = 0;
+  for (size_t i = 0; i < nodes_length; ++i)
+    bytes_length += parsed_value.nodes[i].key_length + parsed_value.nodes[i].text_length;
+  for (size_t n = 0; n <= nodes_length + 1; ++n) {
+    for (size_t b = 0; b <= bytes_length + 1; ++b) {
+      value v = {NULL, 0, take_buffer(NULL, n * sizeof *v.nodes), take_buffer(NULL, b), {n, b}};
+      sf_builder builder = sf_build(v.nodes, n, v.bytes, b);
+      for (size_t i = 0; i < count; ++i)
+        put(&builder, &steps[i]);
+      CHECK(builder.status == (n < nodes_length || b < bytes_length ? SF_SHORT : SF_OK));
+      CHECK(builder.nodes_length <= nodes_length && builder.bytes_length <= bytes_length);
+      for (size_t i = 0; builder.status == SF_OK && i < nodes_length; ++i)
+        CHECK(is_same_node(&parsed_value, &parsed_value.nodes[i], &v, &v.nodes[i]));
+      size_t invalid = 4711;
+      if (builder.status == SF_OK) {
+        CHECK(builder.nodes_length == nodes_length && builder.bytes_length == bytes_length);
+        WRITES(sf_write_built(&seed, SF_RFC9651, kind, &builder, buffer, size, required, &invalid),
+               text);
+      } else {
+        size_t required = 4711;
+        CALL(sf_write_built(&seed, SF_RFC9651, kind, &builder, NULL, 0, &required, &invalid));
+        CHECK(status == SF_BAD_CALL && required == 4711);
+      }
+      CHECK(invalid == 4711);
+      give_value(v);
+    }
+  }
+  give_value(parsed_value);
+}
+
+#define BUILT(kind, steps, text) built(kind, steps, sizeof steps / sizeof *steps, text)
+
+static void building(void) {
+  static const step signature[] = {
+      {'(', 0, "sig1", 0, NULL},           {'=', SF_STRING, NULL, 0, "@method"},
+      {'=', SF_STRING, NULL, 0, "@path"},  {')', 0, NULL, 0, NULL},
+      {';', SF_INTEGER, "created", 1, NULL}, {';', SF_STRING, "keyid", 0, "k"}};
+  BUILT(SF_DICT, signature, "sig1=(\"@method\" \"@path\");created=1;keyid=\"k\"");
+  static const step types[] = {
+      {'=', SF_INTEGER, NULL, -SF_NUMBER_MAX, NULL}, {'=', SF_DECIMAL, NULL, -500, NULL},
+      {'=', SF_STRING, NULL, 0, "a\"b\\"},           {'=', SF_TOKEN, NULL, 0, "*a/b:c"},
+      {'=', SF_BYTE_SEQUENCE, NULL, 0, "a"},         {'=', SF_BOOLEAN, NULL, 0, NULL},
+      {'=', SF_DATE, NULL, 1659578233, NULL},        {'=', SF_DISPLAY_STRING, NULL, 0, "f\xc3\xbc"}};
+  BUILT(SF_LIST, types,
+        "-999999999999999, -0.5, \"a\\\"b\\\\\", *a/b:c, :YQ==:, ?0, @1659578233, %\"f%c3%bc\"");
+  static const step params[] = {
+      {'=', SF_TOKEN, NULL, 0, "t"},        {';', SF_INTEGER, "a", 7, NULL},
+      {';', SF_DECIMAL, "b", 1000, NULL},   {';', SF_STRING, "c", 0, ""},
+      {';', SF_TOKEN, "d", 0, "x"},         {';', SF_BYTE_SEQUENCE, "e", 0, ""},
+      {';', SF_BOOLEAN, "f", 7, NULL},      {';', SF_DATE, "*g", -1, NULL},
+      {';', SF_DISPLAY_STRING, "h", 0, ""}};
+  BUILT(SF_ITEM, params, "t;a=7;b=1.0;c=\"\";d=x;e=::;f;*g=@-1;h=%\"\"");
+  static const step nested[] = {
+      {'(', 0, "a", 0, NULL},          {'=', SF_INTEGER, NULL, 1, NULL},
+      {';', SF_BOOLEAN, "x", 1, NULL}, {';', SF_BOOLEAN, "y", 0, NULL},
+      {'=', SF_INTEGER, NULL, 2, NULL}, {')', 0, NULL, 0, NULL},
+      {';', SF_BOOLEAN, "x", 1, NULL}, {'=', SF_BOOLEAN, "b", 1, NULL},
+      {';', SF_TOKEN, "x", 0, "y"},    {'(', 0, "c", 0, NULL},
+      {')', 0, NULL, 0, NULL},         {'(', 0, "d", 0, NULL},
+      {')', 0, NULL, 0, NULL},         {';', SF_INTEGER, "z", 0, NULL}};
+  BUILT(SF_DICT, nested, "a=(1;x;y=?0 2);x, b;x=y, c=(), d=();z=0");
+  static const step open[] = {{'(', 0, NULL, 0, NULL}, {'=', SF_TOKEN, NULL, 0, "a"}};
+  BUILT(SF_LIST, open, "(a)");
+  built(SF_LIST, NULL, 0, "");
+  built(SF_DICT, NULL, 0, "");
+
+  /* calls that are out of place */
+  static const struct {
+    const char *calls; /* each the call of a step, with the key "k" */
+    size_t nodes;      /* how many are put before the first that fails */
+  } rows[] = {{";", 0}, {"(;", 1}, {"((", 1}, {")", 0}, {"())", 1}, {"=)", 1}, {"(=(", 2}};
+  for (size_t i = 0; i < sizeof rows / sizeof *rows; ++i) {
+    const char *about = rows[i].calls;
+    sf_node nodes[8];
+    char bytes[32];
+    sf_builder builder = sf_build(nodes, 8, bytes, sizeof bytes);
+    for (const char *call = rows[i].calls; *call != '\0'; ++call) {
+      step one = {*call, SF_INTEGER, "k", 1, NULL};
+      put(&builder, &one);
+    }
+    CHECK(builder.status == SF_BAD_CALL && builder.nodes_length == rows[i].nodes);
+    step again[] = {{'=', SF_TOKEN, "k", 0, "a"}, {';', SF_TOKEN, "k", 0, "a"},
+                    {'(', 0, "k", 0, NULL},       {')', 0, NULL, 0, NULL}};
+    for (size_t k = 0; k < sizeof again / sizeof *again; ++k)
+      put(&builder, &again[k]);
+    CHECK(builder.status == SF_BAD_CALL && builder.nodes_length == rows[i].nodes);
+  }
+
+  /* with lengths: keys and texts within others, and a NUL */
+  const char *about = "lengths";
+  uint32_t status;
+  sf_node nodes[4];
+  char bytes[16];
+  sf_builder builder = sf_build(nodes, 4, bytes, sizeof bytes);
+  size_t invalid;
+  sf_put(&builder, "abc", 2, SF_DISPLAY_STRING, 0, "x\0y", 3);
+  sf_param(&builder, "key", 1, SF_TOKEN, 0, "token", 3);
+  WRITES(sf_write_built(&seed, SF_RFC9651, SF_DICT, &builder, buffer, size, required, &invalid),
+         "ab=%\"x%00y\";k=tok");
+
+  /* parts of a parsed value in other places */
+  about = "a=1;x, b=(c;y \"d\\\"\");z";
+  value v = take_value(SF_RFC9651, SF_DICT, about, (const unsigned char *)about, strlen(about));
+  sf_node copies[12];
+  char copied[32];
+  builder = sf_build(copies, 12, copied, sizeof copied);
+  sf_begin_inner_list(&builder, NULL);
+  sf_put_copy(&builder, v.nodes + 3, about, v.text_length, v.bytes); /* c;y */
+  sf_put_copy(&builder, v.nodes + 5, about, v.text_length, v.bytes); /* "d\"" */
+  sf_put_copy(&builder, v.nodes + 1, about, v.text_length, v.bytes); /* x */
+  sf_end_inner_list(&builder);
+  sf_put_copy(&builder, v.nodes + 6, about, v.text_length, v.bytes); /* z */
+  sf_put_copy(&builder, v.nodes + 5, about, v.text_length, v.bytes);
+  sf_put_copy(&builder, v.nodes + 6, about, v.text_length, v.bytes);
+  CHECK(builder.status == SF_OK);
+  WRITES(sf_write_built(&seed, SF_RFC9651, SF_LIST, &builder, buffer, size, required, &invalid),
+         "(c;y \"d\\\"\";x);z, \"d\\\"\";z");
+  sf_begin_inner_list(&builder, NULL);
+  sf_put_copy(&builder, v.nodes + 2, about, v.text_length, v.bytes);
+  CHECK(builder.status == SF_BAD_CALL);
+  give_value(v);
+}
+
+/* Nodes that describe no value of the kind: sf_write says which is the first. */
+static void broken_nodes(void) {
+  enum { ROLE, TYPE, SIZE_OF, KEY_AT, KEY_LENGTH, TEXT_AT, TEXT_LENGTH, NUMBER, CODED };
+  static const struct {
+    uint32_t kind;
+    const char *text; /* its nodes are changed */
+    size_t node;
+    int member; /* of the node */
+    uint32_t now;
+    size_t invalid;
+    const char *canonical; /* NULL if the nodes are no value */
+  } rows[] = {
+      {SF_LIST, "a, b", 1, ROLE, SF_INNER_ITEM, 1, NULL},
+      {SF_LIST, "a, b", 1, ROLE, SF_PARAMETER, 1, NULL},
+      {SF_LIST, "a, b", 1, ROLE, 0, 1, NULL},
+      {SF_LIST, "a, b", 0, TYPE, 0, 0, NULL},
+      {SF_LIST, "a, b", 1, TYPE, SF_DISPLAY_STRING + 1, 1, NULL},
+      {SF_LIST, "a, b", 1, TYPE, SF_STRING, 0, "a, \"b\""},
+      {SF_LIST, "a, b", 1, TYPE, SF_BYTE_SEQUENCE, 0, "a, :Yg==:"},
+      {SF_LIST, "a, b", 1, TYPE, SF_DISPLAY_STRING, 0, "a, %\"b\""},
+      {SF_LIST, "a, b", 0, SIZE_OF, 2, 1, NULL},
+      {SF_LIST, "a, b", 1, SIZE_OF, 2, 1, NULL},
+      {SF_LIST, "a, b", 1, SIZE_OF, 0, 1, NULL},
+      {SF_LIST, "a, b", 1, TEXT_LENGTH, 0, 1, NULL},
+      {SF_LIST, "a, b", 1, TEXT_LENGTH, 2, 1, NULL},
+      {SF_LIST, "a, b", 1, TEXT_LENGTH, UINT32_MAX, 1, NULL},
+      {SF_LIST, "a, b", 1, TEXT_AT, 0, 0, "a, a"},
+      {SF_LIST, "a, b", 1, TEXT_AT, 1, 1, NULL},
+      {SF_LIST, "a, b", 1, TEXT_AT, UINT32_MAX, 1, NULL},
+      {SF_LIST, "a, b", 1, KEY_LENGTH, 1, 1, NULL},
+      {SF_LIST, "(a b);c", 0, SIZE_OF, 3, 3, NULL},
+      {SF_LIST, "(a b);c", 1, ROLE, SF_MEMBER, 1, NULL},
+      {SF_LIST, "(a b);c", 2, TYPE, SF_INNER_LIST, 2, NULL},
+      {SF_LIST, "(a b);c", 0, TEXT_LENGTH, 1, 0, NULL},
+      {SF_LIST, "(a b);c", 0, NUMBER, 1, 0, NULL},
+      {SF_LIST, "(a b);c", 1, NUMBER, 1, 1, NULL},
+      {SF_LIST, "?1, 5", 0, NUMBER, 2, 0, NULL},
+      {SF_LIST, "?1, 5", 0, NUMBER, 0, 0, "?0, 5"},
+      {SF_LIST, "?1, 5", 1, NUMBER, 7, 0, "?1, 7"},
+      {SF_LIST, "?1, 5", 1, TEXT_LENGTH, 1, 1, NULL},
+      {SF_DICT, "a, b", 1, KEY_LENGTH, 0, 1, NULL},
+      {SF_DICT, "a, b", 1, KEY_AT, 0, 1, NULL},
+      {SF_DICT, "a, b", 1, KEY_AT, 1, 1, NULL},
+      {SF_DICT, "a;x;y", 2, KEY_AT, 2, 2, NULL},
+      {SF_DICT, "a;x;y", 2, KEY_AT, 0, 0, "a;x;a"},
+      {SF_DICT, "a;x;y", 0, SIZE_OF, 2, 2, NULL},
+      {SF_ITEM, "\"a\\\"\"", 0, CODED, 1, 0, NULL},
+      {SF_ITEM, "a", 0, CODED, 1, 0, "a"},
+  };
+  for (size_t i = 0; i < sizeof rows / sizeof *rows; ++i) {
+    const char *about = rows[i].text;
+    uint32_t status;
+    size_t length = strlen(about), required = 4711, invalid = 4711;
+    value v = take_value(SF_RFC9651, rows[i].kind, about, (const unsigned char *)about, length);
+    unsigned char *text = take_buffer(about, length);
+    sf_node *node = &v.nodes[rows[i].node];
+    uint32_t now = rows[i].now;
+    switch (rows[i].member) {
+    case ROLE:
+      node->role = (uint8_t)now;
+      break;
+    case TYPE:
+      node->type = (uint8_t)now;
+      break;
+    case SIZE_OF:
+      node->size = now;
+      break;
+    case KEY_AT:
+      node->key_at = now;
+      break;
+    case KEY_LENGTH:
+      node->key_length = now;
+      break;
+    case TEXT_AT:
+      node->text_at = now;
+      break;
+    case TEXT_LENGTH:
+      node->text_length = now;
+      break;
+    case NUMBER:
+      node->number = now;
+      break;
+    default:
+      node->coded = (uint8_t)now;
+    }
+    if (rows[i].canonical != NULL) {
+      WRITES(sf_write(&seed, SF_RFC9651, rows[i].kind, v.nodes, v.sizes.nodes, text, length,
+                      v.bytes, v.sizes.bytes, buffer, size, required, &invalid),
+             rows[i].canonical);
+      CHECK(invalid == 4711);
+    } else {
+      unsigned char *out = take_buffer(NULL, 16);
+      CALL(sf_write(&seed, SF_RFC9651, rows[i].kind, v.nodes, v.sizes.nodes, text, length, v.bytes,
+                    v.sizes.bytes, out, 16, &required, &invalid));
+      CHECK(status == SF_INVALID && invalid == rows[i].invalid && required == 4711);
+      CHECK(all_are(out, 16));
+      give_buffer(out);
+    }
+    give_buffer(text);
+    give_value(v);
+  }
+
+  /* values that no text has */
+  static const struct {
+    uint32_t type;
+    int64_t number;
+    const char *key, *text;
+  } items[] = {
+      {SF_INTEGER, SF_NUMBER_MAX + 1, "k", NULL},  {SF_INTEGER, -SF_NUMBER_MAX - 1, "k", NULL},
+      {SF_DECIMAL, SF_NUMBER_MAX + 1, "k", NULL},  {SF_DECIMAL, INT64_MIN, "k", NULL},
+      {SF_DATE, SF_NUMBER_MAX + 1, "k", NULL},     {SF_DATE, INT64_MIN, "k", NULL},
+      {SF_STRING, 0, "k", "\x1f"},                 {SF_STRING, 0, "k", "a\x7f"},
+      {SF_STRING, 0, "k", "\xc3\xbc"},             {SF_TOKEN, 0, "k", ""},
+      {SF_TOKEN, 0, "k", "1a"},                    {SF_TOKEN, 0, "k", "a b"},
+      {SF_TOKEN, 0, "k", "a,"},                    {SF_DISPLAY_STRING, 0, "k", "\xc3"},
+      {SF_DISPLAY_STRING, 0, "k", "\xed\xa0\x80"}, {SF_TOKEN, 0, "", "a"},
+      {SF_TOKEN, 0, "A", "a"},                     {SF_TOKEN, 0, "1", "a"},
+      {SF_TOKEN, 0, "a b", "a"},                   {SF_TOKEN, 0, "a\x80", "a"},
+      {SF_INNER_LIST, 0, "k", ""},                 {SF_DISPLAY_STRING + 1, 0, "k", ""},
+  };
+  for (size_t i = 0; i < sizeof items / sizeof *items; ++i) {
+    const char *about = items[i].text == NULL ? "a number" : items[i].text;
+    uint32_t status;
+    sf_node nodes[4];
+    char bytes[16];
+    sf_builder builder = sf_build(nodes, 4, bytes, sizeof bytes);
+    size_t required = 4711, invalid = 4711;
+    unsigned char out[16];
+    memset(out, BUFFER_BYTE, sizeof out);
+    sf_put_integer(&builder, NULL, 1);
+    sf_param(&builder, items[i].key, strlen(items[i].key), items[i].type, items[i].number,
+             items[i].text, sf_length(items[i].text));
+    CALL(sf_write_built(&seed, SF_RFC9651, SF_ITEM, &builder, out, sizeof out, &required,
+                        &invalid));
+    CHECK(status == SF_INVALID && invalid == 1 && required == 4711 && all_are(out, sizeof out));
+  }
+
+  /* another kind, and a type that is not of the dialect */
+  const char *about = "kinds";
+  uint32_t status;
+  sf_node nodes[2];
+  char bytes[8];
+  size_t required = 4711, invalid = 4711;
+  sf_builder builder = sf_build(nodes, 2, bytes, sizeof bytes);
+  CALL(sf_write_built(&seed, SF_RFC9651, SF_ITEM, &builder, NULL, 0, &required, &invalid));
+  CHECK(status == SF_INVALID && invalid == 0);
+  sf_put_date(&builder, NULL, 1);
+  WRITES(sf_write_built(&seed, SF_RFC9651, SF_ITEM, &builder, buffer, size, required, &invalid),
+         "@1");
+  WRITES(sf_write_built(&seed, SF_RFC9651, SF_LIST, &builder, buffer, size, required, &invalid),
+         "@1");
+  CALL(sf_write_built(&seed, SF_RFC9651, SF_DICT, &builder, NULL, 0, &required, &invalid));
+  CHECK(status == SF_INVALID && invalid == 0);
+  CALL(sf_write_built(&seed, SF_RFC8941, SF_LIST, &builder, NULL, 0, &required, &invalid));
+  CHECK(status == SF_INVALID && invalid == 0);
+  sf_put_date(&builder, NULL, 2);
+  invalid = 4711; /* an Item of two nodes begins with one of this size */
+  CALL(sf_write_built(&seed, SF_RFC9651, SF_ITEM, &builder, NULL, 0, &required, &invalid));
+  CHECK(status == SF_INVALID && invalid == 0);
 }
 
 static void priorities(void) {
@@ -772,7 +1270,7 @@ static void priorities(void) {
     unsigned char *text = take_buffer(about, length);
     sf_priority_flags priority = {9, 9, 9, 9};
     sf_refusal refusal = untouched;
-    CALL(sf_priority(&seed, text, length, &priority, &refusal));
+    FREE_CALL(sf_priority(&seed, text, length, &priority, &refusal));
     CHECK(status == SF_OK && memcmp(&priority, &rows[i].says, sizeof priority) == 0);
     CHECK(is_untouched(&refusal));
     give_buffer(text);
@@ -820,10 +1318,51 @@ static void priority_texts(void) {
     CHECK(strlen(rows[i].text) <= SF_PRIORITY_SIZE);
     sf_priority_flags again = {9, 9, 9, 9}, merged = sf_priority_merge(sets, sets);
     sf_refusal refusal = untouched;
-    CALL(sf_priority(&seed, rows[i].text, strlen(rows[i].text), &again, &refusal));
+    FREE_CALL(sf_priority(&seed, rows[i].text, strlen(rows[i].text), &again, &refusal));
     CHECK(status == SF_OK && memcmp(&again, &merged, sizeof again) == 0);
     give_buffer(sets);
   }
+}
+
+/* The field that came in, with what a struct sets. */
+static void changed_priorities(void) {
+  static const struct {
+    const char *from;
+    sf_priority_flags sets;
+    const char *text;
+  } rows[] = {
+      {"", {1, 1, 1, 1}, "u=1, i"},
+      {"", {3, 0, 0, 0}, ""},
+      {"u=5, i", {3, 0, 0, 0}, "u=5, i"},
+      {"u=5,  i=?1", {1, 0, 1, 0}, "u=1, i"},
+      {"u=5, i", {3, 0, 0, 1}, "u=5, i=?0"},
+      {"x=1;y, u=5, z=(a b);c", {2, 1, 1, 1}, "x=1;y, u=2, z=(a b);c, i"},
+      {"x, u=(1 2), i=7", {0, 1, 1, 1}, "x, u=0, i"},
+      {"u=5, x, u=6", {7, 0, 1, 0}, "u=7, x"},
+      {"x=%\"%c3%bc\", y=:YQ:", {1, 0, 1, 0}, "x=%\"%c3%bc\", y=:YQ==:, u=1"},
+  };
+  uint32_t status;
+  for (size_t i = 0; i < sizeof rows / sizeof *rows; ++i) {
+    const char *about = rows[i].from;
+    size_t length = strlen(about);
+    unsigned char *text = take_buffer(about, length);
+    sf_priority_flags *sets = take_buffer(&rows[i].sets, sizeof rows[i].sets);
+    sf_refusal refusal = untouched;
+    WRITES(sf_priority_change(&seed, text, length, sets, buffer, size, required, &refusal),
+           rows[i].text);
+    CHECK(is_untouched(&refusal));
+    give_buffer(sets);
+    give_buffer(text);
+  }
+  const char *about = "u=1, ";
+  sf_priority_flags sets = {1, 1, 1, 1};
+  sf_refusal refusal = untouched;
+  unsigned char out[16];
+  size_t required = 4711;
+  memset(out, BUFFER_BYTE, sizeof out);
+  CALL(sf_priority_change(&seed, about, 5, &sets, out, sizeof out, &required, &refusal));
+  CHECK(status == SF_REFUSED && refusal.offset == 5 && refusal.found == SF_ENDED);
+  CHECK(required == 4711 && all_are(out, sizeof out));
 }
 
 static void policies(void) {
@@ -851,7 +1390,7 @@ static void policies(void) {
     sf_policy policy;
     memset(&policy, 0, sizeof policy);
     sf_refusal refusal = untouched;
-    CALL(sf_cache_control(&seed, text, length, &policy, &refusal));
+    FREE_CALL(sf_cache_control(&seed, text, length, &policy, &refusal));
     CHECK(status == SF_OK && is_untouched(&refusal));
     CHECK(policy.max_age == rows[i].says.max_age);
     CHECK(policy.s_maxage == rows[i].says.s_maxage);
@@ -875,7 +1414,7 @@ static void policies(void) {
   memset(&ones, 1, sizeof ones);
   sf_refusal refusal = untouched;
   unsigned char *none = take_buffer(NULL, 0);
-  CALL(sf_cache_control(&seed, none, 0, &policy, &refusal));
+  FREE_CALL(sf_cache_control(&seed, none, 0, &policy, &refusal));
   CHECK(status == SF_EMPTY && is_untouched(&refusal));
   give_buffer(none);
   CALL(sf_cache_control(&seed, "max-age=60,", 11, &policy, &refusal));
@@ -1392,12 +1931,22 @@ static const char large[] = "abc;a=1;b=2; cde_456, "
                             "k;a;b;c;d;e;f;g;h;i;j;k;l;m;n;o;p;q;r;s;t;u;v;w;x;y;z, 1, 2, 3, 4, 5";
 static const char directives[] = "max-age=30, s-maxage=90, a;b;c, d=(e f), g=\"h\", u=1, i";
 
+/* A call that takes no memory is answered without. */
+#define WITHOUT_MEMORY(call, right)                                                                \
+  do {                                                                                             \
+    refused_once = 0;                                                                              \
+    refused_from = 1;                                                                              \
+    FREE_CALL(call);                                                                               \
+    refused_from = 0;                                                                              \
+    CHECK(status == SF_OK && (right));                                                             \
+  } while (0)
+
 #define EACH_REFUSAL(call, right, left)                                                            \
   do {                                                                                             \
     for (int once = 0; once < 2; ++once) {                                                         \
       long met = 0;                                                                                \
       for (long n = 1; n < 10000; ++n) {                                                           \
-        calls = refusals = 0;                                                                      \
+        refusals = 0;                                                                              \
         refused_once = once;                                                                       \
         refused_from = n;                                                                          \
         CALL(call);                                                                                \
@@ -1436,6 +1985,7 @@ typedef enum question {
   TO_ASK_PRIORITY,
   TO_ASK_POLICY,
   TO_SELECT, /* of a target list of one field */
+  TO_CHANGE_PRIORITY,
   TO_ASK_PATH,
   QUESTIONS
 } question;
@@ -1449,6 +1999,7 @@ static int is_for(question asked, uint32_t dialect, uint32_t kind) {
 static uint32_t ask(question asked, uint32_t dialect, uint32_t kind, const void *text,
                     size_t length, answer *a) {
   const sf_span field = {0, length};
+  const sf_priority_flags sets = {1, 1, 1, 1};
   switch (asked) {
   case TO_CHECK:
     return sf_check(&seed, dialect, kind, text, length, &a->refusal);
@@ -1466,12 +2017,23 @@ static uint32_t ask(question asked, uint32_t dialect, uint32_t kind, const void 
     return sf_priority(&seed, text, length, &a->priority, &a->refusal);
   case TO_ASK_POLICY:
     return sf_cache_control(&seed, text, length, &a->policy, &a->refusal);
+  case TO_CHANGE_PRIORITY:
+    return sf_priority_change(&seed, text, length, &sets, a->bytes, sizeof a->bytes, &a->required,
+                              &a->refusal);
   case TO_SELECT:
     return sf_select(&seed, text, length, &field, 1, &a->required, &a->policy);
   default:
     return sf_cache_status(&seed, text, length, a->hops, 8, a->bytes, sizeof a->bytes, &a->path,
                            &a->refusal);
   }
+}
+
+/* Unless sf_parse succeeds, its buffers hold nothing of meaning. */
+static void forget(question asked, uint32_t status, answer *a) {
+  if (asked != TO_PARSE || status == SF_OK)
+    return;
+  memset(a->nodes, 0xa5, sizeof a->nodes);
+  memset(a->bytes, 0xa5, sizeof a->bytes);
 }
 
 /* Whether two answers are the same, but for what stands between members. */
@@ -1500,15 +2062,17 @@ static long scarce(uint32_t dialect, uint32_t kind, const char *text, size_t len
     memcpy(&right, &blank, sizeof right);
     CALL(ask(asked, dialect, kind, text, length, &right));
     with_memory = status;
+    forget(asked, status, &right);
     CHECK(status != SF_SHORT && status != SF_NO_MEMORY && status != SF_BAD_CALL);
     for (int once = 0; once < 2; ++once) {
       for (long n = 1; n < 10000; ++n) {
         memcpy(&got, &blank, sizeof got);
-        calls = refusals = 0;
+        refusals = 0;
         refused_once = once;
         refused_from = n;
         CALL(ask(asked, dialect, kind, text, length, &got));
         refused_from = 0;
+        forget(asked, status, &got);
         met += status == SF_NO_MEMORY;
         CHECK(status == SF_NO_MEMORY ? refusals > 0 && is_same(&got, &blank)
                                      : status == with_memory && is_same(&got, &right));
@@ -1544,8 +2108,10 @@ static void want_of_memory(void) {
   sf_refusal refusal = untouched;
 
   const char *about = "sf_check, no memory";
-  EACH_REFUSAL(sf_check(&seed, SF_RFC9651, SF_LIST, large, sizeof large - 1, &refusal), 1,
-               is_untouched(&refusal));
+  WITHOUT_MEMORY(sf_check(&seed, SF_RFC9651, SF_LIST, large, sizeof large - 1, &refusal),
+                 is_untouched(&refusal));
+  WITHOUT_MEMORY(sf_check(&seed, SF_RFC8941, SF_DICT, "a=1, a;b;b", 10, &refusal),
+                 is_untouched(&refusal));
 
   about = "sf_normalise, no memory";
   unsigned char buffer[400];
@@ -1568,30 +2134,69 @@ static void want_of_memory(void) {
                equal == 1, equal == 4711 && is_untouched(&refusal));
 
   about = "sf_parse, no memory";
+  static const char repeated[] = "a=1, b=(c \"d\\\"\");x, a=(e;f g :YQ:);h;i;h=j";
   sf_node nodes[100];
   sf_sizes sizes = {4711, 4712};
-  EACH_REFUSAL((memset(nodes, 0xa5, sizeof nodes), memset(buffer, 0xa5, sizeof buffer),
-                sizes.nodes = 4711,
-                sf_parse(&seed, SF_RFC9651, SF_LIST, large, sizeof large - 1, nodes, 100, buffer,
-                         sizeof buffer, &sizes, &refusal)),
-               sizes.nodes == 43 && nodes[4].span == 7,
-               sizes.nodes == 4711 && all_are((unsigned char *)nodes, sizeof nodes) &&
-                   all_are(buffer, sizeof buffer) && is_untouched(&refusal));
+  EACH_REFUSAL((sizes.nodes = 4711, sf_parse(&seed, SF_RFC9651, SF_DICT, repeated,
+                                             sizeof repeated - 1, nodes, 100, buffer, sizeof buffer,
+                                             &sizes, &refusal)),
+               sizes.nodes == 11 && nodes[0].size == 7 && nodes[7].size == 4,
+               sizes.nodes == 4711 && is_untouched(&refusal));
+  WITHOUT_MEMORY(sf_parse(&seed, SF_RFC9651, SF_DICT, directives, sizeof directives - 1, nodes, 100,
+                          buffer, sizeof buffer, &sizes, &refusal),
+                 sizes.nodes == 11 && nodes[2].size == 3 && is_untouched(&refusal));
+
+  about = "sf_write, no memory";
+  sf_node few_nodes[16];
+  char few_bytes[64];
+  size_t invalid = 4711;
+  sf_builder builder = sf_build(few_nodes, 16, few_bytes, sizeof few_bytes);
+  sf_begin_inner_list(&builder, "sig1");
+  sf_put_string(&builder, NULL, "@method");
+  sf_put_string(&builder, NULL, "@path");
+  sf_end_inner_list(&builder);
+  sf_param_integer(&builder, "created", 1);
+  sf_param_string(&builder, "keyid", "k");
+  static const char built_text[] = "sig1=(\"@method\" \"@path\");created=1;keyid=\"k\"";
+  EACH_REFUSAL((memset(buffer, 0xa5, sizeof buffer), required = 4711,
+                sf_write_built(&seed, SF_RFC9651, SF_DICT, &builder, buffer, sizeof buffer,
+                               &required, &invalid)),
+               required == sizeof built_text - 1 && memcmp(buffer, built_text, required) == 0 &&
+                   all_are(buffer + required, sizeof buffer - required),
+               required == 4711 && all_are(buffer, sizeof buffer));
+  EACH_REFUSAL((memset(buffer, 0xa5, sizeof buffer), required = 4711,
+                sf_write(&seed, SF_RFC9651, SF_DICT, nodes, sizes.nodes, directives,
+                         sizeof directives - 1, NULL, 0, buffer, sizeof buffer, &required,
+                         &invalid)),
+               required == sizeof directives - 1 && memcmp(buffer, directives, required) == 0,
+               required == 4711 && all_are(buffer, sizeof buffer));
+  CHECK(invalid == 4711);
 
   about = "sf_priority, no memory";
   sf_priority_flags priority = {9, 9, 9, 9};
-  EACH_REFUSAL((priority.urgency = 9, sf_priority(&seed, directives, sizeof directives - 1,
-                                                  &priority, &refusal)),
-               priority.urgency == 1 && priority.incremental == 1,
-               priority.urgency == 9 && is_untouched(&refusal));
+  WITHOUT_MEMORY(sf_priority(&seed, directives, sizeof directives - 1, &priority, &refusal),
+                 priority.urgency == 1 && priority.incremental == 1 && is_untouched(&refusal));
+  WITHOUT_MEMORY(sf_priority(&seed, "u=1, u=5, i, i=?0", 17, &priority, &refusal),
+                 priority.urgency == 5 && priority.incremental == 0 &&
+                     priority.has_incremental == 1);
+
+  about = "sf_priority_change, no memory";
+  static const char changed[] = "max-age=30, s-maxage=90, a;b;c, d=(e f), g=\"h\", u=7, i=?0";
+  sf_priority_flags change = {7, 0, 1, 1};
+  EACH_REFUSAL((memset(buffer, 0xa5, sizeof buffer), required = 4711,
+                sf_priority_change(&seed, directives, sizeof directives - 1, &change, buffer,
+                                   sizeof buffer, &required, &refusal)),
+               required == sizeof changed - 1 && memcmp(buffer, changed, required) == 0 &&
+                   all_are(buffer + required, sizeof buffer - required),
+               required == 4711 && all_are(buffer, sizeof buffer) && is_untouched(&refusal));
 
   about = "sf_cache_control, no memory";
   sf_policy policy;
   memset(&policy, 9, sizeof policy);
-  EACH_REFUSAL((policy.has_max_age = 9, sf_cache_control(&seed, directives, sizeof directives - 1,
-                                                          &policy, &refusal)),
-               policy.max_age == 30 && policy.s_maxage == 90,
-               policy.has_max_age == 9 && is_untouched(&refusal));
+  WITHOUT_MEMORY(sf_cache_control(&seed, directives, sizeof directives - 1, &policy, &refusal),
+                 policy.max_age == 30 && policy.s_maxage == 90 && is_untouched(&refusal));
+  WITHOUT_MEMORY(sf_cache_control(&seed, "max-age=1, no-store, max-age=2", 30, &policy, &refusal),
+                 policy.max_age == 2 && policy.no_store == 1);
 
   about = "sf_select, no memory";
   static const char targets[] = "max-age=60, a b  max-age=30, s-maxage=90, a;b;c, d=(e f)";
@@ -1601,6 +2206,10 @@ static void want_of_memory(void) {
                 sf_select(&seed, targets, sizeof targets - 1, fields, 4, &chosen, &policy)),
                chosen == 2 && policy.max_age == 30 && policy.s_maxage == 90,
                chosen == 4711 && policy.has_max_age == 9);
+
+  static const sf_span well_formed[] = {{0, 0}, {17, sizeof targets - 1 - 17}};
+  WITHOUT_MEMORY(sf_select(&seed, targets, sizeof targets - 1, well_formed, 2, &chosen, &policy),
+                 chosen == 1 && policy.max_age == 30 && policy.s_maxage == 90);
 
   about = "sf_cache_status, no memory";
   static const char caches[] = "origin; fwd=stale; fwd-status=304; collapsed; key=\"abc\", "
@@ -1658,7 +2267,7 @@ static void want_of_memory(void) {
   node.role = SF_MEMBER;
   node.key_length = 1;
   size_t index = 4711;
-  CALL(sf_find(&node, 1, "a", 1, SF_MEMBER, "a", 1, &index));
+  CALL(sf_find(&node, 1, NULL, 0, "a", 1, SF_MEMBER, "a", 1, &index));
   CHECK(status == SF_OK && index == 0);
   sf_priority_flags sets = {1, 1, 1, 1};
   CALL(sf_priority_text(&sets, buffer, sizeof buffer, &required));
@@ -1677,8 +2286,11 @@ static void all(void) {
     refusals_in_words();
     nodes_of_values();
     finding();
+    building();
+    broken_nodes();
     priorities();
     priority_texts();
+    changed_priorities();
     policies();
     selecting();
     paths();
@@ -1710,6 +2322,27 @@ static void past_the_end(size_t text_length, size_t buffer_length) {
   CHECK(!WIFEXITED(status) || WEXITSTATUS(status) != 0);
 }
 
+/* A text of 4 GiB. None of it is looked at. */
+static void too_long(void) {
+  const char *about = "4 GiB";
+  uint32_t status;
+  size_t length = (size_t)UINT32_MAX + 1;
+  void *text = mmap(NULL, length, PROT_NONE, MAP_PRIVATE | MAP_ANONYMOUS | MAP_NORESERVE, -1, 0);
+  if (text == MAP_FAILED)
+    stop("no addresses");
+  sf_node node;
+  char byte;
+  sf_sizes sizes = {4711, 4712};
+  sf_refusal refusal = untouched;
+  CALL(sf_parse(&seed, SF_RFC9651, SF_ITEM, text, length, &node, 1, &byte, 1, &sizes, &refusal));
+  CHECK(status == SF_TOO_LONG && sizes.nodes == 4711 && sizes.bytes == 4712);
+  CHECK(is_untouched(&refusal));
+  sf_builder builder = sf_build(&node, 1, &byte, length);
+  sf_put(&builder, NULL, 0, SF_TOKEN, 0, text, length);
+  CHECK(builder.status == SF_TOO_LONG && builder.nodes_length == 0);
+  munmap(text, length);
+}
+
 static void *run(void *unused) {
   all();
   return unused;
@@ -1718,6 +2351,7 @@ static void *run(void *unused) {
 int main(void) {
   past_the_end(4, 3);
   past_the_end(3, 4);
+  too_long();
   all();
   enum { MOST = 64 };
   pthread_t threads[MOST];

@@ -3,12 +3,13 @@
 #![tactic(auto)]
 
 ghost use Rattle.std.specs.Prelude.{◌≡◌, ◌<◌, ◌≤◌, IfSome, IsTrue};
+ghost use Rattle.sf_value.specs.declared.value.Kind.TheVariants as kind_is;
 ghost use Rattle.sf_bench.specs.Timed.{letter, IsAccepted, HasCanonical};
 
 use sf_parse::parse_text;
+use sf_use::PriorityField;
 use sf_value::{Dialect, Kind};
-use sf_view::{Node, View};
-use sf_write::to_text;
+use sf_view::{Node, View, accepts, normalise};
 use std::alloc::Global;
 use std::hash::RandomState;
 use std::io;
@@ -39,7 +40,7 @@ fn kind_named(name: u8) -> Option<Kind>
 
 /// Whether the text is accepted; `false` also if an allocation fails.
 fn is_accepted(alloc: Global, seed: &RandomState, kind: Kind, text: &[u8]) -> bool
-    // only a text that spells a value of the kind is accepted
+    // Only a text that spells a value of the kind is accepted.
     ensures { IsTrue result → IsAccepted kind text.now }
 {
     match parse_text(alloc, seed, kind, text) {
@@ -51,13 +52,10 @@ fn is_accepted(alloc: Global, seed: &RandomState, kind: Kind, text: &[u8]) -> bo
 /// The length of the canonical text of the value that the text spells; `None` if it is refused, and
 /// if an allocation fails.
 fn canonical_len(alloc: Global, seed: &RandomState, kind: Kind, text: &[u8]) -> Option<usize>
-    // so long is the canonical text of the value that the text spells
+    // It is the length of the canonical text of the value that the text spells.
     ensures { IfSome result (HasCanonical kind text.now) }
 {
-    let Ok(field) = parse_text(alloc, seed, kind, text) else {
-        return None;
-    };
-    match to_text(alloc, &field) {
+    match normalise(alloc, seed, Dialect::Rfc9651, kind, text) {
         Ok(canonical) => Some(canonical.len()),
         Err(_) => None,
     }
@@ -85,15 +83,15 @@ pub extern "C" fn sf_bench_parse(alloc: Global, name: u8, text: &[u8], times: us
     accepted as usize
 }
 
-/// Parses the text so many times, as [`sf_bench_parse`] does, and writes its canonical text. The
-/// length of the canonical text; 0 if the other answers 0, and where that text is empty.
+/// Normalises the text so many times as a field of the kind that the letter names. The length of
+/// the canonical text; 0 if [`sf_bench_parse`] answers 0, and where that text is empty.
 ///
 /// ```c
 /// size_t sf_bench_normalise(uint8_t kind, const uint8_t *text, size_t len, size_t times);
 /// ```
 #[unsafe(no_mangle)]
 pub extern "C" fn sf_bench_normalise(alloc: Global, name: u8, text: &[u8], times: usize) -> usize
-    // a number above 0 is the length of the canonical text, by the kind that the letter names
+    // A number above 0 is the length of the canonical text, by the kind that the letter names.
     ensures { 0 < result → (k : Kind) × (letter k ≡ name) × HasCanonical k text.now result }
 {
     let (Some(kind), Ok(seed)) = (kind_named(name), RandomState::new(&SameSeed)) else {
@@ -138,6 +136,58 @@ pub extern "C" fn sf_bench_view(alloc: Global, name: u8, text: &[u8], times: usi
     let mut accepted = false;
     for _ in 0..times {
         accepted = has_view(kind, text, nodes);
+    }
+    accepted as usize
+}
+
+/// Reads the text so many times as [`accepts`] does, without nodes and without an allocation. 1 if
+/// it is accepted; otherwise 0, also for no times and for another letter.
+///
+/// ```c
+/// size_t sf_bench_check(uint8_t kind, const uint8_t *text, size_t len, size_t times);
+/// ```
+#[unsafe(no_mangle)]
+pub extern "C" fn sf_bench_check(name: u8, text: &[u8], times: usize) -> usize
+    ensures bit { result ≤ 1 }
+    // 1 only of a text that spells a value of the kind that the letter names
+    ensures accepted { 0 < result → (k : Kind) × (letter k ≡ name) × IsAccepted k text.now }
+{
+    let Some(kind) = kind_named(name) else {
+        return 0;
+    };
+    let mut accepted = false;
+    for _ in 0..times {
+        accepted = accepts(Dialect::Rfc9651, kind, text);
+    }
+    accepted as usize
+}
+
+/// Whether the text was read as a Priority field.
+fn has_priority(text: &[u8]) -> bool
+    // Only a text that spells a Dictionary was.
+    ensures { IsTrue result → IsAccepted kind_is.Dict text.now }
+{
+    PriorityField::scan(text).is_some()
+}
+
+/// Reads the text so many times as a Priority field, without an allocation. 1 if it is accepted and
+/// the letter is `d`; otherwise 0, also for no times.
+///
+/// ```c
+/// size_t sf_bench_priority(uint8_t kind, const uint8_t *text, size_t len, size_t times);
+/// ```
+#[unsafe(no_mangle)]
+pub extern "C" fn sf_bench_priority(name: u8, text: &[u8], times: usize) -> usize
+    ensures bit { result ≤ 1 }
+    // 1 only of a text that spells a Dictionary, and of the letter d
+    ensures accepted { 0 < result → (name ≡ letter kind_is.Dict) × IsAccepted kind_is.Dict text.now }
+{
+    if name != b'd' {
+        return 0;
+    }
+    let mut accepted = false;
+    for _ in 0..times {
+        accepted = has_priority(text);
     }
     accepted as usize
 }

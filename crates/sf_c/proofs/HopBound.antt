@@ -33,13 +33,12 @@ use Rattle.sf_use.specs.CacheStatus.Reasons.{forward_of, reasons, token_of}
 use Rattle.sf_use.specs.CacheStatus.Hops.{hop_named, hops, member_hop, outcome_by, passed_at}
 use Rattle.sf_use.specs.CacheStatus.Hops.{passed_by_token, unless}
 use Rattle.sf_use.specs.CacheStatus.Members.{passed_by}
-use Rattle.sf_c.specs.declared.node_types.Role.TheVariants.{Parameter}
-use Rattle.sf_c.specs.Nodes.{text_of, told_field, told_member, told_members, told_params}
+use Rattle.sf_view.specs.View.{text_of}
+use Rattle.sf_c.specs.NodeCounts.{member_nodes, members_nodes, field_nodes, params_bytes}
+use Rattle.sf_c.specs.NodeCounts.{member_bytes, members_bytes, field_bytes}
 use Rattle.sf_c.specs.Laws.{HopsAreFew, HopBytesAreFew}
-use Rattle.sf_c.specs.Tellings.{told_size}
 use Rattle.sf_c.specs.Hops.{ToldHop, bytes_of, detail_bytes, hop_size, hops_size, told_hop}
 use Rattle.sf_c.specs.Hops.{why_token}
-use Rattle.sf_c.proofs.TellingLemmas.{told_size-append}
 
 -- how many bytes a bare item has, where there is one
 abbrev taken : Option Bare → ℕ
@@ -52,28 +51,28 @@ Apart f g = (k : Seq ℕ) → f k ≡ true → g k ≡ true → ⊥
 
 -- what is looked up among parameters has at most their bytes
 one_taken : (f : Seq ℕ → Bool) (ps : Pairs Bare)
-    → taken (lookup f ps) ≤ told_size (told_params Parameter ps)
+    → taken (lookup f ps) ≤ params_bytes ps
 one_taken f [] = omega arith
 one_taken f (p ∷ ps) = go (f p.0) refl (one_taken f ps)
   where
-    go : (b : Bool) → f p.0 ≡ b → taken (lookup f ps) ≤ told_size (told_params Parameter ps)
-        → taken (lookup f (p ∷ ps)) ≤ told_size (told_params Parameter (p ∷ ps))
+    go : (b : Bool) → f p.0 ≡ b → taken (lookup f ps) ≤ params_bytes ps
+        → taken (lookup f (p ∷ ps)) ≤ params_bytes (p ∷ ps)
     go true e rest = rw e (omega arith)
     go false e rest = rw e (omega arith)
 
 -- so have two that differ
 two_taken : (f g : Seq ℕ → Bool) → Apart f g → (ps : Pairs Bare)
-    → taken (lookup f ps) + taken (lookup g ps) ≤ told_size (told_params Parameter ps)
+    → taken (lookup f ps) + taken (lookup g ps) ≤ params_bytes ps
 two_taken f g d [] = omega arith
 two_taken f g d (p ∷ ps) =
     go (f p.0) refl (g p.0) refl (one_taken f ps) (one_taken g ps) (two_taken f g d ps)
   where
     go : (b : Bool) → f p.0 ≡ b → (c : Bool) → g p.0 ≡ c
-        → taken (lookup f ps) ≤ told_size (told_params Parameter ps)
-        → taken (lookup g ps) ≤ told_size (told_params Parameter ps)
-        → taken (lookup f ps) + taken (lookup g ps) ≤ told_size (told_params Parameter ps)
+        → taken (lookup f ps) ≤ params_bytes ps
+        → taken (lookup g ps) ≤ params_bytes ps
+        → taken (lookup f ps) + taken (lookup g ps) ≤ params_bytes ps
         → taken (lookup f (p ∷ ps)) + taken (lookup g (p ∷ ps))
-        ≤ told_size (told_params Parameter (p ∷ ps))
+        ≤ params_bytes (p ∷ ps)
     go true e true i one other both = absurd (d p.0 e i)
     go true e false i one other both = rw (e, i) (omega arith)
     go false e true i one other both = rw (e, i) (omega arith)
@@ -82,20 +81,20 @@ two_taken f g d (p ∷ ps) =
 -- and three
 three_taken : (f g h : Seq ℕ → Bool) → Apart f g → Apart f h → Apart g h → (ps : Pairs Bare)
     → taken (lookup f ps) + taken (lookup g ps) + taken (lookup h ps)
-    ≤ told_size (told_params Parameter ps)
+    ≤ params_bytes ps
 three_taken f g h d m n [] = omega arith
 three_taken f g h d m n (p ∷ ps) =
     go (f p.0) refl (g p.0) refl (h p.0) refl (two_taken f g d ps) (two_taken f h m ps)
     (two_taken g h n ps) (three_taken f g h d m n ps)
   where
     go : (b : Bool) → f p.0 ≡ b → (c : Bool) → g p.0 ≡ c → (a : Bool) → h p.0 ≡ a
-        → taken (lookup f ps) + taken (lookup g ps) ≤ told_size (told_params Parameter ps)
-        → taken (lookup f ps) + taken (lookup h ps) ≤ told_size (told_params Parameter ps)
-        → taken (lookup g ps) + taken (lookup h ps) ≤ told_size (told_params Parameter ps)
+        → taken (lookup f ps) + taken (lookup g ps) ≤ params_bytes ps
+        → taken (lookup f ps) + taken (lookup h ps) ≤ params_bytes ps
+        → taken (lookup g ps) + taken (lookup h ps) ≤ params_bytes ps
         → taken (lookup f ps) + taken (lookup g ps) + taken (lookup h ps)
-        ≤ told_size (told_params Parameter ps)
+        ≤ params_bytes ps
         → taken (lookup f (p ∷ ps)) + taken (lookup g (p ∷ ps)) + taken (lookup h (p ∷ ps))
-        ≤ told_size (told_params Parameter (p ∷ ps))
+        ≤ params_bytes (p ∷ ps)
     go true e true i b j fg fh gh all = absurd (d p.0 e i)
     go true e false i true j fg fh gh all = absurd (m p.0 e j)
     go true e false i false j fg fh gh all = rw (e, i, j) (omega arith)
@@ -185,7 +184,7 @@ passed_back false (Some p) = refl
 -- a hop has at most the bytes of its name and its parameters
 hop_few : (ps : Pairs Bare) (n : Name)
     → hop_size (told_hop (hop_named ps n))
-    ≤ length (bytes_of n) + told_size (told_params Parameter ps)
+    ≤ length (bytes_of n) + params_bytes ps
 hop_few ps n =
     let back = ap (λ o. length (why_token o))
     (passed_back (unwrap_or (boolean_at (codes "hit") ps) false) (passed_at ps)) in
@@ -205,7 +204,7 @@ few (Some h) = hop_size (told_hop h)
 
 bare_few : (x : Bare) (ps : Pairs Bare)
     → few (option_map (hop_named ps) (as_name x))
-    ≤ length (text_of x) + told_size (told_params Parameter ps)
+    ≤ length (text_of x) + params_bytes ps
 bare_few (Integer n) ps = omega arith
 bare_few (Decimal n) ps = omega arith
 bare_few (Text s) ps = hop_few ps (name.Text s)
@@ -215,41 +214,37 @@ bare_few (Boolean b) ps = omega arith
 bare_few (Date n) ps = omega arith
 bare_few (Shown s) ps = omega arith
 
-member_few : (m : Member) → few (member_hop m) ≤ told_size (told_member [] m)
+member_few : (m : Member) → few (member_hop m) ≤ member_bytes m
 member_few (member.Item i) = let h = bare_few i.bare i.params in omega arith
 member_few (member.Inner l) = omega arith
 
 -- a member has a node
-member_some : (m : Member) → 1 ≤ length (told_member [] m)
+member_some : (m : Member) → 1 ≤ member_nodes m
 member_some (member.Item i) = omega arith
 member_some (member.Inner l) = omega arith
 
 members_few : (ms : Seq Member)
-    → hops_size (map told_hop (filter_map member_hop ms)) ≤ told_size (told_members ms)
+    → hops_size (map told_hop (filter_map member_hop ms)) ≤ members_bytes ms
 members_few [] = omega arith
 members_few (m ∷ ms) = go (member_hop m) refl (member_few m) (members_few ms)
   where
-    go : (o : Option Hop) → member_hop m ≡ o → few o ≤ told_size (told_member [] m)
-        → hops_size (map told_hop (filter_map member_hop ms)) ≤ told_size (told_members ms)
+    go : (o : Option Hop) → member_hop m ≡ o → few o ≤ member_bytes m
+        → hops_size (map told_hop (filter_map member_hop ms)) ≤ members_bytes ms
         → hops_size (map told_hop (filter_map member_hop (m ∷ ms)))
-        ≤ told_size (told_members (m ∷ ms))
-    go None e one rest =
-        let both = told_size-append (told_member [] m) (told_members ms) in rw e (omega arith)
-    go (Some h) e one rest =
-        let both = told_size-append (told_member [] m) (told_members ms) in rw e (omega arith)
+        ≤ members_bytes (m ∷ ms)
+    go None e one rest = rw e (omega arith)
+    go (Some h) e one rest = rw e (omega arith)
 
 members_count : (ms : Seq Member)
-    → length (filter_map member_hop ms) ≤ length (told_members ms)
+    → length (filter_map member_hop ms) ≤ members_nodes ms
 members_count [] = omega arith
 members_count (m ∷ ms) = go (member_hop m) refl (member_some m) (members_count ms)
   where
-    go : (o : Option Hop) → member_hop m ≡ o → 1 ≤ length (told_member [] m)
-        → length (filter_map member_hop ms) ≤ length (told_members ms)
-        → length (filter_map member_hop (m ∷ ms)) ≤ length (told_members (m ∷ ms))
-    go None e one rest =
-        let both = length-append (told_member [] m) (told_members ms) in rw e (omega arith)
-    go (Some h) e one rest =
-        let both = length-append (told_member [] m) (told_members ms) in rw e (omega arith)
+    go : (o : Option Hop) → member_hop m ≡ o → 1 ≤ member_nodes m
+        → length (filter_map member_hop ms) ≤ members_nodes ms
+        → length (filter_map member_hop (m ∷ ms)) ≤ members_nodes (m ∷ ms)
+    go None e one rest = rw e (omega arith)
+    go (Some h) e one rest = rw e (omega arith)
 
 -- the hops of an answer
 abbrev from_ok : Seq Hop → Result (Seq Hop) ℕ → Seq Hop
@@ -261,8 +256,8 @@ unless_ok None js hs e = ap (from_ok hs) e
 unless_ok (Some index) js hs e = let never : Err index ≡ Ok hs = e in absurd cc
 
 pub path_few : (v : Field) (hs : Seq Hop) → hops v ≡ Ok hs
-    → (length hs ≤ length (told_field v))
-    × (hops_size (map told_hop hs) ≤ told_size (told_field v))
+    → (length hs ≤ field_nodes v)
+    × (hops_size (map told_hop hs) ≤ field_bytes v)
 path_few (field.List l) hs e =
     let same = unless_ok _ (filter_map member_hop l.members) hs e in
     let count = ap length same in

@@ -11,13 +11,13 @@ use Rattle.sf_c.specs.Hops.{ToldHop, says_by, says_of, told_hop_by, told_hop}
 use Rattle.sf_c.specs.Hops.{bytes_of, detail_bytes, why_token, hops_size}
 use Rattle.sf_c.specs.Hops.{IsHopWithin, AreHopsWithin, HopsHoldUp, PutsSpan, HopsAtFront}
 use Rattle.sf_c.specs.Hops.{hop_bytes, hops_bytes, end_of, AreHopsInOrder}
-use Rattle.sf_c.proofs.TellingLemmas.{bytes_at-append, bytes_at_last}
+use Rattle.sf_c.proofs.Pieces.{piece-append, piece_last}
 use Rattle.std.specs.Prelude.{unwrap_or}
 
 -- a span of bytes is the same among more, and there
 span_more : (bytes more : List ℕ) (p : Span) → IsSpanWithin bytes p
     → span_bytes (bytes ++ more) p ≡ span_bytes bytes p
-span_more bytes more p h = bytes_at-append p.at p.length bytes more h
+span_more bytes more p h = piece-append p.at p.length bytes more h
 
 within_more : (bytes more : List ℕ) (p : Span) → IsSpanWithin bytes p
     → IsSpanWithin (bytes ++ more) p
@@ -71,7 +71,7 @@ put_within old new text p h =
 
 put_there : (old new text : List ℕ) (p : Span) → PutsSpan old new text p
     → span_bytes new p ≡ text
-put_there old new text p h = rw (h.0, h.1, h.2) (bytes_at_last old text)
+put_there old new text p h = rw (h.0, h.1, h.2) (piece_last old text)
 
 -- what stays when one more text is put
 put_keeps : (old new text : List ℕ) (p q : Span) → PutsSpan old new text q

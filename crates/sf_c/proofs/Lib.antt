@@ -1,6 +1,13 @@
+pub mod ScannedTexts
+pub mod Pieces
 pub mod TellingLemmas
 pub mod Joins
 pub mod NodeSteps
+pub mod FlatNodes
+pub mod NodeCounting
+pub mod Carrying
+pub mod DecodedNodes
+pub mod ParsedNodes
 pub mod OneValue
 pub mod NodeBound
 pub mod HopLemmas
@@ -10,3 +17,5 @@ pub mod GivenTexts
 pub mod GivenHops
 pub mod Selecting
 pub mod WrittenPriorities
+pub mod Canonicals
+pub mod NodeTexts

@@ -30,13 +30,11 @@ use Rattle.sf_value.specs.Grammar.Canonical.{canon_more, canon_items, canon_inne
 use Rattle.sf_value.specs.Grammar.Canonical.{canon_flag, canon_entry, canon_commas}
 use Rattle.sf_value.specs.Grammar.Canonical.{canon_series, canon, canon_shown, fraction}
 use Rattle.sf_value.specs.Grammar.Canonical.{is_negative}
-use Rattle.sf_c.specs.declared.node_types.Role.{Role}
-use Rattle.sf_c.specs.declared.node_types.Role.TheVariants.{InnerItem, InnerParameter, Parameter}
-use Rattle.sf_c.specs.declared.node_types.Role.TheVariants as roles
-use Rattle.sf_c.specs.Tellings.{Told, told_size}
-use Rattle.sf_c.specs.Nodes.{text_of, told_params, told_item, told_items, told_inner}
-use Rattle.sf_c.specs.Nodes.{told_member, told_members, told_entries, told_field}
-use Rattle.sf_c.proofs.TellingLemmas.{told_size-append}
+use Rattle.sf_view.specs.View.{text_of}
+use Rattle.sf_c.specs.NodeCounts.{item_nodes, items_nodes, member_nodes, members_nodes}
+use Rattle.sf_c.specs.NodeCounts.{entries_nodes, field_nodes, params_bytes, item_bytes}
+use Rattle.sf_c.specs.NodeCounts.{items_bytes, member_bytes, members_bytes, entries_bytes}
+use Rattle.sf_c.specs.NodeCounts.{field_bytes}
 
 -- the bytes of a String are no more than those of its text
 escaped_long : (s : Seq ℕ) → length s ≤ length (escaped s)
@@ -125,27 +123,16 @@ AreParams d = Each (λ p. IsKey p.0 × ValidBare d p.1)
 abbrev AreEntries : Dialect → Pairs Member → Type 0
 AreEntries d = Each (λ p. IsKey p.0 × ValidMember d p.1)
 
--- at most half so many parts, with at most so many bytes
-record Small (ts : Seq Told) (twice bytes : ℕ) : Type 0 where
-  parts : 2 * length ts ≤ twice
-  size : told_size ts ≤ bytes
+-- at most half so many nodes, and at most so many bytes
+record Small (count length twice bytes : ℕ) : Type 0 where
+  parts : 2 * count ≤ twice
+  size : length ≤ bytes
 
-small_append : (ts us : Seq Told) (a b c d : ℕ) → Small ts a b → Small us c d
-    → Small (ts ++ us) (a + c) (b + d)
-small_append ts us a b c d h k =
-    let e = length-append ts us in
-    let f = told_size-append ts us in
-    let p = h.parts in
-    let q = k.parts in
-    let r = h.size in
-    let s = k.size in
-    record { parts = omega arith; size = omega arith }
-
-params_small : (d : Dialect) (role : Role) (ps : Pairs Bare) → AreParams d ps
-    → Small (told_params role ps) (length (canon_params ps)) (length (canon_params ps))
-params_small d role [] valid = record { parts = omega arith; size = omega arith }
-params_small d role (p ∷ ps) valid =
-    let h = params_small d role ps valid.1 in
+params_small : (d : Dialect) (ps : Pairs Bare) → AreParams d ps
+    → Small (length ps) (params_bytes ps) (length (canon_params ps)) (length (canon_params ps))
+params_small d [] valid = record { parts = omega arith; size = omega arith }
+params_small d (p ∷ ps) valid =
+    let h = params_small d ps valid.1 in
     let a = h.parts in
     let b = h.size in
     let key = key_long p.0 valid.0.0 in
@@ -154,10 +141,10 @@ params_small d role (p ∷ ps) valid =
     let f = length-append (canon_value p.1) (canon_params ps) in
     record { parts = omega arith; size = omega arith }
 
-item_small : (d : Dialect) (role : Role) (key : Seq ℕ) (i : Item) → ValidItem d i
-    → Small (told_item role key i) (1 + length (canon_item i)) (length key + length (canon_item i))
-item_small d role key i valid =
-    let h = params_small d Parameter i.params valid.1.0 in
+item_small : (d : Dialect) (i : Item) → ValidItem d i
+    → Small (item_nodes i) (item_bytes i) (1 + length (canon_item i)) (length (canon_item i))
+item_small d i valid =
+    let h = params_small d i.params valid.1.0 in
     let a = h.parts in
     let b = h.size in
     let bare = bare_long d i.bare valid.0 in
@@ -166,41 +153,43 @@ item_small d role key i valid =
     record { parts = omega arith; size = omega arith }
 
 more_small : (d : Dialect) (is : Seq Item) → Each (ValidItem d) is
-    → Small (told_items is) (length (canon_more is)) (length (canon_more is))
+    → Small (items_nodes is) (items_bytes is) (length (canon_more is)) (length (canon_more is))
 more_small d [] valid = record { parts = omega arith; size = omega arith }
 more_small d (i ∷ is) valid =
-    let h = small_append (told_item InnerItem [] i) (told_items is) _ _ _ _
-    (item_small d InnerItem [] i valid.0) (more_small d is valid.1) in
+    let h = item_small d i valid.0 in
+    let k = more_small d is valid.1 in
     let a = h.parts in
     let b = h.size in
+    let f = k.parts in
+    let g = k.size in
     let e = length-append (canon_item i) (canon_more is) in
     record { parts = omega arith; size = omega arith }
 
 items_small : (d : Dialect) (is : Seq Item) → Each (ValidItem d) is
-    → Small (told_items is) (1 + length (canon_items is)) (length (canon_items is))
+    → Small (items_nodes is) (items_bytes is) (1 + length (canon_items is)) (length (canon_items is))
 items_small d [] valid = record { parts = omega arith; size = omega arith }
 items_small d (i ∷ is) valid =
-    let h = small_append (told_item InnerItem [] i) (told_items is) _ _ _ _
-    (item_small d InnerItem [] i valid.0) (more_small d is valid.1) in
+    let h = item_small d i valid.0 in
+    let k = more_small d is valid.1 in
     let a = h.parts in
     let b = h.size in
+    let f = k.parts in
+    let g = k.size in
     let e = length-append (canon_item i) (canon_more is) in
     record { parts = omega arith; size = omega arith }
 
-inner_small : (d : Dialect) (key : Seq ℕ) (l : Inner) → ValidInner d l
-    → Small (told_inner key l) (1 + length (canon_inner l)) (length key + length (canon_inner l))
-inner_small d key l valid =
-    let h = small_append (told_items l.items) (told_params InnerParameter l.params) _ _ _ _
-    (items_small d l.items valid.0) (params_small d InnerParameter l.params valid.1.0) in
+member_small : (d : Dialect) (m : Member) → ValidMember d m
+    → Small (member_nodes m) (member_bytes m) (1 + length (canon_member m)) (length (canon_member m))
+member_small d (member.Item i) valid = item_small d i valid
+member_small d (member.Inner l) valid =
+    let h = items_small d l.items valid.0 in
+    let k = params_small d l.params valid.1.0 in
     let a = h.parts in
     let b = h.size in
+    let f = k.parts in
+    let g = k.size in
     let e = length-append (canon_items l.items) (41 ∷ canon_params l.params) in
     record { parts = omega arith; size = omega arith }
-
-member_small : (d : Dialect) (key : Seq ℕ) (m : Member) → ValidMember d m
-    → Small (told_member key m) (1 + length (canon_member m)) (length key + length (canon_member m))
-member_small d key (member.Item i) valid = item_small d roles.Member key i valid
-member_small d key (member.Inner l) valid = inner_small d key l valid
 
 -- after a key of a Dictionary
 flag_long : (x : Bare) (ps : Pairs Bare)
@@ -229,9 +218,10 @@ flag_long (Shown s) ps =
     omega arith
 
 entry_small : (d : Dialect) (key : Seq ℕ) (m : Member) → IsKey key → ValidMember d m
-    → Small (told_member key m) (1 + length (canon_entry (key, m))) (length (canon_entry (key, m)))
+    → Small (member_nodes m) (length key + member_bytes m) (1 + length (canon_entry (key, m)))
+    (length (canon_entry (key, m)))
 entry_small d key (member.Item i) named valid =
-    let h = params_small d Parameter i.params valid.1.0 in
+    let h = params_small d i.params valid.1.0 in
     let a = h.parts in
     let b = h.size in
     let long = key_long key named in
@@ -239,67 +229,71 @@ entry_small d key (member.Item i) named valid =
     let e = length-append key (canon_flag i.bare i.params) in
     record { parts = omega arith; size = omega arith }
 entry_small d key (member.Inner l) named valid =
-    let h = inner_small d key l valid in
+    let h = member_small d (member.Inner l) valid in
     let a = h.parts in
     let b = h.size in
     let e = length-append key (61 ∷ canon_inner l) in
     record { parts = omega arith; size = omega arith }
 
 members_behind : (d : Dialect) (ms : Seq Member) → Each (ValidMember d) ms
-    → Small (told_members ms) (length (canon_commas canon_member ms))
+    → Small (members_nodes ms) (members_bytes ms) (length (canon_commas canon_member ms))
     (length (canon_commas canon_member ms))
 members_behind d [] valid = record { parts = omega arith; size = omega arith }
 members_behind d (m ∷ ms) valid =
-    let h = small_append (told_member [] m) (told_members ms) _ _ _ _
-    (member_small d [] m valid.0) (members_behind d ms valid.1) in
+    let h = member_small d m valid.0 in
+    let k = members_behind d ms valid.1 in
     let a = h.parts in
     let b = h.size in
+    let f = k.parts in
+    let g = k.size in
     let e = length-append (canon_member m) (canon_commas canon_member ms) in
     record { parts = omega arith; size = omega arith }
 
 members_small : (d : Dialect) (ms : Seq Member) → Each (ValidMember d) ms
-    → Small (told_members ms) (1 + length (canon_series canon_member ms))
+    → Small (members_nodes ms) (members_bytes ms) (1 + length (canon_series canon_member ms))
     (length (canon_series canon_member ms))
 members_small d [] valid = record { parts = omega arith; size = omega arith }
 members_small d (m ∷ ms) valid =
-    let h = small_append (told_member [] m) (told_members ms) _ _ _ _
-    (member_small d [] m valid.0) (members_behind d ms valid.1) in
+    let h = member_small d m valid.0 in
+    let k = members_behind d ms valid.1 in
     let a = h.parts in
     let b = h.size in
+    let f = k.parts in
+    let g = k.size in
     let e = length-append (canon_member m) (canon_commas canon_member ms) in
     record { parts = omega arith; size = omega arith }
 
 entries_behind : (d : Dialect) (ps : Pairs Member) → AreEntries d ps
-    → Small (told_entries ps) (length (canon_commas canon_entry ps))
+    → Small (entries_nodes ps) (entries_bytes ps) (length (canon_commas canon_entry ps))
     (length (canon_commas canon_entry ps))
 entries_behind d [] valid = record { parts = omega arith; size = omega arith }
 entries_behind d (p ∷ ps) valid =
-    let h = small_append (told_member p.0 p.1) (told_entries ps) _ _ _ _
-    (entry_small d p.0 p.1 valid.0.0 valid.0.1) (entries_behind d ps valid.1) in
+    let h = entry_small d p.0 p.1 valid.0.0 valid.0.1 in
+    let k = entries_behind d ps valid.1 in
     let a = h.parts in
     let b = h.size in
+    let f = k.parts in
+    let g = k.size in
     let e = length-append (canon_entry p) (canon_commas canon_entry ps) in
     record { parts = omega arith; size = omega arith }
 
 entries_small : (d : Dialect) (ps : Pairs Member) → AreEntries d ps
-    → Small (told_entries ps) (1 + length (canon_series canon_entry ps))
+    → Small (entries_nodes ps) (entries_bytes ps) (1 + length (canon_series canon_entry ps))
     (length (canon_series canon_entry ps))
 entries_small d [] valid = record { parts = omega arith; size = omega arith }
 entries_small d (p ∷ ps) valid =
-    let h = small_append (told_member p.0 p.1) (told_entries ps) _ _ _ _
-    (entry_small d p.0 p.1 valid.0.0 valid.0.1) (entries_behind d ps valid.1) in
+    let h = entry_small d p.0 p.1 valid.0.0 valid.0.1 in
+    let k = entries_behind d ps valid.1 in
     let a = h.parts in
     let b = h.size in
+    let f = k.parts in
+    let g = k.size in
     let e = length-append (canon_entry p) (canon_commas canon_entry ps) in
     record { parts = omega arith; size = omega arith }
 
 field_small : (d : Dialect) (k : Kind) (v : Field) → Valid d k v
-    → Small (told_field v) (1 + length (canon v)) (length (canon v))
-field_small d kind.Item (field.Item i) valid =
-    let h = item_small d roles.Member [] i valid in
-    let a = h.parts in
-    let b = h.size in
-    record { parts = omega arith; size = omega arith }
+    → Small (field_nodes v) (field_bytes v) (1 + length (canon v)) (length (canon v))
+field_small d kind.Item (field.Item i) valid = item_small d i valid
 field_small d kind.List (field.List l) valid = members_small d l.members valid
 field_small d kind.Dict (field.Dict m) valid = entries_small d m.members valid.0
 field_small d kind.Item (field.List l) valid = absurd valid
@@ -311,9 +305,9 @@ field_small d kind.Dict (field.List l) valid = absurd valid
 
 -- by the bound of the canonical text
 pub nodes_bound : (d : Dialect) (k : Kind) (v : Field) (n : ℕ) → Valid d k v
-    → 5 * length (canon v) ≤ 8 * n → 10 * length (told_field v) ≤ 8 * n + 5
+    → 5 * length (canon v) ≤ 8 * n → 10 * field_nodes v ≤ 8 * n + 5
 nodes_bound d k v n valid h = let p = (field_small d k v valid).parts in omega arith
 
 pub bytes_bound : (d : Dialect) (k : Kind) (v : Field) (n : ℕ) → Valid d k v
-    → 5 * length (canon v) ≤ 8 * n → 5 * told_size (told_field v) ≤ 8 * n
+    → 5 * length (canon v) ≤ 8 * n → 5 * field_bytes v ≤ 8 * n
 bytes_bound d k v n valid h = let s = (field_small d k v valid).size in omega arith

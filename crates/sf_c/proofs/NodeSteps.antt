@@ -6,8 +6,8 @@ use Rattle.sf_value.specs.declared.value.Inner.{Inner}
 use Rattle.sf_value.specs.declared.value.Item.{Item}
 use Rattle.sf_value.specs.declared.value.Member.{Member}
 use Rattle.sf_value.specs.Grammar.Pairs.{Pairs}
-use Rattle.sf_c.specs.declared.node_types.Role.{Role}
-use Rattle.sf_c.specs.declared.node_types.Role.TheVariants.{InnerItem, InnerParameter, Parameter}
+use Rattle.sf_view.specs.declared.node_types.Role.{Role}
+use Rattle.sf_view.specs.declared.node_types.Role.TheVariants.{InnerItem, InnerParameter, Parameter}
 use Rattle.sf_c.specs.Nodes.{told_params, told_item, told_items, told_inside}
 use Rattle.sf_c.specs.Nodes.{told_member, told_members}
 

@@ -1,7 +1,8 @@
--- Nodes describe one value: no two fields of a kind have the same parts.
+-- Nodes describe one value: no two fields of a kind have the same nodes with the same source.
 use Rattle.std.proofs.Common.{◌≡◌, ℕ, ◌+◌, ℤ, pos, negsuc, zero, suc, Bool, true, false, ◌==◌}
-use Rattle.std.proofs.Common.{List as Seq, [], ◌∷◌, ◌++◌, length, refl, sym, ap, ◌∙◌, arith, cond}
-use Rattle.std.proofs.Common.{append_assoc}
+use Rattle.std.proofs.Common.{List as Seq, [], ◌∷◌, ◌++◌, length, refl, sym, ap, ◌∙◌, subst, arith}
+use Rattle.std.proofs.Common.{cond, append_assoc, append-nil}
+use Rattle.sf_value.specs.declared.dialect.Dialect.{Dialect}
 use Rattle.sf_value.specs.declared.value.Bare.{Bare}
 use Rattle.sf_value.specs.declared.value.Bare.TheVariants.{Integer, Decimal, Text, Token}
 use Rattle.sf_value.specs.declared.value.Bare.TheVariants.{Blob, Boolean, Date, Shown}
@@ -12,19 +13,21 @@ use Rattle.sf_value.specs.declared.value.Member.TheVariants as member
 use Rattle.sf_value.specs.declared.value.Field.{Field}
 use Rattle.sf_value.specs.declared.value.Field.TheVariants as field
 use Rattle.sf_value.specs.declared.value.Kind.TheVariants as kind
-use Rattle.sf_value.specs.Grammar.Fields.{kind_of, list_of, dict_of}
+use Rattle.sf_value.specs.Grammar.BareItems.{SpellsBare}
+use Rattle.sf_value.specs.Grammar.Fields.{SpellsField, kind_of, list_of, dict_of}
 use Rattle.sf_value.specs.Grammar.Items.{item}
 use Rattle.sf_value.specs.Grammar.Pairs.{Pairs}
-use Rattle.sf_c.specs.declared.node_types.NodeType.TheVariants.{InnerList}
-use Rattle.sf_c.specs.declared.node_types.Role.{Role}
-use Rattle.sf_c.specs.declared.node_types.Role.TheVariants.{InnerItem, InnerParameter, Parameter}
-use Rattle.sf_c.specs.declared.node_types.Role.TheVariants as roles
-use Rattle.sf_c.specs.NodeTypes.{type_number}
-use Rattle.sf_c.specs.Tellings.{Told}
-use Rattle.sf_c.specs.Nodes.{type_of, number_of, text_of, told, told_params, told_item, told_items}
-use Rattle.sf_c.specs.Nodes.{told_inside, told_inner, told_member, told_members, told_entries}
-use Rattle.sf_c.specs.Nodes.{told_field}
-use Rattle.sf_c.proofs.NodeSteps.{length_params}
+use Rattle.sf_parse.specs.Laws.{OneValue}
+use Rattle.sf_view.specs.declared.node.Node.{Node}
+use Rattle.sf_view.specs.declared.node_types.Role.{Role}
+use Rattle.sf_view.specs.declared.node_types.Role.TheVariants as roles
+use Rattle.sf_view.specs.NodeTypes.{type_number, is_coded}
+use Rattle.sf_view.specs.View.{piece, type_of, number_of, text_of, DescribesText, DescribesBare}
+use Rattle.sf_view.specs.View.{DescribesParams, DescribesItem, DescribesItems, DescribesInner}
+use Rattle.sf_view.specs.View.{DescribesMember, DescribesMembers, DescribesEntries, DescribesField}
+use Rattle.sf_view.specs.Finding.{IsHop, IsSplitAtParams}
+use Rattle.sf_view.proofs.Hops.{Opens, SamePart, item_opens, opens, same_part}
+use Rattle.sf_view.proofs.Splitting.{all_params, inside_items, bare_type, inner_is}
 
 -- the Boolean of a number
 abbrev truth : ℤ → Bool
@@ -54,211 +57,220 @@ bare_is (Boolean false) = refl
 bare_is (Date n) = refl
 bare_is (Shown s) = refl
 
--- the type of a bare item is not that of an Inner List
-type_some : (x : Bare) → type_number (type_of x) ≡ type_number InnerList → ⊥
-type_some (Integer n) e = absurd (omega arith)
-type_some (Decimal n) e = absurd (omega arith)
-type_some (Text s) e = absurd (omega arith)
-type_some (Token s) e = absurd (omega arith)
-type_some (Blob s) e = absurd (omega arith)
-type_some (Boolean b) e = absurd (omega arith)
-type_some (Date n) e = absurd (omega arith)
-type_some (Shown s) e = absurd (omega arith)
+-- the bare item that a text spells is the only one: as an Item it is the only field
+abbrev bare_in : Bare → Field → Bare
+bare_in x (field.Item i) = i.bare
+bare_in x (field.List l) = x
+bare_in x (field.Dict m) = x
 
--- what a part says
-abbrev role_of : Told → ℕ
-role_of t = t.role
+spelled_alone : (d : Dialect) (t : Seq ℕ) (x : Bare) → SpellsBare d t x
+    → SpellsField d kind.Item t (field.Item (item x []))
+spelled_alone d t x h = (
+  [],
+  t,
+  [],
+  sym (append-nil t),
+  tt,
+  (t, [], sym (append-nil t), h, ([], refl, refl)),
+  tt,
+)
 
-abbrev type_in : Told → ℕ
-type_in t = t.node_type
+spelled_once : OneValue → (d : Dialect) (t : Seq ℕ) (x y : Bare) → SpellsBare d t x
+    → SpellsBare d t y → x ≡ y
+spelled_once one d t x y h k =
+    ap (bare_in x)
+    (one d kind.Item t (field.Item (item x [])) (field.Item (item y [])) (spelled_alone d t x h)
+    (spelled_alone d t y k))
 
-abbrev key_of : Told → Seq ℕ
-key_of t = t.key
-
-abbrev span_of : Told → ℕ
-span_of t = t.span
-
-abbrev bare_in : Told → Bare
-bare_in t = bare_by t.node_type t.number t.text
-
--- parts and no more
-abbrev ended : Seq Told → Seq Told
-ended ts = ts ++ []
-
--- none are not some
-empty_some : (t : Told) (ts : Seq Told) → [] ≡ t ∷ ts → ⊥
-empty_some t ts e = absurd cc
-
--- the first part, and the others
-abbrev first_of_told : Told → Seq Told → Told
-first_of_told d [] = d
-first_of_told d (t ∷ ts) = t
-
-abbrev others_of : Seq Told → Seq Told
-others_of [] = []
-others_of (t ∷ ts) = ts
-
-heads : (t u : Told) (ts us : Seq Told) → t ∷ ts ≡ u ∷ us → (t ≡ u) × (ts ≡ us)
-heads t u ts us e = (ap (first_of_told t) e, ap others_of e)
-
--- the bare item of a part
-one_bare : (r r' : Role) (k k' : Seq ℕ) (s s' : ℕ) (x y : Bare) → told r k s x ≡ told r' k' s' y
+-- a node describes one bare item
+one_bare : OneValue → (d : Dialect) (source : Seq ℕ) (r r' : Role) (k k' : Seq ℕ) (s s' : ℕ)
+    (n : Node) (x y : Bare) → DescribesBare d source r k s n x → DescribesBare d source r' k' s' n y
     → x ≡ y
-one_bare r r' k k' s s' x y e =
-    sym (bare_is x) ∙ ap bare_in e ∙ bare_is y
+one_bare one d source r r' k k' s s' n x y h j = by (is_coded n.coded) h.text j.text
+  where
+    raw : Seq ℕ
+    raw = piece n.text_at n.text_length source
 
-one_params : (r : Role) (ps qs : Pairs Bare) → told_params r ps ≡ told_params r qs → ps ≡ qs
-one_params r [] [] e = refl
-one_params r [] (q ∷ qs) e = absurd (empty_some _ _ e)
-one_params r (p ∷ ps) [] e = absurd (empty_some _ _ (sym e))
-one_params r ((k, x) ∷ ps) ((l, y) ∷ qs) e =
-    let both = heads (told r k 1 x) (told r l 1 y) (told_params r ps) (told_params r qs) e in
-    let key : k ≡ l = ap key_of both.0 in
-    let value = one_bare r r k l 1 1 x y both.0 in
-    let rest = one_params r ps qs both.1 in
-    rw (key, value, rest) refl
+    by : (b : Bool) → DescribesText d b raw x → DescribesText d b raw y → x ≡ y
+    by true t u = spelled_once one d raw x y t u
+    by false t u =
+        sym (bare_is x)
+        ∙ ap (λ z. bare_by z (number_of x) (text_of x)) (sym h.node_type ∙ j.node_type)
+        ∙ ap (λ z. bare_by (type_number (type_of y)) z (text_of x)) (sym h.number ∙ j.number)
+        ∙ ap (bare_by (type_number (type_of y)) (number_of y)) (sym t ∙ u)
+        ∙ bare_is y
 
--- lists of one length, before others
-one_split : (xs ys us vs : Seq Told) → length xs ≡ length ys → xs ++ us ≡ ys ++ vs
-    → (xs ≡ ys) × (us ≡ vs)
-one_split [] [] us vs l e = (refl, e)
-one_split [] (y ∷ ys) us vs l e = absurd (omega arith)
-one_split (x ∷ xs) [] us vs l e = absurd (omega arith)
-one_split (x ∷ xs) (y ∷ ys) us vs l e =
-    let both = heads x y (xs ++ us) (ys ++ vs) e in
-    let rest = one_split xs ys us vs (omega arith) both.1 in
-    let first = both.0 in
-    let others = rest.0 in
-    (rw (first, others) refl, rest.1)
+-- the first node, and the others
+heads_node : (n m : Node) (ns ms : Seq Node) → n ∷ ns ≡ m ∷ ms → (n ≡ m) × (ns ≡ ms)
+heads_node n m ns ms e = (ap (first n) e, ap others e)
+  where
+    first : Node → Seq Node → Node
+    first d [] = d
+    first d (x ∷ xs) = x
 
--- Items by their parts
+    others : Seq Node → Seq Node
+    others [] = []
+    others (x ∷ xs) = xs
+
+no_nodes : (ns ms : Seq Node) (n : Node) → ns ≡ [] → ns ≡ n ∷ ms → ⊥
+no_nodes ns ms n e f = let g : [] ≡ n ∷ ms = sym e ∙ f in absurd cc
+
+no_part : (source k : Seq ℕ) (ns front back : Seq Node) → ns ≡ [] → ns ≡ front ++ back
+    → Opens source k front → ⊥
+no_part source k ns front back e f o =
+    no_nodes ns (o.more ++ back) o.first e (f ∙ ap (λ y. y ++ back) o.begins)
+
+one_params : OneValue → (d : Dialect) (source : Seq ℕ) (r r' : Role) (ns : Seq Node)
+    (ps qs : Pairs Bare) → DescribesParams d source r ns ps → DescribesParams d source r' ns qs
+    → ps ≡ qs
+one_params one d source r r' ns [] [] e f = refl
+one_params one d source r r' ns [] (q ∷ qs) e (n, ms, f, t, more) = absurd (no_nodes ns ms n e f)
+one_params one d source r r' ns (p ∷ ps) [] (n, ms, e, t, more) f = absurd (no_nodes ns ms n f e)
+one_params one d source r r' ns ((k, x) ∷ ps) ((l, y) ∷ qs) (n, ms, e, t, more) (m, os, f, u, rest) =
+    let both = heads_node n m ms os (sym e ∙ f) in
+    let same : DescribesBare d source r k 1 m x
+    = subst (λ z. DescribesBare d source r k 1 z x) both.0 t in
+    let key : k ≡ l = sym same.key ∙ u.key in
+    let value = one_bare one d source r r' k l 1 1 m x y same u in
+    let others = one_params one d source r r' os ps qs
+    (subst (λ z. DescribesParams d source r z ps) both.1 more) rest in
+    rw (key, value, others) refl
+
 same_item : (i j : Item) → i.bare ≡ j.bare → i.params ≡ j.params → i ≡ j
 same_item i j a b = ap (λ x. item x i.params) a ∙ ap (λ ps. item j.bare ps) b
 
--- what is first among parts: an Item
-pub one_item : (r r' : Role) (k k' : Seq ℕ) (i j : Item) (cs ds : Seq Told)
-    → told_item r k i ++ cs ≡ told_item r' k' j ++ ds → (i ≡ j) × (k ≡ k') × (cs ≡ ds)
-one_item r r' k k' i j cs ds e =
-    let both = heads (told r k (1 + length i.params) i.bare)
-    (told r' k' (1 + length j.params) j.bare) (told_params Parameter i.params ++ cs)
-    (told_params Parameter j.params ++ ds) e in
-    let span : 1 + length i.params ≡ 1 + length j.params = ap span_of both.0 in
-    let these = length_params Parameter i.params in
-    let those = length_params Parameter j.params in
-    let rest = one_split (told_params Parameter i.params) (told_params Parameter j.params) cs ds
-    (omega arith) both.1 in
-    let bare = one_bare r r' k k' (1 + length i.params) (1 + length j.params) i.bare j.bare
-    both.0 in (
-      same_item i j bare (one_params Parameter i.params j.params rest.0),
-      ap key_of both.0,
-      rest.1,
-    )
+one_item : OneValue → (d : Dialect) (source : Seq ℕ) (r r' : Role) (k k' : Seq ℕ) (ns : Seq Node)
+    (i j : Item) → DescribesItem d source r k ns i → DescribesItem d source r' k' ns j → i ≡ j
+one_item one d source r r' k k' ns i j (n, ms, e, t, more) (m, os, f, u, rest) =
+    let both = heads_node n m ms os (sym e ∙ f) in
+    let same : DescribesBare d source r k (1 + length ms) m i.bare
+    = subst (λ z. DescribesBare d source r k (1 + length ms) z i.bare) both.0 t in
+    same_item i j
+    (one_bare one d source r r' k k' (1 + length ms) (1 + length os) m i.bare j.bare same u)
+    (one_params one d source roles.Parameter roles.Parameter os i.params j.params
+    (subst (λ z. DescribesParams d source roles.Parameter z i.params) both.1 more) rest)
 
--- a parameter is no Item of an Inner List
-roles_differ : (t u : Told) → t ≡ u → t.role ≡ 14 → u.role ≡ 12 → ⊥
-roles_differ t u e a b = let same = ap role_of e in omega (arith, same, a, b)
+-- the same nodes begin with one part
+one_front : (source j k : Seq ℕ) (ns front back own rest : Seq Node) → Opens source j front
+    → Opens source k own → ns ≡ front ++ back → ns ≡ own ++ rest → SamePart j k front back own rest
+one_front source j k ns front back own rest o q e f =
+    let hop : IsHop source ns j front back = record {
+      first = o.first;
+      more = o.more;
+      begins = o.begins;
+      split = e;
+      key = sym o.key;
+      size = o.size;
+    } in
+    same_part source k ns own rest j front back q f hop
 
--- Items before parameters
-one_items : (is js : Seq Item) (ps qs : Pairs Bare)
-    → told_items is ++ told_params InnerParameter ps
-    ≡ told_items js ++ told_params InnerParameter qs → (is ≡ js) × (ps ≡ qs)
-one_items [] [] ps qs e = (refl, one_params InnerParameter ps qs e)
-one_items [] (j ∷ js) [] qs e = absurd (empty_some _ _ e)
-one_items [] (j ∷ js) (p ∷ ps) qs e =
-    let first = heads (told InnerParameter p.0 1 p.1)
-    (told InnerItem [] (1 + length j.params) j.bare) (told_params InnerParameter ps)
-    ((told_params Parameter j.params ++ told_items js) ++ told_params InnerParameter qs) e in
-    absurd (roles_differ _ _ first.0 refl refl)
-one_items (i ∷ is) [] ps [] e = absurd (empty_some _ _ (sym e))
-one_items (i ∷ is) [] ps (q ∷ qs) e =
-    let first = heads (told InnerItem [] (1 + length i.params) i.bare)
-    (told InnerParameter q.0 1 q.1)
-    ((told_params Parameter i.params ++ told_items is) ++ told_params InnerParameter ps)
-    (told_params InnerParameter qs) e in
-    absurd (roles_differ _ _ (sym first.0) refl refl)
-one_items (i ∷ is) (j ∷ js) ps qs e =
-    let moved
-    = sym (append_assoc (told_item InnerItem [] i) (told_items is) (told_params InnerParameter ps))
-    ∙ e
-    ∙ append_assoc (told_item InnerItem [] j) (told_items js) (told_params InnerParameter qs) in
-    let first = one_item InnerItem InnerItem [] [] i j
-    (told_items is ++ told_params InnerParameter ps)
-    (told_items js ++ told_params InnerParameter qs) moved in
-    let rest = one_items is js ps qs first.2 in
-    let item_is = first.0 in
-    let items_are = rest.0 in
-    (rw (item_is, items_are) refl, rest.1)
+one_items : OneValue → (d : Dialect) (source : Seq ℕ) (ns : Seq Node) (is js : Seq Item)
+    → DescribesItems d source ns is → DescribesItems d source ns js → is ≡ js
+one_items one d source ns [] [] e f = refl
+one_items one d source ns [] (j ∷ js) e (own, rest, f, u, w) =
+    absurd
+    (no_part source [] ns own rest e f (item_opens d source roles.InnerItem [] own j u))
+one_items one d source ns (i ∷ is) [] (front, back, e, t, q) f =
+    absurd
+    (no_part source [] ns front back f e (item_opens d source roles.InnerItem [] front i t))
+one_items one d source ns (i ∷ is) (j ∷ js) (front, back, e, t, q) (own, rest, f, u, w) =
+    let s = one_front source [] [] ns front back own rest
+    (item_opens d source roles.InnerItem [] front i t)
+    (item_opens d source roles.InnerItem [] own j u) e f in
+    let first = one_item one d source roles.InnerItem roles.InnerItem [] [] own i j
+    (subst (λ z. DescribesItem d source roles.InnerItem [] z i) s.here t) u in
+    let others = one_items one d source rest is js
+    (subst (λ z. DescribesItems d source z is) s.others q) w in
+    rw (first, others) refl
 
 abbrev inner_of : Seq Item → Pairs Bare → Inner
 inner_of is ps = record { items = is; params = ps }
 
-same_inner : (l m : Inner) → l.items ≡ m.items → l.params ≡ m.params → l ≡ m
-same_inner l m a b = ap (λ is. inner_of is l.params) a ∙ ap (λ ps. inner_of m.items ps) b
+one_inner : OneValue → (d : Dialect) (source k k' : Seq ℕ) (ns : Seq Node) (l m : Inner)
+    → DescribesInner d source k ns l → DescribesInner d source k' ns m → l ≡ m
+one_inner one d source k k' ns l m (n, items, params, e, t, q, r) u =
+    let split : IsSplitAtParams ns items params = record {
+      opening = n;
+      split = e;
+      is_inner = t.node_type;
+      before = inside_items d source items l.items q;
+      behind = all_params d source params l.params r;
+    } in
+    let other = inner_is d source k' ns m items params split u in
+    let a = one_items one d source items l.items m.items q other.inside in
+    let b = one_params one d source roles.InnerParameter roles.InnerParameter params l.params
+    m.params r other.behind in
+    ap (λ is. inner_of is l.params) a ∙ ap (λ ps. inner_of m.items ps) b
 
--- what is first among parts: an Inner List
-one_inner : (k k' : Seq ℕ) (l m : Inner) (cs ds : Seq Told)
-    → told_inner k l ++ cs ≡ told_inner k' m ++ ds → (l ≡ m) × (k ≡ k') × (cs ≡ ds)
-one_inner k k' l m cs ds e =
-    let both = heads _ _ (told_inside l ++ cs) (told_inside m ++ ds) e in
-    let span : 1 + length (told_inside l) ≡ 1 + length (told_inside m)
-    = ap span_of both.0 in
-    let rest = one_split (told_inside l) (told_inside m) cs ds (omega arith) both.1 in
-    let parts = one_items l.items m.items l.params m.params rest.0 in
-    (same_inner l m parts.0 parts.1, ap key_of both.0, rest.1)
+-- an Item is no Inner List
+not_both : (d : Dialect) (source : Seq ℕ) (r : Role) (k k' : Seq ℕ) (ns : Seq Node) (i : Item)
+    (l : Inner) → DescribesItem d source r k ns i → DescribesInner d source k' ns l → ⊥
+not_both d source r k k' ns i l (n, ms, e, t, more) (m, items, params, f, u, q, w) =
+    let both = heads_node n m ms (items ++ params) (sym e ∙ f) in
+    bare_type i.bare (sym t.node_type ∙ ap (λ y. y.node_type) both.0 ∙ u.node_type)
 
--- what is first among parts: a member
-one_member : (k k' : Seq ℕ) (m n : Member) (cs ds : Seq Told)
-    → told_member k m ++ cs ≡ told_member k' n ++ ds → (m ≡ n) × (k ≡ k') × (cs ≡ ds)
-one_member k k' (member.Item i) (member.Item j) cs ds e =
-    let one = one_item roles.Member roles.Member k k' i j cs ds e in
-    (ap member.Item one.0, one.1, one.2)
-one_member k k' (member.Inner l) (member.Inner m) cs ds e =
-    let one = one_inner k k' l m cs ds e in (ap member.Inner one.0, one.1, one.2)
-one_member k k' (member.Item i) (member.Inner m) cs ds e =
-    let both = heads _ _ _ _ e in absurd (type_some i.bare (ap type_in both.0))
-one_member k k' (member.Inner l) (member.Item j) cs ds e =
-    let both = heads _ _ _ _ e in absurd (type_some j.bare (sym (ap type_in both.0)))
+one_member : OneValue → (d : Dialect) (source k k' : Seq ℕ) (ns : Seq Node) (x y : Member)
+    → DescribesMember d source k ns x → DescribesMember d source k' ns y → x ≡ y
+one_member one d source k k' ns (member.Item i) (member.Item j) t u =
+    ap member.Item (one_item one d source roles.Member roles.Member k k' ns i j t u)
+one_member one d source k k' ns (member.Inner l) (member.Inner m) t u =
+    ap member.Inner (one_inner one d source k k' ns l m t u)
+one_member one d source k k' ns (member.Item i) (member.Inner m) t u =
+    absurd (not_both d source roles.Member k k' ns i m t u)
+one_member one d source k k' ns (member.Inner l) (member.Item j) t u =
+    absurd (not_both d source roles.Member k' k ns j l u t)
 
-one_members : (ms ns : Seq Member) → told_members ms ≡ told_members ns → ms ≡ ns
-one_members [] [] e = refl
-one_members [] (member.Item j ∷ ns) e = absurd (empty_some _ _ e)
-one_members [] (member.Inner l ∷ ns) e = absurd (empty_some _ _ e)
-one_members (member.Item i ∷ ms) [] e = absurd (empty_some _ _ (sym e))
-one_members (member.Inner l ∷ ms) [] e = absurd (empty_some _ _ (sym e))
-one_members (m ∷ ms) (n ∷ ns) e =
-    let one = one_member [] [] m n (told_members ms) (told_members ns) e in
-    let rest = one_members ms ns one.2 in
-    let member_is = one.0 in
-    rw (member_is, rest) refl
+one_members : OneValue → (d : Dialect) (source : Seq ℕ) (ns : Seq Node) (xs ys : Seq Member)
+    → DescribesMembers d source ns xs → DescribesMembers d source ns ys → xs ≡ ys
+one_members one d source ns [] [] e f = refl
+one_members one d source ns [] (y ∷ ys) e (own, rest, f, u, w) =
+    absurd (no_part source [] ns own rest e f (opens d source [] own y u))
+one_members one d source ns (x ∷ xs) [] (front, back, e, t, q) f =
+    absurd (no_part source [] ns front back f e (opens d source [] front x t))
+one_members one d source ns (x ∷ xs) (y ∷ ys) (front, back, e, t, q) (own, rest, f, u, w) =
+    let s = one_front source [] [] ns front back own rest (opens d source [] front x t)
+    (opens d source [] own y u) e f in
+    let first = one_member one d source [] [] own x y
+    (subst (λ z. DescribesMember d source [] z x) s.here t) u in
+    let others = one_members one d source rest xs ys
+    (subst (λ z. DescribesMembers d source z xs) s.others q) w in
+    rw (first, others) refl
 
-one_entries : (ps qs : Pairs Member) → told_entries ps ≡ told_entries qs → ps ≡ qs
-one_entries [] [] e = refl
-one_entries [] ((l, member.Item j) ∷ qs) e = absurd (empty_some _ _ e)
-one_entries [] ((l, member.Inner n) ∷ qs) e = absurd (empty_some _ _ e)
-one_entries ((k, member.Item i) ∷ ps) [] e = absurd (empty_some _ _ (sym e))
-one_entries ((k, member.Inner m) ∷ ps) [] e = absurd (empty_some _ _ (sym e))
-one_entries ((k, m) ∷ ps) ((l, n) ∷ qs) e =
-    let one = one_member k l m n (told_entries ps) (told_entries qs) e in
-    let rest = one_entries ps qs one.2 in
-    let key = one.1 in
-    let value = one.0 in
-    rw (key, value, rest) refl
+one_entries : OneValue → (d : Dialect) (source : Seq ℕ) (ns : Seq Node) (ps qs : Pairs Member)
+    → DescribesEntries d source ns ps → DescribesEntries d source ns qs → ps ≡ qs
+one_entries one d source ns [] [] e f = refl
+one_entries one d source ns [] ((l, y) ∷ qs) e (own, rest, f, u, w) =
+    absurd (no_part source l ns own rest e f (opens d source l own y u))
+one_entries one d source ns ((k, x) ∷ ps) [] (front, back, e, t, q) f =
+    absurd (no_part source k ns front back f e (opens d source k front x t))
+one_entries one d source ns ((k, x) ∷ ps) ((l, y) ∷ qs) (front, back, e, t, q) (own, rest, f, u, w) =
+    let s = one_front source k l ns front back own rest (opens d source k front x t)
+    (opens d source l own y u) e f in
+    let key = s.key in
+    let value = one_member one d source k l own x y
+    (subst (λ z. DescribesMember d source k z x) s.here t) u in
+    let others = one_entries one d source rest ps qs
+    (subst (λ z. DescribesEntries d source z ps) s.others q) w in
+    rw (key, value, others) refl
 
--- two fields of a kind that have the same parts
-pub one_field : (v w : Field) → kind_of v ≡ kind_of w → told_field v ≡ told_field w → v ≡ w
-one_field (field.Item i) (field.Item j) h e =
-    let one = one_item roles.Member roles.Member [] [] i j [] [] (ap ended e) in ap field.Item one.0
-one_field (field.List l) (field.List m) h e = ap list_of (one_members l.members m.members e)
-one_field (field.Dict d) (field.Dict c) h e = ap dict_of (one_entries d.members c.members e)
-one_field (field.Item i) (field.List m) h e =
+-- two fields of a kind that the same nodes describe
+pub one_field : OneValue → (d : Dialect) (source : Seq ℕ) (ns : Seq Node) (v w : Field)
+    → kind_of v ≡ kind_of w → DescribesField d source ns v → DescribesField d source ns w → v ≡ w
+one_field one d source ns (field.Item i) (field.Item j) h t u =
+    ap field.Item (one_item one d source roles.Member roles.Member [] [] ns i j t u)
+one_field one d source ns (field.List l) (field.List m) h t u =
+    ap list_of (one_members one d source ns l.members m.members t u)
+one_field one d source ns (field.Dict l) (field.Dict m) h t u =
+    ap dict_of (one_entries one d source ns l.members m.members t u)
+one_field one d source ns (field.Item i) (field.List m) h t u =
     let never : kind.Item ≡ kind.List = h in absurd cc
-one_field (field.Item i) (field.Dict c) h e =
+one_field one d source ns (field.Item i) (field.Dict m) h t u =
     let never : kind.Item ≡ kind.Dict = h in absurd cc
-one_field (field.List l) (field.Item j) h e =
+one_field one d source ns (field.List l) (field.Item j) h t u =
     let never : kind.List ≡ kind.Item = h in absurd cc
-one_field (field.List l) (field.Dict c) h e =
+one_field one d source ns (field.List l) (field.Dict m) h t u =
     let never : kind.List ≡ kind.Dict = h in absurd cc
-one_field (field.Dict d) (field.Item j) h e =
+one_field one d source ns (field.Dict l) (field.Item j) h t u =
     let never : kind.Dict ≡ kind.Item = h in absurd cc
-one_field (field.Dict d) (field.List m) h e =
+one_field one d source ns (field.Dict l) (field.List m) h t u =
     let never : kind.Dict ≡ kind.List = h in absurd cc

@@ -1,17 +1,19 @@
 -- What parsing a text into nodes returns.
-use Rattle.std.specs.Prelude.{◌≡◌, ℕ, ◌+◌, ◌*◌, ◌<◌, ◌≤◌, ◌⊎◌, List, length}
+use Rattle.std.specs.Prelude.{◌≡◌, ℕ, ◌+◌, ◌*◌, ◌^◌, ◌<◌, ◌≤◌, ◌++◌, ◌⊎◌, List, length, take}
 use Rattle.sf_value.specs.declared.dialect.Dialect.{Dialect}
 use Rattle.sf_value.specs.declared.value.Field.{Field}
 use Rattle.sf_value.specs.declared.value.Kind.{Kind}
+use Rattle.sf_value.specs.Grammar.Words.{Each}
 use Rattle.sf_parse.specs.Parsers.{IsOnly}
-use Rattle.sf_c.specs.declared.nodes.Node.{Node}
-use Rattle.sf_c.specs.declared.nodes.Sizes.{Sizes}
+use Rattle.sf_view.specs.declared.node.Node.{Node}
+use Rattle.sf_view.specs.View.{DescribesField}
+use Rattle.sf_c.specs.declared.parsing.Sizes.{Sizes}
 use Rattle.sf_c.specs.declared.refusal.SyntaxRefusal.{SyntaxRefusal}
 use Rattle.sf_c.specs.declared.status.Status.{Status}
 use Rattle.sf_c.specs.declared.status.Status.TheVariants.{Answered, Refused, Short, OutOfMemory}
-use Rattle.sf_c.specs.Nodes.{told_field}
+use Rattle.sf_c.specs.declared.status.Status.TheVariants.{TooLong}
+use Rattle.sf_c.specs.NodeCounts.{field_nodes, field_bytes}
 use Rattle.sf_c.specs.Refusals.{SaysRefusal}
-use Rattle.sf_c.specs.Tellings.{told_size, TellAtFront}
 
 -- what parsing into nodes may write to
 pub record NodeOutput : Type 0 where
@@ -20,36 +22,67 @@ pub record NodeOutput : Type 0 where
   pub sizes : Sizes
   pub refusal : SyntaxRefusal
 
--- how many nodes and bytes the value of the text t has: nodes at most four fifths of its length,
--- rounded to the nearest number, and bytes at most eight fifths
-abbrev pub AreSizes : List ℕ → Sizes → Field → Type 0
-AreSizes t sizes v =
-    (sizes.nodes ≡ length (told_field v))
-    × (sizes.bytes ≡ told_size (told_field v))
-    × (10 * sizes.nodes ≤ 8 * length t + 5)
-    × (5 * sizes.bytes ≤ 8 * length t)
+-- the bytes of the node are those that it points to
+abbrev pub IsDecoded : Node → Type 0
+IsDecoded n = n.coded ≡ 0
 
--- the starts of the buffers describe the value that the text t spells, the only one; or a buffer is
--- too small; or the struct says the refusal. All else is left as it was
+-- bytes at this offset are all before this place, or all behind it
+abbrev pub IsOnOneSide : ℕ → ℕ → ℕ → Type 0
+IsOnOneSide place at count = (at + count ≤ place) ⊎ (place ≤ at)
+
+-- the key of the node is in the text of this length, or in the bytes after it, and so are its bytes
+abbrev pub IsInOne : ℕ → Node → Type 0
+IsInOne size n =
+    IsOnOneSide size n.key_at n.key_length × IsOnOneSide size n.text_at n.text_length
+
+-- the value of the text t has few nodes and bytes: nodes are at most four fifths of the length of
+-- the text, rounded to the nearest number, and bytes at most eight fifths
+abbrev pub IsSmall : List ℕ → Field → Type 0
+IsSmall t v = (10 * field_nodes v ≤ 8 * length t + 5) × (5 * field_bytes v ≤ 8 * length t)
+
+-- the first nodes describe the value, with the text t and the first bytes after it
+pub record HoldsNodes (d : Dialect) (t : List ℕ) (nodes : List Node) (bytes : List ℕ) (sizes : Sizes)
+    (v : Field) : Type 0 where
+  pub nodes_fit : sizes.nodes ≤ length nodes
+  pub bytes_fit : sizes.bytes ≤ length bytes
+  pub describes : DescribesField d (t ++ take sizes.bytes bytes) (take sizes.nodes nodes) v
+  pub decoded : Each IsDecoded (take sizes.nodes nodes)
+  pub in_one : Each (IsInOne (length t)) (take sizes.nodes nodes)
+  pub count : sizes.nodes ≡ field_nodes v
+
+-- so do those of the value that the text spells, the only one
+abbrev pub IsHeld : Dialect → Kind → List ℕ → List Node → List ℕ → Sizes → Type 0
+IsHeld d k t nodes bytes sizes =
+    (v : Field) × IsOnly d k t v × IsSmall t v × HoldsNodes d t nodes bytes sizes v
+
+-- what a call keeps whose answer is not the value: only what the buffers hold may change
+abbrev pub KeepsLengths : NodeOutput → NodeOutput → Type 0
+KeepsLengths old new =
+    (length new.nodes ≡ length old.nodes) × (length new.bytes ≡ length old.bytes)
+
+-- the starts of the buffers describe the value that the text t spells, the only one; or one of them
+-- is too small for it; or the struct says the refusal; or an offset would have to be 2^32 or more
 abbrev pub Flattens : NodeOutput → NodeOutput → List ℕ → Dialect → Kind → Status → Type 0
 Flattens old new t d k Answered =
-    (v : Field)
-    × IsOnly d k t v
-    × AreSizes t new.sizes v
-    × TellAtFront (told_field v) old.nodes new.nodes old.bytes new.bytes
+    IsHeld d k t new.nodes new.bytes new.sizes
+    × KeepsLengths old new
     × (new.refusal ≡ old.refusal)
 Flattens old new t d k Short =
     (v : Field)
     × IsOnly d k t v
-    × AreSizes t new.sizes v
+    × IsSmall t v
+    × (new.sizes.nodes ≡ field_nodes v)
+    × (new.sizes.bytes ≡ field_bytes v)
     × ((length old.nodes < new.sizes.nodes) ⊎ (length old.bytes < new.sizes.bytes))
-    × (new.nodes ≡ old.nodes)
-    × (new.bytes ≡ old.bytes)
+    × KeepsLengths old new
+    × (new.refusal ≡ old.refusal)
+Flattens old new t d k TooLong =
+    ((2 ^ 32 ≤ length t) ⊎ ((v : Field) × IsOnly d k t v × (2 ^ 32 ≤ length t + field_bytes v)))
+    × KeepsLengths old new
+    × (new.sizes ≡ old.sizes)
     × (new.refusal ≡ old.refusal)
 Flattens old new t d k Refused =
-    SaysRefusal d k t new.refusal
-    × (new.nodes ≡ old.nodes)
-    × (new.bytes ≡ old.bytes)
-    × (new.sizes ≡ old.sizes)
-Flattens old new t d k OutOfMemory = new ≡ old
+    SaysRefusal d k t new.refusal × KeepsLengths old new × (new.sizes ≡ old.sizes)
+Flattens old new t d k OutOfMemory =
+    KeepsLengths old new × (new.sizes ≡ old.sizes) × (new.refusal ≡ old.refusal)
 Flattens old new t d k status = ⊥

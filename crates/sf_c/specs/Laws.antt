@@ -14,29 +14,35 @@ use Rattle.sf_parse.specs.Parsers.{IsOnly}
 use Rattle.sf_use.specs.Priority.{asked}
 use Rattle.sf_c.specs.declared.priority.PriorityFlags.{PriorityFlags}
 use Rattle.sf_c.specs.Priorities.{asked_by, asking}
-use Rattle.sf_c.specs.declared.nodes.Node.{Node}
+use Rattle.sf_view.specs.declared.node.Node.{Node}
+use Rattle.sf_view.specs.View.{DescribesField}
 use Rattle.sf_c.specs.declared.hops.HopNode.{HopNode}
-use Rattle.sf_c.specs.Tellings.{told_by, told_size}
-use Rattle.sf_c.specs.Nodes.{told_field}
+use Rattle.sf_c.specs.NodeCounts.{field_nodes, field_bytes}
 use Rattle.sf_c.specs.Hops.{hops_size, told_hop, told_hop_by}
 
--- nodes that describe two values of a kind describe one
+-- nodes that describe two values of a kind, with the bytes that they point into, describe one
 abbrev pub TellOneValue : Type 0
 TellOneValue =
-    (bytes : List ℕ) (nodes : List Node) (v w : Field) → kind_of v ≡ kind_of w
-    → map (told_by bytes) nodes ≡ told_field v → map (told_by bytes) nodes ≡ told_field w → v ≡ w
+    (d : Dialect) (source : List ℕ) (nodes : List Node) (v w : Field) → kind_of v ≡ kind_of w
+    → DescribesField d source nodes v → DescribesField d source nodes w → v ≡ w
+
+-- nodes that describe a value are as many as the value has
+abbrev pub NodesAreTheirs : Type 0
+NodesAreTheirs =
+    (d : Dialect) (source : List ℕ) (nodes : List Node) (v : Field)
+    → DescribesField d source nodes v → length nodes ≡ field_nodes v
 
 -- how many nodes the value of a text may have
 abbrev pub NodesAreFew : Type 0
 NodesAreFew =
     (d : Dialect) (kind : Kind) (t : List ℕ) (v : Field)
-    → SpellsField d kind t v → 10 * length (told_field v) ≤ 8 * length t + 5
+    → SpellsField d kind t v → 10 * field_nodes v ≤ 8 * length t + 5
 
 -- how many bytes it may have
 abbrev pub BytesAreFew : Type 0
 BytesAreFew =
     (d : Dialect) (kind : Kind) (t : List ℕ) (v : Field)
-    → SpellsField d kind t v → 5 * told_size (told_field v) ≤ 8 * length t
+    → SpellsField d kind t v → 5 * field_bytes v ≤ 8 * length t
 
 -- structs that describe two paths describe one
 abbrev pub TellOnePath : Type 0

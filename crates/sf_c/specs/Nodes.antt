@@ -1,8 +1,7 @@
--- What the nodes of a value describe, in the order of the canonical text.
-use Rattle.std.specs.Prelude.{ℕ, ◌+◌, ℤ, pos, true, List as Seq, [], ◌∷◌, ◌++◌, length}
+-- What the parts of a value are, in the order of the canonical text. Only the proofs of sf_parse's
+-- second way use these words.
+use Rattle.std.specs.Prelude.{ℕ, ◌+◌, pos, List as Seq, [], ◌∷◌, ◌++◌, length}
 use Rattle.sf_value.specs.declared.value.Bare.{Bare}
-use Rattle.sf_value.specs.declared.value.Bare.TheVariants.{Integer, Decimal, Text, Token}
-use Rattle.sf_value.specs.declared.value.Bare.TheVariants.{Blob, Boolean, Date, Shown}
 use Rattle.sf_value.specs.declared.value.Item.{Item}
 use Rattle.sf_value.specs.declared.value.Inner.{Inner}
 use Rattle.sf_value.specs.declared.value.Member.{Member}
@@ -10,49 +9,21 @@ use Rattle.sf_value.specs.declared.value.Member.TheVariants as member
 use Rattle.sf_value.specs.declared.value.Field.{Field}
 use Rattle.sf_value.specs.declared.value.Field.TheVariants as field
 use Rattle.sf_value.specs.Grammar.Pairs.{Pairs}
-use Rattle.sf_c.specs.declared.node_types.NodeType.{NodeType}
-use Rattle.sf_c.specs.declared.node_types.NodeType.TheVariants as types
-use Rattle.sf_c.specs.declared.node_types.Role.{Role}
-use Rattle.sf_c.specs.declared.node_types.Role.TheVariants as roles
-use Rattle.sf_c.specs.NodeTypes.{role_number, type_number}
+use Rattle.sf_view.specs.declared.node_types.NodeType.TheVariants as types
+use Rattle.sf_view.specs.declared.node_types.Role.{Role}
+use Rattle.sf_view.specs.declared.node_types.Role.TheVariants as roles
+use Rattle.sf_view.specs.View.{type_of, number_of, text_of}
 use Rattle.sf_c.specs.Tellings.{Told}
-
--- the type of a bare item
-abbrev pub type_of : Bare → NodeType
-type_of (Integer n) = types.Integer
-type_of (Decimal m) = types.Decimal
-type_of (Text s) = types.Text
-type_of (Token s) = types.Token
-type_of (Blob s) = types.Blob
-type_of (Boolean b) = types.Boolean
-type_of (Date n) = types.Date
-type_of (Shown s) = types.Shown
-
--- an Integer, the thousandths of a Decimal, the second of a Date, or 1 for true
-abbrev pub number_of : Bare → ℤ
-number_of (Integer n) = n
-number_of (Decimal m) = m
-number_of (Boolean true) = pos 1
-number_of (Date n) = n
-number_of x = pos 0
-
--- the bytes of the others
-abbrev pub text_of : Bare → Seq ℕ
-text_of (Text s) = s
-text_of (Token s) = s
-text_of (Blob s) = s
-text_of (Shown s) = s
-text_of x = []
 
 -- a bare item in this role, with this key, and with so many nodes
 abbrev pub told : Role → Seq ℕ → ℕ → Bare → Told
-told role key span x = record {
-  role = role_number role;
-  node_type = type_number (type_of x);
+told role key size x = record {
+  role = role;
+  node_type = type_of x;
   number = number_of x;
   key = key;
   text = text_of x;
-  span = span;
+  size = size;
 }
 
 -- parameters of an Item or of an Inner List: a node for each
@@ -78,12 +49,12 @@ told_inside l = told_items l.items ++ told_params roles.InnerParameter l.params
 abbrev pub told_inner : Seq ℕ → Inner → Seq Told
 told_inner key l =
     record {
-      role = role_number roles.Member;
-      node_type = type_number types.InnerList;
+      role = roles.Member;
+      node_type = types.InnerList;
       number = pos 0;
       key = key;
       text = [];
-      span = 1 + length (told_inside l);
+      size = 1 + length (told_inside l);
     }
     ∷ told_inside l
 

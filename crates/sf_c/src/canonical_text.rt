@@ -1,6 +1,9 @@
 //! The canonical text.
+ghost use Rattle.std.specs.Prelude.{◌≡◌, MatchResult, Err};
+ghost use Rattle.sf_view.specs.Written.{IsCanonicalOf};
 ghost use Rattle.sf_c.specs.Calls.{Called, dialect_at, kind_at};
 ghost use Rattle.sf_c.specs.Normal.{Normalises, Equals};
+ghost use Rattle.sf_c.specs.Parsing.{ParsesOrSays};
 ghost use Rattle.sf_c.specs.Statuses.{status_at};
 
 use crate::buffer::put;
@@ -10,6 +13,7 @@ use crate::seed::Seed;
 use crate::status::Status;
 use sf_value::laws::canon_is_short;
 use sf_value::{Dialect, Kind, same};
+use sf_view::canonical_text;
 use sf_write::to_text;
 use std::alloc::Global;
 
@@ -88,20 +92,45 @@ fn normalise(
         (record { buffer = buffer.new; required = required.new; refusal = refusal.new })
         text.now dialect kind result }
 {
-    let field = match parse(alloc, seed, dialect, kind, text, refusal) {
-        Ok(field) => field,
+    let canonical = match canonical(alloc, seed, dialect, kind, text, refusal) {
+        Ok(canonical) => canonical,
         Err(status) => return status,
     };
     canon_is_short();
-    let Ok(canonical) = to_text(alloc, &field) else {
-        return Status::OutOfMemory;
-    };
     *required = canonical.len();
     if buffer.len() < canonical.len() {
         return Status::Short;
     }
     put(buffer, 0, canonical.as_slice());
     Status::Answered
+}
+
+/// The canonical text of the value that the text spells, written from nodes if the text has a view,
+/// or the status that says why there is none; a refusal is put into its struct, which is otherwise
+/// left as it was.
+fn canonical(
+    alloc: Global,
+    seed: &Seed,
+    dialect: Dialect,
+    kind: Kind,
+    text: &[u8],
+    refusal: &mut SyntaxRefusal,
+) -> Result<Vec<u8>, Status>
+    // The canonical text of the only value, or the struct says the refusal, memory aside.
+    ensures { MatchResult result
+        (λ c. IsCanonicalOf dialect kind text.now c.items × (refusal.new ≡ refusal.old))
+        (λ status. ParsesOrSays refusal.old refusal.new text.now dialect kind (Err status)) }
+{
+    match canonical_text(alloc, dialect, kind, text) {
+        Ok(Some(canonical)) => return Ok(canonical),
+        Ok(None) => {}
+        Err(_) => return Err(Status::OutOfMemory),
+    }
+    let field = parse(alloc, seed, dialect, kind, text, refusal)?;
+    match to_text(alloc, &field) {
+        Ok(canonical) => return Ok(canonical),
+        Err(_) => return Err(Status::OutOfMemory),
+    }
 }
 
 /// As [`sf_equal`] answers, of a dialect and a kind.

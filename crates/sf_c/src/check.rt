@@ -8,6 +8,7 @@ use crate::refusal::SyntaxRefusal;
 use crate::seed::Seed;
 use crate::status::Status;
 use sf_value::{Dialect, Kind};
+use sf_view::accepts;
 use std::alloc::Global;
 
 /// Whether the text spells a value of the kind in the dialect (RFC 9651 section 4.2): `Answered` if
@@ -44,6 +45,9 @@ fn check(
     // whether the text spells a value; where it is Refused, the struct says why
     ensures { Checks refusal.old refusal.new text.now dialect kind result }
 {
+    if accepts(dialect, kind, text) {
+        return Status::Answered;
+    }
     match parse(alloc, seed, dialect, kind, text, refusal) {
         Ok(_) => Status::Answered,
         Err(status) => status,

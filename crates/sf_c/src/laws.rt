@@ -1,12 +1,20 @@
 //! Laws of the nodes and of the hops, each as the contract of a function that does nothing.
-ghost use Rattle.sf_c.specs.Laws.{BytesAreFew, NodesAreFew, TellOneValue};
+ghost use Rattle.sf_c.specs.Laws.{BytesAreFew, NodesAreFew, NodesAreTheirs, TellOneValue};
 ghost use Rattle.sf_c.specs.Laws.{HopBytesAreFew, HopsAreFew, PriorityIsRead, TellOnePath};
 
+use sf_parse::laws::one_value;
 use sf_value::laws::{canon_is_short, spelled_is_valid};
 
 /// Nodes, with the bytes that they point into, describe at most one value of a kind.
 pub fn nodes_tell_one_value()
     ensures { TellOneValue }
+{
+    one_value();
+}
+
+/// Nodes that describe a value are as many as the value has.
+pub fn nodes_are_theirs()
+    ensures { NodesAreTheirs }
 {}
 
 /// The value of a text has at most four fifths of the text's length in nodes, rounded to the

@@ -1,64 +1,49 @@
-//! A value as a flat list of nodes.
-ghost use Rattle.std.specs.Prelude.{◌≡◌, ◌+◌, ◌++◌, ◌≤◌, [], ◌∷◌, pos, length};
+//! A value as nodes, from its tree.
+ghost use Rattle.std.specs.Prelude.{◌≡◌, ◌+◌, ◌++◌, ◌≤◌, ◌<◌, ◌^◌, [], ◌∷◌, ℕ, List, pos, length, map, take};
 ghost use Rattle.std.specs.Prelude.{IfOk, MatchResult};
-ghost use Rattle.sf_c.specs.Tellings.{told_size, TellAtFront};
+ghost use Rattle.sf_value.specs.declared.dialect.Dialect.{Dialect as Which};
+ghost use Rattle.sf_value.specs.declared.value.Field.{Field as FieldValue};
+ghost use Rattle.sf_value.specs.Grammar.Words.{Each};
+ghost use Rattle.sf_view.specs.View.{DescribesField};
+ghost use Rattle.sf_c.specs.Flattening.{IsDecoded, IsInOne};
+ghost use Rattle.sf_c.specs.Tellings.{told_size, node_of as node_of_part, IsPartSmall};
 ghost use Rattle.sf_c.specs.Nodes.{told, told_entries, told_field, told_inner, told_inside};
-ghost use Rattle.sf_c.specs.NodeTypes.{role_number, type_number};
 ghost use Rattle.sf_c.specs.Nodes.{told_item, told_items, told_member, told_members, told_params};
 
 use crate::buffer::put;
-use crate::node_types::{NodeType, Role};
+use crate::parsing::Sizes;
 use sf_value::{Bare, Entries, Field, Inner, Item, Member, OutOfMemory};
+use sf_view::{Node, NodeType, Role};
 use std::alloc::Global;
 use std::marker::Model;
 
-/// A part of a value. In C an `sf_node`.
-#[repr(C)]
-#[derive(Clone, Copy, Debug, Drop)]
-pub struct Node {
-    /// The number of an Integer or a Date, the thousandths of a Decimal, 1 for Boolean true;
-    /// otherwise 0.
+/// A node before it is known whether its offsets fit: they count in the bytes alone.
+#[derive(Clone, Copy, Drop)]
+pub(crate) struct Part {
     pub number: i64,
-    /// The offset of the key in the bytes.
     pub key_at: usize,
-    /// The length of the key; 0 if there is none.
     pub key_length: usize,
-    /// The offset of the decoded bytes of a String, a Token, a Byte Sequence or a Display String.
     pub text_at: usize,
-    /// The length of these bytes; 0 for another type.
     pub text_length: usize,
-    /// The number of nodes of this part, including this one: the next sibling is that many further.
-    pub span: usize,
-    /// The number of its [`Role`].
-    pub role: u32,
-    /// The number of its [`NodeType`].
-    pub node_type: u32,
+    pub size: u32,
+    pub node_type: NodeType,
+    pub role: Role,
 }
 
-/// How many nodes and bytes a value has. In C an `sf_sizes`.
-#[repr(C)]
-#[derive(Clone, Copy, Debug, Drop)]
-pub struct Sizes {
-    /// How many nodes.
-    pub nodes: usize,
-    /// How many bytes, those of keys and those of texts.
-    pub bytes: usize,
-}
-
-/// The nodes of a value, and the bytes that they point into. Contracts see what the nodes describe.
-#[derive(Drop)]
-pub(crate) struct Flat {
-    nodes: Vec<Node>,
-    bytes: Vec<u8>,
-}
-
-/// The role, type and number of a node, without its key and bytes.
+/// The role, type, number and size of a part, without its key and bytes.
 #[derive(Clone, Copy)]
-struct Part {
+struct Shape {
     role: Role,
     node_type: NodeType,
     number: i64,
-    span: usize,
+    size: u32,
+}
+
+/// The parts of a value, and the bytes that they point into. Contracts see what the parts describe.
+#[derive(Drop)]
+pub(crate) struct Flat {
+    parts: Vec<Part>,
+    bytes: Vec<u8>,
 }
 
 impl Model for Flat {
@@ -67,18 +52,41 @@ impl Model for Flat {
 
     ghost Value = { List Told };
 
-    ghost view = { λ f. map (told_by f.bytes.items) f.nodes.items };
+    ghost view = { λ f. map (told_by f.bytes.items) f.parts.items };
 
-    ghost invariant = { λ f. HoldsUp f.bytes.items f.nodes.items };
+    ghost invariant = { λ f. HoldsUp f.bytes.items f.parts.items };
+}
+
+impl Part {
+    /// The node of the part, if the bytes are after a text of this length.
+    fn node(&self, start: usize) -> Node
+        requires key { start + self.now.key_at < 2 ^ 32 }
+        requires key_length { self.now.key_length < 2 ^ 32 }
+        requires text { start + self.now.text_at < 2 ^ 32 }
+        requires text_length { self.now.text_length < 2 ^ 32 }
+        ensures { result ≡ node_of_part start self.now }
+    {
+        Node {
+            number: self.number,
+            key_at: (start + self.key_at) as u32,
+            key_length: self.key_length as u32,
+            text_at: (start + self.text_at) as u32,
+            text_length: self.text_length as u32,
+            size: self.size,
+            node_type: self.node_type.code(),
+            role: self.role.code(),
+            coded: 0,
+        }
+    }
 }
 
 impl Flat {
-    /// No nodes.
+    /// No parts.
     pub(crate) fn new(alloc: Global) -> Flat
         ensures { result ≡ [] }
     {
         Flat {
-            nodes: Vec::new(alloc),
+            parts: Vec::new(alloc),
             bytes: Vec::new(alloc),
         }
     }
@@ -89,51 +97,75 @@ impl Flat {
         ensures bytes { result.bytes ≡ told_size self.now }
     {
         Sizes {
-            nodes: self.nodes.as_slice().len(),
+            nodes: self.parts.as_slice().len(),
             bytes: self.bytes.as_slice().len(),
         }
     }
 
-    /// Puts the nodes and the bytes at the start of buffers that are long enough.
-    pub(crate) fn write(&self, nodes: &mut [Node], bytes: &mut [u8])
+    /// Puts the nodes and the bytes at the start of buffers that are long enough, for a text of this
+    /// length.
+    pub(crate) fn write(&self, start: usize, nodes: &mut [Node], bytes: &mut [u8])
         requires nodes { length self.now ≤ length nodes.old }
         requires bytes { told_size self.now ≤ length bytes.old }
-        // the starts of the buffers describe the nodes, and what is after them is left as it was
-        ensures { TellAtFront self.now nodes.old nodes.new bytes.old bytes.new }
+        requires small { start + told_size self.now < 2 ^ 32 }
+        ensures same_nodes { length nodes.new ≡ length nodes.old }
+        ensures same_bytes { length bytes.new ≡ length bytes.old }
+        // After any text of that length they describe the value.
+        ensures describes { (d : Which) (source : List ℕ) (v : FieldValue)
+            → length source ≡ start
+            → self.now ≡ told_field v
+            → DescribesField d (source ++ take (told_size self.now) bytes.new)
+            (take (length self.now) nodes.new) v }
+        ensures decoded { Each IsDecoded (take (length self.now) nodes.new) }
+        ensures in_one { Each (IsInOne start) (take (length self.now) nodes.new) }
     {
-        put(nodes, 0, self.nodes.as_slice());
         put(bytes, 0, self.bytes.as_slice());
+        write_parts(self.parts.as_slice(), start, nodes);
     }
 
-    /// One more node, with its key and its bytes; or all as it was.
-    fn push(&mut self, part: Part, key: &[u8], text: &[u8]) -> Result<(), OutOfMemory>
+    /// One more part, with its key and its bytes; or all as it was.
+    fn push(&mut self, shape: Shape, key: &[u8], text: &[u8]) -> Result<(), OutOfMemory>
         ensures { IfOk result (λ _. self.new ≡ self.old ++ record {
-          role = role_number part.role;
-          node_type = type_number part.node_type;
-          number = part.number;
+          role = shape.role;
+          node_type = shape.node_type;
+          number = shape.number;
           key = key.now;
           text = text.now;
-          span = part.span;
+          size = shape.size;
         } ∷ []) }
     {
         let key_at = self.bytes.as_slice().len();
         let text_at = add(key_at, key.len())?;
         extend(&mut self.bytes, key, text)?;
-        let node = Node {
-            number: part.number,
+        let part = Part {
+            number: shape.number,
             key_at,
             key_length: key.len(),
             text_at,
             text_length: text.len(),
-            span: part.span,
-            role: part.role.code(),
-            node_type: part.node_type.code(),
+            size: shape.size,
+            node_type: shape.node_type,
+            role: shape.role,
         };
-        if self.nodes.push(node).is_err() {
+        if self.parts.push(part).is_err() {
             self.bytes.truncate(key_at);
             return Err(OutOfMemory);
         }
         Ok(())
+    }
+}
+
+/// Puts the nodes of the parts at the start of a buffer that is long enough.
+fn write_parts(parts: &[Part], start: usize, nodes: &mut [Node])
+    requires nodes { length parts.now ≤ length nodes.old }
+    requires small { Each (IsPartSmall start) parts.now }
+    ensures same { length nodes.new ≡ length nodes.old }
+    ensures nodes { take (length parts.now) nodes.new ≡ map (node_of_part start) parts.now }
+{
+    let mut count = 0;
+    while count < parts.len() {
+        nodes[count] = parts[count].node(start);
+        count += 1;
     }
 }
 
@@ -158,26 +190,26 @@ fn push_number(
     flat: &mut Flat,
     role: Role,
     key: &[u8],
-    span: usize,
+    size: u32,
     node_type: NodeType,
     number: i64,
 ) -> Result<(), OutOfMemory>
     ensures { IfOk result (λ _. flat.new ≡ flat.old ++ record {
-      role = role_number role;
-      node_type = type_number node_type;
+      role = role;
+      node_type = node_type;
       number = number;
       key = key.now;
       text = [];
-      span = span;
+      size = size;
     } ∷ []) }
 {
-    let part = Part {
+    let shape = Shape {
         role,
         node_type,
         number,
-        span,
+        size,
     };
-    flat.push(part, key, b"")
+    flat.push(shape, key, b"")
 }
 
 /// Bytes, in the place of a number.
@@ -185,26 +217,26 @@ fn push_text(
     flat: &mut Flat,
     role: Role,
     key: &[u8],
-    span: usize,
+    size: u32,
     node_type: NodeType,
     text: &[u8],
 ) -> Result<(), OutOfMemory>
     ensures { IfOk result (λ _. flat.new ≡ flat.old ++ record {
-      role = role_number role;
-      node_type = type_number node_type;
+      role = role;
+      node_type = node_type;
       number = pos 0;
       key = key.now;
       text = text.now;
-      span = span;
+      size = size;
     } ∷ []) }
 {
-    let part = Part {
+    let shape = Shape {
         role,
         node_type,
         number: 0,
-        span,
+        size,
     };
-    flat.push(part, key, text)
+    flat.push(shape, key, text)
 }
 
 /// A bare item.
@@ -212,20 +244,20 @@ fn push_bare(
     flat: &mut Flat,
     role: Role,
     key: &[u8],
-    span: usize,
+    size: u32,
     bare: &Bare,
 ) -> Result<(), OutOfMemory>
-    ensures { IfOk result (λ _. flat.new ≡ flat.old ++ told role key.now span bare.now ∷ []) }
+    ensures { IfOk result (λ _. flat.new ≡ flat.old ++ told role key.now size bare.now ∷ []) }
 {
     match bare {
-        Bare::Integer(n) => push_number(flat, role, key, span, NodeType::Integer, n.get()),
-        Bare::Decimal(n) => push_number(flat, role, key, span, NodeType::Decimal, n.get()),
-        Bare::Text(text) => push_text(flat, role, key, span, NodeType::Text, text.as_bytes()),
-        Bare::Token(token) => push_text(flat, role, key, span, NodeType::Token, token.as_bytes()),
-        Bare::Blob(blob) => push_text(flat, role, key, span, NodeType::Blob, blob.as_bytes()),
-        Bare::Boolean(b) => push_number(flat, role, key, span, NodeType::Boolean, i64::from(*b)),
-        Bare::Date(n) => push_number(flat, role, key, span, NodeType::Date, n.get()),
-        Bare::Shown(shown) => push_text(flat, role, key, span, NodeType::Shown, shown.as_bytes()),
+        Bare::Integer(n) => push_number(flat, role, key, size, NodeType::Integer, n.get()),
+        Bare::Decimal(n) => push_number(flat, role, key, size, NodeType::Decimal, n.get()),
+        Bare::Text(text) => push_text(flat, role, key, size, NodeType::Text, text.as_bytes()),
+        Bare::Token(token) => push_text(flat, role, key, size, NodeType::Token, token.as_bytes()),
+        Bare::Blob(blob) => push_text(flat, role, key, size, NodeType::Blob, blob.as_bytes()),
+        Bare::Boolean(b) => push_number(flat, role, key, size, NodeType::Boolean, i64::from(*b)),
+        Bare::Date(n) => push_number(flat, role, key, size, NodeType::Date, n.get()),
+        Bare::Shown(shown) => push_text(flat, role, key, size, NodeType::Shown, shown.as_bytes()),
     }
 }
 
@@ -246,19 +278,22 @@ fn add(count: usize, more: usize) -> Result<usize, OutOfMemory>
     count.checked_add(more).ok_or(OutOfMemory)
 }
 
-/// The number of nodes, and one more.
-fn one_more(count: usize) -> Result<usize, OutOfMemory>
+/// The number of nodes, and one more. A text of less than 4 GiB has fewer than 2^32 nodes.
+fn one_more(count: usize) -> Result<u32, OutOfMemory>
     ensures { IfOk result (λ n. n ≡ 1 + count) }
 {
-    count.checked_add(1).ok_or(OutOfMemory)
+    if count >= 0xffff_ffff {
+        return Err(OutOfMemory);
+    }
+    Ok(count as u32 + 1)
 }
 
 /// An Item.
 fn push_item(flat: &mut Flat, role: Role, key: &[u8], item: &Item) -> Result<(), OutOfMemory>
     ensures { IfOk result (λ _. flat.new ≡ flat.old ++ told_item role key.now item.now) }
 {
-    let span = one_more(item.params.len())?;
-    push_bare(flat, role, key, span, &item.bare)?;
+    let size = one_more(item.params.len())?;
+    push_bare(flat, role, key, size, &item.bare)?;
     push_params(flat, Role::Parameter, &item.params)
 }
 
@@ -278,8 +313,8 @@ fn count_items(items: &[Item], more: usize) -> Result<usize, OutOfMemory>
 {
     let mut count = more;
     for item in items {
-        let size = one_more(item.params.len())?;
-        count = add(count, size)?;
+        let own = add(1, item.params.len())?;
+        count = add(count, own)?;
     }
     Ok(count)
 }
@@ -305,8 +340,8 @@ fn push_inner(flat: &mut Flat, key: &[u8], inner: &Inner) -> Result<(), OutOfMem
     ensures { IfOk result (λ _. flat.new ≡ flat.old ++ told_inner key.now inner.now) }
 {
     let count = count_inside(inner)?;
-    let span = one_more(count)?;
-    push_number(flat, Role::Member, key, span, NodeType::InnerList, 0)?;
+    let size = one_more(count)?;
+    push_number(flat, Role::Member, key, size, NodeType::InnerList, 0)?;
     push_inside(flat, inner)
 }
 
@@ -340,7 +375,7 @@ fn push_entries(flat: &mut Flat, entries: &Entries<Member>) -> Result<(), OutOfM
     Ok(())
 }
 
-/// The nodes of a field.
+/// The parts of a field.
 pub(crate) fn flatten(alloc: Global, field: &Field) -> Result<Flat, OutOfMemory>
     ensures { IfOk result (λ flat. flat ≡ told_field field.now) }
 {

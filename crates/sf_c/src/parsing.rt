@@ -1,21 +1,38 @@
 //! A value as nodes, into the caller's buffers.
+ghost use Rattle.std.specs.Prelude.{◌≡◌, ◌<◌, ◌^◌, length, IfSome};
 ghost use Rattle.sf_c.specs.Calls.{Called, dialect_at, kind_at};
-ghost use Rattle.sf_c.specs.Flattening.{Flattens};
+ghost use Rattle.sf_c.specs.Flattening.{Flattens, IsHeld};
 ghost use Rattle.sf_c.specs.Statuses.{status_at};
 
 use crate::call::{dialect_of, kind_of, parse};
-use crate::laws::nodes_are_few;
-use crate::nodes::{Node, Sizes, flatten};
+use crate::decoding::decode_nodes;
+use crate::laws::{nodes_are_few, nodes_are_theirs};
+use crate::nodes::flatten;
 use crate::refusal::SyntaxRefusal;
 use crate::seed::Seed;
 use crate::status::Status;
 use sf_value::{Dialect, Kind};
+use sf_view::{Node, scan_text};
 use std::alloc::Global;
 
-/// The value that the text spells, as nodes: `Answered` and the first `sizes.nodes` nodes and the
-/// first `sizes.bytes` bytes describe it, and the others are left as they were; `Short` if one of
-/// the buffers is smaller than `sizes` says, and both are left as they were; `Refused` if no value
-/// is spelled, and then `refusal` says where and why; `OutOfMemory`; or `BadCall`.
+/// The offsets that a node can have are below 2^32.
+const OFFSET_MAX: usize = 0xffff_ffff;
+
+/// How many nodes and bytes a value has. In C an `sf_sizes`.
+#[repr(C)]
+#[derive(Clone, Copy, Debug, Drop)]
+pub struct Sizes {
+    /// How many nodes.
+    pub nodes: usize,
+    /// How many bytes.
+    pub bytes: usize,
+}
+
+/// The value that the text spells, as nodes: `Answered` and the first `sizes.nodes` nodes describe
+/// it, with the text and the first `sizes.bytes` bytes after it; `Short` if one of the buffers is
+/// smaller than `sizes` says; `Refused` if no value is spelled, and then `refusal` says where and
+/// why; `TooLong` if the text, or the text and the bytes that are required, have 4 GiB or more;
+/// `OutOfMemory`; or `BadCall`. Only `BadCall` leaves the buffers as they were.
 #[unsafe(no_mangle)]
 pub extern "C" fn sf_parse(
     alloc: Global,
@@ -43,14 +60,14 @@ pub extern "C" fn sf_parse(
     let (Some(dialect), Some(kind)) = (dialect_of(dialect), kind_of(kind)) else {
         return Status::BadCall.code();
     };
-    parse_flat(
+    parse_nodes(
         alloc, seed, dialect, kind, text, nodes, bytes, sizes, refusal,
     )
     .code()
 }
 
 /// As [`sf_parse`] answers, of a dialect and a kind.
-fn parse_flat(
+fn parse_nodes(
     alloc: Global,
     seed: &Seed,
     dialect: Dialect,
@@ -67,6 +84,60 @@ fn parse_flat(
         (record { nodes = nodes.new; bytes = bytes.new; sizes = sizes.new; refusal = refusal.new })
         text.now dialect kind result }
 {
+    if text.len() > OFFSET_MAX {
+        return Status::TooLong;
+    }
+    if let Some(found) = scan_nodes(dialect, kind, text, nodes, bytes) {
+        *sizes = found;
+        return Status::Answered;
+    }
+    parse_tree(
+        alloc, seed, dialect, kind, text, nodes, bytes, sizes, refusal,
+    )
+}
+
+/// The nodes of a text that the scanner accepts, and the decoded bytes; `None` says nothing.
+fn scan_nodes(
+    dialect: Dialect,
+    kind: Kind,
+    text: &[u8],
+    nodes: &mut [Node],
+    bytes: &mut [u8],
+) -> Option<Sizes>
+    requires small { length text.now < 2 ^ 32 }
+    ensures same_nodes { length nodes.new ≡ length nodes.old }
+    ensures same_bytes { length bytes.new ≡ length bytes.old }
+    ensures held { IfSome result (IsHeld dialect kind text.now nodes.new bytes.new) }
+{
+    let count = scan_text(dialect, kind, text, nodes)?;
+    nodes_are_few();
+    nodes_are_theirs();
+    let (front, _) = nodes.split_at_mut(count);
+    let used = decode_nodes(text, front, bytes)?;
+    Some(Sizes {
+        nodes: count,
+        bytes: used,
+    })
+}
+
+/// As [`sf_parse`] answers, by the tree of the value.
+fn parse_tree(
+    alloc: Global,
+    seed: &Seed,
+    dialect: Dialect,
+    kind: Kind,
+    text: &[u8],
+    nodes: &mut [Node],
+    bytes: &mut [u8],
+    sizes: &mut Sizes,
+    refusal: &mut SyntaxRefusal,
+) -> Status
+    requires small { length text.now < 2 ^ 32 }
+    ensures { Flattens
+        (record { nodes = nodes.old; bytes = bytes.old; sizes = sizes.old; refusal = refusal.old })
+        (record { nodes = nodes.new; bytes = bytes.new; sizes = sizes.new; refusal = refusal.new })
+        text.now dialect kind result }
+{
     let field = match parse(alloc, seed, dialect, kind, text, refusal) {
         Ok(field) => field,
         Err(status) => return status,
@@ -75,13 +146,17 @@ fn parse_flat(
     let Ok(flat) = flatten(alloc, &field) else {
         return Status::OutOfMemory;
     };
-    *sizes = flat.sizes();
-    if nodes.len() < sizes.nodes {
+    let required = flat.sizes();
+    if required.bytes > OFFSET_MAX - text.len() {
+        return Status::TooLong;
+    }
+    *sizes = required;
+    if nodes.len() < required.nodes {
         return Status::Short;
     }
-    if bytes.len() < sizes.bytes {
+    if bytes.len() < required.bytes {
         return Status::Short;
     }
-    flat.write(nodes, bytes);
+    flat.write(text.len(), nodes, bytes);
     Status::Answered
 }

@@ -8,7 +8,7 @@ use crate::call::parse;
 use crate::refusal::SyntaxRefusal;
 use crate::seed::Seed;
 use crate::status::Status;
-use sf_use::{Asked, Priority, Urgency, merge};
+use sf_use::{Asked, Priority, PriorityField, Urgency, merge};
 use sf_value::{Dialect, Field, Kind};
 use std::alloc::Global;
 
@@ -115,6 +115,10 @@ fn asked_of(
     ensures { AsksFor (record { priority = priority.old; refusal = refusal.old })
         (record { priority = priority.new; refusal = refusal.new }) text.now (Some result) }
 {
+    if let Some(asked) = PriorityField::scan(text) {
+        *priority = PriorityFlags::of(asked);
+        return Status::Answered;
+    }
     let field = match parse(alloc, seed, Dialect::Rfc9651, Kind::Dict, text, refusal) {
         Ok(field) => field,
         Err(status) => return status,

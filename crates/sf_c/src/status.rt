@@ -11,7 +11,7 @@ pub enum Status {
     Refused,
     /// 2: the second text of a call that takes two spells no value.
     SecondRefused,
-    /// 3: the buffer is too small for the answer, and stayed as it was.
+    /// 3: the buffer is too small for the answer.
     Short,
     /// 4: an allocation failed.
     OutOfMemory,
@@ -25,6 +25,8 @@ pub enum Status {
     Invalid,
     /// 9: no node has the key.
     Absent,
+    /// 10: the text has 4 GiB or more, or an offset would have to be that large.
+    TooLong,
 }
 
 impl Status {
@@ -43,6 +45,7 @@ impl Status {
             Status::NotACache => 7,
             Status::Invalid => 8,
             Status::Absent => 9,
+            Status::TooLong => 10,
         }
     }
 }

@@ -1,5 +1,8 @@
 //! Targeted cache control (RFC 9213).
 ghost use Rattle.std.specs.Prelude.{◌≡◌, Some};
+ghost use Rattle.sf_value.specs.declared.value.Dict.{Dict as Dictionary};
+ghost use Rattle.sf_value.specs.declared.value.Field.TheVariants as field_is;
+ghost use Rattle.sf_use.specs.TargetedChoice.{MayOffer};
 ghost use Rattle.sf_c.specs.Policies.{Directs, LifeIs, SaysPolicy, SaysToCache};
 ghost use Rattle.sf_c.specs.Policies.{policy_by, seconds_at};
 ghost use Rattle.sf_c.specs.Statuses.{status_at};
@@ -8,7 +11,7 @@ use crate::call::parse;
 use crate::refusal::SyntaxRefusal;
 use crate::seed::Seed;
 use crate::status::Status;
-use sf_use::Policy;
+use sf_use::{Directives, Policy};
 use sf_value::{Dialect, Dict, Field, Kind};
 use std::alloc::Global;
 
@@ -114,6 +117,22 @@ fn seconds_of(has_seconds: u8, seconds: u64) -> Option<u64>
     }
 }
 
+/// Writes the policy that a Dictionary offers, if it has a member.
+fn offered(offer: Option<Policy>, policy: &mut PolicyFlags) -> Status
+    // Whatever Dictionary offers this, it is Empty if it has no member; otherwise the struct says
+    // its policy.
+    ensures { (d : Dictionary) → MayOffer (field_is.Dict d) offer
+        → Directs policy.old policy.new d result }
+{
+    match offer {
+        Some(said) => {
+            *policy = PolicyFlags::of(said);
+            return Status::Answered;
+        }
+        None => return Status::Empty,
+    }
+}
+
 /// Reads the policy of a Dictionary, which may have no members.
 fn directed(dict: &Dict, policy: &mut PolicyFlags) -> Status
     // Empty if there is no member; otherwise the struct says the policy
@@ -138,6 +157,9 @@ pub(crate) fn direct(
     ensures { SaysToCache (record { policy = policy.old; refusal = refusal.old })
         (record { policy = policy.new; refusal = refusal.new }) text.now (Some result) }
 {
+    if let Some(offer) = Directives::scan(text) {
+        return offered(offer, policy);
+    }
     let field = match parse(alloc, seed, Dialect::Rfc9651, Kind::Dict, text, refusal) {
         Ok(field) => field,
         Err(status) => return status,

@@ -41,11 +41,6 @@ pub set_none : (m : Headers) (name t : List ℕ) → length t ≡ 0 → set_text
 set_none m name [] e = refl
 set_none m name (b ∷ t) e = absurd (let n : ⊥ = omega arith in n)
 
-pub set_some : (m : Headers) (name t : List ℕ) → (length t ≡ 0 → ⊥)
-    → set_text m name t ≡ insert m name (plain_value t)
-set_some m name [] h = absurd (h refl)
-set_some m name (b ∷ t) h = refl
-
 there_behind : (e : Entry FieldValue) (m : Headers) (name : List ℕ) (value : FieldValue) (t : Bool)
     → bytes_eq e.0 name ≡ t → ContainsKey (insert m name value) name
     → ContainsKey (insert (e ∷ m) name value) name

@@ -7,8 +7,8 @@ ghost use Rattle.sf_tool.specs.Fields.{value_of as value_in};
 ghost use Rattle.std.specs.List.{before_first};
 ghost use Rattle.sf_value.specs.Grammar.Classes.{is_sp};
 
-use http_header::{HeaderName, HeaderNameError};
-use sf_tool::{split_at_first, split_line, trimmed};
+use http_header::HeaderName;
+use sf_tool::{header_name, split_at_first, split_line, trimmed};
 use sf_value::{OutOfMemory, is_ows};
 use std::alloc::Global;
 
@@ -98,10 +98,9 @@ pub(crate) fn read_line(alloc: Global, line: &[u8]) -> Result<Line, OutOfMemory>
     let Some((word, _)) = split_at_first(line, b':') else {
         return Ok(Line::Nameless);
     };
-    match HeaderName::from_bytes(alloc, word) {
-        Ok(name) => Ok(Line::Field(name)),
-        Err(HeaderNameError::Invalid) => Ok(Line::Nameless),
-        Err(HeaderNameError::OutOfMemory) => Err(OutOfMemory),
+    match header_name(alloc, word) {
+        Some(name) => Ok(Line::Field(name?)),
+        None => Ok(Line::Nameless),
     }
 }
 

@@ -16,7 +16,7 @@ use crate::ignored::ignored_members;
 use crate::settings::{Settings, is_targeted};
 use sf_field::{Consumer, UseFault};
 use sf_tool::{put_path, put_policy, put_priority};
-use sf_use::{CachePath, CacheStatus, Policy, Priority, Urgency};
+use sf_use::{CachePath, CacheStatus, Policy, Priority};
 use sf_value::{Dict, Field, List, Member, OutOfMemory, Writing};
 use std::alloc::Global;
 
@@ -70,25 +70,11 @@ fn ignored_text(
     Ok(text.into_bytes())
 }
 
-/// Returns whether a member is there, and says no seconds.
-fn is_silent(member: Option<&Member>, seconds: Option<u64>) -> bool
-    ensures { result ≡ is_ignored (option_copied member.entry) seconds }
+/// Returns whether a member is there, and says nothing.
+fn is_silent<T: Copy>(member: Option<&Member>, said: Option<T>) -> bool
+    ensures { result ≡ is_ignored (option_copied member.entry) said }
 {
-    member.is_some() && seconds.is_none()
-}
-
-/// Returns whether a member is there, and says no urgency.
-fn is_no_urgency(member: Option<&Member>, urgency: Option<Urgency>) -> bool
-    ensures { result ≡ is_ignored (option_copied member.entry) urgency }
-{
-    member.is_some() && urgency.is_none()
-}
-
-/// Returns whether a member is there, and is no flag.
-fn is_no_flag(member: Option<&Member>, flag: Option<bool>) -> bool
-    ensures { result ≡ is_ignored (option_copied member.entry) flag }
-{
-    member.is_some() && flag.is_none()
+    member.is_some() && said.is_none()
 }
 
 /// Returns three texts as one.
@@ -127,9 +113,9 @@ fn priority_texts(alloc: Global, settings: &Settings, dict: &Dict) -> Result<Vec
         ≡ priority_lines settings.now dict.now.members (asked dict.now)) }
 {
     let asked = Priority::from_dict(dict);
-    let urgency = is_no_urgency(dict.get(b"u"), asked.urgency);
+    let urgency = is_silent(dict.get(b"u"), asked.urgency);
     let urgency = ignored_text(alloc, settings, "u", urgency)?;
-    let flag = is_no_flag(dict.get(b"i"), asked.incremental);
+    let flag = is_silent(dict.get(b"i"), asked.incremental);
     let flag = ignored_text(alloc, settings, "i", flag)?;
     joined(urgency, flag, priority_text(alloc, asked.with_defaults())?)
 }

@@ -12,8 +12,7 @@ ghost use Rattle.sf_lint.specs.declared.options.OptionsFault.TheVariants as faul
 use crate::settings::{CustomField, Settings};
 use clap::error::ErrorKind;
 use clap::{Arg, ArgAction, ArgMatches, Command};
-use http_header::{HeaderName, HeaderNameError};
-use sf_tool::{Status, split_at_first};
+use sf_tool::{Status, header_name, split_at_first};
 use sf_value::Kind;
 use std::alloc::{AllocError, Global};
 
@@ -193,10 +192,10 @@ fn custom_field(alloc: Global, word: &[u8]) -> Result<CustomField, OptionsFault>
     let Some(kind) = kind_named(rest) else {
         return Err(OptionsFault::Usage);
     };
-    match HeaderName::from_bytes(alloc, name) {
-        Ok(name) => Ok(CustomField { name, kind }),
-        Err(HeaderNameError::Invalid) => Err(OptionsFault::Usage),
-        Err(HeaderNameError::OutOfMemory) => Err(OptionsFault::OutOfMemory),
+    match header_name(alloc, name) {
+        Some(Ok(name)) => Ok(CustomField { name, kind }),
+        Some(Err(_)) => Err(OptionsFault::OutOfMemory),
+        None => Err(OptionsFault::Usage),
     }
 }
 

@@ -8,9 +8,11 @@ use Rattle.sf_parse.specs.Prefixes.{Went}
 use Rattle.sf_parse.specs.Views.{Leads}
 use Rattle.sf_parse.specs.Machine.Language.{run}
 use Rattle.sf_parse.specs.Machine.Blobs.{H0, Group, blob_step}
-use Rattle.sf_parse.specs.Machine.Showns.{Unencoded, unhex, can_begin, shown_step}
+use Rattle.sf_value.specs.Digits.{unhex}
+use Rattle.sf_parse.specs.Machine.Showns.{Unencoded, can_begin, shown_step}
 use Rattle.sf_parse.proofs.Prefixes.{went_more}
-use Rattle.sf_parse.proofs.HighDigits.{utf8_begins, read_hex}
+use Rattle.sf_value.proofs.DigitValues.{read_hex}
+use Rattle.sf_parse.proofs.HighDigits.{utf8_begins}
 use Rattle.sf_parse.proofs.Leading.{leads_push}
 use Rattle.sf_parse.proofs.BlobGroups.{group_on}
 

@@ -2,17 +2,9 @@
 use Rattle.std.proofs.Common.{◌≡◌, ℕ, zero, suc, ◌*◌, ◌/◌, ◌%◌, ◌+◌, ◌<◌, ◌≤◌, true, nat_le, ◌&&◌}
 use Rattle.std.proofs.Common.{Some, ⊎_elim, refl, sym, subst, ◌⊎◌, arith, max}
 use Rattle.sf_value.specs.Grammar.Utf8.{Utf8, Start, Wants, wants, within, rows, utf8_step}
-use Rattle.sf_value.specs.Grammar.DisplayStrings.{hex}
-use Rattle.sf_parse.specs.Machine.Showns.{unhex, can_begin, GoodUtf8}
+use Rattle.sf_parse.specs.Machine.Showns.{can_begin, GoodUtf8}
 use Rattle.sf_value.proofs.Words.{allow_cases}
 use Rattle.sf_value.proofs.Utf8Table.{ranged, in_range, EachRow, looked_up}
-
--- a byte and its digits
-pub hex_read : (d : ℕ) → d < 16 → unhex (hex d) ≡ Some d
-hex_read d h = grind arith
-
-pub read_hex : (b d : ℕ) → unhex b ≡ Some d → (hex d ≡ b) × (d < 16)
-read_hex b d e = grind arith
 
 pub high_small : (c : ℕ) → c < 256 → c / 16 < 16
 high_small c h = omega arith

@@ -1,13 +1,13 @@
 -- Bytes that lead to a place in a character.
 use Rattle.std.specs.Option.{option_map}
-use Rattle.std.proofs.Common.{◌≡◌, ℕ, ◌+◌, ◌*◌, ◌==◌, true, false, List, [], ◌∷◌, ◌++◌, Some}
+use Rattle.std.proofs.Common.{◌≡◌, ℕ, ◌==◌, true, false, List, [], ◌∷◌, ◌++◌, Some}
 use Rattle.std.proofs.Common.{refl, sym, ap, ◌∙◌, subst, arith, append-nil, append_assoc}
 use Rattle.sf_value.specs.Grammar.Words.{Every}
 use Rattle.sf_value.specs.Grammar.DisplayStrings.{is_unencoded}
 use Rattle.sf_parse.specs.Prefixes.{Went}
 use Rattle.sf_value.specs.Grammar.Utf8.{Utf8, Start, Wants, within, utf8_step, WellFormed}
 use Rattle.sf_parse.specs.Machine.Language.{run}
-use Rattle.sf_parse.specs.Machine.Showns.{Unencoded, Hex, unhex, pushed, shown_step}
+use Rattle.sf_parse.specs.Machine.Showns.{Unencoded, pushed, shown_step}
 use Rattle.sf_value.specs.Grammar.Classes.{is_visible}
 use Rattle.sf_parse.specs.Machine.Tests.{shown_ends}
 use Rattle.sf_parse.specs.Views.{utf8_of, shown_of, FitsShown, Leads}
@@ -51,10 +51,6 @@ whole_when_led = whole_from Start
 pub unencoded_pushed : (bytes : List ℕ) (x : Utf8) (b : ℕ) → (b == 34) ≡ false → (b == 37) ≡ false
     → is_visible b ≡ true → shown_step (Unencoded bytes x) b ≡ pushed (Unencoded bytes x) b
 unencoded_pushed bytes x b q p v = rw (q, p, v) refl
-
-pub hex_pushed : (bytes : List ℕ) (x : Utf8) (h b l : ℕ) → unhex b ≡ Some l
-    → shown_step (Hex bytes x h) b ≡ pushed (Hex bytes x h) (h * 16 + l)
-hex_pushed bytes x h b l e = rw e refl
 
 -- a byte that stands for itself between characters leads to between characters again
 unencoded_low : (b : ℕ) → is_unencoded b ≡ true → within 0 127 b ≡ true

@@ -31,12 +31,8 @@ pub mod HighDigits
 pub mod Marks
 pub mod LevelMarks
 pub mod Classes
-pub mod Tables
-pub mod ByteTables
-pub mod Letters
 pub mod Numerals
 pub mod SetRuns
 pub mod Fitting
 pub mod NamedSets
 pub mod LineSpots
-pub mod HexDigits

@@ -7,7 +7,7 @@ use Rattle.std.proofs.lemmas.Nat.Bits.{bit_at_set_same, bit_at_set_other, bit_at
 use Rattle.std.proofs.lemmas.Nat.Bits.{bit_at-zero}
 use Rattle.std.proofs.lemmas.Bool.{cases_lt}
 use Rattle.sf_parse.specs.Expected.{MarksBelow, Marks}
-use Rattle.sf_parse.proofs.Tables.{all_below, both, each_below}
+use Rattle.sf_value.proofs.Tables.{all_below, both, each_below}
 
 -- the bit of a test
 abbrev bit : Bool → ℕ

@@ -1,9 +1,8 @@
 -- How each level goes on where its open part does.
 use Rattle.std.specs.Option.{option_and_then, option_map}
-use Rattle.std.proofs.Common.{◌≡◌, ℕ, Bool, true, List, [], ◌∷◌, ◌++◌, Option, Some, None, Result}
+use Rattle.std.proofs.Common.{◌≡◌, ℕ, true, List, [], ◌∷◌, ◌++◌, Option, Some, None, Result}
 use Rattle.std.proofs.Common.{IfOk}
 use Rattle.std.proofs.Common.{IsSome, refl, sym, ap, subst, ◌∙◌}
-use Rattle.std.specs.Borrow.{Bor}
 use Rattle.sf_value.specs.declared.dialect.Dialect.{Dialect}
 use Rattle.sf_value.specs.declared.value.Bare.{Bare}
 use Rattle.sf_value.specs.declared.value.Item.{Item}
@@ -24,12 +23,12 @@ use Rattle.sf_parse.specs.Machine.Entries.{entry_step}
 use Rattle.sf_parse.specs.Machine.States.{BeforeItem, InTop, AfterItem}
 use Rattle.sf_parse.specs.TopView.{after_of}
 use Rattle.sf_parse.specs.Machine.Fields.{step}
-use Rattle.sf_parse.specs.Prefixes.{Went, LongestPrefix, unless}
+use Rattle.sf_parse.specs.Prefixes.{Went, LongestPrefix}
 use Rattle.sf_parse.specs.ItemView.{with_params}
-use Rattle.sf_parse.specs.MemberView.{closing_of, IsInParams, member_stuck}
+use Rattle.sf_parse.specs.MemberView.{closing_of, IsInParams}
 use Rattle.sf_parse.specs.EntryView.{flag_at, IsFlag}
 use Rattle.sf_parse.proofs.Machine.Language.{and_then_cases, map_cases}
-use Rattle.sf_parse.proofs.Prefixes.{part_above, went_above, byte_above}
+use Rattle.sf_parse.proofs.Prefixes.{part_above, went_above}
 
 pub space_in_params : (d : Dialect) (ps : Pairs Bare) (b : ℕ) → is_sp b ≡ true
     → params_step d (Opened ps) b ≡ Some (Opened ps)
@@ -69,27 +68,15 @@ item_in_field d s t b e =
     ap (λ o. onward InTop o (item_finish s) (λ i. allow (is_sp b) (AfterItem i))) e
 
 -- the parameters after a whole bare item
-pub params_part : {E : Type 0} (d : Dialect) (o : Option Bare) (s : BareState) (p q : ParamsState)
-    (chunk : List ℕ) (r : Result (Bor (List ℕ)) E) → IsSome o
-    → IfOk r (λ rest. LongestPrefix (params_step d) p chunk rest.now q)
-    → IfOk r (λ rest. Went (item_step d) (with_params o s p) chunk rest.now (with_params o s q))
-params_part d (Some x) s p q chunk r h a =
+pub params_part : {R E : Type 0} (d : Dialect) (o : Option Bare) (s : BareState) (p q : ParamsState)
+    (chunk : List ℕ) (rest : R → List ℕ) (r : Result R E) → IsSome o
+    → IfOk r (λ v. LongestPrefix (params_step d) p chunk (rest v) q)
+    → IfOk r (λ v. Went (item_step d) (with_params o s p) chunk (rest v) (with_params o s q))
+params_part d (Some x) s p q chunk rest r h a =
     part_above (params_step d) (item_step d) (InParams x)
     (λ s t b e. ap (option_map (InParams x)) e) p q
-    (InParams x p) chunk r refl a
-params_part d None s p q chunk r h a = absurd cc
-
--- the same of one byte
-pub params_byte : {E : Type 0} (d : Dialect) (o : Option Bare) (s : BareState) (p q : ParamsState)
-    (b : ℕ) (r : Result Bool E) → IsSome o
-    → IfOk r (λ took. LongestPrefix (params_step d) p (b ∷ []) (unless took b) q)
-    → IfOk r (λ took. Went (item_step d) (with_params o s p) (b ∷ []) (unless took b)
-    (with_params o s q))
-params_byte d (Some x) s p q b r h a =
-    byte_above (params_step d) (item_step d) (InParams x)
-    (λ s t b e. ap (option_map (InParams x)) e) p q
-    (InParams x p) b r refl a
-params_byte d None s p q b r h a = absurd cc
+    (InParams x p) chunk rest r refl a
+params_part d None s p q chunk rest r h a = absurd cc
 
 pub space_in_member : (d : Dialect) (is : List Item) (b : ℕ) → is_sp b ≡ true
     → member_step d (InMany (Room is)) b ≡ Some (InMany (Room is))
@@ -139,16 +126,6 @@ pub closing_kept : (d : Dialect) (s t : ItemState) (chunk rest : List ℕ) → I
 closing_kept d (InBare s) t chunk rest h a = absurd h
 closing_kept d (InParams x p) t chunk rest h a =
     subst IsInParams (sym (params_of_item d x p t a.went.taken a.went.leads).1) tt
-
--- where the parameters after the bracket stop
-pub closing_stops : (d : Dialect) (is : List Item) (s : ItemState) (b : ℕ) → item_step d s b ≡ None
-    → member_stuck d (InMany (closing_of is s)) b
-closing_stops d is (InBare s) b e = tt
-closing_stops d is (InParams x p) b e = map_none (InParams x) (params_step d p b) e
-  where
-    map_none : {X Y : Type 0} (f : X → Y) (o : Option X) → option_map f o ≡ None → o ≡ None
-    map_none f None e = refl
-    map_none f (Some x) e = absurd cc
 
 pub member_in_entry : (d : Dialect) (k : List ℕ) (s t : MemberState) (b : ℕ)
     → member_step d s b ≡ Some t → entry_step d (InMemberValue k s) b ≡ Some (InMemberValue k t)

@@ -1,7 +1,7 @@
 -- Fronts of chunks that machines take: none, one after another, and seen from a level above.
 use Rattle.std.specs.Option.{option_map}
 use Rattle.std.proofs.Common.{◌≡◌, ℕ, Bool, true, false, List, [], ◌∷◌, ◌++◌, length}
-use Rattle.std.proofs.Common.{Option, Some, None, Result, Ok, Err, IfOk, refl, sym, ap, ◌∙◌, subst}
+use Rattle.std.proofs.Common.{Option, Some, Result, Ok, Err, IfOk, refl, sym, ap, ◌∙◌, subst}
 use Rattle.std.proofs.Common.{arith, append_assoc}
 use Rattle.std.specs.Borrow.{Bor}
 use Rattle.sf_value.specs.Grammar.Words.{Every}
@@ -94,17 +94,17 @@ went_above next above into h s t chunk rest a = record {
   leads = run_above next above into h s t a.taken a.leads;
 }
 
--- the same, of a call that may fail, and where the state above is known as x
-pub part_above : {S T E : Type 0} (next : S → ℕ → Option S) (above : T → ℕ → Option T) (into : S
+-- the same, of a call that may fail and leaves some rest, and where the state above is known as x
+pub part_above : {S T R E : Type 0} (next : S → ℕ → Option S) (above : T → ℕ → Option T) (into : S
     → T)
     → ((s t : S) (b : ℕ) → next s b ≡ Some t → above (into s) b ≡ Some (into t))
-    → (s t : S) (x : T) (chunk : List ℕ) (r : Result (Bor (List ℕ)) E) → into s ≡ x
-    → IfOk r (λ rest. LongestPrefix next s chunk rest.now t)
-    → IfOk r (λ rest. Went above x chunk rest.now (into t))
-part_above next above into h s t x chunk (Ok rest) e a =
-    subst (λ y. Went above y chunk rest.now (into t)) e
-    (went_above next above into h s t chunk rest.now a.went)
-part_above next above into h s t x chunk (Err k) e a = a
+    → (s t : S) (x : T) (chunk : List ℕ) (rest : R → List ℕ) (r : Result R E) → into s ≡ x
+    → IfOk r (λ v. LongestPrefix next s chunk (rest v) t)
+    → IfOk r (λ v. Went above x chunk (rest v) (into t))
+part_above next above into h s t x chunk rest (Ok v) e a =
+    subst (λ y. Went above y chunk (rest v) (into t)) e
+    (went_above next above into h s t chunk (rest v) a.went)
+part_above next above into h s t x chunk rest (Err k) e a = a
 
 -- what all bytes of a list have, those of each part have
 pub every_split : (q : ℕ → Bool) (a b : List ℕ) → Every q (a ++ b) → Every q a × Every q b
@@ -157,18 +157,6 @@ part_went next above into h s t x chunk (Ok rest) e a =
     (went_above next above into h s t chunk rest.now a)
 part_went next above into h s t x chunk (Err k) e a = a
 
--- where the part stopped
-pub part_stops : {S E : Type 0} (next : S → ℕ → Option S) (P : ℕ → Type 0) (s t : S)
-    (chunk : List ℕ) (r : Result (Bor (List ℕ)) E)
-    → ((b : ℕ) → next t b ≡ None → P b) → IfOk r (λ rest. LongestPrefix next s chunk rest.now t)
-    → IfOk r (λ rest. FirstIs P rest.now)
-part_stops next P s t chunk (Ok rest) h a = by rest.now a.stops
-  where
-    by : (xs : List ℕ) → FirstIs (Halts next t) xs → FirstIs P xs
-    by [] k = tt
-    by (b ∷ xs) k = h b k
-part_stops next P s t chunk (Err k) h a = a
-
 -- where the level goes on just where the part does, it takes just as much
 pub prefix_above : {S T : Type 0} (next : S → ℕ → Option S) (above : T → ℕ → Option T) (into : S
     → T)
@@ -185,15 +173,15 @@ prefix_above next above into h s t chunk rest a = record {
     by [] k = tt
     by (b ∷ xs) k = h t b ∙ ap (option_map into) k
 
-pub all_above : {S T E : Type 0} (next : S → ℕ → Option S) (above : T → ℕ → Option T) (into : S
+pub all_above : {S T R E : Type 0} (next : S → ℕ → Option S) (above : T → ℕ → Option T) (into : S
     → T)
     → ((s : S) (b : ℕ) → above (into s) b ≡ option_map into (next s b))
-    → (s t : S) (chunk : List ℕ) (r : Result (Bor (List ℕ)) E)
-    → IfOk r (λ rest. LongestPrefix next s chunk rest.now t)
-    → IfOk r (λ rest. LongestPrefix above (into s) chunk rest.now (into t))
-all_above next above into h s t chunk (Ok rest) a = prefix_above next above into h s t chunk
-    rest.now a
-all_above next above into h s t chunk (Err k) a = a
+    → (s t : S) (chunk : List ℕ) (rest : R → List ℕ) (r : Result R E)
+    → IfOk r (λ v. LongestPrefix next s chunk (rest v) t)
+    → IfOk r (λ v. LongestPrefix above (into s) chunk (rest v) (into t))
+all_above next above into h s t chunk rest (Ok v) a = prefix_above next above into h s t chunk
+    (rest v) a
+all_above next above into h s t chunk rest (Err k) a = a
 
 -- nothing was taken of a byte
 pub went_none : {S : Type 0} (next : S → ℕ → Option S) (s t : S) (b : ℕ) → t ≡ s
@@ -206,12 +194,6 @@ pub went_step : {S : Type 0} (next : S → ℕ → Option S) (s t : S) (b : ℕ)
 went_step next s t b true e = went_one next s t b [] e
 went_step next s t b false e = went_none next s t b e.1
 
--- the open part took the byte
-pub push_on : {S : Type 0} (next : S → ℕ → Option S) (s t : S) (b : ℕ) (took : Bool)
-    → Went next s (b ∷ []) (unless took b) t → took ≡ true → LongestPrefix next s (b ∷ []) [] t
-push_on next s t b true w f = prefix_all next s t (b ∷ []) w
-push_on next s t b false w f = absurd cc
-
 -- the open part can't take the byte, and a step is tried
 pub push_turn : {S : Type 0} (next : S → ℕ → Option S) (P : ℕ → Type 0) (s t u : S) (b : ℕ)
     (part took : Bool) → Went next s (b ∷ []) (unless part b) t → FirstIs P (unless part b)
@@ -222,42 +204,6 @@ push_turn next P s t u b false true w h f k =
     prefix_all next s u (b ∷ []) (went_byte next s t u (b ∷ []) b [] w (k h))
 push_turn next P s t u b false false w h f k =
     step_stop next s t u (b ∷ []) b [] false w refl (k h)
-
--- the same of a chunk that is one byte
-pub byte_taken : {S : Type 0} (next : S → ℕ → Option S) (s t : S) (chunk more : List ℕ) (b : ℕ)
-    (took : Bool) → chunk ≡ b ∷ more → more ≡ [] → took ≡ true
-    → LongestPrefix next s (b ∷ []) (unless took b) t → LongestPrefix next s chunk more t
-byte_taken next s t chunk more b true p m f a = rw (p, m) a
-byte_taken next s t chunk more b false p m f a = absurd cc
-
-pub byte_left : {S : Type 0} (next : S → ℕ → Option S) (s t : S) (chunk more : List ℕ) (b : ℕ)
-    (took : Bool) → chunk ≡ b ∷ more → more ≡ [] → took ≡ false
-    → LongestPrefix next s (b ∷ []) (unless took b) t → LongestPrefix next s chunk chunk t
-byte_left next s t chunk more b true p m f a = absurd cc
-byte_left next s t chunk more b false p m f a = rw (p, m) a
-
--- a byte, seen from a level that goes on with it wherever the part goes on itself
-pub byte_above : {S T E : Type 0} (next : S → ℕ → Option S) (above : T → ℕ → Option T) (into : S
-    → T)
-    → ((s t : S) (b : ℕ) → next s b ≡ Some t → above (into s) b ≡ Some (into t))
-    → (s t : S) (x : T) (b : ℕ) (r : Result Bool E) → into s ≡ x
-    → IfOk r (λ took. LongestPrefix next s (b ∷ []) (unless took b) t)
-    → IfOk r (λ took. Went above x (b ∷ []) (unless took b) (into t))
-byte_above next above into h s t x b (Ok took) e a =
-    subst (λ y. Went above y (b ∷ []) (unless took b) (into t)) e
-    (went_above next above into h s t (b ∷ []) (unless took b) a.went)
-byte_above next above into h s t x b (Err k) e a = a
-
--- the same, where the level above goes on exactly where the part does
-pub all_of_byte : {S T E : Type 0} (next : S → ℕ → Option S) (above : T → ℕ → Option T) (into : S
-    → T)
-    → ((s : S) (b : ℕ) → above (into s) b ≡ option_map into (next s b))
-    → (s t : S) (b : ℕ) (r : Result Bool E)
-    → IfOk r (λ took. LongestPrefix next s (b ∷ []) (unless took b) t)
-    → IfOk r (λ took. LongestPrefix above (into s) (b ∷ []) (unless took b) (into t))
-all_of_byte next above into h s t b (Ok took) a =
-    prefix_above next above into h s t (b ∷ []) (unless took b) a
-all_of_byte next above into h s t b (Err k) a = a
 
 -- a step that is tried after the open part
 pub push_tried : {S E : Type 0} (next : S → ℕ → Option S) (P : ℕ → Type 0) (s t u : S) (b : ℕ)

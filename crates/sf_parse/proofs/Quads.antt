@@ -1,50 +1,9 @@
--- The characters of base64, and groups of four of them.
-use Rattle.std.proofs.Common.{◌≡◌, ℕ, zero, suc, ◌+◌, ◌*◌, ◌/◌, ◌%◌, ◌<◌, ◌≤◌, true, List, []}
-use Rattle.std.proofs.Common.{◌∷◌, ◌++◌, Some, None, refl, sym, ap, ap₂, subst, ◌⊎◌, arith}
+-- Groups of four characters of base64.
+use Rattle.std.proofs.Common.{◌≡◌, ℕ, zero, suc, ◌+◌, ◌*◌, ◌/◌, ◌%◌, ◌<◌, true, List, []}
+use Rattle.std.proofs.Common.{◌∷◌, ◌++◌, refl, sym, ap, ap₂, subst, arith}
 use Rattle.sf_value.specs.Grammar.Classes.{is_byte}
 use Rattle.sf_value.specs.Grammar.ByteSequences.{letter, unpadded, Pads, Sextets}
-use Rattle.sf_parse.specs.Machine.Blobs.{sextet}
-use Rattle.sf_parse.proofs.Letters.{letter_formula, letter_is}
-
-formula_read : (x : ℕ) → x < 64 → sextet (letter_formula x) ≡ Some x
-formula_read x h = grind arith
-
-pub letter_read : (x : ℕ) → x < 64 → sextet (letter x) ≡ Some x
-letter_read x h = rw (letter_is x h) (formula_read x h)
-
--- the five ranges of characters
-Ranges : ℕ → ℕ → Type 0
-Ranges b x = ((65 ≤ b) × (b ≤ 90)
-    × (x + 65 ≡ b)) ⊎ (((97 ≤ b) × (b ≤ 122)
-    × (x + 71 ≡ b)) ⊎ (((48 ≤ b) × (b ≤ 57)
-    × (x ≡ b + 4)) ⊎ (((b ≡ 43) × (x ≡ 62)) ⊎ ((b ≡ 47) × (x ≡ 63)))))
-
-read_ranges : (b x : ℕ) → sextet b ≡ Some x → Ranges b x
-unfolding Ranges
-read_ranges b x e = grind arith
-
-read_small : (b x : ℕ) → Ranges b x → x < 64
-unfolding Ranges
-read_small b x r = grind arith
-
-formula_back : (b x : ℕ) → Ranges b x → letter_formula x ≡ b
-unfolding Ranges
-formula_back b x r = grind arith
-
-read_back : (b x : ℕ) → Ranges b x → letter x ≡ b
-unfolding Ranges
-read_back b x r = rw (letter_is x (read_small b x r)) (formula_back b x r)
-
-pub read_letter : (b x : ℕ) → sextet b ≡ Some x → (letter x ≡ b) × (x < 64)
-read_letter b x e = let r = read_ranges b x e in (read_back b x r, read_small b x r)
-
-pub letter_same : (x y : ℕ) → x < 64 → y < 64 → letter x ≡ letter y → x ≡ y
-letter_same x y h k e = let a = letter_read x h in let b = letter_read y k in
-    let c : sextet (letter x) ≡ sextet (letter y) = ap sextet e in cc
-
-pub not_letter : (x b : ℕ) → x < 64 → letter x ≡ b → sextet b ≡ None → ⊥
-not_letter x b h e n = let a = letter_read x h in
-    let c : sextet (letter x) ≡ sextet b = ap sextet e in cc
+use Rattle.sf_value.proofs.DigitValues.{letter_same, not_letter}
 
 -- bytes, and what is no letter
 pub byte_small : (a : ℕ) → is_byte a ≡ true → a < 256

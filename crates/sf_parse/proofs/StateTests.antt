@@ -22,9 +22,10 @@ use Rattle.sf_parse.specs.Machine.Texts.{TextState, Inside, Escaped, Closed, tex
 use Rattle.sf_parse.specs.Machine.Texts.{boolean_step, boolean_finish, word_step}
 use Rattle.sf_parse.specs.declared.boolean.BooleanState.{BooleanState}
 use Rattle.sf_parse.specs.declared.boolean.BooleanState.TheVariants.{QuestionMark, WithValue}
-use Rattle.sf_parse.specs.Machine.Blobs.{sextet, is_last, last_bytes, lacking, BlobState, Group}
+use Rattle.sf_value.specs.Digits.{sextet, unhex}
+use Rattle.sf_parse.specs.Machine.Blobs.{is_last, last_bytes, lacking, BlobState, Group}
 use Rattle.sf_parse.specs.Machine.Blobs.{Padded, Ended, pad_step, grow_step, blob_step, blob_finish}
-use Rattle.sf_parse.specs.Machine.Showns.{unhex, can_begin, ShownState, Quote, Unencoded, Percent}
+use Rattle.sf_parse.specs.Machine.Showns.{can_begin, ShownState, Quote, Unencoded, Percent}
 use Rattle.sf_parse.specs.Machine.Showns.{Hex}
 use Rattle.sf_parse.specs.Machine.Showns.{Done, quote_step, shown_step, shown_finish}
 use Rattle.sf_parse.specs.Machine.Bares.{BareState}

@@ -1,7 +1,8 @@
 -- The bytes that may follow, as bits.
 use Rattle.std.specs.Prelude.{◌≡◌, ℕ, Bool, false, ◌+◌, ◌*◌, nat_lt, ◌&&◌, if◌then◌else◌}
 use Rattle.std.specs.Int.{bit_at}
-use Rattle.sf_parse.specs.Machine.Showns.{unhex, can_begin, ShownState, Quote, Unencoded, Percent}
+use Rattle.sf_value.specs.Digits.{unhex}
+use Rattle.sf_parse.specs.Machine.Showns.{can_begin, ShownState, Quote, Unencoded, Percent}
 use Rattle.sf_parse.specs.Machine.Showns.{Hex}
 use Rattle.sf_parse.specs.Machine.Showns.{Done}
 use Rattle.sf_parse.specs.Machine.Tests.{passes, utf8_takes}

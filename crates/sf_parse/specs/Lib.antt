@@ -25,4 +25,3 @@ pub mod ItemView
 pub mod ParamsView
 pub mod StaysFree
 pub mod BareView
-pub mod ByteRuns

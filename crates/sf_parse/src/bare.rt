@@ -16,9 +16,9 @@ use crate::date::DateReader;
 use crate::display_string::ShownPlace;
 use crate::level::Level;
 use crate::number::NumberReader;
-use crate::runs::{ByteClass, InToken, long_prefix};
 use crate::sets::{BARE_8941, BARE_9651, TOKEN};
 use crate::text::TextPhase;
+use sf_value::classes::{ByteClass, InToken, long_prefix};
 use sf_value::{Bare, Blob, Dialect, OutOfMemory, ShortBytes, Shown, Text, Token, can_start_token};
 use std::marker::Model;
 use std::mem;
@@ -231,7 +231,7 @@ impl Level for BareReader {
             BareKind::Date => return Ok(self.date.step(byte)),
             BareKind::Text => return self.text.step(&mut self.bytes, byte),
             BareKind::Token => {
-                if !InToken::has_one(byte) {
+                if !InToken::has(byte) {
                     return Ok(false);
                 }
                 self.bytes.push(byte)?;

@@ -5,12 +5,12 @@ ghost use Rattle.sf_parse.specs.Expected.{Marks};
 ghost use Rattle.sf_parse.specs.Prefixes.{Went};
 ghost use Rattle.sf_parse.specs.Views.{held_of, blob_of, FitsHeld, FitsBlob};
 ghost use Rattle.sf_parse.specs.Machine.Language.{Steps, run};
-ghost use Rattle.sf_parse.specs.Machine.Blobs.{sextet as sextet_of, H0, Group, Padded, grown};
+ghost use Rattle.sf_parse.specs.Machine.Blobs.{H0, Group, Padded, grown};
 ghost use Rattle.sf_parse.specs.Machine.Blobs.{pad_step, end_step, blob_step, is_last, lacking};
 ghost use Rattle.sf_parse.specs.Machine.Tests.{blob_takes, blob_ends, pad_takes};
 
 use crate::sets::{BASE64, COLON, EQUALS, set_if};
-use sf_value::{OutOfMemory, ShortBytes};
+use sf_value::{OutOfMemory, ShortBytes, sextet};
 
 /// The values of the characters of an open group of base64.
 #[derive(Clone, Copy)]
@@ -177,38 +177,6 @@ impl BlobPhase {
 
 /// The number of bytes that are decoded at a time: those of 32 groups.
 const BLOCK: usize = 96;
-
-/// The value of each byte as a character of base64 (RFC 4648 section 4); 64 if it is none.
-#[rattlefmt::skip]
-static SEXTETS: [u8; 256] = [
-    64, 64, 64, 64, 64, 64, 64, 64, 64, 64, 64, 64, 64, 64, 64, 64,
-    64, 64, 64, 64, 64, 64, 64, 64, 64, 64, 64, 64, 64, 64, 64, 64,
-    64, 64, 64, 64, 64, 64, 64, 64, 64, 64, 64, 62, 64, 64, 64, 63,
-    52, 53, 54, 55, 56, 57, 58, 59, 60, 61, 64, 64, 64, 64, 64, 64,
-    64, 0, 1, 2, 3, 4, 5, 6, 7, 8, 9, 10, 11, 12, 13, 14,
-    15, 16, 17, 18, 19, 20, 21, 22, 23, 24, 25, 64, 64, 64, 64, 64,
-    64, 26, 27, 28, 29, 30, 31, 32, 33, 34, 35, 36, 37, 38, 39, 40,
-    41, 42, 43, 44, 45, 46, 47, 48, 49, 50, 51, 64, 64, 64, 64, 64,
-    64, 64, 64, 64, 64, 64, 64, 64, 64, 64, 64, 64, 64, 64, 64, 64,
-    64, 64, 64, 64, 64, 64, 64, 64, 64, 64, 64, 64, 64, 64, 64, 64,
-    64, 64, 64, 64, 64, 64, 64, 64, 64, 64, 64, 64, 64, 64, 64, 64,
-    64, 64, 64, 64, 64, 64, 64, 64, 64, 64, 64, 64, 64, 64, 64, 64,
-    64, 64, 64, 64, 64, 64, 64, 64, 64, 64, 64, 64, 64, 64, 64, 64,
-    64, 64, 64, 64, 64, 64, 64, 64, 64, 64, 64, 64, 64, 64, 64, 64,
-    64, 64, 64, 64, 64, 64, 64, 64, 64, 64, 64, 64, 64, 64, 64, 64,
-    64, 64, 64, 64, 64, 64, 64, 64, 64, 64, 64, 64, 64, 64, 64, 64,
-];
-
-/// The value of a base64 character.
-#[inline]
-fn sextet(byte: u8) -> Option<u8>
-    ensures value { result ≡ sextet_of byte }
-    // It is below 64.
-    ensures small { IfSome result (λ value. value < 64) }
-{
-    let value = SEXTETS[byte as usize];
-    if value < 64 { Some(value) } else { None }
-}
 
 /// The bytes of a whole group of four characters.
 #[inline]

@@ -5,6 +5,7 @@ ghost use Rattle.std.specs.Iterator.{at_most};
 ghost use Rattle.std.specs.Map.Iter.{TakesFirst};
 ghost use Rattle.sf_parse.specs.ByteSets.{is_in, hex_byte, runs_from, runs_of as runs_in};
 
+use sf_value::hex_digits;
 use std::fmt;
 use std::marker::Model;
 
@@ -61,9 +62,10 @@ impl fmt::Display for Hex {
     ghost output = { λ hex. Some (hex_byte hex.byte) };
 
     fn fmt<W: fmt::Write>(&self, f: &mut fmt::Formatter<W>) -> fmt::Result {
-        let high = self.byte / 16;
-        let low = self.byte % 16;
-        write!(f, "{high:x}{low:x}")
+        let [high, low] = hex_digits(self.byte);
+        let high = char::from(high);
+        let low = char::from(low);
+        write!(f, "{high}{low}")
     }
 }
 

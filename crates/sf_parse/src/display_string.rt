@@ -8,15 +8,15 @@ ghost use Rattle.sf_parse.specs.Expected.{Marks};
 ghost use Rattle.sf_parse.specs.Prefixes.{Went};
 ghost use Rattle.sf_parse.specs.Views.{utf8_of, shown_of, Leads, FitsShown, IsDigitPhase};
 ghost use Rattle.sf_parse.specs.Machine.Language.{Steps, run};
-ghost use Rattle.sf_parse.specs.Machine.Showns.{Unencoded, pushed, unhex as unhex_of};
+ghost use Rattle.sf_parse.specs.Machine.Showns.{Unencoded, pushed};
 ghost use Rattle.sf_parse.specs.Machine.Showns.{can_begin as can_begin_at, shown_step};
 ghost use Rattle.sf_parse.specs.Machine.Showns.{GoodUtf8};
 ghost use Rattle.sf_parse.specs.Machine.Tests.{shown_takes, shown_ends};
 ghost use Rattle.sf_parse.specs.Expected.{digit_takes};
 
-use crate::runs::{UnencodedByte, long_prefix};
 use crate::sets::{FIRST_DIGITS, PERCENT, QUOTE, VISIBLE};
-use sf_value::{OutOfMemory, ShortBytes, is_visible};
+use sf_value::classes::{UnencodedByte, long_prefix};
+use sf_value::{OutOfMemory, ShortBytes, is_visible, unhex};
 
 /// Between two characters; or in one, whose next byte is from `low` to `high`, with `more` bytes
 /// after it.
@@ -296,38 +296,6 @@ fn first_byte(byte: u8) -> Option<Utf8State>
 
 /// The number of escapes that are read at a time.
 const BLOCK: usize = 64;
-
-/// The value of each byte as a lower-case hexadecimal digit; 16 if it is none.
-#[rattlefmt::skip]
-static DIGITS: [u8; 256] = [
-    16, 16, 16, 16, 16, 16, 16, 16, 16, 16, 16, 16, 16, 16, 16, 16,
-    16, 16, 16, 16, 16, 16, 16, 16, 16, 16, 16, 16, 16, 16, 16, 16,
-    16, 16, 16, 16, 16, 16, 16, 16, 16, 16, 16, 16, 16, 16, 16, 16,
-    0, 1, 2, 3, 4, 5, 6, 7, 8, 9, 16, 16, 16, 16, 16, 16,
-    16, 16, 16, 16, 16, 16, 16, 16, 16, 16, 16, 16, 16, 16, 16, 16,
-    16, 16, 16, 16, 16, 16, 16, 16, 16, 16, 16, 16, 16, 16, 16, 16,
-    16, 10, 11, 12, 13, 14, 15, 16, 16, 16, 16, 16, 16, 16, 16, 16,
-    16, 16, 16, 16, 16, 16, 16, 16, 16, 16, 16, 16, 16, 16, 16, 16,
-    16, 16, 16, 16, 16, 16, 16, 16, 16, 16, 16, 16, 16, 16, 16, 16,
-    16, 16, 16, 16, 16, 16, 16, 16, 16, 16, 16, 16, 16, 16, 16, 16,
-    16, 16, 16, 16, 16, 16, 16, 16, 16, 16, 16, 16, 16, 16, 16, 16,
-    16, 16, 16, 16, 16, 16, 16, 16, 16, 16, 16, 16, 16, 16, 16, 16,
-    16, 16, 16, 16, 16, 16, 16, 16, 16, 16, 16, 16, 16, 16, 16, 16,
-    16, 16, 16, 16, 16, 16, 16, 16, 16, 16, 16, 16, 16, 16, 16, 16,
-    16, 16, 16, 16, 16, 16, 16, 16, 16, 16, 16, 16, 16, 16, 16, 16,
-    16, 16, 16, 16, 16, 16, 16, 16, 16, 16, 16, 16, 16, 16, 16, 16,
-];
-
-/// The value of a lower-case hexadecimal digit.
-#[inline]
-fn unhex(byte: u8) -> Option<u8>
-    ensures value { result ≡ unhex_of byte }
-    // It is below 16.
-    ensures small { IfSome result (λ value. value < 16) }
-{
-    let value = DIGITS[byte as usize];
-    if value < 16 { Some(value) } else { None }
-}
 
 /// The byte of an escape with these digits.
 #[inline]

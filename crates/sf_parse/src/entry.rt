@@ -12,8 +12,8 @@ ghost use Rattle.sf_parse.specs.Machine.Tests.{entry_takes, entry_ends};
 use crate::context::Context;
 use crate::level::Level;
 use crate::member::MemberReader;
-use crate::runs::{ByteClass, InKey, short_prefix};
 use crate::sets::{EQUALS, KEY, SEMICOLON};
+use sf_value::classes::{ByteClass, InKey, short_prefix};
 use sf_value::{Bare, Dialect, Entries, Item, Key, Member, OutOfMemory, ShortBytes, can_start_key};
 use std::marker::Model;
 use std::mem;
@@ -142,14 +142,13 @@ impl Level for EntryReader {
             }
             EntryPhase::Equals => return Ok(chunk),
             EntryPhase::InMemberValue => return self.member.take(context, chunk),
-            EntryPhase::InFlag => match self.member.take(context, chunk) {
-                Ok(rest) => return Ok(rest),
-                Err(refused) => {
-                    // After a failure the member need not be a flag, as this phase requires.
-                    self.phase = EntryPhase::InMemberValue;
-                    return Err(refused);
-                }
-            },
+            EntryPhase::InFlag => {
+                // After a failure the member need not be a flag, as this phase requires.
+                self.phase = EntryPhase::InMemberValue;
+                let rest = self.member.take(context, chunk)?;
+                self.phase = EntryPhase::InFlag;
+                return Ok(rest);
+            }
         }
     }
 
@@ -157,14 +156,13 @@ impl Level for EntryReader {
         match self.phase {
             EntryPhase::InKey | EntryPhase::Equals => return Ok(false),
             EntryPhase::InMemberValue => return self.member.push(context, byte),
-            EntryPhase::InFlag => match self.member.push(context, byte) {
-                Ok(took) => return Ok(took),
-                Err(refused) => {
-                    // After a failure the member need not be a flag, as this phase requires.
-                    self.phase = EntryPhase::InMemberValue;
-                    return Err(refused);
-                }
-            },
+            EntryPhase::InFlag => {
+                // After a failure the member need not be a flag, as this phase requires.
+                self.phase = EntryPhase::InMemberValue;
+                let took = self.member.push(context, byte)?;
+                self.phase = EntryPhase::InFlag;
+                return Ok(took);
+            }
         }
     }
 
@@ -180,7 +178,7 @@ impl Level for EntryReader {
                     self.phase = EntryPhase::InFlag;
                     return Ok(true);
                 }
-                if !InKey::has_one(byte) {
+                if !InKey::has(byte) {
                     return Ok(false);
                 }
                 self.key.push(byte)?;

@@ -35,13 +35,13 @@ pub trait WholeField: Level + Drop {
     /// What a whole field of the kind is.
     type Whole;
 
-    // the kind
+    // The kind.
     ghost kind: { Kind };
 
-    // the field that it is
+    // The field that it is.
     ghost field: { Self.Whole → Field };
 
-    // what was read, as a state of the machine of fields
+    // What was read, as a state of the machine of fields.
     ghost state: { Self → State };
 
     /// Before the first byte. It does not allocate.
@@ -56,7 +56,7 @@ pub trait WholeField: Level + Drop {
         // Where no byte more does not allocate, the end takes none.
         ensures allocation_free { FieldFree (state self.old) [] → IsOk result };
 
-    // the machine of fields goes on just as the level does, and its tests tell the same
+    // The machine of fields goes on just as the level does, and its tests are the same.
     ghost steps: { (d : Dialect) (s : Self) (b : ℕ)
         → step_of d (state s) b ≡ option_map state (Self.next d s b) };
 
@@ -64,7 +64,7 @@ pub trait WholeField: Level + Drop {
 
     ghost ends_too: { (s : Self) → Self.ends s ≡ may_end_at (state s) };
 
-    // what does not allocate in the state does not in the level
+    // What does not allocate in the state does not in the level.
     ghost free_too: { (d : Dialect) (s : Self) (more : Seq ℕ) → FieldFree (state s) more
         → Self.allocation_free d s more };
 }

@@ -7,10 +7,10 @@ use sf_value::{Item, Member, OutOfMemory, Sequence};
 /// Takes the parts of a value, one after the other. A part is built where it is added, so that no
 /// answer carries it about.
 pub trait Gather<T> {
-    // what there is with one part more
+    // What there is with one part more.
     ghost with: { Self → T → Self };
 
-    // whether a part more does not allocate
+    // Whether a part more does not allocate.
     ghost free: { Type 0 };
 
     /// Adds a part at the end.

@@ -12,18 +12,18 @@ use sf_value::{Dialect, OutOfMemory};
 
 /// A level of the grammar that is being read: contracts see its state of the machine.
 pub trait Level {
-    // what the machine does with one more byte
+    // What the machine does with one more byte.
     ghost next: { Dialect → Self → ℕ → Option Self };
 
-    // the part that is open can't go on with this byte
+    // The part that is open can't go on with this byte.
     ghost stuck: { Dialect → Self → ℕ → Type 0 };
 
-    // whether it can go on with a byte, and whether it may end
+    // Whether it can go on with a byte, and whether it may end.
     ghost takes: { Dialect → Self → ℕ → Bool };
 
     ghost ends: { Self → Bool };
 
-    // the states and further bytes that do not allocate
+    // The states and further bytes that do not allocate.
     ghost allocation_free: { Dialect → Self → List ℕ → Type 0 };
 
     /// Takes what the part that is open can go on with, and gives back the rest.
@@ -68,7 +68,7 @@ pub trait Level {
     fn may_end(&self) -> bool
         ensures { result ≡ ends self.now };
 
-    // what does not allocate takes none after its first byte
+    // What does not allocate doesn't do so after its first byte either.
     ghost keeps: { (d : Dialect) (s t : Self) (b : ℕ) (more : List ℕ)
         → allocation_free d s (b ∷ more) → next d s b ≡ Some t → allocation_free d t more };
 

@@ -40,7 +40,6 @@ mod parser;
 mod parsing;
 mod reader;
 mod refusal;
-mod runs;
 mod series;
 mod series_members;
 mod sets;

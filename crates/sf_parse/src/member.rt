@@ -18,8 +18,8 @@ use crate::bare::BareReader;
 use crate::context::Context;
 use crate::item::ItemReader;
 use crate::level::Level;
-use crate::runs::{Space, short_prefix};
 use crate::sets::{CLOSE, OPEN, SPACE, set_if};
+use sf_value::classes::{Space, short_prefix};
 use sf_value::{Dialect, Inner, Item, Member, OutOfMemory, Sequence};
 use std::marker::Model;
 use std::mem;
@@ -225,14 +225,13 @@ impl Level for MemberReader {
             }
             MemberPhase::One => return self.item.take(context, chunk),
             MemberPhase::InItem => return self.item.take(context, chunk),
-            MemberPhase::Closing => match self.item.take(context, chunk) {
-                Ok(rest) => return Ok(rest),
-                Err(refused) => {
-                    // After a failure the item need not be in parameters, as this phase requires.
-                    self.phase = MemberPhase::Room;
-                    return Err(refused);
-                }
-            },
+            MemberPhase::Closing => {
+                // After a failure the item need not be in parameters, as this phase requires.
+                self.phase = MemberPhase::Room;
+                let rest = self.item.take(context, chunk)?;
+                self.phase = MemberPhase::Closing;
+                return Ok(rest);
+            }
         }
     }
 
@@ -241,14 +240,13 @@ impl Level for MemberReader {
             MemberPhase::Room => return Ok(false),
             MemberPhase::One => return self.item.push(context, byte),
             MemberPhase::InItem => return self.item.push(context, byte),
-            MemberPhase::Closing => match self.item.push(context, byte) {
-                Ok(took) => return Ok(took),
-                Err(refused) => {
-                    // After a failure the item need not be in parameters, as this phase requires.
-                    self.phase = MemberPhase::Room;
-                    return Err(refused);
-                }
-            },
+            MemberPhase::Closing => {
+                // After a failure the item need not be in parameters, as this phase requires.
+                self.phase = MemberPhase::Room;
+                let took = self.item.push(context, byte)?;
+                self.phase = MemberPhase::Closing;
+                return Ok(took);
+            }
         }
     }
 

@@ -9,8 +9,8 @@ ghost use Rattle.sf_parse.specs.ParamsView.{params_stuck};
 use crate::bare::BareReader;
 use crate::context::Context;
 use crate::level::Level;
-use crate::runs::{ByteClass, InKey, Space, short_prefix};
 use crate::sets::{EQUALS, KEY, KEY_START, SEMICOLON, SPACE, set_if};
+use sf_value::classes::{ByteClass, InKey, Space, short_prefix};
 use sf_value::{Bare, Dialect, Entries, Key, OutOfMemory, ShortBytes, can_start_key};
 use std::marker::Model;
 use std::mem;
@@ -188,7 +188,7 @@ impl Level for ParamsReader {
                     )?;
                     return Ok(true);
                 }
-                if !InKey::has_one(byte) {
+                if !InKey::has(byte) {
                     return Ok(false);
                 }
                 self.key.push(byte)?;

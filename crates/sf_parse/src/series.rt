@@ -12,23 +12,23 @@ ghost use Rattle.sf_parse.specs.Machine.Tests.{series_takes, series_ends};
 
 use crate::context::Context;
 use crate::level::Level;
-use crate::runs::{Ows, Space, short_prefix};
 use crate::sets::{COMMA, OWS, SPACE, set_if};
+use sf_value::classes::{Ows, Space, short_prefix};
 use sf_value::{Dialect, OutOfMemory, is_ows};
 use std::marker::Model;
 use std::mem;
 
 /// A member between commas; the whole ones are added to a `G`.
 pub trait SeriesMember<G>: Level {
-    // whether a member may begin with a byte, and what the byte begins
+    // Whether a member may begin with a byte, and what the byte begins.
     ghost begins: { Dialect → ℕ → Bool };
 
     ghost first: { Dialect → ℕ → Option Self };
 
-    // what no member gives
+    // What no member gives.
     ghost none: { G };
 
-    // what was given with this member, where it may end
+    // What was given with this member, if it may end.
     ghost added: { Self → G → Option G };
 
     /// Where no member is whole yet. It does not allocate.

@@ -10,8 +10,8 @@ ghost use Rattle.sf_parse.specs.Machine.Language.{Steps};
 ghost use Rattle.sf_parse.specs.Machine.Texts.{text_step};
 ghost use Rattle.sf_parse.specs.Machine.Tests.{text_takes, text_ends};
 
-use crate::runs::{Unescaped, long_prefix};
 use crate::sets::{ESCAPED, VISIBLE};
+use sf_value::classes::{Unescaped, long_prefix};
 use sf_value::{OutOfMemory, ShortBytes, is_visible};
 
 /// The part of a String that is being read, after its opening quote.

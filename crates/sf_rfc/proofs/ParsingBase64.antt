@@ -8,7 +8,7 @@ use Rattle.sf_value.specs.Grammar.Words.{Every}
 use Rattle.sf_value.specs.Grammar.Classes.{is_byte}
 use Rattle.sf_value.specs.Grammar.ByteSequences.{alphabet, letter, unpadded, spare, needed}
 use Rattle.sf_value.specs.Grammar.ByteSequences.{Sextets, SpellsByteSequence}
-use Rattle.sf_parse.proofs.Tables.{all_below, each_below}
+use Rattle.sf_value.proofs.Tables.{all_below, each_below}
 use Rattle.sf_parse.proofs.Quads.{byte_small, small_byte, first_small, second_small, third_small}
 use Rattle.sf_parse.proofs.Quads.{fourth_small, alone_small, last_small, quad, quad_gives}
 use Rattle.sf_parse.proofs.Quads.{one_byte, two_bytes, three_bytes}

@@ -7,7 +7,7 @@ use Rattle.std.specs.Prelude.{codes}
 use Rattle.sf_value.specs.Grammar.Classes.{is_byte}
 use Rattle.sf_value.specs.Grammar.DisplayStrings.{hex, is_unencoded, EncodedBytes}
 use Rattle.sf_value.specs.Grammar.DisplayStrings.{SpellsDisplayString}
-use Rattle.sf_parse.proofs.Tables.{all_below, each_below}
+use Rattle.sf_value.proofs.Tables.{all_below, each_below}
 use Rattle.sf_parse.proofs.Quads.{byte_small, small_byte}
 use Rattle.sf_rfc.specs.Rfc9651.Words.{only_if, first_is}
 use Rattle.sf_rfc.specs.Rfc9651.Alphabets.{is_unprintable, is_lower_hex}

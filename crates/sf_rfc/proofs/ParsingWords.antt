@@ -29,9 +29,6 @@ parse_word p q t = elim (first_is p t) [ false ↦ None | true ↦ word_loop q [
 key_is : (t : List ℕ) → parse_key t ≡ parse_word can_start_key can_be_in_key t
 key_is t = refl
 
-token_is : (t : List ℕ) → parse_token t ≡ parse_word can_start_token can_be_in_token t
-token_is t = refl
-
 -- the loop
 pub some_pair : {A B : Type 0} (a c : A) (b d : B) → ◌≡◌ {A = Option (A × B)} (Some (a, b)) (Some (c, d))
     → (a ≡ c) × (b ≡ d)

@@ -23,9 +23,9 @@ pub enum Seen {
 /// the first call or the one after the refusals was not right, where 65,520 bytes were not enough,
 /// or where memory could not be made scarce. What it took is given back when it returns.
 pub fn refusals<F: FnMut() -> Seen>(alloc: Global, mut call: F) -> Option<usize>
-    // the call can be made again, whatever it did before
+    // The call can be made again, whatever it did before.
     requires { F.IsAlwaysCallable call }
-    // the calls showed Right, then Refused so many times as is answered, and then Right
+    // The calls showed Right, then Refused as many times as is returned, and then Right.
     ensures { IfSome result (λ n. (last : F)
         × FoldsTo F.step call (right_then_refused n ++ seen_is.Right ∷ []) last) }
 {
@@ -52,9 +52,9 @@ pub fn refusals<F: FnMut() -> Seen>(alloc: Global, mut call: F) -> Option<usize>
 /// None where the first was not right, or where memory could not be made scarce. What it took is
 /// given back when it returns.
 pub fn seen_without_memory<F: FnMut() -> Seen>(alloc: Global, mut call: F) -> Option<Seen>
-    // the call can be made again, whatever it did before
+    // The call can be made again, whatever it did before.
     requires { F.IsAlwaysCallable call }
-    // two calls were made: the first showed Right, the second what is answered
+    // Two calls were made: the first showed Right, the second what is returned.
     ensures { IfSome result (λ seen. (last : F)
         × FoldsTo F.step call (seen_is.Right ∷ seen ∷ []) last) }
 {

@@ -84,7 +84,7 @@ impl Scarcity {
     /// Gives a spare back, but for a budget of it.
     fn leave_of_spare(&mut self, alloc: Global, budget: usize) -> bool
         ensures kept { self.old ≤ self.new }
-        // where it answers true, it holds more blocks than before
+        // If it returns true, it holds more blocks than before.
         ensures more { IsTrue result → self.old < self.new }
     {
         if budget > SPARE_SIZE {
@@ -104,7 +104,7 @@ impl Scarcity {
     /// times. Answers whether it did: false says that memory may not be scarce.
     pub fn leave(&mut self, alloc: Global, budget: usize) -> bool
         ensures kept { self.old ≤ self.new }
-        // where it answers true, it holds more blocks than before
+        // If it returns true, it holds more blocks than before.
         ensures more { IsTrue result → self.old < self.new }
     {
         self.take_everything(alloc);

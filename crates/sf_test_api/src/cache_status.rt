@@ -3,7 +3,10 @@
 use crate::building::seed;
 use sf_field::{AskFault, Consumer, UseFault, ask};
 use sf_parse::{Refusal, parse_list};
-use sf_use::{CachePath, CacheStatus, Forward, Hop, HopStatus, Name, Outcome, Passed, append_hop};
+use sf_use::{
+    CachePath, CacheStatus, Forward, Hop, HopCursor, HopStatus, Name, NameView, Outcome, Passed,
+    append_hop,
+};
 use sf_value::{Blob, List, OutOfRange, Token};
 use sf_write::to_text;
 use std::hash::RandomState;
@@ -206,4 +209,73 @@ fn statuses(rt: HostRuntime) {
         assert_eq!(rt; HopStatus::new(code).map(|status| status.get()), want);
         assert_eq!(rt; HopStatus::try_from(code).map(|status| status.get()), want);
     }
+}
+
+fn is_named(name: NameView, token: &[u8]) -> bool {
+    match name {
+        NameView::Token(found) => return found == token,
+        NameView::Text(_) => return false,
+    }
+}
+
+/// The hops of a text, as the digits of a number: 1 for a hit, 2 if the request was forwarded, 3 for
+/// both, otherwise 9; None if the text is declined.
+fn outcomes(text: &[u8]) -> Option<u32> {
+    let mut hops = HopCursor::new(text);
+    let mut all = 0u32;
+    while let Some(hop) = hops.next()? {
+        let digit = match (hop.params.hit == Some(true), hop.params.fwd.is_some()) {
+            (true, false) => 1,
+            (false, true) => 2,
+            (true, true) => 3,
+            (false, false) => 9,
+        };
+        all = all.wrapping_mul(10).wrapping_add(digit);
+    }
+    Some(all)
+}
+
+#[test]
+fn borrowed_hops(rt: HostRuntime) {
+    for (text, want) in [
+        (b"".as_slice(), Some(0)),
+        (
+            b"OriginCache; hit; ttl=1100, \"CDN Company Here\"; fwd=uri-miss",
+            Some(12),
+        ),
+        (
+            b"a;hit;fwd=x, b;hit=?0, c;fwd=\"s\", d;hit;hit=1",
+            Some(3999),
+        ),
+        (b"a, (b), c", None),
+        (b"a, 7", None),
+        (b"a,", None),
+    ] {
+        assert_eq!(rt; outcomes(text), want);
+    }
+}
+
+/// The last parameter of a key counts, also if it is of another type.
+#[test]
+fn borrowed_parameters(rt: HostRuntime) {
+    let text =
+        b"edge; ttl=1;fwd=miss; fwd-status=304;stored;collapsed=?0;ttl=-2;key=\"k\";detail=d";
+    let mut hops = HopCursor::new(text);
+    let Some(Some(hop)) = hops.next() else {
+        assert!(rt; false);
+        return;
+    };
+    let params = hop.params;
+    assert!(rt; is_named(hop.name, b"edge"));
+    assert_eq!(rt; params.hit, None);
+    assert_eq!(rt; params.fwd, Some(b"miss".as_slice()));
+    assert_eq!(rt; params.fwd_status, Some(304));
+    assert_eq!(rt;
+        (params.stored, params.collapsed),
+        (Some(true), Some(false))
+    );
+    assert_eq!(rt; params.ttl, Some(-2));
+    assert_eq!(rt; params.key.map(|slice| slice.bytes), Some(b"k".as_slice()));
+    assert_eq!(rt; params.detail.map(|name| is_named(name, b"d")), Some(true));
+    assert_eq!(rt; hops.next().is_some_and(|hop| hop.is_none()), true);
 }

@@ -142,7 +142,7 @@ fn parses_lines_in_a_dialect(rt: HostRuntime) {
     for (line, dialect, want) in [
         (b"@1".as_slice(), Dialect::Rfc9651, Ok("@1")),
         (b"@1", Dialect::Rfc8941, Err(no_date(0, b" \"*-?"))),
-        // a date that a later value of the key takes the place of
+        // A date that a later value of the key takes the place of.
         (b"a;b=@1;b=1", Dialect::Rfc9651, Ok("a;b=1")),
         (b"a;b=@1;b=1", Dialect::Rfc8941, Err(no_date(4, b"\"*-?"))),
     ] {

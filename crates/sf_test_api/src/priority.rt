@@ -59,6 +59,7 @@ fn priorities(rt: HostRuntime) {
         (b"", (3, false)),
     ] {
         assert_eq!(rt; alone(&rt, &seed, line), want);
+        assert_eq!(rt; PriorityField::scan(line).map(parts), Some(want));
     }
 }
 

@@ -220,7 +220,7 @@ fn check_whole(rt: &impl Abort, sent: &Sent, want: &[u8]) {
 }
 
 /// One byte went out for each call before the one that failed, which was the last.
-fn check_front(rt: &impl Abort, sent: &Sent, written: u64, want: &[u8]) {
+fn check_prefix(rt: &impl Abort, sent: &Sent, written: u64, want: &[u8]) {
     assert_eq!(rt; sent.answer, Err(WriteFault { written }), "after {written}");
     assert!(rt; written as usize <= want.len());
     assert_eq!(rt; sent.sink.taken.as_slice(), &want[..written as usize]);
@@ -233,11 +233,11 @@ fn sends_that_fail(rt: HostRuntime) {
     let seed = seed(&rt);
     let one_and_two = two_items(&rt, &seed, integer(&rt, 1), integer(&rt, 2));
     check_whole(&rt, &send(&rt, &one_and_two, 0), b"1, 2");
-    check_front(&rt, &send(&rt, &one_and_two, 3), 2, b"1, 2");
+    check_prefix(&rt, &send(&rt, &one_and_two, 3), 2, b"1, 2");
     let field = example(&rt, &seed);
     for written in 0..21u64 {
         let sent = send(&rt, &field, written + 1);
-        check_front(&rt, &sent, written, EXAMPLE.as_bytes());
+        check_prefix(&rt, &sent, written, EXAMPLE.as_bytes());
     }
     check_whole(&rt, &send(&rt, &field, 22), EXAMPLE.as_bytes());
 }

@@ -81,20 +81,20 @@ fn expect_failed_read(
     assert_eq!(rt; sink.calls, 0);
 }
 
-/// The write of the byte behind this front of the output fails: the front was written.
+/// The write of the byte after this prefix of the output fails: the prefix was written.
 fn expect_failed_write(
     rt: &(impl Abort + AllocGlobal),
     seed: &RandomState,
     request: &Request,
     input: &[u8],
-    front: &[u8],
+    prefix: &[u8],
 ) {
-    let calls = (front.len() as u64).saturating_add(1);
+    let calls = (prefix.len() as u64).saturating_add(1);
     let mut source = Reading::new(input);
     let mut sink = Trickle::new(rt.alloc(), calls);
     let answer = run_unseen(rt, seed, request, &mut source, &mut sink);
     assert_eq!(rt; answer, Status::Stopped);
-    assert_eq!(rt; sink.taken.as_slice(), front);
+    assert_eq!(rt; sink.taken.as_slice(), prefix);
     assert_eq!(rt; sink.calls, calls);
 }
 
@@ -109,8 +109,8 @@ fn expect_row(rt: &(impl Abort + AllocGlobal), seed: &RandomState, request: &Req
         expect_failed_read(rt, seed, request, input, (cut as u64).saturating_add(1));
     }
     for place in 0..text.len() {
-        let (front, _) = text.split_at(place);
-        expect_failed_write(rt, seed, request, input, front);
+        let (prefix, _) = text.split_at(place);
+        expect_failed_write(rt, seed, request, input, prefix);
     }
 }
 

@@ -140,7 +140,7 @@ fn a_refusal_in_its_line(rt: HostRuntime) -> Result<(), Fail> {
 fn the_bytes_that_could_have_followed(rt: HostRuntime) -> Result<(), Fail> {
     let alloc = rt.alloc();
     let seed = RandomState::new(&rt)?;
-    // the rest of a token, a space, `)` or `;`
+    // The rest of a token, a space, `)` or `;`.
     let wanted = [
         (b' ', b'!'),
         (b'#', b'\''),

@@ -176,7 +176,7 @@ fn of_other_causes(rt: HostRuntime) -> Result<(), Fail> {
         ),
     ] {
         expect_no_need(&rt, || seen_words(refusal, want));
-        // it stands in no line
+        // It is in no line.
         expect_no_need(&rt, || seen_words(refusal.in_text(b"a, b"), want));
     }
     Ok(())
@@ -216,7 +216,7 @@ const LINES: [(Kind, [&[u8]; 2], &str); 3] = [
         "byte 0x63 'c' at place 5, expected `,`, a tab, a space or the end\n\
          line 2, place 2:\nb c\n  ^",
     ),
-    // the comma between two lines stands at the end of the first
+    // The comma between two lines counts as the end of the first.
     (
         Kind::Item,
         [b"1", b"2"],

@@ -9,17 +9,17 @@ use std::test::Fail;
 
 pub(crate) type Row = (Kind, &'static [u8], &'static [u8]);
 
-fn value_in_pieces(
+fn value_in_chunks(
     alloc: Global,
     seed: &RandomState,
     dialect: Dialect,
     kind: Kind,
-    front: &[u8],
-    back: &[u8],
+    prefix: &[u8],
+    suffix: &[u8],
 ) -> Result<Field, Fail> {
     let mut parser = Parser::new_in(alloc, seed, dialect, kind, u64::MAX);
-    parser.feed(front)?;
-    parser.feed(back)?;
+    parser.feed(prefix)?;
+    parser.feed(suffix)?;
     Ok(parser.finish()?)
 }
 
@@ -79,7 +79,7 @@ fn have_equal_values(
     is_value_of(alloc, seed, &field, other)
 }
 
-fn check_pieces(
+fn check_chunks(
     rt: &impl Abort,
     alloc: Global,
     seed: &RandomState,
@@ -88,8 +88,8 @@ fn check_pieces(
 ) -> Result<(), Fail> {
     let (kind, text, canonical) = row;
     for cut in 0..=text.len() {
-        let (front, back) = text.split_at(cut);
-        let field = value_in_pieces(alloc, seed, dialect, kind, front, back)?;
+        let (prefix, suffix) = text.split_at(cut);
+        let field = value_in_chunks(alloc, seed, dialect, kind, prefix, suffix)?;
         check_value(rt, alloc, field, kind, canonical)?;
     }
     let field = value_bytewise(alloc, seed, dialect, kind, text)?;
@@ -111,11 +111,11 @@ fn check_row(rt: &impl Abort, alloc: Global, seed: &RandomState, row: Row) -> Re
     let other = (Dialect::Rfc9651, kind, canonical);
     assert!(rt; have_equal_values(alloc, seed, one, other)?);
     assert!(rt; canonical.len().saturating_mul(5) <= text.len().saturating_mul(8));
-    check_pieces(rt, alloc, seed, Dialect::Rfc9651, row)?;
+    check_chunks(rt, alloc, seed, Dialect::Rfc9651, row)?;
     if has_new_types(text) {
         return Ok(());
     }
-    check_pieces(rt, alloc, seed, Dialect::Rfc8941, row)
+    check_chunks(rt, alloc, seed, Dialect::Rfc8941, row)
 }
 
 fn check_rows(
@@ -305,7 +305,7 @@ fn both_dialects(rt: HostRuntime) -> Result<(), Fail> {
     let new = (Dialect::Rfc9651, Kind::Item, b"a;b=1".as_slice());
     assert!(&rt; have_equal_values(rt.alloc(), &seed, old, new)?);
     let dialect = Dialect::Rfc8941;
-    let field = value_in_pieces(rt.alloc(), &seed, dialect, Kind::Dict, b"a=(1", b" 2)")?;
+    let field = value_in_chunks(rt.alloc(), &seed, dialect, Kind::Dict, b"a=(1", b" 2)")?;
     check_value(&rt, rt.alloc(), field, Kind::Dict, b"a=(1 2)")
 }
 

@@ -1,4 +1,4 @@
-//! What may follow each front of each text: a parser that is fed a byte that no text has tells the
+//! What may follow each prefix of each text: a parser that is fed a byte that no text has names the
 //! bytes that it would have taken, and it takes just these.
 use crate::{acceptances, refusals};
 use sf_parse::{Parser, Refusal};
@@ -8,25 +8,25 @@ use std::hash::RandomState;
 use std::process::Abort;
 use std::test::Fail;
 
-// The bytes that may follow a front, and whether it may end.
-type Told = (u128, bool);
+// The bytes that may follow a prefix, and whether it may end.
+type Followers = (u128, bool);
 
-fn parser_behind(
+fn parser_after(
     alloc: Global,
     seed: &RandomState,
     dialect: Dialect,
     kind: Kind,
-    front: &[u8],
+    prefix: &[u8],
 ) -> Option<Parser> {
     let mut parser = Parser::new_in(alloc, seed, dialect, kind, u64::MAX);
-    match parser.feed(front) {
+    match parser.feed(prefix) {
         Ok(()) => Some(parser),
         Err(_) => None,
     }
 }
 
 /// What the byte 0xFF, which no text has, is refused with.
-fn told(parser: &mut Parser) -> Option<Told> {
+fn followers(parser: &mut Parser) -> Option<Followers> {
     match parser.feed(&[0xff]) {
         Err(
             Refusal::Syntax {
@@ -39,9 +39,9 @@ fn told(parser: &mut Parser) -> Option<Told> {
     }
 }
 
-/// Whether the byte is taken where it was told, and refused in the same words where it was not.
-fn byte_is_as_told(parser: &mut Parser, place: u64, byte: u8, told: Told) -> bool {
-    let (expected, may_end) = told;
+/// Whether the byte is taken if it was named, and otherwise refused with the same bytes.
+fn byte_is_as_named(parser: &mut Parser, place: u64, byte: u8, followers: Followers) -> bool {
+    let (expected, may_end) = followers;
     let may_follow = byte < 128 && expected >> (byte & 127) & 1 == 1;
     let refusal = Refusal::Syntax {
         place,
@@ -55,32 +55,32 @@ fn byte_is_as_told(parser: &mut Parser, place: u64, byte: u8, told: Told) -> boo
     }
 }
 
-/// Whether the front may be followed by just what is told; false also where it is refused.
-fn front_is_as_told(
+/// Whether just the bytes that are named may follow the prefix; false also if it is refused.
+fn prefix_is_as_named(
     alloc: Global,
     seed: &RandomState,
     dialect: Dialect,
     kind: Kind,
-    front: &[u8],
+    prefix: &[u8],
 ) -> bool {
-    let Some(mut parser) = parser_behind(alloc, seed, dialect, kind, front) else {
+    let Some(mut parser) = parser_after(alloc, seed, dialect, kind, prefix) else {
         return false;
     };
-    let Some(told) = told(&mut parser) else {
+    let Some(followers) = followers(&mut parser) else {
         return false;
     };
     for byte in 0..=255u8 {
-        let Some(mut parser) = parser_behind(alloc, seed, dialect, kind, front) else {
+        let Some(mut parser) = parser_after(alloc, seed, dialect, kind, prefix) else {
             return false;
         };
-        if !byte_is_as_told(&mut parser, front.len() as u64, byte, told) {
+        if !byte_is_as_named(&mut parser, prefix.len() as u64, byte, followers) {
             return false;
         }
     }
-    let Some(parser) = parser_behind(alloc, seed, dialect, kind, front) else {
+    let Some(parser) = parser_after(alloc, seed, dialect, kind, prefix) else {
         return false;
     };
-    parser.finish().is_ok() == told.1
+    parser.finish().is_ok() == followers.1
 }
 
 /// How many bytes of the text are taken.
@@ -101,10 +101,10 @@ fn check_text(
 ) {
     let most = taken(rt.alloc(), seed, dialect, kind, text);
     for n in 0..=text.len() {
-        let (front, _) = text.split_at(n);
+        let (prefix, _) = text.split_at(n);
         if n <= most {
             assert!(rt;
-                front_is_as_told(rt.alloc(), seed, dialect, kind, front),
+                prefix_is_as_named(rt.alloc(), seed, dialect, kind, prefix),
                 "{n}"
             );
         }

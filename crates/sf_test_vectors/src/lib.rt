@@ -1,5 +1,5 @@
 //! Conformance vectors: texts of every kind with their outcomes, run through the parser whole, in
-//! every cutting into two pieces and one byte at a time, and through the writer. It has tests
+//! every cutting into two chunks and one byte at a time, and through the writer. It has tests
 //! alone.
 #![tactic(auto)]
 

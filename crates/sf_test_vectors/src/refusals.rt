@@ -8,7 +8,7 @@ use std::process::Abort;
 use std::test::Fail;
 
 // The kind, the text, the place, the byte found there, and the bytes that could have followed: two
-// hexadecimal digits each, a run as its ends, and `end` where the front is a text.
+// hexadecimal digits each, a run as its ends, and `end` where the prefix is a text.
 pub(crate) type Row = (Kind, &'static [u8], u64, Option<u8>, &'static str);
 
 const ITEM: &str = "20 22 25 2a 2d 30-3a 3f-5a 61-7a";
@@ -97,22 +97,22 @@ fn check_refusal(
     }
 }
 
-fn refusal_in_pieces(
+fn refusal_in_chunks(
     alloc: Global,
     seed: &RandomState,
     dialect: Dialect,
     kind: Kind,
-    front: &[u8],
-    back: &[u8],
+    prefix: &[u8],
+    suffix: &[u8],
 ) -> Result<Refusal, Fail> {
     let mut parser = Parser::new_in(alloc, seed, dialect, kind, u64::MAX);
-    if let Err(refusal) = parser.feed(front) {
+    if let Err(refusal) = parser.feed(prefix) {
         if parser.feed(&[]) != Err(refusal) {
             return Err(Fail::from("another refusal"));
         }
         return Ok(refusal);
     }
-    if let Err(refusal) = parser.feed(back) {
+    if let Err(refusal) = parser.feed(suffix) {
         if parser.finish().err() != Some(refusal) {
             return Err(Fail::from("another refusal"));
         }
@@ -143,7 +143,7 @@ fn refusal_bytewise(
     }
 }
 
-/// The row whole, in every cutting into two pieces and a byte at a time.
+/// The row whole, in every cutting into two chunks and a byte at a time.
 fn check_row(
     rt: &impl Abort,
     alloc: Global,
@@ -159,8 +159,8 @@ fn check_row(
         Err(refusal) => check_refusal(rt, dialect, refusal, row)?,
     }
     for cut in 0..=text.len() {
-        let (front, back) = text.split_at(cut);
-        let refusal = refusal_in_pieces(alloc, seed, dialect, kind, front, back)?;
+        let (prefix, suffix) = text.split_at(cut);
+        let refusal = refusal_in_chunks(alloc, seed, dialect, kind, prefix, suffix)?;
         check_refusal(rt, dialect, refusal, row)?;
     }
     Ok(())
@@ -322,7 +322,7 @@ fn lists_and_dictionaries(rt: HostRuntime) -> Result<(), Fail> {
 #[test]
 fn old_dialect(rt: HostRuntime) -> Result<(), Fail> {
     let seed = RandomState::new(&rt)?;
-    // these sets are those of the old dialect itself
+    // These sets are those of the dialect of RFC 8941 itself.
     for row in &OLD_DIALECT {
         match parse_text_in(rt.alloc(), &seed, Dialect::Rfc8941, row.0, row.1) {
             Ok(_) => return Err(Fail::from("accepted")),
@@ -354,21 +354,21 @@ fn limits(rt: HostRuntime) -> Result<(), Fail> {
     Ok(())
 }
 
-/// The places behind each of three pieces.
-fn places(alloc: Global, seed: &RandomState, pieces: [&[u8]; 3]) -> Result<[u64; 3], Refusal> {
+/// The places after each of three chunks.
+fn places(alloc: Global, seed: &RandomState, chunks: [&[u8]; 3]) -> Result<[u64; 3], Refusal> {
     let mut parser = Parser::new(alloc, seed, Kind::Item, u64::MAX);
     let mut places = [0; 3];
-    for (place, piece) in places.iter_mut().zip(pieces) {
-        parser.feed(piece)?;
+    for (place, chunk) in places.iter_mut().zip(chunks) {
+        parser.feed(chunk)?;
         *place = parser.place();
     }
     Ok(places)
 }
 
 #[test]
-fn place_behind_pieces(rt: HostRuntime) -> Result<(), Fail> {
+fn place_after_chunks(rt: HostRuntime) -> Result<(), Fail> {
     let seed = RandomState::new(&rt)?;
-    let pieces = [b":i".as_slice(), b"Z", b"==:"];
-    assert_eq!(&rt; places(rt.alloc(), &seed, pieces), Ok([2, 3, 6]));
+    let chunks = [b":i".as_slice(), b"Z", b"==:"];
+    assert_eq!(&rt; places(rt.alloc(), &seed, chunks), Ok([2, 3, 6]));
     Ok(())
 }

@@ -3,7 +3,13 @@
 #![tactic(auto)]
 
 #[cfg(test)]
+mod building;
+#[cfg(test)]
+mod canonical;
+#[cfg(test)]
 mod copies;
+#[cfg(test)]
+mod cursors;
 #[cfg(test)]
 mod memory;
 #[cfg(test)]

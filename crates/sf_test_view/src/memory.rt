@@ -1,8 +1,9 @@
-//! Copies of whole fields with little memory: each allocation fails in turn.
+//! Copies of whole fields, and nodes read as fields, with little memory: each allocation fails in
+//! turn.
 use sf_parse::{Refusal, parse_text};
 use sf_test_alloc::{Seen, refusals};
 use sf_value::{Dialect, Field, Kind, OutOfMemory, same};
-use sf_view::{Node, View};
+use sf_view::{NoField, Node, View, field_of};
 use std::alloc::Global;
 use std::hash::RandomState;
 use std::test::Fail;
@@ -37,6 +38,27 @@ fn copy_refusals(
     Ok(refusals(alloc, || { seen(view.to_field(alloc, seed, kind), &want) }))
 }
 
+/// How many budgets of memory were too small for the field that a text's nodes are read as.
+fn reading_refusals(
+    alloc: Global,
+    seed: &RandomState,
+    kind: Kind,
+    text: &[u8],
+) -> Result<Option<usize>, Refusal> {
+    let want = parse_text(alloc, seed, kind, text)?;
+    let mut buffer = [Node::NONE; 64];
+    let Some(view) = View::scan(Dialect::Rfc9651, kind, text, &mut buffer).ok() else {
+        return Ok(None);
+    };
+    Ok(refusals(alloc, || {
+        match field_of(alloc, seed, Dialect::Rfc9651, kind, view.text, view.nodes) {
+            Ok(field) => seen(Ok(Some(field)), &want),
+            Err(NoField::OutOfMemory) => seen(Err(OutOfMemory), &want),
+            Err(NoField::Invalid(_)) => seen(Ok(None), &want),
+        }
+    }))
+}
+
 // Keys and bytes that fit where they are, longer ones, and more entries than fit in place.
 static TEXTS: [(Kind, &[u8]); 5] = [
     (Kind::Item, b"\"x y\";p=tok;q=:YQ==:"),
@@ -63,6 +85,16 @@ fn copies(rt: HostRuntime) -> Result<(), Fail> {
     let seed = RandomState::new(&rt)?;
     for (kind, text) in &TEXTS {
         let found = copy_refusals(rt.alloc(), &seed, *kind, text)?;
+        assert!(rt; found > Some(0), "{found:?}");
+    }
+    Ok(())
+}
+
+#[test]
+fn readings(rt: HostRuntime) -> Result<(), Fail> {
+    let seed = RandomState::new(&rt)?;
+    for (kind, text) in &TEXTS {
+        let found = reading_refusals(rt.alloc(), &seed, *kind, text)?;
         assert!(rt; found > Some(0), "{found:?}");
     }
     Ok(())

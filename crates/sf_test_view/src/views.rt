@@ -69,14 +69,14 @@ fn bytes_at(text: &[u8], at: u32, length: u32) -> &[u8] {
 }
 
 fn check_node(rt: &impl Abort, text: &[u8], node: Node, part: Part) {
-    let (role, node_type, span, key, number, bytes, coded) = part;
-    assert!(rt; node.role == role);
-    assert!(rt; node.node_type == node_type);
-    assert_eq!(rt; node.span, span);
+    let (role, node_type, size, key, number, bytes, coded) = part;
+    assert_eq!(rt; node.role, role.code());
+    assert_eq!(rt; node.node_type, node_type.code());
+    assert_eq!(rt; node.size, size);
     assert_eq!(rt; bytes_at(text, node.key_at, node.key_length), key);
     assert_eq!(rt; node.number, number);
     assert_eq!(rt; bytes_at(text, node.text_at, node.text_length), bytes);
-    assert!(rt; node.coded == coded);
+    assert_eq!(rt; node.coded, u8::from(coded));
 }
 
 #[test]
@@ -140,7 +140,7 @@ pub(crate) static ACCEPTED: [(Kind, &[u8]); 34] = [
     ),
 ];
 
-static REFUSED: [(Kind, &[u8]); 28] = [
+pub(crate) static REFUSED: [(Kind, &[u8]); 28] = [
     (Kind::Item, b""),
     (Kind::Item, b"1 2"),
     (Kind::Item, b"-"),

@@ -4,7 +4,7 @@ use Rattle.std.proofs.Common.{Option, Some, None, refl, ap, ap₂, sym, ◌∙�
 use Rattle.std.proofs.Common.{subst, bytes_eq, get_or, suc}
 use Rattle.std.specs.Prelude.{◌≢◌, option_map, Result, Ok, Err, IfOk, IfErr, MatchResult, IsErrAnd}
 use Rattle.std.proofs.Math.Seq.{take-suc}
-use Rattle.std.proofs.lemmas.List.{length-map, map-append}
+use Rattle.std.proofs.lemmas.List.{get_or-map, length-map, map-append}
 use Rattle.std.proofs.lemmas.List.Folds.{list_all_more, list_all_at}
 use Rattle.http_header.specs.Token.{lowercase}
 use Rattle.std.specs.Borrow.{Bor}
@@ -158,8 +158,21 @@ targeted-asks rows word texts e given (Err OutOfMemory) h = (e, (texts, given, h
 
 -- one name more
 
-pub names-none : (words : List Text) → list_all is_header_name (take 0 words) ≡ true
-names-none words = refl
+-- the texts of words, and the one at a place
+abbrev pub texts : List (Bor Text) → List Text
+texts words = map (λ w. w.now) words
+
+pub text-at : (words : List (Bor Text)) (i : ℕ) → i < length words
+    → (i < length (texts words))
+    × ((get_or words i (record { ref_ptr = (0, 0); now = [] })).now ≡ get_or (texts words) i [])
+    × (length (texts words) ≡ length words)
+text-at words i lt =
+    let text : Bor Text → Text = λ w. w.now in
+    let size = length-map words text in (
+      omega arith,
+      sym (get_or-map text words i (record { ref_ptr = (0, 0); now = [] }) [] lt),
+      size,
+    )
 
 pub names-more : (words : List Text) (i : ℕ) (d : Text) → i < length words
     → list_all is_header_name (take i words) ≡ true → is_header_name (get_or words i d) ≡ true

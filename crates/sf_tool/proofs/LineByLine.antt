@@ -120,22 +120,6 @@ reads_on-memory targets input more line n headers r taken =
     let here = at (lines_of input) more line n r.rest r.within in
     (here.0, subst (IsTaken targets) (sym here.1) taken, r.taken)
 
--- no line is left
-pub reads_on-done : (targets : Targets) (input : List ℕ) (left : List (List ℕ)) (n : ℕ)
-    (headers : Headers) → ReadsOn targets (lines_of input) left n headers → left ≡ []
-    → AreFields targets input headers
-reads_on-done targets input left n headers r e =
-    let all = lines_of input in
-    let none : length left ≡ 0 = ap length e in
-    let same : length left ≡ length (drop n all) = ap length r.rest in
-    let w = r.within in
-    let whole : n ≡ length all = omega (arith, length-drop n all) in (
-      subst (NoneIsRefused targets all) whole r.taken,
-      r.held
-          ∙ ap (λ k. headers_of targets (take k all)) whole
-          ∙ ap (headers_of targets) (take-length all),
-    )
-
 -- a listed field may need an allocation
 
 none-listed : (targets : Targets) (lines : List (List ℕ))

@@ -9,7 +9,7 @@ use std::alloc::Global;
 
 /// Returns the word in lower case, or that its allocation failed; None if it is not a header name,
 /// whatever memory is left.
-pub(crate) fn header_name(alloc: Global, word: &[u8]) -> Option<Result<HeaderName, OutOfMemory>>
+pub fn header_name(alloc: Global, word: &[u8]) -> Option<Result<HeaderName, OutOfMemory>>
     ensures { MatchOption result (is_header_name word.now ≡ false)
         (λ made. (is_header_name word.now ≡ true)
         × IfOk made (λ name. name ≡ lowercase word.now)) }

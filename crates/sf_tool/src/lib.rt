@@ -26,6 +26,7 @@ pub use answering::{answer_made, answer_too_long};
 pub use choice::put_policy;
 pub use cutting::{split_at_first, split_line, trimmed, without_lead};
 pub use explaining::ErrorStream;
+pub use header_names::header_name;
 pub use marking::{caret_text, line_text, name_end};
 pub use path::put_path;
 pub use priority::put_priority;

@@ -4,3 +4,4 @@ pub mod Replacing
 pub mod Firsts
 pub mod Deciding
 pub mod WrittenPriorities
+pub mod Scanning

@@ -9,3 +9,4 @@ pub mod Hops
 pub mod Served
 pub mod Members
 pub mod Laws
+pub mod Views

@@ -7,3 +7,5 @@ pub mod TargetedLaws
 pub mod Ranges
 pub mod Priority
 pub mod PriorityLaws
+pub mod Scanning
+pub mod PriorityUpdate

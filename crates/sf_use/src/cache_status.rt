@@ -18,8 +18,10 @@ mod params;
 mod path;
 mod reading;
 mod status;
+mod view;
 
 pub use appending::append_hop;
 pub use hop::{Forward, Hop, Name, Outcome, Passed};
 pub use path::{CachePath, CacheStatus};
 pub use status::HopStatus;
+pub use view::{HopCursor, HopParams, HopView, NameView};

@@ -14,10 +14,13 @@
 pub mod cache_status;
 pub mod laws;
 pub mod priority;
+mod priority_update;
 pub mod targeted;
 
 pub use cache_status::{
-    CachePath, CacheStatus, Forward, Hop, HopStatus, Name, Outcome, Passed, append_hop,
+    CachePath, CacheStatus, Forward, Hop, HopCursor, HopParams, HopStatus, HopView, Name, NameView,
+    Outcome, Passed, append_hop,
 };
 pub use priority::{Asked, Priority, PriorityField, Urgency, merge, priority_field};
+pub use priority_update::update_priority;
 pub use targeted::{Choice, Directives, Policy, select};

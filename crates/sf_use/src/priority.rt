@@ -1,13 +1,21 @@
 //! Priorities (RFC 9218): the urgency of a response, and whether it is of use as it arrives.
-ghost use Rattle.std.specs.Prelude.{◌≡◌, ◌++◌, [], ◌∷◌, ◌↔◌, IsOk, IfOk, true, false};
+ghost use Rattle.std.specs.Prelude.{◌≡◌, ◌++◌, [], ◌∷◌, ◌↔◌, IsOk, IfOk, IfSome, true, false};
 ghost use Rattle.std.specs.Option.{option_copied};
 ghost use Rattle.sf_value.specs.Grammar.Classes.{is_key_start};
 ghost use Rattle.sf_value.specs.Grammar.Pairs.{put};
 ghost use Rattle.sf_use.specs.Priority.{asked, filled, incremental, merged, plain, prio, urgency};
+ghost use Rattle.sf_use.specs.Priority.{asked_in};
 ghost use Rattle.sf_use.specs.Ranges.{IsUrgency, usual_urgency};
+ghost use Rattle.sf_use.specs.Scanning.{IsScanned, urgency_by, with_member};
+ghost use Rattle.sf_value.specs.declared.dialect.Dialect.TheVariants.{Rfc9651 as rfc9651};
+ghost use Rattle.sf_value.specs.declared.value.Member.{Member as MemberValue};
+ghost use Rattle.sf_view.specs.Reads.{ShowsMember};
 
 use sf_field::{Consumer, UseFault};
-use sf_value::{Bare, Dict, Entries, Field, Int, Item, Key, Kind, Member, OutOfMemory, OutOfRange};
+use sf_value::{
+    Bare, Dialect, Dict, Entries, Field, Int, Item, Key, Kind, Member, OutOfMemory, OutOfRange,
+};
+use sf_view::{DictCursor, EntryView};
 use std::alloc::Global;
 use std::hash::RandomState;
 use std::marker::Model;
@@ -94,6 +102,31 @@ impl Urgency {
         ensures range { IsUrgency self.now }
     {
         self.value
+    }
+}
+
+impl PriorityField {
+    /// Reads the text of a Priority field in one pass, and returns what it sets, as
+    /// [`Priority::from_dict`] does for its Dictionary. Does not allocate. `None` claims nothing: the
+    /// text may spell no Dictionary, or have 4 GiB or more.
+    ///
+    /// ```
+    /// let asked = PriorityField::scan(b"u=5, i")?;
+    /// assert_eq!(rt; asked.incremental, Some(true));
+    /// ```
+    pub fn scan(text: &[u8]) -> Option<Asked>
+        // The text spells a Dictionary, and no other value, and this is what it sets.
+        ensures { IfSome result (IsScanned (λ v asked. asked ≡ asked_in v) text.now) }
+    {
+        let mut cursor = DictCursor::new(Dialect::Rfc9651, text);
+        let mut asked = Asked {
+            urgency: None,
+            incremental: None,
+        };
+        while let Some(member) = cursor.next()? {
+            asked = asked_with(asked, member);
+        }
+        Some(asked)
     }
 }
 
@@ -233,6 +266,34 @@ pub fn priority_field(
     Ok(Dict { members })
 }
 
+/// Returns what is set after one more member, which overwrites what an earlier one of its key set.
+#[inline]
+fn asked_with(asked: Asked, member: EntryView) -> Asked
+    ensures { (m : MemberValue) → ShowsMember rfc9651 member.entry.bare m
+        → result ≡ with_member asked (member.entry.key.now, m) }
+{
+    if member.key == b"u".as_slice() {
+        return Asked {
+            urgency: urgency_of(member.as_integer()),
+            ..asked
+        };
+    }
+    if member.key == b"i".as_slice() {
+        return Asked {
+            incremental: member.as_boolean(),
+            ..asked
+        };
+    }
+    asked
+}
+
+/// Returns the urgency of a number from 0 to 7.
+fn urgency_of(number: Option<i64>) -> Option<Urgency>
+    ensures { result ≡ urgency_by number }
+{
+    Urgency::new(u8::try_from(number?).ok()?).ok()
+}
+
 /// Returns the urgency that a member sets: an Integer from 0 to 7.
 fn urgency_in(member: Option<&Member>) -> Option<Urgency>
     ensures { result ≡ urgency (option_copied member.entry) }
@@ -249,7 +310,7 @@ fn boolean_in(member: Option<&Member>) -> Option<bool>
 }
 
 /// Puts an Item without parameters at a key of one letter.
-fn put_item(
+pub(crate) fn put_item(
     alloc: Global,
     seed: &RandomState,
     members: &mut Entries<Member>,

@@ -1,17 +1,23 @@
 //! Targeted cache control (RFC 9213): which field a cache obeys, and its directives.
-ghost use Rattle.std.specs.Prelude.{◌≡◌, All, Ok, IfOk, IfErr, IsOk};
+ghost use Rattle.std.specs.Prelude.{◌≡◌, All, Ok, IfOk, IfErr, IfSome, IsOk};
 ghost use Rattle.std.specs.Option.{option_copied};
 ghost use Rattle.http_header.specs.HeaderMap.{ContainsKey};
 ghost use Rattle.sf_field.specs.Meaning.{Gives};
-ghost use Rattle.sf_use.specs.Targeted.{delta_seconds, directives, is_set, life, policy};
+ghost use Rattle.sf_use.specs.Scanning.{IsScanned, seconds_by, sets_by, with_directive};
+ghost use Rattle.sf_use.specs.Targeted.{delta_seconds, directives, is_set as member_sets, life, policy};
 ghost use Rattle.sf_use.specs.TargetedChoice.{IsChosen, IsReached, MayOffer, IsOffer, IsOfHeaders};
 ghost use Rattle.sf_use.specs.TargetedChoice.{OffersAsRead};
 ghost use Rattle.sf_use.specs.declared.targeted.Choice.TheVariants.{Fallback};
+ghost use Rattle.sf_value.specs.declared.dialect.Dialect.TheVariants.{Rfc9651 as rfc9651};
+ghost use Rattle.sf_value.specs.declared.value.Member.{Member as MemberValue};
+ghost use Rattle.sf_view.specs.Cursors.{boolean_in};
+ghost use Rattle.sf_view.specs.Reads.{ShowsMember};
 
 use http_header::{HeaderMap, HeaderName};
 use sf_field::{Consumer, UseFault, from_headers};
 use sf_parse::Refusal;
-use sf_value::{Bare, Dict, Field, Kind, Member, OutOfMemory};
+use sf_value::{Bare, Dialect, Dict, Field, Kind, Member, OutOfMemory};
+use sf_view::{DictCursor, EntryView};
 use std::alloc::Global;
 use std::hash::RandomState;
 
@@ -55,6 +61,40 @@ pub enum Choice {
     },
     /// No target has a field that can be used: `Cache-Control` and `Expires` decide.
     Fallback,
+}
+
+/// What no directive sets.
+const NO_DIRECTIVE: Policy = Policy {
+    max_age: None,
+    s_maxage: None,
+    must_revalidate: false,
+    no_store: false,
+    no_cache: false,
+    is_private: false,
+};
+
+impl Directives {
+    /// Reads the text of one targeted field in one pass, and returns its directives, as
+    /// [`Policy::from_dict`] does for its Dictionary, or `Some(None)` if the Dictionary is empty, so
+    /// that the field is ignored (RFC 9213 section 2.1). Does not allocate. `None` claims nothing:
+    /// the text may spell no Dictionary, or have 4 GiB or more.
+    ///
+    /// ```
+    /// let policy = Directives::scan(b"max-age=60, no-store")??;
+    /// assert_eq!(rt; policy.max_age, Some(60));
+    /// ```
+    pub fn scan(text: &[u8]) -> Option<Option<Policy>>
+        // The text spells a Dictionary, and no other value, and this is its policy, if it has a
+        // member.
+        ensures { IfSome result (IsScanned MayOffer text.now) }
+    {
+        let mut cursor = DictCursor::new(Dialect::Rfc9651, text);
+        let mut policy = None;
+        while let Some(member) = cursor.next()? {
+            policy = Some(policy_with(policy.unwrap_or(NO_DIRECTIVE), member));
+        }
+        Some(policy)
+    }
 }
 
 impl Policy {
@@ -167,6 +207,67 @@ pub fn select(
     Ok(Choice::Fallback)
 }
 
+/// Returns the policy after one more member, which overwrites what an earlier one of its key set.
+#[inline]
+fn policy_with(policy: Policy, member: EntryView) -> Policy
+    ensures { (m : MemberValue) → ShowsMember rfc9651 member.entry.bare m
+        → result ≡ with_directive policy (member.entry.key.now, m) }
+{
+    if member.key == b"max-age".as_slice() {
+        return Policy {
+            max_age: seconds_of(member.as_integer()),
+            ..policy
+        };
+    }
+    if member.key == b"s-maxage".as_slice() {
+        return Policy {
+            s_maxage: seconds_of(member.as_integer()),
+            ..policy
+        };
+    }
+    if member.key == b"must-revalidate".as_slice() {
+        return Policy {
+            must_revalidate: is_set(member),
+            ..policy
+        };
+    }
+    if member.key == b"no-store".as_slice() {
+        return Policy {
+            no_store: is_set(member),
+            ..policy
+        };
+    }
+    if member.key == b"no-cache".as_slice() {
+        return Policy {
+            no_cache: is_set(member),
+            ..policy
+        };
+    }
+    if member.key == b"private".as_slice() {
+        return Policy {
+            is_private: is_set(member),
+            ..policy
+        };
+    }
+    policy
+}
+
+/// Returns whether a member is not an Item of Boolean false.
+#[inline]
+fn is_set(member: EntryView) -> bool
+    ensures { (m : MemberValue) → ShowsMember rfc9651 member.entry.bare m → result ≡ sets_by (boolean_in m) }
+{
+    member.as_boolean().unwrap_or(true)
+}
+
+/// Returns a number of seconds that is not negative.
+#[inline]
+fn seconds_of(number: Option<i64>) -> Option<u64>
+    ensures { result ≡ seconds_by number }
+{
+    u64::try_from(number?).ok()
+}
+
 /// Returns the seconds that a member sets: an Integer that is not negative.
 fn seconds(member: Option<&Member>) -> Option<u64>
     ensures { result ≡ delta_seconds (option_copied member.entry) }
@@ -177,7 +278,7 @@ fn seconds(member: Option<&Member>) -> Option<u64>
 
 /// Returns whether a member is present and not an Item of Boolean false.
 fn sets(member: Option<&Member>) -> bool
-    ensures { result ≡ is_set (option_copied member.entry) }
+    ensures { result ≡ member_sets (option_copied member.entry) }
 {
     match member {
         None => false,

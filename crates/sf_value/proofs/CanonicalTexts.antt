@@ -9,6 +9,7 @@ use Rattle.sf_value.specs.declared.value.Member.TheVariants as member
 use Rattle.sf_value.specs.declared.value.Field.TheVariants as field
 use Rattle.sf_value.specs.declared.value.Kind.TheVariants as kind
 use Rattle.sf_value.specs.Grammar.Words.{Every, Each}
+use Rattle.sf_value.proofs.Words.{every_push}
 use Rattle.sf_value.specs.Grammar.Classes.{is_digit, is_byte}
 use Rattle.sf_value.specs.Grammar.Pairs.{Pairs}
 use Rattle.sf_value.specs.Grammar.Numbers.{signed, value_from, AreDigits, SpellsInteger}
@@ -52,10 +53,6 @@ value_push : (a : ℕ) (w : List ℕ) (d : ℕ)
     → value_from a (w ++ d ∷ []) ≡ 10 * value_from a w + (d - 48)
 value_push a [] d = refl
 value_push a (c ∷ w) d = value_push (10 * a + (c - 48)) w d
-
-every_push : (p : ℕ → Bool) (w : List ℕ) (d : ℕ) → Every p w → p d ≡ true → Every p (w ++ d ∷ [])
-every_push p [] d h k = (k, tt)
-every_push p (c ∷ w) d h k = (h.0, every_push p w d h.1 k)
 
 one_digit : (n : ℕ) → n < 10 → Numeral n ((48 + n) ∷ [])
 one_digit n h = record { each = (digit_is n h, tt); value = omega arith; some = omega arith }
@@ -331,6 +328,17 @@ module _ (d : Dialect) where
   member_canon (member.Item i) h = item_canon i h
   member_canon (member.Inner l) h = inner_canon l h.0 h.1
 
+  -- a key with a value
+  given_canon : (k : List ℕ) (x : Bare) (ps : Pairs Bare) → IsKey k → ValidBare d x
+      → ValidParams d ps
+      → SpellsEntry d (k ++ 61 ∷ (canon_bare x ++ canon_params ps))
+      (k, member.Item (record { bare = x; params = ps }))
+  given_canon k x ps w h g = (
+    canon_bare x ++ canon_params ps,
+    w,
+    inl (refl, item_canon (record { bare = x; params = ps }) (h, g)),
+  )
+
   flag_canon : (k : List ℕ) (x : Bare) (ps : Pairs Bare) → IsKey k → ValidBare d x
       → ValidParams d ps
       → SpellsEntry d (k ++ canon_flag x ps) (k, member.Item (record { bare = x; params = ps }))
@@ -339,46 +347,14 @@ module _ (d : Dialect) where
     w,
     inr (ps, refl, refl, params_canon ps g),
   )
-  flag_canon k (Boolean false) ps w h g = (
-    canon_bare (Boolean false) ++ canon_params ps,
-    w,
-    inl (refl, item_canon (record { bare = Boolean false; params = ps }) (h, g)),
-  )
-  flag_canon k (Integer n) ps w h g = (
-    canon_bare (Integer n) ++ canon_params ps,
-    w,
-    inl (refl, item_canon (record { bare = Integer n; params = ps }) (h, g)),
-  )
-  flag_canon k (Decimal n) ps w h g = (
-    canon_bare (Decimal n) ++ canon_params ps,
-    w,
-    inl (refl, item_canon (record { bare = Decimal n; params = ps }) (h, g)),
-  )
-  flag_canon k (Text s) ps w h g = (
-    canon_bare (Text s) ++ canon_params ps,
-    w,
-    inl (refl, item_canon (record { bare = Text s; params = ps }) (h, g)),
-  )
-  flag_canon k (Token s) ps w h g = (
-    canon_bare (Token s) ++ canon_params ps,
-    w,
-    inl (refl, item_canon (record { bare = Token s; params = ps }) (h, g)),
-  )
-  flag_canon k (Blob s) ps w h g = (
-    canon_bare (Blob s) ++ canon_params ps,
-    w,
-    inl (refl, item_canon (record { bare = Blob s; params = ps }) (h, g)),
-  )
-  flag_canon k (Date n) ps w h g = (
-    canon_bare (Date n) ++ canon_params ps,
-    w,
-    inl (refl, item_canon (record { bare = Date n; params = ps }) (h, g)),
-  )
-  flag_canon k (Shown s) ps w h g = (
-    canon_bare (Shown s) ++ canon_params ps,
-    w,
-    inl (refl, item_canon (record { bare = Shown s; params = ps }) (h, g)),
-  )
+  flag_canon k (Boolean false) ps w h g = given_canon k (Boolean false) ps w h g
+  flag_canon k (Integer n) ps w h g = given_canon k (Integer n) ps w h g
+  flag_canon k (Decimal n) ps w h g = given_canon k (Decimal n) ps w h g
+  flag_canon k (Text s) ps w h g = given_canon k (Text s) ps w h g
+  flag_canon k (Token s) ps w h g = given_canon k (Token s) ps w h g
+  flag_canon k (Blob s) ps w h g = given_canon k (Blob s) ps w h g
+  flag_canon k (Date n) ps w h g = given_canon k (Date n) ps w h g
+  flag_canon k (Shown s) ps w h g = given_canon k (Shown s) ps w h g
 
   entry_canon : (k : List ℕ) (m : Member) → IsKey k → ValidMember d m
       → SpellsEntry d (canon_entry (k, m)) (k, m)

@@ -1,4 +1,8 @@
 pub mod Words
+pub mod Tables
+pub mod ByteTables
+pub mod DigitValues
+pub mod Runs
 pub mod ByteLists
 mod Rows
 pub mod EntryMaps

@@ -103,9 +103,6 @@ next_low x = omega arith
 next_high : (x : ℕ) → next x ≤ 191
 next_high x = omega arith
 
-at_row : (P : ℕ → Type 0) (a b : ℕ) → a ≡ b → P b → P a
-at_row P a b e h = subst P (sym e) h
-
 lead_is : (x : ℕ) (y : Utf8) (a : ℕ) → a ≡ x → look_up rows x ≡ Some y → look_up rows a ≡ Some y
 lead_is x y a e h = ap (look_up rows) e ∙ h
 

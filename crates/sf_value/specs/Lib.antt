@@ -2,6 +2,7 @@
 -- and values; the others say what the calls of this crate do.
 pub mod Ascii
 pub mod Grammar
+pub mod Digits
 pub mod Entries
 pub mod Stores
 pub mod Lending

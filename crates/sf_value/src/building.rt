@@ -35,9 +35,9 @@ impl Item {
     ///     .with_param(Key::new(alloc, b"r")?, Bare::Boolean(true))?; // a;q=1;r
     /// ```
     pub fn with_param(self, key: Key, value: Bare) -> Result<Item, OutOfMemory>
-        // a key that is there keeps its place and is overwritten; a new one goes last
+        // A key that is there keeps its place and is overwritten; a new one goes last.
         ensures new { IfOk result (λ more. more ≡ item self.bare (put self.params key value)) }
-        // it is refused only where the key is new
+        // It fails only if the key is new.
         ensures absent { OnErr result (value_at key self.params ≡ None) }
     {
         let Item { bare, mut params } = self;
@@ -78,9 +78,9 @@ impl Inner {
     /// The Inner List with one more parameter of the whole. The value of a key that is there is
     /// replaced in its place, which does not allocate.
     pub fn with_param(self, key: Key, value: Bare) -> Result<Inner, OutOfMemory>
-        // a key that is there keeps its place and is overwritten; a new one goes last
+        // A key that is there keeps its place and is overwritten; a new one goes last.
         ensures new { IfOk result (λ more. more ≡ inner self.items (put self.params key value)) }
-        // it is refused only where the key is new
+        // It fails only if the key is new.
         ensures absent { OnErr result (value_at key self.params ≡ None) }
     {
         let Inner { items, mut params } = self;
@@ -131,10 +131,10 @@ impl Dict {
     /// let dict = Dict::new(alloc, &seed).with(Key::new(alloc, b"u")?, Member::Item(item))?;
     /// ```
     pub fn with(self, key: Key, member: Member) -> Result<Dict, OutOfMemory>
-        // a key that is there keeps its place and is overwritten; a new one goes last
+        // A key that is there keeps its place and is overwritten; a new one goes last.
         ensures new { IfOk result (λ more. more
             ≡ record { members = put self.members key member }) }
-        // it is refused only where the key is new
+        // It fails only if the key is new.
         ensures absent { OnErr result (value_at key self.members ≡ None) }
     {
         let Dict { mut members } = self;

@@ -11,7 +11,7 @@ use std::alloc::Global;
 use std::marker::Model;
 
 /// How many bytes are in place.
-const ROOM: usize = 16;
+const IN_PLACE: usize = 16;
 
 /// Bytes that are gathered: up to 16 are in the value itself and do not allocate, more than that
 /// are in memory of their own. The keys, strings, tokens, byte sequences and display strings of
@@ -25,7 +25,7 @@ const ROOM: usize = 16;
 /// ```
 #[derive(Debug)]
 pub struct ShortBytes {
-    bytes: SmallVec<u8, ROOM>,
+    bytes: SmallVec<u8, IN_PLACE>,
 }
 
 impl Model for ShortBytes {

@@ -128,9 +128,9 @@ impl<R: Read> Reading<R> {
 
     /// The reader back, as the calls so far left it. It does not allocate.
     pub fn into_inner(self) -> R
-        // its bytes to come are those of the source
+        // Its bytes to come are those of the source.
         ensures to_come { R.remaining result ≡ (⟦<Reading<R> as Source>⟧.state self).to_come }
-        // it is the reader that was within
+        // It is the reader that was within.
         ensures reader { result ≡ reader_of self }
     {
         let Reading {
@@ -147,10 +147,10 @@ impl<W: Write> Writing<W> {
     /// The sink that hands its bytes to this writer, with the count of failed calls at 0. It does
     /// not allocate.
     pub fn new(writer: W) -> Writing<W>
-        // the bytes taken are those that the writer holds, and no failure is counted yet
+        // The bytes taken are those that the writer holds, and no failure is counted yet.
         ensures state { ⟦<Writing<W> as Sink>⟧.state result
             ≡ record { taken = W.contents writer; failures = 0 } }
-        // the writer within is the one handed in, as it was
+        // The writer within is the one handed in, as it was.
         ensures writer { writer_of result ≡ writer }
     {
         Writing {
@@ -168,9 +168,9 @@ impl<W: Write> Writing<W> {
 
     /// The writer back, as the calls so far left it. It does not allocate.
     pub fn into_inner(self) -> W
-        // the writer holds the bytes taken
+        // The writer holds the bytes taken.
         ensures taken { W.contents result ≡ (⟦<Writing<W> as Sink>⟧.state self).taken }
-        // it is the writer that was within
+        // It is the writer that was within.
         ensures writer { result ≡ writer_of self }
     {
         let Writing {

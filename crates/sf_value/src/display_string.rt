@@ -3,13 +3,11 @@ ghost use Rattle.std.specs.Prelude.{◌≡◌, ℕ, List, [], ◌↔◌, IsTrue,
 ghost use Rattle.std.specs.Str.{IsUtf8};
 ghost use Rattle.sf_value.specs.Grammar.Words.{Every};
 ghost use Rattle.sf_value.specs.Grammar.Classes.{is_byte};
-ghost use Rattle.sf_value.specs.Grammar.DisplayStrings.{is_unencoded};
 ghost use Rattle.sf_value.specs.Grammar.Utf8.{WellFormed, Start};
 ghost use Rattle.sf_value.specs.InPlace.{FitsInPlace};
 
 use crate::bytes::ShortBytes;
 use crate::fault::OutOfMemory;
-use crate::text::is_visible;
 use std::alloc::Global;
 use std::marker::Model;
 
@@ -92,12 +90,4 @@ impl Shown {
     {
         self.bytes.is_empty()
     }
-}
-
-/// Whether a byte of a display string is written as itself: each from 0x20 to 0x7E but `"` and `%`
-/// (RFC 9651 section 4.1.11). It does not allocate.
-pub fn stands_for_itself(byte: u8) -> bool
-    ensures { result ≡ is_unencoded byte }
-{
-    is_visible(byte) && byte != b'"' && byte != b'%'
 }

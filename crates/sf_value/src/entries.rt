@@ -108,7 +108,7 @@ impl<V> Entries<V> {
     /// How many entries there are. It does not allocate.
     pub fn len(&self) -> usize
         ensures len { result ≡ length self.now }
-        // each key is one, and none occurs twice
+        // Each key is one, and none occurs twice.
         ensures entries { AreEntries self.now }
     {
         self.store.len()
@@ -138,7 +138,7 @@ impl<V> Entries<V> {
     /// }
     /// ```
     pub fn get_mut(&mut self, key: &[u8]) -> Option<&mut V>
-        // what the reference ends as is the key's value; all else is as it was
+        // What the reference ends as is the key's value; all else is as it was.
         ensures* writes_back { sem 𝓛 (LendsValue V.row self.entry key.now result) }
         ensures value { option_copied_mut result ≡ value_at key.now self.old }
     {
@@ -171,7 +171,7 @@ impl<V> Entries<V> {
     /// }
     /// ```
     pub fn at_mut(&mut self, index: usize) -> Option<&mut V>
-        // what it ends as is the value at the place; all else is as it was
+        // What it ends as is the value at the place; all else is as it was.
         ensures* writes_back { sem 𝓛 (LendsValueAt V.row self.entry index result) }
         ensures value { option_copied_mut result
             ≡ option_map (λ entry. entry.1) (slice_get self.old index) }
@@ -182,7 +182,7 @@ impl<V> Entries<V> {
     /// The entries in order, each as its key's bytes and its value. It does not allocate.
     pub fn iter(&self) -> Iter<'_, V>
         ensures rest { result ≡ self.now }
-        // a loop takes them in order from the start, and a whole loop takes them all
+        // A loop takes them in order from the start, and a whole loop takes them all.
         ensures runs { ShowsInOrder (deref_entry {V = V}) }
     {
         Iter {
@@ -199,7 +199,7 @@ impl<V> Entries<V> {
     /// }
     /// ```
     pub fn iter_mut(&mut self) -> IterMut<'_, V>
-        // what is changed through it is changed in these entries
+        // What is changed through it is changed in these entries.
         ensures same { (lent_entries result).ghost_name ≡ self.entry.ghost_name }
         ensures entries { (lent_entries result).now ≡ self.old }
         ensures first { lent_index result ≡ 0 }
@@ -223,12 +223,12 @@ impl<'a, V> IterMut<'a, V> {
 
     /// The next value, to be changed; `None` after the last. It does not allocate.
     pub fn next(&mut self) -> Option<&mut V>
-        // what it ends as is the value of its key, and the one after it comes next; all else is as
-        // it was
+        // What it ends as is the value of its key, and the one after it comes next; all else is as
+        // it was.
         ensures* writes_back { sem 𝓛 (LendsNext V.row self.entry result) }
         ensures value { option_copied_mut result ≡ option_map (λ entry. entry.1)
             (slice_get (lent_entries self.old).now (lent_index self.old)) }
-        // whatever it ends as, fewer are left: so a loop ends
+        // Whatever it ends as, fewer are left: so a loop ends.
         ensures fewer { IfSome result (λ _. (w : V)
             → values_left (with_lent self.old w) < values_left self.old) }
     {
@@ -247,12 +247,12 @@ impl<V: Drop> Entries<V> {
     /// allocate. If an allocation fails, the entries stay as they were, and the key and the value
     /// come back.
     pub fn put(&mut self, key: Key, value: V) -> Result<Option<V>, (Key, V)>
-        // a key that is there keeps its place and is overwritten; a new one goes last
+        // A key that is there keeps its place and is overwritten; a new one goes last.
         ensures new { IfOk result (λ _. self.new ≡ settle (self.old ++ (key, value) ∷ [])) }
         ensures old { IfOk result (λ old. old ≡ value_at key self.old) }
         ensures same { IfErr result (λ _. self.new ≡ self.old) }
         ensures back { IfErr result (λ pair. pair ≡ (key, value)) }
-        // it is refused only where the key is new
+        // It fails only if the key is new.
         ensures absent { IfErr result (λ _. value_at key self.old ≡ None) }
     {
         self.store.put(key, value)
@@ -265,10 +265,10 @@ impl<V: Drop> Entries<V> {
     /// entries.set(Key::new(alloc, b"q")?, Bare::Integer(Int::new(1)?))?;
     /// ```
     pub fn set(&mut self, key: Key, value: V) -> Result<(), OutOfMemory>
-        // a key that is there keeps its place and is overwritten; a new one goes last
+        // A key that is there keeps its place and is overwritten; a new one goes last.
         ensures new { OnOk result (self.new ≡ settle (self.old ++ (key, value) ∷ [])) }
         ensures same { OnErr result (self.new ≡ self.old) }
-        // it is refused only where the key is new
+        // It fails only if the key is new.
         ensures absent { OnErr result (value_at key self.old ≡ None) }
     {
         self.store.set(key, value)

@@ -6,13 +6,14 @@ ghost use Rattle.sf_value.specs.Faults.{IsKeyFault, IsOfBytes};
 ghost use Rattle.sf_value.specs.InPlace.{FitsInPlace};
 
 use crate::bytes::ShortBytes;
+use crate::classes::{InKey, KeyStart};
 use crate::fault::{OutOfMemory, TextFault};
-use crate::word::{Word, word_bytes};
+use crate::word::word_bytes;
 use std::alloc::Global;
 use std::marker::Model;
 
 /// The key of a parameter or of a member of a dictionary (RFC 9651 section 3.1.2): a byte that may
-/// start one ([`can_start_key`]), then any number of bytes that may be in one ([`can_be_in_key`]).
+/// start one ([`crate::can_start_key`]), then any number of bytes that may be in one ([`crate::can_be_in_key`]).
 /// Upper case is never in one. Contracts see the list of its bytes.
 ///
 /// ```
@@ -37,14 +38,14 @@ impl Key {
     /// at the first byte that may not be in its place, otherwise as `OutOfMemory`. Up to 16 bytes
     /// do not allocate.
     pub fn new(alloc: Global, bytes: &[u8]) -> Result<Key, TextFault>
-        // these bytes; or the cause: no byte, the first bad one, or a key and no memory for it
+        // It has these bytes; the fault is no byte, the first bad one, or no memory for a key.
         ensures exact { MatchResult result (λ key. key ≡ bytes.now) (IsKeyFault bytes.now) }
         ensures key { IfOk result (λ key. IsKey key) }
         // At most 16 bytes are not refused as out of memory.
         ensures in_place { FitsInPlace bytes.now → IfErr result IsOfBytes }
     {
         Ok(Key {
-            bytes: word_bytes::<Key>(alloc, bytes)?,
+            bytes: word_bytes::<KeyStart, InKey>(alloc, bytes)?,
         })
     }
 
@@ -58,7 +59,7 @@ impl Key {
         Key { bytes }
     }
 
-    /// The key of one byte, one that [`can_start_key`] accepts. It does not allocate, and is never
+    /// The key of one byte, one that [`crate::can_start_key`] accepts. It does not allocate, and is never
     /// refused.
     pub fn first(alloc: Global, byte: u8) -> Result<Key, OutOfMemory>
         requires { is_key_start byte ≡ true }
@@ -90,34 +91,4 @@ impl Key {
     {
         self.bytes.as_bytes()
     }
-}
-
-impl Word for Key {
-    ghost start = { is_key_start };
-
-    ghost more = { is_in_key };
-
-    fn can_start(byte: u8) -> bool {
-        can_start_key(byte)
-    }
-
-    fn can_be_in(byte: u8) -> bool {
-        can_be_in_key(byte)
-    }
-}
-
-/// Whether a key may begin with this byte: `a` to `z` and `*` (RFC 9651 section 3.1.2). It does not
-/// allocate.
-pub fn can_start_key(byte: u8) -> bool
-    ensures { result ≡ is_key_start byte }
-{
-    matches!(byte, b'a'..=b'z' | b'*')
-}
-
-/// Whether a key may go on with this byte: `a` to `z`, `0` to `9`, `_`, `-`, `.` and `*` (RFC 9651
-/// section 3.1.2). It does not allocate.
-pub fn can_be_in_key(byte: u8) -> bool
-    ensures { result ≡ is_in_key byte }
-{
-    matches!(byte, b'a'..=b'z' | b'0'..=b'9' | b'_' | b'-' | b'.' | b'*')
 }

@@ -31,9 +31,11 @@
 mod blob;
 mod building;
 mod bytes;
+pub mod classes;
 mod conversion;
 mod device;
 mod dialect;
+mod digits;
 mod display_string;
 mod entries;
 mod equality;
@@ -50,21 +52,24 @@ mod table;
 mod text;
 mod token;
 mod value;
-mod white_space;
 mod word;
 
 pub use blob::Blob;
 pub use bytes::ShortBytes;
+pub use classes::{
+    can_be_in_key, can_be_in_token, can_start_key, can_start_token, is_ows, is_visible,
+    stands_for_itself,
+};
 pub use device::{Failed, Reading, Sink, Source, Writing};
 pub use dialect::Dialect;
-pub use display_string::{Shown, stands_for_itself};
+pub use digits::{hex_digits, sextet, unhex};
+pub use display_string::Shown;
 pub use entries::{Entries, IntoIter, Iter, IterMut};
 pub use fault::{OutOfMemory, OutOfRange, TextFault};
-pub use key::{Key, can_be_in_key, can_start_key};
+pub use key::Key;
 pub use number::{Int, Thousandths};
 pub use part::{Part, copy, same};
 pub use sequence::Sequence;
-pub use text::{Text, is_visible};
-pub use token::{Token, can_be_in_token, can_start_token};
+pub use text::Text;
+pub use token::Token;
 pub use value::{Bare, Dict, Field, Inner, Item, Kind, List, Member};
-pub use white_space::is_ows;

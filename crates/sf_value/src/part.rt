@@ -17,7 +17,7 @@ use std::hash::RandomState;
 /// A part of a value: a bare item, an Item, an Inner List, a member, and entries and sequences of
 /// such. Whole fields are compared and copied by [`same`] and [`copy`].
 pub trait Part: PartialEq + Drop {
-    // whether a copy does not allocate
+    // Whether a copy does not allocate.
     ghost in_place: { Self → Type 0 };
 
     /// Whether the two are equal: the same type, the same bytes or numbers, and the same parts in
@@ -33,7 +33,7 @@ pub trait Part: PartialEq + Drop {
         // What is in place is not refused as out of memory.
         ensures in_place { in_place self.now → IsOk result };
 
-    // `==` holds of equal parts, and of no others
+    // `==` holds of equal parts, and of no others.
     ghost decides: { (a b : Self) → Decides (Self.eq a b) (a ≡ b) };
 }
 

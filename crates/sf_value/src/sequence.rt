@@ -90,7 +90,7 @@ impl<T> Sequence<T> {
     /// The values in order. It does not allocate.
     pub fn iter(&self) -> slice::Iter<'_, T>
         ensures rest { iter_rest result ≡ self.now }
-        // a loop takes them in order from the start, and a whole loop takes them all
+        // A loop takes them in order from the start, and a whole loop takes them all.
         ensures runs { IterYieldsInOrder T }
     {
         self.items.iter()
@@ -116,7 +116,7 @@ impl<T> Sequence<T> {
     /// members.pop() // Some(member)
     /// ```
     pub fn pop(&mut self) -> Option<T>
-        // none if there was none; otherwise the last one, and the others stay
+        // None if there was none; otherwise the last one, and the others stay.
         ensures { MatchOption result ((self.old ≡ []) × (self.new ≡ []))
             (λ last. self.old ≡ self.new ++ last ∷ []) }
     {
@@ -161,7 +161,7 @@ impl<T> Sequence<T> {
     /// }
     /// ```
     pub fn as_mut_slice(&mut self) -> &mut [T]
-        // what the slice ends as are the values, as many as they were
+        // What the slice ends as are the values, as many as they were.
         ensures* writes_back { sem 𝓛 (LendsItems T.row self.entry result) }
         ensures value { result.now ≡ self.old }
     {

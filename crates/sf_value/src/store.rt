@@ -105,7 +105,7 @@ impl<V> Store<V> {
 
     /// The place of the key of these bytes.
     pub(crate) fn place(&self, key: &[u8]) -> Option<usize>
-        // the first place whose key has these bytes
+        // It is the first place whose key has these bytes.
         ensures { result ≡ position (bytes_eq key.now) (keys_of (stored self.now)) }
     {
         match self {
@@ -117,9 +117,9 @@ impl<V> Store<V> {
 
     /// The value at a place, to be changed.
     pub(crate) fn value_mut(&mut self, place: usize) -> Option<&mut V>
-        // what the reference ends as is the value there; all else is as it was
+        // What the reference ends as is the value there; all else is as it was.
         ensures* writes_back { sem 𝓛 (LendsStored V.row self.entry place result) }
-        // at first it is the value of the entry at the place, if there is one
+        // At first it is the value of the entry at the place, if there is one.
         ensures value { option_copied_mut result
             ≡ option_map (λ entry. entry.1) (slice_get (stored self.old) place) }
     {
@@ -159,20 +159,20 @@ impl<V: Drop> Store<V> {
 
     /// Puts a value at a key, as `Entries::put` does. Only a new key takes memory.
     pub(crate) fn put(&mut self, key: Key, value: V) -> Result<Option<V>, (Key, V)>
-        // each key is one, and none occurs twice
+        // Each key is one, and none occurs twice.
         requires entries { AreEntries (stored self.old) }
-        // the seed is at hand: a vector has a slot, which holds it
+        // The seed is at hand: a vector has a slot, which holds it.
         requires seed { HasSeed self.old }
-        // and both stay so
+        // Both stay so.
         ensures entries { AreEntries (stored self.new) }
         ensures seed { HasSeed self.new }
-        // a key that is there keeps its place and is overwritten; a new one goes last
+        // A key that is there keeps its place and is overwritten; a new one goes last.
         ensures new { IfOk result (λ _. stored self.new
             ≡ settle (stored self.old ++ (key, value) ∷ [])) }
         ensures old { IfOk result (λ old. old ≡ value_at key (stored self.old)) }
         ensures same { IfErr result (λ _. stored self.new ≡ stored self.old) }
         ensures back { IfErr result (λ pair. pair ≡ (key, value)) }
-        // it is refused only where the key is new
+        // It fails only if the key is new.
         ensures absent { IfErr result (λ _. value_at key (stored self.old) ≡ None) }
     {
         match self {
@@ -208,18 +208,18 @@ impl<V: Drop> Store<V> {
     /// Puts a value at a key, as `Entries::set` does. Only a new key takes memory.
     #[inline(never)]
     pub(crate) fn set(&mut self, key: Key, value: V) -> Result<(), OutOfMemory>
-        // each key is one, and none occurs twice
+        // Each key is one, and none occurs twice.
         requires entries { AreEntries (stored self.old) }
-        // the seed is at hand: a vector has a slot, which holds it
+        // The seed is at hand: a vector has a slot, which holds it.
         requires seed { HasSeed self.old }
-        // and both stay so
+        // Both stay so.
         ensures entries { AreEntries (stored self.new) }
         ensures seed { HasSeed self.new }
-        // a key that is there keeps its place and is overwritten; a new one goes last
+        // A key that is there keeps its place and is overwritten; a new one goes last.
         ensures new { OnOk result (stored self.new
             ≡ settle (stored self.old ++ (key, value) ∷ [])) }
         ensures same { OnErr result (stored self.new ≡ stored self.old) }
-        // it is refused only where the key is new
+        // It fails only if the key is new.
         ensures absent { OnErr result (value_at key (stored self.old) ≡ None) }
     {
         if let Store::Many(map) = self {
@@ -233,11 +233,11 @@ impl<V: Drop> Store<V> {
 
     /// Takes out the key of these bytes, and returns its value. The others keep their order.
     pub(crate) fn remove(&mut self, key: &[u8]) -> Option<V>
-        // each key is one, and none occurs twice
+        // Each key is one, and none occurs twice.
         requires entries { AreEntries (stored self.old) }
-        // the seed is at hand: a vector has a slot, which holds it
+        // The seed is at hand: a vector has a slot, which holds it.
         requires seed { HasSeed self.old }
-        // and both stay so
+        // Both stay so.
         ensures entries { AreEntries (stored self.new) }
         ensures seed { HasSeed self.new }
         ensures value { result ≡ value_at key.now (stored self.old) }
@@ -266,7 +266,7 @@ impl<V: Drop> Store<V> {
 
 /// The place of the key of these bytes among a few.
 fn place_of<V>(slots: &[Slot<V>], key: &[u8]) -> Option<usize>
-    // the first place whose key has these bytes
+    // It is the first place whose key has these bytes.
     ensures { result ≡ position (λ slot. bytes_eq key.now slot.key) slots.now }
 {
     slots.iter().position(|slot| key == slot.key.as_bytes())
@@ -274,10 +274,10 @@ fn place_of<V>(slots: &[Slot<V>], key: &[u8]) -> Option<usize>
 
 /// Puts the entries into an empty map that has capacity for them.
 fn fill<V: Drop>(map: &mut Many<V>, slots: Vec<Slot<V>>)
-    // no key occurs twice
+    // No key occurs twice.
     requires distinct { HasDistinctKeys (slot_pairs slots.items) }
     requires empty { map.old.entries ≡ [] }
-    // so many more entries fit with no more memory
+    // So many more entries fit with no more memory.
     requires room { vec_len slots ≤ spare map.old }
     ensures { map.new.entries ≡ slot_pairs slots.items }
 {
@@ -292,7 +292,7 @@ fn fill<V: Drop>(map: &mut Many<V>, slots: Vec<Slot<V>>)
 /// The map of these entries, which leave the vector. If an allocation fails, they stay.
 fn grown<V: Drop>(slots: &mut Vec<Slot<V>>) -> Result<Box<Many<V>>, OutOfMemory>
     requires some { 0 < vec_len slots.old }
-    // no key occurs twice
+    // No key occurs twice.
     requires distinct { HasDistinctKeys (slot_pairs slots.old.items) }
     ensures all { IfOk result (λ map. map.value.entries ≡ slot_pairs slots.old.items) }
     ensures same { OnErr result (slots.new.items ≡ slots.old.items) }

@@ -13,17 +13,17 @@ pub(crate) type Many<V> = IndexMap<Key, V, RandomState>;
 
 /// Puts a value at a key, as `Entries::put` does. Only a new key takes memory.
 pub(crate) fn put<V>(map: &mut Many<V>, key: Key, value: V) -> Result<Option<V>, (Key, V)>
-    // each key is one, and none occurs twice
+    // Each key is one, and none occurs twice.
     requires { AreEntries map.old.entries }
-    // and so it stays
+    // It stays so.
     ensures entries { AreEntries map.new.entries }
-    // a key that is there keeps its place and is overwritten; a new one goes last
+    // A key that is there keeps its place and is overwritten; a new one goes last.
     ensures new { IfOk result (λ _. map.new.entries
         ≡ settle (map.old.entries ++ (key, value) ∷ [])) }
     ensures old { IfOk result (λ old. old ≡ value_at key map.old.entries) }
     ensures same { IfErr result (λ _. map.new.entries ≡ map.old.entries) }
     ensures back { IfErr result (λ pair. pair ≡ (key, value)) }
-    // it is refused only where the key is new
+    // It fails only if the key is new.
     ensures absent { IfErr result (λ _. value_at key map.old.entries ≡ None) }
 {
     // That its bytes are a key's the proof has to know.
@@ -36,14 +36,14 @@ pub(crate) fn put<V>(map: &mut Many<V>, key: Key, value: V) -> Result<Option<V>,
 
 /// Puts a value at a key, as `Entries::set` does: what `put` answers is not carried about.
 pub(crate) fn set<V: Drop>(map: &mut Many<V>, key: Key, value: V) -> Result<(), OutOfMemory>
-    // each key is one, and none occurs twice
+    // Each key is one, and none occurs twice.
     requires { AreEntries map.old.entries }
-    // and so it stays
+    // It stays so.
     ensures entries { AreEntries map.new.entries }
-    // a key that is there keeps its place and is overwritten; a new one goes last
+    // A key that is there keeps its place and is overwritten; a new one goes last.
     ensures new { OnOk result (map.new.entries ≡ settle (map.old.entries ++ (key, value) ∷ [])) }
     ensures same { OnErr result (map.new.entries ≡ map.old.entries) }
-    // it is refused only where the key is new
+    // It fails only if the key is new.
     ensures absent { OnErr result (value_at key map.old.entries ≡ None) }
 {
     // That its bytes are a key's the proof has to know.

@@ -3,11 +3,13 @@ ghost use Rattle.std.specs.Prelude.{◌≡◌, ℕ, List, [], ◌↔◌};
 ghost use Rattle.std.specs.Prelude.{IsTrue, IsOk, IfOk, IfErr, MatchResult};
 ghost use Rattle.sf_value.specs.Grammar.Words.{Every};
 ghost use Rattle.sf_value.specs.Grammar.Classes.{is_visible as is_visible_byte};
-ghost use Rattle.sf_value.specs.Faults.{bad_place, IsStringFault, IsOfBytes};
+ghost use Rattle.sf_value.specs.Faults.{IsStringFault, IsOfBytes};
 ghost use Rattle.sf_value.specs.InPlace.{FitsInPlace};
 
 use crate::bytes::ShortBytes;
+use crate::classes::Visible;
 use crate::fault::{OutOfMemory, TextFault};
+use crate::word::bad_byte;
 use std::alloc::Global;
 use std::marker::Model;
 
@@ -37,13 +39,13 @@ impl Text {
     /// not allocate.
     #[tactic(auto, using(crate::proofs::Words::every_from_place))]
     pub fn new(alloc: Global, bytes: &[u8]) -> Result<Text, TextFault>
-        // these bytes; or the cause: the first bad one, or a string and no memory for it
+        // It has these bytes; the fault is the first bad one, or no memory for a string.
         ensures exact { MatchResult result (λ text. text ≡ bytes.now) (IsStringFault bytes.now) }
         ensures text { IfOk result (λ text. Every is_visible_byte text) }
         // At most 16 bytes are not refused as out of memory.
         ensures in_place { FitsInPlace bytes.now → IfErr result IsOfBytes }
     {
-        if let Some(place) = bad_byte(bytes) {
+        if let Some(place) = bad_byte::<Visible>(bytes) {
             return Err(TextFault::BadByte { place });
         }
         Ok(Text {
@@ -87,19 +89,4 @@ impl Text {
     {
         self.bytes.is_empty()
     }
-}
-
-/// Whether a string may hold this byte: 0x20 to 0x7E (RFC 9651 section 3.3.3). It does not
-/// allocate.
-pub fn is_visible(byte: u8) -> bool
-    ensures { result ≡ is_visible_byte byte }
-{
-    matches!(byte, b' '..=b'~')
-}
-
-/// The place of the first byte that no string holds.
-fn bad_byte(bytes: &[u8]) -> Option<usize>
-    ensures { result ≡ bad_place is_visible_byte bytes.now }
-{
-    bytes.iter().position(|b| !is_visible(*b))
 }

@@ -6,13 +6,14 @@ ghost use Rattle.sf_value.specs.Faults.{IsTokenFault, IsOfBytes};
 ghost use Rattle.sf_value.specs.InPlace.{FitsInPlace};
 
 use crate::bytes::ShortBytes;
+use crate::classes::{InToken, TokenStart};
 use crate::fault::{OutOfMemory, TextFault};
-use crate::word::{Word, word_bytes};
+use crate::word::word_bytes;
 use std::alloc::Global;
 use std::marker::Model;
 
-/// A token (RFC 9651 section 3.3.4): a byte that may start one ([`can_start_token`]), then any
-/// number of bytes that may be in one ([`can_be_in_token`]). Contracts see the list of its bytes.
+/// A token (RFC 9651 section 3.3.4): a byte that may start one ([`crate::can_start_token`]), then any
+/// number of bytes that may be in one ([`crate::can_be_in_token`]). Contracts see the list of its bytes.
 ///
 /// ```
 /// let token = Token::new(alloc, b"text/html")?;
@@ -36,14 +37,14 @@ impl Token {
     /// `BadByte` at the first byte that may not be in its place, otherwise as `OutOfMemory`. Up to
     /// 16 bytes do not allocate.
     pub fn new(alloc: Global, bytes: &[u8]) -> Result<Token, TextFault>
-        // these bytes; or the cause: no byte, the first bad one, or a token and no memory for it
+        // It has these bytes; the fault is no byte, the first bad one, or no memory for a token.
         ensures exact { MatchResult result (λ token. token ≡ bytes.now) (IsTokenFault bytes.now) }
         ensures token { IfOk result (λ token. IsToken token) }
         // At most 16 bytes are not refused as out of memory.
         ensures in_place { FitsInPlace bytes.now → IfErr result IsOfBytes }
     {
         Ok(Token {
-            bytes: word_bytes::<Token>(alloc, bytes)?,
+            bytes: word_bytes::<TokenStart, InToken>(alloc, bytes)?,
         })
     }
 
@@ -76,38 +77,4 @@ impl Token {
     {
         self.bytes.as_bytes()
     }
-}
-
-impl Word for Token {
-    ghost start = { is_token_start };
-
-    ghost more = { is_in_token };
-
-    fn can_start(byte: u8) -> bool {
-        can_start_token(byte)
-    }
-
-    fn can_be_in(byte: u8) -> bool {
-        can_be_in_token(byte)
-    }
-}
-
-/// Whether a token may begin with this byte: a letter or `*` (RFC 9651 section 3.3.4). It does not
-/// allocate.
-pub fn can_start_token(byte: u8) -> bool
-    ensures { result ≡ is_token_start byte }
-{
-    matches!(byte, b'a'..=b'z' | b'A'..=b'Z' | b'*')
-}
-
-/// Whether a token may go on with this byte: a letter, a digit, `:`, `/` or one of
-/// ``!#$%&'*+-.^_`|~`` (RFC 9651 section 3.3.4). It does not allocate.
-pub fn can_be_in_token(byte: u8) -> bool
-    ensures { result ≡ is_in_token byte }
-{
-    matches!(
-        byte,
-        b'a'..=b'z' | b'A'..=b'Z' | b'0'..=b'9' | b'!' | b'#'..=b'\'' | b'*' | b'+' | b'-'..=b':'
-            | b'^'..=b'`' | b'|' | b'~'
-    )
 }

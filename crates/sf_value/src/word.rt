@@ -1,63 +1,53 @@
 //! What keys and tokens have in common: a first byte of one class, then bytes of another.
-ghost use Rattle.std.specs.Prelude.{◌≡◌, ℕ, Bool, IfOk, IfErr, MatchResult};
+ghost use Rattle.std.specs.Prelude.{◌≡◌, IfOk, IfErr, MatchResult};
 ghost use Rattle.sf_value.specs.Grammar.Words.{IsWord};
 ghost use Rattle.sf_value.specs.Faults.{bad_place, bad_word_place, IsWordFault, IsOfBytes};
 ghost use Rattle.sf_value.specs.InPlace.{FitsInPlace};
 
 use crate::bytes::ShortBytes;
+use crate::classes::ByteClass;
 use crate::fault::TextFault;
 use std::alloc::Global;
 
-/// The bytes that a kind of word has.
-pub trait Word {
-    ghost start: { ℕ → Bool };
-
-    ghost more: { ℕ → Bool };
-
-    /// Whether a word may begin with this byte.
-    fn can_start(byte: u8) -> bool
-        ensures { result ≡ start byte };
-
-    /// Whether a word may go on with this byte.
-    fn can_be_in(byte: u8) -> bool
-        ensures { result ≡ more byte };
-}
-
-/// The bytes of a word. It fails with `Empty` if there is no byte, otherwise with `BadByte` at the
-/// first byte that a word does not have there, otherwise with `OutOfMemory`.
+/// The bytes of a word, which begins with a byte of the class `S` and goes on with those of `C`. It
+/// fails with `Empty` if there is no byte, otherwise with `BadByte` at the first byte that a word
+/// does not have there, otherwise with `OutOfMemory`.
 #[tactic(auto, using(crate::proofs::Words::word_from_place))]
-pub fn word_bytes<W: Word>(alloc: Global, bytes: &[u8]) -> Result<ShortBytes, TextFault>
+pub(crate) fn word_bytes<S: ByteClass, C: ByteClass>(
+    alloc: Global,
+    bytes: &[u8],
+) -> Result<ShortBytes, TextFault>
     // These bytes; or the cause: no byte, the first bad one, or a word and no memory for it.
     ensures exact { MatchResult result (λ word. word ≡ bytes.now)
-        (IsWordFault W.start W.more bytes.now) }
-    ensures word { IfOk result (λ word. IsWord W.start W.more word) }
+        (IsWordFault S.test C.test bytes.now) }
+    ensures word { IfOk result (λ word. IsWord S.test C.test word) }
     // At most 16 bytes are not refused as out of memory.
     ensures in_place { FitsInPlace bytes.now → IfErr result IsOfBytes }
 {
     if bytes.is_empty() {
         return Err(TextFault::Empty);
     }
-    if let Some(place) = bad_byte::<W>(bytes) {
+    if let Some(place) = bad_byte_of_word::<S, C>(bytes) {
         return Err(TextFault::BadByte { place });
     }
     Ok(ShortBytes::from_slice(alloc, bytes)?)
 }
 
-/// The place of the first of these bytes that a word does not go on with.
-fn bad_byte_after_first<W: Word>(bytes: &[u8]) -> Option<usize>
-    ensures { result ≡ bad_place W.more bytes.now }
+/// The place of the first byte that is not of the class.
+pub(crate) fn bad_byte<C: ByteClass>(bytes: &[u8]) -> Option<usize>
+    ensures { result ≡ bad_place C.test bytes.now }
 {
-    bytes.iter().position(|b| !W::can_be_in(*b))
+    bytes.iter().position(|b| !C::has(*b))
 }
 
 /// The place of the first byte that a word does not have there; `None` also if there is no byte.
-fn bad_byte<W: Word>(bytes: &[u8]) -> Option<usize>
-    ensures { result ≡ bad_word_place W.start W.more bytes.now }
+fn bad_byte_of_word<S: ByteClass, C: ByteClass>(bytes: &[u8]) -> Option<usize>
+    ensures { result ≡ bad_word_place S.test C.test bytes.now }
 {
     let (first, rest) = bytes.split_first()?;
-    if !W::can_start(*first) {
+    if !S::has(*first) {
         return Some(0);
     }
-    let place = bad_byte_after_first::<W>(rest)?;
+    let place = bad_byte::<C>(rest)?;
     Some(place + 1)
 }

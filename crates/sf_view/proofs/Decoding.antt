@@ -8,7 +8,8 @@ use Rattle.sf_value.specs.Grammar.Classes.{is_byte}
 use Rattle.sf_value.specs.Grammar.Strings.{is_escaped, escaped}
 use Rattle.sf_value.specs.Grammar.DisplayStrings.{hex, is_unencoded, EncodedBytes}
 use Rattle.sf_value.specs.Grammar.ByteSequences.{letter, unpadded, spare, needed, Pads}
-use Rattle.sf_parse.proofs.Quads.{letter_same, byte_small, pads_letter, first_small}
+use Rattle.sf_value.proofs.DigitValues.{letter_same}
+use Rattle.sf_parse.proofs.Quads.{byte_small, pads_letter, first_small}
 use Rattle.sf_view.specs.declared.bytes.Coding.{Coding}
 use Rattle.sf_view.specs.declared.bytes.Coding.TheVariants as coding
 use Rattle.sf_view.specs.Decoding.{Remains, TakesByte, NoLetter}

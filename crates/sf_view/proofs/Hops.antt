@@ -12,8 +12,8 @@ use Rattle.sf_value.specs.Grammar.Pairs.{Pairs, value_at}
 use Rattle.sf_value.proofs.Settling.{same_key}
 use Rattle.sf_value.specs.declared.value.Bare.{Bare}
 use Rattle.sf_view.specs.declared.node.Node.{Node}
-use Rattle.sf_view.specs.declared.node.Role.{Role}
-use Rattle.sf_view.specs.declared.node.Role.TheVariants as role_is
+use Rattle.sf_view.specs.declared.node_types.Role.{Role}
+use Rattle.sf_view.specs.declared.node_types.Role.TheVariants as role_is
 use Rattle.sf_view.specs.View.{piece, DescribesMember, DescribesPairs, DescribesBare, DescribesParams, DescribesItem}
 use Rattle.sf_view.specs.Finding.{IsHop, NoHop}
 
@@ -22,7 +22,7 @@ pub record Opens (source k : List ℕ) (front : List Node) : Type 0 where
   pub first : Node
   pub more : List Node
   pub begins : front ≡ first ∷ more
-  pub span : length front ≡ first.span
+  pub size : length front ≡ first.size
   pub within : first.key_at + first.key_length ≤ length source
   pub key : piece first.key_at first.key_length source ≡ k
 
@@ -32,7 +32,7 @@ item_opens d source r k front i (n, ms, e, h, more) = record {
   first = n;
   more = ms;
   begins = e;
-  span = let l = ap length e in let s = h.span in omega arith;
+  size = let l = ap length e in let s = h.size in omega arith;
   within = h.key_within;
   key = h.key;
 }
@@ -44,7 +44,7 @@ opens d source k front (member.Inner l) (n, is, ps, e, h, r, q) = record {
   first = n;
   more = is ++ ps;
   begins = e;
-  span = let l = ap length e in let s = h.span in omega arith;
+  size = let l = ap length e in let s = h.size in omega arith;
   within = h.key_within;
   key = h.key;
 }
@@ -59,7 +59,7 @@ param_opens d source r k front x (n, e, h) = record {
   first = n;
   more = [];
   begins = e;
-  span = let l = ap length e in let s = h.span in omega arith;
+  size = let l = ap length e in let s = h.size in omega arith;
   within = h.key_within;
   key = h.key;
 }
@@ -92,7 +92,7 @@ same_part source j nodes own back k front later o e h =
     let one : h.first ≡ o.first =
     heads h.first o.first (h.more ++ later) (o.more ++ back)
     (ap (λ y. y ++ later) (sym h.begins) ∙ both ∙ ap (λ y. y ++ back) o.begins) in
-    let size : length front ≡ length own = h.span ∙ ap (λ y. y.span) one ∙ sym o.span in
+    let size : length front ≡ length own = h.size ∙ ap (λ y. y.size) one ∙ sym o.size in
     record {
       key = h.key ∙ ap (λ y. piece y.key_at y.key_length source) one ∙ o.key;
       here =
@@ -115,7 +115,7 @@ no_part source j nodes own back o e n =
     let n' : NoHop source (o.first ∷ (o.more ++ back)) = subst (NoHop source) e' n in
     let sizes = ap length o.begins in
     let all = length-append o.more back in
-    let s = o.span in
+    let s = o.size in
     n' o.within (omega arith) (omega arith)
 
 -- the same front and the same rest

@@ -11,23 +11,23 @@ use Rattle.sf_value.specs.Grammar.Classes.{is_sp}
 use Rattle.sf_value.specs.Grammar.Items.{SpellsItem}
 use Rattle.sf_value.specs.Grammar.InnerLists.{SpellsItems, inner}
 use Rattle.sf_value.specs.Grammar.Fields.{flag}
-use Rattle.sf_parse.proofs.ByteRuns.{every_append}
+use Rattle.sf_value.proofs.Runs.{every_append}
 use Rattle.sf_view.specs.declared.bare.Part.{Part}
 use Rattle.sf_view.specs.declared.item.KeyPlace.{KeyPlace}
 use Rattle.sf_view.specs.declared.node.Node.{Node}
-use Rattle.sf_view.specs.declared.node.NodeType.TheVariants as type_is
-use Rattle.sf_view.specs.declared.node.Role.TheVariants as role_is
+use Rattle.sf_view.specs.declared.node_types.NodeType.TheVariants as type_is
+use Rattle.sf_view.specs.declared.node_types.Role.TheVariants as role_is
 use Rattle.sf_view.specs.View.{piece, DescribesBare, DescribesItem, DescribesItems, DescribesMember}
 use Rattle.sf_view.specs.Scans.{Behind, ScansKey, ScansItem, ScansItems, ItemsSoFar}
 use Rattle.sf_view.specs.Scans.{ScansParams, ScansRest, ScansMember, ScansEntry}
-use Rattle.sf_view.specs.Scans.{node_from, spanning, opening_of}
+use Rattle.sf_view.specs.Scans.{node_from, sized, opening_of}
 use Rattle.sf_view.proofs.Ends.{end_further, end_piece, end_within}
 use Rattle.sf_view.proofs.Scanned.{number_describes}
 use Rattle.sf_view.proofs.Params.{node_describes}
 use Rattle.sf_view.proofs.Putting.{puts_none, puts_then, puts_first}
 
 -- spaces before Items
-spaces_before : (d : Dialect) (least low : ℕ) (gap back : List ℕ) (is : List Item)
+pub spaces_before : (d : Dialect) (least low : ℕ) (gap back : List ℕ) (is : List Item)
     → Every is_sp gap → low ≤ least + length gap → SpellsItems d least back is
     → SpellsItems d low (gap ++ back) is
 spaces_before d least low gap back [] h k s = every_append is_sp gap back h s
@@ -43,7 +43,7 @@ spaces_before d least low gap back (i ∷ is) h k (g, f, b, e, sp, l, x, r) = (
 )
 
 -- an Item before Items that a space comes before
-item_before : (d : Dialect) (f back : List ℕ) (i : Item) (is : List Item) → SpellsItem d f i
+pub item_before : (d : Dialect) (f back : List ℕ) (i : Item) (is : List Item) → SpellsItem d f i
     → SpellsItems d 1 back is → SpellsItems d 0 (f ++ back) (i ∷ is)
 item_before d f back i is x r = ([], f, back, refl, tt, omega arith, x, r)
 
@@ -163,16 +163,16 @@ items_last d source text rest after left place old mid new at between count s x 
 
 -- an Inner List
 pub inner_scans : (d : Dialect) (source text body behind rest : List ℕ) (place : KeyPlace)
-    (m : Node) (old mid new : List Node) (at between count span : ℕ) → text ≡ 40 ∷ body
+    (m : Node) (old mid new : List Node) (at between count total : ℕ) → text ≡ 40 ∷ body
     → ScansItems d source body behind old mid (at + 1) between
     → ScansParams d source role_is.InnerParameter behind rest mid new between count
-    → m ≡ opening_of place span → span ≡ count - at → at < length old
+    → m ≡ opening_of place total → total ≡ count - at → at < length old
     → length new ≡ length old
     → ScansMember d source text rest place old (set new at m) at count
-inner_scans d source text body behind rest place m old mid new at between count span first is ps opens size h same =
+inner_scans d source text body behind rest place m old mid new at between count total first is ps opens size h same =
     let both = puts_then old mid new (at + 1) between count is.nodes ps.nodes is.puts ps.puts in
     let f = both.from in
-    let k : span ≡ 1 + length (is.nodes ++ ps.nodes) = omega arith in
+    let k : total ≡ 1 + length (is.nodes ++ ps.nodes) = omega arith in
     let opened : text ≡ (40 ∷ (is.front ++ 41 ∷ [])) ++ behind =
     first
     ∙ ap (λ y. 40 ∷ y) (is.split ∙ sym (append_assoc is.front (41 ∷ []) behind)) in
@@ -200,7 +200,7 @@ inner_scans d source text body behind rest place m old mid new at between count 
             refl,
             record {
               role = ap (λ y. y.role) opens;
-              span = ap (λ y. y.span) opens ∙ k;
+              size = ap (λ y. y.size) opens ∙ k;
               key_within =
                   let a = ap (λ y. y.key_at) opens in
                   let b = ap (λ y. y.key_length) opens in
@@ -208,6 +208,8 @@ inner_scans d source text body behind rest place m old mid new at between count 
               key =
                   ap (λ y. piece y.key_at y.key_length source) opens;
               node_type = ap (λ y. y.node_type) opens;
+              number = ap (λ y. y.number) opens;
+              empty = ap (λ y. y.text_length) opens;
             },
             is.describes j,
             ps.describes l,
@@ -270,7 +272,7 @@ entry_flag d source text after rest place p n old new at count k node_type numbe
       front = k.front ++ s.front;
       key = k.front;
       value = flag s.values;
-      nodes = spanning (1 + length s.nodes) n ∷ s.nodes;
+      nodes = sized (1 + length s.nodes) n ∷ s.nodes;
       split =
           k.split ∙ ap (λ y. k.front ++ y) s.split ∙ sym (append_assoc k.front s.front rest);
       spelled = λ i.
@@ -283,12 +285,12 @@ entry_flag d source text after rest place p n old new at count k node_type numbe
           let within = end_within source text k.front after place.at k.split k.at in
           let key = ap (λ y. piece place.at y source) k.size
           ∙ end_piece source text k.front after place.at i k.split k.at in (
-            spanning (1 + length s.nodes) n,
+            sized (1 + length s.nodes) n,
             s.nodes,
             refl,
             subst
                 (λ y. DescribesBare d source role_is.Member k.front (1 + length s.nodes)
-                (spanning (1 + length s.nodes) y) (Boolean true)) (sym is)
+                (sized (1 + length s.nodes) y) (Boolean true)) (sym is)
                 (node_describes d source role_is.Member (1 + length s.nodes) k.front place p (Boolean true)
                 (number_describes d source p (Boolean true) (record {
                   node_type = node_type;

@@ -6,9 +6,9 @@ use Rattle.sf_value.specs.Grammar.Items.{item}
 use Rattle.sf_view.specs.declared.bare.Part.{Part}
 use Rattle.sf_view.specs.declared.item.KeyPlace.{KeyPlace}
 use Rattle.sf_view.specs.declared.node.Node.{Node}
-use Rattle.sf_view.specs.declared.node.Role.{Role}
+use Rattle.sf_view.specs.declared.node_types.Role.{Role}
 use Rattle.sf_view.specs.View.{piece, DescribesBare}
-use Rattle.sf_view.specs.Scans.{ScansBare, ScansRest, ScansItem, node_from, spanning}
+use Rattle.sf_view.specs.Scans.{ScansBare, ScansRest, ScansItem, node_from, sized}
 use Rattle.sf_view.proofs.Ends.{end_further}
 use Rattle.sf_view.proofs.Params.{node_describes}
 
@@ -18,7 +18,7 @@ pub item_scans : (d : Dialect) (source text behind rest : List ℕ) (r : Role) (
     → ScansRest d source behind rest n old new at count
     → ScansItem d source text rest r place old new at count
 item_scans d source text behind rest r place p n old new at count b is s =
-    let m = spanning (1 + length s.nodes) n in record {
+    let m = sized (1 + length s.nodes) n in record {
       front = b.front ++ s.front;
       value = item b.value s.values;
       nodes = m ∷ s.nodes;
@@ -35,7 +35,7 @@ item_scans d source text behind rest r place p n old new at count b is s =
             refl,
             subst
                 (λ y. DescribesBare d source r (piece place.at place.length source)
-                (1 + length s.nodes) (spanning (1 + length s.nodes) y) b.value) (sym is)
+                (1 + length s.nodes) (sized (1 + length s.nodes) y) b.value) (sym is)
                 (node_describes d source r (1 + length s.nodes) (piece place.at place.length source) place p
                 b.value (b.describes source i refl) w refl),
             s.describes j,

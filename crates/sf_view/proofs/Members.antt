@@ -23,7 +23,7 @@ use Rattle.sf_parse.proofs.GrammarLaws.{one_value}
 use Rattle.sf_value.proofs.Settling.{settle-distinct}
 use Rattle.sf_view.specs.declared.item.KeyPlace.{KeyPlace}
 use Rattle.sf_view.specs.declared.node.Node.{Node}
-use Rattle.sf_view.specs.declared.node.Role.TheVariants as role_is
+use Rattle.sf_view.specs.declared.node_types.Role.TheVariants as role_is
 use Rattle.sf_view.specs.View.{piece, DescribesItem, DescribesMember, DescribesMembers, DescribesEntries}
 use Rattle.sf_view.specs.Scans.{Behind, IsEnd, ScansItem, ScansMember, ScansEntry, Puts}
 use Rattle.sf_view.specs.Scans.{keys_from, AreApart}
@@ -200,7 +200,7 @@ front_there : (old new : List Node) (count : ℕ) (ns : List Node) → Puts old 
 front_there old new count ns p = p.there
 
 -- a value that is spelled is the only one
-only_of : (d : Dialect) (k : Kind) (t : List ℕ) (v : Field) → SpellsField d k t v → IsOnly d k t v
+pub only_of : (d : Dialect) (k : Kind) (t : List ℕ) (v : Field) → SpellsField d k t v → IsOnly d k t v
 only_of d k t v h = record { spelled = h; only = λ w i. one_value d k t w v i h }
 
 -- an Item
@@ -310,14 +310,14 @@ member_key : (d : Dialect) (source k : List ℕ) (front back : List Node) (x : M
     → DescribesMember d source k front x
     → keys_from source 0 (front ++ back) ≡ k ∷ keys_from source 0 back
 member_key d source k front back (member.Item i) (n, ms, e, h, r) =
-    let less : n.span - 1 ≡ length ms = let s = h.span in omega arith in
+    let less : n.size - 1 ≡ length ms = let s = h.size in omega arith in
     ap (λ y. keys_from source 0 (y ++ back)) e
     ∙ ap (λ y. piece n.key_at n.key_length source ∷ keys_from source y (ms ++ back)) less
     ∙ ap (λ y. y ∷ keys_from source (length ms) (ms ++ back)) h.key
     ∙ ap (λ y. k ∷ y) (skipped source ms back)
 member_key d source k front back (member.Inner l) (n, is, ps, e, h, r, q) =
     let ms = is ++ ps in
-    let less : n.span - 1 ≡ length ms = let s = h.span in omega arith in
+    let less : n.size - 1 ≡ length ms = let s = h.size in omega arith in
     ap (λ y. keys_from source 0 (y ++ back)) e
     ∙ ap (λ y. piece n.key_at n.key_length source ∷ keys_from source y (ms ++ back)) less
     ∙ ap (λ y. y ∷ keys_from source (length ms) (ms ++ back)) h.key

@@ -1,5 +1,5 @@
 -- Parameters that are scanned, and the nodes that describe them.
-use Rattle.std.proofs.Common.{◌≡◌, ℕ, pos, ◌+◌, ◌-◌, ◌<◌, ◌≤◌, true, false, List, [], ◌∷◌, ◌++◌}
+use Rattle.std.proofs.Common.{◌≡◌, ℕ, Bool, pos, ◌+◌, ◌-◌, ◌<◌, ◌≤◌, true, false, List, [], ◌∷◌, ◌++◌}
 use Rattle.std.proofs.Common.{length, take, drop, set, refl, sym, ap, ◌∙◌, subst, arith, append_assoc}
 use Rattle.std.proofs.Common.{append-nil, inl, inr}
 use Rattle.std.proofs.lemmas.List.{length-take}
@@ -17,12 +17,13 @@ use Rattle.sf_value.proofs.Settling.{settle-distinct}
 use Rattle.sf_view.specs.declared.bare.Part.{Part}
 use Rattle.sf_view.specs.declared.item.KeyPlace.{KeyPlace}
 use Rattle.sf_view.specs.declared.node.Node.{Node}
-use Rattle.sf_view.specs.declared.node.NodeType.TheVariants as type_is
-use Rattle.sf_view.specs.declared.node.Role.{Role}
-use Rattle.sf_view.specs.declared.node.Role.TheVariants as role_is
-use Rattle.sf_view.specs.View.{piece, DescribesBare, DescribesParams}
+use Rattle.sf_view.specs.declared.node_types.NodeType.TheVariants as type_is
+use Rattle.sf_view.specs.declared.node_types.Role.{Role}
+use Rattle.sf_view.specs.declared.node_types.Role.TheVariants as role_is
+use Rattle.sf_view.specs.NodeTypes.{type_number, is_coded, coded_number}
+use Rattle.sf_view.specs.View.{piece, DescribesText, DescribesBare, DescribesParams}
 use Rattle.sf_view.specs.Scans.{Behind, IsEnd, ScansKey, ScansBare, ScansParam, ScansRaw}
-use Rattle.sf_view.specs.Scans.{ScansParams, ScansRest, PartDescribes, Puts, node_from, spanning}
+use Rattle.sf_view.specs.Scans.{ScansParams, ScansRest, PartDescribes, Puts, node_from, sized}
 use Rattle.sf_view.specs.Scans.{keys_from, AreApart}
 use Rattle.sf_view.proofs.Ends.{end_further, end_piece, end_within}
 use Rattle.sf_view.proofs.Scanned.{number_describes}
@@ -123,19 +124,24 @@ describes_push d source r ns n (q ∷ raw) k x (m, ms, e, h, more) t = (
   describes_push d source r ms n raw k x more t,
 )
 
+coded_back : (b : Bool) → is_coded (coded_number b) ≡ b
+coded_back true = refl
+coded_back false = refl
+
 pub node_describes : (d : Dialect) (source : List ℕ) (r : Role) (m : ℕ) (k : List ℕ) (place : KeyPlace)
     (p : Part) (x : Bare) → PartDescribes d source p x → place.at + place.length ≤ length source
     → piece place.at place.length source ≡ k
-    → DescribesBare d source r k m (spanning m (node_from r place p)) x
+    → DescribesBare d source r k m (sized m (node_from r place p)) x
 node_describes d source r m k place p x t within e = record {
   role = refl;
-  span = refl;
+  size = refl;
   key_within = within;
   key = e;
-  node_type = t.node_type;
+  node_type = ap type_number t.node_type;
   number = t.number;
   text_within = t.within;
-  text = t.text;
+  text =
+      subst (λ c. DescribesText d c (piece p.at p.length source) x) (sym (coded_back p.coded)) t.text;
 }
 
 pub raw_none : (d : Dialect) (source : List ℕ) (r : Role) (text : List ℕ) (old : List Node)
@@ -181,7 +187,7 @@ keys_told : (d : Dialect) (source : List ℕ) (r : Role) (ns : List Node) (raw :
 keys_told d source r ns [] e = ap (keys_from source 0) e
 keys_told d source r ns (q ∷ raw) (n, ms, e, h, more) =
     ap (keys_from source 0) e
-    ∙ ap (λ y. piece n.key_at n.key_length source ∷ keys_from source (y - 1) ms) h.span
+    ∙ ap (λ y. piece n.key_at n.key_length source ∷ keys_from source (y - 1) ms) h.size
     ∙ ap (λ y. y ∷ keys_from source 0 ms) h.key
     ∙ ap (λ y. q.0 ∷ y) (keys_told d source r ms raw more)
 
@@ -225,7 +231,7 @@ params_scan d source r text rest old new at count s same apart = record {
 
 -- after a node
 pub rest_none : (d : Dialect) (source text : List ℕ) (n : Node) (old : List Node) (at : ℕ)
-    → n.span ≡ 1 → at < length old
+    → n.size ≡ 1 → at < length old
     → ScansRest d source text text n old (set old at n) at (at + 1)
 rest_none d source text n old at one h = record {
   front = [];
@@ -235,17 +241,17 @@ rest_none d source text n old at one h = record {
   spelled = λ i. ([], refl, refl);
   puts =
       subst (λ y. Puts old (set old at n) at (at + 1) (y ∷ []))
-      (ap (λ k. spanning k n) one) (puts_one old at n h);
+      (ap (λ k. sized k n) one) (puts_one old at n h);
   describes = λ i. refl;
 }
 
 pub rest_some : (d : Dialect) (source text rest : List ℕ) (n m : Node) (old new : List Node)
-    (at count span : ℕ) → ScansParams d source role_is.Parameter text rest old new (at + 1) count
-    → m ≡ spanning span n → span ≡ count - at → at < length old → length new ≡ length old
+    (at count total : ℕ) → ScansParams d source role_is.Parameter text rest old new (at + 1) count
+    → m ≡ sized total n → total ≡ count - at → at < length old → length new ≡ length old
     → ScansRest d source text rest n old (set new at m) at count
-rest_some d source text rest n m old new at count span s is size h same =
+rest_some d source text rest n m old new at count total s is size h same =
     let f = s.puts.from in
-    let k : span ≡ 1 + length s.nodes = omega arith in record {
+    let k : total ≡ 1 + length s.nodes = omega arith in record {
       front = s.front;
       values = s.values;
       nodes = s.nodes;
@@ -253,7 +259,7 @@ rest_some d source text rest n m old new at count span s is size h same =
       spelled = s.spelled;
       puts =
           subst (λ y. Puts old (set new at m) at count (y ∷ s.nodes))
-          (is ∙ ap (λ y. spanning y n) k)
+          (is ∙ ap (λ y. sized y n) k)
           (puts_first old new at count s.nodes m h same s.puts);
       describes = s.describes;
     }

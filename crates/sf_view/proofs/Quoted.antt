@@ -8,12 +8,12 @@ use Rattle.sf_value.specs.declared.value.Bare.TheVariants.{Shown}
 use Rattle.sf_value.specs.Grammar.Words.{Every}
 use Rattle.sf_value.specs.Grammar.Utf8.{Utf8, Start, Wants, WellFormed, utf8_step}
 use Rattle.sf_value.specs.Grammar.DisplayStrings.{hex, is_unencoded, EncodedBytes}
-use Rattle.sf_parse.specs.Machine.Showns.{unhex}
+use Rattle.sf_value.specs.Digits.{unhex}
 use Rattle.sf_value.proofs.Utf8Table.{in_range}
-use Rattle.sf_parse.proofs.HighDigits.{read_hex}
+use Rattle.sf_value.proofs.DigitValues.{read_hex}
 use Rattle.sf_parse.proofs.Quads.{small_byte}
 use Rattle.sf_view.specs.declared.bare.Part.{Part}
-use Rattle.sf_view.specs.declared.node.NodeType.TheVariants as type_is
+use Rattle.sf_view.specs.declared.node_types.NodeType.TheVariants as type_is
 use Rattle.sf_view.specs.declared.display_string.Utf8State.{Utf8State}
 use Rattle.sf_view.specs.Scans.{ScansBare}
 use Rattle.sf_view.specs.Showns.{utf8_of, IsEscape, PlainBefore, InsideShown}

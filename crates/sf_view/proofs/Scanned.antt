@@ -11,9 +11,9 @@ use Rattle.sf_value.specs.Grammar.Classes.{is_visible, is_token_start, is_in_tok
 use Rattle.sf_value.specs.Grammar.Numbers.{sign, signed, value_from}
 use Rattle.sf_value.specs.Grammar.Strings.{escaped, is_escaped}
 use Rattle.sf_value.specs.Grammar.BareItems.{SpellsBare}
-use Rattle.sf_parse.proofs.ByteRuns.{every_append}
+use Rattle.sf_value.proofs.Runs.{every_append}
 use Rattle.sf_view.specs.declared.bare.Part.{Part}
-use Rattle.sf_view.specs.declared.node.NodeType.TheVariants as type_is
+use Rattle.sf_view.specs.declared.node_types.NodeType.TheVariants as type_is
 use Rattle.sf_view.specs.View.{piece, type_of, number_of, DescribesText}
 use Rattle.sf_value.specs.declared.dialect.Dialect.TheVariants.{Rfc9651}
 use Rattle.sf_view.specs.Scans.{ScansDigits, ScansFraction, ScansNumber, ScansDate, ScansBare}
@@ -171,7 +171,7 @@ date_bare whole text rest p s = record {
 }
 
 -- bytes that stand for themselves
-unescaped_same : (s : List ℕ) → Every is_unescaped s → escaped s ≡ s
+pub unescaped_same : (s : List ℕ) → Every is_unescaped s → escaped s ≡ s
 unescaped_same [] h = refl
 unescaped_same (b ∷ s) h =
     let e : is_escaped b ≡ false = plain b h.0 in rw e (ap (λ y. b ∷ y) (unescaped_same s h.1))

@@ -11,9 +11,10 @@ use Rattle.sf_value.specs.declared.value.Member.{Member}
 use Rattle.sf_value.specs.Grammar.Pairs.{Pairs}
 use Rattle.sf_value.specs.Grammar.Words.{Each}
 use Rattle.sf_view.specs.declared.node.Node.{Node}
-use Rattle.sf_view.specs.declared.node.NodeType.TheVariants as type_is
-use Rattle.sf_view.specs.declared.node.Role.{Role}
-use Rattle.sf_view.specs.declared.node.Role.TheVariants as role_is
+use Rattle.sf_view.specs.declared.node_types.NodeType.TheVariants as type_is
+use Rattle.sf_view.specs.declared.node_types.Role.{Role}
+use Rattle.sf_view.specs.declared.node_types.Role.TheVariants as role_is
+use Rattle.sf_view.specs.NodeTypes.{type_number}
 use Rattle.sf_view.specs.View.{piece, type_of, DescribesParams, DescribesItem}
 use Rattle.sf_view.specs.View.{DescribesItems, DescribesInner, DescribesMember, DescribesMembers}
 use Rattle.sf_view.specs.View.{DescribesEntries}
@@ -136,7 +137,7 @@ no_key source j nodes o n =
     omega arith
 
 -- the nodes of parameters, and of Items
-all_params : (d : Dialect) (source : List ℕ) (nodes : List Node) (ps : Pairs Bare)
+pub all_params : (d : Dialect) (source : List ℕ) (nodes : List Node) (ps : Pairs Bare)
     → DescribesParams d source role_is.InnerParameter nodes ps → IsAtParams nodes
 all_params d source nodes [] e = subst IsAtParams (sym e) tt
 all_params d source nodes (p ∷ ps) (n, ms, e, t, r) = subst IsAtParams (sym e) t.role
@@ -145,26 +146,22 @@ inside_params : (d : Dialect) (source : List ℕ) (nodes : List Node) (ps : Pair
     → DescribesParams d source role_is.Parameter nodes ps → Each IsInside nodes
 inside_params d source nodes [] e = subst (Each IsInside) (sym e) tt
 inside_params d source nodes (p ∷ ps) (n, ms, e, t, r) =
-    subst (Each IsInside) (sym e) (inside n t.role, inside_params d source ms ps r)
-  where
-    inside : (n : Node) → n.role ≡ role_is.Parameter → IsInside n
-    inside n e f = let g : role_is.Parameter ≡ role_is.InnerParameter = sym e ∙ f in cc
+    let own = t.role in
+    subst (Each IsInside) (sym e) ((λ f. omega arith), inside_params d source ms ps r)
 
 each_append : (xs ys : List Node) → Each IsInside xs → Each IsInside ys → Each IsInside (xs ++ ys)
 each_append [] ys a b = b
 each_append (x ∷ xs) ys a b = (a.0, each_append xs ys a.1 b)
 
-inside_items : (d : Dialect) (source : List ℕ) (nodes : List Node) (is : List Item)
+pub inside_items : (d : Dialect) (source : List ℕ) (nodes : List Node) (is : List Item)
     → DescribesItems d source nodes is → Each IsInside nodes
 inside_items d source nodes [] e = subst (Each IsInside) (sym e) tt
 inside_items d source nodes (i ∷ is) (front, back, e, (n, ms, f, t, q), r) =
+    let own = t.role in
     subst (Each IsInside) (sym e)
     (each_append front back
-    (subst (Each IsInside) (sym f) (inside n t.role, inside_params d source ms i.params q))
+    (subst (Each IsInside) (sym f) ((λ g. omega arith), inside_params d source ms i.params q))
     (inside_items d source back is r))
-  where
-    inside : (n : Node) → n.role ≡ role_is.InnerItem → IsInside n
-    inside n e f = let g : role_is.InnerItem ≡ role_is.InnerParameter = sym e ∙ f in cc
 
 -- there is one place between Items and parameters
 one_seam : (xs ps ys qs : List Node) → xs ++ ps ≡ ys ++ qs → Each IsInside xs → IsAtParams ps
@@ -205,15 +202,15 @@ no_inner d source k nodes l i (n, is, ps, e, h, r, q) =
     subst IsNoInner e i h.node_type
 
 -- an Item is no Inner List
-bare_type : (x : Bare) → type_of x ≢ type_is.InnerList
-bare_type (Integer n) e = cc
-bare_type (Decimal m) e = cc
-bare_type (Text s) e = cc
-bare_type (Token s) e = cc
-bare_type (Blob s) e = cc
-bare_type (Boolean b) e = cc
-bare_type (Date n) e = cc
-bare_type (Shown s) e = cc
+pub bare_type : (x : Bare) → type_number (type_of x) ≢ type_number type_is.InnerList
+bare_type (Integer n) e = omega arith
+bare_type (Decimal m) e = omega arith
+bare_type (Text s) e = omega arith
+bare_type (Token s) e = omega arith
+bare_type (Blob s) e = omega arith
+bare_type (Boolean b) e = omega arith
+bare_type (Date n) e = omega arith
+bare_type (Shown s) e = omega arith
 
 pub item_no_inner : (d : Dialect) (source : List ℕ) (r : Role) (k : List ℕ) (nodes : List Node)
     (i : Item) (items params : List Node) → IsSplitAtParams nodes items params

@@ -6,9 +6,10 @@ use Rattle.sf_value.specs.Grammar.Pairs.{Pairs, value_at}
 use Rattle.sf_value.specs.Grammar.Words.{Each}
 use Rattle.sf_view.specs.declared.node.Node.{Node}
 use Rattle.sf_value.specs.declared.value.Bare.{Bare}
-use Rattle.sf_view.specs.declared.node.NodeType.TheVariants as type_is
-use Rattle.sf_view.specs.declared.node.Role.{Role}
-use Rattle.sf_view.specs.declared.node.Role.TheVariants as role_is
+use Rattle.sf_view.specs.declared.node_types.NodeType.TheVariants as type_is
+use Rattle.sf_view.specs.declared.node_types.Role.{Role}
+use Rattle.sf_view.specs.declared.node_types.Role.TheVariants as role_is
+use Rattle.sf_view.specs.NodeTypes.{role_number, type_number}
 use Rattle.sf_view.specs.View.{piece, DescribesMember, DescribesParams}
 
 -- the member with this key, which the nodes describe
@@ -33,13 +34,13 @@ pub record IsHop (source : List ℕ) (nodes : List Node) (k : List ℕ) (front l
   pub begins : front ≡ first ∷ more
   pub split : nodes ≡ front ++ later
   pub key : k ≡ piece first.key_at first.key_length source
-  pub span : length front ≡ first.span
+  pub size : length front ≡ first.size
 
 -- the nodes begin with no part that is in the source
 abbrev pub NoHop : List ℕ → List Node → Type 0
 NoHop source [] = Unit {0}
 NoHop source (n ∷ ns) =
-    n.key_at + n.key_length ≤ length source → 1 ≤ n.span → n.span ≤ length (n ∷ ns) → ⊥
+    n.key_at + n.key_length ≤ length source → 1 ≤ n.size → n.size ≤ length (n ∷ ns) → ⊥
 
 -- the first node points to this key
 pub record StartsWithKey (source : List ℕ) (nodes : List Node) (k : List ℕ) : Type 0 where
@@ -55,22 +56,22 @@ NoKey source (n ∷ ns) = length source < n.key_at + n.key_length
 
 -- a node that is no parameter of an Inner List as a whole
 abbrev pub IsInside : Node → Type 0
-IsInside n = n.role ≢ role_is.InnerParameter
+IsInside n = n.role ≢ role_number role_is.InnerParameter
 
 -- no node, or first a parameter of an Inner List as a whole
 abbrev pub IsAtParams : List Node → Type 0
 IsAtParams [] = Unit {0}
-IsAtParams (n ∷ ns) = n.role ≡ role_is.InnerParameter
+IsAtParams (n ∷ ns) = n.role ≡ role_number role_is.InnerParameter
 
 -- the node of an Inner List, then the nodes up to its parameters, and those from there on
 pub record IsSplitAtParams (nodes items params : List Node) : Type 0 where
   pub opening : Node
   pub split : nodes ≡ opening ∷ (items ++ params)
-  pub is_inner : opening.node_type ≡ type_is.InnerList
+  pub is_inner : opening.node_type ≡ type_number type_is.InnerList
   pub before : Each IsInside items
   pub behind : IsAtParams params
 
 -- the first node, if there is one, is not that of an Inner List
 abbrev pub IsNoInner : List Node → Type 0
 IsNoInner [] = Unit {0}
-IsNoInner (n ∷ ns) = n.node_type ≢ type_is.InnerList
+IsNoInner (n ∷ ns) = n.node_type ≢ type_number type_is.InnerList

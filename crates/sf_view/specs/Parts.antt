@@ -6,8 +6,8 @@ use Rattle.sf_value.specs.declared.value.Item.{Item}
 use Rattle.sf_value.specs.declared.value.Member.{Member}
 use Rattle.sf_value.specs.Grammar.Pairs.{Pairs}
 use Rattle.sf_view.specs.declared.node.Node.{Node}
-use Rattle.sf_view.specs.declared.node.Role.{Role}
-use Rattle.sf_view.specs.declared.node.Role.TheVariants as role_is
+use Rattle.sf_view.specs.declared.node_types.Role.{Role}
+use Rattle.sf_view.specs.declared.node_types.Role.TheVariants as role_is
 use Rattle.sf_view.specs.declared.view.View.{View as PartView}
 use Rattle.sf_view.specs.View.{DescribesMember, DescribesMembers, DescribesEntries, DescribesItem}
 use Rattle.sf_view.specs.View.{DescribesItems, DescribesParams}

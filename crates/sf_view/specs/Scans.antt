@@ -1,4 +1,6 @@
 -- What scanning the start of a text returns.
+pub use Rattle.sf_value.specs.Grammar.Strings.{is_unescaped}
+pub use Rattle.sf_value.specs.Grammar.ByteSequences.{is_base64}
 use Rattle.std.specs.Prelude.{◌≡◌, ℕ, ℤ, pos, ◌+◌, ◌≤◌, Bool, List, [], ◌∷◌, ◌++◌, length, take}
 use Rattle.sf_value.specs.declared.dialect.Dialect.{Dialect}
 use Rattle.sf_value.specs.declared.value.Bare.{Bare}
@@ -24,19 +26,12 @@ use Rattle.sf_value.specs.Grammar.Fields.{SpellsEntry}
 use Rattle.sf_view.specs.declared.bare.Part.{Part}
 use Rattle.sf_view.specs.declared.item.KeyPlace.{KeyPlace}
 use Rattle.sf_view.specs.declared.node.Node.{Node}
-use Rattle.sf_view.specs.declared.node.NodeType.TheVariants as type_is
-use Rattle.sf_view.specs.declared.node.Role.{Role}
-use Rattle.sf_view.specs.declared.node.Role.TheVariants as role_is
+use Rattle.sf_view.specs.declared.node_types.NodeType.TheVariants as type_is
+use Rattle.sf_view.specs.declared.node_types.Role.{Role}
+use Rattle.sf_view.specs.declared.node_types.Role.TheVariants as role_is
+use Rattle.sf_view.specs.NodeTypes.{role_number, type_number, coded_number}
 use Rattle.sf_view.specs.View.{piece, type_of, number_of, text_of, DescribesText, DescribesParams, DescribesItem, DescribesItems}
 use Rattle.sf_view.specs.View.{DescribesMember}
-
--- what stands for itself between the quotes of a string
-abbrev pub is_unescaped : ℕ → Bool
-is_unescaped b = is_visible b && not (is_escaped b)
-
--- the characters of base64
-abbrev pub is_base64 : ℕ → Bool
-is_base64 b = is_alpha b || is_digit b || is_one_of (codes "+/") b
 
 -- bytes that pass the test are before the rest
 pub record Behind (p : ℕ → Bool) (text rest : List ℕ) : Type 0 where
@@ -140,31 +135,31 @@ node_from role key part = record {
   key_length = key.length;
   text_at = part.at;
   text_length = part.length;
-  span = 1;
-  node_type = part.node_type;
-  role = role;
-  coded = part.coded;
+  size = 1;
+  node_type = type_number part.node_type;
+  role = role_number role;
+  coded = coded_number part.coded;
 }
 
 -- the same with so many nodes
-abbrev pub spanning : ℕ → Node → Node
-spanning k n = record {
+abbrev pub sized : ℕ → Node → Node
+sized k n = record {
   number = n.number;
   key_at = n.key_at;
   key_length = n.key_length;
   text_at = n.text_at;
   text_length = n.text_length;
-  span = k;
+  size = k;
   node_type = n.node_type;
   role = n.role;
   coded = n.coded;
 }
 
--- the keys of the parts that nodes describe: each part has as many nodes as its first node spans
+-- the keys of the parts that nodes describe: each part has as many nodes as its first node says
 abbrev pub keys_from : List ℕ → ℕ → List Node → List (List ℕ)
 keys_from source k [] = []
 keys_from source zero (n ∷ ns) =
-    piece n.key_at n.key_length source ∷ keys_from source (n.span - 1) ns
+    piece n.key_at n.key_length source ∷ keys_from source (n.size - 1) ns
 keys_from source (suc k) (n ∷ ns) = keys_from source k ns
 
 -- no two parts have the same key
@@ -213,7 +208,7 @@ pub record ScansParams (d : Dialect) (source : List ℕ) (r : Role) (text rest :
   pub puts : Puts old new at count nodes
   pub describes : IsEnd source text → DescribesParams d source r nodes values
 
--- the same, after a node that spans them
+-- the same, after a node that counts them
 pub record ScansRest (d : Dialect) (source text rest : List ℕ) (node : Node) (old new : List Node)
     (at count : ℕ) : Type 0 where
   pub front : List ℕ
@@ -221,7 +216,7 @@ pub record ScansRest (d : Dialect) (source text rest : List ℕ) (node : Node) (
   pub nodes : List Node
   pub split : text ≡ front ++ rest
   pub spelled : IsEnd source text → SpellsParams d front values
-  pub puts : Puts old new at count (spanning (1 + length nodes) node ∷ nodes)
+  pub puts : Puts old new at count (sized (1 + length nodes) node ∷ nodes)
   pub describes : IsEnd source text → DescribesParams d source role_is.Parameter nodes values
 
 -- the start of the text spells an Item, and nodes that were put describe it
@@ -244,10 +239,10 @@ opening_of key k = record {
   key_length = key.length;
   text_at = 0;
   text_length = 0;
-  span = k;
-  node_type = type_is.InnerList;
-  role = role_is.Member;
-  coded = false;
+  size = k;
+  node_type = type_number type_is.InnerList;
+  role = role_number role_is.Member;
+  coded = 0;
 }
 
 -- the start of the text spells the Items of an Inner List, a closing bracket follows, and nodes

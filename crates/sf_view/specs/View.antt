@@ -14,10 +14,11 @@ use Rattle.sf_value.specs.declared.value.Field.TheVariants as field
 use Rattle.sf_value.specs.Grammar.Pairs.{Pairs}
 use Rattle.sf_value.specs.Grammar.BareItems.{SpellsBare}
 use Rattle.sf_view.specs.declared.node.Node.{Node}
-use Rattle.sf_view.specs.declared.node.NodeType.{NodeType}
-use Rattle.sf_view.specs.declared.node.NodeType.TheVariants as type_is
-use Rattle.sf_view.specs.declared.node.Role.{Role}
-use Rattle.sf_view.specs.declared.node.Role.TheVariants as role_is
+use Rattle.sf_view.specs.declared.node_types.NodeType.{NodeType}
+use Rattle.sf_view.specs.declared.node_types.NodeType.TheVariants as type_is
+use Rattle.sf_view.specs.declared.node_types.Role.{Role}
+use Rattle.sf_view.specs.declared.node_types.Role.TheVariants as role_is
+use Rattle.sf_view.specs.NodeTypes.{role_number, type_number, is_coded}
 
 -- the type of a bare item
 abbrev pub type_of : Bare → NodeType
@@ -58,14 +59,14 @@ DescribesText d true raw x = SpellsBare d raw x
 -- a node of this role, this key, and so many nodes describes this bare item
 pub record DescribesBare (d : Dialect) (source : Seq ℕ) (r : Role) (k : Seq ℕ) (m : ℕ) (n : Node)
     (x : Bare) : Type 0 where
-  pub role : n.role ≡ r
-  pub span : n.span ≡ m
+  pub role : n.role ≡ role_number r
+  pub size : n.size ≡ m
   pub key_within : n.key_at + n.key_length ≤ length source
   pub key : piece n.key_at n.key_length source ≡ k
-  pub node_type : n.node_type ≡ type_of x
+  pub node_type : n.node_type ≡ type_number (type_of x)
   pub number : n.number ≡ number_of x
   pub text_within : n.text_at + n.text_length ≤ length source
-  pub text : DescribesText d n.coded (piece n.text_at n.text_length source) x
+  pub text : DescribesText d (is_coded n.coded) (piece n.text_at n.text_length source) x
 
 -- parameters: a node of this role for each
 abbrev pub DescribesParams : Dialect → Seq ℕ → Role → Seq Node → Pairs Bare → Type 0
@@ -93,13 +94,15 @@ DescribesItems d source ns (i ∷ is) =
     × DescribesItem d source role_is.InnerItem [] front i
     × DescribesItems d source back is
 
--- the node of an Inner List, with so many nodes
+-- the node of an Inner List, with so many nodes: it has neither a number nor bytes
 pub record DescribesOpening (source : Seq ℕ) (k : Seq ℕ) (m : ℕ) (n : Node) : Type 0 where
-  pub role : n.role ≡ role_is.Member
-  pub span : n.span ≡ m
+  pub role : n.role ≡ role_number role_is.Member
+  pub size : n.size ≡ m
   pub key_within : n.key_at + n.key_length ≤ length source
   pub key : piece n.key_at n.key_length source ≡ k
-  pub node_type : n.node_type ≡ type_is.InnerList
+  pub node_type : n.node_type ≡ type_number type_is.InnerList
+  pub number : n.number ≡ pos 0
+  pub empty : n.text_length ≡ 0
 
 -- an Inner List: a node of its own, the Items, then the parameters
 abbrev pub DescribesInner : Dialect → Seq ℕ → Seq ℕ → Seq Node → Inner → Type 0

@@ -14,6 +14,7 @@ use Rattle.sf_value.specs.declared.value.Bare.TheVariants.{Blob, Boolean, Date, 
 use Rattle.sf_view.specs.declared.node.Node.{Node}
 use Rattle.sf_view.specs.declared.view.BareView.{BareView}
 use Rattle.sf_view.specs.declared.view.BareView.TheVariants as view_is
+use Rattle.sf_view.specs.NodeTypes.{type_number, is_coded}
 use Rattle.sf_view.specs.View.{type_of, number_of, DescribesText, DescribesField}
 
 -- this view is of the text, and its nodes describe the field that the text spells, the only one
@@ -36,9 +37,9 @@ reason false = ShortBuffer
 
 -- a node that points to these bytes describes this bare item
 pub record NodeShows (d : Dialect) (n : Node) (bytes : Seq ℕ) (x : Bare) : Type 0 where
-  pub node_type : n.node_type ≡ type_of x
+  pub node_type : n.node_type ≡ type_number (type_of x)
   pub number : n.number ≡ number_of x
-  pub text : DescribesText d n.coded bytes x
+  pub text : DescribesText d (is_coded n.coded) bytes x
 
 -- the bare item that is borrowed is this one: its bytes, or, if they are coded, its whole text
 abbrev pub IsBorrowed : Dialect → BareView → Bare → Type 0

@@ -6,7 +6,7 @@ ghost use Rattle.sf_view.specs.Scans.{ScansDigits, ScansFraction, ScansNumber, S
 
 use crate::classes::{InBase64, InToken, Unescaped, behind, is_token_start, long_front, split};
 use crate::display_string::scan_shown;
-use crate::node::NodeType;
+use crate::node_types::NodeType;
 use sf_value::Dialect;
 
 /// The most digits of a Decimal before its point (RFC 9651 section 3.3.2).

@@ -2,14 +2,13 @@
 ghost use Rattle.std.specs.Iterator.{at_most};
 ghost use Rattle.std.specs.Prelude.{◌≡◌, ◌++◌, ◌∷◌, [], ◌≤◌, ◌<◌, ◌/◌, ◌%◌, ℕ, List, length, take, IfSome, IfNone};
 ghost use Rattle.sf_value.specs.declared.dialect.Dialect.{Dialect as Which};
-ghost use Rattle.sf_parse.specs.Machine.Blobs.{sextet as sextet_of};
 ghost use Rattle.sf_view.specs.declared.bytes.Coding.TheVariants as coding_is;
 ghost use Rattle.sf_value.specs.Grammar.ByteSequences.{letter};
 ghost use Rattle.sf_value.specs.Grammar.DisplayStrings.{hex};
 ghost use Rattle.sf_view.specs.Decoding.{HasBytes, Remains, TakesByte, GivesByte, NoLetter};
 
-use crate::display_string::unhex;
 use crate::view::Slice;
+use sf_value::{sextet, unhex};
 
 /// How the rest of a text spells bytes.
 #[derive(Clone, Copy, Debug, Drop)]
@@ -81,12 +80,30 @@ impl<'a> Slice<'a> {
         if !self.coded {
             return Some(self.bytes);
         }
-        let bytes = self.bytes();
-        let Some(count) = fill(bytes.coding, bytes.rest, buffer) else {
+        let Some(count) = self.decode_to(buffer) else {
             return None;
         };
         let (front, _) = buffer.split_at(count);
         Some(front)
+    }
+
+    /// Writes the bytes, decoded if they are coded, to the front of the buffer, and returns how many
+    /// they are; `None` if the buffer is too short. It allocates nothing.
+    pub fn decode_to(&self, buffer: &mut [u8]) -> Option<usize>
+        ensures same { length buffer.new ≡ length buffer.old }
+        ensures within { IfSome result (λ n. n ≤ length buffer.new) }
+        // Whatever bytes the slice is of, the buffer begins with them.
+        ensures decoded { (d : Which) (t : List ℕ) → HasBytes d self.now t
+            → IfSome result (λ n. take n buffer.new ≡ t) }
+        // The buffer is too short only if it is shorter than they are.
+        ensures short { (d : Which) (t : List ℕ) → HasBytes d self.now t
+            → IfNone result (length buffer.old < length t) }
+    {
+        let bytes = self.bytes();
+        let Some(count) = fill(bytes.coding, bytes.rest, buffer) else {
+            return None;
+        };
+        Some(count)
     }
 }
 
@@ -127,7 +144,8 @@ fn shown_bytes(text: &[u8]) -> Bytes
 }
 
 /// Decodes bytes into the buffer: how many they are; `None` if the buffer is too short.
-fn fill(start: Coding, text: &[u8], buffer: &mut [u8]) -> Option<usize>
+pub(crate) fn fill(start: Coding, text: &[u8], buffer: &mut [u8]) -> Option<usize>
+    ensures same { length buffer.new ≡ length buffer.old }
     ensures within { IfSome result (λ n. n ≤ length buffer.new) }
     ensures decoded { (t : List ℕ) → Remains start text.now t
         → IfSome result (λ n. take n buffer.new ≡ t) }
@@ -201,7 +219,7 @@ pub(crate) fn take_byte(coding: Coding, rest: &[u8]) -> Option<(u8, Coding, &[u8
 
 /// The first byte of a text, and the rest.
 #[inline]
-fn first_of(text: &[u8]) -> Option<(u8, &[u8])>
+pub(crate) fn first_of(text: &[u8]) -> Option<(u8, &[u8])>
     ensures some { IfSome result (λ r. text.now ≡ r.0 ∷ r.1.now) }
     ensures none { IfNone result (text.now ≡ []) }
 {
@@ -236,7 +254,7 @@ fn unescaped(text: &[u8]) -> Option<(u8, &[u8])>
 
 /// The first byte of a Display String; `None` at its closing quote.
 #[inline]
-fn unencoded(text: &[u8]) -> Option<(u8, &[u8])>
+pub(crate) fn unencoded(text: &[u8]) -> Option<(u8, &[u8])>
     ensures some { (s : List ℕ) → Remains coding_is.Percent text.now s
         → IfSome result (λ r. TakesByte r.0 (Remains coding_is.Percent r.1.now) s) }
     ensures none { (s : List ℕ) → Remains coding_is.Percent text.now s → IfNone result (s ≡ []) }
@@ -274,23 +292,6 @@ fn hex_byte(text: &[u8]) -> Option<(u8, &[u8])>
             return Some((a * 16 + b, rest));
         }
         _ => return None,
-    }
-}
-
-/// The value of a character of base64 (RFC 4648 section 4).
-#[inline]
-fn sextet(byte: u8) -> Option<u8>
-    ensures value { result ≡ sextet_of byte }
-    // It is below 64.
-    ensures small { IfSome result (λ value. value < 64) }
-{
-    match byte {
-        b'A'..=b'Z' => Some(byte - b'A'),
-        b'a'..=b'z' => Some(byte - 71),
-        b'0'..=b'9' => Some(byte + 4),
-        b'+' => Some(62),
-        b'/' => Some(63),
-        _ => None,
     }
 }
 

@@ -13,7 +13,7 @@ ghost use Rattle.sf_value.specs.Grammar.Utf8.{WellFormed, Start};
 ghost use Rattle.sf_value.specs.Grammar.Valid.{Valid, ValidBare, ValidItem, ValidInner, ValidMember};
 ghost use Rattle.sf_value.specs.Grammar.Words.{Each, Every};
 ghost use Rattle.sf_value.specs.Grammar.Pairs.{Pairs, HasDistinctKeys, settle};
-ghost use Rattle.sf_view.specs.declared.node.Role.{Role as Place};
+ghost use Rattle.sf_view.specs.declared.node_types.Role.{Role as Place};
 ghost use Rattle.sf_view.specs.View.{DescribesItem, DescribesItems, DescribesInner, DescribesParams};
 ghost use Rattle.sf_view.specs.View.{DescribesMember, DescribesMembers, DescribesEntries, DescribesField};
 ghost use Rattle.sf_view.specs.Decoding.{HasBytes, Remains};
@@ -369,7 +369,7 @@ fn pair(alloc: Global, param: View) -> Result<Option<(Key, Bare)>, OutOfMemory>
 }
 
 /// The key of these bytes; `None` if they are none.
-fn key_of(alloc: Global, bytes: &[u8]) -> Result<Option<Key>, OutOfMemory>
+pub(crate) fn key_of(alloc: Global, bytes: &[u8]) -> Result<Option<Key>, OutOfMemory>
     ensures { IfOk result (IsCopy (IsKey bytes.now) bytes.now) }
 {
     match Key::new(alloc, bytes) {

@@ -23,6 +23,7 @@ pub(crate) fn first_node(nodes: &[Node]) -> Option<Node>
 pub(crate) fn bytes_at(source: &[u8], at: usize, size: usize) -> Option<&[u8]>
     ensures none { IfNone result (length source.now < at + size) }
     ensures some { IfSome result (λ bytes. bytes.now ≡ piece at size source.now) }
+    ensures within { IfSome result (λ _. at + size ≤ length source.now) }
 {
     if at > source.len() || size > source.len() - at {
         return None;
@@ -34,13 +35,13 @@ pub(crate) fn bytes_at(source: &[u8], at: usize, size: usize) -> Option<&[u8]>
 
 /// The nodes after so many.
 #[inline]
-fn nodes_behind(nodes: &[Node], span: usize) -> Option<&[Node]>
-    ensures { IfSome result (λ later. (later.now ≡ drop span nodes.now) × (span ≤ length nodes.now)) }
+fn nodes_behind(nodes: &[Node], count: usize) -> Option<&[Node]>
+    ensures { IfSome result (λ later. (later.now ≡ drop count nodes.now) × (count ≤ length nodes.now)) }
 {
-    if span > nodes.len() {
+    if count > nodes.len() {
         return None;
     }
-    let (_, later) = nodes.split_at(span);
+    let (_, later) = nodes.split_at(count);
     Some(later)
 }
 
@@ -53,8 +54,8 @@ fn first_key<'a>(source: &'a [u8], nodes: &'a [Node]) -> Option<(&'a [u8], &'a [
 {
     let node = first_node(nodes)?;
     let key = bytes_at(source, node.key_at as usize, node.key_length as usize)?;
-    let later = nodes_behind(nodes, node.span as usize)?;
-    if node.span == 0 {
+    let later = nodes_behind(nodes, node.size as usize)?;
+    if node.size == 0 {
         return None;
     }
     Some((key, later))

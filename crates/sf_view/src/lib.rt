@@ -1,21 +1,37 @@
-//! Accept-only scanning of structured fields into nodes that point into the text.
+//! Accept-only scanning of structured fields into nodes that point into the text, and their
+//! canonical texts.
 #![tactic(auto)]
 
 mod bare;
+mod bare_view;
+mod building;
 mod bytes;
 mod classes;
 mod copies;
+mod cursor;
 mod display_string;
 mod item;
+mod item_cursor;
 mod keys;
 mod lookup;
 mod node;
+mod node_types;
+mod normal;
 mod parts;
 mod series;
+mod single;
+mod text_parts;
 mod view;
+mod writing;
 
+pub use building::{NoField, field_of};
 pub use bytes::Bytes;
+pub use cursor::{DictCursor, EntryView, accepts};
+pub use item_cursor::{ItemCursor, ItemView, ParamCursor, ParamView};
 pub use lookup::entry;
-pub use node::{Node, NodeType, Role};
+pub use node::Node;
+pub use node_types::{NodeType, Role};
+pub use normal::{canonical_text, normalise, view_text};
 pub use series::scan_text;
 pub use view::{BareView, Slice, Unviewed, View};
+pub use writing::{put_bare_view, put_view, write_view};

@@ -6,7 +6,7 @@ ghost use Rattle.sf_value.specs.declared.value.Member.{Member};
 ghost use Rattle.sf_value.specs.Grammar.Pairs.{Pairs, value_at};
 ghost use Rattle.sf_view.specs.View.{DescribesEntries, DescribesParams};
 ghost use Rattle.sf_view.specs.Finding.{Finds, FindsParam, IsHop, NoHop};
-ghost use Rattle.sf_view.specs.declared.node.Role.{Role as Place};
+ghost use Rattle.sf_view.specs.declared.node_types.Role.{Role as Place};
 
 use crate::keys::{bytes_at, first_node};
 use crate::node::Node;
@@ -23,11 +23,11 @@ pub(crate) fn hop<'a>(
 {
     let node = first_node(nodes)?;
     let key = bytes_at(source, node.key_at as usize, node.key_length as usize)?;
-    let span = node.span as usize;
-    if span == 0 || span > nodes.len() {
+    let size = node.size as usize;
+    if size == 0 || size > nodes.len() {
         return None;
     }
-    let (front, later) = nodes.split_at(span);
+    let (front, later) = nodes.split_at(size);
     Some((key, front, later))
 }
 

@@ -6,8 +6,8 @@ ghost use Rattle.sf_value.specs.declared.value.Inner.{Inner};
 ghost use Rattle.sf_value.specs.declared.value.Item.{Item};
 ghost use Rattle.sf_value.specs.declared.value.Member.{Member};
 ghost use Rattle.sf_value.specs.Grammar.Pairs.{Pairs};
-ghost use Rattle.sf_view.specs.declared.node.Role.{Role as Place};
-ghost use Rattle.sf_view.specs.declared.node.Role.TheVariants as role_is;
+ghost use Rattle.sf_view.specs.declared.node_types.Role.{Role as Place};
+ghost use Rattle.sf_view.specs.declared.node_types.Role.TheVariants as role_is;
 ghost use Rattle.sf_view.specs.View.{DescribesMembers, DescribesEntries, DescribesItems, DescribesParams, DescribesMember, DescribesItem, DescribesInner};
 ghost use Rattle.sf_value.specs.Grammar.Words.{Each};
 ghost use Rattle.sf_view.specs.Parts.{MembersSplit, EntriesSplit, ItemsSplit, ParamsSplit, ItemsShown};
@@ -15,7 +15,8 @@ ghost use Rattle.sf_view.specs.Finding.{StartsWithKey, NoKey, IsInside, IsAtPara
 
 use crate::keys::{bytes_at, first_node};
 use crate::lookup::hop;
-use crate::node::{Node, NodeType, Role};
+use crate::node::Node;
+use crate::node_types::{NodeType, Role};
 use crate::view::View;
 
 impl<'a> View<'a> {
@@ -151,7 +152,7 @@ fn first_key_of<'a>(source: &'a [u8], nodes: &[Node]) -> Option<&'a [u8]>
 
 /// The nodes after the first.
 #[inline]
-fn behind_first(nodes: &[Node]) -> &[Node]
+pub(crate) fn behind_first(nodes: &[Node]) -> &[Node]
     ensures { result.now ≡ drop 1 nodes.now }
 {
     match nodes {
@@ -167,13 +168,11 @@ fn inner_parts(nodes: &[Node]) -> Option<(&[Node], &[Node])>
     ensures none { IfNone result (IsNoInner nodes.now) }
 {
     let opening = first_node(nodes)?;
-    match opening.node_type {
-        NodeType::InnerList => {
-            let inside = behind_first(nodes);
-            return Some(inside.split_at(items_end(inside)));
-        }
-        _ => return None,
+    if opening.node_type != NodeType::InnerList.code() {
+        return None;
     }
+    let inside = behind_first(nodes);
+    Some(inside.split_at(items_end(inside)))
 }
 
 /// How many nodes there are before the first of a parameter of an Inner List.
@@ -183,8 +182,9 @@ fn items_end(nodes: &[Node]) -> usize
     ensures before { Each IsInside (take result nodes.now) }
     ensures behind { IsAtParams (drop result nodes.now) }
 {
+    let stop = Role::InnerParameter.code();
     let mut end = 0;
-    while end < nodes.len() && nodes[end].role != Role::InnerParameter {
+    while end < nodes.len() && nodes[end].role != stop {
         end += 1;
     }
     end

@@ -6,7 +6,8 @@ ghost use Rattle.sf_view.specs.Accepts.{Accepts};
 use crate::classes::{behind, behind_spaces, behind_white, ends};
 use crate::item::{NO_KEY, scan_entry, scan_item, scan_member};
 use crate::keys::are_distinct;
-use crate::node::{Node, Role};
+use crate::node::Node;
+use crate::node_types::Role;
 use sf_value::{Dialect, Kind};
 
 /// An Item.

@@ -6,15 +6,17 @@ ghost use Rattle.sf_value.specs.declared.value.Inner.{Inner};
 ghost use Rattle.sf_value.specs.declared.value.Item.{Item};
 ghost use Rattle.sf_value.specs.declared.value.Member.{Member};
 ghost use Rattle.sf_value.specs.Grammar.Pairs.{Pairs, value_at};
-ghost use Rattle.sf_view.specs.declared.node.NodeType.TheVariants as type_is;
-ghost use Rattle.sf_view.specs.declared.node.Role.{Role as Place};
+ghost use Rattle.sf_view.specs.declared.node_types.NodeType.TheVariants as type_is;
+ghost use Rattle.sf_view.specs.declared.node_types.Role.{Role as Place};
+ghost use Rattle.sf_view.specs.NodeTypes.{type_number};
 ghost use Rattle.sf_view.specs.View.{DescribesEntries, DescribesParams, DescribesItem, DescribesInner};
 ghost use Rattle.sf_view.specs.Finding.{Finds, FindsParam};
 ghost use Rattle.sf_view.specs.Views.{IsViewed, IsExcused, reason, NodeShows, ShowsBare};
 
 use crate::keys::{bytes_at, first_node};
 use crate::lookup::entry;
-use crate::node::{Node, NodeType};
+use crate::node::Node;
+use crate::node_types::NodeType;
 use crate::series::scan_text;
 use sf_value::{Dialect, Kind};
 
@@ -163,12 +165,15 @@ impl<'a> View<'a> {
 }
 
 /// The bare item of a node that points to these bytes; `None` for an Inner List.
-fn bare_of<'a>(node: Node, bytes: &'a [u8]) -> Option<BareView<'a>>
+pub(crate) fn bare_of<'a>(node: Node, bytes: &'a [u8]) -> Option<BareView<'a>>
     ensures bare { (d : Which) (x : Bare) → NodeShows d node bytes.now x → ShowsBare d result x }
-    ensures inner { node.node_type ≡ type_is.InnerList → result ≡ None }
+    ensures inner { node.node_type ≡ type_number type_is.InnerList → result ≡ None }
 {
-    let coded = node.coded;
-    match node.node_type {
+    let coded = node.coded != 0;
+    let Some(node_type) = NodeType::from_code(node.node_type) else {
+        return None;
+    };
+    match node_type {
         NodeType::Integer => return Some(BareView::Integer(node.number)),
         NodeType::Decimal => return Some(BareView::Decimal(node.number)),
         NodeType::Text => return Some(BareView::Text(Slice { bytes, coded })),

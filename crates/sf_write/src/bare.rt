@@ -85,8 +85,13 @@ pub fn bare_text(alloc: Global, bare: &Bare) -> Result<Vec<u8>, OutOfMemory>
     }
 }
 
-/// Writes a Boolean: `?1` or `?0` (RFC 9651 section 4.1.9).
-fn put_boolean<W: Sink>(value: bool, before: Sent, out: &mut W) -> Sent
+/// Writes a Boolean (RFC 9651 section 4.1.9) after what was sent before, as [`put`] does: `?1` or
+/// `?0`. Does not allocate.
+///
+/// ```
+/// let count = put_boolean(true, Ok(0), &mut out)?; // 2
+/// ```
+pub fn put_boolean<W: Sink>(value: bool, before: Sent, out: &mut W) -> Sent
     ensures { Follows W.state W.send_gives out.old out.new before result
         (canon_bare (bare_is.Boolean value)) }
 {

@@ -14,13 +14,32 @@ const BLOCK: usize = 192;
 /// How many characters a block of bytes is in base64.
 const ENCODED: usize = 256;
 
-/// Writes a Byte Sequence: its base64 between colons, in blocks of 256 characters.
-#[inline(never)]
-pub(crate) fn put_blob<W: Sink>(bytes: &[u8], before: Sent, out: &mut W) -> Sent
+/// Writes a Byte Sequence (RFC 9651 section 4.1.8) after what was sent before, as [`put`] does: its
+/// base64 between colons. Does not allocate.
+///
+/// ```
+/// let count = put_blob(b"\x01\x02", Ok(0), &mut out)?; // 6: :AQI=:
+/// ```
+pub fn put_blob<W: Sink>(bytes: &[u8], before: Sent, out: &mut W) -> Sent
     ensures { Follows W.state W.send_gives out.old out.new before result
         (colon ∷ canon_base64 bytes.now) }
 {
-    let mut count = put(b":", before, out);
+    let sent = put(b":", before, out);
+    put_base64(bytes, sent, out)
+}
+
+/// Writes what is left of a Byte Sequence after whole groups of its base64: the base64 of its other
+/// bytes, in blocks of 256 characters, and the colon. Does not allocate.
+///
+/// ```
+/// let sent = put(b":AQID", Ok(0), &mut out);
+/// let count = put_base64(b"\x04", sent, &mut out)?; // 10: :AQIDBA==:
+/// ```
+#[inline(never)]
+pub fn put_base64<W: Sink>(bytes: &[u8], before: Sent, out: &mut W) -> Sent
+    ensures { Follows W.state W.send_gives out.old out.new before result (canon_base64 bytes.now) }
+{
+    let mut count = before;
     let mut rest = bytes;
     while !rest.is_empty() {
         let (block, more) = rest.split_at(rest.len().min(BLOCK));

@@ -8,7 +8,7 @@ ghost use Rattle.sf_write.specs.Writing.{Follows};
 
 use crate::sending::{Sent, put};
 use crate::strings::CHUNK;
-use sf_value::{Sink, stands_for_itself};
+use sf_value::{Sink, hex_digits, stands_for_itself};
 
 /// The number of bytes that have to be escaped. The compiler adds up a chunk in vectors of bytes.
 pub(crate) fn escaped_count(bytes: &[u8]) -> usize {
@@ -32,41 +32,27 @@ fn unencoded_len(bytes: &[u8]) -> usize
     bytes.iter().take_while(|b| stands_for_itself(**b)).count()
 }
 
-/// The lower-case hexadecimal digit of a number below 16.
-fn hex_digit(number: u8) -> u8
-    requires { number < 16 }
-    ensures { result ≡ hex number }
-{
-    if number < 10 {
-        b'0' + number
-    } else {
-        b'a' + (number - 10)
-    }
-}
-
-/// Returns the two lower-case hexadecimal digits of a byte. Does not allocate.
+/// Returns a byte as a Display String has it escaped: `%` and its two digits. Does not allocate.
 ///
 /// ```
-/// hex_digits(0xfc) // [b'f', b'c']
+/// percent_escape(0xfc) // [b'%', b'f', b'c']
 /// ```
-pub fn hex_digits(byte: u8) -> [u8; 2]
-    ensures { result ≡ hex (byte / 16) ∷ hex (byte % 16) ∷ [] }
-{
-    [hex_digit(byte / 16), hex_digit(byte % 16)]
-}
-
-/// `%` and the two digits of a byte.
-fn percent_escape(byte: u8) -> [u8; 3]
+pub fn percent_escape(byte: u8) -> [u8; 3]
     ensures { result ≡ percent ∷ hex (byte / 16) ∷ hex (byte % 16) ∷ [] }
 {
     let [high, low] = hex_digits(byte);
     [b'%', high, low]
 }
 
-/// Writes a Display String, given by its UTF-8 bytes: `%`, and between quotes each byte from 0x20
-/// to 0x7E except `"` and `%` unescaped, and each other byte as `%` and two lower-case digits.
-/// Adjacent unescaped bytes are sent at once.
-pub(crate) fn put_display_string<W: Sink>(text: &[u8], before: Sent, out: &mut W) -> Sent
+/// Writes a Display String (RFC 9651 section 4.1.11), given by its UTF-8 bytes, after what was sent
+/// before, as [`put`] does: `%`, and between quotes each byte from 0x20 to 0x7E except `"` and `%`
+/// unescaped, and each other byte as `%` and two lower-case digits. Adjacent unescaped bytes are
+/// sent at once. Does not allocate.
+///
+/// ```
+/// let count = put_display_string("\u{fc}".as_bytes(), Ok(0), &mut out)?; // 9: %"%c3%bc"
+/// ```
+pub fn put_display_string<W: Sink>(text: &[u8], before: Sent, out: &mut W) -> Sent
     ensures { Follows W.state W.send_gives out.old out.new before result
         (percent ∷ quote ∷ canon_shown text.now) }
 {

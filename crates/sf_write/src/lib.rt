@@ -21,8 +21,12 @@ mod params;
 mod sending;
 mod strings;
 
-pub use bare::{bare_text, put_bare, put_text, write_bare};
-pub use display_string::hex_digits;
+pub use bare::{bare_text, put_bare, put_boolean, put_text, write_bare};
+pub use blobs::{put_base64, put_blob};
+pub use display_string::{percent_escape, put_display_string};
 pub use field::{put_field, to_text, write_field};
 pub use formats::{Canonical, Displayed, display, to_string};
+pub use numbers::{put_number, put_seconds, put_thousandths};
 pub use sending::{Sent, WriteFault, put, send_all};
+pub use sf_value::hex_digits;
+pub use strings::put_string;

@@ -40,9 +40,14 @@ fn unescaped_len(bytes: &[u8]) -> usize
     bytes.iter().take_while(|b| !needs_backslash(**b)).count()
 }
 
-/// Writes a String: quotes around its bytes, with a backslash before each quote and backslash. The
-/// bytes between two of these are sent at once.
-pub(crate) fn put_string<W: Sink>(text: &[u8], before: Sent, out: &mut W) -> Sent
+/// Writes a String (RFC 9651 section 4.1.6) after what was sent before, as [`put`] does: quotes
+/// around its bytes, with a backslash before each quote and backslash. The bytes between two of
+/// these are sent at once. Does not allocate.
+///
+/// ```
+/// let count = put_string(b"a\\b", Ok(0), &mut out)?; // 6
+/// ```
+pub fn put_string<W: Sink>(text: &[u8], before: Sent, out: &mut W) -> Sent
     ensures { Follows W.state W.send_gives out.old out.new before result
         (quote ∷ (escaped text.now ++ quote ∷ [])) }
 {

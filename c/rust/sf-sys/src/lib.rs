@@ -17,13 +17,15 @@ pub struct Refusal {
 #[derive(Clone, Copy, Debug, PartialEq, Eq)]
 pub struct Node {
     pub number: i64,
-    pub key_at: usize,
-    pub key_length: usize,
-    pub text_at: usize,
-    pub text_length: usize,
-    pub span: usize,
-    pub role: u32,
-    pub kind: u32,
+    pub key_at: u32,
+    pub key_length: u32,
+    pub text_at: u32,
+    pub text_length: u32,
+    pub size: u32,
+    /// The header's `type`: an `sf_type`.
+    pub kind: u8,
+    pub role: u8,
+    pub coded: u8,
 }
 
 #[repr(C)]
@@ -102,7 +104,7 @@ pub struct Joined {
 // The sizes; where the members stand is tested below.
 const _: () = {
     assert!(size_of::<Refusal>() == 32);
-    assert!(size_of::<Node>() == 56);
+    assert!(size_of::<Node>() == 32);
     assert!(size_of::<Sizes>() == 16);
     assert!(size_of::<PriorityFlags>() == 4);
     assert!(size_of::<Policy>() == 24);
@@ -123,6 +125,7 @@ pub const BAD_CALL: u32 = 6;
 pub const NOT_A_CACHE: u32 = 7;
 pub const INVALID: u32 = 8;
 pub const ABSENT: u32 = 9;
+pub const TOO_LONG: u32 = 10;
 
 // An `sf_kind`.
 pub const ITEM: u32 = 1;
@@ -133,22 +136,22 @@ pub const DICT: u32 = 3;
 pub const RFC9651: u32 = 9651;
 pub const RFC8941: u32 = 8941;
 
-// An `sf_role`.
-pub const MEMBER: u32 = 11;
-pub const INNER_ITEM: u32 = 12;
-pub const PARAMETER: u32 = 13;
-pub const INNER_PARAMETER: u32 = 14;
+// An `sf_role`, as a node has it.
+pub const MEMBER: u8 = 11;
+pub const INNER_ITEM: u8 = 12;
+pub const PARAMETER: u8 = 13;
+pub const INNER_PARAMETER: u8 = 14;
 
-// An `sf_type`.
-pub const INNER_LIST: u32 = 21;
-pub const INTEGER: u32 = 22;
-pub const DECIMAL: u32 = 23;
-pub const STRING: u32 = 24;
-pub const TOKEN: u32 = 25;
-pub const BYTE_SEQUENCE: u32 = 26;
-pub const BOOLEAN: u32 = 27;
-pub const DATE: u32 = 28;
-pub const DISPLAY_STRING: u32 = 29;
+// An `sf_type`, as a node has it.
+pub const INNER_LIST: u8 = 21;
+pub const INTEGER: u8 = 22;
+pub const DECIMAL: u8 = 23;
+pub const STRING: u8 = 24;
+pub const TOKEN: u8 = 25;
+pub const BYTE_SEQUENCE: u8 = 26;
+pub const BOOLEAN: u8 = 27;
+pub const DATE: u8 = 28;
+pub const DISPLAY_STRING: u8 = 29;
 
 // An `sf_outcome`.
 pub const UNSAID: u16 = 0;
@@ -230,12 +233,29 @@ extern "C" {
     pub fn sf_find(
         nodes: *const Node,
         nodes_length: usize,
+        text: *const c_void,
+        text_length: usize,
         bytes: *const c_void,
         bytes_length: usize,
         role: u32,
         key: *const c_void,
         key_length: usize,
         index: *mut usize,
+    ) -> u32;
+    pub fn sf_write(
+        seed: *const [u8; 16],
+        dialect: u32,
+        kind: u32,
+        nodes: *const Node,
+        nodes_length: usize,
+        text: *const c_void,
+        text_length: usize,
+        bytes: *const c_void,
+        bytes_length: usize,
+        buffer: *mut c_void,
+        buffer_length: usize,
+        required: *mut usize,
+        invalid: *mut usize,
     ) -> u32;
     pub fn sf_priority(
         seed: *const [u8; 16],
@@ -253,6 +273,16 @@ extern "C" {
         buffer: *mut c_void,
         buffer_length: usize,
         required: *mut usize,
+    ) -> u32;
+    pub fn sf_priority_change(
+        seed: *const [u8; 16],
+        text: *const c_void,
+        length: usize,
+        priority: *const PriorityFlags,
+        buffer: *mut c_void,
+        buffer_length: usize,
+        required: *mut usize,
+        refusal: *mut Refusal,
     ) -> u32;
     pub fn sf_cache_control(
         seed: *const [u8; 16],
@@ -324,12 +354,13 @@ mod tests {
         assert_eq!(at!(Refusal, may_end), 28);
         assert_eq!(at!(Node, number), 0);
         assert_eq!(at!(Node, key_at), 8);
-        assert_eq!(at!(Node, key_length), 16);
-        assert_eq!(at!(Node, text_at), 24);
-        assert_eq!(at!(Node, text_length), 32);
-        assert_eq!(at!(Node, span), 40);
-        assert_eq!(at!(Node, role), 48);
-        assert_eq!(at!(Node, kind), 52);
+        assert_eq!(at!(Node, key_length), 12);
+        assert_eq!(at!(Node, text_at), 16);
+        assert_eq!(at!(Node, text_length), 20);
+        assert_eq!(at!(Node, size), 24);
+        assert_eq!(at!(Node, kind), 28);
+        assert_eq!(at!(Node, role), 29);
+        assert_eq!(at!(Node, coded), 30);
         assert_eq!(at!(Sizes, nodes), 0);
         assert_eq!(at!(Sizes, bytes), 8);
         assert_eq!(at!(PriorityFlags, urgency), 0);

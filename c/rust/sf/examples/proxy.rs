@@ -41,7 +41,11 @@ fn main() -> Result<(), Box<dyn std::error::Error>> {
     let fresh = lifetime.map(|seconds| format!(", fresh for {seconds} s"));
     println!("by {name}: {what}{}", fresh.unwrap_or_default());
 
-    let text = both.serialize()?;
+    // Members of the response's Priority that are not known here stay (RFC 9218 section 4).
+    let text = match both.change(field('<', "Priority")?) {
+        Err(Error::Refused(_)) => both.serialize()?,
+        text => text?,
+    };
     if !text.is_empty() {
         println!("Priority: {text}");
     }

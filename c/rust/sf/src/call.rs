@@ -18,6 +18,7 @@ pub(crate) fn error(status: u32, refusal: &raw::Refusal) -> Error {
         raw::REFUSED => Error::Refused(refusal.into()),
         raw::SECOND_REFUSED => Error::SecondRefused(refusal.into()),
         raw::INVALID => Error::Invalid,
+        raw::TOO_LONG => Error::TooLong,
         raw::NO_MEMORY => Error::OutOfMemory,
         _ => Error::OtherLibrary,
     }
@@ -64,22 +65,24 @@ pub(crate) fn reserve<T>(buffer: &mut Vec<T>, more: usize) -> Result<(), Error> 
 }
 
 /// The text that a call writes to a buffer, of which it is given the address and the length; it stores
-/// the length of the text.
+/// the length of the text, and the refusal if there is one.
 pub(crate) fn written(
-    call: impl Fn(*mut c_void, usize, *mut usize) -> u32,
+    call: impl Fn(*mut c_void, usize, &mut usize, &mut raw::Refusal) -> u32,
 ) -> Result<String, Error> {
     let mut buffer = Vec::new();
     resize(&mut buffer, 128, 0u8)?; // most texts are no longer
     loop {
         let mut required = 0;
-        let status = call(buffer.as_mut_ptr().cast(), buffer.len(), &mut required);
+        let mut refusal = NO_REFUSAL;
+        let start = buffer.as_mut_ptr().cast();
+        let status = call(start, buffer.len(), &mut required, &mut refusal);
         match status {
             raw::OK => {
                 buffer.truncate(required);
                 return text(buffer);
             }
             raw::SHORT if required > buffer.len() => resize(&mut buffer, required, 0)?,
-            status => return Err(error(status, &NO_REFUSAL)),
+            status => return Err(error(status, &refusal)),
         }
     }
 }

@@ -93,7 +93,7 @@ impl fmt::Display for Refusal {
     fn fmt(&self, f: &mut fmt::Formatter<'_>) -> fmt::Result {
         let refusal = self.into();
         // SAFETY: as in `Parser::check`; the buffer is borrowed alone.
-        let text = written(|buffer, length, required| unsafe {
+        let text = written(|buffer, length, required, _| unsafe {
             raw::sf_refusal_text(&refusal, buffer, length, required)
         });
         f.pad(&text.map_err(|_| fmt::Error)?)
@@ -116,7 +116,7 @@ impl fmt::Display for RefusalInText<'_> {
     fn fmt(&self, f: &mut fmt::Formatter<'_>) -> fmt::Result {
         let refusal = (&self.refusal).into();
         // SAFETY: as in `Parser::check`; the buffer is borrowed alone.
-        let text = written(|buffer, length, required| unsafe {
+        let text = written(|buffer, length, required, _| unsafe {
             raw::sf_refusal_in_text(
                 &refusal,
                 start(self.text),
@@ -147,8 +147,11 @@ pub enum Error {
     SecondRefused(Refusal),
     /// The index of the first member of a Cache-Status List that does not name a cache.
     NotACache(usize),
-    /// What is to be written is not a value: a name that is not a Token, a number out of range.
+    /// What is to be written is not a value: a key or Token with other characters than it may have, a
+    /// number out of range.
     Invalid,
+    /// A text to parse, or the keys and bytes of a value to write, of 4 GiB or more.
+    TooLong,
     /// An allocation failed, in the library or for a result.
     OutOfMemory,
     /// The library that is linked is not of this crate's version: it gave a status or bytes that the
@@ -179,6 +182,7 @@ impl fmt::Display for Error {
             Error::SecondRefused(refusal) => write!(f, "the second text: {refusal}"),
             Error::NotACache(index) => write!(f, "member {index} does not name a cache"),
             Error::Invalid => f.write_str("not a value of a structured field"),
+            Error::TooLong => f.write_str("4 GiB or more"),
             Error::OutOfMemory => f.write_str("out of memory"),
             Error::OtherLibrary => f.write_str("libsf has another version than the crate sf"),
         }
@@ -186,3 +190,10 @@ impl fmt::Display for Error {
 }
 
 impl std::error::Error for Error {}
+
+// For what is taken as `TryInto<Key>` and is a `Key`.
+impl From<std::convert::Infallible> for Error {
+    fn from(never: std::convert::Infallible) -> Error {
+        match never {}
+    }
+}

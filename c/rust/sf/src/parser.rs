@@ -1,5 +1,6 @@
 use crate::call::{error, lengthen, resize, seed, start, NO_REFUSAL};
-use crate::{raw, Choice, Error, Parsed, Path, Policy, Priority, Seed, Tree};
+use crate::nodes::Nodes;
+use crate::{raw, Choice, Error, Path, Policy, Priority, Seed, Tree};
 
 /// The kind of a field, which the definition of the field states (RFC 9651 section 3).
 ///
@@ -38,7 +39,8 @@ pub enum Dialect {
 mod sealed {
     pub trait Sealed: Sized {
         const KIND: crate::Kind;
-        fn of_tree(tree: &crate::Tree) -> Result<Self, crate::Error>;
+        fn of_tree(tree: &crate::Tree<'_>) -> Result<Self, crate::Error>;
+        fn put_into(&self, nodes: &mut crate::nodes::Nodes) -> Result<(), crate::Error>;
     }
 }
 pub(crate) use sealed::Sealed;
@@ -48,7 +50,8 @@ pub(crate) use sealed::Sealed;
 ///
 /// ```
 /// fn canonical<T: sf::Field>(text: &str) -> Result<String, sf::Error> {
-///     sf::Parser::new().parse::<T>(text)?.serialize()
+///     let parser = sf::Parser::new();
+///     parser.serialize(&parser.parse::<T>(text)?)
 /// }
 /// assert_eq!(canonical::<sf::List>("a,b").unwrap(), "a, b");
 /// ```
@@ -115,8 +118,27 @@ impl Parser {
     /// let item = sf::Parser::new().parse::<sf::Item>("1;a").unwrap();
     /// assert_eq!(item.bare_item.as_integer(), Some(1));
     /// ```
-    pub fn parse<T: Field>(&self, text: impl AsRef<[u8]>) -> Result<Parsed<T>, Error> {
-        Parsed::read(self, text.as_ref())
+    pub fn parse<T: Field>(&self, text: impl AsRef<[u8]>) -> Result<T, Error> {
+        T::of_tree(&self.tree(T::KIND, &text)?)
+    }
+
+    /// Writes the canonical text of a field by the dialect (RFC 9651 section 4.1). If the text of a List
+    /// or Dictionary is empty, the field is not to be sent.
+    ///
+    /// # Errors
+    ///
+    /// [`Error::Invalid`] if it has a Date or Display String, and the dialect does not.
+    ///
+    /// ```
+    /// let parser = sf::Parser::new().with_dialect(sf::Dialect::Rfc8941);
+    /// assert_eq!(parser.serialize(&sf::Item::new(7)).unwrap(), "7");
+    /// let date = sf::Date::from_unix_seconds(7).unwrap();
+    /// assert_eq!(parser.serialize(&sf::Item::new(date)), Err(sf::Error::Invalid));
+    /// ```
+    pub fn serialize<T: Field>(&self, field: &T) -> Result<String, Error> {
+        let mut nodes = Nodes::default();
+        field.put_into(&mut nodes)?;
+        nodes.text(&seed(self.seed), self.dialect, T::KIND)
     }
 
     /// Parses the lines of a field: see [`join`].
@@ -132,11 +154,11 @@ impl Parser {
     pub fn parse_lines<T: Field>(
         &self,
         lines: impl IntoIterator<Item = impl AsRef<[u8]>>,
-    ) -> Result<Parsed<T>, Error> {
+    ) -> Result<T, Error> {
         self.parse(join(lines)?)
     }
 
-    /// Parses a field of any kind as a tree.
+    /// Parses a field of any kind as a tree, which borrows what it can from the text.
     ///
     /// # Errors
     ///
@@ -146,7 +168,11 @@ impl Parser {
     /// let tree = sf::Parser::new().tree(sf::Kind::List, "a;q=1, b").unwrap();
     /// assert_eq!(tree.members().count(), 2);
     /// ```
-    pub fn tree(&self, kind: Kind, text: impl AsRef<[u8]>) -> Result<Tree, Error> {
+    pub fn tree<'t>(
+        &self,
+        kind: Kind,
+        text: &'t (impl AsRef<[u8]> + ?Sized),
+    ) -> Result<Tree<'t>, Error> {
         Tree::read(&seed(self.seed), self.dialect, kind, text.as_ref())
     }
 
@@ -272,6 +298,25 @@ impl Parser {
     /// ```
     pub fn priority(&self, text: impl AsRef<[u8]>) -> Result<Priority, Error> {
         Priority::read(&seed(self.seed), text.as_ref())
+    }
+
+    /// Puts what a priority sets into the text of a Priority field, by RFC 9651 whatever the dialect: see
+    /// [`Priority::change`].
+    ///
+    /// # Errors
+    ///
+    /// [`Error::Refused`] if the text is not a well-formed Dictionary.
+    ///
+    /// ```
+    /// let priority = sf::Priority { urgency: None, incremental: Some(true) };
+    /// assert_eq!(sf::Parser::new().change_priority(priority, "u=1, x").unwrap(), "u=1, x, i");
+    /// ```
+    pub fn change_priority(
+        &self,
+        priority: Priority,
+        text: impl AsRef<[u8]>,
+    ) -> Result<String, Error> {
+        priority.put_into(&seed(self.seed), text.as_ref())
     }
 
     /// Reads the text of one targeted field, by RFC 9651 whatever the dialect: see [`Policy::parse`].

@@ -180,7 +180,7 @@ impl<'a> Hop<'a> {
         let hop = raw_hop(self, &mut bytes)?;
         let seed = seed(None);
         // SAFETY: as in `Parser::check`; the buffer is borrowed alone.
-        written(|buffer, length, required| unsafe {
+        written(|buffer, length, required, _| unsafe {
             raw::sf_hop_text(
                 &seed.bytes,
                 &hop,

@@ -105,8 +105,41 @@ impl Priority {
     pub fn serialize(self) -> Result<String, Error> {
         let flags = self.into();
         // SAFETY: the struct lives for the call; the buffer is borrowed alone.
-        written(|buffer, length, required| unsafe {
+        written(|buffer, length, required, _| unsafe {
             raw::sf_priority_text(&flags, buffer, length, required)
+        })
+    }
+
+    /// Writes the canonical text of a Priority field with what this priority sets put into it, for a field
+    /// that is passed on: members that are unknown stay (RFC 9218 section 4), and so does what this
+    /// priority does not set. An urgency above 7 counts as not set.
+    ///
+    /// # Errors
+    ///
+    /// [`Error::Refused`] if the text is not a well-formed Dictionary.
+    ///
+    /// ```
+    /// let priority = sf::Priority { urgency: Some(1), incremental: None };
+    /// assert_eq!(priority.change("u=5, x=(a  b), i").unwrap(), "u=1, x=(a b), i");
+    /// ```
+    pub fn change(self, text: impl AsRef<[u8]>) -> Result<String, Error> {
+        Parser::new().change_priority(self, text)
+    }
+
+    pub(crate) fn put_into(self, seed: &Seed, text: &[u8]) -> Result<String, Error> {
+        let flags = self.into();
+        // SAFETY: as in `Parser::check`; the buffer is borrowed alone.
+        written(|buffer, length, required, refusal| unsafe {
+            raw::sf_priority_change(
+                &seed.bytes,
+                start(text),
+                text.len(),
+                &flags,
+                buffer,
+                length,
+                required,
+                refusal,
+            )
         })
     }
 

@@ -1,7 +1,7 @@
 use crate::call::{error, resize, start, NO_REFUSAL};
+use crate::nodes::write;
 use crate::{raw, Date, Decimal, Dialect, Error, Kind, Seed};
 use std::fmt;
-use std::ops::Range;
 
 /// The type of a node, with its number or its bytes (RFC 9651 section 3).
 ///
@@ -48,21 +48,44 @@ pub enum Role {
     Parameter,
 }
 
-/// The value of a field of any kind, in two allocations. Two trees of fields of one kind are equal if
-/// and only if their values are.
+/// The value of a field of any kind, borrowed from its text: keys, Tokens, and Strings without escapes
+/// are those of the text, and only what is escaped or encoded is decoded to a buffer of the tree. It has
+/// at most two allocations, however long the field is. Two trees of fields of one kind are equal if and
+/// only if their values are.
 ///
 /// ```
-/// let tree = sf::Parser::new().tree(sf::Kind::Dict, "u=1, i;x").unwrap();
+/// let text = String::from("u=1, i;x");
+/// let tree = sf::Parser::new().tree(sf::Kind::Dict, &text).unwrap();
 /// let keys: Vec<_> = tree.members().map(|member| member.key()).collect();
 /// assert_eq!(keys, ["u", "i"]);
 /// ```
-#[derive(Clone, PartialEq, Eq)]
-pub struct Tree {
+#[derive(Clone)]
+pub struct Tree<'t> {
+    kind: Kind,
+    text: &'t [u8],
     nodes: Vec<raw::Node>,
     bytes: Vec<u8>,
 }
 
-impl fmt::Debug for Tree {
+impl PartialEq for Tree<'_> {
+    fn eq(&self, other: &Tree<'_>) -> bool {
+        let pairs = self.nodes.iter().zip(&other.nodes);
+        self.kind == other.kind
+            && self.nodes.len() == other.nodes.len()
+            && pairs.clone().all(|(a, b)| {
+                (a.role, a.kind, a.number, a.size) == (b.role, b.kind, b.number, b.size)
+            })
+            && pairs.clone().all(|(a, b)| {
+                self.bytes_at(a.key_at, a.key_length) == other.bytes_at(b.key_at, b.key_length)
+                    && self.bytes_at(a.text_at, a.text_length)
+                        == other.bytes_at(b.text_at, b.text_length)
+            })
+    }
+}
+
+impl Eq for Tree<'_> {}
+
+impl fmt::Debug for Tree<'_> {
     fn fmt(&self, f: &mut fmt::Formatter<'_>) -> fmt::Result {
         f.debug_tuple("Tree").field(&self.members()).finish()
     }
@@ -74,25 +97,31 @@ const NO_NODE: raw::Node = raw::Node {
     key_length: 0,
     text_at: 0,
     text_length: 0,
-    span: 1,
-    role: raw::MEMBER,
+    size: 1,
     kind: raw::INTEGER,
+    role: raw::MEMBER,
+    coded: 0,
 };
 
-impl Tree {
+impl<'t> Tree<'t> {
     pub(crate) fn read(
         seed: &Seed,
         dialect: Dialect,
         kind: Kind,
-        text: &[u8],
-    ) -> Result<Tree, Error> {
+        text: &'t [u8],
+    ) -> Result<Tree<'t>, Error> {
         let mut tree = Tree {
+            kind,
+            text,
             nodes: Vec::new(),
             bytes: Vec::new(),
         };
-        // Most fields have fewer nodes and bytes; with more of them the text is parsed twice.
+        // Most fields have fewer nodes; with more of them the text is parsed twice. Bytes are decoded of
+        // Strings with a backslash, Byte Sequences and Display Strings alone.
         resize(&mut tree.nodes, text.len() / 4 + 1, NO_NODE)?;
-        resize(&mut tree.bytes, text.len(), 0)?;
+        if text.iter().any(|byte| b"\\:%".contains(byte)) {
+            resize(&mut tree.bytes, text.len(), 0)?;
+        }
         loop {
             let mut refusal = NO_REFUSAL;
             let mut sizes = raw::Sizes { nodes: 0, bytes: 0 };
@@ -120,8 +149,9 @@ impl Tree {
                     return tree.is_sound().then_some(tree).ok_or(Error::OtherLibrary);
                 }
                 raw::SHORT if is_short => {
-                    resize(&mut tree.nodes, sizes.nodes, NO_NODE)?;
-                    resize(&mut tree.bytes, sizes.bytes, 0)?;
+                    let (nodes, bytes) = (tree.nodes.len(), tree.bytes.len());
+                    resize(&mut tree.nodes, sizes.nodes.max(nodes), NO_NODE)?;
+                    resize(&mut tree.bytes, sizes.bytes.max(bytes), 0)?;
                 }
                 status => return Err(error(status, &refusal)),
             }
@@ -133,13 +163,49 @@ impl Tree {
     fn is_sound(&self) -> bool {
         self.nodes.iter().enumerate().all(|(index, node)| {
             let has_text = matches!(node.kind, raw::STRING | raw::TOKEN | raw::DISPLAY_STRING);
-            let text = self.bytes.get(range(node.text_at, node.text_length));
-            let key = self.bytes.get(range(node.key_at, node.key_length));
+            let text = self.bytes_at(node.text_at, node.text_length);
+            let key = self.bytes_at(node.key_at, node.key_length);
+            let nodes = self.nodes.len() - index;
             (raw::INNER_LIST..=raw::DISPLAY_STRING).contains(&node.kind)
-                && (1..=self.nodes.len() - index).contains(&node.span)
+                && index_of(node.size).map_or(false, |size| (1..=nodes).contains(&size))
                 && key.map_or(false, |key| std::str::from_utf8(key).is_ok())
                 && text.map_or(false, |text| !has_text || std::str::from_utf8(text).is_ok())
         })
+    }
+
+    /// The bytes of a range of a node: from the length of the text on, offsets are in the other bytes.
+    fn bytes_at(&self, at: u32, length: u32) -> Option<&[u8]> {
+        if length == 0 {
+            return Some(&[]);
+        }
+        let (at, length) = (index_of(at)?, index_of(length)?);
+        match at.checked_sub(self.text.len()) {
+            Some(at) => self.bytes.get(at..at.checked_add(length)?),
+            None => self.text.get(at..at.checked_add(length)?),
+        }
+    }
+
+    /// Writes the canonical text of the value (RFC 9651 section 4.1).
+    ///
+    /// # Errors
+    ///
+    /// [`Error::OutOfMemory`] only, for which `to_string` panics.
+    ///
+    /// ```
+    /// let tree = sf::Parser::new().tree(sf::Kind::List, "a ,b").unwrap();
+    /// assert_eq!(tree.serialize().unwrap(), "a, b");
+    /// assert_eq!(tree.to_string(), "a, b");
+    /// ```
+    pub fn serialize(&self) -> Result<String, Error> {
+        let seed = Seed::random();
+        write(
+            &seed,
+            Dialect::Rfc9651,
+            self.kind,
+            &self.nodes,
+            self.text,
+            &self.bytes,
+        )
     }
 
     /// The Item of an Item field, or the members of a List or Dictionary.
@@ -169,8 +235,15 @@ impl Tree {
     }
 }
 
-fn range(from: usize, length: usize) -> Range<usize> {
-    from..from.saturating_add(length)
+impl fmt::Display for Tree<'_> {
+    fn fmt(&self, f: &mut fmt::Formatter<'_>) -> fmt::Result {
+        f.pad(&self.serialize().map_err(|_| fmt::Error)?)
+    }
+}
+
+/// A number of a node as an index.
+fn index_of(number: u32) -> Option<usize> {
+    usize::try_from(number).ok()
 }
 
 /// A node of a tree: a member, an Item of an Inner List, or a parameter.
@@ -183,7 +256,7 @@ fn range(from: usize, length: usize) -> Range<usize> {
 /// ```
 #[derive(Clone, Copy)]
 pub struct Node<'a> {
-    tree: &'a Tree,
+    tree: &'a Tree<'a>,
     told: &'a raw::Node,
     index: usize,
 }
@@ -197,7 +270,7 @@ pub struct Node<'a> {
 /// ```
 #[derive(Clone)]
 pub struct Nodes<'a> {
-    tree: &'a Tree,
+    tree: &'a Tree<'a>,
     index: usize,
     end: usize,
 }
@@ -231,17 +304,17 @@ impl<'a> Iterator for Nodes<'a> {
             told: self.tree.nodes.get(self.index)?,
             index: self.index,
         };
-        self.index += node.told.span;
+        self.index += index_of(node.told.size)?;
         Some(node)
     }
 }
 
 impl<'a> Node<'a> {
-    fn bytes(&self, from: usize, length: usize) -> &'a [u8] {
-        self.tree.bytes.get(range(from, length)).unwrap_or_default()
+    fn bytes(&self, from: u32, length: u32) -> &'a [u8] {
+        self.tree.bytes_at(from, length).unwrap_or_default()
     }
 
-    fn text(&self, from: usize, length: usize) -> &'a str {
+    fn text(&self, from: u32, length: u32) -> &'a str {
         std::str::from_utf8(self.bytes(from, length)).unwrap_or_default()
     }
 
@@ -283,12 +356,12 @@ impl<'a> Node<'a> {
         match self.told.kind {
             raw::INNER_LIST => Type::InnerList,
             raw::INTEGER => Type::Integer(self.told.number),
-            raw::DECIMAL => Type::Decimal(Decimal::from_thousandths(self.told.number)),
+            raw::DECIMAL => Type::Decimal(Decimal::known(self.told.number)),
             raw::STRING => Type::String(self.text(from, length)),
             raw::TOKEN => Type::Token(self.text(from, length)),
             raw::BYTE_SEQUENCE => Type::ByteSequence(self.bytes(from, length)),
             raw::BOOLEAN => Type::Boolean(self.told.number != 0),
-            raw::DATE => Type::Date(Date::from_unix_seconds(self.told.number)),
+            raw::DATE => Type::Date(Date::known(self.told.number)),
             _ => Type::DisplayString(self.text(from, length)),
         }
     }
@@ -305,8 +378,10 @@ impl<'a> Node<'a> {
     pub fn children(&self) -> Nodes<'a> {
         Nodes {
             tree: self.tree,
-            index: self.index + 1,
-            end: self.index + self.told.span,
+            index: self.index.saturating_add(1),
+            end: self
+                .index
+                .saturating_add(index_of(self.told.size).unwrap_or_default()),
         }
     }
 

@@ -1,196 +1,12 @@
-use crate::call::{copied, copied_text, reserve};
-use crate::{normalise, Error, Field, Kind, Node, Parser, Role, Tree, Type};
+//! Fields of a known kind, which can be built, changed and written.
+
+use crate::bare::{BareItem, Date, Decimal, Integer, Key, Text, Token};
+use crate::call::reserve;
+use crate::nodes::Nodes;
+use crate::{Dialect, Error, Kind, Node, Parser, Role, Seed, Tree, Type};
 use std::fmt;
-use std::ops::Deref;
+use std::ops::{Deref, DerefMut};
 use std::str::FromStr;
-use std::time::{Duration, SystemTime};
-
-/// A Decimal (RFC 9651 section 3.3.2), which is a whole number of thousandths.
-///
-/// ```
-/// let item = sf::Item::parse("1.5").unwrap();
-/// let decimal = item.bare_item.as_decimal().unwrap();
-/// assert_eq!(decimal.thousandths(), 1500);
-/// ```
-#[derive(Clone, Copy, Debug, PartialEq, Eq, PartialOrd, Ord, Hash)]
-pub struct Decimal(i64);
-
-impl Decimal {
-    /// The Decimal of so many thousandths. A field has those from -999,999,999,999,999 to
-    /// 999,999,999,999,999.
-    ///
-    /// ```
-    /// assert!(sf::Decimal::from_thousandths(500) < sf::Decimal::from_thousandths(1000));
-    /// ```
-    #[must_use]
-    pub fn from_thousandths(thousandths: i64) -> Decimal {
-        Decimal(thousandths)
-    }
-
-    /// Its thousandths.
-    ///
-    /// ```
-    /// let item = sf::Item::parse("-0.5").unwrap();
-    /// assert_eq!(item.bare_item.as_decimal().map(|it| it.thousandths()), Some(-500));
-    /// ```
-    #[must_use]
-    pub fn thousandths(self) -> i64 {
-        self.0
-    }
-
-    /// The nearest `f64`.
-    ///
-    /// ```
-    /// let item = sf::Item::parse("0.5").unwrap();
-    /// assert_eq!(item.bare_item.as_decimal().map(|it| it.as_f64()), Some(0.5));
-    /// ```
-    #[must_use]
-    #[allow(clippy::cast_precision_loss)] // a field's thousandths are below 2^53
-    pub fn as_f64(self) -> f64 {
-        self.0 as f64 / 1000.0
-    }
-}
-
-/// A Date (RFC 9651 section 3.3.7), in seconds since 1970-01-01T00:00:00Z.
-///
-/// ```
-/// let item = sf::Item::parse("@1659578233").unwrap();
-/// assert_eq!(item.bare_item.as_date().map(|date| date.unix_seconds()), Some(1_659_578_233));
-/// ```
-#[derive(Clone, Copy, Debug, PartialEq, Eq, PartialOrd, Ord, Hash)]
-pub struct Date(i64);
-
-impl Date {
-    /// The Date of so many seconds. A field has those from -999,999,999,999,999 to
-    /// 999,999,999,999,999.
-    ///
-    /// ```
-    /// assert!(sf::Date::from_unix_seconds(-1) < sf::Date::from_unix_seconds(0));
-    /// ```
-    #[must_use]
-    pub fn from_unix_seconds(seconds: i64) -> Date {
-        Date(seconds)
-    }
-
-    /// Its seconds; negative before 1970.
-    ///
-    /// ```
-    /// let item = sf::Item::parse("@-1").unwrap();
-    /// assert_eq!(item.bare_item.as_date().map(|date| date.unix_seconds()), Some(-1));
-    /// ```
-    #[must_use]
-    pub fn unix_seconds(self) -> i64 {
-        self.0
-    }
-
-    /// The same time for the standard library, or `None` if it has no such time.
-    ///
-    /// ```
-    /// let item = sf::Item::parse("@0").unwrap();
-    /// let time = item.bare_item.as_date().and_then(|date| date.system_time());
-    /// assert_eq!(time, Some(std::time::UNIX_EPOCH));
-    /// ```
-    #[must_use]
-    pub fn system_time(self) -> Option<SystemTime> {
-        let distance = Duration::from_secs(self.0.unsigned_abs());
-        if self.0 < 0 {
-            SystemTime::UNIX_EPOCH.checked_sub(distance)
-        } else {
-            SystemTime::UNIX_EPOCH.checked_add(distance)
-        }
-    }
-}
-
-/// A bare item (RFC 9651 section 3.3).
-///
-/// ```
-/// use sf::{BareItem, Item};
-///
-/// assert_eq!(Item::parse("tea").unwrap().bare_item, BareItem::Token("tea".to_string()));
-/// assert_ne!(Item::parse("tea").unwrap().bare_item, BareItem::String("tea".to_string()));
-/// ```
-#[derive(Clone, Debug, PartialEq, Eq, Hash)]
-pub enum BareItem {
-    /// An Integer (3.3.1).
-    Integer(i64),
-    /// A Decimal (3.3.2).
-    Decimal(Decimal),
-    /// A String (3.3.3), unescaped.
-    String(String),
-    /// A Token (3.3.4).
-    Token(String),
-    /// A Byte Sequence (3.3.5), decoded.
-    ByteSequence(Vec<u8>),
-    /// A Boolean (3.3.6).
-    Boolean(bool),
-    /// A Date (3.3.7).
-    Date(Date),
-    /// A Display String (3.3.8), decoded.
-    DisplayString(String),
-}
-
-macro_rules! accessor {
-    ($name:ident, $variant:ident, $value:ident: $type:ty = $given:expr, $words:literal, $example:literal) => {
-        #[doc = concat!($words, ", or `None` if it is of another type.\n\n```\n", $example, "\n```")]
-        #[must_use]
-        pub fn $name(&self) -> Option<$type> {
-            match self {
-                BareItem::$variant($value) => Some($given),
-                _ => None,
-            }
-        }
-    };
-}
-
-impl BareItem {
-    accessor!(
-        as_integer, Integer, number: i64 = *number, "Its number, if it is an Integer",
-        "assert_eq!(sf::Item::parse(\"42\").unwrap().bare_item.as_integer(), Some(42));"
-    );
-    accessor!(
-        as_decimal, Decimal, number: Decimal = *number, "Its number, if it is a Decimal",
-        "assert!(sf::Item::parse(\"42\").unwrap().bare_item.as_decimal().is_none());"
-    );
-    accessor!(
-        as_string, String, text: &str = text, "Its text, if it is a String",
-        "assert_eq!(sf::Item::parse(r#\"\"a\\\"b\"\"#).unwrap().bare_item.as_string(), Some(\"a\\\"b\"));"
-    );
-    accessor!(
-        as_token, Token, text: &str = text, "Its text, if it is a Token",
-        "assert_eq!(sf::Item::parse(\"a/b\").unwrap().bare_item.as_token(), Some(\"a/b\"));"
-    );
-    accessor!(
-        as_byte_sequence, ByteSequence, bytes: &[u8] = bytes, "Its bytes, if it is a Byte Sequence",
-        "assert_eq!(sf::Item::parse(\":YQ==:\").unwrap().bare_item.as_byte_sequence(), Some(&b\"a\"[..]));"
-    );
-    accessor!(
-        as_boolean, Boolean, is_true: bool = *is_true, "Its value, if it is a Boolean",
-        "assert_eq!(sf::Item::parse(\"?0\").unwrap().bare_item.as_boolean(), Some(false));"
-    );
-    accessor!(
-        as_date, Date, date: Date = *date, "Its time, if it is a Date",
-        "assert!(sf::Item::parse(\"@7\").unwrap().bare_item.as_date().is_some());"
-    );
-    accessor!(
-        as_display_string, DisplayString, text: &str = text, "Its text, if it is a Display String",
-        "assert_eq!(sf::Item::parse(\"%\\\"f%c3%bc\\\"\").unwrap().bare_item.as_display_string(), Some(\"fü\"));"
-    );
-
-    /// The bare item of a node; `None` for an Inner List.
-    fn of_type(value: Type<'_>) -> Result<Option<BareItem>, Error> {
-        Ok(Some(match value {
-            Type::InnerList => return Ok(None),
-            Type::Integer(number) => BareItem::Integer(number),
-            Type::Decimal(number) => BareItem::Decimal(number),
-            Type::String(text) => BareItem::String(copied_text(text.as_bytes())?),
-            Type::Token(text) => BareItem::Token(copied_text(text.as_bytes())?),
-            Type::ByteSequence(bytes) => BareItem::ByteSequence(copied(bytes)?),
-            Type::Boolean(is_true) => BareItem::Boolean(is_true),
-            Type::Date(date) => BareItem::Date(date),
-            Type::DisplayString(text) => BareItem::DisplayString(copied_text(text.as_bytes())?),
-        }))
-    }
-}
 
 /// What is made of each node, in a vector of their number.
 fn collected<'a, T>(
@@ -206,7 +22,7 @@ fn collected<'a, T>(
 }
 
 macro_rules! keyed {
-    ($name:ident, $value:ty, $things:literal, $text:literal, $kind:literal) => {
+    ($name:ident, $value:ty, $things:literal, $mut_things:literal, $text:literal, $changed:literal, $kind:literal) => {
         impl $name {
             /// The value of a key. It compares the keys one by one.
             ///
@@ -238,6 +54,82 @@ macro_rules! keyed {
                     .map(|(key, value)| (key.as_str(), value))
             }
 
+            /// The value of a key, to be changed.
+            ///
+            /// ```
+            #[doc = concat!("let mut item = sf::", $kind, "::parse(\"", $text, "\").unwrap();")]
+            #[doc = concat!("let all = ", $mut_things, ";")]
+            /// *all.get_mut("a").unwrap() = 7.into();
+            #[doc = concat!("assert_eq!(item.to_string(), \"", $changed, "\");")]
+            /// ```
+            #[must_use]
+            pub fn get_mut(&mut self, key: &str) -> Option<&mut $value> {
+                self.entries
+                    .iter_mut()
+                    .find(|(name, _)| name.as_str() == key)
+                    .map(|(_, value)| value)
+            }
+
+            /// Sets the value of a key, at the place that the key has, or at the end if it has none.
+            /// Returns the value that it had.
+            ///
+            /// # Errors
+            ///
+            /// [`Error::Invalid`] if the key is none.
+            ///
+            /// ```
+            #[doc = concat!("let mut item = sf::", $kind, "::parse(\"", $text, "\").unwrap();")]
+            #[doc = concat!("let all = ", $mut_things, ";")]
+            /// assert!(all.insert("a", 7).unwrap().is_some());
+            /// assert!(all.insert("c", true).unwrap().is_none());
+            /// assert_eq!(all.insert("C", 1), Err(sf::Error::Invalid));
+            /// let keys: Vec<&str> = all.iter().map(|(key, _)| key).collect();
+            /// assert_eq!(keys, ["a", "b", "c"]);
+            /// ```
+            pub fn insert<K>(
+                &mut self,
+                key: K,
+                value: impl Into<$value>,
+            ) -> Result<Option<$value>, Error>
+            where
+                K: TryInto<Key>,
+                K::Error: Into<Error>,
+            {
+                let key = key.try_into().map_err(Into::into)?;
+                let value = value.into();
+                if let Some(place) = self.get_mut(&key) {
+                    return Ok(Some(std::mem::replace(place, value)));
+                }
+                self.entries
+                    .try_reserve(1)
+                    .map_err(|_| Error::OutOfMemory)?;
+                self.entries.push((key, value));
+                Ok(None)
+            }
+
+            /// Removes a key, and returns its value. Those behind it keep their order.
+            ///
+            /// ```
+            #[doc = concat!("let mut item = sf::", $kind, "::parse(\"", $text, "\").unwrap();")]
+            #[doc = concat!("let all = ", $mut_things, ";")]
+            /// assert!(all.remove("a").is_some() && all.remove("a").is_none());
+            /// assert_eq!(all.len(), 1);
+            /// ```
+            pub fn remove(&mut self, key: &str) -> Option<$value> {
+                let place = self.iter().position(|(name, _)| name == key)?;
+                Some(self.entries.remove(place).1)
+            }
+
+            /// None of them.
+            ///
+            /// ```
+            #[doc = concat!("assert!(sf::", stringify!($name), "::new().is_empty());")]
+            /// ```
+            #[must_use]
+            pub fn new() -> $name {
+                $name::default()
+            }
+
             /// How many there are.
             ///
             /// ```
@@ -262,6 +154,35 @@ macro_rules! keyed {
                 self.entries.is_empty()
             }
         }
+
+        impl<V: Into<$value>> Extend<(Key, V)> for $name {
+            fn extend<I: IntoIterator<Item = (Key, V)>>(&mut self, entries: I) {
+                for (key, value) in entries {
+                    let value = value.into();
+                    match self.get_mut(&key) {
+                        Some(place) => *place = value,
+                        None => self.entries.push((key, value)),
+                    }
+                }
+            }
+        }
+
+        impl<V: Into<$value>> FromIterator<(Key, V)> for $name {
+            fn from_iter<I: IntoIterator<Item = (Key, V)>>(entries: I) -> $name {
+                let mut all = $name::new();
+                all.extend(entries);
+                all
+            }
+        }
+
+        impl IntoIterator for $name {
+            type Item = (Key, $value);
+            type IntoIter = std::vec::IntoIter<(Key, $value)>;
+
+            fn into_iter(self) -> std::vec::IntoIter<(Key, $value)> {
+                self.entries.into_iter()
+            }
+        }
     };
 }
 
@@ -273,10 +194,18 @@ macro_rules! keyed {
 /// ```
 #[derive(Clone, Debug, Default, PartialEq, Eq, Hash)]
 pub struct Parameters {
-    entries: Vec<(String, BareItem)>,
+    entries: Vec<(Key, BareItem)>,
 }
 
-keyed!(Parameters, BareItem, "&item.params", "1;a=2;b", "Item");
+keyed!(
+    Parameters,
+    BareItem,
+    "&item.params",
+    "&mut item.params",
+    "1;a=2;b",
+    "1;a=7;b",
+    "Item"
+);
 
 impl Parameters {
     fn of_node(node: Node<'_>) -> Result<Parameters, Error> {
@@ -285,7 +214,7 @@ impl Parameters {
             .filter(|child| child.role() == Role::Parameter);
         let entries = collected(params, |child| {
             let value = BareItem::of_type(child.get())?.ok_or(Error::OtherLibrary)?;
-            Ok((copied_text(child.key().as_bytes())?, value))
+            Ok((Key::known(child.key())?, value))
         })?;
         Ok(Parameters { entries })
     }
@@ -307,6 +236,38 @@ pub struct Item {
 }
 
 impl Item {
+    /// An Item without parameters.
+    ///
+    /// ```
+    /// assert_eq!(sf::Item::new(7).to_string(), "7");
+    /// assert_eq!(sf::Item::new(sf::Token::new("tea").unwrap()).to_string(), "tea");
+    /// ```
+    pub fn new(bare_item: impl Into<BareItem>) -> Item {
+        Item {
+            bare_item: bare_item.into(),
+            params: Parameters::new(),
+        }
+    }
+
+    /// The same with a parameter, which replaces one with this key.
+    ///
+    /// # Errors
+    ///
+    /// [`Error::Invalid`] if the key is none.
+    ///
+    /// ```
+    /// let item = sf::Item::new(7).with_param("a", 1).unwrap().with_param("b", true).unwrap();
+    /// assert_eq!(item.to_string(), "7;a=1;b");
+    /// ```
+    pub fn with_param<K>(mut self, key: K, value: impl Into<BareItem>) -> Result<Item, Error>
+    where
+        K: TryInto<Key>,
+        K::Error: Into<Error>,
+    {
+        self.params.insert(key, value)?;
+        Ok(self)
+    }
+
     fn of_node(node: Node<'_>) -> Result<Item, Error> {
         Ok(Item {
             bare_item: BareItem::of_type(node.get())?.ok_or(Error::OtherLibrary)?,
@@ -323,12 +284,53 @@ impl Item {
 /// assert_eq!(inner.items.len(), 2);
 /// assert_eq!(inner.params.get("lvl").and_then(|it| it.as_integer()), Some(1));
 /// ```
-#[derive(Clone, Debug, PartialEq, Eq, Hash)]
+#[derive(Clone, Debug, Default, PartialEq, Eq, Hash)]
 pub struct InnerList {
     /// Its Items.
     pub items: Vec<Item>,
     /// Its parameters.
     pub params: Parameters,
+}
+
+impl InnerList {
+    /// An Inner List of these Items, without parameters.
+    ///
+    /// ```
+    /// assert_eq!(sf::InnerList::new([1, 2]).to_string(), "(1 2)");
+    /// let none: [sf::Item; 0] = [];
+    /// assert_eq!(sf::InnerList::new(none).to_string(), "()");
+    /// ```
+    pub fn new(items: impl IntoIterator<Item = impl Into<Item>>) -> InnerList {
+        items.into_iter().collect()
+    }
+
+    /// The same with a parameter, which replaces one with this key.
+    ///
+    /// # Errors
+    ///
+    /// [`Error::Invalid`] if the key is none.
+    ///
+    /// ```
+    /// let inner = sf::InnerList::new([1, 2]).with_param("a", 1).unwrap().with_param("b", true).unwrap();
+    /// assert_eq!(inner.to_string(), "(1 2);a=1;b");
+    /// ```
+    pub fn with_param<K>(mut self, key: K, value: impl Into<BareItem>) -> Result<InnerList, Error>
+    where
+        K: TryInto<Key>,
+        K::Error: Into<Error>,
+    {
+        self.params.insert(key, value)?;
+        Ok(self)
+    }
+}
+
+impl<T: Into<Item>> FromIterator<T> for InnerList {
+    fn from_iter<I: IntoIterator<Item = T>>(items: I) -> InnerList {
+        InnerList {
+            items: items.into_iter().map(Into::into).collect(),
+            params: Parameters::new(),
+        }
+    }
 }
 
 /// A member of a List or Dictionary.
@@ -377,6 +379,22 @@ impl Member {
         }
     }
 
+    /// Its parameters, to be changed.
+    ///
+    /// ```
+    /// let mut list = sf::List::parse("a;x=1, (b c);x=2").unwrap();
+    /// for member in list.iter_mut() {
+    ///     member.params_mut().remove("x");
+    /// }
+    /// assert_eq!(list.to_string(), "a, (b c)");
+    /// ```
+    pub fn params_mut(&mut self) -> &mut Parameters {
+        match self {
+            Member::Item(item) => &mut item.params,
+            Member::InnerList(inner) => &mut inner.params,
+        }
+    }
+
     /// Its parameters.
     ///
     /// ```
@@ -406,23 +424,96 @@ impl Member {
     }
 }
 
-/// A List (RFC 9651 section 3.1). It derefs to a slice of its members.
+impl From<BareItem> for Item {
+    fn from(bare_item: BareItem) -> Item {
+        Item::new(bare_item)
+    }
+}
+
+impl From<BareItem> for Member {
+    fn from(bare_item: BareItem) -> Member {
+        Member::Item(bare_item.into())
+    }
+}
+
+impl From<Item> for Member {
+    fn from(item: Item) -> Member {
+        Member::Item(item)
+    }
+}
+
+impl From<InnerList> for Member {
+    fn from(inner: InnerList) -> Member {
+        Member::InnerList(inner)
+    }
+}
+
+macro_rules! into_member {
+    ($($type:ty)*) => {
+        $(
+            impl From<$type> for Item {
+                fn from(value: $type) -> Item {
+                    Item::new(value)
+                }
+            }
+
+            impl From<$type> for Member {
+                fn from(value: $type) -> Member {
+                    Member::Item(Item::new(value))
+                }
+            }
+        )*
+    };
+}
+
+into_member!(i8 i16 i32 u8 u16 u32 Integer Decimal Text Token Vec<u8> &[u8] bool Date);
+
+/// A List (RFC 9651 section 3.1). It derefs to the vector of its members.
 ///
 /// ```
-/// let list = sf::List::parse("sugar, tea, rum").unwrap();
+/// let mut list = sf::List::parse("sugar, tea, rum").unwrap();
 /// assert_eq!(list.len(), 3);
 /// assert_eq!(list.iter().filter_map(|it| it.as_item()).count(), 3);
+/// list.remove(2);
+/// list.push(sf::InnerList::new([1, 2]).into());
+/// assert_eq!(list.to_string(), "sugar, tea, (1 2)");
 /// ```
 #[derive(Clone, Debug, Default, PartialEq, Eq, Hash)]
 pub struct List {
     members: Vec<Member>,
 }
 
-impl Deref for List {
-    type Target = [Member];
+impl List {
+    /// A List without members.
+    ///
+    /// ```
+    /// assert_eq!(sf::List::new().to_string(), "");
+    /// ```
+    #[must_use]
+    pub fn new() -> List {
+        List::default()
+    }
+}
 
-    fn deref(&self) -> &[Member] {
+impl Deref for List {
+    type Target = Vec<Member>;
+
+    fn deref(&self) -> &Vec<Member> {
         &self.members
+    }
+}
+
+impl DerefMut for List {
+    fn deref_mut(&mut self) -> &mut Vec<Member> {
+        &mut self.members
+    }
+}
+
+impl<T: Into<Member>> FromIterator<T> for List {
+    fn from_iter<I: IntoIterator<Item = T>>(members: I) -> List {
+        List {
+            members: members.into_iter().map(Into::into).collect(),
+        }
     }
 }
 
@@ -454,127 +545,62 @@ impl IntoIterator for List {
 /// ```
 #[derive(Clone, Debug, Default, PartialEq, Eq, Hash)]
 pub struct Dictionary {
-    entries: Vec<(String, Member)>,
+    entries: Vec<(Key, Member)>,
 }
 
-keyed!(Dictionary, Member, "&item", "a=1, b", "Dictionary");
+keyed!(
+    Dictionary,
+    Member,
+    "&item",
+    "&mut item",
+    "a=1, b",
+    "a=7, b",
+    "Dictionary"
+);
 
 impl crate::parser::Sealed for Item {
     const KIND: Kind = Kind::Item;
 
-    fn of_tree(tree: &Tree) -> Result<Item, Error> {
+    fn of_tree(tree: &Tree<'_>) -> Result<Item, Error> {
         Item::of_node(tree.members().next().ok_or(Error::OtherLibrary)?)
+    }
+
+    fn put_into(&self, nodes: &mut Nodes) -> Result<(), Error> {
+        nodes.member_item("", self)
     }
 }
 
 impl crate::parser::Sealed for List {
     const KIND: Kind = Kind::List;
 
-    fn of_tree(tree: &Tree) -> Result<List, Error> {
+    fn of_tree(tree: &Tree<'_>) -> Result<List, Error> {
         let members = collected(tree.members(), Member::of_node)?;
         Ok(List { members })
+    }
+
+    fn put_into(&self, nodes: &mut Nodes) -> Result<(), Error> {
+        self.iter().try_for_each(|member| nodes.member("", member))
     }
 }
 
 impl crate::parser::Sealed for Dictionary {
     const KIND: Kind = Kind::Dict;
 
-    fn of_tree(tree: &Tree) -> Result<Dictionary, Error> {
+    fn of_tree(tree: &Tree<'_>) -> Result<Dictionary, Error> {
         let entries = collected(tree.members(), |node| {
-            Ok((copied_text(node.key().as_bytes())?, Member::of_node(node)?))
+            Ok((Key::known(node.key())?, Member::of_node(node)?))
         })?;
         Ok(Dictionary { entries })
     }
-}
 
-/// A field that was parsed. It derefs to its value, and its `Display` is the canonical text of the
-/// text that it was parsed from. So it can be read, compared and written, but not changed.
-///
-/// ```
-/// let field = sf::Dictionary::parse("u=1,  i=?1").unwrap();
-/// assert_eq!(field.len(), 2);
-/// assert_eq!(field.to_string(), "u=1, i");
-/// assert_eq!(field, "u=01, i".parse::<sf::Parsed<sf::Dictionary>>().unwrap());
-/// ```
-#[derive(Clone)]
-pub struct Parsed<T> {
-    value: T,
-    source: Vec<u8>,
-}
-
-impl<T: Field> Parsed<T> {
-    pub(crate) fn read(parser: &Parser, text: &[u8]) -> Result<Parsed<T>, Error> {
-        Ok(Parsed {
-            value: T::of_tree(&parser.tree(T::KIND, text)?)?,
-            source: copied(text)?,
-        })
-    }
-
-    /// Writes its canonical text (RFC 9651 section 4.1).
-    ///
-    /// # Errors
-    ///
-    /// [`Error::OutOfMemory`] only, for which `to_string` panics.
-    ///
-    /// ```
-    /// assert_eq!(sf::List::parse("a ,b").unwrap().serialize().unwrap(), "a, b");
-    /// ```
-    pub fn serialize(&self) -> Result<String, Error> {
-        normalise(T::KIND, &self.source)
-    }
-}
-
-impl<T> Parsed<T> {
-    /// Its value alone.
-    ///
-    /// ```
-    /// let list: sf::List = sf::List::parse("a, b").unwrap().into_value();
-    /// assert_eq!(list.into_iter().count(), 2);
-    /// ```
-    #[must_use]
-    pub fn into_value(self) -> T {
-        self.value
-    }
-}
-
-impl<T> Deref for Parsed<T> {
-    type Target = T;
-
-    fn deref(&self) -> &T {
-        &self.value
-    }
-}
-
-impl<T: PartialEq> PartialEq for Parsed<T> {
-    fn eq(&self, other: &Parsed<T>) -> bool {
-        self.value == other.value
-    }
-}
-
-impl<T: Eq> Eq for Parsed<T> {}
-
-impl<T: fmt::Debug> fmt::Debug for Parsed<T> {
-    fn fmt(&self, f: &mut fmt::Formatter<'_>) -> fmt::Result {
-        self.value.fmt(f)
-    }
-}
-
-impl<T: Field> fmt::Display for Parsed<T> {
-    fn fmt(&self, f: &mut fmt::Formatter<'_>) -> fmt::Result {
-        f.pad(&self.serialize().map_err(|_| fmt::Error)?)
-    }
-}
-
-impl<T: Field> FromStr for Parsed<T> {
-    type Err = Error;
-
-    fn from_str(text: &str) -> Result<Parsed<T>, Error> {
-        Parser::new().parse(text)
+    fn put_into(&self, nodes: &mut Nodes) -> Result<(), Error> {
+        self.iter()
+            .try_for_each(|(key, member)| nodes.member(key, member))
     }
 }
 
 macro_rules! field {
-    ($name:ident, $text:literal) => {
+    ($name:ident, $text:literal, $canonical:literal) => {
         impl $name {
             /// Parses a text by RFC 9651. [`Parser`] has the other dialect, and fields of several
             /// lines.
@@ -587,13 +613,63 @@ macro_rules! field {
             #[doc = concat!("assert!(sf::", stringify!($name), "::parse(\"", $text, "\").is_ok());")]
             #[doc = concat!("assert!(sf::", stringify!($name), "::parse(\"", $text, ",\").is_err());")]
             /// ```
-            pub fn parse(text: impl AsRef<[u8]>) -> Result<Parsed<$name>, Error> {
+            pub fn parse(text: impl AsRef<[u8]>) -> Result<$name, Error> {
                 Parser::new().parse(text)
+            }
+
+            /// Writes the canonical text (RFC 9651 section 4.1). `to_string` does as well. If the text of
+            /// a List or Dictionary is empty, the field is not to be sent.
+            ///
+            /// # Errors
+            ///
+            /// [`Error::OutOfMemory`], or [`Error::TooLong`] if its keys and bytes have 4 GiB or more. For
+            /// these `to_string` panics.
+            ///
+            /// ```
+            #[doc = concat!("let field = sf::", stringify!($name), "::parse(\"", $text, "\").unwrap();")]
+            #[doc = concat!("assert_eq!(field.serialize().unwrap(), \"", $canonical, "\");")]
+            #[doc = concat!("assert_eq!(field.to_string(), \"", $canonical, "\");")]
+            /// ```
+            pub fn serialize(&self) -> Result<String, Error> {
+                Parser::new().serialize(self)
+            }
+        }
+
+        impl fmt::Display for $name {
+            fn fmt(&self, f: &mut fmt::Formatter<'_>) -> fmt::Result {
+                f.pad(&self.serialize().map_err(|_| fmt::Error)?)
+            }
+        }
+
+        impl FromStr for $name {
+            type Err = Error;
+
+            fn from_str(text: &str) -> Result<$name, Error> {
+                $name::parse(text)
             }
         }
     };
 }
 
-field!(Item, "1;a");
-field!(List, "a, b");
-field!(Dictionary, "u=1, i");
+field!(Item, "1; a", "1;a");
+field!(List, "a,b", "a, b");
+field!(Dictionary, "u=1, i=?1", "u=1, i");
+
+macro_rules! part {
+    ($name:ty, $put:expr) => {
+        impl fmt::Display for $name {
+            fn fmt(&self, f: &mut fmt::Formatter<'_>) -> fmt::Result {
+                let put: fn(&mut Nodes, &$name) -> Result<(), Error> = $put;
+                let mut nodes = Nodes::default();
+                put(&mut nodes, self).map_err(|_| fmt::Error)?;
+                let text = nodes.text(&Seed::random(), Dialect::Rfc9651, Kind::List);
+                f.pad(&text.map_err(|_| fmt::Error)?)
+            }
+        }
+    };
+}
+
+// Each is written as the only member of a List.
+part!(BareItem, |nodes, value| nodes.member_bare_item(value));
+part!(InnerList, |nodes, inner| nodes.inner_list("", inner));
+part!(Member, |nodes, member| nodes.member("", member));

@@ -2,8 +2,8 @@
 
 use sf::{
     check, equal, join, normalise, select, BareItem, Choice, Date, Decimal, Dialect, Dictionary,
-    Error, Forward, Forwarded, Hop, Item, Kind, List, Member, Name, Outcome, Parsed, Parser, Path,
-    Policy, Priority, Refusal, Role, Seed, Type,
+    Error, Forward, Forwarded, Hop, InnerList, Integer, Item, Key, Kind, List, Member, Name,
+    Outcome, Parameters, Parser, Path, Policy, Priority, Refusal, Role, Seed, Text, Token, Type,
 };
 
 fn old() -> Parser {
@@ -137,31 +137,30 @@ fn each_type_is_read() {
     assert_eq!(
         items,
         [
-            BareItem::Integer(-2),
-            BareItem::Decimal(Decimal::from_thousandths(3500)),
-            BareItem::String("s\"".to_string()),
-            BareItem::Token("t/*".to_string()),
+            BareItem::Integer(Integer::from(-2)),
+            BareItem::Decimal(Decimal::from_thousandths(3500).unwrap()),
+            BareItem::String(Text::new("s\"").unwrap()),
+            BareItem::Token(Token::new("t/*").unwrap()),
             BareItem::ByteSequence(b"b".to_vec()),
             BareItem::Boolean(false),
-            BareItem::Date(Date::from_unix_seconds(-7)),
+            BareItem::Date(Date::from_unix_seconds(-7).unwrap()),
             BareItem::DisplayString("\u{fc}".to_string()),
         ]
     );
-    let tree = Parser::new()
-        .tree(Kind::List, format!("(1), {text}"))
-        .unwrap();
+    let text = format!("(1), {text}");
+    let tree = Parser::new().tree(Kind::List, &text).unwrap();
     let types: Vec<_> = tree.members().map(|member| member.get()).collect();
     assert_eq!(
         types,
         [
             Type::InnerList,
             Type::Integer(-2),
-            Type::Decimal(Decimal::from_thousandths(3500)),
+            Type::Decimal(Decimal::from_thousandths(3500).unwrap()),
             Type::String("s\""),
             Type::Token("t/*"),
             Type::ByteSequence(b"b"),
             Type::Boolean(false),
-            Type::Date(Date::from_unix_seconds(-7)),
+            Type::Date(Date::from_unix_seconds(-7).unwrap()),
             Type::DisplayString("\u{fc}"),
         ]
     );
@@ -171,7 +170,7 @@ fn each_type_is_read() {
 fn an_accessor_is_of_one_type() {
     let texts = ["1", "1.0", "\"a\"", "a", ":YQ==:", "?1", "@1", "%\"a\""];
     for (index, text) in texts.iter().enumerate() {
-        let item = Item::parse(text).unwrap().into_value().bare_item;
+        let item = Item::parse(text).unwrap().bare_item;
         let is = [
             item.as_integer().is_some(),
             item.as_decimal().is_some(),
@@ -221,15 +220,243 @@ fn fields_are_compared_and_cloned() {
     assert_eq!(field, Dictionary::parse("u=1,  i=?1").unwrap());
     assert_ne!(field, Dictionary::parse("i, u=1").unwrap());
     assert_eq!(field.clone(), field);
-    assert_eq!(field.clone().into_value(), *field);
     assert_ne!(Item::parse("a").unwrap(), Item::parse("\"a\"").unwrap());
     assert_ne!(Item::parse("1").unwrap(), Item::parse("1.0").unwrap());
-    let parsed: Parsed<Item> = "1".parse().unwrap();
+    let parsed: Item = "1".parse().unwrap();
     assert_eq!(parsed, Item::parse(" 1 ").unwrap());
-    assert!("1 2".parse::<Parsed<Item>>().is_err());
-    let tree = |text| Parser::new().tree(Kind::Dict, text).unwrap();
-    assert_eq!(tree("u=1,i"), tree("u=1,  i=?1"));
-    assert_ne!(tree("u=1,i"), tree("u=2,i"));
+    assert!("1 2".parse::<Item>().is_err());
+    let dict = |text| Parser::new().tree(Kind::Dict, text).unwrap();
+    assert_eq!(dict("u=1,i"), dict("u=1,  i=?1"));
+    assert_eq!(dict("u=1,i"), dict("u=2,  i=?1, u=1"));
+    assert_ne!(dict("u=1,i"), dict("u=2,i"));
+    assert_ne!(dict("u=1,i"), dict("u=1"));
+    assert_ne!(dict("u=1,i"), dict("u=1,j"));
+    assert_ne!(dict("u=a"), dict("u=\"a\""));
+    let list = |text| Parser::new().tree(Kind::List, text).unwrap();
+    assert_eq!(list("\"a\""), list(" \"a\" "));
+    assert_eq!(list("\"a\\\"\", :YQ:"), list("\"a\\\"\",:YQ==:"));
+    assert_ne!(list("a;b, c"), list("a, c;b"));
+    assert_ne!(list("(a;b)"), list("(a);b"));
+    assert_ne!(list("\"a\\\"\""), list("\"b\\\"\""));
+}
+
+#[test]
+fn a_field_is_built() {
+    let text = |text: &str| Text::new(text).unwrap();
+    let covered = InnerList::new([text("@method"), text("@path")])
+        .with_param("created", 1)
+        .unwrap()
+        .with_param("keyid", text("k"))
+        .unwrap();
+    let mut field = Dictionary::new();
+    assert_eq!(field.insert("sig1", covered), Ok(None));
+    let expected = "sig1=(\"@method\" \"@path\");created=1;keyid=\"k\"";
+    assert_eq!(field.to_string(), expected);
+    assert_eq!(field, Dictionary::parse(expected).unwrap());
+
+    let items: [BareItem; 11] = [
+        7.into(),
+        Integer::new(-999_999_999_999_999).unwrap().into(),
+        Decimal::from_thousandths(-500).unwrap().into(),
+        text("a\"b\\").into(),
+        Token::new("*a/b:c").unwrap().into(),
+        b"a".to_vec().into(),
+        (&b""[..]).into(),
+        true.into(),
+        false.into(),
+        Date::from_unix_seconds(1_659_578_233).unwrap().into(),
+        BareItem::DisplayString("f\u{fc}\0".to_string()),
+    ];
+    let list: List = items.iter().cloned().collect();
+    let expected = "7, -999999999999999, -0.5, \"a\\\"b\\\\\", *a/b:c, :YQ==:, ::, ?1, ?0, \
+                    @1659578233, %\"f%c3%bc%00\"";
+    assert_eq!(list.to_string(), expected);
+    assert_eq!(list, List::parse(expected).unwrap());
+    for (item, member) in items.iter().zip(expected.split(", ")) {
+        assert_eq!(item.to_string(), member);
+        assert_eq!(Item::new(item.clone()).to_string(), member);
+        assert_eq!(Member::from(item.clone()).to_string(), member);
+    }
+
+    let mut item = Item::new(Token::new("t").unwrap());
+    for (key, value) in ["a", "*b", "c_-.*9"].iter().zip(items) {
+        item = item.with_param(*key, value).unwrap();
+    }
+    assert_eq!(item.to_string(), "t;a=7;*b=-999999999999999;c_-.*9=-0.5");
+    let inner: InnerList = [item.clone(), Item::new(true)].into_iter().collect();
+    let inner = inner.with_param("a", true).unwrap();
+    let expected = "(t;a=7;*b=-999999999999999;c_-.*9=-0.5 ?1);a";
+    assert_eq!(inner.to_string(), expected);
+    let list: List = [
+        Member::from(inner),
+        InnerList::default().into(),
+        item.into(),
+    ]
+    .into_iter()
+    .collect();
+    assert_eq!(
+        list.to_string(),
+        format!("{expected}, (), t;a=7;*b=-999999999999999;c_-.*9=-0.5")
+    );
+    assert_eq!(List::new().to_string(), "");
+    assert_eq!(Dictionary::new().to_string(), "");
+    assert_eq!(format!("{:>4}|", List::new()), "    |");
+}
+
+#[test]
+fn a_parsed_field_is_changed() {
+    let mut field = Dictionary::parse("a=1,  b=(x \"y\\\"\");z, c;q=0.5").unwrap();
+    let was = field.insert("a", Token::new("t").unwrap()).unwrap();
+    assert_eq!(was, Some(Member::from(1)));
+    assert_eq!(field.insert(String::from("d"), false), Ok(None));
+    assert_eq!(field.insert(Key::new("e").unwrap(), 5_u8), Ok(None));
+    assert_eq!(field.remove("x"), None);
+    let inner = match field.get_mut("b") {
+        Some(Member::InnerList(inner)) => inner,
+        other => panic!("{other:?}"),
+    };
+    inner.items.remove(0);
+    inner.items.push(Item::new(2));
+    inner.params.insert("z", 3).unwrap();
+    let c = field.get_mut("c").unwrap();
+    assert_eq!(
+        c.params_mut().remove("q"),
+        Some(Decimal::from_thousandths(500).unwrap().into())
+    );
+    c.params_mut().insert("*r", true).unwrap();
+    assert_eq!(
+        field.to_string(),
+        "a=t, b=(\"y\\\"\" 2);z=3, c;*r, d=?0, e=5"
+    );
+    assert_eq!(field.remove("b").unwrap().to_string(), "(\"y\\\"\" 2);z=3");
+    assert_eq!(field.to_string(), "a=t, c;*r, d=?0, e=5");
+
+    let mut list = List::parse("a, b").unwrap();
+    list.insert(1, InnerList::new([1, 2]).into());
+    list.swap(0, 2);
+    for member in list.iter_mut() {
+        member.params_mut().insert("n", 1).unwrap();
+    }
+    assert_eq!(list.to_string(), "b;n=1, (1 2);n=1, a;n=1");
+
+    let key = |key: &str| Key::new(key).unwrap();
+    let mut params: Parameters = [(key("a"), 1), (key("b"), 2), (key("a"), 3)]
+        .into_iter()
+        .collect();
+    assert_eq!(params.len(), 2);
+    params.extend([(key("c"), true), (key("b"), false)]);
+    let item = Item {
+        bare_item: 0.into(),
+        params,
+    };
+    assert_eq!(item.to_string(), "0;a=3;b=?0;c");
+    let dict: Dictionary = item
+        .params
+        .into_iter()
+        .map(|(key, value)| (key, Item::new(value)))
+        .collect();
+    assert_eq!(dict.to_string(), "a=3, b=?0, c");
+}
+
+// Every text of one character, and of two of ASCII: it is a key, a Token or the text of a String if and
+// only if the library has it as one.
+#[test]
+fn what_is_checked_is_what_the_library_accepts() {
+    let mut counts = [0; 3];
+    let mut compare = |text: &str| {
+        let of = |kind: Kind, field: &str, canonical: &str| {
+            normalise(kind, field).map_or(false, |found| found == canonical)
+        };
+        let dict = format!("{text}=1");
+        let quoted = format!("\"{}\"", text.replace('\\', "\\\\").replace('"', "\\\""));
+        let is_key = of(Kind::Dict, &dict, &dict);
+        let is_token =
+            matches!(Item::parse(text), Ok(item) if item.bare_item.as_token() == Some(text));
+        let is_text = of(Kind::Item, &quoted, &quoted);
+        assert_eq!(Key::new(text).is_ok(), is_key, "{text:?}");
+        assert_eq!(Token::new(text).is_ok(), is_token, "{text:?}");
+        assert_eq!(Text::new(text).is_ok(), is_text, "{text:?}");
+        for (count, is) in counts.iter_mut().zip([is_key, is_token, is_text]) {
+            *count += i32::from(is);
+        }
+        if let Ok(key) = Key::new(text) {
+            let field: Dictionary = [(key, 1)].into_iter().collect();
+            assert_eq!(field.to_string(), dict);
+        }
+        if let Ok(token) = Token::new(text) {
+            assert_eq!(Item::new(token).to_string(), text);
+        }
+        if let Ok(it) = Text::new(text) {
+            assert_eq!(Item::new(it).to_string(), quoted);
+        }
+    };
+    compare("");
+    for first in (0..=0x2ff).filter_map(char::from_u32) {
+        compare(&first.to_string());
+    }
+    for first in 0..128_u8 {
+        for second in 0..128_u8 {
+            compare(std::str::from_utf8(&[first, second]).unwrap());
+        }
+    }
+    // Of one byte 27, 53 and 95; of two these times 40, 79 and 95; and the empty String.
+    assert_eq!(counts, [27 * 41, 53 * 80, 95 * 96 + 1]);
+}
+
+#[test]
+fn a_number_is_in_range() {
+    let most = 999_999_999_999_999;
+    for number in [most, -most, 0] {
+        assert!(Integer::new(number).is_ok() && Date::from_unix_seconds(number).is_ok());
+        assert!(Decimal::from_thousandths(number).is_ok());
+        assert_eq!(
+            Item::new(Integer::new(number).unwrap()).to_string(),
+            number.to_string()
+        );
+    }
+    for number in [most + 1, -most - 1, i64::MAX, i64::MIN] {
+        assert_eq!(Integer::new(number), Err(Error::Invalid));
+        assert_eq!(Date::from_unix_seconds(number), Err(Error::Invalid));
+        assert_eq!(Decimal::from_thousandths(number), Err(Error::Invalid));
+    }
+    assert_eq!(Integer::try_from(7_usize).map(Integer::get), Ok(7));
+    assert!(Integer::try_from(u64::MAX).is_err() && Integer::try_from(i128::MIN).is_err());
+    let most = Decimal::from_thousandths(most).unwrap();
+    assert_eq!(Item::new(most).to_string(), "999999999999.999");
+}
+
+#[test]
+fn a_field_is_written_in_a_dialect() {
+    let mut list: List = [1, 2].into_iter().collect();
+    assert_eq!(old().serialize(&list).unwrap(), "1, 2");
+    list.push(Date::from_unix_seconds(1).unwrap().into());
+    assert_eq!(old().serialize(&list), Err(Error::Invalid));
+    assert_eq!(Parser::new().serialize(&list).unwrap(), "1, 2, @1");
+}
+
+#[test]
+fn a_tree_is_written_and_borrows_its_text() {
+    for (kind, text, canonical) in [
+        (Kind::Item, " 1;a ", "1;a"),
+        (Kind::List, "a ,\"b\\\"\",:YQ:", "a, \"b\\\"\", :YQ==:"),
+        (Kind::Dict, "a=1, b=(c  d);e, a=2", "a=2, b=(c d);e"),
+        (Kind::Dict, "", ""),
+    ] {
+        let tree = Parser::new().tree(kind, text).unwrap();
+        assert_eq!(tree.to_string(), canonical);
+        assert_eq!(tree, Parser::new().tree(kind, canonical).unwrap());
+    }
+    let text = "key=\"text\", t=token, e=\"\\\"\"";
+    let tree = Parser::new().tree(Kind::Dict, text).unwrap();
+    let within = |part: &str| text.as_bytes().as_ptr_range().contains(&part.as_ptr());
+    let strings: Vec<_> = tree
+        .members()
+        .map(|member| match member.get() {
+            Type::String(part) | Type::Token(part) => (within(member.key()), within(part)),
+            other => panic!("{other:?}"),
+        })
+        .collect();
+    assert_eq!(strings, [(true, true), (true, true), (true, false)]);
 }
 
 #[test]
@@ -300,6 +527,21 @@ fn priorities_are_merged() {
     for text in ["u=1, i", "u=0", "u=7, i=?0", "i", ""] {
         assert_eq!(Priority::parse(text).unwrap().serialize().unwrap(), text);
     }
+    let change = |urgency, incremental, text: &str| {
+        let priority = Priority {
+            urgency,
+            incremental,
+        };
+        priority.change(text)
+    };
+    assert_eq!(change(Some(1), Some(true), "").unwrap(), "u=1, i");
+    assert_eq!(change(None, None, "u=5,i").unwrap(), "u=5, i");
+    assert_eq!(
+        change(Some(0), Some(false), "x=(a  b);c, u=7, y=%\"%c3%bc\"").unwrap(),
+        "x=(a b);c, u=0, y=%\"%c3%bc\", i=?0"
+    );
+    assert_eq!(change(Some(8), None, "u=2").unwrap(), "u=2");
+    assert_eq!(refusal(change(Some(1), None, "u=1,")).offset, 4);
     let nothing = Priority::parse("u=8").unwrap();
     assert_eq!(nothing, Priority::default());
     assert_eq!((nothing.urgency(), nothing.incremental()), (3, false));

@@ -81,6 +81,12 @@ fn a_failed_allocation_is_an_error() {
     each_refused(|| Parser::new().parse_lines::<List>(["a", "(b c);d"]));
     let list = List::parse("a ,b").unwrap();
     each_refused(|| list.serialize());
+    let tree = Parser::new().tree(Kind::List, "a ,(b)").unwrap();
+    each_refused(|| tree.serialize());
+    let dict = Dictionary::parse("a=(1 \"c\");x=:YQ:, b;y=t, c=%\"d\"").unwrap();
+    each_refused(|| dict.serialize());
+    let priority = Priority::default();
+    each_refused(|| priority.change("u=1, x=(a b)"));
     each_refused(|| Path::parse("a;fwd=miss, \"b\";hit"));
     each_refused(|| select(["max-age=1,", "", "max-age=60"]));
     let hop = Hop::new(Name::String("edge"));

@@ -1,7 +1,7 @@
 //! Texts put together at random, which no call may panic on, and on which the calls must agree.
 
 use sf::{
-    check, equal, normalise, Dictionary, Error, Field, Item, Kind, List, Parsed, Parser, Path,
+    check, equal, normalise, Dictionary, Error, Field, Item, Kind, List, Parser, Path, Priority,
 };
 
 const PARTS: [&[u8]; 40] = [
@@ -64,17 +64,18 @@ fn agree<T>(kind: Kind, text: &[u8])
 where
     T: Field + PartialEq + std::fmt::Debug,
 {
-    let parsed: Result<Parsed<T>, Error> = Parser::new().parse(text);
+    let parsed: Result<T, Error> = Parser::new().parse(text);
     let checked = check(kind, text);
     let tree = Parser::new().tree(kind, text);
     let canonical = normalise(kind, text);
     match parsed {
         Ok(field) => {
             assert!(checked.is_ok() && tree.is_ok());
-            let again = field.serialize().unwrap();
+            let again = Parser::new().serialize(&field).unwrap();
             assert_eq!(Ok(&again), canonical.as_ref());
             assert_eq!(field, Parser::new().parse(&again).unwrap());
             assert_eq!(tree, Parser::new().tree(kind, &again));
+            assert_eq!(tree.unwrap().serialize().as_ref(), Ok(&again));
             assert_eq!(normalise(kind, &again).as_ref(), Ok(&again));
             assert_eq!(equal(kind, text, &again), Ok(true));
         }
@@ -104,6 +105,15 @@ fn any_text_is_parsed_or_refused() {
         agree::<Item>(Kind::Item, &text);
         agree::<List>(Kind::List, &text);
         agree::<Dictionary>(Kind::Dict, &text);
+        if check(Kind::Dict, &text).is_ok() {
+            let sets = Priority {
+                urgency: Some(1),
+                incremental: None,
+            };
+            let changed = sets.change(&text).unwrap();
+            let before = Priority::parse(&text).unwrap();
+            assert_eq!(Priority::parse(changed), Ok(before.merged_with(sets)));
+        }
         accepted += usize::from(check(Kind::List, &text).is_ok());
         match Path::parse(&text) {
             Ok(path) => {

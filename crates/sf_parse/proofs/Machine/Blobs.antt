@@ -6,12 +6,14 @@ use Rattle.std.proofs.Common.{◌∙◌, subst, append-nil, append_assoc, eqb-tr
 use Rattle.sf_value.specs.Grammar.Words.{Every, allow}
 use Rattle.sf_value.specs.Grammar.ByteSequences.{letter, unpadded, Pads, Sextets}
 use Rattle.sf_parse.specs.Machine.Language.{Reads, Live}
-use Rattle.sf_parse.specs.Machine.Blobs.{sextet, Held, H0, H1, H2, H3, letters, is_last, last_bytes}
+use Rattle.sf_value.specs.Digits.{sextet}
+use Rattle.sf_parse.specs.Machine.Blobs.{Held, H0, H1, H2, H3, letters, is_last, last_bytes}
 use Rattle.sf_parse.specs.Machine.Blobs.{lacking, BlobState, Group, Padded, Ended, ResidualBlob}
 use Rattle.sf_parse.specs.Machine.Blobs.{GoodBlob, grown, pad_step, grow_step, blob_step}
 use Rattle.sf_parse.specs.Machine.Blobs.{blob_finish}
 use Rattle.sf_value.proofs.Words.{allow_cases, otherwise_cases}
-use Rattle.sf_parse.proofs.Quads.{letter_read, read_letter, letter_same, not_letter, byte_small}
+use Rattle.sf_value.proofs.DigitValues.{letter_read, read_letter, letter_same, not_letter}
+use Rattle.sf_parse.proofs.Quads.{byte_small}
 use Rattle.sf_parse.proofs.Quads.{small_byte, pads_letter, first_small, second_small, third_small}
 use Rattle.sf_parse.proofs.Quads.{fourth_small, alone_small, last_small, one_byte, two_bytes}
 use Rattle.sf_parse.proofs.Quads.{quad, quad_from, quad_gives}
@@ -60,92 +62,31 @@ pads_gives bytes n b u v s e h = ⊎_elim
 IsLast : Held → List ℕ → List ℕ → Type 0
 IsLast h s t = (is_last h ≡ true) × (s ≡ last_bytes h) × Pads (lacking h) t
 
+-- no letter, though there should be one
+no_letter : {C : Type 0} (x b : ℕ) → x < 64 → sextet b ≡ None → letter x ≡ b → C
+no_letter x b h n e = absurd (not_letter x b h e n)
+
 -- no letter: the group is the last one
 last : (h : Held) (b : ℕ) (u s : List ℕ) → GoodBlob (Group [] h) → sextet b ≡ None
     → Sextets (letters h ++ b ∷ u) s → IsLast h s (b ∷ u)
 unfolding IsLast
 last H0 b u [] g n (low, suffix, lt, e, f, p) = (refl, refl, subst (Pads 0) (sym e) p)
-last H0 b u (a ∷ []) g n (
-  low,
-  suffix,
-  lt,
-  e,
-  f,
-  p,
-) = absurd (not_letter (a / 4) b (first_small a (byte_small a f.0)) (let e' : letter (a / 4)
-    ≡ b = cc in
-    e') n)
-last H0 b u (a ∷ c ∷ []) g n (
-  low,
-  suffix,
-  lt,
-  e,
-  f,
-  p,
-) = absurd (not_letter (a / 4) b (first_small a (byte_small a f.0)) (let e' : letter (a / 4)
-    ≡ b = cc in
-    e') n)
-last H0 b u (a ∷ c ∷ d ∷ s) g n (
-  low,
-  suffix,
-  lt,
-  e,
-  f,
-  p,
-) = absurd (not_letter (a / 4) b (first_small a (byte_small a f.0)) (let e' : letter (a / 4)
-    ≡ b = cc in
-    e') n)
-last (H1 x) b u [] g n (
-  low,
-  suffix,
-  lt,
-  e,
-  f,
-  p,
-) = absurd (pads_letter 0 x (b ∷ u) g (subst (Pads 0) (sym e) p))
-last (H1 x) b u (a ∷ []) g n (
-  low,
-  suffix,
-  lt,
-  e,
-  f,
-  p,
-) = absurd
-    (not_letter (a % 4 * 16 + low) b (alone_small a low lt) (let e' : letter (a % 4 * 16 + low)
-    ≡ b = cc in
-    e') n)
-last (H1 x) b u (a ∷ c ∷ []) g n (
-  low,
-  suffix,
-  lt,
-  e,
-  f,
-  p,
-) = absurd
-    (not_letter (a % 4 * 16 + c / 16) b (second_small a c (byte_small c f.1.0))
-    (let e' : letter (a % 4 * 16 + c / 16)
-    ≡ b = cc in
-    e') n)
-last (H1 x) b u (a ∷ c ∷ d ∷ s) g n (
-  low,
-  suffix,
-  lt,
-  e,
-  f,
-  p,
-) = absurd
-    (not_letter (a % 4 * 16 + c / 16) b (second_small a c (byte_small c f.1.0))
-    (let e' : letter (a % 4 * 16 + c / 16)
-    ≡ b = cc in
-    e') n)
-last (H2 x y) b u [] g n (
-  low,
-  suffix,
-  lt,
-  e,
-  f,
-  p,
-) = absurd (pads_letter 0 x (letter y ∷ b ∷ u) g.0 (subst (Pads 0) (sym e) p))
+last H0 b u (a ∷ []) g n (low, suffix, lt, e, f, p) =
+    no_letter (a / 4) b (first_small a (byte_small a f.0)) n (cc)
+last H0 b u (a ∷ c ∷ []) g n (low, suffix, lt, e, f, p) =
+    no_letter (a / 4) b (first_small a (byte_small a f.0)) n (cc)
+last H0 b u (a ∷ c ∷ d ∷ s) g n (low, suffix, lt, e, f, p) =
+    no_letter (a / 4) b (first_small a (byte_small a f.0)) n (cc)
+last (H1 x) b u [] g n (low, suffix, lt, e, f, p) =
+    absurd (pads_letter 0 x (b ∷ u) g (subst (Pads 0) (sym e) p))
+last (H1 x) b u (a ∷ []) g n (low, suffix, lt, e, f, p) =
+    no_letter (a % 4 * 16 + low) b (alone_small a low lt) n (cc)
+last (H1 x) b u (a ∷ c ∷ []) g n (low, suffix, lt, e, f, p) =
+    no_letter (a % 4 * 16 + c / 16) b (second_small a c (byte_small c f.1.0)) n (cc)
+last (H1 x) b u (a ∷ c ∷ d ∷ s) g n (low, suffix, lt, e, f, p) =
+    no_letter (a % 4 * 16 + c / 16) b (second_small a c (byte_small c f.1.0)) n (cc)
+last (H2 x y) b u [] g n (low, suffix, lt, e, f, p) =
+    absurd (pads_letter 0 x (letter y ∷ b ∷ u) g.0 (subst (Pads 0) (sym e) p))
 last (H2 x y) b u (a ∷ []) g n (low, suffix, lt, e, f, p) =
     let e1 : letter (a / 4) ≡ letter x = cc in
     let e2 : letter (a % 4 * 16 + low) ≡ letter y = cc in
@@ -153,45 +94,14 @@ last (H2 x y) b u (a ∷ []) g n (low, suffix, lt, e, f, p) =
     let k = one_byte a low x y lt (letter_same (a / 4) x (first_small a (byte_small a f.0)) g.0 e1)
     (letter_same (a % 4 * 16 + low) y (alone_small a low lt) g.1 e2) in
     (refl, ap (λ y. y ∷ []) k, subst (Pads 2) e3 p)
-last (H2 x y) b u (a ∷ c ∷ []) g n (
-  low,
-  suffix,
-  lt,
-  e,
-  f,
-  p,
-) = absurd
-    (not_letter (c % 16 * 4 + low) b (last_small c low lt) (let e' : letter (c % 16 * 4 + low)
-    ≡ b = cc in
-    e') n)
-last (H2 x y) b u (a ∷ c ∷ d ∷ s) g n (
-  low,
-  suffix,
-  lt,
-  e,
-  f,
-  p,
-) = absurd
-    (not_letter (c % 16 * 4 + d / 64) b (third_small c d (byte_small d f.1.1.0))
-    (let e' : letter (c % 16 * 4 + d / 64)
-    ≡ b = cc in
-    e') n)
-last (H3 x y z) b u [] g n (
-  low,
-  suffix,
-  lt,
-  e,
-  f,
-  p,
-) = absurd (pads_letter 0 x (letter y ∷ letter z ∷ b ∷ u) g.0 (subst (Pads 0) (sym e) p))
-last (H3 x y z) b u (a ∷ []) g n (
-  low,
-  suffix,
-  lt,
-  e,
-  f,
-  p,
-) = absurd (pads_letter 2 z (b ∷ u) g.2 (subst (Pads 2) (let e' : suffix
+last (H2 x y) b u (a ∷ c ∷ []) g n (low, suffix, lt, e, f, p) =
+    no_letter (c % 16 * 4 + low) b (last_small c low lt) n (cc)
+last (H2 x y) b u (a ∷ c ∷ d ∷ s) g n (low, suffix, lt, e, f, p) =
+    no_letter (c % 16 * 4 + d / 64) b (third_small c d (byte_small d f.1.1.0)) n (cc)
+last (H3 x y z) b u [] g n (low, suffix, lt, e, f, p) =
+    absurd (pads_letter 0 x (letter y ∷ letter z ∷ b ∷ u) g.0 (subst (Pads 0) (sym e) p))
+last (H3 x y z) b u (a ∷ []) g n (low, suffix, lt, e, f, p) =
+    absurd (pads_letter 2 z (b ∷ u) g.2 (subst (Pads 2) (let e' : suffix
     ≡ letter z ∷ b ∷ u = cc in
     e') p))
 last (H3 x y z) b u (a ∷ c ∷ []) g n (low, suffix, lt, e, f, p) =
@@ -205,15 +115,8 @@ last (H3 x y z) b u (a ∷ c ∷ []) g n (low, suffix, lt, e, f, p) =
     (letter_same (a % 4 * 16 + c / 16) y (second_small a c small) g.1 e2)
     (letter_same (c % 16 * 4 + low) z (last_small c low lt) g.2 e3) in
     (refl, ap₂ (λ p q. p ∷ q ∷ []) k.0 k.1, subst (Pads 1) e4 p)
-last (H3 x y z) b u (a ∷ c ∷ d ∷ s) g n (
-  low,
-  suffix,
-  lt,
-  e,
-  f,
-  p,
-) = absurd (not_letter (d % 64) b (fourth_small d) (let e' : letter (d % 64) ≡ b = cc in
-    e') n)
+last (H3 x y z) b u (a ∷ c ∷ d ∷ s) g n (low, suffix, lt, e, f, p) =
+    no_letter (d % 64) b (fourth_small d) n (cc)
 
 group_taken : (bytes : List ℕ) (h : Held) (b : ℕ) (u v : List ℕ) → GoodBlob (Group [] h)
     → ResidualBlob (Group bytes h) (b ∷ u) v

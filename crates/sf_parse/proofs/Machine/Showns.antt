@@ -10,14 +10,16 @@ use Rattle.sf_value.specs.Grammar.Utf8.{Utf8, Start, Wants, wants, within, utf8_
 use Rattle.sf_value.specs.Grammar.Utf8.{WellFormed}
 use Rattle.sf_value.specs.Grammar.DisplayStrings.{hex, is_unencoded, EncodedBytes}
 use Rattle.sf_parse.specs.Machine.Language.{Reads, Live}
-use Rattle.sf_parse.specs.Machine.Showns.{unhex, ShownState, Quote, Unencoded, Percent, Hex, Done}
+use Rattle.sf_value.specs.Digits.{unhex}
+use Rattle.sf_parse.specs.Machine.Showns.{ShownState, Quote, Unencoded, Percent, Hex, Done}
 use Rattle.sf_parse.specs.Machine.Showns.{ResidualUnencoded, ResidualShown, can_begin, GoodUtf8}
 use Rattle.sf_parse.specs.Machine.Showns.{GoodShown}
 use Rattle.sf_parse.specs.Machine.Showns.{quote_step, shown_step, shown_finish}
 use Rattle.sf_parse.proofs.Machine.Language.{reads_after, map_cases, and_then_cases}
 use Rattle.sf_value.proofs.Words.{allow_cases}
 use Rattle.sf_parse.proofs.Quads.{byte_small, small_byte}
-use Rattle.sf_parse.proofs.HighDigits.{hex_read, read_hex, high_small, low_small, joined, found}
+use Rattle.sf_value.proofs.DigitValues.{hex_read, read_hex}
+use Rattle.sf_parse.proofs.HighDigits.{high_small, low_small, joined, found}
 use Rattle.sf_value.proofs.Utf8Table.{in_range}
 use Rattle.sf_parse.proofs.HighDigits.{wants_good, utf8_good, utf8_begins}
 

@@ -1,18 +1,11 @@
 -- The machine that reads Byte Sequences.
 use Rattle.std.specs.Option.{option_or}
 use Rattle.std.specs.Prelude.{◌≡◌, ℕ, ◌+◌, ◌-◌, ◌*◌, ◌/◌, ◌%◌, ◌<◌, Bool, true, false, ◌==◌, nat_lt}
-use Rattle.std.specs.Prelude.{nat_le, ◌&&◌, if◌then◌else◌, List, [], ◌∷◌, ◌++◌, Option, Some, None}
-use Rattle.sf_value.specs.Ascii.{plus, slash, colon, equals, upper_a, upper_z}
+use Rattle.std.specs.Prelude.{◌&&◌, if◌then◌else◌, List, [], ◌∷◌, ◌++◌, Option, Some, None}
+use Rattle.sf_value.specs.Ascii.{colon, equals}
 use Rattle.sf_value.specs.Grammar.Words.{allow}
-use Rattle.sf_value.specs.Grammar.Classes.{is_digit, is_lower}
+use Rattle.sf_value.specs.Digits.{sextet}
 use Rattle.sf_value.specs.Grammar.ByteSequences.{letter, Pads, Sextets}
-
--- the value of a character
-abbrev pub sextet : ℕ → Option ℕ
-sextet b = if nat_le upper_a b && nat_le b upper_z then Some (b - upper_a) else
-    (if is_lower b then Some (b - 71) else
-    (if is_digit b then Some (b + 4) else
-    (if b == plus then Some 62 else (if b == slash then Some 63 else None))))
 
 -- the values of an open group
 pub data Held : Type 0 where

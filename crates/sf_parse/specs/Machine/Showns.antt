@@ -1,17 +1,14 @@
 -- The machine that reads Display Strings.
 use Rattle.std.specs.Option.{option_and_then, option_map}
-use Rattle.std.specs.Prelude.{◌≡◌, ℕ, ◌+◌, ◌-◌, ◌*◌, ◌/◌, ◌%◌, ◌<◌, ◌≤◌, Bool, true, ◌==◌, nat_lt}
+use Rattle.std.specs.Prelude.{◌≡◌, ℕ, ◌+◌, ◌*◌, ◌/◌, ◌%◌, ◌<◌, ◌≤◌, Bool, true, ◌==◌, nat_lt}
 use Rattle.std.specs.Prelude.{nat_le, ◌&&◌, ◌||◌, if◌then◌else◌, List, [], ◌∷◌, ◌++◌, Option, Some}
 use Rattle.std.specs.Prelude.{None}
-use Rattle.sf_value.specs.Ascii.{quote, percent, digit_zero, lower_a, lower_f}
+use Rattle.sf_value.specs.Ascii.{quote, percent}
 use Rattle.sf_value.specs.Grammar.Words.{allow}
-use Rattle.sf_value.specs.Grammar.Classes.{is_digit, is_visible, is_byte}
-use Rattle.sf_value.specs.Grammar.Utf8.{Utf8, Start, Wants, within, utf8_step, WellFormed}
+use Rattle.sf_value.specs.Grammar.Classes.{is_visible, is_byte}
+use Rattle.sf_value.specs.Grammar.Utf8.{Utf8, Start, Wants, utf8_step, WellFormed}
+use Rattle.sf_value.specs.Digits.{unhex}
 use Rattle.sf_value.specs.Grammar.DisplayStrings.{hex, EncodedBytes}
-
-abbrev pub unhex : ℕ → Option ℕ
-unhex b = if is_digit b then Some (b - digit_zero) else
-    (if within lower_a lower_f b then Some (b - 87) else None)
 
 pub data ShownState : Type 0 where
   Quote : ShownState

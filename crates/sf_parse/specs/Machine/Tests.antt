@@ -14,8 +14,9 @@ use Rattle.sf_parse.specs.Machine.Numbers.{NumberState, Whole, Fraction, DateSta
 use Rattle.sf_parse.specs.Machine.Texts.{TextState, Inside, Escaped, Closed}
 use Rattle.sf_parse.specs.declared.boolean.BooleanState.{BooleanState}
 use Rattle.sf_parse.specs.declared.boolean.BooleanState.TheVariants.{QuestionMark, WithValue}
-use Rattle.sf_parse.specs.Machine.Blobs.{sextet, is_last, lacking, BlobState, Group, Padded, Ended}
-use Rattle.sf_parse.specs.Machine.Showns.{unhex, can_begin, ShownState, Quote, Unencoded, Percent}
+use Rattle.sf_value.specs.Digits.{sextet, unhex}
+use Rattle.sf_parse.specs.Machine.Blobs.{is_last, lacking, BlobState, Group, Padded, Ended}
+use Rattle.sf_parse.specs.Machine.Showns.{can_begin, ShownState, Quote, Unencoded, Percent}
 use Rattle.sf_parse.specs.Machine.Showns.{Hex}
 use Rattle.sf_parse.specs.Machine.Showns.{Done}
 use Rattle.sf_parse.specs.Machine.Bares.{BareState}

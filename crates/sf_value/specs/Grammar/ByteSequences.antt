@@ -1,13 +1,17 @@
 -- The texts of Byte Sequences: base64 (RFC 4648 section 4).
 use Rattle.std.specs.Prelude.{◌≡◌, ℕ, ◌+◌, ◌*◌, ◌/◌, ◌%◌, ◌<◌, ◌≤◌, List, [], ◌∷◌, ◌++◌}
-use Rattle.std.specs.Prelude.{replicate, codes, slice_index}
+use Rattle.std.specs.Prelude.{Bool, ◌||◌, replicate, codes, slice_index}
 use Rattle.sf_value.specs.Ascii.{colon, equals}
 use Rattle.sf_value.specs.Grammar.Words.{Every}
-use Rattle.sf_value.specs.Grammar.Classes.{is_byte}
+use Rattle.sf_value.specs.Grammar.Classes.{is_alpha, is_byte, is_digit, is_one_of}
 
 -- the 64 characters, in the order of their values (RFC 4648, table 1)
 abbrev pub alphabet : List ℕ
 alphabet = codes "ABCDEFGHIJKLMNOPQRSTUVWXYZabcdefghijklmnopqrstuvwxyz0123456789+/"
+
+-- one of the characters
+abbrev pub is_base64 : ℕ → Bool
+is_base64 b = is_alpha b || is_digit b || is_one_of (codes "+/") b
 
 -- the character of a value below 64: the one at that place
 unfoldable pub letter : ℕ → ℕ

@@ -1,5 +1,5 @@
 -- The texts of Strings.
-use Rattle.std.specs.Prelude.{◌≡◌, ℕ, Bool, ◌==◌, if◌then◌else◌, ◌||◌, List, [], ◌∷◌, ◌++◌}
+use Rattle.std.specs.Prelude.{◌≡◌, ℕ, Bool, ◌==◌, if◌then◌else◌, ◌||◌, ◌&&◌, not, List, [], ◌∷◌, ◌++◌}
 use Rattle.sf_value.specs.Ascii.{quote, backslash}
 use Rattle.sf_value.specs.Grammar.Words.{Every}
 use Rattle.sf_value.specs.Grammar.Classes.{is_visible}
@@ -7,6 +7,10 @@ use Rattle.sf_value.specs.Grammar.Classes.{is_visible}
 -- a quote or a backslash
 abbrev pub is_escaped : ℕ → Bool
 is_escaped b = b == quote || b == backslash
+
+-- what stands for itself between the quotes
+abbrev pub is_unescaped : ℕ → Bool
+is_unescaped b = is_visible b && not (is_escaped b)
 
 -- the bytes with a backslash before each quote and each backslash
 abbrev pub escaped : List ℕ → List ℕ

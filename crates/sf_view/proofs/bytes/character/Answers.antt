@@ -1,6 +1,6 @@
 use Rattle.std.proofs.Common.{◌≡◌, ◌∷◌, Some, None, ◌∙◌, sym, ap, subst}
-use Rattle.sf_parse.specs.Machine.Blobs.{sextet}
-use Rattle.sf_parse.proofs.Quads.{not_letter, read_letter}
+use Rattle.sf_value.specs.Digits.{sextet}
+use Rattle.sf_value.proofs.DigitValues.{not_letter, read_letter}
 use Rattle.sf_view.specs.Decoding.{NoLetter}
 use Rattle.sf_view.proofs.bytes.character.Goals as goal
 

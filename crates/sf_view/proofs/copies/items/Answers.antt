@@ -2,7 +2,7 @@ use Rattle.std.proofs.Common.{◌≡◌, [], ◌∙◌, sym, subst, Some, None}
 use Rattle.sf_value.specs.Grammar.Pairs.{HasDistinctKeys}
 use Rattle.sf_value.specs.Grammar.Valid.{ValidItem}
 use Rattle.sf_value.specs.Grammar.Words.{Each}
-use Rattle.sf_view.specs.declared.node.Role.TheVariants as role_is
+use Rattle.sf_view.specs.declared.node_types.Role.TheVariants as role_is
 use Rattle.sf_view.specs.View.{DescribesItem, DescribesItems}
 use Rattle.sf_view.proofs.Copying.{PartsLeft, parts_more, parts_stuck, copied, uncopied}
 use Rattle.sf_view.proofs.copies.items.Goals as goal

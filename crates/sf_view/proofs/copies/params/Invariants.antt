@@ -5,7 +5,7 @@ use Rattle.sf_value.specs.Grammar.Pairs.{Pairs, settle}
 use Rattle.sf_value.specs.Grammar.Tokens.{IsKey}
 use Rattle.sf_value.specs.Grammar.Valid.{ValidBare}
 use Rattle.sf_value.specs.Grammar.Words.{Each}
-use Rattle.sf_view.specs.declared.node.Role.{Role}
+use Rattle.sf_view.specs.declared.node_types.Role.{Role}
 use Rattle.sf_view.specs.View.{DescribesParams}
 use Rattle.sf_view.proofs.Copying.{PairsLeft}
 use Rattle.sf_view.proofs.copies.params.Given as goal

@@ -3,7 +3,7 @@ use Rattle.sf_value.specs.declared.dialect.Dialect.{Dialect}
 use Rattle.sf_value.specs.declared.value.Bare.{Bare}
 use Rattle.sf_value.specs.declared.value.Member.{Member}
 use Rattle.sf_value.specs.Grammar.Pairs.{Pairs}
-use Rattle.sf_view.specs.declared.node.Role.{Role}
+use Rattle.sf_view.specs.declared.node_types.Role.{Role}
 use Rattle.sf_view.specs.View.{DescribesMember, DescribesEntries, DescribesParams}
 use Rattle.sf_view.proofs.Hops.{DescribesParam, Left}
 use Rattle.sf_view.proofs.lookup.entry.Given as goal

@@ -1,15 +1,48 @@
-use Rattle.std.proofs.Common.{◌≡◌, map, rules}
-use Rattle.sf_c.specs.Tellings.{told_by}
-use Rattle.sf_c.proofs.TellingLemmas.{tell_at_front}
+use Rattle.std.proofs.Common.{◌≡◌, ap, ◌∙◌, sym, map, rules, arith}
+use Rattle.sf_c.specs.Tellings.{told_by, told_size}
+use Rattle.sf_c.proofs.FlatNodes.{parts_small, written}
 use Rattle.sf_c.proofs.nodes.Flat.write.Goals as goal
 
-pub returns : goal.returns
-returns c =
+pub write_parts-requires-clause-small : goal.write_parts-requires-clause-small
+write_parts-requires-clause-small c =
     let seen = c.self.view_is in
-    let tells : map (told_by c.self.inside.bytes.items) c.self.inside.nodes.items ≡ c.args.self.now
+    let tells : map (told_by c.self.inside.bytes.items) c.self.inside.parts.items ≡ c.args.self.now
     = first_of (cc, search rules) in
-    let nodes = rw c.as_slice.ensures.value at c.put.ensures in
-    let bytes = rw c.as_slice-2.ensures.value at c.put-2.ensures in
-    tell_at_front c.args.self.now c.args.nodes.now c.put.new.buffer c.self.inside.nodes.items
-    c.args.bytes.now c.put-2.new.buffer c.self.inside.bytes.items tells c.self.invariant
-    c.requires.nodes c.requires.bytes nodes bytes
+    let size = c.self.invariant.1 ∙ ap told_size tells in
+    let small = c.requires.small in
+    rw c.as_slice-2.ensures.value
+    (parts_small c.args.start c.self.inside.bytes.items c.self.inside.parts.items
+    c.self.invariant.0 (omega arith))
+
+pub returns-clause-describes : goal.returns-clause-describes
+returns-clause-describes c =
+    let seen = c.self.view_is in
+    let tells : map (told_by c.self.inside.bytes.items) c.self.inside.parts.items ≡ c.args.self.now
+    = first_of (cc, search rules) in
+    let bytes = rw c.as_slice.ensures.value at c.put.ensures in
+    let nodes = rw c.as_slice-2.ensures.value at c.write_parts.ensures.nodes in
+    (written c.args.start c.args.self.now c.self.inside.parts.items c.self.inside.bytes.items
+    c.args.bytes.now c.put.new.buffer c.write_parts.new.nodes tells c.self.invariant bytes
+    nodes).describes
+
+pub returns-clause-decoded : goal.returns-clause-decoded
+returns-clause-decoded c =
+    let seen = c.self.view_is in
+    let tells : map (told_by c.self.inside.bytes.items) c.self.inside.parts.items ≡ c.args.self.now
+    = first_of (cc, search rules) in
+    let bytes = rw c.as_slice.ensures.value at c.put.ensures in
+    let nodes = rw c.as_slice-2.ensures.value at c.write_parts.ensures.nodes in
+    (written c.args.start c.args.self.now c.self.inside.parts.items c.self.inside.bytes.items
+    c.args.bytes.now c.put.new.buffer c.write_parts.new.nodes tells c.self.invariant bytes
+    nodes).decoded
+
+pub returns-clause-in_one : goal.returns-clause-in_one
+returns-clause-in_one c =
+    let seen = c.self.view_is in
+    let tells : map (told_by c.self.inside.bytes.items) c.self.inside.parts.items ≡ c.args.self.now
+    = first_of (cc, search rules) in
+    let bytes = rw c.as_slice.ensures.value at c.put.ensures in
+    let nodes = rw c.as_slice-2.ensures.value at c.write_parts.ensures.nodes in
+    (written c.args.start c.args.self.now c.self.inside.parts.items c.self.inside.bytes.items
+    c.args.bytes.now c.put.new.buffer c.write_parts.new.nodes tells c.self.invariant bytes
+    nodes).in_one

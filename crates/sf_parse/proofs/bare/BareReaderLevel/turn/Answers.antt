@@ -8,4 +8,4 @@ invariant_of-self-in-Token c =
     let token = rw c.in-Token.is at c.self.invariant in
     rw (c.in-Token.is, c.in_ok-push-in-Token.ensures.bytes)
     (word_push is_token_start is_in_token _ _ token
-    (sym c.has_one.ensures ∙ c.if-not-has_one.false))
+    (sym c.has.ensures ∙ c.if-not-has.false))

@@ -1,6 +1,7 @@
 use Rattle.std.proofs.Common.{refl, ◌&&◌, is_some}
 use Rattle.sf_parse.specs.Views.{held_of}
-use Rattle.sf_parse.specs.Machine.Blobs.{sextet, is_last, lacking}
+use Rattle.sf_value.specs.Digits.{sextet}
+use Rattle.sf_parse.specs.Machine.Blobs.{is_last, lacking}
 use Rattle.sf_parse.specs.Machine.Tests.{pad_takes}
 use Rattle.sf_parse.proofs.Marks.{marks_or, marks_table}
 use Rattle.sf_parse.proofs.blob.BlobPhase.expected.Goals as goal

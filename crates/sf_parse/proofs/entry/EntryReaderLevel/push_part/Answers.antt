@@ -1,7 +1,7 @@
 use Rattle.std.proofs.Common.{refl}
 use Rattle.sf_parse.specs.Machine.Members.{member_step}
 use Rattle.sf_parse.specs.Machine.Entries.{InMemberValue, entry_step}
-use Rattle.sf_parse.proofs.Prefixes.{byte_above}
+use Rattle.sf_parse.proofs.Prefixes.{part_above}
 use Rattle.sf_parse.proofs.OpenParts.{member_in_entry, flag_part, flag_kept}
 use Rattle.sf_parse.proofs.entry.EntryReaderLevel.push_part.Goals as goal
 
@@ -10,20 +10,20 @@ returns-in-InMemberValue-clause-went c =
     let d = c.args.context.now.dialect in
     let k = c.self.inside.key in
     rw (← c.self.view_is, c.in-InMemberValue.is)
-    (byte_above (member_step d) (entry_step d) (InMemberValue k) (member_in_entry d k) _ _ _ _ _
+    (part_above (member_step d) (entry_step d) (InMemberValue k) (member_in_entry d k) _ _ _ _ _ _
     refl
     c.push.ensures.prefix)
 
-pub invariant_of-self-in-Ok : goal.invariant_of-self-in-Ok
-invariant_of-self-in-Ok c =
-    let fits = rw c.in-InFlag.is at c.self.invariant in
-    rw c.in-InFlag.is (
+pub invariant_of-self-in-InFlag : goal.invariant_of-self-in-InFlag
+invariant_of-self-in-InFlag c =
+    let fits = rw c.in-InFlag.is at c.self.invariant in (
       fits.0,
-      flag_kept c.args.context.now.dialect c.self.inside.key _ _ _ _ fits.1 c.in-Ok.ensures.prefix,
+      flag_kept c.args.context.now.dialect c.self.inside.key _ _ _ _ fits.1
+          c.in_ok-took-in-InFlag.ensures.prefix,
     )
 
-pub returns-in-Ok-clause-went : goal.returns-in-Ok-clause-went
-returns-in-Ok-clause-went c =
+pub returns-in-InFlag-clause-went : goal.returns-in-InFlag-clause-went
+returns-in-InFlag-clause-went c =
     let fits = rw c.in-InFlag.is at c.self.invariant in
     rw (← c.self.view_is, c.in-InFlag.is)
-    (flag_part c.args.context.now.dialect _ _ _ _ _ fits.1 c.in-Ok.ensures.prefix)
+    (flag_part c.args.context.now.dialect _ _ _ _ _ fits.1 c.in_ok-took-in-InFlag.ensures.prefix)

@@ -8,6 +8,6 @@ invariant_of-self-in-InKey c =
     let fits = c.self.invariant in
     rw c.in_ok-push-in-InKey.ensures.bytes (
       word_push is_key_start is_in_key _ _ fits.0
-          (sym c.has_one.ensures ∙ c.if-not-has_one.false),
+          (sym c.has.ensures ∙ c.if-not-has.false),
       fits.1,
     )

@@ -1,19 +1,19 @@
 use Rattle.std.proofs.Common.{refl}
 use Rattle.sf_parse.specs.Machine.Bares.{bare_step}
 use Rattle.sf_parse.specs.Machine.Items.{InBare, item_step}
-use Rattle.sf_parse.proofs.Prefixes.{byte_above}
-use Rattle.sf_parse.proofs.OpenParts.{params_byte, bare_in_item}
+use Rattle.sf_parse.proofs.Prefixes.{part_above}
+use Rattle.sf_parse.proofs.OpenParts.{params_part, bare_in_item}
 use Rattle.sf_parse.proofs.item.ItemReaderLevel.push_part.Goals as goal
 
 pub returns-then-self-clause-went : goal.returns-then-self-clause-went
 returns-then-self-clause-went c =
     let fits = rw c.if-self.true at c.self.invariant in
     rw (← c.self.view_is, c.if-self.true)
-    (params_byte c.args.context.now.dialect _ _ _ _ _ _ fits c.push.ensures.prefix)
+    (params_part c.args.context.now.dialect _ _ _ _ _ _ _ fits c.push.ensures.prefix)
 
 pub returns-clause-went : goal.returns-clause-went
 returns-clause-went c =
     let d = c.args.context.now.dialect in
     rw (← c.self.view_is, c.if-self.false)
-    (byte_above bare_step (item_step d) InBare (bare_in_item d) _ _ _ _ _ refl
+    (part_above bare_step (item_step d) InBare (bare_in_item d) _ _ _ _ _ _ refl
     c.push-2.ensures.prefix)

@@ -9,11 +9,11 @@ pub returns-then-self-clause-went : goal.returns-then-self-clause-went
 returns-then-self-clause-went c =
     let fits = rw c.if-self.true at c.self.invariant in
     rw (← c.self.view_is, c.if-self.true)
-    (params_part c.args.context.now.dialect _ _ _ _ _ _ fits c.take.ensures.prefix)
+    (params_part c.args.context.now.dialect _ _ _ _ _ _ _ fits c.take.ensures.prefix)
 
 pub returns-clause-went : goal.returns-clause-went
 returns-clause-went c =
     let d = c.args.context.now.dialect in
     rw (← c.self.view_is, c.if-self.false)
-    (part_above bare_step (item_step d) InBare (bare_in_item d) _ _ _ _ _ refl
+    (part_above bare_step (item_step d) InBare (bare_in_item d) _ _ _ _ _ _ refl
     c.take-2.ensures.prefix)

@@ -29,7 +29,7 @@ pub returns-in-Inside-clause-went : goal.returns-in-Inside-clause-went
 returns-in-Inside-clause-went c =
     let d = c.args.context.now.dialect in
     rw (← c.self.view_is, c.in-Inside.is)
-    (part_above (item_step d) (step d) InTop (item_in_field d) _ _ _ _ _ refl
+    (part_above (item_step d) (step d) InTop (item_in_field d) _ _ _ _ _ _ refl
     c.take.ensures.prefix)
 
 pub returns-in-Inside-clause-allocation_free : goal.returns-in-Inside-clause-allocation_free

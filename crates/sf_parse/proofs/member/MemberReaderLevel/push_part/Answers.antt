@@ -2,7 +2,7 @@ use Rattle.std.proofs.Common.{refl}
 use Rattle.sf_parse.specs.Machine.Items.{item_step}
 use Rattle.sf_parse.specs.Machine.Inners.{InItem}
 use Rattle.sf_parse.specs.Machine.Members.{InOne, InMany, member_step}
-use Rattle.sf_parse.proofs.Prefixes.{byte_above}
+use Rattle.sf_parse.proofs.Prefixes.{part_above}
 use Rattle.sf_parse.proofs.OpenParts.{item_in_member, item_in_many, closing_part, closing_kept}
 use Rattle.sf_parse.proofs.member.MemberReaderLevel.push_part.Goals as goal
 
@@ -10,7 +10,7 @@ pub returns-in-One-clause-went : goal.returns-in-One-clause-went
 returns-in-One-clause-went c =
     let d = c.args.context.now.dialect in
     rw (← c.self.view_is, c.in-One.is)
-    (byte_above (item_step d) (member_step d) InOne (item_in_member d) _ _ _ _ _ refl
+    (part_above (item_step d) (member_step d) InOne (item_in_member d) _ _ _ _ _ _ refl
     c.push.ensures.prefix)
 
 pub returns-in-InItem-clause-went : goal.returns-in-InItem-clause-went
@@ -18,17 +18,16 @@ returns-in-InItem-clause-went c =
     let d = c.args.context.now.dialect in
     let is = c.self.inside.items in
     rw (← c.self.view_is, c.in-InItem.is)
-    (byte_above (item_step d) (member_step d) (λ s. InMany (InItem is s)) (item_in_many d is)
-    _ _ _ _ _ refl c.push-in-InItem.ensures.prefix)
+    (part_above (item_step d) (member_step d) (λ s. InMany (InItem is s)) (item_in_many d is)
+    _ _ _ _ _ _ refl c.push-in-InItem.ensures.prefix)
 
-pub invariant_of-self-in-Ok : goal.invariant_of-self-in-Ok
-invariant_of-self-in-Ok c =
+pub invariant_of-self-in-Closing : goal.invariant_of-self-in-Closing
+invariant_of-self-in-Closing c =
     let fits = rw c.in-Closing.is at c.self.invariant in
-    rw c.in-Closing.is
-    (closing_kept c.args.context.now.dialect _ _ _ _ fits c.in-Ok.ensures.prefix)
+    closing_kept c.args.context.now.dialect _ _ _ _ fits c.in_ok-took-in-Closing.ensures.prefix
 
-pub returns-in-Ok-clause-went : goal.returns-in-Ok-clause-went
-returns-in-Ok-clause-went c =
+pub returns-in-Closing-clause-went : goal.returns-in-Closing-clause-went
+returns-in-Closing-clause-went c =
     let fits = rw c.in-Closing.is at c.self.invariant in
     rw (← c.self.view_is, c.in-Closing.is)
-    (closing_part c.args.context.now.dialect _ _ _ _ _ fits c.in-Ok.ensures.prefix)
+    (closing_part c.args.context.now.dialect _ _ _ _ _ fits c.in_ok-took-in-Closing.ensures.prefix)

@@ -21,7 +21,7 @@ pub returns-in-One-clause-went : goal.returns-in-One-clause-went
 returns-in-One-clause-went c =
     let d = c.args.context.now.dialect in
     rw (← c.self.view_is, c.in-One.is)
-    (part_above (item_step d) (member_step d) InOne (item_in_member d) _ _ _ _ _ refl
+    (part_above (item_step d) (member_step d) InOne (item_in_member d) _ _ _ _ _ _ refl
     c.take.ensures.prefix)
 
 pub returns-in-InItem-clause-went : goal.returns-in-InItem-clause-went
@@ -30,16 +30,15 @@ returns-in-InItem-clause-went c =
     let is = c.self.inside.items in
     rw (← c.self.view_is, c.in-InItem.is)
     (part_above (item_step d) (member_step d) (λ s. InMany (InItem is s)) (item_in_many d is)
-    _ _ _ _ _ refl c.take-in-InItem.ensures.prefix)
+    _ _ _ _ _ _ refl c.take-in-InItem.ensures.prefix)
 
-pub invariant_of-self-in-Ok : goal.invariant_of-self-in-Ok
-invariant_of-self-in-Ok c =
+pub invariant_of-self-in-Closing : goal.invariant_of-self-in-Closing
+invariant_of-self-in-Closing c =
     let fits = rw c.in-Closing.is at c.self.invariant in
-    rw c.in-Closing.is
-    (closing_kept c.args.context.now.dialect _ _ _ _ fits c.in-Ok.ensures.prefix)
+    closing_kept c.args.context.now.dialect _ _ _ _ fits c.in_ok-rest-in-Closing.ensures.prefix
 
-pub returns-in-Ok-clause-went : goal.returns-in-Ok-clause-went
-returns-in-Ok-clause-went c =
+pub returns-in-Closing-clause-went : goal.returns-in-Closing-clause-went
+returns-in-Closing-clause-went c =
     let fits = rw c.in-Closing.is at c.self.invariant in
     rw (← c.self.view_is, c.in-Closing.is)
-    (closing_part c.args.context.now.dialect _ _ _ _ _ fits c.in-Ok.ensures.prefix)
+    (closing_part c.args.context.now.dialect _ _ _ _ _ fits c.in_ok-rest-in-Closing.ensures.prefix)

@@ -38,5 +38,5 @@ returns-in-InValue-clause-went c =
     let ps = c.self.inside.params in
     let k = c.self.inside.key in
     rw (← c.self.view_is, c.in-InValue.is)
-    (part_above bare_step (params_step d) (InValue ps k) (value_in_params d ps k) _ _ _ _ _ refl
+    (part_above bare_step (params_step d) (InValue ps k) (value_in_params d ps k) _ _ _ _ _ _ refl
     c.take.ensures.prefix)

@@ -8,4 +8,4 @@ invariant_of-self-in-InKey c =
     let key = rw c.in-InKey.is at c.self.invariant in
     rw (c.in-InKey.is, c.in_ok-push-in-InKey.ensures.bytes)
     (word_push is_key_start is_in_key _ _ key
-    (sym c.has_one.ensures ∙ c.if-not-has_one.false))
+    (sym c.has.ensures ∙ c.if-not-has.false))

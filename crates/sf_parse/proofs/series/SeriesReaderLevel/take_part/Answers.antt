@@ -54,4 +54,4 @@ returns-in-InMember-clause-went g c =
     let given = c.self.inside.given in
     rw (← c.self.view_is, c.in-InMember.is)
     (part_above next (series_next first next added none) (InMember given)
-    (member_goes_on first next added none given) _ _ _ _ _ refl c.take.ensures.prefix)
+    (member_goes_on first next added none given) _ _ _ _ _ _ refl c.take.ensures.prefix)

@@ -6,7 +6,7 @@ use Rattle.sf_parse.specs.Machine.Fields.{step}
 use Rattle.sf_parse.specs.SeriesView.{series_next}
 use Rattle.sf_parse.specs.MemberEnds.{with_member, with_entry}
 use Rattle.sf_parse.specs.FieldSteps.{list_steps, dict_steps}
-use Rattle.sf_parse.proofs.Prefixes.{all_of_byte}
+use Rattle.sf_parse.proofs.Prefixes.{all_above}
 use Rattle.sf_parse.proofs.state.FieldState.push.Goals as goal
 
 pub returns-in-Item-clause-allocation_free : goal.returns-in-Item-clause-allocation_free
@@ -26,12 +26,12 @@ pub returns-in-List-clause-prefix : goal.returns-in-List-clause-prefix
 returns-in-List-clause-prefix c =
     let d = c.args.context.now.dialect in
     rw c.in-List.is
-    (all_of_byte (series_next (member_start d) (member_step d) with_member []) (step d) InList
-    (list_steps d) _ _ _ _ c.push-in-List.ensures.prefix)
+    (all_above (series_next (member_start d) (member_step d) with_member []) (step d) InList
+    (list_steps d) _ _ _ _ _ c.push-in-List.ensures.prefix)
 
 pub returns-in-Dict-clause-prefix : goal.returns-in-Dict-clause-prefix
 returns-in-Dict-clause-prefix c =
     let d = c.args.context.now.dialect in
     rw c.in-Dict.is
-    (all_of_byte (series_next entry_start (entry_step d) with_entry []) (step d) InDict
-    (dict_steps d) _ _ _ _ c.push-in-Dict.ensures.prefix)
+    (all_above (series_next entry_start (entry_step d) with_entry []) (step d) InDict
+    (dict_steps d) _ _ _ _ _ c.push-in-Dict.ensures.prefix)

@@ -27,11 +27,11 @@ returns-in-List-clause-prefix c =
     let d = c.args.context.now.dialect in
     rw c.in-List.is
     (all_above (series_next (member_start d) (member_step d) with_member []) (step d) InList
-    (list_steps d) _ _ _ _ c.take-in-List.ensures.prefix)
+    (list_steps d) _ _ _ _ _ c.take-in-List.ensures.prefix)
 
 pub returns-in-Dict-clause-prefix : goal.returns-in-Dict-clause-prefix
 returns-in-Dict-clause-prefix c =
     let d = c.args.context.now.dialect in
     rw c.in-Dict.is
     (all_above (series_next entry_start (entry_step d) with_entry []) (step d) InDict
-    (dict_steps d) _ _ _ _ c.take-in-Dict.ensures.prefix)
+    (dict_steps d) _ _ _ _ _ c.take-in-Dict.ensures.prefix)

@@ -1,5 +1,5 @@
 use Rattle.std.proofs.Common.{sym, subst}
-use Rattle.sf_view.specs.declared.node.Role.TheVariants as role_is
+use Rattle.sf_view.specs.declared.node_types.Role.TheVariants as role_is
 use Rattle.sf_view.specs.View.{DescribesParams}
 use Rattle.sf_view.proofs.Splitting.{inner_is, no_inner}
 use Rattle.sf_view.proofs.view.View.params.Goals as goal

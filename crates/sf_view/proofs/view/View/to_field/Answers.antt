@@ -5,7 +5,7 @@ use Rattle.sf_value.specs.declared.value.Field.TheVariants as field
 use Rattle.sf_value.specs.declared.value.Kind.TheVariants as kind
 use Rattle.sf_value.specs.Grammar.Valid.{Valid, ValidItem}
 use Rattle.sf_value.proofs.Settling.{settle-distinct}
-use Rattle.sf_view.specs.declared.node.Role.TheVariants as role_is
+use Rattle.sf_view.specs.declared.node_types.Role.TheVariants as role_is
 use Rattle.sf_view.specs.Copies.{list_of, dict_of}
 use Rattle.sf_view.specs.View.{DescribesField}
 use Rattle.sf_view.proofs.Copying.{copied, uncopied, some_is, none_is, viewed_is}

@@ -6,7 +6,7 @@ use Rattle.sf_value.specs.Grammar.Tokens.{IsKey}
 use Rattle.sf_value.specs.Grammar.Valid.{ValidBare}
 use Rattle.sf_value.specs.Grammar.Words.{Each}
 use Rattle.sf_value.proofs.Settling.{settle-distinct}
-use Rattle.sf_view.specs.declared.node.Role.TheVariants as role_is
+use Rattle.sf_view.specs.declared.node_types.Role.TheVariants as role_is
 use Rattle.sf_view.specs.View.{DescribesParams}
 use Rattle.sf_view.proofs.Copying.{copied, uncopied}
 use Rattle.sf_view.proofs.view.View.to_item.Goals as goal

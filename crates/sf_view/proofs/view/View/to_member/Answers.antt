@@ -3,7 +3,7 @@ use Rattle.sf_value.specs.declared.dialect.Dialect.{Dialect}
 use Rattle.sf_value.specs.declared.value.Member.{Member}
 use Rattle.sf_value.specs.declared.value.Member.TheVariants as member
 use Rattle.sf_value.specs.Grammar.Valid.{ValidItem, ValidInner, ValidMember}
-use Rattle.sf_view.specs.declared.node.Role.TheVariants as role_is
+use Rattle.sf_view.specs.declared.node_types.Role.TheVariants as role_is
 use Rattle.sf_view.specs.View.{DescribesMember}
 use Rattle.sf_view.proofs.Copying.{copied, uncopied, items_distinct}
 use Rattle.sf_view.proofs.view.View.to_member.Goals as goal

@@ -1,0 +1,102 @@
+-- What is in the buffers after a text was parsed.
+use Rattle.std.proofs.Common.{◌≡◌, ℕ, ◌+◌, ◌-◌, ◌<◌, ◌≤◌, ◌^◌, List, [], ◌∷◌, ◌++◌, length, take}
+use Rattle.std.proofs.Common.{sym, ap, ◌∙◌, subst, arith, length-append}
+use Rattle.std.proofs.lemmas.List.{length-take-le}
+use Rattle.std.proofs.Math.Seq.{take-append_seam}
+use Rattle.sf_value.specs.declared.dialect.Dialect.{Dialect}
+use Rattle.sf_value.specs.declared.value.Field.{Field}
+use Rattle.sf_value.specs.declared.value.Kind.{Kind}
+use Rattle.sf_value.specs.Grammar.Words.{Each}
+use Rattle.sf_parse.specs.Parsers.{IsOnly}
+use Rattle.sf_view.specs.declared.node.Node.{Node}
+use Rattle.sf_view.specs.Accepts.{Accepts}
+use Rattle.sf_view.specs.View.{DescribesField}
+use Rattle.sf_c.specs.declared.parsing.Sizes.{Sizes}
+use Rattle.sf_c.specs.Decodings.{AreDecoded, IsPlain}
+use Rattle.sf_c.specs.Flattening.{IsDecoded, IsInOne, IsSmall, IsHeld, HoldsNodes}
+use Rattle.sf_c.specs.Laws.{NodesAreFew, BytesAreFew, NodesAreTheirs}
+use Rattle.sf_c.specs.NodeCounts.{field_nodes, field_bytes}
+use Rattle.sf_c.specs.Nodes.{told_field}
+use Rattle.sf_c.specs.Tellings.{Told, told_size}
+use Rattle.sf_c.proofs.Carrying.{field_carry}
+use Rattle.sf_c.proofs.NodeCounting.{told_nodes, told_bytes}
+
+each_decoded : (size : ℕ) (ns : List Node) → Each (IsPlain size) ns → Each IsDecoded ns
+each_decoded size [] h = tt
+each_decoded size (n ∷ ns) h = (h.0.0, each_decoded size ns h.1)
+
+each_in_one : (size : ℕ) (ns : List Node) → Each (IsPlain size) ns → Each (IsInOne size) ns
+each_in_one size [] h = tt
+each_in_one size (n ∷ ns) h = (h.0.1, each_in_one size ns h.1)
+
+-- the value of a text is small
+pub is_small : NodesAreFew → BytesAreFew → (d : Dialect) (k : Kind) (t : List ℕ) (v : Field)
+    → IsOnly d k t v → IsSmall t v
+is_small nodes bytes d k t v only = (nodes d k t v only.spelled, bytes d k t v only.spelled)
+
+-- nodes that were scanned and decoded
+pub scanned_held : (d : Dialect) (k : Kind) (t : List ℕ) (scanned front back new : List Node)
+    (bytes : List ℕ) (sizes : Sizes) → NodesAreFew → BytesAreFew → NodesAreTheirs
+    → Accepts d k t scanned sizes.nodes → length front ≡ length (take sizes.nodes scanned)
+    → AreDecoded t (take sizes.nodes scanned) front bytes sizes.bytes → new ≡ front ++ back
+    → IsHeld d k t new bytes sizes
+scanned_held d k t scanned front back new bytes sizes nodes small theirs a same h e =
+    let v = a.value in
+    let long : length (take sizes.nodes scanned) ≡ sizes.nodes
+    = length-take-le sizes.nodes scanned a.within in
+    let count : length front ≡ sizes.nodes = same ∙ long in
+    let whole = ap length e ∙ length-append front back in
+    let first : take sizes.nodes new ≡ front =
+    ap (take sizes.nodes) e
+    ∙ ap (λ n. take n (front ++ back)) (sym count)
+    ∙ take-append_seam front back in (
+      v,
+      a.only,
+      is_small nodes small d k t v a.only,
+      record {
+        nodes_fit = omega arith;
+        bytes_fit = h.within;
+        describes =
+            subst (λ y. DescribesField d (t ++ take sizes.bytes bytes) y v) (sym first)
+            (field_carry d t (t ++ take sizes.bytes bytes) (take sizes.nodes scanned) front v
+            a.describes h.means);
+        decoded =
+            subst (Each IsDecoded) (sym first) (each_decoded (length t) front h.plain);
+        in_one =
+            subst (Each (IsInOne (length t))) (sym first) (each_in_one (length t) front h.plain);
+        count = sym long ∙ theirs d t (take sizes.nodes scanned) v a.describes;
+      },
+    )
+
+-- the numbers of nodes and bytes of the parts of a value
+pub flat_nodes : (v : Field) (ts : List Told) (n : ℕ) → ts ≡ told_field v → n ≡ length ts
+    → n ≡ field_nodes v
+flat_nodes v ts n e h = h ∙ ap length e ∙ told_nodes v
+
+pub flat_bytes : (v : Field) (ts : List Told) (n : ℕ) → ts ≡ told_field v → n ≡ told_size ts
+    → n ≡ field_bytes v
+flat_bytes v ts n e h = h ∙ ap told_size e ∙ told_bytes v
+
+-- nodes that were written from the tree
+pub written_held : (d : Dialect) (k : Kind) (t : List ℕ) (v : Field) (ts : List Told)
+    (nodes : List Node) (bytes : List ℕ) (sizes : Sizes) → NodesAreFew → BytesAreFew
+    → IsOnly d k t v → ts ≡ told_field v → sizes.nodes ≡ length ts → sizes.bytes ≡ told_size ts
+    → sizes.nodes ≤ length nodes → sizes.bytes ≤ length bytes
+    → DescribesField d (t ++ take (told_size ts) bytes) (take (length ts) nodes) v
+    → Each IsDecoded (take (length ts) nodes)
+    → Each (IsInOne (length t)) (take (length ts) nodes) → IsHeld d k t nodes bytes sizes
+written_held d k t v ts nodes bytes sizes few small only e n b nodes_fit bytes_fit h p q = (
+  v,
+  only,
+  is_small few small d k t v only,
+  record {
+    nodes_fit = nodes_fit;
+    bytes_fit = bytes_fit;
+    describes =
+        subst (λ y. DescribesField d (t ++ take y bytes) (take sizes.nodes nodes) v) (sym b)
+        (subst (λ y. DescribesField d (t ++ take (told_size ts) bytes) (take y nodes) v) (sym n) h);
+    decoded = subst (λ y. Each IsDecoded (take y nodes)) (sym n) p;
+    in_one = subst (λ y. Each (IsInOne (length t)) (take y nodes)) (sym n) q;
+    count = flat_nodes v ts sizes.nodes e n;
+  },
+)

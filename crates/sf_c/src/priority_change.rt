@@ -1,0 +1,97 @@
+//! A Priority field that is sent on with another priority.
+ghost use Rattle.std.specs.Prelude.{◌≡◌, Some, IfOk};
+ghost use Rattle.sf_value.specs.declared.dialect.Dialect.TheVariants.{Rfc9651};
+ghost use Rattle.sf_value.specs.declared.value.Field.TheVariants as field_is;
+ghost use Rattle.sf_value.specs.declared.value.Kind.TheVariants as kind_is;
+ghost use Rattle.sf_value.specs.Grammar.Canonical.{canon};
+ghost use Rattle.sf_value.specs.Grammar.Valid.{Valid};
+ghost use Rattle.sf_use.specs.PriorityUpdate.{updated};
+ghost use Rattle.sf_c.specs.PriorityChanges.{ChangesPriority};
+ghost use Rattle.sf_c.specs.Statuses.{status_at};
+
+use crate::buffer::put_text;
+use crate::call::parse;
+use crate::priority::PriorityFlags;
+use crate::refusal::SyntaxRefusal;
+use crate::seed::Seed;
+use crate::status::Status;
+use sf_use::{Asked, update_priority};
+use sf_value::{Dialect, Dict, Field, Kind, OutOfMemory};
+use sf_write::to_text;
+use std::alloc::Global;
+use std::hash::RandomState;
+
+/// The canonical text of a Priority field (RFC 9218 section 4) with what the struct sets put into
+/// it: the members `u` and `i` are overwritten in their places, or go last if the field has none,
+/// and all others stay. `Answered` and the text is at the start of the buffer; `Short` if the
+/// buffer has less than `required` bytes; `Refused` if the text spells no Dictionary, and then
+/// `refusal` says where and why; or `OutOfMemory`.
+#[unsafe(no_mangle)]
+pub extern "C" fn sf_priority_change(
+    alloc: Global,
+    seed: &Seed,
+    text: &[u8],
+    priority: &PriorityFlags,
+    buffer: &mut [u8],
+    required: &mut usize,
+    refusal: &mut SyntaxRefusal,
+) -> u32
+    // The canonical text of the field with what the struct sets, or why there is none.
+    ensures { ChangesPriority
+        (record { buffer = buffer.old; required = required.old; refusal = refusal.old })
+        (record { buffer = buffer.new; required = required.new; refusal = refusal.new })
+        text.now priority.now (status_at result) }
+{
+    change(alloc, seed, text, priority, buffer, required, refusal).code()
+}
+
+/// As [`sf_priority_change`] answers.
+fn change(
+    alloc: Global,
+    seed: &Seed,
+    text: &[u8],
+    priority: &PriorityFlags,
+    buffer: &mut [u8],
+    required: &mut usize,
+    refusal: &mut SyntaxRefusal,
+) -> Status
+    ensures { ChangesPriority
+        (record { buffer = buffer.old; required = required.old; refusal = refusal.old })
+        (record { buffer = buffer.new; required = required.new; refusal = refusal.new })
+        text.now priority.now (Some result) }
+{
+    let field = match parse(alloc, seed, Dialect::Rfc9651, Kind::Dict, text, refusal) {
+        Ok(field) => field,
+        Err(status) => return status,
+    };
+    let Some(state) = seed.state() else {
+        return Status::OutOfMemory;
+    };
+    match field {
+        Field::Dict(dict) => {
+            let Ok(canonical) = changed_text(alloc, &state, dict, priority.asked()) else {
+                return Status::OutOfMemory;
+            };
+            return put_text(canonical.as_slice(), buffer, required);
+        }
+        Field::Item(_) => unreachable!(),
+        Field::List(_) => unreachable!(),
+    }
+}
+
+/// The canonical text of the Dictionary with a priority put into it.
+fn changed_text(
+    alloc: Global,
+    seed: &RandomState,
+    dict: Dict,
+    asked: Asked,
+) -> Result<Vec<u8>, OutOfMemory>
+    ensures text { IfOk result (λ text. text.items ≡ canon (field_is.Dict (updated asked dict))) }
+    ensures valid { IfOk result
+        (λ _. Valid Rfc9651 kind_is.Dict (field_is.Dict (updated asked dict))) }
+{
+    to_text(
+        alloc,
+        &Field::Dict(update_priority(alloc, seed, dict, asked)?),
+    )
+}

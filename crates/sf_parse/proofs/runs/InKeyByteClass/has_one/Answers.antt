@@ -1,8 +1,0 @@
-use Rattle.std.proofs.Common.{refl, arith}
-use Rattle.sf_value.specs.Grammar.Classes.{is_in_key}
-use Rattle.sf_parse.specs.declared.runs.TheConstants.{CLASSES}
-use Rattle.sf_parse.proofs.ByteTables.{flag_read}
-use Rattle.sf_parse.proofs.runs.InKeyByteClass.has_one.Goals as goal
-
-pub returns : goal.returns
-returns c = flag_read CLASSES 1 is_in_key refl c.args.byte (omega arith)

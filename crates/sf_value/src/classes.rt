@@ -1,0 +1,355 @@
+//! Classes of bytes (RFC 9651 section 3), and the runs of them that a text begins with. A class is
+//! a type; each is decided here, once, for values, parsers and writers.
+ghost use Rattle.std.specs.Prelude.{◌≡◌, ◌++◌, ℕ, Bool, ◌&&◌, nat_le, true};
+ghost use Rattle.sf_value.specs.Grammar.Words.{Every};
+ghost use Rattle.sf_value.specs.Grammar.Classes.{is_in_key, is_in_token, is_key_start, is_sp};
+ghost use Rattle.sf_value.specs.Grammar.Classes.{is_ows as is_ows_byte, is_token_start};
+ghost use Rattle.sf_value.specs.Grammar.Classes.{is_visible as is_visible_byte};
+ghost use Rattle.sf_value.specs.Grammar.Strings.{is_unescaped};
+ghost use Rattle.sf_value.specs.Grammar.ByteSequences.{is_base64};
+ghost use Rattle.sf_value.specs.Grammar.DisplayStrings.{is_unencoded};
+
+/// The flag of the bytes that keys go on with.
+const IN_KEY: u8 = 1;
+
+/// The flag of the bytes that tokens go on with.
+const IN_TOKEN: u8 = 2;
+
+/// The flag of the bytes that keys begin with.
+const KEY_START: u8 = 4;
+
+/// The flag of the bytes that tokens begin with.
+const TOKEN_START: u8 = 8;
+
+/// The flag of the bytes that stand for themselves in a string.
+const UNESCAPED: u8 = 16;
+
+/// The flag of the characters of base64.
+const BASE64: u8 = 32;
+
+/// The flag of the bytes that stand for themselves in a display string.
+const UNENCODED: u8 = 64;
+
+/// The flags of each byte.
+#[rattlefmt::skip]
+static CLASSES: [u8; 256] = [
+    0, 0, 0, 0, 0, 0, 0, 0, 0, 0, 0, 0, 0, 0, 0, 0,
+    0, 0, 0, 0, 0, 0, 0, 0, 0, 0, 0, 0, 0, 0, 0, 0,
+    80, 82, 0, 82, 82, 18, 82, 82, 80, 80, 95, 114, 80, 83, 83, 114,
+    115, 115, 115, 115, 115, 115, 115, 115, 115, 115, 82, 80, 80, 80, 80, 80,
+    80, 122, 122, 122, 122, 122, 122, 122, 122, 122, 122, 122, 122, 122, 122, 122,
+    122, 122, 122, 122, 122, 122, 122, 122, 122, 122, 122, 80, 64, 80, 82, 83,
+    82, 127, 127, 127, 127, 127, 127, 127, 127, 127, 127, 127, 127, 127, 127, 127,
+    127, 127, 127, 127, 127, 127, 127, 127, 127, 127, 127, 80, 82, 80, 82, 0,
+    0, 0, 0, 0, 0, 0, 0, 0, 0, 0, 0, 0, 0, 0, 0, 0,
+    0, 0, 0, 0, 0, 0, 0, 0, 0, 0, 0, 0, 0, 0, 0, 0,
+    0, 0, 0, 0, 0, 0, 0, 0, 0, 0, 0, 0, 0, 0, 0, 0,
+    0, 0, 0, 0, 0, 0, 0, 0, 0, 0, 0, 0, 0, 0, 0, 0,
+    0, 0, 0, 0, 0, 0, 0, 0, 0, 0, 0, 0, 0, 0, 0, 0,
+    0, 0, 0, 0, 0, 0, 0, 0, 0, 0, 0, 0, 0, 0, 0, 0,
+    0, 0, 0, 0, 0, 0, 0, 0, 0, 0, 0, 0, 0, 0, 0, 0,
+    0, 0, 0, 0, 0, 0, 0, 0, 0, 0, 0, 0, 0, 0, 0, 0,
+];
+
+/// A class of bytes.
+pub trait ByteClass {
+    // The bytes of the class.
+    ghost test: { ℕ → Bool };
+
+    /// Whether the byte is of the class. It does not allocate.
+    fn has(byte: u8) -> bool
+        ensures { result ≡ test byte };
+
+    /// The same, in a form of which many are computed at a time. It does not allocate.
+    #[inline]
+    fn has_many(byte: u8) -> bool
+        ensures { result ≡ test byte }
+    {
+        Self::has(byte)
+    }
+}
+
+/// What a key may begin with (section 3.1.2).
+pub struct KeyStart;
+
+/// What a key may go on with (section 3.1.2).
+pub struct InKey;
+
+/// What a token may begin with (section 3.3.4).
+pub struct TokenStart;
+
+/// What a token may go on with (section 3.3.4).
+pub struct InToken;
+
+/// What a string may hold (section 3.3.3).
+pub struct Visible;
+
+/// What stands for itself between the quotes of a string (section 4.1.6).
+pub struct Unescaped;
+
+/// What stands for itself between the quotes of a display string (section 4.1.11).
+pub struct UnencodedByte;
+
+/// The characters of base64 (RFC 4648 section 4).
+pub struct Base64;
+
+/// A space.
+pub struct Space;
+
+/// Optional white space (RFC 9110 section 5.6.3).
+pub struct Ows;
+
+/// Whether the byte is between these, or one of them.
+#[inline]
+fn within(byte: u8, low: u8, high: u8) -> bool
+    ensures { result ≡ (nat_le low byte && nat_le byte high) }
+{
+    (low <= byte) & (byte <= high)
+}
+
+impl ByteClass for KeyStart {
+    ghost test = { is_key_start };
+
+    #[inline]
+    fn has(byte: u8) -> bool {
+        CLASSES[byte as usize] & KEY_START != 0
+    }
+}
+
+impl ByteClass for InKey {
+    ghost test = { is_in_key };
+
+    #[inline]
+    fn has(byte: u8) -> bool {
+        CLASSES[byte as usize] & IN_KEY != 0
+    }
+
+    #[inline]
+    fn has_many(byte: u8) -> bool {
+        within(byte, b'a', b'z')
+            | within(byte, b'0', b'9')
+            | (byte == b'_')
+            | (byte == b'-')
+            | (byte == b'.')
+            | (byte == b'*')
+    }
+}
+
+impl ByteClass for TokenStart {
+    ghost test = { is_token_start };
+
+    #[inline]
+    fn has(byte: u8) -> bool {
+        CLASSES[byte as usize] & TOKEN_START != 0
+    }
+}
+
+impl ByteClass for InToken {
+    ghost test = { is_in_token };
+
+    #[inline]
+    fn has(byte: u8) -> bool {
+        CLASSES[byte as usize] & IN_TOKEN != 0
+    }
+
+    #[inline]
+    fn has_many(byte: u8) -> bool {
+        within(byte, b'!', b'~')
+            & (byte != b'"')
+            & (byte != b'(')
+            & (byte != b')')
+            & (byte != b',')
+            & !within(byte, b';', b'@')
+            & !within(byte, b'[', b']')
+            & (byte != b'{')
+            & (byte != b'}')
+    }
+}
+
+impl ByteClass for Visible {
+    ghost test = { is_visible_byte };
+
+    #[inline]
+    fn has(byte: u8) -> bool {
+        within(byte, b' ', b'~')
+    }
+}
+
+impl ByteClass for Unescaped {
+    ghost test = { is_unescaped };
+
+    #[inline]
+    fn has(byte: u8) -> bool {
+        CLASSES[byte as usize] & UNESCAPED != 0
+    }
+
+    #[inline]
+    fn has_many(byte: u8) -> bool {
+        within(byte, b' ', b'~') & (byte != b'"') & (byte != b'\\')
+    }
+}
+
+impl ByteClass for UnencodedByte {
+    ghost test = { is_unencoded };
+
+    #[inline]
+    fn has(byte: u8) -> bool {
+        CLASSES[byte as usize] & UNENCODED != 0
+    }
+
+    #[inline]
+    fn has_many(byte: u8) -> bool {
+        within(byte, b' ', b'~') & (byte != b'"') & (byte != b'%')
+    }
+}
+
+impl ByteClass for Base64 {
+    ghost test = { is_base64 };
+
+    #[inline]
+    fn has(byte: u8) -> bool {
+        CLASSES[byte as usize] & BASE64 != 0
+    }
+
+    #[inline]
+    fn has_many(byte: u8) -> bool {
+        within(byte, b'a', b'z')
+            | within(byte, b'A', b'Z')
+            | within(byte, b'0', b'9')
+            | (byte == b'+')
+            | (byte == b'/')
+    }
+}
+
+impl ByteClass for Space {
+    ghost test = { is_sp };
+
+    #[inline]
+    fn has(byte: u8) -> bool {
+        byte == b' '
+    }
+}
+
+impl ByteClass for Ows {
+    ghost test = { is_ows_byte };
+
+    #[inline]
+    fn has(byte: u8) -> bool {
+        (byte == b' ') | (byte == b'\t')
+    }
+}
+
+/// Whether all bytes are of the class. It looks at each, which a processor does many at a time.
+#[inline]
+fn all_of<C: ByteClass>(bytes: &[u8]) -> bool
+    ensures { result ≡ true → Every C.test bytes.now }
+{
+    let mut all = true;
+    for byte in bytes {
+        all &= C::has_many(*byte);
+    }
+    all
+}
+
+/// The bytes of the class that the text begins with, and the rest, where there are mostly many:
+/// after the first 16 bytes blocks of 16 are looked at. It does not allocate.
+#[inline]
+pub fn long_prefix<C: ByteClass>(text: &[u8]) -> (&[u8], &[u8])
+    // Together they are the text.
+    ensures whole { text.now ≡ result.0.now ++ result.1.now }
+    // All bytes of the first are of the class.
+    ensures every { Every C.test result.0.now }
+{
+    let mut run = 0;
+    let start = text.len().min(16);
+    while run < start && C::has(text[run]) {
+        run += 1;
+    }
+    if run == 16 {
+        while text.len() - run >= 16 && all_of::<C>(&text[run..run + 16]) {
+            run += 16;
+        }
+        while run < text.len() && C::has(text[run]) {
+            run += 1;
+        }
+    }
+    text.split_at(run)
+}
+
+/// The same, where there are mostly few. It does not allocate.
+#[inline]
+pub fn short_prefix<C: ByteClass>(text: &[u8]) -> (&[u8], &[u8])
+    // Together they are the text.
+    ensures whole { text.now ≡ result.0.now ++ result.1.now }
+    // All bytes of the first are of the class.
+    ensures every { Every C.test result.0.now }
+{
+    let mut run = 0;
+    while run < text.len() && C::has(text[run]) {
+        run += 1;
+    }
+    text.split_at(run)
+}
+
+/// Whether a key may begin with this byte: `a` to `z` and `*` (RFC 9651 section 3.1.2). It does not
+/// allocate.
+#[inline]
+pub fn can_start_key(byte: u8) -> bool
+    ensures { result ≡ is_key_start byte }
+{
+    KeyStart::has(byte)
+}
+
+/// Whether a key may go on with this byte: `a` to `z`, `0` to `9`, `_`, `-`, `.` and `*` (RFC 9651
+/// section 3.1.2). It does not allocate.
+#[inline]
+pub fn can_be_in_key(byte: u8) -> bool
+    ensures { result ≡ is_in_key byte }
+{
+    InKey::has(byte)
+}
+
+/// Whether a token may begin with this byte: a letter or `*` (RFC 9651 section 3.3.4). It does not
+/// allocate.
+#[inline]
+pub fn can_start_token(byte: u8) -> bool
+    ensures { result ≡ is_token_start byte }
+{
+    TokenStart::has(byte)
+}
+
+/// Whether a token may go on with this byte: a letter, a digit, `:`, `/` or one of
+/// ``!#$%&'*+-.^_`|~`` (RFC 9651 section 3.3.4). It does not allocate.
+#[inline]
+pub fn can_be_in_token(byte: u8) -> bool
+    ensures { result ≡ is_in_token byte }
+{
+    InToken::has(byte)
+}
+
+/// Whether a string may hold this byte: 0x20 to 0x7E (RFC 9651 section 3.3.3). It does not
+/// allocate.
+#[inline]
+pub fn is_visible(byte: u8) -> bool
+    ensures { result ≡ is_visible_byte byte }
+{
+    Visible::has(byte)
+}
+
+/// Whether a byte of a display string is written as itself: each from 0x20 to 0x7E but `"` and `%`
+/// (RFC 9651 section 4.1.11). It does not allocate.
+#[inline]
+pub fn stands_for_itself(byte: u8) -> bool
+    ensures { result ≡ is_unencoded byte }
+{
+    UnencodedByte::has_many(byte)
+}
+
+/// Whether a byte is a space or a tab, the optional white space between the members of a List or a
+/// Dictionary (RFC 9651 section 4.2, RFC 9110 section 5.6.3). It does not allocate.
+#[inline]
+pub fn is_ows(byte: u8) -> bool
+    ensures { result ≡ is_ows_byte byte }
+{
+    Ows::has(byte)
+}

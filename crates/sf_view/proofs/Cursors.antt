@@ -1,0 +1,151 @@
+-- Members that are read one after another.
+use Rattle.std.proofs.Common.{◌≡◌, ℕ, ◌<◌, ◌≤◌, Bool, List, [], ◌∷◌, ◌++◌, Option, Some, None}
+use Rattle.std.proofs.Common.{refl, sym, ap, ◌∙◌, subst, append_assoc, append-nil, length}
+use Rattle.std.proofs.Common.{length-append, arith}
+use Rattle.sf_value.specs.declared.dialect.Dialect.{Dialect}
+use Rattle.sf_value.specs.declared.value.Field.{Field}
+use Rattle.sf_value.specs.declared.value.Field.TheVariants as field
+use Rattle.sf_value.specs.declared.value.Kind.TheVariants as kind
+use Rattle.sf_value.specs.Grammar.Words.{Every}
+use Rattle.sf_value.specs.Grammar.Classes.{is_sp, is_ows}
+use Rattle.sf_value.specs.Grammar.Pairs.{settle}
+use Rattle.sf_value.specs.Grammar.Items.{SpellsItem}
+use Rattle.sf_value.specs.Grammar.InnerLists.{SpellsMember}
+use Rattle.sf_value.specs.Grammar.Series.{SpellsWhole}
+use Rattle.sf_value.specs.Grammar.Fields.{SpellsEntry, list_of, dict_of}
+use Rattle.sf_parse.specs.Parsers.{IsOnly}
+use Rattle.sf_view.specs.Scans.{Behind}
+use Rattle.sf_view.specs.Reads.{Reads}
+use Rattle.sf_view.specs.Cursors.{IsFirst, IsNext, Separates, Remains, left_in}
+use Rattle.sf_view.proofs.Members.{only_of}
+
+-- spaces to the end
+pub all_front : (p : ℕ → Bool) (text rest : List ℕ) → Behind p text rest → rest ≡ []
+    → Every p text
+all_front p text rest b n =
+    subst (Every p) (sym (b.split ∙ ap (λ y. b.front ++ y) n ∙ append-nil b.front)) b.each
+
+-- a comma with OWS around it
+pub separates : (text white more rest : List ℕ) → Behind is_ows text white → white ≡ 44 ∷ more
+    → Behind is_ows more rest → Separates text rest
+separates text white more rest a e b = record {
+  before = a.front;
+  behind = b.front;
+  split = a.split ∙ ap (λ y. a.front ++ y) (e ∙ ap (λ y. 44 ∷ y) b.split);
+  ows_before = a.each;
+  ows_behind = b.each;
+}
+
+-- less is left after a part
+pub less_left : (text front after : List ℕ) (start : Option (List ℕ)) → text ≡ front ++ after
+    → IsNext after start → left_in start < left_in (Some text)
+less_left text front after None e n = omega arith
+less_left text front after (Some rest) e n =
+    let a = ap length e ∙ length-append front after in
+    let b = ap length n.split ∙ length-append n.before (44 ∷ (n.behind ++ rest)) in
+    let c = length-append n.behind rest in
+    omega arith
+
+pub left_after : (after : List ℕ) (start : Option (List ℕ)) → IsNext after start
+    → left_in start ≤ length after
+left_after after None n = omega arith
+left_after after (Some rest) n =
+    let b = ap length n.split ∙ length-append n.before (44 ∷ (n.behind ++ rest)) in
+    let c = length-append n.behind rest in
+    omega arith
+
+module _ {X : Type 0} (P : List ℕ → X → Type 0) where
+  -- the members that remain at the start are those of the whole text
+  pub whole_remains : (text : List ℕ) (start : Option (List ℕ)) (xs : List X) → IsFirst text start
+      → Remains P start xs → SpellsWhole P text xs
+  whole_remains text None xs s e = subst (SpellsWhole P text) (sym e) s
+  whole_remains text (Some rest) [] s r = absurd r
+  whole_remains text (Some rest) (x ∷ xs) s (body, tail, e, h, w) =
+      (s.front, body, tail, s.split ∙ ap (λ y. s.front ++ y) e, s.each, h, w)
+
+  -- a member before those that remain
+  pub remains_then : (text f after : List ℕ) (start : Option (List ℕ)) (x : X) (xs : List X)
+      → text ≡ f ++ after → P f x → IsNext after start → Remains P start xs
+      → Remains P (Some text) (x ∷ xs)
+  remains_then text f after None x xs e h n r =
+      subst (λ y. Remains P (Some text) (x ∷ y)) (sym r)
+      (f, after, e, (f, [], sym (append-nil f), h, refl), n)
+  remains_then text f after (Some rest) x [] e h n r = absurd r
+  remains_then text f after (Some rest) x (y ∷ ys) e h n (body, tail, g, (p, q, i, k, c), w) =
+      let sep = n.before ++ 44 ∷ (n.behind ++ body) in (
+        f ++ sep,
+        tail,
+        e
+            ∙ ap (λ z. f ++ z)
+            (n.split
+            ∙ ap (λ z. n.before ++ 44 ∷ z)
+            (ap (λ z. n.behind ++ z) g ∙ sym (append_assoc n.behind body tail))
+            ∙ sym (append_assoc n.before (44 ∷ (n.behind ++ body)) tail))
+            ∙ sym (append_assoc f sep tail),
+        (
+          f,
+          sep,
+          refl,
+          h,
+          (
+            n.before,
+            n.behind,
+            p,
+            q,
+            ap (λ z. n.before ++ 44 ∷ (n.behind ++ z)) i,
+            n.ows_before,
+            n.ows_behind,
+            k,
+            c,
+          ),
+        ),
+        w,
+      )
+
+  -- whatever remains, the whole text spells it after some members
+  abbrev pub IsReached : List ℕ → Option (List ℕ) → Type 0
+  IsReached text start = (xs : List X) → Remains P start xs → (ys : List X) × SpellsWhole P text ys
+
+  pub reached_first : (text : List ℕ) (start : Option (List ℕ)) → IsFirst text start
+      → IsReached text start
+  reached_first text start s xs r = (xs, whole_remains text start xs s r)
+
+  pub reached_next : (text rest f after : List ℕ) (start : Option (List ℕ)) (x : X)
+      → IsReached text (Some rest) → rest ≡ f ++ after → P f x → IsNext after start
+      → IsReached text start
+  reached_next text rest f after start x g e h n xs r =
+      g (x ∷ xs) (remains_then rest f after start x xs e h n r)
+
+  pub reached_end : (text : List ℕ) → IsReached text None → (ys : List X) × SpellsWhole P text ys
+  reached_end text g = g [] refl
+
+-- fields
+pub item_only : (d : Dialect) (text start rest left : List ℕ) → Behind is_sp text start
+    → Reads (SpellsItem d) start rest → Behind is_sp rest left → left ≡ []
+    → (v : Field) × IsOnly d kind.Item text v
+item_only d text start rest left b r a n = (
+  field.Item r.value,
+  only_of d kind.Item text (field.Item r.value) (
+    b.front,
+    r.front,
+    rest,
+    b.split ∙ ap (λ y. b.front ++ y) r.split,
+    b.each,
+    r.spelled,
+    all_front is_sp rest left a n,
+  ),
+)
+
+pub list_only : (d : Dialect) (text : List ℕ) → IsReached (SpellsMember d) text None
+    → (v : Field) × IsOnly d kind.List text v
+list_only d text g =
+    let all = reached_end (SpellsMember d) text g in
+    (list_of all.0, only_of d kind.List text (list_of all.0) all.1)
+
+pub dict_only : (d : Dialect) (text : List ℕ) → IsReached (SpellsEntry d) text None
+    → (v : Field) × IsOnly d kind.Dict text v
+dict_only d text g =
+    let all = reached_end (SpellsEntry d) text g in (
+      dict_of (settle all.0),
+      only_of d kind.Dict text (dict_of (settle all.0)) (all.0, refl, all.1),
+    )

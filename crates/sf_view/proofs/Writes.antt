@@ -1,0 +1,417 @@
+-- Parts are written one after another.
+use Rattle.std.proofs.Common.{◌≡◌, ℕ, ◌+◌, ◌-◌, ◌*◌, ◌/◌, ◌%◌, ◌≤◌, Bool, true, false, List, [], ◌∷◌, ◌++◌}
+use Rattle.std.proofs.Common.{length, refl, sym, ap, ◌∙◌, subst, inl, inr, append_assoc, append-nil}
+use Rattle.std.proofs.Common.{arith, length-append, replicate, take, drop}
+use Rattle.std.proofs.Math.Seq.{take-append_seam, drop-append_seam, take-length}
+use Rattle.std.proofs.lemmas.List.{length-replicate}
+use Rattle.sf_value.specs.Ascii.{quote, percent}
+use Rattle.sf_value.specs.declared.dialect.Dialect.{Dialect}
+use Rattle.sf_value.specs.declared.value.Bare.{Bare}
+use Rattle.sf_value.specs.declared.value.Field.{Field}
+use Rattle.sf_value.specs.declared.value.Field.TheVariants as field
+use Rattle.sf_value.specs.declared.value.Kind.{Kind}
+use Rattle.sf_value.specs.declared.value.Kind.TheVariants as kind
+use Rattle.sf_value.specs.Grammar.Words.{Every}
+use Rattle.sf_value.specs.Grammar.Strings.{escaped}
+use Rattle.sf_value.specs.Grammar.ByteSequences.{letter, unpadded, needed, Pads, Sextets}
+use Rattle.sf_value.specs.Grammar.DisplayStrings.{hex, is_unencoded, EncodedBytes}
+use Rattle.sf_value.specs.Grammar.Canonical.{canon_base64, canon_shown, canon_value, canon_params}
+use Rattle.std.specs.Prelude.{IsTrue}
+use Rattle.sf_value.specs.declared.value.Bare.TheVariants.{Integer, Decimal, Text, Token}
+use Rattle.sf_value.specs.declared.value.Bare.TheVariants.{Blob, Boolean, Date, Shown}
+use Rattle.sf_value.specs.Grammar.Canonical.{canon, canon_bare}
+use Rattle.sf_write.proofs.CanonSteps.{value_written}
+use Rattle.sf_value.specs.Grammar.Fields.{SpellsField, kind_of}
+use Rattle.sf_value.specs.Grammar.Pairs.{Pairs}
+use Rattle.sf_view.specs.declared.node.Node.{Node}
+use Rattle.sf_view.specs.Decoding.{TakesByte}
+use Rattle.sf_view.specs.Parts.{SplitsOff}
+use Rattle.sf_view.specs.Scans.{is_unescaped}
+use Rattle.sf_view.proofs.Scanned.{unescaped_same}
+use Rattle.sf_view.specs.View.{DescribesField}
+use Rattle.sf_view.specs.declared.view.BareView.{BareView}
+use Rattle.sf_view.specs.declared.view.BareView.TheVariants as view_is
+use Rattle.sf_view.specs.Views.{IsBorrowed, IsViewed}
+use Rattle.sf_view.specs.Written.{canon_param, encoding, is_flag, IsCanonicalOf, CanonicalRun, IsNeededEscape}
+use Rattle.sf_view.specs.declared.view.View.{View}
+
+-- of these parts some are written, and what f gives of the others, which the nodes describe, is
+-- still to be written
+pub record Unwritten {X : Type 0} (T : List Node → List X → Type 0) (f : List X → List ℕ)
+    (nodes : List Node) (R : List ℕ → Type 0) : Type 0 where
+  pub left : List X
+  pub describes : T nodes left
+  pub rest : R (f left)
+
+pub unwritten_all : {X : Type 0} (T : List Node → List X → Type 0) (f : List X → List ℕ)
+    (nodes : List Node) (R : List ℕ → Type 0) (xs : List X) → T nodes xs → R (f xs)
+    → Unwritten T f nodes R
+unwritten_all T f nodes R xs t r = record { left = xs; describes = t; rest = r }
+
+-- one more part is written
+pub unwritten_less : {X : Type 0} (P : List Node → X → Type 0) (T : List Node → List X → Type 0)
+    (f g : List X → List ℕ) (chunk : X → List ℕ)
+    → ((x : X) (xs : List X) → f (x ∷ xs) ≡ chunk x ++ g xs)
+    → (nodes front later : List Node) (R S : List ℕ → Type 0) → Unwritten T f nodes R
+    → ((xs : List X) → T nodes xs → SplitsOff P T xs front later)
+    → ((x : X) → P front x → (u : List ℕ) → R (chunk x ++ u) → S u)
+    → Unwritten T g later S
+unwritten_less P T f g chunk e nodes front later R S w splits write =
+    let h = splits w.left w.describes in
+    record {
+      left = h.others;
+      describes = h.rest;
+      rest =
+          write h.value h.first (g h.others)
+          (subst R (ap f h.parts ∙ e h.value h.others) w.rest);
+    }
+
+-- no part is left
+pub unwritten_none : {X : Type 0} (T : List Node → List X → Type 0) (f : List X → List ℕ)
+    (nodes : List Node) (R : List ℕ → Type 0) → Unwritten T f nodes R
+    → ((xs : List X) → T nodes xs → xs ≡ []) → f [] ≡ [] → R []
+unwritten_none T f nodes R w none e = subst R (ap f (none w.left w.describes) ∙ e) w.rest
+
+-- a parameter and the others
+pub params_are : (p : List ℕ × Bare) (ps : Pairs Bare)
+    → canon_params (p ∷ ps) ≡ canon_param p ++ canon_params ps
+params_are p ps = ap (λ t. 59 ∷ t) (sym (append_assoc p.0 (canon_value p.1) (canon_params ps)))
+
+-- after a key Boolean true is not written, and any other bare item is
+pub flag_value : (d : Dialect) (v : BareView) (x : Bare) → IsBorrowed d v x → true ≡ is_flag v
+    → canon_value x ≡ []
+flag_value d (view_is.Integer n) x h e = absurd cc
+flag_value d (view_is.Decimal m) x h e = absurd cc
+flag_value d (view_is.Text s) x h e = absurd cc
+flag_value d (view_is.Token s) x h e = absurd cc
+flag_value d (view_is.Blob s) x h e = absurd cc
+flag_value d (view_is.Boolean true) x h e = ap canon_value h
+flag_value d (view_is.Boolean false) x h e = absurd cc
+flag_value d (view_is.Date n) x h e = absurd cc
+flag_value d (view_is.Shown s) x h e = absurd cc
+
+no_flag : (x y : Bare) → x ≡ y → (y ≡ Boolean true → IsTrue false) → canon_value x ≡ 61 ∷ canon_bare x
+no_flag x y e h = value_written x (λ f. h (sym e ∙ f))
+
+pub other_value : (d : Dialect) (v : BareView) (x : Bare) → IsBorrowed d v x → false ≡ is_flag v
+    → canon_value x ≡ 61 ∷ canon_bare x
+other_value d (view_is.Integer n) x h e = no_flag x (Integer n) h (λ f. absurd cc)
+other_value d (view_is.Decimal m) x h e = no_flag x (Decimal m) h (λ f. absurd cc)
+other_value d (view_is.Text s) x h e = no_flag x (Text h.0) h.1 (λ f. absurd cc)
+other_value d (view_is.Token s) x h e = no_flag x (Token s.now) h (λ f. absurd cc)
+other_value d (view_is.Blob s) x h e = no_flag x (Blob h.0) h.1 (λ f. absurd cc)
+other_value d (view_is.Boolean true) x h e = absurd cc
+other_value d (view_is.Boolean false) x h e = no_flag x (Boolean false) h (λ f. absurd cc)
+other_value d (view_is.Date n) x h e = no_flag x (Date n) h (λ f. absurd cc)
+other_value d (view_is.Shown s) x h e = no_flag x (Shown h.0) h.1 (λ f. absurd cc)
+
+-- whole groups of base64, which are canonical, and what the rest spells, of at most three bytes
+pub record Groups (text t : List ℕ) : Type 0 where
+  pub front : List ℕ
+  pub last : List ℕ
+  pub left : List ℕ
+  pub split : text ≡ front ++ last
+  pub size : length front ≡ (length text - 2) / 4 * 4
+  pub remains : Sextets last left
+  pub few : length left ≤ 3
+  pub canonical : canon_base64 t ≡ front ++ canon_base64 left
+
+pads_length : (n : ℕ) (suffix : List ℕ) → Pads n suffix → (1 ≤ length suffix) × (length suffix ≤ n + 1)
+pads_length n suffix (m, le, e) =
+    let pads : List ℕ = replicate m 61 in
+    let colon : List ℕ = 58 ∷ [] in
+    let size : length suffix ≡ length pads + length colon = ap length e ∙ length-append pads colon in
+    let many : length pads ≡ m = length-replicate m 61 in
+    (omega arith, omega arith)
+
+one_group : (text t : List ℕ) → Sextets text t → length text ≤ 5 → length t ≤ 3 → Groups text t
+one_group text t h short few = record {
+  front = [];
+  last = text;
+  left = t;
+  split = refl;
+  size = omega arith;
+  remains = h;
+  few = few;
+  canonical = refl;
+}
+
+abbrev four : ℕ → ℕ → ℕ → List ℕ → List ℕ
+four a b c t =
+    letter (a / 4) ∷ letter (a % 4 * 16 + b / 16) ∷ letter (b % 16 * 4 + c / 64) ∷ letter (c % 64)
+    ∷ t
+
+four_more : (a b c : ℕ) (t : List ℕ) → length (four a b c t) ≡ 4 + length t
+four_more a b c t = omega arith
+
+long_rest : (low x : ℕ) (s suffix : List ℕ) → 1 ≤ length suffix
+    → 3 ≤ length (unpadded low (x ∷ s) ++ suffix)
+long_rest low x [] suffix h = omega arith
+long_rest low x (y ∷ []) suffix h = omega arith
+long_rest low x (y ∷ z ∷ s) suffix h = omega arith
+
+next_group : (a b c : ℕ) (s : List ℕ)
+    → ((text : List ℕ) → Sextets text s → Groups text s)
+    → (text : List ℕ) → Sextets text (a ∷ b ∷ c ∷ s) → Groups text (a ∷ b ∷ c ∷ s)
+next_group a b c [] groups text (low, suffix, lt, e, f, p) =
+    let size = ap length e in
+    let pads = pads_length 0 suffix p in
+    one_group text (a ∷ b ∷ c ∷ []) (low, suffix, lt, e, f, p) (omega arith) (omega arith)
+next_group a b c (x ∷ s) groups text (low, suffix, lt, e, f, p) =
+    let rest : List ℕ = unpadded low (x ∷ s) ++ suffix in
+    let g : Groups rest (x ∷ s) = groups rest (low, suffix, lt, refl, f.1.1.1, p) in
+    let size : length text ≡ 4 + length rest = ap length e ∙ four_more a b c rest in
+    let least : 3 ≤ length rest = long_rest low x s suffix (pads_length (needed (x ∷ s)) suffix p).0 in
+    let inner = g.size in
+    let outer = four_more a b c g.front in
+    record {
+      front = four a b c g.front;
+      last = g.last;
+      left = g.left;
+      split = e ∙ ap (four a b c) g.split;
+      size = omega arith;
+      remains = g.remains;
+      few = g.few;
+      canonical = ap (four a b c) g.canonical;
+    }
+
+pub groups_of : (text t : List ℕ) → Sextets text t → Groups text t
+groups_of text [] (low, suffix, lt, e, f, p) =
+    let size = ap length e in
+    let pads = pads_length 0 suffix p in
+    one_group text [] (low, suffix, lt, e, f, p) (omega arith) (omega arith)
+groups_of text (a ∷ []) (low, suffix, lt, e, f, p) =
+    let size = ap length e in
+    let pads = pads_length 2 suffix p in
+    one_group text (a ∷ []) (low, suffix, lt, e, f, p) (omega arith) (omega arith)
+groups_of text (a ∷ b ∷ []) (low, suffix, lt, e, f, p) =
+    let size = ap length e in
+    let pads = pads_length 1 suffix p in
+    one_group text (a ∷ b ∷ []) (low, suffix, lt, e, f, p) (omega arith) (omega arith)
+groups_of text (a ∷ b ∷ c ∷ s) h = next_group a b c s (λ u k. groups_of u s k) text h
+
+-- so many bytes of base64 are whole groups, and the rest spells at most three bytes
+pub record LastGroup (front rest t : List ℕ) : Type 0 where
+  pub left : List ℕ
+  pub remains : Sextets rest left
+  pub few : length left ≤ 3
+  pub canonical : canon_base64 t ≡ front ++ canon_base64 left
+
+pub last_group : (text t : List ℕ) (n : ℕ) (front rest : List ℕ) → Sextets text t
+    → n ≡ (length text - 2) / 4 * 4 → front ≡ take n text → rest ≡ drop n text
+    → LastGroup front rest t
+last_group text t n front rest h e f r =
+    let g = groups_of text t h in
+    let size : n ≡ length g.front = e ∙ sym g.size in
+    let own : front ≡ g.front =
+    f ∙ ap (λ y. take y text) size ∙ ap (take (length g.front)) g.split
+    ∙ take-append_seam g.front g.last in
+    let after : rest ≡ g.last =
+    r ∙ ap (λ y. drop y text) size ∙ ap (drop (length g.front)) g.split
+    ∙ drop-append_seam g.front g.last in
+    record {
+      left = g.left;
+      remains = subst (λ y. Sextets y g.left) (sym after) g.remains;
+      few = g.few;
+      canonical = g.canonical ∙ ap (λ y. y ++ canon_base64 g.left) (sym own);
+    }
+
+-- bytes of a Display String that stand for themselves are canonical
+no_plain : (b : ℕ) → is_unencoded b ≡ true → b ≡ quote → ⊥
+no_plain b h e = let never : false ≡ true = rw e at h in cc
+
+no_plain_percent : (b : ℕ) → is_unencoded b ≡ true → b ≡ percent → ⊥
+no_plain_percent b h e = let never : false ≡ true = rw e at h in cc
+
+pub run_of : (rest run stop s : List ℕ) → rest ≡ run ++ stop → Every is_unencoded run
+    → EncodedBytes rest s → CanonicalRun run stop s
+run_of rest [] stop s e h p = record {
+  left = s;
+  remains = subst (λ y. EncodedBytes y s) e p;
+  canonical = refl;
+}
+run_of rest (b ∷ run) stop [] e h p =
+    let same : b ∷ (run ++ stop) ≡ quote ∷ [] = sym e ∙ p in
+    absurd (no_plain b h.0 cc)
+run_of rest (b ∷ run) stop (c ∷ s) e h (suffix, inl (u, k), p) =
+    let same : b ∷ (run ++ stop) ≡ c ∷ suffix = sym e ∙ k in
+    let byte : b ≡ c = cc in
+    let tail : suffix ≡ run ++ stop = cc in
+    let r = run_of suffix run stop s tail h.1 p in
+    let here : canon_shown (c ∷ s) ≡ c ∷ canon_shown s = rw u refl in
+    record {
+      left = r.left;
+      remains = r.remains;
+      canonical =
+          here ∙ ap (λ t. c ∷ t) r.canonical ∙ ap (λ y. y ∷ (run ++ canon_shown r.left)) (sym byte);
+    }
+run_of rest (b ∷ run) stop (c ∷ s) e h (suffix, inr (u, k), p) =
+    let same : b ∷ (run ++ stop) ≡ percent ∷ (hex (c / 16) ∷ hex (c % 16) ∷ suffix) = sym e ∙ k in
+    absurd (no_plain_percent b h.0 cc)
+
+-- a byte and those after it
+pub shown_byte : (b : ℕ) (s : List ℕ) → canon_shown (b ∷ s) ≡ encoding b ++ canon_shown s
+shown_byte b s = by (is_unencoded b) refl
+  where
+    by : (r : Bool) → is_unencoded b ≡ r → canon_shown (b ∷ s) ≡ encoding b ++ canon_shown s
+    by true e = rw e refl
+    by false e = rw e refl
+
+-- the rest of the text spells bytes whose canonical text is still to be written
+pub record Unencoded (rest : List ℕ) (R : List ℕ → Type 0) : Type 0 where
+  pub left : List ℕ
+  pub remains : EncodedBytes rest left
+  pub unsent : R (canon_shown left)
+
+-- a field that a text of a kind spells is of that kind
+spelled_kind : (d : Dialect) (k : Kind) (t : List ℕ) (v : Field) → SpellsField d k t v
+    → kind_of v ≡ k
+spelled_kind d kind.Item t (field.Item i) h = refl
+spelled_kind d kind.Item t (field.List l) h = absurd h
+spelled_kind d kind.Item t (field.Dict m) h = absurd h
+spelled_kind d kind.List t (field.Item i) h = absurd h
+spelled_kind d kind.List t (field.List l) h = refl
+spelled_kind d kind.List t (field.Dict m) h = absurd h
+spelled_kind d kind.Dict t (field.Item i) h = absurd h
+spelled_kind d kind.Dict t (field.List l) h = absurd h
+spelled_kind d kind.Dict t (field.Dict m) h = refl
+
+-- what is the canonical text of any field that a view's nodes describe is that of its text
+pub viewed_canonical : (d : Dialect) (k : Kind) (t : List ℕ) (view : View) (c : List ℕ)
+    → IsViewed d k t view
+    → ((v : Field) → DescribesField d view.text.now view.nodes.now v → kind_of v ≡ k → c ≡ canon v)
+    → IsCanonicalOf d k t c
+viewed_canonical d k t view c w canonical = record {
+  value = w.value;
+  only = w.only;
+  canonical =
+      canonical w.value
+      (subst (λ y. DescribesField d y view.nodes.now w.value) (sym w.text) w.describes)
+      (spelled_kind d k t w.value w.only.spelled);
+}
+
+-- the bytes of a String, none of which needs a backslash
+pub unescaped_text : (bytes front rest t : List ℕ) → bytes ≡ front ++ rest
+    → Every is_unescaped front → rest ≡ [] → bytes ≡ t → bytes ≡ escaped t
+unescaped_text bytes front rest t e h none same =
+    let whole : bytes ≡ front = e ∙ ap (λ y. front ++ y) none ∙ append-nil front in
+    whole ∙ sym (unescaped_same front h) ∙ ap escaped (sym whole ∙ same)
+
+-- the first byte of a text
+pub no_first : (text rest : List ℕ) (b : ℕ) → text ≡ [] → text ≡ b ∷ rest → ⊥
+no_first text rest b e f = let g : [] ≡ b ∷ rest = sym e ∙ f in cc
+
+pub same_rest : (text rest more : List ℕ) (a b : ℕ) → text ≡ a ∷ rest → text ≡ b ∷ more
+    → rest ≡ more
+same_rest text rest more a b e f = let g : a ∷ rest ≡ b ∷ more = sym e ∙ f in cc
+
+-- a text begins with canonical bytes of a Display String, and goes on with the rest
+pub record Canonical (text rest : List ℕ) : Type 0 where
+  pub front : List ℕ
+  pub split : text ≡ front ++ rest
+  pub run : (t : List ℕ) → EncodedBytes text t → CanonicalRun front rest t
+
+pub canonical_none : (text : List ℕ) → Canonical text text
+canonical_none text = record {
+  front = [];
+  split = refl;
+  run = λ t h. record { left = t; remains = h; canonical = refl };
+}
+
+-- two runs, one after the other
+runs_join : (front more rest t u : List ℕ) → canon_shown t ≡ front ++ canon_shown u
+    → CanonicalRun more rest u → CanonicalRun (front ++ more) rest t
+runs_join front more rest t u e r = record {
+  left = r.left;
+  remains = r.remains;
+  canonical =
+      e ∙ ap (λ y. front ++ y) r.canonical ∙ sym (append_assoc front more (canon_shown r.left));
+}
+
+pub canonical_more : (text mid more rest : List ℕ) → Canonical text mid → mid ≡ more ++ rest
+    → ((t : List ℕ) → EncodedBytes mid t → CanonicalRun more rest t) → Canonical text rest
+canonical_more text mid more rest c e run = record {
+  front = c.front ++ more;
+  split = c.split ∙ ap (λ y. c.front ++ y) e ∙ sym (append_assoc c.front more rest);
+  run = λ t h. let a = c.run t h in
+      runs_join c.front more rest t a.left a.canonical (run a.left a.remains);
+}
+
+pub canonical_plain : (text mid plain rest : List ℕ) → Canonical text mid → mid ≡ plain ++ rest
+    → Every is_unencoded plain → Canonical text rest
+canonical_plain text mid plain rest c e h =
+    canonical_more text mid plain rest c e (λ t k. run_of mid plain rest t e h k)
+
+pub canonical_escape : (text mid rest : List ℕ) → Canonical text mid → IsNeededEscape mid rest
+    → Canonical text rest
+canonical_escape text mid rest c i = canonical_more text mid i.front rest c i.split i.run
+
+-- the front by its length
+pub canonical_cut : (text rest : List ℕ) (n : ℕ) (front back : List ℕ) → Canonical text rest
+    → n ≡ length text - length rest → front ≡ take n text → back ≡ drop n text
+    → (t : List ℕ) → EncodedBytes text t → CanonicalRun front back t
+canonical_cut text rest n front back c e f b t h =
+    let sizes = ap length c.split ∙ length-append c.front rest in
+    let size : n ≡ length c.front = omega arith in
+    let own : front ≡ c.front =
+    f ∙ ap (λ y. take y text) size ∙ ap (take (length c.front)) c.split
+    ∙ take-append_seam c.front rest in
+    let after : back ≡ rest =
+    b ∙ ap (λ y. drop y text) size ∙ ap (drop (length c.front)) c.split
+    ∙ drop-append_seam c.front rest in
+    let a = c.run t h in
+    record {
+      left = a.left;
+      remains = subst (λ y. EncodedBytes y a.left) (sym after) a.remains;
+      canonical = a.canonical ∙ ap (λ y. y ++ canon_shown a.left) (sym own);
+    }
+
+pub canonical_shorter : (text rest : List ℕ) → Canonical text rest → length rest ≤ length text
+canonical_shorter text rest c =
+    let sizes = ap length c.split ∙ length-append c.front rest in
+    omega arith
+
+-- an escape of a byte that needs one
+escape_run : (text rest t : List ℕ) (x y z b : ℕ) → text ≡ x ∷ y ∷ z ∷ rest
+    → is_unencoded b ≡ false → EncodedBytes text (b ∷ t)
+    → CanonicalRun (x ∷ y ∷ z ∷ []) rest (b ∷ t)
+escape_run text rest t x y z b e n (suffix, inl (u, k), p) =
+    let never : true ≡ false = sym u ∙ n in
+    absurd cc
+escape_run text rest t x y z b e n (suffix, inr (u, k), p) =
+    let same : x ∷ y ∷ z ∷ rest ≡ percent ∷ hex (b / 16) ∷ hex (b % 16) ∷ suffix = sym e ∙ k in
+    let one : x ≡ percent = cc in
+    let two : y ≡ hex (b / 16) = cc in
+    let three : z ≡ hex (b % 16) = cc in
+    let after : rest ≡ suffix = cc in
+    let here : canon_shown (b ∷ t) ≡ percent ∷ hex (b / 16) ∷ hex (b % 16) ∷ canon_shown t =
+    rw n refl in
+    record {
+      left = t;
+      remains = subst (λ s. EncodedBytes s t) (sym after) p;
+      canonical = here ∙ rw (one, two, three) refl;
+    }
+
+pub needed_is : (text rest : List ℕ) (x y z b : ℕ) (P : List ℕ → Type 0)
+    → text ≡ x ∷ y ∷ z ∷ rest → is_unencoded b ≡ false
+    → ((t : List ℕ) → EncodedBytes text t → TakesByte b P t) → IsNeededEscape text rest
+needed_is text rest x y z b P e n takes = record {
+  front = x ∷ y ∷ z ∷ [];
+  split = e;
+  run = λ t h. let s = takes t h in
+      subst (CanonicalRun (x ∷ y ∷ z ∷ []) rest) (sym s.split)
+      (escape_run text rest s.left x y z b e n (subst (EncodedBytes text) s.split h));
+}
+
+pub needed_cut : (text : List ℕ) (b : ℕ) (P : List ℕ → Type 0) → 3 ≤ length text
+    → is_unencoded b ≡ false → ((t : List ℕ) → EncodedBytes text t → TakesByte b P t)
+    → IsNeededEscape text (take (length text - 3) (drop 3 text))
+needed_cut [] b P h n takes = absurd (omega arith)
+needed_cut (x ∷ []) b P h n takes = absurd (omega arith)
+needed_cut (x ∷ y ∷ []) b P h n takes = absurd (omega arith)
+needed_cut (x ∷ y ∷ z ∷ rest) b P h n takes =
+    let size : length (x ∷ y ∷ z ∷ rest) - 3 ≡ length rest = omega arith in
+    let whole : take (length (x ∷ y ∷ z ∷ rest) - 3) rest ≡ rest =
+    ap (λ m. take m rest) size ∙ take-length rest in
+    subst (IsNeededEscape (x ∷ y ∷ z ∷ rest)) (sym whole)
+    (needed_is (x ∷ y ∷ z ∷ rest) rest x y z b P refl n takes)

@@ -1,0 +1,86 @@
+-- What reading the start of a text without nodes returns.
+use Rattle.std.specs.Prelude.{◌≡◌, ℕ, List, ◌∷◌, ◌++◌, Option, Some, None}
+use Rattle.sf_value.specs.Ascii.{close_bracket}
+use Rattle.sf_value.specs.declared.dialect.Dialect.{Dialect}
+use Rattle.sf_value.specs.declared.value.Bare.{Bare}
+use Rattle.sf_value.specs.declared.value.Bare.TheVariants.{Text}
+use Rattle.sf_value.specs.declared.value.Item.{Item}
+use Rattle.sf_value.specs.declared.value.Member.{Member}
+use Rattle.sf_value.specs.declared.value.Member.TheVariants as member
+use Rattle.sf_value.specs.Grammar.BareItems.{SpellsBare}
+use Rattle.sf_value.specs.Grammar.Parameters.{SpellsParam}
+use Rattle.sf_value.specs.Grammar.InnerLists.{SpellsItems, SpellsMember}
+use Rattle.sf_value.specs.Grammar.Fields.{SpellsEntry}
+use Rattle.sf_view.specs.declared.view.BareView.{BareView}
+use Rattle.sf_view.specs.declared.view.Slice.{Slice}
+use Rattle.sf_view.specs.declared.bare.Part.{Part}
+use Rattle.sf_view.specs.View.{type_of, number_of, DescribesText}
+use Rattle.sf_view.specs.Views.{IsBorrowed}
+
+-- the start of the text, up to the rest, spells something
+pub record Reads {X : Type 0} (P : List ℕ → X → Type 0) (text rest : List ℕ) : Type 0 where
+  pub front : List ℕ
+  pub value : X
+  pub split : text ≡ front ++ rest
+  pub spelled : P front value
+
+-- it spells a bare item, which is borrowed
+pub record ReadsBare (d : Dialect) (text : List ℕ) (b : BareView) (rest : List ℕ) : Type 0 where
+  pub front : List ℕ
+  pub value : Bare
+  pub split : text ≡ front ++ rest
+  pub spelled : SpellsBare d front value
+  pub borrowed : IsBorrowed d b value
+
+-- it spells a parameter of this key, and its value is borrowed
+pub record ReadsParam (d : Dialect) (text key : List ℕ) (b : BareView) (rest : List ℕ)
+    : Type 0 where
+  pub front : List ℕ
+  pub value : Bare
+  pub split : text ≡ front ++ rest
+  pub spelled : SpellsParam d front key value
+  pub borrowed : IsBorrowed d b value
+
+-- it spells the Items of an Inner List, with at least so many spaces before the first, and a closing
+-- bracket follows
+pub record ReadsItems (d : Dialect) (least : ℕ) (text rest : List ℕ) : Type 0 where
+  pub front : List ℕ
+  pub items : List Item
+  pub split : text ≡ front ++ close_bracket ∷ rest
+  pub spelled : SpellsItems d least front items
+
+-- a part with these bytes describes this bare item
+pub record PartShows (d : Dialect) (p : Part) (bytes : List ℕ) (x : Bare) : Type 0 where
+  pub node_type : p.node_type ≡ type_of x
+  pub number : p.number ≡ number_of x
+  pub text : DescribesText d p.coded bytes x
+
+-- the bare item of an Item is borrowed; an Inner List has none
+abbrev pub ShowsMember : Dialect → Option BareView → Member → Type 0
+ShowsMember d (Some b) (member.Item i) = IsBorrowed d b i.bare
+ShowsMember d None (member.Inner l) = Unit {0}
+ShowsMember d b m = ⊥
+
+-- it spells a member, of which this is shown
+pub record ReadsMember (d : Dialect) (text : List ℕ) (b : Option BareView) (rest : List ℕ)
+    : Type 0 where
+  pub front : List ℕ
+  pub value : Member
+  pub split : text ≡ front ++ rest
+  pub spelled : SpellsMember d front value
+  pub shows : ShowsMember d b value
+
+-- it spells a member of a Dictionary with this key, of which this is shown
+pub record ReadsEntry (d : Dialect) (text key : List ℕ) (b : Option BareView) (rest : List ℕ)
+    : Type 0 where
+  pub front : List ℕ
+  pub value : Member
+  pub split : text ≡ front ++ rest
+  pub spelled : SpellsEntry d front (key, value)
+  pub shows : ShowsMember d b value
+
+-- the bytes of a String are given, or there is none
+abbrev pub ShowsText : Dialect → Option Slice → Option (List ℕ) → Type 0
+ShowsText d (Some s) (Some t) = DescribesText d s.coded s.bytes.now (Text t)
+ShowsText d None None = Unit {0}
+ShowsText d s t = ⊥

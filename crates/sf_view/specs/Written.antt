@@ -1,0 +1,44 @@
+-- Parts of canonical texts, as they are written from nodes.
+use Rattle.std.specs.Prelude.{◌≡◌, ℕ, ◌/◌, ◌%◌, Bool, true, false, if◌then◌else◌, List as Seq, [], ◌∷◌, ◌++◌}
+use Rattle.sf_value.specs.declared.dialect.Dialect.{Dialect}
+use Rattle.sf_value.specs.declared.value.Bare.{Bare}
+use Rattle.sf_value.specs.declared.value.Field.{Field}
+use Rattle.sf_value.specs.declared.value.Kind.{Kind}
+use Rattle.sf_value.specs.Ascii.{percent, semicolon}
+use Rattle.sf_value.specs.Grammar.DisplayStrings.{hex, is_unencoded, EncodedBytes}
+use Rattle.sf_value.specs.Grammar.Canonical.{canon, canon_shown, canon_value}
+use Rattle.sf_parse.specs.Parsers.{IsOnly}
+use Rattle.sf_view.specs.declared.view.BareView.{BareView}
+use Rattle.sf_view.specs.declared.view.BareView.TheVariants as view_is
+
+-- a byte of a Display String: itself, or % and its two digits (RFC 9651, 4.1.11)
+abbrev pub encoding : ℕ → Seq ℕ
+encoding b =
+    if is_unencoded b then b ∷ [] else percent ∷ hex (b / 16) ∷ hex (b % 16) ∷ []
+
+-- the text begins with bytes of a Display String that are canonical, and the rest spells the others
+pub record CanonicalRun (front rest t : Seq ℕ) : Type 0 where
+  pub left : Seq ℕ
+  pub remains : EncodedBytes rest left
+  pub canonical : canon_shown t ≡ front ++ canon_shown left
+
+-- the text begins with the escape of a byte that has to be escaped, if it is of a Display String
+pub record IsNeededEscape (text rest : Seq ℕ) : Type 0 where
+  pub front : Seq ℕ
+  pub split : text ≡ front ++ rest
+  pub run : (t : Seq ℕ) → EncodedBytes text t → CanonicalRun front rest t
+
+-- a parameter (4.1.1.2)
+abbrev pub canon_param : Seq ℕ × Bare → Seq ℕ
+canon_param p = semicolon ∷ (p.0 ++ canon_value p.1)
+
+-- whether a borrowed bare item is Boolean true
+abbrev pub is_flag : BareView → Bool
+is_flag (view_is.Boolean true) = true
+is_flag x = false
+
+-- c is the canonical text of the value that the text t spells, the only one
+pub record IsCanonicalOf (d : Dialect) (kind : Kind) (t c : Seq ℕ) : Type 0 where
+  pub value : Field
+  pub only : IsOnly d kind t value
+  pub canonical : c ≡ canon value

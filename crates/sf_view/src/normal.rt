@@ -1,0 +1,181 @@
+//! Canonical texts, in memory.
+ghost use Rattle.std.specs.Prelude.{◌≡◌, ℕ, List as Seq, IfOk, IfSome, MatchResult, Err};
+ghost use Rattle.sf_value.specs.declared.dialect.Dialect.{Dialect as Which};
+ghost use Rattle.sf_value.specs.declared.value.Field.{Field as FieldValue};
+ghost use Rattle.sf_value.specs.Grammar.Canonical.{canon};
+ghost use Rattle.sf_value.specs.Grammar.Fields.{kind_of};
+ghost use Rattle.sf_parse.specs.Parsers.{Parses};
+ghost use Rattle.sf_view.specs.View.{DescribesField};
+ghost use Rattle.sf_view.specs.Views.{IsViewed};
+ghost use Rattle.sf_view.specs.Written.{IsCanonicalOf};
+
+use crate::node::Node;
+use crate::view::{Unviewed, View};
+use crate::writing::write_view;
+use sf_parse::{Refusal, parse_text_in};
+use sf_value::{Dialect, Kind, OutOfMemory, Writing};
+use sf_write::to_text;
+use std::alloc::Global;
+use std::hash::RandomState;
+
+/// How many nodes are on the stack.
+const FEW: usize = 32;
+
+/// How many bytes are counted together: few enough that the count fits in a byte.
+const CHUNK: usize = 128;
+
+/// Returns the canonical text (RFC 9651 section 4.1) of the field of this kind that a view shows:
+/// the text that [`sf_write::to_text`] returns of that field. It fails only if an allocation fails.
+///
+/// ```
+/// let view = View::scan(Dialect::Rfc9651, Kind::Dict, b"u=1,  i=?1", &mut nodes)?;
+/// let text = view_text(alloc, &view, Kind::Dict)?; // u=1, i
+/// ```
+pub fn view_text(alloc: Global, view: &View, kind: Kind) -> Result<Vec<u8>, OutOfMemory>
+    // Whatever field of the kind the nodes describe, this is its canonical text.
+    ensures canon { (d : Which) (v : FieldValue)
+        → DescribesField d view.now.text.now view.now.nodes.now v
+        → kind_of v ≡ kind
+        → IfOk result (λ text. text.items ≡ canon v) }
+    // Of a view that a scan returned, it is that of the field that the scanned text spells.
+    ensures scanned { (d : Which) (t : Seq ℕ) → IsViewed d kind t view.now
+        → IfOk result (λ text. IsCanonicalOf d kind t text.items) }
+{
+    let mut out = Writing::new(Vec::with_capacity(alloc, longest(view.text.len()))?);
+    match write_view(view, kind, &mut out) {
+        Ok(_) => Ok(out.into_inner()),
+        Err(_) => Err(OutOfMemory),
+    }
+}
+
+/// Returns the canonical text (RFC 9651 section 4.1) of the field that a text spells in a dialect,
+/// or refuses what [`parse_text_in`] refuses, as that does. The text is written from nodes that
+/// point into the one that is read; only if there are none, as for a repeated key, the field is
+/// built. It allocates the canonical text, and nodes if there are more than 32.
+///
+/// ```
+/// normalise(alloc, &seed, Dialect::Rfc9651, Kind::Dict, b"u=1,  i=?1") // Ok: u=1, i
+/// ```
+pub fn normalise(
+    alloc: Global,
+    seed: &RandomState,
+    dialect: Dialect,
+    kind: Kind,
+    text: &[u8],
+) -> Result<Vec<u8>, Refusal>
+    // The canonical text of the only value that the text spells, or the refusal of the text.
+    ensures { MatchResult result (λ c. IsCanonicalOf dialect kind text.now c.items)
+        (λ e. Parses dialect kind text.now (Err e)) }
+{
+    if let Some(canonical) = canonical_text(alloc, dialect, kind, text)? {
+        return Ok(canonical);
+    }
+    by_field(alloc, seed, dialect, kind, text)
+}
+
+/// Returns the canonical text (RFC 9651 section 4.1) of the field that a text spells in a dialect,
+/// written from nodes; `None` if the text has no view, and then [`sf_parse::parse_text_in`] decides.
+/// It fails only if an allocation fails. It allocates the canonical text, and nodes if there are
+/// more than 32.
+///
+/// ```
+/// canonical_text(alloc, Dialect::Rfc9651, Kind::Dict, b"u=1,  i=?1") // Ok(Some(..)): u=1, i
+/// ```
+pub fn canonical_text(
+    alloc: Global,
+    dialect: Dialect,
+    kind: Kind,
+    text: &[u8],
+) -> Result<Option<Vec<u8>>, OutOfMemory>
+    // The canonical text of the only value that the text spells.
+    ensures { IfOk result
+        (λ found. IfSome found (λ c. IsCanonicalOf dialect kind text.now c.items)) }
+{
+    let mut few = [Node::NONE; FEW];
+    match View::scan(dialect, kind, text, &mut few) {
+        Ok(view) => return Ok(Some(view_text(alloc, &view, kind)?)),
+        Err(Unviewed::ShortBuffer) => return by_many_nodes(alloc, dialect, kind, text),
+        Err(_) => return Ok(None),
+    }
+}
+
+/// The same of a text with more nodes than are on the stack.
+fn by_many_nodes(
+    alloc: Global,
+    dialect: Dialect,
+    kind: Kind,
+    text: &[u8],
+) -> Result<Option<Vec<u8>>, OutOfMemory>
+    ensures { IfOk result
+        (λ found. IfSome found (λ c. IsCanonicalOf dialect kind text.now c.items)) }
+{
+    let mut nodes = buffer_of(alloc, most_nodes(text))?;
+    match View::scan(dialect, kind, text, nodes.as_mut_slice()) {
+        Ok(view) => return Ok(Some(view_text(alloc, &view, kind)?)),
+        Err(_) => return Ok(None),
+    }
+}
+
+/// The canonical text by the field.
+fn by_field(
+    alloc: Global,
+    seed: &RandomState,
+    dialect: Dialect,
+    kind: Kind,
+    text: &[u8],
+) -> Result<Vec<u8>, Refusal>
+    ensures { MatchResult result (λ c. IsCanonicalOf dialect kind text.now c.items)
+        (λ e. Parses dialect kind text.now (Err e)) }
+{
+    let field = parse_text_in(alloc, seed, dialect, kind, text)?;
+    let canonical = to_text(alloc, &field);
+    drop(field);
+    Ok(canonical?)
+}
+
+/// No canonical text of a text of this length is longer: it has at most eight fifths of it. No
+/// text depends on this: with too small a number, memory would be allocated again.
+fn longest(length: usize) -> usize {
+    (length / 5).saturating_add(1).saturating_mul(8)
+}
+
+/// A buffer of at least so many nodes.
+fn buffer_of(alloc: Global, count: usize) -> Result<Vec<Node>, OutOfMemory> {
+    let block = [Node::NONE; FEW];
+    let blocks = count.div_ceil(FEW);
+    let mut nodes = Vec::with_capacity(alloc, blocks.saturating_mul(FEW))?;
+    for _ in 0..blocks {
+        nodes.extend_from_slice(&block)?;
+    }
+    Ok(nodes)
+}
+
+/// A text has at most so many nodes: before each but the first is a comma, a semicolon or an opening
+/// bracket, or, in an Inner List, a space. No text depends on this: with too small a number, the
+/// field is built.
+fn most_nodes(text: &[u8]) -> usize {
+    let lists = occurrences(text, b'(');
+    let spaces = if lists == 0 {
+        0
+    } else {
+        occurrences(text, b' ')
+    };
+    occurrences(text, b',')
+        .saturating_add(occurrences(text, b';'))
+        .saturating_add(lists)
+        .saturating_add(spaces)
+        .saturating_add(1)
+}
+
+/// How often the byte is in the text. The compiler adds up a chunk in vectors of bytes.
+fn occurrences(text: &[u8], byte: u8) -> usize {
+    let mut count = 0usize;
+    for chunk in text.chunks(CHUNK) {
+        let mut few = 0u8;
+        for found in chunk {
+            few = few.wrapping_add((*found == byte) as u8);
+        }
+        count = count.wrapping_add(few as usize);
+    }
+    count
+}

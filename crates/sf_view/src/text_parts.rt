@@ -1,0 +1,170 @@
+//! Parts of a text, read without nodes.
+ghost use Rattle.std.specs.Prelude.{◌≡◌, ◌++◌, ◌∷◌, IfSome};
+ghost use Rattle.sf_value.specs.Ascii.{semicolon};
+ghost use Rattle.sf_value.specs.Grammar.Tokens.{IsKey};
+ghost use Rattle.sf_value.specs.Grammar.Parameters.{SpellsRaw};
+ghost use Rattle.sf_value.specs.Grammar.Items.{SpellsItem};
+ghost use Rattle.sf_value.specs.Grammar.InnerLists.{SpellsInner};
+ghost use Rattle.sf_value.specs.declared.dialect.Dialect.{Dialect as Which};
+ghost use Rattle.sf_value.specs.declared.value.Bare.{Bare};
+ghost use Rattle.sf_view.specs.Scans.{PartDescribes};
+ghost use Rattle.sf_view.specs.Views.{IsBorrowed, ShowsBare};
+ghost use Rattle.sf_view.specs.Reads.{PartShows, Reads, ReadsBare, ReadsParam, ReadsItems, ReadsMember, ReadsEntry};
+
+use crate::bare::{Part, scan_value};
+use crate::classes::{InKey, behind, behind_spaces, is_key_start, short_front, split};
+use crate::keys::bytes_at;
+use crate::node_types::NodeType;
+use crate::view::{BareView, Slice};
+use sf_value::Dialect;
+
+/// What a key without a value has.
+const TRUE: BareView = BareView::Boolean(true);
+
+/// A bare item, and the rest; `None` also if 4 GiB of text or more are left.
+#[inline]
+pub(crate) fn read_bare(dialect: Dialect, text: &[u8]) -> Option<(BareView, &[u8])>
+    ensures { IfSome result (λ r. ReadsBare dialect text.now r.0 r.1.now) }
+{
+    if text.len() > 0xffff_ffff {
+        return None;
+    }
+    let (part, rest) = scan_value(dialect, text.len(), text)?;
+    Some((borrowed(text, part)?, rest))
+}
+
+/// The bare item of a part of the text.
+#[inline]
+fn borrowed(text: &[u8], part: Part) -> Option<BareView>
+    ensures { IfSome result (λ b. (d : Which) (x : Bare) → PartDescribes d text.now part x
+        → IsBorrowed d b x) }
+{
+    let bytes = bytes_at(text, part.at as usize, part.length as usize)?;
+    typed(part, bytes)
+}
+
+/// The bare item of a part with these bytes; `None` for an Inner List.
+#[inline]
+fn typed(part: Part, bytes: &[u8]) -> Option<BareView>
+    ensures { (d : Which) (x : Bare) → PartShows d part bytes.now x → ShowsBare d result x }
+{
+    let coded = part.coded;
+    match part.node_type {
+        NodeType::Integer => return Some(BareView::Integer(part.number)),
+        NodeType::Decimal => return Some(BareView::Decimal(part.number)),
+        NodeType::Text => return Some(BareView::Text(Slice { bytes, coded })),
+        NodeType::Token => return Some(BareView::Token(bytes)),
+        NodeType::Blob => return Some(BareView::Blob(Slice { bytes, coded })),
+        NodeType::Boolean => return Some(BareView::Boolean(part.number != 0)),
+        NodeType::Date => return Some(BareView::Date(part.number)),
+        NodeType::Shown => return Some(BareView::Shown(Slice { bytes, coded })),
+        NodeType::InnerList => return None,
+    }
+}
+
+/// A key, and the rest.
+#[inline]
+fn read_key(text: &[u8]) -> Option<(&[u8], &[u8])>
+    ensures { IfSome result (λ r. (text.now ≡ r.0.now ++ r.1.now) × IsKey r.0.now) }
+{
+    let (first, more) = split(text)?;
+    if !is_key_start(first) {
+        return None;
+    }
+    let (front, _) = short_front::<InKey>(more);
+    Some(text.split_at(front.len() + 1))
+}
+
+/// One parameter, after its semicolon: its key, its value, and the rest.
+#[inline]
+pub(crate) fn read_param<'a>(
+    dialect: Dialect,
+    text: &'a [u8],
+) -> Option<(&'a [u8], BareView<'a>, &'a [u8])>
+    ensures { IfSome result (λ r. ReadsParam dialect (semicolon ∷ text.now) r.0.now r.1 r.2.now) }
+{
+    let (key, after) = read_key(behind_spaces(text))?;
+    let Some(value) = behind(after, b'=') else {
+        return Some((key, TRUE, after));
+    };
+    let (bare, rest) = read_bare(dialect, value)?;
+    Some((key, bare, rest))
+}
+
+/// The rest after parameters.
+pub(crate) fn behind_params(dialect: Dialect, text: &[u8]) -> Option<&[u8]>
+    ensures { IfSome result (λ rest. Reads (SpellsRaw dialect) text.now rest.now) }
+{
+    let mut rest = text;
+    while let Some(more) = behind(rest, b';') {
+        let (_, _, left) = read_param(dialect, more)?;
+        rest = left;
+    }
+    Some(rest)
+}
+
+/// The rest after an Item.
+#[inline]
+pub(crate) fn behind_item(dialect: Dialect, text: &[u8]) -> Option<&[u8]>
+    ensures { IfSome result (λ rest. Reads (SpellsItem dialect) text.now rest.now) }
+{
+    let (_, rest) = read_bare(dialect, text)?;
+    behind_params(dialect, rest)
+}
+
+/// The rest after the Items of an Inner List and its closing bracket.
+fn behind_items(dialect: Dialect, text: &[u8]) -> Option<&[u8]>
+    ensures { IfSome result (λ rest. ReadsItems dialect 0 text.now rest.now) }
+{
+    let mut rest = behind_spaces(text);
+    loop {
+        if let Some(left) = behind(rest, b')') {
+            return Some(left);
+        }
+        let after = behind_item(dialect, rest)?;
+        let Some(more) = behind(after, b' ') else {
+            return behind(after, b')');
+        };
+        rest = behind_spaces(more);
+    }
+}
+
+/// The rest after an Inner List.
+fn behind_inner(dialect: Dialect, text: &[u8]) -> Option<&[u8]>
+    ensures { IfSome result (λ rest. Reads (SpellsInner dialect) text.now rest.now) }
+{
+    let inside = behind(text, b'(')?;
+    behind_params(dialect, behind_items(dialect, inside)?)
+}
+
+/// A member of a List, or of a Dictionary after its key and =: its bare item, or `None` for an
+/// Inner List, and the rest.
+#[inline]
+pub(crate) fn read_member<'a>(
+    dialect: Dialect,
+    text: &'a [u8],
+) -> Option<(Option<BareView<'a>>, &'a [u8])>
+    ensures { IfSome result (λ r. ReadsMember dialect text.now r.0 r.1.now) }
+{
+    if behind(text, b'(').is_some() {
+        return Some((None, behind_inner(dialect, text)?));
+    }
+    let (bare, after) = read_bare(dialect, text)?;
+    Some((Some(bare), behind_params(dialect, after)?))
+}
+
+/// A member of a Dictionary: its key, its bare item or `None` for an Inner List, and the rest.
+#[inline]
+pub(crate) fn read_entry<'a>(
+    dialect: Dialect,
+    text: &'a [u8],
+) -> Option<(&'a [u8], Option<BareView<'a>>, &'a [u8])>
+    ensures { IfSome result (λ r. ReadsEntry dialect text.now r.0.now r.1 r.2.now) }
+{
+    let (key, after) = read_key(text)?;
+    if let Some(value) = behind(after, b'=') {
+        let (bare, rest) = read_member(dialect, value)?;
+        return Some((key, bare, rest));
+    }
+    Some((key, Some(TRUE), behind_params(dialect, after)?))
+}
