@@ -11,7 +11,7 @@ use Rattle.sf_view.specs.declared.node.Node.{Node}
 use Rattle.sf_view.specs.View.{DescribesField}
 use Rattle.sf_view.specs.Scans.{Puts}
 
--- the text spells a field, the only one, of which the first so many nodes describe
+-- the text spells a field and no other, and the first nodes, count many, describe it
 pub record Accepts (d : Dialect) (kind : Kind) (text : List ℕ) (nodes : List Node) (count : ℕ)
     : Type 0 where
   pub within : count ≤ length nodes
@@ -19,7 +19,8 @@ pub record Accepts (d : Dialect) (kind : Kind) (text : List ℕ) (nodes : List N
   pub only : IsOnly d kind text value
   pub describes : DescribesField d text (take count nodes) value
 
--- members were read, and the rest begins with one: with any at its front they are a series
+-- members were read, and the rest begins with another: with any member at the start of the rest
+-- they are a series
 pub record SoFar (X : Type 0) (P : List ℕ → X → Type 0) (T : List Node → List X → Type 0)
     (text rest : List ℕ) (old new : List Node) (count : ℕ) : Type 0 where
   pub gap : List ℕ

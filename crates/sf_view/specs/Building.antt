@@ -1,4 +1,4 @@
--- What nodes that anybody made are read as.
+-- How nodes of any origin are read.
 use Rattle.std.specs.Prelude.{◌≡◌, ◌≢◌, ℕ, suc, ◌+◌, ◌-◌, ◌≤◌, List as Seq, [], ◌∷◌, ◌++◌, length}
 use Rattle.std.specs.Prelude.{take, Option, Some, None, Result, Ok, Err, slice_index, ℤ, Bool, true, false}
 use Rattle.sf_value.specs.Ascii.{space}
@@ -29,15 +29,15 @@ use Rattle.sf_view.specs.View.{DescribesInner, DescribesMember, DescribesMembers
 use Rattle.sf_view.specs.View.{DescribesField}
 use Rattle.sf_view.specs.Views.{NodeShows}
 
--- the node at this index is wrong: no nodes of the same number that begin with the same ones up to
--- and with it are as P says. It is 0 if there are no nodes
+-- the node at this index is wrong: P holds for no nodes of the same number that begin with the same
+-- ones, up to and with this node. The index is 0 if there are no nodes
 pub record IsWrongAt {X : Type 0} (P : Seq Node → X → Type 0) (nodes : Seq Node) (index : ℕ)
     : Type 0 where
   pub within : index ≤ length nodes - 1
   pub stuck : (others : Seq Node) → length others ≡ length nodes
       → take (suc index) others ≡ take (suc index) nodes → (x : X) → P others x → ⊥
 
--- what the nodes are as a whole, by P, or the first that is wrong
+-- P holds for the nodes and the value, or the node at the index is wrong
 abbrev pub Reads : {X : Type 0} → (Seq Node → X → Type 0) → Seq Node → Result X NoField → Type 0
 Reads P nodes (Ok x) = P nodes x
 Reads P nodes (Err OutOfMemory) = Unit {0}
@@ -47,16 +47,16 @@ Reads P nodes (Err (Invalid index)) = IsWrongAt P nodes index
 abbrev pub IsField : Dialect → Kind → Seq ℕ → Seq Node → Field → Type 0
 IsField d kind source ns v = DescribesField d source ns v × Valid d kind v
 
--- the same of an Item field
+-- the same for an Item field
 abbrev pub IsItemField : Dialect → Seq ℕ → Seq Node → Item → Type 0
 IsItemField d source ns i = IsField d kind.Item source ns (field.Item i)
 
--- the value that P says, or there is none
+-- a value for which P holds, or None if it holds for no value
 abbrev pub Gives : {X : Type 0} → (X → Type 0) → Option X → Type 0
 Gives P (Some x) = P x
 Gives P None = (x : _) → P x → ⊥
 
--- a valid bare item of this node, by its bytes
+-- a valid bare item of a node that points to these bytes
 abbrev pub IsBare : Dialect → Node → Seq ℕ → Bare → Type 0
 IsBare d n bytes x = NodeShows d n bytes x × ValidBare d x
 
@@ -65,7 +65,7 @@ abbrev pub first_key : Seq ℕ → Seq Node → Seq ℕ
 first_key source [] = []
 first_key source (n ∷ ns) = piece n.key_at n.key_length source
 
--- a node of this role, of so many nodes
+-- a valid bare item of a node of this role and size
 abbrev pub IsValue : Dialect → Seq ℕ → Role → ℕ → Node → Bare → Type 0
 IsValue d source r m n x =
     DescribesBare d source r (piece n.key_at n.key_length source) m n x × ValidBare d x
@@ -74,7 +74,7 @@ IsValue d source r m n x =
 abbrev pub AreParams : Dialect → Seq ℕ → Role → Seq Node → Pairs Bare → Type 0
 AreParams d source r ns ps = DescribesParams d source r ns ps × ValidParams d ps
 
--- the value of a parameter of this role, of one node
+-- the value of a parameter that one node of this role describes
 abbrev pub IsParam : Dialect → Seq ℕ → Role → Seq Node → Bare → Type 0
 IsParam d source r ns x = (n : Node) × (ns ≡ n ∷ []) × IsValue d source r 1 n x
 
@@ -131,7 +131,7 @@ abbrev pub StartsItem : Seq Node → Type 0
 StartsItem [] = ⊥
 StartsItem (n ∷ ns) = n.role ≡ role_number role_is.InnerItem
 
--- the same index, after so many more nodes
+-- the same fault, after count more nodes
 abbrev pub shifted : ℕ → NoField → NoField
 shifted count OutOfMemory = OutOfMemory
 shifted count (Invalid index) = Invalid (count + index)

@@ -9,12 +9,12 @@ use Rattle.sf_value.specs.declared.value.Member.{Member}
 use Rattle.sf_value.specs.Grammar.Pairs.{Pairs}
 use Rattle.sf_parse.specs.Parsers.{IsOnly}
 
--- the copy of a value is that value, and there is one unless the value is not valid
+-- the copy of a value is that value, and there is a copy unless the value is not valid
 abbrev pub IsCopy : {X : Type 0} → Type 0 → X → Option X → Type 0
 IsCopy valid x None = valid → ⊥
 IsCopy valid x (Some y) = y ≡ x
 
--- the field that the text spells, the only one
+-- the copy is the only field that the text spells
 abbrev pub IsFieldOf : Dialect → Kind → Seq ℕ → Option Field → Type 0
 IsFieldOf d kind t None = ⊥
 IsFieldOf d kind t (Some v) = IsOnly d kind t v

@@ -15,12 +15,12 @@ use Rattle.sf_view.specs.declared.cursor.EntryView.{EntryView}
 use Rattle.sf_view.specs.Scans.{Behind}
 use Rattle.sf_view.specs.Reads.{ShowsMember}
 
--- where the first member begins, after spaces; nowhere, if there are only spaces
+-- the text from the first member on, after spaces; none if there are only spaces
 abbrev pub IsFirst : List ℕ → Option (List ℕ) → Type 0
 IsFirst text None = Every is_sp text
 IsFirst text (Some rest) = Behind is_sp text rest
 
--- OWS, a comma and OWS are before the rest
+-- the rest is after OWS, a comma and OWS
 pub record Separates (text rest : List ℕ) : Type 0 where
   pub before : List ℕ
   pub behind : List ℕ
@@ -28,7 +28,7 @@ pub record Separates (text rest : List ℕ) : Type 0 where
   pub ows_before : Every is_ows before
   pub ows_behind : Every is_ows behind
 
--- where the next member begins after one; nowhere, if there is only OWS
+-- the text from the next member on; none if there is only OWS
 abbrev pub IsNext : List ℕ → Option (List ℕ) → Type 0
 IsNext text None = Every is_ows text
 IsNext text (Some rest) = Separates text rest
@@ -44,7 +44,7 @@ Remains P (Some rest) (x ∷ xs) =
     × SpellsSeries P body (x ∷ xs)
     × Every is_ows tail
 
--- how much is left: nothing after the last member, otherwise one more than the bytes of the rest
+-- how much remains: 0 after the last member, otherwise one more than the bytes of the rest
 abbrev pub left_in : Option (List ℕ) → ℕ
 left_in None = 0
 left_in (Some rest) = suc (length rest)
@@ -53,7 +53,7 @@ left_in (Some rest) = suc (length rest)
 abbrev pub RemainsInDict : DictCursor → Pairs Member → Type 0
 RemainsInDict c ps = Remains (SpellsEntry c.dialect) (option_copied c.rest) ps
 
--- a member of this key and this bare item comes before those that remain; or none remain
+-- a member with this key and this bare item comes before those that remain; or none remain
 abbrev pub ReadsNextEntry : DictCursor → DictCursor → Option EntryView → Type 0
 ReadsNextEntry old new None = RemainsInDict old []
 ReadsNextEntry old new (Some e) =
@@ -61,12 +61,12 @@ ReadsNextEntry old new (Some e) =
     × ShowsMember old.dialect e.bare m
     × ((ps : Pairs Member) → RemainsInDict new ps → RemainsInDict old ((e.key.now, m) ∷ ps))
 
--- the Integer of a member that is an Item of one
+-- the Integer of a member that is an Item with one
 abbrev pub integer_in : Member → Option ℤ
 integer_in (member.Item i) = as_integer i.bare
 integer_in (member.Inner l) = None
 
--- the Boolean of a member that is an Item of one
+-- the Boolean of a member that is an Item with one
 abbrev pub boolean_in : Member → Option Bool
 boolean_in (member.Item i) = as_boolean i.bare
 boolean_in (member.Inner l) = None

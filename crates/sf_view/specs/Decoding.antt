@@ -11,7 +11,7 @@ use Rattle.sf_view.specs.declared.bytes.Coding.TheVariants as coding
 use Rattle.sf_view.specs.declared.view.Slice.{Slice}
 use Rattle.sf_view.specs.View.{DescribesText}
 
--- the slice is that of these bytes: of a String, a Byte Sequence or a Display String
+-- the bytes of the slice are these, as a String, a Byte Sequence or a Display String
 abbrev pub HasBytes : Dialect → Slice → List ℕ → Type 0
 HasBytes d s t =
     DescribesText d s.coded s.bytes.now (Text t)
@@ -19,8 +19,9 @@ HasBytes d s t =
     ⊎ DescribesText d s.coded s.bytes.now (Shown t)
 
 -- the rest of the text spells these bytes: as they are, between quotes, percent-encoded, or in
--- base64 at the first, second or third byte of a group. Of a byte whose character was read, the low
--- bits are kept: the rest spells what it would after bytes 0 and a character of these bits
+-- base64 at the first, second or third byte of a group. In the last two cases the bits of the byte
+-- that were already read are low: with characters for the bytes before, all 0, and for these bits,
+-- the rest is whole groups
 abbrev pub Remains : Coding → List ℕ → List ℕ → Type 0
 Remains coding.Plain rest s = rest ≡ s
 Remains coding.Escaped rest s = rest ≡ escaped s ++ quote ∷ []
@@ -30,13 +31,14 @@ Remains (coding.Second low) rest s = (low < 16) × Sextets (letter 0 ∷ letter 
 Remains (coding.Third low) rest s =
     (low < 4) × Sextets (letter 0 ∷ letter 0 ∷ letter low ∷ rest) (0 ∷ 0 ∷ s)
 
--- the first of these bytes, and what remains after it
+-- the first of these bytes is b, and those after it are as P says
 pub record TakesByte (b : ℕ) (P : List ℕ → Type 0) (s : List ℕ) : Type 0 where
   pub left : List ℕ
   pub split : s ≡ b ∷ left
   pub remains : P left
 
--- the first of the bytes that a text spells, if there is one, and how another spells those after it
+-- the first of the bytes that the text spells, if there is one, and how the rest spells those after
+-- it
 abbrev pub GivesByte : Coding → List ℕ → Option ℕ → Coding → List ℕ → Type 0
 GivesByte c rest None c' rest' = (s : List ℕ) → Remains c rest s → s ≡ []
 GivesByte c rest (Some b) c' rest' =

@@ -26,7 +26,7 @@ pub record FindsParam (d : Dialect) (source key : List ℕ) (r : Role) (ps : Pai
   pub there : value_at key ps ≡ Some value
   pub describes : DescribesParams d source r ns ((key, value) ∷ [])
 
--- the nodes begin with a part of this key, of these nodes
+-- the nodes begin with a part with this key: these are its nodes, and those after them
 pub record IsHop (source : List ℕ) (nodes : List Node) (k : List ℕ) (front later : List Node)
     : Type 0 where
   pub first : Node
@@ -36,7 +36,7 @@ pub record IsHop (source : List ℕ) (nodes : List Node) (k : List ℕ) (front l
   pub key : k ≡ piece first.key_at first.key_length source
   pub size : length front ≡ first.size
 
--- the nodes begin with no part that is in the source
+-- the nodes do not begin with a part that is in the source
 abbrev pub NoHop : List ℕ → List Node → Type 0
 NoHop source [] = Unit {0}
 NoHop source (n ∷ ns) =
@@ -49,21 +49,21 @@ pub record StartsWithKey (source : List ℕ) (nodes : List Node) (k : List ℕ) 
   pub begins : nodes ≡ first ∷ more
   pub key : k ≡ piece first.key_at first.key_length source
 
--- there is no node, or the first points to no key in the source
+-- there is no node, or the key of the first is not in the source
 abbrev pub NoKey : List ℕ → List Node → Type 0
 NoKey source [] = Unit {0}
 NoKey source (n ∷ ns) = length source < n.key_at + n.key_length
 
--- a node that is no parameter of an Inner List as a whole
+-- the node is not a parameter of an Inner List
 abbrev pub IsInside : Node → Type 0
 IsInside n = n.role ≢ role_number role_is.InnerParameter
 
--- no node, or first a parameter of an Inner List as a whole
+-- there is no node, or the first is a parameter of an Inner List
 abbrev pub IsAtParams : List Node → Type 0
 IsAtParams [] = Unit {0}
 IsAtParams (n ∷ ns) = n.role ≡ role_number role_is.InnerParameter
 
--- the node of an Inner List, then the nodes up to its parameters, and those from there on
+-- the node of an Inner List, the nodes up to its parameters, and those of its parameters
 pub record IsSplitAtParams (nodes items params : List Node) : Type 0 where
   pub opening : Node
   pub split : nodes ≡ opening ∷ (items ++ params)

@@ -29,8 +29,8 @@ pub record RemainsInItem (c : ParamCursor) (ps : Pairs Bare) (ms : List Member) 
   pub next : IsNext after start
   pub remains : Remains (SpellsMember c.dialect) start ms
 
--- an Item of this bare item and the parameters that remain comes before the members that remain; or
--- none remain
+-- an Item with this bare item and the parameters that remain comes before the members that remain;
+-- or none remain
 abbrev pub ReadsNextItem : ItemCursor → Option ItemView → Type 0
 ReadsNextItem c None = RemainsInList c []
 ReadsNextItem c (Some i) =
@@ -40,7 +40,7 @@ ReadsNextItem c (Some i) =
     × ((ps : Pairs Bare) (ms : List Member) → RemainsInItem i.params ps ms
     → RemainsInList c (member.Item (item x (settle ps)) ∷ ms))
 
--- a parameter of this key and value comes before those that remain; or nothing was read
+-- a parameter with this key and value comes before those that remain; or nothing was read
 abbrev pub ReadsNextParam : ParamCursor → ParamCursor → Option ParamView → Type 0
 ReadsNextParam old new None = new ≡ old
 ReadsNextParam old new (Some p) =

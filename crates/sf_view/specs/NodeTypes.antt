@@ -7,7 +7,7 @@ use Rattle.sf_view.specs.declared.node_types.Role.{Role}
 use Rattle.sf_view.specs.declared.node_types.Role.TheVariants.{Member, InnerItem, Parameter}
 use Rattle.sf_view.specs.declared.node_types.Role.TheVariants.{InnerParameter}
 
--- no role has the number of a type
+-- the number of a role; no type has the same
 abbrev pub role_number : Role → ℕ
 role_number Member = 11
 role_number InnerItem = 12
@@ -25,7 +25,7 @@ type_number Boolean = 27
 type_number Date = 28
 type_number Shown = 29
 
--- whether bytes are coded, by the number that a node has for that
+-- whether bytes are coded, by the field coded of a node
 abbrev pub is_coded : ℕ → Bool
 is_coded n = not (n == 0)
 

@@ -12,7 +12,7 @@ use Rattle.sf_view.specs.declared.view.View.{View as PartView}
 use Rattle.sf_view.specs.View.{DescribesMember, DescribesMembers, DescribesEntries, DescribesItem}
 use Rattle.sf_view.specs.View.{DescribesItems, DescribesParams}
 
--- some nodes describe the first of these parts, and others those after it
+-- some nodes describe the first of these parts, and the others describe the rest
 pub record SplitsOff {X : Type 0} (P : Seq Node → X → Type 0) (T : Seq Node → Seq X → Type 0)
     (xs : Seq X) (front later : Seq Node) : Type 0 where
   pub value : X
@@ -47,7 +47,7 @@ abbrev pub ParamsSplit : Dialect → Seq ℕ → Role → Pairs Bare → Option 
 ParamsSplit d source r ps s =
     Splits (λ ns p. DescribesParams d source r ns (p ∷ [])) (DescribesParams d source r) ps s
 
--- the Items of an Inner List are shown
+-- the nodes describe the Items of an Inner List
 abbrev pub ItemsShown : Dialect → Seq ℕ → Seq Item → Option PartView → Type 0
 ItemsShown d source is None = ⊥
 ItemsShown d source is (Some v) = DescribesItems d source v.nodes.now is

@@ -17,7 +17,7 @@ use Rattle.sf_view.specs.declared.bare.Part.{Part}
 use Rattle.sf_view.specs.View.{type_of, number_of, DescribesText}
 use Rattle.sf_view.specs.Views.{IsBorrowed}
 
--- the start of the text, up to the rest, spells something
+-- the start of the text, up to the rest, spells something as P says
 pub record Reads {X : Type 0} (P : List ℕ → X → Type 0) (text rest : List ℕ) : Type 0 where
   pub front : List ℕ
   pub value : X
@@ -32,7 +32,7 @@ pub record ReadsBare (d : Dialect) (text : List ℕ) (b : BareView) (rest : List
   pub spelled : SpellsBare d front value
   pub borrowed : IsBorrowed d b value
 
--- it spells a parameter of this key, and its value is borrowed
+-- it spells a parameter with this key, and its value is borrowed
 pub record ReadsParam (d : Dialect) (text key : List ℕ) (b : BareView) (rest : List ℕ)
     : Type 0 where
   pub front : List ℕ
@@ -41,8 +41,8 @@ pub record ReadsParam (d : Dialect) (text key : List ℕ) (b : BareView) (rest :
   pub spelled : SpellsParam d front key value
   pub borrowed : IsBorrowed d b value
 
--- it spells the Items of an Inner List, with at least so many spaces before the first, and a closing
--- bracket follows
+-- it spells the Items of an Inner List, after at least this many spaces, and a closing bracket
+-- follows
 pub record ReadsItems (d : Dialect) (least : ℕ) (text rest : List ℕ) : Type 0 where
   pub front : List ℕ
   pub items : List Item
@@ -61,7 +61,7 @@ ShowsMember d (Some b) (member.Item i) = IsBorrowed d b i.bare
 ShowsMember d None (member.Inner l) = Unit {0}
 ShowsMember d b m = ⊥
 
--- it spells a member, of which this is shown
+-- it spells a member, of which this is borrowed
 pub record ReadsMember (d : Dialect) (text : List ℕ) (b : Option BareView) (rest : List ℕ)
     : Type 0 where
   pub front : List ℕ
@@ -70,7 +70,7 @@ pub record ReadsMember (d : Dialect) (text : List ℕ) (b : Option BareView) (re
   pub spelled : SpellsMember d front value
   pub shows : ShowsMember d b value
 
--- it spells a member of a Dictionary with this key, of which this is shown
+-- it spells a member of a Dictionary with this key, of which this is borrowed
 pub record ReadsEntry (d : Dialect) (text key : List ℕ) (b : Option BareView) (rest : List ℕ)
     : Type 0 where
   pub front : List ℕ
@@ -79,7 +79,7 @@ pub record ReadsEntry (d : Dialect) (text key : List ℕ) (b : Option BareView) 
   pub spelled : SpellsEntry d front (key, value)
   pub shows : ShowsMember d b value
 
--- the bytes of a String are given, or there is none
+-- the bytes of a String, or None if there is no String
 abbrev pub ShowsText : Dialect → Option Slice → Option (List ℕ) → Type 0
 ShowsText d (Some s) (Some t) = DescribesText d s.coded s.bytes.now (Text t)
 ShowsText d None None = Unit {0}

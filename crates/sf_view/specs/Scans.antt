@@ -44,7 +44,7 @@ pub record IsEnd (source text : List ℕ) : Type 0 where
   pub before : List ℕ
   pub whole : source ≡ before ++ text
 
--- a key is at the start of the text, of which so much and what is before is the source
+-- a key is at the start of the text, which ends a source of whole bytes
 pub record ScansKey (whole : ℕ) (text : List ℕ) (place : KeyPlace) (rest : List ℕ) : Type 0 where
   pub front : List ℕ
   pub split : text ≡ front ++ rest
@@ -78,7 +78,7 @@ pub record NumberDescribes (p : Part) (x : Bare) : Type 0 where
   pub coded : p.coded ≡ false
   pub none : text_of x ≡ []
 
--- the start of the text spells a number, of which the part describes
+-- the start of the text spells a number, which the part describes
 pub record ScansNumber (text : List ℕ) (p : Part) (rest : List ℕ) : Type 0 where
   pub front : List ℕ
   pub value : Bare
@@ -86,7 +86,7 @@ pub record ScansNumber (text : List ℕ) (p : Part) (rest : List ℕ) : Type 0 w
   pub spelled : (d : Dialect) → SpellsBare d front value
   pub describes : NumberDescribes p value
 
--- the start of the text spells a Date, of which the part describes
+-- the start of the text spells a Date, which the part describes
 pub record ScansDate (text : List ℕ) (p : Part) (rest : List ℕ) : Type 0 where
   pub front : List ℕ
   pub value : ℤ
@@ -94,7 +94,7 @@ pub record ScansDate (text : List ℕ) (p : Part) (rest : List ℕ) : Type 0 whe
   pub spelled : SpellsDate front value
   pub describes : NumberDescribes p (Date value)
 
--- after so many characters that no group of four holds, = signs and a colon are before the rest
+-- the most = signs after the last group, and = signs and a colon before the rest
 abbrev pub pads_at : ℕ → ℕ
 pads_at over = if over == 2 then 2 else (if over == 3 then 1 else 0)
 
@@ -104,7 +104,7 @@ pub record Closes (over : ℕ) (text rest : List ℕ) : Type 0 where
   pub few : count ≤ pads_at over
   pub whole : over ≢ 1
 
--- the text is a quote, and the escaped bytes of a string, up to the rest
+-- the text is a quote, and the escaped bytes of a String, up to the rest
 pub record InsideString (text rest : List ℕ) : Type 0 where
   pub bytes : List ℕ
   pub split : text ≡ quote ∷ (escaped bytes ++ rest)
@@ -117,7 +117,8 @@ pub record PartDescribes (d : Dialect) (source : List ℕ) (p : Part) (x : Bare)
   pub within : p.at + p.length ≤ length source
   pub text : DescribesText d p.coded (piece p.at p.length source) x
 
--- the start of the text spells a bare item, of which the part describes in any source that ends so
+-- the start of the text spells a bare item, which the part describes in any source that ends with
+-- the text
 pub record ScansBare (d : Dialect) (whole : ℕ) (text : List ℕ) (p : Part) (rest : List ℕ)
     : Type 0 where
   pub front : List ℕ
@@ -141,7 +142,7 @@ node_from role key part = record {
   coded = coded_number part.coded;
 }
 
--- the same with so many nodes
+-- the same node with this size
 abbrev pub sized : ℕ → Node → Node
 sized k n = record {
   number = n.number;
@@ -155,7 +156,7 @@ sized k n = record {
   coded = n.coded;
 }
 
--- the keys of the parts that nodes describe: each part has as many nodes as its first node says
+-- the keys of the parts that nodes describe: each part has as many nodes as the size of its first
 abbrev pub keys_from : List ℕ → ℕ → List Node → List (List ℕ)
 keys_from source k [] = []
 keys_from source zero (n ∷ ns) =
@@ -172,7 +173,7 @@ pub record Puts (old new : List Node) (at count : ℕ) (ns : List Node) : Type 0
   pub from : count ≡ at + length ns
   pub there : take count new ≡ take at old ++ ns
 
--- the start of the text spells a parameter: its key, and a bare item of which the part describes
+-- the start of the text spells a parameter: its key, and a bare item that the part describes
 pub record ScansParam (d : Dialect) (whole : ℕ) (text : List ℕ) (place : KeyPlace) (p : Part)
     (rest : List ℕ) : Type 0 where
   pub front : List ℕ
@@ -257,7 +258,7 @@ pub record ScansItems (d : Dialect) (source text rest : List ℕ) (old new : Lis
   pub puts : Puts old new at count nodes
   pub describes : IsEnd source text → DescribesItems d source nodes values
 
--- Items were read, and after them spaces where there is one: with any after they are Items
+-- Items were read, and spaces if any follow: with Items after them they are Items
 pub record ItemsSoFar (d : Dialect) (source text rest : List ℕ) (old new : List Node)
     (at count : ℕ) : Type 0 where
   pub front : List ℕ

@@ -8,7 +8,7 @@ use Rattle.sf_value.specs.Grammar.DisplayStrings.{hex, is_unencoded, EncodedByte
 use Rattle.sf_view.specs.declared.display_string.Utf8State.{Utf8State}
 use Rattle.sf_view.specs.declared.display_string.Utf8State.TheVariants as utf8
 
--- a place in a character
+-- the state of the grammar
 abbrev pub utf8_of : Utf8State → Utf8
 utf8_of utf8.Start = Start
 utf8_of (utf8.Wants more low high) = Wants more low high
@@ -21,12 +21,12 @@ pub record IsEscape (text : List ℕ) (c : ℕ) (rest : List ℕ) : Type 0 where
   pub byte : is_byte c ≡ true
   pub split : text ≡ percent ∷ hex (c / 16) ∷ hex (c % 16) ∷ rest
 
--- what may be read of unescaped bytes at a place in a character
+-- unescaped bytes before the rest, which are allowed only between two characters
 abbrev pub PlainBefore : Utf8 → List ℕ → List ℕ → Type 0
 PlainBefore Start text rest = (front : List ℕ) × (text ≡ front ++ rest) × Every is_unencoded front
 PlainBefore (Wants n low high) text rest = text ≡ rest
 
--- the text opens a Display String, of which so much was read
+-- the text begins with a Display String, read up to the rest
 pub record InsideShown (text rest : List ℕ) (x : Utf8) : Type 0 where
   pub front : List ℕ
   pub bytes : List ℕ

@@ -1,4 +1,4 @@
--- What nodes describe, which point into a text.
+-- What nodes that point into a text describe.
 use Rattle.std.specs.Prelude.{◌≡◌, ℕ, ℤ, pos, ◌+◌, ◌≤◌, Bool, true, false, List as Seq, [], ◌∷◌}
 use Rattle.std.specs.Prelude.{◌++◌, length, take, drop}
 use Rattle.sf_value.specs.declared.dialect.Dialect.{Dialect}
@@ -47,16 +47,16 @@ text_of (Blob s) = s
 text_of (Shown s) = s
 text_of x = []
 
--- so many bytes from a place on
+-- count bytes at an offset
 abbrev pub piece : ℕ → ℕ → Seq ℕ → Seq ℕ
 piece at count bytes = take count (drop at bytes)
 
--- the bytes of a bare item; or, where they are coded, its whole text, which is still to be decoded
+-- the bytes of a bare item or, if they are coded, its whole text, which is still to be decoded
 abbrev pub DescribesText : Dialect → Bool → Seq ℕ → Bare → Type 0
 DescribesText d false raw x = raw ≡ text_of x
 DescribesText d true raw x = SpellsBare d raw x
 
--- a node of this role, this key, and so many nodes describes this bare item
+-- a node of this role, key and size describes this bare item
 pub record DescribesBare (d : Dialect) (source : Seq ℕ) (r : Role) (k : Seq ℕ) (m : ℕ) (n : Node)
     (x : Bare) : Type 0 where
   pub role : n.role ≡ role_number r
@@ -94,7 +94,7 @@ DescribesItems d source ns (i ∷ is) =
     × DescribesItem d source role_is.InnerItem [] front i
     × DescribesItems d source back is
 
--- the node of an Inner List, with so many nodes: it has neither a number nor bytes
+-- the node of an Inner List of this size: it has neither a number nor bytes
 pub record DescribesOpening (source : Seq ℕ) (k : Seq ℕ) (m : ℕ) (n : Node) : Type 0 where
   pub role : n.role ≡ role_number role_is.Member
   pub size : n.size ≡ m
@@ -104,7 +104,7 @@ pub record DescribesOpening (source : Seq ℕ) (k : Seq ℕ) (m : ℕ) (n : Node
   pub number : n.number ≡ pos 0
   pub empty : n.text_length ≡ 0
 
--- an Inner List: a node of its own, the Items, then the parameters
+-- an Inner List: its node, the Items, then the parameters
 abbrev pub DescribesInner : Dialect → Seq ℕ → Seq ℕ → Seq Node → Inner → Type 0
 DescribesInner d source key ns l =
     (n : Node) × (items params : Seq Node)
@@ -127,7 +127,7 @@ DescribesMembers d source ns (m ∷ ms) =
     × DescribesMember d source [] front m
     × DescribesMembers d source back ms
 
--- parts with keys, of which some nodes each describe one as P says
+-- parts with keys: some nodes describe each as P says
 abbrev pub DescribesPairs : {X : Type 0} → (Seq ℕ → Seq Node → X → Type 0) → Seq Node → Pairs X
     → Type 0
 DescribesPairs P ns [] = ns ≡ []

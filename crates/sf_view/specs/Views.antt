@@ -17,20 +17,20 @@ use Rattle.sf_view.specs.declared.view.BareView.TheVariants as view_is
 use Rattle.sf_view.specs.NodeTypes.{type_number, is_coded}
 use Rattle.sf_view.specs.View.{type_of, number_of, DescribesText, DescribesField}
 
--- this view is of the text, and its nodes describe the field that the text spells, the only one
+-- the view is of the text, and its nodes describe the only field that the text spells
 pub record IsViewed (d : Dialect) (kind : Kind) (t : Seq ℕ) (v : PartView) : Type 0 where
   pub text : v.text.now ≡ t
   pub value : Field
   pub only : IsOnly d kind t value
   pub describes : DescribesField d t v.nodes.now value
 
--- a text of this length has no view for this reason, in a buffer of so many nodes
+-- a text of this length has no view for this reason, in a buffer of room nodes
 abbrev pub IsExcused : ℕ → ℕ → Unviewed → Type 0
 IsExcused size room Declined = (size < 2 ^ 32) × (size ≤ room)
 IsExcused size room ShortBuffer = (size < 2 ^ 32) × (room < size)
 IsExcused size room TooLong = 2 ^ 32 ≤ size
 
--- the reason where the buffer was long enough, or was not
+-- the reason, if the buffer has a node for each byte of the text, or not
 abbrev pub reason : Bool → Unviewed
 reason true = Declined
 reason false = ShortBuffer
@@ -41,7 +41,7 @@ pub record NodeShows (d : Dialect) (n : Node) (bytes : Seq ℕ) (x : Bare) : Typ
   pub number : n.number ≡ number_of x
   pub text : DescribesText d (is_coded n.coded) bytes x
 
--- the bare item that is borrowed is this one: its bytes, or, if they are coded, its whole text
+-- the bare item that is borrowed: its bytes or, if they are coded, its whole text
 abbrev pub IsBorrowed : Dialect → BareView → Bare → Type 0
 IsBorrowed d (view_is.Integer n) x = x ≡ Integer n
 IsBorrowed d (view_is.Decimal n) x = x ≡ Decimal n
@@ -55,7 +55,7 @@ IsBorrowed d (view_is.Date n) x = x ≡ Date n
 IsBorrowed d (view_is.Shown s) x =
     (t : Seq ℕ) × (x ≡ Shown t) × DescribesText d s.coded s.bytes.now (Shown t)
 
--- this is the answer for the bare item
+-- the bare item is borrowed
 abbrev pub ShowsBare : Dialect → Option BareView → Bare → Type 0
 ShowsBare d None x = ⊥
 ShowsBare d (Some b) x = IsBorrowed d b x

@@ -22,7 +22,7 @@ pub record CanonicalRun (front rest t : Seq ℕ) : Type 0 where
   pub remains : EncodedBytes rest left
   pub canonical : canon_shown t ≡ front ++ canon_shown left
 
--- the text begins with the escape of a byte that has to be escaped, if it is of a Display String
+-- the text begins with the escape of a byte that must be escaped in a Display String
 pub record IsNeededEscape (text rest : Seq ℕ) : Type 0 where
   pub front : Seq ℕ
   pub split : text ≡ front ++ rest
@@ -37,7 +37,7 @@ abbrev pub is_flag : BareView → Bool
 is_flag (view_is.Boolean true) = true
 is_flag x = false
 
--- c is the canonical text of the value that the text t spells, the only one
+-- c is the canonical text of the only value that the text t spells
 pub record IsCanonicalOf (d : Dialect) (kind : Kind) (t c : Seq ℕ) : Type 0 where
   pub value : Field
   pub only : IsOnly d kind t value

@@ -12,7 +12,7 @@ use sf_value::Dialect;
 /// The most digits of a Decimal before its point (RFC 9651 section 3.3.2).
 const WHOLE_DIGITS: usize = 12;
 
-/// What a bare item is.
+/// What a scanner read of a bare item.
 #[derive(Clone, Copy, Drop)]
 pub(crate) struct Part {
     pub number: i64,
@@ -40,7 +40,7 @@ fn number_of(node_type: NodeType, number: i64) -> Part
     }
 }
 
-/// A bare item of bytes: what is before the rest, of a text of which so much is left.
+/// A bare item of bytes: the first `size` bytes of this text, which ends a source of `whole` bytes.
 #[inline]
 pub(crate) fn bytes_of(
     whole: usize,
@@ -67,7 +67,7 @@ pub(crate) fn bytes_of(
     }
 }
 
-/// Digits, at most 15, their value, and the rest.
+/// The digits, at most 15, that the text begins with: their value, their number, and the rest.
 #[inline(always)]
 #[tactic(auto, using(crate::proofs::Numerals::room, crate::proofs::Numerals::short, crate::proofs::Numerals::next_digit))]
 fn digits(text: &[u8]) -> (u64, usize, &[u8])
@@ -218,7 +218,8 @@ fn scan_string(whole: usize, text: &[u8]) -> Option<(Part, &[u8])>
     ))
 }
 
-/// What closes a Byte Sequence of which so many characters are left over, and the rest.
+/// The rest after the padding and the colon of a Byte Sequence whose last group has `over`
+/// characters.
 #[inline]
 fn behind_pads(over: usize, text: &[u8]) -> Option<&[u8]>
     requires { over < 4 }
@@ -288,7 +289,7 @@ fn scan_token(whole: usize, text: &[u8]) -> Option<(Part, &[u8])>
     ))
 }
 
-/// A bare item, and the rest of a text of which so much is left.
+/// A bare item at the start of the text, which ends a source of `whole` bytes, and the rest.
 pub(crate) fn scan_bare(dialect: Dialect, whole: usize, text: &[u8]) -> Option<(Part, &[u8])>
     requires small { whole < 2 ^ 32 }
     requires within { length text.now ≤ whole }
@@ -312,7 +313,7 @@ pub(crate) fn scan_bare(dialect: Dialect, whole: usize, text: &[u8]) -> Option<(
     }
 }
 
-/// The same, where most are numbers.
+/// The same as [`scan_bare`], but tests for a number first.
 #[inline(always)]
 pub(crate) fn scan_value(dialect: Dialect, whole: usize, text: &[u8]) -> Option<(Part, &[u8])>
     requires small { whole < 2 ^ 32 }

@@ -1,4 +1,4 @@
-//! Borrowed bare items by type. One of another type counts as absent.
+//! The value of a borrowed bare item by type; `None` if it has another type.
 ghost use Rattle.std.specs.Prelude.{◌≡◌};
 ghost use Rattle.std.specs.Option.{option_copied};
 ghost use Rattle.sf_value.specs.declared.dialect.Dialect.{Dialect as Which};

@@ -1,4 +1,4 @@
-//! Nodes that anybody made, read as a field.
+//! Nodes of any origin, read as a field.
 ghost use Rattle.std.specs.Prelude.{◌≡◌, ℕ, ◌+◌, ◌<◌, ◌^◌, List as Seq, None, IsTrue, IfOk};
 ghost use Rattle.sf_value.specs.Grammar.Pairs.{value_at};
 ghost use Rattle.sf_value.specs.Grammar.Tokens.{IsKey};
@@ -21,7 +21,7 @@ use sf_value::{
 use std::alloc::Global;
 use std::hash::RandomState;
 
-/// Why nodes are read as no field.
+/// Why nodes are not read as a field.
 #[derive(Clone, Copy, Debug, PartialEq, Eq)]
 pub enum NoField {
     /// An allocation failed.
@@ -40,7 +40,7 @@ impl From<OutOfMemory> for NoField {
 }
 
 impl NoField {
-    /// The same of nodes that have so many others before them.
+    /// The same fault, with `count` more nodes before these.
     fn behind(self, count: usize) -> NoField
         requires { (i : ℕ) → self ≡ no_field.Invalid i → count + i < 2 ^ 64 }
         ensures { result ≡ shifted count self }
@@ -52,11 +52,11 @@ impl NoField {
     }
 }
 
-/// The valid field of this kind that the nodes describe, whoever made them: those of a scan, changed
-/// or not, or the caller's. Fails with `Invalid` if they describe none. Each node must have the role,
-/// the type and the size of its part, a key and bytes that are in the text, and a valid key and bare
-/// item; no key may occur twice in a Dictionary or in one part's parameters. Coded bytes must spell
-/// the bare item (RFC 9651 section 4.2.3.1). It allocates.
+/// Returns the valid field of this kind that the nodes describe. The nodes can be those of a scan,
+/// changed or not, or the caller's. Fails with `Invalid` if they describe none. Each node must have
+/// the role, the type and the size of its part, a key and bytes that are in the text, and a valid
+/// key and bare item; no key may occur twice in a Dictionary or in one part's parameters. Coded
+/// bytes must spell the bare item (RFC 9651 section 4.2.3.1). It allocates.
 ///
 /// ```
 /// let mut node = Node::NONE;
@@ -163,7 +163,7 @@ fn entries(source: Source, nodes: &[Node]) -> Result<Entries<Member>, NoField>
     Ok(all)
 }
 
-/// The key of these bytes; `None` if they are none, or it has a value.
+/// The key of these bytes; `None` if they are not a key, or the entries already have it.
 fn new_key<V>(alloc: Global, bytes: &[u8], entries: &Entries<V>) -> Result<Option<Key>, OutOfMemory>
     ensures { IfOk result (Gives (λ k. (k ≡ bytes.now) × IsKey k × (value_at k entries.now ≡ None))) }
 {
@@ -224,7 +224,7 @@ fn inner(source: Source, nodes: &[Node]) -> Result<Inner, NoField>
     }
 }
 
-/// Whether the node is that of an Inner List of so many nodes.
+/// Whether the node is that of an Inner List with this size.
 fn is_opening(source: Source, size: usize, node: Node) -> bool
     ensures opening { IsTrue result → DescribesOpening source.entry.text.now
         (piece node.key_at node.key_length source.entry.text.now) size node }
@@ -302,7 +302,7 @@ fn params(source: Source, role: Role, nodes: &[Node]) -> Result<Entries<Bare>, N
     Ok(all)
 }
 
-/// The value of the parameter of one node.
+/// The value of the parameter that one node describes.
 fn param(source: Source, role: Role, nodes: &[Node]) -> Result<Option<Bare>, OutOfMemory>
     ensures { IfOk result (Gives (IsParam source.entry.dialect source.entry.text.now role nodes.now)) }
 {

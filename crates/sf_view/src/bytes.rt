@@ -21,14 +21,14 @@ pub(crate) enum Coding {
     Percent,
     /// In base64, at the first byte of a group.
     First,
-    /// At the second, of which the character before holds these bits.
+    /// In base64, at the second byte of a group, whose high bits these are.
     Second(u8),
-    /// At the third, of which the character before holds these bits.
+    /// In base64, at the third byte of a group, whose high bits these are.
     Third(u8),
 }
 
-/// The bytes of a String, a Byte Sequence or a Display String, decoded one at a time. It allocates
-/// nothing.
+/// The bytes of a String, a Byte Sequence or a Display String, decoded one at a time. It does not
+/// allocate.
 #[derive(Clone, Copy, Debug, Drop)]
 pub struct Bytes<'a> {
     pub(crate) coding: Coding,
@@ -36,7 +36,7 @@ pub struct Bytes<'a> {
 }
 
 impl<'a> Slice<'a> {
-    /// The bytes, decoded one at a time. It allocates nothing.
+    /// The bytes, decoded one at a time. It does not allocate.
     pub fn bytes(&self) -> Bytes<'a>
         ensures { (d : Which) (t : List ℕ) → HasBytes d self.now t
             → Remains result.coding result.rest.now t }
@@ -66,14 +66,14 @@ impl<'a> Slice<'a> {
         }
     }
 
-    /// The bytes: of the text itself if they are not coded, or decoded into the buffer, which is
-    /// left as it was after them. `None` if the buffer is too short; one as long as
-    /// [`Slice::bytes`] of the slice never is. It allocates nothing.
+    /// The bytes: those of the text itself if they are not coded, otherwise decoded into the
+    /// buffer, whose other bytes are unchanged. `None` if the buffer is too short; one as long as
+    /// the slice's text never is. It does not allocate.
     pub fn decode(&self, buffer: &'a mut [u8]) -> Option<&'a [u8]>
-        // Whatever bytes the slice is of, these are they.
+        // Whatever bytes the slice has, these are the result.
         ensures decoded { (d : Which) (t : List ℕ) → HasBytes d self.now t
             → IfSome result (λ b. b.now ≡ t) }
-        // The buffer is too short only if it is shorter than they are.
+        // The buffer is too short only if it is shorter than these bytes.
         ensures short { (d : Which) (t : List ℕ) → HasBytes d self.now t
             → IfNone result (length buffer.old < length t) }
     {
@@ -87,15 +87,15 @@ impl<'a> Slice<'a> {
         Some(front)
     }
 
-    /// Writes the bytes, decoded if they are coded, to the front of the buffer, and returns how many
-    /// they are; `None` if the buffer is too short. It allocates nothing.
+    /// Writes the bytes, decoded if they are coded, to the beginning of the buffer, and returns
+    /// their number; `None` if the buffer is too short. It does not allocate.
     pub fn decode_to(&self, buffer: &mut [u8]) -> Option<usize>
         ensures same { length buffer.new ≡ length buffer.old }
         ensures within { IfSome result (λ n. n ≤ length buffer.new) }
-        // Whatever bytes the slice is of, the buffer begins with them.
+        // Whatever bytes the slice has, the buffer begins with them.
         ensures decoded { (d : Which) (t : List ℕ) → HasBytes d self.now t
             → IfSome result (λ n. take n buffer.new ≡ t) }
-        // The buffer is too short only if it is shorter than they are.
+        // The buffer is too short only if it is shorter than these bytes.
         ensures short { (d : Which) (t : List ℕ) → HasBytes d self.now t
             → IfNone result (length buffer.old < length t) }
     {
@@ -125,7 +125,7 @@ impl Iterator for Bytes<'_> {
     }
 }
 
-/// Those of a Display String after its percent sign.
+/// The bytes of a Display String, whose text after the percent sign this is.
 #[inline]
 fn shown_bytes(text: &[u8]) -> Bytes
     ensures coding { result.coding ≡ coding_is.Percent }
@@ -143,7 +143,7 @@ fn shown_bytes(text: &[u8]) -> Bytes
     }
 }
 
-/// Decodes bytes into the buffer: how many they are; `None` if the buffer is too short.
+/// Decodes bytes into the buffer, and returns their number; `None` if the buffer is too short.
 pub(crate) fn fill(start: Coding, text: &[u8], buffer: &mut [u8]) -> Option<usize>
     ensures same { length buffer.new ≡ length buffer.old }
     ensures within { IfSome result (λ n. n ≤ length buffer.new) }
@@ -169,7 +169,7 @@ pub(crate) fn fill(start: Coding, text: &[u8], buffer: &mut [u8]) -> Option<usiz
     }
 }
 
-/// The first byte, and how the text after it spells those after it.
+/// The first byte, and the coding and the text of the bytes after it.
 #[inline]
 pub(crate) fn take_byte(coding: Coding, rest: &[u8]) -> Option<(u8, Coding, &[u8])>
     ensures some { (s : List ℕ) → Remains coding rest.now s
@@ -310,7 +310,7 @@ fn character(text: &[u8]) -> Option<(u8, &[u8])>
     Some((value, rest))
 }
 
-/// The first byte of a group of base64, and the bits of the next that its second character holds.
+/// The first byte of a group of base64, and the high bits of the next, from its second character.
 #[inline]
 fn first_byte(text: &[u8]) -> Option<(u8, u8, &[u8])>
     ensures some { (s : List ℕ) → Remains coding_is.First text.now s
@@ -327,7 +327,7 @@ fn first_byte(text: &[u8]) -> Option<(u8, u8, &[u8])>
     Some((first * 4 + second / 16, second % 16, rest))
 }
 
-/// The second byte of a group, whose high bits are given, and the bits of the next.
+/// The second byte of a group, with these high bits, and the high bits of the next.
 #[inline]
 fn second_byte(high: u8, text: &[u8]) -> Option<(u8, u8, &[u8])>
     ensures some { (s : List ℕ) → Remains (coding_is.Second high) text.now s
@@ -342,7 +342,7 @@ fn second_byte(high: u8, text: &[u8]) -> Option<(u8, u8, &[u8])>
     Some((high % 16 * 16 + value / 4, value % 4, rest))
 }
 
-/// The third byte of a group, whose high bits are given.
+/// The third byte of a group, with these high bits.
 #[inline]
 fn third_byte(high: u8, text: &[u8]) -> Option<(u8, &[u8])>
     ensures some { (s : List ℕ) → Remains (coding_is.Third high) text.now s

@@ -1,4 +1,4 @@
-//! Parts of views, up to the whole field, copied to values of their own.
+//! Copies of parts of views, up to the whole field, as values.
 ghost use Rattle.std.specs.Prelude.{◌≡◌, ◌∷◌, ◌^◌, ◌<◌, [], ℕ, List as Seq, nat_abs, Some, None, IfOk};
 ghost use Rattle.sf_value.specs.declared.dialect.Dialect.{Dialect as Which};
 ghost use Rattle.sf_value.specs.declared.value.Bare.{Bare as Value};
@@ -31,14 +31,14 @@ use std::hash::RandomState;
 use std::str;
 
 impl BareView<'_> {
-    /// The bare item, copied to a value of its own; `None` if there is none like this, as an
+    /// Copies the bare item to a value; `None` if there is no such bare item, for example for an
     /// Integer of 16 digits, which no scan returns. It allocates.
     ///
     /// ```
     /// view.get(b"u")?.bare()?.to_bare(alloc)
     /// ```
     pub fn to_bare(&self, alloc: Global) -> Result<Option<Bare>, OutOfMemory>
-        // Whatever bare item this is, the copy is that one, and there is one if it is valid.
+        // Whatever bare item is borrowed, the copy is that one, and there is a copy if it is valid.
         ensures { (d : Which) (x : Value) → IsBorrowed d self.now x
             → IfOk result (IsCopy (ValidBare d x) x) }
     {
@@ -56,15 +56,14 @@ impl BareView<'_> {
 }
 
 impl View<'_> {
-    /// The Item, copied to a value of its own, with its parameters; `None` for an Inner List. It
-    /// allocates.
+    /// Copies the Item with its parameters to a value; `None` for an Inner List. It allocates.
     ///
     /// ```
     /// view.get(b"u")?.to_item(alloc, &seed)
     /// ```
     pub fn to_item(&self, alloc: Global, seed: &RandomState) -> Result<Option<Item>, OutOfMemory>
         // Whatever Item the nodes describe, the copy is that one, if no key is repeated in it; and
-        // there is one if the Item is valid.
+        // there is a copy if the Item is valid.
         ensures copy { (d : Which) (r : Place) (k : Seq ℕ) (i : ItemValue)
             → DescribesItem d self.now.text.now r k self.now.nodes.now i
             → HasDistinctKeys i.params
@@ -86,15 +85,15 @@ impl View<'_> {
         Ok(Some(Item { bare, params }))
     }
 
-    /// The Inner List, copied to a value of its own, with its Items and parameters; `None` for an
-    /// Item. It allocates.
+    /// Copies the Inner List with its Items and parameters to a value; `None` for an Item. It
+    /// allocates.
     ///
     /// ```
     /// view.get(b"l")?.to_inner(alloc, &seed) // of l=(1 2)
     /// ```
     pub fn to_inner(&self, alloc: Global, seed: &RandomState) -> Result<Option<Inner>, OutOfMemory>
         // Whatever Inner List the nodes describe, the copy is that one, if no key is repeated in
-        // it; and there is one if the Inner List is valid.
+        // it; and there is a copy if the Inner List is valid.
         ensures copy { (d : Which) (k : Seq ℕ) (l : InnerValue)
             → DescribesInner d self.now.text.now k self.now.nodes.now l
             → Each (λ i. HasDistinctKeys i.params) l.items
@@ -117,8 +116,8 @@ impl View<'_> {
         Ok(Some(Inner { items, params }))
     }
 
-    /// The member of a List or of a Dictionary, copied to a value of its own; `None` only if the
-    /// nodes are not those of a member. It allocates.
+    /// Copies the member of a List or of a Dictionary to a value; `None` only if the nodes are not
+    /// those of a member. It allocates.
     ///
     /// ```
     /// view.get(b"u")?.to_member(alloc, &seed)
@@ -150,8 +149,7 @@ impl View<'_> {
         }
     }
 
-    /// The List, copied to a value of its own; `None` only if the nodes are not those of a List. It
-    /// allocates.
+    /// Copies the List to a value; `None` only if the nodes are not those of a List. It allocates.
     pub fn to_list(&self, alloc: Global, seed: &RandomState) -> Result<Option<List>, OutOfMemory>
         // Whatever valid members the nodes describe, the copy is the List of them.
         ensures { (d : Which) (ms : Seq MemberValue)
@@ -165,8 +163,8 @@ impl View<'_> {
         Ok(Some(List { members }))
     }
 
-    /// The Dictionary, copied to a value of its own; `None` only if the nodes are not those of a
-    /// Dictionary. If a key is repeated, the last member is at its first place. It allocates.
+    /// Copies the Dictionary to a value; `None` only if the nodes are not those of a Dictionary. If
+    /// a key is repeated, the last member is at the position of the first. It allocates.
     pub fn to_dict(&self, alloc: Global, seed: &RandomState) -> Result<Option<Dict>, OutOfMemory>
         // Whatever valid members the nodes describe, the copy is the Dictionary that they make.
         ensures { (d : Which) (ps : Pairs MemberValue)
@@ -180,8 +178,8 @@ impl View<'_> {
         Ok(Some(Dict { members }))
     }
 
-    /// The whole field, copied to a value of its own; `None` only if the view is not of a field of
-    /// this kind. It allocates.
+    /// Copies the whole field to a value; `None` only if the view is not of a field of this kind.
+    /// It allocates.
     ///
     /// ```
     /// let view = View::scan(Dialect::Rfc9651, Kind::Dict, text, &mut nodes)?;
@@ -193,7 +191,7 @@ impl View<'_> {
         seed: &RandomState,
         kind: Kind,
     ) -> Result<Option<Field>, OutOfMemory>
-        // Of a view that a scan returned, the copy is the field that the text spells, the only one.
+        // The copy of a view that a scan returned is the only field that the text spells.
         ensures scanned { (d : Which) (t : Seq ℕ) → IsViewed d kind t self.now
             → IfOk result (IsFieldOf d kind t) }
         // Whatever valid field the nodes describe, the copy is that one.
@@ -252,8 +250,8 @@ fn members(
     }
 }
 
-/// The members of a Dictionary that nodes describe. If a key is repeated, the last member is at its
-/// first place.
+/// The members of a Dictionary that nodes describe. If a key is repeated, the last member is at the
+/// position of the first.
 fn entries(
     alloc: Global,
     seed: &RandomState,
@@ -326,7 +324,8 @@ fn items(
     }
 }
 
-/// The parameters that nodes describe. If a key is repeated, the last value is at its first place.
+/// The parameters that nodes describe. If a key is repeated, the last value is at the position of
+/// the first.
 fn params(
     alloc: Global,
     seed: &RandomState,
@@ -368,7 +367,7 @@ fn pair(alloc: Global, param: View) -> Result<Option<(Key, Bare)>, OutOfMemory>
     Ok(Some((key, value)))
 }
 
-/// The key of these bytes; `None` if they are none.
+/// The key of these bytes; `None` if they are not a key.
 pub(crate) fn key_of(alloc: Global, bytes: &[u8]) -> Result<Option<Key>, OutOfMemory>
     ensures { IfOk result (IsCopy (IsKey bytes.now) bytes.now) }
 {

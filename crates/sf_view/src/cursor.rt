@@ -18,9 +18,9 @@ use crate::text_parts::{behind_item, read_entry, read_member};
 use crate::view::BareView;
 use sf_value::{Dialect, Kind};
 
-/// The members of a Dictionary, read from its text one after another. It allocates nothing.
+/// The members of a Dictionary, read from its text one after another. It does not allocate.
 ///
-/// A repeated key is given each time it is read; its last value counts (RFC 9651 section 4.2.2).
+/// A repeated key is returned each time; its last value counts (RFC 9651 section 4.2.2).
 ///
 /// ```
 /// let mut cursor = DictCursor::new(Dialect::Rfc9651, b"u=1, i");
@@ -35,7 +35,7 @@ pub struct DictCursor<'a> {
     rest: Option<&'a [u8]>,
 }
 
-/// A member of a Dictionary: its key, and what its bare item is.
+/// A member of a Dictionary: its key and its bare item.
 #[derive(Clone, Copy, Debug, Drop)]
 pub struct EntryView<'a> {
     /// The key, as a part of the text.
@@ -60,15 +60,15 @@ impl<'a> DictCursor<'a> {
     }
 
     /// Reads the next member: `Some(None)` after the last one, and `None` if the cursor declines
-    /// the text, of which nothing is claimed then. It declines what spells no Dictionary, and a
-    /// text of which 4 GiB or more are left at a bare item.
+    /// the text, of which nothing is then claimed. It declines a text that spells no Dictionary,
+    /// and a bare item with 4 GiB or more of text from it on.
     #[inline]
     pub fn next(&mut self) -> Option<Option<EntryView<'a>>>
         ensures dialect { self.new.dialect ≡ self.old.dialect }
-        // A member of this key and this bare item comes before those that remain; after the last
+        // A member with this key and this bare item comes before those that remain; after the last
         // one, none remain.
         ensures next { IfSome result (λ entry. ReadsNextEntry self.old self.new entry) }
-        // Less is left after a member.
+        // Less of the text remains after a member.
         ensures fewer { IfSome result (λ entry. IfSome entry (λ _.
             left_in (option_copied self.new.rest) < left_in (option_copied self.old.rest))) }
     {
@@ -110,7 +110,7 @@ impl EntryView<'_> {
 }
 
 /// Returns whether the text spells a field of the kind (RFC 9651 section 4.2). `false` claims
-/// nothing: the text may still spell one if it has 4 GiB or more. It allocates nothing, and repeated
+/// nothing: the text may still spell one if it has 4 GiB or more. It does not allocate, and repeated
 /// keys are accepted.
 ///
 /// ```
@@ -165,7 +165,7 @@ fn is_dict(dialect: Dialect, text: &[u8]) -> Option<()>
     Some(())
 }
 
-/// Where the first member begins; `None` if there are only spaces.
+/// The text from the first member on; `None` if there are only spaces.
 #[inline]
 pub(crate) fn first_start(text: &[u8]) -> Option<&[u8]>
     ensures { IsFirst text.now (option_copied result) }
@@ -174,8 +174,7 @@ pub(crate) fn first_start(text: &[u8]) -> Option<&[u8]>
     if ends(rest) { None } else { Some(rest) }
 }
 
-/// After a member, where the next one begins: after OWS, a comma and OWS; `Some(None)` if there is
-/// only OWS.
+/// The text from the next member on, after OWS, a comma and OWS; `Some(None)` if there is only OWS.
 #[inline]
 pub(crate) fn next_start(text: &[u8]) -> Option<Option<&[u8]>>
     ensures { IfSome result (λ start. IsNext text.now (option_copied start)) }

@@ -13,7 +13,7 @@ use crate::text_parts::{read_bare, read_param};
 use crate::view::BareView;
 use sf_value::Dialect;
 
-/// The members of a List of Items, read from its text one after another. It allocates nothing, and
+/// The members of a List of Items, read from its text one after another. It does not allocate, and
 /// declines a List with an Inner List.
 ///
 /// ```
@@ -34,7 +34,7 @@ pub struct ItemCursor<'a> {
 }
 
 /// The parameters of an Item of a List, read from its text one after another. A repeated key is
-/// given each time it is read; its last value counts (RFC 9651 section 4.2.3.2).
+/// returned each time; its last value counts (RFC 9651 section 4.2.3.2).
 #[derive(Clone, Copy, Debug, Drop)]
 pub struct ParamCursor<'a> {
     dialect: Dialect,
@@ -42,7 +42,7 @@ pub struct ParamCursor<'a> {
     rest: &'a [u8],
 }
 
-/// An Item of a List: its bare item, and its parameters, which are still to be read.
+/// An Item of a List: its bare item, and a cursor of its parameters.
 #[derive(Clone, Copy, Debug, Drop)]
 pub struct ItemView<'a> {
     /// The bare item.
@@ -76,13 +76,13 @@ impl<'a> ItemCursor<'a> {
     }
 
     /// Reads the bare item of the next member: `Some(None)` after the last one, and `None` if the
-    /// cursor declines the text, of which nothing is claimed then.
+    /// cursor declines the text, of which nothing is then claimed.
     #[inline]
     pub fn next(&self) -> Option<Option<ItemView<'a>>>
-        // An Item of this bare item, with the parameters that remain, comes before the members that
-        // do; after the last one, none remain.
+        // An Item with this bare item and the parameters that remain comes before the members that
+        // remain; after the last one, none remain.
         ensures next { IfSome result (λ item. ReadsNextItem self.now item) }
-        // Less is left after a bare item.
+        // Less of the text remains after a bare item.
         ensures fewer { IfSome result (λ item. IfSome item (λ i.
             length i.params.rest.now < left_in (option_copied self.now.rest))) }
     {
@@ -104,9 +104,9 @@ impl<'a> ParamCursor<'a> {
     #[inline]
     pub fn next(&mut self) -> Option<Option<ParamView<'a>>>
         ensures dialect { self.new.dialect ≡ self.old.dialect }
-        // A parameter of this key and value comes before those that remain.
+        // A parameter with this key and value comes before those that remain.
         ensures next { IfSome result (λ param. ReadsNextParam self.old self.new param) }
-        // Less is left after a parameter.
+        // Less of the text remains after a parameter.
         ensures fewer { IfSome result (λ param. IfSome param (λ _.
             length self.new.rest.now < length self.old.rest.now)) }
         ensures kept { length self.new.rest.now ≤ length self.old.rest.now }

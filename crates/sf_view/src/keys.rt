@@ -18,7 +18,7 @@ pub(crate) fn first_node(nodes: &[Node]) -> Option<Node>
     }
 }
 
-/// So many bytes from a place on; `None` if they aren't there.
+/// The `size` bytes at this offset; `None` if the source does not have them.
 #[inline]
 pub(crate) fn bytes_at(source: &[u8], at: usize, size: usize) -> Option<&[u8]>
     ensures none { IfNone result (length source.now < at + size) }
@@ -33,7 +33,7 @@ pub(crate) fn bytes_at(source: &[u8], at: usize, size: usize) -> Option<&[u8]>
     Some(bytes)
 }
 
-/// The nodes after so many.
+/// The nodes after the first `count`.
 #[inline]
 fn nodes_behind(nodes: &[Node], count: usize) -> Option<&[Node]>
     ensures { IfSome result (λ later. (later.now ≡ drop count nodes.now) × (count ≤ length nodes.now)) }
@@ -61,7 +61,7 @@ fn first_key<'a>(source: &'a [u8], nodes: &'a [Node]) -> Option<(&'a [u8], &'a [
     Some((key, later))
 }
 
-/// Whether the key is none of the parts'.
+/// Whether none of the parts has the key.
 #[inline]
 fn is_absent(source: &[u8], key: &[u8], nodes: &[Node]) -> bool
     ensures { IsTrue result → IsAbsent key.now (keys_from source.now 0 nodes.now) }
@@ -79,7 +79,7 @@ fn is_absent(source: &[u8], key: &[u8], nodes: &[Node]) -> bool
     true
 }
 
-/// Compares each two.
+/// Whether the keys differ, by comparing each two.
 #[inline]
 fn each_two(source: &[u8], nodes: &[Node]) -> bool
     ensures { IsTrue result → AreApart source.now nodes.now }
@@ -109,7 +109,7 @@ fn hash(key: &[u8]) -> u64
     value
 }
 
-/// What a table keeps of a key.
+/// The tag of a key, which a table holds instead of the key.
 #[inline]
 fn tag(key: &[u8]) -> u32
     ensures { result ≡ tag_of key.now }
@@ -117,10 +117,11 @@ fn tag(key: &[u8]) -> u32
     (hash(key).wrapping_mul(0x9e37_79b9_7f4a_7c15) >> 32) as u32
 }
 
-/// How many places are looked at for a tag.
+/// The number of slots that are searched for a tag.
 const PROBES: usize = 16;
 
-/// Puts a tag into the table; `false` if it is there already, or there was no place near its own.
+/// Puts a tag into the table; `false` if the table has it already, or if none of its slots is
+/// empty.
 #[inline]
 fn enter(table: &mut [u32], tag: u32) -> bool
     ensures same { length table.new ≡ length table.old }
@@ -165,7 +166,7 @@ fn all_enter(table: &mut [u32], source: &[u8], nodes: &[Node]) -> bool
     true
 }
 
-/// With a table for up to about a hundred keys.
+/// Whether the keys differ, by a table for up to about a hundred keys.
 fn by_small_table(source: &[u8], nodes: &[Node]) -> bool
     ensures { IsTrue result → AreApart source.now nodes.now }
 {
@@ -173,7 +174,7 @@ fn by_small_table(source: &[u8], nodes: &[Node]) -> bool
     all_enter(&mut table, source, nodes)
 }
 
-/// With a larger table.
+/// The same by a larger table.
 fn by_middle_table(source: &[u8], nodes: &[Node]) -> bool
     ensures { IsTrue result → AreApart source.now nodes.now }
 {
@@ -181,7 +182,7 @@ fn by_middle_table(source: &[u8], nodes: &[Node]) -> bool
     all_enter(&mut table, source, nodes)
 }
 
-/// With the largest table.
+/// The same by the largest table.
 fn by_table(source: &[u8], nodes: &[Node]) -> bool
     ensures { IsTrue result → AreApart source.now nodes.now }
 {
@@ -189,7 +190,7 @@ fn by_table(source: &[u8], nodes: &[Node]) -> bool
     all_enter(&mut table, source, nodes)
 }
 
-/// Whether the keys of the parts differ; `false` also where there are too many.
+/// Whether the keys of the parts differ; `false` also if there are too many.
 #[inline]
 pub(crate) fn are_distinct(source: &[u8], nodes: &[Node]) -> bool
     ensures { IsTrue result → AreApart source.now nodes.now }

@@ -34,13 +34,13 @@ pub(crate) fn hop<'a>(
 /// The nodes of the part with this key, if there is one, among the nodes of a Dictionary or of
 /// parameters.
 pub fn entry<'a>(source: &'a [u8], nodes: &'a [Node], key: &[u8]) -> Option<&'a [Node]>
-    // whatever members the nodes describe, the nodes found describe the one with this key
+    // Whatever members the nodes describe, the nodes found describe the one with this key.
     ensures found { (d : Which) (ps : Pairs Member) → DescribesEntries d source.now nodes.now ps
         → IfSome result (λ ns. Finds d source.now key.now ps ns.now) }
-    // and where none are found there is no such member
+    // If none are found, no member has this key.
     ensures none { (d : Which) (ps : Pairs Member) → DescribesEntries d source.now nodes.now ps
         → IfNone result (value_at key.now ps ≡ None) }
-    // whatever parameters the nodes describe, the same holds
+    // Whatever parameters the nodes describe, the same holds.
     ensures found_param { (d : Which) (r : Place) (ps : Pairs Bare)
         → DescribesParams d source.now r nodes.now ps
         → IfSome result (λ ns. FindsParam d source.now key.now r ps ns.now) }

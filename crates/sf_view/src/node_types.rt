@@ -5,7 +5,7 @@ ghost use Rattle.sf_view.specs.declared.node_types.Role.{Role as Place};
 ghost use Rattle.sf_view.specs.NodeTypes.{role_number as number_of_role};
 ghost use Rattle.sf_view.specs.NodeTypes.{type_number as number_of_type};
 
-/// Where a node belongs in its field. In C the number, an `sf_role`.
+/// The role of a node in its field. In C, its number: an `sf_role`.
 #[derive(Clone, Copy, Debug, PartialEq, Eq)]
 pub enum Role {
     /// 11: the Item of an Item field, or a member of a List or of a Dictionary.
@@ -18,8 +18,8 @@ pub enum Role {
     InnerParameter,
 }
 
-/// What a node describes: an Inner List, or a bare item by its type (RFC 9651 section 3.3). In C
-/// the number, an `sf_type`.
+/// What a node describes: an Inner List, or a bare item by its type (RFC 9651 section 3.3). In C,
+/// its number: an `sf_type`.
 #[derive(Clone, Copy, Debug, PartialEq, Eq)]
 pub enum NodeType {
     /// 21: an Inner List (section 3.1.1).

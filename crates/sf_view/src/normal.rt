@@ -18,10 +18,10 @@ use sf_write::to_text;
 use std::alloc::Global;
 use std::hash::RandomState;
 
-/// How many nodes are on the stack.
+/// The number of nodes on the stack.
 const FEW: usize = 32;
 
-/// How many bytes are counted together: few enough that the count fits in a byte.
+/// The number of bytes that are counted together: small enough that the count fits in a byte.
 const CHUNK: usize = 128;
 
 /// Returns the canonical text (RFC 9651 section 4.1) of the field of this kind that a view shows:
@@ -49,8 +49,8 @@ pub fn view_text(alloc: Global, view: &View, kind: Kind) -> Result<Vec<u8>, OutO
 }
 
 /// Returns the canonical text (RFC 9651 section 4.1) of the field that a text spells in a dialect,
-/// or refuses what [`parse_text_in`] refuses, as that does. The text is written from nodes that
-/// point into the one that is read; only if there are none, as for a repeated key, the field is
+/// or the refusal that [`parse_text_in`] returns. The canonical text is written from nodes that
+/// point into the text; only if it has no view, for example because a key is repeated, the field is
 /// built. It allocates the canonical text, and nodes if there are more than 32.
 ///
 /// ```
@@ -74,9 +74,9 @@ pub fn normalise(
 }
 
 /// Returns the canonical text (RFC 9651 section 4.1) of the field that a text spells in a dialect,
-/// written from nodes; `None` if the text has no view, and then [`sf_parse::parse_text_in`] decides.
-/// It fails only if an allocation fails. It allocates the canonical text, and nodes if there are
-/// more than 32.
+/// written from nodes; `None` if the text has no view: call [`sf_parse::parse_text_in`] then. It
+/// fails only if an allocation fails. It allocates the canonical text, and nodes if there are more
+/// than 32.
 ///
 /// ```
 /// canonical_text(alloc, Dialect::Rfc9651, Kind::Dict, b"u=1,  i=?1") // Ok(Some(..)): u=1, i
@@ -99,7 +99,7 @@ pub fn canonical_text(
     }
 }
 
-/// The same of a text with more nodes than are on the stack.
+/// The same for a text with more nodes than are on the stack.
 fn by_many_nodes(
     alloc: Global,
     dialect: Dialect,
@@ -116,7 +116,7 @@ fn by_many_nodes(
     }
 }
 
-/// The canonical text by the field.
+/// The canonical text, written from the field.
 fn by_field(
     alloc: Global,
     seed: &RandomState,
@@ -133,13 +133,13 @@ fn by_field(
     Ok(canonical?)
 }
 
-/// No canonical text of a text of this length is longer: it has at most eight fifths of it. No
-/// text depends on this: with too small a number, memory would be allocated again.
+/// The largest length of the canonical text of a text of this length, which is eight fifths of it.
+/// It is only a capacity: if it were too small, the buffer would grow.
 fn longest(length: usize) -> usize {
     (length / 5).saturating_add(1).saturating_mul(8)
 }
 
-/// A buffer of at least so many nodes.
+/// A buffer of at least `count` nodes.
 fn buffer_of(alloc: Global, count: usize) -> Result<Vec<Node>, OutOfMemory> {
     let block = [Node::NONE; FEW];
     let blocks = count.div_ceil(FEW);
@@ -150,9 +150,9 @@ fn buffer_of(alloc: Global, count: usize) -> Result<Vec<Node>, OutOfMemory> {
     Ok(nodes)
 }
 
-/// A text has at most so many nodes: before each but the first is a comma, a semicolon or an opening
-/// bracket, or, in an Inner List, a space. No text depends on this: with too small a number, the
-/// field is built.
+/// The largest number of nodes of a text: before each node but the first is a comma, a semicolon or
+/// an opening bracket, or, in an Inner List, a space. If it were too small, the field would be
+/// built.
 fn most_nodes(text: &[u8]) -> usize {
     let lists = occurrences(text, b'(');
     let spaces = if lists == 0 {
@@ -167,7 +167,8 @@ fn most_nodes(text: &[u8]) -> usize {
         .saturating_add(1)
 }
 
-/// How often the byte is in the text. The compiler adds up a chunk in vectors of bytes.
+/// The number of times that the byte is in the text. The compiler adds up a chunk in vectors of
+/// bytes.
 fn occurrences(text: &[u8], byte: u8) -> usize {
     let mut count = 0usize;
     for chunk in text.chunks(CHUNK) {

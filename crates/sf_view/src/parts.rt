@@ -22,7 +22,7 @@ use crate::view::View;
 impl<'a> View<'a> {
     /// The first part, and a view of the parts after it: of the members of a List or of a
     /// Dictionary, of the Items of an Inner List, or of parameters; `None` if there are no parts.
-    /// It allocates nothing.
+    /// It does not allocate.
     ///
     /// ```
     /// let mut rest = view;
@@ -69,7 +69,7 @@ impl<'a> View<'a> {
     }
 
     /// The key of a member of a Dictionary or of a parameter, as a part of the text; empty if the
-    /// part has no key. It allocates nothing.
+    /// part has no key. It does not allocate.
     ///
     /// ```
     /// view.get(b"u")?.key() // b"u"
@@ -90,7 +90,7 @@ impl<'a> View<'a> {
         }
     }
 
-    /// The parameters of an Item, or of an Inner List as a whole. It allocates nothing.
+    /// The parameters of an Item, or of an Inner List as a whole. It does not allocate.
     ///
     /// ```
     /// view.params().get(b"q")?.bare()
@@ -116,7 +116,7 @@ impl<'a> View<'a> {
         }
     }
 
-    /// The Items of an Inner List; `None` for an Item. It allocates nothing.
+    /// The Items of an Inner List; `None` for an Item. It does not allocate.
     ///
     /// ```
     /// view.get(b"l")?.items() // of l=(1 2): a view of two Items
@@ -175,7 +175,7 @@ fn inner_parts(nodes: &[Node]) -> Option<(&[Node], &[Node])>
     Some(inside.split_at(items_end(inside)))
 }
 
-/// How many nodes there are before the first of a parameter of an Inner List.
+/// The number of nodes before the first parameter of an Inner List.
 #[inline]
 fn items_end(nodes: &[Node]) -> usize
     ensures within { result ≤ length nodes.now }

@@ -74,10 +74,10 @@ fn whole_dict(dialect: Dialect, text: &[u8], nodes: &mut [Node]) -> Option<usize
     }
 }
 
-/// The nodes of the text, in the buffer; `None` says nothing.
+/// Writes the nodes of the text to the buffer, and returns their number; `None` claims nothing.
 pub fn scan_text(dialect: Dialect, kind: Kind, text: &[u8], nodes: &mut [Node]) -> Option<usize>
     ensures same { length nodes.new ≡ length nodes.old }
-    // the text spells a field, the only one, and the first so many nodes describe it
+    // The text spells a field, and no other, and the first nodes, as many as returned, describe it.
     ensures accepts { IfSome result (λ n. Accepts dialect kind text.now nodes.new n) }
 {
     if text.len() > 0xffff_ffff {

@@ -1,4 +1,4 @@
-//! The bare item of one node that anybody made.
+//! The bare item of one node of any origin.
 ghost use Rattle.std.specs.Prelude.{◌≡◌, pos, true, [], IsTrue, IfOk, IfSome, Some};
 ghost use Rattle.sf_value.specs.declared.dialect.Dialect.TheVariants as dialect_is;
 ghost use Rattle.sf_value.specs.declared.value.Bare.{Bare as Value};
@@ -19,7 +19,7 @@ use sf_value::{Bare, Dialect, Field, Item, Kind, OutOfMemory};
 use std::alloc::Global;
 use std::hash::RandomState;
 
-/// What nodes point into, and what their values are made with.
+/// The text that nodes point into, and what their values are built with.
 #[derive(Clone, Copy, Drop)]
 pub(crate) struct Source<'a> {
     pub alloc: Global,
@@ -28,8 +28,8 @@ pub(crate) struct Source<'a> {
     pub text: &'a [u8],
 }
 
-/// The bare item of a node of this role and of so many nodes; `None` if it is no valid one, or its
-/// key isn't in the text.
+/// The bare item of a node of this role and size; `None` if it has no valid one, or its key isn't
+/// in the text.
 pub(crate) fn value_of(
     source: Source,
     role: Role,
@@ -54,7 +54,7 @@ pub(crate) fn value_of(
     bare_item(source, node, bytes)
 }
 
-/// The bare item of a node that points to these bytes; `None` if it is no valid one.
+/// The bare item of a node that points to these bytes; `None` if it has no valid one.
 fn bare_item(source: Source, node: Node, bytes: &[u8]) -> Result<Option<Bare>, OutOfMemory>
     ensures { IfOk result (Gives (IsBare source.entry.dialect node bytes.now)) }
 {
@@ -136,7 +136,7 @@ struct Parts<'a> {
 }
 
 impl Parts<'_> {
-    /// Whether the node has these, if it points to these bytes. Of coded bytes nothing is said.
+    /// Whether the node has these, if it points to these bytes. Coded bytes are not compared.
     fn are_in(&self, node: Node, bytes: &[u8]) -> bool
         ensures agree { IsTrue result
             → AgreesWith node bytes.now self.now.node_type self.now.number self.now.bytes.now }

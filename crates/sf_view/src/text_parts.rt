@@ -18,10 +18,10 @@ use crate::node_types::NodeType;
 use crate::view::{BareView, Slice};
 use sf_value::Dialect;
 
-/// What a key without a value has.
+/// The bare item of a key without a value.
 const TRUE: BareView = BareView::Boolean(true);
 
-/// A bare item, and the rest; `None` also if 4 GiB of text or more are left.
+/// A bare item, and the rest; `None` also if the text has 4 GiB or more.
 #[inline]
 pub(crate) fn read_bare(dialect: Dialect, text: &[u8]) -> Option<(BareView, &[u8])>
     ensures { IfSome result (λ r. ReadsBare dialect text.now r.0 r.1.now) }

@@ -20,8 +20,8 @@ use crate::node_types::NodeType;
 use crate::series::scan_text;
 use sf_value::{Dialect, Kind};
 
-/// The part of a field that some nodes describe, with the text that they point into: the whole
-/// field, a member, or what is left of the members. It allocates nothing.
+/// A part of a field, as the nodes that describe it and the text that they point into: the whole
+/// field, a member, or the members that remain. It does not allocate.
 #[derive(Clone, Copy, Debug, Drop)]
 pub struct View<'a> {
     /// The whole text of the field.
@@ -33,13 +33,13 @@ pub struct View<'a> {
 /// Why a text has no view.
 #[derive(Clone, Copy, Debug, PartialEq, Eq)]
 pub enum Unviewed {
-    /// The text is refused, or one of its keys is repeated. `sf_parse::parse_text_in` decides, and
-    /// returns the value or the exact refusal.
+    /// The scanner declines the text: it is malformed, a key is repeated or, rarely, there are many
+    /// keys. `sf_parse::parse_text_in` returns the value or the exact refusal.
     Declined,
     /// As [`Unviewed::Declined`], or the buffer has too few nodes. As many nodes as the text has
     /// bytes are always enough.
     ShortBuffer,
-    /// The text has 4 GiB or more, and no node points so far.
+    /// The text has 4 GiB or more, so that its offsets don't fit in a node.
     TooLong,
 }
 
@@ -69,7 +69,7 @@ pub enum BareView<'a> {
     Blob(Slice<'a>),
     /// A Boolean.
     Boolean(bool),
-    /// A Date, in seconds from 1970-01-01T00:00:00Z on.
+    /// A Date, in seconds since 1970-01-01T00:00:00Z.
     Date(i64),
     /// A Display String.
     Shown(Slice<'a>),
@@ -77,7 +77,7 @@ pub enum BareView<'a> {
 
 impl<'a> View<'a> {
     /// Scans a whole text as a field of this kind, and writes a node for each part of it to the
-    /// front of the buffer (RFC 9651 section 4.2). It allocates nothing.
+    /// beginning of the buffer (RFC 9651 section 4.2). It does not allocate.
     ///
     /// ```
     /// let mut nodes = [Node::NONE; 16];
@@ -108,7 +108,8 @@ impl<'a> View<'a> {
     }
 
     /// The member of a Dictionary with this key, or the parameter with this key; `None` if there is
-    /// none. It allocates nothing, and takes time in the number of members or of parameters.
+    /// none. It does not allocate, and takes time in proportion to the number of members or
+    /// parameters.
     ///
     /// ```
     /// view.get(b"u") // of u=1, i: the view of the Integer 1
@@ -143,7 +144,7 @@ impl<'a> View<'a> {
     }
 
     /// The bare item of an Item, or the value of a parameter: what the first node describes; `None`
-    /// for an Inner List. It allocates nothing.
+    /// for an Inner List. It does not allocate.
     pub fn bare(&self) -> Option<BareView<'a>>
         // Whatever Item the nodes describe, this is its bare item.
         ensures item { (d : Which) (r : Place) (k : List ℕ) (i : Item)
@@ -186,7 +187,7 @@ pub(crate) fn bare_of<'a>(node: Node, bytes: &'a [u8]) -> Option<BareView<'a>>
     }
 }
 
-/// The reason if the buffer was long enough for any text of this length, or was not.
+/// The reason that a text has no view, if the buffer has a node for each byte of the text, or not.
 fn declined(enough: bool) -> Unviewed
     ensures { result ≡ reason enough }
 {

@@ -1,4 +1,4 @@
-//! The canonical text of what a view shows, written from its nodes (RFC 9651 section 4.1).
+//! The canonical text of a view, written from its nodes (RFC 9651 section 4.1).
 ghost use Rattle.std.specs.Prelude.{◌≡◌, ◌≤◌, ◌<◌, ◌∷◌, [], ℕ, List as Seq, IfSome, length};
 ghost use Rattle.sf_value.specs.declared.dialect.Dialect.{Dialect as Which};
 ghost use Rattle.sf_value.specs.declared.value.Bare.{Bare as Value};
@@ -65,8 +65,8 @@ pub fn put_view<W: Sink>(view: &View, kind: Kind, before: Sent, out: &mut W) -> 
 /// ```
 pub fn write_view<W: Sink>(view: &View, kind: Kind, out: &mut W) -> Result<u64, WriteFault>
     // Whatever field of the kind the nodes describe, its whole canonical text was written, or
-    // exactly its first `written` bytes and then a send failed. Once a count is saturated, it is
-    // left open which bytes were written.
+    // exactly its first `written` bytes and then a send failed. Once a count is saturated, nothing
+    // is claimed of which bytes were written.
     ensures { (d : Which) (v : FieldValue)
         → DescribesField d view.now.text.now view.now.nodes.now v
         → kind_of v ≡ kind
@@ -150,7 +150,7 @@ fn put_groups<W: Sink>(text: &[u8], before: Sent, out: &mut W) -> Sent
     ensures { (t : Seq ℕ) → Remains coding_is.First text.now t
         → Follows W.state W.send_gives out.old out.new before result (canon_base64 t) }
 {
-    // After so many characters the rest spells at most three bytes.
+    // After these characters the rest spells at most three bytes.
     let whole = text.len().saturating_sub(2) / 4 * 4;
     let (groups, rest) = text.split_at(whole);
     let sent = put(groups, before, out);
