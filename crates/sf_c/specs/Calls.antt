@@ -1,4 +1,4 @@
--- What C names by numbers, and what a call by such names returns.
+-- The numbers that C passes for a dialect and a kind, and what a call with them returns.
 use Rattle.std.specs.Prelude.{◌≡◌, ℕ, ◌==◌, if◌then◌else◌, Option, Some, None}
 use Rattle.sf_value.specs.declared.dialect.Dialect.{Dialect}
 use Rattle.sf_value.specs.declared.dialect.Dialect.TheVariants.{Rfc8941, Rfc9651}
@@ -7,7 +7,7 @@ use Rattle.sf_value.specs.declared.value.Kind.TheVariants.{Item, List, Dict}
 use Rattle.sf_c.specs.declared.status.Status.{Status}
 use Rattle.sf_c.specs.declared.status.Status.TheVariants.{BadCall}
 
--- the dialect of a number, which is that of its RFC
+-- the dialect of a number, which is the number of its RFC
 abbrev pub dialect_at : ℕ → Option Dialect
 dialect_at n = if n == 9651 then Some Rfc9651 else (if n == 8941 then Some Rfc8941 else None)
 
@@ -18,8 +18,8 @@ kind_at n =
     else (if n == 2 then Some List
     else (if n == 3 then Some Dict else None))
 
--- the status and what is there afterwards are those of a call by this dialect and kind; if there is
--- no such kind or dialect the status is BadCall, and all is left as it was
+-- the status and the output are those of a call with this dialect and kind; if there is no such
+-- kind or dialect, the status is BadCall and everything is unchanged
 abbrev pub Called : {Output : Type 0} → Option Dialect → Option Kind → Option Status
     → (Output → Output → Dialect → Kind → Status → Type 0) → Output → Output → Type 0
 Called (Some d) (Some k) (Some s) P old new = P old new d k s

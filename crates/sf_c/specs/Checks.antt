@@ -9,7 +9,7 @@ use Rattle.sf_c.specs.declared.status.Status.{Status}
 use Rattle.sf_c.specs.declared.status.Status.TheVariants.{Answered, Refused, OutOfMemory}
 use Rattle.sf_c.specs.Refusals.{SaysRefusal}
 
--- the text t spells a value, or the struct says its refusal; the struct is otherwise left as it was
+-- the text t spells a value, or the struct has its refusal; the struct is otherwise unchanged
 abbrev pub Checks : SyntaxRefusal → SyntaxRefusal → List ℕ → Dialect → Kind → Status → Type 0
 Checks old new t d k Answered = ((v : Field) × IsOnly d k t v) × (new ≡ old)
 Checks old new t d k Refused = SaysRefusal d k t new

@@ -11,20 +11,20 @@ use Rattle.sf_view.specs.NodeTypes.{type_number}
 use Rattle.sf_view.specs.View.{piece, DescribesBare, DescribesOpening}
 use Rattle.sf_c.specs.Flattening.{IsDecoded, IsInOne}
 
--- whatever the first node describes with one source, the second does with the other
+-- whatever the first node describes with one source, the second describes with the other
 pub record Means (old new : List ℕ) (n m : Node) : Type 0 where
   pub bare : (d : Dialect) (r : Role) (k : List ℕ) (size : ℕ) (x : Bare)
       → DescribesBare d old r k size n x → DescribesBare d new r k size m x
   pub opening : (k : List ℕ) (size : ℕ) → DescribesOpening old k size n
       → DescribesOpening new k size m
 
--- so it is of each two
+-- the same for each two nodes
 abbrev pub EachMeans : List ℕ → List ℕ → List Node → List Node → Type 0
 EachMeans old new [] [] = Unit {0}
 EachMeans old new (n ∷ ns) (m ∷ ms) = Means old new n m × EachMeans old new ns ms
 EachMeans old new ns ms = ⊥
 
--- the node with its bytes at this offset, as they are
+-- the uncoded node with its bytes at this offset
 abbrev pub decoded_to : ℕ → ℕ → Node → Node
 decoded_to at count n = record {
   number = n.number;
@@ -42,7 +42,7 @@ decoded_to at count n = record {
 abbrev pub IsPlain : ℕ → Node → Type 0
 IsPlain size n = IsDecoded n × IsInOne size n
 
--- the nodes mean the same with so many bytes after the text
+-- the nodes mean the same with the first of these bytes after the text
 pub record AreDecoded (text : List ℕ) (old new : List Node) (bytes : List ℕ) (used : ℕ)
     : Type 0 where
   pub within : used ≤ length bytes
@@ -58,7 +58,7 @@ pub record IsNodeDecoded (text old new : List ℕ) (used : ℕ) (n m : Node) (en
   pub means : Means text (text ++ take end new) n m
   pub plain : IsPlain (length text) m
 
--- the slice is of the coded bytes of a String, a Byte Sequence or a Display String
+-- the slice has the coded bytes of a String, a Byte Sequence or a Display String
 pub record HasCoded (text : List ℕ) (n : Node) (s : Slice) : Type 0 where
   pub node_type : (n.node_type ≡ type_number Text) ⊎ (n.node_type ≡ type_number Blob)
       ⊎ (n.node_type ≡ type_number Shown)

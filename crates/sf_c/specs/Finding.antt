@@ -8,8 +8,8 @@ use Rattle.sf_view.specs.View.{piece}
 use Rattle.sf_c.specs.declared.status.Status.{Status}
 use Rattle.sf_c.specs.declared.status.Status.TheVariants.{Answered, Absent}
 
--- so many bytes at an offset that counts on from the text into the bytes, if they are all in one of
--- the two
+-- the bytes at an offset, which counts in the text and from its end on in the bytes, if they are
+-- all in one of the two
 abbrev pub found_at : List ℕ → List ℕ → ℕ → ℕ → Option (List ℕ)
 found_at text bytes at count =
     if nat_le (at + count) (length text) then Some (piece at count text)
@@ -27,7 +27,7 @@ has_key text bytes key n =
 abbrev pub is_named : List ℕ → List ℕ → ℕ → List ℕ → Node → Bool
 is_named text bytes role key n = (n.role == role) && has_key text bytes key n
 
--- the index of the first such node; if there is none, the index is left as it was
+-- the index of the first such node; if there is none, the index is unchanged
 abbrev pub Finds : List ℕ → List ℕ → ℕ → List ℕ → List Node → ℕ → ℕ → Option Status → Type 0
 Finds text bytes role key nodes old new (Some Answered) =
     position (is_named text bytes role key) nodes ≡ Some new

@@ -22,11 +22,11 @@ pub record NodeOutput : Type 0 where
   pub sizes : Sizes
   pub refusal : SyntaxRefusal
 
--- the bytes of the node are those that it points to
+-- the bytes of the node are not coded
 abbrev pub IsDecoded : Node → Type 0
 IsDecoded n = n.coded ≡ 0
 
--- bytes at this offset are all before this place, or all behind it
+-- bytes at this offset are all before this place, or all at or after it
 abbrev pub IsOnOneSide : ℕ → ℕ → ℕ → Type 0
 IsOnOneSide place at count = (at + count ≤ place) ⊎ (place ≤ at)
 
@@ -50,18 +50,18 @@ pub record HoldsNodes (d : Dialect) (t : List ℕ) (nodes : List Node) (bytes : 
   pub in_one : Each (IsInOne (length t)) (take sizes.nodes nodes)
   pub count : sizes.nodes ≡ field_nodes v
 
--- so do those of the value that the text spells, the only one
+-- the same for the only value that the text spells
 abbrev pub IsHeld : Dialect → Kind → List ℕ → List Node → List ℕ → Sizes → Type 0
 IsHeld d k t nodes bytes sizes =
     (v : Field) × IsOnly d k t v × IsSmall t v × HoldsNodes d t nodes bytes sizes v
 
--- what a call keeps whose answer is not the value: only what the buffers hold may change
+-- a call that does not return the value changes at most the contents of the buffers
 abbrev pub KeepsLengths : NodeOutput → NodeOutput → Type 0
 KeepsLengths old new =
     (length new.nodes ≡ length old.nodes) × (length new.bytes ≡ length old.bytes)
 
--- the starts of the buffers describe the value that the text t spells, the only one; or one of them
--- is too small for it; or the struct says the refusal; or an offset would have to be 2^32 or more
+-- the starts of the buffers describe the only value that the text t spells; or one of them is too
+-- small for it; or the struct has the refusal; or an offset would have to be 2^32 or more
 abbrev pub Flattens : NodeOutput → NodeOutput → List ℕ → Dialect → Kind → Status → Type 0
 Flattens old new t d k Answered =
     IsHeld d k t new.nodes new.bytes new.sizes

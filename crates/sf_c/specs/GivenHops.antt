@@ -1,5 +1,5 @@
--- The hop that a struct gives, to be written (RFC 9211 section 2). Any number but 0 sets a flag,
--- and what a flag leaves out is not looked at.
+-- The hop that a struct describes, to be written (RFC 9211 section 2). Any number but 0 sets a
+-- flag, and a member whose flag is not set is ignored.
 use Rattle.std.specs.Prelude.{◌≡◌, ◌≢◌, ℕ, ℤ, ◌<◌, ◌≤◌, ◌^◌, ◌==◌, not, nat_abs, Bool}
 use Rattle.std.specs.Prelude.{List, [], ◌∷◌, Option, Some, None, Ok}
 use Rattle.sf_value.specs.declared.dialect.Dialect.TheVariants.{Rfc9651}
@@ -34,11 +34,11 @@ use Rattle.sf_c.specs.declared.status.Status.TheVariants.{Answered, Short, OutOf
 use Rattle.sf_c.specs.Spans.{IsSpanWithin, span_bytes}
 use Rattle.sf_c.specs.TextBuffers.{PutsText, TextBuffer}
 
--- the bytes that a span points to, which are there
+-- the span is within the bytes, and these are its bytes
 abbrev pub AreBytes : List ℕ → Span → List ℕ → Type 0
 AreBytes bytes p text = IsSpanWithin bytes p × (text ≡ span_bytes bytes p)
 
--- a value that is given if its flag is set
+-- a value that is present if its flag is set
 abbrev pub GivesMaybe : {X : Type 0} → ℕ → (X → Type 0) → Option X → Type 0
 GivesMaybe flag P None = flag ≡ 0
 GivesMaybe flag P (Some x) = (flag ≢ 0) × P x
@@ -76,7 +76,7 @@ GivesStatus number status = (status ≡ number) × (100 ≤ number) × (number �
 abbrev pub GivesFlag : ℕ → Bool → Type 0
 GivesFlag number flag = flag ≡ not (number == 0)
 
--- what is known of a request that was forwarded
+-- the parameters of a request that was forwarded
 abbrev pub GivesPassed : List ℕ → HopNode → Passed → Type 0
 GivesPassed bytes n p =
     GivesWhy bytes n p.why
@@ -95,7 +95,7 @@ GivesOutcome bytes n (Conflict p) = (n.outcome ≡ 3) × GivesPassed bytes n p
 abbrev pub GivesInteger : ℤ → ℤ → Type 0
 GivesInteger number n = (n ≡ number) × (nat_abs number < 10 ^ 15)
 
--- the hop that a struct gives, which points into these bytes
+-- the hop that a struct describes, whose spans are in these bytes
 abbrev pub GivesHop : List ℕ → HopNode → Hop → Type 0
 GivesHop bytes n h =
     GivesName bytes n.name n.name_is_token h.name
@@ -104,13 +104,13 @@ GivesHop bytes n h =
     × GivesMaybe n.has_key (GivesString bytes n.key) h.key
     × GivesMaybe n.has_detail (GivesName bytes n.detail n.detail_is_token) h.detail
 
--- why there is no value: none is given, or there is no memory for it
+-- why there is no value: the struct describes none, or an allocation failed
 abbrev pub GivesNone : {X : Type 0} → (X → Type 0) → Status → Type 0
 GivesNone P Invalid = (x : _) → P x → ⊥
 GivesNone P OutOfMemory = Unit {0}
 GivesNone P status = ⊥
 
--- the status for bytes that are no String or Token
+-- the status for bytes that are not a String or a Token
 abbrev pub fault_status : TextFault → Status
 fault_status text_fault.Empty = Invalid
 fault_status (text_fault.BadByte place) = Invalid

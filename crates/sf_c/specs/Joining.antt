@@ -13,7 +13,7 @@ pub record JoinOutput : Type 0 where
   pub buffer : List ℕ
   pub joined : Joined
 
--- nothing is before the first line, and a comma and a space before each other one
+-- nothing before the first line, and a comma and a space before each other one
 abbrev pub separator_of : Joined → List ℕ
 separator_of j = if j.begun == 0 then [] else comma ∷ space ∷ []
 
@@ -25,7 +25,7 @@ added j line = separator_of j ++ line
 abbrev pub AreJoined : List (List ℕ) → JoinOutput → Type 0
 AreJoined ls r = ((r.joined.begun ≡ 0) ↔ (ls ≡ [])) × (take r.joined.length r.buffer ≡ join ls)
 
--- the line is joined to the others, and what is after the text is left as it was
+-- the line is appended to the others, and what is after the text is unchanged
 pub record PutsOne (old new : JoinOutput) (line : List ℕ) : Type 0 where
   pub joins : (ls : List (List ℕ)) → AreJoined ls old → AreJoined (ls ++ line ∷ []) new
   pub longer : new.joined.length ≡ old.joined.length + length (added old.joined line)
@@ -37,7 +37,7 @@ pub record PutsOne (old new : JoinOutput) (line : List ℕ) : Type 0 where
   pub behind : drop new.joined.length new.buffer ≡ drop new.joined.length old.buffer
   pub kept : length new.buffer ≡ length old.buffer
 
--- the buffer is too small for the text with this line, and nothing is put
+-- the buffer is too small for the text with this line, and nothing is put into it
 pub record RequiresMore (old new : JoinOutput) (line : List ℕ) : Type 0 where
   pub within : old.joined.length ≤ length old.buffer
   pub short : length old.buffer < old.joined.length + length (added old.joined line)
@@ -45,7 +45,7 @@ pub record RequiresMore (old new : JoinOutput) (line : List ℕ) : Type 0 where
   pub buffer : new.buffer ≡ old.buffer
   pub still : new.joined ≡ record old.joined { required = new.joined.required }
 
--- the line is joined, or the buffer is too small, or shorter than the text that is to be in it
+-- the line is appended, or the buffer is too small, or shorter than the text that is to be in it
 abbrev pub PutsLine : JoinOutput → JoinOutput → List ℕ → Option Status → Type 0
 PutsLine old new line (Some Answered) = PutsOne old new line
 PutsLine old new line (Some Short) = RequiresMore old new line

@@ -20,7 +20,7 @@ use Rattle.sf_c.specs.declared.hops.HopNode.{HopNode}
 use Rattle.sf_c.specs.NodeCounts.{field_nodes, field_bytes}
 use Rattle.sf_c.specs.Hops.{hops_size, told_hop, told_hop_by}
 
--- nodes that describe two values of a kind, with the bytes that they point into, describe one
+-- if nodes describe two values of a kind, with the bytes that they point into, these are equal
 abbrev pub TellOneValue : Type 0
 TellOneValue =
     (d : Dialect) (source : List ℕ) (nodes : List Node) (v w : Field) → kind_of v ≡ kind_of w
@@ -32,39 +32,39 @@ NodesAreTheirs =
     (d : Dialect) (source : List ℕ) (nodes : List Node) (v : Field)
     → DescribesField d source nodes v → length nodes ≡ field_nodes v
 
--- how many nodes the value of a text may have
+-- the largest number of nodes of the value of a text
 abbrev pub NodesAreFew : Type 0
 NodesAreFew =
     (d : Dialect) (kind : Kind) (t : List ℕ) (v : Field)
     → SpellsField d kind t v → 10 * field_nodes v ≤ 8 * length t + 5
 
--- how many bytes it may have
+-- the largest number of its bytes
 abbrev pub BytesAreFew : Type 0
 BytesAreFew =
     (d : Dialect) (kind : Kind) (t : List ℕ) (v : Field)
     → SpellsField d kind t v → 5 * field_bytes v ≤ 8 * length t
 
--- structs that describe two paths describe one
+-- if structs describe two paths, these are equal
 abbrev pub TellOnePath : Type 0
 TellOnePath =
     (bytes : List ℕ) (hops : List HopNode) (hs js : List Hop)
     → map (told_hop_by bytes) hops ≡ map told_hop hs
     → map (told_hop_by bytes) hops ≡ map told_hop js → hs ≡ js
 
--- how many hops the path that a text spells may have
+-- the largest number of hops of the path that a text spells
 abbrev pub HopsAreFew : Type 0
 HopsAreFew =
     (d : Dialect) (kind : Kind) (t : List ℕ) (v : Field) (hs : List Hop)
     → SpellsField d kind t v → hops v ≡ Ok hs → 10 * length hs ≤ 8 * length t + 5
 
--- how many bytes it may have
+-- the largest number of its bytes
 abbrev pub HopBytesAreFew : Type 0
 HopBytesAreFew =
     (d : Dialect) (kind : Kind) (t : List ℕ) (v : Field) (hs : List Hop)
     → SpellsField d kind t v → hops v ≡ Ok hs
     → 5 * hops_size (map told_hop hs) ≤ 8 * length t
 
--- what is written of a struct of a priority is read as what the struct sets
+-- what is written for the struct of a priority is read as what the struct sets
 abbrev pub PriorityIsRead : Type 0
 PriorityIsRead =
     (p : PriorityFlags)

@@ -1,4 +1,4 @@
--- What the exports answer.
+-- The results of the exports.
 pub mod Versions
 pub mod Statuses
 pub mod Calls

@@ -1,4 +1,4 @@
--- How many nodes a value has, and how many bytes its keys and texts have.
+-- The number of nodes of a value, and the number of bytes of its keys and texts.
 use Rattle.std.specs.Prelude.{ℕ, ◌+◌, List as Seq, [], ◌∷◌, length}
 use Rattle.sf_value.specs.declared.value.Bare.{Bare}
 use Rattle.sf_value.specs.declared.value.Item.{Item}

@@ -1,5 +1,5 @@
--- What the parts of a value are, in the order of the canonical text. Only the proofs of sf_parse's
--- second way use these words.
+-- The parts of a value in the order of the canonical text. They are used only by the proofs about
+-- the nodes that sf_parse makes from a tree.
 use Rattle.std.specs.Prelude.{ℕ, ◌+◌, pos, List as Seq, [], ◌∷◌, ◌++◌, length}
 use Rattle.sf_value.specs.declared.value.Bare.{Bare}
 use Rattle.sf_value.specs.declared.value.Item.{Item}
@@ -15,7 +15,7 @@ use Rattle.sf_view.specs.declared.node_types.Role.TheVariants as roles
 use Rattle.sf_view.specs.View.{type_of, number_of, text_of}
 use Rattle.sf_c.specs.Tellings.{Told}
 
--- a bare item in this role, with this key, and with so many nodes
+-- a bare item with this role, key and size
 abbrev pub told : Role → Seq ℕ → ℕ → Bare → Told
 told role key size x = record {
   role = role;
@@ -45,7 +45,7 @@ told_items (i ∷ is) = told_item roles.InnerItem [] i ++ told_items is
 abbrev pub told_inside : Inner → Seq Told
 told_inside l = told_items l.items ++ told_params roles.InnerParameter l.params
 
--- an Inner List: a node of its own, then what is inside
+-- an Inner List: its node, then its Items and its parameters
 abbrev pub told_inner : Seq ℕ → Inner → Seq Told
 told_inner key l =
     record {

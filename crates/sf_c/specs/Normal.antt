@@ -17,12 +17,12 @@ pub record TextOutput : Type 0 where
   pub required : ℕ
   pub refusal : SyntaxRefusal
 
--- the text is at the start of the buffer, and the rest is left as it was
+-- the text is at the start of the buffer, and the rest is unchanged
 abbrev pub IsAtFront : List ℕ → List ℕ → List ℕ → Type 0
 IsAtFront text old new = new ≡ text ++ drop (length text) old
 
 -- the canonical text of the value that the text t spells, which is at most eight fifths as long as
--- t, is put into a buffer that is long enough; all else is left as it was
+-- t, is put into a buffer that is long enough; everything else is unchanged
 abbrev pub Normalises : TextOutput → TextOutput → List ℕ → Dialect → Kind → Status → Type 0
 Normalises old new t d k Answered =
     (v : Field)
@@ -50,8 +50,8 @@ pub record EqualOutput : Type 0 where
   pub equal : ℕ
   pub refusal : SyntaxRefusal
 
--- each of the two texts spells one value, and 1 says that they are equal, 0 that they are not; or
--- the struct says the refusal of the first that spells none. All else is left as it was
+-- each of the two texts spells one value, and 1 means that they are equal, 0 that they are not; or
+-- the struct has the refusal of the first that spells none. Everything else is unchanged
 abbrev pub Equals : EqualOutput → EqualOutput → List ℕ → List ℕ → Dialect → Kind → Status → Type 0
 Equals old new s t d k Answered =
     (v w : Field) × (b : Bool)

@@ -1,4 +1,4 @@
--- What every call begins with: a text is parsed.
+-- Parsing a text, which every call begins with.
 use Rattle.std.specs.Prelude.{◌≡◌, ℕ, List, Result, Ok, Err}
 use Rattle.sf_value.specs.declared.dialect.Dialect.{Dialect}
 use Rattle.sf_value.specs.declared.value.Field.{Field}
@@ -9,8 +9,8 @@ use Rattle.sf_c.specs.declared.status.Status.{Status}
 use Rattle.sf_c.specs.declared.status.Status.TheVariants.{Refused, OutOfMemory}
 use Rattle.sf_c.specs.Refusals.{SaysRefusal}
 
--- the value that the text spells, the only one; or the struct says its refusal; or an allocation
--- failed. The struct is otherwise left as it was
+-- the only value that the text spells; or the struct has its refusal; or an allocation failed. The
+-- struct is otherwise unchanged
 abbrev pub ParsesOrSays : SyntaxRefusal → SyntaxRefusal → List ℕ → Dialect → Kind
     → Result Field Status → Type 0
 ParsesOrSays old new t d k (Ok v) = IsOnly d k t v × (new ≡ old)

@@ -1,4 +1,4 @@
--- What the struct of a targeted field's policy says.
+-- The policy of a targeted field as a struct.
 use Rattle.std.specs.Prelude.{◌≡◌, ◌≢◌, ℕ, ◌==◌, not, if◌then◌else◌, List as Seq, [], is_some}
 use Rattle.std.specs.Prelude.{Option, Some, None, unwrap_or}
 use Rattle.sf_value.specs.declared.dialect.Dialect.TheVariants.{Rfc9651}
@@ -14,7 +14,7 @@ use Rattle.sf_c.specs.declared.status.Status.{Status}
 use Rattle.sf_c.specs.declared.status.Status.TheVariants.{Answered, Refused, Empty, OutOfMemory}
 use Rattle.sf_c.specs.Refusals.{SaysRefusal, flag_number}
 
--- the struct says the policy, with 0 for seconds that are not said
+-- the struct has the policy, with 0 for absent seconds
 abbrev pub SaysPolicy : PolicyFlags → Policy → Type 0
 SaysPolicy p says =
     (p.max_age ≡ unwrap_or says.max_age 0)
@@ -26,7 +26,7 @@ SaysPolicy p says =
     × (p.no_cache ≡ flag_number says.no_cache)
     × (p.is_private ≡ flag_number says.is_private)
 
--- seconds that are said
+-- the seconds, if the flag is set
 abbrev pub seconds_at : ℕ → ℕ → Option ℕ
 seconds_at says n = if says == 0 then None else Some n
 
@@ -41,7 +41,7 @@ policy_by p = record {
   is_private = not (p.is_private == 0);
 }
 
--- a Dictionary without a member is Empty; of another the struct says the policy
+-- a Dictionary without members is Empty; of another one the struct has the policy
 abbrev pub Directs : PolicyFlags → PolicyFlags → Dict → Status → Type 0
 Directs old new d Answered = (d.members ≢ []) × SaysPolicy new (policy d)
 Directs old new d Empty = (d.members ≡ []) × (new ≡ old)
@@ -52,8 +52,8 @@ pub record PolicyOutput : Type 0 where
   pub policy : PolicyFlags
   pub refusal : SyntaxRefusal
 
--- the text spells a Dictionary with a member, and the struct says its policy; or it is Empty; or
--- the other struct says the refusal. All else is left as it was
+-- the text spells a Dictionary with a member, and the struct has its policy; or it is Empty; or the
+-- other struct has the refusal. Everything else is unchanged
 abbrev pub SaysToCache : PolicyOutput → PolicyOutput → Seq ℕ → Option Status → Type 0
 SaysToCache old new t (Some Answered) =
     (d : Dict)
@@ -70,7 +70,7 @@ SaysToCache old new t (Some Refused) =
 SaysToCache old new t (Some OutOfMemory) = new ≡ old
 SaysToCache old new t status = ⊥
 
--- 1 and the lifetime by the policy, or 0 if it says none; any number but 0 is a shared cache
+-- 1 and the lifetime by the policy, or 0 if it has none; any number but 0 is a shared cache
 abbrev pub LifeAnswer : Option ℕ → ℕ → ℕ → ℕ → Type 0
 LifeAnswer (Some n) old new said = (said ≡ 1) × (new ≡ n)
 LifeAnswer None old new said = (said ≡ 0) × (new ≡ old)

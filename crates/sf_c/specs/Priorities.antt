@@ -1,4 +1,4 @@
--- What the struct of a priority says.
+-- A priority as a struct.
 use Rattle.std.specs.Prelude.{◌≡◌, ℕ, pos, ◌==◌, nat_le, not, if◌then◌else◌, List, [], ◌∷◌, ◌++◌}
 use Rattle.std.specs.Prelude.{is_some, codes, Bool, Option, Some, None}
 use Rattle.sf_value.specs.declared.dialect.Dialect.TheVariants.{Rfc9651}
@@ -18,7 +18,7 @@ use Rattle.sf_c.specs.declared.status.Status.{Status}
 use Rattle.sf_c.specs.declared.status.Status.TheVariants.{Answered, Refused, OutOfMemory}
 use Rattle.sf_c.specs.Refusals.{SaysRefusal, flag_number}
 
--- the struct says which parts are asked for, and has the defaults for the others
+-- the struct has these parameters, and the defaults for absent ones
 abbrev pub SaysAsked : PriorityFlags → Asked → Type 0
 SaysAsked p asked =
     (p.urgency ≡ (filled asked).urgency)
@@ -26,15 +26,15 @@ SaysAsked p asked =
     × (p.has_urgency ≡ flag_number (is_some asked.urgency))
     × (p.has_incremental ≡ flag_number (is_some asked.incremental))
 
--- an urgency that is said, of those that there are
+-- the urgency, if it is set and in range
 abbrev pub urgency_at : ℕ → ℕ → Option ℕ
 urgency_at says n = if says == 0 then None else (if nat_le n least_urgent then Some n else None)
 
--- a flag that is said; any number but 0 sets it
+-- the flag, if it is set; any number but 0 is true
 abbrev pub flag_at : ℕ → ℕ → Option Bool
 flag_at says n = if says == 0 then None else Some (not (n == 0))
 
--- what a struct asks for
+-- the parameters that a struct sets
 abbrev pub asked_by : PriorityFlags → Asked
 asked_by p = record {
   urgency = urgency_at p.has_urgency p.urgency;
@@ -46,8 +46,8 @@ pub record PriorityOutput : Type 0 where
   pub priority : PriorityFlags
   pub refusal : SyntaxRefusal
 
--- the text spells a Dictionary, and the struct says what it asks for; or the other one says the
--- refusal. All else is left as it was
+-- the text spells a Dictionary, and the struct has its parameters; or the other struct has the
+-- refusal. Everything else is unchanged
 abbrev pub AsksFor : PriorityOutput → PriorityOutput → List ℕ → Option Status → Type 0
 AsksFor old new t (Some Answered) =
     (v : Field)
@@ -69,6 +69,6 @@ abbrev pub incremental_member : Option Bool → Pairs Member
 incremental_member None = []
 incremental_member (Some b) = (codes "i", plain (Boolean b)) ∷ []
 
--- the Dictionary that asks for this and nothing else, defaults too
+-- the Dictionary that sets these parameters and nothing else, also to the defaults
 abbrev pub asking : Asked → Dictionary
 asking a = record { members = urgency_member a.urgency ++ incremental_member a.incremental }

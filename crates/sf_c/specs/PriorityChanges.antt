@@ -1,4 +1,4 @@
--- A Priority field that is sent on with another priority (RFC 9218 section 4).
+-- A Priority field that is forwarded with another priority (RFC 9218 section 4).
 use Rattle.std.specs.Prelude.{◌≡◌, ℕ, List, Option, Some}
 use Rattle.sf_value.specs.declared.dialect.Dialect.TheVariants.{Rfc9651}
 use Rattle.sf_value.specs.declared.value.Dict.{Dict as Dictionary}
@@ -15,13 +15,13 @@ use Rattle.sf_c.specs.Priorities.{asked_by}
 use Rattle.sf_c.specs.Refusals.{SaysRefusal}
 use Rattle.sf_c.specs.TextBuffers.{PutsText, TextBuffer}
 
--- the buffer of a call that may refuse
+-- the buffer of a call that may refuse a text
 abbrev pub text_buffer : TextOutput → TextBuffer
 text_buffer o = record { buffer = o.buffer; required = o.required }
 
 -- the text spells a Dictionary, and its canonical text with what the struct sets, which spells that
--- Dictionary and no other, is put into a buffer that is long enough; or the struct says the refusal.
--- All else is left as it was
+-- Dictionary and no other, is put into a buffer that is long enough; or the struct has the refusal.
+-- Everything else is unchanged
 abbrev pub ChangesPriority : TextOutput → TextOutput → List ℕ → PriorityFlags → Option Status
     → Type 0
 ChangesPriority old new t p (Some Answered) =

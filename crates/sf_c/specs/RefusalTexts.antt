@@ -1,4 +1,4 @@
--- What a refusal says of itself, in a text.
+-- The error messages of refusals.
 use Rattle.std.specs.Prelude.{ℕ, List, [], ◌∷◌, ◌++◌}
 use Rattle.sf_parse.specs.RefusalTexts.{refusal_text}
 use Rattle.sf_parse.specs.Spots.{marked_text, stands_at}

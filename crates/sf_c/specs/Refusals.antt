@@ -1,4 +1,4 @@
--- What the struct of a refusal says.
+-- A refusal as a struct.
 use Rattle.std.specs.Prelude.{◌≡◌, ℕ, ◌+◌, ◌*◌, ◌^◌, ℤ, pos, negsuc, Bool, true, false, List}
 use Rattle.std.specs.Prelude.{◌==◌, not, nat_lt, if◌then◌else◌, Option, Some, None}
 use Rattle.sf_value.specs.declared.dialect.Dialect.{Dialect}
@@ -26,19 +26,19 @@ SaysSyntax r place found expected may_end =
     × (r.expected_low + r.expected_high * 2 ^ 64 ≡ expected)
     × (r.may_end ≡ flag_number may_end)
 
--- the struct says an exact refusal of the text t
+-- the struct has an exact refusal of the text t
 abbrev pub SaysRefusal : Dialect → Kind → List ℕ → SyntaxRefusal → Type 0
 SaysRefusal d k t r =
     (place : ℕ) × (found : Option ℕ) × (expected : ℕ) × (may_end : Bool)
     × SaysSyntax r place found expected may_end
     × IsSyntax d k t place found expected may_end
 
--- the byte of a number from 0 to 255; any other says that the text ended
+-- the byte of a number from 0 to 255; any other number means that the text ended
 abbrev pub found_by : ℤ → Option ℕ
 found_by (pos n) = if nat_lt n 256 then Some n else None
 found_by (negsuc n) = None
 
--- the refusal of a struct, which may have any numbers
+-- the refusal of a struct, whose numbers may be any
 abbrev pub refusal_by : SyntaxRefusal → Refusal
 refusal_by r =
     Syntax r.place (found_by r.found) (r.expected_low + r.expected_high * 2 ^ 64)

@@ -15,11 +15,11 @@ use Rattle.sf_c.specs.Policies.{SaysPolicy}
 use Rattle.sf_c.specs.Spans.{IsSpanWithin, span_bytes}
 
 -- a field is ignored if its text spells no Dictionary, or one without members (section 2.1); the
--- text of an absent field is empty, and spells one without members
+-- text of an absent field is empty, which spells one without members
 abbrev pub IsIgnored : Seq ℕ → Type 0
 IsIgnored t = (d : Dict) → SpellsField Rfc9651 kind.Dict t (field.Dict d) → d.members ≡ []
 
--- the text spells a Dictionary with a member, and the struct says its policy
+-- the text spells a Dictionary with a member, and the struct has its policy
 abbrev pub Offers : Seq ℕ → PolicyFlags → Type 0
 Offers t p =
     (d : Dict)
@@ -27,7 +27,7 @@ Offers t p =
     × (d.members ≢ [])
     × SaysPolicy p (policy d)
 
--- the texts of these fields are there, and each is ignored
+-- the spans of these fields are within the texts, and each field is ignored
 abbrev pub AreIgnored : Seq ℕ → Seq Span → Type 0
 AreIgnored texts [] = Unit {0}
 AreIgnored texts (p ∷ ps) =
@@ -38,8 +38,8 @@ abbrev pub IsReached : Seq ℕ → Seq Span → Seq Span → Span → Type 0
 IsReached texts fields before p =
     (others : Seq Span) × (fields ≡ before ++ p ∷ others) × AreIgnored texts before
 
--- what one field says: its policy; or it is ignored; or its text is not there; or an allocation
--- failed for it
+-- the result for one field: its policy; or it is ignored; or its span is not within the texts; or
+-- an allocation failed for it
 abbrev pub Considers : Seq ℕ → Span → PolicyFlags → PolicyFlags → Status → Type 0
 Considers texts p old new Answered = IsSpanWithin texts p × Offers (span_bytes texts p) new
 Considers texts p old new Empty =
@@ -53,8 +53,9 @@ pub record ChoiceOutput : Type 0 where
   pub index : ℕ
   pub policy : PolicyFlags
 
--- the first field that is not ignored, and its policy; or all are ignored; or the text of the field
--- that is reached is not there; or an allocation failed for it. All else is left as it was
+-- the first field that is not ignored, and its policy; or all are ignored; or the span of the field
+-- that is reached is not within the texts; or an allocation failed for it. Everything else is
+-- unchanged
 abbrev pub Selects : ChoiceOutput → ChoiceOutput → Seq ℕ → Seq Span → Option Status → Type 0
 Selects old new texts fields (Some Answered) =
     (before : Seq Span) × (p : Span)

@@ -1,5 +1,5 @@
--- What the parts of a value describe before they become nodes, and the nodes that they become. Only
--- the proofs of sf_parse's second way use these words.
+-- What the parts of a value describe before they become nodes, and the nodes that they become. They
+-- are used only by the proofs about the nodes that sf_parse makes from a tree.
 use Rattle.std.specs.Prelude.{◌≡◌, ℕ, ℤ, ◌+◌, ◌^◌, ◌<◌, ◌≤◌, List, [], ◌∷◌, length, map}
 use Rattle.sf_view.specs.declared.node.Node.{Node}
 use Rattle.sf_view.specs.declared.node_types.NodeType.{NodeType}
@@ -8,7 +8,7 @@ use Rattle.sf_view.specs.NodeTypes.{role_number, type_number}
 use Rattle.sf_view.specs.View.{piece}
 use Rattle.sf_c.specs.declared.nodes.Part.{Part}
 
--- a part of a value: its role, its type, its number, its key, its bytes, and how many parts it has
+-- a part of a value: its role, type, number, key, bytes and size
 pub record Told : Type 0 where
   pub role : Role
   pub node_type : NodeType
@@ -17,7 +17,7 @@ pub record Told : Type 0 where
   pub text : List ℕ
   pub size : ℕ
 
--- what a part describes, which points into these bytes
+-- what a part that points into these bytes describes
 abbrev pub told_by : List ℕ → Part → Told
 told_by bytes p = record {
   role = p.role;
@@ -28,26 +28,26 @@ told_by bytes p = record {
   size = p.size;
 }
 
--- the part points to bytes that are there
+-- the part points to bytes within these
 abbrev pub IsWithin : List ℕ → Part → Type 0
 IsWithin bytes p =
     (p.key_at + p.key_length ≤ length bytes) × (p.text_at + p.text_length ≤ length bytes)
 
--- so does each part
+-- the same for each part
 abbrev pub AreWithin : List ℕ → List Part → Type 0
 AreWithin bytes [] = Unit {0}
 AreWithin bytes (p ∷ ps) = IsWithin bytes p × AreWithin bytes ps
 
--- how many bytes the keys and the bytes of parts have together
+-- the number of bytes that the keys and the bytes of parts have together
 abbrev pub told_size : List Told → ℕ
 told_size [] = 0
 told_size (t ∷ ts) = length t.key + length t.text + told_size ts
 
--- the parts point to bytes that are there, and no byte is in vain
+-- the parts point to bytes within these, and every byte is used
 abbrev pub HoldsUp : List ℕ → List Part → Type 0
 HoldsUp bytes ps = AreWithin bytes ps × (length bytes ≡ told_size (map (told_by bytes) ps))
 
--- the node of a part whose bytes are after so many
+-- the node of a part whose bytes follow a text of this length
 abbrev pub node_of : ℕ → Part → Node
 node_of start p = record {
   number = p.number;

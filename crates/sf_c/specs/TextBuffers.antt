@@ -4,13 +4,13 @@ use Rattle.sf_c.specs.Normal.{IsAtFront}
 use Rattle.sf_c.specs.declared.status.Status.{Status}
 use Rattle.sf_c.specs.declared.status.Status.TheVariants.{Answered, Short, OutOfMemory}
 
--- what a call that answers with a text may write to
+-- what a call that returns a text may write to
 pub record TextBuffer : Type 0 where
   pub buffer : List ℕ
   pub required : ℕ
 
--- the text is at the start of a buffer that is long enough; a shorter one is left as it was. The
--- length of the text is given in both cases
+-- the text is at the start of a buffer that is long enough; a shorter one is unchanged. The length
+-- of the text is stored in both cases
 abbrev pub PutsText : TextBuffer → TextBuffer → List ℕ → Option Status → Type 0
 PutsText old new text (Some Answered) =
     (new.required ≡ length text)
@@ -22,7 +22,7 @@ PutsText old new text (Some Short) =
     × (new.buffer ≡ old.buffer)
 PutsText old new text status = ⊥
 
--- so it is, or an allocation failed and all is left as it was
+-- the same, or an allocation failed and everything is unchanged
 abbrev pub Writes : TextBuffer → TextBuffer → List ℕ → Option Status → Type 0
 Writes old new text (Some OutOfMemory) = new ≡ old
 Writes old new text status = PutsText old new text status

@@ -1,4 +1,4 @@
--- The text that is written of nodes.
+-- The text that is written for nodes.
 use Rattle.std.specs.Prelude.{◌≡◌, ℕ, List, Some}
 use Rattle.sf_value.specs.declared.dialect.Dialect.{Dialect}
 use Rattle.sf_value.specs.declared.value.Field.{Field}
@@ -23,8 +23,8 @@ abbrev pub text_buffer : NodesOutput → TextBuffer
 text_buffer o = record { buffer = o.buffer; required = o.required }
 
 -- the canonical text of the valid field that the nodes describe, which spells that field and no
--- other, is put into a buffer that is long enough; or the nodes are wrong at an index. All else is
--- left as it was
+-- other, is put into a buffer that is long enough; or the nodes are wrong at an index. Everything
+-- else is unchanged
 abbrev pub WritesNodes : NodesOutput → NodesOutput → List Node → List ℕ → Dialect → Kind → Status
     → Type 0
 WritesNodes old new nodes source d k Answered =

@@ -4,7 +4,7 @@ ghost use Rattle.sf_c.specs.TextBuffers.{PutsText};
 
 use crate::status::Status;
 
-/// Puts items at a place of the buffer.
+/// Puts items at this index of the buffer.
 pub(crate) fn put<T: Copy>(buffer: &mut [T], at: usize, items: &[T])
     requires { at + length items.now ≤ length buffer.old }
     ensures { buffer.new
@@ -13,7 +13,7 @@ pub(crate) fn put<T: Copy>(buffer: &mut [T], at: usize, items: &[T])
     buffer[at..at + items.len()].copy_from_slice(items);
 }
 
-/// Puts a text into the caller's buffer, or says how long the buffer must be.
+/// Puts a text into the caller's buffer, or returns `Short` and the required length.
 pub(crate) fn put_text(text: &[u8], buffer: &mut [u8], required: &mut usize) -> Status
     // The text is at the start of the buffer, or the buffer is too small for it.
     ensures puts { PutsText (record { buffer = buffer.old; required = required.old })

@@ -1,4 +1,4 @@
-//! What C names by numbers, and what every call begins with.
+//! The numbers that C passes for a dialect and a kind, and parsing for every call.
 ghost use Rattle.std.specs.Prelude.{◌≡◌};
 ghost use Rattle.sf_c.specs.Calls.{dialect_at, kind_at};
 ghost use Rattle.sf_c.specs.Parsing.{ParsesOrSays};
@@ -10,7 +10,7 @@ use sf_parse::{Refusal, parse_text_in};
 use sf_value::{Dialect, Field, Kind};
 use std::alloc::Global;
 
-/// The dialect of a number, an `sf_dialect` of `include/sf.h`.
+/// The dialect of this number, an `sf_dialect` of `include/sf.h`.
 pub(crate) fn dialect_of(number: u32) -> Option<Dialect>
     ensures { result ≡ dialect_at number }
 {
@@ -21,7 +21,7 @@ pub(crate) fn dialect_of(number: u32) -> Option<Dialect>
     }
 }
 
-/// The kind of a number, an `sf_kind` of `include/sf.h`.
+/// The kind of this number, an `sf_kind` of `include/sf.h`.
 pub(crate) fn kind_of(number: u32) -> Option<Kind>
     ensures { result ≡ kind_at number }
 {
@@ -33,8 +33,8 @@ pub(crate) fn kind_of(number: u32) -> Option<Kind>
     }
 }
 
-/// The value that the text spells, or the status that says why there is none; a refusal is put into
-/// its struct, which is otherwise left as it was.
+/// The value that the text spells, or the status that says why there is none. A refusal is put into
+/// its struct, which is otherwise unchanged.
 pub(crate) fn parse(
     alloc: Global,
     seed: &Seed,
@@ -43,7 +43,8 @@ pub(crate) fn parse(
     text: &[u8],
     refusal: &mut SyntaxRefusal,
 ) -> Result<Field, Status>
-    // the text spells this value and no other, or the struct says its refusal, memory aside
+    // The text spells this value and no other, or the struct has its refusal, or an allocation
+    // failed.
     ensures { ParsesOrSays refusal.old refusal.new text.now dialect kind result }
 {
     let Some(state) = seed.state() else {

@@ -17,11 +17,11 @@ use sf_view::canonical_text;
 use sf_write::to_text;
 use std::alloc::Global;
 
-/// The canonical text (RFC 9651 section 4.1) of the value that the text spells: `Answered` and the
-/// text is at the start of the buffer, `required` bytes of it, and the rest of the buffer is left
-/// as it was; `Short` if the buffer has less than `required` bytes; `Refused` if no value is
-/// spelled, and then `refusal` says where and why; `OutOfMemory`; or `BadCall`. A buffer of eight
-/// fifths of the text's length is never short.
+/// The canonical text (RFC 9651 section 4.1) of the value that the text spells. Returns `Answered`
+/// if the text is at the start of the buffer, in `required` bytes, with the other bytes unchanged;
+/// `Short` if the buffer has fewer than `required` bytes; `Refused` if no value is spelled, with
+/// the refusal in `refusal`; `OutOfMemory`; or `BadCall`. A buffer of eight fifths of the text's
+/// length is never too small.
 #[unsafe(no_mangle)]
 pub extern "C" fn sf_normalise(
     alloc: Global,
@@ -33,8 +33,8 @@ pub extern "C" fn sf_normalise(
     required: &mut usize,
     refusal: &mut SyntaxRefusal,
 ) -> u32
-    // BadCall just for a number that names nothing; otherwise the canonical text, or why there is
-    // none
+    // BadCall if and only if a number is no kind or no dialect; otherwise the canonical text, or
+    // why there is none.
     ensures { Called (dialect_at dialect) (kind_at kind) (status_at result)
         (λ old new. Normalises old new text.now)
         (record { buffer = buffer.old; required = required.old; refusal = refusal.old })
@@ -46,9 +46,9 @@ pub extern "C" fn sf_normalise(
     normalise(alloc, seed, dialect, kind, text, buffer, required, refusal).code()
 }
 
-/// Whether the two texts spell equal values (RFC 9651 section 2; order counts): `Answered` and
-/// `equal` is 1 or 0; `Refused` if the first spells no value, `SecondRefused` if the second
-/// doesn't, and then `refusal` says where and why; `OutOfMemory`; or `BadCall`.
+/// Whether the two texts spell equal values (RFC 9651 section 2; order counts). Returns `Answered`
+/// and sets `equal` to 1 or 0; `Refused` if the first spells no value and `SecondRefused` if the
+/// second doesn't, with the refusal in `refusal`; `OutOfMemory`; or `BadCall`.
 #[unsafe(no_mangle)]
 pub extern "C" fn sf_equal(
     alloc: Global,
@@ -60,7 +60,8 @@ pub extern "C" fn sf_equal(
     equal_out: &mut u32,
     refusal: &mut SyntaxRefusal,
 ) -> u32
-    // BadCall just for a number that names nothing; otherwise whether the texts spell equal values
+    // BadCall if and only if a number is no kind or no dialect; otherwise whether the values are
+    // equal.
     ensures { Called (dialect_at dialect) (kind_at kind) (status_at result)
         (λ old new. Equals old new first.now second.now)
         (record { equal = equal_out.old; refusal = refusal.old })
@@ -75,7 +76,7 @@ pub extern "C" fn sf_equal(
     .code()
 }
 
-/// As [`sf_normalise`] answers, of a dialect and a kind.
+/// As [`sf_normalise`], for a dialect and a kind.
 fn normalise(
     alloc: Global,
     seed: &Seed,
@@ -86,7 +87,7 @@ fn normalise(
     required: &mut usize,
     refusal: &mut SyntaxRefusal,
 ) -> Status
-    // the canonical text is at the start of the buffer, or the status says why not
+    // The canonical text is at the start of the buffer, or the status says why not.
     ensures { Normalises
         (record { buffer = buffer.old; required = required.old; refusal = refusal.old })
         (record { buffer = buffer.new; required = required.new; refusal = refusal.new })
@@ -106,8 +107,8 @@ fn normalise(
 }
 
 /// The canonical text of the value that the text spells, written from nodes if the text has a view,
-/// or the status that says why there is none; a refusal is put into its struct, which is otherwise
-/// left as it was.
+/// or the status that says why there is none. A refusal is put into its struct, which is otherwise
+/// unchanged.
 fn canonical(
     alloc: Global,
     seed: &Seed,
@@ -116,7 +117,7 @@ fn canonical(
     text: &[u8],
     refusal: &mut SyntaxRefusal,
 ) -> Result<Vec<u8>, Status>
-    // The canonical text of the only value, or the struct says the refusal, memory aside.
+    // The canonical text of the only value, or the struct has the refusal, or an allocation failed.
     ensures { MatchResult result
         (λ c. IsCanonicalOf dialect kind text.now c.items × (refusal.new ≡ refusal.old))
         (λ status. ParsesOrSays refusal.old refusal.new text.now dialect kind (Err status)) }
@@ -133,7 +134,7 @@ fn canonical(
     }
 }
 
-/// As [`sf_equal`] answers, of a dialect and a kind.
+/// As [`sf_equal`], for a dialect and a kind.
 fn equal(
     alloc: Global,
     seed: &Seed,
@@ -144,7 +145,7 @@ fn equal(
     equal: &mut u32,
     refusal: &mut SyntaxRefusal,
 ) -> Status
-    // whether the texts spell equal values; or which of them spells none, and the struct says why
+    // Whether the texts spell equal values; or which of them spells none, and the struct says why.
     ensures { Equals (record { equal = equal.old; refusal = refusal.old })
         (record { equal = equal.new; refusal = refusal.new })
         first.now second.now dialect kind result }

@@ -11,9 +11,9 @@ use sf_value::{Dialect, Kind};
 use sf_view::accepts;
 use std::alloc::Global;
 
-/// Whether the text spells a value of the kind in the dialect (RFC 9651 section 4.2): `Answered` if
-/// it does; `Refused` if not, and then `refusal` says where and why, and is otherwise left as it
-/// was; `OutOfMemory`; or `BadCall` for a number that is no kind or no dialect.
+/// Whether the text spells a value of the kind in the dialect (RFC 9651 section 4.2). Returns
+/// `Answered` if it does; `Refused` if it doesn't, with the refusal in `refusal`, which is
+/// otherwise unchanged; `OutOfMemory`; or `BadCall` for a number that is no kind or no dialect.
 #[unsafe(no_mangle)]
 pub extern "C" fn sf_check(
     alloc: Global,
@@ -23,7 +23,8 @@ pub extern "C" fn sf_check(
     text: &[u8],
     refusal: &mut SyntaxRefusal,
 ) -> u32
-    // BadCall just for a number that names nothing; otherwise whether the text spells a value
+    // BadCall if and only if a number is no kind or no dialect; otherwise whether the text spells a
+    // value.
     ensures { Called (dialect_at dialect) (kind_at kind) (status_at result)
         (λ old new. Checks old new text.now) refusal.old refusal.new }
 {
@@ -33,7 +34,7 @@ pub extern "C" fn sf_check(
     check(alloc, seed, dialect, kind, text, refusal).code()
 }
 
-/// As [`sf_check`] answers, of a dialect and a kind.
+/// As [`sf_check`], for a dialect and a kind.
 fn check(
     alloc: Global,
     seed: &Seed,
@@ -42,7 +43,7 @@ fn check(
     text: &[u8],
     refusal: &mut SyntaxRefusal,
 ) -> Status
-    // whether the text spells a value; where it is Refused, the struct says why
+    // Whether the text spells a value; if it is Refused, the struct says why.
     ensures { Checks refusal.old refusal.new text.now dialect kind result }
 {
     if accepts(dialect, kind, text) {

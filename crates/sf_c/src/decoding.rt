@@ -5,8 +5,8 @@ ghost use Rattle.sf_c.specs.Decodings.{AreDecoded, IsNodeDecoded, HasCoded, deco
 use crate::span::Span;
 use sf_view::{Node, NodeType, Slice};
 
-/// Decodes the bytes of each coded node into the buffer, one after another, and points the node to
-/// them: how many bytes these are. `None` says nothing.
+/// Decodes the bytes of each coded node into the buffer, one after another, points the node to
+/// them, and returns their number. `None` claims nothing.
 pub(crate) fn decode_nodes(text: &[u8], nodes: &mut [Node], bytes: &mut [u8]) -> Option<usize>
     requires small { length text.now < 2 ^ 32 }
     ensures same_nodes { length nodes.new ≡ length nodes.old }
@@ -25,7 +25,7 @@ pub(crate) fn decode_nodes(text: &[u8], nodes: &mut [Node], bytes: &mut [u8]) ->
     Some(used)
 }
 
-/// The node with its bytes decoded after so many of the buffer, and how many are used then.
+/// The node with its bytes decoded after the first `used` of the buffer, and the number used then.
 #[inline]
 fn decode_node(text: &[u8], node: Node, bytes: &mut [u8], used: usize) -> Option<(Node, usize)>
     requires small { length text.now < 2 ^ 32 }
@@ -52,7 +52,7 @@ fn decode_node(text: &[u8], node: Node, bytes: &mut [u8], used: usize) -> Option
     Some((decoded_at(node, at as u32, count as u32), used + count))
 }
 
-/// The node with its bytes at this offset, as they are.
+/// The uncoded node with its bytes at this offset.
 #[inline]
 fn decoded_at(node: Node, text_at: u32, text_length: u32) -> Node
     ensures { result ≡ decoded_to text_at text_length node }
@@ -65,7 +65,7 @@ fn decoded_at(node: Node, text_at: u32, text_length: u32) -> Node
     }
 }
 
-/// Whether a node that points so points into the text.
+/// Whether these bytes are within the text.
 #[inline]
 fn is_within(text: &[u8], at: u32, size: u32) -> bool
     ensures { IsTrue result → at + size ≤ length text.now }

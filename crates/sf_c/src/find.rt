@@ -7,9 +7,9 @@ ghost use Rattle.sf_c.specs.Statuses.{status_at};
 use crate::status::Status;
 use sf_view::Node;
 
-/// The first of the nodes with this role and this key: `Answered` and `index` is its index, or
-/// `Absent`. The nodes point into `text`, and from its end on into `bytes`; one that points into
-/// neither has no key. Does not allocate.
+/// The first of the nodes with this role and this key. Returns `Answered` and sets `index`, or
+/// returns `Absent`. Offsets below the length of `text` are in `text`, the others in `bytes`; a
+/// node whose key is not within one of the two is not found. Does not allocate.
 #[unsafe(no_mangle)]
 pub extern "C" fn sf_find(
     nodes: &[Node],
@@ -57,8 +57,8 @@ fn has_key(node: &Node, text: &[u8], bytes: &[u8], key: &[u8]) -> bool
     }
 }
 
-/// The bytes at an offset that counts on from the text into the bytes; `None` if they are not all in
-/// one of the two.
+/// The bytes at an offset, which counts in the text and from its end on in the bytes; `None` if
+/// they are not all in one of the two.
 fn bytes_at<'a>(text: &'a [u8], bytes: &'a [u8], at: u32, length: u32) -> Option<&'a [u8]>
     ensures some { IfSome result (λ found. found_at text.now bytes.now at length ≡ Some found.now) }
     ensures none { IfNone result (found_at text.now bytes.now at length ≡ None) }

@@ -22,10 +22,10 @@ use sf_write::to_text;
 use std::alloc::Global;
 use std::hash::RandomState;
 
-/// The text of a Cache-Status field whose only member is this hop (RFC 9211 section 2): a line of
-/// its own, to be sent after those that came from the caches nearer the origin. The spans of the
-/// hop are in `bytes`. `Answered` if the buffer holds the text; `Short` if it is too small;
-/// `Invalid` if the struct gives no hop; or `OutOfMemory`.
+/// The text of a Cache-Status field whose only member is this hop (RFC 9211 section 2): a field
+/// line to be sent after those from the caches nearer the origin. The spans of the hop are in
+/// `bytes`. Returns `Answered` if the buffer holds the text; `Short` if it is too small; `Invalid`
+/// if the struct is not a valid hop; or `OutOfMemory`.
 #[unsafe(no_mangle)]
 pub extern "C" fn sf_hop_text(
     alloc: Global,
@@ -35,7 +35,7 @@ pub extern "C" fn sf_hop_text(
     buffer: &mut [u8],
     required: &mut usize,
 ) -> u32
-    // The text of the hop that the struct gives, or why there is none.
+    // The text of the hop that the struct describes, or why there is none.
     ensures { WritesHop (record { buffer = buffer.old; required = required.old })
         (record { buffer = buffer.new; required = required.new }) bytes.now hop.now
         (status_at result) }
@@ -43,7 +43,7 @@ pub extern "C" fn sf_hop_text(
     write(alloc, seed, hop, bytes, buffer, required).code()
 }
 
-/// As [`sf_hop_text`] answers.
+/// As [`sf_hop_text`].
 fn write(
     alloc: Global,
     seed: &Seed,
@@ -118,7 +118,7 @@ fn bytes_of<'a>(bytes: &'a [u8], span: Span) -> Result<&'a [u8], Status>
     }
 }
 
-/// The status for bytes that are no String or Token.
+/// The status for bytes that are not a String or a Token.
 fn status_of_fault(fault: TextFault) -> Status
     ensures { result ≡ fault_status fault }
 {
@@ -224,7 +224,7 @@ fn why_of(alloc: Global, hop: &HopNode, bytes: &[u8]) -> Result<Forward, Status>
     }
 }
 
-/// The status that the next server answered with, if there is one.
+/// The status code of the next hop's response, if there is one.
 fn status_of(has_status: u8, status: u16) -> Result<Option<HopStatus>, Status>
     ensures { MatchResult result (λ made. GivesMaybe has_status (GivesStatus status) made)
         (GivesNone (GivesMaybe has_status (GivesStatus status))) }
@@ -248,7 +248,7 @@ fn flag_of(has_flag: u8, flag: u8) -> Option<bool>
     Some(flag != 0)
 }
 
-/// The seconds for which the response is fresh, if they are given.
+/// The seconds for which the response is fresh, if `ttl` is present.
 fn ttl_of(hop: &HopNode) -> Result<Option<Int>, Status>
     ensures { MatchResult result
         (λ made. GivesMaybe hop.now.has_ttl (GivesInteger hop.now.ttl) made)

@@ -41,7 +41,7 @@ pub fn hops_are_few()
     nodes_are_few();
 }
 
-/// The text that is written of the struct of a priority is read as what the struct sets.
+/// The text that is written for the struct of a priority is read as what the struct sets.
 pub fn priority_is_read()
     ensures { PriorityIsRead }
 {}

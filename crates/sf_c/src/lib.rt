@@ -1,11 +1,11 @@
 //! The library, called from C: a static library with one export for each call, declared for C in
 //! `include/sf.h`.
 //!
-//! Numbers, slices as a pointer and a length, and structs in C's layout cross; nothing owned does.
-//! The caller gives the buffer for an answer, and where that is too small the answer says how much
-//! was required. Each export is total: on any input it returns one of the [`Status`]es, and what it
-//! may write, and where, is in its contract. `specs/` says what each answer means, by the
-//! definitions of the crates below.
+//! Arguments and results are numbers, slices as a pointer and a length, and structs in C's layout;
+//! nothing is owned across the boundary. The caller provides the buffer for a result; if it is too
+//! small, the call stores the required length. Each export returns one of the [`Status`]es on any
+//! input, and its contract states what it may write, and where. `specs/` states what each result
+//! means, by the definitions of the crates below.
 #![tactic(auto)]
 
 mod buffer;

@@ -17,7 +17,7 @@ use sf_view::{Node, NodeType, Role};
 use std::alloc::Global;
 use std::marker::Model;
 
-/// A node before it is known whether its offsets fit: they count in the bytes alone.
+/// A node before its offsets are known: they count in the bytes alone.
 #[derive(Clone, Copy, Drop)]
 pub(crate) struct Part {
     pub number: i64,
@@ -58,7 +58,7 @@ impl Model for Flat {
 }
 
 impl Part {
-    /// The node of the part, if the bytes are after a text of this length.
+    /// The node of the part, if the bytes follow a text of this length.
     fn node(&self, start: usize) -> Node
         requires key { start + self.now.key_at < 2 ^ 32 }
         requires key_length { self.now.key_length < 2 ^ 32 }
@@ -91,7 +91,7 @@ impl Flat {
         }
     }
 
-    /// How many nodes and bytes there are.
+    /// The numbers of nodes and bytes.
     pub(crate) fn sizes(&self) -> Sizes
         ensures nodes { result.nodes ≡ length self.now }
         ensures bytes { result.bytes ≡ told_size self.now }
@@ -102,8 +102,8 @@ impl Flat {
         }
     }
 
-    /// Puts the nodes and the bytes at the start of buffers that are long enough, for a text of this
-    /// length.
+    /// Puts the nodes and the bytes at the start of buffers that are long enough, for a text of
+    /// this length.
     pub(crate) fn write(&self, start: usize, nodes: &mut [Node], bytes: &mut [u8])
         requires nodes { length self.now ≤ length nodes.old }
         requires bytes { told_size self.now ≤ length bytes.old }
@@ -123,7 +123,7 @@ impl Flat {
         write_parts(self.parts.as_slice(), start, nodes);
     }
 
-    /// One more part, with its key and its bytes; or all as it was.
+    /// Adds a part, with its key and its bytes; if an allocation fails, nothing changes.
     fn push(&mut self, shape: Shape, key: &[u8], text: &[u8]) -> Result<(), OutOfMemory>
         ensures { IfOk result (λ _. self.new ≡ self.old ++ record {
           role = shape.role;
@@ -169,7 +169,7 @@ fn write_parts(parts: &[Part], start: usize, nodes: &mut [Node])
     }
 }
 
-/// A key and a text after the bytes; or these as they were.
+/// Appends a key and a text to the bytes; if an allocation fails, the bytes are unchanged.
 fn extend(bytes: &mut Vec<u8>, key: &[u8], text: &[u8]) -> Result<(), OutOfMemory>
     ensures { MatchResult result (λ _. bytes.new.items ≡ (bytes.old.items ++ key.now) ++ text.now)
         (λ _. bytes.new.items ≡ bytes.old.items) }
@@ -185,7 +185,7 @@ fn extend(bytes: &mut Vec<u8>, key: &[u8], text: &[u8]) -> Result<(), OutOfMemor
     Ok(())
 }
 
-/// A number, in the place of its bytes.
+/// Adds a bare item that has a number.
 fn push_number(
     flat: &mut Flat,
     role: Role,
@@ -212,7 +212,7 @@ fn push_number(
     flat.push(shape, key, b"")
 }
 
-/// Bytes, in the place of a number.
+/// Adds a bare item that has bytes.
 fn push_text(
     flat: &mut Flat,
     role: Role,
@@ -327,7 +327,7 @@ fn count_inside(inner: &Inner) -> Result<usize, OutOfMemory>
     Ok(count)
 }
 
-/// What is inside an Inner List.
+/// Adds the Items and the parameters of an Inner List.
 fn push_inside(flat: &mut Flat, inner: &Inner) -> Result<(), OutOfMemory>
     ensures { IfOk result (λ _. flat.new ≡ flat.old ++ told_inside inner.now) }
 {

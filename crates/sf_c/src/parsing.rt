@@ -15,24 +15,24 @@ use sf_value::{Dialect, Kind};
 use sf_view::{Node, scan_text};
 use std::alloc::Global;
 
-/// The offsets that a node can have are below 2^32.
+/// The largest offset of a node.
 const OFFSET_MAX: usize = 0xffff_ffff;
 
-/// How many nodes and bytes a value has. In C an `sf_sizes`.
+/// The numbers of nodes and bytes of a value. In C an `sf_sizes`.
 #[repr(C)]
 #[derive(Clone, Copy, Debug, Drop)]
 pub struct Sizes {
-    /// How many nodes.
+    /// The number of nodes.
     pub nodes: usize,
-    /// How many bytes.
+    /// The number of bytes.
     pub bytes: usize,
 }
 
-/// The value that the text spells, as nodes: `Answered` and the first `sizes.nodes` nodes describe
-/// it, with the text and the first `sizes.bytes` bytes after it; `Short` if one of the buffers is
-/// smaller than `sizes` says; `Refused` if no value is spelled, and then `refusal` says where and
-/// why; `TooLong` if the text, or the text and the bytes that are required, have 4 GiB or more;
-/// `OutOfMemory`; or `BadCall`. Only `BadCall` leaves the buffers as they were.
+/// The value that the text spells, as nodes. Returns `Answered` if the first `sizes.nodes` nodes
+/// describe it, with the text and the first `sizes.bytes` bytes after it; `Short` if one of the
+/// buffers is smaller than `sizes`; `Refused` if no value is spelled, with the refusal in
+/// `refusal`; `TooLong` if the text, or the text and the required bytes together, have 4 GiB or
+/// more; `OutOfMemory`; or `BadCall`. Only `BadCall` leaves the buffers unchanged.
 #[unsafe(no_mangle)]
 pub extern "C" fn sf_parse(
     alloc: Global,
@@ -45,8 +45,8 @@ pub extern "C" fn sf_parse(
     sizes: &mut Sizes,
     refusal: &mut SyntaxRefusal,
 ) -> u32
-    // BadCall just for a number that names nothing; otherwise the value as nodes, or why there is
-    // none
+    // BadCall if and only if a number is no kind or no dialect; otherwise the value as nodes, or
+    // why there is none.
     ensures { Called (dialect_at dialect) (kind_at kind) (status_at result)
         (λ old new. Flattens old new text.now)
         (record { nodes = nodes.old; bytes = bytes.old; sizes = sizes.old; refusal = refusal.old })
@@ -66,7 +66,7 @@ pub extern "C" fn sf_parse(
     .code()
 }
 
-/// As [`sf_parse`] answers, of a dialect and a kind.
+/// As [`sf_parse`], for a dialect and a kind.
 fn parse_nodes(
     alloc: Global,
     seed: &Seed,
@@ -78,7 +78,7 @@ fn parse_nodes(
     sizes: &mut Sizes,
     refusal: &mut SyntaxRefusal,
 ) -> Status
-    // the buffers describe the value that the text spells, or the status says why not
+    // The buffers describe the value that the text spells, or the status says why not.
     ensures { Flattens
         (record { nodes = nodes.old; bytes = bytes.old; sizes = sizes.old; refusal = refusal.old })
         (record { nodes = nodes.new; bytes = bytes.new; sizes = sizes.new; refusal = refusal.new })
@@ -96,7 +96,7 @@ fn parse_nodes(
     )
 }
 
-/// The nodes of a text that the scanner accepts, and the decoded bytes; `None` says nothing.
+/// The nodes of a text that the scanner accepts, and the decoded bytes; `None` claims nothing.
 fn scan_nodes(
     dialect: Dialect,
     kind: Kind,
@@ -120,7 +120,7 @@ fn scan_nodes(
     })
 }
 
-/// As [`sf_parse`] answers, by the tree of the value.
+/// As [`sf_parse`], from the tree of the value.
 fn parse_tree(
     alloc: Global,
     seed: &Seed,

@@ -12,25 +12,25 @@ use sf_use::{Asked, Priority, PriorityField, Urgency, merge};
 use sf_value::{Dialect, Field, Kind};
 use std::alloc::Global;
 
-/// What a Priority field asks for, with the defaults for what it does not say (RFC 9218 section 4).
-/// In C an `sf_priority_flags`.
+/// The parameters of a Priority field, with the defaults for absent ones (RFC 9218 section 4). In C
+/// an `sf_priority_flags`.
 #[repr(C)]
 #[derive(Clone, Copy, Debug, Drop)]
 pub struct PriorityFlags {
-    /// The urgency, from 0 to 7; 3 if it is not said.
+    /// The urgency, from 0 to 7; 3 if the field does not set it.
     pub urgency: u8,
-    /// 1 if the response is of use while it arrives, otherwise 0.
+    /// 1 if the response is of use as it arrives, otherwise 0.
     pub incremental: u8,
-    /// 1 if the field says the urgency, otherwise 0.
+    /// 1 if the field sets the urgency, otherwise 0.
     pub has_urgency: u8,
-    /// 1 if the field says whether the response is incremental, otherwise 0.
+    /// 1 if the field sets whether the response is incremental, otherwise 0.
     pub has_incremental: u8,
 }
 
 impl PriorityFlags {
-    /// The struct of what is asked for.
+    /// The struct of the parameters.
     fn of(asked: Asked) -> PriorityFlags
-        // which parts are asked for, with the defaults for the others
+        // The struct has the parameters, and the defaults for absent ones.
         ensures { SaysAsked result asked }
     {
         let filled = asked.with_defaults();
@@ -42,7 +42,7 @@ impl PriorityFlags {
         }
     }
 
-    /// What the struct asks for.
+    /// The parameters that the struct sets.
     pub(crate) fn asked(&self) -> Asked
         ensures { result ≡ asked_by self.now }
     {
@@ -53,8 +53,8 @@ impl PriorityFlags {
     }
 }
 
-/// What the text of a Priority field asks for (RFC 9218 section 5): `Answered` and `priority` says
-/// it; `Refused` if the text spells no Dictionary, and then `refusal` says where and why; or
+/// The parameters in the text of a Priority field (RFC 9218 section 5). Returns `Answered` and sets
+/// `priority`; `Refused` if the text spells no Dictionary, with the refusal in `refusal`; or
 /// `OutOfMemory`.
 #[unsafe(no_mangle)]
 pub extern "C" fn sf_priority(
@@ -64,26 +64,26 @@ pub extern "C" fn sf_priority(
     priority: &mut PriorityFlags,
     refusal: &mut SyntaxRefusal,
 ) -> u32
-    // what the Dictionary asks for, or the other struct says why the text spells none
+    // The parameters of the Dictionary, or the other struct says why the text spells none.
     ensures { AsksFor (record { priority = priority.old; refusal = refusal.old })
         (record { priority = priority.new; refusal = refusal.new }) text.now (status_at result) }
 {
     asked_of(alloc, seed, text, priority, refusal).code()
 }
 
-/// What a client and a server ask for together (RFC 9218 section 8): each part as the server says
-/// it, if it does, otherwise as the client does; defaults are filled in. A flag counts as 1 if it
-/// is not 0, and an urgency above 7 as not said.
+/// Merges the priorities of a client and a server (RFC 9218 section 8): each parameter is the
+/// server's if the server sets it, otherwise the client's; defaults are filled in. A flag counts as
+/// 1 if it is not 0, and an urgency above 7 as not set.
 #[unsafe(no_mangle)]
 pub extern "C" fn sf_priority_merge(client: &PriorityFlags, server: &PriorityFlags) -> PriorityFlags
-    // each part as the server says it, if it does, otherwise as the client does; otherwise the
-    // default
+    // Each parameter is the server's if the server sets it, otherwise the client's if the client
+    // sets it, otherwise the default.
     ensures { SaysAsked result (merged (asked_by client.now) (asked_by server.now)) }
 {
     PriorityFlags::of(merge(client.asked(), server.asked()))
 }
 
-/// The urgency, if it is given and in range.
+/// The urgency, if it is set and in range.
 fn urgency_of(has_urgency: u8, urgency: u8) -> Option<Urgency>
     ensures { result ≡ urgency_at has_urgency urgency }
 {
@@ -93,7 +93,7 @@ fn urgency_of(has_urgency: u8, urgency: u8) -> Option<Urgency>
     Urgency::new(urgency).ok()
 }
 
-/// The flag, if it is given.
+/// The flag, if it is set.
 fn flag_of(has_flag: u8, flag: u8) -> Option<bool>
     ensures { result ≡ flag_at has_flag flag }
 {
@@ -103,7 +103,7 @@ fn flag_of(has_flag: u8, flag: u8) -> Option<bool>
     Some(flag != 0)
 }
 
-/// Reads what a text asks for.
+/// Reads the parameters of a text.
 fn asked_of(
     alloc: Global,
     seed: &Seed,
@@ -111,7 +111,7 @@ fn asked_of(
     priority: &mut PriorityFlags,
     refusal: &mut SyntaxRefusal,
 ) -> Status
-    // what the Dictionary asks for, or the other struct says why the text spells none
+    // The parameters of the Dictionary, or the other struct says why the text spells none.
     ensures { AsksFor (record { priority = priority.old; refusal = refusal.old })
         (record { priority = priority.new; refusal = refusal.new }) text.now (Some result) }
 {

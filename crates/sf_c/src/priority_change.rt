@@ -1,4 +1,4 @@
-//! A Priority field that is sent on with another priority.
+//! A Priority field that is forwarded with another priority.
 ghost use Rattle.std.specs.Prelude.{◌≡◌, Some, IfOk};
 ghost use Rattle.sf_value.specs.declared.dialect.Dialect.TheVariants.{Rfc9651};
 ghost use Rattle.sf_value.specs.declared.value.Field.TheVariants as field_is;
@@ -22,10 +22,10 @@ use std::alloc::Global;
 use std::hash::RandomState;
 
 /// The canonical text of a Priority field (RFC 9218 section 4) with what the struct sets put into
-/// it: the members `u` and `i` are overwritten in their places, or go last if the field has none,
-/// and all others stay. `Answered` and the text is at the start of the buffer; `Short` if the
-/// buffer has less than `required` bytes; `Refused` if the text spells no Dictionary, and then
-/// `refusal` says where and why; or `OutOfMemory`.
+/// it: the members `u` and `i` are overwritten in place, or go last if the field has none, and all
+/// others stay. Returns `Answered` if the text is at the start of the buffer; `Short` if the buffer
+/// has fewer than `required` bytes; `Refused` if the text spells no Dictionary, with the refusal in
+/// `refusal`; or `OutOfMemory`.
 #[unsafe(no_mangle)]
 pub extern "C" fn sf_priority_change(
     alloc: Global,
@@ -45,7 +45,7 @@ pub extern "C" fn sf_priority_change(
     change(alloc, seed, text, priority, buffer, required, refusal).code()
 }
 
-/// As [`sf_priority_change`] answers.
+/// As [`sf_priority_change`].
 fn change(
     alloc: Global,
     seed: &Seed,

@@ -12,9 +12,9 @@ use crate::status::Status;
 use sf_use::{Asked, Urgency};
 
 /// The text of a Priority field (RFC 9218 section 5) that sets what the struct sets, and nothing
-/// else: `u` if it sets an urgency, then `i` if it sets the flag, also to their defaults.
-/// `Answered` if the buffer holds it, otherwise `Short`. An empty text means that no field is sent.
-/// Does not allocate.
+/// else: `u` if it sets an urgency, then `i` if it sets the flag, also to their defaults. Returns
+/// `Answered` if the buffer holds the text, otherwise `Short`. If the text is empty, the field is
+/// not to be sent. Does not allocate.
 #[unsafe(no_mangle)]
 pub extern "C" fn sf_priority_text(
     priority: &PriorityFlags,
@@ -30,7 +30,7 @@ pub extern "C" fn sf_priority_text(
     write(priority.asked(), buffer, required).code()
 }
 
-/// Writes the text that asks for this.
+/// Writes the text that sets these parameters.
 fn write(asked: Asked, buffer: &mut [u8], required: &mut usize) -> Status
     ensures puts { PutsText (record { buffer = buffer.old; required = required.old })
         (record { buffer = buffer.new; required = required.new })

@@ -1,4 +1,4 @@
-//! Why a text is refused, as C sees it.
+//! Why a text is refused, as a struct of C.
 ghost use Rattle.std.specs.Prelude.{◌≡◌};
 ghost use Rattle.sf_c.specs.Refusals.{SaysSyntax, found_number};
 
@@ -15,14 +15,14 @@ pub struct SyntaxRefusal {
     pub expected_high: u64,
     /// The byte found there, or -1 if the text ended.
     pub found: i32,
-    /// 1 if that prefix is a text of the kind itself, otherwise 0.
+    /// 1 if that prefix is itself a text of the kind, otherwise 0.
     pub may_end: u32,
 }
 
 impl SyntaxRefusal {
     /// The refusal with these parts.
     pub(crate) fn of(place: u64, found: Option<u8>, expected: u128, may_end: bool) -> SyntaxRefusal
-        // these parts as numbers, and the set of bytes in two halves
+        // The struct has these parts as numbers, and the set of bytes in two halves.
         ensures { SaysSyntax result place found expected may_end }
     {
         SyntaxRefusal {

@@ -1,4 +1,4 @@
-//! Refusals in words.
+//! Error messages of refusals.
 ghost use Rattle.std.specs.Prelude.{◌≡◌};
 ghost use Rattle.sf_parse.specs.RefusalTexts.{refusal_text};
 ghost use Rattle.sf_c.specs.Refusals.{found_by, refusal_by};
@@ -27,8 +27,8 @@ impl SyntaxRefusal {
     }
 }
 
-/// The error message of a refusal, such as "byte 0x32 '2' at place 2, expected a space or the end":
-/// `Answered` if the buffer holds it, `Short` if it is too small, or `OutOfMemory`.
+/// The error message of a refusal, such as "byte 0x32 '2' at place 2, expected a space or the end".
+/// Returns `Answered` if the buffer holds it, `Short` if it is too small, or `OutOfMemory`.
 #[unsafe(no_mangle)]
 pub extern "C" fn sf_refusal_text(
     alloc: Global,
@@ -49,8 +49,8 @@ pub extern "C" fn sf_refusal_text(
 }
 
 /// The error message of a refusal, then the number of the line, the place in it, the text as one
-/// line and a caret below the place. `Answered` if the buffer holds it, `Short` if it is too small,
-/// or `OutOfMemory`.
+/// line and a caret below the place. Returns `Answered` if the buffer holds it, `Short` if it is
+/// too small, or `OutOfMemory`.
 #[unsafe(no_mangle)]
 pub extern "C" fn sf_refusal_in_text(
     alloc: Global,

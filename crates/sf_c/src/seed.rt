@@ -5,9 +5,9 @@ use std::hash::RandomState;
 use std::io;
 use std::random::RandomSource;
 
-/// Sixteen bytes that the caller took from a source that strangers can't guess: the keys in a text
-/// are theirs, and hashes that they could foresee would make them slow to look up. No answer
-/// depends on it. In C an `sf_seed`.
+/// Sixteen bytes from a source that attackers can't predict. Attackers choose the keys of a text,
+/// and if they can predict the hashes, look-ups become slow. No result depends on the seed. In C an
+/// `sf_seed`.
 #[repr(C)]
 #[derive(Clone, Copy, Debug, Drop)]
 pub struct Seed {
@@ -30,7 +30,7 @@ impl RandomSource for Seed {
 }
 
 impl Seed {
-    /// The state that the hashes of keys begin with. `None` is never met: to fill it can't fail.
+    /// The initial state of the hashes of keys. `None` does not occur: filling it can't fail.
     pub(crate) fn state(&self) -> Option<RandomState> {
         RandomState::new(self).ok()
     }

@@ -10,11 +10,12 @@ use crate::status::Status;
 use crate::targeted::{PolicyFlags, direct};
 use std::alloc::Global;
 
-/// Which field a cache obeys (RFC 9213 section 2.2), of the fields of its target list in order. The
-/// text of each is a span of `texts`, which is empty if the field is absent. `Answered` if `index`
-/// and `policy` are those of the first field that is not ignored; `Empty` if each is ignored, since
-/// its text spells no Dictionary or one without members; `BadCall` if the span of the first field
-/// that is not ignored is not within `texts`; or `OutOfMemory`.
+/// Chooses the field that a cache obeys (RFC 9213 section 2.2), among the fields of its target list
+/// in order. The text of each is a span of `texts`, which is empty if the field is absent. Returns
+/// `Answered` and sets `index` and `policy` to those of the first field that is not ignored;
+/// `Empty` if each is ignored, since its text spells no Dictionary or one without members;
+/// `BadCall` if the span of the first field that is not ignored is not within `texts`; or
+/// `OutOfMemory`.
 #[unsafe(no_mangle)]
 pub extern "C" fn sf_select(
     alloc: Global,
@@ -32,7 +33,7 @@ pub extern "C" fn sf_select(
     select(alloc, seed, texts, fields, index, policy).code()
 }
 
-/// As [`sf_select`] answers.
+/// As [`sf_select`].
 fn select(
     alloc: Global,
     seed: &Seed,

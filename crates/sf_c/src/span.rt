@@ -1,14 +1,14 @@
-//! A range of bytes of the caller's.
+//! A range of the caller's bytes.
 ghost use Rattle.std.specs.Prelude.{◌≡◌, MatchOption};
 ghost use Rattle.sf_c.specs.Spans.{IsSpanWithin, span_bytes};
 
-/// A range of bytes of the caller's. In C an `sf_span`.
+/// A range of the caller's bytes. In C an `sf_span`.
 #[repr(C)]
 #[derive(Clone, Copy, Debug, Drop)]
 pub struct Span {
-    /// Where it begins.
+    /// The offset of its first byte.
     pub at: usize,
-    /// How many bytes it has.
+    /// The number of its bytes.
     pub length: usize,
 }
 

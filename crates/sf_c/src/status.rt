@@ -1,11 +1,11 @@
-//! How a call came out.
+//! The result of a call.
 ghost use Rattle.std.specs.Prelude.{◌≡◌, Some};
 ghost use Rattle.sf_c.specs.Statuses.{status_at};
 
-/// How a call came out. C sees the number, an `sf_status` of `include/sf.h`.
+/// The result of a call. C sees the number, an `sf_status` of `include/sf.h`.
 #[derive(Clone, Copy, Debug, PartialEq, Eq)]
 pub enum Status {
-    /// 0: the call was answered.
+    /// 0: success.
     Answered,
     /// 1: the text spells no value; for a call that takes two texts, the first one.
     Refused,
@@ -15,13 +15,13 @@ pub enum Status {
     Short,
     /// 4: an allocation failed.
     OutOfMemory,
-    /// 5: the field has no member; of the fields of a target list, each is ignored.
+    /// 5: the field has no members; of the fields of a target list, each is ignored.
     Empty,
     /// 6: there is no such kind or dialect, or a length or a span exceeds its buffer.
     BadCall,
     /// 7: a member of a Cache-Status List names no cache.
     NotACache,
-    /// 8: what is to be written is no value.
+    /// 8: the nodes or the hop to be written are not valid.
     Invalid,
     /// 9: no node has the key.
     Absent,

@@ -15,17 +15,17 @@ use sf_use::{Directives, Policy};
 use sf_value::{Dialect, Dict, Field, Kind};
 use std::alloc::Global;
 
-/// What a targeted field says to a cache (RFC 9213 section 2.1). In C an `sf_policy`.
+/// The directives of a targeted field (RFC 9213 section 2.1). In C an `sf_policy`.
 #[repr(C)]
 #[derive(Clone, Copy, Debug, Drop)]
 pub struct PolicyFlags {
-    /// `max-age` in seconds; 0 if it is not said.
+    /// `max-age` in seconds; 0 if absent.
     pub max_age: u64,
-    /// `s-maxage` in seconds; 0 if it is not said.
+    /// `s-maxage` in seconds; 0 if absent.
     pub s_maxage: u64,
-    /// 1 if the field says `max-age`, otherwise 0.
+    /// 1 if `max-age` is present with an Integer of at least 0, otherwise 0.
     pub has_max_age: u8,
-    /// 1 if the field says `s-maxage`, otherwise 0.
+    /// The same for `s-maxage`.
     pub has_s_maxage: u8,
     /// 1 if `must-revalidate` is set, otherwise 0.
     pub must_revalidate: u8,
@@ -40,7 +40,7 @@ pub struct PolicyFlags {
 impl PolicyFlags {
     /// The struct of a policy.
     fn of(policy: Policy) -> PolicyFlags
-        // the policy as numbers, with 0 for seconds that are not said
+        // The struct has the policy as numbers, with 0 for absent seconds.
         ensures { SaysPolicy result policy }
     {
         PolicyFlags {
@@ -70,10 +70,10 @@ impl PolicyFlags {
     }
 }
 
-/// What the text of one targeted field says to a cache (RFC 9213 section 2.1): `Answered` and
-/// `policy` says it; `Empty` if the Dictionary has no member, so that the next target counts
-/// (section 2.2); `Refused` if the text spells no Dictionary, and then `refusal` says where and
-/// why; or `OutOfMemory`.
+/// The directives in the text of one targeted field (RFC 9213 section 2.1). Returns `Answered` and
+/// sets `policy`; `Empty` if the Dictionary has no members, so that the next field of the target
+/// list is used (section 2.2); `Refused` if the text spells no Dictionary, with the refusal in
+/// `refusal`; or `OutOfMemory`.
 #[unsafe(no_mangle)]
 pub extern "C" fn sf_cache_control(
     alloc: Global,
@@ -82,7 +82,7 @@ pub extern "C" fn sf_cache_control(
     policy: &mut PolicyFlags,
     refusal: &mut SyntaxRefusal,
 ) -> u32
-    // the policy of a Dictionary; Empty if it has no member; or why the text spells none
+    // The policy of a Dictionary; or Empty if it has no members; or why the text spells none.
     ensures { SaysToCache (record { policy = policy.old; refusal = refusal.old })
         (record { policy = policy.new; refusal = refusal.new }) text.now (status_at result) }
 {
@@ -94,7 +94,7 @@ pub extern "C" fn sf_cache_control(
 /// policy has none, and leaves `seconds` unchanged.
 #[unsafe(no_mangle)]
 pub extern "C" fn sf_lifetime(policy: &PolicyFlags, shared: u32, seconds: &mut u64) -> u32
-    // 1 and the lifetime by the policy, or 0 if it says none
+    // 1 and the lifetime by the policy, or 0 if the policy has none.
     ensures { LifeIs (policy_by policy.now) shared seconds.old seconds.new result }
 {
     match policy.policy().lifetime(shared != 0) {
@@ -106,7 +106,7 @@ pub extern "C" fn sf_lifetime(policy: &PolicyFlags, shared: u32, seconds: &mut u
     }
 }
 
-/// The seconds, if they are given.
+/// The seconds, if they are set.
 fn seconds_of(has_seconds: u8, seconds: u64) -> Option<u64>
     ensures { result ≡ seconds_at has_seconds seconds }
 {
@@ -117,9 +117,9 @@ fn seconds_of(has_seconds: u8, seconds: u64) -> Option<u64>
     }
 }
 
-/// Writes the policy that a Dictionary offers, if it has a member.
+/// Writes the policy of a Dictionary, if it has a member.
 fn offered(offer: Option<Policy>, policy: &mut PolicyFlags) -> Status
-    // Whatever Dictionary offers this, it is Empty if it has no member; otherwise the struct says
+    // Whatever Dictionary offers this, it is Empty if it has no members; otherwise the struct has
     // its policy.
     ensures { (d : Dictionary) → MayOffer (field_is.Dict d) offer
         → Directs policy.old policy.new d result }
@@ -135,7 +135,7 @@ fn offered(offer: Option<Policy>, policy: &mut PolicyFlags) -> Status
 
 /// Reads the policy of a Dictionary, which may have no members.
 fn directed(dict: &Dict, policy: &mut PolicyFlags) -> Status
-    // Empty if there is no member; otherwise the struct says the policy
+    // Empty if there are no members; otherwise the struct has the policy.
     ensures { Directs policy.old policy.new dict.now result }
 {
     if dict.members.is_empty() {
@@ -153,7 +153,7 @@ pub(crate) fn direct(
     policy: &mut PolicyFlags,
     refusal: &mut SyntaxRefusal,
 ) -> Status
-    // the policy of a Dictionary; Empty if it has no member; or why the text spells none
+    // The policy of a Dictionary; or Empty if it has no members; or why the text spells none.
     ensures { SaysToCache (record { policy = policy.old; refusal = refusal.old })
         (record { policy = policy.new; refusal = refusal.new }) text.now (Some result) }
 {

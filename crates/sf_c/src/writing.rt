@@ -14,11 +14,11 @@ use sf_write::to_text;
 use std::alloc::Global;
 
 /// The canonical text (RFC 9651 section 4.1) of the field that the nodes describe: those of a
-/// parse, changed or not, or the caller's. An offset below the length of `text` is in `text`, from
-/// there on it counts in `bytes`. `Answered` and the text is at the start of the buffer, `required`
-/// bytes of it, and the rest of the buffer is left as it was; `Short` if the buffer has less than
-/// `required` bytes; `Invalid` if the nodes describe no valid field of the kind, and then `invalid`
-/// is the index of the first that is wrong, whatever the nodes after it are; `OutOfMemory`; or
+/// parse, changed or not, or the caller's. An offset below the length of `text` is in `text`; from
+/// there on it counts in `bytes`. Returns `Answered` if the text is at the start of the buffer, in
+/// `required` bytes, with the other bytes unchanged; `Short` if the buffer has fewer than
+/// `required` bytes; `Invalid` if the nodes describe no valid field of the kind, with the index of
+/// the first that is wrong, whatever the nodes after it are, in `invalid`; `OutOfMemory`; or
 /// `BadCall`.
 #[unsafe(no_mangle)]
 pub extern "C" fn sf_write(
@@ -33,8 +33,8 @@ pub extern "C" fn sf_write(
     required: &mut usize,
     invalid: &mut usize,
 ) -> u32
-    // BadCall only for a number that names nothing; otherwise the canonical text, or why there is
-    // none.
+    // BadCall if and only if a number is no kind or no dialect; otherwise the canonical text, or
+    // why there is none.
     ensures { Called (dialect_at dialect) (kind_at kind) (status_at result)
         (λ old new. WritesNodes old new nodes.now (text.now ++ bytes.now))
         (record { buffer = buffer.old; required = required.old; invalid = invalid.old })
@@ -49,7 +49,7 @@ pub extern "C" fn sf_write(
     .code()
 }
 
-/// As [`sf_write`] answers, of a dialect and a kind.
+/// As [`sf_write`], for a dialect and a kind.
 fn write(
     alloc: Global,
     seed: &Seed,
