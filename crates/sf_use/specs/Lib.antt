@@ -1,5 +1,5 @@
--- What the consumers mean: the definitions that the contracts speak of. Cache-Status is that of RFC
--- 9211, targeted fields that of RFC 9213, priorities that of RFC 9218.
+-- The meanings of fields: the definitions that the contracts use. Cache-Status is that of RFC 9211,
+-- targeted fields those of RFC 9213, priorities those of RFC 9218.
 pub mod CacheStatus
 pub mod Targeted
 pub mod TargetedChoice

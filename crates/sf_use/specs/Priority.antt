@@ -1,4 +1,4 @@
--- What a Priority field asks for, and how it is written (RFC 9218 sections 4, 5 and 8).
+-- What a Priority field sets, and how it is written (RFC 9218 sections 4, 5 and 8).
 use Rattle.std.specs.Prelude.{ℕ, pos, nat_le, ◌==◌, if◌then◌else◌, Bool, true, false}
 use Rattle.std.specs.Prelude.{[], ◌∷◌, ◌++◌, Option, Some, None, unwrap_or, codes}
 use Rattle.std.specs.Option.{option_or}
@@ -20,7 +20,7 @@ abbrev pub urgency_in : Bare → Option ℕ
 urgency_in (Integer (pos n)) = if nat_le n least_urgent then Some n else None
 urgency_in x = None
 
--- the urgency that a member says, whatever its parameters
+-- the urgency that a member sets, whatever its parameters
 abbrev pub urgency : Option Member → Option ℕ
 urgency (Some (member.Item i)) = urgency_in i.bare
 urgency m = None
@@ -30,32 +30,32 @@ abbrev pub boolean : Bare → Option Bool
 boolean (Boolean b) = Some b
 boolean x = None
 
--- whether a member says that the response is incremental, whatever its parameters
+-- whether a member sets that the response is incremental, whatever its parameters
 abbrev pub incremental : Option Member → Option Bool
 incremental (Some (member.Item i)) = boolean i.bare
 incremental m = None
 
--- what a Dictionary asks for (section 4); what is unknown, of another type or out of range says
--- nothing
+-- what a Dictionary sets (section 4); a member that is unknown, of another type or out of range
+-- sets nothing
 abbrev pub asked : Dict → Asked
 asked d = record {
   urgency = urgency (value_at (codes "u") d.members);
   incremental = incremental (value_at (codes "i") d.members);
 }
 
--- what a field asks for; one that is no Dictionary is never asked, and would say nothing
+-- what a field sets; a field that is no Dictionary is never passed, and would set nothing
 abbrev pub asked_in : Field → Asked
 asked_in (field.Dict d) = asked d
 asked_in f = record { urgency = None; incremental = None }
 
--- each part as the server says it, if it does, otherwise as the client does (section 8)
+-- each parameter is the server's if the server sets it, otherwise the client's (section 8)
 abbrev pub merged : Asked → Asked → Asked
 merged client server = record {
   urgency = option_or server.urgency client.urgency;
   incremental = option_or server.incremental client.incremental;
 }
 
--- the defaults for what is not said (sections 4.1 and 4.2)
+-- the defaults for absent parameters (sections 4.1 and 4.2)
 abbrev pub filled : Asked → Priority
 filled a = record {
   urgency = unwrap_or a.urgency usual_urgency;
@@ -66,17 +66,17 @@ filled a = record {
 abbrev pub plain : Bare → Member
 plain x = member.Item (item x [])
 
--- the member u, where it says more than the default
+-- the member u, unless it is the default
 abbrev pub urgency_written : ℕ → Pairs Member
 urgency_written n =
     if n == usual_urgency then [] else (codes "u", plain (Integer (pos n))) ∷ []
 
--- the member i, where it says more than the default
+-- the member i, unless it is the default
 abbrev pub incremental_written : Bool → Pairs Member
 incremental_written true = (codes "i", plain (Boolean true)) ∷ []
 incremental_written false = []
 
--- the Dictionary that asks for a priority
+-- the Dictionary of a priority
 abbrev pub prio : Priority → Dict
 prio p = record {
   members = urgency_written p.urgency ++ incremental_written p.incremental;

@@ -13,13 +13,13 @@ use Rattle.sf_use.specs.Priority.{asked, asked_in, filled, merged, prio}
 abbrev pub ReadAsWritten : Type 0
 ReadAsWritten = (p : Priority) → IsUrgency p.urgency → filled (asked (prio p)) ≡ p
 
--- it is so from the text that is written, as the only line
+-- the same from the text that is written, as the only line
 abbrev pub ReadFromText : Type 0
 ReadFromText =
     (p : Priority) → IsUrgency p.urgency
     → Means kind.Dict (λ f. Ok (asked_in f)) (canon (field.Dict (prio p)) ∷ [])
     (Ok (asked (prio p)))
 
--- three hops may be merged in any grouping
+-- three priorities may be merged in any grouping
 abbrev pub MergesInParts : Type 0
 MergesInParts = (a b c : Asked) → merged (merged a b) c ≡ merged a (merged b c)

@@ -1,14 +1,14 @@
 -- The ranges of urgencies and of status codes.
 use Rattle.std.specs.Prelude.{ℕ, ◌≤◌, nat_le, Bool, ◌&&◌}
 
--- the urgency of what is least urgent, and the default (RFC 9218 section 4.1)
+-- the least urgent urgency, and the default (RFC 9218 section 4.1)
 abbrev pub least_urgent : ℕ
 least_urgent = 7
 
 abbrev pub usual_urgency : ℕ
 usual_urgency = 3
 
--- an urgency is a number from 0, of what is most urgent
+-- an urgency is a number from 0, the most urgent, on
 abbrev pub IsUrgency : ℕ → Type 0
 IsUrgency n = n ≤ least_urgent
 

@@ -13,7 +13,7 @@ use Rattle.sf_use.specs.Priority.{urgency, incremental}
 use Rattle.sf_use.specs.Ranges.{least_urgent}
 use Rattle.sf_use.specs.Targeted.{delta_seconds, is_set}
 
--- the text spells a Dictionary, the only one, of which the answer is what P says
+-- the text spells a Dictionary and no other value, and the answer for it is as P says
 abbrev pub IsScanned : {A : Type 0} → (Field → A → Type 0) → List ℕ → A → Type 0
 IsScanned P text a = (v : Field) × IsOnly Rfc9651 kind.Dict text v × P v a
 
@@ -29,14 +29,14 @@ seconds_by x = None
 abbrev pub sets_by : Option Bool → Bool
 sets_by b = unwrap_or b true
 
--- what is asked for after one more member
+-- what is set after one more member
 abbrev pub with_member : Asked → List ℕ × Member → Asked
 with_member a p = record {
   urgency = overwritten urgency (codes "u") a.urgency p;
   incremental = overwritten incremental (codes "i") a.incremental p;
 }
 
--- what is said to a cache after one more member
+-- the policy after one more member
 abbrev pub with_directive : Policy → List ℕ × Member → Policy
 with_directive s p = record {
   max_age = overwritten delta_seconds (codes "max-age") s.max_age p;

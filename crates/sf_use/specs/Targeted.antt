@@ -1,4 +1,4 @@
--- What a targeted field says to a cache (RFC 9213 section 2.1).
+-- The meaning of a targeted field (RFC 9213 section 2.1).
 use Rattle.std.specs.Prelude.{ℕ, pos, Bool, true, false, [], Option, Some, None, codes}
 use Rattle.std.specs.Option.{option_or}
 use Rattle.sf_value.specs.declared.value.Bare.{Bare}
@@ -16,23 +16,23 @@ abbrev pub whole : Bare → Option ℕ
 whole (Integer (pos n)) = Some n
 whole x = None
 
--- how many seconds a member says, whatever its parameters
+-- the seconds that a member sets, whatever its parameters
 abbrev pub delta_seconds : Option Member → Option ℕ
 delta_seconds (Some (member.Item i)) = whole i.bare
 delta_seconds m = None
 
--- any bare item but Boolean false sets
+-- any bare item but Boolean false sets a directive
 abbrev pub not_false : Bare → Bool
 not_false (Boolean b) = b
 not_false x = true
 
--- a directive is set if it is there and is no Item of Boolean false
+-- a directive is set if it is present and is not an Item of Boolean false
 abbrev pub is_set : Option Member → Bool
 is_set None = false
 is_set (Some (member.Item i)) = not_false i.bare
 is_set (Some (member.Inner l)) = true
 
--- what a Dictionary says (RFC 9213 section 2.1); other directives say nothing
+-- the policy of a Dictionary (RFC 9213 section 2.1); other directives are ignored
 abbrev pub policy : Dict → Policy
 policy d = record {
   max_age = delta_seconds (value_at (codes "max-age") d.members);
@@ -47,13 +47,13 @@ policy d = record {
 abbrev pub nothing : Dict
 nothing = record { members = [] }
 
--- what a field says; one that is no Dictionary is never asked, and would say nothing
+-- the policy of a field; a field that is no Dictionary is never passed, and would set nothing
 abbrev pub directives : Field → Policy
 directives (field.Dict d) = policy d
 directives f = policy nothing
 
--- for how many seconds a response is fresh: in a shared cache s-maxage is before max-age (RFC 9111
--- section 4.2.1), in a private one max-age alone counts
+-- the freshness lifetime in seconds: in a shared cache s-maxage takes precedence over max-age (RFC
+-- 9111 section 4.2.1), in a private one only max-age counts
 abbrev pub life : Policy → Bool → Option ℕ
 life p true = option_or p.s_maxage p.max_age
 life p false = p.max_age

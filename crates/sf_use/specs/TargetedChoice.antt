@@ -19,20 +19,19 @@ use Rattle.sf_use.specs.declared.targeted.Policy.{Policy}
 use Rattle.sf_use.specs.declared.targeted.Choice.{Choice}
 use Rattle.sf_use.specs.declared.targeted.Choice.TheVariants as choice
 
--- the field of this name is there, its joined values spell this Dictionary, and it has a member;
+-- the field of this name is present, its joined values spell this Dictionary, and it has a member;
 -- any other field is ignored (section 2.1)
 pub record Usable (headers : Headers) (name : Seq ℕ) (d : Dict) : Type 0 where
   pub present : ContainsKey headers name
   pub spelled : SpellsField Rfc9651 kind.Dict (join (lines_under headers name)) (field.Dict d)
   pub filled : d.members ≢ []
 
--- what the field of this name offers: the policy of a Dictionary that can be used, or nothing, if
--- there is none
+-- the policy of the field of this name, if its Dictionary can be used, otherwise none
 abbrev pub IsOffer : Headers → Seq ℕ → Option Policy → Type 0
 IsOffer headers name (Some p) = (d : Dict) × Usable headers name d × (p ≡ policy d)
 IsOffer headers name None = (d : Dict) → Usable headers name d → ⊥
 
--- the choice among these targets, of which the first has this index: the first target with an offer
+-- the choice among these targets, whose first has this index: the first target with an offer
 abbrev pub IsChosenFrom : ℕ → Seq (Seq ℕ) → Headers → Choice → Type 0
 IsChosenFrom index [] headers c = c ≡ choice.Fallback
 IsChosenFrom index (name ∷ names) headers c =
@@ -43,7 +42,7 @@ IsChosenFrom index (name ∷ names) headers c =
 abbrev pub IsChosen : Seq (Seq ℕ) → Headers → Choice → Type 0
 IsChosen = IsChosenFrom 0
 
--- what a field that was read offers: the policy of a Dictionary with a member, or nothing
+-- the policy of a field that was read, if it is a Dictionary with a member, otherwise none
 abbrev pub MayOffer : Field → Option Policy → Type 0
 MayOffer f (Some p) = (d : Dict) × (f ≡ field.Dict d) × (d.members ≢ []) × (p ≡ policy d)
 MayOffer f None = (d : Dict) → f ≡ field.Dict d → d.members ≡ []
@@ -63,8 +62,8 @@ IsOfHeaders (Syntax place found expected may_end) = ⊤
 IsOfHeaders (TooLong limit) = ⊤
 IsOfHeaders (ReadFault place) = ⊥
 
--- what a name offers whose field was read so: an absent field nothing, and neither does a refused
--- one (section 2.1), whatever memory is left
+-- what the field of a name that was read with this result offers: nothing if the field is absent or
+-- refused (section 2.1), whatever memory is left
 abbrev pub OffersAsRead : Result (Option Field) Refusal → Result (Option Policy) NoMemory → Type 0
 OffersAsRead (Ok (Some f)) r = IsOkAnd r (MayOffer f)
 OffersAsRead (Ok None) r = r ≡ Ok None

@@ -37,15 +37,15 @@ pub record Normalised (these those : Headers) (name : Seq ℕ) : Type 0 where
   pub accepted : SpellsField Rfc9651 kind.Dict (join (lines_under these name)) value
   pub canonical : lines_under those name ≡ canon value ∷ []
 
--- where listed fields that are accepted are replaced by their canonical texts, and all others have
--- the same joined text, the choice is the same
+-- if listed fields that are accepted are replaced by their canonical texts, and all others have the
+-- same joined text, the choice is the same
 abbrev pub ChosenAsCanonical : Type 0
 ChosenAsCanonical =
     (targets : Seq (Seq ℕ)) (these those : Headers)
     → All (λ name. SameText these those name ⊎ Normalised these those name) targets
     → (c : Choice) → IsChosen targets these c ↔ IsChosen targets those c
 
--- where the values of a name that is there, and accepted, are replaced by the canonical text, the
+-- if the values of a name that is present and accepted are replaced by the canonical text, the
 -- choice is the same
 abbrev pub ChosenAsReplaced : Type 0
 ChosenAsReplaced =

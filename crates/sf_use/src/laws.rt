@@ -5,7 +5,7 @@ ghost use Rattle.sf_use.specs.TargetedLaws.{ChosenIsFirst, OneChoice, SomeChoice
 ghost use Rattle.sf_use.specs.TargetedLaws.{ChosenAsCanonical, ChosenAsReplaced};
 
 /// The member that [`crate::append_hop`] writes for a hop is read back as that hop, except that a
-/// [`crate::Forward::Other`] of one of the eight defined tokens is read back as the case of that
+/// [`crate::Forward::Other`] of one of the eight defined tokens is read back as the reason of that
 /// token.
 pub fn reads_back()
     ensures { ReadsBack }

@@ -7,8 +7,8 @@
 //! field of a target list that a cache obeys, and its [`Policy`]. [`merge`] merges the priorities
 //! of a client and a server; the defaults are filled in afterwards.
 //!
-//! Contracts say of each answer that it is the meaning of the field, which `specs/` defines in the
-//! words of the RFC.
+//! Contracts state that each answer is the meaning of the field, which `specs/` defines in the
+//! terms of the RFC.
 #![tactic(auto)]
 
 pub mod cache_status;

@@ -266,7 +266,8 @@ pub fn priority_field(
     Ok(Dict { members })
 }
 
-/// Returns what is set after one more member, which overwrites what an earlier one of its key set.
+/// Returns what is set after one more member, which overwrites what an earlier one with its key
+/// set.
 #[inline]
 fn asked_with(asked: Asked, member: EntryView) -> Asked
     ensures { (m : MemberValue) → ShowsMember rfc9651 member.entry.bare m

@@ -1,4 +1,4 @@
-//! A priority put into a field that has one already.
+//! A priority put into an existing Priority field.
 ghost use Rattle.std.specs.Prelude.{◌≡◌, IfOk};
 ghost use Rattle.sf_use.specs.PriorityUpdate.{updated};
 
@@ -8,8 +8,8 @@ use std::alloc::Global;
 use std::hash::RandomState;
 
 /// Puts the parameters of a priority that are set into the Dictionary of a Priority field (RFC 9218
-/// section 4): a member `u` or `i` that is there is overwritten in its place, with its parameters,
-/// a new one goes last, and the other members stay. What isn't set stays as it is in the field.
+/// section 4). A member `u` or `i` that is present is overwritten in place, with its parameters; a
+/// new one goes last; the other members stay. A parameter that isn't set is unchanged in the field.
 /// Fails only if an allocation fails.
 ///
 /// ```

@@ -63,7 +63,7 @@ pub enum Choice {
     Fallback,
 }
 
-/// What no directive sets.
+/// A policy without directives.
 const NO_DIRECTIVE: Policy = Policy {
     max_age: None,
     s_maxage: None,
@@ -191,7 +191,7 @@ pub fn select(
 ) -> Result<Choice, OutOfMemory>
     // The first target of the list whose field can be used, or Fallback if there is none.
     ensures chosen { IfOk result (IsChosen targets.now headers.now) }
-    // OutOfMemory only for the field of a target that is present, and before which no target has a
+    // OutOfMemory only for the field of a target that is present, if no target before it has a
     // field that can be used.
     ensures reached { IfErr result (λ _. IsReached targets.now headers.now) }
     // If no field of a target is present, the call does not allocate.
@@ -207,7 +207,7 @@ pub fn select(
     Ok(Choice::Fallback)
 }
 
-/// Returns the policy after one more member, which overwrites what an earlier one of its key set.
+/// Returns the policy after one more member, which overwrites what an earlier one with its key set.
 #[inline]
 fn policy_with(policy: Policy, member: EntryView) -> Policy
     ensures { (m : MemberValue) → ShowsMember rfc9651 member.entry.bare m
@@ -302,7 +302,7 @@ fn policy_in(field: &Field) -> Option<Policy>
     Some(Policy::from_dict(dict))
 }
 
-/// Returns what a name offers whose field was read with this result: None if the field is absent,
+/// Returns the policy of a field that was read with this result; None if the field is absent,
 /// refused or empty.
 fn offer_in(read: Result<Option<Field>, Refusal>) -> Result<Option<Policy>, OutOfMemory>
     // A header map is in memory: no read of a source failed.

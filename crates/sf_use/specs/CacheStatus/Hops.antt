@@ -29,7 +29,7 @@ status_of (Some (pos n)) = allow (is_hop_status n) n
 status_of (Some (negsuc n)) = None
 status_of None = None
 
--- what is said of a forwarded request: fwd (2.2), fwd-status (2.3), stored (2.5), collapsed (2.6)
+-- the parameters of a forwarded request: fwd (2.2), fwd-status (2.3), stored (2.5), collapsed (2.6)
 abbrev pub passed_by_token : Pairs Bare → Seq ℕ → Passed
 passed_by_token params token =
     record {
@@ -39,12 +39,12 @@ passed_by_token params token =
       collapsed = boolean_at (codes "collapsed") params;
     }
 
--- ours: the other three count beside fwd alone, where the RFC gives them a meaning
+-- ours: the other three count only with fwd, for which the RFC defines them
 abbrev pub passed_at : Pairs Bare → Option Passed
 passed_at params = option_map (passed_by_token params) (token_at (codes "fwd") params)
 
--- whether hit is true (2.1), and what is said of a forwarded request (2.2). Ours: the RFC asks for
--- only one of the two, and where both are there, both are kept
+-- whether hit is true (2.1), and the parameters of a forwarded request (2.2). Ours: the RFC allows
+-- only one of the two, and if both are present, both are kept
 abbrev pub outcome_by : Bool → Option Passed → Outcome
 outcome_by true None = Hit
 outcome_by true (Some passed) = Conflict passed
@@ -76,17 +76,17 @@ abbrev pub member_hop : Member → Option Hop
 member_hop (member.Item i) = hop_of i
 member_hop (member.Inner l) = None
 
--- hops, but where there is such a place it is the answer
+-- the hops, or the index if there is one
 abbrev pub unless : Option ℕ → Seq Hop → Result (Seq Hop) ℕ
 unless (Some index) hs = Err index
 unless None hs = Ok hs
 
--- one hop for each member. Ours: where members name no cache, the place of the first of them
+-- one hop for each member. Ours: if members name no cache, the index of the first of them
 abbrev pub hops_of : Seq Member → Result (Seq Hop) ℕ
 hops_of members =
     unless (position (λ m. is_none (member_hop m)) members) (filter_map member_hop members)
 
--- what the field means, a List; a field of another kind has no hops, and nobody asks
+-- the meaning of the field, a List; a field of another kind has no hops, and is never passed
 abbrev pub hops : Field → Result (Seq Hop) ℕ
 hops (field.List l) = hops_of l.members
 hops (field.Item i) = Ok []

@@ -14,7 +14,7 @@ use Rattle.sf_use.specs.Ranges.{IsHopStatus}
 use Rattle.sf_use.specs.CacheStatus.Hops.{hops}
 use Rattle.sf_use.specs.CacheStatus.Members.{entry, passed_by}
 
--- the reason; of a token the one that it stands for
+-- the reason; for a token, the reason that it names
 abbrev pub plain_reason : Forward → Forward
 plain_reason (Other token) = forward_of token
 plain_reason why = why
@@ -28,7 +28,7 @@ plain_outcome (Forwarded p) = Forwarded (plain_passed p)
 plain_outcome (Conflict p) = Conflict (plain_passed p)
 plain_outcome Unsaid = Unsaid
 
--- the hop, where a token that has a case of its own is replaced by that case
+-- the hop, in which a token that names a reason is replaced by that reason
 abbrev pub plain : Hop → Hop
 plain h = record h { outcome = plain_outcome h.outcome }
 

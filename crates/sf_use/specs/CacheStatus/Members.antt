@@ -32,7 +32,7 @@ says_hit (Forwarded passed) = false
 says_hit (Conflict passed) = true
 says_hit Unsaid = false
 
--- what is said of a forwarded request
+-- the parameters of a forwarded request
 abbrev pub passed_by : Outcome → Option Passed
 passed_by Hit = None
 passed_by (Forwarded passed) = Some passed
@@ -44,7 +44,7 @@ abbrev pub bare_of : Name → Bare
 bare_of (name.Text t) = Text t
 bare_of (name.Token t) = Token t
 
--- true where hit is true, otherwise absent
+-- true if hit is true, otherwise absent
 abbrev pub flag : Bool → Option Bare
 flag true = Some (Boolean true)
 flag false = None
@@ -64,7 +64,7 @@ stored_value passed = option_map Boolean (option_and_then (λ p. p.stored) passe
 abbrev pub collapsed_value : Option Passed → Option Bare
 collapsed_value passed = option_map Boolean (option_and_then (λ p. p.collapsed) passed)
 
--- one more parameter, where it has a value
+-- one more parameter, if it has a value
 abbrev pub added : Pairs Bare → List ℕ → Option Bare → Pairs Bare
 added params key None = params
 added params key (Some value) = put params key value

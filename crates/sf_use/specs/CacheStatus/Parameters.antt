@@ -1,4 +1,4 @@
--- Parameters by key and type. Ours: one of another type than its own counts as absent.
+-- Parameters by key and type. Ours: one of another type than the RFC states counts as absent.
 use Rattle.std.specs.Prelude.{ℕ, ℤ, Bool, List, Option, Some, None}
 use Rattle.std.specs.Option.{option_and_then}
 use Rattle.sf_value.specs.declared.value.Bare.{Bare}

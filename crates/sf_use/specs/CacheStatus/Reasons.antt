@@ -19,11 +19,11 @@ reasons =
     ∷ (codes "partial", Partial)
     ∷ []
 
--- the reason that a token stands for. Ours: another token is kept as it is
+-- the reason that a token names. Ours: another token is kept as it is
 abbrev pub forward_of : List ℕ → Forward
 forward_of token = unwrap_or (value_at token reasons) (Other token)
 
--- the token that stands for a reason
+-- the token of a reason
 abbrev pub token_of : Forward → List ℕ
 token_of Bypass = codes "bypass"
 token_of Method = codes "method"

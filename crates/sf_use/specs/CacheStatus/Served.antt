@@ -5,20 +5,20 @@ use Rattle.sf_use.specs.declared.cache_status.hop.Outcome.TheVariants.{Hit}
 use Rattle.sf_use.specs.declared.cache_status.hop.Hop.{Hop}
 use Rattle.sf_use.specs.CacheStatus.Members.{is_hit}
 
--- the place is that of the last hop whose outcome is Hit, or there is none
+-- the index is that of the last hop whose outcome is Hit, or there is none
 abbrev pub IsLastHit : List Hop → Option ℕ → Type 0
 IsLastHit hops None = All (λ h. h.outcome ≢ Hit) hops
 IsLastHit hops (Some place) =
     IsSomeAnd (slice_get hops place) (λ h. h.outcome ≡ Hit)
     × All (λ h. h.outcome ≢ Hit) (drop (suc place) hops)
 
--- a place one later; if there is none, the first if it is a hit
+-- an index one later; if there is none, the first if it is a hit
 abbrev pub later : Option ℕ → Bool → Option ℕ
 later (Some place) first = Some (suc place)
 later None true = Some 0
 later None false = None
 
--- that place
+-- the index of the last hit
 abbrev pub served : List Hop → Option ℕ
 served [] = None
 served (h ∷ hops) = later (served hops) (is_hit h.outcome)

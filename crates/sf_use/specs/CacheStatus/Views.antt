@@ -39,7 +39,7 @@ pub record HopParts : Type 0 where
   pub key : Option (List ℕ)
   pub detail : Option Name
 
--- those among some parameters
+-- the parameters of a hop among these
 abbrev pub parts_at : Pairs Bare → HopParts
 parts_at params = record {
   hit = boolean_at (codes "hit") params;
@@ -52,7 +52,7 @@ parts_at params = record {
   detail = name_at (codes "detail") params;
 }
 
--- what they say of a forwarded request
+-- the parameters of a forwarded request
 abbrev pub passed_in : HopParts → Option Passed
 passed_in s =
     option_map
@@ -87,13 +87,13 @@ with_param s p = record {
   detail = overwritten (option_and_then as_name) (codes "detail") s.detail p;
 }
 
--- a name that is borrowed: its bytes, or, if they are coded, its whole text
+-- a name that is borrowed: its bytes or, if they are coded, its whole text
 abbrev pub BorrowsName : Dialect → NameView → Name → Type 0
 BorrowsName d (view_is.Text s) n =
     (t : List ℕ) × (n ≡ name.Text t) × DescribesText d s.coded s.bytes.now (Text t)
 BorrowsName d (view_is.Token s) n = n ≡ name.Token s.now
 
--- so is a name that may be absent
+-- the same for a name that may be absent
 abbrev pub ShowsName : Dialect → Option NameView → Option Name → Type 0
 ShowsName d (Some v) (Some n) = BorrowsName d v n
 ShowsName d None None = Unit {0}
@@ -123,7 +123,7 @@ pub record ShowsHop (v : HopView) (h : Hop) : Type 0 where
 abbrev pub RemainsInPath : HopCursor → List Member → Type 0
 RemainsInPath c ms = RemainsInList c.items ms
 
--- parameters of which these are borrowed come before the members that remain
+-- the text spells these parameters, which are borrowed, and then the members that remain
 pub record ReadsParams (start : ParamCursor) (v : HopParams) (c : ItemCursor) : Type 0 where
   pub raw : Pairs Bare
   pub shows : ShowsParts start.dialect v (parts_at (settle raw))

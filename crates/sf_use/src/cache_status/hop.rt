@@ -38,7 +38,7 @@ pub enum Forward {
     Stale,
     /// `partial`: the stored response lacked a part of what was requested.
     Partial,
-    /// Another token. If it is one of the eight above, it means the same as their case.
+    /// Another token. If it is one of the eight above, it means the same as that reason.
     Other(Token),
 }
 

@@ -56,7 +56,7 @@ pub struct HopView<'a> {
     pub params: HopParams<'a>,
 }
 
-/// The hops of a Cache-Status field, read from its text one after another. It allocates nothing,
+/// The hops of a Cache-Status field, read from its text one after another. It does not allocate,
 /// and declines a List with a member that names no cache.
 ///
 /// ```
@@ -96,12 +96,12 @@ impl<'a> HopCursor<'a> {
     }
 
     /// Reads the next hop: `Some(None)` after the last one, and `None` if the cursor declines the
-    /// text, of which nothing is claimed then. It declines what spells no List, a List with a member
-    /// that names no cache, and a text of which 4 GiB or more are left at a bare item.
+    /// text, of which nothing is then claimed. It declines a text that spells no List, a List with
+    /// a member that names no cache, and a bare item with 4 GiB or more of text from it on.
     pub fn next(&mut self) -> Option<Option<HopView<'a>>>
         // A member with this hop comes before those that remain; after the last one, none remain.
         ensures next { IfSome result (λ hop. ReadsNextHop self.old self.new hop) }
-        // Less is left after a hop.
+        // Less of the text remains after a hop.
         ensures fewer { IfSome result (λ hop. IfSome hop (λ _.
             left_in (option_copied self.new.items.rest)
             < left_in (option_copied self.old.items.rest))) }
@@ -144,7 +144,7 @@ fn read_params(start: ParamCursor) -> Option<(HopParams, ItemCursor)>
     Some((params, cursor.end()?))
 }
 
-/// Returns the parameters after one more, which overwrites an earlier one of its key.
+/// Returns the parameters after one more, which overwrites an earlier one with its key.
 #[inline]
 fn params_with<'a>(params: HopParams<'a>, param: ParamView<'a>) -> HopParams<'a>
     ensures { (d : Which) (s : HopParts) (x : Bare) → ShowsParts d params.entry s
