@@ -1,4 +1,4 @@
--- The bytes that the texts of fields and of the command have by name.
+-- The names of the bytes in the texts of fields and of the command.
 use Rattle.std.specs.Prelude.{ℕ}
 
 -- b'\t'

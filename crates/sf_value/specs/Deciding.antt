@@ -23,7 +23,7 @@ use Rattle.sf_value.specs.Grammar.Pairs.{Pairs}
 use Rattle.sf_value.specs.Equality.{bare_eq, entry_eq, item_eq, inner_eq, member_eq, list_eq}
 use Rattle.sf_value.specs.Equality.{dict_eq, field_eq}
 
--- a test that tells equal values from others, and holds of a value and itself
+-- a test that is true for equal values, and for no others, decides equality
 decides_by : {K : Type 0} (test : K → K → Bool) → ((a b : K) → test a b ≡ true → a ≡ b)
     → ((a : K) → test a a ≡ true) → (a b : K) → Decides (test a b) (a ≡ b)
 decides_by test tells itself a b = (

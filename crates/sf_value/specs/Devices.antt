@@ -5,12 +5,12 @@ use Rattle.std.specs.Io.KnownBytes.{Consumes, Appends, Keeps, IsAtEnd}
 use Rattle.sf_value.specs.declared.device.Reading.{Reading}
 use Rattle.sf_value.specs.declared.device.Writing.{Writing}
 
--- a count, which stays at 2^64 - 1 once it is there
+-- a count, which stays at 2^64 - 1 once it reaches that
 abbrev pub capped : ℕ → ℕ
 capped n = min n (2 ^ 64 - 1)
 
--- what a source shows: the bytes still to come, or that it doesn't show them; how many bytes it
--- gave; how many calls returned that it came to its end; how many failed
+-- what a source shows: the bytes that remain, or that it doesn't show them; how many bytes it gave;
+-- how many calls returned the end; how many failed
 pub record SourceState : Type 0 where
   pub to_come : Option (List ℕ)
   pub given : ℕ
@@ -30,13 +30,13 @@ reader_of r = r.reader
 abbrev pub writer_of : {W : Type 0} → Writing W → W
 writer_of w = w.writer
 
--- known bytes stay as they were, or are no longer shown
+-- known bytes are unchanged, or are no longer shown
 abbrev pub KeepsOrHides : Option (List ℕ) → Option (List ℕ) → Type 0
 KeepsOrHides None new = ⊤
 KeepsOrHides (Some xs) None = ⊤
 KeepsOrHides (Some xs) (Some ys) = ys ≡ xs
 
--- a count rose by n, if it isn't at its end
+-- a count rose by n, unless it is saturated
 abbrev pub Counts : ℕ → ℕ → ℕ → Type 0
 Counts old new n = new < 2 ^ 64 - 1 → new ≡ old + n
 
@@ -47,7 +47,7 @@ pub record GivesOnce (old new : SourceState) (bytes : List ℕ) : Type 0 where
   pub ends : new.ends ≡ old.ends
   pub failures : new.failures ≡ old.failures
 
--- one call returned that no byte is still to come
+-- one call returned that no byte remains
 pub record EndsOnce (old new : SourceState) : Type 0 where
   pub kept : Keeps old.to_come new.to_come
   pub none : IsAtEnd new.to_come
@@ -62,9 +62,9 @@ pub record FailsOnce (old new : SourceState) : Type 0 where
   pub ends : new.ends ≡ old.ends
   pub failures : new.failures ≡ capped (old.failures + 1)
 
--- pull returned r and left block: so many bytes are at the start of a block that is not empty, and
--- where there are none the source came to its end; into an empty block nothing is given, and that
--- can't fail
+-- pull returned r and left block: this many bytes are at the start of a block that is not empty,
+-- and if there are none, the source is at its end; for an empty block nothing is given, and the
+-- call can't fail
 abbrev pub Pulls : {E : Type 0} → SourceState → SourceState → Result ℕ E → List ℕ → Type 0
 Pulls old new (Ok n) block =
     (n ≤ length block)
@@ -83,26 +83,26 @@ pub record RefusesOnce (old new : SinkState) : Type 0 where
   pub kept : Keeps old.taken new.taken
   pub failures : new.failures ≡ capped (old.failures + 1)
 
--- send was handed bytes and returned r; where there are none it can't fail
+-- send got bytes and returned r; without bytes it can't fail
 abbrev pub Sends : {E : Type 0} → SinkState → SinkState → Result ℕ E → List ℕ → Type 0
 Sends old new (Ok n) bytes =
     (n ≤ length bytes) × (0 < length bytes → 0 < n) × TakesOnce old new (take n bytes)
 Sends old new (Err _) bytes = (0 < length bytes) × RefusesOnce old new
 
--- calls gave these bytes, none of them failed, and none returned that there are no more
+-- calls gave these bytes, none of them failed, and none returned the end
 pub record Gave (old new : SourceState) (bytes : List ℕ) : Type 0 where
   pub consumed : Consumes old.to_come new.to_come bytes
   pub given : Counts old.given new.given (length bytes)
   pub ends : new.ends ≡ old.ends
   pub failures : new.failures ≡ old.failures
 
--- calls gave these bytes, and then one, the last, returned that there are no more
+-- calls gave these bytes, and the last call returned the end
 pub record GaveAndEnded (old new : SourceState) (bytes : List ℕ) : Type 0 where
   pub mid : SourceState
   pub gave : Gave old mid bytes
   pub ended : EndsOnce mid new
 
--- calls gave these bytes, and then one, the last, failed
+-- calls gave these bytes, and the last call failed
 pub record GaveAndFailed (old new : SourceState) (bytes : List ℕ) : Type 0 where
   pub mid : SourceState
   pub gave : Gave old mid bytes

@@ -1,4 +1,4 @@
--- The values of digits, where a byte is one.
+-- The values of digits; None for a byte that is not one.
 use Rattle.std.specs.Prelude.{ℕ, ◌+◌, ◌-◌, ◌==◌, nat_le, ◌&&◌, if◌then◌else◌, Option, Some, None}
 use Rattle.sf_value.specs.Ascii.{plus, slash, digit_zero, lower_a, lower_f, upper_a, upper_z}
 use Rattle.sf_value.specs.Grammar.Classes.{is_digit, is_lower}

@@ -1,4 +1,4 @@
--- How entries are seen as pairs, and what every `Entries` keeps.
+-- How contracts see entries as pairs, and the invariant of every `Entries`.
 use Rattle.std.specs.Prelude.{ℕ, List}
 use Rattle.std.specs.Borrow.{Bor}
 use Rattle.std.specs.Map.{keys_of}

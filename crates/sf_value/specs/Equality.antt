@@ -1,5 +1,5 @@
--- Equality of values as a test, which is what `==` answers. It is that of trees: order counts, and
--- values of different types or cases differ. Each of these tests decides ≡ (`Deciding`).
+-- Equality of values as a test, which is what `==` returns. It is equality of trees: order counts,
+-- and values of different types or variants differ. Each of these tests decides ≡ (`Deciding`).
 use Rattle.std.specs.Prelude.{ℕ, Bool, false, ◌&&◌, List as Seq}
 use Rattle.std.specs.Cmp.Lexicographic.{pointwise}
 use Rattle.std.specs.Bool.{beq}

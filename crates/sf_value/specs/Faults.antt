@@ -1,4 +1,4 @@
--- What each refusal of bytes says of them, and of itself.
+-- The faults of bytes, and their error messages.
 use Rattle.std.specs.Prelude.{◌≡◌, ℕ, suc, Bool, not, List, [], ◌∷◌, Option, Some, None}
 use Rattle.std.specs.Prelude.{if◌then◌else◌, ◌++◌, codes, decimal, ⊤}
 use Rattle.std.specs.List.{position}
@@ -9,17 +9,18 @@ use Rattle.sf_value.specs.Grammar.Words.{Every, IsWord}
 use Rattle.sf_value.specs.Grammar.Classes.{is_key_start, is_in_key, is_token_start, is_in_token}
 use Rattle.sf_value.specs.Grammar.Classes.{is_visible}
 
--- the least place whose byte fails the test
+-- the first place whose byte fails the test
 abbrev pub bad_place : (ℕ → Bool) → List ℕ → Option ℕ
 bad_place p bs = position (λ b. not (p b)) bs
 
--- the least place whose byte a word does not have there
+-- the first place whose byte is not allowed in a word there
 abbrev pub bad_word_place : (ℕ → Bool) → (ℕ → Bool) → List ℕ → Option ℕ
 bad_word_place p q [] = None
 bad_word_place p q (b ∷ bs) =
     if p b then option_map (λ i. suc i) (bad_place q bs) else Some 0
 
--- why bytes are no word: none, one at the least bad place, or a word and no memory for it
+-- why bytes are not a word: there are none, the first bad one, or they are a word and an allocation
+-- failed
 abbrev pub IsWordFault : (ℕ → Bool) → (ℕ → Bool) → List ℕ → TextFault → Type 0
 IsWordFault p q bs Empty = bs ≡ []
 IsWordFault p q bs (BadByte place) = bad_word_place p q bs ≡ Some place
@@ -31,19 +32,19 @@ IsKeyFault = IsWordFault is_key_start is_in_key
 abbrev pub IsTokenFault : List ℕ → TextFault → Type 0
 IsTokenFault = IsWordFault is_token_start is_in_token
 
--- why bytes are no String: a String may be empty
+-- why bytes are not a String, which may be empty
 abbrev pub IsStringFault : List ℕ → TextFault → Type 0
 IsStringFault bs Empty = ⊥
 IsStringFault bs (BadByte place) = bad_place is_visible bs ≡ Some place
 IsStringFault bs OutOfMemory = Every is_visible bs
 
--- it is not out of memory
+-- the fault is not out of memory
 abbrev pub IsOfBytes : TextFault → Type 0
 IsOfBytes Empty = ⊤
 IsOfBytes (BadByte place) = ⊤
 IsOfBytes OutOfMemory = ⊥
 
--- the line of a fault
+-- the error message of a fault
 abbrev pub text_fault_text : TextFault → List ℕ
 text_fault_text Empty = codes "no byte"
 text_fault_text (BadByte place) = codes "a bad byte at " ++ decimal place

@@ -1,8 +1,8 @@
--- The grammar of structured fields (RFC 9651), as relations between whole texts and whole values.
--- A text is a list of numbers, its bytes. A relation `SpellsX d t x` says that in the dialect d
--- the text t spells the value x; the sections named are those of RFC 9651 throughout this folder,
--- and where its ABNF and its parsing algorithms differ, the algorithms decide. Nothing here
--- mentions how a text is read. The files are listed in the order in which they are best read.
+-- The grammar of structured fields (RFC 9651), as relations between whole texts and whole values. A
+-- text is a list of numbers, its bytes. A relation `SpellsX d t x` says that in the dialect d the
+-- text t spells the value x. The sections named are those of RFC 9651 throughout this folder; if
+-- its ABNF and its parsing algorithms differ, the algorithms decide. Nothing here mentions how a
+-- text is read. The files are listed in reading order.
 pub mod Words
 pub mod Classes
 pub mod Dialects

@@ -1,4 +1,4 @@
--- Bytes that a value keeps in place, which do not allocate.
+-- Bytes that a value stores in place, without an allocation.
 use Rattle.std.specs.Prelude.{ℕ, ◌≤◌, List, length}
 
 -- at most 16 bytes

@@ -1,4 +1,4 @@
--- Values that are in place as a whole, which do not allocate.
+-- Values that are stored in place as a whole, without an allocation.
 use Rattle.std.specs.Prelude.{◌≡◌, []}
 use Rattle.sf_value.specs.declared.value.Bare.{Bare}
 use Rattle.sf_value.specs.declared.value.Bare.TheVariants.{Integer, Decimal, Text, Token}

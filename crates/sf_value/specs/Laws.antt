@@ -1,5 +1,5 @@
--- The laws of the definitions that know no machine. Each is the contract of a function in
--- `src/laws.rt`.
+-- The laws of the definitions that do not depend on the machine. Each is the contract of a function
+-- in `src/laws.rt`.
 use Rattle.std.specs.Prelude.{◌≡◌, ℕ, ◌*◌, ◌≤◌, ◌↔◌, List, [], ◌++◌, length}
 use Rattle.std.specs.Str.{IsUtf8}
 use Rattle.sf_value.specs.declared.dialect.Dialect.{Dialect}
@@ -50,6 +50,6 @@ SpellsInBoth =
     (kind : Kind) (t : List ℕ) (v : Field)
     → SpellsField Rfc8941 kind t v → SpellsField Rfc9651 kind t v
 
--- the table of UTF-8 and the UTF-8 of std are one
+-- the table of UTF-8 is the UTF-8 of std
 abbrev pub TableIsUtf8 : Type 0
 TableIsUtf8 = (s : List ℕ) → WellFormed Start s ↔ IsUtf8 s

@@ -1,4 +1,4 @@
--- What a value ends as whose parts were lent to be changed.
+-- The final values of parts that were lent for changes.
 use mir.Syntax.{named}
 use Rattle.std.specs.Prelude.{ℕ, List, [], ◌++◌, ◌+◌, ◌-◌, length, take, drop, slice_get, Option}
 use Rattle.std.specs.Borrow.{Lends, LendsIf, Fml, RattleType, MutBor, Array}
@@ -19,11 +19,11 @@ use Rattle.sf_value.specs.contracts.entries.Entries.{the_row as entries_row}
 use Rattle.sf_value.specs.contracts.sequence.Sequence.{the_row as sequence_row}
 use Rattle.sf_value.specs.Grammar.Pairs.{Pairs}
 
--- xs in the place of as many of the values
+-- xs in place of as many of the values
 abbrev pub with_items : {T : Type 0} → List T → List T → List T
 with_items values xs = take (length values) (xs ++ drop (length xs) values)
 
--- once the borrow r ends, the values are those that r shows last: they are as many as they were
+-- once the borrow r ends, the values are the final values of r: they are as many as before
 abbrev pub LendsItems : (T : RattleType) → MutBor (List T.Denot) → MutBor (List T.Denot) → Fml
 LendsItems T s r = Lends (sequence_row T) (Array T 0) s r (with_items s.now)
 
@@ -39,17 +39,17 @@ module _ {V : Type 0} where
       (slice_get slots.items i) (Few slots)
   with_stored (Many m) i w = Many (with_value m (map.with_value_at m.value i w))
 
--- once the borrow r ends, the index has the value that r shows last; at `None` nothing changes
+-- once the borrow r ends, the value at the index is the final value of r; at `None` nothing changes
 abbrev pub LendsStored : (V : RattleType) → MutBor (Store V.Denot) → ℕ → Option (MutBor V.Denot)
     → Fml
 LendsStored V s i r = LendsIf (store_row V) V s r (with_stored s.now i) s.now
 
--- the same of the key k
+-- the same for the key k
 abbrev pub LendsValue : (V : RattleType) → MutBor (Pairs V.Denot) → List ℕ
     → Option (MutBor V.Denot) → Fml
 LendsValue V e k r = LendsIf (entries_row V) V e r (set_value (bytes_eq k) e.now) e.now
 
--- the same of the place i
+-- the same for the index i
 abbrev pub LendsValueAt : (V : RattleType) → MutBor (Pairs V.Denot) → ℕ → Option (MutBor V.Denot)
     → Fml
 LendsValueAt V e i r = LendsIf (entries_row V) V e r (set_value_at e.now i) e.now
@@ -74,7 +74,8 @@ module _ {V : Type 0} where
     index = values.index + 1;
   }
 
--- once the borrow r ends, the value that came next is what r shows last; at `None` nothing changes
+-- once the borrow r ends, the value that came next is the final value of r; at `None` nothing
+-- changes
 abbrev pub LendsNext : (V : RattleType) → MutBor (IterMut V.Denot) → Option (MutBor V.Denot) → Fml
 LendsNext V s r =
     LendsIf (iter_mut_row (record { mir = named 1; lft = [] }) V) V s r (with_lent s.now) s.now

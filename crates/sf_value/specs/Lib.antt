@@ -1,5 +1,5 @@
--- The definitions that the contracts speak of. `Grammar` is what a reader must believe of texts
--- and values; the others say what the calls of this crate do.
+-- The definitions that the contracts use. `Grammar` defines texts and values, which a reader has to
+-- judge; the others say what the calls of this crate do.
 pub mod Ascii
 pub mod Grammar
 pub mod Digits

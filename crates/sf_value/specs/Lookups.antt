@@ -1,5 +1,5 @@
--- What a look-up finds: a bare item as a value of its type, a member and a field as their case. One
--- of another type, or of another case, counts as absent.
+-- What a look-up finds: a bare item as a value of its type, a member and a field as their variant.
+-- One of another type or variant counts as absent.
 use Rattle.std.specs.Prelude.{ℕ, ℤ, Bool, List as Seq, Option, Some, None}
 use Rattle.sf_value.specs.declared.value.Bare.{Bare}
 use Rattle.sf_value.specs.declared.value.Bare.TheVariants.{Integer, Decimal, Text, Token}

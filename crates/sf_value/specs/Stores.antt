@@ -1,4 +1,4 @@
--- How the places where entries are are seen as pairs.
+-- How contracts see stored entries as pairs.
 use Rattle.std.specs.Prelude.{ℕ, ◌<◌, List, [], length, map}
 use Rattle.std.specs.Slice.Iter.{iter_rest}
 use Rattle.std.specs.Vec.Iter.{into_iter_items}

@@ -9,8 +9,8 @@ use crate::fault::OutOfMemory;
 use std::alloc::Global;
 use std::marker::Model;
 
-/// A byte sequence (RFC 9651 section 3.3.5): any number of any bytes, as they are, not in base64. A
-/// field line is handed in as one, too. Contracts see the list of its bytes.
+/// A byte sequence (RFC 9651 section 3.3.5): any number of any bytes, decoded from base64. Field
+/// lines are also passed as `Blob`s. Contracts see the list of its bytes.
 ///
 /// ```
 /// let blob = Blob::new(alloc, b"a\xff")?; // written as :Yf8=:
@@ -57,7 +57,7 @@ impl Blob {
         Blob::new(alloc, self.as_bytes())
     }
 
-    /// Its bytes. It does not allocate.
+    /// The bytes. It does not allocate.
     pub fn as_bytes(&self) -> &[u8]
         ensures bytes { result.now ≡ self.now }
         ensures byte { Every is_byte self.now }
@@ -65,7 +65,7 @@ impl Blob {
         self.bytes.as_bytes()
     }
 
-    /// Whether it has no byte. It does not allocate.
+    /// Whether there are no bytes. It does not allocate.
     pub fn is_empty(&self) -> bool
         ensures { IsTrue result ↔ (self.now ≡ []) }
     {

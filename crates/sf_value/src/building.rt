@@ -1,4 +1,5 @@
-//! Building: values that have nothing yet, and one part more, in a chain with `?`.
+//! Building values: constructors of values without parts, and calls that add one part, chained with
+//! `?`.
 ghost use Rattle.std.specs.Prelude.{◌≡◌, [], ◌∷◌, ◌++◌, None, IfOk, OnErr};
 ghost use Rattle.sf_value.specs.Grammar.Items.{item};
 ghost use Rattle.sf_value.specs.Grammar.Pairs.{put, value_at};
@@ -26,7 +27,7 @@ impl Item {
         Item { bare, params }
     }
 
-    /// The Item with one more parameter. The value of a key that is there is replaced in its place,
+    /// The Item with one more parameter. The value of a key that is present is replaced in place,
     /// which does not allocate.
     ///
     /// ```
@@ -35,7 +36,7 @@ impl Item {
     ///     .with_param(Key::new(alloc, b"r")?, Bare::Boolean(true))?; // a;q=1;r
     /// ```
     pub fn with_param(self, key: Key, value: Bare) -> Result<Item, OutOfMemory>
-        // A key that is there keeps its place and is overwritten; a new one goes last.
+        // A key that is present keeps its place and is overwritten; a new one goes last.
         ensures new { IfOk result (λ more. more ≡ item self.bare (put self.params key value)) }
         // It fails only if the key is new.
         ensures absent { OnErr result (value_at key self.params ≡ None) }
@@ -75,10 +76,10 @@ impl Inner {
         Ok(Inner { items, params })
     }
 
-    /// The Inner List with one more parameter of the whole. The value of a key that is there is
-    /// replaced in its place, which does not allocate.
+    /// The Inner List with one more parameter of its own. The value of a key that is present is
+    /// replaced in place, which does not allocate.
     pub fn with_param(self, key: Key, value: Bare) -> Result<Inner, OutOfMemory>
-        // A key that is there keeps its place and is overwritten; a new one goes last.
+        // A key that is present keeps its place and is overwritten; a new one goes last.
         ensures new { IfOk result (λ more. more ≡ inner self.items (put self.params key value)) }
         // It fails only if the key is new.
         ensures absent { OnErr result (value_at key self.params ≡ None) }
@@ -124,14 +125,14 @@ impl Dict {
         }
     }
 
-    /// The Dictionary with one more member. The value of a key that is there is replaced in its
+    /// The Dictionary with one more member. The value of a key that is present is replaced in
     /// place, which does not allocate.
     ///
     /// ```
     /// let dict = Dict::new(alloc, &seed).with(Key::new(alloc, b"u")?, Member::Item(item))?;
     /// ```
     pub fn with(self, key: Key, member: Member) -> Result<Dict, OutOfMemory>
-        // A key that is there keeps its place and is overwritten; a new one goes last.
+        // A key that is present keeps its place and is overwritten; a new one goes last.
         ensures new { IfOk result (λ more. more
             ≡ record { members = put self.members key member }) }
         // It fails only if the key is new.

@@ -1,4 +1,4 @@
-//! Bytes of which the first few are in place.
+//! Bytes, of which the first few are stored in place.
 ghost use Rattle.std.specs.Prelude.{◌≡◌, ℕ, List, [], ◌∷◌, ◌++◌, ◌↔◌, IsTrue, IsOk, IfOk};
 ghost use Rattle.std.specs.Prelude.{MatchResult};
 ghost use Rattle.sf_value.specs.Grammar.Words.{Every};
@@ -10,12 +10,12 @@ use smallvec::SmallVec;
 use std::alloc::Global;
 use std::marker::Model;
 
-/// How many bytes are in place.
+/// The number of bytes that are stored in place.
 const IN_PLACE: usize = 16;
 
-/// Bytes that are gathered: up to 16 are in the value itself and do not allocate, more than that
-/// are in memory of their own. The keys, strings, tokens, byte sequences and display strings of
-/// values are on it. Contracts see the list of the bytes.
+/// Bytes that are collected: up to 16 are in the value itself and do not allocate; more are on the
+/// heap. Keys, strings, tokens, byte sequences and display strings are stored as these. Contracts
+/// see the list of the bytes.
 ///
 /// ```
 /// let mut bytes = ShortBytes::new(alloc);
@@ -71,8 +71,8 @@ impl ShortBytes {
         })
     }
 
-    /// Adds a byte at the end. If an allocation fails, the bytes stay as they were. Up to 16 bytes
-    /// do not allocate.
+    /// Adds a byte at the end. If an allocation fails, the bytes are unchanged. Up to 16 bytes do
+    /// not allocate.
     #[inline]
     pub fn push(&mut self, byte: u8) -> Result<(), OutOfMemory>
         ensures bytes { MatchResult result (λ _. self.new ≡ self.old ++ byte ∷ [])
@@ -84,8 +84,8 @@ impl ShortBytes {
         Ok(())
     }
 
-    /// Adds bytes at the end. If an allocation fails, the bytes stay as they were. Up to 16 bytes
-    /// do not allocate.
+    /// Adds bytes at the end. If an allocation fails, the bytes are unchanged. Up to 16 bytes do
+    /// not allocate.
     #[inline]
     pub fn extend(&mut self, run: &[u8]) -> Result<(), OutOfMemory>
         ensures bytes { MatchResult result (λ _. self.new ≡ self.old ++ run.now)
@@ -103,12 +103,12 @@ impl ShortBytes {
         ensures bytes { result.now ≡ self.now }
         ensures byte { Every is_byte self.now }
     {
-        // Bound to a name, since the check knows of a named slice that its items are bytes.
+        // Bound to a name, since the checker knows that the items of a named slice are bytes.
         let bytes = self.bytes.as_slice();
         bytes
     }
 
-    /// Whether there is no byte. It does not allocate.
+    /// Whether there are no bytes. It does not allocate.
     #[inline]
     pub fn is_empty(&self) -> bool
         ensures { IsTrue result ↔ (self.now ≡ []) }
@@ -116,7 +116,8 @@ impl ShortBytes {
         self.bytes.is_empty()
     }
 
-    /// The bytes of a vector, whose memory is kept where they don't fit in place. It takes none.
+    /// The bytes of a vector, whose memory is kept if they don't fit in place. It does not
+    /// allocate.
     pub(crate) fn from_vec(bytes: Vec<u8>) -> ShortBytes
         ensures { result ≡ bytes.items }
     {
@@ -125,7 +126,7 @@ impl ShortBytes {
         }
     }
 
-    /// The bytes as a vector, or as they were if an allocation fails.
+    /// The bytes as a vector, or unchanged if an allocation fails.
     pub(crate) fn into_vec(self) -> Result<Vec<u8>, ShortBytes>
         ensures { MatchResult result (λ v. v.items ≡ self) (λ b. b ≡ self) }
     {
@@ -139,8 +140,7 @@ impl ShortBytes {
     }
 }
 
-// Written out, so that proofs about what holds such bytes don't look into them where they are
-// dropped.
+// Written out, so that proofs about types that contain such bytes don't unfold them at a drop.
 impl Drop for ShortBytes {
     fn drop(self) {
         let ShortBytes { bytes: _ } = self;

@@ -1,5 +1,5 @@
 //! Classes of bytes (RFC 9651 section 3), and the runs of them that a text begins with. A class is
-//! a type; each is decided here, once, for values, parsers and writers.
+//! a type; each is tested here, once, for values, parsers and writers.
 ghost use Rattle.std.specs.Prelude.{◌≡◌, ◌++◌, ℕ, Bool, ◌&&◌, nat_le, true};
 ghost use Rattle.sf_value.specs.Grammar.Words.{Every};
 ghost use Rattle.sf_value.specs.Grammar.Classes.{is_in_key, is_in_token, is_key_start, is_sp};
@@ -9,10 +9,10 @@ ghost use Rattle.sf_value.specs.Grammar.Strings.{is_unescaped};
 ghost use Rattle.sf_value.specs.Grammar.ByteSequences.{is_base64};
 ghost use Rattle.sf_value.specs.Grammar.DisplayStrings.{is_unencoded};
 
-/// The flag of the bytes that keys go on with.
+/// The flag of the bytes of a key after its first.
 const IN_KEY: u8 = 1;
 
-/// The flag of the bytes that tokens go on with.
+/// The flag of the bytes of a token after its first.
 const IN_TOKEN: u8 = 2;
 
 /// The flag of the bytes that keys begin with.
@@ -21,13 +21,13 @@ const KEY_START: u8 = 4;
 /// The flag of the bytes that tokens begin with.
 const TOKEN_START: u8 = 8;
 
-/// The flag of the bytes that stand for themselves in a string.
+/// The flag of the bytes of a string that are written without a backslash.
 const UNESCAPED: u8 = 16;
 
 /// The flag of the characters of base64.
 const BASE64: u8 = 32;
 
-/// The flag of the bytes that stand for themselves in a display string.
+/// The flag of the bytes of a display string that are written without an escape.
 const UNENCODED: u8 = 64;
 
 /// The flags of each byte.
@@ -60,7 +60,7 @@ pub trait ByteClass {
     fn has(byte: u8) -> bool
         ensures { result ≡ test byte };
 
-    /// The same, in a form of which many are computed at a time. It does not allocate.
+    /// The same, in a form that is computed for many bytes at a time. It does not allocate.
     #[inline]
     fn has_many(byte: u8) -> bool
         ensures { result ≡ test byte }
@@ -69,25 +69,25 @@ pub trait ByteClass {
     }
 }
 
-/// What a key may begin with (section 3.1.2).
+/// The first byte of a key (section 3.1.2).
 pub struct KeyStart;
 
-/// What a key may go on with (section 3.1.2).
+/// A byte of a key after its first (section 3.1.2).
 pub struct InKey;
 
-/// What a token may begin with (section 3.3.4).
+/// The first byte of a token (section 3.3.4).
 pub struct TokenStart;
 
-/// What a token may go on with (section 3.3.4).
+/// A byte of a token after its first (section 3.3.4).
 pub struct InToken;
 
-/// What a string may hold (section 3.3.3).
+/// A byte of a string (section 3.3.3).
 pub struct Visible;
 
-/// What stands for itself between the quotes of a string (section 4.1.6).
+/// A byte of a string that is written without a backslash (section 4.1.6).
 pub struct Unescaped;
 
-/// What stands for itself between the quotes of a display string (section 4.1.11).
+/// A byte of a display string that is written without an escape (section 4.1.11).
 pub struct UnencodedByte;
 
 /// The characters of base64 (RFC 4648 section 4).
@@ -99,7 +99,7 @@ pub struct Space;
 /// Optional white space (RFC 9110 section 5.6.3).
 pub struct Ows;
 
-/// Whether the byte is between these, or one of them.
+/// Whether the byte is from `low` to `high`.
 #[inline]
 fn within(byte: u8, low: u8, high: u8) -> bool
     ensures { result ≡ (nat_le low byte && nat_le byte high) }
@@ -239,7 +239,8 @@ impl ByteClass for Ows {
     }
 }
 
-/// Whether all bytes are of the class. It looks at each, which a processor does many at a time.
+/// Whether all bytes are of the class. It tests each, without an early exit, which a processor does
+/// for many at a time.
 #[inline]
 fn all_of<C: ByteClass>(bytes: &[u8]) -> bool
     ensures { result ≡ true → Every C.test bytes.now }
@@ -251,8 +252,8 @@ fn all_of<C: ByteClass>(bytes: &[u8]) -> bool
     all
 }
 
-/// The bytes of the class that the text begins with, and the rest, where there are mostly many:
-/// after the first 16 bytes blocks of 16 are looked at. It does not allocate.
+/// The bytes of the class that the text begins with, and the rest, for runs that are mostly long:
+/// after the first 16 bytes, blocks of 16 are tested. It does not allocate.
 #[inline]
 pub fn long_prefix<C: ByteClass>(text: &[u8]) -> (&[u8], &[u8])
     // Together they are the text.
@@ -276,7 +277,7 @@ pub fn long_prefix<C: ByteClass>(text: &[u8]) -> (&[u8], &[u8])
     text.split_at(run)
 }
 
-/// The same, where there are mostly few. It does not allocate.
+/// The same for runs that are mostly short. It does not allocate.
 #[inline]
 pub fn short_prefix<C: ByteClass>(text: &[u8]) -> (&[u8], &[u8])
     // Together they are the text.
@@ -300,8 +301,8 @@ pub fn can_start_key(byte: u8) -> bool
     KeyStart::has(byte)
 }
 
-/// Whether a key may go on with this byte: `a` to `z`, `0` to `9`, `_`, `-`, `.` and `*` (RFC 9651
-/// section 3.1.2). It does not allocate.
+/// Whether a key may have this byte after its first: `a` to `z`, `0` to `9`, `_`, `-`, `.` and `*`
+/// (RFC 9651 section 3.1.2). It does not allocate.
 #[inline]
 pub fn can_be_in_key(byte: u8) -> bool
     ensures { result ≡ is_in_key byte }
@@ -318,7 +319,7 @@ pub fn can_start_token(byte: u8) -> bool
     TokenStart::has(byte)
 }
 
-/// Whether a token may go on with this byte: a letter, a digit, `:`, `/` or one of
+/// Whether a token may have this byte after its first: a letter, a digit, `:`, `/` or one of
 /// ``!#$%&'*+-.^_`|~`` (RFC 9651 section 3.3.4). It does not allocate.
 #[inline]
 pub fn can_be_in_token(byte: u8) -> bool
@@ -327,7 +328,7 @@ pub fn can_be_in_token(byte: u8) -> bool
     InToken::has(byte)
 }
 
-/// Whether a string may hold this byte: 0x20 to 0x7E (RFC 9651 section 3.3.3). It does not
+/// Whether a string may have this byte: 0x20 to 0x7E (RFC 9651 section 3.3.3). It does not
 /// allocate.
 #[inline]
 pub fn is_visible(byte: u8) -> bool

@@ -1,5 +1,5 @@
-//! Conversions by `into`: of what a bare item, a member or a field is made of. An [`crate::Int`] is
-//! not among them, since it may be an Integer or a Date.
+//! Conversions by `into` from the parts of a bare item, a member or a field. An [`crate::Int`] has
+//! none, since it may be an Integer or a Date.
 ghost use Rattle.std.specs.Prelude.{◌≡◌};
 ghost use Rattle.sf_value.specs.declared.value.Bare.TheVariants as bare_is;
 ghost use Rattle.sf_value.specs.declared.value.Field.TheVariants as field_is;

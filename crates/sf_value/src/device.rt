@@ -1,5 +1,5 @@
 //! The devices that texts are read from and written to. Calls that read a text take a [`Source`],
-//! and calls that write one a [`Sink`]; [`Reading`] and [`Writing`] make them of any reader and
+//! and calls that write one a [`Sink`]; [`Reading`] and [`Writing`] make these from any reader and
 //! writer.
 ghost use Rattle.std.specs.Prelude.{◌≡◌, ℕ, List, ◌+◌, ◌≤◌, Some, IfOk, codes, take};
 ghost use Rattle.sf_value.specs.Devices.{SourceState, SinkState, Pulls, Sends};
@@ -15,7 +15,7 @@ pub struct Failed;
 
 /// A device that bytes are read from.
 ///
-/// Contracts see a custom device through its `state`: the bytes still to come, or that it does not
+/// Contracts see a custom device through its `state`: the bytes that remain, or that it does not
 /// show them; how many bytes it returned; how many calls returned the end; and how many calls
 /// failed. A count that reaches 2^64 - 1 stays there.
 ///
@@ -24,8 +24,8 @@ pub struct Failed;
 /// let count = source.pull(&mut block)?; // the first `count` bytes of the block; 0 at the end
 /// ```
 pub trait Source {
-    // The bytes still to come, if it shows them, how many bytes it returned, how often it returned
-    // the end, and how many calls failed.
+    // The bytes that remain, if it shows them, how many bytes it returned, how many calls returned
+    // the end, and how many failed.
     ghost state: { Self → SourceState };
 
     /// Puts the next bytes at the start of the block, and returns how many. If the block is not
@@ -40,7 +40,7 @@ pub trait Source {
 ///
 /// Contracts see a custom device through its `state`: the bytes written, or that it does not show
 /// them; and how many calls failed, a count that stays at 2^64 - 1 once it reaches that. A device
-/// that does not show its bytes may say by `send_gives` how a call that wrote some changed it.
+/// that does not show its bytes may state by `send_gives` how a call that wrote some changed it.
 ///
 /// ```
 /// let count = sink.send(b"a, b")?; // how many of the four bytes were written
@@ -91,7 +91,7 @@ pub struct Writing<W> {
 impl<R: Read> Reading<R> {
     /// The source of this reader's bytes, with its counts at 0. It does not allocate.
     pub fn new(reader: R) -> Reading<R>
-        // The bytes to come are the reader's, and nothing is counted yet.
+        // The bytes that remain are the reader's, and all counts are 0.
         ensures state { ⟦<Reading<R> as Source>⟧.state result
             ≡ record { to_come = R.remaining reader; given = 0; ends = 0; failures = 0 } }
         // The reader is the one that was passed in, unchanged.
@@ -126,11 +126,11 @@ impl<R: Read> Reading<R> {
         self.failures
     }
 
-    /// The reader back, as the calls so far left it. It does not allocate.
+    /// The reader, as the calls so far left it. It does not allocate.
     pub fn into_inner(self) -> R
-        // Its bytes to come are those of the source.
+        // The bytes that remain are those of the source.
         ensures to_come { R.remaining result ≡ (⟦<Reading<R> as Source>⟧.state self).to_come }
-        // It is the reader that was within.
+        // It is the reader of this source.
         ensures reader { result ≡ reader_of self }
     {
         let Reading {
@@ -144,13 +144,13 @@ impl<R: Read> Reading<R> {
 }
 
 impl<W: Write> Writing<W> {
-    /// The sink that hands its bytes to this writer, with the count of failed calls at 0. It does
+    /// The sink that passes its bytes to this writer, with the count of failed calls at 0. It does
     /// not allocate.
     pub fn new(writer: W) -> Writing<W>
-        // The bytes taken are those that the writer holds, and no failure is counted yet.
+        // The bytes taken are those of the writer, and no failure is counted yet.
         ensures state { ⟦<Writing<W> as Sink>⟧.state result
             ≡ record { taken = W.contents writer; failures = 0 } }
-        // The writer within is the one handed in, as it was.
+        // The writer is the one that was passed in, unchanged.
         ensures writer { writer_of result ≡ writer }
     {
         Writing {
@@ -166,11 +166,11 @@ impl<W: Write> Writing<W> {
         self.failures
     }
 
-    /// The writer back, as the calls so far left it. It does not allocate.
+    /// The writer, as the calls so far left it. It does not allocate.
     pub fn into_inner(self) -> W
-        // The writer holds the bytes taken.
+        // The writer has the bytes taken.
         ensures taken { W.contents result ≡ (⟦<Writing<W> as Sink>⟧.state self).taken }
-        // It is the writer that was within.
+        // It is the writer of this sink.
         ensures writer { result ≡ writer_of self }
     {
         let Writing {

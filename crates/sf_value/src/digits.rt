@@ -1,10 +1,9 @@
-//! Digits of the texts of bytes: hexadecimal ones (RFC 9651 section 4.1.11) and the characters of
-//! base64 (RFC 4648 section 4).
+//! Hexadecimal digits (RFC 9651 section 4.1.11) and the characters of base64 (RFC 4648 section 4).
 ghost use Rattle.std.specs.Prelude.{◌≡◌, ◌/◌, ◌%◌, ◌<◌, [], ◌∷◌, IfSome};
 ghost use Rattle.sf_value.specs.Grammar.DisplayStrings.{hex};
 ghost use Rattle.sf_value.specs.Digits.{unhex as unhex_of, sextet as sextet_of};
 
-/// The value of each byte as a lower-case hexadecimal digit; 16 if it is none.
+/// The value of each byte as a lower-case hexadecimal digit; 16 if it is not one.
 #[rattlefmt::skip]
 static HEX: [u8; 256] = [
     16, 16, 16, 16, 16, 16, 16, 16, 16, 16, 16, 16, 16, 16, 16, 16,
@@ -25,7 +24,7 @@ static HEX: [u8; 256] = [
     16, 16, 16, 16, 16, 16, 16, 16, 16, 16, 16, 16, 16, 16, 16, 16,
 ];
 
-/// The value of each byte as a character of base64; 64 if it is none.
+/// The value of each byte as a character of base64; 64 if it is not one.
 #[rattlefmt::skip]
 static SEXTETS: [u8; 256] = [
     64, 64, 64, 64, 64, 64, 64, 64, 64, 64, 64, 64, 64, 64, 64, 64,
@@ -46,7 +45,8 @@ static SEXTETS: [u8; 256] = [
     64, 64, 64, 64, 64, 64, 64, 64, 64, 64, 64, 64, 64, 64, 64, 64,
 ];
 
-/// The value of a lower-case hexadecimal digit; `None` if the byte is none. It does not allocate.
+/// The value of a lower-case hexadecimal digit; `None` if the byte is not one. It does not
+/// allocate.
 ///
 /// ```
 /// unhex(b'c') // Some(12)
@@ -62,7 +62,7 @@ pub fn unhex(byte: u8) -> Option<u8>
     if value < 16 { Some(value) } else { None }
 }
 
-/// The value of a character of base64; `None` if the byte is none. It does not allocate.
+/// The value of a character of base64; `None` if the byte is not one. It does not allocate.
 ///
 /// ```
 /// sextet(b'B') // Some(1)

@@ -11,8 +11,8 @@ use crate::fault::OutOfMemory;
 use std::alloc::Global;
 use std::marker::Model;
 
-/// A display string (RFC 9651 section 3.3.8): any Unicode text, as it is, with no escapes.
-/// Contracts see the list of its UTF-8 bytes.
+/// A display string (RFC 9651 section 3.3.8): any Unicode text, unescaped. Contracts see the list
+/// of its UTF-8 bytes.
 ///
 /// ```
 /// let shown = Shown::new(alloc, "f\u{fc}r")?; // written as %"f%c3%bcr"
@@ -32,7 +32,7 @@ impl Model for Shown {
 
 impl Shown {
     /// The display string of this text, which may be empty. It fails only if an allocation fails.
-    /// Up to 16 bytes of UTF-8 take none.
+    /// Up to 16 bytes of UTF-8 do not allocate.
     #[tactic(auto, using(crate::proofs::Utf8Table::from_utf8))]
     pub fn new(alloc: Global, text: &str) -> Result<Shown, OutOfMemory>
         ensures shown { IfOk result (λ shown. shown ≡ text.now) }
@@ -80,7 +80,7 @@ impl Shown {
     pub fn as_str(&self) -> &str
         ensures { result.now ≡ self.now }
     {
-        // What is well-formed by the table of RFC 3629 is UTF-8, which is proved and not tested.
+        // What is well-formed by the table of RFC 3629 is UTF-8: this is proved, not tested.
         unsafe { str::from_utf8_unchecked(self.as_bytes()) }
     }
 

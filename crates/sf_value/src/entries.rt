@@ -21,9 +21,9 @@ use std::fmt;
 use std::hash::RandomState;
 use std::marker::Model;
 
-/// Values by key, in the order in which the keys came first: the parameters of an Item or an Inner
-/// List (RFC 9651 section 3.1.2), and the members of a Dictionary (section 3.2). No key occurs
-/// twice. Contracts see the list of the pairs of a key's bytes and its value.
+/// Values by key, in the order in which the keys were first put: the parameters of an Item or an
+/// Inner List (RFC 9651 section 3.1.2), and the members of a Dictionary (section 3.2). No key
+/// occurs twice. Contracts see the list of the pairs of a key's bytes and its value.
 ///
 /// ```
 /// let mut entries = Entries::new(alloc, &seed);
@@ -50,7 +50,7 @@ impl<V> Model for Entries<V> {
     ghost invariant = { λ e. AreEntries (stored e.store) × HasSeed e.store };
 }
 
-/// The entries that an iteration by reference has left, each as its key's bytes and its value.
+/// The entries that remain of an iteration by reference, each as its key's bytes and its value.
 #[derive(Debug, Drop)]
 pub struct Iter<'a, V> {
     lent: Lent<'a, V>,
@@ -65,16 +65,16 @@ impl<'a, V> Model for Iter<'a, V> {
     ghost view = { λ a. lent_pairs a.lent };
 }
 
-/// Lends the values of entries in order, each to be changed. One is lent at a time, so that it is
-/// known what became of the entries. A loop is `while let Some(value) = values.next()`, and what
-/// gets less each time is `values_left`, in `specs/Lending`.
+/// Lends the values of entries in order, for changes. It lends one at a time, so that contracts
+/// know the entries afterwards. A loop is `while let Some(value) = values.next()`, and its measure
+/// is `values_left`, in `specs/Lending`.
 #[derive(Debug, Drop)]
 pub struct IterMut<'a, V> {
     entries: &'a mut Entries<V>,
     index: usize,
 }
 
-/// The entries that an iteration by value has left, each as its key and its value.
+/// The entries that remain of an iteration by value, each as its key and its value.
 #[derive(Drop)]
 pub struct IntoIter<V> {
     left: Left<V>,
@@ -95,8 +95,8 @@ impl<V> Model for IntoIter<V> {
 }
 
 impl<V> Entries<V> {
-    /// No entries. It does not allocate. The seed is that of the hashes that look keys up; take one
-    /// that strangers cannot guess, where they choose the keys.
+    /// No entries. It does not allocate. The seed is that of the hashes of keys; if attackers
+    /// choose the keys, take one that they can't predict.
     pub fn new(alloc: Global, seed: &RandomState) -> Entries<V>
         ensures { result ≡ [] }
     {
@@ -105,7 +105,7 @@ impl<V> Entries<V> {
         }
     }
 
-    /// How many entries there are. It does not allocate.
+    /// The number of entries. It does not allocate.
     pub fn len(&self) -> usize
         ensures len { result ≡ length self.now }
         // Each key is one, and none occurs twice.
@@ -114,23 +114,23 @@ impl<V> Entries<V> {
         self.store.len()
     }
 
-    /// Whether there is no entry. It does not allocate.
+    /// Whether there are no entries. It does not allocate.
     pub fn is_empty(&self) -> bool
         ensures { IsTrue result ↔ (self.now ≡ []) }
     {
         self.len() == 0
     }
 
-    /// The value of the key of these bytes; `None` if it has none, also where the bytes are no key.
-    /// It does not allocate.
+    /// The value of the key with these bytes; `None` if there is none, also if the bytes are not a
+    /// key. It does not allocate.
     pub fn get(&self, key: &[u8]) -> Option<&V>
         ensures { option_copied result ≡ value_at key.now self.now }
     {
         self.store.get(key)
     }
 
-    /// The value of the key of these bytes, to be changed; `None` if it has none. It does not
-    /// allocate.
+    /// The value of the key with these bytes, as a mutable reference; `None` if there is none. It
+    /// does not allocate.
     ///
     /// ```
     /// if let Some(value) = entries.get_mut(b"q") {
@@ -138,7 +138,7 @@ impl<V> Entries<V> {
     /// }
     /// ```
     pub fn get_mut(&mut self, key: &[u8]) -> Option<&mut V>
-        // What the reference ends as is the key's value; all else is as it was.
+        // The final value of the reference is the key's value; everything else is unchanged.
         ensures* writes_back { sem 𝓛 (LendsValue V.row self.entry key.now result) }
         ensures value { option_copied_mut result ≡ value_at key.now self.old }
     {
@@ -146,22 +146,22 @@ impl<V> Entries<V> {
         self.store.value_mut(place)
     }
 
-    /// Whether the key of these bytes has a value. It does not allocate.
+    /// Whether there is a value for the key with these bytes. It does not allocate.
     pub fn contains_key(&self, key: &[u8]) -> bool
         ensures { IsTrue result ↔ IsSome (value_at key.now self.now) }
     {
         self.get(key).is_some()
     }
 
-    /// The key and the value at a place, counted from 0; `None` past the end. It does not allocate.
+    /// The key and the value at an index, from 0; `None` past the end. It does not allocate.
     pub fn at(&self, index: usize) -> Option<(&[u8], &V)>
         ensures { option_map deref_entry result ≡ slice_get self.now index }
     {
         self.store.at(index)
     }
 
-    /// The value at a place, counted from 0, to be changed; `None` past the end. Its key is the one
-    /// that [`Entries::at`] tells, and no call changes it. It does not allocate.
+    /// The value at an index, from 0, as a mutable reference; `None` past the end. [`Entries::at`]
+    /// returns its key, which no call changes. It does not allocate.
     ///
     /// ```
     /// for place in 0..entries.len() {
@@ -171,7 +171,7 @@ impl<V> Entries<V> {
     /// }
     /// ```
     pub fn at_mut(&mut self, index: usize) -> Option<&mut V>
-        // What it ends as is the value at the place; all else is as it was.
+        // The final value of the reference is the value at the index; everything else is unchanged.
         ensures* writes_back { sem 𝓛 (LendsValueAt V.row self.entry index result) }
         ensures value { option_copied_mut result
             ≡ option_map (λ entry. entry.1) (slice_get self.old index) }
@@ -182,7 +182,7 @@ impl<V> Entries<V> {
     /// The entries in order, each as its key's bytes and its value. It does not allocate.
     pub fn iter(&self) -> Iter<'_, V>
         ensures rest { result ≡ self.now }
-        // A loop takes them in order from the start, and a whole loop takes them all.
+        // A loop takes them in order from the start, and a complete loop takes them all.
         ensures runs { ShowsInOrder (deref_entry {V = V}) }
     {
         Iter {
@@ -190,7 +190,7 @@ impl<V> Entries<V> {
         }
     }
 
-    /// The values in order, to be changed one after another. It does not allocate.
+    /// The values in order, as mutable references, one after another. It does not allocate.
     ///
     /// ```
     /// let mut values = entries.iter_mut();
@@ -199,7 +199,7 @@ impl<V> Entries<V> {
     /// }
     /// ```
     pub fn iter_mut(&mut self) -> IterMut<'_, V>
-        // What is changed through it is changed in these entries.
+        // A change through it is a change of these entries.
         ensures same { (lent_entries result).ghost_name ≡ self.entry.ghost_name }
         ensures entries { (lent_entries result).now ≡ self.old }
         ensures first { lent_index result ≡ 0 }
@@ -212,7 +212,7 @@ impl<V> Entries<V> {
 }
 
 impl<'a, V> IterMut<'a, V> {
-    /// The bytes of the key whose value comes next; `None` after the last. It does not allocate.
+    /// The bytes of the key of the next value; `None` after the last. It does not allocate.
     pub fn key(&self) -> Option<&[u8]>
         ensures { option_copied result ≡ option_map (λ entry. entry.0)
             (slice_get (lent_entries self.now).now (lent_index self.now)) }
@@ -221,14 +221,14 @@ impl<'a, V> IterMut<'a, V> {
         Some(key)
     }
 
-    /// The next value, to be changed; `None` after the last. It does not allocate.
+    /// The next value, as a mutable reference; `None` after the last. It does not allocate.
     pub fn next(&mut self) -> Option<&mut V>
-        // What it ends as is the value of its key, and the one after it comes next; all else is as
-        // it was.
+        // The final value of the reference is the value of its key, and the value after it comes
+        // next; everything else is unchanged.
         ensures* writes_back { sem 𝓛 (LendsNext V.row self.entry result) }
         ensures value { option_copied_mut result ≡ option_map (λ entry. entry.1)
             (slice_get (lent_entries self.old).now (lent_index self.old)) }
-        // Whatever it ends as, fewer are left: so a loop ends.
+        // Whatever its final value, fewer remain: so a loop ends.
         ensures fewer { IfSome result (λ _. (w : V)
             → values_left (with_lent self.old w) < values_left self.old) }
     {
@@ -243,11 +243,10 @@ impl<'a, V> IterMut<'a, V> {
 
 impl<V: Drop> Entries<V> {
     /// Puts a value at a key. A new key goes last, and the result is `None`. The value of a key
-    /// that is there is replaced in its place, and the old one is the result; this does not
-    /// allocate. If an allocation fails, the entries stay as they were, and the key and the value
-    /// come back.
+    /// that is present is replaced in place and returned; this does not allocate. If an allocation
+    /// fails, the entries are unchanged, and the key and the value are returned.
     pub fn put(&mut self, key: Key, value: V) -> Result<Option<V>, (Key, V)>
-        // A key that is there keeps its place and is overwritten; a new one goes last.
+        // A key that is present keeps its place and is overwritten; a new one goes last.
         ensures new { IfOk result (λ _. self.new ≡ settle (self.old ++ (key, value) ∷ [])) }
         ensures old { IfOk result (λ old. old ≡ value_at key self.old) }
         ensures same { IfErr result (λ _. self.new ≡ self.old) }
@@ -258,14 +257,14 @@ impl<V: Drop> Entries<V> {
         self.store.put(key, value)
     }
 
-    /// Puts a value at a key, as [`Entries::put`] does, where neither the old value nor a pair that
-    /// comes back is wanted. If an allocation fails, the entries stay as they were.
+    /// Puts a value at a key, as [`Entries::put`] does, but drops the old value, or the pair if an
+    /// allocation fails. The entries are then unchanged.
     ///
     /// ```
     /// entries.set(Key::new(alloc, b"q")?, Bare::Integer(Int::new(1)?))?;
     /// ```
     pub fn set(&mut self, key: Key, value: V) -> Result<(), OutOfMemory>
-        // A key that is there keeps its place and is overwritten; a new one goes last.
+        // A key that is present keeps its place and is overwritten; a new one goes last.
         ensures new { OnOk result (self.new ≡ settle (self.old ++ (key, value) ∷ [])) }
         ensures same { OnErr result (self.new ≡ self.old) }
         // It fails only if the key is new.
@@ -274,7 +273,7 @@ impl<V: Drop> Entries<V> {
         self.store.set(key, value)
     }
 
-    /// Takes out the key of these bytes, and returns its value; `None` if it has none. The other
+    /// Removes the key with these bytes, and returns its value; `None` if there is none. The other
     /// entries keep their order. It does not allocate.
     ///
     /// ```
@@ -288,7 +287,7 @@ impl<V: Drop> Entries<V> {
     }
 }
 
-// Written out, so that proofs about what holds entries don't look into them where they are dropped.
+// Written out, so that proofs about types that contain entries don't unfold them at a drop.
 impl<V: Drop> Drop for Entries<V> {
     #[inline(always)]
     fn drop(self) {
@@ -351,7 +350,7 @@ impl<V: Drop> Iterator for IntoIter<V> {
     }
 }
 
-// What is left in a map can't be looked at without being taken.
+// The entries that remain in a map can't be read without being taken.
 impl<V> fmt::Debug for IntoIter<V> {
     fn fmt<W: fmt::Write>(&self, f: &mut fmt::Formatter<W>) -> fmt::Result {
         f.write_str("IntoIter { .. }")
@@ -394,7 +393,7 @@ impl<V: Part> Part for Entries<V> {
     }
 
     fn copy(&self, alloc: Global, seed: &RandomState) -> Result<Entries<V>, OutOfMemory> {
-        // That these are entries the proof has to know.
+        // The proof has to know that these are entries.
         let _ = &self.store;
         let mut copy = Entries::new(alloc, seed);
         for (key, value) in self {

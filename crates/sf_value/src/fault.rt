@@ -7,16 +7,16 @@ use std::alloc::{AllocError, AllocFailed};
 use std::error::Error;
 use std::fmt;
 
-/// No memory was left for the answer.
+/// An allocation failed.
 #[derive(Clone, Copy, Debug, PartialEq, Eq)]
 pub struct OutOfMemory;
 
-/// A number lies outside the range of its type.
+/// A number is outside the range of its type.
 #[derive(Clone, Copy, Debug, PartialEq, Eq)]
 pub struct OutOfRange;
 
-/// Why bytes are no key, token or string. Where several causes hold, the one that is first here is
-/// answered.
+/// Why bytes are not a key, token or string. If several causes apply, the first of them here is
+/// returned.
 ///
 /// ```
 /// match Key::new(alloc, bytes) {
@@ -27,14 +27,15 @@ pub struct OutOfRange;
 /// ```
 #[derive(Clone, Copy, Debug, PartialEq, Eq)]
 pub enum TextFault {
-    /// There is no byte, and a key or a token has at least one. A string is never refused so.
+    /// There are no bytes, and a key or a token has at least one. A string is never refused for
+    /// this.
     Empty,
-    /// The byte at this place, counted from 0, is not allowed there; no earlier one is bad.
+    /// The byte at this place, from 0, is not allowed there; all earlier ones are.
     BadByte {
-        /// The place of the first bad byte.
+        /// The place of the first byte that is not allowed.
         place: usize,
     },
-    /// The bytes are good, and no memory was left for them.
+    /// The bytes are valid, but an allocation failed.
     OutOfMemory,
 }
 

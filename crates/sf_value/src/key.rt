@@ -13,8 +13,8 @@ use std::alloc::Global;
 use std::marker::Model;
 
 /// The key of a parameter or of a member of a dictionary (RFC 9651 section 3.1.2): a byte that may
-/// start one ([`crate::can_start_key`]), then any number of bytes that may be in one ([`crate::can_be_in_key`]).
-/// Upper case is never in one. Contracts see the list of its bytes.
+/// start one ([`crate::can_start_key`]), then any number of bytes that may be in one
+/// ([`crate::can_be_in_key`]). It has no upper-case letters. Contracts see the list of its bytes.
 ///
 /// ```
 /// let key = Key::new(alloc, b"max-age")?;
@@ -34,11 +34,11 @@ impl Model for Key {
 }
 
 impl Key {
-    /// The key of these bytes. It is refused as `Empty` if there is no byte, otherwise as `BadByte`
-    /// at the first byte that may not be in its place, otherwise as `OutOfMemory`. Up to 16 bytes
-    /// do not allocate.
+    /// The key of these bytes. Fails with `Empty` if there are no bytes, otherwise with `BadByte`
+    /// at the first byte that is not allowed in its place, otherwise with `OutOfMemory`. Up to 16
+    /// bytes do not allocate.
     pub fn new(alloc: Global, bytes: &[u8]) -> Result<Key, TextFault>
-        // It has these bytes; the fault is no byte, the first bad one, or no memory for a key.
+        // It has these bytes; the fault is no bytes, the first bad one, or no memory for a key.
         ensures exact { MatchResult result (λ key. key ≡ bytes.now) (IsKeyFault bytes.now) }
         ensures key { IfOk result (λ key. IsKey key) }
         // At most 16 bytes are not refused as out of memory.
@@ -49,8 +49,8 @@ impl Key {
         })
     }
 
-    /// The key of these bytes, which are known to be one. It does not allocate: a parser, which
-    /// tests each byte as it comes, makes keys so.
+    /// The key of these bytes, which are known to be one. It does not allocate. It is for parsers,
+    /// which test each byte as they read it.
     #[inline]
     pub fn from_bytes(bytes: ShortBytes) -> Key
         requires { IsKey bytes }
@@ -59,8 +59,8 @@ impl Key {
         Key { bytes }
     }
 
-    /// The key of one byte, one that [`crate::can_start_key`] accepts. It does not allocate, and is never
-    /// refused.
+    /// The key of one byte, one that [`crate::can_start_key`] accepts. It does not allocate, and
+    /// never fails.
     pub fn first(alloc: Global, byte: u8) -> Result<Key, OutOfMemory>
         requires { is_key_start byte ≡ true }
         ensures key { IfOk result (λ key. key ≡ byte ∷ []) }
@@ -84,7 +84,7 @@ impl Key {
         })
     }
 
-    /// Its bytes, at least one. It does not allocate.
+    /// The bytes, at least one. It does not allocate.
     pub fn as_bytes(&self) -> &[u8]
         ensures bytes { result.now ≡ self.now }
         ensures key { IsKey self.now }

@@ -1,4 +1,4 @@
-//! How a map finds a key: by a hash of its bytes, which it is fed in one piece.
+//! How a map finds a key: by a hash of its bytes, which the hasher gets in one call.
 ghost use Rattle.std.specs.Prelude.{[], ◌∷◌};
 ghost use Rattle.std.proofs.Common.{ap};
 ghost use Rattle.std.specs.Cmp.{on_equiv, on_per, partial_equiv_from_equiv};
@@ -9,13 +9,13 @@ use crate::key::Key;
 use indexmap::Equivalent;
 use std::hash::{Hash, Hasher};
 
-/// The bytes by which a map is asked for a key, whether or not they are one.
+/// The bytes that are looked up in a map, whether or not they are a key.
 #[derive(Clone, Copy)]
 pub(crate) struct Name<'a> {
     pub(crate) bytes: &'a [u8],
 }
 
-/// A key feeds its bytes to a hasher in one piece, and nothing else.
+/// A key passes its bytes to a hasher in one call, and nothing else.
 impl Hash for Key {
     ghost hash_input = { λ key. key ∷ [] };
 
@@ -40,7 +40,7 @@ impl<'a> Eq for Name<'a> {
     ghost laws = { on_equiv (λ x. x.bytes.now) nat_list_eq_equiv };
 }
 
-/// As the key of these bytes is hashed.
+/// Hashes as the key with these bytes.
 impl<'a> Hash for Name<'a> {
     ghost hash_input = { λ name. name.bytes.now ∷ [] };
 

@@ -4,7 +4,7 @@ ghost use Rattle.sf_value.specs.Laws.{SettlesInParts, CanonSpells, SpelledIsVali
 ghost use Rattle.sf_value.specs.Laws.{CanonIsEmpty, SpellsInBoth, TableIsUtf8};
 
 /// Pairs with repeated keys may be settled before others follow them (RFC 9651 sections 4.2.2 and
-/// 4.2.3.2): overwriting as one reads is overwriting at the end.
+/// 4.2.3.2): overwriting while reading is overwriting at the end.
 pub fn settles_in_parts<V>()
     ensures { SettlesInParts V }
 {}
@@ -14,7 +14,7 @@ pub fn canon_spells()
     ensures { CanonSpells }
 {}
 
-/// What a text spells is valid: its numbers are in range, its alphabets kept, no key occurs twice.
+/// What a text spells is valid: numbers are in range, alphabets are kept, and no key occurs twice.
 pub fn spelled_is_valid()
     ensures { SpelledIsValid }
 {}
@@ -35,7 +35,7 @@ pub fn spells_in_both()
     ensures { SpellsInBoth }
 {}
 
-/// The table of RFC 3629 and the UTF-8 of the standard library are one.
+/// The table of RFC 3629 is the UTF-8 of the standard library.
 pub fn table_is_utf8()
     ensures { TableIsUtf8 }
 {}

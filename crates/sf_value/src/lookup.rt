@@ -1,5 +1,5 @@
-//! Look-ups: a bare item as a value of its type, a member and a field as their case, a parameter
-//! and a member of a Dictionary by key. None of them takes memory.
+//! Look-ups: a bare item as a value of its type, a member and a field as their variant, a parameter
+//! and a member of a Dictionary by key. None of them allocates.
 ghost use Rattle.std.specs.Prelude.{◌≡◌};
 ghost use Rattle.std.specs.Option.{option_copied};
 ghost use Rattle.sf_value.specs.Grammar.Pairs.{value_at};
@@ -73,7 +73,7 @@ impl Bare {
         }
     }
 
-    /// The truth of a Boolean; `None` if it is of another type.
+    /// The value of a Boolean; `None` if it is of another type.
     pub fn as_boolean(&self) -> Option<bool>
         ensures { result ≡ boolean_of self.now }
     {
@@ -83,7 +83,7 @@ impl Bare {
         }
     }
 
-    /// The seconds of a Date, from 1970-01-01T00:00:00Z on; `None` if it is of another type.
+    /// The seconds of a Date, since 1970-01-01T00:00:00Z; `None` if it is of another type.
     pub fn as_date(&self) -> Option<Int>
         ensures { result ≡ date_of self.now }
     {
@@ -145,8 +145,8 @@ impl Bare {
 }
 
 impl Item {
-    /// The value of the parameter with this key; `None` if there is none, also where the bytes are
-    /// no key.
+    /// The value of the parameter with this key; `None` if there is none, also if the bytes are not
+    /// a key.
     ///
     /// ```
     /// let item = parse_item(alloc, &seed, b"a;q=1")?;
@@ -161,8 +161,8 @@ impl Item {
 }
 
 impl Inner {
-    /// The value of the parameter of the whole Inner List with this key; `None` if there is none,
-    /// also where the bytes are no key.
+    /// The value of the parameter of the Inner List with this key; `None` if there is none, also if
+    /// the bytes are not a key.
     pub fn param(&self, key: &[u8]) -> Option<&Bare>
         ensures { option_copied result ≡ value_at key.now self.now.params }
     {
@@ -213,7 +213,7 @@ impl Member {
 }
 
 impl Dict {
-    /// The member with this key; `None` if there is none, also where the bytes are no key.
+    /// The member with this key; `None` if there is none, also if the bytes are not a key.
     ///
     /// ```
     /// let dict = parse_dict(alloc, &seed, b"u=1, i")?;

@@ -5,12 +5,12 @@ ghost use Rattle.std.specs.Result.{OkIff};
 use crate::fault::OutOfRange;
 use std::marker::Model;
 
-/// The largest number that a field can hold.
+/// The largest number that a field can have.
 const LARGEST: i64 = 999_999_999_999_999;
 
 /// A whole number of at most 15 digits, from -999,999,999,999,999 to 999,999,999,999,999: the value
-/// of an Integer (RFC 9651 section 3.3.1), and of a Date (section 3.3.7) in seconds from
-/// 1970-01-01T00:00:00Z on, leap seconds not counted. Contracts see the number.
+/// of an Integer (RFC 9651 section 3.3.1), and of a Date (section 3.3.7) in seconds since
+/// 1970-01-01T00:00:00Z, leap seconds not counted. Contracts see the number.
 ///
 /// ```
 /// let most = Int::new(999_999_999_999_999)?;
@@ -33,8 +33,7 @@ impl Model for Int {
 
 /// A whole number of thousandths, of at most 15 digits, from -999,999,999,999,999 to
 /// 999,999,999,999,999: the value of a Decimal (RFC 9651 section 3.3.2), which has at most 12
-/// digits before the point and 3 after it. So 1500 stands for 1.5. Contracts see the number of
-/// thousandths.
+/// digits before the point and 3 after it. So 1500 is 1.5. Contracts see the number of thousandths.
 ///
 /// ```
 /// let number = Thousandths::new(1500)?; // 1.5

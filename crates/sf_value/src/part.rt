@@ -15,7 +15,7 @@ use std::alloc::Global;
 use std::hash::RandomState;
 
 /// A part of a value: a bare item, an Item, an Inner List, a member, and entries and sequences of
-/// such. Whole fields are compared and copied by [`same`] and [`copy`].
+/// these. Whole fields are compared and copied by [`same`] and [`copy`].
 pub trait Part: PartialEq + Drop {
     // Whether a copy does not allocate.
     ghost in_place: { Self → Type 0 };
@@ -26,14 +26,14 @@ pub trait Part: PartialEq + Drop {
         ensures { IsTrue result ↔ (self.now ≡ other.now) };
 
     /// Another value, equal to this one. The seed is that of its entries. It fails only if an
-    /// allocation fails. What is in place takes none: a bare item that is no text or is of at most
-    /// 16 bytes, such an Item without parameters, and no entries.
+    /// allocation fails. What is in place does not allocate: a number, Boolean or Date, a text of
+    /// at most 16 bytes, an Item of one of these without parameters, and no entries.
     fn copy(&self, alloc: Global, seed: &RandomState) -> Result<Self, OutOfMemory>
         ensures copied { IfOk result (λ copy. copy ≡ self.now) }
         // What is in place is not refused as out of memory.
         ensures in_place { in_place self.now → IsOk result };
 
-    // `==` holds of equal parts, and of no others.
+    // `==` holds for equal parts, and for no others.
     ghost decides: { (a b : Self) → Decides (Self.eq a b) (a ≡ b) };
 }
 
@@ -154,7 +154,7 @@ impl Part for Member {
 }
 
 /// Whether two fields are equal. The order of members, items and parameters counts, and fields of
-/// two kinds are never equal, though their texts may be. It does not allocate.
+/// different kinds are never equal, even if their texts are. It does not allocate.
 ///
 /// ```
 /// same(&field, &copy(alloc, &seed, &field)?) // true
@@ -180,7 +180,7 @@ pub fn same(a: &Field, b: &Field) -> bool
 
 /// Another field, equal to its source. The seed is that of its entries. It fails only if an
 /// allocation fails. A number, a Boolean, a Date or at most 16 bytes without parameters, and a List
-/// or a Dictionary without members, take none.
+/// or a Dictionary without members, do not allocate.
 ///
 /// ```
 /// let twin = copy(alloc, &seed, &field)?;

@@ -20,7 +20,7 @@ use std::ops::DerefSlice;
 use std::{slice, vec};
 
 /// Values in order, as the members of a List or the Items of an Inner List (RFC 9651 sections 3.1
-/// and 3.1.1). It is made from a `Vec` and gives it back without memory, and it is read as a slice.
+/// and 3.1.1). It converts from and to a `Vec` without an allocation, and can be read as a slice.
 /// Contracts see the list of the values.
 ///
 /// ```
@@ -73,14 +73,14 @@ impl<T> Sequence<T> {
         self.items.as_slice()
     }
 
-    /// How many values there are. It does not allocate.
+    /// The number of values. It does not allocate.
     pub fn len(&self) -> usize
         ensures { result ≡ length self.now }
     {
         self.items.len()
     }
 
-    /// Whether there is no value. It does not allocate.
+    /// Whether there are no values. It does not allocate.
     pub fn is_empty(&self) -> bool
         ensures { IsTrue result ↔ (self.now ≡ []) }
     {
@@ -90,14 +90,14 @@ impl<T> Sequence<T> {
     /// The values in order. It does not allocate.
     pub fn iter(&self) -> slice::Iter<'_, T>
         ensures rest { iter_rest result ≡ self.now }
-        // A loop takes them in order from the start, and a whole loop takes them all.
+        // A loop takes them in order from the start, and a complete loop takes them all.
         ensures runs { IterYieldsInOrder T }
     {
         self.items.iter()
     }
 
-    /// Adds a value at the end. If an allocation fails, the values stay as they were, and the one
-    /// handed in comes back in the error, which `?` makes an [`OutOfMemory`] of.
+    /// Adds a value at the end. If an allocation fails, the values are unchanged, and the error has
+    /// the value that was passed in; `?` converts it to an [`OutOfMemory`].
     ///
     /// ```
     /// members.push(Member::Item(item))?;
@@ -110,21 +110,21 @@ impl<T> Sequence<T> {
         self.items.push(item)
     }
 
-    /// Takes the last value out; `None` if there is none. It does not allocate.
+    /// Removes the last value and returns it; `None` if there is none. It does not allocate.
     ///
     /// ```
     /// members.pop() // Some(member)
     /// ```
     pub fn pop(&mut self) -> Option<T>
-        // None if there was none; otherwise the last one, and the others stay.
+        // None if there was none; otherwise the last one, and the others are unchanged.
         ensures { MatchOption result ((self.old ≡ []) × (self.new ≡ []))
             (λ last. self.old ≡ self.new ++ last ∷ []) }
     {
         self.items.pop()
     }
 
-    /// Puts a value at a place, counted from 0 and no greater than the length; those from there on
-    /// move up. If an allocation fails, as `push`.
+    /// Inserts a value at an index, which is at most the length; the values from there on move up.
+    /// If an allocation fails, as `push`.
     ///
     /// ```
     /// members.insert(0, member)?; // the first one now
@@ -139,8 +139,8 @@ impl<T> Sequence<T> {
         self.items.insert(index, item)
     }
 
-    /// Takes out the value at a place, counted from 0 and less than the length; those after it move
-    /// down. It does not allocate.
+    /// Removes the value at an index, which is less than the length, and returns it; the values
+    /// after it move down. It does not allocate.
     ///
     /// ```
     /// let first = members.remove(0);
@@ -153,7 +153,7 @@ impl<T> Sequence<T> {
         self.items.remove(index)
     }
 
-    /// The values, as a slice whose items may be changed. It does not allocate.
+    /// The values, as a mutable slice. It does not allocate.
     ///
     /// ```
     /// for member in members.as_mut_slice() {
@@ -161,7 +161,7 @@ impl<T> Sequence<T> {
     /// }
     /// ```
     pub fn as_mut_slice(&mut self) -> &mut [T]
-        // What the slice ends as are the values, as many as they were.
+        // The final values of the slice are the values, as many as before.
         ensures* writes_back { sem 𝓛 (LendsItems T.row self.entry result) }
         ensures value { result.now ≡ self.old }
     {

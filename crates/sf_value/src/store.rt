@@ -1,5 +1,5 @@
-//! Where entries stand: a few in a vector, where they are found by their bytes, more in a map,
-//! where they are found by hashes.
+//! How entries are stored: a few in a vector, in which they are found by their bytes, more in a
+//! map, in which they are found by hashes.
 ghost use Rattle.std.specs.Prelude.{◌≡◌, ◌<◌, ◌≤◌, ◌+◌, [], ◌∷◌, ◌++◌, None, length, slice_get};
 ghost use Rattle.std.specs.Prelude.{IfOk, IfErr, OnOk, OnErr, vec_len};
 ghost use Rattle.std.specs.Option.{option_map, option_copied, option_copied_mut};
@@ -23,7 +23,7 @@ use std::alloc::Global;
 use std::hash::RandomState;
 use std::{mem, slice, vec};
 
-/// How many entries a vector holds at most.
+/// The largest number of entries in a vector.
 const FEW: usize = 8;
 
 /// One of a few entries.
@@ -31,12 +31,12 @@ const FEW: usize = 8;
 pub(crate) struct Slot<V> {
     pub(crate) key: Key,
     pub(crate) value: V,
-    /// That of the map which takes the place of the vector when there are more than a few. It is
-    /// here, in the memory of the vector, so that entries are no larger than one.
+    /// The seed of the map that replaces the vector when there are more than a few. It is in the
+    /// memory of the vector, so that entries are no larger than one.
     seed: RandomState,
 }
 
-/// The place of entries: none yet, a few, or more.
+/// The storage of entries: none yet, a few, or more.
 #[derive(Debug, Drop)]
 pub(crate) enum Store<V> {
     Fresh(Global, RandomState),
@@ -44,7 +44,7 @@ pub(crate) enum Store<V> {
     Many(Box<Many<V>>),
 }
 
-/// The entries that an iteration by reference has left.
+/// The entries that remain of an iteration by reference.
 #[derive(Debug, Drop)]
 pub(crate) enum Lent<'a, V> {
     Nothing,
@@ -52,7 +52,7 @@ pub(crate) enum Lent<'a, V> {
     Many(map::Iter<'a, Key, V>),
 }
 
-/// The entries that an iteration by value has left.
+/// The entries that remain of an iteration by value.
 #[derive(Drop)]
 pub(crate) enum Left<V> {
     Nothing,
@@ -61,7 +61,7 @@ pub(crate) enum Left<V> {
 }
 
 impl<V> Store<V> {
-    /// How many entries there are.
+    /// The number of entries.
     pub(crate) fn len(&self) -> usize
         ensures { result ≡ length (stored self.now) }
     {
@@ -72,7 +72,7 @@ impl<V> Store<V> {
         }
     }
 
-    /// The value of the key of these bytes.
+    /// The value of the key with these bytes.
     pub(crate) fn get(&self, key: &[u8]) -> Option<&V>
         ensures { option_copied result ≡ value_at key.now (stored self.now) }
     {
@@ -86,7 +86,7 @@ impl<V> Store<V> {
         }
     }
 
-    /// The key and the value at a place.
+    /// The key and the value at an index.
     pub(crate) fn at(&self, index: usize) -> Option<(&[u8], &V)>
         ensures { option_map deref_entry result ≡ slice_get (stored self.now) index }
     {
@@ -103,9 +103,9 @@ impl<V> Store<V> {
         }
     }
 
-    /// The place of the key of these bytes.
+    /// The index of the key with these bytes.
     pub(crate) fn place(&self, key: &[u8]) -> Option<usize>
-        // It is the first place whose key has these bytes.
+        // It is the first index whose key has these bytes.
         ensures { result ≡ position (bytes_eq key.now) (keys_of (stored self.now)) }
     {
         match self {
@@ -115,11 +115,11 @@ impl<V> Store<V> {
         }
     }
 
-    /// The value at a place, to be changed.
+    /// The value at an index, as a mutable reference.
     pub(crate) fn value_mut(&mut self, place: usize) -> Option<&mut V>
-        // What the reference ends as is the value there; all else is as it was.
+        // The final value of the reference is the value there; everything else is unchanged.
         ensures* writes_back { sem 𝓛 (LendsStored V.row self.entry place result) }
-        // At first it is the value of the entry at the place, if there is one.
+        // At first it is the value of the entry at the index, if there is one.
         ensures value { option_copied_mut result
             ≡ option_map (λ entry. entry.1) (slice_get (stored self.old) place) }
     {
@@ -157,16 +157,16 @@ impl<V: Drop> Store<V> {
         }
     }
 
-    /// Puts a value at a key, as `Entries::put` does. Only a new key takes memory.
+    /// Puts a value at a key, as `Entries::put` does. Only a new key allocates.
     pub(crate) fn put(&mut self, key: Key, value: V) -> Result<Option<V>, (Key, V)>
         // Each key is one, and none occurs twice.
         requires entries { AreEntries (stored self.old) }
-        // The seed is at hand: a vector has a slot, which holds it.
+        // There is a seed: a vector has a slot, which has it.
         requires seed { HasSeed self.old }
-        // Both stay so.
+        // Both still hold.
         ensures entries { AreEntries (stored self.new) }
         ensures seed { HasSeed self.new }
-        // A key that is there keeps its place and is overwritten; a new one goes last.
+        // A key that is present keeps its place and is overwritten; a new one goes last.
         ensures new { IfOk result (λ _. stored self.new
             ≡ settle (stored self.old ++ (key, value) ∷ [])) }
         ensures old { IfOk result (λ old. old ≡ value_at key (stored self.old)) }
@@ -177,7 +177,7 @@ impl<V: Drop> Store<V> {
     {
         match self {
             Store::Fresh(alloc, seed) => {
-                // Bytes of a key, which the proof has to know.
+                // The proof has to know that these are the bytes of a key.
                 let _ = key.as_bytes();
                 let mut slots = Vec::new(*alloc);
                 let seed = *seed;
@@ -205,17 +205,17 @@ impl<V: Drop> Store<V> {
         }
     }
 
-    /// Puts a value at a key, as `Entries::set` does. Only a new key takes memory.
+    /// Puts a value at a key, as `Entries::set` does. Only a new key allocates.
     #[inline(never)]
     pub(crate) fn set(&mut self, key: Key, value: V) -> Result<(), OutOfMemory>
         // Each key is one, and none occurs twice.
         requires entries { AreEntries (stored self.old) }
-        // The seed is at hand: a vector has a slot, which holds it.
+        // There is a seed: a vector has a slot, which has it.
         requires seed { HasSeed self.old }
-        // Both stay so.
+        // Both still hold.
         ensures entries { AreEntries (stored self.new) }
         ensures seed { HasSeed self.new }
-        // A key that is there keeps its place and is overwritten; a new one goes last.
+        // A key that is present keeps its place and is overwritten; a new one goes last.
         ensures new { OnOk result (stored self.new
             ≡ settle (stored self.old ++ (key, value) ∷ [])) }
         ensures same { OnErr result (stored self.new ≡ stored self.old) }
@@ -231,13 +231,13 @@ impl<V: Drop> Store<V> {
         }
     }
 
-    /// Takes out the key of these bytes, and returns its value. The others keep their order.
+    /// Removes the key with these bytes, and returns its value. The others keep their order.
     pub(crate) fn remove(&mut self, key: &[u8]) -> Option<V>
         // Each key is one, and none occurs twice.
         requires entries { AreEntries (stored self.old) }
-        // The seed is at hand: a vector has a slot, which holds it.
+        // There is a seed: a vector has a slot, which has it.
         requires seed { HasSeed self.old }
-        // Both stay so.
+        // Both still hold.
         ensures entries { AreEntries (stored self.new) }
         ensures seed { HasSeed self.new }
         ensures value { result ≡ value_at key.now (stored self.old) }
@@ -264,9 +264,9 @@ impl<V: Drop> Store<V> {
     }
 }
 
-/// The place of the key of these bytes among a few.
+/// The index of the key with these bytes among a few.
 fn place_of<V>(slots: &[Slot<V>], key: &[u8]) -> Option<usize>
-    // It is the first place whose key has these bytes.
+    // It is the first index whose key has these bytes.
     ensures { result ≡ position (λ slot. bytes_eq key.now slot.key) slots.now }
 {
     slots.iter().position(|slot| key == slot.key.as_bytes())
@@ -277,7 +277,7 @@ fn fill<V: Drop>(map: &mut Many<V>, slots: Vec<Slot<V>>)
     // No key occurs twice.
     requires distinct { HasDistinctKeys (slot_pairs slots.items) }
     requires empty { map.old.entries ≡ [] }
-    // So many more entries fit with no more memory.
+    // The map can take this many entries without an allocation.
     requires room { vec_len slots ≤ spare map.old }
     ensures { map.new.entries ≡ slot_pairs slots.items }
 {
@@ -289,7 +289,7 @@ fn fill<V: Drop>(map: &mut Many<V>, slots: Vec<Slot<V>>)
     }
 }
 
-/// The map of these entries, which leave the vector. If an allocation fails, they stay.
+/// A map of these entries, which leave the vector. If an allocation fails, they stay in it.
 fn grown<V: Drop>(slots: &mut Vec<Slot<V>>) -> Result<Box<Many<V>>, OutOfMemory>
     requires some { 0 < vec_len slots.old }
     // No key occurs twice.

@@ -1,4 +1,4 @@
-//! Entries in a table by hashes, where they are more than a few.
+//! Entries in a table by hashes, if they are more than a few.
 ghost use Rattle.std.specs.Prelude.{◌≡◌, [], ◌∷◌, ◌++◌, None, IfOk, IfErr, OnOk, OnErr};
 ghost use Rattle.sf_value.specs.Grammar.Pairs.{settle, value_at};
 ghost use Rattle.sf_value.specs.Entries.{AreEntries};
@@ -11,13 +11,13 @@ use std::hash::RandomState;
 /// Values by key in the order of their insertion, found by hashes.
 pub(crate) type Many<V> = IndexMap<Key, V, RandomState>;
 
-/// Puts a value at a key, as `Entries::put` does. Only a new key takes memory.
+/// Puts a value at a key, as `Entries::put` does. Only a new key allocates.
 pub(crate) fn put<V>(map: &mut Many<V>, key: Key, value: V) -> Result<Option<V>, (Key, V)>
     // Each key is one, and none occurs twice.
     requires { AreEntries map.old.entries }
-    // It stays so.
+    // This still holds.
     ensures entries { AreEntries map.new.entries }
-    // A key that is there keeps its place and is overwritten; a new one goes last.
+    // A key that is present keeps its place and is overwritten; a new one goes last.
     ensures new { IfOk result (λ _. map.new.entries
         ≡ settle (map.old.entries ++ (key, value) ∷ [])) }
     ensures old { IfOk result (λ old. old ≡ value_at key map.old.entries) }
@@ -26,7 +26,7 @@ pub(crate) fn put<V>(map: &mut Many<V>, key: Key, value: V) -> Result<Option<V>,
     // It fails only if the key is new.
     ensures absent { IfErr result (λ _. value_at key map.old.entries ≡ None) }
 {
-    // That its bytes are a key's the proof has to know.
+    // The proof has to know that its bytes are those of a key.
     let _ = key.as_bytes();
     match map.insert(key, value) {
         Ok(old) => Ok(old),
@@ -34,19 +34,19 @@ pub(crate) fn put<V>(map: &mut Many<V>, key: Key, value: V) -> Result<Option<V>,
     }
 }
 
-/// Puts a value at a key, as `Entries::set` does: what `put` answers is not carried about.
+/// Puts a value at a key, as `Entries::set` does, without the result of `put`.
 pub(crate) fn set<V: Drop>(map: &mut Many<V>, key: Key, value: V) -> Result<(), OutOfMemory>
     // Each key is one, and none occurs twice.
     requires { AreEntries map.old.entries }
-    // It stays so.
+    // This still holds.
     ensures entries { AreEntries map.new.entries }
-    // A key that is there keeps its place and is overwritten; a new one goes last.
+    // A key that is present keeps its place and is overwritten; a new one goes last.
     ensures new { OnOk result (map.new.entries ≡ settle (map.old.entries ++ (key, value) ∷ [])) }
     ensures same { OnErr result (map.new.entries ≡ map.old.entries) }
     // It fails only if the key is new.
     ensures absent { OnErr result (value_at key map.old.entries ≡ None) }
 {
-    // That its bytes are a key's the proof has to know.
+    // The proof has to know that its bytes are those of a key.
     let _ = key.as_bytes();
     match map.insert(key, value) {
         Ok(_) => Ok(()),

@@ -13,8 +13,8 @@ use crate::word::bad_byte;
 use std::alloc::Global;
 use std::marker::Model;
 
-/// A string (RFC 9651 section 3.3.3): any number of bytes from 0x20 to 0x7E, as they are, with no
-/// quotes round them and no escapes. Contracts see the list of its bytes.
+/// A string (RFC 9651 section 3.3.3): any number of bytes from 0x20 to 0x7E, unescaped, without
+/// quotes. Contracts see the list of its bytes.
 ///
 /// ```
 /// let text = Text::new(alloc, b"say \"a\"")?; // the bytes themselves, without escapes
@@ -34,9 +34,9 @@ impl Model for Text {
 }
 
 impl Text {
-    /// The string of these bytes, which may be none. It is refused as `BadByte` at the first byte
-    /// that no string holds, otherwise as `OutOfMemory`, and never as `Empty`. Up to 16 bytes do
-    /// not allocate.
+    /// The string of these bytes, which may be none. Fails with `BadByte` at the first byte that is
+    /// not allowed in a string, otherwise with `OutOfMemory`, and never with `Empty`. Up to 16
+    /// bytes do not allocate.
     #[tactic(auto, using(crate::proofs::Words::every_from_place))]
     pub fn new(alloc: Global, bytes: &[u8]) -> Result<Text, TextFault>
         // It has these bytes; the fault is the first bad one, or no memory for a string.
@@ -53,8 +53,8 @@ impl Text {
         })
     }
 
-    /// The string of these bytes, which are known to be one. It does not allocate: a parser, which
-    /// tests each byte as it comes, makes strings so.
+    /// The string of these bytes, which are known to be one. It does not allocate. It is for
+    /// parsers, which test each byte as they read it.
     #[inline]
     pub fn from_bytes(bytes: ShortBytes) -> Text
         requires { Every is_visible_byte bytes }
@@ -75,7 +75,7 @@ impl Text {
         })
     }
 
-    /// Its bytes, without quotes and escapes. It does not allocate.
+    /// The bytes, without quotes and escapes. It does not allocate.
     pub fn as_bytes(&self) -> &[u8]
         ensures bytes { result.now ≡ self.now }
         ensures text { Every is_visible_byte self.now }
@@ -83,7 +83,7 @@ impl Text {
         self.bytes.as_bytes()
     }
 
-    /// Whether it has no byte. It does not allocate.
+    /// Whether there are no bytes. It does not allocate.
     pub fn is_empty(&self) -> bool
         ensures { IsTrue result ↔ (self.now ≡ []) }
     {

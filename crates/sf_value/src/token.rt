@@ -33,11 +33,11 @@ impl Model for Token {
 }
 
 impl Token {
-    /// The token of these bytes. It is refused as `Empty` if there is no byte, otherwise as
-    /// `BadByte` at the first byte that may not be in its place, otherwise as `OutOfMemory`. Up to
-    /// 16 bytes do not allocate.
+    /// The token of these bytes. Fails with `Empty` if there are no bytes, otherwise with `BadByte`
+    /// at the first byte that is not allowed in its place, otherwise with `OutOfMemory`. Up to 16
+    /// bytes do not allocate.
     pub fn new(alloc: Global, bytes: &[u8]) -> Result<Token, TextFault>
-        // It has these bytes; the fault is no byte, the first bad one, or no memory for a token.
+        // It has these bytes; the fault is no bytes, the first bad one, or no memory for a token.
         ensures exact { MatchResult result (λ token. token ≡ bytes.now) (IsTokenFault bytes.now) }
         ensures token { IfOk result (λ token. IsToken token) }
         // At most 16 bytes are not refused as out of memory.
@@ -48,8 +48,8 @@ impl Token {
         })
     }
 
-    /// The token of these bytes, which are known to be one. It does not allocate: a parser, which
-    /// tests each byte as it comes, makes tokens so.
+    /// The token of these bytes, which are known to be one. It does not allocate. It is for
+    /// parsers, which test each byte as they read it.
     #[inline]
     pub fn from_bytes(bytes: ShortBytes) -> Token
         requires { IsToken bytes }
@@ -70,7 +70,7 @@ impl Token {
         })
     }
 
-    /// Its bytes, at least one. It does not allocate.
+    /// The bytes, at least one. It does not allocate.
     pub fn as_bytes(&self) -> &[u8]
         ensures bytes { result.now ≡ self.now }
         ensures token { IsToken self.now }

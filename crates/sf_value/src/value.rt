@@ -10,7 +10,7 @@ use crate::sequence::Sequence;
 use crate::text::Text;
 use crate::token::Token;
 
-/// A bare item: a value with no parameters (RFC 9651 section 3.3). Bare items of different types
+/// A bare item: a value without parameters (RFC 9651 section 3.3). Bare items of different types
 /// differ, so the Integer 1, the Decimal 1.0 and the Date of second 1 are three values.
 ///
 /// ```
@@ -36,7 +36,7 @@ pub enum Bare {
     Blob(Blob),
     /// A Boolean (section 3.3.6).
     Boolean(bool),
-    /// A Date (section 3.3.7), in seconds from 1970-01-01T00:00:00Z on; RFC 8941 has none.
+    /// A Date (section 3.3.7), in seconds since 1970-01-01T00:00:00Z; RFC 8941 has none.
     Date(Int),
     /// A Display String (section 3.3.8); RFC 8941 has none.
     Shown(Shown),
@@ -52,7 +52,7 @@ pub enum Bare {
 pub struct Item {
     /// The bare item.
     pub bare: Bare,
-    /// Its parameters (section 3.1.2), in order; mostly none.
+    /// Its parameters (section 3.1.2), in order.
     pub params: Entries<Bare>,
 }
 
@@ -63,7 +63,7 @@ pub struct Item {
 /// ```
 #[derive(Debug, Drop)]
 pub struct Inner {
-    /// The Items in order, each with parameters of its own.
+    /// The Items in order, each with its parameters.
     pub items: Sequence<Item>,
     /// The parameters of the Inner List as a whole.
     pub params: Entries<Bare>,
@@ -127,7 +127,7 @@ pub enum Field {
     Dict(Dict),
 }
 
-/// The kinds of fields. Each field's definition names its kind; a text alone does not tell it.
+/// The kinds of fields. The definition of a field states its kind; a text alone does not show it.
 #[derive(Clone, Copy, Debug, PartialEq, Eq)]
 pub enum Kind {
     /// An Item.
@@ -139,7 +139,7 @@ pub enum Kind {
 }
 
 impl Field {
-    /// Which of the three kinds the field is of. It does not allocate.
+    /// The kind of the field. It does not allocate.
     pub fn kind(&self) -> Kind
         ensures { result ≡ kind_of self.now }
     {

@@ -9,15 +9,15 @@ use crate::classes::ByteClass;
 use crate::fault::TextFault;
 use std::alloc::Global;
 
-/// The bytes of a word, which begins with a byte of the class `S` and goes on with those of `C`. It
-/// fails with `Empty` if there is no byte, otherwise with `BadByte` at the first byte that a word
-/// does not have there, otherwise with `OutOfMemory`.
+/// The bytes of a word, which has a first byte of the class `S` and then bytes of `C`. Fails with
+/// `Empty` if there are no bytes, otherwise with `BadByte` at the first byte that is not allowed in
+/// its place, otherwise with `OutOfMemory`.
 #[tactic(auto, using(crate::proofs::Words::word_from_place))]
 pub(crate) fn word_bytes<S: ByteClass, C: ByteClass>(
     alloc: Global,
     bytes: &[u8],
 ) -> Result<ShortBytes, TextFault>
-    // These bytes; or the cause: no byte, the first bad one, or a word and no memory for it.
+    // These bytes; or the cause: no bytes, the first bad one, or a word and no memory for it.
     ensures exact { MatchResult result (λ word. word ≡ bytes.now)
         (IsWordFault S.test C.test bytes.now) }
     ensures word { IfOk result (λ word. IsWord S.test C.test word) }
@@ -40,7 +40,8 @@ pub(crate) fn bad_byte<C: ByteClass>(bytes: &[u8]) -> Option<usize>
     bytes.iter().position(|b| !C::has(*b))
 }
 
-/// The place of the first byte that a word does not have there; `None` also if there is no byte.
+/// The place of the first byte that is not allowed in a word there; `None` also if there are no
+/// bytes.
 fn bad_byte_of_word<S: ByteClass, C: ByteClass>(bytes: &[u8]) -> Option<usize>
     ensures { result ≡ bad_word_place S.test C.test bytes.now }
 {

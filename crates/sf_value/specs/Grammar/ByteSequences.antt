@@ -13,12 +13,12 @@ alphabet = codes "ABCDEFGHIJKLMNOPQRSTUVWXYZabcdefghijklmnopqrstuvwxyz0123456789
 abbrev pub is_base64 : ℕ → Bool
 is_base64 b = is_alpha b || is_digit b || is_one_of (codes "+/") b
 
--- the character of a value below 64: the one at that place
+-- the character of a value below 64: the one at that index
 unfoldable pub letter : ℕ → ℕ
 letter x = slice_index alphabet x
 
 -- base64 without padding: three bytes are four characters of six bits, the highest bits first; low
--- is in the bits of a last character that no byte fills
+-- are the bits of a last character that belong to no byte
 abbrev pub unpadded : ℕ → List ℕ → List ℕ
 unpadded low [] = []
 unpadded low (a ∷ []) = letter (a / 4) ∷ letter (a % 4 * 16 + low) ∷ []
@@ -28,21 +28,21 @@ unpadded low (a ∷ b ∷ c ∷ s) =
     letter (a / 4) ∷ letter (a % 4 * 16 + b / 16) ∷ letter (b % 16 * 4 + c / 64) ∷ letter (c % 64)
     ∷ unpadded low s
 
--- how many numbers the bits can hold that no byte fills
+-- the number of values of the bits that belong to no byte
 abbrev pub spare : List ℕ → ℕ
 spare [] = 1
 spare (a ∷ []) = 16
 spare (a ∷ b ∷ []) = 4
 spare (a ∷ b ∷ c ∷ s) = spare s
 
--- how many = make the last group whole
+-- the number of = that complete the last group
 abbrev pub needed : List ℕ → ℕ
 needed [] = 0
 needed (a ∷ []) = 2
 needed (a ∷ b ∷ []) = 1
 needed (a ∷ b ∷ c ∷ s) = needed s
 
--- at most so many =, and the colon
+-- at most this many =, and the colon
 abbrev pub Pads : ℕ → List ℕ → Type 0
 Pads n t = (m : ℕ) × (m ≤ n) × (t ≡ replicate m equals ++ colon ∷ [])
 

@@ -1,4 +1,4 @@
--- The canonical texts (4.1). They know no dialect, and nothing of how texts spell values.
+-- The canonical texts (4.1). They don't depend on the dialect, or on how texts spell values.
 use Rattle.std.specs.Prelude.{ℕ, ◌+◌, ◌/◌, ◌%◌, ℤ, pos, negsuc, nat_abs, Bool, true, false, ◌==◌}
 use Rattle.std.specs.Prelude.{if◌then◌else◌, List as Seq, [], ◌∷◌, ◌++◌, replicate, decimal}
 use Rattle.std.specs.Fmt.{signed_decimal}
@@ -20,12 +20,12 @@ use Rattle.sf_value.specs.Grammar.Strings.{escaped}
 use Rattle.sf_value.specs.Grammar.ByteSequences.{unpadded, needed}
 use Rattle.sf_value.specs.Grammar.DisplayStrings.{hex, is_unencoded}
 
--- whether a - is before the number
+-- whether the number has a -
 abbrev pub is_negative : ℤ → Bool
 is_negative (pos n) = false
 is_negative (negsuc n) = true
 
--- the digits after the point: at least one, and no needless zero at the end
+-- the digits after the point: at least one, and no zero at the end that can be left out
 abbrev pub fraction : ℕ → Seq ℕ
 fraction f =
     if f % 100 == 0 then (digit_zero + f / 100) ∷ []
@@ -116,7 +116,7 @@ abbrev pub canon_series : {X : Type 0} → (X → Seq ℕ) → Seq X → Seq ℕ
 canon_series f [] = []
 canon_series f (x ∷ xs) = f x ++ canon_commas f xs
 
--- a field (4.1); for no member the empty text
+-- a field (4.1); without members the text is empty
 abbrev pub canon : Field → Seq ℕ
 canon (field.Item i) = canon_item i
 canon (field.List l) = canon_series canon_member l.members

@@ -9,7 +9,7 @@ use Rattle.sf_value.specs.Grammar.Utf8.{WellFormed, Start}
 abbrev pub hex : ℕ → ℕ
 hex d = if nat_lt d 10 then d + digit_zero else d + 87
 
--- what may stand for itself: 0x20 to 0x7E without the quote and %
+-- what may be unescaped: 0x20 to 0x7E without the quote and %
 abbrev pub is_unencoded : ℕ → Bool
 is_unencoded b = is_visible b && (not (b == quote) && not (b == percent))
 

@@ -19,7 +19,7 @@ use Rattle.sf_value.specs.Grammar.Items.{item, SpellsItem}
 use Rattle.sf_value.specs.Grammar.InnerLists.{SpellsMember}
 use Rattle.sf_value.specs.Grammar.Series.{SpellsWhole}
 
--- the kind of a field is its case
+-- the kind of a field is that of its variant
 abbrev pub kind_of : Field → Kind
 kind_of (field.Item i) = kind.Item
 kind_of (field.List l) = kind.List
@@ -46,8 +46,8 @@ list_of ms = field.List (record { members = ms })
 abbrev pub dict_of : Pairs Member → Field
 dict_of ps = field.Dict (record { members = ps })
 
--- a field of a kind (4.2): SP, an Item, SP; or a List or a Dictionary with its spaces. This is the
--- relation that every claim on texts and values is about.
+-- a field of a kind (4.2): SP, an Item, SP; or a List or a Dictionary with its spaces. Every claim
+-- on texts and values is about this relation.
 abbrev pub SpellsField : Dialect → Kind → Seq ℕ → Field → Type 0
 SpellsField d kind.Item t (field.Item i) =
     (gap body tail : Seq ℕ)

@@ -17,7 +17,7 @@ use Rattle.sf_value.specs.Grammar.Items.{SpellsItem}
 abbrev pub inner : List Item → Pairs Bare → Inner
 inner is ps = record { items = is; params = ps }
 
--- Items with spaces before each, at least so many before the first and one before each other, and
+-- Items with spaces before each, at least this many before the first and one before each other, and
 -- spaces at the end
 abbrev pub SpellsItems : Dialect → ℕ → List ℕ → List Item → Type 0
 SpellsItems d least t [] = Every is_sp t

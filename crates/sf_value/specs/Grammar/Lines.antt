@@ -22,11 +22,11 @@ pub record IsLongest (V : Type 0) (L : List ℕ → V → Type 0) (t : List ℕ)
   pub viable : Continues L (take n t)
   pub longest : (m : ℕ) → m ≤ length t → Continues L (take m t) → m ≤ n
 
--- some text of the kind begins so
+-- some text of the kind begins with this one
 abbrev pub Viable : Dialect → Kind → List ℕ → Type 0
 Viable d kind = Continues (SpellsField d kind)
 
--- the place of a refusal: how long the longest viable prefix of t is
+-- the place of a refusal: the length of the longest viable prefix of t
 abbrev pub IsPlace : Dialect → Kind → List ℕ → ℕ → Type 0
 IsPlace d kind = IsLongest Field (SpellsField d kind)
 

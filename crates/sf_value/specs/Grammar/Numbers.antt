@@ -20,13 +20,13 @@ abbrev pub value_from : ℕ → List ℕ → ℕ
 value_from a [] = a
 value_from a (d ∷ w) = value_from (10 * a + (d - digit_zero)) w
 
--- digits that make, with so many before them, from low to high
+-- the digits w, whose number, with the digits before them, is from low to high
 pub record AreDigits (low high : ℕ) (before : ℕ) (w : List ℕ) : Type 0 where
   pub each : Every is_digit w
   pub enough : low ≤ before + length w
   pub fits : before + length w ≤ high
 
--- a Decimal in thousandths, by its whole part and a fraction of so many digits
+-- a Decimal in thousandths, by its whole part and a fraction of this many digits
 abbrev pub thousandths : Bool → ℕ → ℕ → ℕ → ℤ
 thousandths neg whole count fraction = signed neg (whole * 1000 + fraction * 10 ^ (3 - count))
 

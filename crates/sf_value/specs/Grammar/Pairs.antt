@@ -1,4 +1,4 @@
--- Lists of pairs of a key and a value, and what repeated keys leave of them.
+-- Lists of pairs of a key and a value, and the effect of repeated keys.
 use Rattle.std.specs.Prelude.{ℕ, not, if◌then◌else◌, List, [], ◌∷◌, ◌++◌, Option}
 use Rattle.std.specs.List.{IsDistinct, filter}
 use Rattle.std.specs.Map.{lookup, keys_of}
@@ -27,7 +27,7 @@ settle (p ∷ ps) = (p.0, latest p.0 p.1 ps) ∷ without p.0 (settle ps)
 abbrev pub put : {V : Type 0} → Pairs V → List ℕ → V → Pairs V
 put ps k v = settle (ps ++ (k, v) ∷ [])
 
--- the value of a key
+-- the value of a key, if it has one
 abbrev pub value_at : {V : Type 0} → List ℕ → Pairs V → Option V
 value_at k ps = lookup (bytes_eq k) ps
 

@@ -8,7 +8,7 @@ use Rattle.sf_value.specs.Grammar.Classes.{is_visible}
 abbrev pub is_escaped : ℕ → Bool
 is_escaped b = b == quote || b == backslash
 
--- what stands for itself between the quotes
+-- what may be unescaped between the quotes
 abbrev pub is_unescaped : ℕ → Bool
 is_unescaped b = is_visible b && not (is_escaped b)
 

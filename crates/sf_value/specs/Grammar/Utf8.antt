@@ -4,12 +4,13 @@ use Rattle.std.specs.Prelude.{◌≡◌, ℕ, zero, suc, Bool, nat_le, ◌&&◌,
 use Rattle.std.specs.Prelude.{None}
 use Rattle.sf_value.specs.Grammar.Words.{allow}
 
--- between two characters, or within one: so many bytes after the next, and where the next lies
+-- between two characters, or within one: the next byte is from low to high, and more bytes follow
+-- it
 pub data Utf8 : Type 0 where
   Start : Utf8
   Wants : (more low high : ℕ) → Utf8
 
--- after a byte of a character that so many bytes complete
+-- after a byte that this many bytes follow in its character
 abbrev pub wants : ℕ → Utf8
 wants zero = Start
 wants (suc n) = Wants n 128 191
@@ -18,7 +19,7 @@ wants (suc n) = Wants n 128 191
 abbrev pub within : ℕ → ℕ → ℕ → Bool
 within low high b = nat_le low b && nat_le b high
 
--- the well-formed first bytes: from, to, and what is wanted then
+-- the well-formed first bytes, from and to, and the state after them
 abbrev pub rows : List (ℕ × ℕ × Utf8)
 rows =
     (0, 127, Start)
@@ -32,17 +33,17 @@ rows =
     ∷ (244, 244, Wants 2 128 143)
     ∷ []
 
--- what the first row with the byte says
+-- the state of the first row that has the byte
 abbrev pub look_up : List (ℕ × ℕ × Utf8) → ℕ → Option Utf8
 look_up [] b = None
 look_up (r ∷ rs) b = option_or (allow (within r.0 r.1 b) r.2) (look_up rs b)
 
--- UTF-8 a byte at a time
+-- the state after one more byte
 abbrev pub utf8_step : Utf8 → ℕ → Option Utf8
 utf8_step Start b = look_up rows b
 utf8_step (Wants n low high) b = allow (within low high b) (wants n)
 
--- the bytes complete the character, and are whole characters then
+-- the bytes complete the character, and whole characters follow
 abbrev pub WellFormed : Utf8 → List ℕ → Type 0
 WellFormed Start [] = Unit {0}
 WellFormed (Wants n low high) [] = ⊥

@@ -1,4 +1,5 @@
--- The valid values: numbers in range, alphabets kept, well-formed UTF-8, no key twice.
+-- The valid values: numbers are in range, alphabets are kept, UTF-8 is well-formed, no key occurs
+-- twice.
 use Rattle.std.specs.Prelude.{◌≡◌, ◌^◌, ◌<◌, nat_abs, true}
 use Rattle.sf_value.specs.declared.dialect.Dialect.{Dialect}
 use Rattle.sf_value.specs.declared.value.Bare.{Bare}

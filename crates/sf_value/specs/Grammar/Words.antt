@@ -1,4 +1,4 @@
--- Words that the grammar is written with.
+-- Definitions that the grammar is written with.
 use Rattle.std.specs.Prelude.{◌≡◌, ℕ, Bool, true, false, List, [], ◌∷◌, Option, Some, None}
 
 -- each byte passes the test
@@ -11,12 +11,12 @@ abbrev pub IsWord : (ℕ → Bool) → (ℕ → Bool) → List ℕ → Type 0
 IsWord p q [] = ⊥
 IsWord p q (b ∷ t) = (p b ≡ true) × Every q t
 
--- the fact holds of each of a list
+-- P holds for each of a list
 abbrev pub Each : {X : Type 0} → (X → Type 0) → List X → Type 0
 Each P [] = Unit {0}
 Each P (x ∷ xs) = P x × Each P xs
 
--- s where the test holds
+-- s if the test is true
 abbrev pub allow : {S : Type 0} → Bool → S → Option S
 allow true s = Some s
 allow false s = None
