@@ -7,19 +7,19 @@ use Rattle.sf_parse.specs.declared.refusal.Refusal.{Refusal}
 use Rattle.sf_parse.specs.declared.refusal.Refusal.TheVariants.{OutOfMemory, Syntax, TooLong}
 use Rattle.sf_parse.specs.declared.refusal.Refusal.TheVariants.{ReadFault}
 
--- it refused nothing, and in its state these bytes do not allocate, nor does the end after them
+-- it refused nothing, and in its state these bytes and the end after them do not allocate
 pub record IsAllocationFree (p : Progress) (more : List ℕ) : Type 0 where
   pub unrefused : p.refusal ≡ None
   pub state : FieldFree p.state more
 
--- it is not out of memory
+-- the refusal is not out of memory
 abbrev pub IsOther : Refusal → Type 0
 IsOther OutOfMemory = ⊥
 IsOther (Syntax place found expected may_end) = ⊤
 IsOther (TooLong max) = ⊤
 IsOther (ReadFault place) = ⊤
 
--- the parser is allocation-free still, or refused for another reason than a failed allocation
+-- the parser is still allocation-free, or refused for another reason than a failed allocation
 abbrev pub KeptAllocationFree : Progress → List ℕ → Result (Unit {0}) Refusal → Type 0
 KeptAllocationFree p more (Ok u) = IsAllocationFree p more
 KeptAllocationFree p more (Err e) = IsOther e

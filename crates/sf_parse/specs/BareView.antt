@@ -1,4 +1,4 @@
--- What is read of a bare item, as a state of the machine.
+-- The state of the machine for what is read of a bare item.
 use Rattle.std.specs.Prelude.{◌≡◌, ℕ, None, ⊤}
 use Rattle.sf_value.specs.Grammar.Words.{Every}
 use Rattle.sf_value.specs.Grammar.Classes.{is_visible}
@@ -25,7 +25,7 @@ bare_at kind.Shown r = InShown (shown_of r.shown.phase r.bytes r.shown.chars)
 abbrev pub bare_of : Inside → BareState
 bare_of r = bare_at r.kind r
 
--- the bytes are some of what this kind is made of
+-- the bytes are possible for this kind
 abbrev pub FitsAt : BareKind → Inside → Type 0
 FitsAt kind.Number r = Unit {0}
 FitsAt kind.Text r = Every is_visible r.bytes
@@ -35,7 +35,7 @@ FitsAt kind.Date r = Unit {0}
 FitsAt kind.Blob r = FitsBlob r.blob
 FitsAt kind.Shown r = FitsShown r.shown.phase r.bytes r.shown.chars
 
--- a number can't go on with this byte
+-- a number can't continue with this byte
 abbrev pub bare_stuck : BareState → ℕ → Type 0
 bare_stuck (InNumber s) b = number_step s b ≡ None
 bare_stuck (InText s) b = ⊤
@@ -45,6 +45,6 @@ bare_stuck (InDate s) b = ⊤
 bare_stuck (InBlob s) b = ⊤
 bare_stuck (InShown s) b = ⊤
 
--- the same, of the kind that is open
+-- the same for the kind that is open
 abbrev pub FitsBare : Inside → Type 0
 FitsBare r = FitsAt r.kind r

@@ -1,5 +1,5 @@
--- Sets of bytes below 128, as a refusal names them. A set is a number: byte b is in it if bit b is
--- set. It is listed by its runs.
+-- Sets of bytes below 128. A set is a number: byte b is in it if bit b is set. It is listed by its
+-- runs.
 use Rattle.std.specs.Prelude.{◌≡◌, ℕ, zero, suc, ◌+◌, ◌/◌, ◌%◌, ◌<◌, ◌≤◌, ◌⊎◌, ◌↔◌, Bool, true}
 use Rattle.std.specs.Prelude.{◌==◌, if◌then◌else◌, List, [], ◌∷◌, ⊤}
 use Rattle.std.specs.Int.{bit_at}
@@ -13,7 +13,7 @@ hex_byte b = hex (b / 16) ∷ hex (b % 16) ∷ []
 abbrev pub is_in : ℕ → ℕ → Bool
 is_in set b = bit_at set b == 1
 
--- a byte in front of runs of higher bytes: it joins the first run if that begins one above
+-- a byte before runs of higher bytes: it joins the first run if that begins one above
 abbrev pub in_front : ℕ → List (ℕ × ℕ) → List (ℕ × ℕ)
 in_front b [] = (b, b) ∷ []
 in_front b (run ∷ runs) = if run.0 == suc b then (b, run.1) ∷ runs else (b, b) ∷ run ∷ runs
@@ -28,21 +28,21 @@ runs_from set b (suc n) =
 abbrev pub runs_of : ℕ → List (ℕ × ℕ)
 runs_of set = runs_from set 0 128
 
--- a byte lies within one of the runs
+-- a byte is within one of the runs
 abbrev pub IsWithin : ℕ → List (ℕ × ℕ) → Type 0
 IsWithin b [] = ⊥
 IsWithin b (run ∷ runs) = ((run.0 ≤ b) × (b ≤ run.1)) ⊎ IsWithin b runs
 
--- the runs begin at this byte or above, and ascend with a byte between two that is in neither
+-- the runs begin at this byte or above, and ascend, with a byte between each two that is in neither
 abbrev pub Ascends : ℕ → List (ℕ × ℕ) → Type 0
 Ascends from [] = ⊤
 Ascends from (run ∷ runs) = (from ≤ run.0) × (run.0 ≤ run.1) × Ascends (run.1 + 2) runs
 
--- the bytes of a set below 128 are just those within its runs
+-- the bytes of a set below 128 are exactly those within its runs
 abbrev pub RunsAreTheSet : Type 0
 RunsAreTheSet =
     (set b : ℕ) → ((b < 128) × (is_in set b ≡ true)) ↔ IsWithin b (runs_of set)
 
--- the runs of a set are as long as they can be
+-- the runs of a set are as long as possible
 abbrev pub RunsAreWhole : Type 0
 RunsAreWhole = (set : ℕ) → Ascends 0 (runs_of set)

@@ -1,4 +1,4 @@
--- What is read of a Dictionary's member, as a state of the machine.
+-- The state of the machine for what is read of a Dictionary's member.
 use Rattle.std.specs.Prelude.{◌≡◌, ℕ, true, List, None, ⊤}
 use Rattle.sf_value.specs.declared.dialect.Dialect.{Dialect}
 use Rattle.sf_value.specs.declared.value.Bare.TheVariants as bare
@@ -40,7 +40,7 @@ FitsFlag phase.InFlag m = IsFlag m
 abbrev pub FitsEntry : EntryPhase → List ℕ → MemberState → Type 0
 FitsEntry p k m = IsKey k × FitsFlag p m
 
--- the part that is open can't go on with this byte
+-- the part that is open can't continue with this byte
 abbrev pub entry_stuck : Dialect → EntryState → ℕ → Type 0
 entry_stuck d (InKey k) b = ⊤
 entry_stuck d (Equals k) b = ⊤

@@ -15,7 +15,7 @@ MarksBelow bound bits test = (b : ℕ) → bit_at bits b ≡ (if nat_lt b bound 
 abbrev pub Marks : ℕ → (ℕ → Bool) → Type 0
 Marks bits test = MarksBelow 128 bits test
 
--- the digits that an escape may go on with
+-- the digits that an escape may continue with
 abbrev pub digit_takes : ShownState → ℕ → Bool
 digit_takes Quote b = false
 digit_takes (Unencoded bytes x) b = false

@@ -9,7 +9,7 @@ use Rattle.sf_parse.specs.AllocationFreeParsers.{IsAllocationFree, IsOther}
 abbrev pub FedTo : Progress → Progress → List ℕ → List ℕ → Type 0
 FedTo old new chunk rest = (taken : List ℕ) × (chunk ≡ taken ++ rest) × Fed old new (Ok tt) taken
 
--- it is allocation-free still for the rest and for what comes after it, or refused for another
+-- it is still allocation-free for the rest and for what comes after it, or refused for another
 -- reason than a failed allocation
 abbrev pub TakenAllocationFree : Progress → List ℕ → Result (Bor (List ℕ)) Refusal → Type 0
 TakenAllocationFree p more (Ok rest) = IsAllocationFree p (rest.now ++ more)

@@ -1,4 +1,4 @@
--- The machine of fields goes on as the reader of a kind does.
+-- The machine of fields takes the same steps as the reader of a kind.
 use Rattle.std.specs.Option.{option_map}
 use Rattle.std.specs.Prelude.{◌≡◌, ℕ, List, [], Option, Some, None}
 use Rattle.std.proofs.Common.{refl, sym, ap, ◌∙◌}
@@ -23,7 +23,7 @@ onward_map into (Some s) f e after = refl
 onward_map into None f (Some x) after = refl
 onward_map into None f None after = refl
 
--- where a member is added by its end
+-- the same, with a member added at its end
 series_is : {S X V : Type 0} (k : Series S X V) (added : S → V → Option V)
     → ((s : S) (given : V) → added s given ≡ option_map (k.add given) (k.finish s))
     → (s : SeriesState S V) (b : ℕ)

@@ -1,4 +1,4 @@
--- What is read of an item, as a state of the machine.
+-- The state of the machine for what is read of an item.
 use Rattle.std.specs.Prelude.{◌≡◌, ℕ, Bool, true, false, Option, Some, None, IsSome, ⊤}
 use Rattle.sf_value.specs.declared.dialect.Dialect.{Dialect}
 use Rattle.sf_value.specs.declared.value.Bare.{Bare}
@@ -21,7 +21,7 @@ abbrev pub FitsItem : Bool → BareState → Type 0
 FitsItem true s = IsSome (bare_finish s)
 FitsItem false s = ⊤
 
--- the part that is open can't go on with this byte
+-- the part that is open can't continue with this byte
 abbrev pub item_stuck : Dialect → ItemState → ℕ → Type 0
 item_stuck d (InBare s) b = bare_step s b ≡ None
 item_stuck d (InParams x s) b = params_step d s b ≡ None

@@ -47,14 +47,14 @@ IsNext =
     → run (step d) (begin kind) p ≡ Some s
     → Viable d kind (p ++ b ∷ []) ↔ ((t : State) × (step d s b ≡ Some t))
 
--- the text may end exactly where the state has a value, and with that value
+-- the text may end exactly if the state has a value, and has that value
 abbrev pub IsEnd : Type 0
 IsEnd =
     (d : Dialect) (kind : Kind) (p : List ℕ) (s : State) (v : Field)
     → run (step d) (begin kind) p ≡ Some s
     → SpellsField d kind p v ↔ (finish s ≡ Some v)
 
--- where the machine takes p and can't take the next byte, the refusal is after p
+-- if the machine takes p and can't take the next byte, the refusal is after p
 abbrev pub StopsAt : Type 0
 StopsAt =
     (d : Dialect) (kind : Kind) (p q : List ℕ) (b : ℕ) (s : State)
@@ -62,13 +62,13 @@ StopsAt =
     → step d s b ≡ None
     → IsPlace d kind (p ++ b ∷ q) (length p)
 
--- valid values of one kind with one canonical text are one
+-- valid values of one kind with the same canonical text are equal
 abbrev pub CanonOne : Type 0
 CanonOne =
     (d : Dialect) (kind : Kind) (v w : Field)
     → Valid d kind v → Valid d kind w → canon v ≡ canon w → v ≡ w
 
--- the outcome hangs on the joined chunks alone
+-- the result depends on the joined chunks alone
 abbrev pub AnyChunks : Type 0
 AnyChunks =
     (d : Dialect) (s : State) (p q : List ℕ)

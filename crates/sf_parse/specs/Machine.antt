@@ -1,7 +1,7 @@
--- The machine that reads the grammar a byte at a time. These are not definitions that a reader has
--- to believe: the grammar is that of `sf_value`, and the laws of `Laws`, `Reached` and `StateTests`
--- say that the machine reads it exactly. Each level has its states, a step, a finish, and the rest
--- of a state: the texts that complete it, in the words of the grammar.
+-- The machine that reads the grammar a byte at a time. A reader need not judge these definitions:
+-- the grammar is that of `sf_value`, and the laws of `Laws`, `Reached` and `StateTests` state that
+-- the machine reads it exactly. Each level has its states, a step, a finish, and the residual of a
+-- state: the texts that complete it, defined by the grammar.
 pub mod Language
 pub mod Numbers
 pub mod Texts

@@ -1,4 +1,4 @@
--- What a member that may end is added to.
+-- The value that a member is added to at its end.
 use Rattle.std.specs.Option.{option_map}
 use Rattle.std.specs.Prelude.{[], ◌∷◌, ◌++◌, List, Option}
 use Rattle.sf_value.specs.declared.value.Member.{Member}

@@ -1,4 +1,4 @@
--- What is read of a member, as a state of the machine.
+-- The state of the machine for what is read of a member.
 use Rattle.std.specs.Prelude.{◌≡◌, ℕ, List, None, ⊤}
 use Rattle.sf_value.specs.declared.dialect.Dialect.{Dialect}
 use Rattle.sf_value.specs.declared.value.Item.{Item}
@@ -14,7 +14,7 @@ abbrev pub closing_of : List Item → ItemState → InnerState
 closing_of is (InBare s) = Room is
 closing_of is (InParams x s) = Closing is s
 
--- the phase says whether the member is an Item, and where an Inner List is open
+-- the phase says whether the member is an Item, or which part of an Inner List is open
 abbrev pub member_of : MemberPhase → ItemState → List Item → MemberState
 member_of phase.One s is = InOne s
 member_of phase.Room s is = InMany (Room is)
@@ -33,13 +33,13 @@ FitsMember phase.Room s = ⊤
 FitsMember phase.InItem s = ⊤
 FitsMember phase.Closing s = IsInParams s
 
--- the part of an Inner List that is open can't go on with this byte
+-- the part of an Inner List that is open can't continue with this byte
 abbrev pub inner_stuck : Dialect → InnerState → ℕ → Type 0
 inner_stuck d (Room is) b = ⊤
 inner_stuck d (InItem is s) b = item_step d s b ≡ None
 inner_stuck d (Closing is s) b = params_step d s b ≡ None
 
--- the part that is open can't go on with this byte
+-- the part that is open can't continue with this byte
 abbrev pub member_stuck : Dialect → MemberState → ℕ → Type 0
 member_stuck d (InOne s) b = item_step d s b ≡ None
 member_stuck d (InMany s) b = inner_stuck d s b

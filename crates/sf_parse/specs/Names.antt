@@ -1,5 +1,5 @@
--- What a refusal calls the bytes that could have come. A class is named where all its bytes are
--- expected; what no class takes is named byte by byte.
+-- The names of the bytes that a refusal expects. A class is named if all its bytes are expected;
+-- each byte that remains is named itself.
 use Rattle.std.specs.Prelude.{ℕ, zero, suc, ◌+◌, ◌-◌, ◌%◌, ◌^◌, ◌==◌, ◌&&◌, ◌||◌, not, nat_lt, Bool}
 use Rattle.std.specs.Prelude.{if◌then◌else◌, List, [], ◌∷◌, ◌++◌, codes, slice_index_or}
 use Rattle.std.specs.Prelude.{bit_and, ◌≡◌, ◌<◌, ◌⊎◌, ◌↔◌, true}
@@ -17,7 +17,7 @@ abbrev pub set_below : ℕ → (ℕ → Bool) → ℕ
 set_below zero test = 0
 set_below (suc n) test = if test n then 2 ^ n + set_below n test else set_below n test
 
--- the bytes that a name stands for
+-- the bytes of a name
 abbrev pub set_of : Name → ℕ
 set_of Printable = set_below 128 is_visible
 set_of Token = set_below 128 is_in_token
@@ -31,7 +31,7 @@ set_of Digit = set_below 128 is_digit
 set_of (Byte b) = if nat_lt b 128 then 2 ^ b else 0
 set_of End = 0
 
--- the classes, the wider ones first
+-- the classes, the larger ones first
 abbrev pub classes : List Name
 classes =
     Printable ∷ Token ∷ Base64 ∷ Key ∷ Letter ∷ Lower ∷ Upper ∷ LowerHex ∷ Digit ∷ []
@@ -40,8 +40,8 @@ classes =
 abbrev pub name_at : ℕ → Name
 name_at n = slice_index_or classes n (Byte ((n - 9 + 33) % 128))
 
--- of k names, from the nth on, those that fit: a name fits where the set has all its bytes, and
--- takes them out
+-- of k names, from the nth on, those that fit: a name fits if the set has all its bytes, and
+-- removes them from the set
 unfoldable pub fitting : ℕ → ℕ → ℕ → List Name
 fitting set n zero = []
 fitting set n (suc k) =
@@ -49,7 +49,7 @@ fitting set n (suc k) =
     then name_at n ∷ fitting (set - set_of (name_at n)) (suc n) k
     else fitting set (suc n) k
 
--- the end, where the text may end
+-- the end, if the text may end
 abbrev pub end_name : Bool → List Name
 end_name may_end = if may_end then End ∷ [] else []
 
@@ -57,22 +57,22 @@ end_name may_end = if may_end then End ∷ [] else []
 abbrev pub names_of : ℕ → Bool → List Name
 names_of set may_end = fitting set 0 137 ++ end_name may_end
 
--- one of the names stands for the byte
+-- one of the names is for the byte
 abbrev pub IsNamed : ℕ → List Name → Type 0
 IsNamed b [] = ⊥
 IsNamed b (name ∷ names) = (is_in (set_of name) b ≡ true) ⊎ IsNamed b names
 
--- the bytes below 128 that the names of a set stand for are just those of the set
+-- the bytes below 128 of the names of a set are exactly those of the set
 abbrev pub NamesAreTheSet : Type 0
 NamesAreTheSet =
     (set : ℕ) (may_end : Bool) (b : ℕ) → b < 128
     → (is_in set b ≡ true) ↔ IsNamed b (names_of set may_end)
 
--- those that an iteration has left
+-- those that remain of an iteration
 abbrev pub names_left : Names → List Name
 names_left names = fitting names.set names.place (137 - names.place) ++ end_name names.may_end
 
--- a byte: in a word, between backquotes, or in hexadecimal
+-- a byte: as a word, between backquotes, or in hexadecimal
 abbrev pub byte_text : ℕ → List ℕ
 byte_text b =
     if b == space then codes "a space"
@@ -82,7 +82,7 @@ byte_text b =
     else if is_visible b then backquote ∷ b ∷ backquote ∷ []
     else codes "0x" ++ hex_byte b
 
--- a name in words
+-- the text of a name
 abbrev pub name_text : Name → List ℕ
 name_text Printable = codes "a printable character"
 name_text Token = codes "a token character"
@@ -96,7 +96,7 @@ name_text Digit = codes "a digit"
 name_text (Byte b) = byte_text b
 name_text End = codes "the end"
 
--- what is before a further name, by those after it
+-- what is before another name, by those after it
 abbrev pub joint : List Name → List ℕ
 joint [] = codes " or "
 joint (next ∷ names) = codes ", "

@@ -1,4 +1,4 @@
--- What is read of parameters, as a state of the machine.
+-- The state of the machine for what is read of parameters.
 use Rattle.std.specs.Prelude.{◌≡◌, ℕ, List, None, ⊤}
 use Rattle.sf_value.specs.declared.value.Bare.{Bare}
 use Rattle.sf_value.specs.Grammar.Pairs.{Pairs}
@@ -25,7 +25,7 @@ FitsParams phase.InKey k = IsKey k
 FitsParams phase.Equals k = IsKey k
 FitsParams phase.InValue k = IsKey k
 
--- the value that is open can't go on with this byte
+-- the value that is open can't continue with this byte
 abbrev pub params_stuck : ParamsState → ℕ → Type 0
 params_stuck (Between ps) b = ⊤
 params_stuck (Opened ps) b = ⊤

@@ -1,4 +1,4 @@
--- What a parser keeps, what it took, and what it refuses.
+-- What a parser keeps, which bytes it took, and what it refuses.
 use Rattle.std.specs.Prelude.{◌≡◌, ℕ, ◌+◌, ◌<◌, ◌≤◌, ◌↔◌, Bool, true, false, List, [], ◌∷◌, ◌++◌}
 use Rattle.std.specs.Prelude.{length, take, Option, Some, None, Result, Ok, Err, slice_get, ⊤}
 use Rattle.std.specs.Int.{bit_at}
@@ -34,7 +34,7 @@ pub record Took (p : Progress) (s : List ℕ) : Type 0 where
       ↔ SpellsField p.dialect p.kind (s ++ u) v
   pub unrefused : p.refusal ≡ None
 
--- where a parser that refused is
+-- the place of a parser that refused
 abbrev pub StandsAt : Refusal → ℕ → ℕ → Type 0
 StandsAt OutOfMemory count max = ⊤
 StandsAt (Syntax place found expected may_end) count max = count ≡ place
@@ -48,7 +48,7 @@ pub record Refuses (takes : ℕ → Bool) (ends : Bool) (place : ℕ) (found : O
   pub marks : Marks expected takes
   pub syntax : e ≡ Syntax place found expected ends
 
--- what every parser keeps
+-- the invariant of every parser
 abbrev pub Sound : Option Refusal → State → ℕ → ℕ → Type 0
 Sound None state count max = Good state × (count ≤ max)
 Sound (Some e) state count max = StandsAt e count max
@@ -82,13 +82,13 @@ RefusedFor d kind max t (TooLong limit) =
     (limit ≡ max) × (max < length t) × Viable d kind (take max t)
 RefusedFor d kind max t (ReadFault place) = ⊥
 
--- the dialect, the kind and the limit stay
+-- the dialect, the kind and the limit are unchanged
 pub record SameSettings (old new : Progress) : Type 0 where
   pub dialect : new.dialect ≡ old.dialect
   pub kind : new.kind ≡ old.kind
   pub max : new.max ≡ old.max
 
--- what became of the bytes x after a text s that was taken
+-- the result of feeding the bytes x after a text s that was taken
 abbrev pub FedAnswer : Progress → Progress → Result (Unit {0}) Refusal → List ℕ → Type 0
 FedAnswer old new (Ok u) x =
     (new.refusal ≡ old.refusal)
@@ -105,12 +105,12 @@ pub record Fed (old new : Progress) (result : Result (Unit {0}) Refusal) (x : Li
   pub counted : new.count ≤ old.count + length x
   pub answer : FedAnswer old new result x
 
--- a field line as it is in the joined text: after another one a comma and a space come first
+-- a field line in the joined text: after another line a comma and a space come first
 abbrev pub in_line : Bool → List ℕ → List ℕ
 in_line true line = comma ∷ space ∷ line
 in_line false line = line
 
--- the text s is ended
+-- the result at the end of the text s
 abbrev pub Finishes : Dialect → Kind → List ℕ → Result Field Refusal → Type 0
 Finishes d kind s (Ok v) = IsOnly d kind s v
 Finishes d kind s (Err OutOfMemory) = ⊤
@@ -120,7 +120,7 @@ Finishes d kind s (Err (Syntax place (Some b) expected may_end)) = ⊥
 Finishes d kind s (Err (TooLong limit)) = ⊥
 Finishes d kind s (Err (ReadFault place)) = ⊥
 
--- the whole text t is parsed
+-- the result of parsing the whole text t
 abbrev pub Parses : Dialect → Kind → List ℕ → Result Field Refusal → Type 0
 Parses d kind t (Ok v) = IsOnly d kind t v
 Parses d kind t (Err OutOfMemory) = ⊤
@@ -131,7 +131,7 @@ Parses d kind t (Err (Syntax place (Some b) expected may_end)) =
 Parses d kind t (Err (TooLong limit)) = ⊥
 Parses d kind t (Err (ReadFault place)) = ⊥
 
--- P holds of the field that is made of the answer, and of a refusal as it is
+-- P holds for the field of the result, and for a refusal as it is
 abbrev pub Makes : {A : Type 0} → (A → Field) → (Result Field Refusal → Type 0)
     → Result A Refusal → Type 0
 Makes make P (Ok v) = P (Ok (make v))

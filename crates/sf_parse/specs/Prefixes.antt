@@ -1,4 +1,4 @@
--- What a machine takes of a chunk: some prefix of it, or the longest that it can go on with.
+-- What a machine takes of a chunk: some prefix of it, or the longest that it can continue with.
 use Rattle.std.specs.Prelude.{◌≡◌, ℕ, Bool, true, false, List, [], ◌∷◌, ◌++◌, Option, Some, None}
 use Rattle.std.specs.Prelude.{⊤}
 use Rattle.sf_parse.specs.Machine.Language.{run}
@@ -15,23 +15,23 @@ abbrev pub FirstIs : (ℕ → Type 0) → List ℕ → Type 0
 FirstIs P [] = ⊤
 FirstIs P (b ∷ more) = P b
 
--- what is left of one byte
+-- the rest of one byte: none if it was taken
 abbrev pub unless : Bool → ℕ → List ℕ
 unless true b = []
 unless false b = b ∷ []
 
--- the machine can't go on with this byte
+-- the machine can't continue with this byte
 abbrev pub Halts : {S : Type 0} → (S → ℕ → Option S) → S → ℕ → Type 0
 Halts next s b = next s b ≡ None
 
--- and the new state can't go on with the first byte of the rest
+-- the same, and the new state can't continue with the first byte of the rest
 pub record LongestPrefix {S : Type 0} (next : S → ℕ → Option S) (old : S) (chunk rest : List ℕ)
     (new : S)
     : Type 0 where
   pub went : Went next old chunk rest new
   pub stops : FirstIs (Halts next new) rest
 
--- a first byte begins what the new state is in, or begins nothing
+-- the new state is the one that the byte begins, or the byte begins none
 abbrev pub Starts : {S : Type 0} → Bool → Option S → S → Type 0
 Starts true first new = first ≡ Some new
 Starts false first new = first ≡ None

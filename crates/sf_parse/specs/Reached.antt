@@ -1,4 +1,4 @@
--- What a state tells of the text by which it was reached.
+-- What a state says of the text by which it was reached.
 use Rattle.std.specs.Prelude.{◌≡◌, ℕ, ◌↔◌, List, [], ◌∷◌, ◌++◌, length, Some, None}
 use Rattle.sf_value.specs.Grammar.Fields.{SpellsField}
 use Rattle.sf_value.specs.Grammar.Lines.{Viable, IsPlace}
@@ -39,12 +39,12 @@ abbrev pub ReachedEnd : Type 0
 ReachedEnd = (d : Dialect) (kind : Kind) (s : State) (p : List ℕ) (v : Field) → Reached d kind s p
     → SpellsField d kind p v ↔ (finish s ≡ Some v)
 
--- where the step can't take the next byte, the refusal is at the end of the text
+-- if the step can't take the next byte, the refusal is at the end of the text
 abbrev pub ReachedStops : Type 0
 ReachedStops = (d : Dialect) (kind : Kind) (s : State) (p q : List ℕ) (b : ℕ) → Reached d kind s p
     → step d s b ≡ None → IsPlace d kind (p ++ b ∷ q) (length p)
 
--- where no byte is left, it is at the end of the text
+-- if no byte is left, it is at the end of the text
 abbrev pub ReachedAll : Type 0
 ReachedAll = (d : Dialect) (kind : Kind) (s : State) (p : List ℕ) → Reached d kind s p
     → IsPlace d kind p (length p)

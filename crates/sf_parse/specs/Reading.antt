@@ -12,20 +12,20 @@ use Rattle.sf_parse.specs.declared.refusal.Refusal.TheVariants.{ReadFault}
 use Rattle.sf_parse.specs.Parsers.{IsSyntax, Finishes}
 use Rattle.sf_parse.specs.AllocationFree.{TakesNoMemory}
 
--- calls gave these bytes to the source's end, which one call answered; or these are as many as a
--- count holds, and no further one was asked for
+-- calls gave these bytes up to the source's end, which one call returned; or these are as many as a
+-- count can be, and no further one was read
 abbrev pub GaveAll : SourceState → SourceState → List ℕ → Type 0
 GaveAll old new bytes =
     GaveAndEnded old new bytes ⊎ (Gave old new bytes × (2 ^ 64 - 1 ≤ length bytes))
 
--- an allocation failed on the way, or when the text was ended, of a text that allocates
+-- an allocation failed while reading or at the end of the text, of a text that allocates
 abbrev pub AllocationFailed : Kind → SourceState → SourceState → ℕ → List ℕ → Type 0
 AllocationFailed kind old new max text =
     ¬ (TakesNoMemory kind text)
     × ((Gave old new text × (length text ≤ capped (max + 1)))
     ⊎ (GaveAndEnded old new text × (length text ≤ max)))
 
--- the reader came to its end within the limit, and its text is ended
+-- the reader's end is within the limit, and the result is that at the end of its text
 abbrev pub ReadToEnd : Dialect → Kind → SourceState → SourceState → ℕ → Result Field Refusal
     → Type 0
 ReadToEnd d kind old new max r =
@@ -34,9 +34,9 @@ ReadToEnd d kind old new max r =
     × (length text ≤ max)
     × Finishes d kind text r
 
--- The answer over the bytes given: a byte below the limit that no text of the kind goes on with,
--- whatever comes after; a failed read after a viable prefix; more bytes than the limit, so many of
--- which are viable; or the end of the reader's text, which is asked for once.
+-- The result for the bytes read: a byte below the limit that no text of the kind continues with,
+-- whatever comes after; a failed read after a viable prefix; more bytes than the limit, of which
+-- the first are viable; or the end of the reader's text, which is read once.
 abbrev pub ReadAndParsed : Dialect → Kind → SourceState → SourceState → ℕ → Result Field Refusal
     → Type 0
 ReadAndParsed d kind old new max (Ok v) = ReadToEnd d kind old new max (Ok v)

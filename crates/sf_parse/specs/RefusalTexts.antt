@@ -1,4 +1,4 @@
--- What a refusal says of itself.
+-- The error messages of refusals.
 use Rattle.std.specs.Prelude.{ℕ, List, [], ◌∷◌, ◌++◌, Some, None, codes, decimal, if◌then◌else◌}
 use Rattle.sf_value.specs.Grammar.Classes.{is_visible}
 use Rattle.sf_parse.specs.ByteSets.{hex_byte}
@@ -12,7 +12,7 @@ abbrev pub found_text : ℕ → List ℕ
 found_text b =
     codes "0x" ++ (hex_byte b ++ (if is_visible b then codes " '" ++ b ∷ codes "'" else []))
 
--- the words of a refusal
+-- the error message of a refusal
 abbrev pub refusal_text : Refusal → List ℕ
 refusal_text OutOfMemory = codes "out of memory"
 refusal_text (Syntax place (Some b) expected may_end) =

@@ -1,5 +1,5 @@
--- What is read of members with commas between them, as a state of the machine, and the machine in
--- the words of a reader that adds a member to what was given where it ends.
+-- The state of the machine for what is read of members with commas between them, and the machine as
+-- a reader that adds a member to the value at its end.
 use Rattle.std.specs.Option.{option_map, option_or}
 use Rattle.std.specs.Prelude.{◌≡◌, ℕ, Bool, true, false, Option, Some, None, ⊤}
 use Rattle.sf_value.specs.Grammar.Words.{allow}
@@ -16,7 +16,7 @@ series_of phase.InMember given s = InMember given s
 series_of phase.Gap given s = Gap given
 series_of phase.Comma given s = Comma given
 
--- first is what a byte begins, added what was given with a member that may end
+-- first is the state that a byte begins, added the value with a member that may end
 abbrev pub series_next : {S V : Type 0} → (ℕ → Option S) → (S → ℕ → Option S)
     → (S → V → Option V) → V → SeriesState S V → ℕ → Option (SeriesState S V)
 series_next first next added none Begin b = option_or (allow (is_sp b) Begin)
@@ -27,14 +27,14 @@ series_next first next added none (Gap given) b = gap_step given b
 series_next first next added none (Comma given) b = option_or (allow (is_ows b) (Comma given))
     (option_map (InMember given) (first b))
 
--- what the members gave, where they may end
+-- the value of the members, if they may end
 abbrev pub series_end : {S V : Type 0} → (S → V → Option V) → V → SeriesState S V → Option V
 series_end added none Begin = Some none
 series_end added none (InMember given s) = added s given
 series_end added none (Gap given) = Some given
 series_end added none (Comma given) = None
 
--- the member that is open can't go on with this byte
+-- the member that is open can't continue with this byte
 abbrev pub series_stuck : {S V : Type 0} → (S → ℕ → Option S) → SeriesState S V → ℕ → Type 0
 series_stuck next Begin b = ⊤
 series_stuck next (InMember given s) b = next s b ≡ None

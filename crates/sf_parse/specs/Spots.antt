@@ -1,4 +1,4 @@
--- Where in the lines of a field a refusal is.
+-- The place of a refusal in the lines of a field.
 use Rattle.std.specs.Prelude.{ℕ, suc, ◌+◌, ◌-◌, min, nat_lt, if◌then◌else◌, List, [], ◌∷◌, ◌++◌}
 use Rattle.std.specs.Prelude.{length}
 use Rattle.std.specs.Prelude.{map, replicate, codes, decimal, Option, Some, None, MatchOption}
@@ -12,14 +12,14 @@ use Rattle.sf_parse.specs.declared.refusal.Refusal.TheVariants.{Syntax}
 use Rattle.sf_parse.specs.declared.spots.Spot.{Spot}
 use Rattle.sf_parse.specs.declared.spots.InLine.{InLine}
 
--- a line by its number, a place in it, and its bytes
+-- a line by its number, an offset in it, and its bytes
 pub record LinePlace : Type 0 where
   pub line : ℕ
   pub place : ℕ
   pub text : List ℕ
 
--- where in lines, numbered from n on, a place of their joined text is: the comma and the space
--- after a line belong to its end, and so does what lies after the last
+-- the place in lines, numbered from n on, of a place in their joined text: the comma and the space
+-- after a line belong to its end, and so does everything after the last
 abbrev pub place_in : ℕ → List (List ℕ) → ℕ → Option LinePlace
 place_in n [] place = None
 place_in n (l ∷ []) place =
@@ -35,7 +35,7 @@ IsBehindLine [] byte = byte ≡ None
 IsBehindLine (l ∷ ls) byte = (byte ≡ Some comma) ⊎ (byte ≡ Some space)
 
 -- the spot is that of a place of the joined lines, numbered from n on: it is in the line of its
--- number, and the byte at the place of the joined text is the one at its place of the line, or is
+-- number, and the byte at the place of the joined text is the one at its offset in the line, or is
 -- after the line
 pub record IsSpot (n : ℕ) (lines : List (List ℕ)) (place : ℕ) (p : LinePlace) : Type 0 where
   pub before : List (List ℕ)
@@ -46,18 +46,18 @@ pub record IsSpot (n : ℕ) (lines : List (List ℕ)) (place : ℕ) (p : LinePla
   pub byte : p.place < length p.text → slice_get (join lines) place ≡ slice_get p.text p.place
   pub end : p.place ≡ length p.text → IsBehindLine behind (slice_get (join lines) place)
 
--- each place of joined lines is at a spot, unless there is no line
+-- each place of joined lines has a spot, unless there is no line
 abbrev pub PlacesAreSpots : Type 0
 PlacesAreSpots =
     (lines : List (List ℕ)) (place : ℕ)
     → MatchOption (place_in 1 lines place) (lines ≡ []) (IsSpot 1 lines place)
 
--- where in the lines of a field a refusal is, if it is one of their text; the first is line 1
+-- the place of a refusal in the lines of a field, if it has one; the first is line 1
 abbrev pub stands_at : Refusal → List (List ℕ) → Option LinePlace
 stands_at (Syntax place found expected may_end) lines = place_in 1 lines place
 stands_at _ lines = None
 
--- what a spot shows
+-- the line and the offset of a spot
 abbrev pub line_place : Option Spot → Option LinePlace
 line_place None = None
 line_place (Some s) = Some (record { line = s.line; place = s.place; text = s.text.now })
@@ -70,13 +70,13 @@ printed_byte b = if is_visible b then b else question_mark
 abbrev pub printed : List ℕ → List ℕ
 printed text = map printed_byte text
 
--- the line, and a caret under the place
+-- the line, with a caret under the place
 abbrev pub marked_text : Option LinePlace → List ℕ
 marked_text None = []
 marked_text (Some p) =
     codes "\nline " ++ (decimal p.line ++ (codes ", place " ++ (decimal p.place ++ (codes ":\n"
     ++ (printed p.text ++ (codes "\n" ++ (replicate p.place space ++ codes "^")))))))
 
--- a refusal, and its line
+-- a refusal with its line
 abbrev pub in_line_text : InLine → List ℕ
 in_line_text shown = refusal_text shown.refusal ++ marked_text (line_place shown.spot)

@@ -1,4 +1,4 @@
--- The tests on states, and what they tell of texts.
+-- The tests on states, and what they decide for texts.
 use Rattle.std.specs.Prelude.{◌≡◌, ℕ, ◌<◌, ◌↔◌, true, List, [], ◌∷◌, ◌++◌, is_some}
 use Rattle.sf_value.specs.Grammar.Fields.{SpellsField}
 use Rattle.sf_value.specs.Grammar.Lines.{Viable, Next}
@@ -18,12 +18,12 @@ TakesStep = (d : Dialect) (s : State) (b : ℕ) → is_some (step d s b) ≡ tak
 abbrev pub MayEnd : Type 0
 MayEnd = (s : State) → is_some (finish s) ≡ may_end s
 
--- and so whether the byte may come
+-- so it decides whether the byte may come next
 abbrev pub TakesNext : Type 0
 TakesNext = (d : Dialect) (kind : Kind) (s : State) (p : List ℕ) (b : ℕ) → Reached d kind s p
     → Viable d kind (p ++ b ∷ []) ↔ (takes d s b ≡ true)
 
--- and so whether the text may end
+-- so it decides whether the text may end
 abbrev pub EndsText : Type 0
 EndsText = (d : Dialect) (kind : Kind) (s : State) (p : List ℕ) → Reached d kind s p → ((v : Field)
     × SpellsField d kind p v) ↔ (may_end s ≡ true)
@@ -32,7 +32,7 @@ EndsText = (d : Dialect) (kind : Kind) (s : State) (p : List ℕ) → Reached d 
 abbrev pub NextBelow : Type 0
 NextBelow = (d : Dialect) (kind : Kind) (p : List ℕ) (b : ℕ) → Viable d kind (p ++ b ∷ []) → b < 128
 
--- after a text that reached a state some byte may come
+-- after a text that reached a state, some byte may come next
 abbrev pub SomeNext : Type 0
 SomeNext = (d : Dialect) (kind : Kind) (s : State) (p : List ℕ) → Reached d kind s p → (b : ℕ)
     × Next d kind p b

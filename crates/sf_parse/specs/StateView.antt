@@ -1,4 +1,4 @@
--- What is read of a field, as a state of the machine.
+-- The state of the machine for what is read of a field.
 use Rattle.sf_parse.specs.Machine.States.{State, InList, InDict}
 use Rattle.sf_parse.specs.declared.state.FieldState.{FieldState}
 use Rattle.sf_parse.specs.declared.state.FieldState.TheVariants as field

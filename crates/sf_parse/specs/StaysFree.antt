@@ -1,4 +1,5 @@
--- What does not allocate takes none with a byte less, in the state that the byte leads to.
+-- If bytes are allocation-free in a state, those after the first are, in the state to which it
+-- leads.
 use Rattle.std.specs.Option.{option_map, option_or}
 use Rattle.std.specs.Prelude.{◌≡◌, ℕ, Bool, true, false, ◌==◌, List, [], ◌∷◌, ◌++◌}
 use Rattle.std.specs.Prelude.{◌⊎◌, Option, Some, None, ⊤}

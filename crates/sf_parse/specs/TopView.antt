@@ -1,4 +1,4 @@
--- What is read of a field of kind Item, as a state of the machine.
+-- The state of the machine for what is read of a field of kind Item.
 use Rattle.std.specs.Prelude.{◌≡◌, ℕ, Option, Some, None, IsSome, ⊤}
 use Rattle.sf_value.specs.declared.dialect.Dialect.{Dialect}
 use Rattle.sf_value.specs.declared.value.Item.{Item}
@@ -24,7 +24,7 @@ FitsTop phase.Before whole = ⊤
 FitsTop phase.Inside whole = ⊤
 FitsTop phase.Behind whole = IsSome whole
 
--- the part that is open can't go on with this byte
+-- the part that is open can't continue with this byte
 abbrev pub top_stuck : Dialect → State → ℕ → Type 0
 top_stuck d BeforeItem b = ⊤
 top_stuck d (InTop s) b = item_step d s b ≡ None

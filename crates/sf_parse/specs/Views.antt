@@ -1,5 +1,4 @@
--- What is read of a leaf, as a state of the machine: by the phase and the buffers that the code
--- keeps.
+-- The state of the machine for what is read of a leaf, from the phase and the buffers of the code.
 use Rattle.std.specs.Prelude.{◌≡◌, ℕ, ◌^◌, ◌<◌, ◌≤◌, Bool, true, false, List, [], Option}
 use Rattle.std.specs.Prelude.{Some, None}
 use Rattle.sf_value.specs.Grammar.Utf8.{Utf8, Start, Wants, utf8_step}
@@ -25,12 +24,12 @@ abbrev pub number_of : Bool → Option ℕ → ℕ → ℕ → NumberState
 number_of negative None digits value = Whole negative digits value
 number_of negative (Some whole) digits value = Fraction negative whole digits value
 
--- a whole part before so many digits of a fraction
+-- a whole part before this many digits of a fraction
 abbrev pub FitsWhole : Option ℕ → ℕ → Type 0
 FitsWhole None digits = Unit {0}
 FitsWhole (Some whole) digits = (digits ≤ 3) × (whole < 10 ^ 12)
 
--- so many digits bound the value
+-- this many digits bound the value
 abbrev pub FitsNumber : Option ℕ → ℕ → ℕ → Type 0
 FitsNumber whole digits value = (digits ≤ 15) × (value < 10 ^ digits) × FitsWhole whole digits
 
@@ -44,7 +43,7 @@ abbrev pub FitsSign : Bool → Bool → ℕ → Type 0
 FitsSign false negative digits = (negative ≡ false) × (digits ≡ 0)
 FitsSign true negative digits = Unit {0}
 
--- so many digits bound the value
+-- this many digits bound the value
 abbrev pub FitsDate : Bool → Bool → ℕ → ℕ → Type 0
 FitsDate begun negative digits value =
     (digits ≤ 15) × (value < 10 ^ digits) × FitsSign begun negative digits
@@ -75,13 +74,13 @@ FitsHeld (held.H1 x) = x < 64
 FitsHeld (held.H2 x y) = (x < 64) × (y < 64)
 FitsHeld (held.H3 x y z) = (x < 64) × (y < 64) × (z < 64)
 
--- so they are in the group that is open
+-- the same for the group that is open
 abbrev pub FitsBlob : BlobPhase → Type 0
 FitsBlob (blob_phase.Group h) = FitsHeld h
 FitsBlob (blob_phase.Padded more) = Unit {0}
 FitsBlob blob_phase.Ended = Unit {0}
 
--- a place in a character
+-- the state in a character
 abbrev pub utf8_of : Utf8State → Utf8
 utf8_of utf8.Start = Start
 utf8_of (utf8.Wants more low high) = Wants more low high
@@ -94,7 +93,7 @@ shown_of shown_phase.Percent bytes chars = Percent bytes (utf8_of chars)
 shown_of (shown_phase.Hex high) bytes chars = Hex bytes (utf8_of chars) high
 shown_of shown_phase.Done bytes chars = Done bytes
 
--- the bytes lead from the start to this place in a character
+-- the bytes lead from the start to this state in a character
 abbrev pub Leads : List ℕ → Utf8 → Type 0
 Leads bytes x = run utf8_step Start bytes ≡ Some x
 
@@ -106,7 +105,7 @@ FitsPhase shown_phase.Percent bytes chars = Unit {0}
 FitsPhase (shown_phase.Hex high) bytes chars = high < 16
 FitsPhase shown_phase.Done bytes chars = chars ≡ utf8.Start
 
--- the bytes lead to the place in a character, and fit the phase
+-- the bytes lead to the state in a character, and fit the phase
 abbrev pub FitsShown : ShownPhase → List ℕ → Utf8State → Type 0
 FitsShown phase bytes chars = Leads bytes (utf8_of chars) × FitsPhase phase bytes chars
 

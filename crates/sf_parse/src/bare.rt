@@ -35,8 +35,8 @@ pub enum BareKind {
     Shown,
 }
 
-/// What was read of a bare item. Its kind says which of the other fields count; all that is made of
-/// bytes gathers them in `bytes`.
+/// What was read of a bare item. Its kind says which of the other fields count; the types that
+/// consist of bytes collect them in `bytes`.
 #[derive(Drop)]
 pub struct BareReader {
     kind: BareKind,
@@ -62,7 +62,7 @@ impl Model for BareReader {
 }
 
 impl BareReader {
-    /// A reader that no bare item was begun in. It does not allocate.
+    /// A reader in which no bare item was begun. It does not allocate.
     pub fn new(context: &Context) -> BareReader {
         BareReader {
             kind: BareKind::Boolean,
@@ -81,7 +81,7 @@ impl BareReader {
         // The new state is the one that the byte begins, or none begins with it.
         ensures start { IfOk result (λ took. Starts took (bare_start context.now.dialect byte)
             self.new) }
-        // It does not allocate.
+        // It does not fail.
         ensures allocation_free { IsOk result }
     {
         if self.number.start(byte) {
@@ -144,11 +144,11 @@ impl BareReader {
         }
     }
 
-    /// The bare item, if it is whole. What is left is the reader alone.
+    /// The bare item, if it is complete. Its value is taken out of the reader.
     pub fn finish(&mut self, context: &Context) -> Option<Bare>
         // It is the value that the state has at the end, if it has one.
         ensures value { result ≡ bare_finish self.old }
-        // Without one the reader stays as it is.
+        // Otherwise the reader is unchanged.
         ensures kept { IfNone result (self.new ≡ self.old) }
     {
         if !self.may_end() {
@@ -225,7 +225,7 @@ impl Level for BareReader {
 
     fn turn(&mut self, _context: &Context, byte: u8) -> Result<bool, OutOfMemory> {
         match self.kind {
-            // Its run is as long as it can be.
+            // Its run is as long as possible.
             BareKind::Number => return Ok(false),
             BareKind::Boolean => return Ok(self.boolean.step(byte)),
             BareKind::Date => return Ok(self.date.step(byte)),

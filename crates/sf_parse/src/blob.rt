@@ -26,22 +26,22 @@ pub enum Held {
 pub enum BlobPhase {
     /// In a group.
     Group(Held),
-    /// At the end, where this many `=` may still come.
+    /// At the end, where at most this many `=` may follow.
     Padded(u8),
     /// After the closing colon.
     Ended,
 }
 
 impl BlobPhase {
-    /// Takes one more byte, or reports that the byte sequence can't go on with it and stays as it
-    /// is. Its bytes so far are `bytes`.
+    /// Takes one more byte, or reports that the byte sequence can't continue with it and is
+    /// unchanged. Its bytes so far are `bytes`.
     pub fn step(&mut self, bytes: &mut ShortBytes, byte: u8) -> Result<bool, OutOfMemory>
         // The values of the open group are below 64.
         requires { FitsBlob self.old }
-        // The byte leads the machine on, or can't and the state stays.
+        // The byte leads to the next state, or it can't and the state is unchanged.
         ensures step { IfOk result (λ took. Steps took (blob_step (blob_of self.old bytes.old) byte)
             (blob_of self.old bytes.old) (blob_of self.new bytes.new)) }
-        // So are those of the new one.
+        // The same holds afterwards.
         ensures fits { FitsBlob self.new }
     {
         match *self {
@@ -68,12 +68,12 @@ impl BlobPhase {
         requires held { FitsHeld held }
         // This group is open.
         requires open { blob_of self.old bytes.old ≡ Group bytes.old (held_of held) }
-        // What the phase holds is below 64 too.
+        // The values in the phase are also below 64.
         requires fits { FitsBlob self.old }
         // The byte ends the group, or can't and the state stays.
         ensures step { IfOk result (λ took. Steps took (end_step bytes.old (held_of held) byte)
             (blob_of self.old bytes.old) (blob_of self.new bytes.new)) }
-        // What the new phase holds is below 64.
+        // The values in the new phase are below 64.
         ensures fits { FitsBlob self.new }
     {
         match held {
@@ -96,10 +96,11 @@ impl BlobPhase {
     ) -> Result<bool, OutOfMemory>
         // The values of the open group are below 64.
         requires fits { FitsBlob self.old }
-        // After the last group the byte leads the machine on, or can't and the state stays.
+        // After the last group the byte leads to the next state, or it can't and the state is
+        // unchanged.
         ensures step { IfOk result (λ took. Steps took (pad_step (bytes.old ++ tail.now) more byte)
             (blob_of self.old bytes.old) (blob_of self.new bytes.new)) }
-        // So are those of the new one.
+        // The same holds afterwards.
         ensures fits { FitsBlob self.new }
     {
         if byte == b':' {
@@ -115,16 +116,16 @@ impl BlobPhase {
         Ok(false)
     }
 
-    /// A byte at the end, where this many `=` may still come.
+    /// Takes a byte at the end, where at most this many `=` may follow.
     fn pad(&mut self, more: u8, byte: u8) -> bool
         // The values of the open group are below 64.
         requires { FitsBlob self.old }
-        // Where this many `=` may come, the byte leads the machine on; or it can't, and the state
-        // stays.
+        // If this many `=` may follow, the byte leads to the next state, or it can't and the state
+        // is unchanged.
         ensures step { (bytes : List ℕ) → blob_of self.old bytes ≡ Padded bytes more
             → Steps result (pad_step bytes more byte) (blob_of self.old bytes)
             (blob_of self.new bytes) }
-        // So are those of the new one.
+        // The same holds afterwards.
         ensures fits { FitsBlob self.new }
     {
         if byte == b':' {
@@ -154,7 +155,7 @@ impl BlobPhase {
         }
     }
 
-    /// The bytes that the byte sequence can go on with.
+    /// The bytes that the byte sequence can continue with.
     pub fn expected(self) -> u128
         // The bits are those of the bytes that may come, whatever was read before.
         ensures { (bytes : List ℕ) → Marks result (blob_takes (blob_of self bytes)) }
@@ -181,7 +182,7 @@ const BLOCK: usize = 96;
 /// The bytes of a whole group of four characters.
 #[inline]
 fn group_bytes(a: u8, b: u8, c: u8, d: u8) -> Option<(u8, u8, u8)>
-    // If no group is open, the four characters lead to a state with these three bytes more.
+    // If no group is open, the four characters lead to a state with three more bytes, these.
     ensures { IfSome result (λ out. (bs : List ℕ) → run blob_step (Group bs H0)
         (a ∷ b ∷ c ∷ d ∷ []) ≡ Some (Group (bs ++ out.0 ∷ out.1 ∷ out.2 ∷ []) H0)) }
 {
@@ -195,8 +196,8 @@ fn group_bytes(a: u8, b: u8, c: u8, d: u8) -> Option<(u8, u8, u8)>
 /// Decodes whole groups into the block until it is full. Returns the number of bytes, and the rest.
 fn decode_groups<'a>(chunk: &'a [u8], block: &mut [u8; BLOCK]) -> (usize, &'a [u8])
     ensures within { result.0 ≤ 96 }
-    // If no group is open, the characters before the rest lead to a state with the bytes of the
-    // block after those so far.
+    // If no group is open, the characters before the rest lead to a state that also has the bytes
+    // of the block.
     ensures went { (bs : List ℕ) → Went blob_step (Group bs H0) chunk.now result.1.now
         (Group (bs ++ take result.0 block.new) H0) }
 {
@@ -242,7 +243,7 @@ fn grow(held: Held, bytes: &mut ShortBytes, value: u8) -> Result<Held, OutOfMemo
     // The values of the open group are below 64.
     requires held { FitsHeld held }
     requires value { value < 64 }
-    // The group has the value more; four of them are three bytes of the byte sequence.
+    // The group has one more value; four values are three bytes of the byte sequence.
     ensures grown { IfOk result (λ h. Group bytes.new (held_of h)
         ≡ grown bytes.old (held_of held) value) }
     // The values of the new group are below 64.
@@ -259,7 +260,7 @@ fn grow(held: Held, bytes: &mut ShortBytes, value: u8) -> Result<Held, OutOfMemo
     }
 }
 
-/// What may follow at the end, where this many `=` may still come.
+/// The bytes that may follow at the end, where at most this many `=` may follow.
 fn expected_pad(more: u8) -> u128
     // The bits are those of the bytes that may come.
     ensures { Marks result (pad_takes more) }
@@ -267,7 +268,7 @@ fn expected_pad(more: u8) -> u128
     COLON | set_if(more > 0, EQUALS)
 }
 
-/// What may follow an open group beside a character.
+/// The bytes that may follow an open group, other than characters.
 fn expected_end(held: Held) -> u128
     // The bits are those of the bytes that may come if this group is the last one.
     ensures { Marks result (λ b. is_last (held_of held) && pad_takes (lacking (held_of held)) b) }

@@ -17,9 +17,9 @@ pub enum BooleanState {
 }
 
 impl BooleanState {
-    /// Takes one more byte, or reports that the boolean can't go on with it and stays as it is.
+    /// Takes one more byte, or reports that the boolean can't continue with it and is unchanged.
     pub fn step(&mut self, byte: u8) -> bool
-        // The byte leads the machine on, or can't and the state stays.
+        // The byte leads to the next state, or it can't and the state is unchanged.
         ensures { Steps result (boolean_step self.old byte) self.old self.new }
     {
         match (*self, byte) {
@@ -30,7 +30,7 @@ impl BooleanState {
         true
     }
 
-    /// The bytes that the boolean can go on with.
+    /// The bytes that the boolean can continue with.
     pub fn expected(self) -> u128
         // The bits are those of the bytes that may come.
         ensures { Marks result (boolean_takes self) }
@@ -48,7 +48,7 @@ impl BooleanState {
         matches!(self, BooleanState::WithValue(_))
     }
 
-    /// The boolean, if it is whole.
+    /// The boolean, if it is complete.
     pub fn finish(self) -> Option<bool>
         // It is the value that the state has at the end, if it has one.
         ensures { result ≡ boolean_finish self }

@@ -1,4 +1,4 @@
-//! The bytes that could have followed: sets of bytes below 128, and their runs.
+//! Sets of bytes below 128, such as those that a refusal expects, and their runs.
 ghost use Rattle.std.specs.Prelude.{◌≡◌, ◌+◌, ◌-◌, ◌<◌, ◌≤◌, [], ◌∷◌, true, Some, length};
 ghost use Rattle.std.specs.Prelude.{MatchOption, IfSome};
 ghost use Rattle.std.specs.Iterator.{at_most};
@@ -9,7 +9,7 @@ use sf_value::hex_digits;
 use std::fmt;
 use std::marker::Model;
 
-/// The runs that an iteration over a set of bytes has left: see [`runs_of`].
+/// The runs that remain of an iteration over a set of bytes: see [`runs_of`].
 #[derive(Debug, Drop)]
 pub struct Runs {
     set: u128,
@@ -26,8 +26,8 @@ impl Model for Runs {
 }
 
 /// The runs of a set of bytes below 128, such as the `expected` of [`crate::Refusal::Syntax`]: byte
-/// b is in the set if bit b is set. Each run is its first and its last byte; they ascend, and each
-/// is as long as it can be. It does not allocate.
+/// b is in the set if bit b is set. Each run is its first and its last byte; the runs are in
+/// ascending order, and each is as long as possible. It does not allocate.
 ///
 /// ```
 /// runs_of(0x3ff << 48).next() // Some((b'0', b'9'))

@@ -1,11 +1,11 @@
-//! What every level of the parser is handed.
+//! What every level of the parser gets.
 ghost use Rattle.std.specs.Prelude.{◌≡◌};
 
 use sf_value::Dialect;
 use std::alloc::Global;
 use std::hash::RandomState;
 
-/// Where memory comes from, the seed of the entries' hashes, and the dialect that is read.
+/// The allocator, the seed of the entries' hashes, and the dialect.
 #[derive(Clone, Copy)]
 pub struct Context {
     pub alloc: Global,
@@ -14,7 +14,7 @@ pub struct Context {
 }
 
 impl Context {
-    /// What a text in this dialect is parsed with.
+    /// The context for a text in this dialect.
     pub fn new(alloc: Global, seed: &RandomState, dialect: Dialect) -> Context
         ensures { result.dialect ≡ dialect }
     {

@@ -45,10 +45,10 @@ impl DateReader {
         }
     }
 
-    /// Takes one more byte, or reports that the date can't go on with it and stays as it is.
+    /// Takes one more byte, or reports that the date can't continue with it and is unchanged.
     #[tactic(auto, using(crate::proofs::Numerals::room, crate::proofs::Numerals::next_digit))]
     pub fn step(&mut self, byte: u8) -> bool
-        // The byte leads the machine on, or can't and the state stays.
+        // The byte leads to the next state, or it can't and the state is unchanged.
         ensures { Steps result (date_step self.old byte) self.old self.new }
     {
         if !self.begun && byte == b'-' {
@@ -65,7 +65,7 @@ impl DateReader {
         true
     }
 
-    /// Takes the bytes that the date goes on with, and gives back the rest.
+    /// Takes the bytes that the date continues with, and returns the rest.
     pub fn take_run<'a>(&mut self, chunk: &'a [u8]) -> &'a [u8]
         // The bytes before the rest lead the machine from the old state to the new one.
         ensures { Went date_step self.old chunk.now result.now self.new }
@@ -80,7 +80,7 @@ impl DateReader {
         rest
     }
 
-    /// The bytes that the date can go on with.
+    /// The bytes that the date can continue with.
     pub fn expected(&self) -> u128
         // The bits are those of the bytes that may come.
         ensures { Marks result (date_takes self.now) }

@@ -49,9 +49,9 @@ pub struct ShownPlace {
 }
 
 impl Utf8State {
-    /// After one more byte of well-formed UTF-8 (RFC 3629 section 4).
+    /// The state after one more byte; `None` if it is not well-formed UTF-8 (RFC 3629 section 4).
     pub fn after(self, byte: u8) -> Option<Utf8State>
-        // It is the next place in a character, if the byte may come there.
+        // It is the state of the grammar, if the grammar allows the byte.
         ensures { option_map utf8_of result ≡ utf8_step (utf8_of self) byte }
     {
         match self {
@@ -87,14 +87,14 @@ impl ShownPlace {
     /// Takes one more byte of the characters.
     #[tactic(auto, using(crate::proofs::Leading::leads_push))]
     fn push(&mut self, bytes: &mut ShortBytes, byte: u8) -> Result<bool, OutOfMemory>
-        // The bytes so far lead to the place in a character, and fit the phase.
+        // The bytes so far lead to the state in a character, and fit the phase.
         requires { FitsShown self.old.phase bytes.old self.old.chars }
-        // The byte of the text leads the machine on, or can't and the state stays.
+        // The byte of the text leads to the next state, or it can't and the state is unchanged.
         ensures step { IfOk result (λ took. Steps took
             (pushed (shown_of self.old.phase bytes.old self.old.chars) byte)
             (shown_of self.old.phase bytes.old self.old.chars)
             (shown_of self.new.phase bytes.new self.new.chars)) }
-        // So they do then.
+        // The same holds afterwards.
         ensures fits { FitsShown self.new.phase bytes.new self.new.chars }
     {
         if matches!(self.phase, ShownPhase::Quote | ShownPhase::Done) {
@@ -109,17 +109,17 @@ impl ShownPlace {
         Ok(true)
     }
 
-    /// Takes one more byte, or reports that the display string can't go on with it and stays as it
-    /// is. Its bytes so far are `bytes`.
+    /// Takes one more byte, or reports that the display string can't continue with it and is
+    /// unchanged. Its bytes so far are `bytes`.
     pub fn step(&mut self, bytes: &mut ShortBytes, byte: u8) -> Result<bool, OutOfMemory>
-        // The bytes so far lead to the place in a character, and fit the phase.
+        // The bytes so far lead to the state in a character, and fit the phase.
         requires { FitsShown self.old.phase bytes.old self.old.chars }
-        // The byte leads the machine on, or can't and the state stays.
+        // The byte leads to the next state, or it can't and the state is unchanged.
         ensures step { IfOk result (λ took. Steps took
             (shown_step (shown_of self.old.phase bytes.old self.old.chars) byte)
             (shown_of self.old.phase bytes.old self.old.chars)
             (shown_of self.new.phase bytes.new self.new.chars)) }
-        // So they do then.
+        // The same holds afterwards.
         ensures fits { FitsShown self.new.phase bytes.new self.new.chars }
     {
         match self.phase {
@@ -174,13 +174,13 @@ impl ShownPlace {
         bytes: &mut ShortBytes,
         chunk: &'a [u8],
     ) -> Result<&'a [u8], OutOfMemory>
-        // The bytes so far lead to the place in a character, and fit the phase.
+        // The bytes so far lead to the state in a character, and fit the phase.
         requires { FitsShown self.old.phase bytes.old self.old.chars }
         // The bytes before the rest lead the machine from the old state to the new one.
         ensures went { IfOk result (λ rest. Went shown_step
             (shown_of self.old.phase bytes.old self.old.chars) chunk.now rest.now
             (shown_of self.new.phase bytes.new self.new.chars)) }
-        // So they do then.
+        // The same holds afterwards.
         ensures fits { FitsShown self.new.phase bytes.new self.new.chars }
     {
         match self.phase {
@@ -189,7 +189,7 @@ impl ShownPlace {
         }
     }
 
-    /// Whether an escape can go on with this byte.
+    /// Whether an escape can continue with this byte.
     fn takes_digit(self, byte: u8) -> bool
         // The first digit of an escape that is open is below 16.
         requires { IsDigitPhase self.phase }
@@ -207,7 +207,7 @@ impl ShownPlace {
         }
     }
 
-    /// The digits that an escape can go on with.
+    /// The digits that an escape can continue with.
     fn expected_digits(self) -> u128
         // The first digit of an escape that is open is below 16.
         requires { IsDigitPhase self.phase }
@@ -229,11 +229,11 @@ impl ShownPlace {
         expected
     }
 
-    /// The bytes that the display string can go on with.
+    /// The bytes that the display string can continue with.
     pub fn expected(self) -> u128
         // The first digit of an escape that is open is below 16.
         requires digit { IsDigitPhase self.phase }
-        // The next byte of a character that is open lies from 0x80 to 0xbf.
+        // The next byte of a character that is open is from 0x80 to 0xbf.
         requires good { GoodUtf8 (utf8_of self.chars) }
         // The bits are those of the bytes that may come, whatever was read before.
         ensures { (bytes : List ℕ) → Marks result (shown_takes (shown_of self.phase bytes
@@ -259,9 +259,9 @@ impl ShownPlace {
     }
 }
 
-/// After a byte of a character that this many more bytes complete.
+/// The state after a byte that this many bytes follow in its character.
 fn wanted(more: u8) -> Utf8State
-    // It is the place in a character that the grammar has there.
+    // It is the state of the grammar.
     ensures { utf8_of result ≡ wants more }
 {
     if more == 0 {
@@ -274,7 +274,7 @@ fn wanted(more: u8) -> Utf8State
     }
 }
 
-/// After the first byte of a character.
+/// The state after the first byte of a character.
 fn first_byte(byte: u8) -> Option<Utf8State>
     // It is what the table of well-formed UTF-8 says of the byte.
     ensures { option_map utf8_of result ≡ look_up rows byte }
@@ -300,7 +300,8 @@ const BLOCK: usize = 64;
 /// The byte of an escape with these digits.
 #[inline]
 fn escaped(high: u8, low: u8) -> Option<u8>
-    // If this byte may come in a character, the escape leads to a state with the byte more.
+    // If this byte may come in a character, the escape leads to a state with one more byte, this
+    // one.
     ensures { IfSome result (λ c. (bs : List ℕ) (x y : Utf8) → utf8_step x c ≡ Some y
         → run shown_step (Unencoded bs x) (percent_sign ∷ high ∷ low ∷ [])
         ≡ Some (Unencoded (bs ++ c ∷ []) y)) }
@@ -310,7 +311,7 @@ fn escaped(high: u8, low: u8) -> Option<u8>
     Some(high * 16 + low)
 }
 
-/// Decodes whole escapes into the block until it is full. Returns their number, the place in a
+/// Decodes whole escapes into the block until it is full. Returns their number, the state in a
 /// character after them, and the rest.
 fn read_escapes<'a>(
     from: Utf8State,
@@ -318,11 +319,11 @@ fn read_escapes<'a>(
     block: &mut [u8; BLOCK],
 ) -> (usize, Utf8State, &'a [u8])
     ensures within { result.0 ≤ 64 }
-    // The escapes before the rest lead to a state with the bytes of the block after those so far.
+    // The escapes before the rest lead to a state that also has the bytes of the block.
     ensures went { (bs : List ℕ)
         → Went shown_step (Unencoded bs (utf8_of from)) chunk.now result.2.now
         (Unencoded (bs ++ take result.0 block.new) (utf8_of result.1)) }
-    // If the bytes so far lead to the first place in a character, they and the block lead to the
+    // If the bytes so far lead to the first state in a character, they and the block lead to the
     // last.
     ensures leads { (bs : List ℕ) → Leads bs (utf8_of from)
         → Leads (bs ++ take result.0 block.new) (utf8_of result.1) }
@@ -357,12 +358,12 @@ fn take_escapes<'a>(
     bytes: &mut ShortBytes,
     chunk: &'a [u8],
 ) -> Result<&'a [u8], OutOfMemory>
-    // The bytes so far lead to the place in a character.
+    // The bytes so far lead to the state in a character.
     requires { Leads bytes.old (utf8_of chars.old) }
     // The bytes before the rest lead the machine from the old state to the new one.
     ensures went { IfOk result (λ rest. Went shown_step (Unencoded bytes.old (utf8_of chars.old))
         chunk.now rest.now (Unencoded bytes.new (utf8_of chars.new))) }
-    // So do they then to the new place, even if an allocation failed.
+    // Afterwards they lead to the new state, even if an allocation failed.
     ensures leads { Leads bytes.new (utf8_of chars.new) }
 {
     let mut block = [0; BLOCK];
@@ -378,12 +379,12 @@ fn take_unencoded<'a>(
     bytes: &mut ShortBytes,
     chunk: &'a [u8],
 ) -> Result<&'a [u8], OutOfMemory>
-    // The bytes so far lead to the place in a character.
+    // The bytes so far lead to the state in a character.
     requires { Leads bytes.old (utf8_of chars) }
     // The bytes before the rest lead the machine from the old state to the new one.
     ensures went { IfOk result (λ rest. Went shown_step (Unencoded bytes.old (utf8_of chars))
         chunk.now rest.now (Unencoded bytes.new (utf8_of chars))) }
-    // So do they then, even if an allocation failed.
+    // The same holds afterwards, even if an allocation failed.
     ensures leads { Leads bytes.new (utf8_of chars) }
 {
     match chars {
@@ -402,12 +403,12 @@ fn take_chars<'a>(
     bytes: &mut ShortBytes,
     chunk: &'a [u8],
 ) -> Result<&'a [u8], OutOfMemory>
-    // The bytes so far lead to the place in a character.
+    // The bytes so far lead to the state in a character.
     requires { Leads bytes.old (utf8_of chars.old) }
     // The bytes before the rest lead the machine from the old state to the new one.
     ensures went { IfOk result (λ rest. Went shown_step (Unencoded bytes.old (utf8_of chars.old))
         chunk.now rest.now (Unencoded bytes.new (utf8_of chars.new))) }
-    // So do they then to the new place, even if an allocation failed.
+    // Afterwards they lead to the new state, even if an allocation failed.
     ensures leads { Leads bytes.new (utf8_of chars.new) }
 {
     let mut rest = chunk;

@@ -18,7 +18,7 @@ use sf_value::{Bare, Dialect, Entries, Item, Key, Member, OutOfMemory, ShortByte
 use std::marker::Model;
 use std::mem;
 
-/// Where in a dictionary's member the text is.
+/// The part of a dictionary's member that is being read.
 #[derive(Clone, Copy)]
 pub enum EntryPhase {
     /// In its key.
@@ -31,8 +31,8 @@ pub enum EntryPhase {
     InFlag,
 }
 
-/// What was read of a dictionary's member. The parameters after a key alone are read as those of an
-/// item of Boolean true.
+/// What was read of a dictionary's member. The parameters after a key alone are read as those of
+/// the Item Boolean true.
 #[derive(Drop)]
 pub struct EntryReader {
     phase: EntryPhase,
@@ -53,7 +53,7 @@ impl Model for EntryReader {
 }
 
 impl EntryReader {
-    /// A reader that no member was begun in. It does not allocate.
+    /// A reader in which no member was begun. It does not allocate.
     pub fn new(context: &Context) -> EntryReader {
         EntryReader {
             phase: EntryPhase::InKey,
@@ -75,8 +75,8 @@ impl EntryReader {
         Ok(true)
     }
 
-    /// Puts the member at its key, if it is whole, or reports that it is not, and changes nothing.
-    /// What is left is the reader alone.
+    /// Puts the member at its key, if it is complete; otherwise returns false and changes nothing.
+    /// Its value is taken out of the reader.
     pub fn end(
         &mut self,
         context: &Context,
@@ -85,7 +85,7 @@ impl EntryReader {
         // The member was put at its key, or may not end and nothing was put.
         ensures ended { IfOk result (λ ended. Ends ended (with_entry self.old given.old) given.old
             given.new) }
-        // Where nothing was put the reader stays as it is.
+        // If nothing was put, the reader is unchanged.
         ensures kept { IfOk result (λ ended. ended ≡ false → self.new ≡ self.old) }
     {
         match self.phase {

@@ -32,7 +32,7 @@ pub type DictReader = SeriesReader<EntryReader, Entries<Member>>;
 
 /// A field of one kind that is being read.
 pub trait WholeField: Level + Drop {
-    /// What a whole field of the kind is.
+    /// The type of a whole field of the kind.
     type Whole;
 
     // The kind.
@@ -41,7 +41,7 @@ pub trait WholeField: Level + Drop {
     // The field that it is.
     ghost field: { Self.Whole → Field };
 
-    // What was read, as a state of the machine of fields.
+    // The state of the machine of fields that corresponds to what was read.
     ghost state: { Self → State };
 
     /// Before the first byte. It does not allocate.
@@ -49,14 +49,14 @@ pub trait WholeField: Level + Drop {
         // Its state is the first one of its kind.
         ensures { state result ≡ begin_at kind };
 
-    /// What was read, if the field may end here. What is left is the reader alone.
+    /// The field, if it may end here. Its value is taken out of the reader.
     fn finish_whole(&mut self, context: &Context) -> Result<Option<Self::Whole>, OutOfMemory>
         // The field is the value that the state has at the end, if it has one.
         ensures value { IfOk result (λ whole. option_map field whole ≡ finish_of (state self.old)) }
-        // Where no byte more does not allocate, the end takes none.
+        // If the state is allocation-free, the call does not fail.
         ensures allocation_free { FieldFree (state self.old) [] → IsOk result };
 
-    // The machine of fields goes on just as the level does, and its tests are the same.
+    // The machine of fields takes the same steps as the level, and its tests are the same.
     ghost steps: { (d : Dialect) (s : Self) (b : ℕ)
         → step_of d (state s) b ≡ option_map state (Self.next d s b) };
 
@@ -64,7 +64,7 @@ pub trait WholeField: Level + Drop {
 
     ghost ends_too: { (s : Self) → Self.ends s ≡ may_end_at (state s) };
 
-    // What does not allocate in the state does not in the level.
+    // If the state is allocation-free for some bytes, so is the level.
     ghost free_too: { (d : Dialect) (s : Self) (more : Seq ℕ) → FieldFree (state s) more
         → Self.allocation_free d s more };
 }
@@ -153,19 +153,19 @@ impl WholeField for DictReader {
     }
 }
 
-/// What the text spells as a field of this kind, or its exact refusal.
+/// The field of this kind that the text spells, or the exact refusal of the text.
 pub fn parse_whole<W: WholeField>(context: &Context, text: &[u8]) -> Result<W::Whole, Refusal>
-    // The text spells just this value, or this is its exact refusal; otherwise an allocation
+    // The text spells only this value, or this is its exact refusal; otherwise an allocation
     // failed.
     ensures parses { Makes W.field (Parses context.now.dialect W.kind text.now) result }
-    // A text that does not allocate is not refused as out of memory.
+    // An allocation-free text is not refused as out of memory.
     ensures allocation_free { TakesNoMemory W.kind text.now → IfErr result IsOther }
 {
     let mut field = W::begin(context);
     read_whole(&mut field, context, text)
 }
 
-/// Reads the text into a field that nothing was read of. What is left is the reader alone.
+/// Reads the text into a reader that has read nothing. Its value is taken out of the reader.
 fn read_whole<W: WholeField>(
     field: &mut W,
     context: &Context,
@@ -173,10 +173,10 @@ fn read_whole<W: WholeField>(
 ) -> Result<W::Whole, Refusal>
     // Nothing was read.
     requires { W.state field.old ≡ begin_at W.kind }
-    // The text spells just this value, or this is its exact refusal; otherwise an allocation
+    // The text spells only this value, or this is its exact refusal; otherwise an allocation
     // failed.
     ensures parses { Makes W.field (Parses context.now.dialect W.kind text.now) result }
-    // A text that does not allocate is not refused as out of memory.
+    // An allocation-free text is not refused as out of memory.
     ensures allocation_free { TakesNoMemory W.kind text.now → IfErr result IsOther }
 {
     let rest = field.take(context, text)?;

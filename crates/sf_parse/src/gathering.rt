@@ -1,23 +1,23 @@
-//! What the parts of a value are added to, as soon as they are whole.
+//! What the parts of a value are added to, once they are complete.
 ghost use Rattle.std.specs.Prelude.{◌≡◌, [], ◌∷◌, ◌++◌, Some, OnOk, IsOk, ⊤};
 ghost use Rattle.sf_value.specs.declared.value.Member.TheVariants as member_is;
 
 use sf_value::{Item, Member, OutOfMemory, Sequence};
 
-/// Takes the parts of a value, one after the other. A part is built where it is added, so that no
-/// answer carries it about.
+/// Takes the parts of a value, one after the other. A part is built where it is added, and not
+/// returned from level to level.
 pub trait Gather<T> {
-    // What there is with one part more.
+    // The value with one more part.
     ghost with: { Self → T → Self };
 
-    // Whether a part more does not allocate.
+    // Adding one more part does not allocate.
     ghost free: { Type 0 };
 
     /// Adds a part at the end.
     fn add(&mut self, part: T) -> Result<(), OutOfMemory>
-        // There is one part more.
+        // There is one more part.
         ensures added { OnOk result (self.new ≡ with self.old part) }
-        // Where a part more does not allocate, no allocation fails.
+        // If one more part does not allocate, no allocation fails.
         ensures free { free → IsOk result };
 }
 
@@ -36,7 +36,7 @@ impl Gather<Item> for Sequence<Item> {
     }
 }
 
-/// The members of a List, as far as they are Items.
+/// The members of a List that are Items.
 impl Gather<Item> for Sequence<Member> {
     ghost with = { λ members item. members ++ member_is.Item item ∷ [] };
 

@@ -54,7 +54,7 @@ impl Drop for ItemReader {
 }
 
 impl ItemReader {
-    /// A reader that no item was begun in. It does not allocate.
+    /// A reader in which no item was begun. It does not allocate.
     pub fn new(context: &Context) -> ItemReader {
         ItemReader {
             in_params: false,
@@ -68,7 +68,7 @@ impl ItemReader {
         // The new state is the one that the byte begins, or none begins with it.
         ensures start { IfOk result (λ took. Starts took (item_start context.now.dialect byte)
             self.new) }
-        // It does not allocate.
+        // It does not fail.
         ensures allocation_free { IsOk result }
     {
         self.in_params = false;
@@ -77,7 +77,7 @@ impl ItemReader {
 
     /// Begins the parameters of Boolean true, after the first semicolon.
     pub fn open_flag(&mut self, context: &Context)
-        // The parameters of Boolean true are open, and none is whole.
+        // The parameters of Boolean true are open, and none is complete.
         ensures { self.new ≡ InParams (bare_is.Boolean true) (Opened []) }
     {
         // Open parameters have a whole bare item before them: none are open while it is replaced.
@@ -89,7 +89,7 @@ impl ItemReader {
 
     /// Begins parameters that belong to no bare item: those after a closing bracket.
     pub fn begin_params(&mut self, context: &Context)
-        // They are those of Boolean true, which stands for no bare item here, and none was begun.
+        // They are those of Boolean true, which is no bare item here, and none was begun.
         ensures { self.new ≡ InParams (bare_is.Boolean true) (Between []) }
     {
         self.in_params = false;
@@ -98,19 +98,19 @@ impl ItemReader {
         self.in_params = true;
     }
 
-    /// The parameters alone, if the last one is whole. What is left is the reader alone.
+    /// The parameters alone, if the last one is complete. Their value is taken out of the reader.
     pub fn finish_params(&mut self, context: &Context) -> Result<Option<Entries<Bare>>, OutOfMemory>
         // In parameters, they are the value that the state has at the end, if it has one.
         ensures value { IfOk result (λ params. (x : Bare) (s : ParamsState)
             → self.old ≡ InParams x s → params ≡ params_finish s) }
-        // Without them the reader stays as it is.
+        // Otherwise the reader is unchanged.
         ensures kept { IfOk result (λ params. IfNone params (self.new ≡ self.old)) }
     {
         self.params.finish(context)
     }
 
-    /// Adds the item, if it is whole, or reports that it is not, and changes nothing. What is left
-    /// is the reader alone.
+    /// Adds the item, if it is complete; otherwise returns false and changes nothing. Its value is
+    /// taken out of the reader.
     #[inline(always)]
     pub fn end<G: Gather<Item>>(
         &mut self,
@@ -120,9 +120,9 @@ impl ItemReader {
         // The item was added to what was given, or may not end and nothing was added.
         ensures ended { IfOk result (λ ended. Ends ended (option_map (G.with given.old)
             (item_finish self.old)) given.old given.new) }
-        // Where nothing was added the reader stays as it is.
+        // If nothing was added, the reader is unchanged.
         ensures kept { IfOk result (λ ended. ended ≡ false → self.new ≡ self.old) }
-        // Without parameters the end does not allocate where adding the item takes none.
+        // Without parameters the end does not allocate if adding the item doesn't.
         ensures allocation_free { G.free → (more : Seq ℕ) → ItemFree self.old more → IsOk result }
     {
         if !self.in_params {

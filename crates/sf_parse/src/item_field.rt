@@ -19,7 +19,7 @@ use sf_value::{Dialect, Item, OutOfMemory};
 use std::marker::Model;
 use std::mem;
 
-/// Where around an item the text is.
+/// The part of a field between spaces that is being read.
 #[derive(Clone, Copy)]
 pub enum TopPhase {
     /// Before the item.
@@ -30,7 +30,7 @@ pub enum TopPhase {
     Behind,
 }
 
-/// What was read of an item between spaces: the item that is open, and the one that is whole.
+/// What was read of an item between spaces: the item that is open, or the one that is complete.
 #[derive(Drop)]
 pub struct TopReader {
     phase: TopPhase,
@@ -62,11 +62,11 @@ impl TopReader {
         }
     }
 
-    /// The item, if the field may end here. What is left is the reader alone.
+    /// The item, if the field may end here. Its value is taken out of the reader.
     pub fn finish(&mut self, context: &Context) -> Result<Option<Item>, OutOfMemory>
         // The item is the value that the state has at the end, if it has one.
         ensures value { IfOk result (λ item. option_map field.Item item ≡ finish_of self.old) }
-        // Where no byte more does not allocate, the end takes none.
+        // If the state is allocation-free, the call does not fail.
         ensures allocation_free { FieldFree self.old [] → IsOk result }
     {
         match self.phase {

@@ -1,6 +1,5 @@
-//! The laws of the grammar that follow from its machine, in both dialects, and those of what a
-//! refusal shows: its set of bytes and its line. Each is the contract of a function that does
-//! nothing.
+//! The laws of the grammar that follow from its machine, in both dialects, and those of the set of
+//! bytes and the line of a refusal. Each is the contract of a function that does nothing.
 ghost use Rattle.sf_parse.specs.Laws.{OneValue, IsRead, IsResidual, IsViable, IsNext, IsEnd};
 ghost use Rattle.sf_parse.specs.Laws.{StopsAt};
 ghost use Rattle.sf_parse.specs.Laws.{CanonOne, AnyChunks, OnlyNew, LinesOne};
@@ -13,7 +12,7 @@ ghost use Rattle.sf_parse.specs.StateTests.{TakesStep, MayEnd, TakesNext, EndsTe
 ghost use Rattle.sf_parse.specs.StateTests.{SomeNext};
 
 /// A text spells at most one value of a kind. Valid values with equal canonical texts are equal.
-/// Accepted lines spell one value, and its canonical text as the only line is accepted as that
+/// Accepted lines spell one value, and their canonical text as the only line is accepted as that
 /// value.
 pub fn one_value()
     ensures one { OneValue }
@@ -44,7 +43,7 @@ pub fn only_new_types_differ()
     ensures { OnlyNew }
 {}
 
-/// What a state says of the bytes that a parser took, however it came about.
+/// What follows from a state for the bytes that a parser took, however they came.
 pub fn what_was_taken()
     ensures nothing { ReachedNothing }
     ensures more { ReachesMore }
@@ -55,7 +54,7 @@ pub fn what_was_taken()
     ensures all { ReachedAll }
 {}
 
-/// The tests on a state tell which bytes may come next and whether the text may end; those bytes
+/// The tests on a state decide which bytes may come next and whether the text may end; those bytes
 /// are below 128, and there is always one.
 pub fn what_may_follow()
     ensures step { TakesStep }
@@ -66,8 +65,8 @@ pub fn what_may_follow()
     ensures some { SomeNext }
 {}
 
-/// The runs of a set, as [`crate::runs_of`] gives them, are just its bytes below 128, ascending,
-/// each run as long as it can be.
+/// The runs of a set, as [`crate::runs_of`] returns them, are exactly its bytes below 128, in
+/// ascending order, each run as long as possible.
 pub fn runs_are_the_set()
     ensures set { RunsAreTheSet }
     ensures whole { RunsAreWhole }

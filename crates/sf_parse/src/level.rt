@@ -15,52 +15,53 @@ pub trait Level {
     // What the machine does with one more byte.
     ghost next: { Dialect → Self → ℕ → Option Self };
 
-    // The part that is open can't go on with this byte.
+    // The part that is open can't continue with this byte.
     ghost stuck: { Dialect → Self → ℕ → Type 0 };
 
-    // Whether it can go on with a byte, and whether it may end.
+    // Whether it can continue with a byte, and whether it may end.
     ghost takes: { Dialect → Self → ℕ → Bool };
 
     ghost ends: { Self → Bool };
 
-    // The states and further bytes that do not allocate.
+    // The states and further bytes that are allocation-free.
     ghost allocation_free: { Dialect → Self → List ℕ → Type 0 };
 
-    /// Takes what the part that is open can go on with, and gives back the rest.
+    /// Takes what the part that is open can continue with, and returns the rest.
     fn take_part<'a>(&mut self, context: &Context, chunk: &'a [u8]) -> Result<&'a [u8], OutOfMemory>
         // The bytes before the rest lead the machine from the old state to the new one.
         ensures went { IfOk result (λ rest. Went (next context.now.dialect) self.old chunk.now
             rest.now self.new) }
-        // The part that is open can't go on with the first byte of the rest.
+        // The part that is open can't continue with the first byte of the rest.
         ensures stuck { IfOk result (λ rest. FirstIs (stuck context.now.dialect self.new)
             rest.now) }
-        // Where the chunk does not allocate, no allocation fails.
+        // If the chunk is allocation-free, no allocation fails.
         ensures allocation_free { allocation_free context.now.dialect self.old chunk.now
             → IsOk result };
 
-    /// Takes a byte with which the part that is open can't go on, or reports that the level can't
-    /// either, and stays as it is.
+    /// Takes a byte with which the part that is open can't continue, or returns false, and is
+    /// unchanged, if the level can't either.
     fn turn(&mut self, context: &Context, byte: u8) -> Result<bool, OutOfMemory>
-        // A byte that the part can't take leads the machine on, or can't and the state stays.
+        // A byte that the part can't take leads to the next state, or it can't and the state is
+        // unchanged.
         ensures step { IfOk result (λ took. stuck context.now.dialect self.old byte
             → Steps took (next context.now.dialect self.old byte) self.old self.new) }
-        // Where the byte and others after it do not allocate, no allocation fails.
+        // If the byte and some bytes after it are allocation-free, no allocation fails.
         ensures allocation_free { (more : List ℕ)
             → allocation_free context.now.dialect self.old (byte ∷ more) → IsOk result };
 
-    /// Takes a byte that the part that is open goes on with, or reports that the part can't.
+    /// Takes a byte that the part that is open continues with, or reports that the part can't.
     fn push_part(&mut self, context: &Context, byte: u8) -> Result<bool, OutOfMemory>
-        // The byte, where it is taken, leads the machine on; otherwise the state stays.
+        // A byte that is taken leads to the next state; otherwise the state is unchanged.
         ensures went { IfOk result (λ took. Went (next context.now.dialect) self.old (byte ∷ [])
             (unless took byte) self.new) }
-        // With a byte that is not taken the part that is open can't go on.
+        // The part that is open can't continue with a byte that is not taken.
         ensures stuck { IfOk result (λ took. FirstIs (stuck context.now.dialect self.new)
             (unless took byte)) }
-        // Where the byte and others after it do not allocate, no allocation fails.
+        // If the byte and some bytes after it are allocation-free, no allocation fails.
         ensures allocation_free { (more : List ℕ)
             → allocation_free context.now.dialect self.old (byte ∷ more) → IsOk result };
 
-    /// The bytes below 128 that the level can go on with, a bit for each.
+    /// The bytes below 128 that the level can continue with, a bit for each.
     fn expected(&self, dialect: Dialect) -> u128
         ensures { Marks result (takes dialect self.now) };
 
@@ -68,13 +69,13 @@ pub trait Level {
     fn may_end(&self) -> bool
         ensures { result ≡ ends self.now };
 
-    // What does not allocate doesn't do so after its first byte either.
+    // If the bytes are allocation-free, those after the first are, too.
     ghost keeps: { (d : Dialect) (s t : Self) (b : ℕ) (more : List ℕ)
         → allocation_free d s (b ∷ more) → next d s b ≡ Some t → allocation_free d t more };
 
     /// The refusal of the byte that was found at this place, or of the end if none was.
     final fn refuse(&self, dialect: Dialect, place: u64, found: Option<u8>) -> Refusal
-        // It names the bytes that the level can go on with, and whether it may end.
+        // It names the bytes that the level can continue with, and whether it may end.
         ensures { Refuses (takes dialect self.now) (ends self.now) place found result }
     {
         Refusal::Syntax {
@@ -85,15 +86,16 @@ pub trait Level {
         }
     }
 
-    /// Takes one byte, or reports that the level can't go on with it: as `take` does, with no look
-    /// for a run.
+    /// Takes one byte, or returns false if the level can't continue with it: as `take` does,
+    /// without looking for a run.
     #[inline(always)]
     final fn push(&mut self, context: &Context, byte: u8) -> Result<bool, OutOfMemory>
-        // A byte that is taken leads the machine on; with any other it can't go on, and stays.
+        // A byte that is taken leads to the next state; otherwise the level can't continue with it,
+        // and is unchanged.
         ensures prefix { IfOk result
             (λ took. LongestPrefix (next context.now.dialect) self.old (byte ∷ [])
             (unless took byte) self.new) }
-        // Where the byte and others after it do not allocate, no allocation fails.
+        // If the byte and some bytes after it are allocation-free, no allocation fails.
         ensures allocation_free { (more : List ℕ)
             → allocation_free context.now.dialect self.old (byte ∷ more) → IsOk result }
     {
@@ -103,7 +105,7 @@ pub trait Level {
         self.turn(context, byte)
     }
 
-    /// Takes the longest prefix of the chunk that the level can go on with, and gives back the
+    /// Takes the longest prefix of the chunk that the level can continue with, and returns the
     /// rest.
     final fn take<'a>(
         &mut self,
@@ -114,7 +116,7 @@ pub trait Level {
         ensures prefix { IfOk result
             (λ rest. LongestPrefix (next context.now.dialect) self.old chunk.now
             rest.now self.new) }
-        // Where the chunk does not allocate, no allocation fails.
+        // If the chunk is allocation-free, no allocation fails.
         ensures allocation_free { allocation_free context.now.dialect self.old chunk.now
             → IsOk result }
     {

@@ -1,10 +1,10 @@
 //! The push parser of structured fields (RFC 9651 section 4.2).
 //!
-//! A [`Parser`] is handed a text in chunks and keeps none of it: beside the values built so far
-//! only the open construct. It refuses at the exact byte, with exactly the bytes that could have
-//! followed ([`Refusal::Syntax`]), whatever the chunks. [`parse_text`] parses a text at once,
-//! [`parse_reader`] what a reader gives. A refusal says itself in words, alone or beside the line
-//! that it is in ([`InLine`]), and [`runs_of`] lists the bytes that it names.
+//! A [`Parser`] takes a text in chunks and keeps none of it: it keeps the values built so far and
+//! the open construct. It refuses a text at the first byte that is not allowed, with exactly the
+//! bytes that are allowed there ([`Refusal::Syntax`]), however the text is cut. [`parse_text`]
+//! parses a whole text, and [`parse_reader`] what a reader returns. A refusal prints as an error
+//! message, alone or with its line ([`InLine`]), and [`runs_of`] lists the bytes that it expects.
 //!
 //! ```text
 //! let mut parser = Parser::new(alloc, &seed, Kind::Item, u64::MAX);
@@ -13,9 +13,9 @@
 //! let field = parser.finish()?; // the Decimal 1.5, with the parameter q
 //! ```
 //!
-//! The contracts speak of texts and values by the grammar of `sf_value`; `specs/Parsers` says what
-//! a parser took and answers. [`laws`] says what follows from the machine by which it is proved,
-//! and what the runs of a set are.
+//! The contracts define texts and values by the grammar of `sf_value`; `specs/Parsers` defines what
+//! a parser took and what it returns. [`laws`] states what follows from the machine by which this
+//! is proved, and what the runs of a set are.
 #![tactic(auto)]
 
 mod bare;

@@ -24,7 +24,7 @@ use sf_value::{Dialect, Inner, Item, Member, OutOfMemory, Sequence};
 use std::marker::Model;
 use std::mem;
 
-/// Where in a member the text is.
+/// The part of a member that is being read.
 #[derive(Clone, Copy)]
 pub enum MemberPhase {
     /// In an item that is the member.
@@ -37,7 +37,7 @@ pub enum MemberPhase {
     Closing,
 }
 
-/// What was read of a member: the whole items of an inner list, and the item that is open. The
+/// What was read of a member: the complete items of an inner list, and the item that is open. The
 /// parameters after a closing bracket are read by the reader of items.
 pub struct MemberReader {
     phase: MemberPhase,
@@ -70,7 +70,7 @@ impl Drop for MemberReader {
 }
 
 impl MemberReader {
-    /// A reader that no member was begun in. It does not allocate.
+    /// A reader in which no member was begun. It does not allocate.
     pub fn new(context: &Context) -> MemberReader {
         MemberReader {
             phase: MemberPhase::One,
@@ -96,7 +96,7 @@ impl MemberReader {
 
     /// Begins the parameters of Boolean true, after the first semicolon.
     pub fn open_flag(&mut self, context: &Context)
-        // The parameters of Boolean true are open, and none is whole.
+        // The parameters of Boolean true are open, and none is complete.
         ensures { self.new ≡ InOne (InParams (bare_is.Boolean true) (Opened [])) }
     {
         self.phase = MemberPhase::One;
@@ -110,13 +110,13 @@ impl MemberReader {
         BareReader::first_bytes(dialect) | OPEN
     }
 
-    /// The inner list after whose bracket the text is, if its last parameter is whole.
+    /// The inner list whose closing bracket was read, if its last parameter is complete.
     #[inline(never)]
     fn finish_inner(&mut self, context: &Context) -> Result<Option<Inner>, OutOfMemory>
         // In an inner list, it is the value that the state has at the end, if it has one.
         ensures value { IfOk result (λ inner. (s : InnerState) → self.old ≡ InMany s
             → inner ≡ inner_finish s) }
-        // Without one the reader stays as it is.
+        // Otherwise the reader is unchanged.
         ensures kept { IfOk result (λ inner. IfNone inner (self.new ≡ self.old)) }
     {
         match self.phase {
@@ -134,11 +134,11 @@ impl MemberReader {
         }
     }
 
-    /// The member, if it is whole. What is left is the reader alone.
+    /// The member, if it is complete. Its value is taken out of the reader.
     pub fn finish(&mut self, context: &Context) -> Result<Option<Member>, OutOfMemory>
         // The member is the value that the state has at the end, if it has one.
         ensures value { IfOk result (λ member. member ≡ member_finish self.old) }
-        // Without one the reader stays as it is.
+        // Otherwise the reader is unchanged.
         ensures kept { IfOk result (λ member. IfNone member (self.new ≡ self.old)) }
     {
         match self.phase {
@@ -157,8 +157,8 @@ impl MemberReader {
         }
     }
 
-    /// Adds the member, if it is whole, or reports that it is not, and changes nothing. What is
-    /// left is the reader alone.
+    /// Adds the member, if it is complete; otherwise returns false and changes nothing. Its value
+    /// is taken out of the reader.
     pub fn end(
         &mut self,
         context: &Context,
@@ -167,7 +167,7 @@ impl MemberReader {
         // The member was added to what was given, or may not end and nothing was added.
         ensures ended { IfOk result (λ ended. Ends ended (with_member self.old given.old) given.old
             given.new) }
-        // Where nothing was added the reader stays as it is.
+        // If nothing was added, the reader is unchanged.
         ensures kept { IfOk result (λ ended. ended ≡ false → self.new ≡ self.old) }
     {
         match self.phase {
@@ -177,7 +177,7 @@ impl MemberReader {
         }
     }
 
-    /// The same of the inner list after whose bracket the text is.
+    /// The same for an inner list whose closing bracket was read.
     #[inline(never)]
     fn end_inner(
         &mut self,
@@ -187,7 +187,7 @@ impl MemberReader {
         // The inner list was added to what was given, or may not end and nothing was added.
         ensures ended { IfOk result (λ ended. (s : InnerState) → self.old ≡ InMany s
             → Ends ended (with_member (InMany s) given.old) given.old given.new) }
-        // Where nothing was added the reader stays as it is.
+        // If nothing was added, the reader is unchanged.
         ensures kept { IfOk result (λ ended. ended ≡ false → self.new ≡ self.old) }
     {
         let Some(inner) = self.finish_inner(context)? else {

@@ -1,4 +1,4 @@
-//! What could have followed, in words.
+//! The names of the bytes that a refusal expects.
 ghost use Rattle.std.specs.Prelude.{◌≡◌, ◌<◌, [], ◌∷◌, Some, MatchOption};
 ghost use Rattle.sf_parse.specs.Names.{name_at as nth_name, set_of, names_left, names_of};
 ghost use Rattle.sf_parse.specs.Names.{byte_text, name_text, listed, joint as joint_of};
@@ -7,16 +7,16 @@ use crate::byte_runs::Hex;
 use crate::sets::{BASE64, DIGITS, KEY, LETTERS, LOWER, LOWER_HEX, TOKEN, UPPER, VISIBLE};
 use std::fmt;
 
-/// What could have followed: a byte of one of these classes, one byte, or the end.
+/// What a refusal expects: a byte of one of these classes, one byte, or the end.
 #[derive(Clone, Copy)]
 enum Name {
     /// The bytes of strings (RFC 9651 section 3.3.3).
     Printable,
-    /// The further bytes of a token (section 3.3.4).
+    /// The bytes of a token after its first (section 3.3.4).
     Token,
     /// The characters of base64 (RFC 4648 section 4).
     Base64,
-    /// The further bytes of a key (RFC 9651 section 3.1.2).
+    /// The bytes of a key after its first (RFC 9651 section 3.1.2).
     Key,
     Letter,
     Lower,
@@ -28,11 +28,11 @@ enum Name {
     End,
 }
 
-/// How many names are tried.
+/// The number of names that are tried.
 const COUNT: u8 = 137;
 
-/// The names that an iteration has left: those of a set, of which names from a place on are tried,
-/// and of the end.
+/// The names that remain of an iteration over those of a set and of the end: names from an index on
+/// are tried.
 #[derive(Clone, Copy)]
 struct Names {
     set: u128,
@@ -43,7 +43,7 @@ struct Names {
 impl Names {
     /// Takes the first of them.
     fn next(&mut self) -> Option<Name>
-        // It is the first of the names left, and the others are left then; None if none is left.
+        // It is the first of the names that remain, and the others remain; None if none remains.
         ensures { MatchOption result (names_left self.old ≡ [])
             (λ name. names_left self.old ≡ name ∷ names_left self.new) }
     {
@@ -63,7 +63,7 @@ impl Names {
         None
     }
 
-    /// What is between the name that came last and the first of these.
+    /// The text between the last name and the first of these.
     fn joint(&self) -> &'static str
         ensures { result.now ≡ joint_of (names_left self.now) }
     {
@@ -75,7 +75,7 @@ impl Names {
     }
 }
 
-/// A byte, shown by a word, or between backquotes, or by its two hexadecimal digits.
+/// A byte, printed as a word, between backquotes, or as its two hexadecimal digits.
 #[derive(Clone, Copy, Drop)]
 struct ByteName {
     byte: u8,
@@ -130,7 +130,7 @@ impl fmt::Display for Name {
     }
 }
 
-/// What could have followed, shown by its names, with commas between them and "or" before the last.
+/// What a refusal expects, printed by names, with commas between them and "or" before the last.
 #[derive(Clone, Copy, Drop)]
 pub(crate) struct Expected {
     pub set: u128,
@@ -158,7 +158,7 @@ impl fmt::Display for Expected {
     }
 }
 
-/// The name that is tried at this place: the classes, the bytes from `!` on, and those below it.
+/// The name at this index: the classes, the bytes from `!` on, and those below it.
 fn name_at(place: u8) -> Name
     requires { place < 137 }
     ensures { result ≡ nth_name place }
@@ -177,7 +177,7 @@ fn name_at(place: u8) -> Name
     }
 }
 
-/// The bytes below 128 that a name stands for.
+/// The bytes below 128 of a name.
 fn bytes_of(name: Name) -> u128
     ensures { result ≡ set_of name }
 {

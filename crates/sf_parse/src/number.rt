@@ -11,7 +11,7 @@ use crate::sets::{DIGITS, POINT, set_if};
 use sf_value::{Bare, Int, Thousandths};
 use std::marker::Model;
 
-/// What was read of a number: the digits of its whole part, or, once the point came, those of its
+/// What was read of a number: the digits of its whole part or, after the point, those of its
 /// fraction.
 #[derive(Drop)]
 pub struct NumberReader {
@@ -38,7 +38,7 @@ pub fn with_sign(negative: bool, value: u64) -> i64
     // It has at most 15 digits.
     requires { value ≤ 999999999999999 }
     ensures value { result ≡ signed negative value }
-    // So has the number.
+    // The number also has at most 15 digits.
     ensures short { nat_abs result < 10 ^ 15 }
 {
     if negative {
@@ -49,7 +49,7 @@ pub fn with_sign(negative: bool, value: u64) -> i64
 }
 
 impl NumberReader {
-    /// A reader that no number was begun in.
+    /// A reader in which no number was begun.
     pub fn none() -> NumberReader {
         NumberReader {
             negative: false,
@@ -59,11 +59,11 @@ impl NumberReader {
         }
     }
 
-    /// Begins a number with this byte, or reports that none begins with it, and stays as it is.
+    /// Begins a number with this byte, or returns false, and is unchanged, if none begins with it.
     pub fn start(&mut self, byte: u8) -> bool
         // The new state is the one that the byte begins, or none begins with it.
         ensures start { Starts result (number_start byte) self.new }
-        // Where none begins, the reader stays as it is.
+        // If none begins, the reader is unchanged.
         ensures kept { result ≡ false → self.new ≡ self.old }
     {
         match byte {
@@ -85,10 +85,10 @@ impl NumberReader {
         }
     }
 
-    /// Takes one more byte, or reports that the number can't go on with it and stays as it is.
+    /// Takes one more byte, or reports that the number can't continue with it and is unchanged.
     #[tactic(auto, using(crate::proofs::Numerals::room, crate::proofs::Numerals::whole_fits, crate::proofs::Numerals::next_digit))]
     pub fn step(&mut self, byte: u8) -> bool
-        // The byte leads the machine on, or can't and the state stays.
+        // The byte leads to the next state, or it can't and the state is unchanged.
         ensures { Steps result (number_step self.old byte) self.old self.new }
     {
         match self.whole {
@@ -119,11 +119,11 @@ impl NumberReader {
         true
     }
 
-    /// Takes the bytes that the number goes on with, and gives back the rest.
+    /// Takes the bytes that the number continues with, and returns the rest.
     pub fn take_run<'a>(&mut self, chunk: &'a [u8]) -> &'a [u8]
         // The bytes before the rest lead the machine from the old state to the new one.
         ensures went { Went number_step self.old chunk.now result.now self.new }
-        // The number can't go on with the first byte of the rest.
+        // The number can't continue with the first byte of the rest.
         ensures stop { FirstIs (Halts number_step self.new) result.now }
     {
         let mut rest = chunk;
@@ -136,7 +136,7 @@ impl NumberReader {
         rest
     }
 
-    /// The bytes that the number can go on with.
+    /// The bytes that the number can continue with.
     pub fn expected(&self) -> u128
         // The bits are those of the bytes that may come.
         ensures { Marks result (number_takes self.now) }

@@ -15,7 +15,7 @@ use sf_value::{Bare, Dialect, Entries, Key, OutOfMemory, ShortBytes, can_start_k
 use std::marker::Model;
 use std::mem;
 
-/// Where in parameters the text is.
+/// The part of parameters that is being read.
 #[derive(Clone, Copy)]
 pub enum ParamsPhase {
     /// After a bare item or a parameter.
@@ -30,7 +30,7 @@ pub enum ParamsPhase {
     InValue,
 }
 
-/// What was read of parameters: the whole ones, and the key and the value of the one that is open.
+/// What was read of parameters: the complete ones, and the key and the value of the open one.
 #[derive(Drop)]
 pub struct ParamsReader {
     phase: ParamsPhase,
@@ -52,7 +52,7 @@ impl Model for ParamsReader {
 }
 
 impl ParamsReader {
-    /// After what the parameters belong to. It does not allocate.
+    /// A reader after the bare item or bracket of the parameters. It does not allocate.
     pub fn new(context: &Context) -> ParamsReader
         ensures { result ≡ Between [] }
     {
@@ -64,7 +64,7 @@ impl ParamsReader {
         }
     }
 
-    /// Begins anew, after what the parameters belong to.
+    /// Begins again, after a bare item or a bracket.
     pub fn begin(&mut self, context: &Context)
         ensures { self.new ≡ Between [] }
     {
@@ -72,7 +72,7 @@ impl ParamsReader {
         self.params = Entries::new(context.alloc, &context.seed);
     }
 
-    /// Begins anew, after the first semicolon.
+    /// Begins again, after the first semicolon.
     pub fn open(&mut self, context: &Context)
         ensures { self.new ≡ Opened [] }
     {
@@ -80,11 +80,11 @@ impl ParamsReader {
         self.params = Entries::new(context.alloc, &context.seed);
     }
 
-    /// The parameters, if the last one is whole. What is left is the reader alone.
+    /// The parameters, if the last one is complete. Their value is taken out of the reader.
     pub fn finish(&mut self, context: &Context) -> Result<Option<Entries<Bare>>, OutOfMemory>
         // They are the value that the state has at the end, if it has one.
         ensures value { IfOk result (λ params. params ≡ params_finish self.old) }
-        // Without them the reader stays as it is.
+        // Otherwise the reader is unchanged.
         ensures kept { IfOk result (λ params. IfNone params (self.new ≡ self.old)) }
     {
         match self.phase {
@@ -236,8 +236,7 @@ impl Level for ParamsReader {
     }
 }
 
-/// Puts a value at the key that was read. A later value of a key takes the place of the earlier
-/// one.
+/// Puts a value at the key that was read. A later value of a key overwrites an earlier one.
 fn put(
     params: &mut Entries<Bare>,
     key: &mut ShortBytes,

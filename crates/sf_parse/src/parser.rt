@@ -1,4 +1,4 @@
-//! The parser that is handed chunks.
+//! The parser of chunks.
 ghost use Rattle.std.specs.Prelude.{◌≡◌, ℕ, ◌+◌, ◌<◌, ◌≤◌, List, [], ◌∷◌, ◌++◌, length, true};
 ghost use Rattle.std.specs.Prelude.{Some, None};
 ghost use Rattle.std.specs.Prelude.{IfSome, IfNone, IfOk, OnOk, Err, MatchResult, false};
@@ -21,8 +21,8 @@ use std::fmt;
 use std::hash::RandomState;
 use std::marker::Model;
 
-/// What was taken of a text, and why it was refused. It keeps no text: beside the values built so
-/// far only the open construct.
+/// What was taken of a text, and why it was refused. It keeps no text: only the values built so far
+/// and the open construct.
 ///
 /// ```
 /// let mut parser = Parser::new(alloc, &seed, Kind::List, 1000);
@@ -60,7 +60,7 @@ impl Model for Parser {
     ghost invariant = { λ p. Sound p.refusal (state_of p.state) p.count p.max };
 }
 
-// Written out, so that it is one call wherever a parser is dropped.
+// Written out, so that a drop of a parser is one call.
 impl Drop for Parser {
     fn drop(self) {
         let Parser {
@@ -75,7 +75,7 @@ impl Drop for Parser {
     }
 }
 
-/// The settings and the place, not what was read nor the seed.
+/// Prints the settings and the place, not what was read nor the seed.
 impl fmt::Debug for Parser {
     fn fmt<W: fmt::Write>(&self, f: &mut fmt::Formatter<W>) -> fmt::Result {
         f.debug_struct("Parser")
@@ -137,7 +137,7 @@ impl Parser {
         }
     }
 
-    /// How many bytes were taken: after a Syntax refusal its place, after TooLong the limit.
+    /// The number of bytes taken: after a Syntax refusal its place, after TooLong the limit.
     pub fn place(&self) -> u64
         ensures count { result ≡ self.now.count }
         // It is the place of a Syntax refusal, and the limit after TooLong.
@@ -146,22 +146,23 @@ impl Parser {
         self.count
     }
 
-    /// Takes what the field can go on with of bytes within the limit, and gives back the rest.
+    /// Takes the bytes, all within the limit, that the field can continue with, and returns the
+    /// rest.
     fn take<'a>(&mut self, prefix: &'a [u8]) -> Result<&'a [u8], Refusal>
         requires unrefused { self.old.refusal ≡ None }
-        // The prefix lies within the limit.
+        // The prefix is within the limit.
         requires room { self.old.count + length prefix.now ≤ self.old.max }
         // Ok took the bytes before the rest; a refusal remains, whatever comes after the prefix.
         ensures fed { MatchResult result (λ rest. FedTo self.old self.new prefix.now rest.now)
             (λ e. Fed self.old self.new (Err e) prefix.now) }
-        // The count goes up by the bytes before the rest.
+        // The count increases by the bytes before the rest.
         ensures counted { IfOk result (λ rest. self.new.count + length rest.now
             ≡ self.old.count + length prefix.now) }
         ensures lines { self.new.after_line ≡ self.old.after_line }
-        // The field can't go on with the first byte of the rest.
+        // The field can't continue with the first byte of the rest.
         ensures stops { IfOk result (λ rest. FirstIs (Halts (step_of self.new.dialect)
             self.new.state) rest.now) }
-        // Bytes that do not allocate are not refused as out of memory, nor do those after them.
+        // Allocation-free bytes are not refused as out of memory, nor are those after them.
         ensures allocation_free { (more : List ℕ) → IsAllocationFree self.old (prefix.now ++ more)
             → TakenAllocationFree self.new more result }
     {
@@ -176,10 +177,10 @@ impl Parser {
         Ok(rest)
     }
 
-    /// Refuses this byte: it is past the limit, or the field can't go on with it.
+    /// Refuses this byte: it is past the limit, or the field can't continue with it.
     fn refuse(&mut self, byte: u8) -> Refusal
         requires unrefused { self.old.refusal ≡ None }
-        // Below the limit the field can't go on with the byte.
+        // Below the limit the field can't continue with the byte.
         requires stops { self.old.count < self.old.max
             → Halts (step_of self.old.dialect) self.old.state byte }
         // The refusal remains whatever comes after the byte.
@@ -200,18 +201,18 @@ impl Parser {
         refusal
     }
 
-    /// Takes the next chunk, or refuses the text: with Syntax at a byte that can't follow, with
+    /// Takes the next chunk, or refuses the text: with Syntax at a byte that is not allowed, with
     /// TooLong after the limit, or with OutOfMemory if an allocation fails. A parser that refused
-    /// once gives the same refusal to every later call, whatever the chunk.
+    /// returns the same refusal to every later call, whatever the chunk.
     pub fn feed(&mut self, chunk: &[u8]) -> Result<(), Refusal>
         // Ok took the chunk; a refusal remains, whatever comes after it.
         ensures fed { Fed self.old self.new result chunk.now }
-        // A chunk is no field line.
+        // A chunk is not a field line.
         ensures lines { self.new.after_line ≡ self.old.after_line }
-        // A parser that refused gives the same refusal and stays as it is.
+        // A parser that refused returns the same refusal and is unchanged.
         ensures again { IfSome self.old.refusal (λ e. (result ≡ Err e) × (self.new ≡ self.old)) }
-        // A chunk that does not allocate is not refused as out of memory, and neither is what comes
-        // after it, if that does not allocate.
+        // An allocation-free chunk is not refused as out of memory, nor is what comes after it, if
+        // that is allocation-free.
         ensures allocation_free { (more : List ℕ) → IsAllocationFree self.old (chunk.now ++ more)
             → KeptAllocationFree self.new more result }
     {
@@ -230,16 +231,16 @@ impl Parser {
         Ok(())
     }
 
-    /// Notes that a field line was fed.
+    /// Records that a field line was fed.
     fn mark_line(&mut self)
         ensures { self.new ≡ record self.old { after_line = true } }
     {
         self.after_line = true;
     }
 
-    /// Takes the next field line, or refuses the text: as `feed` does of the line, after a comma
-    /// and a space where a line was fed before, so that the whole text is that of the lines joined
-    /// (RFC 9651 section 4.2). A parser that refused once gives the same refusal again.
+    /// Takes the next field line, or refuses the text: as `feed` of the line, after a comma and a
+    /// space if a line was fed before, so that the whole text is that of the lines joined (RFC 9651
+    /// section 4.2). A parser that refused returns the same refusal again.
     ///
     /// ```
     /// parser.feed_line(b"a, b")?;
@@ -247,15 +248,15 @@ impl Parser {
     /// parser.finish()? // the List a, b, c
     /// ```
     pub fn feed_line(&mut self, line: &[u8]) -> Result<(), Refusal>
-        // Ok took the line, after a comma and a space where a line came before; a refusal remains,
+        // Ok took the line, after a comma and a space if a line came before; a refusal remains,
         // whatever comes after it.
         ensures fed { Fed self.old self.new result (in_line self.old.after_line line.now) }
         // Once a line was taken, the next one is joined to it.
         ensures lines { OnOk result (self.new.after_line ≡ true) }
-        // A parser that refused gives the same refusal and stays as it is.
+        // A parser that refused returns the same refusal and is unchanged.
         ensures again { IfSome self.old.refusal (λ e. (result ≡ Err e) × (self.new ≡ self.old)) }
-        // A line that does not allocate is not refused as out of memory, and neither is what comes
-        // after it, if that does not allocate.
+        // An allocation-free line is not refused as out of memory, nor is what comes after it, if
+        // that is allocation-free.
         ensures allocation_free { (more : List ℕ)
             → IsAllocationFree self.old (in_line self.old.after_line line.now ++ more)
             → KeptAllocationFree self.new more result }
@@ -269,17 +270,17 @@ impl Parser {
         Ok(())
     }
 
-    /// Why the text may not end here, if it may not.
+    /// The refusal at the end, if the text may not end here.
     fn refusal_at_end(&self) -> Option<Refusal>
-        // A parser that refused gives the same refusal.
+        // A parser that refused returns the same refusal.
         ensures again { IfSome self.now.refusal (λ e. result ≡ Some e) }
-        // Where all bytes were taken, the refusal is right at their end.
+        // If all bytes were taken, the refusal is exact at their end.
         ensures ended { IfSome result (λ e. (s : List ℕ) → Took self.now s
             → Finishes self.now.dialect self.now.kind s (Err e)) }
         ensures unrefused { IfNone result (self.now.refusal ≡ None) }
         // Without a refusal the text may end.
         ensures whole { IfNone result (may_end self.now.state ≡ true) }
-        // If the end does not allocate, the refusal is not out of memory.
+        // If the end is allocation-free, the refusal is not out of memory.
         ensures allocation_free { IsAllocationFree self.now [] → IfSome result IsOther }
     {
         if let Some(refusal) = self.refusal {
@@ -291,15 +292,15 @@ impl Parser {
         Some(self.state.refuse(self.context.dialect, self.count, None))
     }
 
-    /// The value of what was taken. It fails with the refusal that a call before gave, with Syntax
-    /// if the text may not end here, and with OutOfMemory if an allocation fails.
+    /// The value of what was taken. Fails with the refusal of an earlier call, with Syntax if the
+    /// text may not end here, and with OutOfMemory if an allocation fails.
     pub fn finish(self) -> Result<Field, Refusal>
         // It is the one value of all bytes taken, or Syntax at their end; otherwise an allocation
         // failed.
         ensures ended { (s : List ℕ) → Took self s → Finishes self.dialect self.kind s result }
-        // A parser that refused gives the same refusal.
+        // A parser that refused returns the same refusal.
         ensures again { IfSome self.refusal (λ e. result ≡ Err e) }
-        // An end that does not allocate is not refused as out of memory.
+        // An allocation-free end is not refused as out of memory.
         ensures allocation_free { IsAllocationFree self [] → NotForMemory result }
     {
         if let Some(refusal) = self.refusal_at_end() {

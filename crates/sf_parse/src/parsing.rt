@@ -17,9 +17,9 @@ use std::hash::RandomState;
 
 /// The value that the text spells, in the dialect of RFC 9651 (section 4.2). A text that spells
 /// none is refused with Syntax, and a failed allocation with OutOfMemory; it is never TooLong or
-/// ReadFault. If an Item is asked for, a text of spaces, digits and `-.?@` does not allocate, nor
-/// do at most 16 bytes without `;`, `:` and `%`, such as a short Token or String; nor does an empty
-/// List or Dictionary.
+/// ReadFault. For an Item, a text of spaces, digits and `-.?@` does not allocate, nor do at most 16
+/// bytes without `;`, `:` and `%`, such as a short Token or String; nor does an empty List or
+/// Dictionary.
 ///
 /// ```
 /// let field = parse_text(alloc, &seed, Kind::Dict, b"u=1, i")?;
@@ -30,10 +30,10 @@ pub fn parse_text(
     kind: Kind,
     text: &[u8],
 ) -> Result<Field, Refusal>
-    // The text spells just this value, or this is its exact refusal; otherwise an allocation
+    // The text spells only this value, or this is its exact refusal; otherwise an allocation
     // failed.
     ensures parses { Parses Rfc9651 kind text.now result }
-    // A text that does not allocate is not refused as out of memory.
+    // An allocation-free text is not refused as out of memory.
     ensures allocation_free { TakesNoMemory kind text.now → NotForMemory result }
 {
     parse_text_in(alloc, seed, Dialect::Rfc9651, kind, text)
@@ -51,10 +51,10 @@ pub fn parse_text_in(
     kind: Kind,
     text: &[u8],
 ) -> Result<Field, Refusal>
-    // The text spells just this value, or this is its exact refusal; otherwise an allocation
+    // The text spells only this value, or this is its exact refusal; otherwise an allocation
     // failed.
     ensures parses { Parses dialect kind text.now result }
-    // A text that does not allocate is not refused as out of memory.
+    // An allocation-free text is not refused as out of memory.
     ensures allocation_free { TakesNoMemory kind text.now → NotForMemory result }
 {
     let context = Context::new(alloc, seed, dialect);
@@ -65,31 +65,31 @@ pub fn parse_text_in(
     }
 }
 
-/// The Item that the text spells, in the dialect of RFC 9651 (section 4.2), as [`parse_text`] gives
-/// it if an Item is asked for, and refused as it refuses. It allocates only if that does.
+/// The Item that the text spells, in the dialect of RFC 9651 (section 4.2), with the result of
+/// [`parse_text`] for an Item. It allocates only if that does.
 ///
 /// ```
 /// let item = parse_item(alloc, &seed, b"a;q=1")?;
 /// item.param(b"q")?.as_integer() // Some(1)
 /// ```
 pub fn parse_item(alloc: Global, seed: &RandomState, text: &[u8]) -> Result<Item, Refusal>
-    // The text spells just this Item, or this is its exact refusal; otherwise an allocation failed.
+    // The text spells only this Item, or this is its exact refusal; otherwise an allocation failed.
     ensures parses { Makes field_is.Item (Parses Rfc9651 kind_is.Item text.now) result }
-    // A text that does not allocate is not refused as out of memory.
+    // An allocation-free text is not refused as out of memory.
     ensures allocation_free { TakesNoMemory kind_is.Item text.now → IfErr result IsOther }
 {
     parse_whole::<TopReader>(&Context::new(alloc, seed, Dialect::Rfc9651), text)
 }
 
-/// The List that the text spells, in the dialect of RFC 9651 (section 4.2), as [`parse_text`] gives
-/// it if a List is asked for, and refused as it refuses: with Syntax, or as out of memory.
+/// The List that the text spells, in the dialect of RFC 9651 (section 4.2), with the result of
+/// [`parse_text`] for a List: a failure is Syntax, or out of memory.
 ///
 /// ```
 /// let list = parse_list(alloc, &seed, b"a, (b c)")?;
 /// list.members.len() // 2
 /// ```
 pub fn parse_list(alloc: Global, seed: &RandomState, text: &[u8]) -> Result<List, Refusal>
-    // The text spells just this List, or this is its exact refusal; otherwise an allocation failed.
+    // The text spells only this List, or this is its exact refusal; otherwise an allocation failed.
     ensures parses { Makes field_is.List (Parses Rfc9651 kind_is.List text.now) result }
     // An empty List is not refused as out of memory.
     ensures allocation_free { TakesNoMemory kind_is.List text.now → IfErr result IsOther }
@@ -97,16 +97,15 @@ pub fn parse_list(alloc: Global, seed: &RandomState, text: &[u8]) -> Result<List
     parse_whole::<ListReader>(&Context::new(alloc, seed, Dialect::Rfc9651), text)
 }
 
-/// The Dictionary that the text spells, in the dialect of RFC 9651 (section 4.2), as [`parse_text`]
-/// gives it if a Dictionary is asked for, and refused as it refuses: with Syntax, or as out of
-/// memory.
+/// The Dictionary that the text spells, in the dialect of RFC 9651 (section 4.2), with the result
+/// of [`parse_text`] for a Dictionary: a failure is Syntax, or out of memory.
 ///
 /// ```
 /// let dict = parse_dict(alloc, &seed, b"u=1, i")?;
 /// dict.get(b"u") // Some(Member::Item(1))
 /// ```
 pub fn parse_dict(alloc: Global, seed: &RandomState, text: &[u8]) -> Result<Dict, Refusal>
-    // The text spells just this Dictionary, or this is its exact refusal; otherwise an allocation
+    // The text spells only this Dictionary, or this is its exact refusal; otherwise an allocation
     // failed.
     ensures parses { Makes field_is.Dict (Parses Rfc9651 kind_is.Dict text.now) result }
     // An empty Dictionary is not refused as out of memory.

@@ -1,4 +1,4 @@
-//! Texts that a reader gives.
+//! Texts from a reader.
 ghost use Rattle.sf_value.specs.declared.dialect.Dialect.TheVariants.{Rfc9651};
 ghost use Rattle.sf_parse.specs.Reading.{ReadAndParsed};
 
@@ -8,12 +8,13 @@ use sf_value::{Field, Kind, Source};
 use std::alloc::Global;
 use std::hash::RandomState;
 
-/// Returns the value that the reader's text spells, in the dialect of RFC 9651. It asks for at
-/// most `max` + 1 bytes, a block of 512 at a time, repeats no read that failed, and asks for no
-/// byte after the reader's end. The result is, in this order over the bytes given: Syntax with a
+/// Returns the value that the reader's text spells, in the dialect of RFC 9651. It reads at most
+/// `max` + 1 bytes, in blocks of 512, repeats no read that failed, and does not read after the
+/// reader's end. The result is the first of these that applies to the bytes read: Syntax with a
 /// found byte if the first `max` bytes are no viable prefix; ReadFault if a read failed; TooLong if
-/// more than `max` bytes came; otherwise, at the reader's end, the value, or Syntax without a found
-/// byte. A text for which [`crate::parse_text`] does not allocate is not refused as out of memory.
+/// there were more than `max` bytes; otherwise, at the reader's end, the value, or Syntax without a
+/// found byte. A text for which [`crate::parse_text`] does not allocate is not refused as out of
+/// memory.
 ///
 /// ```
 /// let mut source = Reading::new(b"u=1, i".as_slice());
@@ -26,7 +27,7 @@ pub fn parse_reader<R: Source>(
     max: u64,
     reader: &mut R,
 ) -> Result<Field, Refusal>
-    // The answer is that of the bytes given, of which there is at most one more than the limit.
+    // The result is that of the bytes read, of which there is at most one more than the limit.
     ensures { ReadAndParsed Rfc9651 kind (R.state reader.old) (R.state reader.new) max result }
 {
     let limit = max.saturating_add(1);

@@ -32,7 +32,7 @@ pub enum Refusal {
         /// The bytes that could have followed that prefix: bit b is set exactly if byte b could. It
         /// is never 0. [`crate::runs_of`] lists them.
         expected: u128,
-        /// Whether that prefix is a text of the kind itself.
+        /// Whether that prefix is itself a text of the kind.
         may_end: bool,
     },
     /// The text is longer than the limit, and its first bytes up to the limit are a viable prefix.
@@ -42,12 +42,12 @@ pub enum Refusal {
     },
     /// A read failed.
     ReadFault {
-        /// How many bytes the reader had given before.
+        /// The number of bytes that the reader had returned before.
         place: u64,
     },
 }
 
-/// The byte that was found, shown as `0x32 '2'`, or without the character if it is not printable.
+/// The byte that was found, printed as `0x32 '2'`, or without the character if it is not printable.
 #[derive(Clone, Copy, Drop)]
 struct Found {
     byte: u8,
@@ -66,11 +66,11 @@ impl fmt::Display for Found {
     }
 }
 
-/// In words, as ``byte 0x32 '2' at place 2, expected a space or the end``. Of the bytes that could
-/// have followed, each class that is there whole is named, the wider ones first (RFC 9651 sections
-/// 3.1.2, 3.3.3 and 3.3.4, RFC 4648 section 4, letters and digits), and then each byte that is
-/// left: `-` is between backquotes, a space, a tab, a quote and a backquote are called so, and any
-/// other is hexadecimal. Places and lengths are decimal. It does not allocate.
+/// The error message, such as ``byte 0x32 '2' at place 2, expected a space or the end``. It names
+/// each class of bytes that is expected as a whole, larger ones first (RFC 9651 sections 3.1.2,
+/// 3.3.3 and 3.3.4, RFC 4648 section 4, letters and digits), and then each byte that remains: `-`
+/// is between backquotes; a space, a tab, a quote and a backquote have these names; any other is
+/// hexadecimal. Places and lengths are decimal. It does not allocate.
 impl fmt::Display for Refusal {
     ghost output = { λ refusal. Some (refusal_text refusal) };
 

@@ -18,20 +18,20 @@ use sf_value::{Dialect, OutOfMemory, is_ows};
 use std::marker::Model;
 use std::mem;
 
-/// A member between commas; the whole ones are added to a `G`.
+/// A member between commas; complete ones are added to a `G`.
 pub trait SeriesMember<G>: Level {
-    // Whether a member may begin with a byte, and what the byte begins.
+    // Whether a member may begin with a byte, and the state after it.
     ghost begins: { Dialect → ℕ → Bool };
 
     ghost first: { Dialect → ℕ → Option Self };
 
-    // What no member gives.
+    // The value without members.
     ghost none: { G };
 
-    // What was given with this member, if it may end.
+    // The value with this member, if it may end.
     ghost added: { Self → G → Option G };
 
-    /// Where no member is whole yet. It does not allocate.
+    /// The value before any member is complete. It does not allocate.
     fn none(context: &Context) -> G
         ensures { result ≡ none };
 
@@ -44,16 +44,16 @@ pub trait SeriesMember<G>: Level {
         // The new state is the one that the byte begins, or none begins with it.
         ensures { IfOk result (λ took. Starts took (first context.now.dialect byte) self.new) };
 
-    /// Adds the member, if it is whole, or reports that it is not, and changes nothing.
+    /// Adds the member, if it is complete; otherwise returns false and changes nothing.
     fn end(&mut self, context: &Context, given: &mut G) -> Result<bool, OutOfMemory>
         // The member was added to what was given, or may not end and nothing was added.
         ensures ended { IfOk result (λ ended. Ends ended (added self.old given.old) given.old
             given.new) }
-        // Where nothing was added the reader stays as it is.
+        // If nothing was added, the reader is unchanged.
         ensures kept { IfOk result (λ ended. ended ≡ false → self.new ≡ self.old) };
 }
 
-/// Where in members with commas the text is.
+/// The part of members with commas that is being read.
 #[derive(Clone, Copy)]
 pub enum SeriesPhase {
     /// Before the first member.
@@ -66,7 +66,8 @@ pub enum SeriesPhase {
     Comma,
 }
 
-/// What was read of members with commas: what the whole ones gave, and the member that is open.
+/// What was read of members with commas: the value of the complete ones, and the member that is
+/// open.
 #[derive(Drop)]
 pub struct SeriesReader<P, G> {
     phase: SeriesPhase,
@@ -96,9 +97,9 @@ impl<P: SeriesMember<G>, G: Drop> SeriesReader<P, G> {
         }
     }
 
-    /// What the members gave, if the last one is whole. What is left is the reader alone.
+    /// The value of the members, if the last one is complete. It is taken out of the reader.
     pub fn finish(&mut self, context: &Context) -> Result<Option<G>, OutOfMemory>
-        // It is what the members gave, if they may end.
+        // It is the value of the members, if they may end.
         ensures value { IfOk result (λ given. given ≡ series_end P.added P.none self.old) }
         // Before the first member the end does not allocate.
         ensures allocation_free { SeriesFree self.old [] → IsOk result }

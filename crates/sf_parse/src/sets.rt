@@ -1,5 +1,5 @@
-//! Sets of bytes below 128, a bit for each: what the parts of the grammar may go on with. The sets
-//! that refusals name are put together of them.
+//! Sets of bytes below 128, a bit for each: the bytes that may follow each part of the grammar. The
+//! sets of refusals are unions of these.
 ghost use Rattle.std.specs.Prelude.{◌≡◌, if◌then◌else◌};
 
 pub const LOWER: u128 = 0x3ff_ffff << b'a';
@@ -40,7 +40,7 @@ pub const LOWER_HEX: u128 = DIGITS | 0x3f << b'a';
 /// The digits of a Boolean (RFC 9651 section 3.3.6).
 pub const BITS: u128 = 3 << b'0';
 
-/// The bytes of strings (section 3.3.3), and those that a backslash is before.
+/// The bytes of strings (section 3.3.3), and those that may follow a backslash.
 pub const VISIBLE: u128 = (1 << 127) - (1 << b' ');
 
 pub const ESCAPED: u128 = QUOTE | 1 << b'\\';
@@ -51,7 +51,7 @@ pub const BASE64: u128 = LETTERS | DIGITS | 1 << b'+' | 1 << b'/';
 /// The first digits of the escapes of a character's first byte (RFC 9651 section 3.3.8).
 pub const FIRST_DIGITS: u128 = 0xff << b'0' | 0xf << b'c';
 
-/// The first byte of a key, and the further ones (section 3.1.2).
+/// The first byte of a key, and the others (section 3.1.2).
 pub const KEY_START: u128 = LOWER | 1 << b'*';
 
 pub const KEY: u128 = KEY_START | DIGITS | 1 << b'_' | MINUS | POINT;
@@ -59,7 +59,7 @@ pub const KEY: u128 = KEY_START | DIGITS | 1 << b'_' | MINUS | POINT;
 /// The first byte of a token (section 3.3.4).
 const TOKEN_START: u128 = LETTERS | 1 << b'*';
 
-/// The further bytes of a token (section 3.3.4).
+/// The bytes of a token after its first (section 3.3.4).
 pub const TOKEN: u128 = TOKEN_START
     | DIGITS
     | 1 << b'!'
@@ -77,7 +77,7 @@ pub const BARE_8941: u128 = MINUS | DIGITS | QUOTE | TOKEN_START | 1 << b'?' | C
 
 pub const BARE_9651: u128 = BARE_8941 | 1 << b'@' | PERCENT;
 
-/// The set where this holds, otherwise no byte.
+/// The set if this holds, otherwise the empty set.
 #[inline]
 pub fn set_if(holds: bool, set: u128) -> u128
     ensures { result ≡ (if holds then set else 0) }

@@ -1,4 +1,4 @@
-//! Where in the lines of a field a refusal is.
+//! The place of a refusal in the lines of a field.
 ghost use Rattle.std.specs.Prelude.{◌≡◌, [], ◌∷◌, Some, replicate};
 ghost use Rattle.std.specs.Char.{encode_utf8};
 ghost use Rattle.sf_value.specs.Ascii.{space};
@@ -12,15 +12,15 @@ use std::fmt;
 /// A place in a field line. A text that came in one chunk counts as one line.
 #[derive(Clone, Copy, Debug, Drop)]
 pub struct Spot<'a> {
-    /// Which line of the field it is. The first is line 1.
+    /// The number of the line in the field, from 1.
     pub line: usize,
-    /// How many bytes of the line are before the place: from 0 to the length of the line.
+    /// The offset in the line: from 0 to the length of the line.
     pub place: usize,
     /// The line itself.
     pub text: &'a [u8],
 }
 
-/// A refusal and the field line that it is in, shown together: the refusal in words, the number of
+/// A refusal and the field line that it is in, printed together: the error message, the number of
 /// the line and the place in it, the line, and a caret under that place. Each byte of the line is
 /// one character, a question mark if it is not printable.
 ///
@@ -35,15 +35,15 @@ pub struct Spot<'a> {
 pub struct InLine<'a> {
     /// Why the text was refused.
     pub refusal: Refusal,
-    /// Where it is. None if the refusal has no place in the text, or there is no line: then the
-    /// words are shown alone.
+    /// The place in the lines. None if the refusal has no place in the text, or there is no line:
+    /// then only the message is printed.
     pub spot: Option<Spot<'a>>,
 }
 
 impl Refusal {
-    /// The refusal in the lines that were refused, of which one is shown. They are joined by a
-    /// comma and a space (RFC 9651 section 4.2), and a place that falls on these belongs to the end
-    /// of the line before them. It does not allocate, nor does showing it.
+    /// The refusal with the line that it is in, of the lines that were refused. The lines are
+    /// joined by a comma and a space (RFC 9651 section 4.2), and a place at one of these belongs to
+    /// the end of the line before them. It does not allocate, nor does printing it.
     ///
     /// ```
     /// if let Err(refusal) = parse_lines(alloc, &seed, Kind::List, &lines) {
@@ -65,7 +65,7 @@ impl Refusal {
         }
     }
 
-    /// The refusal in the text that was refused, as [`Refusal::in_lines`] gives it of one line.
+    /// The refusal in the text that was refused, as [`Refusal::in_lines`] for one line.
     ///
     /// ```
     /// if let Err(refusal) = parse_text(alloc, &seed, Kind::Item, text) {
@@ -92,7 +92,7 @@ impl Refusal {
     }
 }
 
-/// A line, shown as one character for each of its bytes.
+/// A line, printed as one character for each of its bytes.
 #[derive(Clone, Copy, Drop)]
 struct Printed<'a> {
     text: &'a [u8],
@@ -110,7 +110,7 @@ impl fmt::Display for Printed<'_> {
     }
 }
 
-/// Shown as so many spaces.
+/// Printed as this many spaces.
 #[derive(Clone, Copy, Drop)]
 struct Spaces {
     count: usize,
@@ -142,7 +142,7 @@ impl fmt::Display for InLine<'_> {
     }
 }
 
-/// The spot of a place of the joined text, counted in bytes from 0; None if there is no line.
+/// The spot of a place of the joined text, from 0; None if there is no line.
 fn find_spot<'a>(lines: &'a [Blob], place: u64) -> Option<Spot<'a>>
     // It is where the place of the joined lines is in them; the first is line 1.
     ensures { line_place result ≡ place_in 1 lines.now place }
@@ -164,7 +164,7 @@ fn find_spot<'a>(lines: &'a [Blob], place: u64) -> Option<Spot<'a>>
     None
 }
 
-/// The character that stands for a byte of a line.
+/// The character that is printed for a byte of a line.
 fn printed_char(byte: u8) -> char
     ensures { encode_utf8 result ≡ printed_byte byte ∷ [] }
 {

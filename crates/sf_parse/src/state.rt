@@ -37,14 +37,14 @@ impl FieldState {
         }
     }
 
-    /// Takes the longest prefix of the chunk that the field can go on with, and gives back the
+    /// Takes the longest prefix of the chunk that the field can continue with, and returns the
     /// rest.
     #[inline(always)]
     pub fn take<'a>(&mut self, context: &Context, chunk: &'a [u8]) -> Result<&'a [u8], OutOfMemory>
         // The bytes before the rest lead to the new state, which can't take the first of the rest.
         ensures prefix { IfOk result (λ rest. LongestPrefix (step_of context.now.dialect)
             (state_of self.old) chunk.now rest.now (state_of self.new)) }
-        // A chunk that does not allocate in this state is taken without.
+        // With an allocation-free chunk the call does not fail.
         ensures allocation_free { FieldFree (state_of self.old) chunk.now → IsOk result }
     {
         if let Some((byte, more)) = chunk.split_first() {
@@ -59,13 +59,13 @@ impl FieldState {
         self.take_run(context, chunk)
     }
 
-    /// The same, down the levels that take runs.
+    /// The same, by the levels that take runs.
     #[inline(never)]
     fn take_run<'a>(&mut self, context: &Context, chunk: &'a [u8]) -> Result<&'a [u8], OutOfMemory>
         // The bytes before the rest lead to the new state, which can't take the first of the rest.
         ensures prefix { IfOk result (λ rest. LongestPrefix (step_of context.now.dialect)
             (state_of self.old) chunk.now rest.now (state_of self.new)) }
-        // A chunk that does not allocate in this state is taken without.
+        // With an allocation-free chunk the call does not fail.
         ensures allocation_free { FieldFree (state_of self.old) chunk.now → IsOk result }
     {
         match self {
@@ -75,13 +75,14 @@ impl FieldState {
         }
     }
 
-    /// Takes one byte, or reports that the field can't go on with it.
+    /// Takes one byte, or reports that the field can't continue with it.
     #[inline(never)]
     pub fn push(&mut self, context: &Context, byte: u8) -> Result<bool, OutOfMemory>
-        // A byte that is taken leads the machine on; with any other it can't go on, and stays.
+        // A byte that is taken leads to the next state; otherwise the field can't continue with it,
+        // and is unchanged.
         ensures prefix { IfOk result (λ took. LongestPrefix (step_of context.now.dialect)
             (state_of self.old) (byte ∷ []) (unless took byte) (state_of self.new)) }
-        // A byte that does not allocate in this state, with others after it, is taken without.
+        // If the byte and some bytes after it are allocation-free, the call does not fail.
         ensures allocation_free { (more : List ℕ) → FieldFree (state_of self.old) (byte ∷ more)
             → IsOk result }
     {
@@ -117,12 +118,12 @@ impl FieldState {
         }
     }
 
-    /// The field, if it may end here. What is left is the reader alone.
+    /// The field, if it may end here. Its value is taken out of the reader.
     #[inline(never)]
     pub fn finish(&mut self, context: &Context) -> Result<Option<Field>, OutOfMemory>
         // The field is the value that the state has at the end, if it has one.
         ensures value { IfOk result (λ field. field ≡ finish_of (state_of self.old)) }
-        // If no byte more does not allocate, neither does the end.
+        // If the state is allocation-free, the call does not fail.
         ensures allocation_free { FieldFree (state_of self.old) [] → IsOk result }
     {
         match self {

@@ -26,14 +26,14 @@ pub enum TextPhase {
 }
 
 impl TextPhase {
-    /// Takes one more byte, or reports that the string can't go on with it and stays as it is. The
+    /// Takes one more byte, or reports that the string can't continue with it and is unchanged. The
     /// bytes of the string so far are `text`.
     #[tactic(auto, using(sf_value::proofs::Words::every_push))]
     pub fn step(&mut self, text: &mut ShortBytes, byte: u8) -> Result<bool, OutOfMemory>
-        // The byte leads the machine on; or it can't, and the state stays.
+        // The byte leads to the next state, or it can't and the state is unchanged.
         ensures step { IfOk result (λ took. Steps took (text_step (text_of self.old text.old) byte)
             (text_of self.old text.old) (text_of self.new text.new)) }
-        // The bytes so far stay visible ones.
+        // The bytes so far are still visible.
         ensures visible { Every is_visible_byte text.old → Every is_visible_byte text.new }
         // If the bytes with this one fit in place, no allocation fails.
         ensures in_place { FitsInPlace (text.old ++ byte ∷ []) → IsOk result }
@@ -75,7 +75,7 @@ impl TextPhase {
         // The bytes before the rest lead the machine from the old state to the new one.
         ensures went { IfOk result (λ rest. Went text_step (text_of self text.old) chunk.now
             rest.now (text_of self text.new)) }
-        // The bytes so far stay visible ones.
+        // The bytes so far are still visible.
         ensures visible { Every is_visible_byte text.old → Every is_visible_byte text.new }
         // If the bytes with the chunk fit in place, no allocation fails.
         ensures in_place { FitsInPlace (text.old ++ chunk.now) → IsOk result }
@@ -90,7 +90,7 @@ impl TextPhase {
         }
     }
 
-    /// The bytes that the string can go on with.
+    /// The bytes that the string can continue with.
     pub fn expected(self) -> u128
         // The bits are those of the bytes that may come, whatever was read before.
         ensures { (bytes : List ℕ) → Marks result (text_takes (text_of self bytes)) }

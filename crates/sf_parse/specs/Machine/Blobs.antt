@@ -20,7 +20,7 @@ letters (H1 x) = letter x ∷ []
 letters (H2 x y) = letter x ∷ letter y ∷ []
 letters (H3 x y z) = letter x ∷ letter y ∷ letter z ∷ []
 
--- whether the group may be the last one, then its bytes, and the = that make it whole
+-- whether the group may be the last one, then its bytes, and the number of = that complete it
 abbrev pub is_last : Held → Bool
 is_last H0 = true
 is_last (H1 x) = false

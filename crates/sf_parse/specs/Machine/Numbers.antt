@@ -10,7 +10,7 @@ use Rattle.sf_value.specs.Grammar.Numbers.{SpellsInteger, SpellsDecimal}
 use Rattle.sf_value.specs.declared.value.Bare.{Bare}
 use Rattle.sf_value.specs.declared.value.Bare.TheVariants.{Integer, Decimal}
 
--- so many digits of a whole part and their value; after a point, the same of the fraction
+-- the number of digits of a whole part and their value; after a point, the same of the fraction
 pub data NumberState : Type 0 where
   Whole : (neg : Bool) (count value : ℕ) → NumberState
   Fraction : (neg : Bool) (whole count value : ℕ) → NumberState
@@ -33,7 +33,7 @@ ResidualNumber (Whole neg count a) u v = ((n : ℤ) × (v ≡ Integer n)
 ResidualNumber (Fraction neg whole count a) u v = (m : ℤ) × (v ≡ Decimal m)
     × ResidualFraction neg whole count a u m
 
--- so many digits, and a value below
+-- this many digits, and a value below the power
 abbrev pub Counted : ℕ → ℕ → ℕ → Type 0
 Counted most count a = (count ≤ most) × (a < 10 ^ count)
 

@@ -36,7 +36,7 @@ MoreParams d ps u v = (raw : Pairs Bare) × (v ≡ settle (ps ++ raw)) × Spells
 abbrev pub PutParams : Dialect → Pairs Bare → List ℕ → Bare → List ℕ → Pairs Bare → Type 0
 PutParams d ps k x = MoreParams d (put ps k x)
 
--- the value of the key k by its text
+-- the value of the key k by its text, and further parameters
 abbrev pub ValueParams : Dialect → Pairs Bare → List ℕ → List ℕ → Pairs Bare → Type 0
 ValueParams d ps k = Then (SpellsBare d) (PutParams d ps k)
 

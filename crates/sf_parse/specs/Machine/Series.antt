@@ -7,7 +7,7 @@ use Rattle.sf_value.specs.Grammar.Classes.{is_sp, is_ows}
 use Rattle.sf_value.specs.Grammar.Series.{SpellsCommas}
 use Rattle.sf_parse.specs.Machine.Language.{Then, Either, Past, Nothing, onward}
 
--- S is the state in a member, V what the members so far gave
+-- S is the state in a member, V the value of the members so far
 pub data SeriesState (S V : Type 0) : Type 0 where
   Begin : SeriesState S V
   InMember : (given : V) (state : S) → SeriesState S V
@@ -16,15 +16,15 @@ pub data SeriesState (S V : Type 0) : Type 0 where
   -- after a comma
   Comma : (given : V) → SeriesState S V
 
--- what the whole members gave
+-- the value of the complete members
 abbrev pub given_of : {S V : Type 0} → V → SeriesState S V → V
 given_of none Begin = none
 given_of none (InMember given s) = given
 given_of none (Gap given) = given
 given_of none (Comma given) = given
 
--- What differs between a list and a dictionary: the members, and how members are added to what was
--- given.
+-- What differs between a list and a dictionary: the members, and how a member is added to the
+-- value.
 pub record Series (S X V : Type 0) : Type 1 where
   pub Spells : List ℕ → X → Type 0
   pub Residual : S → List ℕ → X → Type 0

@@ -20,7 +20,7 @@ pub data ShownState : Type 0 where
 abbrev pub ResidualUnencoded : List ℕ → Utf8 → List ℕ → List ℕ → Type 0
 ResidualUnencoded bytes x u v = (s : List ℕ) × EncodedBytes u s × WellFormed x s × (v ≡ bytes ++ s)
 
--- the byte c by the digits that are left of it, and what follows
+-- the byte c by the digits that remain of it, and what follows
 abbrev pub ResidualEscape : List ℕ → Utf8 → ℕ → List ℕ → List ℕ → Type 0
 ResidualEscape bytes x c suffix v = (s : List ℕ) × (is_byte c ≡ true) × EncodedBytes suffix s
     × WellFormed x (c ∷ s) × (v ≡ bytes ++ c ∷ s)
