@@ -12,11 +12,11 @@ use Rattle.sf_field.specs.Lines.{ParsesLines}
 abbrev pub Headers : Type 0
 Headers = Entries FieldValue
 
--- values as they are
+-- the bytes of the values
 abbrev pub value_lines : List FieldValue → List (List ℕ)
 value_lines values = map (λ v. v.bytes) values
 
--- the values under the name as they are, in the map's order
+-- the bytes of the values under the name, in the map's order
 abbrev pub lines_under : Headers → List ℕ → List (List ℕ)
 lines_under headers name = value_lines (get_all headers name)
 
@@ -28,7 +28,7 @@ ParsesHeaders kind headers name (Ok (Some v)) =
 ParsesHeaders kind headers name (Err e) =
     ContainsKey headers name × ParsesLines Rfc9651 kind (lines_under headers name) (Err e)
 
--- the map with this text as the only value under the name; the empty text is not sent
+-- the map with this text as the only value under the name; a field with an empty text is not sent
 abbrev pub set_text : Headers → List ℕ → List ℕ → Headers
 set_text headers name [] = remove headers name
 set_text headers name (b ∷ text) = insert headers name (plain_value (b ∷ text))

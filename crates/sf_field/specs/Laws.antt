@@ -1,4 +1,4 @@
--- The laws of normal texts. Each is the contract of a function in `src/laws.rt`.
+-- The laws of canonical texts. Each is the contract of a function in `src/laws.rt`.
 use Rattle.std.specs.Prelude.{◌≡◌, ℕ, ◌^◌, ◌<◌, ◌↔◌, List, [], ◌∷◌, length, Result, Ok, Err, ⊤}
 use Rattle.std.specs.Prelude.{Option, Some, None}
 use Rattle.sf_value.specs.declared.dialect.Dialect.{Dialect}
@@ -17,8 +17,8 @@ use Rattle.sf_field.specs.Headers.{Headers, ParsesHeaders, set_text}
 use Rattle.sf_field.specs.Lines.{ParsesLines}
 use Rattle.sf_field.specs.Normal.{NormalisesTo}
 
--- in each dialect the canonical text of what lines spell spells, as the only line, that value, and
--- no other; and its own canonical text is itself
+-- in each dialect, the canonical text of the value that lines spell, as the only line, spells that
+-- value and no other; and its canonical text is itself
 abbrev pub CanonSettles : Type 0
 CanonSettles =
     (d : Dialect) (kind : Kind) (lines : List (List ℕ)) (v : Field)
@@ -26,7 +26,7 @@ CanonSettles =
     → IsOnly d kind (join (canon v ∷ [])) v
     × ((w : Field) → SpellsField d kind (join (canon v ∷ [])) w → canon w ≡ canon v)
 
--- normalising a text that came of normalising gives it again, and nothing else
+-- normalising a text that is the result of normalising returns it again, and nothing else
 abbrev pub TwiceIsOnce : Type 0
 TwiceIsOnce =
     (kind : Kind) (lines : List (List ℕ)) (c : List ℕ)
@@ -34,25 +34,25 @@ TwiceIsOnce =
     → NormalisesTo kind (c ∷ []) c
     × ((e : List ℕ) → NormalisesTo kind (c ∷ []) e → e ≡ c)
 
--- lines that are accepted as one kind have equal values exactly if the canonical texts are equal
+-- lines that are accepted as one kind have equal values exactly if their canonical texts are equal
 abbrev pub EqualByText : Type 0
 EqualByText =
     (d : Dialect) (kind : Kind) (these those : List (List ℕ)) (v w : Field)
     → SpellsField d kind (join these) v → SpellsField d kind (join those) w
     → (canon v ≡ canon w) ↔ (v ≡ w)
 
--- normal texts of one kind are equal exactly if the lines they came of spell one value
+-- canonical texts of one kind are equal exactly if their lines spell one value
 abbrev pub NormalIsOne : Type 0
 NormalIsOne =
     (kind : Kind) (these those : List (List ℕ)) (c e : List ℕ)
     → (p : NormalisesTo kind these c) (q : NormalisesTo kind those e)
     → (c ≡ e) ↔ (p.value ≡ q.value)
 
--- the canonical text of a valid value, however the value came about, spells it and no other
+-- the canonical text of a valid value, however the value was built, spells it and no other
 abbrev pub BuiltSpells : Type 0
 BuiltSpells = (d : Dialect) (kind : Kind) (v : Field) → Valid d kind v → IsOnly d kind (canon v) v
 
--- the answer is this value, or an allocation failed
+-- the result is this value, or an allocation failed
 abbrev pub IsBack : Field → Result Field Refusal → Type 0
 IsBack v (Ok w) = w ≡ v
 IsBack v (Err OutOfMemory) = ⊤
@@ -60,19 +60,19 @@ IsBack v (Err (Syntax place found expected may_end)) = ⊥
 IsBack v (Err (TooLong limit)) = ⊥
 IsBack v (Err (ReadFault place)) = ⊥
 
--- who parses that text has the value again
+-- parsing that text returns the value again
 abbrev pub BuiltIsParsed : Type 0
 BuiltIsParsed =
     (d : Dialect) (kind : Kind) (v : Field) → Valid d kind v → (r : Result Field Refusal)
     → Parses d kind (canon v) r → IsBack v r
 
--- and so has who parses it as the only line, if it is shorter than 2^64 bytes
+-- so does parsing it as the only line, if it is shorter than 2^64 bytes
 abbrev pub BuiltLineIsParsed : Type 0
 BuiltLineIsParsed =
     (d : Dialect) (kind : Kind) (v : Field) → Valid d kind v → length (canon v) < 2 ^ 64
     → (r : Result Field Refusal) → ParsesLines d kind (canon v ∷ []) r → IsBack v r
 
--- a header map that was set gives the value back, memory aside
+-- reading the field that was set in a header map returns the value, or an allocation failed
 abbrev pub IsReadBack : Field → Result (Option Field) Refusal → Type 0
 IsReadBack v (Ok None) = ⊥
 IsReadBack v (Ok (Some w)) = w ≡ v

@@ -1,4 +1,4 @@
--- What the contracts say of field lines and of header maps.
+-- The definitions that the contracts use, of field lines and of header maps.
 pub mod Lines
 pub mod Headers
 pub mod Normal

@@ -64,7 +64,8 @@ impl From<UseFault> for AskFault {
 
 /// Returns what the lines mean to a consumer: parses them as its kind, as [`crate::parse_from`]
 /// does, and passes the value to [`Consumer::answer`]. Accepted lines have the meaning of their
-/// canonical text as one line. Out of memory for the answer is returned only if the value has one.
+/// canonical text as one line. Out of memory for the answer is returned only if the value has an
+/// answer.
 ///
 /// ```
 /// let values = headers.get_all(&name).iter();
@@ -80,7 +81,7 @@ pub fn ask_from<'a, C: Consumer, L: FieldLines<'a>>(
     ensures answers { Asks C.KIND (C.meaning consumer.now) (L.lines lines) result }
     // Accepted lines mean what their canonical text means.
     ensures canonical { MeansAsCanonical C.KIND (C.meaning consumer.now) (L.lines lines) }
-    // Lines whose joined text does not allocate are not refused as out of memory.
+    // Lines whose joined text is allocation-free are not refused as out of memory.
     ensures allocation_free { TakesNoMemory C.KIND (join (L.lines lines)) → ParsedOrRefused result }
 {
     let field = parse_from(alloc, seed, Dialect::Rfc9651, C::KIND, lines)?;
@@ -104,7 +105,7 @@ pub fn ask<C: Consumer>(
     ensures answers { Asks C.KIND (C.meaning consumer.now) lines.now result }
     // Accepted lines mean what their canonical text means.
     ensures canonical { MeansAsCanonical C.KIND (C.meaning consumer.now) lines.now }
-    // Lines whose joined text does not allocate are not refused as out of memory.
+    // Lines whose joined text is allocation-free are not refused as out of memory.
     ensures allocation_free { TakesNoMemory C.KIND (join lines.now) → ParsedOrRefused result }
 {
     ask_from(alloc, seed, consumer, lines.iter())

@@ -63,9 +63,9 @@ pub fn header_value(alloc: Global, field: &Field) -> Result<HeaderValue, OutOfMe
 }
 
 /// Sets a field in a header map: its canonical text replaces all values of the name. A List or a
-/// Dictionary without members is not sent (RFC 9651 section 4.1), so the name is removed instead;
-/// as `HeaderMap::remove` does it, which moves the last name into its place. No other field has an
-/// empty text ([`sf_value::laws::canon_is_empty`]). An error leaves the map as it was.
+/// Dictionary without members is not sent (RFC 9651 section 4.1), so the name is removed instead,
+/// as by `HeaderMap::remove`, which moves the last name into its place. No other field has an empty
+/// text ([`sf_value::laws::canon_is_empty`]). An error leaves the map unchanged.
 ///
 /// ```
 /// let priority = HeaderName::from_static("priority");

@@ -38,7 +38,7 @@ pub fn from_headers(
 ) -> Result<Option<Field>, Refusal>
     // None if the name is absent; otherwise its values are parsed as field lines.
     ensures parses { ParsesHeaders kind headers.now name.now result }
-    // Values whose joined text does not allocate are not refused as out of memory.
+    // Values whose joined text is allocation-free are not refused as out of memory.
     ensures allocation_free { TakesNoMemory kind (join (lines_under headers.now name.now))
         → IfErr result IsOther }
 {

@@ -24,7 +24,7 @@ pub fn parse_item_lines(alloc: Global, seed: &RandomState, lines: &[Blob]) -> Re
     // The joined lines spell this Item and no other value, or this is their exact refusal, or an
     // allocation failed.
     ensures parses { Makes field_is.Item (ParsesLines Rfc9651 kind_is.Item lines.now) result }
-    // Lines whose joined text does not allocate are not refused as out of memory.
+    // Lines whose joined text is allocation-free are not refused as out of memory.
     ensures allocation_free { TakesNoMemory kind_is.Item (join lines.now) → IfErr result IsOther }
 {
     let Field::Item(item) = parse_lines(alloc, seed, Kind::Item, lines)? else {

@@ -1,4 +1,4 @@
-//! Structured fields as HTTP delivers them (RFC 9651 section 4.2): several field lines, or the
+//! Structured fields as a message has them (RFC 9651 section 4.2): several field lines, or the
 //! values of one name in a header map, are parsed as one text, joined by a comma and a space. That
 //! text is never built.
 //!

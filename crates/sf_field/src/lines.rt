@@ -20,20 +20,20 @@ use std::slice;
 
 /// The lines of one field, returned one by one, in order.
 ///
-/// Contracts see its `lines`: those that are still to be returned. Implemented by iterators over
-/// [`Blob`]s and over byte slices, and by a header map's iterator over the values of a name.
+/// Contracts see its `lines`: those that remain. Implemented by iterators over [`Blob`]s and over
+/// byte slices, and by a header map's iterator over the values of a name.
 ///
 /// ```
 /// let lines: [&[u8]; 2] = [b"a, b", b"c"];
 /// let list = parse_from(alloc, &seed, Dialect::Rfc9651, Kind::List, lines.iter())?;
 /// ```
 pub trait FieldLines<'a>: Drop {
-    // The lines that are still to be returned, in order.
+    // The lines that remain, in order.
     ghost lines: { Self → List (List ℕ) };
 
-    /// Returns the next line, or None if no line is left.
+    /// Returns the next line, or None if no line remains.
     fn next_line(&mut self) -> Option<&'a [u8]>
-        // None if no line is left; otherwise the first of them, and the others are left.
+        // None if no line remains; otherwise the first of them, and the others remain.
         ensures { MatchOption result (lines self.old ≡ [])
             (λ line. lines self.old ≡ line.now ∷ lines self.new) };
 }
@@ -60,8 +60,8 @@ impl<'a> FieldLines<'a> for slice::Iter<'a, &'a [u8]> {
 
 /// Parses lines in a dialect, as one text joined by a comma and a space, from any type that has
 /// them. The place of a refusal is an offset in the joined text. The error is TooLong only if that
-/// text has 2^64 bytes or more, and never ReadFault. Parsing does not allocate for lines whose
-/// joined text does not, as [`sf_parse::parse_text`] says.
+/// text has 2^64 bytes or more, and never ReadFault. Parsing does not allocate if
+/// [`sf_parse::parse_text`] does not for the joined text.
 ///
 /// ```
 /// let vary = HeaderName::from_static("vary");
@@ -78,7 +78,7 @@ pub fn parse_from<'a, L: FieldLines<'a>>(
     // The joined lines spell this value and no other, or this is their exact refusal, or an
     // allocation failed.
     ensures parses { ParsesLines dialect kind (L.lines lines) result }
-    // Lines whose joined text does not allocate are not refused as out of memory.
+    // Lines whose joined text is allocation-free are not refused as out of memory.
     ensures allocation_free { TakesNoMemory kind (join (L.lines lines)) → NotForMemory result }
 {
     let mut parser = Parser::new_in(alloc, seed, dialect, kind, u64::MAX);
@@ -101,7 +101,7 @@ pub fn parse_lines_in(
     // The joined lines spell this value and no other, or this is their exact refusal, or an
     // allocation failed.
     ensures parses { ParsesLines dialect kind lines.now result }
-    // Lines whose joined text does not allocate are not refused as out of memory.
+    // Lines whose joined text is allocation-free are not refused as out of memory.
     ensures allocation_free { TakesNoMemory kind (join lines.now) → NotForMemory result }
 {
     parse_from(alloc, seed, dialect, kind, lines.iter())
@@ -121,7 +121,7 @@ pub fn parse_lines(
     // The joined lines spell this value and no other, or this is their exact refusal, or an
     // allocation failed.
     ensures parses { ParsesLines Rfc9651 kind lines.now result }
-    // Lines whose joined text does not allocate are not refused as out of memory.
+    // Lines whose joined text is allocation-free are not refused as out of memory.
     ensures allocation_free { TakesNoMemory kind (join lines.now) → NotForMemory result }
 {
     parse_from(alloc, seed, Dialect::Rfc9651, kind, lines.iter())
@@ -153,14 +153,13 @@ pub fn normalise_lines(
 /// Feeds the joined text of the lines; without lines it is empty.
 fn feed_lines<'a, L: FieldLines<'a>>(parser: &mut Parser, mut lines: L) -> Result<(), Refusal>
     requires { parser.old.after_line ≡ false }
-    // The joined text is fed; a refusal holds whatever text comes after it.
+    // The joined text is fed; a refusal remains, whatever comes after it.
     ensures fed { Fed parser.old parser.new result (join (L.lines lines)) }
-    // Lines whose joined text does not allocate are not refused as out of memory, and neither is
-    // the end.
+    // Lines whose joined text is allocation-free are not refused as out of memory, nor is the end.
     ensures allocation_free { IsAllocationFree parser.old (join (L.lines lines))
         → KeptAllocationFree parser.new [] result }
 {
-    // A parser that refused before does so again, also if there is no line.
+    // A parser that refused before refuses again, also if there are no lines.
     parser.feed(b"")?;
     while let Some(line) = lines.next_line() {
         parser.feed_line(line)?;

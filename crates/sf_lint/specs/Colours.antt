@@ -11,13 +11,14 @@ word_of Ok = codes "ok"
 word_of Refused = codes "refused"
 word_of Ignored = codes "ignored"
 
--- what sets the colour of what follows (ECMA-48 section 8.3.117): green, red and yellow
+-- the sequence that sets the colour of what follows (ECMA-48 section 8.3.117): green, red and
+-- yellow
 abbrev pub colour_of : Verdict → List ℕ
 colour_of Ok = codes "\u{1b}[32m"
 colour_of Refused = codes "\u{1b}[31m"
 colour_of Ignored = codes "\u{1b}[33m"
 
--- the word in its colour, with the terminal's own colour after it
+-- the word in its colour, and the terminal's default colour after it
 abbrev pub in_colour : Verdict → List ℕ
 in_colour verdict = colour_of verdict ++ (word_of verdict ++ codes "\u{1b}[0m")
 

@@ -38,7 +38,7 @@ line_with first line =
     else if has_name line then Field (name_of line)
     else Nameless
 
--- what a line is
+-- the type of a line
 abbrev pub line_of : List ℕ → Line
 line_of [] = Empty
 line_of (b ∷ bs) = line_with b (b ∷ bs)

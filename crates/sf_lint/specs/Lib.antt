@@ -1,5 +1,5 @@
--- The definitions that the contracts speak of: the registered fields and those that are given, the
--- lines of heads, and last what is printed of them, in which colours, and what a run reads and
+-- The definitions that the contracts use: the registered fields and those of the settings, the
+-- lines of heads, and last what is printed for them, in which colours, and what a run reads and
 -- writes.
 pub mod Registry
 pub mod Settings

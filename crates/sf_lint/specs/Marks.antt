@@ -1,4 +1,4 @@
--- Where in an input a refusal of a field is.
+-- The place of a refusal of a field in an input.
 use Rattle.std.specs.Prelude.{ℕ, suc, ◌+◌, ◌-◌, min, nat_lt, if◌then◌else◌, List, [], ◌∷◌, length}
 use Rattle.std.specs.Prelude.{Option, Some, None}
 use Rattle.std.specs.List.{prefix_len, after_first}
@@ -7,7 +7,7 @@ use Rattle.sf_tool.specs.Fields.{is_colon, word_of, value_of}
 use Rattle.sf_parse.specs.Spots.{LinePlace}
 use Rattle.sf_lint.specs.Head.{is_named}
 
--- how many bytes of a field line are before its value: the name, the colon and the blanks
+-- the number of bytes of a field line before its value: the name, the colon and the blanks
 abbrev pub offset_of : List ℕ → ℕ
 offset_of line = length (word_of line) + 1 + prefix_len is_ows (after_first is_colon line)
 
@@ -17,7 +17,7 @@ abbrev pub in_line : ℕ → List ℕ → ℕ → LinePlace
 in_line n line place =
     record { line = n; place = offset_of line + min place (length (value_of line)); text = line }
 
--- where in lines, numbered from n on, a place of the joined values of this name is
+-- the place in lines, numbered from n on, of a place of the joined values of this name
 abbrev pub mark_in : ℕ → List ℕ → List (List ℕ) → ℕ → Option LinePlace
 mark_in n name [] place = None
 mark_in n name (l ∷ ls) place =

@@ -1,4 +1,4 @@
--- What fields mean to a cache or a server, in the lines that the command `sf` prints.
+-- The meanings of fields to a cache or a server, in the lines that the command `sf` prints.
 use Rattle.std.specs.Prelude.{◌≡◌, ℕ, suc, Bool, true, false, ◌&&◌, List as Seq, [], ◌∷◌, ◌++◌}
 use Rattle.std.specs.Prelude.{Result, Ok, Err, Option, is_some, is_none, codes, decimal}
 use Rattle.std.specs.Prelude.{if◌then◌else◌, ⊤}
@@ -28,8 +28,8 @@ use Rattle.sf_lint.specs.declared.settings.Settings.{Settings}
 use Rattle.sf_lint.specs.Colours.{verdict_text}
 use Rattle.sf_lint.specs.Settings.{is_targeted}
 
--- a member or a parameter is there, and says nothing: it has another type than its specification
--- gives it, or is out of range
+-- a member or a parameter is present but ignored: it has another type than its specification
+-- states, or is out of range
 abbrev pub is_ignored : {X Y : Type 0} → Option X → Option Y → Bool
 is_ignored value said = is_some value && is_none said
 
@@ -42,8 +42,7 @@ ignored_line s key false = []
 abbrev pub hop_key : ℕ → Seq ℕ → Seq ℕ
 hop_key n key = codes "hop " ++ (decimal n ++ (codes " " ++ key))
 
--- the line for the parameter at this key of the n-th member, if it is ignored: it is there, and
--- nothing is meant by it
+-- the line for the parameter at this key of the n-th member, if it is present but ignored
 abbrev pub ignored_at : {X : Type 0} → Settings → ℕ → Pairs Bare → (Seq ℕ → Pairs Bare → Option X)
     → Seq ℕ → Seq ℕ
 ignored_at s n params meant key =
@@ -66,23 +65,23 @@ ignored_params s n params =
     ++ (ignored_at s n params text_at (codes "key")
     ++ ignored_at s n params name_at (codes "detail")))))))
 
--- the same of any member; an Inner List names no cache
+-- the same for any member; an Inner List names no cache
 abbrev pub ignored_member : Settings → ℕ → Member → Seq ℕ
 ignored_member s n (member.Item i) = ignored_params s n i.params
 ignored_member s n (member.Inner l) = []
 
--- the same of members, of which the first is the n-th
+-- the same for members, whose first is the n-th
 abbrev pub ignored_members : Settings → ℕ → Seq Member → Seq ℕ
 ignored_members s n [] = []
 ignored_members s n (m ∷ ms) = ignored_member s n m ++ ignored_members s (suc n) ms
 
--- the lines of a path, after those of what is ignored; or the place of the first member that names
--- no cache
+-- the lines of what is ignored, and then those of a path; or the index of the first member that
+-- names no cache
 abbrev pub path_text : Seq ℕ → Result (Seq Hop) ℕ → Result (Seq ℕ) ℕ
 path_text ignored (Ok path) = Ok (ignored ++ path_lines path)
 path_text ignored (Err index) = Err index
 
--- the members of a Priority field that are ignored (RFC 9218 section 4), and what it asks for with
+-- the members of a Priority field that are ignored (RFC 9218 section 4), and its parameters with
 -- the defaults filled in
 abbrev pub priority_lines : Settings → Pairs Member → Asked → Seq ℕ
 priority_lines s members a =
@@ -90,8 +89,8 @@ priority_lines s members a =
     ++ ignored_line s (codes "i") (is_ignored (value_at (codes "i") members) a.incremental))
     ++ priority_line (filled a)
 
--- the members of a targeted field that are ignored (RFC 9213 section 2.1), and its policy; any value
--- but false sets the other directives
+-- the members of a targeted field that are ignored (RFC 9213 section 2.1), and its policy; any
+-- value but false sets the other directives
 abbrev pub targeted_lines : Settings → Pairs Member → Policy → Seq ℕ
 targeted_lines s members p =
     (ignored_line s (codes "max-age") (is_ignored (value_at (codes "max-age") members) p.max_age)
@@ -117,8 +116,8 @@ policy_meaning s (Dict d) = Ok (targeted_lines s d.members (policy d))
 policy_meaning s (Item i) = Ok []
 policy_meaning s (List l) = Ok []
 
--- what the field of this name, in lower case, means: lines, of which there are none for a field
--- that has no meaning here; or the place of the first member that names no cache
+-- the meaning of the field of this name, in lower case: lines, of which there are none for a field
+-- that has no meaning here; or the index of the first member that names no cache
 abbrev pub meaning_of : Settings → Seq ℕ → Field → Result (Seq ℕ) ℕ
 meaning_of s name v =
     if bytes_eq name (codes "cache-status") then path_meaning s v
@@ -126,7 +125,7 @@ meaning_of s name v =
     else if is_targeted name then policy_meaning s v
     else Ok []
 
--- the meaning, or the fault that it is; of a failed allocation nothing is said
+-- the meaning, or its fault; of a failed allocation nothing is claimed
 abbrev pub IsMeaning : Result (Seq ℕ) ℕ → Result (Vec ℕ Global) UseFault → Type 0
 IsMeaning meant (Ok text) = meant ≡ Ok text.items
 IsMeaning meant (Err (NotACache index)) = meant ≡ Err index

@@ -1,4 +1,4 @@
--- The words of the command line, as clap reads them.
+-- The arguments of the command line, as clap parses them.
 use Rattle.std.specs.Prelude.{◌≡◌, Bool, true, false, ℕ, List, [], ◌∷◌, map, codes, Option}
 use Rattle.std.specs.Prelude.{Some, None, if◌then◌else◌, ⊤}
 use Rattle.std.specs.List.{after_first}
@@ -58,7 +58,7 @@ custom_of word =
     if has_name word then option_map (field_with (name_of word)) (kind_named (after_first is_colon word))
     else None
 
--- each word names its field
+-- each word is that of its field
 abbrev pub AreFields : List Text → List CustomField → Type 0
 AreFields words fields = map custom_of words ≡ map Some fields
 
@@ -75,40 +75,40 @@ abbrev pub field_words : Option (List Text) → List Text
 field_words None = []
 field_words (Some words) = words
 
--- what was given makes these settings; the output is not coloured, for no argument asks for it
+-- what was given makes these settings; the output is not coloured, since no argument sets that
 abbrev pub AreGiven : List Row → Settings → Type 0
 AreGiven rows settings =
     AreFields (field_words (all_of (codes "field") rows)) settings.fields.items
     × ((settings.quiet ≡ is_quiet rows) × (settings.colour ≡ false))
 
--- clap finds no fault in the words, and what it finds in them makes the settings
+-- clap finds no fault in the arguments, and what it finds in them makes the settings
 abbrev pub AreSettingsOf : List Text → Settings → Type 0
 AreSettingsOf words settings =
     (fault_of command_line words ≡ []) × AreGiven (matches_of command_line words) settings
 
--- a fault is Usage only where the words make no settings, and Help or Version only where they ask
--- for it; of a failed allocation nothing is said
+-- a fault is Usage only if the arguments make no settings, and Help or Version only if they have
+-- that option; of a failed allocation nothing is claimed
 abbrev pub IsFaultOf : List Text → OptionsFault → Type 0
 IsFaultOf words Usage = (settings : Settings) → ¬ (AreSettingsOf words settings)
 IsFaultOf words Help = IsAmong DisplayHelp (fault_of command_line words)
 IsFaultOf words Version = IsAmong DisplayVersion (fault_of command_line words)
 IsFaultOf words OutOfMemory = ⊤
 
--- the same of what was given
+-- the same for what was given
 abbrev pub IsGivenFault : List Row → OptionsFault → Type 0
 IsGivenFault rows Usage = (settings : Settings) → ¬ (AreGiven rows settings)
 IsGivenFault rows Help = ⊥
 IsGivenFault rows Version = ⊥
 IsGivenFault rows OutOfMemory = ⊤
 
--- the same of the words of `--field`
+-- the same for the words of `--field`
 abbrev pub IsFieldsFault : List Text → OptionsFault → Type 0
 IsFieldsFault words Usage = (fields : List CustomField) → ¬ (AreFields words fields)
 IsFieldsFault words Help = ⊥
 IsFieldsFault words Version = ⊥
 IsFieldsFault words OutOfMemory = ⊤
 
--- how the command ends
+-- the result of the command
 abbrev pub fault_status : OptionsFault → Status
 fault_status Usage = status.Usage
 fault_status Help = status.Accepted

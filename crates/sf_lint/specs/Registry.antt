@@ -1,6 +1,6 @@
 -- The registered structured fields: the fields whose value is an Item, a List or a Dictionary by
--- the specification that defines them. Names are in lower case, since the case of their letters
--- does not count (RFC 9110 section 5.1).
+-- the specification that defines them. Names are in lower case, since case does not count in names
+-- (RFC 9110 section 5.1).
 use Rattle.std.specs.Prelude.{ℕ, Bool, List as Seq, [], ◌∷◌, Option, Some, None, codes}
 use Rattle.std.specs.Prelude.{if◌then◌else◌}
 use Rattle.std.specs.List.{list_any}

@@ -1,4 +1,4 @@
--- What is printed of the lines of an input.
+-- What is printed for the lines of an input.
 use Rattle.std.specs.Prelude.{◌≡◌, ℕ, suc, zero, ◌+◌, ◌⊎◌, Bool, true, false, ◌||◌, if◌then◌else◌}
 use Rattle.std.specs.Prelude.{List, [], ◌++◌, length, get_or, Option, Some, None, codes}
 use Rattle.std.specs.Prelude.{decimal, Result, Ok, Err}
@@ -22,7 +22,7 @@ use Rattle.sf_lint.specs.Marks.{mark_in}
 use Rattle.sf_lint.specs.Meanings.{meaning_of}
 use Rattle.sf_lint.specs.Settings.{type_of}
 
--- what is printed unless only refusals are
+-- what is printed, unless only refusals are printed
 abbrev pub shown : Settings → List ℕ → List ℕ
 shown settings text = if settings.quiet then [] else text
 
@@ -32,21 +32,21 @@ accepted_text s name v =
     verdict_text s verdict.Ok
     ++ (codes " " ++ (name ++ (codes ": " ++ (canon v ++ codes "\n"))))
 
--- a field of which a member names no cache, where each has to
+-- a field with a member that names no cache, though each has to
 abbrev pub no_cache_text : Settings → List ℕ → ℕ → List ℕ
 no_cache_text s name index =
     verdict_text s verdict.Refused
     ++ (codes " " ++ (name
     ++ (codes ": member " ++ (decimal index ++ codes " names no cache\n"))))
 
--- where a field is refused, whose message has these lines from the n-th on
+-- the place of the refusal of a field whose message has these lines from the n-th on
 abbrev pub mark_of : ℕ → List ℕ → List (List ℕ) → Refusal → Option LinePlace
 mark_of n name lines (refusal.Syntax place found expected may_end) = mark_in n name lines place
 mark_of n name lines refusal.OutOfMemory = None
 mark_of n name lines (refusal.TooLong limit) = None
 mark_of n name lines (refusal.ReadFault place) = None
 
--- a field that is refused: its name, the refusal in words, the line as it is in the input with its
+-- a field that is refused: its name, the error message, the line as it is in the input with its
 -- number, and a caret under the place
 abbrev pub refused_text : Settings → ℕ → List ℕ → List (List ℕ) → Refusal → List ℕ
 refused_text s n name lines r =
@@ -54,8 +54,8 @@ refused_text s n name lines r =
     ++ (codes " " ++ (name ++ (codes ": "
     ++ ((refusal_text r ++ marked_text (mark_of n name lines r)) ++ codes "\n"))))
 
--- a line that is none of a head: its number, why, the line as it is in the input, and a caret under
--- the place
+-- a line that is no line of a head: its number, why, the line as it is in the input, and a caret
+-- under the place
 abbrev pub bad_line_text : Settings → ℕ → List ℕ → Option LinePlace → List ℕ
 bad_line_text s n why place =
     verdict_text s verdict.Refused
@@ -65,37 +65,37 @@ bad_line_text s n why place =
 abbrev pub others_text : ℕ → List ℕ
 others_text n = codes "other fields: " ++ (decimal n ++ codes "\n")
 
--- what is told of some lines: a text, whether something is refused, and how many field lines are of
+-- the report on some lines: a text, whether something is refused, and the number of field lines of
 -- fields that are not structured
 abbrev pub IsTold : List ℕ → Bool → ℕ → List ℕ → Bool → ℕ → Type 0
 IsTold text refused others t r o = (t ≡ text) × (r ≡ refused) × (o ≡ others)
 
--- the line of this number is none of a head, at this place of it
+-- the line of this number is no line of a head, and is refused at this place of it
 abbrev pub TellsBadLine : Settings → ℕ → List ℕ → ℕ → List ℕ → List ℕ → Bool → ℕ → Type 0
 TellsBadLine s n why place line =
     IsTold (bad_line_text s n why (Some (record { line = n; place = place; text = line }))) true 0
 
--- a field has this value and this meaning: its canonical text and the lines of its meaning are told;
--- or that a member names no cache
+-- a field has this value and this meaning: the report has its canonical text and the lines of its
+-- meaning; or that a member names no cache
 abbrev pub TellsValue : Settings → List ℕ → Value → Result (List ℕ) ℕ → List ℕ → Bool → ℕ → Type 0
 TellsValue s name v (Ok text) = IsTold (shown s (accepted_text s name v ++ text)) false 0
 TellsValue s name v (Err index) = IsTold (no_cache_text s name index) true 0
 
--- a field is refused so; a failed allocation is no refusal of a field
+-- a field has this refusal; a failed allocation is no refusal of a field
 abbrev pub TellsRefusal : Settings → List ℕ → ℕ → List (List ℕ) → Refusal
     → List ℕ → Bool → ℕ → Type 0
 TellsRefusal s name n lines r text refused others =
     (¬ (r ≡ refusal.OutOfMemory))
     × IsTold (refused_text s n name lines r) true 0 text refused others
 
--- the values of a field are parsed so
+-- the result of parsing the values of a field
 abbrev pub TellsParsed : Settings → List ℕ → ℕ → List (List ℕ) → Result Value Refusal
     → List ℕ → Bool → ℕ → Type 0
 TellsParsed s name n lines (Ok v) = TellsValue s name v (meaning_of s name v)
 TellsParsed s name n lines (Err r) = TellsRefusal s name n lines r
 
--- a structured field, of which the first line is the n-th of the input and the first of these lines
--- of its message: the values of its lines, joined, spell a value, or are refused
+-- a structured field, whose first line is the n-th of the input and the first of these lines of its
+-- message: the values of its lines, joined, spell a value, or are refused
 abbrev pub TellsField : Settings → FieldType → List ℕ → ℕ → List (List ℕ)
     → List ℕ → Bool → ℕ → Type 0
 TellsField s type name n lines t r o =
@@ -103,7 +103,8 @@ TellsField s type name n lines t r o =
     × ParsesLines type.dialect type.kind (values_in name lines) parsed
     × TellsParsed s name n lines parsed t r o
 
--- a field line, of a field of this type, if it is structured: the field is told at its first line
+-- a field line, of a field of this type, if it is structured: the field is reported at its first
+-- line
 abbrev pub TellsNamed : Settings → List (List ℕ) → ℕ → List ℕ → Option FieldType
     → List ℕ → Bool → ℕ → Type 0
 TellsNamed s lines n name None t r o = IsTold [] false 1 t r o
@@ -112,7 +113,7 @@ TellsNamed s lines n name (Some type) t r o =
     ⊎ ((¬ (IsRepeated name lines n))
     × TellsField s type name (n + 1) (message_from lines n) t r o)
 
--- the n-th line, by what it is
+-- the n-th line, by its type
 abbrev pub TellsLine : Settings → List (List ℕ) → ℕ → Line → List ℕ → Bool → ℕ → Type 0
 TellsLine s lines n Empty = IsTold [] false 0
 TellsLine s lines n Folded =
@@ -123,7 +124,7 @@ TellsLine s lines n Nameless =
     TellsBadLine s (n + 1) (codes "not a field line") (name_end (get_or lines n []))
     (get_or lines n [])
 
--- one line more is told after those before it
+-- one more line is reported after those before it
 pub record TellsMore (before line : List ℕ → Bool → ℕ → Type 0) (t : List ℕ) (r : Bool) (o : ℕ)
     : Type 0 where
   pub text : List ℕ
@@ -142,7 +143,7 @@ Tells s lines zero = IsTold [] false 0
 Tells s lines (suc n) =
     TellsMore (Tells s lines n) (TellsLine s lines n (line_of (get_or lines n [])))
 
--- an input: what its lines tell, and how many fields are not structured
+-- an input: the report on its lines, and the number of fields that are not structured
 abbrev pub Reports : Settings → List ℕ → List ℕ → Bool → Type 0
 Reports s input text refused =
     (told : List ℕ) × (others : ℕ)

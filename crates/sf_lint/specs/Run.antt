@@ -18,14 +18,14 @@ abbrev pub too_long_text : Settings → List ℕ
 too_long_text s =
     verdict_text s verdict.Refused ++ (codes " too long " ++ (decimal input_limit ++ codes "\n"))
 
--- the report of an input was to be written; if an allocation failed nothing was
+-- the report on an input was to be written; if an allocation failed, nothing was
 abbrev pub Answers : Settings → List ℕ → SinkState → SinkState → Status → Type 0
 Answers settings input old new status =
     ((new ≡ old) × (status ≡ Stopped))
     ⊎ ((text : List ℕ) × (refused : Bool) × Reports settings input text refused
     × TellsText text (status_of refused) old new status)
 
--- the whole input was read and then answered; or it was too long, and that was told, whatever
+-- the whole input was read and then answered; or it was too long, which was reported, whatever
 -- memory there was; or it was not all read, and nothing was written
 abbrev pub Ran : Settings → SourceState → SourceState → SinkState → SinkState → Status → Type 0
 Ran settings source source' sink sink' status =

@@ -11,30 +11,30 @@ use Rattle.sf_lint.specs.declared.settings.CustomField.{CustomField}
 use Rattle.sf_lint.specs.declared.settings.FieldType.{FieldType}
 use Rattle.sf_lint.specs.declared.settings.Settings.{Settings}
 
--- the kind that is given for a name, which is in lower case
+-- the kind that the settings have for a name, which is in lower case
 abbrev pub custom_kind : List CustomField → List ℕ → Option Kind
 custom_kind fields name = option_map (λ f. f.kind) (find (λ f. bytes_eq f.name name) fields)
 
--- a targeted cache control field (RFC 9213 section 2.1 leaves its name to who defines it)
+-- a targeted cache control field (RFC 9213 section 2.1 leaves its name to its definition)
 abbrev pub is_targeted : List ℕ → Bool
 is_targeted name = ends_with (λ a b. a == b) name (codes "-cache-control")
 
--- of a field that isn't registered
+-- the type of a field that isn't registered
 abbrev pub unregistered_type : List ℕ → Option FieldType
 unregistered_type name =
     if is_targeted name then Some (record { dialect = Rfc8941; kind = Dict }) else None
 
--- of a field for which no kind is given
+-- the type of a field without a kind in the settings
 abbrev pub type_by_name : List ℕ → Option Kind → Option FieldType
 type_by_name name None = unregistered_type name
 type_by_name name (Some kind) = Some (record { dialect = dialect_of name; kind = kind })
 
--- of any field
+-- the type of any field
 abbrev pub type_by : List ℕ → Option Kind → Option FieldType
 type_by name None = type_by_name name (kind_of name)
 type_by name (Some kind) = Some (record { dialect = Rfc9651; kind = kind })
 
--- the type of the field of this name, if it is structured: the one that is given; otherwise that of
+-- the type of the field of this name, if it is structured: that of the settings; otherwise that of
 -- the registry; otherwise that of a targeted field
 abbrev pub type_of : Settings → List ℕ → Option FieldType
 type_of settings name = type_by name (custom_kind settings.fields.items name)

@@ -5,7 +5,7 @@ ghost use Rattle.sf_lint.specs.Colours.{verdict_text, is_coloured as is_coloured
 
 use crate::settings::Settings;
 
-/// What the first word of a line says.
+/// The first word of a line.
 #[derive(Clone, Copy)]
 pub(crate) enum Verdict {
     /// A field is accepted.
@@ -37,8 +37,8 @@ impl Verdict {
     }
 }
 
-/// Returns whether the output is coloured: it goes to a terminal, and the environment variable
-/// `NO_COLOR`, whose value is given, is not set or is empty. Does not allocate.
+/// Returns whether the output is coloured: it is a terminal, and the environment variable
+/// `NO_COLOR`, with this value, is not set or is empty. Does not allocate.
 ///
 /// ```
 /// is_coloured(true, None) // true

@@ -37,7 +37,7 @@ fn first_word(line: &[u8]) -> &[u8]
     }
 }
 
-/// Returns what is after the first space; nothing if there is none.
+/// Returns what is after the first space; nothing if there is no space.
 fn after_word(line: &[u8]) -> &[u8]
     ensures { result.now ≡ word_after line.now }
 {
@@ -54,7 +54,7 @@ fn has_protocol(bytes: &[u8]) -> bool
     bytes.starts_with(b"HTTP/")
 }
 
-/// Returns whether the line begins a message: it is a status line or a request line.
+/// Returns whether the line begins a message: whether it is a status line or a request line.
 pub(crate) fn is_start(line: &[u8]) -> bool
     ensures { result ≡ is_start_in line.now }
 {

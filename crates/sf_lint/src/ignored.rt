@@ -1,5 +1,5 @@
 //! The parameters of Cache-Status (RFC 9211) that are ignored: each has another type or range than
-//! the RFC gives it, so that it says nothing.
+//! the RFC states.
 ghost use Rattle.std.specs.Prelude.{◌≡◌, ◌++◌, IfOk};
 ghost use Rattle.sf_value.specs.Grammar.Pairs.{value_at};
 ghost use Rattle.sf_value.specs.Lookups.{as_integer as integer_of};
@@ -77,7 +77,7 @@ fn is_no_name(params: &Entries<Bare>, key: &[u8]) -> bool
     }
 }
 
-/// Returns the status code that a bare item is, if it is one.
+/// Returns a bare item as a status code, if it is one.
 fn status_of(bare: &Bare) -> Option<HopStatus>
     ensures { result ≡ status_in (integer_of bare.now) }
 {
@@ -85,7 +85,7 @@ fn status_of(bare: &Bare) -> Option<HopStatus>
     HopStatus::new(code).ok()
 }
 
-/// Returns the text, and after it the line for a parameter of the member of this number, if it is
+/// Returns the text, followed by the line for a parameter of the member of this number, if it is
 /// ignored.
 fn with_ignored(
     alloc: Global,
@@ -136,7 +136,7 @@ fn ignored_params(
     with_ignored(alloc, settings, text, number, "detail", is_ignored)
 }
 
-/// Returns the same of a member of Cache-Status.
+/// Returns the same for a member of Cache-Status.
 fn ignored_member(
     alloc: Global,
     settings: &Settings,
@@ -151,7 +151,7 @@ fn ignored_member(
     }
 }
 
-/// Returns the same of all members of Cache-Status, in order.
+/// Returns the same for all members of Cache-Status, in order.
 pub(crate) fn ignored_members(
     alloc: Global,
     settings: &Settings,

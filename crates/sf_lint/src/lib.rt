@@ -1,10 +1,10 @@
 //! The heads of HTTP messages, as `curl -I` prints them, with each structured field checked.
 //!
-//! [`run`] reads heads from a source and writes what each structured field of them is to a sink:
-//! its canonical text, or why it is refused and where. [`kind_of`] and [`dialect_of`] are the table
-//! of the registered structured fields. [`is_coloured`] decides whether the output has colours. In
-//! `specs/`, `Registry` is that table, `Head` defines what a line of a head is, `Report` what is
-//! printed of it, `Colours` in which colours, `Run` what a run reads and writes, and `Options` which
+//! [`run`] reads heads from a source and writes for each structured field its canonical text, or
+//! why it is refused and where, to a sink. [`kind_of`] and [`dialect_of`] are the table of the
+//! registered structured fields. [`is_coloured`] decides whether the output has colours. In
+//! `specs/`, `Registry` is that table, `Head` defines the lines of a head, `Report` what is printed
+//! for them, `Colours` in which colours, `Run` what a run reads and writes, and `Options` which
 //! arguments make which settings.
 #![tactic(auto)]
 

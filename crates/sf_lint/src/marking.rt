@@ -1,4 +1,4 @@
-//! Where in an input a refusal of a field is.
+//! The place of a refusal of a field in an input.
 ghost use Rattle.std.specs.Prelude.{◌≡◌, ◌+◌, ◌≤◌, ◌<◌, ◌^◌, length, map};
 ghost use Rattle.sf_parse.specs.Spots.{line_place};
 ghost use Rattle.sf_lint.specs.Marks.{offset_of as offset_in, mark_in};
@@ -7,7 +7,7 @@ use crate::head::{is_named, value_of};
 use sf_parse::Spot;
 use sf_tool::{split_at_first, without_lead};
 
-/// Returns how many bytes of the line are before its value.
+/// Returns the number of bytes of the line before its value.
 fn offset_of(line: &[u8]) -> usize
     ensures value { result ≡ offset_in line.now }
     ensures within { result ≤ length line.now + 1 }
@@ -18,7 +18,7 @@ fn offset_of(line: &[u8]) -> usize
     }
 }
 
-/// Returns where in the lines the place of the joined values of this name is. The first line has
+/// Returns the place in the lines of a place of the joined values of this name. The first line has
 /// this number, and places are counted from 0.
 pub(crate) fn find_mark<'a>(
     name: &[u8],

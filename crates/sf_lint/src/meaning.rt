@@ -1,4 +1,4 @@
-//! What a field means to a cache or a server, in the lines that `sf` prints.
+//! The meaning of a field to a cache or a server, in the lines that `sf` prints.
 ghost use Rattle.std.specs.Prelude.{◌≡◌, ◌++◌, IfOk};
 ghost use Rattle.sf_use.specs.Priority.{asked};
 ghost use Rattle.sf_use.specs.Targeted.{policy};
@@ -70,7 +70,7 @@ fn ignored_text(
     Ok(text.into_bytes())
 }
 
-/// Returns whether a member is there, and says nothing.
+/// Returns whether a member is present but ignored.
 fn is_silent<T: Copy>(member: Option<&Member>, said: Option<T>) -> bool
     ensures { result ≡ is_ignored (option_copied member.entry) said }
 {
@@ -91,7 +91,7 @@ pub(crate) fn joined(
     Ok(text)
 }
 
-/// Returns the parameters of a Cache-Status field that are ignored, and its path.
+/// Returns the lines for the ignored parameters of a Cache-Status field, and its path.
 fn path_texts(
     alloc: Global,
     settings: &Settings,
@@ -107,7 +107,7 @@ fn path_texts(
     Ok(text)
 }
 
-/// Returns the members of a Priority field that are ignored, and what it asks for.
+/// Returns the lines for the ignored members of a Priority field, and its priority.
 fn priority_texts(alloc: Global, settings: &Settings, dict: &Dict) -> Result<Vec<u8>, OutOfMemory>
     ensures { IfOk result (λ text. text.items
         ≡ priority_lines settings.now dict.now.members (asked dict.now)) }
@@ -120,7 +120,7 @@ fn priority_texts(alloc: Global, settings: &Settings, dict: &Dict) -> Result<Vec
     joined(urgency, flag, priority_text(alloc, asked.with_defaults())?)
 }
 
-/// Returns the members of a targeted field that are ignored, and its policy.
+/// Returns the lines for the ignored members of a targeted field, and its policy.
 fn targeted_texts(alloc: Global, settings: &Settings, dict: &Dict) -> Result<Vec<u8>, OutOfMemory>
     ensures { IfOk result (λ text. text.items
         ≡ targeted_lines settings.now dict.now.members (policy dict.now)) }
@@ -133,7 +133,7 @@ fn targeted_texts(alloc: Global, settings: &Settings, dict: &Dict) -> Result<Vec
     joined(age, shared, policy_text(alloc, &policy)?)
 }
 
-/// Returns the parameters of a Cache-Status field (RFC 9211) that are ignored, and its path.
+/// Returns the lines for the ignored parameters of a Cache-Status field (RFC 9211), and its path.
 fn path_of(alloc: Global, settings: &Settings, field: &Field) -> Result<Vec<u8>, UseFault>
     ensures { IsMeaning (path_meaning settings.now field.now) result }
 {
@@ -166,7 +166,7 @@ fn policy_of(alloc: Global, settings: &Settings, field: &Field) -> Result<Vec<u8
     }
 }
 
-/// Returns what the field of this name means, in lines; nothing if it means nothing to a consumer.
+/// Returns the lines of the meaning of the field with this name; none if it has no meaning here.
 pub(crate) fn meaning(
     alloc: Global,
     settings: &Settings,

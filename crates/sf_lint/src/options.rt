@@ -30,7 +30,8 @@ pub enum OptionsFault {
 }
 
 impl OptionsFault {
-    /// Returns how the command ends, once [`OptionsFault::text`] was written. Does not allocate.
+    /// Returns the result of the command, once [`OptionsFault::text`] was written. Does not
+    /// allocate.
     pub fn status(self) -> Status
         ensures { result ≡ fault_status self }
     {
@@ -76,7 +77,7 @@ pub fn status_line(status: Status) -> Option<&'static str>
 ///
 /// `--field NAME:KIND` can be given any number of times: the name is a header name in any case, and
 /// the kind `item`, `list` or `dict`. `--quiet` is given at most once. `--help` and `--version` are
-/// faults of their own. No argument asks for colours: the settings have none.
+/// returned as faults. No argument sets colours: the settings have none.
 ///
 /// ```
 /// let settings = read_settings(alloc, words.as_slice())?; // sflint --field X-List:list --quiet

@@ -83,8 +83,8 @@ fn is_one_of(names: &[&str], name: &str) -> bool
     names.contains(&name)
 }
 
-/// The kind of the registered structured field of this name, None if none has it. The name is in
-/// lower case. It does not allocate.
+/// The kind of the registered structured field with this name, None if no field has it. The name is
+/// in lower case. It does not allocate.
 ///
 /// ```
 /// kind_of("cache-status") // Some(Kind::List)
@@ -105,9 +105,9 @@ pub fn kind_of(name: &str) -> Option<Kind>
     None
 }
 
-/// The dialect that a registered structured field of this name is written in: that of RFC 9651 for
-/// Deprecation, which is a Date, and that of RFC 8941 for the others. The name is in lower case. It
-/// does not allocate.
+/// The dialect of the registered structured field with this name: that of RFC 9651 for Deprecation,
+/// which is a Date, and that of RFC 8941 for the others. The name is in lower case. It does not
+/// allocate.
 pub fn dialect_of(name: &str) -> Dialect
     ensures { result ≡ dialect_in name.now }
 {

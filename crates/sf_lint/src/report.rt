@@ -1,4 +1,4 @@
-//! What is printed of the lines of an input.
+//! What is printed for the lines of an input.
 ghost use Rattle.std.specs.Prelude.{◌≡◌, ◌+◌, ◌<◌, ◌≤◌, ◌^◌, ◌↔◌, ◌++◌, true, false, length, map, get_or, IfOk, IfErr, IsTrue};
 ghost use Rattle.std.specs.Prelude.{codes, decimal, string_bytes, [], Some};
 ghost use Rattle.sf_field.specs.Lines.{ParsesLines};
@@ -29,14 +29,14 @@ use sf_write::display;
 use std::alloc::Global;
 use std::hash::RandomState;
 
-/// What is told of one line or of several.
+/// The report on one line or several.
 #[derive(Drop)]
 pub(crate) struct Told {
     /// The text that is printed.
     pub text: Vec<u8>,
     /// Whether a line or a field was refused.
     pub refused: bool,
-    /// How many field lines are of fields that are not structured.
+    /// The number of field lines of fields that are not structured.
     pub others: u64,
 }
 
@@ -51,7 +51,7 @@ fn shown(alloc: Global, settings: &Settings, text: Vec<u8>) -> Vec<u8>
     }
 }
 
-/// Returns what tells nothing.
+/// Returns an empty report.
 fn nothing(alloc: Global) -> Told
     ensures { (result.text.items ≡ []) × (result.refused ≡ false) × (result.others ≡ 0) }
 {
@@ -121,7 +121,7 @@ fn accepted(
     Ok(text.into_bytes())
 }
 
-/// Returns the text for a field of which a member names no cache.
+/// Returns the text for a field with a member that names no cache.
 fn without_cache(
     alloc: Global,
     settings: &Settings,
@@ -135,7 +135,7 @@ fn without_cache(
     Ok(text.into_bytes())
 }
 
-/// Tells of a field that has a value: its canonical text, and what it means.
+/// Reports a field that has a value: its canonical text, and its meaning.
 fn tell_value(
     alloc: Global,
     settings: &Settings,
@@ -167,8 +167,8 @@ fn tell_value(
     }
 }
 
-/// Returns the text for a field that is refused; the lines of its message from its first one on are
-/// given, and the number of that one.
+/// Returns the text for a field that is refused. The lines are those of its message from its first
+/// one on, and the number is that of its first line.
 fn refused(
     alloc: Global,
     settings: &Settings,
@@ -191,7 +191,7 @@ fn refused(
     Ok(text.into_bytes())
 }
 
-/// Tells of a field that is refused.
+/// Reports a field that is refused.
 fn tell_refusal(
     alloc: Global,
     settings: &Settings,
@@ -218,8 +218,8 @@ fn tell_refusal(
     }
 }
 
-/// Tells of a structured field. The lines are those of its message from its first one on, whose
-/// number is given.
+/// Reports a structured field. The lines are those of its message from its first one on, and the
+/// number is that of its first line.
 fn tell_field(
     alloc: Global,
     seed: &RandomState,
@@ -253,7 +253,7 @@ fn tell_field(
     }
 }
 
-/// Tells of a field line, of a field that may be structured.
+/// Reports a field line, of a field that may be structured.
 fn tell_named(
     alloc: Global,
     seed: &RandomState,
@@ -323,7 +323,7 @@ fn bad_line(
     joined(words, shown, caret)
 }
 
-/// Tells of a line that is no line of a head, which is refused at the spot.
+/// Reports a line that is no line of a head, which is refused at the spot.
 fn tell_bad_line(
     alloc: Global,
     settings: &Settings,
@@ -341,7 +341,7 @@ fn tell_bad_line(
     })
 }
 
-/// Tells of the n-th line.
+/// Reports the n-th line.
 fn tell_line(
     alloc: Global,
     seed: &RandomState,
@@ -350,7 +350,7 @@ fn tell_line(
     n: usize,
 ) -> Result<Told, OutOfMemory>
     requires { (n < length lines.now) × (length lines.now < 2 ^ 63) }
-    // What the line tells: by what it is, and among the lines of its message.
+    // The report on the line: by what it is, and among the lines of its message.
     ensures told { IfOk result (λ told. TellsLine settings.now (map (λ line. line.now) lines.now) n
         (line_of (get_or (map (λ line. line.now) lines.now) n []))
         told.text.items told.refused told.others) }
@@ -387,7 +387,7 @@ fn tell_line(
     }
 }
 
-/// Tells of all lines, in order.
+/// Reports all lines, in order.
 fn tell_lines(
     alloc: Global,
     seed: &RandomState,
@@ -416,7 +416,7 @@ fn others_line(alloc: Global, others: u64) -> Result<Vec<u8>, OutOfMemory>
     Ok(text.into_bytes())
 }
 
-/// Returns what is printed of an input, and whether something in it was refused.
+/// Returns what is printed for an input, and whether something in it was refused.
 pub(crate) fn report(
     alloc: Global,
     seed: &RandomState,
@@ -424,7 +424,7 @@ pub(crate) fn report(
     input: &[u8],
 ) -> Result<Told, OutOfMemory>
     requires { length input.now ≤ 2 ^ 32 }
-    // What each line tells, in order, and then how many fields are not structured.
+    // The report on each line, in order, and then the number of fields that are not structured.
     ensures { IfOk result (λ told. Reports settings.now input.now told.text.items told.refused) }
 {
     let lines = split_lines(alloc, input)?;

@@ -12,17 +12,16 @@ use sf_value::{Sink, Source};
 use std::alloc::Global;
 use std::hash::RandomState;
 
-/// Checks the heads of an input: reads all of it from the source, computes, and then writes to the
+/// Checks the heads of an input: reads all of it from the source, and then writes the report to the
 /// sink.
 ///
 /// An input longer than [`INPUT_LIMIT`] is refused after one byte beyond the limit was read,
-/// whatever memory is left. No byte is asked for after that, or after the end of the input. If a
-/// read fails, or an allocation, the result is `Stopped`, and nothing was written; a failed read is
-/// not repeated. If a write fails, the result is `Stopped`, and a prefix of the answer was written.
+/// whatever memory is left. Nothing is read after that, or after the end of the input. If a read
+/// fails, or an allocation, the result is `Stopped`, and nothing was written; a failed read is not
+/// repeated. If a write fails, the result is `Stopped`, and a prefix of the answer was written.
 /// Otherwise the whole answer was written, and the result is `Refused` if a field or a line is
-/// refused, and `Accepted` if none is. The result is never `Usage`, and the sink is not flushed. The
-/// source is asked for at most 262,144 bytes at a time, and the whole answer is sent to the sink at
-/// once.
+/// refused, and `Accepted` if none is. The result is never `Usage`, and the sink is not flushed. At
+/// most 262,144 bytes are read at a time, and the whole answer is sent to the sink at once.
 ///
 /// ```
 /// let settings = Settings { fields: Vec::new(alloc), quiet: false, colour: false };

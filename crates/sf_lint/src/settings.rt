@@ -12,33 +12,33 @@ use sf_value::{Dialect, Kind};
 pub struct CustomField {
     /// The name of the field.
     pub name: HeaderName,
-    /// What its value is.
+    /// The kind of its value.
     pub kind: Kind,
 }
 
-/// Which fields are checked beside the registered ones, and how much is printed.
+/// The fields that are checked in addition to the registered ones, and how much is printed.
 #[derive(Debug, Drop)]
 pub struct Settings {
-    /// Fields that are structured beside the registered ones. The first of a name counts, also if the
-    /// name is registered.
+    /// Fields that are structured in addition to the registered ones. The first of a name counts,
+    /// also if the name is registered.
     pub fields: Vec<CustomField>,
     /// Whether only what is refused is printed.
     pub quiet: bool,
-    /// Whether the words `ok`, `refused` and `ignored` are green, red and yellow where a line begins
-    /// with them, by escape sequences for terminals.
+    /// Whether the words `ok`, `refused` and `ignored` are green, red and yellow at the beginning
+    /// of a line, by escape sequences for terminals.
     pub colour: bool,
 }
 
-/// What the value of a structured field is, and in which dialect it is written.
+/// The kind and the dialect of a structured field.
 #[derive(Clone, Copy, Debug, PartialEq, Eq)]
 pub struct FieldType {
     /// The dialect of the field's specification.
     pub dialect: Dialect,
-    /// What its value is.
+    /// The kind of its value.
     pub kind: Kind,
 }
 
-/// The kind that is given for the name, if there is one.
+/// The kind that the settings have for the name, if there is one.
 fn custom_kind(fields: &[CustomField], name: &HeaderName) -> Option<Kind>
     ensures { result ≡ custom_kind_in fields.now name.now }
 {
@@ -58,7 +58,7 @@ pub(crate) fn is_targeted(name: &[u8]) -> bool
     name.ends_with(b"-cache-control")
 }
 
-/// What a field of this name is, in lower case: None if it is not structured.
+/// The type of the field with this name, in lower case: None if it is not structured.
 pub(crate) fn type_of(settings: &Settings, name: &HeaderName) -> Option<FieldType>
     ensures { result ≡ type_in settings.now name.now }
 {

@@ -1,4 +1,4 @@
--- The lines that `targeted` prints of the choice of a field.
+-- The lines that `targeted` prints for the choice of a field.
 use Rattle.std.specs.Prelude.{ℕ, Bool, true, false, List, [], ◌++◌, get_or, codes, decimal}
 use Rattle.std.specs.Prelude.{◌<◌, length, Option, None, Some, ⊤}
 use Rattle.sf_use.specs.Targeted.{life}
@@ -30,13 +30,13 @@ policy_lines p =
     ++ (codes "\nlifetime private "
     ++ (lifetime_text (life p false) ++ (codes "\n" ++ flag_lines p))))
 
--- the place of the chosen field and its name in lower case, and what the field says
+-- the index of the chosen field, its name in lower case, and its policy
 abbrev pub field_lines : ℕ → List ℕ → Policy → List ℕ
 field_lines index name p =
     codes "field "
     ++ (decimal index ++ (codes " " ++ (name ++ (codes "\n" ++ policy_lines p))))
 
--- a chosen field is one of so many names
+-- the index of a chosen field is that of one of the names
 abbrev pub IsPlaceOf : List (List ℕ) → Choice → Type 0
 IsPlaceOf names (choice.Field index p) = index < length names
 IsPlaceOf names choice.Fallback = ⊤

@@ -1,4 +1,4 @@
--- The words of the command line, as clap reads them.
+-- The arguments of the command line, as clap parses them.
 use Rattle.std.specs.Prelude.{◌≡◌, ◌≤◌, ◌⊎◌, true, false, List, [], ◌∷◌, map, length, codes, slice_get}
 use Rattle.std.specs.Prelude.{Some, ⊤}
 use Rattle.std.specs.List.{list_all}
@@ -20,7 +20,7 @@ use Rattle.sf_tool.specs.declared.request.RequestFault.{RequestFault}
 use Rattle.sf_tool.specs.declared.request.RequestFault.TheVariants.{Usage, OutOfMemory}
 use Rattle.sf_tool.specs.Fields.{is_header_name}
 
--- `--kind`, which must be given
+-- `--kind`, which is required
 abbrev pub kind_option : Rule
 kind_option =
     record (new_rule (codes "kind")) { long = Some (codes "kind"); required = true }
@@ -86,7 +86,7 @@ AreNames words names =
     (1 ≤ length words) × (length words ≤ 64) × (list_all is_header_name words ≡ true)
     × (names ≡ map lowercase words)
 
--- what was given with the command's name is what the request has
+-- the request has the arguments that were given with the command's name
 abbrev pub HasArguments : List Row → Request → Type 0
 HasArguments rows (Show dialect kind) = NamesDialect rows dialect × NamesKind rows kind
 HasArguments rows (Check dialect kind) = NamesDialect rows dialect × NamesKind rows kind
@@ -96,11 +96,11 @@ HasArguments rows (Targeted names) =
     (words : List Text) × (all_of (codes "name") rows ≡ Some words) × AreNames words names.items
 HasArguments rows Priority = ⊤
 
--- the command's name and what was given with it ask for the request
+-- the command's name and what was given with it make the request
 abbrev pub AsksFor : Text → List Row → Request → Type 0
 AsksFor word rows request = (word ≡ command_word request) × HasArguments rows request
 
--- clap finds no fault in the words, and what it finds in them asks for the request
+-- clap finds no fault in the arguments, and what it finds in them makes the request
 abbrev pub IsRequestOf : List Text → Request → Type 0
 IsRequestOf words request =
     (fault_of command_line words ≡ [])
@@ -125,7 +125,7 @@ IsStray [] = ⊥
 IsStray (program ∷ []) = ⊥
 IsStray (program ∷ word ∷ rest) = ¬ (IsOption word) × ¬ (IsCommand word)
 
--- a fault is Usage only where the words ask for no request; of a failed allocation nothing is said
+-- a fault is Usage only if the arguments make no request; of a failed allocation nothing is claimed
 abbrev pub IsUsageOf : List Text → RequestFault → Type 0
 IsUsageOf words Usage = (request : Request) → ¬ (IsRequestOf words request)
 IsUsageOf words OutOfMemory = ⊤

@@ -1,4 +1,4 @@
--- What the steps of reading the words tell of a command that clap found in them.
+-- What the steps of parsing the arguments return for a command that clap found in them.
 use Rattle.std.specs.Prelude.{◌≡◌, ℕ, ◌+◌, ◌<◌, ◌≤◌, true, List, length, take, Option, None, Some}
 use Rattle.std.specs.Prelude.{IsSomeAnd, codes}
 use Rattle.std.specs.List.{list_all}
@@ -11,7 +11,7 @@ use Rattle.sf_tool.specs.declared.request.RequestFault.TheVariants.{Usage, OutOf
 use Rattle.sf_tool.specs.CommandLine.{AreNames, AsksFor}
 use Rattle.sf_tool.specs.Fields.{is_header_name}
 
--- no request is asked for
+-- no request is made
 abbrev pub AsksForNone : Text → List Row → Type 0
 AsksForNone word rows = (request : Request) → ¬ (AsksFor word rows request)
 
@@ -22,25 +22,25 @@ MayAllocate words =
     (length words ≤ 64)
     × ((n : ℕ) × (n < length words) × (list_all is_header_name (take (n + 1) words) ≡ true))
 
--- Usage, where a command that was found in the words asks for no request; an allocation fails for
--- the names of `targeted` alone
+-- Usage, if a command that was found makes no request; an allocation fails only for the names of
+-- `targeted`
 abbrev pub IsCommandFault : Text → List Row → RequestFault → Type 0
 IsCommandFault word rows Usage = AsksForNone word rows
 IsCommandFault word rows OutOfMemory =
     (word ≡ codes "targeted")
     × ((words : List Text) × (all_of (codes "name") rows ≡ Some words) × MayAllocate words)
 
--- the command that clap found, with what was given, asks for the request
+-- the command that clap found, with what was given, makes the request
 abbrev pub AsksAsFound : Option (Text × List Row) → Request → Type 0
 AsksAsFound found request = IsSomeAnd found (λ f. AsksFor f.0 f.1 request)
 
--- it asks for none; Usage, where clap found no command
+-- it makes none; Usage, if clap found no command
 abbrev pub IsFoundFault : Option (Text × List Row) → RequestFault → Type 0
 IsFoundFault None fault = fault ≡ Usage
 IsFoundFault (Some found) fault = IsCommandFault found.0 found.1 fault
 
--- Usage, where the words are no names that `targeted` takes; an allocation fails only for a name,
--- before any word that is none
+-- Usage, if the words are not names that `targeted` takes; an allocation fails only for a name,
+-- before any word that is not a name
 abbrev pub IsNamesFault : List Text → RequestFault → Type 0
 IsNamesFault words Usage = (names : List Text) → ¬ (AreNames words names)
 IsNamesFault words OutOfMemory = MayAllocate words

@@ -24,7 +24,7 @@ use Rattle.sf_tool.specs.Lines.{lines_of}
 use Rattle.sf_tool.specs.Fields.{Targets, IsFirstRefused, is_refused}
 use Rattle.sf_tool.specs.Marks.{bad_place}
 
--- a refusal of these lines: its words, the line that it is in, and a caret under the place
+-- a refusal of these lines: its error message, the line that it is in, and a caret under the place
 abbrev pub refusal_words : Refusal → List (List ℕ) → List ℕ
 refusal_words refusal lines =
     (refusal_text refusal ++ marked_text (stands_at refusal lines)) ++ codes "\n"
@@ -37,14 +37,14 @@ no_cache_words index = codes "member " ++ (decimal index ++ codes " names no cac
 abbrev pub too_long_words : ℕ → List ℕ
 too_long_words limit = codes "more than " ++ (decimal limit ++ codes " bytes\n")
 
--- the input's lines spell no value, and this is their refusal in words
+-- the input's lines spell no value, and this is the error message of their refusal
 abbrev pub ExplainsField : Dialect → Kind → List ℕ → List ℕ → Type 0
 ExplainsField d kind input text =
     (refusal : Refusal) × ParsesLines d kind (lines_of input) (Err refusal)
     × ¬ (refusal ≡ OutOfMemory)
     × (text ≡ refusal_words refusal (lines_of input))
 
--- they spell no List; or a member of the one that they spell names no cache
+-- they spell no List; or a member of the List that they spell names no cache
 abbrev pub ExplainsPath : List ℕ → List ℕ → Type 0
 ExplainsPath input text =
     ExplainsField Rfc9651 kind.List input text
@@ -65,7 +65,7 @@ ExplainsLine targets input text =
     × (is_refused targets (get_or (lines_of input) n []) ≡ true)
     × (text ≡ bad_line_words n (get_or (lines_of input) n []))
 
--- why the input is refused, in words
+-- the message that explains why the input is refused
 abbrev pub Explains : Request → List ℕ → List ℕ → Type 0
 Explains (Show d kind) input text = ExplainsField d kind input text
 Explains (Check d kind) input text = ExplainsField d kind input text
@@ -82,15 +82,15 @@ Shows text old new = (sent : Result ℕ WriteFault) × Writes old new 0 sent tex
 abbrev pub IsExplained : Bool → Status → Type 0
 IsExplained is_terminal status = (is_terminal ≡ true) × (status ≡ Refused)
 
--- a refusal was shown by such a text; nothing was written if an allocation for it failed, or there
--- is no refusal or no terminal
+-- a refusal was explained by such a text; nothing was written if an allocation for it failed, or
+-- there is no refusal or no terminal
 abbrev pub Explained : Bool → Status → (List ℕ → Type 0) → SinkState → SinkState → Type 0
 Explained is_terminal status explains old new =
     (new ≡ old)
     ⊎ (IsExplained is_terminal status × ((text : List ℕ) × explains text × Shows text old new))
 
--- a refusal was shown by this text, whatever memory there was; nothing was written if there is none
--- or no terminal
+-- a refusal was explained by this text, whatever memory there was; nothing was written if there is
+-- no refusal or no terminal
 abbrev pub ExplainedBy : Bool → Status → List ℕ → SinkState → SinkState → Type 0
 ExplainedBy is_terminal status text old new =
     (¬ (IsExplained is_terminal status) × (new ≡ old))

@@ -33,7 +33,7 @@ is_field_value value = list_all (λ b. b == tab || not (is_control b)) value
 abbrev pub word_of : List ℕ → List ℕ
 word_of line = before_first is_colon line
 
--- the same in lower case, since the case of its letters does not count (RFC 9110 section 5.1)
+-- the same in lower case, since case does not count in names (RFC 9110 section 5.1)
 abbrev pub name_of : List ℕ → List ℕ
 name_of line = lowercase (word_of line)
 
@@ -56,8 +56,8 @@ is_listed targets name = list_any (λ target. bytes_eq target name) targets
 abbrev pub is_of_listed : Targets → List ℕ → Bool
 is_of_listed targets line = has_name line && is_listed targets (name_of line)
 
--- the line is not empty, and it has no name, or it has a listed one and in its value a control
--- byte other than HTAB
+-- the line is not empty, and it has no name, or it has a listed one and a value with a control byte
+-- other than HTAB
 abbrev pub is_refused : Targets → List ℕ → Bool
 is_refused targets [] = false
 is_refused targets (b ∷ line) =
@@ -81,14 +81,15 @@ abbrev pub headers_of : Targets → List (List ℕ) → Headers
 headers_of targets lines = append_all [] (listed_fields targets lines)
 
 -- the map of the lines before has no capacity for the field of this line: it is full of names,
--- which takes a list of 24,576 or more, and a command line has 64 at most
+-- which requires a list of 24,576 or more; a command line has 64 at most
 abbrev pub IsOver : Targets → List (List ℕ) → List ℕ → Type 0
 IsOver targets before line =
     (24576 ≤ length targets)
     × (is_of_listed targets line ≡ true)
     × RefusesAppend (headers_of targets before) (name_of line)
 
--- the line of this number is refused, for what it is or since its field has no capacity left
+-- the line of this number is refused, for what it is or because the map has no capacity for its
+-- field
 abbrev pub IsRefusedAt : Targets → List (List ℕ) → ℕ → Type 0
 IsRefusedAt targets lines n =
     (is_refused targets (get_or lines n []) ≡ true)
@@ -98,7 +99,7 @@ IsRefusedAt targets lines n =
 abbrev pub NoneIsRefused : Targets → List (List ℕ) → ℕ → Type 0
 NoneIsRefused targets lines n = (i : ℕ) → i < n → ¬ (IsRefusedAt targets lines i)
 
--- the listed fields of an input as a header map, where none of its lines is refused
+-- the listed fields of an input as a header map, if none of its lines is refused
 abbrev pub AreFields : Targets → List ℕ → Headers → Type 0
 AreFields targets input headers =
     NoneIsRefused targets (lines_of input) (length (lines_of input))

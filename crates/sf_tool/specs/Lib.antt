@@ -1,4 +1,4 @@
--- The definitions that the contracts speak of: requests and words, the input and its lines, the
+-- The definitions that the contracts use: requests and arguments, the input and its lines, the
 -- texts that are printed, and last what a run reads, answers and writes.
 pub mod Status
 pub mod Request

@@ -1,4 +1,4 @@
--- What the steps of reading an input's fields do with one line.
+-- The steps of reading an input's fields, for one line.
 use Rattle.std.specs.Prelude.{◌≡◌, ◌⊎◌, ℕ, true, false, List, [], ◌∷◌}
 use Rattle.http_header.specs.FieldValue.{plain_value}
 use Rattle.http_header.specs.HeaderMap.{append_all, RefusesAppend}
@@ -30,7 +30,7 @@ AddsField targets line old new =
     × ¬ (FindsNoRoom targets line old)
     × (new ≡ append_all old (listed_fields targets (line ∷ [])))
 
--- why the line was not taken; an allocation fails for a listed field alone
+-- why the line was not taken; an allocation fails only for a listed field
 abbrev pub IsLineFault : Targets → List ℕ → Headers → LineFault → Type 0
 IsLineFault targets line headers fault.Refused =
     (is_refused targets line ≡ true) ⊎ FindsNoRoom targets line headers

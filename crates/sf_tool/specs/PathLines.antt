@@ -61,18 +61,18 @@ parts h =
     ++ (collapsed_part h.outcome
     ++ (ttl_part h ++ (key_part h ++ (detail_part h ++ codes "\n")))))
 
--- the line of the hop at this place
+-- the line of the hop at this index
 abbrev pub hop_line : ℕ → Hop → List ℕ
 hop_line place h =
     codes "hop "
     ++ (decimal place ++ (codes " " ++ (name_text h.name ++ (outcome_text h.outcome ++ parts h))))
 
--- the lines of hops, of which the first has this place
+-- the lines of hops, whose first has this index
 abbrev pub hop_lines : ℕ → List Hop → List ℕ
 hop_lines place [] = []
 hop_lines place (h ∷ hops) = hop_line place h ++ hop_lines (place + 1) hops
 
--- the last line: the place of the last hop that is a hit
+-- the last line: the index of the last hop that is a hit
 abbrev pub served_line : Option ℕ → List ℕ
 served_line None = codes "served none\n"
 served_line (Some place) = codes "served " ++ (decimal place ++ codes "\n")

@@ -9,8 +9,8 @@ use Rattle.sf_tool.specs.declared.reading.ReadAllFault.TheVariants.{TooLong}
 abbrev pub ReadToEnd : SourceState → SourceState → ℕ → List ℕ → Type 0
 ReadToEnd old new max bytes = GaveAndEnded old new bytes × (length bytes ≤ max)
 
--- which bytes were given, and why reading ended: for some of them, within the limit, no memory was
--- left; a read failed after them; or there was one more than the limit
+-- which bytes were given, and why reading ended: an allocation failed for some of them, within the
+-- limit; a read failed after them; or there was one more than the limit
 abbrev pub StoppedFor : SourceState → SourceState → ℕ → ReadAllFault → Type 0
 StoppedFor old new max OutOfMemory =
     (bytes : List ℕ) × Gave old new bytes × (0 < length bytes) × (length bytes ≤ max)

@@ -51,7 +51,7 @@ input_limit = 1048576
 abbrev pub joined : List ℕ → List ℕ
 joined input = join (lines_of input)
 
--- the text t spells no value, and this line tells where it is refused and what could have come
+-- the text t spells no value, and this line has the place of its refusal and what is expected there
 pub record Refuses (d : Dialect) (kind : Kind) (t line : List ℕ) : Type 0 where
   pub place : ℕ
   pub found : Option ℕ
@@ -62,22 +62,22 @@ pub record Refuses (d : Dialect) (kind : Kind) (t line : List ℕ) : Type 0 wher
   pub unended : found ≡ None → may_end ≡ false
   pub told : line ≡ refusal_line place found expected may_end
 
--- what is told of the one value that t spells; or the line of a refusal
+-- what is printed for the one value that t spells; or the line of a refusal
 abbrev pub Responds : Dialect → Kind → (Field → List ℕ) → List ℕ → List ℕ → Status → Type 0
 Responds d kind tell t text Accepted = (v : Field) × IsOnly d kind t v × (text ≡ tell v)
 Responds d kind tell t text Refused = Refuses d kind t text
 Responds d kind tell t text Usage = ⊥
 Responds d kind tell t text Stopped = ⊥
 
--- what `check` tells of any value
+-- what `check` prints for any value
 abbrev pub accepted_line : Field → List ℕ
 accepted_line v = codes "accepted\n"
 
--- what `normalise` tells: the canonical text, and a line feed
+-- what `normalise` prints: the canonical text, and a line feed
 abbrev pub canonical_line : Field → List ℕ
 canonical_line v = canon v ++ codes "\n"
 
--- what a command tells of a value
+-- what a command prints for a value
 abbrev pub view_text : View → Field → List ℕ
 view_text Tree v = tree v
 view_text Verdict v = accepted_line v
@@ -89,7 +89,7 @@ view_request Tree d kind = Show d kind
 view_request Verdict d kind = Check d kind
 view_request Canonical d kind = Normalise d kind
 
--- what `priority` tells: what the Dictionary asks for, with the defaults filled in
+-- what `priority` prints: the parameters of the Dictionary, with the defaults filled in
 abbrev pub priority_of : Field → List ℕ
 priority_of v = priority_line (filled (asked_in v))
 
@@ -128,7 +128,7 @@ Answers (Targeted names) input text status = TellsChoice names.items input text 
 Answers Priority input text status = Responds Rfc9651 kind.Dict priority_of (joined input) text
     status
 
--- all of the text of an input went out, and this is its status
+-- all of the text for an input was written, and this is its status
 pub record Finished (request : Request) (input : List ℕ) (old new : SinkState) (status : Status)
     : Type 0 where
   pub text : List ℕ
@@ -136,7 +136,7 @@ pub record Finished (request : Request) (input : List ℕ) (old new : SinkState)
   pub answers : Answers request input text status
   pub wrote : Wrote old new 0 after text
 
--- a write failed, and before it a prefix of the text of an input went out
+-- a write failed, and before it a prefix of the text for an input was written
 pub record BrokeOff (request : Request) (input : List ℕ) (old new : SinkState) : Type 0 where
   pub text : List ℕ
   pub status : Status
@@ -144,8 +144,8 @@ pub record BrokeOff (request : Request) (input : List ℕ) (old new : SinkState)
   pub answers : Answers request input text status
   pub wrote : WrotePrefix old new 0 after text
 
--- an answer to the request may allocate: for lines whose joined text does; for the first listed
--- fields of an input, before a line that is refused
+-- an answer to the request may allocate: for lines whose joined text is not allocation-free; for
+-- the first listed fields of an input, before a line that is refused
 abbrev pub MayAllocate : Request → List ℕ → Type 0
 MayAllocate (Show d kind) input = ¬ (TakesNoMemory kind (joined input))
 MayAllocate (Check d kind) input = ¬ (TakesNoMemory kind (joined input))
@@ -154,8 +154,8 @@ MayAllocate CacheStatus input = ⊤
 MayAllocate (Targeted names) input = (n : ℕ) × MayAllocateAt names.items input n
 MayAllocate Priority input = ⊤
 
--- an input was answered so; an allocation failed for an answer that takes memory, and then nothing
--- was written, and no call was made; or a write failed
+-- this is the result for an input; or an allocation failed, for an answer that may allocate, and
+-- nothing was written, without a call; or a write failed
 abbrev pub Tells : Request → List ℕ → SinkState → SinkState → Status → Type 0
 Tells request input old new Accepted = Finished request input old new Accepted
 Tells request input old new Refused = Finished request input old new Refused
@@ -163,8 +163,8 @@ Tells request input old new Usage = ⊥
 Tells request input old new Stopped =
     (MayAllocate request input × (new ≡ old)) ⊎ BrokeOff request input old new
 
--- this text was to be written, with a status where all of it went out; where it did not, a write
--- failed after a front of it
+-- this text was to be written, with a status if all of it was written; otherwise a write failed
+-- after a prefix of it
 abbrev pub TellsText : List ℕ → Status → SinkState → SinkState → Status → Type 0
 TellsText text status old new Accepted =
     (Accepted ≡ status) × ((after : ℕ) × Wrote old new 0 after text)
@@ -173,11 +173,11 @@ TellsText text status old new Refused =
 TellsText text status old new Usage = ⊥
 TellsText text status old new Stopped = (after : ℕ) × WrotePrefix old new 0 after text
 
--- the input is all that the source gave to its end, which was asked for once, within the limit
+-- the input is all that the source gave up to its end, which was read once, within the limit
 abbrev pub IsWhole : SourceState → SourceState → List ℕ → Type 0
 IsWhole old new input = GaveAndEnded old new input × (length input ≤ input_limit)
 
--- the source gave one byte more than the limit, and no further one was asked for
+-- the source gave one byte more than the limit, and no further one was read
 abbrev pub IsTooLong : SourceState → SourceState → Type 0
 IsTooLong old new = (bytes : List ℕ) × Gave old new bytes × (length bytes ≡ input_limit + 1)
 
@@ -188,7 +188,7 @@ pub record ReadInPart (old new : SourceState) : Type 0 where
   pub within : length bytes ≤ input_limit
   pub given : (Gave old new bytes × (0 < length bytes)) ⊎ GaveAndFailed old new bytes
 
--- the whole input was read and then answered; or it was too long, and that was told, whatever
+-- the whole input was read and then answered; or it was too long, which was reported, whatever
 -- memory there was; or it was not all read, and nothing was written. If the error stream is a
 -- terminal, a refusal is explained on it; otherwise nothing is written there
 abbrev pub Ran : Request → Bool → SourceState → SourceState → SinkState → SinkState → SinkState
@@ -215,7 +215,7 @@ IsOfText (Syntax place found expected may_end) = ⊤
 IsOfText (TooLong limit) = ⊥
 IsOfText (ReadFault place) = ⊥
 
--- a fault of a consumer that is told: its refusal is for the text
+-- a fault of a consumer that is printed: its refusal is for the text
 abbrev pub IsAskOfText : AskFault → Type 0
 IsAskOfText (ask.Field refusal) = IsOfText refusal
 IsAskOfText (ask.Answer fault) = ⊤

@@ -1,4 +1,4 @@
--- How the command ends: exit codes, and what it says on standard error.
+-- The results of the command: exit codes, and the line on standard error.
 use Rattle.std.specs.Prelude.{ℕ, List, Option, Some, None, codes}
 use Rattle.sf_tool.specs.declared.request.RequestFault.{RequestFault}
 use Rattle.sf_tool.specs.declared.request.RequestFault.TheVariants as fault
@@ -11,7 +11,7 @@ code_of Refused = 1
 code_of Usage = 2
 code_of Stopped = 3
 
--- how the command ends where its words are no request, or could not be read
+-- the status if the arguments make no request, or could not be parsed
 abbrev pub status_of : RequestFault → Status
 status_of fault.Usage = Usage
 status_of fault.OutOfMemory = Stopped
@@ -22,14 +22,14 @@ usage_line = codes "sf: usage: sf show, check or normalise --kind item, list or 
 abbrev pub stopped_line : List ℕ
 stopped_line = codes "sf: out of memory or a device failed"
 
--- what is on standard error, in a line: nothing where the input was answered
+-- the line on standard error: none if the input was answered
 abbrev pub line_of : Status → Option (List ℕ)
 line_of Accepted = None
 line_of Refused = None
 line_of Usage = Some usage_line
 line_of Stopped = Some stopped_line
 
--- the same of words that are no request
+-- the same for arguments that make no request
 abbrev pub fault_line : RequestFault → List ℕ
 fault_line fault.Usage = usage_line
 fault_line fault.OutOfMemory = stopped_line

@@ -1,4 +1,4 @@
--- The lines that tell of a refusal.
+-- The lines for refusals.
 use Rattle.std.specs.Prelude.{ℕ, Bool, true, false, ◌==◌, if◌then◌else◌, List, [], ◌∷◌, ◌++◌}
 use Rattle.std.specs.Prelude.{Option, Some, None, codes, decimal}
 use Rattle.sf_parse.specs.ByteSets.{hex_byte, runs_of}
@@ -21,8 +21,8 @@ abbrev pub end_text : Bool → List ℕ
 end_text true = codes " end\n"
 end_text false = codes "\n"
 
--- the line of a refusal: its place, the byte found there or that the text ended, the bytes that
--- could have followed, and whether the text could have ended
+-- the line of a refusal: its place, the byte found there or that the text ended, the bytes that are
+-- expected, and whether the text could have ended
 abbrev pub refusal_line : ℕ → Option ℕ → ℕ → Bool → List ℕ
 refusal_line place found expected may_end =
     codes "refused at " ++ (decimal place ++ (found_text found

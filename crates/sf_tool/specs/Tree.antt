@@ -1,5 +1,5 @@
--- The indented tree that `show` prints of a field: each line is under its parent with two more
--- spaces.
+-- The indented tree that `show` prints for a field: each line is under its parent, indented by two
+-- more spaces.
 use Rattle.std.specs.Prelude.{ℕ, ◌+◌, ◌*◌, List as Seq, [], ◌∷◌, ◌++◌, length, replicate, codes}
 use Rattle.std.specs.Prelude.{decimal}
 use Rattle.sf_value.specs.Ascii.{space}
@@ -34,7 +34,7 @@ type_word (Shown s) = codes "display "
 abbrev pub bare_line : Bare → Seq ℕ
 bare_line b = type_word b ++ (canon_bare b ++ codes "\n")
 
--- a word, how many there are, and the end of the line
+-- a word, a count, and the end of the line
 abbrev pub count_line : Seq ℕ → ℕ → Seq ℕ
 count_line word n = word ++ (decimal n ++ codes "\n")
 
@@ -53,7 +53,7 @@ abbrev pub items_lines : ℕ → Seq Item → Seq ℕ
 items_lines depth [] = []
 items_lines depth (i ∷ is) = margin depth ++ (item_lines depth i ++ items_lines depth is)
 
--- an Inner List: how many Items there are, and below it these and then its own parameters
+-- an Inner List: the number of its Items, and below it these and then its parameters
 abbrev pub inner_lines : ℕ → Inner → Seq ℕ
 inner_lines depth l =
     count_line (codes "inner ") (length l.items)

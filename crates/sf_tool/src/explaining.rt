@@ -1,4 +1,4 @@
-//! What a terminal shows of a refusal: why, in words, and the line that it is in.
+//! What a terminal shows of a refusal: an error message, and the line that it is in.
 ghost use Rattle.std.specs.Prelude.{◌≡◌, ◌≢◌, ◌≤◌, ◌↔◌, ◌+◌, ◌++◌, [], Some, true, length, get_or};
 ghost use Rattle.std.specs.Prelude.{IfSome, IfOk, IsTrue, codes, decimal};
 ghost use Rattle.sf_parse.specs.declared.refusal.Refusal.TheVariants as refusal_is;
@@ -38,8 +38,8 @@ pub struct ErrorStream<E> {
 }
 
 impl<E> ErrorStream<E> {
-    /// Returns whether a run that ends so is explained: its input was refused, and the device is a
-    /// terminal.
+    /// Returns whether a run with this status is explained: its input was refused, and the device
+    /// is a terminal.
     pub(crate) fn explains(&self, status: Status) -> bool
         ensures { IsTrue result ↔ IsExplained self.now.is_terminal status }
     {
@@ -47,7 +47,7 @@ impl<E> ErrorStream<E> {
     }
 }
 
-/// Writes a text. If that fails, nobody can be told.
+/// Writes a text. A failure of that is not reported.
 pub(crate) fn show<E: Sink>(text: &[u8], device: &mut E)
     ensures { Shows text.now (E.state device.old) (E.state device.new) }
 {
@@ -89,8 +89,8 @@ fn find_spot<'a>(input: &'a [u8], place: u64) -> Option<Spot<'a>>
     None
 }
 
-/// Returns the refusal of the input's lines in words, with its line; None if an allocation failed,
-/// now or for the refusal.
+/// Returns the error message of the refusal with its line; None if an allocation failed, now or for
+/// the refusal.
 pub(crate) fn refusal_in_words(alloc: Global, refusal: Refusal, input: &[u8]) -> Option<Vec<u8>>
     requires { length input.now ≤ input_limit }
     ensures { IfSome result (λ text. (refusal ≢ refusal_is.OutOfMemory)
@@ -106,8 +106,8 @@ pub(crate) fn refusal_in_words(alloc: Global, refusal: Refusal, input: &[u8]) ->
     Some(text.into_bytes())
 }
 
-/// Returns where the input's line of this number, from 0, is no field line; None if there is no such
-/// line.
+/// Returns the place at which the input's line of this number, from 0, is no field line; None if
+/// there is no such line.
 fn bad_spot<'a>(input: &'a [u8], number: u64) -> Option<Spot<'a>>
     requires { length input.now ≤ input_limit }
     // The line is counted from 1 in the spot.
@@ -131,7 +131,7 @@ fn bad_spot<'a>(input: &'a [u8], number: u64) -> Option<Spot<'a>>
     None
 }
 
-/// Returns the words for a line that is no field line at this place.
+/// Returns the message for a line that is no field line, up to the line itself.
 fn bad_line_start(alloc: Global, line: usize, place: usize) -> Result<Vec<u8>, OutOfMemory>
     ensures { IfOk result (λ text. text.items ≡ codes "not a field line\nline "
         ++ (decimal line ++ (codes ", place " ++ (decimal place ++ codes ":\n")))) }
@@ -140,7 +140,7 @@ fn bad_line_start(alloc: Global, line: usize, place: usize) -> Result<Vec<u8>, O
     Ok(text.into_bytes())
 }
 
-/// Returns the words for a line that is no field line at this spot, with the line.
+/// Returns the message for a line that is no field line at this spot, with the line.
 fn bad_line(alloc: Global, spot: Spot<'_>) -> Result<Vec<u8>, OutOfMemory>
     ensures { IfOk result (λ text. text.items ≡ codes "not a field line"
         ++ (marked_text (line_place (Some spot.entry)) ++ codes "\n")) }
@@ -153,8 +153,8 @@ fn bad_line(alloc: Global, spot: Spot<'_>) -> Result<Vec<u8>, OutOfMemory>
     Ok(text)
 }
 
-/// Returns why the input's line of this number, from 0, is refused for what it is, in words; None if
-/// it is not, or an allocation failed.
+/// Returns the message for the input's line of this number, from 0, if it is refused for what it
+/// is; None if it is not, or if an allocation failed.
 pub(crate) fn bad_line_in_words(
     alloc: Global,
     targets: &[HeaderName],
@@ -173,7 +173,7 @@ pub(crate) fn bad_line_in_words(
     bad_line(alloc, spot).ok()
 }
 
-/// Returns the words for the member at this index, which names no cache; None if an allocation
+/// Returns the message for the member at this index, which names no cache; None if an allocation
 /// failed.
 pub(crate) fn no_cache_in_words(alloc: Global, index: usize) -> Option<Vec<u8>>
     ensures { IfSome result (λ text. text.items ≡ no_cache_words index) }

@@ -1,4 +1,4 @@
-//! Where a line that is no field line is wrong, and how it is shown with a caret under the place.
+//! The place at which a line is no field line, and the line with a caret under it.
 ghost use Rattle.std.specs.Prelude.{◌≡◌, ◌++◌, IfOk, codes, replicate};
 ghost use Rattle.std.specs.List.{prefix_len};
 ghost use Rattle.sf_parse.specs.Spots.{printed as printed_in};
@@ -10,15 +10,15 @@ use http_header::is_token_char;
 use sf_value::{OutOfMemory, is_visible};
 use std::alloc::Global;
 
-/// Returns whether a field name can have the byte.
+/// Returns whether the byte can be in a field name.
 fn can_be_in_name(byte: u8) -> bool
     ensures { result ≡ is_tchar byte }
 {
     is_token_char(byte)
 }
 
-/// Returns the place of the first byte that no field name has, or the length of the line if there is
-/// none.
+/// Returns the place of the first byte that can't be in a field name, or the length of the line if
+/// there is none.
 pub fn name_end(line: &[u8]) -> usize
     ensures { result ≡ name_end_in line.now }
 {
@@ -29,15 +29,15 @@ pub fn name_end(line: &[u8]) -> usize
     end
 }
 
-/// Returns whether a field line can have the byte: a tab, or one that is no control byte.
+/// Returns whether the byte can be in a field line: a tab, or one that is no control byte.
 fn can_be_in_line(byte: u8) -> bool
     ensures { result ≡ is_line_byte byte }
 {
     byte == b'\t' || (byte >= b' ' && byte != 0x7f)
 }
 
-/// Returns the place of the first byte that no field line has, or the length of the line if there is
-/// none.
+/// Returns the place of the first byte that can't be in a field line, or the length of the line if
+/// there is none.
 fn line_end(line: &[u8]) -> usize
     ensures { result ≡ prefix_len is_line_byte line.now }
 {
@@ -48,8 +48,8 @@ fn line_end(line: &[u8]) -> usize
     end
 }
 
-/// Returns the place at which a line is no field line: the first byte that no field name has; or, if
-/// that is the colon behind a name, the first that no field line has.
+/// Returns the place at which a line is no field line: the first byte that can't be in a field name
+/// or, if that is the colon after a name, the first that can't be in a field line.
 pub(crate) fn bad_place(line: &[u8]) -> usize
     ensures { result ≡ bad_place_in line.now }
 {

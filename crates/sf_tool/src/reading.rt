@@ -5,7 +5,7 @@ ghost use Rattle.sf_tool.specs.Reading.{ReadToEnd, StoppedFor};
 use sf_value::Source;
 use std::alloc::Global;
 
-/// The greatest number of bytes that one pull asks for.
+/// The greatest number of bytes of one pull.
 const BLOCK: usize = 262_144;
 
 /// Why a source was not read to its end.
@@ -15,17 +15,17 @@ pub enum ReadAllFault {
     OutOfMemory,
     /// A read failed after this many bytes, and it was the last read.
     ReadFault { place: u64 },
-    /// The source gave one byte more than this, and was not asked for another.
+    /// The source gave one byte more than this, and no further one was read.
     TooLong { max: u64 },
 }
 
-/// Returns everything that the source gives up to its end, if that is at most `max` bytes. Asks for
-/// no byte after the end, after a failed read, or after one byte more than `max`. It is not
-/// inlined, so that its block is not on the stack afterwards.
+/// Returns all bytes of the source up to its end, if that is at most `max` bytes. Does not read
+/// after the end, after a failed read, or after one byte more than `max`. It is not inlined, so
+/// that its block is not on the stack afterwards.
 #[inline(never)]
 pub fn read_all<R: Source>(alloc: Global, max: u64, source: &mut R) -> Result<Vec<u8>, ReadAllFault>
     requires { max < 2 ^ 64 - 1 }
-    // Everything that the source gave, within the limit; or why reading stopped before its end.
+    // All bytes of the source, within the limit; or why reading stopped before its end.
     ensures { MatchResult result
         (λ all. ReadToEnd (R.state source.old) (R.state source.new) max all.items)
         (λ fault. StoppedFor (R.state source.old) (R.state source.new) max fault) }

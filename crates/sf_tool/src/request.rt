@@ -161,7 +161,7 @@ fn request_in(
     // names.
     ensures found { IfOk parsed.entry (λ m. MatchResult result (AsksAsFound (subcommand_rows_of m))
         (IsFoundFault (subcommand_rows_of m))) }
-    // An error of clap is Usage whatever its kind, unless that is OutOfMemory.
+    // An error of clap is Usage, unless its kind is OutOfMemory.
     ensures fault { IfErr parsed.entry (λ e. IsErrAnd result
         (λ fault. (fault ≡ Usage) ↔ (kind_of_error e ≢ ErrorKind.OutOfMemory))) }
 {

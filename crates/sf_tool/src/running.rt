@@ -36,23 +36,23 @@ use std::hash::RandomState;
 /// The length in bytes of the longest input that is accepted; a longer one is refused.
 pub const INPUT_LIMIT: u64 = 1_048_576;
 
-/// Answers a request: reads the whole input from the source, computes, and then writes to the sink.
-/// If the input is refused and the error stream is a terminal, the refusal is then explained on it.
+/// Answers a request: reads the whole input from the source, and then writes the answer to the
+/// sink. If the input is refused and the error stream is a terminal, the refusal is then explained
+/// on it.
 ///
 /// An input longer than [`INPUT_LIMIT`] is refused after one byte beyond the limit was read,
-/// whatever memory is left. No byte is asked for after that, or after the end of the input. If a
-/// read fails, or an allocation without which there is no answer, the result is `Stopped`, and
-/// nothing was written; a failed read is not repeated. If a write fails, the result is `Stopped`,
-/// and a prefix of the answer was written. Otherwise the whole answer was written, and the result
-/// is its status. The result is never `Usage`, and the sink is not flushed. The source is asked for
-/// at most 262,144 bytes at a time, and the whole answer is sent to the sink at once if it can be
-/// allocated.
+/// whatever memory is left. Nothing is read after that, or after the end of the input. If a read
+/// fails, or an allocation without which there is no answer, the result is `Stopped`, and nothing
+/// was written; a failed read is not repeated. If a write fails, the result is `Stopped`, and a
+/// prefix of the answer was written. Otherwise the whole answer was written, and the result is its
+/// status. The result is never `Usage`, and the sink is not flushed. At most 262,144 bytes are read
+/// at a time, and the whole answer is sent to the sink at once if it can be allocated.
 ///
-/// The explanation is the refusal in words and its line with a caret, or the member that names no
-/// cache; a line of [`Request::Targeted`] that is refused since the header map is full has none. To
-/// explain an input, it is parsed once more. If an allocation for that fails, nothing is explained;
-/// if a write of it fails, that is not told. Neither changes the result or what was written to the
-/// sink.
+/// The explanation is the error message of the refusal and its line with a caret, or the member
+/// that names no cache; a line of [`Request::Targeted`] that is refused because the header map is
+/// full has none. To explain an input, it is parsed a second time. If an allocation for that fails,
+/// nothing is explained; if a write of it fails, that is not reported. Neither changes the result
+/// or what was written to the sink.
 ///
 /// ```
 /// let request = Request::Normalise(Dialect::Rfc9651, Kind::Item);
@@ -105,7 +105,7 @@ fn parse_input(
     ensures parses { ParsesLines dialect kind (lines_in input.now) result }
     // The error is Syntax or OutOfMemory, never TooLong or ReadFault.
     ensures of_text { IfErr result IsOfText }
-    // Lines whose joined text does not allocate are not refused as out of memory.
+    // Lines whose joined text is allocation-free are not refused as out of memory.
     ensures allocation_free { TakesNoMemory kind (joined input.now) → NotForMemory result }
 {
     parse_from(alloc, seed, dialect, kind, InputLines::new(input))
@@ -263,7 +263,7 @@ fn room_for(alloc: Global, length: usize) -> Vec<u8>
 }
 
 /// Answers at once: the text is built in memory and then sent. If an allocation for it fails, the
-/// request is answered again, and its text is sent as it is made.
+/// request is answered again, and its text is sent in parts as it is written.
 fn answer_at_once<W: Sink>(
     alloc: Global,
     seed: &RandomState,
@@ -292,8 +292,8 @@ fn answer_at_once<W: Sink>(
     }
 }
 
-/// Returns why the first refused line of the input is refused, in words; None if none is, if it is
-/// not refused for what it is, or an allocation failed.
+/// Returns the message that explains the first refused line of the input; None if no line is
+/// refused, if it is not refused for what it is, or if an allocation failed.
 fn explain_line(
     alloc: Global,
     seed: &RandomState,
@@ -309,7 +309,8 @@ fn explain_line(
     }
 }
 
-/// Returns why the input's field is refused, in words; None if it is not, or an allocation failed.
+/// Returns the message that explains why the input's field is refused; None if it is not, or if an
+/// allocation failed.
 fn explain_field(
     alloc: Global,
     seed: &RandomState,
@@ -326,8 +327,8 @@ fn explain_field(
     }
 }
 
-/// Returns why the input is no path of caches, in words; None if it is one, or an allocation
-/// failed.
+/// Returns the message that explains why the input is no path of caches; None if it is one, or if
+/// an allocation failed.
 fn explain_path(alloc: Global, seed: &RandomState, input: &[u8]) -> Option<Vec<u8>>
     requires { length input.now ≤ input_limit }
     ensures { IfSome result (λ text. ExplainsPath input.now text.items) }
@@ -342,8 +343,8 @@ fn explain_path(alloc: Global, seed: &RandomState, input: &[u8]) -> Option<Vec<u
     }
 }
 
-/// Returns why the input is refused, in words; None if it is not, if there are none, or if an
-/// allocation failed.
+/// Returns the message that explains why the input is refused; None if it is not, if there is no
+/// message, or if an allocation failed.
 fn explanation(
     alloc: Global,
     seed: &RandomState,

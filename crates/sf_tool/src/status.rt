@@ -1,10 +1,10 @@
-//! How the command ends.
+//! The result of the command.
 ghost use Rattle.std.specs.Prelude.{◌≡◌, MatchResult};
 ghost use Rattle.std.specs.Option.{option_map};
 ghost use Rattle.sf_tool.specs.declared.status.Status.TheVariants.{Stopped};
 ghost use Rattle.sf_tool.specs.Status.{code_of, line_of};
 
-/// How the command ends.
+/// The result of the command.
 ///
 /// ```
 /// let status = run(alloc, &seed, &request, &mut source, &mut sink);
@@ -18,7 +18,7 @@ ghost use Rattle.sf_tool.specs.Status.{code_of, line_of};
 pub enum Status {
     /// The input was accepted, and the answer was written.
     Accepted,
-    /// The input was refused, and a line that says why was written.
+    /// The input was refused, and the line of the refusal was written.
     Refused,
     /// The arguments make no request.
     Usage,

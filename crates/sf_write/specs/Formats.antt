@@ -1,9 +1,10 @@
--- What is between a text and the formatter that it is printed by.
+-- Writing a text to a formatter.
 use Rattle.std.specs.Prelude.{◌≡◌, ℕ, List}
 use Rattle.std.specs.Fmt.{HasWritten, IsPlainFormatter}
 use Rattle.sf_write.specs.declared.formats.Formatting.{Formatting}
 
--- a chunk was written to the formatter, if it formats plainly, and it is the same one as before
+-- a chunk was written to the formatter, if it formats plainly, and the formatter is the same as
+-- before
 pub record WritesPiece {W : Type 0} (took : W → List ℕ → W → Type 0) (old : Formatting W)
     (piece : List ℕ) (new : Formatting W) : Type 0 where
   pub same_formatter : new.f.ghost_name ≡ old.f.ghost_name

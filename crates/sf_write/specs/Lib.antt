@@ -1,3 +1,3 @@
--- The definitions that the contracts speak of. The canonical texts are those of `sf_value`.
+-- The definitions that the contracts use. The canonical texts are those of `sf_value`.
 pub mod Writing
 pub mod Formats

@@ -40,7 +40,7 @@ pub fn put_bare<W: Sink>(bare: &Bare, before: Sent, out: &mut W) -> Sent
 }
 
 /// Writes the canonical text of a String (RFC 9651 section 4.1.6) after what was sent before, as
-/// [`put_bare`] does for the bare item that holds it. Does not allocate.
+/// [`put_bare`] does for its bare item. Does not allocate.
 ///
 /// ```
 /// let sent = put(b"key=", Ok(0), &mut out);
@@ -60,8 +60,8 @@ pub fn put_text<W: Sink>(text: &Text, before: Sent, out: &mut W) -> Sent
 /// let length = write_bare(&Bare::Boolean(true), &mut out)?; // 2: ?1
 /// ```
 pub fn write_bare<W: Sink>(bare: &Bare, out: &mut W) -> Result<u64, WriteFault>
-    // The whole text was written, or exactly its first `written` bytes and then a send failed.
-    // Once a count is saturated, it is left open which bytes were written.
+    // The whole text was written, or exactly its first `written` bytes and then a send failed. Once
+    // a count is saturated, nothing is claimed of which bytes were written.
     ensures text { WritesText (W.state out.old) (W.state out.new) result (canon_bare bare.now) }
     ensures valid { ValidBare Rfc9651 bare.now }
 {

@@ -8,10 +8,10 @@ use crate::sending::{Sent, put};
 use base64::engine::general_purpose::STANDARD;
 use sf_value::Sink;
 
-/// How many bytes are encoded at once: 64 groups of three.
+/// The number of bytes that are encoded at once: 64 groups of three.
 const BLOCK: usize = 192;
 
-/// How many characters a block of bytes is in base64.
+/// The number of characters of a block in base64.
 const ENCODED: usize = 256;
 
 /// Writes a Byte Sequence (RFC 9651 section 4.1.8) after what was sent before, as [`put`] does: its
@@ -28,7 +28,7 @@ pub fn put_blob<W: Sink>(bytes: &[u8], before: Sent, out: &mut W) -> Sent
     put_base64(bytes, sent, out)
 }
 
-/// Writes what is left of a Byte Sequence after whole groups of its base64: the base64 of its other
+/// Writes the rest of a Byte Sequence after whole groups of its base64: the base64 of its other
 /// bytes, in blocks of 256 characters, and the colon. Does not allocate.
 ///
 /// ```

@@ -32,7 +32,7 @@ fn unencoded_len(bytes: &[u8]) -> usize
     bytes.iter().take_while(|b| stands_for_itself(**b)).count()
 }
 
-/// Returns a byte as a Display String has it escaped: `%` and its two digits. Does not allocate.
+/// Returns the escape of a byte in a Display String: `%` and its two digits. Does not allocate.
 ///
 /// ```
 /// percent_escape(0xfc) // [b'%', b'f', b'c']

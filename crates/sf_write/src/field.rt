@@ -33,20 +33,20 @@ pub fn put_field<W: Sink>(field: &Field, before: Sent, out: &mut W) -> Sent
 }
 
 /// Writes the canonical text of a field (RFC 9651 section 4.1) to a sink, part by part, and returns
-/// its length in bytes. Does not allocate. An empty List or Dictionary has the empty text.
+/// its length in bytes. Does not allocate. The text of an empty List or Dictionary is empty.
 ///
-/// It fails only if a send failed or took no byte. That send is not repeated, and exactly the first
+/// Fails only if a send failed or took no byte. That send is not repeated, and exactly the first
 /// `written` bytes of the text were written. Both numbers stay at 2^64 - 1 once they reach it, and
-/// it is then left open which bytes were written. Whatever the result, the field is valid, as every
-/// field is, so its text spells it (`sf_value::laws::canon_spells`).
+/// then nothing is claimed of which bytes were written. Whatever the result, the field is valid, as
+/// every field is, so its text spells it (`sf_value::laws::canon_spells`).
 ///
 /// ```
 /// let mut out = Writing::new(io::writer(&rt));
 /// let length = write_field(&field, &mut out)?;
 /// ```
 pub fn write_field<W: Sink>(field: &Field, out: &mut W) -> Result<u64, WriteFault>
-    // The whole text was written, or exactly its first `written` bytes and then a send failed.
-    // Once a count is saturated, it is left open which bytes were written.
+    // The whole text was written, or exactly its first `written` bytes and then a send failed. Once
+    // a count is saturated, nothing is claimed of which bytes were written.
     ensures text { WritesText (W.state out.old) (W.state out.new) result (canon field.now) }
     ensures valid { Valid Rfc9651 (kind_of field.now) field.now }
 {
@@ -62,7 +62,7 @@ pub fn write_field<W: Sink>(field: &Field, out: &mut W) -> Result<u64, WriteFaul
 /// ```
 pub fn to_text(alloc: Global, field: &Field) -> Result<Vec<u8>, OutOfMemory>
     ensures canon { IfOk result (λ text. text.items ≡ canon field.now) }
-    // The text spells the field, so parsing it gives the field again.
+    // The text spells the field, so parsing it returns the field again.
     ensures spells { IfOk result
         (λ text. SpellsField Rfc9651 (kind_of field.now) text.items field.now) }
     ensures valid { IfOk result (λ _. Valid Rfc9651 (kind_of field.now) field.now) }

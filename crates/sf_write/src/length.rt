@@ -1,5 +1,5 @@
-//! The lengths of canonical texts, so that memory for one is allocated once. No text depends on
-//! them: with a wrong length, memory would be allocated again, or too much of it.
+//! The lengths of canonical texts, so that one allocation suffices for a text. The text does not
+//! depend on them: with a wrong length, the buffer would grow, or be too large.
 
 use crate::params::is_true;
 use crate::{display_string, strings};
@@ -113,7 +113,7 @@ fn behind_len(member: &Member) -> usize {
     }
 }
 
-/// The commas and spaces between so many members.
+/// The commas and spaces between this many members.
 fn commas_len(members: usize) -> usize {
     members.saturating_sub(1).saturating_mul(2)
 }

@@ -3,7 +3,7 @@
 //!
 //! The writer sends as many bytes at once as it has: a key, a Token, the bytes of a String between
 //! two escapes, up to 256 characters of base64. A sink may take only a part of them at a time.
-//! `specs/Writing.antt` says what the calls of a sink write together; the texts themselves are
+//! `specs/Writing.antt` states what the calls of a sink write together; the texts themselves are
 //! defined in `sf_value`.
 #![tactic(auto)]
 

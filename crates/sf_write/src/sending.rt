@@ -17,7 +17,7 @@ use std::fmt;
 /// ```
 #[derive(Clone, Copy, Debug, PartialEq, Eq)]
 pub struct WriteFault {
-    /// How many bytes were written before, saturating at 2^64 - 1.
+    /// The number of bytes written before, saturating at 2^64 - 1.
     pub written: u64,
 }
 

@@ -8,7 +8,7 @@ ghost use Rattle.sf_write.specs.Writing.{Follows};
 use crate::sending::{Sent, put};
 use sf_value::Sink;
 
-/// How many bytes are counted together: few enough that the count fits in a byte.
+/// The number of bytes that are counted together: small enough that the count fits in a byte.
 pub(crate) const CHUNK: usize = 128;
 
 /// Returns whether a backslash is written before this byte: `"` and `\`.
