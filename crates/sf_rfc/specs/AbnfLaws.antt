@@ -1,4 +1,4 @@
--- What it is that texts keep to the ABNF.
+-- The laws that texts keep to the ABNF.
 use Rattle.std.specs.Prelude.{◌≡◌, ℕ, ◌<◌, ◌↔◌, List as Seq, [], ◌∷◌, ◌++◌, Some}
 use Rattle.sf_value.specs.declared.dialect.Dialect.{Dialect}
 use Rattle.sf_value.specs.declared.value.Field.{Field}
@@ -13,8 +13,8 @@ use Rattle.sf_rfc.specs.Rfc9651.Parsing.{parse_field}
 use Rattle.sf_rfc.specs.Rfc9651.Serialising.{serialise}
 use Rattle.sf_rfc.specs.Rfc9651.Abnf.{sf_item, sf_list, sf_dictionary}
 
--- P, if there are members; a List or a Dictionary with none is not sent (3.1, 3.2), and its text is
--- the empty one, for which there is no rule
+-- P, if there are members; a List or a Dictionary without members is not sent (3.1, 3.2), and its
+-- text is empty, for which there is no rule
 abbrev pub if_sent : {X : Type 0} → Seq X → Rule → Rule
 if_sent [] P = text []
 if_sent (x ∷ xs) P = P
@@ -30,7 +30,7 @@ abbrev pub CanonKeepsAbnf : Type 0
 CanonKeepsAbnf =
     (d : Dialect) (kind : Kind) (v : Field) → Valid d kind v → field_rule d v (canon v)
 
--- and so it is of what the steps of the RFC write (4.1)
+-- the same for what the steps of the RFC write (4.1)
 abbrev pub SerialisedKeepsAbnf : Type 0
 SerialisedKeepsAbnf =
     (d : Dialect) (kind : Kind) (v : Field) → Valid d kind v
@@ -64,7 +64,7 @@ Begins t = (c : ℕ) × (u : Seq ℕ) × (t ≡ c ∷ u) × (32 < c)
 abbrev pub Ends : Seq ℕ → Type 0
 Ends t = (u : Seq ℕ) × (c : ℕ) × (t ≡ u ++ c ∷ []) × (32 < c)
 
--- not empty, and no white space around
+-- not empty, and without white space at its ends
 abbrev pub IsTrimmed : Seq ℕ → Type 0
 IsTrimmed t = Begins t × Ends t
 
@@ -74,7 +74,7 @@ AbnfIsTrimmed =
     (d : Dialect) (kind : Kind) (t : Seq ℕ) (v : Field) → SpellsField d kind t v
     → (kind_rule d kind t ↔ IsTrimmed t)
 
--- and so for what the steps of the RFC parse (4.2)
+-- the same for what the steps of the RFC parse (4.2)
 abbrev pub ParsedIsTrimmed : Type 0
 ParsedIsTrimmed =
     (d : Dialect) (kind : Kind) (t : Seq ℕ) (v : Field) → parse_field d kind t ≡ Some v

@@ -1,4 +1,4 @@
--- The definitions that the contracts speak of.
+-- The definitions that the contracts use.
 pub mod Rfc9651
 pub mod SerialisingLaws
 pub mod ParsingLaws

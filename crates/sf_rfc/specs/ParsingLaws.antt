@@ -51,7 +51,7 @@ abbrev pub SpellsNumber : List ℕ → Bare → Type 0
 SpellsNumber t v =
     ((n : ℤ) × (v ≡ Integer n) × SpellsInteger t n) ⊎ ((m : ℤ) × (v ≡ Decimal m) × SpellsDecimal t m)
 
--- what a number goes on with
+-- the characters that a number continues with
 abbrev pub is_in_number : ℕ → Bool
 is_in_number c = is_digit c || c == point
 
@@ -77,18 +77,18 @@ KeysAgree = Agrees (List ℕ) (SpellsWord is_key_start is_in_key) parse_key is_i
 abbrev pub TokensAgree : Type 0
 TokensAgree = Agrees (List ℕ) (SpellsWord is_token_start is_in_token) parse_token is_in_token
 
--- no rest changes what a Boolean or a String is
+-- no rest changes the value of a Boolean or a String
 abbrev pub BooleansAgree : Type 0
 BooleansAgree = Agrees Bool SpellsBoolean parse_boolean (λ c. false)
 
 abbrev pub StringsAgree : Type 0
 StringsAgree = Agrees (List ℕ) SpellsString parse_string (λ c. false)
 
--- a bare item goes on with what a Token goes on with, which the characters of numbers are among
+-- a bare item continues with the characters of a Token, which include those of numbers
 abbrev pub BareItemsAgree : Type 0
 BareItemsAgree = (d : Dialect) → Agrees Bare (SpellsBare d) (parse_bare d) is_in_token
 
--- what parameters go on with, or the bare item or the key before them
+-- the characters with which parameters, or the bare item or the key before them, continue
 abbrev pub is_in_params : ℕ → Bool
 is_in_params c = is_in_token c || (c == semicolon || c == equals)
 
@@ -106,8 +106,8 @@ InnerListsAgree = (d : Dialect) → Agrees Inner (SpellsInner d) (parse_inner d)
 abbrev pub MembersAgree : Type 0
 MembersAgree = (d : Dialect) → Agrees Member (SpellsMember d) (parse_member d) is_in_params
 
--- the members of a List or a Dictionary to the end of the text: nothing for no member; otherwise a
--- series, then OWS
+-- the members of a List or a Dictionary to the end of the text: an empty text without members;
+-- otherwise a series, then OWS
 abbrev pub SpellsToEnd : {X : Type 0} → (List ℕ → X → Type 0) → List ℕ → List X → Type 0
 SpellsToEnd P t [] = t ≡ []
 SpellsToEnd P t (x ∷ xs) =
@@ -128,14 +128,14 @@ abbrev pub DictionariesAgree : Type 0
 DictionariesAgree =
     (d : Dialect) → Agrees (Pairs Member) (SpellsEntries d) (parse_dictionary d) (λ c. true)
 
--- a whole field: the steps give a value exactly if the grammar spells it
+-- a whole field: the steps return a value exactly if the grammar spells it
 abbrev pub FieldsAgree : Type 0
 FieldsAgree =
     (d : Dialect) (kind : Kind) (t : List ℕ) (v : Field)
     → (parse_field d kind t ≡ Some v) ↔ SpellsField d kind t v
 
--- an answer is that of the RFC's steps: a value exactly if they give this one, a refusal of the text
--- exactly if they fail, or a failed allocation
+-- a result is that of the RFC's steps: a value exactly if they return this one, a refusal of the
+-- text exactly if they fail, or a failed allocation
 abbrev pub AnswersAsRfc : Dialect → Kind → List ℕ → Result Field Refusal → Type 0
 AnswersAsRfc d kind t (Ok v) = parse_field d kind t ≡ Some v
 AnswersAsRfc d kind t (Err OutOfMemory) = ⊤
@@ -143,13 +143,13 @@ AnswersAsRfc d kind t (Err (Syntax place found expected may_end)) = parse_field 
 AnswersAsRfc d kind t (Err (TooLong limit)) = ⊥
 AnswersAsRfc d kind t (Err (ReadFault place)) = ⊥
 
--- what meets the clause of the parser of whole texts answers as the RFC's steps do
+-- a result that meets the clause of the parser of whole texts is that of the RFC's steps
 abbrev pub AnswersAgree : Type 0
 AnswersAgree =
     (d : Dialect) (kind : Kind) (t : List ℕ) (answer : Result Field Refusal)
     → Parses d kind t answer → AnswersAsRfc d kind t answer
 
--- and so does what meets the clause of the end of a parser that is fed
+-- the same for the clause of the end of a parser that is fed
 abbrev pub EndsAgree : Type 0
 EndsAgree =
     (d : Dialect) (kind : Kind) (t : List ℕ) (answer : Result Field Refusal)

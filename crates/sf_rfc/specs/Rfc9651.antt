@@ -1,7 +1,6 @@
 -- The algorithms of RFC 9651, section 4, step by step, and its ABNF. Above each equation is the
 -- number of its step and the step in a few words. Values are the types of `sf_value`. Nothing here
--- uses a definition of `specs/Grammar` or of a machine. The files are in the order in which they
--- are best read.
+-- uses a definition of `specs/Grammar` or of a machine. The files are listed in reading order.
 pub mod Words
 pub mod Alphabets
 pub mod Base64

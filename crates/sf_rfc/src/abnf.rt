@@ -16,7 +16,7 @@ pub fn serialised_keeps_abnf()
 {}
 
 /// Every text that spells a field keeps to the ABNF between white space, for which the ABNF has no
-/// rule. If a List or a Dictionary has no members, there is nothing between it.
+/// rule. If a List or a Dictionary has no members, nothing is between the white space.
 pub fn spelled_keeps_abnf()
     ensures { SpelledKeepsAbnf }
 {}

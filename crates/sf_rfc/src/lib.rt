@@ -1,4 +1,4 @@
-//! The algorithms of RFC 9651, and that they agree with the definitions of this repository.
+//! The algorithms of RFC 9651, and proofs that they agree with the definitions of this repository.
 #![tactic(auto)]
 
 pub mod abnf;

@@ -1,5 +1,5 @@
 //! Laws of parsing (RFC 9651 section 4.2), each as the contract of a function that does nothing:
-//! [`field_parses`] is that of whole fields. And [`parse_text_in`], the parser with the RFC's steps
+//! [`field_parses`] is that of whole fields. [`parse_text_in`] is the parser with the RFC's steps
 //! as its contract.
 ghost use Rattle.sf_rfc.specs.ParsingLaws.{KeysAgree, TokensAgree, BooleansAgree, StringsAgree};
 ghost use Rattle.sf_rfc.specs.ParsingLaws.{NumbersAgree, DatesAgree, ByteSequencesAgree};
@@ -13,8 +13,8 @@ use sf_value::{Dialect, Field, Kind};
 use std::alloc::Global;
 use std::hash::RandomState;
 
-/// A key is taken by the RFC's steps (section 4.2.3.3) exactly if the grammar spells it, with the
-/// same value and the same rest.
+/// The RFC's steps (section 4.2.3.3) take a key exactly if the grammar spells it, with the same
+/// value and the same rest.
 pub fn key_parses()
     ensures { KeysAgree }
 {}
@@ -99,26 +99,26 @@ pub fn dictionary_parses()
 {}
 
 /// For either dialect, each kind of field, each text and each value: the RFC's steps (section 4.2)
-/// give the value for the text exactly if the grammar (`SpellsField`) spells it so. Hence they fail
-/// exactly if the text spells no value.
+/// return the value for the text exactly if the text spells it by the grammar (`SpellsField`).
+/// Hence they fail exactly if the text spells no value.
 pub fn field_parses()
     ensures { FieldsAgree }
 {}
 
-/// Each answer that meets the clause `parses` of [`sf_parse::parse_text_in`], or of
+/// Each result that meets the clause `parses` of [`sf_parse::parse_text_in`], or of
 /// [`sf_parse::parse_text`] in the dialect of RFC 9651, is that of the RFC's steps.
 pub fn answers_agree()
     ensures { AnswersAgree }
 {}
 
-/// Each answer that meets the clause `ended` of [`sf_parse::Parser::finish`] is that of the RFC's
-/// steps for the text that the parser took, in however many pieces it was fed.
+/// Each result that meets the clause `ended` of [`sf_parse::Parser::finish`] is that of the RFC's
+/// steps for the text that the parser took, however it was cut into chunks.
 pub fn ends_agree()
     ensures { EndsAgree }
 {}
 
-/// What [`sf_parse::parse_text_in`] answers, with the RFC's steps (section 4.2) as the contract: Ok
-/// has the value that they give, Syntax says that they give none, and the only other answer is
+/// Calls [`sf_parse::parse_text_in`], with the RFC's steps (section 4.2) as the contract: Ok has
+/// the value that they return, Syntax means that they return none, and the only other result is
 /// OutOfMemory.
 ///
 /// ```

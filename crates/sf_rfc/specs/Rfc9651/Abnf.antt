@@ -1,6 +1,5 @@
 -- The ABNF of RFC 9651 (appendix C): its rules under their names, with _ for -, each with the
--- section of its type. The rules of RFC 8941 (section 3) match the same texts, but where it is said
--- otherwise.
+-- section of its type. The rules of RFC 8941 (section 3) match the same texts, except as noted.
 use Rattle.std.specs.Prelude.{codes}
 use Rattle.sf_value.specs.declared.dialect.Dialect.{Dialect}
 use Rattle.sf_value.specs.declared.dialect.Dialect.TheVariants.{Rfc8941, Rfc9651}

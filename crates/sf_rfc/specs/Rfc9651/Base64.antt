@@ -24,7 +24,7 @@ six_bits x = x / 32 % 2 ∷ x / 16 % 2 ∷ x / 8 % 2 ∷ x / 4 % 2 ∷ x / 2 % 2
 abbrev pub eight_bits : ℕ → List ℕ
 eight_bits x = x / 128 % 2 ∷ x / 64 % 2 ∷ six_bits x
 
--- the bits by eights; what is left at the end makes no byte
+-- the bits by eights; bits left at the end are no byte
 abbrev pub by_eights : List ℕ → List ℕ
 by_eights (a ∷ b ∷ c ∷ d ∷ e ∷ f ∷ g ∷ h ∷ t) =
     (a * 128 + b * 64 + c * 32 + d * 16 + e * 8 + f * 4 + g * 2 + h) ∷ by_eights t
@@ -46,15 +46,15 @@ abbrev pub bits_of_bytes : List ℕ → List ℕ
 bits_of_bytes [] = []
 bits_of_bytes (b ∷ t) = eight_bits b ++ bits_of_bytes t
 
--- how many more make a whole number of groups of so many
+-- how many more complete groups of this size
 abbrev pub missing : ℕ → ℕ → ℕ
 missing size n = (size - n % size) % size
 
 -- decoding: the characters before the first "=", then "=" alone. The last group has two, three or
--- four characters, and may be followed by "=" up to four. Where "=" is missing it is synthesised
--- (4.2.7 step 7), and pad bits are not looked at (4.2.7: they should not fail). Left open is a
--- group that lacks one of its two "=", as "Zg=": here the other is synthesised too, since missing
--- "=" should not fail
+-- four characters, and may be followed by "=" up to four. Missing "=" are synthesised (4.2.7 step
+-- 7), and pad bits are ignored (4.2.7: they should not fail). The RFC leaves open a group that
+-- lacks one of its two "=", as "Zg=": here the other is synthesised too, since missing "=" should
+-- not fail
 abbrev pub base64_decode : List ℕ → Option (List ℕ)
 base64_decode t =
     let characters : List ℕ = before 61 t in

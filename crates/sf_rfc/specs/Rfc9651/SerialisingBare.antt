@@ -151,8 +151,8 @@ display_bytes (byte ∷ t) = elim (byte == 37 || (byte == 34 || is_unprintable b
   | false ↦ byte ∷ display_bytes t
 ]
 
--- 1, 2: what is not a sequence of code points, or can't be encoded as UTF-8, fails: what is not the
--- UTF-8 of any
+-- 1, 2: what is not a sequence of code points, or can't be encoded as UTF-8, fails: bytes that are
+-- not the UTF-8 of any
 -- 3: "%" and DQUOTE
 -- 4: the bytes
 -- 5: DQUOTE
