@@ -1,4 +1,4 @@
--- What asking a consumer about field lines returns.
+-- The result of passing field lines to a consumer.
 use Rattle.std.specs.Prelude.{◌≡◌, ℕ, ◌↔◌, List, [], ◌∷◌, Result, Ok, Err, IsOk, ⊤}
 use Rattle.sf_value.specs.declared.dialect.Dialect.TheVariants.{Rfc9651}
 use Rattle.sf_value.specs.declared.value.Field.{Field}
@@ -18,7 +18,7 @@ abbrev pub Means : {A : Type 0} → Kind → (Field → Result A ℕ) → List (
 Means kind meaning lines meant =
     (v : Field) × IsOnly Rfc9651 kind (join lines) v × (meaning v ≡ meant)
 
--- the answer is what the lines mean; the fault is what they mean, or their refusal; or an
+-- the answer is the meaning of the lines; the fault is that of the meaning, or their refusal; or an
 -- allocation failed for an answer that they have
 abbrev pub Asks : {A : Type 0} → Kind → (Field → Result A ℕ) → List (List ℕ) → Result A AskFault
     → Type 0
@@ -35,7 +35,7 @@ ParsedOrRefused (Ok answer) = ⊤
 ParsedOrRefused (Err (fault.Field refusal)) = IsOther refusal
 ParsedOrRefused (Err (fault.Answer f)) = ⊤
 
--- accepted lines mean what their canonical text means as the only line
+-- accepted lines have the meaning of their canonical text as the only line
 abbrev pub MeansAsCanonical : {A : Type 0} → Kind → (Field → Result A ℕ) → List (List ℕ) → Type 0
 MeansAsCanonical {A = A} kind meaning lines =
     (v : Field) → SpellsField Rfc9651 kind (join lines) v → (meant : Result A ℕ)

@@ -1,4 +1,4 @@
--- The texts of faults.
+-- The error messages of faults.
 use Rattle.std.specs.Prelude.{ℕ, List, ◌++◌, codes, decimal}
 use Rattle.sf_parse.specs.RefusalTexts.{refusal_text}
 use Rattle.sf_field.specs.declared.consumer.UseFault.{UseFault}
@@ -9,12 +9,12 @@ use Rattle.sf_field.specs.declared.header_update.SetFault.TheVariants as set_fau
 use Rattle.sf_field.specs.declared.asking.AskFault.{AskFault}
 use Rattle.sf_field.specs.declared.asking.AskFault.TheVariants.{Field, Answer}
 
--- what a consumer's fault says of itself
+-- the error message of a consumer's fault
 abbrev pub use_fault_text : UseFault → List ℕ
 use_fault_text (NotACache index) = codes "member " ++ decimal index ++ codes " names no cache"
 use_fault_text OutOfMemory = codes "out of memory"
 
--- the same where a consumer gave no answer, and else the line of the refusal
+-- the same if a consumer gave no answer, otherwise the error message of the refusal
 abbrev pub ask_fault_text : AskFault → List ℕ
 ask_fault_text (Field refusal) = refusal_text refusal
 ask_fault_text (Answer fault) = use_fault_text fault
