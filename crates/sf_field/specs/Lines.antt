@@ -11,7 +11,7 @@ use Rattle.sf_parse.specs.declared.refusal.Refusal.TheVariants.{ReadFault}
 use Rattle.sf_parse.specs.Parsers.{Parses}
 
 -- the result for a text of n bytes depends on at most 2^64 - 1 of them: the text is no longer, or
--- the byte that is found is among the first so many
+-- the byte that is found is among the first 2^64 - 1
 abbrev pub IsCounted : ℕ → Result Field Refusal → Type 0
 IsCounted n (Ok v) = n < 2 ^ 64
 IsCounted n (Err OutOfMemory) = ⊤

@@ -16,6 +16,6 @@ pub record NormalisesTo (kind : Kind) (lines : List (List ℕ)) (c : List ℕ) :
   pub canonical : c ≡ canon value
   -- as the only line the text is accepted as the same value
   pub again : IsOnly Rfc9651 kind (join (c ∷ [])) value
-  -- it tells the value from all others of the kind
+  -- other values of the kind have other canonical texts
   pub equal : (w : Field) → Valid Rfc9651 kind w → (canon w ≡ c) ↔ (w ≡ value)
   pub short : 5 * length c ≤ 8 * length (join lines)

@@ -31,7 +31,7 @@ module _ {V : Type 0} where
   abbrev pub with_slot_value : Slot V → V → Slot V
   with_slot_value slot w = record { key = slot.key; value = w; seed = slot.seed }
 
-  -- the place of the entries, with w as the value at an index
+  -- the stored entries, with w as the value at an index
   abbrev pub with_stored : Store V → ℕ → V → Store V
   with_stored (Fresh alloc seed) i w = Fresh alloc seed
   with_stored (Few slots) i w =
@@ -59,11 +59,11 @@ module _ {V : Type 0} where
   abbrev pub lent_entries : IterMut V → MutBor (Pairs V)
   lent_entries values = values.entries
 
-  -- the place of the value that comes next
+  -- the index of the value that comes next
   abbrev pub lent_index : IterMut V → ℕ
   lent_index values = values.index
 
-  -- how many values are still to come
+  -- the number of values that remain
   abbrev pub values_left : IterMut V → ℕ
   values_left values = length values.entries.now - values.index
 

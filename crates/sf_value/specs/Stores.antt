@@ -23,19 +23,19 @@ module _ {V : Type 0} where
   stored (store.Few slots) = slot_pairs slots.items
   stored (store.Many map) = map.value.entries
 
-  -- whether the seed of a map is at hand: a vector has it in its first slot
+  -- whether there is a seed for a map: a vector has it in its first slot
   abbrev pub HasSeed : Store V → Type 0
   HasSeed (store.Fresh _ _) = Unit {0}
   HasSeed (store.Few slots) = 0 < length slots.items
   HasSeed (store.Many _) = Unit {0}
 
-  -- what an iteration by reference has left
+  -- what remains of an iteration by reference
   abbrev pub lent_pairs : Lent V → Pairs V
   lent_pairs lent.Nothing = []
   lent_pairs (lent.Few slots) = slot_pairs (iter_rest slots)
   lent_pairs (lent.Many entries) = entries
 
-  -- what an iteration by value has left
+  -- what remains of an iteration by value
   abbrev pub left_pairs : Left V → Pairs V
   left_pairs left.Nothing = []
   left_pairs (left.Few slots) = slot_pairs (into_iter_items slots)

@@ -1,18 +1,18 @@
-//! The values of Structured Fields for HTTP (RFC 9651): what a parser gives, what a writer writes,
-//! and what a user builds, reads and compares.
+//! The values of Structured Fields for HTTP (RFC 9651): what a parser returns, what a writer
+//! writes, and what a user builds, reads and compares.
 //!
 //! A [`Field`] is an [`Item`], a [`List`] or a [`Dict`]. An `Item` is a [`Bare`] item, of one of
 //! eight types, with parameters. A member of a `List` or of a `Dict` is an `Item` or an [`Inner`]
 //! list of `Item`s. Parameters and the members of a `Dict` are [`Entries`], values by [`Key`] in
-//! the order of their first places; the members of a `List` and the `Item`s of an `Inner` are a
-//! [`Sequence`], a `Vec` in all but name. Each type keeps what the RFC asks of it, so any value can
-//! be written: an [`Int`] has at most 15 digits, a `Key` or a [`Token`] has its alphabet, no key
-//! occurs twice.
+//! the order in which the keys were first put; the members of a `List` and the `Item`s of an
+//! `Inner` are a [`Sequence`], a small type over a `Vec`. The invariant of each type is what the
+//! RFC requires, so any value can be written: an [`Int`] has at most 15 digits, a `Key` or a
+//! [`Token`] has its alphabet, no key occurs twice.
 //!
-//! Nothing here knows of texts but in `specs/`: [`same`] compares fields as trees, in which order
-//! counts, and [`copy`] copies one. What allocates is passed the allocator first and returns a
-//! `Result`; what makes `Entries` is passed a seed next. A call that is refused leaves what it
-//! borrowed as it was. To build the Item `a;q=1`:
+//! Only `specs/` is about texts here: [`same`] compares fields as trees, in which order counts, and
+//! [`copy`] copies one. A call that allocates takes the allocator as its first argument and returns
+//! a `Result`; a call that makes `Entries` takes a seed next. A call that fails leaves what it
+//! borrowed unchanged. To build the Item `a;q=1`:
 //!
 //! ```text
 //! let seed = RandomState::new(&rt)?;
@@ -22,10 +22,10 @@
 //! let field = Field::Item(item);
 //! ```
 //!
-//! [`Source`] and [`Sink`] are the devices that texts come from and go to; [`Reading`] and
-//! [`Writing`] make them of any reader and writer. `specs/Grammar` says which text spells which
-//! value, and which text is the canonical one of a value, in the words of the RFC and apart from
-//! any code; [`laws`] are proved of these definitions.
+//! [`Source`] and [`Sink`] are the devices that texts are read from and written to; [`Reading`] and
+//! [`Writing`] make these from any reader and writer. `specs/Grammar` defines which text spells
+//! which value, and the canonical text of a value, in the terms of the RFC and without any code;
+//! [`laws`] are proved of these definitions.
 #![tactic(auto)]
 
 mod blob;

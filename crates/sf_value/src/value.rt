@@ -101,7 +101,7 @@ pub struct List {
 /// A Dictionary (RFC 9651 section 3.2).
 ///
 /// ```
-/// let urgency = dict.members.get(b"u"); // the Member, where there is one
+/// let urgency = dict.members.get(b"u"); // the Member, if there is one
 /// ```
 #[derive(Debug, Drop)]
 pub struct Dict {
@@ -114,7 +114,7 @@ pub struct Dict {
 /// ```
 /// match parse_text(alloc, &seed, Kind::Dict, b"u=1, i")? {
 ///     Field::Dict(dict) => ..
-///     Field::Item(_) | Field::List(_) => .. // of another kind than was asked for: never
+///     Field::Item(_) | Field::List(_) => .. // of another kind than was passed in: never
 /// }
 /// ```
 #[derive(Debug, Drop)]

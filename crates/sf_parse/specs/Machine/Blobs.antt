@@ -41,7 +41,7 @@ lacking (H3 x y z) = 1
 
 pub data BlobState : Type 0 where
   Group : (bytes : List ℕ) (held : Held) → BlobState
-  -- so many = may follow
+  -- at most this many = may follow
   Padded : (bytes : List ℕ) (more : ℕ) → BlobState
   Ended : (bytes : List ℕ) → BlobState
 

@@ -47,7 +47,7 @@ param_value d (c ∷ t) = elim (c == 61) [
   | false ↦ Some (Boolean true, c ∷ t)
 ]
 
--- the loop of step 2, in at most so many rounds
+-- the loop of step 2, in at most this many rounds
 abbrev pub params_loop : Dialect → ℕ → Map Bare → Parse (Map Bare)
 params_loop d zero params t = None
 -- 3: return parameters
@@ -79,7 +79,7 @@ abbrev pub end_inner : Dialect → Seq Item → Parse Inner
 end_inner d items t = and_then (parse_params d t) (λ (ps, r).
     Some (record { items = items; params = ps }, r))
 
--- the loop of step 3 with inner_list, in at most so many rounds
+-- the loop of step 3 with inner_list, in at most this many rounds
 abbrev pub inner_loop : Dialect → ℕ → Seq Item → Parse Inner
 inner_loop d zero items t = None
 -- 4: the end was not found
@@ -115,7 +115,7 @@ parse_member d t = elim (first_is (λ c. c == 40) t) [
 
 -- 4.2.1, Parsing a List
 
--- the loop of step 2 with members, in at most so many rounds
+-- the loop of step 2 with members, in at most this many rounds
 abbrev pub list_loop : Dialect → ℕ → Seq Member → Parse (Seq Member)
 list_loop d zero members t = None
 -- 3: return members (at the first round there is none; at a later one 2.6 has failed before)
@@ -155,7 +155,7 @@ entry_member d (c ∷ t) = elim (c == 61) [
   | false ↦ flag_member d (c ∷ t)
 ]
 
--- the loop of step 2 with dictionary, in at most so many rounds
+-- the loop of step 2 with dictionary, in at most this many rounds
 abbrev pub dictionary_loop : Dialect → ℕ → Map Member → Parse (Map Member)
 dictionary_loop d zero dictionary t = None
 -- 3: return dictionary (as for a List)

@@ -18,7 +18,7 @@ abbrev pub minus_sign : ℤ → List ℕ
 minus_sign (pos n) = []
 minus_sign (negsuc n) = 45 ∷ []
 
--- 4: a number in base 10, by decimal digits alone, if it has at most so many digits
+-- 4: a number in base 10, by decimal digits alone, if it has at most this many digits
 abbrev pub digits_within : ℕ → ℕ → List ℕ
 digits_within zero n = []
 digits_within (suc most) n = elim (nat_lt n 10) [

@@ -51,7 +51,7 @@ utf8_4 = either (then (octet 240 240) (then (octet 144 191) (then utf8_tail utf8
 abbrev pub utf8_char : Rule
 utf8_char = either utf8_1 (either utf8_2 (either utf8_3 utf8_4))
 
--- UTF8-octets = *( UTF8-char ), up to the end, in at most so many characters
+-- UTF8-octets = *( UTF8-char ), up to the end, in at most this many characters
 abbrev pub utf8_octets : ℕ → List ℕ → Bool
 utf8_octets n [] = true
 utf8_octets zero (c ∷ t) = false
