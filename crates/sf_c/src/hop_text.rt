@@ -82,7 +82,7 @@ fn text_of(alloc: Global, seed: &RandomState, hop: &Hop) -> Result<Vec<u8>, OutO
     to_text(alloc, &Field::List(list))
 }
 
-/// The hop that the struct gives.
+/// The hop that the struct describes.
 fn hop_of(alloc: Global, hop: &HopNode, bytes: &[u8]) -> Result<Hop, Status>
     ensures { MatchResult result (λ made. GivesHop bytes.now hop.now made)
         (GivesNone (GivesHop bytes.now hop.now)) }

@@ -58,7 +58,7 @@ pub record Refuses (d : Dialect) (kind : Kind) (t line : List ℕ) : Type 0 wher
   pub expected : ℕ
   pub may_end : Bool
   pub syntax : IsSyntax d kind t place found expected may_end
-  -- at the end of the text it could not have ended
+  -- if the text ended there, that was not allowed
   pub unended : found ≡ None → may_end ≡ false
   pub told : line ≡ refusal_line place found expected may_end
 
