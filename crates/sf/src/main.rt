@@ -1,5 +1,5 @@
-//! The command `sf`: it reads its words and standard input, and writes to standard output. What it
-//! does, how it ends and what it says of that are `sf_tool`'s.
+//! The command `sf`: reads its arguments and standard input, and writes to standard output.
+//! `sf_tool` defines what it does, its status and its messages.
 #![tactic(auto)]
 
 use sf_tool::{ErrorStream, Request, RequestFault, Status, read_request, run};
@@ -15,13 +15,13 @@ fn main(rt: HostRuntime) -> ExitCode {
         Err(fault) => fault.status(),
     };
     if let Some(line) = status.line() {
-        // Where that fails too, nobody can be told.
+        // If that fails, too, nothing can be reported.
         let _ = rt.eprintln(line);
     }
     ExitCode::from(status.code())
 }
 
-/// What the words of the command line ask for.
+/// The request of the command line.
 fn request_of(rt: &HostRuntime) -> Result<Request, RequestFault> {
     let Ok(args) = env::args(rt) else {
         return Err(RequestFault::OutOfMemory);

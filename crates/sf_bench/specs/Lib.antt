@@ -1,2 +1,2 @@
--- The definitions that the contracts speak of. How texts spell values is defined in `sf_value`.
+-- The definitions that the contracts use. How texts spell values is defined in `sf_value`.
 pub mod Timed

@@ -1,5 +1,5 @@
-//! Parsing and writing as functions that C can time. Each does its work so many times and answers
-//! for the last; see README.md in this folder.
+//! Parsing and writing as functions that C can time. Each does its work a number of times and
+//! returns the result of the last time; see README.md in this folder.
 #![tactic(auto)]
 
 ghost use Rattle.std.specs.Prelude.{◌≡◌, ◌<◌, ◌≤◌, IfSome, IsTrue};
@@ -16,7 +16,7 @@ use std::io;
 use std::random::RandomSource;
 
 /// The seed of the hashes: the same in every run, so that runs can be compared. A server takes one
-/// that strangers cannot guess.
+/// that attackers can't predict.
 struct SameSeed;
 
 impl RandomSource for SameSeed {
@@ -26,7 +26,7 @@ impl RandomSource for SameSeed {
     }
 }
 
-/// The kind that a letter names: `i`, `l` or `d`.
+/// The kind of a letter: `i`, `l` or `d`.
 fn kind_named(name: u8) -> Option<Kind>
     ensures { IfSome result (λ kind. letter kind ≡ name) }
 {
@@ -61,8 +61,9 @@ fn canonical_len(alloc: Global, seed: &RandomState, kind: Kind, text: &[u8]) -> 
     }
 }
 
-/// Parses the text so many times as a field of the kind that the letter `i`, `l` or `d` names. 1 if
-/// it is accepted; 0 if it is refused, if an allocation fails, for no times and for another letter.
+/// Parses the text `times` times as a field of the kind of the letter `i`, `l` or `d`. Returns 1 if
+/// it is accepted; 0 if it is refused, if an allocation fails, if `times` is 0, or for another
+/// letter.
 ///
 /// ```c
 /// size_t sf_bench_parse(uint8_t kind, const uint8_t *text, size_t len, size_t times);
@@ -70,7 +71,7 @@ fn canonical_len(alloc: Global, seed: &RandomState, kind: Kind, text: &[u8]) -> 
 #[unsafe(no_mangle)]
 pub extern "C" fn sf_bench_parse(alloc: Global, name: u8, text: &[u8], times: usize) -> usize
     ensures bit { result ≤ 1 }
-    // 1 only where the text spells a value of the kind that the letter names
+    // 1 only if the text spells a value of the kind of the letter.
     ensures accepted { 0 < result → (k : Kind) × (letter k ≡ name) × IsAccepted k text.now }
 {
     let (Some(kind), Ok(seed)) = (kind_named(name), RandomState::new(&SameSeed)) else {
@@ -83,15 +84,15 @@ pub extern "C" fn sf_bench_parse(alloc: Global, name: u8, text: &[u8], times: us
     accepted as usize
 }
 
-/// Normalises the text so many times as a field of the kind that the letter names. The length of
-/// the canonical text; 0 if [`sf_bench_parse`] answers 0, and where that text is empty.
+/// Normalises the text `times` times as a field of the kind of the letter. Returns the length of
+/// the canonical text; 0 if [`sf_bench_parse`] returns 0, or if that text is empty.
 ///
 /// ```c
 /// size_t sf_bench_normalise(uint8_t kind, const uint8_t *text, size_t len, size_t times);
 /// ```
 #[unsafe(no_mangle)]
 pub extern "C" fn sf_bench_normalise(alloc: Global, name: u8, text: &[u8], times: usize) -> usize
-    // A number above 0 is the length of the canonical text, by the kind that the letter names.
+    // A number above 0 is the length of the canonical text, by the kind of the letter.
     ensures { 0 < result → (k : Kind) × (letter k ≡ name) × HasCanonical k text.now result }
 {
     let (Some(kind), Ok(seed)) = (kind_named(name), RandomState::new(&SameSeed)) else {
@@ -112,9 +113,9 @@ fn has_view(kind: Kind, text: &[u8], nodes: &mut [Node]) -> bool
     View::scan(Dialect::Rfc9651, kind, text, nodes).is_ok()
 }
 
-/// Scans the text so many times into nodes that borrow it, in a buffer that is allocated once. 1 if
-/// it is accepted; otherwise 0, also if a key is repeated, if an allocation fails, for no times and
-/// for another letter.
+/// Scans the text `times` times into nodes that borrow it, in a buffer that is allocated once.
+/// Returns 1 if it is accepted; otherwise 0, also if a key is repeated, if an allocation fails, if
+/// `times` is 0, or for another letter.
 ///
 /// ```c
 /// size_t sf_bench_view(uint8_t kind, const uint8_t *text, size_t len, size_t times);
@@ -122,7 +123,7 @@ fn has_view(kind: Kind, text: &[u8], nodes: &mut [Node]) -> bool
 #[unsafe(no_mangle)]
 pub extern "C" fn sf_bench_view(alloc: Global, name: u8, text: &[u8], times: usize) -> usize
     ensures bit { result ≤ 1 }
-    // 1 only of a text that spells a value of the kind that the letter names
+    // 1 only if the text spells a value of the kind of the letter.
     ensures accepted { 0 < result → (k : Kind) × (letter k ≡ name) × IsAccepted k text.now }
 {
     let Some(kind) = kind_named(name) else {
@@ -140,8 +141,8 @@ pub extern "C" fn sf_bench_view(alloc: Global, name: u8, text: &[u8], times: usi
     accepted as usize
 }
 
-/// Reads the text so many times as [`accepts`] does, without nodes and without an allocation. 1 if
-/// it is accepted; otherwise 0, also for no times and for another letter.
+/// Reads the text `times` times as [`accepts`] does, without nodes and without an allocation.
+/// Returns 1 if it is accepted; otherwise 0, also if `times` is 0, or for another letter.
 ///
 /// ```c
 /// size_t sf_bench_check(uint8_t kind, const uint8_t *text, size_t len, size_t times);
@@ -149,7 +150,7 @@ pub extern "C" fn sf_bench_view(alloc: Global, name: u8, text: &[u8], times: usi
 #[unsafe(no_mangle)]
 pub extern "C" fn sf_bench_check(name: u8, text: &[u8], times: usize) -> usize
     ensures bit { result ≤ 1 }
-    // 1 only of a text that spells a value of the kind that the letter names
+    // 1 only if the text spells a value of the kind of the letter.
     ensures accepted { 0 < result → (k : Kind) × (letter k ≡ name) × IsAccepted k text.now }
 {
     let Some(kind) = kind_named(name) else {
@@ -170,8 +171,8 @@ fn has_priority(text: &[u8]) -> bool
     PriorityField::scan(text).is_some()
 }
 
-/// Reads the text so many times as a Priority field, without an allocation. 1 if it is accepted and
-/// the letter is `d`; otherwise 0, also for no times.
+/// Reads the text `times` times as a Priority field, without an allocation. Returns 1 if it is
+/// accepted and the letter is `d`; otherwise 0, also if `times` is 0.
 ///
 /// ```c
 /// size_t sf_bench_priority(uint8_t kind, const uint8_t *text, size_t len, size_t times);
@@ -179,7 +180,7 @@ fn has_priority(text: &[u8]) -> bool
 #[unsafe(no_mangle)]
 pub extern "C" fn sf_bench_priority(name: u8, text: &[u8], times: usize) -> usize
     ensures bit { result ≤ 1 }
-    // 1 only of a text that spells a Dictionary, and of the letter d
+    // 1 only if the text spells a Dictionary, and the letter is `d`.
     ensures accepted { 0 < result → (name ≡ letter kind_is.Dict) × IsAccepted kind_is.Dict text.now }
 {
     if name != b'd' {

@@ -1,5 +1,5 @@
-//! The command `sflint`: it reads its words and standard input, and writes to standard output, in
-//! colours if that is a terminal. What it does, how it ends and what it says of that are `sf_lint`'s.
+//! The command `sflint`: reads its arguments and standard input, and writes to standard output, in
+//! colours if that is a terminal. `sf_lint` defines what it does, its status and its messages.
 #![tactic(auto)]
 
 use sf_lint::{OptionsFault, Settings, is_coloured, read_settings, run, status_line};
@@ -20,13 +20,13 @@ fn main(rt: HostRuntime) -> ExitCode {
         Err(fault) => tell(&rt, fault),
     };
     if let Some(line) = status_line(status) {
-        // Where that fails too, nobody can be told.
+        // If that fails, too, nothing can be reported.
         let _ = rt.eprintln(line);
     }
     ExitCode::from(status.code())
 }
 
-/// What the words of the command line ask for.
+/// The settings of the command line.
 fn settings_of(rt: &HostRuntime) -> Result<Settings, OptionsFault> {
     let Ok(args) = env::args(rt) else {
         return Err(OptionsFault::OutOfMemory);
@@ -38,7 +38,8 @@ fn settings_of(rt: &HostRuntime) -> Result<Settings, OptionsFault> {
     read_settings(rt.alloc(), words.as_slice())
 }
 
-/// Whether the output is coloured: by where standard output goes, and by the environment.
+/// Whether the output is coloured: if standard output is a terminal, unless the environment says
+/// otherwise.
 fn has_colours(rt: &HostRuntime) -> bool {
     let is_terminal = rt.stdout().is_terminal();
     match env::var(rt, "NO_COLOR") {
@@ -49,7 +50,7 @@ fn has_colours(rt: &HostRuntime) -> bool {
     }
 }
 
-/// Writes what stands for the fault on standard output, if something does.
+/// Writes the text of the fault to standard output, if it has one.
 fn tell(rt: &HostRuntime, fault: OptionsFault) -> Status {
     let Some(text) = fault.text() else {
         return fault.status();
@@ -60,7 +61,7 @@ fn tell(rt: &HostRuntime, fault: OptionsFault) -> Status {
     }
 }
 
-/// Answers standard input to standard output, and flushes that.
+/// Writes the report on standard input to standard output, and flushes that.
 fn answer(rt: &HostRuntime, settings: &Settings) -> Status {
     let Ok(seed) = RandomState::new(rt) else {
         return Status::Stopped;
