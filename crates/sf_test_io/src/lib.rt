@@ -1,5 +1,5 @@
-//! Devices in memory for tests: they give and take bytes at their own pace, and fail at a stated
-//! call. None of them takes memory but for the bytes that it was sent.
+//! Devices in memory for tests: they read and write bytes at a stated pace, and fail at a stated
+//! call. They allocate only for the bytes that are sent to them.
 #![tactic(auto)]
 
 mod sinks;

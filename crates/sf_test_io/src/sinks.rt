@@ -1,11 +1,11 @@
-//! Bytes that are taken at a pace.
+//! Sinks that take bytes at a pace.
 ghost use Rattle.std.specs.Prelude.{◌≡◌, [], Some};
 
 use sf_value::{Failed, Sink};
 use std::alloc::Global;
 
-/// Takes one byte a call. The calls are counted from 1, and one of them may fail; so does one for
-/// which memory is wanting.
+/// Takes one byte a call. The calls are counted from 1, and one of them may fail; so does a call
+/// whose allocation fails.
 ///
 /// ```
 /// let mut sink = Trickle::new(alloc, 3);
@@ -17,31 +17,31 @@ pub struct Trickle {
     pub taken: Vec<u8>,
     /// The number of the call that fails; 0 for none.
     pub fails_at: u64,
-    /// How many calls were made.
+    /// The number of calls that were made.
     pub calls: u64,
-    /// How many of them failed.
+    /// The number of them that failed.
     pub failures: u64,
 }
 
-/// Takes all bytes of a call, and counts the calls that bring some.
+/// Takes all bytes of a call, and counts the calls with bytes.
 ///
 /// ```
 /// let mut sink = Tally::new(alloc);
 /// run(alloc, &seed, &request, &mut source, &mut sink);
-/// sink.calls // 1: the answer in one piece
+/// sink.calls // 1: the answer in one call
 /// ```
 #[derive(Drop)]
 pub struct Tally {
     /// The bytes that were taken.
     pub taken: Vec<u8>,
-    /// How many calls brought bytes.
+    /// The number of calls with bytes.
     pub calls: u64,
-    /// How many of them failed, for want of memory.
+    /// The number of them that failed, since an allocation failed.
     pub failures: u64,
 }
 
 impl Trickle {
-    /// The sink that took nothing yet. It takes no memory.
+    /// The sink without bytes. It does not allocate.
     pub fn new(alloc: Global, fails_at: u64) -> Trickle
         ensures taken { result.taken.items ≡ [] }
         ensures calls { (result.calls ≡ 0) × (result.failures ≡ 0) }
@@ -57,7 +57,7 @@ impl Trickle {
 }
 
 impl Tally {
-    /// The sink that took nothing yet. It takes no memory.
+    /// The sink without bytes. It does not allocate.
     pub fn new(alloc: Global) -> Tally
         ensures taken { result.taken.items ≡ [] }
         ensures calls { (result.calls ≡ 0) × (result.failures ≡ 0) }

@@ -1,37 +1,37 @@
-//! Bytes that are given at a pace.
+//! Sources that give bytes at a pace.
 ghost use Rattle.std.specs.Prelude.{◌≡◌, ◌<◌, Some};
 
 use sf_value::{Failed, Source};
 use std::io::Read;
 
-/// Gives at most so many bytes a call, and makes a pause where a number of bytes was given: no call
-/// gives bytes from both sides of it. The calls are counted from 1, and one of them may fail.
+/// Gives at most a number of bytes a call, and pauses after a number of bytes: no call gives bytes
+/// from both sides of the pause. The calls are counted from 1, and one of them may fail.
 ///
 /// ```
 /// let mut source = Paced::new(b"u=1, i", 1, 0, 3); // `u`, `=`, and then a failed call
 /// ```
 #[derive(Drop)]
 pub struct Paced<'a> {
-    /// The bytes still to come.
+    /// The bytes that remain.
     pub rest: &'a [u8],
-    /// How many bytes a call gives at most; one where it is 0.
+    /// The largest number of bytes of a call; one if it is 0.
     pub pace: usize,
-    /// Behind how many bytes the pause is made; 0 for none.
+    /// The number of bytes before the pause; 0 for none.
     pub pause: u64,
     /// The number of the call that fails; 0 for none.
     pub fails_at: u64,
-    /// How many calls were made for bytes.
+    /// The number of calls that were made for bytes.
     pub calls: u64,
-    /// How many bytes were given.
+    /// The number of bytes that were given.
     pub given: u64,
-    /// How many calls answered the end.
+    /// The number of calls that returned the end.
     pub ends: u64,
-    /// How many calls failed.
+    /// The number of calls that failed.
     pub failures: u64,
 }
 
 impl<'a> Paced<'a> {
-    /// The source of these bytes, of which no call was made yet. It takes no memory.
+    /// The source of these bytes, before any call. It does not allocate.
     pub fn new(rest: &'a [u8], pace: usize, pause: u64, fails_at: u64) -> Paced<'a>
         ensures bytes { result.rest.now ≡ rest.now }
         ensures calls { (result.calls ≡ 0) × (result.failures ≡ 0) }
@@ -51,7 +51,7 @@ impl<'a> Paced<'a> {
         }
     }
 
-    /// How many bytes the next call gives at most.
+    /// The largest number of bytes of the next call.
     fn most(&self) -> usize
         ensures { 0 < result }
     {
