@@ -896,7 +896,7 @@ uint32_t sf_cache_status(const sf_seed *seed, const void *text, size_t text_leng
 
 /*
  * Writes the text of a Cache-Status field (RFC 9211 section 2) whose only member is *hop: a field
- * line of its own, which a cache adds after the lines that came from the caches nearer the origin.
+ * line that a cache adds after the lines that came from the caches nearer the origin.
  * The ranges of *hop are in bytes. sf_cache_status reads the text as this hop alone; but if why is
  * SF_OTHER and why_token is one of the tokens that the RFC defines, it reads that token's reason.
  *
