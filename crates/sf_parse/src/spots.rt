@@ -52,7 +52,7 @@ impl Refusal {
     /// ```
     pub fn in_lines<'a>(&self, lines: &'a [Blob]) -> InLine<'a>
         ensures refusal { result.refusal ≡ self.now }
-        // The spot is where the refusal is in the lines.
+        // The spot is the place of the refusal in the lines.
         ensures spot { line_place result.spot ≡ stands_at self.now lines.now }
     {
         let spot = match *self {
@@ -74,7 +74,7 @@ impl Refusal {
     /// ```
     pub fn in_text<'a>(&self, text: &'a [u8]) -> InLine<'a>
         ensures refusal { result.refusal ≡ self.now }
-        // The spot is where the refusal is in the text as the only line.
+        // The spot is the place of the refusal in the text as the only line.
         ensures spot { line_place result.spot ≡ stands_at self.now (text.now ∷ []) }
     {
         let spot = match *self {
@@ -144,7 +144,7 @@ impl fmt::Display for InLine<'_> {
 
 /// The spot of a place of the joined text, from 0; None if there is no line.
 fn find_spot<'a>(lines: &'a [Blob], place: u64) -> Option<Spot<'a>>
-    // It is where the place of the joined lines is in them; the first is line 1.
+    // It is the spot of the place in the lines, of which the first is line 1.
     ensures { line_place result ≡ place_in 1 lines.now place }
 {
     let mut left = lines;

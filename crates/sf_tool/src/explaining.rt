@@ -66,7 +66,7 @@ pub(crate) fn explain_too_long<E: Sink>(limit: u64, status: Status, errors: &mut
     }
 }
 
-/// Returns where in the input's lines a place of their joined text is; None if there is no line.
+/// Returns the spot in the input's lines of a place of their joined text; None if there is no line.
 fn find_spot<'a>(input: &'a [u8], place: u64) -> Option<Spot<'a>>
     requires { length input.now ≤ input_limit }
     // The first line is line 1.
