@@ -29,8 +29,8 @@ use Rattle.sf_view.specs.View.{DescribesInner, DescribesMember, DescribesMembers
 use Rattle.sf_view.specs.View.{DescribesField}
 use Rattle.sf_view.specs.Views.{NodeShows}
 
--- the node at this index is wrong: P holds for no nodes of the same number that begin with the same
--- ones, up to and with this node. The index is 0 if there are no nodes
+-- the node at this index is wrong: P holds for no nodes of the same number that agree with these up
+-- to and including the index. The index is 0 if there are no nodes
 pub record IsWrongAt {X : Type 0} (P : Seq Node → X → Type 0) (nodes : Seq Node) (index : ℕ)
     : Type 0 where
   pub within : index ≤ length nodes - 1

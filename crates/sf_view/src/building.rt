@@ -74,8 +74,8 @@ pub fn field_of(
     text: &[u8],
     nodes: &[Node],
 ) -> Result<Field, NoField>
-    // The nodes describe the field, and it is valid. Or they are wrong at the index: no nodes of the
-    // same number that begin with the same ones, up to and with that node, describe a valid field.
+    // The nodes describe the field, and it is valid. Or they are wrong at the index: no nodes of
+    // the same number that agree with them up to and including the index describe a valid field.
     ensures { Reads (IsField dialect kind text.now) nodes.now result }
 {
     let source = Source {
