@@ -271,7 +271,7 @@ fn scan_boolean(text: &[u8]) -> Option<(Part, &[u8])>
 }
 
 /// A Token, and the rest.
-#[inline]
+#[inline(always)]
 fn scan_token(whole: usize, text: &[u8]) -> Option<(Part, &[u8])>
     requires small { whole < 2 ^ 32 }
     requires within { length text.now ≤ whole }
@@ -289,6 +289,7 @@ fn scan_token(whole: usize, text: &[u8]) -> Option<(Part, &[u8])>
 }
 
 /// A bare item, and the rest of a text of which so much is left.
+#[inline(always)]
 pub(crate) fn scan_bare(dialect: Dialect, whole: usize, text: &[u8]) -> Option<(Part, &[u8])>
     requires small { whole < 2 ^ 32 }
     requires within { length text.now ≤ whole }
