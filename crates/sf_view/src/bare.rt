@@ -272,7 +272,7 @@ fn scan_boolean(text: &[u8]) -> Option<(Part, &[u8])>
 }
 
 /// A Token, and the rest.
-#[inline]
+#[inline(always)]
 fn scan_token(whole: usize, text: &[u8]) -> Option<(Part, &[u8])>
     requires small { whole < 2 ^ 32 }
     requires within { length text.now ≤ whole }
@@ -290,6 +290,7 @@ fn scan_token(whole: usize, text: &[u8]) -> Option<(Part, &[u8])>
 }
 
 /// A bare item at the start of the text, which ends a source of `whole` bytes, and the rest.
+#[inline(always)]
 pub(crate) fn scan_bare(dialect: Dialect, whole: usize, text: &[u8]) -> Option<(Part, &[u8])>
     requires small { whole < 2 ^ 32 }
     requires within { length text.now ≤ whole }

@@ -22,7 +22,7 @@ use sf_value::Dialect;
 const TRUE: BareView = BareView::Boolean(true);
 
 /// A bare item, and the rest; `None` also if the text has 4 GiB or more.
-#[inline]
+#[inline(always)]
 pub(crate) fn read_bare(dialect: Dialect, text: &[u8]) -> Option<(BareView, &[u8])>
     ensures { IfSome result (λ r. ReadsBare dialect text.now r.0 r.1.now) }
 {
@@ -34,7 +34,7 @@ pub(crate) fn read_bare(dialect: Dialect, text: &[u8]) -> Option<(BareView, &[u8
 }
 
 /// The bare item of a part of the text.
-#[inline]
+#[inline(always)]
 fn borrowed(text: &[u8], part: Part) -> Option<BareView>
     ensures { IfSome result (λ b. (d : Which) (x : Bare) → PartDescribes d text.now part x
         → IsBorrowed d b x) }
@@ -44,7 +44,7 @@ fn borrowed(text: &[u8], part: Part) -> Option<BareView>
 }
 
 /// The bare item of a part with these bytes; `None` for an Inner List.
-#[inline]
+#[inline(always)]
 fn typed(part: Part, bytes: &[u8]) -> Option<BareView>
     ensures { (d : Which) (x : Bare) → PartShows d part bytes.now x → ShowsBare d result x }
 {
@@ -139,7 +139,7 @@ fn behind_inner(dialect: Dialect, text: &[u8]) -> Option<&[u8]>
 
 /// A member of a List, or of a Dictionary after its key and =: its bare item, or `None` for an
 /// Inner List, and the rest.
-#[inline]
+#[inline(always)]
 pub(crate) fn read_member<'a>(
     dialect: Dialect,
     text: &'a [u8],

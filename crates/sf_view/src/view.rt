@@ -145,6 +145,7 @@ impl<'a> View<'a> {
 
     /// The bare item of an Item, or the value of a parameter: what the first node describes; `None`
     /// for an Inner List. It does not allocate.
+    #[inline(always)]
     pub fn bare(&self) -> Option<BareView<'a>>
         // Whatever Item the nodes describe, this is its bare item.
         ensures item { (d : Which) (r : Place) (k : List ℕ) (i : Item)
@@ -166,6 +167,7 @@ impl<'a> View<'a> {
 }
 
 /// The bare item of a node that points to these bytes; `None` for an Inner List.
+#[inline(always)]
 pub(crate) fn bare_of<'a>(node: Node, bytes: &'a [u8]) -> Option<BareView<'a>>
     ensures bare { (d : Which) (x : Bare) → NodeShows d node bytes.now x → ShowsBare d result x }
     ensures inner { node.node_type ≡ type_number type_is.InnerList → result ≡ None }

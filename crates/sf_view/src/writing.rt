@@ -82,6 +82,7 @@ pub fn write_view<W: Sink>(view: &View, kind: Kind, out: &mut W) -> Result<u64, 
 /// let sent = put(b"q=", Ok(0), &mut out);
 /// let count = put_bare_view(&BareView::Integer(1), sent, &mut out)?; // 3
 /// ```
+#[inline(always)]
 pub fn put_bare_view<W: Sink>(bare: &BareView, before: Sent, out: &mut W) -> Sent
     // Whatever bare item this is, its canonical text follows.
     ensures { (d : Which) (x : Value) → IsBorrowed d bare.now x
