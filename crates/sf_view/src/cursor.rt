@@ -62,7 +62,7 @@ impl<'a> DictCursor<'a> {
     /// Reads the next member: `Some(None)` after the last one, and `None` if the cursor declines
     /// the text, of which nothing is claimed then. It declines what spells no Dictionary, and a
     /// text of which 4 GiB or more are left at a bare item.
-    #[inline]
+    #[inline(always)]
     pub fn next(&mut self) -> Option<Option<EntryView<'a>>>
         ensures dialect { self.new.dialect ≡ self.old.dialect }
         // A member of this key and this bare item comes before those that remain; after the last

@@ -118,7 +118,7 @@ fn tag(key: &[u8]) -> u32
 }
 
 /// How many places are looked at for a tag.
-const PROBES: usize = 16;
+const PROBES: usize = 64;
 
 /// Puts a tag into the table; `false` if it is there already, or there was no place near its own.
 #[inline]
@@ -181,11 +181,19 @@ fn by_middle_table(source: &[u8], nodes: &[Node]) -> bool
     all_enter(&mut table, source, nodes)
 }
 
-/// With the largest table.
-fn by_table(source: &[u8], nodes: &[Node]) -> bool
+/// With a table for up to about three thousand keys.
+fn by_large_table(source: &[u8], nodes: &[Node]) -> bool
     ensures { IsTrue result → AreApart source.now nodes.now }
 {
     let mut table = [0u32; 4096];
+    all_enter(&mut table, source, nodes)
+}
+
+/// With the largest table, for up to about twelve thousand keys.
+fn by_largest_table(source: &[u8], nodes: &[Node]) -> bool
+    ensures { IsTrue result → AreApart source.now nodes.now }
+{
+    let mut table = [0u32; 16_384];
     all_enter(&mut table, source, nodes)
 }
 
@@ -204,5 +212,8 @@ pub(crate) fn are_distinct(source: &[u8], nodes: &[Node]) -> bool
     if count <= 384 {
         return by_middle_table(source, nodes);
     }
-    by_table(source, nodes)
+    if count <= 3072 {
+        return by_large_table(source, nodes);
+    }
+    by_largest_table(source, nodes)
 }
