@@ -62,7 +62,7 @@ impl<'a> DictCursor<'a> {
     /// Reads the next member: `Some(None)` after the last one, and `None` if the cursor declines
     /// the text, of which nothing is then claimed. It declines a text that spells no Dictionary,
     /// and a bare item with 4 GiB or more of text from it on.
-    #[inline]
+    #[inline(always)]
     pub fn next(&mut self) -> Option<Option<EntryView<'a>>>
         ensures dialect { self.new.dialect ≡ self.old.dialect }
         // A member with this key and this bare item comes before those that remain; after the last

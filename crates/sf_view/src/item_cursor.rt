@@ -77,7 +77,7 @@ impl<'a> ItemCursor<'a> {
 
     /// Reads the bare item of the next member: `Some(None)` after the last one, and `None` if the
     /// cursor declines the text, of which nothing is then claimed.
-    #[inline]
+    #[inline(always)]
     pub fn next(&self) -> Option<Option<ItemView<'a>>>
         // An Item with this bare item and the parameters that remain comes before the members that
         // remain; after the last one, none remain.
@@ -101,7 +101,7 @@ impl<'a> ItemCursor<'a> {
 impl<'a> ParamCursor<'a> {
     /// Reads the next parameter: `Some(None)` after the last one, and `None` if the cursor declines
     /// the text.
-    #[inline]
+    #[inline(always)]
     pub fn next(&mut self) -> Option<Option<ParamView<'a>>>
         ensures dialect { self.new.dialect ≡ self.old.dialect }
         // A parameter with this key and value comes before those that remain.

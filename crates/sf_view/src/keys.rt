@@ -118,7 +118,7 @@ fn tag(key: &[u8]) -> u32
 }
 
 /// The number of slots that are searched for a tag.
-const PROBES: usize = 16;
+const PROBES: usize = 64;
 
 /// Puts a tag into the table; `false` if the table has it already, or if none of its slots is
 /// empty.
@@ -182,11 +182,19 @@ fn by_middle_table(source: &[u8], nodes: &[Node]) -> bool
     all_enter(&mut table, source, nodes)
 }
 
-/// The same by the largest table.
-fn by_table(source: &[u8], nodes: &[Node]) -> bool
+/// The same by a table for up to about three thousand keys.
+fn by_large_table(source: &[u8], nodes: &[Node]) -> bool
     ensures { IsTrue result → AreApart source.now nodes.now }
 {
     let mut table = [0u32; 4096];
+    all_enter(&mut table, source, nodes)
+}
+
+/// The same by the largest table, for up to about twelve thousand keys.
+fn by_largest_table(source: &[u8], nodes: &[Node]) -> bool
+    ensures { IsTrue result → AreApart source.now nodes.now }
+{
+    let mut table = [0u32; 16_384];
     all_enter(&mut table, source, nodes)
 }
 
@@ -205,5 +213,8 @@ pub(crate) fn are_distinct(source: &[u8], nodes: &[Node]) -> bool
     if count <= 384 {
         return by_middle_table(source, nodes);
     }
-    by_table(source, nodes)
+    if count <= 3072 {
+        return by_large_table(source, nodes);
+    }
+    by_largest_table(source, nodes)
 }

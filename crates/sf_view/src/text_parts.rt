@@ -63,7 +63,7 @@ fn typed(part: Part, bytes: &[u8]) -> Option<BareView>
 }
 
 /// A key, and the rest.
-#[inline]
+#[inline(always)]
 fn read_key(text: &[u8]) -> Option<(&[u8], &[u8])>
     ensures { IfSome result (λ r. (text.now ≡ r.0.now ++ r.1.now) × IsKey r.0.now) }
 {
@@ -154,7 +154,7 @@ pub(crate) fn read_member<'a>(
 }
 
 /// A member of a Dictionary: its key, its bare item or `None` for an Inner List, and the rest.
-#[inline]
+#[inline(always)]
 pub(crate) fn read_entry<'a>(
     dialect: Dialect,
     text: &'a [u8],
