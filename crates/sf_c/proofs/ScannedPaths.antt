@@ -1,7 +1,7 @@
 -- Hops that were read from a text into buffers, one after another.
-use Rattle.std.proofs.Common.{◌≡◌, ◌≢◌, ℕ, suc, ◌+◌, ◌<◌, ◌≤◌, Bool, true, false, List as Seq, [], ◌∷◌}
-use Rattle.std.proofs.Common.{◌++◌, length, take, drop, set, map, Option, Some, None, Ok, refl, sym, ap}
-use Rattle.std.proofs.Common.{◌∙◌, subst, arith, append_assoc, inl, inr}
+use Rattle.std.proofs.Common.{◌≡◌, ◌≢◌, ℕ, ◌+◌, ◌<◌, ◌≤◌, true, false, List as Seq, [], ◌∷◌}
+use Rattle.std.proofs.Common.{◌++◌, length, take, set, map, Option, Some, None, Ok, refl, sym, ap}
+use Rattle.std.proofs.Common.{◌∙◌, subst, arith, append_assoc}
 use Rattle.std.proofs.Common.{option_copied}
 use Rattle.std.specs.Prelude.{position, is_none, is_some, unwrap_or}
 use Rattle.std.specs.List.{filter_map, position_or_len}
@@ -27,7 +27,7 @@ use Rattle.sf_use.specs.declared.cache_status.hop.Outcome.TheVariants.{Hit, Forw
 use Rattle.sf_use.specs.declared.cache_status.hop.Outcome.TheVariants.{Unsaid}
 use Rattle.sf_use.specs.declared.cache_status.view.HopCursor.{HopCursor}
 use Rattle.sf_use.specs.declared.cache_status.view.HopView.{HopView}
-use Rattle.sf_use.specs.CacheStatus.Hops.{hops, member_hop, unless}
+use Rattle.sf_use.specs.CacheStatus.Hops.{member_hop, unless}
 use Rattle.sf_use.specs.CacheStatus.Members.{is_hit, passed_by}
 use Rattle.sf_use.specs.CacheStatus.Served.{served}
 use Rattle.sf_use.specs.CacheStatus.Views.{BorrowsName, ReadsNextHop, RemainsInPath, ShowsHop}

@@ -1,23 +1,21 @@
 -- What is said of a hop that borrows its text.
-use Rattle.std.proofs.Common.{◌≡◌, ℕ, ℤ, pos, ◌+◌, ◌*◌, Bool, true, false, List, [], Option, Some, None}
-use Rattle.std.proofs.Common.{Bor, refl, sym, ap, ◌∙◌, subst, option_copied, inl, inr}
+use Rattle.std.proofs.Common.{◌≡◌, ℕ, pos, ◌+◌, ◌*◌, Bool, true, false, List, [], Option, Some, None}
+use Rattle.std.proofs.Common.{Bor, refl, sym, ap, ◌∙◌, option_copied}
 use Rattle.std.specs.Prelude.{is_some, unwrap_or}
-use Rattle.std.specs.Option.{option_and, option_and_then, option_map}
+use Rattle.std.specs.Option.{option_and, option_map}
 use Rattle.sf_value.specs.declared.dialect.Dialect.{Dialect}
 use Rattle.sf_view.specs.declared.view.Slice.{Slice}
 use Rattle.sf_view.specs.Reads.{ShowsText}
 use Rattle.sf_use.specs.declared.cache_status.hop.Hop.{Hop}
 use Rattle.sf_use.specs.declared.cache_status.hop.Name.{Name}
-use Rattle.sf_use.specs.declared.cache_status.hop.Name.TheVariants as name
 use Rattle.sf_use.specs.declared.cache_status.view.NameView.{NameView}
 use Rattle.sf_use.specs.declared.cache_status.view.NameView.TheVariants as view_is
 use Rattle.sf_use.specs.declared.cache_status.view.HopView.{HopView}
-use Rattle.sf_use.specs.declared.cache_status.view.HopParams.{HopParams}
 use Rattle.sf_use.specs.CacheStatus.Hops.{outcome_by, status_of}
 use Rattle.sf_use.specs.CacheStatus.Members.{passed_by}
 use Rattle.sf_use.specs.CacheStatus.Views.{BorrowsName, HopParts, ShowsHop, ShowsName, ShowsParts}
 use Rattle.sf_use.specs.CacheStatus.Views.{hop_by, passed_in}
-use Rattle.sf_c.specs.Hops.{HopSays, detail_is_token, is_token, outcome_number, says_of, says_passed}
+use Rattle.sf_c.specs.Hops.{HopSays, detail_is_token, is_token, says_of}
 use Rattle.sf_c.specs.Hops.{why_token}
 use Rattle.sf_c.specs.Refusals.{flag_number}
 use Rattle.sf_c.specs.ScannedHops.{is_token_view, says_in, token_number}

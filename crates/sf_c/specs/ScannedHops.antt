@@ -1,6 +1,6 @@
 -- Hops that are read from the text of a field into the caller's buffers.
-use Rattle.std.specs.Prelude.{◌≡◌, ℕ, pos, ◌+◌, ◌*◌, ◌≤◌, Bool, true, false, List as Seq, [], length}
-use Rattle.std.specs.Prelude.{map, take, is_some, unwrap_or, Option, Ok}
+use Rattle.std.specs.Prelude.{◌≡◌, ℕ, pos, ◌+◌, ◌*◌, Bool, true, false, List as Seq, [], length}
+use Rattle.std.specs.Prelude.{map, take, is_some, unwrap_or, Ok}
 use Rattle.std.specs.Option.{option_and, option_copied, option_map}
 use Rattle.sf_value.specs.declared.dialect.Dialect.TheVariants.{Rfc9651}
 use Rattle.sf_value.specs.declared.value.Field.{Field}
