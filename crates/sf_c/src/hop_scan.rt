@@ -1,5 +1,6 @@
 //! The hops of a Cache-Status field, read from its text in one pass into the caller's buffers.
-ghost use Rattle.std.specs.Prelude.{◌≡◌, ◌≢◌, ◌≤◌, ℕ, List, [], length, unwrap_or, Option as Maybe, Some, IfSome};
+ghost use Rattle.std.specs.Prelude.{◌≡◌, ◌≢◌, ◌≤◌, ℕ, List, [], length, unwrap_or};
+ghost use Rattle.std.specs.Prelude.{Option as Maybe, Some, IfSome};
 ghost use Rattle.std.specs.Option.{option_copied, option_map};
 ghost use Rattle.sf_value.specs.declared.dialect.Dialect.{Dialect as Which};
 ghost use Rattle.sf_view.specs.Decoding.{HasBytes};
@@ -15,7 +16,7 @@ ghost use Rattle.sf_c.specs.ScannedHops.{is_token_view, says_in, token_number};
 use crate::buffer::put;
 use crate::hops::HopNode;
 use crate::span::Span;
-use sf_use::{HopCursor, HopParams, HopStatus, HopView, NameView};
+use sf_use::{HopCursor, HopStatus, HopView, NameView};
 use sf_view::Slice;
 
 /// How many hops and bytes were read, and which hop the response came from.
