@@ -876,19 +876,21 @@ typedef struct sf_path {
  * one hop for each member, the cache nearest the origin first. No two paths have the same hops and
  * bytes.
  *
- *   SF_OK           the first path->hops hops and the first path->bytes bytes are the path; the
- *                   others are unchanged
+ *   SF_OK           the first path->hops hops and the first path->bytes bytes are the path
  *   SF_SHORT        the path has path->hops hops and path->bytes bytes, and one of the two buffers
- *                   is smaller; both are unchanged
+ *                   is smaller
  *   SF_NOT_A_CACHE  member path->nameless is the first that is not an Item of a String or a Token
  *   SF_REFUSED      the text is not a well-formed List; refusal says where and why
  *   SF_NO_MEMORY
  *
  * The bytes are those of each hop in order, of its name, why_token, key and detail, with nothing
  * between them; an empty range is at the offset at which it would begin. Buffers of
- * SF_NODES_SIZE(text_length) hops and SF_BYTES_SIZE(text_length) bytes are always large enough.
- * Unless SF_OK or SF_SHORT is returned, both buffers are unchanged, and so is *path, except that
- * SF_NOT_A_CACHE, and no other status, writes path->nameless.
+ * SF_NODES_SIZE(text_length) hops and SF_BYTES_SIZE(text_length) bytes are always large enough. A
+ * call that returns SF_OK does not allocate, unless the text has 4 GiB or more.
+ *
+ * Unless SF_OK is returned, the contents of hops and bytes are unspecified, and so are those of the
+ * other hops and bytes if it is. Unless SF_OK or SF_SHORT is returned, *path is unchanged, except
+ * that SF_NOT_A_CACHE, and no other status, writes path->nameless.
  */
 uint32_t sf_cache_status(const sf_seed *seed, const void *text, size_t text_length, sf_hop *hops,
                          size_t hops_capacity, void *bytes, size_t bytes_capacity, sf_path *path,

@@ -1550,7 +1550,8 @@ static int is_hop(const unsigned char *bytes, size_t size, const sf_hop *hop, co
          hop->detail_is_token == row->detail_is_token;
 }
 
-/* A path in each buffer that is too small, in buffers of exactly its size, and in longer ones. */
+/* A path in each buffer that is too small, in buffers of exactly its size, and in longer ones; if
+ * they are not too small, the call does not allocate. */
 static void told(const char *from, const hop_row *rows, size_t count, size_t size, long served) {
   const char *about = from;
   uint32_t status;
@@ -1567,13 +1568,10 @@ static void told(const char *from, const hop_row *rows, size_t count, size_t siz
       CHECK(path.is_served == (served >= 0) && path.served == (served < 0 ? 0 : (size_t)served));
       if (n < count || b < size) {
         CHECK(status == SF_SHORT);
-        CHECK(all_are((unsigned char *)hops, n * sizeof *hops) && all_are(bytes, b));
       } else {
-        CHECK(status == SF_OK);
+        CHECK(status == SF_OK && calls == 0);
         for (size_t i = 0; i < count; ++i)
           CHECK(is_hop(bytes, size, &hops[i], &rows[i]));
-        CHECK(n == count || all_are((unsigned char *)(hops + count), sizeof *hops));
-        CHECK(b == size || bytes[size] == 0xa5);
       }
       give_buffer(hops);
       give_buffer(bytes);
@@ -1635,10 +1633,9 @@ static void paths(void) {
   } rows[] = {{"7;hit", 0}, {"a, (b), 7", 1}, {"a, b, :YQ==:", 2}, {"a, (), b", 1}, {"?1", 0}};
   uint32_t status;
   sf_hop hop;
-  unsigned char byte = 0xa5;
+  unsigned char byte;
   sf_path path = {4711, 4712, 4713, 4714, 4715};
   sf_refusal refusal = untouched;
-  memset(&hop, 0xa5, sizeof hop);
   for (size_t i = 0; i < sizeof rows / sizeof *rows; ++i) {
     const char *about = rows[i].text;
     size_t length = strlen(about);
@@ -1654,7 +1651,7 @@ static void paths(void) {
   CALL(sf_cache_status(&seed, about, 2, &hop, 1, &byte, 1, &path, &refusal));
   CHECK(status == SF_REFUSED && refusal.offset == 2 && refusal.found == -1);
   CHECK(path.hops == 4711 && path.bytes == 4712 && path.served == 4713 && path.nameless == 4714);
-  CHECK(path.is_served == 4715 && byte == 0xa5 && all_are((unsigned char *)&hop, sizeof hop));
+  CHECK(path.is_served == 4715);
 }
 
 /* A hop, written and read back: the text is this one. */
@@ -1941,7 +1938,10 @@ static const char directives[] = "max-age=30, s-maxage=90, a;b;c, d=(e f), g=\"h
     CHECK(status == SF_OK && (right));                                                             \
   } while (0)
 
-#define EACH_REFUSAL(call, right, left)                                                            \
+#define EACH_REFUSAL(call, right, left) EACH_REFUSAL_OF(SF_OK, call, right, left)
+
+/* The same of a call that returns another status with memory. */
+#define EACH_REFUSAL_OF(answered, call, right, left)                                               \
   do {                                                                                             \
     for (int once = 0; once < 2; ++once) {                                                         \
       long met = 0;                                                                                \
@@ -1952,11 +1952,11 @@ static const char directives[] = "max-age=30, s-maxage=90, a;b;c, d=(e f), g=\"h
         CALL(call);                                                                                \
         refused_from = 0;                                                                          \
         if (refusals == 0) {                                                                       \
-          CHECK(status == SF_OK && (right));                                                       \
+          CHECK(status == (answered) && (right));                                                  \
           break;                                                                                   \
         }                                                                                          \
         ++met;                                                                                     \
-        CHECK(status == SF_OK ? (right) : status == SF_NO_MEMORY && (left));                       \
+        CHECK(status == (answered) ? (right) : status == SF_NO_MEMORY && (left));                  \
       }                                                                                            \
       CHECK(met > 0);                                                                              \
     }                                                                                              \
@@ -2028,11 +2028,12 @@ static uint32_t ask(question asked, uint32_t dialect, uint32_t kind, const void 
   }
 }
 
-/* Unless sf_parse succeeds, its buffers hold nothing of meaning. */
+/* Unless sf_parse or sf_cache_status succeeds, its buffers hold nothing of meaning. */
 static void forget(question asked, uint32_t status, answer *a) {
-  if (asked != TO_PARSE || status == SF_OK)
+  if ((asked != TO_PARSE && asked != TO_ASK_PATH) || status == SF_OK)
     return;
   memset(a->nodes, 0xa5, sizeof a->nodes);
+  memset(a->hops, 0xa5, sizeof a->hops);
   memset(a->bytes, 0xa5, sizeof a->bytes);
 }
 
@@ -2216,14 +2217,20 @@ static void want_of_memory(void) {
                                "\"edge\"; hit; ttl=30; detail=odd, a;fwd=none, b, c, d, e, f";
   sf_hop hops[9];
   sf_path path = {4711, 4712, 4713, 4714, 4715};
-  EACH_REFUSAL((memset(hops, 0xa5, sizeof hops), memset(buffer, 0xa5, sizeof buffer),
-                path.hops = 4711,
-                sf_cache_status(&seed, caches, sizeof caches - 1, hops, 9, buffer, sizeof buffer,
-                                &path, &refusal)),
-               path.hops == 8 && path.served == 1 && path.is_served == 1 && path.nameless == 4714 &&
-                   hops[2].why == SF_OTHER,
-               path.hops == 4711 && all_are((unsigned char *)hops, sizeof hops) &&
-                   all_are(buffer, sizeof buffer) && is_untouched(&refusal));
+  WITHOUT_MEMORY(sf_cache_status(&seed, caches, sizeof caches - 1, hops, 9, buffer, sizeof buffer,
+                                 &path, &refusal),
+                 path.hops == 8 && path.served == 1 && path.is_served == 1 &&
+                     path.nameless == 4714 && hops[2].why == SF_OTHER && is_untouched(&refusal));
+  EACH_REFUSAL_OF(SF_SHORT,
+                  (path.hops = 4711, sf_cache_status(&seed, caches, sizeof caches - 1, hops, 7,
+                                                     buffer, sizeof buffer, &path, &refusal)),
+                  path.hops == 8 && path.served == 1 && path.nameless == 4714,
+                  path.hops == 4711 && is_untouched(&refusal));
+  static const char nameless[] = "origin; key=\"a key of more than sixteen bytes\", (a), b";
+  EACH_REFUSAL_OF(SF_NOT_A_CACHE,
+                  (path.nameless = 4714, sf_cache_status(&seed, nameless, sizeof nameless - 1, hops,
+                                                         9, buffer, sizeof buffer, &path, &refusal)),
+                  path.nameless == 1, path.nameless == 4714 && is_untouched(&refusal));
 
   about = "sf_refusal_text, no memory";
   static const char message[] = "byte 0x32 '2' at place 2, expected a space or the end";

@@ -1,28 +1,25 @@
 -- Nodes whose coded bytes are decoded, one after another.
-use Rattle.std.proofs.Common.{◌≡◌, ◌≢◌, ℕ, ◌+◌, ◌-◌, ◌<◌, ◌≤◌, ◌⊎◌, ◌==◌, Bool, true, false, not, List}
+use Rattle.std.proofs.Common.{◌≡◌, ◌≢◌, ℕ, ◌+◌, ◌-◌, ◌<◌, ◌≤◌, ◌⊎◌, true, not, List}
 use Rattle.std.proofs.Common.{[], ◌∷◌, ◌++◌, length, take, drop, set, get_or, refl, sym, ap, ◌∙◌}
-use Rattle.std.proofs.Common.{subst, arith, length-append, append_assoc, inl, inr, suc, zero}
+use Rattle.std.proofs.Common.{subst, arith, length-append, append_assoc, inl, inr, suc}
 use Rattle.std.proofs.lemmas.Bool.{ne_eqb}
-use Rattle.std.proofs.lemmas.List.{drop-take, take_all, length-take, length-take-le, drop-set-lt}
-use Rattle.std.proofs.lemmas.List.{take_more_set, length-set, length-drop}
-use Rattle.std.proofs.Math.Seq.{take-add, drop-append_seam, drop-cons, take-length}
+use Rattle.std.proofs.lemmas.List.{drop-take, take_all, length-take-le, drop-set-lt}
+use Rattle.std.proofs.lemmas.List.{take_more_set}
+use Rattle.std.proofs.Math.Seq.{take-add, drop-append_seam, drop-cons}
 use Rattle.sf_value.specs.declared.dialect.Dialect.{Dialect}
 use Rattle.sf_value.specs.declared.value.Bare.{Bare}
 use Rattle.sf_value.specs.declared.value.Bare.TheVariants.{Integer, Decimal, Text, Token}
 use Rattle.sf_value.specs.declared.value.Bare.TheVariants.{Blob, Boolean, Date, Shown}
 use Rattle.sf_value.specs.Grammar.Words.{Each}
 use Rattle.sf_view.specs.declared.node.Node.{Node}
-use Rattle.sf_view.specs.declared.node_types.Role.{Role}
 use Rattle.sf_view.specs.declared.view.Slice.{Slice}
 use Rattle.sf_view.specs.NodeTypes.{type_number, is_coded}
-use Rattle.sf_view.specs.View.{piece, type_of, text_of, DescribesText, DescribesBare}
-use Rattle.sf_view.specs.View.{DescribesOpening}
+use Rattle.sf_view.specs.View.{piece, type_of, text_of, DescribesText}
 use Rattle.sf_view.specs.Decoding.{HasBytes}
-use Rattle.sf_c.specs.Flattening.{IsInOne}
-use Rattle.sf_c.specs.Decodings.{Means, EachMeans, IsPlain, AreDecoded, IsNodeDecoded, HasCoded}
+use Rattle.sf_c.specs.Decodings.{EachMeans, IsPlain, AreDecoded, IsNodeDecoded, HasCoded}
 use Rattle.sf_c.specs.Decodings.{decoded_to}
 use Rattle.sf_c.proofs.Pieces.{piece-append, piece_behind}
-use Rattle.sf_c.proofs.Carrying.{means_stays, opening_stays, each_more, each_push}
+use Rattle.sf_c.proofs.Carrying.{means_stays, each_more, each_push}
 
 -- a node that is not coded stays
 pub node_stays : (text bytes : List ℕ) (used : ℕ) (n : Node) → used ≤ length bytes

@@ -2,7 +2,7 @@
 use Rattle.std.proofs.Common.{◌≡◌, ℕ, ◌+◌, ◌*◌, ◌≤◌, Bool, true, false, List as Seq, [], ◌∷◌}
 use Rattle.std.proofs.Common.{length}
 use Rattle.std.proofs.Common.{map, Option, Some, None, Ok, Err, Result, refl, sym, ap, ◌∙◌, arith}
-use Rattle.std.proofs.Common.{codes, bytes_eq, length-append}
+use Rattle.std.proofs.Common.{codes, bytes_eq}
 use Rattle.std.proofs.lemmas.Bool.{false≢true}
 use Rattle.std.proofs.lemmas.List.{length-map}
 use Rattle.std.proofs.lemmas.Slice.Eq.{bytes_eq-Decides}
@@ -131,7 +131,7 @@ found s w (p ∷ ps) h e = go (bytes_eq s p.0) refl e (found s w ps h.1)
     go false i f rest =
         let there : value_at s ps ≡ Some w = rw i at f in rest there
 
-forward_back : (s : Seq ℕ) → token_of (forward_of s) ≡ s
+pub forward_back : (s : Seq ℕ) → token_of (forward_of s) ≡ s
 forward_back s = go (value_at s reasons) refl
   where
     go : (o : Option Forward) → value_at s reasons ≡ o → token_of (forward_of s) ≡ s
@@ -175,7 +175,7 @@ detail_few (Some (Boolean b)) = omega arith
 detail_few (Some (Date n)) = omega arith
 detail_few (Some (Shown s)) = omega arith
 
-passed_back : (b : Bool) (o : Option Passed) → passed_by (outcome_by b o) ≡ o
+pub passed_back : (b : Bool) (o : Option Passed) → passed_by (outcome_by b o) ≡ o
 passed_back true None = refl
 passed_back true (Some p) = refl
 passed_back false None = refl

@@ -1,7 +1,8 @@
 -- What the structs of hops describe stays when more bytes and more hops come.
-use Rattle.std.proofs.Common.{◌≡◌, ℕ, ◌+◌, ◌≤◌, List, [], ◌∷◌, ◌++◌, length, drop, map, refl}
-use Rattle.std.proofs.Common.{ap, ◌∙◌, sym, arith, length-append, append_assoc}
-use Rattle.std.proofs.lemmas.List.{append-nil, length-map, map-append}
+use Rattle.std.proofs.Common.{◌≡◌, ℕ, ◌+◌, List, [], ◌∷◌, ◌++◌, length, take, drop, map, refl}
+use Rattle.std.proofs.Common.{ap, ◌∙◌, sym, subst, arith, length-append, append_assoc}
+use Rattle.std.proofs.lemmas.List.{append-nil, length-map, length-take, map-append}
+use Rattle.std.proofs.Math.Seq.{take-append_seam}
 use Rattle.sf_use.specs.declared.cache_status.hop.Hop.{Hop}
 use Rattle.sf_use.specs.CacheStatus.Members.{passed_by}
 use Rattle.sf_c.specs.declared.span.Span.{Span}
@@ -242,27 +243,39 @@ hop_held b0 b1 b2 b3 b4 n w k d x h ns ms p t s e a =
       whole,
     )
 
--- hops and bytes that are put into buffers which are long enough
+-- the hops and the bytes at the start of two buffers
+pub front_of : (ts : List ToldHop) (hops some_hops : List HopNode) (bytes some_bytes : List ℕ)
+    → map (told_hop_by some_bytes) some_hops ≡ ts → HopsHoldUp some_bytes some_hops
+    → take (length some_hops) hops ≡ some_hops → take (length some_bytes) bytes ≡ some_bytes
+    → HopsAtFront ts hops bytes
+front_of ts hops some_hops bytes some_bytes tells h e f =
+    let size : length some_bytes ≡ hops_size ts = h.1 ∙ ap hops_size tells in
+    let count : length some_hops ≡ length ts =
+    sym (length-map some_hops (told_hop_by some_bytes)) ∙ ap length tells in
+    let there : some_hops ≡ take (length ts) hops = sym e ∙ ap (λ n. take n hops) count in
+    let with_bytes : some_bytes ≡ take (hops_size ts) bytes =
+    sym f ∙ ap (λ n. take n bytes) size in
+    let enough = ap length e in
+    let long = ap length f in
+    record {
+      hops_fit = omega (arith, length-take (length some_hops) hops);
+      bytes_fit = omega (arith, length-take (length some_bytes) bytes);
+      tells =
+          subst (λ y. map (told_hop_by y) (take (length ts) hops) ≡ ts) with_bytes
+          (subst (λ y. map (told_hop_by some_bytes) y ≡ ts) there tells);
+      held =
+          subst (λ y. HopsHoldUp y (take (length ts) hops)) with_bytes
+          (subst (HopsHoldUp some_bytes) there h);
+    }
+
+-- hops and bytes that are put into buffers
 pub hops_at_front : (ts : List ToldHop) (hops new_hops some_hops : List HopNode)
     (bytes new_bytes some_bytes : List ℕ) → map (told_hop_by some_bytes) some_hops ≡ ts
-    → HopsHoldUp some_bytes some_hops → length ts ≤ length hops → hops_size ts ≤ length bytes
+    → HopsHoldUp some_bytes some_hops
     → new_hops ≡ some_hops ++ drop (0 + length some_hops) hops
     → new_bytes ≡ some_bytes ++ drop (0 + length some_bytes) bytes
-    → HopsAtFront ts hops new_hops bytes new_bytes
-hops_at_front ts hops new_hops some_hops bytes new_bytes some_bytes tells h n b e f =
-    let size : length some_bytes ≡ hops_size ts = h.1 ∙ ap hops_size tells in
-    let count = ap length tells in
-    let each = length-map some_hops (told_hop_by some_bytes) in
-    record {
-      some_hops = some_hops;
-      some_bytes = some_bytes;
-      tells = tells;
-      within = h.0;
-      size = size;
-      order = h.2;
-      whole = h.3 ∙ ap hops_bytes tells;
-      hops_fit = omega arith;
-      bytes_fit = omega arith;
-      hops_there = e ∙ ap (λ k. some_hops ++ drop k hops) (omega arith);
-      bytes_there = f ∙ ap (λ k. some_bytes ++ drop k bytes) (omega arith);
-    }
+    → HopsAtFront ts new_hops new_bytes
+hops_at_front ts hops new_hops some_hops bytes new_bytes some_bytes tells h e f =
+    front_of ts new_hops some_hops new_bytes some_bytes tells h
+    (ap (take (length some_hops)) e ∙ take-append_seam some_hops _)
+    (ap (take (length some_bytes)) f ∙ take-append_seam some_bytes _)

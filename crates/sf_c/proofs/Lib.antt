@@ -13,6 +13,8 @@ pub mod NodeBound
 pub mod HopLemmas
 pub mod OneHop
 pub mod HopBound
+pub mod ShownHops
+pub mod ScannedPaths
 pub mod GivenTexts
 pub mod GivenHops
 pub mod Selecting

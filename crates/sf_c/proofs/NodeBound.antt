@@ -10,7 +10,6 @@ use Rattle.sf_value.specs.declared.value.Bare.{Bare}
 use Rattle.sf_value.specs.declared.value.Bare.TheVariants.{Integer, Decimal, Text, Token}
 use Rattle.sf_value.specs.declared.value.Bare.TheVariants.{Blob, Boolean, Date, Shown}
 use Rattle.sf_value.specs.declared.value.Item.{Item}
-use Rattle.sf_value.specs.declared.value.Inner.{Inner}
 use Rattle.sf_value.specs.declared.value.Member.{Member}
 use Rattle.sf_value.specs.declared.value.Member.TheVariants as member
 use Rattle.sf_value.specs.declared.value.Field.{Field}
@@ -21,7 +20,7 @@ use Rattle.sf_value.specs.Grammar.Words.{Each}
 use Rattle.sf_value.specs.Grammar.Numbers.{sign}
 use Rattle.sf_value.specs.Grammar.Pairs.{Pairs}
 use Rattle.sf_value.specs.Grammar.Tokens.{IsKey, IsToken}
-use Rattle.sf_value.specs.Grammar.Valid.{ValidBare, ValidItem, ValidInner, ValidMember, Valid}
+use Rattle.sf_value.specs.Grammar.Valid.{ValidBare, ValidItem, ValidMember, Valid}
 use Rattle.sf_value.specs.Grammar.Strings.{escaped, is_escaped}
 use Rattle.sf_value.specs.Grammar.ByteSequences.{unpadded, needed}
 use Rattle.sf_value.specs.Grammar.DisplayStrings.{is_unencoded}

@@ -1,5 +1,5 @@
 -- What is in the buffers after a text was parsed.
-use Rattle.std.proofs.Common.{◌≡◌, ℕ, ◌+◌, ◌-◌, ◌<◌, ◌≤◌, ◌^◌, List, [], ◌∷◌, ◌++◌, length, take}
+use Rattle.std.proofs.Common.{◌≡◌, ℕ, ◌≤◌, List, [], ◌∷◌, ◌++◌, length, take}
 use Rattle.std.proofs.Common.{sym, ap, ◌∙◌, subst, arith, length-append}
 use Rattle.std.proofs.lemmas.List.{length-take-le}
 use Rattle.std.proofs.Math.Seq.{take-append_seam}
@@ -13,7 +13,7 @@ use Rattle.sf_view.specs.Accepts.{Accepts}
 use Rattle.sf_view.specs.View.{DescribesField}
 use Rattle.sf_c.specs.declared.parsing.Sizes.{Sizes}
 use Rattle.sf_c.specs.Decodings.{AreDecoded, IsPlain}
-use Rattle.sf_c.specs.Flattening.{IsDecoded, IsInOne, IsSmall, IsHeld, HoldsNodes}
+use Rattle.sf_c.specs.Flattening.{IsDecoded, IsInOne, IsSmall, IsHeld}
 use Rattle.sf_c.specs.Laws.{NodesAreFew, BytesAreFew, NodesAreTheirs}
 use Rattle.sf_c.specs.NodeCounts.{field_nodes, field_bytes}
 use Rattle.sf_c.specs.Nodes.{told_field}

@@ -1,6 +1,6 @@
 -- What the structs of hops describe (RFC 9211 section 2).
 use Rattle.std.specs.Prelude.{◌≡◌, ℕ, ℤ, pos, ◌+◌, ◌≤◌, Bool, true, false, List, [], ◌∷◌, ◌++◌}
-use Rattle.std.specs.Prelude.{length, drop, map, Option, is_some, unwrap_or}
+use Rattle.std.specs.Prelude.{length, take, map, Option, is_some, unwrap_or}
 use Rattle.std.specs.Option.{option_and_then, option_map}
 use Rattle.sf_use.specs.declared.cache_status.hop.Name.{Name}
 use Rattle.sf_use.specs.declared.cache_status.hop.Name.TheVariants as name
@@ -206,17 +206,9 @@ PutsSpan old new text p =
     (new ≡ old ++ text) × (p.at ≡ length old) × (p.length ≡ length text)
 
 -- the structs and the bytes at the start of two buffers describe these hops: the bytes are their
--- spans in order, and no other. What is after them is left as it was
-pub record HopsAtFront (ts : List ToldHop) (hops new_hops : List HopNode)
-    (bytes new_bytes : List ℕ) : Type 0 where
-  pub some_hops : List HopNode
-  pub some_bytes : List ℕ
-  pub tells : map (told_hop_by some_bytes) some_hops ≡ ts
-  pub within : AreHopsWithin some_bytes some_hops
-  pub size : length some_bytes ≡ hops_size ts
-  pub order : AreHopsInOrder 0 some_hops (length some_bytes)
-  pub whole : some_bytes ≡ hops_bytes ts
-  pub hops_fit : length some_hops ≤ length hops
-  pub bytes_fit : length some_bytes ≤ length bytes
-  pub hops_there : new_hops ≡ some_hops ++ drop (length some_hops) hops
-  pub bytes_there : new_bytes ≡ some_bytes ++ drop (length some_bytes) bytes
+-- spans in order, and no other
+pub record HopsAtFront (ts : List ToldHop) (hops : List HopNode) (bytes : List ℕ) : Type 0 where
+  pub hops_fit : length ts ≤ length hops
+  pub bytes_fit : hops_size ts ≤ length bytes
+  pub tells : map (told_hop_by (take (hops_size ts) bytes)) (take (length ts) hops) ≡ ts
+  pub held : HopsHoldUp (take (hops_size ts) bytes) (take (length ts) hops)

@@ -20,6 +20,7 @@ pub mod Finding
 pub mod Flattening
 pub mod Decodings
 pub mod Hops
+pub mod ScannedHops
 pub mod Paths
 pub mod Selecting
 pub mod GivenHops

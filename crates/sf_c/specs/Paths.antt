@@ -33,9 +33,10 @@ pub record PathOutput : Type 0 where
   pub path : Path
   pub refusal : SyntaxRefusal
 
--- the buffers are as they were
-abbrev pub KeepsBuffers : PathOutput → PathOutput → Type 0
-KeepsBuffers old new = (new.hops ≡ old.hops) × (new.bytes ≡ old.bytes)
+-- the buffers are as long as they were: only what they hold may change
+abbrev pub KeepsLengths : PathOutput → PathOutput → Type 0
+KeepsLengths old new =
+    (length new.hops ≡ length old.hops) × (length new.bytes ≡ length old.bytes)
 
 -- one of the buffers is too small for the path
 abbrev pub IsTooSmall : PathOutput → Path → Type 0
@@ -43,7 +44,7 @@ IsTooSmall r p = (length r.hops < p.hops) ⊎ (length r.bytes < p.bytes)
 
 -- the text spells a List, and the starts of the buffers describe its hops; or a buffer is too
 -- small; or a member names no cache, the first such at this place; or the struct says the refusal.
--- All else is left as it was
+-- Of the buffers only what the path needs has a meaning; all else is left as it was
 abbrev pub TellsPath : PathOutput → PathOutput → Seq ℕ → Option Status → Type 0
 TellsPath old new t (Some Answered) =
     (v : Field) × (hs : Seq Hop)
@@ -51,7 +52,8 @@ TellsPath old new t (Some Answered) =
     × (hops v ≡ Ok hs)
     × SaysPath new.path hs
     × (new.path.nameless ≡ old.path.nameless)
-    × HopsAtFront (map told_hop hs) old.hops new.hops old.bytes new.bytes
+    × HopsAtFront (map told_hop hs) new.hops new.bytes
+    × KeepsLengths old new
     × (new.refusal ≡ old.refusal)
 TellsPath old new t (Some Short) =
     (v : Field) × (hs : Seq Hop)
@@ -60,18 +62,19 @@ TellsPath old new t (Some Short) =
     × SaysPath new.path hs
     × (new.path.nameless ≡ old.path.nameless)
     × IsTooSmall old new.path
-    × KeepsBuffers old new
+    × KeepsLengths old new
     × (new.refusal ≡ old.refusal)
 TellsPath old new t (Some NotACache) =
     (v : Field)
     × IsOnly Rfc9651 List t v
     × (hops v ≡ Err new.path.nameless)
     × (new.path ≡ record old.path { nameless = new.path.nameless })
-    × KeepsBuffers old new
+    × KeepsLengths old new
     × (new.refusal ≡ old.refusal)
 TellsPath old new t (Some Refused) =
-    SaysRefusal Rfc9651 List t new.refusal × KeepsBuffers old new × (new.path ≡ old.path)
-TellsPath old new t (Some OutOfMemory) = new ≡ old
+    SaysRefusal Rfc9651 List t new.refusal × KeepsLengths old new × (new.path ≡ old.path)
+TellsPath old new t (Some OutOfMemory) =
+    KeepsLengths old new × (new.path ≡ old.path) × (new.refusal ≡ old.refusal)
 TellsPath old new t status = ⊥
 
 -- the caches that a List names; or the place of its first member that names none, whatever memory

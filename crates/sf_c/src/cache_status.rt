@@ -1,11 +1,13 @@
 //! Cache-Status (RFC 9211).
-ghost use Rattle.std.specs.Prelude.{◌≡◌, Some};
+ghost use Rattle.std.specs.Prelude.{◌≡◌, is_some, unwrap_or, Some};
 ghost use Rattle.sf_value.specs.declared.value.Kind.TheVariants as kind_is;
 ghost use Rattle.sf_value.specs.Grammar.Fields.{kind_of};
 ghost use Rattle.sf_c.specs.Paths.{NamesCaches, SaysFew, TellsPath};
+ghost use Rattle.sf_c.specs.Refusals.{flag_number};
 ghost use Rattle.sf_c.specs.Statuses.{status_at};
 
 use crate::call::parse;
+use crate::hop_scan::scan_hops;
 use crate::hops::{HopNode, flatten_hops};
 use crate::laws::hops_are_few;
 use crate::refusal::SyntaxRefusal;
@@ -33,12 +35,30 @@ pub struct Path {
     pub is_served: u32,
 }
 
+impl Path {
+    /// Sets how many hops and bytes there are, and which hop the response came from.
+    fn set(&mut self, hops: usize, bytes: usize, served: Option<usize>)
+        ensures { self.new ≡ record {
+          hops = hops;
+          bytes = bytes;
+          served = unwrap_or served 0;
+          nameless = self.old.nameless;
+          is_served = flag_number (is_some served);
+        } }
+    {
+        self.hops = hops;
+        self.bytes = bytes;
+        self.served = served.unwrap_or(0);
+        self.is_served = u32::from(served.is_some());
+    }
+}
+
 /// The path of a response by the text of its Cache-Status field (RFC 9211 section 2), the cache
 /// nearest the origin first: `Answered` and the first `path.hops` hops and the first `path.bytes`
-/// bytes describe it, and the others are left as they were; `Short` if one of the buffers is
-/// smaller than `path` says, and both are left as they were; `NotACache` if a member names no
-/// cache, and then `path.nameless` is the place of the first such member; `Refused` if the text
-/// spells no List, and then `refusal` says where and why; or `OutOfMemory`.
+/// bytes describe it; `Short` if one of the buffers is smaller than `path` says; `NotACache` if a
+/// member names no cache, and then `path.nameless` is the place of the first such member; `Refused`
+/// if the text spells no List, and then `refusal` says where and why; or `OutOfMemory`. What else
+/// the buffers hold has no meaning.
 #[unsafe(no_mangle)]
 pub extern "C" fn sf_cache_status(
     alloc: Global,
@@ -49,8 +69,7 @@ pub extern "C" fn sf_cache_status(
     path: &mut Path,
     refusal: &mut SyntaxRefusal,
 ) -> u32
-    // the buffers describe the hops of the List, or the status says why not; all else is left as it
-    // was
+    // the buffers describe the hops of the List, or the status says why not
     ensures tells { TellsPath
         (record { hops = hops.old; bytes = bytes.old; path = path.old; refusal = refusal.old })
         (record { hops = hops.new; bytes = bytes.new; path = path.new; refusal = refusal.new })
@@ -72,14 +91,37 @@ fn path_of(
     path: &mut Path,
     refusal: &mut SyntaxRefusal,
 ) -> Status
-    // the buffers describe the hops of the List, or the status says why not; all else is left as it
-    // was
+    // the buffers describe the hops of the List, or the status says why not
     ensures tells { TellsPath
         (record { hops = hops.old; bytes = bytes.old; path = path.old; refusal = refusal.old })
         (record { hops = hops.new; bytes = bytes.new; path = path.new; refusal = refusal.new })
         text.now (Some result) }
     // if they are described: hops at most four fifths of the text's length, rounded to the nearest
     // number, and bytes at most eight fifths
+    ensures few { SaysFew text.now path.new (Some result) }
+{
+    if let Some(found) = scan_hops(text, hops, bytes) {
+        hops_are_few();
+        path.set(found.hops, found.bytes, found.served);
+        return Status::Answered;
+    }
+    path_by_tree(alloc, seed, text, hops, bytes, path, refusal)
+}
+
+/// As [`sf_cache_status`] answers, by the tree of the value.
+fn path_by_tree(
+    alloc: Global,
+    seed: &Seed,
+    text: &[u8],
+    hops: &mut [HopNode],
+    bytes: &mut [u8],
+    path: &mut Path,
+    refusal: &mut SyntaxRefusal,
+) -> Status
+    ensures tells { TellsPath
+        (record { hops = hops.old; bytes = bytes.old; path = path.old; refusal = refusal.old })
+        (record { hops = hops.new; bytes = bytes.new; path = path.new; refusal = refusal.new })
+        text.now (Some result) }
     ensures few { SaysFew text.now path.new (Some result) }
 {
     let field = match parse(alloc, seed, Dialect::Rfc9651, Kind::List, text, refusal) {
@@ -94,11 +136,7 @@ fn path_of(
         return Status::OutOfMemory;
     };
     hops_are_few();
-    let served = caches.served_by();
-    path.hops = flat.count();
-    path.bytes = flat.size();
-    path.served = served.unwrap_or(0);
-    path.is_served = u32::from(served.is_some());
+    path.set(flat.count(), flat.size(), caches.served_by());
     if hops.len() < path.hops {
         return Status::Short;
     }

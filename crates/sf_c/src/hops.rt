@@ -107,8 +107,10 @@ impl FlatPath {
     pub(crate) fn write(&self, hops: &mut [HopNode], bytes: &mut [u8])
         requires hops { length self.now ≤ length hops.old }
         requires bytes { hops_size self.now ≤ length bytes.old }
-        // the starts of the buffers describe the hops, and what is after them is left as it was
-        ensures { HopsAtFront self.now hops.old hops.new bytes.old bytes.new }
+        ensures same_hops { length hops.new ≡ length hops.old }
+        ensures same_bytes { length bytes.new ≡ length bytes.old }
+        // the starts of the buffers describe the hops
+        ensures front { HopsAtFront self.now hops.new bytes.new }
     {
         put(hops, 0, self.hops.as_slice());
         put(bytes, 0, self.bytes.as_slice());

@@ -15,6 +15,7 @@ mod canonical_text;
 mod check;
 mod decoding;
 mod find;
+mod hop_scan;
 mod hop_text;
 mod hops;
 mod joining;

@@ -1,5 +1,6 @@
 //! A range of the caller's bytes.
-ghost use Rattle.std.specs.Prelude.{◌≡◌, MatchOption};
+ghost use Rattle.std.specs.Prelude.{◌≡◌, ◌<◌, ◌^◌, MatchOption};
+ghost use Rattle.sf_c.specs.Hops.{end_of};
 ghost use Rattle.sf_c.specs.Spans.{IsSpanWithin, span_bytes};
 
 /// A range of the caller's bytes. In C an `sf_span`.
@@ -13,6 +14,14 @@ pub struct Span {
 }
 
 impl Span {
+    /// Returns where the span ends.
+    pub(crate) fn end(&self) -> usize
+        requires { end_of self.now < 2 ^ 64 }
+        ensures { result ≡ end_of self.now }
+    {
+        self.at + self.length
+    }
+
     /// Returns the bytes of the span, or `None` if it is not within these.
     pub(crate) fn of<'a>(&self, bytes: &'a [u8]) -> Option<&'a [u8]>
         // The bytes are there, or the span is not within them.

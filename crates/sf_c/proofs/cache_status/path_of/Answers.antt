@@ -1,23 +1,8 @@
-use Rattle.sf_c.proofs.HopBound.{told_few}
+use Rattle.sf_c.proofs.ScannedPaths.{read_few}
 use Rattle.sf_c.proofs.cache_status.path_of.Goals as goal
 
-pub returns-then-hops-path-clause-few : goal.returns-then-hops-path-clause-few
-returns-then-hops-path-clause-few c =
-    told_few c.count-path.result c.size-path.result c.args.text.now c.in-Ok.field _ _
-    c.in-Ok-caches_in.caches c.count-path.ensures c.size-path.ensures c.in-Ok-flatten_hops.ensures
-    c.hops.ensures c.hops_are_few.ensures.hops c.hops_are_few.ensures.bytes
-    c.in-Ok.ensures.0.spelled c.in-Ok-caches_in.ensures.0
-
-pub returns-then-bytes-path-clause-few : goal.returns-then-bytes-path-clause-few
-returns-then-bytes-path-clause-few c =
-    told_few c.count-path.result c.size-path.result c.args.text.now c.in-Ok.field _ _
-    c.in-Ok-caches_in.caches c.count-path.ensures c.size-path.ensures c.in-Ok-flatten_hops.ensures
-    c.hops.ensures c.hops_are_few.ensures.hops c.hops_are_few.ensures.bytes
-    c.in-Ok.ensures.0.spelled c.in-Ok-caches_in.ensures.0
-
-pub returns-clause-few : goal.returns-clause-few
-returns-clause-few c =
-    told_few c.count-path.result c.size-path.result c.args.text.now c.in-Ok.field _ _
-    c.in-Ok-caches_in.caches c.count-path.ensures c.size-path.ensures c.in-Ok-flatten_hops.ensures
-    c.hops.ensures c.hops_are_few.ensures.hops c.hops_are_few.ensures.bytes
-    c.in-Ok.ensures.0.spelled c.in-Ok-caches_in.ensures.0
+pub returns-in-Some-clause-few : goal.returns-in-Some-clause-few
+returns-in-Some-clause-few c =
+    read_few c.args.text.now c.scan_hops.new.hops c.scan_hops.new.bytes c.in-Some.found
+    c.set.new.self c.args.path.now.nameless c.hops_are_few.ensures.hops
+    c.hops_are_few.ensures.bytes c.in-Some.ensures.read c.set.ensures

@@ -1,4 +1,4 @@
-use Rattle.std.proofs.Common.{◌≡◌, ◌+◌, ◌++◌, take, refl, sym, ap, subst, rules, arith}
+use Rattle.std.proofs.Common.{◌≡◌, ◌+◌, ◌++◌, take, sym, ap, subst, rules, arith}
 use Rattle.sf_c.specs.Decodings.{IsNodeDecoded}
 use Rattle.sf_c.proofs.DecodedNodes.{node_decoded}
 use Rattle.sf_c.proofs.decoding.decode_node.Goals as goal

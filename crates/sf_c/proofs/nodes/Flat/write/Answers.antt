@@ -1,4 +1,4 @@
-use Rattle.std.proofs.Common.{◌≡◌, ap, ◌∙◌, sym, map, rules, arith}
+use Rattle.std.proofs.Common.{◌≡◌, ap, ◌∙◌, map, rules, arith}
 use Rattle.sf_c.specs.Tellings.{told_by, told_size}
 use Rattle.sf_c.proofs.FlatNodes.{parts_small, written}
 use Rattle.sf_c.proofs.nodes.Flat.write.Goals as goal

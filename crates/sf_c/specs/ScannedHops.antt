@@ -1,0 +1,76 @@
+-- Hops that are read from the text of a field into the caller's buffers.
+use Rattle.std.specs.Prelude.{◌≡◌, ℕ, pos, ◌+◌, ◌*◌, Bool, true, false, List as Seq, [], length}
+use Rattle.std.specs.Prelude.{map, take, is_some, unwrap_or, Ok}
+use Rattle.std.specs.Option.{option_and, option_copied, option_map}
+use Rattle.sf_value.specs.declared.dialect.Dialect.TheVariants.{Rfc9651}
+use Rattle.sf_value.specs.declared.value.Field.{Field}
+use Rattle.sf_value.specs.declared.value.Kind.TheVariants.{List}
+use Rattle.sf_parse.specs.Parsers.{IsOnly}
+use Rattle.sf_use.specs.declared.cache_status.hop.Hop.{Hop}
+use Rattle.sf_use.specs.declared.cache_status.view.NameView.{NameView}
+use Rattle.sf_use.specs.declared.cache_status.view.NameView.TheVariants as view_is
+use Rattle.sf_use.specs.declared.cache_status.view.HopView.{HopView}
+use Rattle.sf_use.specs.CacheStatus.Hops.{hops, status_of}
+use Rattle.sf_use.specs.CacheStatus.Members.{passed_by}
+use Rattle.sf_use.specs.CacheStatus.Reasons.{forward_of}
+use Rattle.sf_use.specs.CacheStatus.Served.{served}
+use Rattle.sf_c.specs.declared.hop_scan.PathSizes.{PathSizes}
+use Rattle.sf_c.specs.declared.hops.HopNode.{HopNode}
+use Rattle.sf_c.specs.declared.span.Span.{Span}
+use Rattle.sf_c.specs.Hops.{bytes_of, detail_bytes, end_of, hops_size, reason_number, says_by, says_of}
+use Rattle.sf_c.specs.Hops.{told_hop, why_token, HopSays, HopsAtFront, PutsSpan}
+use Rattle.sf_c.specs.Refusals.{flag_number}
+
+-- whether a name that is borrowed is a Token
+abbrev pub is_token_view : NameView → Bool
+is_token_view (view_is.Text s) = false
+is_token_view (view_is.Token s) = true
+
+-- the number of the reason that a token stands for
+abbrev pub token_number : Seq ℕ → ℕ
+token_number token = reason_number (forward_of token)
+
+-- the numbers of a hop that is borrowed
+abbrev pub says_in : HopView → HopSays
+says_in v = record {
+  outcome = flag_number (unwrap_or v.params.hit false) + 2 * flag_number (is_some v.params.fwd);
+  why = unwrap_or (option_map token_number (option_copied v.params.fwd)) 0;
+  status = unwrap_or (status_of (option_and v.params.fwd v.params.fwd_status)) 0;
+  has_status = flag_number (is_some (status_of (option_and v.params.fwd v.params.fwd_status)));
+  stored = flag_number (unwrap_or (option_and v.params.fwd v.params.stored) false);
+  has_stored = flag_number (is_some (option_and v.params.fwd v.params.stored));
+  collapsed = flag_number (unwrap_or (option_and v.params.fwd v.params.collapsed) false);
+  has_collapsed = flag_number (is_some (option_and v.params.fwd v.params.collapsed));
+  ttl = unwrap_or v.params.ttl (pos 0);
+  has_ttl = flag_number (is_some v.params.ttl);
+  has_key = flag_number (is_some v.params.key);
+  has_detail = flag_number (is_some v.params.detail);
+  name_is_token = flag_number (is_token_view v.name);
+  detail_is_token = flag_number (unwrap_or (option_map is_token_view v.params.detail) false);
+}
+
+-- the text is after the first bytes of the buffer, of which so many were used
+abbrev pub PutsBehind : Seq ℕ → Seq ℕ → ℕ → Seq ℕ → Span → Type 0
+PutsBehind old new used text p = PutsSpan (take used old) (take (end_of p) new) text p
+
+-- so are the four texts of a hop, one after another, and the struct describes the hop
+pub record IsHopPut (old new : Seq ℕ) (used : ℕ) (n : HopNode) (h : Hop) : Type 0 where
+  pub with_name : Seq ℕ
+  pub with_why : Seq ℕ
+  pub with_key : Seq ℕ
+  pub name : PutsSpan (take used old) with_name (bytes_of h.name) n.name
+  pub why : PutsSpan with_name with_why (why_token (passed_by h.outcome)) n.why_token
+  pub key : PutsSpan with_why with_key (unwrap_or h.key []) n.key
+  pub detail : PutsSpan with_key (take (end_of n.detail) new) (detail_bytes h.detail) n.detail
+  pub says : says_by n ≡ says_of h
+
+-- the text spells a List, and no other value, and the starts of the buffers describe its hops
+pub record IsPathOf (t : Seq ℕ) (nodes : Seq HopNode) (bytes : Seq ℕ) (s : PathSizes) : Type 0 where
+  pub value : Field
+  pub path : Seq Hop
+  pub only : IsOnly Rfc9651 List t value
+  pub means : hops value ≡ Ok path
+  pub count : s.hops ≡ length path
+  pub size : s.bytes ≡ hops_size (map told_hop path)
+  pub place : s.served ≡ served path
+  pub front : HopsAtFront (map told_hop path) nodes bytes

@@ -1,0 +1,253 @@
+//! The hops of a Cache-Status field, read from its text in one pass into the caller's buffers.
+ghost use Rattle.std.specs.Prelude.{◌≡◌, ◌≢◌, ◌≤◌, ℕ, List, [], length, unwrap_or};
+ghost use Rattle.std.specs.Prelude.{Option as Maybe, Some, IfSome};
+ghost use Rattle.std.specs.Option.{option_copied, option_map};
+ghost use Rattle.sf_value.specs.declared.dialect.Dialect.{Dialect as Which};
+ghost use Rattle.sf_view.specs.Decoding.{HasBytes};
+ghost use Rattle.sf_view.specs.Reads.{ShowsText};
+ghost use Rattle.sf_use.specs.declared.cache_status.hop.Hop.{Hop};
+ghost use Rattle.sf_use.specs.declared.cache_status.hop.Name.{Name};
+ghost use Rattle.sf_use.specs.CacheStatus.Hops.{status_of as status_in};
+ghost use Rattle.sf_use.specs.CacheStatus.Views.{BorrowsName, ShowsHop, ShowsName};
+ghost use Rattle.sf_c.specs.Hops.{bytes_of, detail_bytes, end_of, says_by};
+ghost use Rattle.sf_c.specs.ScannedHops.{IsHopPut, IsPathOf, PutsBehind};
+ghost use Rattle.sf_c.specs.ScannedHops.{is_token_view, says_in, token_number};
+
+use crate::buffer::put;
+use crate::hops::HopNode;
+use crate::span::Span;
+use sf_use::{HopCursor, HopStatus, HopView, NameView};
+use sf_view::Slice;
+
+/// How many hops and bytes were read, and which hop the response came from.
+#[derive(Clone, Copy, Debug, Drop)]
+pub(crate) struct PathSizes {
+    /// How many hops.
+    pub(crate) hops: usize,
+    /// How many bytes they have.
+    pub(crate) bytes: usize,
+    /// The place of the hop that the response came from.
+    pub(crate) served: Option<usize>,
+}
+
+/// The bytes of what is not said.
+const NO_BYTES: Slice = Slice {
+    bytes: b"",
+    coded: false,
+};
+
+/// Reads the hops of a text into the buffers; `None` says nothing.
+pub(crate) fn scan_hops(text: &[u8], hops: &mut [HopNode], bytes: &mut [u8]) -> Option<PathSizes>
+    ensures same_hops { length hops.new ≡ length hops.old }
+    ensures same_bytes { length bytes.new ≡ length bytes.old }
+    // The text spells a List, and the starts of the buffers describe its hops.
+    ensures read { IfSome result (IsPathOf text.now hops.new bytes.new) }
+{
+    let mut cursor = HopCursor::new(text);
+    let mut count = 0;
+    let mut used = 0;
+    let mut served = None;
+    while let Some(hop) = cursor.next()? {
+        if count >= hops.len() {
+            return None;
+        }
+        let node = put_hop(hop, bytes, used)?;
+        served = last_hit(served, count, node.outcome);
+        hops[count] = node;
+        used = node.detail.end();
+        count += 1;
+    }
+    Some(PathSizes {
+        hops: count,
+        bytes: used,
+        served,
+    })
+}
+
+/// The place of the last hit, after a hop at this place with this outcome.
+#[inline]
+fn last_hit(last: Option<usize>, place: usize, outcome: u16) -> Option<usize>
+    ensures hit { outcome ≡ 1 → result ≡ Some place }
+    ensures other { outcome ≢ 1 → result ≡ last }
+{
+    if outcome == 1 { Some(place) } else { last }
+}
+
+/// Puts the bytes of a hop after so many of the buffer; `None` if it is too small.
+fn put_hop(hop: HopView, bytes: &mut [u8], used: usize) -> Option<HopNode>
+    requires used { used ≤ length bytes.old }
+    ensures same { length bytes.new ≡ length bytes.old }
+    ensures within { IfSome result (λ node. end_of node.detail ≤ length bytes.new) }
+    // Whatever hop is borrowed, the struct describes it.
+    ensures put { IfSome result (λ node. (h : Hop) → ShowsHop hop.entry h
+        → IsHopPut bytes.old bytes.new used node h) }
+{
+    let params = hop.params;
+    let name = put_slice(name_slice(hop.name), bytes, used)?;
+    let why_token = put_slice(token_slice(params.fwd), bytes, name.end())?;
+    let key = put_slice(text_slice(params.key), bytes, why_token.end())?;
+    let detail = put_slice(detail_slice(params.detail), bytes, key.end())?;
+    Some(node_of(hop, name, why_token, key, detail))
+}
+
+/// Puts the bytes of a slice, decoded if they are coded, after so many of the buffer; `None` if it
+/// is too small.
+fn put_slice(slice: Slice, bytes: &mut [u8], used: usize) -> Option<Span>
+    requires used { used ≤ length bytes.old }
+    ensures same { length bytes.new ≡ length bytes.old }
+    ensures within { IfSome result (λ span. end_of span ≤ length bytes.new) }
+    // Whatever bytes the slice is of, they are after those that were used.
+    ensures put { IfSome result (λ span. (d : Which) (t : List ℕ) → HasBytes d slice.entry t
+        → PutsBehind bytes.old bytes.new used t span) }
+{
+    if slice.coded {
+        let (_, free) = bytes.split_at_mut(used);
+        let length = slice.decode_to(free)?;
+        return Some(Span { at: used, length });
+    }
+    let length = slice.bytes.len();
+    if length > bytes.len() - used {
+        return None;
+    }
+    put(bytes, used, slice.bytes);
+    Some(Span { at: used, length })
+}
+
+/// The bytes of a name.
+#[inline]
+fn name_slice(name: NameView) -> Slice
+    ensures { (d : Which) (n : Name) → BorrowsName d name.entry n → HasBytes d result (bytes_of n) }
+{
+    match name {
+        NameView::Text(slice) => return slice,
+        NameView::Token(bytes) => return Slice {
+            bytes,
+            coded: false,
+        },
+    }
+}
+
+/// The bytes of a detail; none if it is not said.
+#[inline]
+fn detail_slice(detail: Option<NameView>) -> Slice
+    ensures { (d : Which) (n : Maybe Name) → ShowsName d detail.entry n
+        → HasBytes d result (detail_bytes n) }
+{
+    match detail {
+        Some(name) => return name_slice(name),
+        None => return NO_BYTES,
+    }
+}
+
+/// The bytes of a String; none if it is not said.
+#[inline]
+fn text_slice(text: Option<Slice>) -> Slice
+    ensures { (d : Which) (t : Maybe (List ℕ)) → ShowsText d text.entry t
+        → HasBytes d result (unwrap_or t []) }
+{
+    match text {
+        Some(slice) => return slice,
+        None => return NO_BYTES,
+    }
+}
+
+/// The bytes of a token; none if it is not said.
+#[inline]
+fn token_slice(token: Option<&[u8]>) -> Slice
+    ensures { (d : Which) → HasBytes d result (unwrap_or (option_copied token.entry) []) }
+{
+    match token {
+        Some(bytes) => return Slice {
+            bytes,
+            coded: false,
+        },
+        None => return NO_BYTES,
+    }
+}
+
+/// The struct of a hop whose bytes are in these spans.
+fn node_of(hop: HopView, name: Span, why_token: Span, key: Span, detail: Span) -> HopNode
+    ensures name { result.name ≡ name }
+    ensures why_token { result.why_token ≡ why_token }
+    ensures key { result.key ≡ key }
+    ensures detail { result.detail ≡ detail }
+    ensures says { says_by result ≡ says_in hop.entry }
+{
+    let params = hop.params;
+    let status = status_of(params.fwd.and(params.fwd_status));
+    let stored = params.fwd.and(params.stored);
+    let collapsed = params.fwd.and(params.collapsed);
+    let is_hit = params.hit.unwrap_or(false);
+    HopNode {
+        name,
+        why_token,
+        key,
+        detail,
+        ttl: params.ttl.unwrap_or(0),
+        outcome: u16::from(is_hit) + 2 * u16::from(params.fwd.is_some()),
+        why: why_number(params.fwd),
+        status: status.unwrap_or(0),
+        has_status: u8::from(status.is_some()),
+        stored: u8::from(stored.unwrap_or(false)),
+        has_stored: u8::from(stored.is_some()),
+        collapsed: u8::from(collapsed.unwrap_or(false)),
+        has_collapsed: u8::from(collapsed.is_some()),
+        has_ttl: u8::from(params.ttl.is_some()),
+        has_key: u8::from(params.key.is_some()),
+        has_detail: u8::from(params.detail.is_some()),
+        name_is_token: u8::from(is_token(hop.name)),
+        detail_is_token: u8::from(params.detail.is_some_and(|detail| is_token(detail))),
+    }
+}
+
+/// Whether a name is a Token.
+#[inline]
+fn is_token(name: NameView) -> bool
+    ensures { result ≡ is_token_view name.entry }
+{
+    matches!(name, NameView::Token(_))
+}
+
+/// A number as a status code, if it has three digits.
+#[inline]
+fn status_of(number: Option<i64>) -> Option<u16>
+    ensures { result ≡ status_in number }
+{
+    let code = u16::try_from(number?).ok()?;
+    Some(HopStatus::new(code).ok()?.get())
+}
+
+/// The number of the reason of a token; 0 if it is not said.
+fn why_number(token: Option<&[u8]>) -> u16
+    ensures { result ≡ unwrap_or (option_map token_number (option_copied token.entry)) 0 }
+{
+    match token {
+        Some(token) => return reason_number(token),
+        None => return 0,
+    }
+}
+
+/// The number of the reason of a token, from 1 on.
+fn reason_number(token: &[u8]) -> u16
+    ensures { result ≡ token_number token.now }
+{
+    if token == b"bypass".as_slice() {
+        1
+    } else if token == b"method".as_slice() {
+        2
+    } else if token == b"uri-miss".as_slice() {
+        3
+    } else if token == b"vary-miss".as_slice() {
+        4
+    } else if token == b"miss".as_slice() {
+        5
+    } else if token == b"request".as_slice() {
+        6
+    } else if token == b"stale".as_slice() {
+        7
+    } else if token == b"partial".as_slice() {
+        8
+    } else {
+        9
+    }
+}
