@@ -381,6 +381,54 @@ uint32_t sf_write(const sf_seed *seed, uint32_t dialect, uint32_t kind, const sf
                   size_t *invalid);
 
 /*
+ * Changes the bare item of a node to an Integer, Decimal, Boolean or Date of this number. Its key
+ * and its parameters stay. So a parameter of the member nodes[i] is changed where it is, and the
+ * field can then be written by sf_write:
+ *
+ *   size_t at;
+ *   if (sf_find(nodes + i, nodes[i].size, text, text_length, bytes, sizes.bytes, SF_PARAMETER,
+ *               "created", 7, &at) == SF_OK)
+ *     sf_set_number(&nodes[i + at], SF_INTEGER, 1);
+ *
+ * The type and the number are not checked here, but by sf_write. Returns nothing.
+ */
+static inline void sf_set_number(sf_node *node, uint32_t type, int64_t number) {
+  node->number = number;
+  node->text_length = 0;
+  node->type = (uint8_t)type;
+  node->coded = 0;
+}
+
+/*
+ * Changes the bare item of a node that sf_parse wrote to a String, Token, Byte Sequence or Display
+ * String of these bytes, likewise. They are copied behind the first sizes->bytes bytes of the
+ * buffer bytes of that call, and counted in sizes->bytes.
+ *
+ *   SF_OK        it is changed
+ *   SF_SHORT     bytes has to be sizes->bytes + length bytes long
+ *   SF_TOO_LONG  an offset would be 4 GiB or more
+ *
+ * Unless SF_OK is returned, everything is unchanged.
+ */
+static inline uint32_t sf_set_bytes(sf_node *node, uint32_t type, const void *value, size_t length,
+                                    size_t text_length, void *bytes, size_t bytes_capacity,
+                                    sf_sizes *sizes) {
+  if (sizes->bytes > bytes_capacity || length > bytes_capacity - sizes->bytes)
+    return SF_SHORT;
+  if (text_length > UINT32_MAX || sizes->bytes + length > UINT32_MAX - text_length)
+    return SF_TOO_LONG;
+  if (length > 0)
+    memcpy((char *)bytes + sizes->bytes, value, length);
+  node->number = 0;
+  node->text_at = (uint32_t)(text_length + sizes->bytes);
+  node->text_length = (uint32_t)length;
+  node->type = (uint8_t)type;
+  node->coded = 0;
+  sizes->bytes += length;
+  return SF_OK;
+}
+
+/*
  * Builders make the nodes of a field that was not parsed, in two buffers of the caller's, and keep
  * the sizes and offsets. These are the nodes of a Dictionary, and its text:
  *
@@ -486,7 +534,8 @@ static inline void sf_put_node(sf_builder *builder, uint32_t role, uint32_t type
 /*
  * Puts a bare item with all that may be set, for keys and texts without a NUL at their end. The
  * functions below call it. The number counts for an Integer, Decimal, Boolean or Date, and the text
- * for the other types; of a type that is not that of a bare item, sf_write refuses the node.
+ * for the other types; what has none of these types, sf_write refuses. sf_begin begins an Inner
+ * List.
  *
  * It is a member of the field, or an Item of the Inner List that is open. The key is that of a
  * member of a Dictionary; for an Item, a member of a List, and an Item of an Inner List, key_length
@@ -513,27 +562,34 @@ static inline void sf_param(sf_builder *builder, const void *key, size_t key_len
               text, text_length);
 }
 
-/* The length of a text that ends with a NUL; 0 if it is NULL. */
-static inline size_t sf_length(const char *text) { return text == NULL ? 0 : strlen(text); }
-
 /*
  * Begins an Inner List, which is a member of the field. What is put until sf_end_inner_list are its
  * Items and their parameters; the parameters that are put after the end, and before the next Item
- * or Inner List, are its own.
- *
- * Here and below, keys and texts end with a NUL, and key is NULL but for a member of a Dictionary
- * and for a parameter.
+ * or Inner List, are its own. The key needs no NUL at its end; key_length is 0 in a List.
  */
-static inline void sf_begin_inner_list(sf_builder *builder, const char *key) {
+static inline void sf_begin(sf_builder *builder, const void *key, size_t key_length) {
   if (builder->status != SF_OK)
     return;
   if (builder->is_open) {
     builder->status = SF_BAD_CALL;
     return;
   }
-  sf_put(builder, key, sf_length(key), SF_INNER_LIST, 0, NULL, 0);
+  sf_put(builder, key, key_length, SF_INNER_LIST, 0, NULL, 0);
   builder->inner_list = builder->last;
   builder->is_open = builder->status == SF_OK;
+}
+
+/* The length of a text that ends with a NUL; 0 if it is NULL. */
+static inline size_t sf_length(const char *text) { return text == NULL ? 0 : strlen(text); }
+
+/*
+ * Begins an Inner List, likewise.
+ *
+ * Here and below, keys and texts end with a NUL, and key is NULL but for a member of a Dictionary
+ * and for a parameter.
+ */
+static inline void sf_begin_inner_list(sf_builder *builder, const char *key) {
+  sf_begin(builder, key, sf_length(key));
 }
 
 /* Ends the Inner List that is open. */
@@ -630,7 +686,8 @@ static inline void sf_param_display_string(sf_builder *builder, const char *key,
  *   for (const sf_node *node = nodes; node < nodes + sizes.nodes; node += node->size)
  *     sf_put_copy(&field, node, text, text_length, bytes);
  *
- * An Item becomes a member, or an Item of the Inner List that is open, wherever it was.
+ * An Item becomes a member, or an Item of the Inner List that is open, wherever it was. A member
+ * keeps its key, and an Item of an Inner List has none.
  */
 static inline void sf_put_copy(sf_builder *builder, const sf_node *node, const void *text,
                                size_t text_length, const void *bytes) {
@@ -639,21 +696,18 @@ static inline void sf_put_copy(sf_builder *builder, const sf_node *node, const v
     const sf_node *one = node + i;
     const char *key = sf_key(one, text, text_length, bytes);
     const char *its_bytes = sf_bytes(one, text, text_length, bytes);
+    int is_param = one->role == SF_PARAMETER || one->role == SF_INNER_PARAMETER;
+    uint32_t key_length = was_open && !is_param ? 0 : one->key_length;
     if (one->role == SF_INNER_PARAMETER && builder->is_open && !was_open)
       sf_end_inner_list(builder);
-    if (one->type == SF_INNER_LIST && was_open)
-      builder->status = SF_BAD_CALL;
-    else if (one->role == SF_PARAMETER || one->role == SF_INNER_PARAMETER)
-      sf_param(builder, key, one->key_length, one->type, one->number, its_bytes, one->text_length);
+    if (is_param)
+      sf_param(builder, key, key_length, one->type, one->number, its_bytes, one->text_length);
+    else if (one->type == SF_INNER_LIST)
+      sf_begin(builder, key, key_length);
     else
-      sf_put(builder, key, one->key_length, one->type, one->number, its_bytes, one->text_length);
-    if (builder->status != SF_OK)
-      return;
-    builder->nodes[builder->nodes_length - 1].coded = one->coded;
-    if (one->type == SF_INNER_LIST) {
-      builder->inner_list = builder->last;
-      builder->is_open = 1;
-    }
+      sf_put(builder, key, key_length, one->type, one->number, its_bytes, one->text_length);
+    if (builder->status == SF_OK)
+      builder->nodes[builder->nodes_length - 1].coded = one->coded;
   }
   if (builder->is_open && !was_open)
     sf_end_inner_list(builder);
@@ -680,6 +734,10 @@ typedef struct sf_priority_flags {
   uint8_t has_urgency;      /* 1 if the field sets the urgency, otherwise 0 */
   uint8_t has_incremental;  /* 1 if the field sets incremental, otherwise 0 */
 } sf_priority_flags;
+
+/* What a field that is absent or malformed says, to begin with: sf_priority_flags priority =
+ * SF_PRIORITY_UNSET; */
+#define SF_PRIORITY_UNSET {SF_URGENCY_DEFAULT, 0, 0, 0}
 
 /*
  * Reads the text of a Priority field (RFC 9218 section 5). Members that are unknown, of another

@@ -78,7 +78,7 @@ int main(void) {
   read_fields(stdin);
 
   /* The priority. A field that is malformed or absent sets nothing. */
-  sf_priority_flags set[2] = {{SF_URGENCY_DEFAULT, 0, 0, 0}, {SF_URGENCY_DEFAULT, 0, 0, 0}};
+  sf_priority_flags set[2] = {SF_PRIORITY_UNSET, SF_PRIORITY_UNSET};
   for (int i = ASKED; i <= ANSWERED; ++i)
     if (sf_priority(&seed, fields[i].text, fields[i].joined.length, &set[i], &refusal) == SF_NO_MEMORY)
       give_up("out of memory");
