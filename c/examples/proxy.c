@@ -124,6 +124,8 @@ int main(void) {
                 .ttl = (int64_t)seconds, .has_ttl = (uint8_t)has_ttl};
   if (sf_hop_text(&seed, &hop, name_here, sizeof name_here, text, sizeof text, &length) != SF_OK)
     give_up("out of memory");
+  if (fields[PATH].joined.length == 0) /* lines that are empty; a comma after them would be malformed */
+    fields[PATH].joined.begun = 0;
   add_line(&fields[PATH], text, length);
   printf("Cache-Status: %.*s\n", (int)fields[PATH].joined.length, fields[PATH].text);
   return fflush(stdout) != 0 || ferror(stdout) ? 3 : 0;
