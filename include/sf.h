@@ -691,8 +691,8 @@ static inline void sf_param_display_string(sf_builder *builder, const char *key,
  */
 static inline void sf_put_copy(sf_builder *builder, const sf_node *node, const void *text,
                                size_t text_length, const void *bytes) {
-  uint32_t was_open = builder->is_open;
-  for (uint32_t i = 0; i < node->size && builder->status == SF_OK; ++i) {
+  uint32_t was_open = builder->is_open, i;
+  for (i = 0; i < node->size && builder->status == SF_OK; ++i) {
     const sf_node *one = node + i;
     const char *key = sf_key(one, text, text_length, bytes);
     const char *its_bytes = sf_bytes(one, text, text_length, bytes);
