@@ -20,10 +20,11 @@
  * inline functions, those that say otherwise; a dialect is an sf_dialect, and a kind is an sf_kind.
  * All are passed as integers of a fixed width, since the width of an enum is not fixed, and since
  * any number may be passed. The constants for kinds, dialects, roles and types all differ, and none
- * is 0: an argument in the place of another is SF_BAD_CALL.
+ * is 0: if a kind is passed as the dialect, or a dialect as the kind, the call returns SF_BAD_CALL.
  *
- * Bytes are octets, and texts are not NUL-terminated, except what some inline functions put to an
- * sf_builder. Offsets are in bytes and begin at 0. The library requires a size_t of 64 bits.
+ * Bytes are octets, and texts are not NUL-terminated, except those passed to some of the inline
+ * functions of sf_builder. Offsets are in bytes and begin at 0. The library requires a size_t of 64
+ * bits.
  */
 #ifndef SF_H
 #define SF_H
@@ -75,7 +76,7 @@ typedef enum sf_status {
   SF_EMPTY = 5,          /* the field has no members; of sf_select, every field is ignored */
   SF_BAD_CALL = 6,       /* no such kind or dialect, or a length or range past its buffer */
   SF_NOT_A_CACHE = 7,    /* a member of a Cache-Status List does not name a cache */
-  SF_INVALID = 8,        /* what is to be written is not a value */
+  SF_INVALID = 8,        /* the nodes or the hop to be written are not valid */
   SF_ABSENT = 9,         /* no node has the key */
   SF_TOO_LONG = 10       /* the text has 4 GiB or more, or an offset would have to be that large */
 } sf_status;
@@ -260,9 +261,9 @@ typedef enum sf_type {
  * followed by its parameters; an Inner List is one node, followed by its Items, each with its
  * parameters, and then by its own parameters.
  *
- * An offset counts on from the text that was parsed into the caller's buffer bytes: if it is less
- * than text_length, it is one in the text; from text_length on, offset - text_length is one in
- * bytes. sf_key and sf_bytes return the pointers.
+ * An offset below text_length, the length of the text that was parsed, is one in that text; for any
+ * other, offset - text_length is one in the caller's buffer bytes. sf_key and sf_bytes return the
+ * pointers.
  */
 typedef struct sf_node {
   int64_t number;       /* value of an Integer, Decimal, Boolean or Date; otherwise 0 */
@@ -270,11 +271,11 @@ typedef struct sf_node {
   uint32_t key_length;  /* length of the key; 0 without a key */
   uint32_t text_at;     /* offset of the bytes of a String, Token, Byte Sequence or Display String */
   uint32_t text_length; /* their length; 0 for other types */
-  uint32_t size;        /* number of nodes in the subtree of this node, itself included: that many
-                           on is its next sibling or, after the last, the end of its parent */
+  uint32_t size;        /* number of nodes in the subtree of this node, itself included: node + size
+                           is its next sibling or, after the last, the end of its parent */
   uint8_t type;         /* an sf_type */
   uint8_t role;         /* an sf_role */
-  uint8_t coded;        /* 0 in what sf_parse writes; what 1 means, sf_write says */
+  uint8_t coded;        /* 0 in nodes that sf_parse writes; sf_write documents 1 */
 } sf_node;
 
 /* Returns a pointer to the key of a node, which has key_length bytes. The text and bytes are those
@@ -287,8 +288,9 @@ static inline const char *sf_key(const sf_node *node, const void *text, size_t t
                                     : (const char *)bytes + (node->key_at - text_length);
 }
 
-/* Returns a pointer to the bytes of a String, Token, Byte Sequence or Display String, text_length
- * of the node many. The text and bytes are those of the call of sf_parse that wrote the node. */
+/* Returns a pointer to the bytes of a String, Token, Byte Sequence or Display String, which has
+ * node->text_length bytes. The text and bytes are those of the call of sf_parse that wrote the
+ * node. */
 static inline const char *sf_bytes(const sf_node *node, const void *text, size_t text_length,
                                    const void *bytes) {
   if (node->text_length == 0)
@@ -317,21 +319,21 @@ typedef struct sf_sizes {
  *
  *   SF_OK         the first sizes->nodes nodes are the value, with the text and the first
  *                 sizes->bytes bytes, to which they point
- *   SF_SHORT      the value has sizes->nodes nodes and, at most, requires sizes->bytes bytes, and
- *                 one of the two buffers is smaller; buffers of these sizes are large enough
+ *   SF_SHORT      the value has sizes->nodes nodes and requires at most sizes->bytes bytes, and one
+ *                 of the two buffers is smaller; buffers of these sizes are large enough
  *   SF_REFUSED    the text is malformed; refusal says where and why
- *   SF_TOO_LONG   text_length is 4 GiB or more, or with the required bytes it would be
+ *   SF_TOO_LONG   text_length, or text_length plus the required bytes, is 4 GiB or more
  *   SF_NO_MEMORY, SF_BAD_CALL
  *
- * Keys and bytes stay in the text where they can; only Strings with escapes, Byte Sequences and
- * Display Strings are decoded into bytes. If a key is repeated, and rarely otherwise, all keys and
- * bytes are copied there. The nodes are valid as long as the text and bytes are. Buffers of
+ * Nodes point to keys and bytes in the text; only Strings with escapes, Byte Sequences and Display
+ * Strings are decoded into bytes. If a key is repeated, and rarely otherwise, all keys and bytes
+ * are copied there. The nodes are valid as long as the text and bytes are. Buffers of
  * SF_NODES_SIZE(text_length) nodes and SF_BYTES_SIZE(text_length) bytes are always large enough. If
  * the text is well-formed and the buffers are large enough, the call allocates only if keys are
  * copied.
  *
- * Unless SF_OK is returned, the contents of nodes and bytes are unspecified, and so are those of
- * the other nodes and bytes if it is. Unless SF_OK or SF_SHORT is returned, sizes is unchanged.
+ * After SF_OK, the contents of the nodes and bytes beyond these sizes are unspecified; after any
+ * other status, those of all are. Unless SF_OK or SF_SHORT is returned, *sizes is unchanged.
  */
 uint32_t sf_parse(const sf_seed *seed, uint32_t dialect, uint32_t kind, const void *text,
                   size_t text_length, sf_node *nodes, size_t nodes_capacity, void *bytes,
@@ -347,8 +349,8 @@ uint32_t sf_parse(const sf_seed *seed, uint32_t dialect, uint32_t kind, const vo
  *   SF_OK      it is nodes[*index]
  *   SF_ABSENT  there is none; *index is unchanged
  *
- * The nodes may be any; one whose key is not all in the text_length bytes of the text, or all in
- * the bytes_length bytes after it, is not found. The call takes time in proportion to nodes_length.
+ * Any nodes may be passed. A node whose key is neither within the text_length bytes of the text nor
+ * within the bytes_length bytes after it is not found. The time is proportional to nodes_length.
  * Does not allocate.
  */
 uint32_t sf_find(const sf_node *nodes, size_t nodes_length, const void *text, size_t text_length,
@@ -364,16 +366,19 @@ uint32_t sf_find(const sf_node *nodes, size_t nodes_length, const void *text, si
  *   SF_OK       the first *required bytes of buffer are the text; the others are unchanged
  *   SF_SHORT    the text has *required bytes, more than buffer_length; buffer is unchanged
  *   SF_INVALID  the nodes do not describe a valid field of this kind and dialect; *invalid is the
- *               index of the first that is wrong, whatever comes after it, or 0 if there are none
+ *               index of the first node that is wrong, whatever comes after it, or 0 if
+ *               nodes_length is 0
  *   SF_NO_MEMORY, SF_BAD_CALL
  *
  * Unless SF_OK or SF_SHORT is returned, buffer and *required are unchanged; unless SF_INVALID is
- * returned, *invalid is. The text is accepted as the field that was written, by sf_check and the
- * others. Nodes are in the order of sf_parse: each with the role and the type of its part; as size
- * the number of nodes of the part; a key that is valid and occurs once among its siblings, or a
- * key_length of 0 where there is none; and a number or bytes: the other is 0 or empty. Bytes are as
- * they are in the value, with coded 0; or the text of the bare item as it is in a field, with its
- * quotes or colons, with coded 1.
+ * returned, *invalid is. The other functions accept the text as the field that was written.
+ *
+ * Nodes are in the order of sf_parse. Each has the role and the type of its part, and as size the
+ * number of nodes of the part. It has a key that is valid and occurs once among its siblings, or a
+ * key_length of 0 if the part has no key. It has a number or bytes, and the other is 0 or empty. If
+ * coded is 0, the bytes are those of the value; if it is 1, they are the text of the bare item in a
+ * field, with its quotes or colons. Offsets are at most text_length + bytes_length, also those of
+ * an empty key and of empty bytes.
  */
 uint32_t sf_write(const sf_seed *seed, uint32_t dialect, uint32_t kind, const sf_node *nodes,
                   size_t nodes_length, const void *text, size_t text_length, const void *bytes,
@@ -381,16 +386,16 @@ uint32_t sf_write(const sf_seed *seed, uint32_t dialect, uint32_t kind, const sf
                   size_t *invalid);
 
 /*
- * Changes the bare item of a node to an Integer, Decimal, Boolean or Date of this number. Its key
- * and its parameters stay. So a parameter of the member nodes[i] is changed where it is, and the
- * field can then be written by sf_write:
+ * Changes the bare item of a node to an Integer, Decimal, Boolean or Date with this number. Its key
+ * and its parameters stay. This changes a parameter of the member nodes[i], before the field is
+ * written by sf_write:
  *
  *   size_t at;
  *   if (sf_find(nodes + i, nodes[i].size, text, text_length, bytes, sizes.bytes, SF_PARAMETER,
  *               "created", 7, &at) == SF_OK)
  *     sf_set_number(&nodes[i + at], SF_INTEGER, 1);
  *
- * The type and the number are not checked here, but by sf_write. Returns nothing.
+ * sf_write checks the type and the number. Returns nothing.
  */
 static inline void sf_set_number(sf_node *node, uint32_t type, int64_t number) {
   node->number = number;
@@ -401,11 +406,12 @@ static inline void sf_set_number(sf_node *node, uint32_t type, int64_t number) {
 
 /*
  * Changes the bare item of a node that sf_parse wrote to a String, Token, Byte Sequence or Display
- * String of these bytes, likewise. They are copied behind the first sizes->bytes bytes of the
- * buffer bytes of that call, and counted in sizes->bytes.
+ * String with this value, likewise. The value is copied after the first sizes->bytes bytes of the
+ * buffer bytes of that call, and sizes->bytes is increased by its length. The text_length is that
+ * of the text that was parsed.
  *
- *   SF_OK        it is changed
- *   SF_SHORT     bytes has to be sizes->bytes + length bytes long
+ *   SF_OK        the node is changed
+ *   SF_SHORT     the buffer bytes is too small: sizes->bytes + length bytes are required
  *   SF_TOO_LONG  an offset would be 4 GiB or more
  *
  * Unless SF_OK is returned, everything is unchanged.
@@ -429,8 +435,8 @@ static inline uint32_t sf_set_bytes(sf_node *node, uint32_t type, const void *va
 }
 
 /*
- * Builders make the nodes of a field that was not parsed, in two buffers of the caller's, and keep
- * the sizes and offsets. These are the nodes of a Dictionary, and its text:
+ * A builder makes the nodes of a field in two of the caller's buffers, and keeps their sizes and
+ * offsets. These calls build a Dictionary and write its text:
  *
  *   sf_node nodes[8];
  *   char bytes[64], text[64];
@@ -446,9 +452,9 @@ static inline uint32_t sf_set_bytes(sf_node *node, uint32_t type, const void *va
  *       SF_OK) the text is sig1=("@method" "@path");created=1;keyid="k"
  *
  * A node is required for each Item, each Inner List and each parameter, and as many bytes as all
- * keys and bytes have. Both are copied, so a builder keeps no address of what it was given.
+ * keys and texts have. These are copied, so a builder keeps no pointer to its arguments.
  *
- * The calls with a builder return nothing. If one fails, builder->status says why, nothing is put,
+ * The calls with a builder return nothing. If one fails, it puts nothing, builder->status says why,
  * and later calls do nothing:
  *
  *   SF_SHORT     one of the two buffers is too small
@@ -456,9 +462,9 @@ static inline uint32_t sf_set_bytes(sf_node *node, uint32_t type, const void *va
  *                another, or an end without a beginning
  *   SF_TOO_LONG  the keys and bytes have 4 GiB or more
  *
- * Builders do not check what is put: sf_write does. It refuses a String that is none, a number out
- * of range, a key twice, or a List where a Dictionary is to be written. None of these functions
- * allocates, and none is in the library: all are inline.
+ * Builders do not check what is put: sf_write does. It refuses bytes that are not a String, a
+ * number out of range, a repeated key, or the nodes of a List if a Dictionary is to be written.
+ * These functions do not allocate, and are not in the library: all are inline.
  */
 typedef struct sf_builder {
   sf_node *nodes;        /* the first nodes_length are the nodes of what was put */
@@ -467,14 +473,14 @@ typedef struct sf_builder {
   char *bytes;           /* the first bytes_length are their keys and bytes */
   size_t bytes_length;
   size_t bytes_capacity;
-  size_t last;           /* index of the last Item or Inner List: parameters are put to this one */
+  size_t last;           /* index of the Item or Inner List to which parameters are put */
   size_t inner_list;     /* index of the Inner List that was begun last */
   uint32_t is_open;      /* 1 if it has not been ended, otherwise 0 */
-  uint32_t status;       /* SF_OK, or why the first call failed that did */
+  uint32_t status;       /* SF_OK, or the status of the first call that failed */
 } sf_builder;
 
-/* Returns a builder with these buffers, to which nothing was put. The buffers are the caller's for
- * as long as the builder is used; builders need not be freed. */
+/* Returns an empty builder with these buffers, which must be valid as long as the builder is used.
+ * A builder need not be freed. */
 static inline sf_builder sf_build(sf_node *nodes, size_t nodes_capacity, void *bytes,
                                   size_t bytes_capacity) {
   sf_builder builder;
@@ -532,14 +538,14 @@ static inline void sf_put_node(sf_builder *builder, uint32_t role, uint32_t type
 }
 
 /*
- * Puts a bare item with all that may be set, for keys and texts without a NUL at their end. The
- * functions below call it. The number counts for an Integer, Decimal, Boolean or Date, and the text
- * for the other types; what has none of these types, sf_write refuses. sf_begin begins an Inner
- * List.
+ * Puts a bare item of any type, with a key and a text of stated lengths. The functions below call
+ * it. An Integer, Decimal, Boolean or Date has a number and an empty text; the other types have a
+ * text and the number 0. SF_INNER_LIST puts an Inner List without Items; sf_begin begins one with
+ * Items. If it is no sf_type, sf_write refuses the node.
  *
- * It is a member of the field, or an Item of the Inner List that is open. The key is that of a
- * member of a Dictionary; for an Item, a member of a List, and an Item of an Inner List, key_length
- * is 0.
+ * If an Inner List is open, the item is one of its Items; otherwise it is a member of the field.
+ * The key is that of a member of a Dictionary; for an Item, a member of a List, and an Item of an
+ * Inner List, key_length is 0.
  */
 static inline void sf_put(sf_builder *builder, const void *key, size_t key_length, uint32_t type,
                           int64_t number, const void *text, size_t text_length) {
@@ -547,8 +553,8 @@ static inline void sf_put(sf_builder *builder, const void *key, size_t key_lengt
               text, text_length);
 }
 
-/* Puts a parameter, likewise: to the Item that was put last or, if an Inner List was ended since, to
- * that. */
+/* Puts a parameter, likewise. It belongs to the Item that was put last or, if an Inner List was
+ * ended since, to that Inner List. */
 static inline void sf_param(sf_builder *builder, const void *key, size_t key_length, uint32_t type,
                             int64_t number, const void *text, size_t text_length) {
   if (builder->status != SF_OK)
@@ -565,7 +571,7 @@ static inline void sf_param(sf_builder *builder, const void *key, size_t key_len
 /*
  * Begins an Inner List, which is a member of the field. What is put until sf_end_inner_list are its
  * Items and their parameters; the parameters that are put after the end, and before the next Item
- * or Inner List, are its own. The key needs no NUL at its end; key_length is 0 in a List.
+ * or Inner List, are its own. The key has a stated length, which is 0 in a List.
  */
 static inline void sf_begin(sf_builder *builder, const void *key, size_t key_length) {
   if (builder->status != SF_OK)
@@ -579,14 +585,14 @@ static inline void sf_begin(sf_builder *builder, const void *key, size_t key_len
   builder->is_open = builder->status == SF_OK;
 }
 
-/* The length of a text that ends with a NUL; 0 if it is NULL. */
+/* Returns the length of a text that ends with a NUL; 0 if it is NULL. */
 static inline size_t sf_length(const char *text) { return text == NULL ? 0 : strlen(text); }
 
 /*
  * Begins an Inner List, likewise.
  *
- * Here and below, keys and texts end with a NUL, and key is NULL but for a member of a Dictionary
- * and for a parameter.
+ * Here and below, keys and texts end with a NUL, and key is NULL except for members of a Dictionary
+ * and for parameters.
  */
 static inline void sf_begin_inner_list(sf_builder *builder, const char *key) {
   sf_begin(builder, key, sf_length(key));
@@ -607,7 +613,7 @@ static inline void sf_put_integer(sf_builder *builder, const char *key, int64_t 
   sf_put(builder, key, sf_length(key), SF_INTEGER, number, NULL, 0);
 }
 
-/* Puts a Decimal of so many thousandths. */
+/* Puts a Decimal, in thousandths. */
 static inline void sf_put_decimal(sf_builder *builder, const char *key, int64_t thousandths) {
   sf_put(builder, key, sf_length(key), SF_DECIMAL, thousandths, NULL, 0);
 }
@@ -638,12 +644,12 @@ static inline void sf_put_date(sf_builder *builder, const char *key, int64_t sec
   sf_put(builder, key, sf_length(key), SF_DATE, seconds, NULL, 0);
 }
 
-/* Puts a Display String of UTF-8. sf_put is for one with a NUL in it. */
+/* Puts a Display String, in UTF-8. For one with a NUL in it, call sf_put. */
 static inline void sf_put_display_string(sf_builder *builder, const char *key, const char *text) {
   sf_put(builder, key, sf_length(key), SF_DISPLAY_STRING, 0, text, sf_length(text));
 }
 
-/* Put a parameter, likewise. */
+/* These put a parameter, likewise. */
 static inline void sf_param_integer(sf_builder *builder, const char *key, int64_t number) {
   sf_param(builder, key, sf_length(key), SF_INTEGER, number, NULL, 0);
 }
@@ -680,8 +686,8 @@ static inline void sf_param_display_string(sf_builder *builder, const char *key,
 
 /*
  * Puts a copy of a part of a parsed value: of an Item or Inner List with its parameters, or of a
- * parameter. The node is one that sf_parse wrote, followed by those of its part, and the text and
- * the bytes are those of that call. So a field is changed by copying what stays, in order:
+ * parameter. The node is one that sf_parse wrote, followed by the others of its subtree, and the
+ * text and the bytes are those of that call. To change a field, copy what stays, in order:
  *
  *   for (const sf_node *node = nodes; node < nodes + sizes.nodes; node += node->size)
  *     sf_put_copy(&field, node, text, text_length, bytes);
@@ -735,8 +741,8 @@ typedef struct sf_priority_flags {
   uint8_t has_incremental;  /* 1 if the field sets incremental, otherwise 0 */
 } sf_priority_flags;
 
-/* What a field that is absent or malformed says, to begin with: sf_priority_flags priority =
- * SF_PRIORITY_UNSET; */
+/* Initialises the priority of a field that is absent or malformed, which sets nothing:
+ * sf_priority_flags priority = SF_PRIORITY_UNSET; */
 #define SF_PRIORITY_UNSET {SF_URGENCY_DEFAULT, 0, 0, 0}
 
 /*
@@ -747,8 +753,8 @@ typedef struct sf_priority_flags {
  *   SF_REFUSED    the text is not a well-formed Dictionary; refusal says where and why
  *   SF_NO_MEMORY
  *
- * Unless SF_OK is returned, *priority is unchanged. Does not allocate for a well-formed text of less
- * than 4 GiB.
+ * Unless SF_OK is returned, *priority is unchanged. Does not allocate for a well-formed text of
+ * less than 4 GiB.
  */
 uint32_t sf_priority(const sf_seed *seed, const void *text, size_t text_length,
                      sf_priority_flags *priority, sf_refusal *refusal);
@@ -825,7 +831,7 @@ typedef struct sf_policy {
 uint32_t sf_cache_control(const sf_seed *seed, const void *text, size_t text_length,
                           sf_policy *policy, sf_refusal *refusal);
 
-/* A range of bytes in a buffer of the caller's. */
+/* A range of bytes in one of the caller's buffers. */
 typedef struct sf_span {
   size_t at;     /* offset of its first byte */
   size_t length; /* number of bytes */
@@ -845,9 +851,9 @@ typedef struct sf_span {
  *                 fields before it are ignored
  *   SF_NO_MEMORY
  *
- * After SF_OK, the fields after fields[*index] don't count, and their ranges may be any. Unless
- * SF_OK is returned, *index and *policy are unchanged. sf_check says which of the ignored fields
- * are malformed, and where. Allocates only for fields that are malformed, or of 4 GiB or more.
+ * After SF_OK, the fields after fields[*index] and their ranges have no effect. Unless SF_OK is
+ * returned, *index and *policy are unchanged. sf_check returns which of the ignored fields are
+ * malformed, and where. Allocates only for fields that are malformed, or of 4 GiB or more.
  */
 uint32_t sf_select(const sf_seed *seed, const void *texts, size_t texts_length,
                    const sf_span *fields, size_t fields_length, size_t *index, sf_policy *policy);
@@ -964,31 +970,31 @@ uint32_t sf_cache_status(const sf_seed *seed, const void *text, size_t text_leng
  *   SF_NO_MEMORY
  *
  * Unless SF_OK or SF_SHORT is returned, buffer and *required are unchanged. In *hop, any number but
- * 0 sets a flag. What a flag leaves out is not looked at, nor are why, why_token, status, stored,
- * collapsed and their flags if outcome is SF_UNSAID or SF_HIT, nor why_token if why is not
- * SF_OTHER. So the hops of sf_cache_status can be written again, and for a hop of one's own only
- * the members that differ from zero need to be set.
+ * 0 sets a flag. A member whose flag is not set is ignored; so are why, why_token, status, stored,
+ * collapsed and their flags if outcome is SF_UNSAID or SF_HIT, and why_token if why is not
+ * SF_OTHER. So the hops of sf_cache_status can be written again, and for a custom hop only the
+ * members that differ from zero need to be set.
  */
 uint32_t sf_hop_text(const sf_seed *seed, const sf_hop *hop, const void *bytes, size_t bytes_length,
                      void *buffer, size_t buffer_length, size_t *required);
 
 /* The state of joining the lines of a field. Begin with zeros: sf_joined joined = {0, 0, 0}; */
 typedef struct sf_joined {
-  size_t length;  /* number of bytes of joined text at the beginning of buffer */
+  size_t length;   /* number of bytes of joined text at the beginning of buffer */
   size_t required; /* after SF_SHORT, the required length of buffer */
-  uint32_t begun; /* 0 before the first line; any other number counts as 1 */
+  uint32_t begun;  /* 0 before the first line; any other number counts as 1 */
 } sf_joined;
 
 /*
- * Appends one line of a field to the lines that are already in buffer, with a comma and a
- * space between two lines (RFC 9651 section 4.2). The result is the text that the functions above
- * take. Call this for each line in order. If a field has no lines, its text is empty.
+ * Appends one line of a field to the lines that are already in buffer, with a comma and a space
+ * between two lines (RFC 9651 section 4.2). The result is the text that the functions above take.
+ * Call this for each line in order. If a field has no lines, its text is empty.
  *
  *   SF_OK        the first joined->length bytes of buffer are the text with this line; the others
  *                and joined->required are unchanged; joined->begun is 1
  *   SF_SHORT     buffer has to be joined->required bytes long, or longer than a size_t can state if
- *                that is SIZE_MAX; all else is unchanged. Call again with a longer buffer that
- *                begins with the same bytes
+ *                that is SIZE_MAX; everything else is unchanged. Call again with a longer buffer
+ *                that begins with the same bytes
  *   SF_BAD_CALL  joined->length is greater than buffer_length; everything is unchanged
  */
 uint32_t sf_join(const void *line, size_t line_length, void *buffer, size_t buffer_length,

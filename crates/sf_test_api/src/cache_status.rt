@@ -223,7 +223,10 @@ fn is_named(name: NameView, token: &[u8]) -> bool {
 fn outcomes(text: &[u8]) -> Option<u32> {
     let mut hops = HopCursor::new(text);
     let mut all = 0u32;
-    while let Some(hop) = hops.next()? {
+    for _ in 0..u64::MAX {
+        let Some(hop) = hops.next()? else {
+            break;
+        };
         let digit = match (hop.params.hit == Some(true), hop.params.fwd.is_some()) {
             (true, false) => 1,
             (false, true) => 2,

@@ -20,6 +20,14 @@ fn alone(rt: &(impl Abort + AllocGlobal), seed: &RandomState, line: &[u8]) -> (u
     parts(asked.expect(rt, "a Dictionary"))
 }
 
+/// What the field comes to without a Dictionary; None if the scan declines the text.
+fn scanned(line: &[u8]) -> Option<(u8, bool)> {
+    match PriorityField::scan(line) {
+        Some(asked) => Some(parts(asked)),
+        None => None,
+    }
+}
+
 /// What a field asks for.
 fn asked(rt: &(impl Abort + AllocGlobal), seed: &RandomState, text: &[u8]) -> Asked {
     let dict = parse_dict(rt.alloc(), seed, text).expect(rt, "a Dictionary");
@@ -59,7 +67,7 @@ fn priorities(rt: HostRuntime) {
         (b"", (3, false)),
     ] {
         assert_eq!(rt; alone(&rt, &seed, line), want);
-        assert_eq!(rt; PriorityField::scan(line).map(parts), Some(want));
+        assert_eq!(rt; scanned(line), Some(want));
     }
 }
 

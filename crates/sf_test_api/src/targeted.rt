@@ -13,6 +13,12 @@ fn policy_of(rt: &(impl Abort + AllocGlobal), seed: &RandomState, line: &[u8]) -
     ask(rt.alloc(), seed, &Directives, &[line]).expect(rt, "a Dictionary")
 }
 
+/// What it says without a Dictionary; None if the scan declines the text.
+fn scanned(line: &[u8]) -> Option<Policy> {
+    let policy = Directives::scan(line)?;
+    Some(policy.unwrap_or_default())
+}
+
 #[test]
 fn policies(rt: HostRuntime) {
     let seed = seed(&rt);
@@ -55,6 +61,7 @@ fn policies(rt: HostRuntime) {
         (b"", none),
     ] {
         assert_eq!(rt; policy_of(&rt, &seed, line), want);
+        assert_eq!(rt; scanned(line), Some(want));
     }
     let shared_alone = policy_of(&rt, &seed, b"s-maxage=5");
     assert_eq!(rt; shared_alone.lifetime(true), Some(5));

@@ -1,0 +1,381 @@
+/* Times the calls of the library for C, and tells how much memory each allocates.
+ *
+ * usage: calls [FILE..]
+ *
+ * Each table is of one set of texts: those below, and those of each FILE, which has records of a
+ * kind ('i', 'l' or 'd'), a length of four bytes, little endian, and a text of that length.
+ *
+ *   ns       of a text, the least of five rounds over the set
+ *   to scan  that time over the time of the scanner alone, sf_bench_view of crates/sf_bench
+ *   to walk  that time over the time of sfparse for a walk that decodes nothing, if the program is
+ *            built with it: see Makefile
+ *   peak     the most bytes that one call had allocated at a time, over the bytes of its text, for
+ *            the text of the set with the greatest ratio
+ *
+ * Linked with --wrap=malloc, --wrap=realloc and --wrap=free, which count what calls allocate.
+ */
+#define _POSIX_C_SOURCE 200809L
+#include "../include/sf.h"
+#include <malloc.h>
+#include <stdio.h>
+#include <stdlib.h>
+#include <time.h>
+
+#ifdef WITH_SFPARSE
+#include "sfparse.h"
+#endif
+
+/* Of crates/sf_bench. */
+size_t sf_bench_view(uint8_t kind, const uint8_t *text, size_t len, size_t times);
+
+enum { ROUNDS = 5, SCANS = 64, KIB = 1024, MOST_TEXTS = 4096 };
+
+/* A round lasts about as long as this. */
+static const double ROUND_NS = 2e7;
+
+struct text {
+  char letter;
+  size_t length;
+  unsigned char *bytes;
+};
+
+struct set {
+  const char *name;
+  size_t count;
+  size_t longest;
+  struct text texts[MOST_TEXTS];
+};
+
+/* Memory of the library, in bytes: now, and the most so far. */
+
+void *__real_malloc(size_t size);
+void *__real_realloc(void *block, size_t size);
+void __real_free(void *block);
+void *__wrap_malloc(size_t size);
+void *__wrap_realloc(void *block, size_t size);
+void __wrap_free(void *block);
+
+static int counting;
+static size_t held, peak;
+
+static void took(void *block) {
+  if (!counting || block == NULL)
+    return;
+  held += malloc_usable_size(block);
+  if (held > peak)
+    peak = held;
+}
+
+static void gave(void *block) {
+  if (counting && block != NULL)
+    held -= malloc_usable_size(block);
+}
+
+void *__wrap_malloc(size_t size) {
+  void *block = __real_malloc(size);
+  took(block);
+  return block;
+}
+
+void *__wrap_realloc(void *block, size_t size) {
+  gave(block);
+  void *moved = __real_realloc(block, size);
+  took(moved != NULL ? moved : block);
+  return moved;
+}
+
+void __wrap_free(void *block) {
+  gave(block);
+  __real_free(block);
+}
+
+/* The calls. Each works on one text, in buffers that are large enough for the longest of the set. */
+
+static sf_seed seed = {{7}};
+static sf_node *nodes;
+static sf_hop *hops;
+static unsigned char *bytes;
+static size_t nodes_capacity, bytes_capacity;
+
+static uint32_t kind_of(const struct text *t) {
+  return t->letter == 'i' ? SF_ITEM : t->letter == 'l' ? SF_LIST : SF_DICT;
+}
+
+/* So many times, since it allocates its buffer first. */
+static void scan(const struct text *t) {
+  sf_bench_view((uint8_t)t->letter, t->bytes, t->length, SCANS);
+}
+
+static void check(const struct text *t) {
+  sf_refusal refusal;
+  sf_check(&seed, SF_RFC9651, kind_of(t), t->bytes, t->length, &refusal);
+}
+
+static void parse(const struct text *t) {
+  sf_sizes sizes;
+  sf_refusal refusal;
+  sf_parse(&seed, SF_RFC9651, kind_of(t), t->bytes, t->length, nodes, nodes_capacity, bytes,
+           bytes_capacity, &sizes, &refusal);
+}
+
+static void normalise(const struct text *t) {
+  size_t required;
+  sf_refusal refusal;
+  sf_normalise(&seed, SF_RFC9651, kind_of(t), t->bytes, t->length, bytes, bytes_capacity,
+               &required, &refusal);
+}
+
+static void priority(const struct text *t) {
+  sf_priority_flags flags;
+  sf_refusal refusal;
+  sf_priority(&seed, t->bytes, t->length, &flags, &refusal);
+}
+
+static void cache_control(const struct text *t) {
+  sf_policy policy;
+  sf_refusal refusal;
+  sf_cache_control(&seed, t->bytes, t->length, &policy, &refusal);
+}
+
+static void cache_status(const struct text *t) {
+  sf_path path;
+  sf_refusal refusal;
+  sf_cache_status(&seed, t->bytes, t->length, hops, nodes_capacity, bytes, bytes_capacity, &path,
+                  &refusal);
+}
+
+#ifdef WITH_SFPARSE
+static uint64_t seen; /* so that no reading is optimised away */
+
+static int walk_params(sfparse_parser *parser) {
+  sfparse_vec key;
+  sfparse_value value;
+  int result;
+  while ((result = sfparse_parser_param(parser, &key, &value)) == 0)
+    seen += key.len + (uint64_t)value.type;
+  return result == SFPARSE_ERR_EOF;
+}
+
+static int walk_items(sfparse_parser *parser) {
+  sfparse_value value;
+  int result;
+  while ((result = sfparse_parser_inner_list(parser, &value)) == 0) {
+    seen += (uint64_t)value.type;
+    if (!walk_params(parser))
+      return 0;
+  }
+  return result == SFPARSE_ERR_EOF;
+}
+
+static void walk(const struct text *t) {
+  sfparse_parser parser;
+  sfparse_value value;
+  sfparse_vec key = {0};
+  sfparse_parser_init(&parser, t->bytes, t->length);
+  while ((t->letter == 'i'   ? sfparse_parser_item(&parser, &value)
+          : t->letter == 'l' ? sfparse_parser_list(&parser, &value)
+                             : sfparse_parser_dict(&parser, &key, &value)) == 0) {
+    seen += key.len + (uint64_t)value.type;
+    if (value.type == SFPARSE_TYPE_INNER_LIST && !walk_items(&parser))
+      return;
+    if (!walk_params(&parser) || t->letter == 'i')
+      return;
+  }
+}
+#endif
+
+typedef void (*call)(const struct text *);
+
+static double now(void) {
+  struct timespec t;
+  clock_gettime(CLOCK_MONOTONIC, &t);
+  return (double)t.tv_sec * 1e9 + (double)t.tv_nsec;
+}
+
+static double round_ns(const struct set *set, call f, size_t times) {
+  double start = now();
+  for (size_t n = 0; n < times; ++n)
+    for (size_t i = 0; i < set->count; ++i)
+      f(&set->texts[i]);
+  return (now() - start) / ((double)times * (double)set->count);
+}
+
+/* ns a text. */
+static double time_of(const struct set *set, call f) {
+  size_t times = 1;
+  double ns = round_ns(set, f, times);
+  while (ns * (double)(times * set->count) < ROUND_NS / 4)
+    ns = round_ns(set, f, times *= 2);
+  times = (size_t)(ROUND_NS / (ns * (double)set->count)) + 1;
+  for (int i = 0; i < ROUNDS; ++i) {
+    double again = round_ns(set, f, times);
+    if (again < ns)
+      ns = again;
+  }
+  return ns;
+}
+
+/* The greatest ratio of what a call allocates to the length of its text. */
+static double memory_of(const struct set *set, call f) {
+  double greatest = 0;
+  for (size_t i = 0; i < set->count; ++i) {
+    held = peak = 0;
+    counting = 1;
+    f(&set->texts[i]);
+    counting = 0;
+    double ratio = (double)peak / (double)(set->texts[i].length + !set->texts[i].length);
+    if (ratio > greatest)
+      greatest = ratio;
+  }
+  return greatest;
+}
+
+static void row(const struct set *set, const char *name, call f, double scanned, double walked) {
+  double ns = time_of(set, f);
+  printf("| %s | %.0f | %.2f | ", name, ns, ns / scanned);
+  if (walked > 0)
+    printf("%.2f | ", ns / walked);
+  else
+    printf("- | ");
+  printf("%.1f |\n", memory_of(set, f));
+}
+
+/* A table of the calls; own is the call that the texts of the set are for, if there is one. */
+static void table(const struct set *set, const char *own_name, call own) {
+  nodes_capacity = SF_NODES_SIZE(set->longest) + 1;
+  bytes_capacity = SF_BYTES_SIZE(set->longest) + 1;
+  nodes = malloc(nodes_capacity * sizeof *nodes);
+  hops = malloc(nodes_capacity * sizeof *hops);
+  bytes = malloc(bytes_capacity);
+  if (nodes == NULL || hops == NULL || bytes == NULL)
+    abort();
+  double scanned = time_of(set, scan) / SCANS, walked = 0;
+#ifdef WITH_SFPARSE
+  walked = time_of(set, walk);
+#endif
+  printf("\n%s: %zu texts, %zu bytes at most; scan %.0f ns", set->name, set->count, set->longest,
+         scanned);
+  if (walked > 0)
+    printf(", walk %.0f ns", walked);
+  printf("\n\n| call | ns | to scan | to walk | peak |\n|---|---|---|---|---|\n");
+  row(set, "sf_check", check, scanned, walked);
+  row(set, "sf_parse", parse, scanned, walked);
+  row(set, "sf_normalise", normalise, scanned, walked);
+  if (own != NULL)
+    row(set, own_name, own, scanned, walked);
+  free(nodes);
+  free(hops);
+  free(bytes);
+}
+
+static struct set the_set;
+
+static struct set *begin(const char *name) {
+  for (size_t i = 0; i < the_set.count; ++i)
+    free(the_set.texts[i].bytes);
+  the_set.name = name;
+  the_set.count = the_set.longest = 0;
+  return &the_set;
+}
+
+static unsigned char *add(struct set *set, char letter, size_t length) {
+  if (set->count == MOST_TEXTS)
+    abort();
+  struct text *t = &set->texts[set->count++];
+  t->letter = letter;
+  t->length = length;
+  t->bytes = malloc(length + !length);
+  if (t->bytes == NULL)
+    abort();
+  if (length > set->longest)
+    set->longest = length;
+  return t->bytes;
+}
+
+static void add_all(struct set *set, char letter, const char *const *texts) {
+  for (; *texts != NULL; ++texts)
+    memcpy(add(set, letter, strlen(*texts)), *texts, strlen(*texts));
+}
+
+/* The piece again and again, so many bytes in all, without the last comma. */
+static void add_repeated(struct set *set, char letter, const char *piece, size_t length) {
+  unsigned char *to = add(set, letter, length - 1);
+  for (size_t i = 0; i < length - 1; ++i)
+    to[i] = (unsigned char)piece[i % strlen(piece)];
+}
+
+/* So many members with keys of seven bytes; if repeats is set, every eighth key is the first one. */
+static void add_keys(struct set *set, size_t count, int repeats) {
+  char *to = (char *)add(set, 'd', count * 8 - 1);
+  for (size_t i = 0; i < count; ++i) {
+    char member[16];
+    snprintf(member, sizeof member, "k%06zu,", repeats && i % 8 == 0 ? (size_t)0 : i % 1000000);
+    memcpy(to + i * 8, member, i + 1 < count ? 8 : 7);
+  }
+}
+
+static void add_file(struct set *set, const char *path) {
+  FILE *file = fopen(path, "rb");
+  if (file == NULL) {
+    perror(path);
+    exit(2);
+  }
+  for (int letter; (letter = fgetc(file)) != EOF;) {
+    unsigned char l[4];
+    if (fread(l, 1, 4, file) != 4)
+      abort();
+    size_t length = l[0] | (size_t)l[1] << 8 | (size_t)l[2] << 16 | (size_t)l[3] << 24;
+    unsigned char *to = add(set, (char)letter, length);
+    if (length != 0 && fread(to, 1, length, file) != length)
+      abort();
+  }
+  fclose(file);
+}
+
+static const char *const priorities[] = {"u=5, i", "u=0", "i", "u=3", "u=7, i=?0", "u=1, i;x=1",
+                                         NULL};
+
+static const char *const policies[] = {"max-age=600", "max-age=60, s-maxage=3600",
+                                       "no-store, private", "max-age=86400, must-revalidate",
+                                       "public, max-age=31536000, stale-while-revalidate=60",
+                                       NULL};
+
+static const char *const paths[] = {
+    "OriginCache; hit; ttl=1100, \"CDN Company Here\"; hit; ttl=545",
+    "ExampleCache; hit; ttl=376",
+    "ExampleCache; fwd=uri-miss; stored",
+    "ExampleCache; fwd=stale; fwd-status=304",
+    "\"edge.example\"; fwd=vary-miss; stored; key=\"/a?b=c\"; detail=pool-7",
+    "ReverseProxyCache; hit, ForwardProxyCache; fwd=uri-miss; collapsed; stored",
+    NULL};
+
+int main(int argc, char **argv) {
+  struct set *set = begin("Priority fields");
+  add_all(set, 'd', priorities);
+  table(set, "sf_priority", priority);
+  set = begin("Targeted fields");
+  add_all(set, 'd', policies);
+  table(set, "sf_cache_control", cache_control);
+  set = begin("Cache-Status fields");
+  add_all(set, 'l', paths);
+  table(set, "sf_cache_status", cache_status);
+  set = begin("A List of 64 KiB of a;b,");
+  add_repeated(set, 'l', "a;b,", 64 * KIB);
+  table(set, NULL, NULL);
+  set = begin("A Dictionary of 8,192 keys");
+  add_keys(set, 8 * KIB, 0);
+  table(set, NULL, NULL);
+  set = begin("A Dictionary of 8,192 keys, every eighth the first one");
+  add_keys(set, 8 * KIB, 1);
+  table(set, NULL, NULL);
+  set = begin("A malformed List of 64 KiB");
+  add_repeated(set, 'l', "a;b,", 64 * KIB);
+  set->texts[0].bytes[set->longest - 1] = '=';
+  table(set, NULL, NULL);
+  for (int i = 1; i < argc; ++i) {
+    set = begin(argv[i]);
+    add_file(set, argv[i]);
+    table(set, NULL, NULL);
+  }
+  return 0;
+}
