@@ -693,7 +693,8 @@ static inline void sf_param_display_string(sf_builder *builder, const char *key,
  *     sf_put_copy(&field, node, text, text_length, bytes);
  *
  * An Item becomes a member, or an Item of the Inner List that is open, wherever it was. A member
- * keeps its key, and an Item of an Inner List has none.
+ * keeps its key, and an Item of an Inner List has none. For copies of a whole value, a builder with
+ * SF_NODES_SIZE(text_length) nodes and SF_BYTES_SIZE(text_length) bytes is always large enough.
  */
 static inline void sf_put_copy(sf_builder *builder, const sf_node *node, const void *text,
                                size_t text_length, const void *bytes) {
