@@ -367,6 +367,7 @@ static void same_value(uint32_t dialect, uint32_t kind, const char *about,
     CHECK(is_same_node(&v, &v.nodes[i], &w, &w.nodes[i]));
     size += v.nodes[i].key_length + v.nodes[i].text_length;
   }
+  CHECK(v.sizes.nodes <= SF_NODES_SIZE(length) && size <= SF_BYTES_SIZE(length));
   value u = {NULL, 0, take_buffer(NULL, v.sizes.nodes * sizeof *u.nodes), take_buffer(NULL, size),
              {v.sizes.nodes, size}};
   sf_builder builder = sf_build(u.nodes, v.sizes.nodes, u.bytes, size);
