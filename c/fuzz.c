@@ -208,6 +208,7 @@ static value copy(const value *v) {
   size_t bytes = 0;
   for (size_t i = 0; i < v->sizes.nodes; ++i)
     bytes += v->nodes[i].key_length + v->nodes[i].text_length;
+  CHECK(bytes <= SF_BYTES_SIZE(v->text_length));
   value u = {NULL, 0, take_buffer(NULL, v->sizes.nodes * sizeof *u.nodes), take_buffer(NULL, bytes),
              {v->sizes.nodes, bytes}};
   for (int less = bytes > 0 ? 2 : 1; less >= 0; --less) {

@@ -377,12 +377,62 @@ uint32_t sf_find(const sf_node *nodes, size_t nodes_length, const void *text, si
  * number of nodes of the part. It has a key that is valid and occurs once among its siblings, or a
  * key_length of 0 if the part has no key. It has a number or bytes, and the other is 0 or empty. If
  * coded is 0, the bytes are those of the value; if it is 1, they are the text of the bare item in a
- * field, with its quotes or colons.
+ * field, with its quotes or colons. Offsets are at most text_length + bytes_length, also those of
+ * an empty key and of empty bytes.
  */
 uint32_t sf_write(const sf_seed *seed, uint32_t dialect, uint32_t kind, const sf_node *nodes,
                   size_t nodes_length, const void *text, size_t text_length, const void *bytes,
                   size_t bytes_length, void *buffer, size_t buffer_length, size_t *required,
                   size_t *invalid);
+
+/*
+ * Changes the bare item of a node to an Integer, Decimal, Boolean or Date with this number. Its key
+ * and its parameters stay. This changes a parameter of the member nodes[i], before the field is
+ * written by sf_write:
+ *
+ *   size_t at;
+ *   if (sf_find(nodes + i, nodes[i].size, text, text_length, bytes, sizes.bytes, SF_PARAMETER,
+ *               "created", 7, &at) == SF_OK)
+ *     sf_set_number(&nodes[i + at], SF_INTEGER, 1);
+ *
+ * sf_write checks the type and the number. Returns nothing.
+ */
+static inline void sf_set_number(sf_node *node, uint32_t type, int64_t number) {
+  node->number = number;
+  node->text_length = 0;
+  node->type = (uint8_t)type;
+  node->coded = 0;
+}
+
+/*
+ * Changes the bare item of a node that sf_parse wrote to a String, Token, Byte Sequence or Display
+ * String with this value, likewise. The value is copied after the first sizes->bytes bytes of the
+ * buffer bytes of that call, and sizes->bytes is increased by its length. The text_length is that
+ * of the text that was parsed.
+ *
+ *   SF_OK        the node is changed
+ *   SF_SHORT     the buffer bytes is too small: sizes->bytes + length bytes are required
+ *   SF_TOO_LONG  an offset would be 4 GiB or more
+ *
+ * Unless SF_OK is returned, everything is unchanged.
+ */
+static inline uint32_t sf_set_bytes(sf_node *node, uint32_t type, const void *value, size_t length,
+                                    size_t text_length, void *bytes, size_t bytes_capacity,
+                                    sf_sizes *sizes) {
+  if (sizes->bytes > bytes_capacity || length > bytes_capacity - sizes->bytes)
+    return SF_SHORT;
+  if (text_length > UINT32_MAX || sizes->bytes + length > UINT32_MAX - text_length)
+    return SF_TOO_LONG;
+  if (length > 0)
+    memcpy((char *)bytes + sizes->bytes, value, length);
+  node->number = 0;
+  node->text_at = (uint32_t)(text_length + sizes->bytes);
+  node->text_length = (uint32_t)length;
+  node->type = (uint8_t)type;
+  node->coded = 0;
+  sizes->bytes += length;
+  return SF_OK;
+}
 
 /*
  * A builder makes the nodes of a field in two of the caller's buffers, and keeps their sizes and
@@ -490,7 +540,8 @@ static inline void sf_put_node(sf_builder *builder, uint32_t role, uint32_t type
 /*
  * Puts a bare item of any type, with a key and a text of stated lengths. The functions below call
  * it. An Integer, Decimal, Boolean or Date has a number and an empty text; the other types have a
- * text and the number 0. If the type is not that of a bare item, sf_write refuses the node.
+ * text and the number 0. SF_INNER_LIST puts an Inner List without Items; sf_begin begins one with
+ * Items. If it is no sf_type, sf_write refuses the node.
  *
  * If an Inner List is open, the item is one of its Items; otherwise it is a member of the field.
  * The key is that of a member of a Dictionary; for an Item, a member of a List, and an Item of an
@@ -517,27 +568,34 @@ static inline void sf_param(sf_builder *builder, const void *key, size_t key_len
               text, text_length);
 }
 
-/* Returns the length of a text that ends with a NUL; 0 if it is NULL. */
-static inline size_t sf_length(const char *text) { return text == NULL ? 0 : strlen(text); }
-
 /*
  * Begins an Inner List, which is a member of the field. What is put until sf_end_inner_list are its
  * Items and their parameters; the parameters that are put after the end, and before the next Item
- * or Inner List, are its own.
- *
- * Here and below, keys and texts end with a NUL, and key is NULL except for members of a Dictionary
- * and for parameters.
+ * or Inner List, are its own. The key has a stated length, which is 0 in a List.
  */
-static inline void sf_begin_inner_list(sf_builder *builder, const char *key) {
+static inline void sf_begin(sf_builder *builder, const void *key, size_t key_length) {
   if (builder->status != SF_OK)
     return;
   if (builder->is_open) {
     builder->status = SF_BAD_CALL;
     return;
   }
-  sf_put(builder, key, sf_length(key), SF_INNER_LIST, 0, NULL, 0);
+  sf_put(builder, key, key_length, SF_INNER_LIST, 0, NULL, 0);
   builder->inner_list = builder->last;
   builder->is_open = builder->status == SF_OK;
+}
+
+/* Returns the length of a text that ends with a NUL; 0 if it is NULL. */
+static inline size_t sf_length(const char *text) { return text == NULL ? 0 : strlen(text); }
+
+/*
+ * Begins an Inner List, likewise.
+ *
+ * Here and below, keys and texts end with a NUL, and key is NULL except for members of a Dictionary
+ * and for parameters.
+ */
+static inline void sf_begin_inner_list(sf_builder *builder, const char *key) {
+  sf_begin(builder, key, sf_length(key));
 }
 
 /* Ends the Inner List that is open. */
@@ -634,30 +692,29 @@ static inline void sf_param_display_string(sf_builder *builder, const char *key,
  *   for (const sf_node *node = nodes; node < nodes + sizes.nodes; node += node->size)
  *     sf_put_copy(&field, node, text, text_length, bytes);
  *
- * An Item becomes a member, or an Item of the Inner List that is open, wherever it was.
+ * An Item becomes a member, or an Item of the Inner List that is open, wherever it was. A member
+ * keeps its key, and an Item of an Inner List has none. For copies of a whole value, a builder with
+ * SF_NODES_SIZE(text_length) nodes and SF_BYTES_SIZE(text_length) bytes is always large enough.
  */
 static inline void sf_put_copy(sf_builder *builder, const sf_node *node, const void *text,
                                size_t text_length, const void *bytes) {
-  uint32_t was_open = builder->is_open;
-  for (uint32_t i = 0; i < node->size && builder->status == SF_OK; ++i) {
+  uint32_t was_open = builder->is_open, i;
+  for (i = 0; i < node->size && builder->status == SF_OK; ++i) {
     const sf_node *one = node + i;
     const char *key = sf_key(one, text, text_length, bytes);
     const char *its_bytes = sf_bytes(one, text, text_length, bytes);
+    int is_param = one->role == SF_PARAMETER || one->role == SF_INNER_PARAMETER;
+    uint32_t key_length = was_open && !is_param ? 0 : one->key_length;
     if (one->role == SF_INNER_PARAMETER && builder->is_open && !was_open)
       sf_end_inner_list(builder);
-    if (one->type == SF_INNER_LIST && was_open)
-      builder->status = SF_BAD_CALL;
-    else if (one->role == SF_PARAMETER || one->role == SF_INNER_PARAMETER)
-      sf_param(builder, key, one->key_length, one->type, one->number, its_bytes, one->text_length);
+    if (is_param)
+      sf_param(builder, key, key_length, one->type, one->number, its_bytes, one->text_length);
+    else if (one->type == SF_INNER_LIST)
+      sf_begin(builder, key, key_length);
     else
-      sf_put(builder, key, one->key_length, one->type, one->number, its_bytes, one->text_length);
-    if (builder->status != SF_OK)
-      return;
-    builder->nodes[builder->nodes_length - 1].coded = one->coded;
-    if (one->type == SF_INNER_LIST) {
-      builder->inner_list = builder->last;
-      builder->is_open = 1;
-    }
+      sf_put(builder, key, key_length, one->type, one->number, its_bytes, one->text_length);
+    if (builder->status == SF_OK)
+      builder->nodes[builder->nodes_length - 1].coded = one->coded;
   }
   if (builder->is_open && !was_open)
     sf_end_inner_list(builder);
@@ -684,6 +741,10 @@ typedef struct sf_priority_flags {
   uint8_t has_urgency;      /* 1 if the field sets the urgency, otherwise 0 */
   uint8_t has_incremental;  /* 1 if the field sets incremental, otherwise 0 */
 } sf_priority_flags;
+
+/* Initialises the priority of a field that is absent or malformed, which sets nothing:
+ * sf_priority_flags priority = SF_PRIORITY_UNSET; */
+#define SF_PRIORITY_UNSET {SF_URGENCY_DEFAULT, 0, 0, 0}
 
 /*
  * Reads the text of a Priority field (RFC 9218 section 5). Members that are unknown, of another

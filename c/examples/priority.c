@@ -19,16 +19,12 @@ int main(int argc, char **argv) {
     return 3;
   fclose(random);
 
-  sf_priority_flags said[2];
+  sf_priority_flags said[2] = {SF_PRIORITY_UNSET, SF_PRIORITY_UNSET};
   for (int i = 0; i < 2; ++i) {
     sf_refusal refusal;
     uint32_t status = sf_priority(&seed, argv[i + 1], strlen(argv[i + 1]), &said[i], &refusal);
     if (status == SF_NO_MEMORY)
-      return 3;
-    if (status == SF_REFUSED) { /* a field that is refused says nothing */
-      static const sf_priority_flags nothing = {SF_URGENCY_DEFAULT, 0, 0, 0};
-      said[i] = nothing;
-    }
+      return 3; /* a field that is refused says nothing */
   }
   sf_priority_flags both = sf_priority_merge(&said[0], &said[1]);
   printf("urgency %d incremental %d\n", both.urgency, both.incremental);

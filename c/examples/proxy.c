@@ -78,7 +78,7 @@ int main(void) {
   read_fields(stdin);
 
   /* The priority. A field that is malformed or absent sets nothing. */
-  sf_priority_flags set[2] = {{SF_URGENCY_DEFAULT, 0, 0, 0}, {SF_URGENCY_DEFAULT, 0, 0, 0}};
+  sf_priority_flags set[2] = {SF_PRIORITY_UNSET, SF_PRIORITY_UNSET};
   for (int i = ASKED; i <= ANSWERED; ++i)
     if (sf_priority(&seed, fields[i].text, fields[i].joined.length, &set[i], &refusal) == SF_NO_MEMORY)
       give_up("out of memory");
@@ -124,6 +124,8 @@ int main(void) {
                 .ttl = (int64_t)seconds, .has_ttl = (uint8_t)has_ttl};
   if (sf_hop_text(&seed, &hop, name_here, sizeof name_here, text, sizeof text, &length) != SF_OK)
     give_up("out of memory");
+  if (fields[PATH].joined.length == 0) /* lines that are empty; a comma after them would be malformed */
+    fields[PATH].joined.begun = 0;
   add_line(&fields[PATH], text, length);
   printf("Cache-Status: %.*s\n", (int)fields[PATH].joined.length, fields[PATH].text);
   return fflush(stdout) != 0 || ferror(stdout) ? 3 : 0;

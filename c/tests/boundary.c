@@ -367,6 +367,7 @@ static void same_value(uint32_t dialect, uint32_t kind, const char *about,
     CHECK(is_same_node(&v, &v.nodes[i], &w, &w.nodes[i]));
     size += v.nodes[i].key_length + v.nodes[i].text_length;
   }
+  CHECK(v.sizes.nodes <= SF_NODES_SIZE(length) && size <= SF_BYTES_SIZE(length));
   value u = {NULL, 0, take_buffer(NULL, v.sizes.nodes * sizeof *u.nodes), take_buffer(NULL, size),
              {v.sizes.nodes, size}};
   sf_builder builder = sf_build(u.nodes, v.sizes.nodes, u.bytes, size);
@@ -1086,8 +1087,59 @@ static void building(void) {
          "(c;y \"d\\\"\";x);z, \"d\\\"\";z");
   sf_begin_inner_list(&builder, NULL);
   sf_put_copy(&builder, v.nodes + 2, about, v.text_length, v.bytes);
-  CHECK(builder.status == SF_BAD_CALL);
+  CHECK(builder.status == SF_BAD_CALL && builder.nodes_length == 9);
+
+  /* an Inner List without its first Item, by its key in the text; a member of a Dictionary in it */
+  builder = sf_build(copies, 12, copied, sizeof copied);
+  sf_begin(&builder, sf_key(v.nodes + 2, about, v.text_length, v.bytes), v.nodes[2].key_length);
+  sf_put_copy(&builder, v.nodes + 5, about, v.text_length, v.bytes); /* "d\"" */
+  sf_put_copy(&builder, v.nodes, about, v.text_length, v.bytes);     /* a=1;x */
+  sf_end_inner_list(&builder);
+  sf_put_copy(&builder, v.nodes + 6, about, v.text_length, v.bytes); /* z */
+  sf_put_copy(&builder, v.nodes, about, v.text_length, v.bytes);
+  WRITES(sf_write_built(&seed, SF_RFC9651, SF_DICT, &builder, buffer, size, required, &invalid),
+         "b=(\"d\\\"\" 1;x);z, a=1;x");
   give_value(v);
+}
+
+/* Bare items that are changed where they are. */
+static void changing(void) {
+  const char *about = "a=1;x, b=(c;y \"d\\\"\");z=%\"e\"";
+  uint32_t status;
+  size_t text_length = strlen(about), invalid = 4711;
+  unsigned char *text = take_buffer(about, text_length);
+  sf_node nodes[8];
+  sf_sizes sizes;
+  sf_refusal refusal = untouched;
+  char *bytes = take_buffer(NULL, 8);
+  CALL(sf_parse(&seed, SF_RFC9651, SF_DICT, text, text_length, nodes, 8, bytes, 8, &sizes,
+                &refusal));
+  CHECK(status == SF_OK && sizes.nodes == 7 && sizes.bytes == 3);
+  sf_set_number(nodes + 1, SF_DECIMAL, -500); /* of x, which was true */
+  sf_set_number(nodes + 5, SF_DATE, 7);
+  CHECK(nodes[0].size == 2 && nodes[5].key_length == 0 && nodes[5].size == 1);
+#define SET(node, type, value, length)                                                             \
+  sf_set_bytes(nodes + (node), type, value, length, text_length, bytes, 8, &sizes)
+  sf_node before = nodes[0];
+  CHECK(SET(0, SF_TOKEN, "longer", 6) == SF_SHORT && sizes.bytes == 3);
+  CHECK(sf_set_bytes(nodes, SF_TOKEN, "f", 1, UINT32_MAX - 3, bytes, 8, &sizes) == SF_TOO_LONG);
+  CHECK(sf_set_bytes(nodes, SF_TOKEN, "f", 1, SIZE_MAX, bytes, 8, &sizes) == SF_TOO_LONG);
+  CHECK(memcmp(&before, nodes, sizeof before) == 0 && sizes.bytes == 3);
+  CHECK(SET(0, SF_TOKEN, "fg/", 3) == SF_OK && sizes.bytes == 6);
+  CHECK(SET(3, SF_STRING, NULL, 0) == SF_OK && sizes.bytes == 6);
+  CHECK(SET(6, SF_BYTE_SEQUENCE, "\0\xff", 2) == SF_OK && sizes.bytes == 8);
+  CHECK(SET(6, SF_BYTE_SEQUENCE, "a", 1) == SF_SHORT);
+#undef SET
+  WRITES(sf_write(&seed, SF_RFC9651, SF_DICT, nodes, sizes.nodes, text, text_length, bytes,
+                  sizes.bytes, buffer, size, required, &invalid),
+         "a=fg/;x=-0.5, b=(\"\";y @7);z=:AP8=:");
+  sf_set_number(nodes + 4, SF_INTEGER, SF_NUMBER_MAX + 1);
+  size_t required = 4711;
+  CALL(sf_write(&seed, SF_RFC9651, SF_DICT, nodes, sizes.nodes, text, text_length, bytes,
+                sizes.bytes, NULL, 0, &required, &invalid));
+  CHECK(status == SF_INVALID && invalid == 4 && required == 4711);
+  give_buffer(text);
+  give_buffer(bytes);
 }
 
 /* Nodes that describe no value of the kind: sf_write says which is the first. */
@@ -2294,6 +2346,7 @@ static void all(void) {
     nodes_of_values();
     finding();
     building();
+    changing();
     broken_nodes();
     priorities();
     priority_texts();

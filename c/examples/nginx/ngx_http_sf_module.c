@@ -93,10 +93,9 @@ static ngx_int_t passed(ngx_http_request_t *r, uint32_t status, const ngx_str_t 
 }
 
 static ngx_int_t read_priority(ngx_http_request_t *r, sf_priority_flags *merged) {
-  static const sf_priority_flags nothing = {SF_URGENCY_DEFAULT, 0, 0, 0};
   static const ngx_str_t name = ngx_string("Priority");
   const ngx_list_t *headers[] = {&r->headers_in.headers, &r->headers_out.headers};
-  sf_priority_flags set[] = {nothing, nothing};
+  sf_priority_flags set[] = {SF_PRIORITY_UNSET, SF_PRIORITY_UNSET};
   for (int i = 0; i < 2; ++i) {
     ngx_str_t text;
     if (join_lines(r, headers[i], &name, &text) != NGX_OK)

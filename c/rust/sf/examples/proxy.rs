@@ -1,19 +1,11 @@
 //! A caching proxy's decisions on a request that it forwards, and on the response, by their fields on
 //! standard input: a line `> Name: value` is of the request, and `< Name: value` of the response.
 
-use sf::{Choice, Error, Forward, Forwarded, Hop, Name, Outcome, Priority};
+use sf::{Error, Forward, Forwarded, Hop, Name, Priority};
 use std::io::{self, BufRead};
 
 /// This cache's own field, and the one of all caches of its kind (RFC 9213 section 2.2).
 const TARGET_LIST: [&str; 2] = ["ExampleCDN-Cache-Control", "CDN-Cache-Control"];
-
-/// The default if the field is malformed, as if it were absent.
-fn or_ignored<T: Default>(result: Result<T, Error>) -> Result<T, Error> {
-    match result {
-        Err(Error::Refused(_)) => Ok(T::default()),
-        result => result,
-    }
-}
 
 fn main() -> Result<(), Box<dyn std::error::Error>> {
     let lines: Vec<String> = io::stdin().lock().lines().collect::<Result<_, _>>()?;
@@ -24,18 +16,21 @@ fn main() -> Result<(), Box<dyn std::error::Error>> {
         }))
     };
 
-    let asked = or_ignored(Priority::parse(field('>', "Priority")?))?;
-    let both = asked.merged_with(or_ignored(Priority::parse(field('<', "Priority")?))?);
+    let asked = Priority::parse(field('>', "Priority")?).or_else(Error::as_absent)?;
+    let answered = Priority::parse(field('<', "Priority")?).or_else(Error::as_absent)?;
+    let both = asked.merged_with(answered);
     let how = ["", ", incremental"][usize::from(both.incremental())];
     println!("urgency {}{how}", both.urgency());
 
     let targets = TARGET_LIST.map(|name| field('<', name));
     let targets: Vec<_> = targets.into_iter().collect::<Result<_, _>>()?;
-    let (name, policy) = match sf::select(targets)? {
-        Choice::Field { index, policy } => (TARGET_LIST[index], Some(policy)),
-        Choice::Fallback => ("no targeted field", None),
-    };
-    let stored = policy.filter(|policy| !policy.no_store && !policy.is_private);
+    let choice = sf::select(targets)?;
+    let name = choice
+        .index()
+        .map_or("no targeted field", |index| TARGET_LIST[index]);
+    let stored = choice
+        .policy()
+        .filter(|policy| !policy.no_store && !policy.is_private);
     let lifetime = stored.and_then(|policy| policy.lifetime(true));
     let what = ["don't store it", "store it"][usize::from(stored.is_some())];
     let fresh = lifetime.map(|seconds| format!(", fresh for {seconds} s"));
@@ -49,13 +44,10 @@ fn main() -> Result<(), Box<dyn std::error::Error>> {
     if !text.is_empty() {
         println!("Priority: {text}");
     }
-    let mut hop = Hop::new(Name::Token("ExampleCDN"));
-    let mut forwarded = Forwarded::new(Forward::UriMiss);
-    forwarded.stored = Some(stored.is_some());
-    hop.outcome = Outcome::Forwarded(forwarded);
+    let forwarded = Forwarded::new(Forward::UriMiss).with_stored(stored.is_some());
+    let mut hop = Hop::new(Name::Token("ExampleCDN")).with_outcome(forwarded);
     hop.ttl = lifetime.map(i64::try_from).transpose()?;
-    let path = [field('<', "Cache-Status")?, hop.serialize()?.into()];
-    let path = sf::join(path.iter().filter(|line| !line.is_empty()))?;
+    let path = hop.append_to([field('<', "Cache-Status")?])?;
     println!("Cache-Status: {}", String::from_utf8_lossy(&path));
     Ok(())
 }

@@ -173,6 +173,28 @@ impl Error {
             _ => None,
         }
     }
+
+    /// The default if a text was refused, as of a field that is absent; otherwise this error. Most
+    /// definitions of fields let recipients ignore a field that is malformed (RFC 9651 section 4.2), but
+    /// not one for which memory was short.
+    ///
+    /// # Errors
+    ///
+    /// This error, unless it is [`Error::Refused`].
+    ///
+    /// ```
+    /// # fn main() -> Result<(), sf::Error> {
+    /// let priority = sf::Priority::parse("u=5,").or_else(sf::Error::as_absent)?;
+    /// assert_eq!(priority, sf::Priority::default());
+    /// # Ok(())
+    /// # }
+    /// ```
+    pub fn as_absent<T: Default>(self) -> Result<T, Error> {
+        match self {
+            Error::Refused(_) => Ok(T::default()),
+            error => Err(error),
+        }
+    }
 }
 
 impl fmt::Display for Error {

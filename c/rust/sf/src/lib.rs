@@ -33,6 +33,29 @@
 //! # }
 //! ```
 //!
+//! What a caching proxy decides by the fields of a request and its response, and sends on:
+//!
+//! ```
+//! use sf::{Error, Forward, Forwarded, Hop, Name, Priority};
+//! # fn main() -> Result<(), Error> {
+//! let client = Priority::parse("u=5, i").or_else(Error::as_absent)?;
+//! let server = Priority::parse("u=1").or_else(Error::as_absent)?;
+//! assert_eq!(client.merged_with(server).serialize()?, "u=1, i");
+//!
+//! // The targeted fields, in the order of the target list. The first is malformed.
+//! let choice = sf::select(["max-age=60,", "max-age=600"])?;
+//! assert_eq!(choice.index(), Some(1));
+//! assert_eq!(choice.policy().and_then(|policy| policy.lifetime(true)), Some(600));
+//!
+//! let forwarded = Forwarded::new(Forward::UriMiss).with_stored(true);
+//! let hop = Hop::new(Name::Token("ExampleCDN")).with_outcome(forwarded);
+//! assert_eq!(hop.append_to(["origin; hit"])?, b"origin; hit, ExampleCDN;fwd=uri-miss;stored");
+//! # Ok(())
+//! # }
+//! ```
+//!
+//! An error shows where a text is malformed, and with [`Refusal::in_text`] the text with a caret.
+//!
 //! A field of a known kind is an [`Item`], a [`List`] or a [`Dictionary`], which own what they have. A
 //! [`Tree`] holds a value of any kind, borrows from the text what need not be decoded, and lends it as
 //! `&str`. [`Parser`] chooses the dialect and the seed.

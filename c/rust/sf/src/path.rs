@@ -1,5 +1,5 @@
 use crate::call::{error, lengthen, resize, seed, start, written, NO_REFUSAL};
-use crate::{raw, Error, Parser, Seed};
+use crate::{join, raw, Error, Parser, Seed};
 use std::fmt;
 
 /// A name of a cache, or a detail. The String `a` and the Token `a` are two names.
@@ -61,6 +61,29 @@ pub enum Forward<'a> {
     Other(&'a str),
 }
 
+impl<'a> Forward<'a> {
+    /// The token of the field.
+    ///
+    /// ```
+    /// assert_eq!(sf::Forward::UriMiss.as_str(), "uri-miss");
+    /// assert_eq!(sf::Forward::Other("odd").as_str(), "odd");
+    /// ```
+    #[must_use]
+    pub fn as_str(self) -> &'a str {
+        match self {
+            Forward::Bypass => "bypass",
+            Forward::Method => "method",
+            Forward::UriMiss => "uri-miss",
+            Forward::VaryMiss => "vary-miss",
+            Forward::Miss => "miss",
+            Forward::Request => "request",
+            Forward::Stale => "stale",
+            Forward::Partial => "partial",
+            Forward::Other(token) => token,
+        }
+    }
+}
+
 /// What the field says of a request that a cache forwarded.
 ///
 /// ```
@@ -98,6 +121,12 @@ pub enum Outcome<'a> {
     Forwarded(Forwarded<'a>),
     /// `hit` is true and `fwd` is present, though the RFC allows only one of them.
     Conflict(Forwarded<'a>),
+}
+
+impl<'a> From<Forwarded<'a>> for Outcome<'a> {
+    fn from(forwarded: Forwarded<'a>) -> Outcome<'a> {
+        Outcome::Forwarded(forwarded)
+    }
 }
 
 impl<'a> Outcome<'a> {
@@ -161,6 +190,39 @@ impl<'a> Hop<'a> {
         }
     }
 
+    /// The same with this outcome.
+    ///
+    /// ```
+    /// let forwarded = sf::Forwarded::new(sf::Forward::UriMiss).with_stored(true);
+    /// let hop = sf::Hop::new(sf::Name::Token("edge")).with_outcome(forwarded);
+    /// assert_eq!(hop.serialize().unwrap(), "edge;fwd=uri-miss;stored");
+    /// ```
+    #[must_use]
+    pub fn with_outcome(self, outcome: impl Into<Outcome<'a>>) -> Hop<'a> {
+        let outcome = outcome.into();
+        Hop { outcome, ..self }
+    }
+
+    /// Appends this hop to the lines of a Cache-Status field that came from the caches nearer the origin,
+    /// and returns the text of all, joined. Empty lines are left out, and the others are not checked.
+    ///
+    /// # Errors
+    ///
+    /// Those of [`serialize`](Hop::serialize).
+    ///
+    /// ```
+    /// let hop = sf::Hop::new(sf::Name::Token("edge")).with_outcome(sf::Outcome::Hit);
+    /// assert_eq!(hop.append_to(["origin; fwd=miss"]).unwrap(), b"origin; fwd=miss, edge;hit");
+    /// ```
+    pub fn append_to(
+        &self,
+        lines: impl IntoIterator<Item = impl AsRef<[u8]>>,
+    ) -> Result<Vec<u8>, Error> {
+        let before = join(lines.into_iter().filter(|line| !line.as_ref().is_empty()))?;
+        let hop = self.serialize()?.into_bytes();
+        join([before, hop].iter().filter(|text| !text.is_empty()))
+    }
+
     /// Writes the text of a Cache-Status field whose only member is this hop: a field line of its own,
     /// which a cache adds after the lines that came from the caches nearer the origin.
     ///
@@ -209,6 +271,42 @@ impl<'a> Forwarded<'a> {
             stored: None,
             collapsed: None,
         }
+    }
+
+    /// The same with a status code of the next hop's response.
+    ///
+    /// ```
+    /// let forwarded = sf::Forwarded::new(sf::Forward::Stale).with_status(304);
+    /// assert_eq!(forwarded.status, Some(304));
+    /// ```
+    #[must_use]
+    pub fn with_status(self, status: u16) -> Forwarded<'a> {
+        let status = Some(status);
+        Forwarded { status, ..self }
+    }
+
+    /// The same with whether the cache stored the response.
+    ///
+    /// ```
+    /// let forwarded = sf::Forwarded::new(sf::Forward::Miss).with_stored(true);
+    /// assert_eq!(forwarded.stored, Some(true));
+    /// ```
+    #[must_use]
+    pub fn with_stored(self, stored: bool) -> Forwarded<'a> {
+        let stored = Some(stored);
+        Forwarded { stored, ..self }
+    }
+
+    /// The same with whether the request was collapsed with others.
+    ///
+    /// ```
+    /// let forwarded = sf::Forwarded::new(sf::Forward::Miss).with_collapsed(true);
+    /// assert_eq!(forwarded.collapsed, Some(true));
+    /// ```
+    #[must_use]
+    pub fn with_collapsed(self, collapsed: bool) -> Forwarded<'a> {
+        let collapsed = Some(collapsed);
+        Forwarded { collapsed, ..self }
     }
 }
 

@@ -92,7 +92,8 @@ impl Policy {
     }
 
     /// The freshness lifetime of a response in seconds, in a shared or in a private cache; `None` if
-    /// the policy sets none (RFC 9111 section 4.2.1).
+    /// the policy sets none (RFC 9111 section 4.2.1). Of a policy that was parsed it is at most
+    /// 999,999,999,999,999, the largest Integer.
     ///
     /// ```
     /// let policy = sf::Policy { s_maxage: Some(90), ..sf::Policy::default() };
@@ -139,6 +140,19 @@ impl Choice {
     pub fn policy(&self) -> Option<Policy> {
         match self {
             Choice::Field { policy, .. } => Some(*policy),
+            Choice::Fallback => None,
+        }
+    }
+
+    /// The index of the field that is obeyed in the target list, if there is one.
+    ///
+    /// ```
+    /// assert_eq!(sf::select(["", "max-age=600"]).unwrap().index(), Some(1));
+    /// ```
+    #[must_use]
+    pub fn index(&self) -> Option<usize> {
+        match self {
+            Choice::Field { index, .. } => Some(*index),
             Choice::Fallback => None,
         }
     }

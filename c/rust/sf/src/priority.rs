@@ -45,7 +45,7 @@ impl Priority {
     /// # Errors
     ///
     /// [`Error::Refused`] if the text is not a well-formed Dictionary. RFC 9218 lets a recipient treat
-    /// that as a field that is absent: `Priority::default()`.
+    /// that as a field that is absent, as [`Error::as_absent`] does.
     ///
     /// ```
     /// let priority = sf::Priority::parse("u=8, i").unwrap(); // 8 is out of range

@@ -548,8 +548,40 @@ fn priorities_are_merged() {
 }
 
 #[test]
+fn a_refused_field_counts_as_absent() {
+    let refused = Priority::parse("u=1,").or_else(Error::as_absent);
+    assert_eq!(refused, Ok(Priority::default()));
+    let refused = Policy::parse("max-age=1,").or_else(Error::as_absent);
+    assert_eq!(refused, Ok(None));
+    let short: Result<Priority, _> = Error::OutOfMemory.as_absent();
+    assert_eq!(short, Err(Error::OutOfMemory));
+    let second = equal(Kind::Item, "1", "").unwrap_err();
+    assert_eq!(second.as_absent::<bool>(), Err(second));
+}
+
+#[test]
+fn a_hop_is_appended() {
+    let forwarded = Forwarded::new(Forward::UriMiss)
+        .with_status(200)
+        .with_stored(true)
+        .with_collapsed(false);
+    let hop = Hop::new(Name::Token("here")).with_outcome(forwarded);
+    let own = "here;fwd=uri-miss;fwd-status=200;stored;collapsed=?0";
+    let of = |lines: &[&str]| String::from_utf8(hop.append_to(lines).unwrap()).unwrap();
+    assert_eq!(of(&[]), own);
+    assert_eq!(of(&[""]), own);
+    assert_eq!(of(&["a;hit"]), format!("a;hit, {own}"));
+    assert_eq!(of(&["a", "", "b, c"]), format!("a, b, c, {own}"));
+    let path = Path::parse(of(&["a", "b"])).unwrap();
+    assert_eq!(path.hops().last(), Some(hop));
+    let invalid = Hop::new(Name::Token("a b")).with_outcome(Outcome::Hit);
+    assert_eq!(invalid.append_to([""]), Err(Error::Invalid));
+}
+
+#[test]
 fn a_field_of_a_target_list_is_chosen() {
-    let fields: [(&[&str], Option<(usize, u64)>); 9] = [
+    type Chosen = Option<(usize, u64)>;
+    let fields: [(&[&str], Chosen); 9] = [
         (&[], None),
         (&[""], None),
         (&["max-age=60,", "", "  "], None),
@@ -570,6 +602,7 @@ fn a_field_of_a_target_list_is_chosen() {
             },
         });
         assert_eq!(choice, expected.unwrap_or(Choice::Fallback), "{texts:?}");
+        assert_eq!(choice.index(), expected.and_then(|choice| choice.index()));
         assert_eq!(
             choice.policy().is_none(),
             matches!(choice, Choice::Fallback)
@@ -641,6 +674,7 @@ fn a_path_is_read() {
         let path = Path::parse(format!("c;fwd={word}")).unwrap();
         let hop = path.hops().next().unwrap();
         assert!(matches!(hop.outcome, Outcome::Forwarded(forwarded) if forwarded.why == why));
+        assert_eq!(why.as_str(), word);
     }
     let path = Path::parse("c").unwrap();
     assert_eq!(path.hops().next().unwrap().outcome, Outcome::Unsaid);
