@@ -1000,6 +1000,36 @@ static void built(uint32_t kind, const step *steps, size_t count, const char *te
 
 #define BUILT(kind, steps, text) built(kind, steps, sizeof steps / sizeof *steps, text)
 
+/* Dictionaries of many keys: if they all differ, the call does not allocate; if the last is the
+ * first again, there is one member less. */
+static void many_keys(void) {
+  const char *about = "many keys";
+  uint32_t status;
+  for (size_t count = 8; count <= 8192; count *= 2) {
+    size_t length = count * 6 - 1;
+    char *text = malloc(length + 2);
+    if (text == NULL)
+      abort();
+    for (size_t i = 0; i < count; ++i)
+      snprintf(text + i * 6, 7, "k%04zx,", i);
+    text[length] = '\0';
+    sf_refusal refusal = untouched;
+    value v = {(unsigned char *)text, length,
+               take_buffer(NULL, SF_NODES_SIZE(length) * sizeof *v.nodes),
+               take_buffer(NULL, SF_BYTES_SIZE(length)), {4711, 4712}};
+    FREE_CALL(sf_parse(&seed, SF_RFC9651, SF_DICT, text, length, v.nodes, SF_NODES_SIZE(length),
+                       v.bytes, SF_BYTES_SIZE(length), &v.sizes, &refusal));
+    CHECK(status == SF_OK && v.sizes.nodes == count && v.sizes.bytes == 0);
+    memcpy(text + length - 5, text, 5);
+    CALL(sf_parse(&seed, SF_RFC9651, SF_DICT, text, length, v.nodes, SF_NODES_SIZE(length),
+                  v.bytes, SF_BYTES_SIZE(length), &v.sizes, &refusal));
+    CHECK(status == SF_OK && v.sizes.nodes == count - 1);
+    CHECK(is_untouched(&refusal));
+    give_value(v);
+    free(text);
+  }
+}
+
 static void building(void) {
   static const step signature[] = {
       {'(', 0, "sig1", 0, NULL},           {'=', SF_STRING, NULL, 0, "@method"},
@@ -2344,6 +2374,7 @@ static void all(void) {
     comparing();
     refusals_in_words();
     nodes_of_values();
+    many_keys();
     finding();
     building();
     changing();
