@@ -167,6 +167,7 @@ fn all_enter(table: &mut [u32], source: &[u8], nodes: &[Node]) -> bool
 }
 
 /// Whether the keys differ, by a table for up to about a hundred keys.
+#[inline(never)]
 fn by_small_table(source: &[u8], nodes: &[Node]) -> bool
     ensures { IsTrue result → AreApart source.now nodes.now }
 {
@@ -175,6 +176,7 @@ fn by_small_table(source: &[u8], nodes: &[Node]) -> bool
 }
 
 /// The same by a larger table.
+#[inline(never)]
 fn by_middle_table(source: &[u8], nodes: &[Node]) -> bool
     ensures { IsTrue result → AreApart source.now nodes.now }
 {
@@ -183,6 +185,7 @@ fn by_middle_table(source: &[u8], nodes: &[Node]) -> bool
 }
 
 /// The same by a table for up to about three thousand keys.
+#[inline(never)]
 fn by_large_table(source: &[u8], nodes: &[Node]) -> bool
     ensures { IsTrue result → AreApart source.now nodes.now }
 {
@@ -191,6 +194,7 @@ fn by_large_table(source: &[u8], nodes: &[Node]) -> bool
 }
 
 /// The same by the largest table, for up to about twelve thousand keys.
+#[inline(never)]
 fn by_largest_table(source: &[u8], nodes: &[Node]) -> bool
     ensures { IsTrue result → AreApart source.now nodes.now }
 {
@@ -198,15 +202,12 @@ fn by_largest_table(source: &[u8], nodes: &[Node]) -> bool
     all_enter(&mut table, source, nodes)
 }
 
-/// Whether the keys of the parts differ; `false` also if there are too many.
-#[inline]
-pub(crate) fn are_distinct(source: &[u8], nodes: &[Node]) -> bool
+/// The same by a table. Not inlined, since a function makes room for its tables when it is entered.
+#[inline(never)]
+fn by_table(source: &[u8], nodes: &[Node]) -> bool
     ensures { IsTrue result → AreApart source.now nodes.now }
 {
     let count = nodes.len();
-    if count <= 8 {
-        return each_two(source, nodes);
-    }
     if count <= 96 {
         return by_small_table(source, nodes);
     }
@@ -217,4 +218,15 @@ pub(crate) fn are_distinct(source: &[u8], nodes: &[Node]) -> bool
         return by_large_table(source, nodes);
     }
     by_largest_table(source, nodes)
+}
+
+/// Whether the keys of the parts differ; `false` also if there are too many.
+#[inline]
+pub(crate) fn are_distinct(source: &[u8], nodes: &[Node]) -> bool
+    ensures { IsTrue result → AreApart source.now nodes.now }
+{
+    if nodes.len() <= 8 {
+        return each_two(source, nodes);
+    }
+    by_table(source, nodes)
 }
