@@ -181,7 +181,8 @@ fn has_priority(text: &[u8]) -> bool
 pub extern "C" fn sf_bench_priority(name: u8, text: &[u8], times: usize) -> usize
     ensures bit { result ≤ 1 }
     // 1 only if the text spells a Dictionary, and the letter is `d`.
-    ensures accepted { 0 < result → (name ≡ letter kind_is.Dict) × IsAccepted kind_is.Dict text.now }
+    ensures accepted { 0 < result
+        → (name ≡ letter kind_is.Dict) × IsAccepted kind_is.Dict text.now }
 {
     if name != b'd' {
         return 0;
