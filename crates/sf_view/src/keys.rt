@@ -85,7 +85,7 @@ fn each_two(source: &[u8], nodes: &[Node]) -> bool
     ensures { IsTrue result → AreApart source.now nodes.now }
 {
     let mut rest = nodes;
-    while !rest.is_empty() {
+    while rest.len() > 1 {
         let Some((key, later)) = first_key(source, rest) else {
             return false;
         };
