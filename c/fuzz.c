@@ -106,7 +106,7 @@ static value parse(uint32_t dialect, uint32_t kind, const uint8_t *text, size_t 
   sf_sizes sizes = {0, 0}, again = {0, 0};
   uint32_t status =
       sf_parse(&seed, dialect, kind, text, length, NULL, 0, NULL, 0, &sizes, &refusal);
-  CHECK(status == (sizes.nodes == 0 ? SF_OK : SF_SHORT));
+  CHECK(status == (sizes.nodes == 0 ? SF_OK : SF_TOO_MANY));
   CHECK(sizes.nodes <= SF_NODES_SIZE(length) && sizes.bytes <= SF_BYTES_SIZE(length));
   v.nodes = take_buffer(NULL, sizes.nodes * sizeof *v.nodes);
   v.bytes = take_buffer(NULL, sizes.bytes);
@@ -116,7 +116,7 @@ static value parse(uint32_t dialect, uint32_t kind, const uint8_t *text, size_t 
   if (sizes.nodes > 0) {
     status = sf_parse(&seed, dialect, kind, text, length, v.nodes, sizes.nodes - 1, v.bytes,
                       sizes.bytes, &again, &refusal);
-    CHECK(status == SF_SHORT && memcmp(&again, &sizes, sizeof sizes) == 0);
+    CHECK(status == SF_TOO_MANY && memcmp(&again, &sizes, sizeof sizes) == 0);
   }
   give_buffer(v.bytes);
   if (v.sizes.bytes > 0) {

@@ -78,7 +78,8 @@ typedef enum sf_status {
   SF_NOT_A_CACHE = 7,    /* a member of a Cache-Status List does not name a cache */
   SF_INVALID = 8,        /* the nodes or the hop to be written are not valid */
   SF_ABSENT = 9,         /* no node has the key */
-  SF_TOO_LONG = 10       /* the text has 4 GiB or more, or an offset would have to be that large */
+  SF_TOO_LONG = 10,      /* the text has 4 GiB or more, or an offset would have to be that large */
+  SF_TOO_MANY = 11       /* the value has more nodes than the caller allows */
 } sf_status;
 
 /* Returns the name of a status, such as "SF_REFUSED", for messages; "SF_?" if there is no such
@@ -107,6 +108,8 @@ static inline const char *sf_status_name(uint32_t status) {
     return "SF_ABSENT";
   case SF_TOO_LONG:
     return "SF_TOO_LONG";
+  case SF_TOO_MANY:
+    return "SF_TOO_MANY";
   default:
     return "SF_?";
   }
@@ -319,8 +322,9 @@ typedef struct sf_sizes {
  *
  *   SF_OK         the first sizes->nodes nodes are the value, with the text and the first
  *                 sizes->bytes bytes, to which they point
- *   SF_SHORT      the value has sizes->nodes nodes and requires at most sizes->bytes bytes, and one
- *                 of the two buffers is smaller; buffers of these sizes are large enough
+ *   SF_TOO_MANY   the value has sizes->nodes nodes, more than nodes_capacity
+ *   SF_SHORT      the value has at most nodes_capacity nodes, but may require sizes->bytes bytes,
+ *                 more than bytes_capacity
  *   SF_REFUSED    the text is malformed; refusal says where and why
  *   SF_TOO_LONG   text_length, or text_length plus the required bytes, is 4 GiB or more
  *   SF_NO_MEMORY, SF_BAD_CALL
@@ -332,8 +336,12 @@ typedef struct sf_sizes {
  * the text is well-formed and the buffers are large enough, the call allocates only if keys are
  * copied.
  *
+ * So nodes_capacity is the largest number of nodes that the caller allows for a value. After
+ * SF_TOO_MANY and SF_SHORT, buffers of these sizes are large enough.
+ *
  * After SF_OK, the contents of the nodes and bytes beyond these sizes are unspecified; after any
- * other status, those of all are. Unless SF_OK or SF_SHORT is returned, *sizes is unchanged.
+ * other status, those of all are. Unless SF_OK, SF_TOO_MANY or SF_SHORT is returned, *sizes is
+ * unchanged.
  */
 uint32_t sf_parse(const sf_seed *seed, uint32_t dialect, uint32_t kind, const void *text,
                   size_t text_length, sf_node *nodes, size_t nodes_capacity, void *bytes,

@@ -254,7 +254,8 @@ static void macros(void) {
   CHECK(strcmp(sf_status_name(SF_INVALID), "SF_INVALID") == 0);
   CHECK(strcmp(sf_status_name(SF_ABSENT), "SF_ABSENT") == 0);
   CHECK(strcmp(sf_status_name(SF_TOO_LONG), "SF_TOO_LONG") == 0);
-  CHECK(strcmp(sf_status_name(SF_TOO_LONG + 1), "SF_?") == 0);
+  CHECK(strcmp(sf_status_name(SF_TOO_MANY), "SF_TOO_MANY") == 0);
+  CHECK(strcmp(sf_status_name(SF_TOO_MANY + 1), "SF_?") == 0);
   CHECK(strcmp(sf_status_name(UINT32_MAX), "SF_?") == 0);
 
   about = "sizes of buffers";
@@ -312,7 +313,7 @@ static int is_same_node(const value *v, const sf_node *a, const value *w, const 
 }
 
 /* The value of a text that is accepted, in buffers of exactly its size. One that is smaller by an
- * element gets SF_SHORT, with sizes that are large enough. */
+ * element gets SF_TOO_MANY or SF_SHORT, with sizes that are large enough. */
 static value take_value(uint32_t dialect, uint32_t kind, const char *about,
                         const unsigned char *text, size_t length) {
   uint32_t status;
@@ -320,7 +321,7 @@ static value take_value(uint32_t dialect, uint32_t kind, const char *about,
   value v = {text, length, NULL, NULL, {4711, 4712}};
   sf_sizes sizes = {4711, 4712}, again = {4711, 4712};
   CALL(sf_parse(&seed, dialect, kind, text, length, NULL, 0, NULL, 0, &sizes, &refusal));
-  CHECK(status == (sizes.nodes == 0 ? SF_OK : SF_SHORT));
+  CHECK(status == (sizes.nodes == 0 ? SF_OK : SF_TOO_MANY));
   CHECK(sizes.nodes <= SF_NODES_SIZE(length) && sizes.bytes <= SF_BYTES_SIZE(length));
   v.nodes = take_buffer(NULL, sizes.nodes * sizeof *v.nodes);
   v.bytes = take_buffer(NULL, sizes.bytes);
@@ -330,7 +331,7 @@ static value take_value(uint32_t dialect, uint32_t kind, const char *about,
   if (sizes.nodes > 0) {
     CALL(sf_parse(&seed, dialect, kind, text, length, v.nodes, sizes.nodes - 1, v.bytes,
                   sizes.bytes, &again, &refusal));
-    CHECK(status == SF_SHORT && again.nodes == sizes.nodes && again.bytes == sizes.bytes);
+    CHECK(status == SF_TOO_MANY && again.nodes == sizes.nodes && again.bytes == sizes.bytes);
   }
   give_buffer(v.bytes);
   if (v.sizes.bytes > 0) {
@@ -827,7 +828,7 @@ static void parsed(uint32_t kind, const char *from, const row *rows, size_t coun
                  {4711, 4712}};
       CALL(sf_parse(&seed, SF_RFC9651, kind, text, length, v.nodes, n, v.bytes, b, &v.sizes,
                     &refusal));
-      CHECK(status == (n < count || b < size ? SF_SHORT : SF_OK));
+      CHECK(status == (n < count ? SF_TOO_MANY : b < size ? SF_SHORT : SF_OK));
       CHECK(v.sizes.nodes == count && v.sizes.bytes == (status == SF_OK ? size : all_bytes));
       CHECK(status != SF_OK || is_repeated || n < SF_NODES_SIZE(length) || calls == 0);
       for (size_t i = 0; status == SF_OK && i < count; ++i)
@@ -2146,7 +2147,8 @@ static long scarce(uint32_t dialect, uint32_t kind, const char *text, size_t len
     CALL(ask(asked, dialect, kind, text, length, &right));
     with_memory = status;
     forget(asked, status, &right);
-    CHECK(status != SF_SHORT && status != SF_NO_MEMORY && status != SF_BAD_CALL);
+    CHECK(status != SF_SHORT && status != SF_TOO_MANY && status != SF_NO_MEMORY &&
+          status != SF_BAD_CALL);
     for (int once = 0; once < 2; ++once) {
       for (long n = 1; n < 10000; ++n) {
         memcpy(&got, &blank, sizeof got);

@@ -18,7 +18,7 @@ use Rattle.sf_view.specs.View.{DescribesText, DescribesBare, DescribesParams, De
 use Rattle.sf_view.specs.View.{DescribesItems, DescribesOpening, DescribesInner, DescribesMember}
 use Rattle.sf_view.specs.View.{DescribesMembers, DescribesEntries, DescribesField}
 use Rattle.sf_c.specs.Decodings.{Means, EachMeans}
-use Rattle.sf_c.proofs.Pieces.{piece-append}
+use Rattle.sf_c.proofs.Slices.{slice_at-append}
 
 -- a node describes the same with more bytes after its source
 pub bare_stays : (d : Dialect) (source more : List ℕ) (r : Role) (k : List ℕ) (size : ℕ) (n : Node)
@@ -31,13 +31,13 @@ bare_stays d source more r k size n x h =
       role = h.role;
       size = h.size;
       key_within = omega arith;
-      key = piece-append n.key_at n.key_length source more h.key_within ∙ h.key;
+      key = slice_at-append n.key_at n.key_length source more h.key_within ∙ h.key;
       node_type = h.node_type;
       number = h.number;
       text_within = omega arith;
       text =
           subst (λ y. DescribesText d (is_coded n.coded) y x)
-          (sym (piece-append n.text_at n.text_length source more h.text_within)) h.text;
+          (sym (slice_at-append n.text_at n.text_length source more h.text_within)) h.text;
     }
 
 pub opening_stays : (source more k : List ℕ) (size : ℕ) (n : Node)
@@ -49,7 +49,7 @@ opening_stays source more k size n h =
       role = h.role;
       size = h.size;
       key_within = omega arith;
-      key = piece-append n.key_at n.key_length source more h.key_within ∙ h.key;
+      key = slice_at-append n.key_at n.key_length source more h.key_within ∙ h.key;
       node_type = h.node_type;
       number = h.number;
       empty = h.empty;

@@ -14,11 +14,11 @@ use Rattle.sf_value.specs.Grammar.Words.{Each}
 use Rattle.sf_view.specs.declared.node.Node.{Node}
 use Rattle.sf_view.specs.declared.view.Slice.{Slice}
 use Rattle.sf_view.specs.NodeTypes.{type_number, is_coded}
-use Rattle.sf_view.specs.View.{piece, type_of, text_of, DescribesText}
+use Rattle.sf_view.specs.View.{slice_at, type_of, text_of, DescribesText}
 use Rattle.sf_view.specs.Decoding.{HasBytes}
 use Rattle.sf_c.specs.Decodings.{EachMeans, IsPlain, AreDecoded, IsNodeDecoded, HasCoded}
 use Rattle.sf_c.specs.Decodings.{decoded_to}
-use Rattle.sf_c.proofs.Pieces.{piece-append, piece_behind}
+use Rattle.sf_c.proofs.Slices.{slice_at-append, slice_at_behind}
 use Rattle.sf_c.proofs.Carrying.{means_stays, each_more, each_push}
 
 -- a node that is not coded stays
@@ -47,7 +47,7 @@ no_opening n (inr (inr a)) e = omega arith
 -- the bytes of a bare item are those of the slice
 has_bytes : (d : Dialect) (text : List ℕ) (n : Node) (s : Slice) (x : Bare) → HasCoded text n s
     → n.coded ≢ 0 → n.node_type ≡ type_number (type_of x)
-    → DescribesText d (is_coded n.coded) (piece n.text_at n.text_length text) x
+    → DescribesText d (is_coded n.coded) (slice_at n.text_at n.text_length text) x
     → HasBytes d s (text_of x)
 has_bytes d text n s x h some e t = by x e
     (subst (λ y. DescribesText d y s.bytes.now x) (coded_true n.coded some ∙ sym h.coded)
@@ -73,10 +73,10 @@ has_bytes d text n s x h some e t = by x e
     by (Shown w) f t = inr (inr t)
 
 -- the bytes after those that were used
-piece_free : (text old free new : List ℕ) (used count : ℕ) → used ≤ length old
+slice_free : (text old free new : List ℕ) (used count : ℕ) → used ≤ length old
     → new ≡ take used old ++ free → count ≤ length free
-    → piece (length text + used) count (text ++ take (used + count) new) ≡ take count free
-piece_free text old free new used count fits e small =
+    → slice_at (length text + used) count (text ++ take (used + count) new) ≡ take count free
+slice_free text old free new used count fits e small =
     let front : length (take used old) ≡ used = length-take-le used old fits in
     let behind : drop used new ≡ free =
     ap (drop used) e
@@ -84,7 +84,7 @@ piece_free text old free new used count fits e small =
     ∙ drop-append_seam (take used old) free in
     let enough : length (take count free) ≤ count =
     (let l = length-take-le count free small in omega arith) in
-    piece_behind text (take (used + count) new) used count
+    slice_at_behind text (take (used + count) new) used count
     ∙ ap (take count) (drop-take used count new ∙ ap (take count) behind)
     ∙ take_all count (take count free) enough
 
@@ -114,12 +114,12 @@ node_decoded text old free new used count n s coded some key fits e small gives 
           size = h.size;
           key_within = omega arith;
           key =
-              piece-append n.key_at n.key_length text (take (used + count) new) key ∙ h.key;
+              slice_at-append n.key_at n.key_length text (take (used + count) new) key ∙ h.key;
           node_type = h.node_type;
           number = h.number;
           text_within = omega arith;
           text =
-              piece_free text old free new used count fits e small
+              slice_free text old free new used count fits e small
               ∙ gives d (text_of x) (has_bytes d text n s x coded some h.node_type h.text);
         };
         opening = λ k m h. absurd (no_opening n coded.node_type h.node_type);

@@ -23,31 +23,31 @@ use Rattle.sf_view.specs.View.{DescribesOpening, DescribesInner, DescribesMember
 use Rattle.sf_view.specs.View.{DescribesEntries, DescribesField}
 use Rattle.sf_c.specs.declared.nodes.Part.{Part}
 use Rattle.sf_c.specs.Flattening.{IsDecoded, IsInOne}
-use Rattle.sf_c.specs.Tellings.{Told, told_by, told_size, node_of, IsWithin, AreWithin, HoldsUp}
-use Rattle.sf_c.specs.Tellings.{IsPartSmall}
-use Rattle.sf_c.specs.Nodes.{told, told_params, told_item, told_items, told_inside, told_inner}
-use Rattle.sf_c.specs.Nodes.{told_member, told_members, told_entries, told_field}
+use Rattle.sf_c.specs.NodeContents.{NodeContent, content_by, content_size, node_of, IsWithin, AreWithin, HoldsUp}
+use Rattle.sf_c.specs.NodeContents.{IsPartSmall}
+use Rattle.sf_c.specs.Nodes.{bare_content, params_content, item_content, items_content, inside_content, inner_content}
+use Rattle.sf_c.specs.Nodes.{member_content, members_content, entries_content, field_content}
 use Rattle.sf_c.proofs.NodeSteps.{length_params}
-use Rattle.sf_c.proofs.Pieces.{piece_behind, piece_length}
+use Rattle.sf_c.proofs.Slices.{slice_at_behind, slice_at_length}
 
 -- the first part, and the others
-heads_told : (t u : Told) (ts us : List Told) → t ∷ ts ≡ u ∷ us → (t ≡ u) × (ts ≡ us)
-heads_told t u ts us e = (ap (first t) e, ap others e)
+heads_equal : (t u : NodeContent) (ts us : List NodeContent) → t ∷ ts ≡ u ∷ us → (t ≡ u) × (ts ≡ us)
+heads_equal t u ts us e = (ap (first t) e, ap others e)
   where
-    first : Told → List Told → Told
+    first : NodeContent → List NodeContent → NodeContent
     first d [] = d
     first d (x ∷ xs) = x
 
-    others : List Told → List Told
+    others : List NodeContent → List NodeContent
     others [] = []
     others (x ∷ xs) = xs
 
-no_parts : (t : Told) (ts : List Told) → [] ≡ t ∷ ts → ⊥
+no_parts : (t : NodeContent) (ts : List NodeContent) → [] ≡ t ∷ ts → ⊥
 no_parts t ts e = absurd cc
 
 -- a part describes a bare item, or an Inner List
 bare_node : (d : Dialect) (source bytes : List ℕ) (r : Role) (k : List ℕ) (size : ℕ) (x : Bare)
-    (p : Part) → told_by bytes p ≡ told r k size x → IsWithin bytes p
+    (p : Part) → content_by bytes p ≡ bare_content r k size x → IsWithin bytes p
     → DescribesBare d (source ++ bytes) r k size (node_of (length source) p) x
 bare_node d source bytes r k size x p e w =
     let longer = length-append source bytes in
@@ -57,15 +57,15 @@ bare_node d source bytes r k size x p e w =
       role = ap (λ t. role_number t.role) e;
       size = ap (λ t. t.size) e;
       key_within = omega arith;
-      key = piece_behind source bytes p.key_at p.key_length ∙ ap (λ t. t.key) e;
+      key = slice_at_behind source bytes p.key_at p.key_length ∙ ap (λ t. t.key) e;
       node_type = ap (λ t. type_number t.node_type) e;
       number = ap (λ t. t.number) e;
       text_within = omega arith;
-      text = piece_behind source bytes p.text_at p.text_length ∙ ap (λ t. t.text) e;
+      text = slice_at_behind source bytes p.text_at p.text_length ∙ ap (λ t. t.text) e;
     }
 
-abbrev opening_told : List ℕ → ℕ → Told
-opening_told k size = record {
+abbrev opening_content : List ℕ → ℕ → NodeContent
+opening_content k size = record {
   role = roles.Member;
   node_type = types.InnerList;
   number = pos 0;
@@ -75,7 +75,7 @@ opening_told k size = record {
 }
 
 opening_node : (source bytes k : List ℕ) (size : ℕ) (p : Part)
-    → told_by bytes p ≡ opening_told k size → IsWithin bytes p
+    → content_by bytes p ≡ opening_content k size → IsWithin bytes p
     → DescribesOpening (source ++ bytes) k size (node_of (length source) p)
 opening_node source bytes k size p e w =
     let longer = length-append source bytes in
@@ -84,25 +84,25 @@ opening_node source bytes k size p e w =
       role = ap (λ t. role_number t.role) e;
       size = ap (λ t. t.size) e;
       key_within = omega arith;
-      key = piece_behind source bytes p.key_at p.key_length ∙ ap (λ t. t.key) e;
+      key = slice_at_behind source bytes p.key_at p.key_length ∙ ap (λ t. t.key) e;
       node_type = ap (λ t. type_number t.node_type) e;
       number = ap (λ t. t.number) e;
       empty =
-          sym (piece_length p.text_at p.text_length bytes w.1)
+          sym (slice_at_length p.text_at p.text_length bytes w.1)
           ∙ ap (λ t. length t.text) e;
     }
 
 -- the parts of one list, and those after it
-record Fronts (bytes : List ℕ) (ws : List Part) (ts us : List Told) : Type 0 where
+record Fronts (bytes : List ℕ) (ws : List Part) (ts us : List NodeContent) : Type 0 where
   front : List Part
   back : List Part
   split : ws ≡ front ++ back
-  these : map (told_by bytes) front ≡ ts
-  those : map (told_by bytes) back ≡ us
+  these : map (content_by bytes) front ≡ ts
+  those : map (content_by bytes) back ≡ us
   within : AreWithin bytes front
   behind : AreWithin bytes back
 
-fronts : (bytes : List ℕ) (ws : List Part) (ts us : List Told) → map (told_by bytes) ws ≡ ts ++ us
+fronts : (bytes : List ℕ) (ws : List Part) (ts us : List NodeContent) → map (content_by bytes) ws ≡ ts ++ us
     → AreWithin bytes ws → Fronts bytes ws ts us
 fronts bytes ws [] us e w = record {
   front = [];
@@ -115,7 +115,7 @@ fronts bytes ws [] us e w = record {
 }
 fronts bytes [] (t ∷ ts) us e w = absurd (no_parts t (ts ++ us) e)
 fronts bytes (p ∷ ws) (t ∷ ts) us e w =
-    let both = heads_told (told_by bytes p) t (map (told_by bytes) ws) (ts ++ us) e in
+    let both = heads_equal (content_by bytes p) t (map (content_by bytes) ws) (ts ++ us) e in
     let f = fronts bytes ws ts us both.1 w.1 in
     record {
       front = p ∷ f.front;
@@ -128,11 +128,11 @@ fronts bytes (p ∷ ws) (t ∷ ts) us e w =
     }
 
 -- as many nodes as parts
-as_many : (start : ℕ) (bytes : List ℕ) (ws : List Part) (ts : List Told)
-    → map (told_by bytes) ws ≡ ts → length (map (node_of start) ws) ≡ length ts
+as_many : (start : ℕ) (bytes : List ℕ) (ws : List Part) (ts : List NodeContent)
+    → map (content_by bytes) ws ≡ ts → length (map (node_of start) ws) ≡ length ts
 as_many start bytes ws ts e =
     let a = length-map ws (node_of start) in
-    let b = length-map ws (told_by bytes) in
+    let b = length-map ws (content_by bytes) in
     let c = ap length e in
     omega arith
 
@@ -142,13 +142,13 @@ nodes_split start ws front back e =
     ap (map (node_of start)) e ∙ map-append (node_of start) front back
 
 params_nodes : (d : Dialect) (source bytes : List ℕ) (r : Role) (ws : List Part) (ps : Pairs Bare)
-    → map (told_by bytes) ws ≡ told_params r ps → AreWithin bytes ws
+    → map (content_by bytes) ws ≡ params_content r ps → AreWithin bytes ws
     → DescribesParams d (source ++ bytes) r (map (node_of (length source)) ws) ps
 params_nodes d source bytes r [] [] e w = refl
 params_nodes d source bytes r (p ∷ ws) [] e w = absurd (no_parts _ _ (sym e))
 params_nodes d source bytes r [] (q ∷ qs) e w = absurd (no_parts _ _ e)
 params_nodes d source bytes r (p ∷ ws) (q ∷ qs) e w =
-    let both = heads_told _ _ _ _ e in (
+    let both = heads_equal _ _ _ _ e in (
       node_of (length source) p,
       map (node_of (length source)) ws,
       refl,
@@ -157,13 +157,13 @@ params_nodes d source bytes r (p ∷ ws) (q ∷ qs) e w =
     )
 
 item_nodes : (d : Dialect) (source bytes : List ℕ) (r : Role) (k : List ℕ) (ws : List Part)
-    (i : Item) → map (told_by bytes) ws ≡ told_item r k i → AreWithin bytes ws
+    (i : Item) → map (content_by bytes) ws ≡ item_content r k i → AreWithin bytes ws
     → DescribesItem d (source ++ bytes) r k (map (node_of (length source)) ws) i
 item_nodes d source bytes r k [] i e w = absurd (no_parts _ _ e)
 item_nodes d source bytes r k (p ∷ ws) i e w =
-    let both = heads_told _ _ _ _ e in
+    let both = heads_equal _ _ _ _ e in
     let many : length i.params ≡ length (map (node_of (length source)) ws) =
-    sym (as_many (length source) bytes ws (told_params roles.Parameter i.params) both.1
+    sym (as_many (length source) bytes ws (params_content roles.Parameter i.params) both.1
     ∙ length_params roles.Parameter i.params) in (
       node_of (length source) p,
       map (node_of (length source)) ws,
@@ -175,12 +175,12 @@ item_nodes d source bytes r k (p ∷ ws) i e w =
     )
 
 items_nodes : (d : Dialect) (source bytes : List ℕ) (ws : List Part) (is : List Item)
-    → map (told_by bytes) ws ≡ told_items is → AreWithin bytes ws
+    → map (content_by bytes) ws ≡ items_content is → AreWithin bytes ws
     → DescribesItems d (source ++ bytes) (map (node_of (length source)) ws) is
 items_nodes d source bytes [] [] e w = refl
 items_nodes d source bytes (p ∷ ws) [] e w = absurd (no_parts _ _ (sym e))
 items_nodes d source bytes ws (i ∷ is) e w =
-    let f = fronts bytes ws (told_item roles.InnerItem [] i) (told_items is) e w in (
+    let f = fronts bytes ws (item_content roles.InnerItem [] i) (items_content is) e w in (
       map (node_of (length source)) f.front,
       map (node_of (length source)) f.back,
       nodes_split (length source) ws f.front f.back f.split,
@@ -189,41 +189,41 @@ items_nodes d source bytes ws (i ∷ is) e w =
     )
 
 inner_nodes : (d : Dialect) (source bytes k : List ℕ) (ws : List Part) (l : Inner)
-    → map (told_by bytes) ws ≡ told_inner k l → AreWithin bytes ws
+    → map (content_by bytes) ws ≡ inner_content k l → AreWithin bytes ws
     → DescribesInner d (source ++ bytes) k (map (node_of (length source)) ws) l
 inner_nodes d source bytes k [] l e w = absurd (no_parts _ _ e)
 inner_nodes d source bytes k (p ∷ ws) l e w =
-    let both = heads_told _ _ _ _ e in
-    let f = fronts bytes ws (told_items l.items) (told_params roles.InnerParameter l.params)
+    let both = heads_equal _ _ _ _ e in
+    let f = fronts bytes ws (items_content l.items) (params_content roles.InnerParameter l.params)
     both.1 w.1 in
     let split = nodes_split (length source) ws f.front f.back f.split in
-    let many : length (told_inside l)
+    let many : length (inside_content l)
     ≡ length (map (node_of (length source)) f.front ++ map (node_of (length source)) f.back) =
-    sym (as_many (length source) bytes ws (told_inside l) both.1) ∙ ap length split in (
+    sym (as_many (length source) bytes ws (inside_content l) both.1) ∙ ap length split in (
       node_of (length source) p,
       map (node_of (length source)) f.front,
       map (node_of (length source)) f.back,
       ap (λ y. node_of (length source) p ∷ y) split,
       subst (λ s. DescribesOpening (source ++ bytes) k (1 + s) (node_of (length source) p)) many
-          (opening_node source bytes k (1 + length (told_inside l)) p both.0 w.0),
+          (opening_node source bytes k (1 + length (inside_content l)) p both.0 w.0),
       items_nodes d source bytes f.front l.items f.these f.within,
       params_nodes d source bytes roles.InnerParameter f.back l.params f.those f.behind,
     )
 
 member_nodes : (d : Dialect) (source bytes k : List ℕ) (ws : List Part) (m : Member)
-    → map (told_by bytes) ws ≡ told_member k m → AreWithin bytes ws
+    → map (content_by bytes) ws ≡ member_content k m → AreWithin bytes ws
     → DescribesMember d (source ++ bytes) k (map (node_of (length source)) ws) m
 member_nodes d source bytes k ws (member.Item i) e w =
     item_nodes d source bytes roles.Member k ws i e w
 member_nodes d source bytes k ws (member.Inner l) e w = inner_nodes d source bytes k ws l e w
 
 members_nodes : (d : Dialect) (source bytes : List ℕ) (ws : List Part) (ms : List Member)
-    → map (told_by bytes) ws ≡ told_members ms → AreWithin bytes ws
+    → map (content_by bytes) ws ≡ members_content ms → AreWithin bytes ws
     → DescribesMembers d (source ++ bytes) (map (node_of (length source)) ws) ms
 members_nodes d source bytes [] [] e w = refl
 members_nodes d source bytes (p ∷ ws) [] e w = absurd (no_parts _ _ (sym e))
 members_nodes d source bytes ws (m ∷ ms) e w =
-    let f = fronts bytes ws (told_member [] m) (told_members ms) e w in (
+    let f = fronts bytes ws (member_content [] m) (members_content ms) e w in (
       map (node_of (length source)) f.front,
       map (node_of (length source)) f.back,
       nodes_split (length source) ws f.front f.back f.split,
@@ -232,12 +232,12 @@ members_nodes d source bytes ws (m ∷ ms) e w =
     )
 
 entries_nodes : (d : Dialect) (source bytes : List ℕ) (ws : List Part) (ps : Pairs Member)
-    → map (told_by bytes) ws ≡ told_entries ps → AreWithin bytes ws
+    → map (content_by bytes) ws ≡ entries_content ps → AreWithin bytes ws
     → DescribesEntries d (source ++ bytes) (map (node_of (length source)) ws) ps
 entries_nodes d source bytes [] [] e w = refl
 entries_nodes d source bytes (p ∷ ws) [] e w = absurd (no_parts _ _ (sym e))
 entries_nodes d source bytes ws (q ∷ qs) e w =
-    let f = fronts bytes ws (told_member q.0 q.1) (told_entries qs) e w in (
+    let f = fronts bytes ws (member_content q.0 q.1) (entries_content qs) e w in (
       map (node_of (length source)) f.front,
       map (node_of (length source)) f.back,
       nodes_split (length source) ws f.front f.back f.split,
@@ -246,7 +246,7 @@ entries_nodes d source bytes ws (q ∷ qs) e w =
     )
 
 pub field_nodes : (d : Dialect) (source bytes : List ℕ) (ws : List Part) (v : Field)
-    → map (told_by bytes) ws ≡ told_field v → AreWithin bytes ws
+    → map (content_by bytes) ws ≡ field_content v → AreWithin bytes ws
     → DescribesField d (source ++ bytes) (map (node_of (length source)) ws) v
 field_nodes d source bytes ws (field.Item i) e w =
     item_nodes d source bytes roles.Member [] ws i e w
@@ -263,10 +263,10 @@ parts_small start bytes (p ∷ ws) w h =
     ((omega arith, omega arith), parts_small start bytes ws w.1 h)
 
 -- what was written describes the value, wherever the text ends
-pub record Written (start : ℕ) (ts : List Told) (new : List ℕ) (ns : List Node) : Type 0 where
+pub record Written (start : ℕ) (ts : List NodeContent) (new : List ℕ) (ns : List Node) : Type 0 where
   pub describes : (d : Dialect) (source : List ℕ) (v : Field) → length source ≡ start
-      → ts ≡ told_field v
-      → DescribesField d (source ++ take (told_size ts) new) (take (length ts) ns) v
+      → ts ≡ field_content v
+      → DescribesField d (source ++ take (content_size ts) new) (take (length ts) ns) v
   pub decoded : Each IsDecoded (take (length ts) ns)
   pub in_one : Each (IsInOne start) (take (length ts) ns)
 
@@ -278,15 +278,15 @@ all_behind : (start : ℕ) (ws : List Part) → Each (IsInOne start) (map (node_
 all_behind start [] = tt
 all_behind start (p ∷ ws) = ((inr (omega arith), inr (omega arith)), all_behind start ws)
 
-pub written : (start : ℕ) (ts : List Told) (ws : List Part) (bytes buffer new : List ℕ)
-    (ns : List Node) → map (told_by bytes) ws ≡ ts → HoldsUp bytes ws
+pub written : (start : ℕ) (ts : List NodeContent) (ws : List Part) (bytes buffer new : List ℕ)
+    (ns : List Node) → map (content_by bytes) ws ≡ ts → HoldsUp bytes ws
     → new ≡ bytes ++ drop (0 + length bytes) buffer
     → take (length ws) ns ≡ map (node_of start) ws → Written start ts new ns
-written start ts ws bytes buffer new ns tells h put e =
-    let size : told_size ts ≡ length bytes = sym (h.1 ∙ ap told_size tells) in
-    let each = length-map ws (told_by bytes) in
-    let count : length ts ≡ length ws = sym (ap length tells) ∙ each in
-    let there : take (told_size ts) new ≡ bytes =
+written start ts ws bytes buffer new ns described h put e =
+    let size : content_size ts ≡ length bytes = sym (h.1 ∙ ap content_size described) in
+    let each = length-map ws (content_by bytes) in
+    let count : length ts ≡ length ws = sym (ap length described) ∙ each in
+    let there : take (content_size ts) new ≡ bytes =
     ap (λ k. take k new) size
     ∙ ap (take (length bytes)) put
     ∙ take-append_seam bytes (drop (0 + length bytes) buffer) in
@@ -296,7 +296,7 @@ written start ts ws bytes buffer new ns tells h put e =
           subst (λ y. DescribesField d (source ++ y) (take (length ts) ns) v) (sym there)
           (subst (λ y. DescribesField d (source ++ bytes) y v)
           (ap (λ n. map (node_of n) ws) at ∙ sym these)
-          (field_nodes d source bytes ws v (tells ∙ is) h.0));
+          (field_nodes d source bytes ws v (described ∙ is) h.0));
       decoded = subst (Each IsDecoded) (sym these) (all_decoded start ws);
       in_one = subst (Each (IsInOne start)) (sym these) (all_behind start ws);
     }

@@ -20,7 +20,7 @@ use Rattle.sf_c.specs.declared.hops.HopNode.{HopNode}
 use Rattle.sf_c.specs.declared.status.Status.{Status}
 use Rattle.sf_c.specs.declared.status.Status.TheVariants.{Answered, Refused, SecondRefused, Short}
 use Rattle.sf_c.specs.declared.status.Status.TheVariants.{OutOfMemory, Empty, BadCall}
-use Rattle.sf_c.specs.declared.status.Status.TheVariants.{NotACache, Invalid, Absent, TooLong}
+use Rattle.sf_c.specs.declared.status.Status.TheVariants.{NotACache, Invalid, Absent, TooLong, TooMany}
 use Rattle.sf_c.specs.GivenHops.{GivesHop, GivesMaybe, GivesNone}
 use Rattle.sf_c.specs.GivenHops.{GivesOutcome, GivesPassed, GivesStatus, IsReadAs, WritesHop}
 use Rattle.sf_c.specs.GivenHops.{hop_text}
@@ -57,6 +57,7 @@ no_forwarded bytes n BadCall e h = h
 no_forwarded bytes n NotACache e h = h
 no_forwarded bytes n Absent e h = h
 no_forwarded bytes n TooLong e h = h
+no_forwarded bytes n TooMany e h = h
 
 pub no_conflict : (bytes : List ℕ) (n : HopNode) (s : Status) → n.outcome ≡ 3
     → GivesNone (GivesPassed bytes n) s → GivesNone (GivesOutcome bytes n) s
@@ -71,6 +72,7 @@ no_conflict bytes n BadCall e h = h
 no_conflict bytes n NotACache e h = h
 no_conflict bytes n Absent e h = h
 no_conflict bytes n TooLong e h = h
+no_conflict bytes n TooMany e h = h
 
 -- none of Q where none of P, which each of Q has
 pub no_whole : {X Y : Type 0} (P : X → Type 0) (Q : Y → Type 0) (part : Y → X)
@@ -86,6 +88,7 @@ no_whole P Q part has BadCall h = h
 no_whole P Q part has NotACache h = h
 no_whole P Q part has Absent h = h
 no_whole P Q part has TooLong h = h
+no_whole P Q part has TooMany h = h
 
 -- the status of a hop that a struct gives has three digits
 status_in_range : (flag number : ℕ) (status : Option ℕ)
@@ -135,3 +138,4 @@ writes_hop old new bytes n h BadCall g r w = w
 writes_hop old new bytes n h NotACache g r w = w
 writes_hop old new bytes n h Absent g r w = w
 writes_hop old new bytes n h TooLong g r w = w
+writes_hop old new bytes n h TooMany g r w = w

@@ -37,7 +37,7 @@ use Rattle.sf_view.specs.View.{text_of}
 use Rattle.sf_c.specs.NodeCounts.{member_nodes, members_nodes, field_nodes, params_bytes}
 use Rattle.sf_c.specs.NodeCounts.{member_bytes, members_bytes, field_bytes}
 use Rattle.sf_c.specs.Laws.{HopsAreFew, HopBytesAreFew}
-use Rattle.sf_c.specs.Hops.{ToldHop, bytes_of, detail_bytes, hop_size, hops_size, told_hop}
+use Rattle.sf_c.specs.Hops.{HopContent, bytes_of, detail_bytes, hop_size, hops_size, hop_content}
 use Rattle.sf_c.specs.Hops.{why_token}
 
 -- how many bytes a bare item has, where there is one
@@ -183,7 +183,7 @@ passed_back false (Some p) = refl
 
 -- a hop has at most the bytes of its name and its parameters
 hop_few : (ps : Pairs Bare) (n : Name)
-    → hop_size (told_hop (hop_named ps n))
+    → hop_size (hop_content (hop_named ps n))
     ≤ length (bytes_of n) + params_bytes ps
 hop_few ps n =
     let back = ap (λ o. length (why_token o))
@@ -200,7 +200,7 @@ hop_few ps n =
 -- the bytes of a hop, where there is one
 abbrev few : Option Hop → ℕ
 few None = 0
-few (Some h) = hop_size (told_hop h)
+few (Some h) = hop_size (hop_content h)
 
 bare_few : (x : Bare) (ps : Pairs Bare)
     → few (option_map (hop_named ps) (as_name x))
@@ -224,13 +224,13 @@ member_some (member.Item i) = omega arith
 member_some (member.Inner l) = omega arith
 
 members_few : (ms : Seq Member)
-    → hops_size (map told_hop (filter_map member_hop ms)) ≤ members_bytes ms
+    → hops_size (map hop_content (filter_map member_hop ms)) ≤ members_bytes ms
 members_few [] = omega arith
 members_few (m ∷ ms) = go (member_hop m) refl (member_few m) (members_few ms)
   where
     go : (o : Option Hop) → member_hop m ≡ o → few o ≤ member_bytes m
-        → hops_size (map told_hop (filter_map member_hop ms)) ≤ members_bytes ms
-        → hops_size (map told_hop (filter_map member_hop (m ∷ ms)))
+        → hops_size (map hop_content (filter_map member_hop ms)) ≤ members_bytes ms
+        → hops_size (map hop_content (filter_map member_hop (m ∷ ms)))
         ≤ members_bytes (m ∷ ms)
     go None e one rest = rw e (omega arith)
     go (Some h) e one rest = rw e (omega arith)
@@ -257,47 +257,47 @@ unless_ok (Some index) js hs e = let never : Err index ≡ Ok hs = e in absurd c
 
 pub path_few : (v : Field) (hs : Seq Hop) → hops v ≡ Ok hs
     → (length hs ≤ field_nodes v)
-    × (hops_size (map told_hop hs) ≤ field_bytes v)
+    × (hops_size (map hop_content hs) ≤ field_bytes v)
 path_few (field.List l) hs e =
     let same = unless_ok _ (filter_map member_hop l.members) hs e in
     let count = ap length same in
-    let size = ap (λ js. hops_size (map told_hop js)) same in
+    let size = ap (λ js. hops_size (map hop_content js)) same in
     let nodes = members_count l.members in
     let bytes = members_few l.members in
     (omega arith, omega arith)
 path_few (field.Item i) hs e =
     let same : [] ≡ hs = ap (from_ok hs) e in
     let count = ap length same in
-    let size = ap (λ js. hops_size (map told_hop js)) same in
+    let size = ap (λ js. hops_size (map hop_content js)) same in
     (omega arith, omega arith)
 path_few (field.Dict d) hs e =
     let same : [] ≡ hs = ap (from_ok hs) e in
     let count = ap length same in
-    let size = ap (λ js. hops_size (map told_hop js)) same in
+    let size = ap (λ js. hops_size (map hop_content js)) same in
     (omega arith, omega arith)
 
 -- the same of numbers that say how many there are
-count_few : (n m : ℕ) (ts : Seq ToldHop) (js hs : Seq Hop) → n ≡ length ts
-    → ts ≡ map told_hop js → js ≡ hs → 10 * length hs ≤ m → 10 * n ≤ m
+count_few : (n m : ℕ) (ts : Seq HopContent) (js hs : Seq Hop) → n ≡ length ts
+    → ts ≡ map hop_content js → js ≡ hs → 10 * length hs ≤ m → 10 * n ≤ m
 count_few n m ts js hs e f g h =
     let told = ap length f in
-    let each = length-map js told_hop in
+    let each = length-map js hop_content in
     let same = ap length g in
     omega arith
 
-size_few : (n m : ℕ) (ts : Seq ToldHop) (js hs : Seq Hop) → n ≡ hops_size ts
-    → ts ≡ map told_hop js → js ≡ hs → 5 * hops_size (map told_hop hs) ≤ m → 5 * n ≤ m
+size_few : (n m : ℕ) (ts : Seq HopContent) (js hs : Seq Hop) → n ≡ hops_size ts
+    → ts ≡ map hop_content js → js ≡ hs → 5 * hops_size (map hop_content hs) ≤ m → 5 * n ≤ m
 size_few n m ts js hs e f g h =
     let told = ap hops_size f in
-    let same = ap (λ z. hops_size (map told_hop z)) g in
+    let same = ap (λ z. hops_size (map hop_content z)) g in
     omega arith
 
 -- and of the two together, of the path of a text
-pub told_few : (n size : ℕ) (t : Seq ℕ) (v : Field) (ts : Seq ToldHop) (js hs : Seq Hop)
-    → n ≡ length ts → size ≡ hops_size ts → ts ≡ map told_hop js → js ≡ hs
+pub content_few : (n size : ℕ) (t : Seq ℕ) (v : Field) (ts : Seq HopContent) (js hs : Seq Hop)
+    → n ≡ length ts → size ≡ hops_size ts → ts ≡ map hop_content js → js ≡ hs
     → HopsAreFew → HopBytesAreFew → SpellsField Rfc9651 List t v → hops v ≡ Ok hs
     → (10 * n ≤ 8 * length t + 5) × (5 * size ≤ 8 * length t)
-told_few n size t v ts js hs e s f g few small spelled told = (
+content_few n size t v ts js hs e s f g few small spelled told = (
   count_few n (8 * length t + 5) ts js hs e f g (few Rfc9651 List t v hs spelled told),
   size_few size (8 * length t) ts js hs s f g (small Rfc9651 List t v hs spelled told),
 )

@@ -8,17 +8,17 @@ use Rattle.sf_use.specs.CacheStatus.Members.{passed_by}
 use Rattle.sf_c.specs.declared.span.Span.{Span}
 use Rattle.sf_c.specs.declared.hops.HopNode.{HopNode}
 use Rattle.sf_c.specs.Spans.{IsSpanWithin, span_bytes}
-use Rattle.sf_c.specs.Hops.{ToldHop, says_by, says_of, told_hop_by, told_hop}
+use Rattle.sf_c.specs.Hops.{HopContent, says_by, says_of, hop_content_by, hop_content}
 use Rattle.sf_c.specs.Hops.{bytes_of, detail_bytes, why_token, hops_size}
 use Rattle.sf_c.specs.Hops.{IsHopWithin, AreHopsWithin, HopsHoldUp, PutsSpan, HopsAtFront}
 use Rattle.sf_c.specs.Hops.{hop_bytes, hops_bytes, end_of, AreHopsInOrder}
-use Rattle.sf_c.proofs.Pieces.{piece-append, piece_last}
+use Rattle.sf_c.proofs.Slices.{slice_at-append, slice_at_last}
 use Rattle.std.specs.Prelude.{unwrap_or}
 
 -- a span of bytes is the same among more, and there
 span_more : (bytes more : List ℕ) (p : Span) → IsSpanWithin bytes p
     → span_bytes (bytes ++ more) p ≡ span_bytes bytes p
-span_more bytes more p h = piece-append p.at p.length bytes more h
+span_more bytes more p h = slice_at-append p.at p.length bytes more h
 
 within_more : (bytes more : List ℕ) (p : Span) → IsSpanWithin bytes p
     → IsSpanWithin (bytes ++ more) p
@@ -35,7 +35,7 @@ hop_within_more bytes more n h = (
 )
 
 hop_more : (bytes more : List ℕ) (n : HopNode) → IsHopWithin bytes n
-    → told_hop_by (bytes ++ more) n ≡ told_hop_by bytes n
+    → hop_content_by (bytes ++ more) n ≡ hop_content_by bytes n
 hop_more bytes more n h =
     let name = span_more bytes more n.name h.0 in
     let why = span_more bytes more n.why_token h.1 in
@@ -51,7 +51,7 @@ hops_within_more bytes more (n ∷ ns) h =
     (hop_within_more bytes more n h.0, hops_within_more bytes more ns h.1)
 
 hops_more : (bytes more : List ℕ) (ns : List HopNode) → AreHopsWithin bytes ns
-    → map (told_hop_by (bytes ++ more)) ns ≡ map (told_hop_by bytes) ns
+    → map (hop_content_by (bytes ++ more)) ns ≡ map (hop_content_by bytes) ns
 hops_more bytes more [] h = refl
 hops_more bytes more (n ∷ ns) h =
     rw (hop_more bytes more n h.0, hops_more bytes more ns h.1) refl
@@ -72,7 +72,7 @@ put_within old new text p h =
 
 put_there : (old new text : List ℕ) (p : Span) → PutsSpan old new text p
     → span_bytes new p ≡ text
-put_there old new text p h = rw (h.0, h.1, h.2) (piece_last old text)
+put_there old new text p h = rw (h.0, h.1, h.2) (slice_at_last old text)
 
 -- what stays when one more text is put
 put_keeps : (old new text : List ℕ) (p q : Span) → PutsSpan old new text q
@@ -82,7 +82,7 @@ put_keeps old new text p q h w =
 
 put_keeps_hops : (old new text : List ℕ) (ns : List HopNode) (q : Span)
     → PutsSpan old new text q → AreHopsWithin old ns
-    → AreHopsWithin new ns × (map (told_hop_by new) ns ≡ map (told_hop_by old) ns)
+    → AreHopsWithin new ns × (map (hop_content_by new) ns ≡ map (hop_content_by old) ns)
 put_keeps_hops old new text ns q h w =
     rw h.0 (hops_within_more old text ns w, hops_more old text ns w)
 
@@ -122,7 +122,7 @@ spans_there b0 b1 b2 b3 b4 n w k d x p =
 -- the hops that were there, in the end
 hops_there : (b0 b1 b2 b3 b4 n w k d : List ℕ) (x : HopNode) (ns : List HopNode)
     → PutsHop b0 b1 b2 b3 b4 n w k d x → AreHopsWithin b0 ns
-    → AreHopsWithin b4 ns × (map (told_hop_by b4) ns ≡ map (told_hop_by b0) ns)
+    → AreHopsWithin b4 ns × (map (hop_content_by b4) ns ≡ map (hop_content_by b0) ns)
 hops_there b0 b1 b2 b3 b4 n w k d x ns p h =
     let h1 = put_keeps_hops b0 b1 n ns x.name p.name h in
     let h2 = put_keeps_hops b1 b2 w ns x.why_token p.why h1.0 in
@@ -139,7 +139,7 @@ pub record TextsOf (h : Hop) (n w k d : List ℕ) : Type 0 where
 
 hop_is : (b0 b1 b2 b3 b4 n w k d : List ℕ) (x : HopNode) (h : Hop)
     → PutsHop b0 b1 b2 b3 b4 n w k d x → TextsOf h n w k d → says_by x ≡ says_of h
-    → told_hop_by b4 x ≡ told_hop h
+    → hop_content_by b4 x ≡ hop_content h
 hop_is b0 b1 b2 b3 b4 n w k d x h p t s =
     let there = spans_there b0 b1 b2 b3 b4 n w k d x p in
     let name = there.1 ∙ t.name in
@@ -149,17 +149,17 @@ hop_is b0 b1 b2 b3 b4 n w k d x h p t s =
     rw (name, why, key, detail, s) refl
 
 -- the hops with one more
-pub hop_told : (b0 b1 b2 b3 b4 n w k d : List ℕ) (x : HopNode) (h : Hop) (ns ms : List HopNode)
+pub hop_content_is : (b0 b1 b2 b3 b4 n w k d : List ℕ) (x : HopNode) (h : Hop) (ns ms : List HopNode)
     → PutsHop b0 b1 b2 b3 b4 n w k d x → TextsOf h n w k d → says_by x ≡ says_of h
     → ms ≡ ns ++ x ∷ [] → AreHopsWithin b0 ns
-    → map (told_hop_by b4) ms ≡ map (told_hop_by b0) ns ++ told_hop h ∷ []
-hop_told b0 b1 b2 b3 b4 n w k d x h ns ms p t s e a =
+    → map (hop_content_by b4) ms ≡ map (hop_content_by b0) ns ++ hop_content h ∷ []
+hop_content_is b0 b1 b2 b3 b4 n w k d x h ns ms p t s e a =
     let last = hop_is b0 b1 b2 b3 b4 n w k d x h p t s in
     let before = hops_there b0 b1 b2 b3 b4 n w k d x ns p a in
     let others = before.1 in
-    rw e (map-append (told_hop_by b4) ns (x ∷ []) ∙ rw (others, last) refl)
+    rw e (map-append (hop_content_by b4) ns (x ∷ []) ∙ rw (others, last) refl)
 
-hops_size-append : (ts us : List ToldHop) → hops_size (ts ++ us) ≡ hops_size ts + hops_size us
+hops_size-append : (ts us : List HopContent) → hops_size (ts ++ us) ≡ hops_size ts + hops_size us
 hops_size-append [] us = omega arith
 hops_size-append (t ∷ ts) us = let e = hops_size-append ts us in omega arith
 
@@ -190,7 +190,7 @@ hops_order_more at b0 b1 b2 b3 b4 n w k d x (m ∷ ns) p h =
     (h.0, hops_order_more (end_of m.detail) b0 b1 b2 b3 b4 n w k d x ns p h.1)
 
 -- the bytes with those of one more hop
-hops_bytes-push : (ts : List ToldHop) (t : ToldHop)
+hops_bytes-push : (ts : List HopContent) (t : HopContent)
     → hops_bytes (ts ++ t ∷ []) ≡ hops_bytes ts ++ hop_bytes t
 hops_bytes-push [] t = append-nil (hop_bytes t)
 hops_bytes-push (u ∷ ts) t =
@@ -198,7 +198,7 @@ hops_bytes-push (u ∷ ts) t =
     ∙ sym (append_assoc (hop_bytes u) (hops_bytes ts) (hop_bytes t))
 
 hop_bytes_are : (n w k d : List ℕ) (h : Hop) → TextsOf h n w k d
-    → n ++ (w ++ (k ++ d)) ≡ hop_bytes (told_hop h)
+    → n ++ (w ++ (k ++ d)) ≡ hop_bytes (hop_content h)
 hop_bytes_are n w k d h t = rw (t.name, t.why, t.key, t.detail) refl
 
 put_behind : (b0 b1 b2 b3 b4 n w k d : List ℕ) (x : HopNode) → PutsHop b0 b1 b2 b3 b4 n w k d x
@@ -216,9 +216,9 @@ pub hop_held : (b0 b1 b2 b3 b4 n w k d : List ℕ) (x : HopNode) (h : Hop) (ns m
 hop_held b0 b1 b2 b3 b4 n w k d x h ns ms p t s e a =
     let before = hops_there b0 b1 b2 b3 b4 n w k d x ns p a.0 in
     let there = spans_there b0 b1 b2 b3 b4 n w k d x p in
-    let all = hop_told b0 b1 b2 b3 b4 n w k d x h ns ms p t s e a.0 in
+    let all = hop_content_is b0 b1 b2 b3 b4 n w k d x h ns ms p t s e a.0 in
     let told = ap hops_size all in
-    let sum = hops_size-append (map (told_hop_by b0) ns) (told_hop h ∷ []) in
+    let sum = hops_size-append (map (hop_content_by b0) ns) (hop_content h ∷ []) in
     let l1 = ap length p.name.0 in
     let l2 = ap length p.why.0 in
     let l3 = ap length p.key.0 in
@@ -232,11 +232,11 @@ hop_held b0 b1 b2 b3 b4 n w k d x h ns ms p t s e a =
     let t3 = ap length t.key in
     let t4 = ap length t.detail in
     let size = a.1 in
-    let whole : b4 ≡ hops_bytes (map (told_hop_by b4) ms) =
+    let whole : b4 ≡ hops_bytes (map (hop_content_by b4) ms) =
     put_behind b0 b1 b2 b3 b4 n w k d x p
     ∙ ap (λ z. z ++ (n ++ (w ++ (k ++ d)))) a.3
-    ∙ ap (λ z. hops_bytes (map (told_hop_by b0) ns) ++ z) (hop_bytes_are n w k d h t)
-    ∙ sym (hops_bytes-push (map (told_hop_by b0) ns) (told_hop h)) ∙ sym (ap hops_bytes all) in (
+    ∙ ap (λ z. hops_bytes (map (hop_content_by b0) ns) ++ z) (hop_bytes_are n w k d h t)
+    ∙ sym (hops_bytes-push (map (hop_content_by b0) ns) (hop_content h)) ∙ sym (ap hops_bytes all) in (
       rw e (hops_within_push b4 ns x before.0 there.0),
       omega arith,
       rw e (hops_order_more 0 b0 b1 b2 b3 b4 n w k d x ns p a.2),
@@ -244,14 +244,14 @@ hop_held b0 b1 b2 b3 b4 n w k d x h ns ms p t s e a =
     )
 
 -- the hops and the bytes at the start of two buffers
-pub front_of : (ts : List ToldHop) (hops some_hops : List HopNode) (bytes some_bytes : List ℕ)
-    → map (told_hop_by some_bytes) some_hops ≡ ts → HopsHoldUp some_bytes some_hops
+pub front_of : (ts : List HopContent) (hops some_hops : List HopNode) (bytes some_bytes : List ℕ)
+    → map (hop_content_by some_bytes) some_hops ≡ ts → HopsHoldUp some_bytes some_hops
     → take (length some_hops) hops ≡ some_hops → take (length some_bytes) bytes ≡ some_bytes
     → HopsAtFront ts hops bytes
-front_of ts hops some_hops bytes some_bytes tells h e f =
-    let size : length some_bytes ≡ hops_size ts = h.1 ∙ ap hops_size tells in
+front_of ts hops some_hops bytes some_bytes described h e f =
+    let size : length some_bytes ≡ hops_size ts = h.1 ∙ ap hops_size described in
     let count : length some_hops ≡ length ts =
-    sym (length-map some_hops (told_hop_by some_bytes)) ∙ ap length tells in
+    sym (length-map some_hops (hop_content_by some_bytes)) ∙ ap length described in
     let there : some_hops ≡ take (length ts) hops = sym e ∙ ap (λ n. take n hops) count in
     let with_bytes : some_bytes ≡ take (hops_size ts) bytes =
     sym f ∙ ap (λ n. take n bytes) size in
@@ -260,22 +260,22 @@ front_of ts hops some_hops bytes some_bytes tells h e f =
     record {
       hops_fit = omega (arith, length-take (length some_hops) hops);
       bytes_fit = omega (arith, length-take (length some_bytes) bytes);
-      tells =
-          subst (λ y. map (told_hop_by y) (take (length ts) hops) ≡ ts) with_bytes
-          (subst (λ y. map (told_hop_by some_bytes) y ≡ ts) there tells);
+      describes =
+          subst (λ y. map (hop_content_by y) (take (length ts) hops) ≡ ts) with_bytes
+          (subst (λ y. map (hop_content_by some_bytes) y ≡ ts) there described);
       held =
           subst (λ y. HopsHoldUp y (take (length ts) hops)) with_bytes
           (subst (HopsHoldUp some_bytes) there h);
     }
 
 -- hops and bytes that are put into buffers
-pub hops_at_front : (ts : List ToldHop) (hops new_hops some_hops : List HopNode)
-    (bytes new_bytes some_bytes : List ℕ) → map (told_hop_by some_bytes) some_hops ≡ ts
+pub hops_at_front : (ts : List HopContent) (hops new_hops some_hops : List HopNode)
+    (bytes new_bytes some_bytes : List ℕ) → map (hop_content_by some_bytes) some_hops ≡ ts
     → HopsHoldUp some_bytes some_hops
     → new_hops ≡ some_hops ++ drop (0 + length some_hops) hops
     → new_bytes ≡ some_bytes ++ drop (0 + length some_bytes) bytes
     → HopsAtFront ts new_hops new_bytes
-hops_at_front ts hops new_hops some_hops bytes new_bytes some_bytes tells h e f =
-    front_of ts new_hops some_hops new_bytes some_bytes tells h
+hops_at_front ts hops new_hops some_hops bytes new_bytes some_bytes described h e f =
+    front_of ts new_hops some_hops new_bytes some_bytes described h
     (ap (take (length some_hops)) e ∙ take-append_seam some_hops _)
     (ap (take (length some_bytes)) f ∙ take-append_seam some_bytes _)

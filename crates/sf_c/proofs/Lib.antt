@@ -1,6 +1,6 @@
 pub mod ScannedTexts
-pub mod Pieces
-pub mod TellingLemmas
+pub mod Slices
+pub mod ContentLemmas
 pub mod Joins
 pub mod NodeSteps
 pub mod FlatNodes

@@ -14,25 +14,25 @@ use Rattle.sf_view.specs.declared.node_types.Role.{Role}
 use Rattle.sf_view.specs.declared.node_types.Role.TheVariants as roles
 use Rattle.sf_view.specs.View.{DescribesParams, DescribesItem, DescribesItems}
 use Rattle.sf_view.specs.View.{DescribesMember, DescribesMembers, DescribesEntries, DescribesField}
-use Rattle.sf_c.specs.Tellings.{Told, told_size}
-use Rattle.sf_c.specs.Nodes.{told_params, told_item, told_items, told_member, told_members}
-use Rattle.sf_c.specs.Nodes.{told_entries, told_field}
+use Rattle.sf_c.specs.NodeContents.{NodeContent, content_size}
+use Rattle.sf_c.specs.Nodes.{params_content, item_content, items_content, member_content, members_content}
+use Rattle.sf_c.specs.Nodes.{entries_content, field_content}
 use Rattle.sf_c.specs.NodeCounts.{item_nodes, items_nodes, member_nodes, members_nodes}
 use Rattle.sf_c.specs.NodeCounts.{entries_nodes, field_nodes, params_bytes, item_bytes}
 use Rattle.sf_c.specs.NodeCounts.{items_bytes, member_bytes, members_bytes, entries_bytes}
 use Rattle.sf_c.specs.NodeCounts.{field_bytes}
-use Rattle.sf_c.proofs.TellingLemmas.{told_size-append}
+use Rattle.sf_c.proofs.ContentLemmas.{content_size-append}
 
 -- parts are so many, with so many bytes
-record Counted (ts : List Told) (count size : ℕ) : Type 0 where
+record Counted (ts : List NodeContent) (count size : ℕ) : Type 0 where
   nodes : length ts ≡ count
-  bytes : told_size ts ≡ size
+  bytes : content_size ts ≡ size
 
-counted_append : (ts us : List Told) (n m b c : ℕ) → Counted ts n b → Counted us m c
+counted_append : (ts us : List NodeContent) (n m b c : ℕ) → Counted ts n b → Counted us m c
     → Counted (ts ++ us) (n + m) (b + c)
 counted_append ts us n m b c h k =
     let e = length-append ts us in
-    let f = told_size-append ts us in
+    let f = content_size-append ts us in
     let p = h.nodes in
     let q = h.bytes in
     let r = k.nodes in
@@ -40,7 +40,7 @@ counted_append ts us n m b c h k =
     record { nodes = omega arith; bytes = omega arith }
 
 params_counted : (r : Role) (ps : Pairs Bare)
-    → Counted (told_params r ps) (length ps) (params_bytes ps)
+    → Counted (params_content r ps) (length ps) (params_bytes ps)
 params_counted r [] = record { nodes = refl; bytes = refl }
 params_counted r (p ∷ ps) =
     let h = params_counted r ps in
@@ -49,50 +49,50 @@ params_counted r (p ∷ ps) =
     record { nodes = omega arith; bytes = omega arith }
 
 item_counted : (r : Role) (k : List ℕ) (i : Item)
-    → Counted (told_item r k i) (item_nodes i) (length k + item_bytes i)
+    → Counted (item_content r k i) (item_nodes i) (length k + item_bytes i)
 item_counted r k i =
     let h = params_counted roles.Parameter i.params in
     let n = h.nodes in
     let b = h.bytes in
     record { nodes = omega arith; bytes = omega arith }
 
-items_counted : (is : List Item) → Counted (told_items is) (items_nodes is) (items_bytes is)
+items_counted : (is : List Item) → Counted (items_content is) (items_nodes is) (items_bytes is)
 items_counted [] = record { nodes = refl; bytes = refl }
 items_counted (i ∷ is) =
-    let h = counted_append (told_item roles.InnerItem [] i) (told_items is) _ _ _ _
+    let h = counted_append (item_content roles.InnerItem [] i) (items_content is) _ _ _ _
     (item_counted roles.InnerItem [] i) (items_counted is) in
     let n = h.nodes in
     let b = h.bytes in
     record { nodes = omega arith; bytes = omega arith }
 
 member_counted : (k : List ℕ) (m : Member)
-    → Counted (told_member k m) (member_nodes m) (length k + member_bytes m)
+    → Counted (member_content k m) (member_nodes m) (length k + member_bytes m)
 member_counted k (member.Item i) = item_counted roles.Member k i
 member_counted k (member.Inner l) =
-    let h = counted_append (told_items l.items) (told_params roles.InnerParameter l.params) _ _ _ _
+    let h = counted_append (items_content l.items) (params_content roles.InnerParameter l.params) _ _ _ _
     (items_counted l.items) (params_counted roles.InnerParameter l.params) in
     let n = h.nodes in
     let b = h.bytes in
     record { nodes = omega arith; bytes = omega arith }
 
 members_counted : (ms : List Member)
-    → Counted (told_members ms) (members_nodes ms) (members_bytes ms)
+    → Counted (members_content ms) (members_nodes ms) (members_bytes ms)
 members_counted [] = record { nodes = refl; bytes = refl }
 members_counted (m ∷ ms) =
-    let h = counted_append (told_member [] m) (told_members ms) _ _ _ _ (member_counted [] m)
+    let h = counted_append (member_content [] m) (members_content ms) _ _ _ _ (member_counted [] m)
     (members_counted ms) in
     let n = h.nodes in
     let b = h.bytes in
     record { nodes = omega arith; bytes = omega arith }
 
 entries_counted : (ps : Pairs Member)
-    → Counted (told_entries ps) (entries_nodes ps) (entries_bytes ps)
+    → Counted (entries_content ps) (entries_nodes ps) (entries_bytes ps)
 entries_counted [] = record { nodes = refl; bytes = refl }
 entries_counted (p ∷ ps) =
-    counted_append (told_member p.0 p.1) (told_entries ps) _ _ _ _ (member_counted p.0 p.1)
+    counted_append (member_content p.0 p.1) (entries_content ps) _ _ _ _ (member_counted p.0 p.1)
     (entries_counted ps)
 
-field_counted : (v : Field) → Counted (told_field v) (field_nodes v) (field_bytes v)
+field_counted : (v : Field) → Counted (field_content v) (field_nodes v) (field_bytes v)
 field_counted (field.Item i) =
     let h = item_counted roles.Member [] i in
     let n = h.nodes in
@@ -101,11 +101,11 @@ field_counted (field.Item i) =
 field_counted (field.List l) = members_counted l.members
 field_counted (field.Dict m) = entries_counted m.members
 
-pub told_nodes : (v : Field) → length (told_field v) ≡ field_nodes v
-told_nodes v = (field_counted v).nodes
+pub content_nodes : (v : Field) → length (field_content v) ≡ field_nodes v
+content_nodes v = (field_counted v).nodes
 
-pub told_bytes : (v : Field) → told_size (told_field v) ≡ field_bytes v
-told_bytes v = (field_counted v).bytes
+pub content_bytes : (v : Field) → content_size (field_content v) ≡ field_bytes v
+content_bytes v = (field_counted v).bytes
 
 -- nodes that describe a value are as many as it has
 params_many : (d : Dialect) (source : List ℕ) (r : Role) (ns : List Node) (ps : Pairs Bare)

@@ -19,9 +19,9 @@ use Rattle.sf_c.specs.declared.priority.PriorityFlags.{PriorityFlags}
 use Rattle.sf_c.specs.declared.status.Status.{Status}
 use Rattle.sf_c.specs.declared.status.Status.TheVariants.{Answered, Refused, SecondRefused, Short}
 use Rattle.sf_c.specs.declared.status.Status.TheVariants.{OutOfMemory, Empty, BadCall, NotACache}
-use Rattle.sf_c.specs.declared.status.Status.TheVariants.{Invalid, Absent, TooLong}
+use Rattle.sf_c.specs.declared.status.Status.TheVariants.{Invalid, Absent, TooLong, TooMany}
 use Rattle.sf_c.specs.Normal.{TextOutput}
-use Rattle.sf_c.specs.Priorities.{asked_by}
+use Rattle.sf_c.specs.Priorities.{params_of_flags}
 use Rattle.sf_c.specs.PriorityChanges.{ChangesPriority}
 use Rattle.sf_c.specs.PriorityChanges as change
 use Rattle.sf_c.specs.TextBuffers.{PutsText}
@@ -48,15 +48,16 @@ writes_nodes old new nodes source d k v BadCall t h w e = w
 writes_nodes old new nodes source d k v NotACache t h w e = w
 writes_nodes old new nodes source d k v Absent t h w e = w
 writes_nodes old new nodes source d k v TooLong t h w e = w
+writes_nodes old new nodes source d k v TooMany t h w e = w
 
 pub changes_priority : (old new : TextOutput) (t : List ℕ) (p : PriorityFlags) (m : Dictionary)
     (s : Status) → IsOnly Rfc9651 kind.Dict t (field.Dict m)
-    → Valid Rfc9651 kind.Dict (field.Dict (updated (asked_by p) m))
+    → Valid Rfc9651 kind.Dict (field.Dict (updated (params_of_flags p) m))
     → PutsText (change.text_buffer old) (change.text_buffer new)
-    (canon (field.Dict (updated (asked_by p) m))) (Some s)
+    (canon (field.Dict (updated (params_of_flags p) m))) (Some s)
     → new.refusal ≡ old.refusal → ChangesPriority old new t p (Some s)
 changes_priority old new t p m Answered h v w e =
-    (m, h, canon_only Rfc9651 kind.Dict (field.Dict (updated (asked_by p) m)) v, w, e)
+    (m, h, canon_only Rfc9651 kind.Dict (field.Dict (updated (params_of_flags p) m)) v, w, e)
 changes_priority old new t p m Short h v w e = (m, h, w, e)
 changes_priority old new t p m OutOfMemory h v w e = absurd w
 changes_priority old new t p m Refused h v w e = absurd w
@@ -67,3 +68,4 @@ changes_priority old new t p m BadCall h v w e = w
 changes_priority old new t p m NotACache h v w e = w
 changes_priority old new t p m Absent h v w e = w
 changes_priority old new t p m TooLong h v w e = w
+changes_priority old new t p m TooMany h v w e = w

@@ -14,7 +14,7 @@ use Rattle.sf_use.specs.declared.cache_status.hop.Outcome.TheVariants.{Hit, Forw
 use Rattle.sf_use.specs.declared.cache_status.hop.Outcome.TheVariants.{Unsaid}
 use Rattle.sf_use.specs.declared.cache_status.hop.Hop.{Hop}
 use Rattle.sf_use.specs.CacheStatus.Reasons.{token_of}
-use Rattle.sf_c.specs.Hops.{ToldHop, HopSays, told_hop, bytes_of, is_token, detail_bytes}
+use Rattle.sf_c.specs.Hops.{HopContent, HopSays, hop_content, bytes_of, is_token, detail_bytes}
 use Rattle.sf_c.specs.Hops.{detail_is_token, reason_number, says_passed, why_token}
 use Rattle.sf_c.specs.Refusals.{flag_number}
 
@@ -112,7 +112,7 @@ same_hop : (m n : Name) (o p : Outcome) (a b : Option ℤ) (k l : Option (Seq �
     → m ≡ n → o ≡ p → a ≡ b → k ≡ l → c ≡ d → hop m o a k c ≡ hop n p b l d
 same_hop m n o p a b k l c d e f g h i = rw (e, f, g, h, i) refl
 
-abbrev hop_from : ToldHop → Hop
+abbrev hop_from : HopContent → Hop
 hop_from t =
     hop (name_by t.says.name_is_token t.name)
     (outcome_from t.says.outcome (passed_from t.says t.why_token))
@@ -120,7 +120,7 @@ hop_from t =
     (said t.says.has_detail (name_by t.says.detail_is_token t.detail))
 
 hop_is : (n : Name) (o : Outcome) (ttl : Option ℤ) (key : Option (Seq ℕ)) (detail : Option Name)
-    → hop_from (told_hop (hop n o ttl key detail)) ≡ hop n o ttl key detail
+    → hop_from (hop_content (hop n o ttl key detail)) ≡ hop n o ttl key detail
 hop_is n Unsaid ttl key detail =
     same_hop _ _ _ _ _ _ _ _ _ _ (name_is n) refl (seconds_is ttl) (bytes_is key)
     (detail_is detail)
@@ -136,13 +136,13 @@ hop_is n (Conflict p) ttl key detail =
     (ap Conflict (passed_is p (hop n (Conflict p) ttl key detail))) (seconds_is ttl)
     (bytes_is key) (detail_is detail)
 
-hops_are : (hs : Seq Hop) → map hop_from (map told_hop hs) ≡ hs
+hops_are : (hs : Seq Hop) → map hop_from (map hop_content hs) ≡ hs
 hops_are [] = refl
 hops_are (h ∷ hs) =
-    let first : hop_from (told_hop h) ≡ h = hop_is h.name h.outcome h.ttl h.key h.detail in
+    let first : hop_from (hop_content h) ≡ h = hop_is h.name h.outcome h.ttl h.key h.detail in
     let rest = hops_are hs in
     rw (first, rest) refl
 
 -- two paths that say the same
-pub one_path : (hs js : Seq Hop) → map told_hop hs ≡ map told_hop js → hs ≡ js
+pub one_path : (hs js : Seq Hop) → map hop_content hs ≡ map hop_content js → hs ≡ js
 one_path hs js e = sym (hops_are hs) ∙ ap (map hop_from) e ∙ hops_are js

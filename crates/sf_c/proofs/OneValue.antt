@@ -22,7 +22,7 @@ use Rattle.sf_view.specs.declared.node.Node.{Node}
 use Rattle.sf_view.specs.declared.node_types.Role.{Role}
 use Rattle.sf_view.specs.declared.node_types.Role.TheVariants as roles
 use Rattle.sf_view.specs.NodeTypes.{type_number, is_coded}
-use Rattle.sf_view.specs.View.{piece, type_of, number_of, text_of, DescribesText, DescribesBare}
+use Rattle.sf_view.specs.View.{slice_at, type_of, number_of, text_of, DescribesText, DescribesBare}
 use Rattle.sf_view.specs.View.{DescribesParams, DescribesItem, DescribesItems, DescribesInner}
 use Rattle.sf_view.specs.View.{DescribesMember, DescribesMembers, DescribesEntries, DescribesField}
 use Rattle.sf_view.specs.Finding.{IsHop, IsSplitAtParams}
@@ -89,7 +89,7 @@ one_bare : OneValue → (d : Dialect) (source : Seq ℕ) (r r' : Role) (k k' : S
 one_bare one d source r r' k k' s s' n x y h j = by (is_coded n.coded) h.text j.text
   where
     raw : Seq ℕ
-    raw = piece n.text_at n.text_length source
+    raw = slice_at n.text_at n.text_length source
 
     by : (b : Bool) → DescribesText d b raw x → DescribesText d b raw y → x ≡ y
     by true t u = spelled_once one d raw x y t u

@@ -13,13 +13,13 @@ use Rattle.sf_view.specs.Accepts.{Accepts}
 use Rattle.sf_view.specs.View.{DescribesField}
 use Rattle.sf_c.specs.declared.parsing.Sizes.{Sizes}
 use Rattle.sf_c.specs.Decodings.{AreDecoded, IsPlain}
-use Rattle.sf_c.specs.Flattening.{IsDecoded, IsInOne, IsSmall, IsHeld}
+use Rattle.sf_c.specs.Flattening.{HasSizes, IsDecoded, IsInOne, IsSmall, IsHeld}
 use Rattle.sf_c.specs.Laws.{NodesAreFew, BytesAreFew, NodesAreTheirs}
 use Rattle.sf_c.specs.NodeCounts.{field_nodes, field_bytes}
-use Rattle.sf_c.specs.Nodes.{told_field}
-use Rattle.sf_c.specs.Tellings.{Told, told_size}
+use Rattle.sf_c.specs.Nodes.{field_content}
+use Rattle.sf_c.specs.NodeContents.{NodeContent, content_size}
 use Rattle.sf_c.proofs.Carrying.{field_carry}
-use Rattle.sf_c.proofs.NodeCounting.{told_nodes, told_bytes}
+use Rattle.sf_c.proofs.NodeCounting.{content_nodes, content_bytes}
 
 each_decoded : (size : ℕ) (ns : List Node) → Each (IsPlain size) ns → Each IsDecoded ns
 each_decoded size [] h = tt
@@ -69,20 +69,27 @@ scanned_held d k t scanned front back new bytes sizes nodes small theirs a same 
     )
 
 -- the numbers of nodes and bytes of the parts of a value
-pub flat_nodes : (v : Field) (ts : List Told) (n : ℕ) → ts ≡ told_field v → n ≡ length ts
+pub flat_nodes : (v : Field) (ts : List NodeContent) (n : ℕ) → ts ≡ field_content v → n ≡ length ts
     → n ≡ field_nodes v
-flat_nodes v ts n e h = h ∙ ap length e ∙ told_nodes v
+flat_nodes v ts n e h = h ∙ ap length e ∙ content_nodes v
 
-pub flat_bytes : (v : Field) (ts : List Told) (n : ℕ) → ts ≡ told_field v → n ≡ told_size ts
+pub flat_bytes : (v : Field) (ts : List NodeContent) (n : ℕ) → ts ≡ field_content v → n ≡ content_size ts
     → n ≡ field_bytes v
-flat_bytes v ts n e h = h ∙ ap told_size e ∙ told_bytes v
+flat_bytes v ts n e h = h ∙ ap content_size e ∙ content_bytes v
+
+-- the sizes of the parts of a value
+pub has_sizes : (d : Dialect) (k : Kind) (t : List ℕ) (v : Field) (ts : List NodeContent)
+    (sizes : Sizes) → NodesAreFew → BytesAreFew → IsOnly d k t v → ts ≡ field_content v
+    → sizes.nodes ≡ length ts → sizes.bytes ≡ content_size ts → HasSizes d k t sizes
+has_sizes d k t v ts sizes few small only e n b =
+    (v, only, is_small few small d k t v only, flat_nodes v ts _ e n, flat_bytes v ts _ e b)
 
 -- nodes that were written from the tree
-pub written_held : (d : Dialect) (k : Kind) (t : List ℕ) (v : Field) (ts : List Told)
+pub written_held : (d : Dialect) (k : Kind) (t : List ℕ) (v : Field) (ts : List NodeContent)
     (nodes : List Node) (bytes : List ℕ) (sizes : Sizes) → NodesAreFew → BytesAreFew
-    → IsOnly d k t v → ts ≡ told_field v → sizes.nodes ≡ length ts → sizes.bytes ≡ told_size ts
+    → IsOnly d k t v → ts ≡ field_content v → sizes.nodes ≡ length ts → sizes.bytes ≡ content_size ts
     → sizes.nodes ≤ length nodes → sizes.bytes ≤ length bytes
-    → DescribesField d (t ++ take (told_size ts) bytes) (take (length ts) nodes) v
+    → DescribesField d (t ++ take (content_size ts) bytes) (take (length ts) nodes) v
     → Each IsDecoded (take (length ts) nodes)
     → Each (IsInOne (length t)) (take (length ts) nodes) → IsHeld d k t nodes bytes sizes
 written_held d k t v ts nodes bytes sizes few small only e n b nodes_fit bytes_fit h p q = (
@@ -94,7 +101,7 @@ written_held d k t v ts nodes bytes sizes few small only e n b nodes_fit bytes_f
     bytes_fit = bytes_fit;
     describes =
         subst (λ y. DescribesField d (t ++ take y bytes) (take sizes.nodes nodes) v) (sym b)
-        (subst (λ y. DescribesField d (t ++ take (told_size ts) bytes) (take y nodes) v) (sym n) h);
+        (subst (λ y. DescribesField d (t ++ take (content_size ts) bytes) (take y nodes) v) (sym n) h);
     decoded = subst (λ y. Each IsDecoded (take y nodes)) (sym n) p;
     in_one = subst (λ y. Each (IsInOne (length t)) (take y nodes)) (sym n) q;
     count = flat_nodes v ts sizes.nodes e n;

@@ -37,12 +37,12 @@ use Rattle.sf_c.specs.declared.hop_scan.PathSizes.{PathSizes}
 use Rattle.sf_c.specs.declared.hops.HopNode.{HopNode}
 use Rattle.sf_c.specs.declared.span.Span.{Span}
 use Rattle.sf_c.specs.Hops.{bytes_of, detail_bytes, end_of, hops_size, outcome_number, says_by}
-use Rattle.sf_c.specs.Hops.{told_hop, told_hop_by, why_token, HopsHoldUp, PutsSpan}
+use Rattle.sf_c.specs.Hops.{hop_content, hop_content_by, why_token, HopsHoldUp, PutsSpan}
 use Rattle.sf_c.specs.Laws.{HopsAreFew, HopBytesAreFew}
 use Rattle.sf_c.specs.Paths.{IsShort}
 use Rattle.sf_c.specs.Refusals.{flag_number}
 use Rattle.sf_c.specs.ScannedHops.{says_in, IsHopPut, IsPathOf, PutsBehind}
-use Rattle.sf_c.proofs.HopLemmas.{front_of, hop_held, hop_told, PutsHop, TextsOf}
+use Rattle.sf_c.proofs.HopLemmas.{front_of, hop_held, hop_content_is, PutsHop, TextsOf}
 use Rattle.sf_c.proofs.ShownHops.{says_shown, token_shown}
 
 -- bytes that were put after those that were used
@@ -69,7 +69,7 @@ pub record PathSoFar (text : Seq ℕ) (c : HopCursor) (nodes : Seq HopNode) (byt
   pub means : map member_hop members ≡ map Some path
   pub fits : count ≤ length nodes
   pub within : used ≤ length bytes
-  pub tells : map (told_hop_by (take used bytes)) (take count nodes) ≡ map told_hop path
+  pub describes : map (hop_content_by (take used bytes)) (take count nodes) ≡ map hop_content path
   pub held : HopsHoldUp (take used bytes) (take count nodes)
   pub place : last ≡ served path
   pub reads : (ms : Seq Member) → RemainsInPath c ms
@@ -84,7 +84,7 @@ none_read text c nodes bytes h = record {
   means = refl;
   fits = omega arith;
   within = omega arith;
-  tells = refl;
+  describes = refl;
   held = (tt, refl, refl, refl);
   place = refl;
   reads = h;
@@ -143,9 +143,9 @@ hop_read text c e v nodes old new count used n last next s (m, h, means, shown, 
     let long = length-set nodes count n in
     let many : count ≡ length s.path =
     sym (length-take-le count nodes s.fits)
-    ∙ sym (length-map (take count nodes) (told_hop_by (take used old)))
-    ∙ ap length s.tells ∙ length-map s.path told_hop in
-    let told = hop_told (take used old) p.with_name p.with_why p.with_key (take (end_of n.detail) new)
+    ∙ sym (length-map (take count nodes) (hop_content_by (take used old)))
+    ∙ ap length s.describes ∙ length-map s.path hop_content in
+    let told = hop_content_is (take used old) p.with_name p.with_why p.with_key (take (end_of n.detail) new)
     (bytes_of h.name) (why_token (passed_by h.outcome)) (unwrap_or h.key []) (detail_bytes h.detail) n h
     (take count nodes) _ (put_hop old new used n h p) texts p.says pushed s.held.0 in
     record {
@@ -158,8 +158,8 @@ hop_read text c e v nodes old new count used n last next s (m, h, means, shown, 
           ∙ sym (map-append Some s.path (h ∷ []));
       fits = omega arith;
       within = within;
-      tells =
-          told ∙ ap (λ y. y ++ told_hop h ∷ []) s.tells ∙ sym (map-append told_hop s.path (h ∷ []));
+      describes =
+          told ∙ ap (λ y. y ++ hop_content h ∷ []) s.describes ∙ sym (map-append hop_content s.path (h ∷ []));
       held =
           hop_held (take used old) p.with_name p.with_why p.with_key (take (end_of n.detail) new)
           (bytes_of h.name) (why_token (passed_by h.outcome)) (unwrap_or h.key []) (detail_bytes h.detail)
@@ -217,12 +217,12 @@ path_read text c e o nodes bytes z s r none =
           ap (λ o. unless o (filter_map member_hop s.members)) (all_named s.members s.path s.means)
           ∙ ap Ok (each_meant s.members s.path s.means);
       count =
-          sym many ∙ sym (length-map (take z.hops nodes) (told_hop_by (take z.bytes bytes)))
-          ∙ ap length s.tells ∙ length-map s.path told_hop;
-      size = sym used ∙ s.held.1 ∙ ap hops_size s.tells;
+          sym many ∙ sym (length-map (take z.hops nodes) (hop_content_by (take z.bytes bytes)))
+          ∙ ap length s.describes ∙ length-map s.path hop_content;
+      size = sym used ∙ s.held.1 ∙ ap hops_size s.describes;
       place = s.place;
       front =
-          front_of (map told_hop s.path) nodes (take z.hops nodes) bytes (take z.bytes bytes) s.tells
+          front_of (map hop_content s.path) nodes (take z.hops nodes) bytes (take z.bytes bytes) s.describes
           s.held (ap (λ k. take k nodes) many) (ap (λ k. take k bytes) used);
     }
 

@@ -8,7 +8,7 @@ use Rattle.sf_value.specs.declared.value.Kind.TheVariants as kind
 use Rattle.sf_parse.specs.Parsers.{IsOnly}
 use Rattle.sf_use.specs.declared.priority.Asked.{Asked}
 use Rattle.sf_use.specs.declared.targeted.Policy.{Policy}
-use Rattle.sf_use.specs.Priority.{asked_in}
+use Rattle.sf_use.specs.Priority.{params_of_field}
 use Rattle.sf_use.specs.Scanning.{IsScanned}
 use Rattle.sf_use.specs.Targeted.{policy}
 use Rattle.sf_use.specs.TargetedChoice.{MayOffer}
@@ -20,7 +20,7 @@ use Rattle.sf_c.specs.Priorities.{AsksFor, PriorityOutput, SaysAsked}
 
 -- a priority
 pub asks_for : (old new : PriorityOutput) (t : Seq ℕ) (a : Asked)
-    → IsScanned (λ v asked. asked ≡ asked_in v) t a → SaysAsked new.priority a
+    → IsScanned (λ v a. a ≡ params_of_field v) t a → SaysAsked new.priority a
     → new.refusal ≡ old.refusal → AsksFor old new t (Some status.Answered)
 asks_for old new t a (v, only, e) says same = (v, only, subst (SaysAsked new.priority) e says, same)
 
@@ -55,6 +55,7 @@ says_to_cache old new t o s (v, only, may) h same = by v only may
     told status.Invalid d only x = absurd x
     told status.Absent d only x = absurd x
     told status.TooLong d only x = absurd x
+    told status.TooMany d only x = absurd x
 
     by : (v : Field) → IsOnly Rfc9651 kind.Dict t v → MayOffer v o
         → SaysToCache old new t (Some s)

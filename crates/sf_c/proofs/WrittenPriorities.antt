@@ -13,9 +13,9 @@ use Rattle.sf_value.specs.Grammar.Valid.{ValidEntries}
 use Rattle.sf_value.proofs.CanonicalTexts.{canon_spells}
 use Rattle.sf_parse.proofs.GrammarLaws.{one_value}
 use Rattle.sf_use.specs.declared.priority.Asked.{Asked}
-use Rattle.sf_use.specs.Priority.{asked}
+use Rattle.sf_use.specs.Priority.{params_of_dict}
 use Rattle.sf_c.specs.Laws.{PriorityIsRead}
-use Rattle.sf_c.specs.Priorities.{asked_by, asking, incremental_member, urgency_at, urgency_member}
+use Rattle.sf_c.specs.Priorities.{params_of_flags, dict_of_params, incremental_member, urgency_at, urgency_member}
 
 -- u and i are keys, and the urgency is an Integer
 valid_given : (n : ℕ) → nat_le n 7 ≡ true → (i : Option Bool)
@@ -55,19 +55,19 @@ valid_said says n i = by (says == 0) refl
     by false h = within (nat_le n 7) refl
 
 read_given : (n : ℕ) → nat_le n 7 ≡ true → (i : Option Bool)
-    → asked (asking (record { urgency = Some n; incremental = i }))
+    → params_of_dict (dict_of_params (record { urgency = Some n; incremental = i }))
     ≡ record { urgency = Some n; incremental = i }
 read_given n h None = rw h refl
 read_given n h (Some b) = rw h refl
 
 read_none : (i : Option Bool)
-    → asked (asking (record { urgency = None; incremental = i }))
+    → params_of_dict (dict_of_params (record { urgency = None; incremental = i }))
     ≡ record { urgency = None; incremental = i }
 read_none None = refl
 read_none (Some b) = refl
 
 read_said : (says n : ℕ) (i : Option Bool)
-    → asked (asking (record { urgency = urgency_at says n; incremental = i }))
+    → params_of_dict (dict_of_params (record { urgency = urgency_at says n; incremental = i }))
     ≡ record { urgency = urgency_at says n; incremental = i }
 read_said says n i = by (says == 0) refl
   where
@@ -75,20 +75,20 @@ read_said says n i = by (says == 0) refl
     asks u = record { urgency = u; incremental = i }
 
     within : (b : Bool) → nat_le n 7 ≡ b
-        → asked (asking (asks (if b then Some n else None))) ≡ asks (if b then Some n else None)
+        → params_of_dict (dict_of_params (asks (if b then Some n else None))) ≡ asks (if b then Some n else None)
     within true h = read_given n h i
     within false h = read_none i
 
     by : (b : Bool) → (says == 0) ≡ b
-        → asked (asking (asks (if b then None else (if nat_le n 7 then Some n else None))))
+        → params_of_dict (dict_of_params (asks (if b then None else (if nat_le n 7 then Some n else None))))
         ≡ asks (if b then None else (if nat_le n 7 then Some n else None))
     by true h = read_none i
     by false h = within (nat_le n 7) refl
 
 pub priority_is_read : PriorityIsRead
 priority_is_read p =
-    let a = asked_by p in
-    let v : Field = field.Dict (asking a) in
+    let a = params_of_flags p in
+    let v : Field = field.Dict (dict_of_params a) in
     let spelled = canon_spells Rfc9651 kind.Dict v
     (valid_said p.has_urgency p.urgency a.incremental) in (
       record {

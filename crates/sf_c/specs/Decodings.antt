@@ -8,7 +8,7 @@ use Rattle.sf_view.specs.declared.node_types.NodeType.TheVariants.{Text, Blob, S
 use Rattle.sf_view.specs.declared.node_types.Role.{Role}
 use Rattle.sf_view.specs.declared.view.Slice.{Slice}
 use Rattle.sf_view.specs.NodeTypes.{type_number}
-use Rattle.sf_view.specs.View.{piece, DescribesBare, DescribesOpening}
+use Rattle.sf_view.specs.View.{slice_at, DescribesBare, DescribesOpening}
 use Rattle.sf_c.specs.Flattening.{IsDecoded, IsInOne}
 
 -- whatever the first node describes with one source, the second describes with the other
@@ -63,4 +63,4 @@ pub record HasCoded (text : List ℕ) (n : Node) (s : Slice) : Type 0 where
   pub node_type : (n.node_type ≡ type_number Text) ⊎ (n.node_type ≡ type_number Blob)
       ⊎ (n.node_type ≡ type_number Shown)
   pub coded : s.coded ≡ true
-  pub bytes : s.bytes.now ≡ piece n.text_at n.text_length text
+  pub bytes : s.bytes.now ≡ slice_at n.text_at n.text_length text

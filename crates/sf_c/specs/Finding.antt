@@ -4,7 +4,7 @@ use Rattle.std.specs.Prelude.{if◌then◌else◌, position, Option, Some, None,
 use Rattle.std.specs.Option.{option_map}
 use Rattle.std.specs.Str.{bytes_eq}
 use Rattle.sf_view.specs.declared.node.Node.{Node}
-use Rattle.sf_view.specs.View.{piece}
+use Rattle.sf_view.specs.View.{slice_at}
 use Rattle.sf_c.specs.declared.status.Status.{Status}
 use Rattle.sf_c.specs.declared.status.Status.TheVariants.{Answered, Absent}
 
@@ -12,9 +12,9 @@ use Rattle.sf_c.specs.declared.status.Status.TheVariants.{Answered, Absent}
 -- all in one of the two
 abbrev pub found_at : List ℕ → List ℕ → ℕ → ℕ → Option (List ℕ)
 found_at text bytes at count =
-    if nat_le (at + count) (length text) then Some (piece at count text)
+    if nat_le (at + count) (length text) then Some (slice_at at count text)
     else (if nat_le (length text) at && nat_le (at + count) (length text + length bytes)
-    then Some (piece (at - length text) count bytes)
+    then Some (slice_at (at - length text) count bytes)
     else None)
 
 -- the node points to such bytes, and they are this key

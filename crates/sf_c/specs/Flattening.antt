@@ -11,7 +11,7 @@ use Rattle.sf_c.specs.declared.parsing.Sizes.{Sizes}
 use Rattle.sf_c.specs.declared.refusal.SyntaxRefusal.{SyntaxRefusal}
 use Rattle.sf_c.specs.declared.status.Status.{Status}
 use Rattle.sf_c.specs.declared.status.Status.TheVariants.{Answered, Refused, Short, OutOfMemory}
-use Rattle.sf_c.specs.declared.status.Status.TheVariants.{TooLong}
+use Rattle.sf_c.specs.declared.status.Status.TheVariants.{TooLong, TooMany}
 use Rattle.sf_c.specs.NodeCounts.{field_nodes, field_bytes}
 use Rattle.sf_c.specs.Refusals.{SaysRefusal}
 
@@ -60,20 +60,32 @@ abbrev pub KeepsLengths : NodeOutput → NodeOutput → Type 0
 KeepsLengths old new =
     (length new.nodes ≡ length old.nodes) × (length new.bytes ≡ length old.bytes)
 
--- the starts of the buffers describe the only value that the text t spells; or one of them is too
--- small for it; or the struct has the refusal; or an offset would have to be 2^32 or more
+-- the text spells this value only, which has this number of nodes and of bytes
+abbrev pub HasSizes : Dialect → Kind → List ℕ → Sizes → Type 0
+HasSizes d k t sizes =
+    (v : Field)
+    × IsOnly d k t v
+    × IsSmall t v
+    × (sizes.nodes ≡ field_nodes v)
+    × (sizes.bytes ≡ field_bytes v)
+
+-- the starts of the buffers describe the only value that the text t spells; or it has more nodes
+-- than the first of them holds; or the second is too small for it; or the struct has the refusal; or
+-- an offset would have to be 2^32 or more
 abbrev pub Flattens : NodeOutput → NodeOutput → List ℕ → Dialect → Kind → Status → Type 0
 Flattens old new t d k Answered =
     IsHeld d k t new.nodes new.bytes new.sizes
     × KeepsLengths old new
     × (new.refusal ≡ old.refusal)
+Flattens old new t d k TooMany =
+    HasSizes d k t new.sizes
+    × (length old.nodes < new.sizes.nodes)
+    × KeepsLengths old new
+    × (new.refusal ≡ old.refusal)
 Flattens old new t d k Short =
-    (v : Field)
-    × IsOnly d k t v
-    × IsSmall t v
-    × (new.sizes.nodes ≡ field_nodes v)
-    × (new.sizes.bytes ≡ field_bytes v)
-    × ((length old.nodes < new.sizes.nodes) ⊎ (length old.bytes < new.sizes.bytes))
+    HasSizes d k t new.sizes
+    × (new.sizes.nodes ≤ length old.nodes)
+    × (length old.bytes < new.sizes.bytes)
     × KeepsLengths old new
     × (new.refusal ≡ old.refusal)
 Flattens old new t d k TooLong =

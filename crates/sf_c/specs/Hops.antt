@@ -38,7 +38,7 @@ pub record HopSays : Type 0 where
   pub detail_is_token : ℕ
 
 -- what a hop says; bytes that are not said are none
-pub record ToldHop : Type 0 where
+pub record HopContent : Type 0 where
   pub name : List ℕ
   pub why_token : List ℕ
   pub key : List ℕ
@@ -65,8 +65,8 @@ says_by n = record {
 }
 
 -- what a struct describes, which points into these bytes
-abbrev pub told_hop_by : List ℕ → HopNode → ToldHop
-told_hop_by bytes n = record {
+abbrev pub hop_content_by : List ℕ → HopNode → HopContent
+hop_content_by bytes n = record {
   name = span_bytes bytes n.name;
   why_token = span_bytes bytes n.why_token;
   key = span_bytes bytes n.key;
@@ -137,8 +137,8 @@ abbrev pub says_of : Hop → HopSays
 says_of h = says_passed (passed_by h.outcome) h
 
 -- what a hop says
-abbrev pub told_hop : Hop → ToldHop
-told_hop h = record {
+abbrev pub hop_content : Hop → HopContent
+hop_content h = record {
   name = bytes_of h.name;
   why_token = why_token (passed_by h.outcome);
   key = unwrap_or h.key [];
@@ -160,18 +160,18 @@ AreHopsWithin bytes [] = Unit {0}
 AreHopsWithin bytes (n ∷ ns) = IsHopWithin bytes n × AreHopsWithin bytes ns
 
 -- how many bytes hops have together
-abbrev pub hop_size : ToldHop → ℕ
+abbrev pub hop_size : HopContent → ℕ
 hop_size t = length t.name + length t.why_token + length t.key + length t.detail
 
-abbrev pub hops_size : List ToldHop → ℕ
+abbrev pub hops_size : List HopContent → ℕ
 hops_size [] = 0
 hops_size (t ∷ ts) = hop_size t + hops_size ts
 
 -- these bytes, in the order of the struct
-abbrev pub hop_bytes : ToldHop → List ℕ
+abbrev pub hop_bytes : HopContent → List ℕ
 hop_bytes t = t.name ++ (t.why_token ++ (t.key ++ t.detail))
 
-abbrev pub hops_bytes : List ToldHop → List ℕ
+abbrev pub hops_bytes : List HopContent → List ℕ
 hops_bytes [] = []
 hops_bytes (t ∷ ts) = hop_bytes t ++ hops_bytes ts
 
@@ -196,9 +196,9 @@ AreHopsInOrder at (n ∷ ns) end = IsHopInOrder at n × AreHopsInOrder (end_of n
 abbrev pub HopsHoldUp : List ℕ → List HopNode → Type 0
 HopsHoldUp bytes ns =
     AreHopsWithin bytes ns
-    × (length bytes ≡ hops_size (map (told_hop_by bytes) ns))
+    × (length bytes ≡ hops_size (map (hop_content_by bytes) ns))
     × AreHopsInOrder 0 ns (length bytes)
-    × (bytes ≡ hops_bytes (map (told_hop_by bytes) ns))
+    × (bytes ≡ hops_bytes (map (hop_content_by bytes) ns))
 
 -- the text is after the bytes that were there, and the span is that of it
 abbrev pub PutsSpan : List ℕ → List ℕ → List ℕ → Span → Type 0
@@ -207,8 +207,8 @@ PutsSpan old new text p =
 
 -- the structs and the bytes at the start of two buffers describe these hops: the bytes are their
 -- spans in order, and no other
-pub record HopsAtFront (ts : List ToldHop) (hops : List HopNode) (bytes : List ℕ) : Type 0 where
+pub record HopsAtFront (ts : List HopContent) (hops : List HopNode) (bytes : List ℕ) : Type 0 where
   pub hops_fit : length ts ≤ length hops
   pub bytes_fit : hops_size ts ≤ length bytes
-  pub tells : map (told_hop_by (take (hops_size ts) bytes)) (take (length ts) hops) ≡ ts
+  pub describes : map (hop_content_by (take (hops_size ts) bytes)) (take (length ts) hops) ≡ ts
   pub held : HopsHoldUp (take (hops_size ts) bytes) (take (length ts) hops)

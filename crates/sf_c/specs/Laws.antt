@@ -11,18 +11,18 @@ use Rattle.sf_value.specs.declared.value.Field.TheVariants as field
 use Rattle.sf_value.specs.declared.value.Kind.TheVariants as kind
 use Rattle.sf_value.specs.Grammar.Canonical.{canon}
 use Rattle.sf_parse.specs.Parsers.{IsOnly}
-use Rattle.sf_use.specs.Priority.{asked}
+use Rattle.sf_use.specs.Priority.{params_of_dict}
 use Rattle.sf_c.specs.declared.priority.PriorityFlags.{PriorityFlags}
-use Rattle.sf_c.specs.Priorities.{asked_by, asking}
+use Rattle.sf_c.specs.Priorities.{params_of_flags, dict_of_params}
 use Rattle.sf_view.specs.declared.node.Node.{Node}
 use Rattle.sf_view.specs.View.{DescribesField}
 use Rattle.sf_c.specs.declared.hops.HopNode.{HopNode}
 use Rattle.sf_c.specs.NodeCounts.{field_nodes, field_bytes}
-use Rattle.sf_c.specs.Hops.{hops_size, told_hop, told_hop_by}
+use Rattle.sf_c.specs.Hops.{hops_size, hop_content, hop_content_by}
 
 -- if nodes describe two values of a kind, with the bytes that they point into, these are equal
-abbrev pub TellOneValue : Type 0
-TellOneValue =
+abbrev pub DescribeOneValue : Type 0
+DescribeOneValue =
     (d : Dialect) (source : List ℕ) (nodes : List Node) (v w : Field) → kind_of v ≡ kind_of w
     → DescribesField d source nodes v → DescribesField d source nodes w → v ≡ w
 
@@ -45,11 +45,11 @@ BytesAreFew =
     → SpellsField d kind t v → 5 * field_bytes v ≤ 8 * length t
 
 -- if structs describe two paths, these are equal
-abbrev pub TellOnePath : Type 0
-TellOnePath =
+abbrev pub DescribeOnePath : Type 0
+DescribeOnePath =
     (bytes : List ℕ) (hops : List HopNode) (hs js : List Hop)
-    → map (told_hop_by bytes) hops ≡ map told_hop hs
-    → map (told_hop_by bytes) hops ≡ map told_hop js → hs ≡ js
+    → map (hop_content_by bytes) hops ≡ map hop_content hs
+    → map (hop_content_by bytes) hops ≡ map hop_content js → hs ≡ js
 
 -- the largest number of hops of the path that a text spells
 abbrev pub HopsAreFew : Type 0
@@ -62,12 +62,12 @@ abbrev pub HopBytesAreFew : Type 0
 HopBytesAreFew =
     (d : Dialect) (kind : Kind) (t : List ℕ) (v : Field) (hs : List Hop)
     → SpellsField d kind t v → hops v ≡ Ok hs
-    → 5 * hops_size (map told_hop hs) ≤ 8 * length t
+    → 5 * hops_size (map hop_content hs) ≤ 8 * length t
 
 -- what is written for the struct of a priority is read as what the struct sets
 abbrev pub PriorityIsRead : Type 0
 PriorityIsRead =
     (p : PriorityFlags)
-    → IsOnly Rfc9651 kind.Dict (canon (field.Dict (asking (asked_by p))))
-    (field.Dict (asking (asked_by p)))
-    × (asked (asking (asked_by p)) ≡ asked_by p)
+    → IsOnly Rfc9651 kind.Dict (canon (field.Dict (dict_of_params (params_of_flags p))))
+    (field.Dict (dict_of_params (params_of_flags p)))
+    × (params_of_dict (dict_of_params (params_of_flags p)) ≡ params_of_flags p)

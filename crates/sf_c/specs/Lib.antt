@@ -12,7 +12,7 @@ pub mod Priorities
 pub mod PriorityChanges
 pub mod Policies
 pub mod Joining
-pub mod Tellings
+pub mod NodeContents
 pub mod Spans
 pub mod NodeCounts
 pub mod Nodes

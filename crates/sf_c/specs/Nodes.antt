@@ -13,11 +13,11 @@ use Rattle.sf_view.specs.declared.node_types.NodeType.TheVariants as types
 use Rattle.sf_view.specs.declared.node_types.Role.{Role}
 use Rattle.sf_view.specs.declared.node_types.Role.TheVariants as roles
 use Rattle.sf_view.specs.View.{type_of, number_of, text_of}
-use Rattle.sf_c.specs.Tellings.{Told}
+use Rattle.sf_c.specs.NodeContents.{NodeContent}
 
 -- a bare item with this role, key and size
-abbrev pub told : Role → Seq ℕ → ℕ → Bare → Told
-told role key size x = record {
+abbrev pub bare_content : Role → Seq ℕ → ℕ → Bare → NodeContent
+bare_content role key size x = record {
   role = role;
   node_type = type_of x;
   number = number_of x;
@@ -27,54 +27,54 @@ told role key size x = record {
 }
 
 -- parameters of an Item or of an Inner List: a node for each
-abbrev pub told_params : Role → Pairs Bare → Seq Told
-told_params role [] = []
-told_params role (p ∷ ps) = told role p.0 1 p.1 ∷ told_params role ps
+abbrev pub params_content : Role → Pairs Bare → Seq NodeContent
+params_content role [] = []
+params_content role (p ∷ ps) = bare_content role p.0 1 p.1 ∷ params_content role ps
 
 -- an Item: its bare item, then its parameters
-abbrev pub told_item : Role → Seq ℕ → Item → Seq Told
-told_item role key i =
-    told role key (1 + length i.params) i.bare ∷ told_params roles.Parameter i.params
+abbrev pub item_content : Role → Seq ℕ → Item → Seq NodeContent
+item_content role key i =
+    bare_content role key (1 + length i.params) i.bare ∷ params_content roles.Parameter i.params
 
 -- the Items of an Inner List
-abbrev pub told_items : Seq Item → Seq Told
-told_items [] = []
-told_items (i ∷ is) = told_item roles.InnerItem [] i ++ told_items is
+abbrev pub items_content : Seq Item → Seq NodeContent
+items_content [] = []
+items_content (i ∷ is) = item_content roles.InnerItem [] i ++ items_content is
 
 -- the Items of an Inner List, then its parameters
-abbrev pub told_inside : Inner → Seq Told
-told_inside l = told_items l.items ++ told_params roles.InnerParameter l.params
+abbrev pub inside_content : Inner → Seq NodeContent
+inside_content l = items_content l.items ++ params_content roles.InnerParameter l.params
 
 -- an Inner List: its node, then its Items and its parameters
-abbrev pub told_inner : Seq ℕ → Inner → Seq Told
-told_inner key l =
+abbrev pub inner_content : Seq ℕ → Inner → Seq NodeContent
+inner_content key l =
     record {
       role = roles.Member;
       node_type = types.InnerList;
       number = pos 0;
       key = key;
       text = [];
-      size = 1 + length (told_inside l);
+      size = 1 + length (inside_content l);
     }
-    ∷ told_inside l
+    ∷ inside_content l
 
 -- a member, with the key that it has in a Dictionary
-abbrev pub told_member : Seq ℕ → Member → Seq Told
-told_member key (member.Item i) = told_item roles.Member key i
-told_member key (member.Inner l) = told_inner key l
+abbrev pub member_content : Seq ℕ → Member → Seq NodeContent
+member_content key (member.Item i) = item_content roles.Member key i
+member_content key (member.Inner l) = inner_content key l
 
 -- the members of a List
-abbrev pub told_members : Seq Member → Seq Told
-told_members [] = []
-told_members (m ∷ ms) = told_member [] m ++ told_members ms
+abbrev pub members_content : Seq Member → Seq NodeContent
+members_content [] = []
+members_content (m ∷ ms) = member_content [] m ++ members_content ms
 
 -- the members of a Dictionary
-abbrev pub told_entries : Pairs Member → Seq Told
-told_entries [] = []
-told_entries (p ∷ ps) = told_member p.0 p.1 ++ told_entries ps
+abbrev pub entries_content : Pairs Member → Seq NodeContent
+entries_content [] = []
+entries_content (p ∷ ps) = member_content p.0 p.1 ++ entries_content ps
 
 -- a field
-abbrev pub told_field : Field → Seq Told
-told_field (field.Item i) = told_item roles.Member [] i
-told_field (field.List l) = told_members l.members
-told_field (field.Dict d) = told_entries d.members
+abbrev pub field_content : Field → Seq NodeContent
+field_content (field.Item i) = item_content roles.Member [] i
+field_content (field.List l) = members_content l.members
+field_content (field.Dict d) = entries_content d.members

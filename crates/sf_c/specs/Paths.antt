@@ -15,14 +15,14 @@ use Rattle.sf_c.specs.declared.refusal.SyntaxRefusal.{SyntaxRefusal}
 use Rattle.sf_c.specs.declared.status.Status.{Status}
 use Rattle.sf_c.specs.declared.status.Status.TheVariants.{Answered, Refused, Short, OutOfMemory}
 use Rattle.sf_c.specs.declared.status.Status.TheVariants.{NotACache}
-use Rattle.sf_c.specs.Hops.{hops_size, told_hop, HopsAtFront}
+use Rattle.sf_c.specs.Hops.{hops_size, hop_content, HopsAtFront}
 use Rattle.sf_c.specs.Refusals.{SaysRefusal, flag_number}
 
 -- the struct says how many hops and bytes there are, and which hop the response came from
 abbrev pub SaysPath : Path → Seq Hop → Type 0
 SaysPath p hs =
     (p.hops ≡ length hs)
-    × (p.bytes ≡ hops_size (map told_hop hs))
+    × (p.bytes ≡ hops_size (map hop_content hs))
     × (p.served ≡ unwrap_or (served hs) 0)
     × (p.is_served ≡ flag_number (is_some (served hs)))
 
@@ -45,17 +45,17 @@ IsTooSmall r p = (length r.hops < p.hops) ⊎ (length r.bytes < p.bytes)
 -- the text spells a List, and the starts of the buffers describe its hops; or a buffer is too
 -- small; or a member names no cache, the first such at this place; or the struct says the refusal.
 -- Of the buffers only what the path needs has a meaning; all else is left as it was
-abbrev pub TellsPath : PathOutput → PathOutput → Seq ℕ → Option Status → Type 0
-TellsPath old new t (Some Answered) =
+abbrev pub ReportsPath : PathOutput → PathOutput → Seq ℕ → Option Status → Type 0
+ReportsPath old new t (Some Answered) =
     (v : Field) × (hs : Seq Hop)
     × IsOnly Rfc9651 List t v
     × (hops v ≡ Ok hs)
     × SaysPath new.path hs
     × (new.path.nameless ≡ old.path.nameless)
-    × HopsAtFront (map told_hop hs) new.hops new.bytes
+    × HopsAtFront (map hop_content hs) new.hops new.bytes
     × KeepsLengths old new
     × (new.refusal ≡ old.refusal)
-TellsPath old new t (Some Short) =
+ReportsPath old new t (Some Short) =
     (v : Field) × (hs : Seq Hop)
     × IsOnly Rfc9651 List t v
     × (hops v ≡ Ok hs)
@@ -64,18 +64,18 @@ TellsPath old new t (Some Short) =
     × IsTooSmall old new.path
     × KeepsLengths old new
     × (new.refusal ≡ old.refusal)
-TellsPath old new t (Some NotACache) =
+ReportsPath old new t (Some NotACache) =
     (v : Field)
     × IsOnly Rfc9651 List t v
     × (hops v ≡ Err new.path.nameless)
     × (new.path ≡ record old.path { nameless = new.path.nameless })
     × KeepsLengths old new
     × (new.refusal ≡ old.refusal)
-TellsPath old new t (Some Refused) =
+ReportsPath old new t (Some Refused) =
     SaysRefusal Rfc9651 List t new.refusal × KeepsLengths old new × (new.path ≡ old.path)
-TellsPath old new t (Some OutOfMemory) =
+ReportsPath old new t (Some OutOfMemory) =
     KeepsLengths old new × (new.path ≡ old.path) × (new.refusal ≡ old.refusal)
-TellsPath old new t status = ⊥
+ReportsPath old new t status = ⊥
 
 -- the caches that a List names; or the place of its first member that names none, whatever memory
 -- there is: an allocation fails only if each member names a cache

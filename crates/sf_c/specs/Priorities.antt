@@ -10,7 +10,7 @@ use Rattle.sf_value.specs.declared.value.Member.{Member}
 use Rattle.sf_value.specs.Grammar.Pairs.{Pairs}
 use Rattle.sf_parse.specs.Parsers.{IsOnly}
 use Rattle.sf_use.specs.declared.priority.Asked.{Asked}
-use Rattle.sf_use.specs.Priority.{asked_in, filled, plain}
+use Rattle.sf_use.specs.Priority.{params_of_field, priority_with_defaults, plain}
 use Rattle.sf_use.specs.Ranges.{least_urgent}
 use Rattle.sf_c.specs.declared.priority.PriorityFlags.{PriorityFlags}
 use Rattle.sf_c.specs.declared.refusal.SyntaxRefusal.{SyntaxRefusal}
@@ -20,11 +20,11 @@ use Rattle.sf_c.specs.Refusals.{SaysRefusal, flag_number}
 
 -- the struct has these parameters, and the defaults for absent ones
 abbrev pub SaysAsked : PriorityFlags → Asked → Type 0
-SaysAsked p asked =
-    (p.urgency ≡ (filled asked).urgency)
-    × (p.incremental ≡ flag_number (filled asked).incremental)
-    × (p.has_urgency ≡ flag_number (is_some asked.urgency))
-    × (p.has_incremental ≡ flag_number (is_some asked.incremental))
+SaysAsked p a =
+    (p.urgency ≡ (priority_with_defaults a).urgency)
+    × (p.incremental ≡ flag_number (priority_with_defaults a).incremental)
+    × (p.has_urgency ≡ flag_number (is_some a.urgency))
+    × (p.has_incremental ≡ flag_number (is_some a.incremental))
 
 -- the urgency, if it is set and in range
 abbrev pub urgency_at : ℕ → ℕ → Option ℕ
@@ -35,8 +35,8 @@ abbrev pub flag_at : ℕ → ℕ → Option Bool
 flag_at says n = if says == 0 then None else Some (not (n == 0))
 
 -- the parameters that a struct sets
-abbrev pub asked_by : PriorityFlags → Asked
-asked_by p = record {
+abbrev pub params_of_flags : PriorityFlags → Asked
+params_of_flags p = record {
   urgency = urgency_at p.has_urgency p.urgency;
   incremental = flag_at p.has_incremental p.incremental;
 }
@@ -52,7 +52,7 @@ abbrev pub AsksFor : PriorityOutput → PriorityOutput → List ℕ → Option S
 AsksFor old new t (Some Answered) =
     (v : Field)
     × IsOnly Rfc9651 Dict t v
-    × SaysAsked new.priority (asked_in v)
+    × SaysAsked new.priority (params_of_field v)
     × (new.refusal ≡ old.refusal)
 AsksFor old new t (Some Refused) =
     SaysRefusal Rfc9651 Dict t new.refusal × (new.priority ≡ old.priority)
@@ -70,5 +70,5 @@ incremental_member None = []
 incremental_member (Some b) = (codes "i", plain (Boolean b)) ∷ []
 
 -- the Dictionary that sets these parameters and nothing else, also to the defaults
-abbrev pub asking : Asked → Dictionary
-asking a = record { members = urgency_member a.urgency ++ incremental_member a.incremental }
+abbrev pub dict_of_params : Asked → Dictionary
+dict_of_params a = record { members = urgency_member a.urgency ++ incremental_member a.incremental }

@@ -11,7 +11,7 @@ use Rattle.sf_c.specs.declared.priority.PriorityFlags.{PriorityFlags}
 use Rattle.sf_c.specs.declared.status.Status.{Status}
 use Rattle.sf_c.specs.declared.status.Status.TheVariants.{Answered, Refused, Short, OutOfMemory}
 use Rattle.sf_c.specs.Normal.{TextOutput}
-use Rattle.sf_c.specs.Priorities.{asked_by}
+use Rattle.sf_c.specs.Priorities.{params_of_flags}
 use Rattle.sf_c.specs.Refusals.{SaysRefusal}
 use Rattle.sf_c.specs.TextBuffers.{PutsText, TextBuffer}
 
@@ -27,15 +27,15 @@ abbrev pub ChangesPriority : TextOutput → TextOutput → List ℕ → Priority
 ChangesPriority old new t p (Some Answered) =
     (d : Dictionary)
     × IsOnly Rfc9651 kind.Dict t (field.Dict d)
-    × IsOnly Rfc9651 kind.Dict (canon (field.Dict (updated (asked_by p) d)))
-    (field.Dict (updated (asked_by p) d))
-    × PutsText (text_buffer old) (text_buffer new) (canon (field.Dict (updated (asked_by p) d)))
+    × IsOnly Rfc9651 kind.Dict (canon (field.Dict (updated (params_of_flags p) d)))
+    (field.Dict (updated (params_of_flags p) d))
+    × PutsText (text_buffer old) (text_buffer new) (canon (field.Dict (updated (params_of_flags p) d)))
     (Some Answered)
     × (new.refusal ≡ old.refusal)
 ChangesPriority old new t p (Some Short) =
     (d : Dictionary)
     × IsOnly Rfc9651 kind.Dict t (field.Dict d)
-    × PutsText (text_buffer old) (text_buffer new) (canon (field.Dict (updated (asked_by p) d)))
+    × PutsText (text_buffer old) (text_buffer new) (canon (field.Dict (updated (params_of_flags p) d)))
     (Some Short)
     × (new.refusal ≡ old.refusal)
 ChangesPriority old new t p (Some Refused) =

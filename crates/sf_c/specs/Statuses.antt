@@ -3,7 +3,7 @@ use Rattle.std.specs.Prelude.{ℕ, ◌==◌, if◌then◌else◌, Option, Some, 
 use Rattle.sf_c.specs.declared.status.Status.{Status}
 use Rattle.sf_c.specs.declared.status.Status.TheVariants.{Answered, Refused, SecondRefused, Short}
 use Rattle.sf_c.specs.declared.status.Status.TheVariants.{OutOfMemory, Empty, BadCall}
-use Rattle.sf_c.specs.declared.status.Status.TheVariants.{NotACache, Invalid, Absent, TooLong}
+use Rattle.sf_c.specs.declared.status.Status.TheVariants.{NotACache, Invalid, Absent, TooLong, TooMany}
 
 -- the status of a number
 abbrev pub status_at : ℕ → Option Status
@@ -18,4 +18,5 @@ status_at n =
     else (if n == 7 then Some NotACache
     else (if n == 8 then Some Invalid
     else (if n == 9 then Some Absent
-    else (if n == 10 then Some TooLong else None))))))))))
+    else (if n == 10 then Some TooLong
+    else (if n == 11 then Some TooMany else None)))))))))))

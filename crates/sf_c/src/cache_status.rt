@@ -2,7 +2,7 @@
 ghost use Rattle.std.specs.Prelude.{◌≡◌, is_some, unwrap_or, Some};
 ghost use Rattle.sf_value.specs.declared.value.Kind.TheVariants as kind_is;
 ghost use Rattle.sf_value.specs.Grammar.Fields.{kind_of};
-ghost use Rattle.sf_c.specs.Paths.{NamesCaches, SaysFew, TellsPath};
+ghost use Rattle.sf_c.specs.Paths.{NamesCaches, SaysFew, ReportsPath};
 ghost use Rattle.sf_c.specs.Refusals.{flag_number};
 ghost use Rattle.sf_c.specs.Statuses.{status_at};
 
@@ -70,11 +70,11 @@ pub extern "C" fn sf_cache_status(
     refusal: &mut SyntaxRefusal,
 ) -> u32
     // the buffers describe the hops of the List, or the status says why not
-    ensures tells { TellsPath
+    ensures reports { ReportsPath
         (record { hops = hops.old; bytes = bytes.old; path = path.old; refusal = refusal.old })
         (record { hops = hops.new; bytes = bytes.new; path = path.new; refusal = refusal.new })
         text.now (status_at result) }
-    // if they are described: hops at most four fifths of the text's length, rounded to the nearest
+    // if they are reported: hops at most four fifths of the text's length, rounded to the nearest
     // number, and bytes at most eight fifths
     ensures few { SaysFew text.now path.new (status_at result) }
 {
@@ -92,11 +92,11 @@ fn path_of(
     refusal: &mut SyntaxRefusal,
 ) -> Status
     // the buffers describe the hops of the List, or the status says why not
-    ensures tells { TellsPath
+    ensures reports { ReportsPath
         (record { hops = hops.old; bytes = bytes.old; path = path.old; refusal = refusal.old })
         (record { hops = hops.new; bytes = bytes.new; path = path.new; refusal = refusal.new })
         text.now (Some result) }
-    // if they are described: hops at most four fifths of the text's length, rounded to the nearest
+    // if they are reported: hops at most four fifths of the text's length, rounded to the nearest
     // number, and bytes at most eight fifths
     ensures few { SaysFew text.now path.new (Some result) }
 {
@@ -118,7 +118,7 @@ fn path_by_tree(
     path: &mut Path,
     refusal: &mut SyntaxRefusal,
 ) -> Status
-    ensures tells { TellsPath
+    ensures reports { ReportsPath
         (record { hops = hops.old; bytes = bytes.old; path = path.old; refusal = refusal.old })
         (record { hops = hops.new; bytes = bytes.new; path = path.new; refusal = refusal.new })
         text.now (Some result) }

@@ -5,7 +5,7 @@ ghost use Rattle.sf_c.specs.Hops.{bytes_of as bytes_of_name, detail_bytes as byt
 ghost use Rattle.sf_c.specs.Hops.{is_token as is_name_token, detail_is_token as is_detail_token};
 ghost use Rattle.sf_c.specs.Hops.{outcome_number as number_of_outcome};
 ghost use Rattle.sf_c.specs.Hops.{reason_number as number_of_reason, why_number as number_of_why};
-ghost use Rattle.sf_c.specs.Hops.{why_token as token_of_why, hops_size, told_hop, says_by, says_of};
+ghost use Rattle.sf_c.specs.Hops.{why_token as token_of_why, hops_size, hop_content, says_by, says_of};
 ghost use Rattle.sf_c.specs.Hops.{HopsAtFront, PutsSpan};
 
 use crate::buffer::put;
@@ -69,11 +69,11 @@ pub(crate) struct FlatPath {
 
 impl Model for FlatPath {
     ghost use Rattle.std.specs.Prelude.{List, map};
-    ghost use Rattle.sf_c.specs.Hops.{ToldHop, told_hop_by, HopsHoldUp};
+    ghost use Rattle.sf_c.specs.Hops.{HopContent, hop_content_by, HopsHoldUp};
 
-    ghost Value = { List ToldHop };
+    ghost Value = { List HopContent };
 
-    ghost view = { λ f. map (told_hop_by f.bytes.items) f.hops.items };
+    ghost view = { λ f. map (hop_content_by f.bytes.items) f.hops.items };
 
     ghost invariant = { λ f. HopsHoldUp f.bytes.items f.hops.items };
 }
@@ -118,7 +118,7 @@ impl FlatPath {
 
     /// One more hop.
     fn with(self, hop: &Hop) -> Result<FlatPath, OutOfMemory>
-        ensures { IfOk result (λ path. path ≡ self ++ told_hop hop.now ∷ []) }
+        ensures { IfOk result (λ path. path ≡ self ++ hop_content hop.now ∷ []) }
     {
         let FlatPath {
             mut hops,
@@ -297,7 +297,7 @@ fn node_of(hop: &Hop, name: Span, why_token: Span, key: Span, detail: Span) -> H
 
 /// The structs of hops.
 pub(crate) fn flatten_hops(alloc: Global, hops: &[Hop]) -> Result<FlatPath, OutOfMemory>
-    ensures { IfOk result (λ path. path ≡ map told_hop hops.now) }
+    ensures { IfOk result (λ path. path ≡ map hop_content hops.now) }
 {
     let mut path = FlatPath::new(alloc);
     for hop in hops {

@@ -1,13 +1,13 @@
 //! Laws of the nodes and of the hops, each as the contract of a function that does nothing.
-ghost use Rattle.sf_c.specs.Laws.{BytesAreFew, NodesAreFew, NodesAreTheirs, TellOneValue};
-ghost use Rattle.sf_c.specs.Laws.{HopBytesAreFew, HopsAreFew, PriorityIsRead, TellOnePath};
+ghost use Rattle.sf_c.specs.Laws.{BytesAreFew, NodesAreFew, NodesAreTheirs, DescribeOneValue};
+ghost use Rattle.sf_c.specs.Laws.{HopBytesAreFew, HopsAreFew, PriorityIsRead, DescribeOnePath};
 
 use sf_parse::laws::one_value;
 use sf_value::laws::{canon_is_short, spelled_is_valid};
 
 /// Nodes, with the bytes that they point into, describe at most one value of a kind.
-pub fn nodes_tell_one_value()
-    ensures { TellOneValue }
+pub fn nodes_describe_one_value()
+    ensures { DescribeOneValue }
 {
     one_value();
 }
@@ -28,8 +28,8 @@ pub fn nodes_are_few()
 }
 
 /// Structs of hops, with the bytes that they point into, describe at most one path.
-pub fn hops_tell_one_path()
-    ensures { TellOnePath }
+pub fn hops_describe_one_path()
+    ensures { DescribeOnePath }
 {}
 
 /// The path that a text spells has at most four fifths of the text's length in hops, rounded to the

@@ -6,9 +6,9 @@ ghost use Rattle.sf_value.specs.declared.value.Field.{Field as FieldValue};
 ghost use Rattle.sf_value.specs.Grammar.Words.{Each};
 ghost use Rattle.sf_view.specs.View.{DescribesField};
 ghost use Rattle.sf_c.specs.Flattening.{IsDecoded, IsInOne};
-ghost use Rattle.sf_c.specs.Tellings.{told_size, node_of as node_of_part, IsPartSmall};
-ghost use Rattle.sf_c.specs.Nodes.{told, told_entries, told_field, told_inner, told_inside};
-ghost use Rattle.sf_c.specs.Nodes.{told_item, told_items, told_member, told_members, told_params};
+ghost use Rattle.sf_c.specs.NodeContents.{content_size, node_of as node_of_part, IsPartSmall};
+ghost use Rattle.sf_c.specs.Nodes.{bare_content, entries_content, field_content, inner_content, inside_content};
+ghost use Rattle.sf_c.specs.Nodes.{item_content, items_content, member_content, members_content, params_content};
 
 use crate::buffer::put;
 use crate::parsing::Sizes;
@@ -48,11 +48,11 @@ pub(crate) struct Flat {
 
 impl Model for Flat {
     ghost use Rattle.std.specs.Prelude.{List, map};
-    ghost use Rattle.sf_c.specs.Tellings.{Told, told_by, HoldsUp};
+    ghost use Rattle.sf_c.specs.NodeContents.{NodeContent, content_by, HoldsUp};
 
-    ghost Value = { List Told };
+    ghost Value = { List NodeContent };
 
-    ghost view = { λ f. map (told_by f.bytes.items) f.parts.items };
+    ghost view = { λ f. map (content_by f.bytes.items) f.parts.items };
 
     ghost invariant = { λ f. HoldsUp f.bytes.items f.parts.items };
 }
@@ -94,7 +94,7 @@ impl Flat {
     /// The numbers of nodes and bytes.
     pub(crate) fn sizes(&self) -> Sizes
         ensures nodes { result.nodes ≡ length self.now }
-        ensures bytes { result.bytes ≡ told_size self.now }
+        ensures bytes { result.bytes ≡ content_size self.now }
     {
         Sizes {
             nodes: self.parts.as_slice().len(),
@@ -106,15 +106,15 @@ impl Flat {
     /// this length.
     pub(crate) fn write(&self, start: usize, nodes: &mut [Node], bytes: &mut [u8])
         requires nodes { length self.now ≤ length nodes.old }
-        requires bytes { told_size self.now ≤ length bytes.old }
-        requires small { start + told_size self.now < 2 ^ 32 }
+        requires bytes { content_size self.now ≤ length bytes.old }
+        requires small { start + content_size self.now < 2 ^ 32 }
         ensures same_nodes { length nodes.new ≡ length nodes.old }
         ensures same_bytes { length bytes.new ≡ length bytes.old }
         // After any text of that length they describe the value.
         ensures describes { (d : Which) (source : List ℕ) (v : FieldValue)
             → length source ≡ start
-            → self.now ≡ told_field v
-            → DescribesField d (source ++ take (told_size self.now) bytes.new)
+            → self.now ≡ field_content v
+            → DescribesField d (source ++ take (content_size self.now) bytes.new)
             (take (length self.now) nodes.new) v }
         ensures decoded { Each IsDecoded (take (length self.now) nodes.new) }
         ensures in_one { Each (IsInOne start) (take (length self.now) nodes.new) }
@@ -247,7 +247,7 @@ fn push_bare(
     size: u32,
     bare: &Bare,
 ) -> Result<(), OutOfMemory>
-    ensures { IfOk result (λ _. flat.new ≡ flat.old ++ told role key.now size bare.now ∷ []) }
+    ensures { IfOk result (λ _. flat.new ≡ flat.old ++ bare_content role key.now size bare.now ∷ []) }
 {
     match bare {
         Bare::Integer(n) => push_number(flat, role, key, size, NodeType::Integer, n.get()),
@@ -263,7 +263,7 @@ fn push_bare(
 
 /// Parameters.
 fn push_params(flat: &mut Flat, role: Role, params: &Entries<Bare>) -> Result<(), OutOfMemory>
-    ensures { IfOk result (λ _. flat.new ≡ flat.old ++ told_params role params.now) }
+    ensures { IfOk result (λ _. flat.new ≡ flat.old ++ params_content role params.now) }
 {
     for (key, value) in params {
         push_bare(flat, role, key, 1, value)?;
@@ -290,7 +290,7 @@ fn one_more(count: usize) -> Result<u32, OutOfMemory>
 
 /// An Item.
 fn push_item(flat: &mut Flat, role: Role, key: &[u8], item: &Item) -> Result<(), OutOfMemory>
-    ensures { IfOk result (λ _. flat.new ≡ flat.old ++ told_item role key.now item.now) }
+    ensures { IfOk result (λ _. flat.new ≡ flat.old ++ item_content role key.now item.now) }
 {
     let size = one_more(item.params.len())?;
     push_bare(flat, role, key, size, &item.bare)?;
@@ -299,7 +299,7 @@ fn push_item(flat: &mut Flat, role: Role, key: &[u8], item: &Item) -> Result<(),
 
 /// The Items of an Inner List.
 fn push_items(flat: &mut Flat, items: &[Item]) -> Result<(), OutOfMemory>
-    ensures { IfOk result (λ _. flat.new ≡ flat.old ++ told_items items.now) }
+    ensures { IfOk result (λ _. flat.new ≡ flat.old ++ items_content items.now) }
 {
     for item in items {
         push_item(flat, Role::InnerItem, b"", item)?;
@@ -309,7 +309,7 @@ fn push_items(flat: &mut Flat, items: &[Item]) -> Result<(), OutOfMemory>
 
 /// The number of nodes of the Items, added to this number.
 fn count_items(items: &[Item], more: usize) -> Result<usize, OutOfMemory>
-    ensures { IfOk result (λ n. n ≡ more + length (told_items items.now)) }
+    ensures { IfOk result (λ n. n ≡ more + length (items_content items.now)) }
 {
     let mut count = more;
     for item in items {
@@ -321,7 +321,7 @@ fn count_items(items: &[Item], more: usize) -> Result<usize, OutOfMemory>
 
 /// The number of nodes inside an Inner List.
 fn count_inside(inner: &Inner) -> Result<usize, OutOfMemory>
-    ensures { IfOk result (λ n. n ≡ length (told_inside inner.now)) }
+    ensures { IfOk result (λ n. n ≡ length (inside_content inner.now)) }
 {
     let count = count_items(inner.items.as_slice(), inner.params.len())?;
     Ok(count)
@@ -329,7 +329,7 @@ fn count_inside(inner: &Inner) -> Result<usize, OutOfMemory>
 
 /// Adds the Items and the parameters of an Inner List.
 fn push_inside(flat: &mut Flat, inner: &Inner) -> Result<(), OutOfMemory>
-    ensures { IfOk result (λ _. flat.new ≡ flat.old ++ told_inside inner.now) }
+    ensures { IfOk result (λ _. flat.new ≡ flat.old ++ inside_content inner.now) }
 {
     push_items(flat, inner.items.as_slice())?;
     push_params(flat, Role::InnerParameter, &inner.params)
@@ -337,7 +337,7 @@ fn push_inside(flat: &mut Flat, inner: &Inner) -> Result<(), OutOfMemory>
 
 /// An Inner List.
 fn push_inner(flat: &mut Flat, key: &[u8], inner: &Inner) -> Result<(), OutOfMemory>
-    ensures { IfOk result (λ _. flat.new ≡ flat.old ++ told_inner key.now inner.now) }
+    ensures { IfOk result (λ _. flat.new ≡ flat.old ++ inner_content key.now inner.now) }
 {
     let count = count_inside(inner)?;
     let size = one_more(count)?;
@@ -347,7 +347,7 @@ fn push_inner(flat: &mut Flat, key: &[u8], inner: &Inner) -> Result<(), OutOfMem
 
 /// A member, with its key in a Dictionary.
 fn push_member(flat: &mut Flat, key: &[u8], member: &Member) -> Result<(), OutOfMemory>
-    ensures { IfOk result (λ _. flat.new ≡ flat.old ++ told_member key.now member.now) }
+    ensures { IfOk result (λ _. flat.new ≡ flat.old ++ member_content key.now member.now) }
 {
     match member {
         Member::Item(item) => push_item(flat, Role::Member, key, item),
@@ -357,7 +357,7 @@ fn push_member(flat: &mut Flat, key: &[u8], member: &Member) -> Result<(), OutOf
 
 /// The members of a List.
 fn push_members(flat: &mut Flat, members: &[Member]) -> Result<(), OutOfMemory>
-    ensures { IfOk result (λ _. flat.new ≡ flat.old ++ told_members members.now) }
+    ensures { IfOk result (λ _. flat.new ≡ flat.old ++ members_content members.now) }
 {
     for member in members {
         push_member(flat, b"", member)?;
@@ -367,7 +367,7 @@ fn push_members(flat: &mut Flat, members: &[Member]) -> Result<(), OutOfMemory>
 
 /// The members of a Dictionary.
 fn push_entries(flat: &mut Flat, entries: &Entries<Member>) -> Result<(), OutOfMemory>
-    ensures { IfOk result (λ _. flat.new ≡ flat.old ++ told_entries entries.now) }
+    ensures { IfOk result (λ _. flat.new ≡ flat.old ++ entries_content entries.now) }
 {
     for (key, member) in entries {
         push_member(flat, key, member)?;
@@ -377,7 +377,7 @@ fn push_entries(flat: &mut Flat, entries: &Entries<Member>) -> Result<(), OutOfM
 
 /// The parts of a field.
 pub(crate) fn flatten(alloc: Global, field: &Field) -> Result<Flat, OutOfMemory>
-    ensures { IfOk result (λ flat. flat ≡ told_field field.now) }
+    ensures { IfOk result (λ flat. flat ≡ field_content field.now) }
 {
     let mut flat = Flat::new(alloc);
     match field {

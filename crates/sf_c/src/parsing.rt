@@ -29,10 +29,11 @@ pub struct Sizes {
 }
 
 /// The value that the text spells, as nodes. Returns `Answered` if the first `sizes.nodes` nodes
-/// describe it, with the text and the first `sizes.bytes` bytes after it; `Short` if one of the
-/// buffers is smaller than `sizes`; `Refused` if no value is spelled, with the refusal in
-/// `refusal`; `TooLong` if the text, or the text and the required bytes together, have 4 GiB or
-/// more; `OutOfMemory`; or `BadCall`. Only `BadCall` leaves the buffers unchanged.
+/// describe it, with the text and the first `sizes.bytes` bytes after it; `TooMany` if `nodes` has
+/// fewer than `sizes.nodes` nodes, or else `Short` if `bytes` has fewer than `sizes.bytes` bytes;
+/// `Refused` if no value is spelled, with the refusal in `refusal`; `TooLong` if the text, or the
+/// text and the required bytes together, have 4 GiB or more; `OutOfMemory`; or `BadCall`. Only
+/// `BadCall` leaves the buffers unchanged.
 #[unsafe(no_mangle)]
 pub extern "C" fn sf_parse(
     alloc: Global,
@@ -152,7 +153,7 @@ fn parse_tree(
     }
     *sizes = required;
     if nodes.len() < required.nodes {
-        return Status::Short;
+        return Status::TooMany;
     }
     if bytes.len() < required.bytes {
         return Status::Short;

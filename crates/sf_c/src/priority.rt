@@ -1,7 +1,7 @@
 //! Priorities (RFC 9218).
 ghost use Rattle.std.specs.Prelude.{◌≡◌, Some};
-ghost use Rattle.sf_use.specs.Priority.{merged};
-ghost use Rattle.sf_c.specs.Priorities.{AsksFor, SaysAsked, asked_by, flag_at, urgency_at};
+ghost use Rattle.sf_use.specs.Priority.{merge_params};
+ghost use Rattle.sf_c.specs.Priorities.{AsksFor, SaysAsked, params_of_flags, flag_at, urgency_at};
 ghost use Rattle.sf_c.specs.Statuses.{status_at};
 
 use crate::call::parse;
@@ -44,7 +44,7 @@ impl PriorityFlags {
 
     /// The parameters that the struct sets.
     pub(crate) fn asked(&self) -> Asked
-        ensures { result ≡ asked_by self.now }
+        ensures { result ≡ params_of_flags self.now }
     {
         Asked {
             urgency: urgency_of(self.has_urgency, self.urgency),
@@ -68,7 +68,7 @@ pub extern "C" fn sf_priority(
     ensures { AsksFor (record { priority = priority.old; refusal = refusal.old })
         (record { priority = priority.new; refusal = refusal.new }) text.now (status_at result) }
 {
-    asked_of(alloc, seed, text, priority, refusal).code()
+    read_params(alloc, seed, text, priority, refusal).code()
 }
 
 /// Merges the priorities of a client and a server (RFC 9218 section 8): each parameter is the
@@ -78,7 +78,7 @@ pub extern "C" fn sf_priority(
 pub extern "C" fn sf_priority_merge(client: &PriorityFlags, server: &PriorityFlags) -> PriorityFlags
     // Each parameter is the server's if the server sets it, otherwise the client's if the client
     // sets it, otherwise the default.
-    ensures { SaysAsked result (merged (asked_by client.now) (asked_by server.now)) }
+    ensures { SaysAsked result (merge_params (params_of_flags client.now) (params_of_flags server.now)) }
 {
     PriorityFlags::of(merge(client.asked(), server.asked()))
 }
@@ -104,7 +104,7 @@ fn flag_of(has_flag: u8, flag: u8) -> Option<bool>
 }
 
 /// Reads the parameters of a text.
-fn asked_of(
+fn read_params(
     alloc: Global,
     seed: &Seed,
     text: &[u8],

@@ -2,7 +2,7 @@
 ghost use Rattle.std.specs.Prelude.{◌≡◌, ◌≤◌, [], ◌∷◌, Some, decimal};
 ghost use Rattle.sf_value.specs.declared.value.Field.TheVariants as field_is;
 ghost use Rattle.sf_value.specs.Grammar.Canonical.{canon};
-ghost use Rattle.sf_c.specs.Priorities.{asked_by, asking};
+ghost use Rattle.sf_c.specs.Priorities.{params_of_flags, dict_of_params};
 ghost use Rattle.sf_c.specs.Statuses.{status_at};
 ghost use Rattle.sf_c.specs.TextBuffers.{PutsText};
 
@@ -24,7 +24,7 @@ pub extern "C" fn sf_priority_text(
     // The buffer holds the canonical text of the Dictionary, or is too small for it.
     ensures puts { PutsText (record { buffer = buffer.old; required = required.old })
         (record { buffer = buffer.new; required = required.new })
-        (canon (field_is.Dict (asking (asked_by priority.now)))) (status_at result) }
+        (canon (field_is.Dict (dict_of_params (params_of_flags priority.now)))) (status_at result) }
     ensures short { required.new ≤ 9 }
 {
     write(priority.asked(), buffer, required).code()
@@ -34,7 +34,7 @@ pub extern "C" fn sf_priority_text(
 fn write(asked: Asked, buffer: &mut [u8], required: &mut usize) -> Status
     ensures puts { PutsText (record { buffer = buffer.old; required = required.old })
         (record { buffer = buffer.new; required = required.new })
-        (canon (field_is.Dict (asking asked))) (Some result) }
+        (canon (field_is.Dict (dict_of_params asked))) (Some result) }
     ensures short { required.new ≤ 9 }
 {
     match (asked.urgency, asked.incremental) {

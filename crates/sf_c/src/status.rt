@@ -27,6 +27,8 @@ pub enum Status {
     Absent,
     /// 10: the text has 4 GiB or more, or an offset would have to be that large.
     TooLong,
+    /// 11: the value has more nodes than the buffer holds.
+    TooMany,
 }
 
 impl Status {
@@ -46,6 +48,7 @@ impl Status {
             Status::Invalid => 8,
             Status::Absent => 9,
             Status::TooLong => 10,
+            Status::TooMany => 11,
         }
     }
 }

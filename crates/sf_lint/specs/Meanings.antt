@@ -18,7 +18,7 @@ use Rattle.sf_use.specs.CacheStatus.Hops.{hops, status_of}
 use Rattle.sf_use.specs.CacheStatus.Parameters.{boolean_at, integer_at, name_at, text_at, token_at}
 use Rattle.sf_use.specs.declared.priority.Asked.{Asked}
 use Rattle.sf_use.specs.declared.targeted.Policy.{Policy}
-use Rattle.sf_use.specs.Priority.{asked, filled}
+use Rattle.sf_use.specs.Priority.{params_of_dict, priority_with_defaults}
 use Rattle.sf_use.specs.Targeted.{policy}
 use Rattle.sf_tool.specs.ChoiceLines.{policy_lines}
 use Rattle.sf_tool.specs.PathLines.{path_lines}
@@ -87,7 +87,7 @@ abbrev pub priority_lines : Settings → Pairs Member → Asked → Seq ℕ
 priority_lines s members a =
     (ignored_line s (codes "u") (is_ignored (value_at (codes "u") members) a.urgency)
     ++ ignored_line s (codes "i") (is_ignored (value_at (codes "i") members) a.incremental))
-    ++ priority_line (filled a)
+    ++ priority_line (priority_with_defaults a)
 
 -- the members of a targeted field that are ignored (RFC 9213 section 2.1), and its policy; any
 -- value but false sets the other directives
@@ -106,7 +106,7 @@ path_meaning s (Dict d) = Ok []
 
 -- a Dictionary as Priority (RFC 9218)
 abbrev pub priority_meaning : Settings → Field → Result (Seq ℕ) ℕ
-priority_meaning s (Dict d) = Ok (priority_lines s d.members (asked d))
+priority_meaning s (Dict d) = Ok (priority_lines s d.members (params_of_dict d))
 priority_meaning s (Item i) = Ok []
 priority_meaning s (List l) = Ok []
 

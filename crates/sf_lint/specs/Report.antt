@@ -67,65 +67,65 @@ others_text n = codes "other fields: " ++ (decimal n ++ codes "\n")
 
 -- the report on some lines: a text, whether something is refused, and the number of field lines of
 -- fields that are not structured
-abbrev pub IsTold : List ℕ → Bool → ℕ → List ℕ → Bool → ℕ → Type 0
-IsTold text refused others t r o = (t ≡ text) × (r ≡ refused) × (o ≡ others)
+abbrev pub IsReport : List ℕ → Bool → ℕ → List ℕ → Bool → ℕ → Type 0
+IsReport text refused others t r o = (t ≡ text) × (r ≡ refused) × (o ≡ others)
 
 -- the line of this number is no line of a head, and is refused at this place of it
-abbrev pub TellsBadLine : Settings → ℕ → List ℕ → ℕ → List ℕ → List ℕ → Bool → ℕ → Type 0
-TellsBadLine s n why place line =
-    IsTold (bad_line_text s n why (Some (record { line = n; place = place; text = line }))) true 0
+abbrev pub ReportsBadLine : Settings → ℕ → List ℕ → ℕ → List ℕ → List ℕ → Bool → ℕ → Type 0
+ReportsBadLine s n why place line =
+    IsReport (bad_line_text s n why (Some (record { line = n; place = place; text = line }))) true 0
 
 -- a field has this value and this meaning: the report has its canonical text and the lines of its
 -- meaning; or that a member names no cache
-abbrev pub TellsValue : Settings → List ℕ → Value → Result (List ℕ) ℕ → List ℕ → Bool → ℕ → Type 0
-TellsValue s name v (Ok text) = IsTold (shown s (accepted_text s name v ++ text)) false 0
-TellsValue s name v (Err index) = IsTold (no_cache_text s name index) true 0
+abbrev pub ReportsValue : Settings → List ℕ → Value → Result (List ℕ) ℕ → List ℕ → Bool → ℕ → Type 0
+ReportsValue s name v (Ok text) = IsReport (shown s (accepted_text s name v ++ text)) false 0
+ReportsValue s name v (Err index) = IsReport (no_cache_text s name index) true 0
 
 -- a field has this refusal; a failed allocation is no refusal of a field
-abbrev pub TellsRefusal : Settings → List ℕ → ℕ → List (List ℕ) → Refusal
+abbrev pub ReportsRefusal : Settings → List ℕ → ℕ → List (List ℕ) → Refusal
     → List ℕ → Bool → ℕ → Type 0
-TellsRefusal s name n lines r text refused others =
+ReportsRefusal s name n lines r text refused others =
     (¬ (r ≡ refusal.OutOfMemory))
-    × IsTold (refused_text s n name lines r) true 0 text refused others
+    × IsReport (refused_text s n name lines r) true 0 text refused others
 
 -- the result of parsing the values of a field
-abbrev pub TellsParsed : Settings → List ℕ → ℕ → List (List ℕ) → Result Value Refusal
+abbrev pub ReportsParsed : Settings → List ℕ → ℕ → List (List ℕ) → Result Value Refusal
     → List ℕ → Bool → ℕ → Type 0
-TellsParsed s name n lines (Ok v) = TellsValue s name v (meaning_of s name v)
-TellsParsed s name n lines (Err r) = TellsRefusal s name n lines r
+ReportsParsed s name n lines (Ok v) = ReportsValue s name v (meaning_of s name v)
+ReportsParsed s name n lines (Err r) = ReportsRefusal s name n lines r
 
 -- a structured field, whose first line is the n-th of the input and the first of these lines of its
 -- message: the values of its lines, joined, spell a value, or are refused
-abbrev pub TellsField : Settings → FieldType → List ℕ → ℕ → List (List ℕ)
+abbrev pub ReportsField : Settings → FieldType → List ℕ → ℕ → List (List ℕ)
     → List ℕ → Bool → ℕ → Type 0
-TellsField s type name n lines t r o =
+ReportsField s type name n lines t r o =
     (parsed : Result Value Refusal)
     × ParsesLines type.dialect type.kind (values_in name lines) parsed
-    × TellsParsed s name n lines parsed t r o
+    × ReportsParsed s name n lines parsed t r o
 
 -- a field line, of a field of this type, if it is structured: the field is reported at its first
 -- line
-abbrev pub TellsNamed : Settings → List (List ℕ) → ℕ → List ℕ → Option FieldType
+abbrev pub ReportsNamed : Settings → List (List ℕ) → ℕ → List ℕ → Option FieldType
     → List ℕ → Bool → ℕ → Type 0
-TellsNamed s lines n name None t r o = IsTold [] false 1 t r o
-TellsNamed s lines n name (Some type) t r o =
-    (IsRepeated name lines n × IsTold [] false 0 t r o)
+ReportsNamed s lines n name None t r o = IsReport [] false 1 t r o
+ReportsNamed s lines n name (Some type) t r o =
+    (IsRepeated name lines n × IsReport [] false 0 t r o)
     ⊎ ((¬ (IsRepeated name lines n))
-    × TellsField s type name (n + 1) (message_from lines n) t r o)
+    × ReportsField s type name (n + 1) (message_from lines n) t r o)
 
 -- the n-th line, by its type
-abbrev pub TellsLine : Settings → List (List ℕ) → ℕ → Line → List ℕ → Bool → ℕ → Type 0
-TellsLine s lines n Empty = IsTold [] false 0
-TellsLine s lines n Folded =
-    TellsBadLine s (n + 1) (codes "obsolete line folding") 0 (get_or lines n [])
-TellsLine s lines n Start = IsTold (shown s (printed (get_or lines n []) ++ codes "\n")) false 0
-TellsLine s lines n (Field name) = TellsNamed s lines n name (type_of s name)
-TellsLine s lines n Nameless =
-    TellsBadLine s (n + 1) (codes "not a field line") (name_end (get_or lines n []))
+abbrev pub ReportsLine : Settings → List (List ℕ) → ℕ → Line → List ℕ → Bool → ℕ → Type 0
+ReportsLine s lines n Empty = IsReport [] false 0
+ReportsLine s lines n Folded =
+    ReportsBadLine s (n + 1) (codes "obsolete line folding") 0 (get_or lines n [])
+ReportsLine s lines n Start = IsReport (shown s (printed (get_or lines n []) ++ codes "\n")) false 0
+ReportsLine s lines n (Field name) = ReportsNamed s lines n name (type_of s name)
+ReportsLine s lines n Nameless =
+    ReportsBadLine s (n + 1) (codes "not a field line") (name_end (get_or lines n []))
     (get_or lines n [])
 
 -- one more line is reported after those before it
-pub record TellsMore (before line : List ℕ → Bool → ℕ → Type 0) (t : List ℕ) (r : Bool) (o : ℕ)
+pub record ReportsMore (before line : List ℕ → Bool → ℕ → Type 0) (t : List ℕ) (r : Bool) (o : ℕ)
     : Type 0 where
   pub text : List ℕ
   pub refused : Bool
@@ -133,19 +133,19 @@ pub record TellsMore (before line : List ℕ → Bool → ℕ → Type 0) (t : L
   pub line_text : List ℕ
   pub line_refused : Bool
   pub line_others : ℕ
-  pub told : before text refused others
-  pub line_told : line line_text line_refused line_others
-  pub sum : IsTold (text ++ line_text) (refused || line_refused) (others + line_others) t r o
+  pub reported : before text refused others
+  pub line_reported : line line_text line_refused line_others
+  pub sum : IsReport (text ++ line_text) (refused || line_refused) (others + line_others) t r o
 
 -- the first n lines, in order
-abbrev pub Tells : Settings → List (List ℕ) → ℕ → List ℕ → Bool → ℕ → Type 0
-Tells s lines zero = IsTold [] false 0
-Tells s lines (suc n) =
-    TellsMore (Tells s lines n) (TellsLine s lines n (line_of (get_or lines n [])))
+abbrev pub ReportsLines : Settings → List (List ℕ) → ℕ → List ℕ → Bool → ℕ → Type 0
+ReportsLines s lines zero = IsReport [] false 0
+ReportsLines s lines (suc n) =
+    ReportsMore (ReportsLines s lines n) (ReportsLine s lines n (line_of (get_or lines n [])))
 
 -- an input: the report on its lines, and the number of fields that are not structured
 abbrev pub Reports : Settings → List ℕ → List ℕ → Bool → Type 0
 Reports s input text refused =
-    (told : List ℕ) × (others : ℕ)
-    × Tells s (lines input) (length (lines input)) told refused others
-    × (text ≡ told ++ shown s (others_text others))
+    (reported : List ℕ) × (others : ℕ)
+    × ReportsLines s (lines input) (length (lines input)) reported refused others
+    × (text ≡ reported ++ shown s (others_text others))

@@ -1,6 +1,6 @@
 //! The meaning of a field to a cache or a server, in the lines that `sf` prints.
 ghost use Rattle.std.specs.Prelude.{◌≡◌, ◌++◌, IfOk};
-ghost use Rattle.sf_use.specs.Priority.{asked};
+ghost use Rattle.sf_use.specs.Priority.{params_of_dict};
 ghost use Rattle.sf_use.specs.Targeted.{policy};
 ghost use Rattle.sf_tool.specs.ChoiceLines.{policy_lines};
 ghost use Rattle.sf_tool.specs.PathLines.{path_lines};
@@ -110,7 +110,7 @@ fn path_texts(
 /// Returns the lines for the ignored members of a Priority field, and its priority.
 fn priority_texts(alloc: Global, settings: &Settings, dict: &Dict) -> Result<Vec<u8>, OutOfMemory>
     ensures { IfOk result (λ text. text.items
-        ≡ priority_lines settings.now dict.now.members (asked dict.now)) }
+        ≡ priority_lines settings.now dict.now.members (params_of_dict dict.now)) }
 {
     let asked = Priority::from_dict(dict);
     let urgency = is_silent(dict.get(b"u"), asked.urgency);

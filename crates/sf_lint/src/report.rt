@@ -6,9 +6,9 @@ ghost use Rattle.sf_parse.specs.Spots.{line_place};
 ghost use Rattle.sf_value.specs.declared.value.Field.{Field};
 ghost use Rattle.std.specs.List.{before_first};
 ghost use Rattle.sf_lint.specs.Head.{IsRepeated, is_start as is_start_in, values_in};
-ghost use Rattle.sf_lint.specs.Report.{TellsLine, TellsField, Tells, Reports, shown as shown_in};
+ghost use Rattle.sf_lint.specs.Report.{ReportsLine, ReportsField, ReportsLines, Reports, shown as shown_in};
 ghost use Rattle.sf_lint.specs.Meanings.{meaning_of};
-ghost use Rattle.sf_lint.specs.Report.{no_cache_text, TellsValue, TellsRefusal};
+ghost use Rattle.sf_lint.specs.Report.{no_cache_text, ReportsValue, ReportsRefusal};
 ghost use Rattle.sf_lint.specs.Report.{accepted_text, refused_text, others_text, bad_line_text};
 ghost use Rattle.sf_lint.specs.Head.{line_of};
 ghost use Rattle.sf_lint.specs.Colours.{verdict_text};
@@ -31,7 +31,7 @@ use std::hash::RandomState;
 
 /// The report on one line or several.
 #[derive(Drop)]
-pub(crate) struct Told {
+pub(crate) struct LineReport {
     /// The text that is printed.
     pub text: Vec<u8>,
     /// Whether a line or a field was refused.
@@ -52,10 +52,10 @@ fn shown(alloc: Global, settings: &Settings, text: Vec<u8>) -> Vec<u8>
 }
 
 /// Returns an empty report.
-fn nothing(alloc: Global) -> Told
+fn nothing(alloc: Global) -> LineReport
     ensures { (result.text.items ≡ []) × (result.refused ≡ false) × (result.others ≡ 0) }
 {
-    Told {
+    LineReport {
         text: Vec::new(alloc),
         refused: false,
         others: 0,
@@ -136,28 +136,28 @@ fn without_cache(
 }
 
 /// Reports a field that has a value: its canonical text, and its meaning.
-fn tell_value(
+fn report_value(
     alloc: Global,
     settings: &Settings,
     name: &str,
     field: &Field,
-) -> Result<Told, OutOfMemory>
-    ensures told { IfOk result (λ told. TellsValue settings.now name.now field.now
-        (meaning_of settings.now name.now field.now) told.text.items told.refused told.others) }
-    ensures few { IfOk result (λ told. told.others ≤ 1) }
+) -> Result<LineReport, OutOfMemory>
+    ensures reported { IfOk result (λ reported. ReportsValue settings.now name.now field.now
+        (meaning_of settings.now name.now field.now) reported.text.items reported.refused reported.others) }
+    ensures few { IfOk result (λ reported. reported.others ≤ 1) }
 {
     match meaning(alloc, settings, name, field) {
         Ok(lines) => {
             let mut text = accepted(alloc, settings, name, field)?;
             text.extend_from_slice(lines.as_slice())?;
-            return Ok(Told {
+            return Ok(LineReport {
                 text: shown(alloc, settings, text),
                 refused: false,
                 others: 0,
             });
         }
         Err(UseFault::NotACache { index }) => {
-            return Ok(Told {
+            return Ok(LineReport {
                 text: without_cache(alloc, settings, name, index)?,
                 refused: true,
                 others: 0,
@@ -192,24 +192,24 @@ fn refused(
 }
 
 /// Reports a field that is refused.
-fn tell_refusal(
+fn report_refusal(
     alloc: Global,
     settings: &Settings,
     name: &str,
     refusal: Refusal,
     number: usize,
     lines: &[&[u8]],
-) -> Result<Told, OutOfMemory>
+) -> Result<LineReport, OutOfMemory>
     requires { number + length lines.now < 2 ^ 64 }
-    ensures told { IfOk result (λ told. TellsRefusal settings.now name.now number
-        (map (λ line. line.now) lines.now) refusal told.text.items told.refused told.others) }
-    ensures few { IfOk result (λ told. told.others ≤ 1) }
+    ensures reported { IfOk result (λ reported. ReportsRefusal settings.now name.now number
+        (map (λ line. line.now) lines.now) refusal reported.text.items reported.refused reported.others) }
+    ensures few { IfOk result (λ reported. reported.others ≤ 1) }
 {
     match refusal {
         Refusal::OutOfMemory => return Err(OutOfMemory),
         _ => {
             let text = refused(alloc, settings, name, refusal, number, lines)?;
-            return Ok(Told {
+            return Ok(LineReport {
                 text,
                 refused: true,
                 others: 0,
@@ -220,7 +220,7 @@ fn tell_refusal(
 
 /// Reports a structured field. The lines are those of its message from its first one on, and the
 /// number is that of its first line.
-fn tell_field(
+fn report_field(
     alloc: Global,
     seed: &RandomState,
     settings: &Settings,
@@ -228,12 +228,12 @@ fn tell_field(
     name: &str,
     number: usize,
     lines: &[&[u8]],
-) -> Result<Told, OutOfMemory>
+) -> Result<LineReport, OutOfMemory>
     requires { number + length lines.now < 2 ^ 64 }
     // The canonical text of the value that the lines of this name spell, or their refusal.
-    ensures told { IfOk result (λ told. TellsField settings.now field_type name.now number
-        (map (λ line. line.now) lines.now) told.text.items told.refused told.others) }
-    ensures few { IfOk result (λ told. told.others ≤ 1) }
+    ensures reported { IfOk result (λ reported. ReportsField settings.now field_type name.now number
+        (map (λ line. line.now) lines.now) reported.text.items reported.refused reported.others) }
+    ensures few { IfOk result (λ reported. reported.others ≤ 1) }
 {
     let values = values(alloc, name.as_bytes(), lines)?;
     let parsed = parse_from(
@@ -245,30 +245,30 @@ fn tell_field(
     );
     match parsed {
         Ok(field) => {
-            let told = tell_value(alloc, settings, name, &field);
+            let reported = report_value(alloc, settings, name, &field);
             drop(field);
-            return told;
+            return reported;
         }
-        Err(refusal) => return tell_refusal(alloc, settings, name, refusal, number, lines),
+        Err(refusal) => return report_refusal(alloc, settings, name, refusal, number, lines),
     }
 }
 
 /// Reports a field line, of a field that may be structured.
-fn tell_named(
+fn report_named(
     alloc: Global,
     seed: &RandomState,
     settings: &Settings,
     name: &HeaderName,
     lines: &[&[u8]],
     n: usize,
-) -> Result<Told, OutOfMemory>
+) -> Result<LineReport, OutOfMemory>
     requires { (n < length lines.now) × (length lines.now < 2 ^ 63) }
-    ensures told { IfOk result (λ told. TellsLine settings.now (map (λ line. line.now) lines.now) n
-        (line.Field name.now) told.text.items told.refused told.others) }
-    ensures few { IfOk result (λ told. told.others ≤ 1) }
+    ensures reported { IfOk result (λ reported. ReportsLine settings.now (map (λ line. line.now) lines.now) n
+        (line.Field name.now) reported.text.items reported.refused reported.others) }
+    ensures few { IfOk result (λ reported. reported.others ≤ 1) }
 {
     let Some(field_type) = type_of(settings, name) else {
-        return Ok(Told {
+        return Ok(LineReport {
             text: Vec::new(alloc),
             refused: false,
             others: 1,
@@ -278,7 +278,7 @@ fn tell_named(
         return Ok(nothing(alloc));
     }
     let message = message_in(&lines[n..]);
-    tell_field(
+    report_field(
         alloc,
         seed,
         settings,
@@ -324,17 +324,17 @@ fn bad_line(
 }
 
 /// Reports a line that is no line of a head, which is refused at the spot.
-fn tell_bad_line(
+fn report_bad_line(
     alloc: Global,
     settings: &Settings,
     why: &str,
     spot: Spot<'_>,
-) -> Result<Told, OutOfMemory>
-    ensures { IfOk result (λ told. (told.text.items
+) -> Result<LineReport, OutOfMemory>
+    ensures { IfOk result (λ reported. (reported.text.items
         ≡ bad_line_text settings.now spot.entry.line why.now (line_place (Some spot.entry)))
-        × (told.refused ≡ true) × (told.others ≡ 0)) }
+        × (reported.refused ≡ true) × (reported.others ≡ 0)) }
 {
-    Ok(Told {
+    Ok(LineReport {
         text: bad_line(alloc, settings, why, spot)?,
         refused: true,
         others: 0,
@@ -342,20 +342,20 @@ fn tell_bad_line(
 }
 
 /// Reports the n-th line.
-fn tell_line(
+fn report_line(
     alloc: Global,
     seed: &RandomState,
     settings: &Settings,
     lines: &[&[u8]],
     n: usize,
-) -> Result<Told, OutOfMemory>
+) -> Result<LineReport, OutOfMemory>
     requires { (n < length lines.now) × (length lines.now < 2 ^ 63) }
     // The report on the line: by what it is, and among the lines of its message.
-    ensures told { IfOk result (λ told. TellsLine settings.now (map (λ line. line.now) lines.now) n
+    ensures reported { IfOk result (λ reported. ReportsLine settings.now (map (λ line. line.now) lines.now) n
         (line_of (get_or (map (λ line. line.now) lines.now) n []))
-        told.text.items told.refused told.others) }
+        reported.text.items reported.refused reported.others) }
     // It is at most one field line.
-    ensures few { IfOk result (λ told. told.others ≤ 1) }
+    ensures few { IfOk result (λ reported. reported.others ≤ 1) }
 {
     match read_line(alloc, lines[n])? {
         Line::Empty => return Ok(nothing(alloc)),
@@ -365,45 +365,45 @@ fn tell_line(
                 place: 0,
                 text: lines[n],
             };
-            return tell_bad_line(alloc, settings, "obsolete line folding", spot);
+            return report_bad_line(alloc, settings, "obsolete line folding", spot);
         }
         Line::Start => {
             let text = line_text(alloc, lines[n])?;
-            return Ok(Told {
+            return Ok(LineReport {
                 text: shown(alloc, settings, text),
                 refused: false,
                 others: 0,
             });
         }
-        Line::Field(name) => return tell_named(alloc, seed, settings, &name, lines, n),
+        Line::Field(name) => return report_named(alloc, seed, settings, &name, lines, n),
         Line::Nameless => {
             let spot = Spot {
                 line: n + 1,
                 place: name_end(lines[n]),
                 text: lines[n],
             };
-            return tell_bad_line(alloc, settings, "not a field line", spot);
+            return report_bad_line(alloc, settings, "not a field line", spot);
         }
     }
 }
 
 /// Reports all lines, in order.
-fn tell_lines(
+fn report_lines(
     alloc: Global,
     seed: &RandomState,
     settings: &Settings,
     lines: &[&[u8]],
-) -> Result<Told, OutOfMemory>
+) -> Result<LineReport, OutOfMemory>
     requires { length lines.now < 2 ^ 63 }
-    ensures { IfOk result (λ told. Tells settings.now (map (λ line. line.now) lines.now)
-        (length lines.now) told.text.items told.refused told.others) }
+    ensures { IfOk result (λ reported. ReportsLines settings.now (map (λ line. line.now) lines.now)
+        (length lines.now) reported.text.items reported.refused reported.others) }
 {
     let mut all = nothing(alloc);
     for n in 0..lines.len() {
-        let told = tell_line(alloc, seed, settings, lines, n)?;
-        all.text.extend_from_slice(told.text.as_slice())?;
-        all.refused |= told.refused;
-        all.others += told.others;
+        let reported = report_line(alloc, seed, settings, lines, n)?;
+        all.text.extend_from_slice(reported.text.as_slice())?;
+        all.refused |= reported.refused;
+        all.others += reported.others;
     }
     Ok(all)
 }
@@ -422,14 +422,14 @@ pub(crate) fn report(
     seed: &RandomState,
     settings: &Settings,
     input: &[u8],
-) -> Result<Told, OutOfMemory>
+) -> Result<LineReport, OutOfMemory>
     requires { length input.now ≤ 2 ^ 32 }
     // The report on each line, in order, and then the number of fields that are not structured.
-    ensures { IfOk result (λ told. Reports settings.now input.now told.text.items told.refused) }
+    ensures { IfOk result (λ reported. Reports settings.now input.now reported.text.items reported.refused) }
 {
     let lines = split_lines(alloc, input)?;
-    let mut told = tell_lines(alloc, seed, settings, lines.as_slice())?;
-    let line = shown(alloc, settings, others_line(alloc, told.others)?);
-    told.text.extend_from_slice(line.as_slice())?;
-    Ok(told)
+    let mut reported = report_lines(alloc, seed, settings, lines.as_slice())?;
+    let line = shown(alloc, settings, others_line(alloc, reported.others)?);
+    reported.text.extend_from_slice(line.as_slice())?;
+    Ok(reported)
 }

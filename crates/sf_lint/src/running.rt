@@ -87,9 +87,9 @@ fn answer<W: Sink>(
     ensures { Answers settings.now input.now (W.state sink.old) (W.state sink.new) result }
 {
     match report(alloc, seed, settings, input) {
-        Ok(told) => {
-            let status = status_of(told.refused);
-            answer_made(told.text.as_slice(), status, sink)
+        Ok(reported) => {
+            let status = status_of(reported.refused);
+            answer_made(reported.text.as_slice(), status, sink)
         }
         Err(_) => Status::Stopped,
     }

@@ -19,7 +19,7 @@ use Rattle.sf_field.specs.Asking.{Asks}
 use Rattle.sf_field.specs.declared.asking.AskFault.{AskFault}
 use Rattle.sf_tool.specs.Run.{input_limit, IsOfText, IsAskOfText}
 use Rattle.sf_tool.proofs.Cuts.{lines-first, lines-last, length-trim}
-use Rattle.sf_tool.proofs.Tells.{is_of_text, is_ask_of_text}
+use Rattle.sf_tool.proofs.Reports.{is_of_text, is_ask_of_text}
 
 length-strip : (l : List ℕ) → length (strip_carriage_return l) ≤ length l
 length-strip l = grind (arith, length-take (length l - 1) l)

@@ -7,6 +7,6 @@ pub mod LineByLine
 pub mod CommandLine
 pub mod FirstWord
 pub mod SomeWords
-pub mod Tells
+pub mod Reports
 pub mod Places
 pub mod Spots

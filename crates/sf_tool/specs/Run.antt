@@ -24,7 +24,7 @@ use Rattle.sf_use.specs.declared.cache_status.hop.Hop.{Hop}
 use Rattle.sf_use.specs.CacheStatus.Hops.{hops}
 use Rattle.sf_use.specs.declared.targeted.Choice.{Choice}
 use Rattle.sf_use.specs.TargetedChoice.{IsChosen}
-use Rattle.sf_use.specs.Priority.{asked_in, filled}
+use Rattle.sf_use.specs.Priority.{params_of_field, priority_with_defaults}
 use Rattle.sf_tool.specs.declared.answering.View.{View}
 use Rattle.sf_tool.specs.declared.answering.View.TheVariants.{Tree, Verdict, Canonical}
 use Rattle.sf_tool.specs.declared.fields.InputFault.{InputFault}
@@ -60,14 +60,14 @@ pub record Refuses (d : Dialect) (kind : Kind) (t line : List ℕ) : Type 0 wher
   pub syntax : IsSyntax d kind t place found expected may_end
   -- if the text ended there, that was not allowed
   pub unended : found ≡ None → may_end ≡ false
-  pub told : line ≡ refusal_line place found expected may_end
+  pub line_is : line ≡ refusal_line place found expected may_end
 
 -- what is printed for the one value that t spells; or the line of a refusal
 abbrev pub Responds : Dialect → Kind → (Field → List ℕ) → List ℕ → List ℕ → Status → Type 0
-Responds d kind tell t text Accepted = (v : Field) × IsOnly d kind t v × (text ≡ tell v)
-Responds d kind tell t text Refused = Refuses d kind t text
-Responds d kind tell t text Usage = ⊥
-Responds d kind tell t text Stopped = ⊥
+Responds d kind print t text Accepted = (v : Field) × IsOnly d kind t v × (text ≡ print v)
+Responds d kind print t text Refused = Refuses d kind t text
+Responds d kind print t text Usage = ⊥
+Responds d kind print t text Stopped = ⊥
 
 -- what `check` prints for any value
 abbrev pub accepted_line : Field → List ℕ
@@ -91,31 +91,31 @@ view_request Canonical d kind = Normalise d kind
 
 -- what `priority` prints: the parameters of the Dictionary, with the defaults filled in
 abbrev pub priority_of : Field → List ℕ
-priority_of v = priority_line (filled (asked_in v))
+priority_of v = priority_line (priority_with_defaults (params_of_field v))
 
 -- the hops of the List that t spells, and which served; or the line of a refusal, or of a member
 -- that names no cache
-abbrev pub TellsPath : List ℕ → List ℕ → Status → Type 0
-TellsPath t text Accepted =
+abbrev pub ReportsPath : List ℕ → List ℕ → Status → Type 0
+ReportsPath t text Accepted =
     (v : Field) × IsOnly Rfc9651 kind.List t v
     × (path : List Hop) × (hops v ≡ Ok path) × (text ≡ path_lines path)
-TellsPath t text Refused =
+ReportsPath t text Refused =
     Refuses Rfc9651 kind.List t text
     ⊎ ((v : Field) × IsOnly Rfc9651 kind.List t v
     × (index : ℕ) × (hops v ≡ Err index) × (text ≡ not_a_cache_line index))
-TellsPath t text Usage = ⊥
-TellsPath t text Stopped = ⊥
+ReportsPath t text Usage = ⊥
+ReportsPath t text Stopped = ⊥
 
 -- the choice among the fields of these names that are in the input; or the line of a refusal for
 -- the first line that is refused
-abbrev pub TellsChoice : List (List ℕ) → List ℕ → List ℕ → Status → Type 0
-TellsChoice names input text Accepted =
+abbrev pub ReportsChoice : List (List ℕ) → List ℕ → List ℕ → Status → Type 0
+ReportsChoice names input text Accepted =
     (headers : Headers) × AreFields names input headers
     × (c : Choice) × IsChosen names headers c × (text ≡ choice_lines names c)
-TellsChoice names input text Refused =
+ReportsChoice names input text Refused =
     (number : ℕ) × IsFirstRefused names input number × (text ≡ refused_line number)
-TellsChoice names input text Usage = ⊥
-TellsChoice names input text Stopped = ⊥
+ReportsChoice names input text Usage = ⊥
+ReportsChoice names input text Stopped = ⊥
 
 -- the text and the status for an input within the limit
 abbrev pub Answers : Request → List ℕ → List ℕ → Status → Type 0
@@ -123,8 +123,8 @@ Answers (Show d kind) input text status = Responds d kind tree (joined input) te
 Answers (Check d kind) input text status = Responds d kind accepted_line (joined input) text status
 Answers (Normalise d kind) input text status =
     Responds d kind canonical_line (joined input) text status
-Answers CacheStatus input text status = TellsPath (joined input) text status
-Answers (Targeted names) input text status = TellsChoice names.items input text status
+Answers CacheStatus input text status = ReportsPath (joined input) text status
+Answers (Targeted names) input text status = ReportsChoice names.items input text status
 Answers Priority input text status = Responds Rfc9651 kind.Dict priority_of (joined input) text
     status
 
@@ -156,22 +156,22 @@ MayAllocate Priority input = ⊤
 
 -- this is the result for an input; or an allocation failed, for an answer that may allocate, and
 -- nothing was written, without a call; or a write failed
-abbrev pub Tells : Request → List ℕ → SinkState → SinkState → Status → Type 0
-Tells request input old new Accepted = Finished request input old new Accepted
-Tells request input old new Refused = Finished request input old new Refused
-Tells request input old new Usage = ⊥
-Tells request input old new Stopped =
+abbrev pub Reports : Request → List ℕ → SinkState → SinkState → Status → Type 0
+Reports request input old new Accepted = Finished request input old new Accepted
+Reports request input old new Refused = Finished request input old new Refused
+Reports request input old new Usage = ⊥
+Reports request input old new Stopped =
     (MayAllocate request input × (new ≡ old)) ⊎ BrokeOff request input old new
 
 -- this text was to be written, with a status if all of it was written; otherwise a write failed
 -- after a prefix of it
-abbrev pub TellsText : List ℕ → Status → SinkState → SinkState → Status → Type 0
-TellsText text status old new Accepted =
+abbrev pub ReportsText : List ℕ → Status → SinkState → SinkState → Status → Type 0
+ReportsText text status old new Accepted =
     (Accepted ≡ status) × ((after : ℕ) × Wrote old new 0 after text)
-TellsText text status old new Refused =
+ReportsText text status old new Refused =
     (Refused ≡ status) × ((after : ℕ) × Wrote old new 0 after text)
-TellsText text status old new Usage = ⊥
-TellsText text status old new Stopped = (after : ℕ) × WrotePrefix old new 0 after text
+ReportsText text status old new Usage = ⊥
+ReportsText text status old new Stopped = (after : ℕ) × WrotePrefix old new 0 after text
 
 -- the input is all that the source gave up to its end, which was read once, within the limit
 abbrev pub IsWhole : SourceState → SourceState → List ℕ → Type 0
@@ -194,19 +194,19 @@ pub record ReadInPart (old new : SourceState) : Type 0 where
 abbrev pub Ran : Request → Bool → SourceState → SourceState → SinkState → SinkState → SinkState
     → SinkState → Status → Type 0
 Ran request is_terminal source source' sink sink' errors errors' status =
-    ((input : List ℕ) × IsWhole source source' input × Tells request input sink sink' status
+    ((input : List ℕ) × IsWhole source source' input × Reports request input sink sink' status
     × Explained is_terminal status (Explains request input) errors errors')
-    ⊎ ((IsTooLong source source' × TellsText (too_long_line input_limit) Refused sink sink' status
+    ⊎ ((IsTooLong source source' × ReportsText (too_long_line input_limit) Refused sink sink' status
     × ExplainedBy is_terminal status (too_long_words input_limit) errors errors')
     ⊎ (ReadInPart source source' × (sink' ≡ sink) × (errors' ≡ errors) × (status ≡ Stopped)))
 
 -- a refusal was answered: its line was to be written, or an allocation failed
-abbrev pub TellsRefusal : Refusal → SinkState → SinkState → Status → Type 0
-TellsRefusal (Syntax place found expected may_end) old new result =
-    TellsText (refusal_line place found expected may_end) Refused old new result
-TellsRefusal OutOfMemory old new result = (result ≡ Stopped) × (new ≡ old)
-TellsRefusal (TooLong limit) old new result = ⊥
-TellsRefusal (ReadFault place) old new result = ⊥
+abbrev pub ReportsRefusal : Refusal → SinkState → SinkState → Status → Type 0
+ReportsRefusal (Syntax place found expected may_end) old new result =
+    ReportsText (refusal_line place found expected may_end) Refused old new result
+ReportsRefusal OutOfMemory old new result = (result ≡ Stopped) × (new ≡ old)
+ReportsRefusal (TooLong limit) old new result = ⊥
+ReportsRefusal (ReadFault place) old new result = ⊥
 
 -- a refusal for the text or as out of memory
 abbrev pub IsOfText : Refusal → Type 0
@@ -222,15 +222,15 @@ IsAskOfText (ask.Answer fault) = ⊤
 
 -- a fault of a consumer was answered: the line of the refusal, or of the member that names no
 -- cache, was to be written, or an allocation failed
-abbrev pub TellsAskFault : AskFault → SinkState → SinkState → Status → Type 0
-TellsAskFault (ask.Field refusal) old new result = TellsRefusal refusal old new result
-TellsAskFault (ask.Answer (use_fault.NotACache index)) old new result =
-    TellsText (not_a_cache_line index) Refused old new result
-TellsAskFault (ask.Answer use_fault.OutOfMemory) old new result =
+abbrev pub ReportsAskFault : AskFault → SinkState → SinkState → Status → Type 0
+ReportsAskFault (ask.Field refusal) old new result = ReportsRefusal refusal old new result
+ReportsAskFault (ask.Answer (use_fault.NotACache index)) old new result =
+    ReportsText (not_a_cache_line index) Refused old new result
+ReportsAskFault (ask.Answer use_fault.OutOfMemory) old new result =
     (result ≡ Stopped) × (new ≡ old)
 
 -- a refused line was answered: its number was to be written, or an allocation failed
-abbrev pub TellsInputFault : InputFault → SinkState → SinkState → Status → Type 0
-TellsInputFault (input_fault.Line number) old new result =
-    TellsText (refused_line number) Refused old new result
-TellsInputFault input_fault.OutOfMemory old new result = (result ≡ Stopped) × (new ≡ old)
+abbrev pub ReportsInputFault : InputFault → SinkState → SinkState → Status → Type 0
+ReportsInputFault (input_fault.Line number) old new result =
+    ReportsText (refused_line number) Refused old new result
+ReportsInputFault input_fault.OutOfMemory old new result = (result ≡ Stopped) × (new ≡ old)

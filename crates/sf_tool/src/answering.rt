@@ -7,7 +7,7 @@ ghost use Rattle.sf_tool.specs.declared.status.Status.TheVariants as status_is;
 ghost use Rattle.sf_tool.specs.ChoiceLines.{field_lines, refused_line};
 ghost use Rattle.sf_tool.specs.PathLines.{not_a_cache_line, path_lines};
 ghost use Rattle.sf_tool.specs.PriorityLine.{priority_line};
-ghost use Rattle.sf_tool.specs.Run.{TellsText, TellsRefusal, TellsAskFault, IsOfText, IsAskOfText};
+ghost use Rattle.sf_tool.specs.Run.{ReportsText, ReportsRefusal, ReportsAskFault, IsOfText, IsAskOfText};
 ghost use Rattle.sf_tool.specs.Run.{view_text};
 ghost use Rattle.sf_tool.specs.Texts.{too_long_line};
 
@@ -28,7 +28,7 @@ fn ended(sent: Sent, status: Status) -> Status
     requires { status ≡ status_is.Accepted ⊎ status ≡ status_is.Refused }
     // This holds for every text that was sent from its beginning.
     ensures { (old new : SinkState) (text : List ℕ) → Writes old new 0 sent text
-        → TellsText text status old new result }
+        → ReportsText text status old new result }
 {
     match sent {
         Ok(_) => status,
@@ -40,7 +40,7 @@ fn ended(sent: Sent, status: Status) -> Status
 pub fn answer_made<W: Sink>(text: &[u8], status: Status, sink: &mut W) -> Status
     requires { status ≡ status_is.Accepted ⊎ status ≡ status_is.Refused }
     // This status if the whole text was written; Stopped if a write failed after a prefix of it.
-    ensures { TellsText text.now status (W.state sink.old) (W.state sink.new) result }
+    ensures { ReportsText text.now status (W.state sink.old) (W.state sink.new) result }
 {
     ended(put(text, Ok(0), sink), status)
 }
@@ -74,7 +74,7 @@ fn put_view<W: Sink>(view: View, field: &Field, before: Sent, out: &mut W) -> Se
 /// Writes a view of a field.
 pub(crate) fn answer_view<W: Sink>(view: View, field: Field, sink: &mut W) -> Status
     // Accepted if the whole view was written; Stopped if a write failed after a prefix of it.
-    ensures { TellsText (view_text view field) status_is.Accepted
+    ensures { ReportsText (view_text view field) status_is.Accepted
         (W.state sink.old) (W.state sink.new) result }
 {
     ended(put_view(view, &field, Ok(0), sink), Status::Accepted)
@@ -85,7 +85,7 @@ pub(crate) fn answer_refusal<W: Sink>(refusal: Refusal, sink: &mut W) -> Status
     // The refusal is Syntax or OutOfMemory.
     requires { IsOfText refusal }
     // The line of the refusal or a prefix of it is written; nothing for OutOfMemory.
-    ensures { TellsRefusal refusal (W.state sink.old) (W.state sink.new) result }
+    ensures { ReportsRefusal refusal (W.state sink.old) (W.state sink.new) result }
 {
     match refusal {
         Refusal::Syntax {
@@ -105,7 +105,7 @@ pub(crate) fn answer_refusal<W: Sink>(refusal: Refusal, sink: &mut W) -> Status
 /// Writes the line for an input that is longer than this limit.
 pub fn answer_too_long<W: Sink>(limit: u64, sink: &mut W) -> Status
     // Refused if the whole line was written; Stopped if a write failed after a prefix of it.
-    ensures { TellsText (too_long_line limit) status_is.Refused
+    ensures { ReportsText (too_long_line limit) status_is.Refused
         (W.state sink.old) (W.state sink.new) result }
 {
     let sent = put_count(b"refused too long ", limit, Ok(0), sink);
@@ -115,7 +115,7 @@ pub fn answer_too_long<W: Sink>(limit: u64, sink: &mut W) -> Status
 /// Writes the lines of a path of caches.
 pub(crate) fn answer_path<W: Sink>(path: CachePath, sink: &mut W) -> Status
     // Accepted if all lines were written; Stopped if a write failed after a prefix of them.
-    ensures { TellsText (path_lines path) status_is.Accepted
+    ensures { ReportsText (path_lines path) status_is.Accepted
         (W.state sink.old) (W.state sink.new) result }
 {
     ended(put_path(&path, Ok(0), sink), Status::Accepted)
@@ -124,7 +124,7 @@ pub(crate) fn answer_path<W: Sink>(path: CachePath, sink: &mut W) -> Status
 /// Writes the line of a refusal for the member at this index, which does not name a cache.
 fn answer_not_a_cache<W: Sink>(index: usize, sink: &mut W) -> Status
     // Refused if the whole line was written; Stopped if a write failed after a prefix of it.
-    ensures { TellsText (not_a_cache_line index) status_is.Refused
+    ensures { ReportsText (not_a_cache_line index) status_is.Refused
         (W.state sink.old) (W.state sink.new) result }
 {
     let sent = put_count(b"refused not a cache ", index as u64, Ok(0), sink);
@@ -137,7 +137,7 @@ pub(crate) fn answer_ask_fault<W: Sink>(fault: AskFault, sink: &mut W) -> Status
     requires { IsAskOfText fault }
     // The line of the refusal or of the member is written, or a prefix of it; nothing for
     // OutOfMemory.
-    ensures { TellsAskFault fault (W.state sink.old) (W.state sink.new) result }
+    ensures { ReportsAskFault fault (W.state sink.old) (W.state sink.new) result }
 {
     match fault {
         AskFault::Field(refusal) => answer_refusal(refusal, sink),
@@ -149,7 +149,7 @@ pub(crate) fn answer_ask_fault<W: Sink>(fault: AskFault, sink: &mut W) -> Status
 /// Writes the line of a priority.
 pub(crate) fn answer_priority<W: Sink>(priority: Priority, sink: &mut W) -> Status
     // Accepted if the whole line was written; Stopped if a write failed after a prefix of it.
-    ensures { TellsText (priority_line priority) status_is.Accepted
+    ensures { ReportsText (priority_line priority) status_is.Accepted
         (W.state sink.old) (W.state sink.new) result }
 {
     ended(put_priority(priority, Ok(0), sink), Status::Accepted)
@@ -163,7 +163,7 @@ pub(crate) fn answer_chosen<W: Sink>(
     sink: &mut W,
 ) -> Status
     // Accepted if all lines were written; Stopped if a write failed after a prefix of them.
-    ensures { TellsText (field_lines index name.now policy.now) status_is.Accepted
+    ensures { ReportsText (field_lines index name.now policy.now) status_is.Accepted
         (W.state sink.old) (W.state sink.new) result }
 {
     ended(
@@ -175,7 +175,7 @@ pub(crate) fn answer_chosen<W: Sink>(
 /// Writes the line for no chosen field.
 pub(crate) fn answer_fallback<W: Sink>(sink: &mut W) -> Status
     // Accepted if the whole line was written; Stopped if a write failed after a prefix of it.
-    ensures { TellsText (codes "fallback\n") status_is.Accepted
+    ensures { ReportsText (codes "fallback\n") status_is.Accepted
         (W.state sink.old) (W.state sink.new) result }
 {
     ended(put(b"fallback\n", Ok(0), sink), Status::Accepted)
@@ -184,7 +184,7 @@ pub(crate) fn answer_fallback<W: Sink>(sink: &mut W) -> Status
 /// Writes the line of a refusal for the input line of this number.
 pub(crate) fn answer_refused_line<W: Sink>(number: u64, sink: &mut W) -> Status
     // Refused if the whole line was written; Stopped if a write failed after a prefix of it.
-    ensures { TellsText (refused_line number) status_is.Refused
+    ensures { ReportsText (refused_line number) status_is.Refused
         (W.state sink.old) (W.state sink.new) result }
 {
     ended(

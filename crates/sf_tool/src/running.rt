@@ -10,7 +10,7 @@ ghost use Rattle.sf_tool.specs.Lines.{lines_of as lines_in};
 ghost use Rattle.sf_tool.specs.ChoiceLines.{choice_lines, IsPlaceOf};
 ghost use Rattle.sf_tool.specs.Explaining.{Explained, Explains, ExplainsField, ExplainsLine};
 ghost use Rattle.sf_tool.specs.Explaining.{ExplainsPath};
-ghost use Rattle.sf_tool.specs.Run.{Ran, Tells, TellsInputFault, TellsText};
+ghost use Rattle.sf_tool.specs.Run.{Ran, Reports, ReportsInputFault, ReportsText};
 ghost use Rattle.sf_tool.specs.Run.{input_limit, joined, view_request, IsOfText, IsAskOfText};
 
 use crate::answering::{
@@ -123,7 +123,7 @@ fn answer_field<W: Sink>(
 ) -> Status
     requires { length input.now ≤ input_limit }
     // The whole answer was written; or a prefix of it, and a write failed; or nothing.
-    ensures { Tells (view_request view dialect kind) input.now
+    ensures { Reports (view_request view dialect kind) input.now
         (W.state sink.old) (W.state sink.new) result }
 {
     match parse_input(alloc, seed, dialect, kind, input) {
@@ -152,7 +152,7 @@ fn ask_input<C: Consumer>(
 fn cache_status<W: Sink>(alloc: Global, seed: &RandomState, input: &[u8], sink: &mut W) -> Status
     requires { length input.now ≤ input_limit }
     // The whole answer was written; or a prefix of it, and a write failed; or nothing.
-    ensures { Tells request_is.CacheStatus input.now (W.state sink.old) (W.state sink.new) result }
+    ensures { Reports request_is.CacheStatus input.now (W.state sink.old) (W.state sink.new) result }
 {
     match ask_input(alloc, seed, &CacheStatus, input) {
         Ok(path) => answer_path(path, sink),
@@ -164,7 +164,7 @@ fn cache_status<W: Sink>(alloc: Global, seed: &RandomState, input: &[u8], sink: 
 fn priority<W: Sink>(alloc: Global, seed: &RandomState, input: &[u8], sink: &mut W) -> Status
     requires { length input.now ≤ input_limit }
     // The whole answer was written; or a prefix of it, and a write failed; or nothing.
-    ensures { Tells request_is.Priority input.now (W.state sink.old) (W.state sink.new) result }
+    ensures { Reports request_is.Priority input.now (W.state sink.old) (W.state sink.new) result }
 {
     match ask_input(alloc, seed, &PriorityField, input) {
         Ok(asked) => answer_priority(asked.with_defaults(), sink),
@@ -177,7 +177,7 @@ fn answer_choice<W: Sink>(names: &[HeaderName], choice: Choice, sink: &mut W) ->
     // A chosen field has one of these names.
     requires { IsPlaceOf names.now choice }
     // Accepted if all lines were written; Stopped if a write failed after a prefix of them.
-    ensures { TellsText (choice_lines names.now choice) status_is.Accepted
+    ensures { ReportsText (choice_lines names.now choice) status_is.Accepted
         (W.state sink.old) (W.state sink.new) result }
 {
     match choice {
@@ -191,7 +191,7 @@ fn answer_choice<W: Sink>(names: &[HeaderName], choice: Choice, sink: &mut W) ->
 /// Writes the line of a refusal for a line of the input.
 fn answer_input_fault<W: Sink>(fault: InputFault, sink: &mut W) -> Status
     // The line with this number or a prefix of it is written; nothing for OutOfMemory.
-    ensures { TellsInputFault fault (W.state sink.old) (W.state sink.new) result }
+    ensures { ReportsInputFault fault (W.state sink.old) (W.state sink.new) result }
 {
     match fault {
         InputFault::Line(number) => answer_refused_line(number, sink),
@@ -208,7 +208,7 @@ fn targeted<W: Sink>(
     sink: &mut W,
 ) -> Status
     // The whole answer was written; or a prefix of it, and a write failed; or nothing.
-    ensures { Tells (request_is.Targeted names.now) input.now
+    ensures { Reports (request_is.Targeted names.now) input.now
         (W.state sink.old) (W.state sink.new) result }
 {
     let names = names.as_slice();
@@ -232,7 +232,7 @@ fn answer<W: Sink>(
 ) -> Status
     requires { length input.now ≤ input_limit }
     // The whole answer was written; or a prefix of it, and a write failed; or nothing.
-    ensures { Tells request.now input.now (W.state sink.old) (W.state sink.new) result }
+    ensures { Reports request.now input.now (W.state sink.old) (W.state sink.new) result }
 {
     match request {
         Request::Show(dialect, kind) => {
@@ -273,7 +273,7 @@ fn answer_at_once<W: Sink>(
 ) -> Status
     requires { length input.now ≤ input_limit }
     // The whole answer was written; or a prefix of it, and a write failed; or nothing.
-    ensures { Tells request.now input.now (W.state sink.old) (W.state sink.new) result }
+    ensures { Reports request.now input.now (W.state sink.old) (W.state sink.new) result }
 {
     let mut made = Writing::new(room_for(alloc, input.len()));
     match answer(alloc, seed, request, input, &mut made) {

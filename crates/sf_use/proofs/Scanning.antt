@@ -25,7 +25,7 @@ use Rattle.std.specs.Str.{bytes_eq}
 use Rattle.sf_value.proofs.Settling.{key_is}
 use Rattle.sf_use.specs.declared.priority.Asked.{Asked}
 use Rattle.sf_use.specs.declared.targeted.Policy.{Policy}
-use Rattle.sf_use.specs.Priority.{asked, urgency, urgency_in, incremental, boolean}
+use Rattle.sf_use.specs.Priority.{params_of_dict, urgency, urgency_in, incremental, boolean}
 use Rattle.sf_value.specs.Lookups.{as_boolean, as_integer}
 use Rattle.sf_use.specs.Targeted.{policy, nothing, delta_seconds, whole, is_set, not_false}
 use Rattle.sf_use.specs.TargetedChoice.{MayOffer}
@@ -72,26 +72,26 @@ module _ {A : Type 0} (f : A → List ℕ × Member → A) (F : Pairs Member →
       scanned P text a all.0 all.1 (h all.0 all.2)
 
 -- the parts of what is asked for
-asked_parts : (a : Asked) (ps : Pairs Member)
+params_parts : (a : Asked) (ps : Pairs Member)
     → fold with_member a ps
     ≡ record {
       urgency = overwritten_by urgency (codes "u") a.urgency ps;
       incremental = overwritten_by incremental (codes "i") a.incremental ps;
     }
-asked_parts a [] = refl
-asked_parts a (p ∷ ps) = asked_parts (with_member a p) ps
+params_parts a [] = refl
+params_parts a (p ∷ ps) = params_parts (with_member a p) ps
 
-abbrev pub asked_of : Pairs Member → Asked
-asked_of ps = asked (record { members = settle ps })
+abbrev pub params_of_pairs : Pairs Member → Asked
+params_of_pairs ps = params_of_dict (record { members = settle ps })
 
-pub all_asked : (ps : Pairs Member)
-    → fold with_member (record { urgency = None; incremental = None }) ps ≡ asked_of ps
-all_asked ps =
-    asked_parts (record { urgency = None; incremental = None }) ps
+pub all_params : (ps : Pairs Member)
+    → fold with_member (record { urgency = None; incremental = None }) ps ≡ params_of_pairs ps
+all_params ps =
+    params_parts (record { urgency = None; incremental = None }) ps
     ∙ ap
     (λ u. record { urgency = u; incremental = overwritten_by incremental (codes "i") None ps })
     (overwritten-settle urgency (codes "u") ps)
-    ∙ ap (λ i. record { urgency = (asked_of ps).urgency; incremental = i })
+    ∙ ap (λ i. record { urgency = (params_of_pairs ps).urgency; incremental = i })
     (overwritten-settle incremental (codes "i") ps)
 
 -- a member by its Integer or its Boolean

@@ -37,27 +37,27 @@ incremental m = None
 
 -- what a Dictionary sets (section 4); a member that is unknown, of another type or out of range
 -- sets nothing
-abbrev pub asked : Dict → Asked
-asked d = record {
+abbrev pub params_of_dict : Dict → Asked
+params_of_dict d = record {
   urgency = urgency (value_at (codes "u") d.members);
   incremental = incremental (value_at (codes "i") d.members);
 }
 
 -- what a field sets; a field that is no Dictionary is never passed, and would set nothing
-abbrev pub asked_in : Field → Asked
-asked_in (field.Dict d) = asked d
-asked_in f = record { urgency = None; incremental = None }
+abbrev pub params_of_field : Field → Asked
+params_of_field (field.Dict d) = params_of_dict d
+params_of_field f = record { urgency = None; incremental = None }
 
 -- each parameter is the server's if the server sets it, otherwise the client's (section 8)
-abbrev pub merged : Asked → Asked → Asked
-merged client server = record {
+abbrev pub merge_params : Asked → Asked → Asked
+merge_params client server = record {
   urgency = option_or server.urgency client.urgency;
   incremental = option_or server.incremental client.incremental;
 }
 
 -- the defaults for absent parameters (sections 4.1 and 4.2)
-abbrev pub filled : Asked → Priority
-filled a = record {
+abbrev pub priority_with_defaults : Asked → Priority
+priority_with_defaults a = record {
   urgency = unwrap_or a.urgency usual_urgency;
   incremental = unwrap_or a.incremental false;
 }

@@ -7,19 +7,19 @@ use Rattle.sf_field.specs.Asking.{Means}
 use Rattle.sf_use.specs.declared.priority.Asked.{Asked}
 use Rattle.sf_use.specs.declared.priority.Priority.{Priority}
 use Rattle.sf_use.specs.Ranges.{IsUrgency}
-use Rattle.sf_use.specs.Priority.{asked, asked_in, filled, merged, prio}
+use Rattle.sf_use.specs.Priority.{params_of_dict, params_of_field, priority_with_defaults, merge_params, prio}
 
 -- a priority is read as it was written
 abbrev pub ReadAsWritten : Type 0
-ReadAsWritten = (p : Priority) → IsUrgency p.urgency → filled (asked (prio p)) ≡ p
+ReadAsWritten = (p : Priority) → IsUrgency p.urgency → priority_with_defaults (params_of_dict (prio p)) ≡ p
 
 -- the same from the text that is written, as the only line
 abbrev pub ReadFromText : Type 0
 ReadFromText =
     (p : Priority) → IsUrgency p.urgency
-    → Means kind.Dict (λ f. Ok (asked_in f)) (canon (field.Dict (prio p)) ∷ [])
-    (Ok (asked (prio p)))
+    → Means kind.Dict (λ f. Ok (params_of_field f)) (canon (field.Dict (prio p)) ∷ [])
+    (Ok (params_of_dict (prio p)))
 
 -- three priorities may be merged in any grouping
 abbrev pub MergesInParts : Type 0
-MergesInParts = (a b c : Asked) → merged (merged a b) c ≡ merged a (merged b c)
+MergesInParts = (a b c : Asked) → merge_params (merge_params a b) c ≡ merge_params a (merge_params b c)

@@ -3,8 +3,8 @@ ghost use Rattle.std.specs.Prelude.{◌≡◌, ◌++◌, [], ◌∷◌, ◌↔�
 ghost use Rattle.std.specs.Option.{option_copied};
 ghost use Rattle.sf_value.specs.Grammar.Classes.{is_key_start};
 ghost use Rattle.sf_value.specs.Grammar.Pairs.{put};
-ghost use Rattle.sf_use.specs.Priority.{asked, filled, incremental, merged, plain, prio, urgency};
-ghost use Rattle.sf_use.specs.Priority.{asked_in};
+ghost use Rattle.sf_use.specs.Priority.{params_of_dict, priority_with_defaults, incremental, merge_params, plain, prio, urgency};
+ghost use Rattle.sf_use.specs.Priority.{params_of_field};
 ghost use Rattle.sf_use.specs.Ranges.{IsUrgency, usual_urgency};
 ghost use Rattle.sf_use.specs.Scanning.{IsScanned, urgency_by, with_member};
 ghost use Rattle.sf_value.specs.declared.dialect.Dialect.TheVariants.{Rfc9651 as rfc9651};
@@ -116,7 +116,7 @@ impl PriorityField {
     /// ```
     pub fn scan(text: &[u8]) -> Option<Asked>
         // The text spells a Dictionary, and no other value, and this is what it sets.
-        ensures { IfSome result (IsScanned (λ v asked. asked ≡ asked_in v) text.now) }
+        ensures { IfSome result (IsScanned (λ v a. a ≡ params_of_field v) text.now) }
     {
         let mut cursor = DictCursor::new(Dialect::Rfc9651, text);
         let mut asked = Asked {
@@ -141,7 +141,7 @@ impl Priority {
     /// assert_eq!(rt; asked.with_defaults().incremental, true);
     /// ```
     pub fn from_dict(dict: &Dict) -> Asked
-        ensures { result ≡ asked dict.now }
+        ensures { result ≡ params_of_dict dict.now }
     {
         Asked {
             urgency: urgency_in(dict.get(b"u")),
@@ -158,7 +158,7 @@ impl Asked {
     /// Asked::default().with_defaults() // urgency 3, not incremental
     /// ```
     pub fn with_defaults(self) -> Priority
-        ensures { result ≡ filled self }
+        ensures { result ≡ priority_with_defaults self }
     {
         Priority {
             urgency: self.urgency.unwrap_or_default(),
@@ -199,7 +199,7 @@ impl Consumer for PriorityField {
     ghost use Rattle.sf_value.specs.declared.value.Kind.TheVariants as kind_is;
     ghost use Rattle.sf_value.specs.Grammar.Fields.{kind_of};
     ghost use Rattle.sf_field.specs.Meaning.{Gives};
-    ghost use Rattle.sf_use.specs.Priority.{asked_in};
+    ghost use Rattle.sf_use.specs.Priority.{params_of_field};
 
     type Answer = Asked;
 
@@ -207,12 +207,12 @@ impl Consumer for PriorityField {
 
     ghost KIND = { kind_is.Dict };
 
-    ghost meaning = { λ _ field. Ok (asked_in field) };
+    ghost meaning = { λ _ field. Ok (params_of_field field) };
 
     fn answer(&self, _alloc: Global, field: &Field) -> Result<Asked, UseFault>
         requires { kind_of field.now ≡ kind_is.Dict }
         // The answer is what the Dictionary sets.
-        ensures gives { Gives (Ok (asked_in field.now)) result }
+        ensures gives { Gives (Ok (params_of_field field.now)) result }
         ensures succeeds { IsOk result }
     {
         match field {
@@ -230,7 +230,7 @@ impl Consumer for PriorityField {
 /// let priority = merge(client, server).with_defaults(); // urgency 1, incremental
 /// ```
 pub fn merge(client: Asked, server: Asked) -> Asked
-    ensures { result ≡ merged client server }
+    ensures { result ≡ merge_params client server }
 {
     Asked {
         urgency: server.urgency.or(client.urgency),

@@ -19,7 +19,7 @@ use Rattle.sf_view.specs.declared.node.Node.{Node}
 use Rattle.sf_view.specs.declared.node_types.Role.{Role}
 use Rattle.sf_view.specs.declared.node_types.Role.TheVariants as role_is
 use Rattle.sf_view.specs.NodeTypes.{role_number}
-use Rattle.sf_view.specs.View.{piece, DescribesParams, DescribesItem, DescribesItems}
+use Rattle.sf_view.specs.View.{slice_at, DescribesParams, DescribesItem, DescribesItems}
 use Rattle.sf_view.specs.declared.building.NoField.{NoField}
 use Rattle.sf_view.specs.declared.building.NoField.TheVariants.{OutOfMemory, Invalid}
 use Rattle.sf_view.specs.Finding.{IsHop}
@@ -114,7 +114,7 @@ heads m n ms ns e = cc
 one_key : (source j k : List ℕ) (ns : List Node) → Opens source j ns → Opens source k ns → j ≡ k
 one_key source j k ns o p =
     let one : o.first ≡ p.first = heads o.first p.first o.more p.more (sym o.begins ∙ p.begins) in
-    sym o.key ∙ ap (λ y. piece y.key_at y.key_length source) one ∙ p.key
+    sym o.key ∙ ap (λ y. slice_at y.key_at y.key_length source) one ∙ p.key
 
 pub entry_laws : (d : Dialect) (source : List ℕ)
     → PartLaws source (Entry d source) NoMore (SameKey {V = Member})
@@ -342,7 +342,7 @@ item_at d source k nodes front later i h t =
 pub param_at : (d : Dialect) (source k : List ℕ) (r : Role) (nodes front later : List Node) (x : Bare)
     → IsHop source nodes k front later → IsParam d source r front x → DescribesParam d source r k front x
 param_at d source k r nodes front later x h (n, e, t) =
-    let same : piece n.key_at n.key_length source ≡ k =
+    let same : slice_at n.key_at n.key_length source ≡ k =
     sym (ap (first_key source) e) ∙ hop_key source k nodes front later h in
     (n, e, subst (λ y. DescribesBare d source r y 1 n x) same t.0)
 

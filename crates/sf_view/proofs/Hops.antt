@@ -14,7 +14,7 @@ use Rattle.sf_value.specs.declared.value.Bare.{Bare}
 use Rattle.sf_view.specs.declared.node.Node.{Node}
 use Rattle.sf_view.specs.declared.node_types.Role.{Role}
 use Rattle.sf_view.specs.declared.node_types.Role.TheVariants as role_is
-use Rattle.sf_view.specs.View.{piece, DescribesMember, DescribesPairs, DescribesBare, DescribesParams, DescribesItem}
+use Rattle.sf_view.specs.View.{slice_at, DescribesMember, DescribesPairs, DescribesBare, DescribesParams, DescribesItem}
 use Rattle.sf_view.specs.Finding.{IsHop, NoHop}
 
 -- what the first node of a member says
@@ -24,7 +24,7 @@ pub record Opens (source k : List ℕ) (front : List Node) : Type 0 where
   pub begins : front ≡ first ∷ more
   pub size : length front ≡ first.size
   pub within : first.key_at + first.key_length ≤ length source
-  pub key : piece first.key_at first.key_length source ≡ k
+  pub key : slice_at first.key_at first.key_length source ≡ k
 
 pub item_opens : (d : Dialect) (source : List ℕ) (r : Role) (k : List ℕ) (front : List Node)
     (i : Item) → DescribesItem d source r k front i → Opens source k front
@@ -94,7 +94,7 @@ same_part source j nodes own back k front later o e h =
     (ap (λ y. y ++ later) (sym h.begins) ∙ both ∙ ap (λ y. y ++ back) o.begins) in
     let size : length front ≡ length own = h.size ∙ ap (λ y. y.size) one ∙ sym o.size in
     record {
-      key = h.key ∙ ap (λ y. piece y.key_at y.key_length source) one ∙ o.key;
+      key = h.key ∙ ap (λ y. slice_at y.key_at y.key_length source) one ∙ o.key;
       here =
           sym (take-append_seam front later)
           ∙ ap (λ y. take y (front ++ later)) size

@@ -17,11 +17,11 @@ use Rattle.sf_view.specs.declared.item.KeyPlace.{KeyPlace}
 use Rattle.sf_view.specs.declared.node.Node.{Node}
 use Rattle.sf_view.specs.declared.node_types.NodeType.TheVariants as type_is
 use Rattle.sf_view.specs.declared.node_types.Role.TheVariants as role_is
-use Rattle.sf_view.specs.View.{piece, DescribesBare, DescribesItem, DescribesItems, DescribesMember}
+use Rattle.sf_view.specs.View.{slice_at, DescribesBare, DescribesItem, DescribesItems, DescribesMember}
 use Rattle.sf_view.specs.Scans.{Behind, ScansKey, ScansItem, ScansItems, ItemsSoFar}
 use Rattle.sf_view.specs.Scans.{ScansParams, ScansRest, ScansMember, ScansEntry}
 use Rattle.sf_view.specs.Scans.{node_from, sized, opening_of}
-use Rattle.sf_view.proofs.Ends.{end_further, end_piece, end_within}
+use Rattle.sf_view.proofs.Ends.{end_further, end_slice, end_within}
 use Rattle.sf_view.proofs.Scanned.{number_describes}
 use Rattle.sf_view.proofs.Params.{node_describes}
 use Rattle.sf_view.proofs.Putting.{puts_none, puts_then, puts_first}
@@ -111,10 +111,10 @@ items_more d source text rest after more left place old mid new at between count
     item_there : (d : Dialect) (source : List ℕ) (ms : List Node) (i : Item) (place : KeyPlace)
         → place.at ≡ 0 → place.length ≡ 0
         → (place.at + place.length ≤ length source
-        → DescribesItem d source role_is.InnerItem (piece place.at place.length source) ms i)
+        → DescribesItem d source role_is.InnerItem (slice_at place.at place.length source) ms i)
         → DescribesItem d source role_is.InnerItem [] ms i
     item_there d source ms i place zero none t =
-        subst (λ y. DescribesItem d source role_is.InnerItem y ms i) (ap (λ y. piece place.at y source) none)
+        subst (λ y. DescribesItem d source role_is.InnerItem y ms i) (ap (λ y. slice_at place.at y source) none)
         (t (omega arith))
 
 pub items_closed : (d : Dialect) (source text rest left : List ℕ) (old new : List Node)
@@ -157,7 +157,7 @@ items_last d source text rest after left place old mid new at between count s x 
           let j = end_further source text s.front rest i s.split in
           describes_more d source s.nodes x.nodes s.values x.value (s.describes i)
           (subst (λ y. DescribesItem d source role_is.InnerItem y x.nodes x.value)
-          (ap (λ y. piece place.at y source) none)
+          (ap (λ y. slice_at place.at y source) none)
           (x.describes j (omega arith)));
     }
 
@@ -206,7 +206,7 @@ inner_scans d source text body behind rest place m old mid new at between count 
                   let b = ap (λ y. y.key_length) opens in
                   omega arith;
               key =
-                  ap (λ y. piece y.key_at y.key_length source) opens;
+                  ap (λ y. slice_at y.key_at y.key_length source) opens;
               node_type = ap (λ y. y.node_type) opens;
               number = ap (λ y. y.number) opens;
               empty = ap (λ y. y.text_length) opens;
@@ -257,8 +257,8 @@ entry_value d source text after behind rest place old new at count k e m =
           let size = k.size in
           let within = end_within source text k.front after place.at k.split k.at in
           subst (λ y. DescribesMember d source y m.nodes m.value)
-          (ap (λ y. piece place.at y source) k.size
-          ∙ end_piece source text k.front after place.at i k.split k.at)
+          (ap (λ y. slice_at place.at y source) k.size
+          ∙ end_slice source text k.front after place.at i k.split k.at)
           (m.describes j (omega arith));
     }
 
@@ -283,8 +283,8 @@ entry_flag d source text after rest place p n old new at count k node_type numbe
           let j = end_further source text k.front after i k.split in
           let size = k.size in
           let within = end_within source text k.front after place.at k.split k.at in
-          let key = ap (λ y. piece place.at y source) k.size
-          ∙ end_piece source text k.front after place.at i k.split k.at in (
+          let key = ap (λ y. slice_at place.at y source) k.size
+          ∙ end_slice source text k.front after place.at i k.split k.at in (
             sized (1 + length s.nodes) n,
             s.nodes,
             refl,

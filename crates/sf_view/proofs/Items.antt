@@ -7,7 +7,7 @@ use Rattle.sf_view.specs.declared.bare.Part.{Part}
 use Rattle.sf_view.specs.declared.item.KeyPlace.{KeyPlace}
 use Rattle.sf_view.specs.declared.node.Node.{Node}
 use Rattle.sf_view.specs.declared.node_types.Role.{Role}
-use Rattle.sf_view.specs.View.{piece, DescribesBare}
+use Rattle.sf_view.specs.View.{slice_at, DescribesBare}
 use Rattle.sf_view.specs.Scans.{ScansBare, ScansRest, ScansItem, node_from, sized}
 use Rattle.sf_view.proofs.Ends.{end_further}
 use Rattle.sf_view.proofs.Params.{node_describes}
@@ -34,9 +34,9 @@ item_scans d source text behind rest r place p n old new at count b is s =
             s.nodes,
             refl,
             subst
-                (λ y. DescribesBare d source r (piece place.at place.length source)
+                (λ y. DescribesBare d source r (slice_at place.at place.length source)
                 (1 + length s.nodes) (sized (1 + length s.nodes) y) b.value) (sym is)
-                (node_describes d source r (1 + length s.nodes) (piece place.at place.length source) place p
+                (node_describes d source r (1 + length s.nodes) (slice_at place.at place.length source) place p
                 b.value (b.describes source i refl) w refl),
             s.describes j,
           );

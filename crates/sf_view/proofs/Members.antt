@@ -24,7 +24,7 @@ use Rattle.sf_value.proofs.Settling.{settle-distinct}
 use Rattle.sf_view.specs.declared.item.KeyPlace.{KeyPlace}
 use Rattle.sf_view.specs.declared.node.Node.{Node}
 use Rattle.sf_view.specs.declared.node_types.Role.TheVariants as role_is
-use Rattle.sf_view.specs.View.{piece, DescribesItem, DescribesMember, DescribesMembers, DescribesEntries}
+use Rattle.sf_view.specs.View.{slice_at, DescribesItem, DescribesMember, DescribesMembers, DescribesEntries}
 use Rattle.sf_view.specs.Scans.{Behind, IsEnd, ScansItem, ScansMember, ScansEntry, Puts}
 use Rattle.sf_view.specs.Scans.{keys_from, AreApart}
 use Rattle.sf_view.specs.Accepts.{Accepts, SoFar}
@@ -188,10 +188,10 @@ entries_more d source ns ms (j ∷ xs) x (front, back, e, h, r) t = (
 member_there : (d : Dialect) (source : List ℕ) (ms : List Node) (x : Member) (place : KeyPlace)
     → place.at ≡ 0 → place.length ≡ 0
     → (place.at + place.length ≤ length source
-    → DescribesMember d source (piece place.at place.length source) ms x)
+    → DescribesMember d source (slice_at place.at place.length source) ms x)
     → DescribesMember d source [] ms x
 member_there d source ms x place zero none t =
-    subst (λ y. DescribesMember d source y ms x) (ap (λ y. piece place.at y source) none)
+    subst (λ y. DescribesMember d source y ms x) (ap (λ y. slice_at place.at y source) none)
     (t (omega arith))
 
 -- the nodes that were put are at the front
@@ -226,7 +226,7 @@ item_accepts d text start rest left place old new count b s zero none a n =
       describes =
           subst (λ y. DescribesItem d text role_is.Member [] y s.value) (sym (front_there old new count s.nodes s.puts))
           (subst (λ y. DescribesItem d text role_is.Member y s.nodes s.value)
-          (ap (λ y. piece place.at y text) none) (s.describes i (omega arith)));
+          (ap (λ y. slice_at place.at y text) none) (s.describes i (omega arith)));
     }
 
 pub empty_list : (d : Dialect) (text rest : List ℕ) (new : List Node) → Behind is_sp text rest
@@ -312,14 +312,14 @@ member_key : (d : Dialect) (source k : List ℕ) (front back : List Node) (x : M
 member_key d source k front back (member.Item i) (n, ms, e, h, r) =
     let less : n.size - 1 ≡ length ms = let s = h.size in omega arith in
     ap (λ y. keys_from source 0 (y ++ back)) e
-    ∙ ap (λ y. piece n.key_at n.key_length source ∷ keys_from source y (ms ++ back)) less
+    ∙ ap (λ y. slice_at n.key_at n.key_length source ∷ keys_from source y (ms ++ back)) less
     ∙ ap (λ y. y ∷ keys_from source (length ms) (ms ++ back)) h.key
     ∙ ap (λ y. k ∷ y) (skipped source ms back)
 member_key d source k front back (member.Inner l) (n, is, ps, e, h, r, q) =
     let ms = is ++ ps in
     let less : n.size - 1 ≡ length ms = let s = h.size in omega arith in
     ap (λ y. keys_from source 0 (y ++ back)) e
-    ∙ ap (λ y. piece n.key_at n.key_length source ∷ keys_from source y (ms ++ back)) less
+    ∙ ap (λ y. slice_at n.key_at n.key_length source ∷ keys_from source y (ms ++ back)) less
     ∙ ap (λ y. y ∷ keys_from source (length ms) (ms ++ back)) h.key
     ∙ ap (λ y. k ∷ y) (skipped source ms back)
 

@@ -21,11 +21,11 @@ use Rattle.sf_view.specs.declared.node_types.NodeType.TheVariants as type_is
 use Rattle.sf_view.specs.declared.node_types.Role.{Role}
 use Rattle.sf_view.specs.declared.node_types.Role.TheVariants as role_is
 use Rattle.sf_view.specs.NodeTypes.{type_number, is_coded, coded_number}
-use Rattle.sf_view.specs.View.{piece, DescribesText, DescribesBare, DescribesParams}
+use Rattle.sf_view.specs.View.{slice_at, DescribesText, DescribesBare, DescribesParams}
 use Rattle.sf_view.specs.Scans.{Behind, IsEnd, ScansKey, ScansBare, ScansParam, ScansRaw}
 use Rattle.sf_view.specs.Scans.{ScansParams, ScansRest, PartDescribes, Puts, node_from, sized}
 use Rattle.sf_view.specs.Scans.{keys_from, AreApart}
-use Rattle.sf_view.proofs.Ends.{end_further, end_piece, end_within}
+use Rattle.sf_view.proofs.Ends.{end_further, end_slice, end_within}
 use Rattle.sf_view.proofs.Scanned.{number_describes}
 use Rattle.sf_view.proofs.Putting.{puts_none, puts_then, puts_one, puts_first}
 
@@ -33,15 +33,15 @@ use Rattle.sf_view.proofs.Putting.{puts_none, puts_then, puts_one, puts_first}
 key_there : (whole : ℕ) (text named after : List ℕ) (place : KeyPlace)
     → Behind is_sp text named → (k : ScansKey whole named place after)
     → (source : List ℕ) → IsEnd source (59 ∷ text) → length source ≡ whole
-    → (place.at + place.length ≤ length source) × (piece place.at place.length source ≡ k.front)
+    → (place.at + place.length ≤ length source) × (slice_at place.at place.length source ≡ k.front)
 key_there whole text named after place b k source e w =
     let i = end_further source (59 ∷ text) (59 ∷ b.front) named e (ap (λ y. 59 ∷ y) b.split) in
     let here = k.at ∙ sym w in
     let size = k.size in
     let within = end_within source named k.front after place.at k.split here in (
       omega arith,
-      ap (λ y. piece place.at y source) k.size
-          ∙ end_piece source named k.front after place.at i k.split here,
+      ap (λ y. slice_at place.at y source) k.size
+          ∙ end_slice source named k.front after place.at i k.split here,
     )
 
 pub flag_scans : (d : Dialect) (whole : ℕ) (text named after : List ℕ) (place : KeyPlace)
@@ -130,7 +130,7 @@ coded_back false = refl
 
 pub node_describes : (d : Dialect) (source : List ℕ) (r : Role) (m : ℕ) (k : List ℕ) (place : KeyPlace)
     (p : Part) (x : Bare) → PartDescribes d source p x → place.at + place.length ≤ length source
-    → piece place.at place.length source ≡ k
+    → slice_at place.at place.length source ≡ k
     → DescribesBare d source r k m (sized m (node_from r place p)) x
 node_describes d source r m k place p x t within e = record {
   role = refl;
@@ -141,7 +141,7 @@ node_describes d source r m k place p x t within e = record {
   number = t.number;
   text_within = t.within;
   text =
-      subst (λ c. DescribesText d c (piece p.at p.length source) x) (sym (coded_back p.coded)) t.text;
+      subst (λ c. DescribesText d c (slice_at p.at p.length source) x) (sym (coded_back p.coded)) t.text;
 }
 
 pub raw_none : (d : Dialect) (source : List ℕ) (r : Role) (text : List ℕ) (old : List Node)
@@ -187,7 +187,7 @@ keys_told : (d : Dialect) (source : List ℕ) (r : Role) (ns : List Node) (raw :
 keys_told d source r ns [] e = ap (keys_from source 0) e
 keys_told d source r ns (q ∷ raw) (n, ms, e, h, more) =
     ap (keys_from source 0) e
-    ∙ ap (λ y. piece n.key_at n.key_length source ∷ keys_from source (y - 1) ms) h.size
+    ∙ ap (λ y. slice_at n.key_at n.key_length source ∷ keys_from source (y - 1) ms) h.size
     ∙ ap (λ y. y ∷ keys_from source 0 ms) h.key
     ∙ ap (λ y. q.0 ∷ y) (keys_told d source r ms raw more)
 

@@ -14,11 +14,11 @@ use Rattle.sf_value.specs.Grammar.BareItems.{SpellsBare}
 use Rattle.sf_value.proofs.Runs.{every_append}
 use Rattle.sf_view.specs.declared.bare.Part.{Part}
 use Rattle.sf_view.specs.declared.node_types.NodeType.TheVariants as type_is
-use Rattle.sf_view.specs.View.{piece, type_of, number_of, DescribesText}
+use Rattle.sf_view.specs.View.{slice_at, type_of, number_of, DescribesText}
 use Rattle.sf_value.specs.declared.dialect.Dialect.TheVariants.{Rfc9651}
 use Rattle.sf_view.specs.Scans.{ScansDigits, ScansFraction, ScansNumber, ScansDate, ScansBare}
 use Rattle.sf_view.specs.Scans.{NumberDescribes, PartDescribes, InsideString, is_unescaped, pads_at}
-use Rattle.sf_view.proofs.Ends.{end_further, end_piece, end_within}
+use Rattle.sf_view.proofs.Ends.{end_further, end_slice, end_within}
 
 pub integer_scans : (text unsigned rest : List ℕ) (neg : Bool) (v n : ℕ) (p : Part)
     → text ≡ sign neg ++ unsigned → ScansDigits unsigned v n rest → 1 ≤ n → n ≤ 15
@@ -93,8 +93,8 @@ number_describes d source p x t = record {
   number = t.number;
   within = let a = t.at in let b = t.length in omega arith;
   text =
-      subst (λ c. DescribesText d c (piece p.at p.length source) x) (sym t.coded)
-      (ap (λ y. piece p.at y source) t.length ∙ sym t.none);
+      subst (λ c. DescribesText d c (slice_at p.at p.length source) x) (sym t.coded)
+      (ap (λ y. slice_at p.at y source) t.length ∙ sym t.none);
 }
 
 -- a number of the first type is an Integer
@@ -219,9 +219,9 @@ string_scans d whole text inside front stop rest p first run plain close node_ty
             within =
                 let k = end_within source inside front stop p.at run here in omega arith;
             text =
-                subst (λ c. DescribesText d c (piece p.at p.length source) (Text front)) (sym coded)
-                (ap (λ y. piece p.at y source) size
-                ∙ end_piece source inside front stop p.at i run here);
+                subst (λ c. DescribesText d c (slice_at p.at p.length source) (Text front)) (sym coded)
+                (ap (λ y. slice_at p.at y source) size
+                ∙ end_slice source inside front stop p.at i run here);
           };
     }
 
@@ -279,9 +279,9 @@ coded_scans d whole text front rest x p e h node_type number at size coded = rec
         number = number;
         within = let k = end_within source text front rest p.at e here in omega arith;
         text =
-            subst (λ c. DescribesText d c (piece p.at p.length source) x) (sym coded)
+            subst (λ c. DescribesText d c (slice_at p.at p.length source) x) (sym coded)
             (subst (λ y. SpellsBare d y x)
-            (sym (ap (λ y. piece p.at y source) long ∙ end_piece source text front rest p.at i e here))
+            (sym (ap (λ y. slice_at p.at y source) long ∙ end_slice source text front rest p.at i e here))
             h);
       };
 }
@@ -316,10 +316,10 @@ token_scans d whole text more front rest b p e start run each node_type number a
             within =
                 let k = end_within source text (b ∷ front) rest p.at split here in omega arith;
             text =
-                subst (λ c. DescribesText d c (piece p.at p.length source) (Token (b ∷ front)))
+                subst (λ c. DescribesText d c (slice_at p.at p.length source) (Token (b ∷ front)))
                 (sym coded)
-                (ap (λ y. piece p.at y source) long
-                ∙ end_piece source text (b ∷ front) rest p.at i split here);
+                (ap (λ y. slice_at p.at y source) long
+                ∙ end_slice source text (b ∷ front) rest p.at i split here);
           };
     }
 

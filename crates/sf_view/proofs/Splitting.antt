@@ -15,7 +15,7 @@ use Rattle.sf_view.specs.declared.node_types.NodeType.TheVariants as type_is
 use Rattle.sf_view.specs.declared.node_types.Role.{Role}
 use Rattle.sf_view.specs.declared.node_types.Role.TheVariants as role_is
 use Rattle.sf_view.specs.NodeTypes.{type_number}
-use Rattle.sf_view.specs.View.{piece, type_of, DescribesParams, DescribesItem}
+use Rattle.sf_view.specs.View.{slice_at, type_of, DescribesParams, DescribesItem}
 use Rattle.sf_view.specs.View.{DescribesItems, DescribesInner, DescribesMember, DescribesMembers}
 use Rattle.sf_view.specs.View.{DescribesEntries}
 use Rattle.sf_view.specs.Finding.{IsHop, NoHop, StartsWithKey, NoKey, IsInside, IsAtParams}
@@ -124,7 +124,7 @@ pub key_of_part : (source j : List ℕ) (nodes : List Node) (k : List ℕ) → O
     → StartsWithKey source nodes k → k ≡ j
 key_of_part source j nodes k o s =
     let one : s.first ≡ o.first = same_head s.first o.first s.more o.more (sym s.begins ∙ o.begins) in
-    s.key ∙ ap (λ y. piece y.key_at y.key_length source) one ∙ o.key
+    s.key ∙ ap (λ y. slice_at y.key_at y.key_length source) one ∙ o.key
   where
     same_head : (m n : Node) (ms ns : List Node) → m ∷ ms ≡ n ∷ ns → m ≡ n
     same_head m n ms ns e = cc

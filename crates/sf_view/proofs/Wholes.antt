@@ -9,7 +9,7 @@ use Rattle.sf_view.specs.declared.node.Node.{Node}
 use Rattle.sf_view.specs.Finding.{IsHop, NoHop}
 use Rattle.sf_view.specs.declared.building.NoField.{NoField}
 use Rattle.sf_view.specs.declared.building.NoField.TheVariants.{OutOfMemory, Invalid}
-use Rattle.sf_view.specs.View.{piece}
+use Rattle.sf_view.specs.View.{slice_at}
 use Rattle.sf_view.specs.Building.{IsWrongAt, Reads, first_key, shifted}
 use Rattle.sf_view.proofs.Hops.{Opens, same_part}
 

@@ -24,7 +24,7 @@ use Rattle.sf_view.specs.declared.node_types.Role.TheVariants as role_is
 use Rattle.sf_view.specs.declared.building.NoField.{NoField}
 use Rattle.sf_view.specs.declared.building.NoField.TheVariants.{OutOfMemory, Invalid}
 use Rattle.sf_view.specs.NodeTypes.{role_number, type_number, is_coded}
-use Rattle.sf_view.specs.View.{piece, DescribesBare, DescribesParams, DescribesItem, DescribesItems}
+use Rattle.sf_view.specs.View.{slice_at, DescribesBare, DescribesParams, DescribesItem, DescribesItems}
 use Rattle.sf_view.specs.View.{DescribesInner, DescribesMember, DescribesMembers, DescribesEntries}
 use Rattle.sf_view.specs.View.{DescribesField}
 use Rattle.sf_view.specs.Views.{NodeShows}
@@ -63,12 +63,12 @@ IsBare d n bytes x = NodeShows d n bytes x × ValidBare d x
 -- the key of the first node
 abbrev pub first_key : Seq ℕ → Seq Node → Seq ℕ
 first_key source [] = []
-first_key source (n ∷ ns) = piece n.key_at n.key_length source
+first_key source (n ∷ ns) = slice_at n.key_at n.key_length source
 
 -- a valid bare item of a node of this role and size
 abbrev pub IsValue : Dialect → Seq ℕ → Role → ℕ → Node → Bare → Type 0
 IsValue d source r m n x =
-    DescribesBare d source r (piece n.key_at n.key_length source) m n x × ValidBare d x
+    DescribesBare d source r (slice_at n.key_at n.key_length source) m n x × ValidBare d x
 
 -- parameters of this role
 abbrev pub AreParams : Dialect → Seq ℕ → Role → Seq Node → Pairs Bare → Type 0

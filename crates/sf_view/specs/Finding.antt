@@ -10,7 +10,7 @@ use Rattle.sf_view.specs.declared.node_types.NodeType.TheVariants as type_is
 use Rattle.sf_view.specs.declared.node_types.Role.{Role}
 use Rattle.sf_view.specs.declared.node_types.Role.TheVariants as role_is
 use Rattle.sf_view.specs.NodeTypes.{role_number, type_number}
-use Rattle.sf_view.specs.View.{piece, DescribesMember, DescribesParams}
+use Rattle.sf_view.specs.View.{slice_at, DescribesMember, DescribesParams}
 
 -- the member with this key, which the nodes describe
 pub record Finds (d : Dialect) (source key : List ℕ) (ps : Pairs Member) (ns : List Node)
@@ -33,7 +33,7 @@ pub record IsHop (source : List ℕ) (nodes : List Node) (k : List ℕ) (front l
   pub more : List Node
   pub begins : front ≡ first ∷ more
   pub split : nodes ≡ front ++ later
-  pub key : k ≡ piece first.key_at first.key_length source
+  pub key : k ≡ slice_at first.key_at first.key_length source
   pub size : length front ≡ first.size
 
 -- the nodes do not begin with a part that is in the source
@@ -47,7 +47,7 @@ pub record StartsWithKey (source : List ℕ) (nodes : List Node) (k : List ℕ) 
   pub first : Node
   pub more : List Node
   pub begins : nodes ≡ first ∷ more
-  pub key : k ≡ piece first.key_at first.key_length source
+  pub key : k ≡ slice_at first.key_at first.key_length source
 
 -- there is no node, or the key of the first is not in the source
 abbrev pub NoKey : List ℕ → List Node → Type 0

@@ -30,7 +30,7 @@ use Rattle.sf_view.specs.declared.node_types.NodeType.TheVariants as type_is
 use Rattle.sf_view.specs.declared.node_types.Role.{Role}
 use Rattle.sf_view.specs.declared.node_types.Role.TheVariants as role_is
 use Rattle.sf_view.specs.NodeTypes.{role_number, type_number, coded_number}
-use Rattle.sf_view.specs.View.{piece, type_of, number_of, text_of, DescribesText, DescribesParams, DescribesItem, DescribesItems}
+use Rattle.sf_view.specs.View.{slice_at, type_of, number_of, text_of, DescribesText, DescribesParams, DescribesItem, DescribesItems}
 use Rattle.sf_view.specs.View.{DescribesMember}
 
 -- bytes that pass the test are before the rest
@@ -115,7 +115,7 @@ pub record PartDescribes (d : Dialect) (source : List ℕ) (p : Part) (x : Bare)
   pub node_type : p.node_type ≡ type_of x
   pub number : p.number ≡ number_of x
   pub within : p.at + p.length ≤ length source
-  pub text : DescribesText d p.coded (piece p.at p.length source) x
+  pub text : DescribesText d p.coded (slice_at p.at p.length source) x
 
 -- the start of the text spells a bare item, which the part describes in any source that ends with
 -- the text
@@ -160,7 +160,7 @@ sized k n = record {
 abbrev pub keys_from : List ℕ → ℕ → List Node → List (List ℕ)
 keys_from source k [] = []
 keys_from source zero (n ∷ ns) =
-    piece n.key_at n.key_length source ∷ keys_from source (n.size - 1) ns
+    slice_at n.key_at n.key_length source ∷ keys_from source (n.size - 1) ns
 keys_from source (suc k) (n ∷ ns) = keys_from source k ns
 
 -- no two parts have the same key
@@ -182,7 +182,7 @@ pub record ScansParam (d : Dialect) (whole : ℕ) (text : List ℕ) (place : Key
   pub split : text ≡ front ++ rest
   pub spelled : SpellsParam d front key value
   pub key_at : (source : List ℕ) → IsEnd source text → length source ≡ whole
-      → (place.at + place.length ≤ length source) × (piece place.at place.length source ≡ key)
+      → (place.at + place.length ≤ length source) × (slice_at place.at place.length source ≡ key)
   pub describes : (source : List ℕ) → IsEnd source text → length source ≡ whole
       → PartDescribes d source p value
 
@@ -230,7 +230,7 @@ pub record ScansItem (d : Dialect) (source text rest : List ℕ) (r : Role) (pla
   pub spelled : IsEnd source text → SpellsItem d front value
   pub puts : Puts old new at count nodes
   pub describes : IsEnd source text → place.at + place.length ≤ length source
-      → DescribesItem d source r (piece place.at place.length source) nodes value
+      → DescribesItem d source r (slice_at place.at place.length source) nodes value
 
 -- the node of an Inner List
 abbrev pub opening_of : KeyPlace → ℕ → Node
@@ -280,7 +280,7 @@ pub record ScansMember (d : Dialect) (source text rest : List ℕ) (place : KeyP
   pub spelled : IsEnd source text → SpellsMember d front value
   pub puts : Puts old new at count nodes
   pub describes : IsEnd source text → place.at + place.length ≤ length source
-      → DescribesMember d source (piece place.at place.length source) nodes value
+      → DescribesMember d source (slice_at place.at place.length source) nodes value
 
 -- the start of the text spells a member of a Dictionary, and nodes that were put describe it
 pub record ScansEntry (d : Dialect) (source text rest : List ℕ) (old new : List Node)

@@ -48,8 +48,8 @@ text_of (Shown s) = s
 text_of x = []
 
 -- count bytes at an offset
-abbrev pub piece : ℕ → ℕ → Seq ℕ → Seq ℕ
-piece at count bytes = take count (drop at bytes)
+abbrev pub slice_at : ℕ → ℕ → Seq ℕ → Seq ℕ
+slice_at at count bytes = take count (drop at bytes)
 
 -- the bytes of a bare item or, if they are coded, its whole text, which is still to be decoded
 abbrev pub DescribesText : Dialect → Bool → Seq ℕ → Bare → Type 0
@@ -62,11 +62,11 @@ pub record DescribesBare (d : Dialect) (source : Seq ℕ) (r : Role) (k : Seq �
   pub role : n.role ≡ role_number r
   pub size : n.size ≡ m
   pub key_within : n.key_at + n.key_length ≤ length source
-  pub key : piece n.key_at n.key_length source ≡ k
+  pub key : slice_at n.key_at n.key_length source ≡ k
   pub node_type : n.node_type ≡ type_number (type_of x)
   pub number : n.number ≡ number_of x
   pub text_within : n.text_at + n.text_length ≤ length source
-  pub text : DescribesText d (is_coded n.coded) (piece n.text_at n.text_length source) x
+  pub text : DescribesText d (is_coded n.coded) (slice_at n.text_at n.text_length source) x
 
 -- parameters: a node of this role for each
 abbrev pub DescribesParams : Dialect → Seq ℕ → Role → Seq Node → Pairs Bare → Type 0
@@ -99,7 +99,7 @@ pub record DescribesOpening (source : Seq ℕ) (k : Seq ℕ) (m : ℕ) (n : Node
   pub role : n.role ≡ role_number role_is.Member
   pub size : n.size ≡ m
   pub key_within : n.key_at + n.key_length ≤ length source
-  pub key : piece n.key_at n.key_length source ≡ k
+  pub key : slice_at n.key_at n.key_length source ≡ k
   pub node_type : n.node_type ≡ type_number type_is.InnerList
   pub number : n.number ≡ pos 0
   pub empty : n.text_length ≡ 0

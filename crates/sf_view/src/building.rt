@@ -5,7 +5,7 @@ ghost use Rattle.sf_value.specs.Grammar.Tokens.{IsKey};
 ghost use Rattle.sf_view.specs.declared.building.NoField.TheVariants as no_field;
 ghost use Rattle.sf_view.specs.Building.{Gives, Reads, IsField, IsItemField, IsItem, IsInner, IsInside, IsMember};
 ghost use Rattle.sf_view.specs.Building.{AreParams, IsParam, AreMembers, AreEntries, StartsItem, shifted};
-ghost use Rattle.sf_view.specs.View.{piece, DescribesOpening};
+ghost use Rattle.sf_view.specs.View.{slice_at, DescribesOpening};
 
 use crate::copies::key_of;
 use crate::keys::{bytes_at, first_node};
@@ -227,7 +227,7 @@ fn inner(source: Source, nodes: &[Node]) -> Result<Inner, NoField>
 /// Whether the node is that of an Inner List with this size.
 fn is_opening(source: Source, size: usize, node: Node) -> bool
     ensures opening { IsTrue result → DescribesOpening source.entry.text.now
-        (piece node.key_at node.key_length source.entry.text.now) size node }
+        (slice_at node.key_at node.key_length source.entry.text.now) size node }
     ensures all { (k : Seq ℕ) → DescribesOpening source.entry.text.now k size node → IsTrue result }
 {
     node.role == Role::Member.code()

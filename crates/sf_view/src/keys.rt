@@ -1,6 +1,6 @@
 //! Whether the keys of the parts that nodes describe differ.
 ghost use Rattle.std.specs.Prelude.{◌≡◌, ◌∷◌, ◌≤◌, ◌<◌, ◌+◌, ◌*◌, ◌/◌, ◌%◌, ◌^◌, length, IsTrue, IfSome, IfNone, ℕ, drop, slice_index_or};
-ghost use Rattle.sf_view.specs.View.{piece};
+ghost use Rattle.sf_view.specs.View.{slice_at};
 ghost use Rattle.sf_view.specs.Scans.{keys_from, AreApart};
 ghost use Rattle.sf_view.specs.Keys.{hash_of, tag_of, Holds, IsAbsent, Enters};
 
@@ -22,7 +22,7 @@ pub(crate) fn first_node(nodes: &[Node]) -> Option<Node>
 #[inline]
 pub(crate) fn bytes_at(source: &[u8], at: usize, size: usize) -> Option<&[u8]>
     ensures none { IfNone result (length source.now < at + size) }
-    ensures some { IfSome result (λ bytes. bytes.now ≡ piece at size source.now) }
+    ensures some { IfSome result (λ bytes. bytes.now ≡ slice_at at size source.now) }
     ensures within { IfSome result (λ _. at + size ≤ length source.now) }
 {
     if at > source.len() || size > source.len() - at {

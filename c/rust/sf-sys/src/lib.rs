@@ -126,6 +126,7 @@ pub const NOT_A_CACHE: u32 = 7;
 pub const INVALID: u32 = 8;
 pub const ABSENT: u32 = 9;
 pub const TOO_LONG: u32 = 10;
+pub const TOO_MANY: u32 = 11;
 
 // An `sf_kind`.
 pub const ITEM: u32 = 1;

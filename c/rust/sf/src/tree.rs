@@ -148,7 +148,7 @@ impl<'t> Tree<'t> {
                     tree.bytes.truncate(sizes.bytes);
                     return tree.is_sound().then_some(tree).ok_or(Error::OtherLibrary);
                 }
-                raw::SHORT if is_short => {
+                raw::SHORT | raw::TOO_MANY if is_short => {
                     let (nodes, bytes) = (tree.nodes.len(), tree.bytes.len());
                     resize(&mut tree.nodes, sizes.nodes.max(nodes), NO_NODE)?;
                     resize(&mut tree.bytes, sizes.bytes.max(bytes), 0)?;

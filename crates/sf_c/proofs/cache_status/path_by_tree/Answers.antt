@@ -1,12 +1,12 @@
 use Rattle.std.proofs.Common.{sym, subst}
 use Rattle.sf_c.specs.Paths.{IsShort}
-use Rattle.sf_c.proofs.HopBound.{told_few}
+use Rattle.sf_c.proofs.HopBound.{content_few}
 use Rattle.sf_c.proofs.cache_status.path_by_tree.Goals as goal
 
 pub returns-then-hops-path-clause-few : goal.returns-then-hops-path-clause-few
 returns-then-hops-path-clause-few c =
     subst (λ p. IsShort c.args.text.now p) (sym c.set.ensures)
-    (told_few c.count.result c.size.result c.args.text.now c.in-Ok.field _ _
+    (content_few c.count.result c.size.result c.args.text.now c.in-Ok.field _ _
     c.in-Ok-caches_in.caches c.count.ensures c.size.ensures c.in-Ok-flatten_hops.ensures
     c.hops.ensures c.hops_are_few.ensures.hops c.hops_are_few.ensures.bytes
     c.in-Ok.ensures.0.spelled c.in-Ok-caches_in.ensures.0)
@@ -14,7 +14,7 @@ returns-then-hops-path-clause-few c =
 pub returns-then-bytes-path-clause-few : goal.returns-then-bytes-path-clause-few
 returns-then-bytes-path-clause-few c =
     subst (λ p. IsShort c.args.text.now p) (sym c.set.ensures)
-    (told_few c.count.result c.size.result c.args.text.now c.in-Ok.field _ _
+    (content_few c.count.result c.size.result c.args.text.now c.in-Ok.field _ _
     c.in-Ok-caches_in.caches c.count.ensures c.size.ensures c.in-Ok-flatten_hops.ensures
     c.hops.ensures c.hops_are_few.ensures.hops c.hops_are_few.ensures.bytes
     c.in-Ok.ensures.0.spelled c.in-Ok-caches_in.ensures.0)
@@ -22,7 +22,7 @@ returns-then-bytes-path-clause-few c =
 pub returns-clause-few : goal.returns-clause-few
 returns-clause-few c =
     subst (λ p. IsShort c.args.text.now p) (sym c.set.ensures)
-    (told_few c.count.result c.size.result c.args.text.now c.in-Ok.field _ _
+    (content_few c.count.result c.size.result c.args.text.now c.in-Ok.field _ _
     c.in-Ok-caches_in.caches c.count.ensures c.size.ensures c.in-Ok-flatten_hops.ensures
     c.hops.ensures c.hops_are_few.ensures.hops c.hops_are_few.ensures.bytes
     c.in-Ok.ensures.0.spelled c.in-Ok-caches_in.ensures.0)

@@ -1,5 +1,5 @@
 use Rattle.std.proofs.Common.{◌≡◌, ◌≤◌, ◌-◌, length, map, take}
-use Rattle.sf_c.specs.Tellings.{node_of}
+use Rattle.sf_c.specs.NodeContents.{node_of}
 use Rattle.sf_c.proofs.nodes.write_parts.Given as goal
 
 abbrev pub invariant-loop-count : goal.invariant-loop-count

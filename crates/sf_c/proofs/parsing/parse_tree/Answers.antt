@@ -1,5 +1,5 @@
-use Rattle.std.proofs.Common.{inl, inr, refl, arith}
-use Rattle.sf_c.proofs.ParsedNodes.{flat_nodes, flat_bytes, is_small, written_held}
+use Rattle.std.proofs.Common.{inr, refl, arith}
+use Rattle.sf_c.proofs.ParsedNodes.{flat_bytes, has_sizes, written_held}
 use Rattle.sf_c.proofs.parsing.parse_tree.Goals as goal
 
 pub returns-then-required-text : goal.returns-then-required-text
@@ -16,33 +16,27 @@ returns-then-required-text c =
 
 pub returns-then-nodes-required : goal.returns-then-nodes-required
 returns-then-nodes-required c = (
-  c.in-Ok.field,
-  c.in-Ok.ensures.0,
-  is_small c.nodes_are_few.ensures.nodes c.nodes_are_few.ensures.bytes c.args.dialect c.args.kind
-      c.args.text.now c.in-Ok.field c.in-Ok.ensures.0,
-  flat_nodes c.in-Ok.field c.in-Ok-flatten.flat c.sizes-required.result.nodes
-      c.in-Ok-flatten.ensures c.sizes-required.ensures.nodes,
-  flat_bytes c.in-Ok.field c.in-Ok-flatten.flat c.sizes-required.result.bytes
-      c.in-Ok-flatten.ensures c.sizes-required.ensures.bytes,
-  inl c.if-nodes-required.true,
+  has_sizes c.args.dialect c.args.kind c.args.text.now c.in-Ok.field c.in-Ok-flatten.flat
+      c.sizes-required.result c.nodes_are_few.ensures.nodes c.nodes_are_few.ensures.bytes
+      c.in-Ok.ensures.0 c.in-Ok-flatten.ensures c.sizes-required.ensures.nodes
+      c.sizes-required.ensures.bytes,
+  c.if-nodes-required.true,
   (refl, refl),
   c.in-Ok.ensures.1,
 )
 
 pub returns-then-bytes-required : goal.returns-then-bytes-required
-returns-then-bytes-required c = (
-  c.in-Ok.field,
-  c.in-Ok.ensures.0,
-  is_small c.nodes_are_few.ensures.nodes c.nodes_are_few.ensures.bytes c.args.dialect c.args.kind
-      c.args.text.now c.in-Ok.field c.in-Ok.ensures.0,
-  flat_nodes c.in-Ok.field c.in-Ok-flatten.flat c.sizes-required.result.nodes
-      c.in-Ok-flatten.ensures c.sizes-required.ensures.nodes,
-  flat_bytes c.in-Ok.field c.in-Ok-flatten.flat c.sizes-required.result.bytes
-      c.in-Ok-flatten.ensures c.sizes-required.ensures.bytes,
-  inr c.if-bytes-required.true,
-  (refl, refl),
-  c.in-Ok.ensures.1,
-)
+returns-then-bytes-required c =
+    let enough = c.if-nodes-required.false in (
+      has_sizes c.args.dialect c.args.kind c.args.text.now c.in-Ok.field c.in-Ok-flatten.flat
+          c.sizes-required.result c.nodes_are_few.ensures.nodes c.nodes_are_few.ensures.bytes
+          c.in-Ok.ensures.0 c.in-Ok-flatten.ensures c.sizes-required.ensures.nodes
+          c.sizes-required.ensures.bytes,
+      omega arith,
+      c.if-bytes-required.true,
+      (refl, refl),
+      c.in-Ok.ensures.1,
+    )
 
 pub returns : goal.returns
 returns c =

@@ -7,7 +7,7 @@ use Rattle.sf_value.specs.Grammar.Valid.{Valid}
 use Rattle.sf_parse.specs.Parsers.{IsOnly}
 use Rattle.sf_use.specs.PriorityUpdate.{updated}
 use Rattle.sf_c.specs.Normal.{TextOutput}
-use Rattle.sf_c.specs.Priorities.{asked_by}
+use Rattle.sf_c.specs.Priorities.{params_of_flags}
 use Rattle.sf_c.specs.TextBuffers.{PutsText, TextBuffer}
 use Rattle.sf_c.proofs.NodeTexts.{changes_priority}
 use Rattle.sf_c.proofs.priority_change.change.Goals as goal
@@ -32,7 +32,7 @@ returns-in-Dict c =
     let m = c.in-Dict.dict in
     let p = c.args.priority.now in
     let asked = c.asked.ensures in
-    let text : c.as_slice.result.now ≡ canon (field.Dict (updated (asked_by p) m)) =
+    let text : c.as_slice.result.now ≡ canon (field.Dict (updated (params_of_flags p) m)) =
     c.as_slice.ensures.value
     ∙ c.in-Ok-changed_text.ensures.text
     ∙ ap (λ a. canon (field.Dict (updated a m))) asked in

@@ -4,13 +4,13 @@ use Rattle.sf_tool.specs.declared.status.Status.TheVariants.{Accepted}
 use Rattle.sf_tool.specs.ChoiceLines.{choice_lines}
 use Rattle.sf_tool.proofs.LineByLine.{fields_allocate}
 use Rattle.sf_tool.proofs.Places.{is_place}
-use Rattle.sf_tool.proofs.Tells.{tells_text, tells_input_fault}
+use Rattle.sf_tool.proofs.Reports.{reports_text, reports_input_fault}
 use Rattle.sf_tool.proofs.running.targeted.Goals as goal
 
 pub returns-in-Err : goal.returns-in-Err
 returns-in-Err g c =
     let refused = rw c.as_slice-names.ensures.value at c.in-Err.ensures in
-    tells_input_fault c.args.names.now c.args.input.now c.in-Err.fault _ _ _ refused
+    reports_input_fault c.args.names.now c.args.input.now c.in-Err.fault _ _ _ refused
     c.answer_input_fault.ensures
 
 pub answer_choice-requires : goal.answer_choice-requires
@@ -22,7 +22,7 @@ returns-in-Ok-select g c =
     let names = c.as_slice-names.ensures.value in
     let read = rw names at c.in-Ok.ensures in
     let chosen = rw names at c.in-Ok-select.ensures.chosen in
-    tells_text (Targeted c.args.names.now) c.args.input.now
+    reports_text (Targeted c.args.names.now) c.args.input.now
     (choice_lines c.args.names.now.items c.in-Ok-select.choice) Accepted _ _ _
     (_, read, c.in-Ok-select.choice, chosen, refl) (rw names at c.answer_choice.ensures)
 

@@ -1,6 +1,6 @@
 use Rattle.std.proofs.Common.{◌++◌, [], ◌∷◌, ap, ◌∙◌}
-use Rattle.sf_c.specs.Hops.{told_hop}
-use Rattle.sf_c.proofs.HopLemmas.{hop_held, hop_told}
+use Rattle.sf_c.specs.Hops.{hop_content}
+use Rattle.sf_c.proofs.HopLemmas.{hop_held, hop_content_is}
 use Rattle.sf_c.proofs.hops.FlatPath.with.Goals as goal
 
 pub invariant_of-result : goal.invariant_of-result
@@ -24,7 +24,7 @@ invariant_of-result c =
 
 pub returns : goal.returns
 returns c =
-    hop_told c.self.inside.bytes.items c.put_span.new.bytes.items c.put_span-2.new.bytes.items
+    hop_content_is c.self.inside.bytes.items c.put_span.new.bytes.items c.put_span-2.new.bytes.items
     c.put_span-3.new.bytes.items c.put_span-4.new.bytes.items c.bytes_of.result.now
     c.why_token.result.now c.key_bytes.result.now c.detail_bytes.result.now c.node_of.result
     c.args.hop.now c.self.inside.hops.items c.push.new.self.items
@@ -40,4 +40,4 @@ returns c =
       key = c.key_bytes.ensures;
       detail = c.detail_bytes.ensures;
     }) c.node_of.ensures.says c.in_ok-push.ensures.items c.self.invariant.0
-    ∙ ap (λ z. z ++ told_hop c.args.hop.now ∷ []) c.self.view_is
+    ∙ ap (λ z. z ++ hop_content c.args.hop.now ∷ []) c.self.view_is

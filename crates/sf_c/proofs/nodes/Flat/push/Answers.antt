@@ -1,7 +1,7 @@
 use Rattle.std.proofs.Common.{◌≡◌, ap, refl, false, rules, arith, length}
 use Rattle.std.proofs.Common.{length-append}
 use Rattle.std.specs.Prelude.{is_err}
-use Rattle.sf_c.proofs.TellingLemmas.{holds_more, pushed, told_more}
+use Rattle.sf_c.proofs.ContentLemmas.{holds_more, pushed, content_more}
 use Rattle.sf_c.proofs.nodes.Flat.push.Goals as goal
 
 pub invariant_of-self-else-is_err : goal.invariant_of-self-else-is_err
@@ -29,7 +29,7 @@ returns c =
     let start = ap length c.as_slice-key_at.ensures.value in
     let sum = c.in_ok-text_at.ensures in
     let both = length-append c.self.inside.bytes.items c.args.key.now in
-    let told = told_more c.self.inside.bytes.items _ c.args.key.now c.args.text.now _ _ _
+    let told = content_more c.self.inside.bytes.items _ c.args.key.now c.args.text.now _ _ _
     c.in_ok-extend.ensures (pushed c.push.result _ _ _ c.push.ensures.items ok)
     (record {
       key_at = start;

@@ -5,11 +5,11 @@ use Rattle.sf_view.specs.declared.node.Node.{Node}
 use Rattle.sf_view.specs.declared.node_types.NodeType.{NodeType}
 use Rattle.sf_view.specs.declared.node_types.Role.{Role}
 use Rattle.sf_view.specs.NodeTypes.{role_number, type_number}
-use Rattle.sf_view.specs.View.{piece}
+use Rattle.sf_view.specs.View.{slice_at}
 use Rattle.sf_c.specs.declared.nodes.Part.{Part}
 
 -- a part of a value: its role, type, number, key, bytes and size
-pub record Told : Type 0 where
+pub record NodeContent : Type 0 where
   pub role : Role
   pub node_type : NodeType
   pub number : ℤ
@@ -18,13 +18,13 @@ pub record Told : Type 0 where
   pub size : ℕ
 
 -- what a part that points into these bytes describes
-abbrev pub told_by : List ℕ → Part → Told
-told_by bytes p = record {
+abbrev pub content_by : List ℕ → Part → NodeContent
+content_by bytes p = record {
   role = p.role;
   node_type = p.node_type;
   number = p.number;
-  key = piece p.key_at p.key_length bytes;
-  text = piece p.text_at p.text_length bytes;
+  key = slice_at p.key_at p.key_length bytes;
+  text = slice_at p.text_at p.text_length bytes;
   size = p.size;
 }
 
@@ -39,13 +39,13 @@ AreWithin bytes [] = Unit {0}
 AreWithin bytes (p ∷ ps) = IsWithin bytes p × AreWithin bytes ps
 
 -- the number of bytes that the keys and the bytes of parts have together
-abbrev pub told_size : List Told → ℕ
-told_size [] = 0
-told_size (t ∷ ts) = length t.key + length t.text + told_size ts
+abbrev pub content_size : List NodeContent → ℕ
+content_size [] = 0
+content_size (t ∷ ts) = length t.key + length t.text + content_size ts
 
 -- the parts point to bytes within these, and every byte is used
 abbrev pub HoldsUp : List ℕ → List Part → Type 0
-HoldsUp bytes ps = AreWithin bytes ps × (length bytes ≡ told_size (map (told_by bytes) ps))
+HoldsUp bytes ps = AreWithin bytes ps × (length bytes ≡ content_size (map (content_by bytes) ps))
 
 -- the node of a part whose bytes follow a text of this length
 abbrev pub node_of : ℕ → Part → Node

@@ -1,4 +1,4 @@
--- What an input was answered (`Tells`), from the text that was to be written.
+-- What an input was answered (`Reports`), from the text that was to be written.
 use Rattle.std.proofs.Common.{◌≡◌, ℕ, ◌*◌, ◌≤◌, ◌⊎◌, inl, inr, Bool, false, List}
 use Rattle.std.proofs.Common.{length, Option, Some, None, Result, Ok, Err}
 use Rattle.std.proofs.Common.{refl, sym, subst, arith}
@@ -36,27 +36,27 @@ use Rattle.sf_tool.specs.ChoiceLines.{refused_line}
 use Rattle.sf_tool.specs.Fields.{IsFaultOf}
 use Rattle.sf_tool.specs.PathLines.{not_a_cache_line}
 use Rattle.sf_tool.specs.Run.{joined, input_limit, view_request, view_text}
-use Rattle.sf_tool.specs.Run.{MayAllocate, Refuses, Responds, Answers, Tells, TellsText}
-use Rattle.sf_tool.specs.Run.{TellsRefusal, TellsAskFault, TellsInputFault, IsOfText, IsAskOfText}
+use Rattle.sf_tool.specs.Run.{MayAllocate, Refuses, Responds, Answers, Reports, ReportsText}
+use Rattle.sf_tool.specs.Run.{ReportsRefusal, ReportsAskFault, ReportsInputFault, IsOfText, IsAskOfText}
 
 -- the text of an input was to be written
-pub tells_text : (request : Request) (input text : List ℕ) (status : Status) (old new : SinkState)
-    (result : Status) → Answers request input text status → TellsText text status old new result
-    → Tells request input old new result
-tells_text request input text status old new Accepted o t = record {
+pub reports_text : (request : Request) (input text : List ℕ) (status : Status) (old new : SinkState)
+    (result : Status) → Answers request input text status → ReportsText text status old new result
+    → Reports request input old new result
+reports_text request input text status old new Accepted o t = record {
   text = text;
   after = t.1.0;
   answers = let P : Status → Type 0 = λ s. Answers request input text s in subst P (sym t.0) o;
   wrote = t.1.1;
 }
-tells_text request input text status old new Refused o t = record {
+reports_text request input text status old new Refused o t = record {
   text = text;
   after = t.1.0;
   answers = let P : Status → Type 0 = λ s. Answers request input text s in subst P (sym t.0) o;
   wrote = t.1.1;
 }
-tells_text request input text status old new Usage o t = absurd t
-tells_text request input text status old new Stopped o t = inr (record {
+reports_text request input text status old new Usage o t = absurd t
+reports_text request input text status old new Stopped o t = inr (record {
   text = text;
   status = status;
   after = t.0;
@@ -65,27 +65,27 @@ tells_text request input text status old new Stopped o t = inr (record {
 })
 
 -- all of a text went out
-pub tells_all : (old new : SinkState) (n : ℕ) (text : List ℕ) (status : Status)
+pub reports_all : (old new : SinkState) (n : ℕ) (text : List ℕ) (status : Status)
     → status ≡ Accepted ⊎ status ≡ Refused → Wrote old new 0 n text
-    → TellsText text status old new status
-tells_all old new n text status (inl e) wrote = rw e (refl, (n, wrote))
-tells_all old new n text status (inr e) wrote = rw e (refl, (n, wrote))
+    → ReportsText text status old new status
+reports_all old new n text status (inl e) wrote = rw e (refl, (n, wrote))
+reports_all old new n text status (inr e) wrote = rw e (refl, (n, wrote))
 
 -- what a request answers where it tells this of a value
 abbrev pub RespondsTo : Request → Dialect → Kind → (Field → List ℕ) → List ℕ → Type 0
-RespondsTo request d kind tell input =
-    (text : List ℕ) (status : Status) → Responds d kind tell (joined input) text status
+RespondsTo request d kind print input =
+    (text : List ℕ) (status : Status) → Responds d kind print (joined input) text status
     → Answers request input text status
 
 -- the lines spell a value
-pub tells_field : (request : Request) (d : Dialect) (kind : Kind) (tell : Field → List ℕ)
+pub reports_field : (request : Request) (d : Dialect) (kind : Kind) (print : Field → List ℕ)
     (input : List ℕ) (v : Field) (old new : SinkState) (result : Status)
-    → RespondsTo request d kind tell input
-    → ParsesLines d kind (lines_of input) (Ok v) → TellsText (tell v) Accepted old new result
-    → Tells request input old new result
-tells_field request d kind tell input v old new result given parses t =
-    tells_text request input (tell v) Accepted old new result
-    (given (tell v) Accepted (v, parses.0, refl)) t
+    → RespondsTo request d kind print input
+    → ParsesLines d kind (lines_of input) (Ok v) → ReportsText (print v) Accepted old new result
+    → Reports request input old new result
+reports_field request d kind print input v old new result given parses t =
+    reports_text request input (print v) Accepted old new result
+    (given (print v) Accepted (v, parses.0, refl)) t
 
 -- what the line of a refusal tells
 refuses : (d : Dialect) (kind : Kind) (lines : List (List ℕ)) (place : ℕ) (found : Option ℕ)
@@ -97,24 +97,24 @@ refuses d kind lines place (Some b) expected may_end p = (p.0, λ e. cc)
 
 stopped : (request : Request) (input : List ℕ) (old new : SinkState) (result : Status)
     → MayAllocate request input → result ≡ Stopped → new ≡ old
-    → Tells request input old new result
+    → Reports request input old new result
 stopped request input old new result takes e same =
-    let P : Status → Type 0 = λ s. Tells request input old new s in
+    let P : Status → Type 0 = λ s. Reports request input old new s in
     subst P (sym e) (inl (takes, same))
 
 -- the lines are refused, and the request answers that with the line of the refusal
-pub tells_refused : (request : Request) (d : Dialect) (kind : Kind) (input : List ℕ) (e : Refusal)
+pub reports_refused : (request : Request) (d : Dialect) (kind : Kind) (input : List ℕ) (e : Refusal)
     (old new : SinkState) (result : Status)
     → ((line : List ℕ) → Refuses d kind (joined input) line → Answers request input line Refused)
     → (e ≡ OutOfMemory → MayAllocate request input) → ParsesLines d kind (lines_of input) (Err e)
-    → TellsRefusal e old new result → Tells request input old new result
-tells_refused request d kind input OutOfMemory old new result given takes p t =
+    → ReportsRefusal e old new result → Reports request input old new result
+reports_refused request d kind input OutOfMemory old new result given takes p t =
     stopped request input old new result (takes refl) t.0 t.1
-tells_refused request d kind input (Syntax place found expected may_end) old new result given takes
+reports_refused request d kind input (Syntax place found expected may_end) old new result given takes
     p t =
     let known = refuses d kind (lines_of input) place found expected may_end p in
     let line = refusal_line place found expected may_end in
-    tells_text request input line Refused old new result
+    reports_text request input line Refused old new result
     (given line (record {
       place = place;
       found = found;
@@ -122,10 +122,10 @@ tells_refused request d kind input (Syntax place found expected may_end) old new
       may_end = may_end;
       syntax = known.0;
       unended = known.1;
-      told = refl;
+      line_is = refl;
     })) t
-tells_refused request d kind input (TooLong limit) old new result given takes p t = absurd t
-tells_refused request d kind input (ReadFault place) old new result given takes p t = absurd t
+reports_refused request d kind input (TooLong limit) old new result given takes p t = absurd t
+reports_refused request d kind input (ReadFault place) old new result given takes p t = absurd t
 
 -- a view of the value of the lines, or their refusal
 
@@ -145,20 +145,20 @@ for-memory view d kind input (Syntax place found expected may_end) free is = abs
 for-memory view d kind input (TooLong limit) free is = absurd cc
 for-memory view d kind input (ReadFault place) free is = absurd cc
 
-pub tells_view : (view : View) (d : Dialect) (kind : Kind) (input : List ℕ) (v : Field)
+pub reports_view : (view : View) (d : Dialect) (kind : Kind) (input : List ℕ) (v : Field)
     (old new : SinkState) (result : Status) → ParsesLines d kind (lines_of input) (Ok v)
-    → TellsText (view_text view v) Accepted old new result
-    → Tells (view_request view d kind) input old new result
-tells_view view d kind input v old new result =
-    tells_field (view_request view d kind) d kind (view_text view) input v old new result
+    → ReportsText (view_text view v) Accepted old new result
+    → Reports (view_request view d kind) input old new result
+reports_view view d kind input v old new result =
+    reports_field (view_request view d kind) d kind (view_text view) input v old new result
     (responds view d kind input)
 
-pub tells_refusal : (view : View) (d : Dialect) (kind : Kind) (input : List ℕ) (e : Refusal)
+pub reports_refusal : (view : View) (d : Dialect) (kind : Kind) (input : List ℕ) (e : Refusal)
     (old new : SinkState) (result : Status) → ParsesLines d kind (lines_of input) (Err e)
     → (TakesNoMemory kind (joined input) → NotForMemory (Err e))
-    → TellsRefusal e old new result → Tells (view_request view d kind) input old new result
-tells_refusal view d kind input e old new result parses free =
-    tells_refused (view_request view d kind) d kind input e old new result
+    → ReportsRefusal e old new result → Reports (view_request view d kind) input old new result
+reports_refusal view d kind input e old new result parses free =
+    reports_refused (view_request view d kind) d kind input e old new result
     (λ line r. responds view d kind input line Refused r) (for-memory view d kind input e free)
     parses
 
@@ -183,32 +183,32 @@ is_ask_of_text kind meaning input (ask.Field refusal) small short p =
 is_ask_of_text kind meaning input (ask.Answer fault) small short p = tt
 
 -- a line of the input is refused
-pub tells_input_fault : (names : Vec (List ℕ) Global) (input : List ℕ) (fault : InputFault)
+pub reports_input_fault : (names : Vec (List ℕ) Global) (input : List ℕ) (fault : InputFault)
     (old new : SinkState) (result : Status)
-    → IsFaultOf names.items input fault → TellsInputFault fault old new result
-    → Tells (Targeted names) input old new result
-tells_input_fault names input (input_fault.Line number) old new result refused t =
-    tells_text (Targeted names) input (refused_line number) Refused old new result
+    → IsFaultOf names.items input fault → ReportsInputFault fault old new result
+    → Reports (Targeted names) input old new result
+reports_input_fault names input (input_fault.Line number) old new result refused t =
+    reports_text (Targeted names) input (refused_line number) Refused old new result
     (number, refused, refl) t
-tells_input_fault names input input_fault.OutOfMemory old new result takes t =
+reports_input_fault names input input_fault.OutOfMemory old new result takes t =
     stopped (Targeted names) input old new result takes t.0 t.1
 
 -- a consumer has no answer
-pub tells_ask_fault : {A : Type 0} (request : Request) (kind : Kind) (meaning : Field → Result A ℕ)
+pub reports_ask_fault : {A : Type 0} (request : Request) (kind : Kind) (meaning : Field → Result A ℕ)
     (input : List ℕ) (fault : AskFault) (old new : SinkState) (result : Status)
     → MayAllocate request input
     → ((line : List ℕ) → Refuses Rfc9651 kind (joined input) line
     → Answers request input line Refused)
     → ((index : ℕ) → Means kind meaning (lines_of input) (Err index)
     → Answers request input (not_a_cache_line index) Refused)
-    → Asks kind meaning (lines_of input) (Err fault) → TellsAskFault fault old new result
-    → Tells request input old new result
-tells_ask_fault request kind meaning input (ask.Field refusal) old new result takes refused nameless
+    → Asks kind meaning (lines_of input) (Err fault) → ReportsAskFault fault old new result
+    → Reports request input old new result
+reports_ask_fault request kind meaning input (ask.Field refusal) old new result takes refused nameless
     asks t =
-    tells_refused request Rfc9651 kind input refusal old new result refused (λ e. takes) asks t
-tells_ask_fault request kind meaning input (ask.Answer (use_fault.NotACache index)) old new result
+    reports_refused request Rfc9651 kind input refusal old new result refused (λ e. takes) asks t
+reports_ask_fault request kind meaning input (ask.Answer (use_fault.NotACache index)) old new result
     takes refused nameless asks t =
-    tells_text request input (not_a_cache_line index) Refused old new result (nameless index asks) t
-tells_ask_fault request kind meaning input (ask.Answer use_fault.OutOfMemory) old new result takes
+    reports_text request input (not_a_cache_line index) Refused old new result (nameless index asks) t
+reports_ask_fault request kind meaning input (ask.Answer use_fault.OutOfMemory) old new result takes
     refused nameless asks t =
     stopped request input old new result takes t.0 t.1

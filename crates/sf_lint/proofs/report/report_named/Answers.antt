@@ -7,23 +7,23 @@ use Rattle.std.proofs.lemmas.Grind.{common_steps}
 use Rattle.std.proofs.lemmas.List.{drop-map}
 use Rattle.std.proofs.lemmas.Result.{IfOk-weaker}
 use Rattle.sf_lint.specs.Head.{IsRepeated, is_start, message_from}
-use Rattle.sf_lint.specs.Report.{TellsField}
+use Rattle.sf_lint.specs.Report.{ReportsField}
 use Rattle.sf_lint.specs.Settings.{type_of}
-use Rattle.sf_lint.proofs.report.tell_named.Goals as goal
+use Rattle.sf_lint.proofs.report.report_named.Goals as goal
 
 abbrev text : Bor (List ℕ) → List ℕ
 text line = line.now
 
-pub returns-then-is_repeated-clause-told : goal.returns-then-is_repeated-clause-told
-returns-then-is_repeated-clause-told c =
+pub returns-then-is_repeated-clause-reported : goal.returns-then-is_repeated-clause-reported
+returns-then-is_repeated-clause-reported c =
     let type : type_of c.args.settings.now c.args.name.now ≡ Some c.in-Some.field_type =
     sym c.type_of.ensures ∙ c.in-Some.is in
     let P : List ℕ → Type 0 = λ name. IsRepeated name (map text c.args.lines.now) c.args.n in
     let repeated = subst P c.as_bytes.ensures.value (c.is_repeated.ensures.0 c.if-is_repeated.true) in
     rw type (inl (repeated, c.nothing.ensures))
 
-pub returns-clause-told : goal.returns-clause-told
-returns-clause-told c =
+pub returns-clause-reported : goal.returns-clause-reported
+returns-clause-reported c =
     let type : type_of c.args.settings.now c.args.name.now ≡ Some c.in-Some.field_type =
     sym c.type_of.ensures ∙ c.in-Some.is in
     let lines = c.args.lines.now in
@@ -38,11 +38,11 @@ returns-clause-told c =
     c.message_in-message.ensures
     ∙ ap (before_first is_start) (ap (map text) rest ∙ sym (drop-map text n lines)) in
     rw type
-    (IfOk-weaker c.tell_field.result _ _
-    (λ told h.
-    let Q : List ℕ → Type 0 = λ name. TellsField c.args.settings.now c.in-Some.field_type name
-    (n + 1) (map text c.message_in-message.result.now) told.text.items told.refused told.others in
-    let R : List (List ℕ) → Type 0 = λ message. TellsField c.args.settings.now
-    c.in-Some.field_type c.args.name.now (n + 1) message told.text.items told.refused told.others in
+    (IfOk-weaker c.report_field.result _ _
+    (λ reported h.
+    let Q : List ℕ → Type 0 = λ name. ReportsField c.args.settings.now c.in-Some.field_type name
+    (n + 1) (map text c.message_in-message.result.now) reported.text.items reported.refused reported.others in
+    let R : List (List ℕ) → Type 0 = λ message. ReportsField c.args.settings.now
+    c.in-Some.field_type c.args.name.now (n + 1) message reported.text.items reported.refused reported.others in
     inr (unrepeated, subst R message (subst Q c.as_str.ensures.value h)))
-    c.tell_field.ensures.told)
+    c.report_field.ensures.reported)

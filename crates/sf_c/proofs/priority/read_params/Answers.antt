@@ -1,6 +1,6 @@
 use Rattle.std.proofs.Common.{refl}
 use Rattle.sf_c.proofs.ScannedTexts.{asks_for}
-use Rattle.sf_c.proofs.priority.asked_of.Goals as goal
+use Rattle.sf_c.proofs.priority.read_params.Goals as goal
 
 pub returns-in-Some : goal.returns-in-Some
 returns-in-Some c =

@@ -4,10 +4,10 @@ use Rattle.std.proofs.Common.{ap, ◌∙◌, arith, length-append, cond, true, f
 use Rattle.std.specs.Prelude.{is_ok, is_err}
 use Rattle.std.proofs.lemmas.List.{map-append}
 use Rattle.std.proofs.Math.Seq.{take-append_seam}
-use Rattle.sf_view.specs.View.{piece}
+use Rattle.sf_view.specs.View.{slice_at}
 use Rattle.sf_c.specs.declared.nodes.Part.{Part}
-use Rattle.sf_c.specs.Tellings.{Told, told_by, told_size, IsWithin, AreWithin, HoldsUp}
-use Rattle.sf_c.proofs.Pieces.{piece-append, piece_last}
+use Rattle.sf_c.specs.NodeContents.{NodeContent, content_by, content_size, IsWithin, AreWithin, HoldsUp}
+use Rattle.sf_c.proofs.Slices.{slice_at-append, slice_at_last}
 
 -- a node that points to bytes points to the same among more
 pub IsWithin-append : (bytes more : List ℕ) (n : Part) → IsWithin bytes n
@@ -30,18 +30,18 @@ AreWithin-push bytes [] n h w = (w, tt)
 AreWithin-push bytes (m ∷ ns) n h w = (h.0, AreWithin-push bytes ns n h.1 w)
 
 -- so it tells the same
-pub told_by-append : (bytes more : List ℕ) (n : Part) → IsWithin bytes n
-    → told_by (bytes ++ more) n ≡ told_by bytes n
-told_by-append bytes more n h =
-    let key = piece-append n.key_at n.key_length bytes more h.0 in
-    let text = piece-append n.text_at n.text_length bytes more h.1 in
+pub content_by-append : (bytes more : List ℕ) (n : Part) → IsWithin bytes n
+    → content_by (bytes ++ more) n ≡ content_by bytes n
+content_by-append bytes more n h =
+    let key = slice_at-append n.key_at n.key_length bytes more h.0 in
+    let text = slice_at-append n.text_at n.text_length bytes more h.1 in
     rw (key, text) refl
 
-pub map-told_by-append : (bytes more : List ℕ) (ns : List Part) → AreWithin bytes ns
-    → map (told_by (bytes ++ more)) ns ≡ map (told_by bytes) ns
-map-told_by-append bytes more [] h = refl
-map-told_by-append bytes more (n ∷ ns) h =
-    rw (told_by-append bytes more n h.0, map-told_by-append bytes more ns h.1) refl
+pub map-content_by-append : (bytes more : List ℕ) (ns : List Part) → AreWithin bytes ns
+    → map (content_by (bytes ++ more)) ns ≡ map (content_by bytes) ns
+map-content_by-append bytes more [] h = refl
+map-content_by-append bytes more (n ∷ ns) h =
+    rw (content_by-append bytes more n h.0, map-content_by-append bytes more ns h.1) refl
 
 -- a node of this key and this text, which are after the bytes before
 pub record Points (bytes key text : List ℕ) (n : Part) : Type 0 where
@@ -72,22 +72,22 @@ within_more bytes now key text ns ms n e f p h =
 
 -- its key and its text are these
 pub key_is : (bytes key text : List ℕ) (n : Part) → Points bytes key text n
-    → piece n.key_at n.key_length ((bytes ++ key) ++ text) ≡ key
+    → slice_at n.key_at n.key_length ((bytes ++ key) ++ text) ≡ key
 key_is bytes key text n p =
     let whole = length-append bytes key in
     let fits : length bytes + length key ≤ length (bytes ++ key) = omega arith in
     rw (p.key_at, p.key_length)
-    (piece-append (length bytes) (length key) (bytes ++ key) text fits ∙ piece_last bytes key)
+    (slice_at-append (length bytes) (length key) (bytes ++ key) text fits ∙ slice_at_last bytes key)
 
 pub text_is : (bytes key text : List ℕ) (n : Part) → Points bytes key text n
-    → piece n.text_at n.text_length ((bytes ++ key) ++ text) ≡ text
-text_is bytes key text n p = rw (p.text_at, p.text_length) (piece_last (bytes ++ key) text)
+    → slice_at n.text_at n.text_length ((bytes ++ key) ++ text) ≡ text
+text_is bytes key text n p = rw (p.text_at, p.text_length) (slice_at_last (bytes ++ key) text)
 
-pub told_more : (bytes now key text : List ℕ) (ns ms : List Part) (n : Part)
+pub content_more : (bytes now key text : List ℕ) (ns ms : List Part) (n : Part)
     → now ≡ (bytes ++ key) ++ text → ms ≡ ns ++ n ∷ [] → Points bytes key text n
     → AreWithin bytes ns
-    → map (told_by now) ms
-    ≡ map (told_by bytes) ns
+    → map (content_by now) ms
+    ≡ map (content_by bytes) ns
     ++ record {
       role = n.role;
       node_type = n.node_type;
@@ -97,21 +97,21 @@ pub told_more : (bytes now key text : List ℕ) (ns ms : List Part) (n : Part)
       size = n.size;
     }
     ∷ []
-told_more bytes now key text ns ms n e f p h =
+content_more bytes now key text ns ms n e f p h =
     let before = AreWithin-append bytes key ns h in
     rw (e, f)
-    (map-append (told_by ((bytes ++ key) ++ text)) ns (n ∷ [])
+    (map-append (content_by ((bytes ++ key) ++ text)) ns (n ∷ [])
     ∙ rw (
-      map-told_by-append (bytes ++ key) text ns before,
-      map-told_by-append bytes key ns h,
+      map-content_by-append (bytes ++ key) text ns before,
+      map-content_by-append bytes key ns h,
       key_is bytes key text n p,
       text_is bytes key text n p,
     ) refl)
 
 -- how many bytes there are with one more part
-pub told_size-append : (ts us : List Told) → told_size (ts ++ us) ≡ told_size ts + told_size us
-told_size-append [] us = omega arith
-told_size-append (t ∷ ts) us = let e = told_size-append ts us in omega arith
+pub content_size-append : (ts us : List NodeContent) → content_size (ts ++ us) ≡ content_size ts + content_size us
+content_size-append [] us = omega arith
+content_size-append (t ∷ ts) us = let e = content_size-append ts us in omega arith
 
 pub holds_more : (bytes now key text : List ℕ) (ns ms : List Part) (n : Part)
     → now ≡ (bytes ++ key) ++ text → ms ≡ ns ++ n ∷ [] → Points bytes key text n
@@ -121,7 +121,7 @@ holds_more bytes now key text ns ms n e f p h =
     let longer = ap length e in
     let first = length-append bytes key in
     let second = length-append (bytes ++ key) text in
-    let last : Told = record {
+    let last : NodeContent = record {
       role = n.role;
       node_type = n.node_type;
       number = n.number;
@@ -129,10 +129,10 @@ holds_more bytes now key text ns ms n e f p h =
       text = text;
       size = n.size;
     } in
-    let told : map (told_by now) ms ≡ map (told_by bytes) ns ++ last ∷ []
-    = told_more bytes now key text ns ms n e f p h.0 in
-    let size = ap told_size told in
-    let sizes = told_size-append (map (told_by bytes) ns) (last ∷ []) in
+    let told : map (content_by now) ms ≡ map (content_by bytes) ns ++ last ∷ []
+    = content_more bytes now key text ns ms n e f p h.0 in
+    let size = ap content_size told in
+    let sizes = content_size-append (map (content_by bytes) ns) (last ∷ []) in
     (within_more bytes now key text ns ms n e f p h.0, omega arith)
 
 -- where nothing changed
