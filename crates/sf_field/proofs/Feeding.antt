@@ -1,5 +1,7 @@
 -- Feeding a text piece by piece, and lines one by one.
-use Rattle.std.proofs.Common.{◌≡◌, ℕ, Bool, true, false, List, [], ◌∷◌, ◌++◌}
+use Rattle.std.proofs.Common.{◌≡◌, ℕ, ◌+◌, ◌<◌, Bool, true, false, List, [], ◌∷◌, ◌++◌, length}
+use Rattle.std.proofs.Common.{drop, get_or}
+use Rattle.std.proofs.lemmas.List.{drop_more}
 use Rattle.std.proofs.Common.{Ok, Err, refl, sym, ap, ◌∙◌, subst, append-nil, append_assoc}
 use Rattle.sf_value.specs.Grammar.Lines.{join}
 use Rattle.sf_parse.specs.declared.refusal.Refusal.{Refusal}
@@ -19,6 +21,17 @@ join_behind l (m ∷ ls) = ap (λ t. l ++ 44 ∷ 32 ∷ t) (join_behind m ls)
 pub joined : (ls : List (List ℕ)) → join ls ≡ behind false ls
 joined [] = refl
 joined (l ∷ ls) = join_behind l ls
+
+-- a line was appended to the text of the lines before it
+pub appended : (text new line item whole : List ℕ) (after : Bool) (lines : List (List ℕ)) (i : ℕ)
+    → i < length lines → text ++ behind after (drop i lines) ≡ whole
+    → item ≡ get_or lines i item → line ≡ item → new ≡ text ++ in_line after line
+    → new ++ behind true (drop (i + 1) lines) ≡ whole
+appended text new line item whole after lines i h so_far is same added =
+    ap (λ z. z ++ behind true (drop (i + 1) lines))
+    (added ∙ ap (λ z. text ++ in_line after z) (same ∙ is))
+    ∙ append_assoc text (in_line after (get_or lines i item)) (behind true (drop (i + 1) lines))
+    ∙ ap (λ ls. text ++ behind after ls) (sym (drop_more lines i item h)) ∙ so_far
 
 -- a prefix of all was fed, and this is left
 pub record FedSoFar (o p : Progress) (all left : List ℕ) : Type 0 where

@@ -1,6 +1,7 @@
 -- Canonical texts as lines.
 use Rattle.std.proofs.Common.{◌≡◌, ℕ, ◌-◌, ◌*◌, ◌^◌, ◌<◌, ◌≤◌, List, ◌∷◌, [], length, sym, ap, ◌∙◌}
-use Rattle.std.proofs.Common.{subst, Result, Ok, Err, Some, None, arith}
+use Rattle.std.proofs.Common.{subst, Result, Ok, Err, Option, Some, None, IfOk, IfSome, arith}
+use Rattle.std.proofs.Common.{Vec, Global, get_or}
 use Rattle.sf_value.specs.declared.dialect.Dialect.{Dialect}
 use Rattle.sf_value.specs.declared.dialect.Dialect.TheVariants.{Rfc9651}
 use Rattle.sf_value.specs.declared.value.Field.{Field}
@@ -15,6 +16,8 @@ use Rattle.sf_parse.specs.declared.refusal.Refusal.{Refusal}
 use Rattle.sf_parse.specs.declared.refusal.Refusal.TheVariants.{OutOfMemory, Syntax, TooLong}
 use Rattle.sf_parse.specs.declared.refusal.Refusal.TheVariants.{ReadFault}
 use Rattle.sf_parse.specs.Parsers.{IsOnly, Parses}
+use Rattle.sf_value.specs.declared.fault.OutOfMemory.{OutOfMemory as NoMemory}
+use Rattle.sf_view.specs.Written.{IsCanonicalOf}
 use Rattle.sf_parse.proofs.GrammarLaws.{one_value, canon_one}
 use Rattle.sf_field.specs.Asking.{MeansAsCanonical}
 use Rattle.sf_field.specs.Normal.{NormalisesTo}
@@ -82,6 +85,24 @@ normal kind lines v c h e = record {
   short = subst (λ t. 5 * length t ≤ 8 * length (join lines)) (sym e)
       (canon_bound Rfc9651 kind v (join lines) h.spelled);
 }
+
+-- so is the canonical text of the text of the lines, if there is one
+pub normal_found : (kind : Kind) (lines : List (List ℕ)) (t : List ℕ)
+    (r : Result (Option (Vec ℕ Global)) NoMemory) → t ≡ join lines
+    → IfOk r (λ found. IfSome found (λ c. IsCanonicalOf Rfc9651 kind t c.items))
+    → IfOk r (λ found. IfSome found (λ c. NormalisesTo kind lines c.items))
+normal_found kind lines t (Err e) same h = tt
+normal_found kind lines t (Ok None) same h = tt
+normal_found kind lines t (Ok (Some c)) same h =
+    normal kind lines h.value c.items (subst (λ y. IsOnly Rfc9651 kind y h.value) same h.only)
+    h.canonical
+
+-- one line is its own joined text
+pub join_one : (lines : List (List ℕ)) (line : List ℕ) → length lines ≡ 1
+    → line ≡ get_or lines 0 line → line ≡ join lines
+join_one [] line e is = absurd (omega (arith, e))
+join_one (l ∷ []) line e is = is
+join_one (l ∷ m ∷ ls) line e is = absurd (omega (arith, e))
 
 pub canon_settles : CanonSettles
 canon_settles d kind lines v h =

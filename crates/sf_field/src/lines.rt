@@ -1,10 +1,10 @@
 //! Field lines.
 ghost use Rattle.std.specs.Prelude.{◌≡◌, ℕ, List, [], ◌∷◌, false, map, MatchOption, MatchResult};
-ghost use Rattle.std.specs.Prelude.{Err};
+ghost use Rattle.std.specs.Prelude.{Err, IfOk, IfSome, ◌++◌};
 ghost use Rattle.std.specs.Slice.Iter.{iter_rest};
 ghost use Rattle.sf_value.specs.Grammar.Lines.{join};
 ghost use Rattle.sf_value.specs.declared.dialect.Dialect.TheVariants.{Rfc9651};
-ghost use Rattle.sf_parse.specs.Parsers.{Fed};
+ghost use Rattle.sf_parse.specs.Parsers.{Fed, in_line};
 ghost use Rattle.sf_parse.specs.AllocationFree.{TakesNoMemory};
 ghost use Rattle.sf_parse.specs.AllocationFreeParsers.{IsAllocationFree, KeptAllocationFree};
 ghost use Rattle.sf_parse.specs.AllocationFreeParsers.{NotForMemory};
@@ -12,7 +12,8 @@ ghost use Rattle.sf_field.specs.Lines.{ParsesLines};
 ghost use Rattle.sf_field.specs.Normal.{NormalisesTo};
 
 use sf_parse::{Parser, Refusal};
-use sf_value::{Blob, Dialect, Field, Kind};
+use sf_value::{Blob, Dialect, Field, Kind, OutOfMemory};
+use sf_view::canonical_text;
 use sf_write::to_text;
 use std::alloc::Global;
 use std::hash::RandomState;
@@ -129,7 +130,9 @@ pub fn parse_lines(
 
 /// Returns the canonical text (RFC 9651 section 4.1) of the value that the lines spell. Lines of a
 /// kind have equal canonical texts if and only if they spell equal values. Refuses what
-/// [`parse_lines`] refuses.
+/// [`parse_lines`] refuses. The canonical text is written from nodes that point into the lines, or
+/// into their joined text if there are several; only if they have no view (see [`sf_view::View`]),
+/// the field is built.
 ///
 /// ```
 /// let text = normalise_lines(alloc, &seed, Kind::List, lines.as_slice())?;
@@ -144,10 +147,50 @@ pub fn normalise_lines(
     ensures { MatchResult result (λ text. NormalisesTo kind lines.now text.items)
         (λ e. ParsesLines Rfc9651 kind lines.now (Err e)) }
 {
+    if let Some(text) = text_of_nodes(alloc, kind, lines)? {
+        return Ok(text);
+    }
     let field = parse_lines(alloc, seed, kind, lines)?;
     let text = to_text(alloc, &field);
     drop(field);
     Ok(text?)
+}
+
+/// Returns the canonical text of the value that the lines spell, written from nodes; `None` claims
+/// nothing.
+fn text_of_nodes(alloc: Global, kind: Kind, lines: &[Blob]) -> Result<Option<Vec<u8>>, OutOfMemory>
+    ensures { IfOk result
+        (λ found. IfSome found (λ text. NormalisesTo kind lines.now text.items)) }
+{
+    if lines.len() == 1 {
+        return canonical_text(alloc, Dialect::Rfc9651, kind, lines[0].as_bytes());
+    }
+    let text = joined(alloc, lines)?;
+    canonical_text(alloc, Dialect::Rfc9651, kind, text.as_slice())
+}
+
+/// Returns the text of the lines, joined by a comma and a space.
+fn joined(alloc: Global, lines: &[Blob]) -> Result<Vec<u8>, OutOfMemory>
+    ensures { IfOk result (λ text. text.items ≡ join lines.now) }
+{
+    let mut text = Vec::new(alloc);
+    let mut after_line = false;
+    for line in lines {
+        append_line(&mut text, after_line, line.as_bytes())?;
+        after_line = true;
+    }
+    Ok(text)
+}
+
+/// Appends a line, after a comma and a space if it is not the first.
+fn append_line(text: &mut Vec<u8>, after_line: bool, line: &[u8]) -> Result<(), OutOfMemory>
+    ensures { IfOk result (λ _. text.new.items ≡ text.old.items ++ in_line after_line line.now) }
+{
+    if after_line {
+        text.extend_from_slice(b", ")?;
+    }
+    text.extend_from_slice(line)?;
+    Ok(())
 }
 
 /// Feeds the joined text of the lines; without lines it is empty.
