@@ -4,7 +4,7 @@ HEADER = include/sf.h
 ARCHIVE = lib/libsf.a
 SHARED = lib/libsf.so.0
 TEMPLATES = templates
-PROGRAM = bin/sf
+PROGRAMS = bin/sf bin/sflint
 MANUALS = man
 COMPLETIONS = completions
 

@@ -1,6 +1,6 @@
-# Installs the library and, if PROGRAM is set, the command. Both c/Makefile and the Makefile of a
+# Installs the library and, if PROGRAMS is set, the commands. Both c/Makefile and the Makefile of a
 # distributed tar file include this; they set HEADER, ARCHIVE, SHARED, TEMPLATES and VERSION, and may
-# set PROGRAM, MANUALS and COMPLETIONS.
+# set PROGRAMS, MANUALS and COMPLETIONS.
 #
 #   make install PREFIX=/usr LIBDIR=lib/x86_64-linux-gnu DESTDIR=root
 #   make uninstall               with the same settings
@@ -16,6 +16,7 @@ FILL = sed -e 's|@VERSION@|$(VERSION)|' -e 's|@LIBDIR@|$(LIBDIR)|' \
   -e "s|@PREFIX_FROM_PC@|$$(realpath -m -s --relative-to=/$(LIBDIR)/pkgconfig /)|" \
   -e "s|@PREFIX_FROM_CMAKE@|$$(realpath -m -s --relative-to=/$(LIBDIR)/cmake/sf /)|"
 SHARE = $(DESTDIR)$(TO)/share
+COMMANDS = $(notdir $(PROGRAMS))
 
 .PHONY: install uninstall
 
@@ -33,13 +34,15 @@ ifdef MANUALS
 	install -d $(SHARE)/man/man3
 	install -m 644 $(MANUALS)/sf.3 $(SHARE)/man/man3/sf.3
 endif
-ifdef PROGRAM
+ifdef PROGRAMS
 	install -d $(DESTDIR)$(TO)/bin $(SHARE)/man/man1 $(SHARE)/bash-completion/completions \
 	  $(SHARE)/zsh/site-functions
-	install -m 755 $(PROGRAM) $(DESTDIR)$(TO)/bin/sf
-	install -m 644 $(MANUALS)/sf.1 $(SHARE)/man/man1/sf.1
-	install -m 644 $(COMPLETIONS)/sf.bash $(SHARE)/bash-completion/completions/sf
-	install -m 644 $(COMPLETIONS)/_sf $(SHARE)/zsh/site-functions/_sf
+	install -m 755 $(PROGRAMS) $(DESTDIR)$(TO)/bin
+	install -m 644 $(COMMANDS:%=$(MANUALS)/%.1) $(SHARE)/man/man1
+	install -m 644 $(COMMANDS:%=$(COMPLETIONS)/_%) $(SHARE)/zsh/site-functions
+	for name in $(COMMANDS); do \
+	  install -m 644 $(COMPLETIONS)/$$name.bash $(SHARE)/bash-completion/completions/$$name || exit; \
+	done
 endif
 
 # Removes the files, and the folders that are sf's alone.
@@ -50,7 +53,7 @@ uninstall:
 ifdef MANUALS
 	rm -f $(SHARE)/man/man3/sf.3
 endif
-ifdef PROGRAM
-	rm -f $(DESTDIR)$(TO)/bin/sf $(SHARE)/man/man1/sf.1 $(SHARE)/bash-completion/completions/sf \
-	  $(SHARE)/zsh/site-functions/_sf
+ifdef PROGRAMS
+	rm -f $(foreach name,$(COMMANDS),$(DESTDIR)$(TO)/bin/$(name) $(SHARE)/man/man1/$(name).1 \
+	  $(SHARE)/bash-completion/completions/$(name) $(SHARE)/zsh/site-functions/_$(name))
 endif
