@@ -17,6 +17,11 @@ use Rattle.sf_parse.specs.Expected.{Marks}
 use Rattle.sf_parse.specs.Parsers.{Progress, Took, Sound, IsSyntax, RefusedFor}
 use Rattle.sf_parse.specs.Parsers.{SameSettings, Fed, FedAnswer, Finishes, Refuses, StandsAt}
 use Rattle.sf_parse.specs.AllocationFreeParsers.{IsOther}
+use Rattle.std.specs.Option.{option_map}
+use Rattle.std.proofs.Common.{is_some}
+use Rattle.sf_parse.specs.Machine.States.{State}
+use Rattle.sf_parse.specs.MemberEnds.{some_map}
+use Rattle.sf_parse.proofs.Marks.{marks_same}
 use Rattle.sf_parse.proofs.Reached.{reached_nothing, reached_viable}
 use Rattle.sf_parse.proofs.Refusals.{stops_exact, ends_exact, ends_only}
 
@@ -60,11 +65,17 @@ pub refuses_other : (takes : ℕ → Bool) (ends : Bool) (place : ℕ) (found : 
     → Refuses takes ends place found e → IsOther e
 refuses_other takes ends place found e r = subst IsOther (sym r.syntax) tt
 
--- the same of equal tests
-pub refuses_too : (f g : ℕ → Bool) (a b : Bool) (place : ℕ) (found : Option ℕ) (e : Refusal)
-    → f ≡ g → a ≡ b → Refuses f a place found e → Refuses g b place found e
-refuses_too f g a b place found e h k r =
-    subst (λ y. Refuses y b place found e) h (subst (λ y. Refuses f y place found e) k r)
+-- the same of the machine of fields
+pub refuses_above : {S : Type 0} (next : S → ℕ → Option S) (above : State → ℕ → Option State)
+    (into : S → State) → ((s : S) (b : ℕ) → above (into s) b ≡ option_map into (next s b))
+    → (s : S) (x y : Bool) (place : ℕ) (found : Option ℕ) (e : Refusal) → x ≡ y
+    → Refuses (λ b. is_some (next s b)) x place found e
+    → Refuses (λ b. is_some (above (into s) b)) y place found e
+refuses_above next above into h s x y place found e k r = record {
+  expected = r.expected;
+  marks = marks_same r.expected _ _ (λ b. ap is_some (h s b) ∙ some_map into (next s b)) r.marks;
+  syntax = r.syntax ∙ ap (Syntax place found r.expected) k;
+}
 
 -- a byte was refused
 pub fed_stop : (p q : Progress) (b : ℕ) (e : Refusal) → Sound p.refusal p.state p.count p.max

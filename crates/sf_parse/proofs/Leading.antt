@@ -1,6 +1,6 @@
 -- Bytes that lead to a place in a character.
 use Rattle.std.specs.Option.{option_map}
-use Rattle.std.proofs.Common.{◌≡◌, ℕ, ◌==◌, true, false, List, [], ◌∷◌, ◌++◌, Some}
+use Rattle.std.proofs.Common.{◌≡◌, ℕ, ◌==◌, true, false, List, [], ◌∷◌, ◌++◌, Some, is_some}
 use Rattle.std.proofs.Common.{refl, sym, ap, ◌∙◌, subst, arith, append-nil, append_assoc}
 use Rattle.sf_value.specs.Grammar.Words.{Every}
 use Rattle.sf_value.specs.Grammar.DisplayStrings.{is_unencoded}
@@ -8,8 +8,8 @@ use Rattle.sf_parse.specs.Prefixes.{Went}
 use Rattle.sf_value.specs.Grammar.Utf8.{Utf8, Start, Wants, within, utf8_step, WellFormed}
 use Rattle.sf_parse.specs.Machine.Language.{run}
 use Rattle.sf_parse.specs.Machine.Showns.{Unencoded, pushed, shown_step}
+use Rattle.sf_parse.specs.Machine.Bares.{InShown, bare_finish}
 use Rattle.sf_value.specs.Grammar.Classes.{is_visible}
-use Rattle.sf_parse.specs.Machine.Tests.{shown_ends}
 use Rattle.sf_parse.specs.Views.{utf8_of, shown_of, FitsShown, Leads}
 use Rattle.sf_parse.specs.declared.display_string.Utf8State.{Utf8State}
 use Rattle.sf_parse.specs.declared.display_string.ShownPhase.{ShownPhase}
@@ -102,7 +102,7 @@ leads_run bytes xs more l h f =
 
 -- a closed display string is whole characters
 pub shown_whole : (p : ShownPhase) (bytes : List ℕ) (chars : Utf8State) → FitsShown p bytes chars
-    → shown_ends (shown_of p bytes chars) ≡ true → WellFormed Start bytes
+    → is_some (bare_finish (InShown (shown_of p bytes chars))) ≡ true → WellFormed Start bytes
 shown_whole shown_phase.Quote bytes chars f e = absurd cc
 shown_whole shown_phase.Unencoded bytes chars f e = absurd cc
 shown_whole shown_phase.Percent bytes chars f e = absurd cc

@@ -4,7 +4,7 @@ pub mod Machine
 pub mod Machines
 pub mod GrammarLaws
 pub mod Reached
--- The tests on states: what may come next and where a text may end.
+-- What may come next and where a text may end.
 pub mod StateTests
 pub mod Below
 pub mod Dialects

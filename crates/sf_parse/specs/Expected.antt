@@ -1,11 +1,8 @@
 -- The bytes that may follow, as bits.
-use Rattle.std.specs.Prelude.{◌≡◌, ℕ, Bool, false, ◌+◌, ◌*◌, nat_lt, ◌&&◌, if◌then◌else◌}
+use Rattle.std.specs.Prelude.{◌≡◌, ℕ, Bool, nat_lt, ◌&&◌, if◌then◌else◌, Option, None, is_some}
 use Rattle.std.specs.Int.{bit_at}
-use Rattle.sf_value.specs.Digits.{unhex}
-use Rattle.sf_parse.specs.Machine.Showns.{can_begin, ShownState, Quote, Unencoded, Percent}
-use Rattle.sf_parse.specs.Machine.Showns.{Hex}
-use Rattle.sf_parse.specs.Machine.Showns.{Done}
-use Rattle.sf_parse.specs.Machine.Tests.{passes, utf8_takes}
+use Rattle.sf_parse.specs.Machine.Showns.{ShownState, Quote, Unencoded, Percent, Hex, Done}
+use Rattle.sf_parse.specs.Machine.Showns.{shown_step}
 
 -- the bits of the bytes below a bound that pass the test
 abbrev pub MarksBelow : ℕ → ℕ → (ℕ → Bool) → Type 0
@@ -15,10 +12,14 @@ MarksBelow bound bits test = (b : ℕ) → bit_at bits b ≡ (if nat_lt b bound 
 abbrev pub Marks : ℕ → (ℕ → Bool) → Type 0
 Marks bits test = MarksBelow 128 bits test
 
--- the digits that an escape may continue with
-abbrev pub digit_takes : ShownState → ℕ → Bool
-digit_takes Quote b = false
-digit_takes (Unencoded bytes x) b = false
-digit_takes (Percent bytes x) b = passes (can_begin x) (unhex b)
-digit_takes (Hex bytes x h) b = passes (λ l. utf8_takes x (h * 16 + l)) (unhex b)
-digit_takes (Done bytes) b = false
+-- the bits of the bytes that the step takes
+abbrev pub MarksStep : {S : Type 0} → ℕ → (ℕ → Option S) → Type 0
+MarksStep bits step = Marks bits (λ b. is_some (step b))
+
+-- the step with a digit of an escape
+abbrev pub digit_step : ShownState → ℕ → Option ShownState
+digit_step Quote b = None
+digit_step (Unencoded bytes x) b = None
+digit_step (Percent bytes x) b = shown_step (Percent bytes x) b
+digit_step (Hex bytes x h) b = shown_step (Hex bytes x h) b
+digit_step (Done bytes) b = None

@@ -1,29 +1,20 @@
--- The tests on states, and what they decide for texts.
-use Rattle.std.specs.Prelude.{◌≡◌, ℕ, ◌<◌, ◌↔◌, true, List, [], ◌∷◌, ◌++◌, is_some}
+-- What the machine's steps decide for texts.
+use Rattle.std.specs.Prelude.{◌≡◌, ℕ, ◌<◌, ◌↔◌, true, List, [], ◌∷◌, ◌++◌}
 use Rattle.sf_value.specs.Grammar.Fields.{SpellsField}
 use Rattle.sf_value.specs.Grammar.Lines.{Viable, Next}
 use Rattle.sf_value.specs.declared.dialect.Dialect.{Dialect}
 use Rattle.sf_value.specs.declared.value.Field.{Field}
 use Rattle.sf_value.specs.declared.value.Kind.{Kind}
 use Rattle.sf_parse.specs.Machine.States.{State}
-use Rattle.sf_parse.specs.Machine.Fields.{step, finish}
 use Rattle.sf_parse.specs.Machine.Tests.{takes, may_end}
 use Rattle.sf_parse.specs.Reached.{Reached}
 
--- the test decides whether the step takes the byte
-abbrev pub TakesStep : Type 0
-TakesStep = (d : Dialect) (s : State) (b : ℕ) → is_some (step d s b) ≡ takes d s b
-
--- the test decides whether the state has a value at the end
-abbrev pub MayEnd : Type 0
-MayEnd = (s : State) → is_some (finish s) ≡ may_end s
-
--- so it decides whether the byte may come next
+-- the step decides whether the byte may come next
 abbrev pub TakesNext : Type 0
 TakesNext = (d : Dialect) (kind : Kind) (s : State) (p : List ℕ) (b : ℕ) → Reached d kind s p
     → Viable d kind (p ++ b ∷ []) ↔ (takes d s b ≡ true)
 
--- so it decides whether the text may end
+-- the value at the end decides whether the text may end
 abbrev pub EndsText : Type 0
 EndsText = (d : Dialect) (kind : Kind) (s : State) (p : List ℕ) → Reached d kind s p → ((v : Field)
     × SpellsField d kind p v) ↔ (may_end s ≡ true)

@@ -1,12 +1,11 @@
 //! A bare item that is being read (RFC 9651 section 4.2.3.1).
-ghost use Rattle.std.specs.Prelude.{◌≡◌, true, ⊤, IfNone, IfOk, IsOk};
+ghost use Rattle.std.specs.Prelude.{◌≡◌, is_some, true, ⊤, IfNone, IfOk, IsOk};
 ghost use Rattle.sf_parse.specs.AllocationFree.{BareFree};
-ghost use Rattle.sf_parse.specs.Expected.{Marks};
+ghost use Rattle.sf_parse.specs.Expected.{MarksStep};
 ghost use Rattle.sf_parse.specs.Prefixes.{Starts};
 ghost use Rattle.sf_parse.specs.BareView.{bare_stuck};
 ghost use Rattle.sf_parse.specs.Machine.Bares.{InBoolean, bare_start, bare_step, bare_finish};
 ghost use Rattle.sf_parse.specs.declared.boolean.BooleanState.TheVariants.{WithValue};
-ghost use Rattle.sf_parse.specs.Machine.Tests.{bare_begins, bare_takes, bare_ends};
 ghost use Rattle.sf_parse.specs.StaysFree.{bare_keeps};
 
 use crate::blob::{BlobPhase, Held};
@@ -136,7 +135,7 @@ impl BareReader {
 
     /// The bytes that a bare item may begin with.
     pub fn first_bytes(dialect: Dialect) -> u128
-        ensures { Marks result (bare_begins dialect) }
+        ensures { MarksStep result (bare_start dialect) }
     {
         match dialect {
             Dialect::Rfc8941 => return BARE_8941,
@@ -187,9 +186,7 @@ impl Level for BareReader {
 
     ghost stuck = { λ d s b. bare_stuck s b };
 
-    ghost takes = { λ d s b. bare_takes s b };
-
-    ghost ends = { bare_ends };
+    ghost ends = { λ s. is_some (bare_finish s) };
 
     ghost allocation_free = { λ d s more. BareFree s more };
 

@@ -1,13 +1,12 @@
 //! A Byte Sequence that is being read (RFC 9651 section 4.2.7).
-ghost use Rattle.std.specs.Prelude.{◌≡◌, ℕ, ◌<◌, ◌≤◌, List, [], ◌∷◌, ◌++◌, ◌&&◌, Some, IfOk};
+ghost use Rattle.std.specs.Prelude.{◌≡◌, is_some, ℕ, ◌<◌, ◌≤◌, List, [], ◌∷◌, ◌++◌, Some, IfOk};
 ghost use Rattle.std.specs.Prelude.{IfSome, take};
-ghost use Rattle.sf_parse.specs.Expected.{Marks};
+ghost use Rattle.sf_parse.specs.Expected.{MarksStep};
 ghost use Rattle.sf_parse.specs.Prefixes.{Went};
 ghost use Rattle.sf_parse.specs.Views.{held_of, blob_of, FitsHeld, FitsBlob};
 ghost use Rattle.sf_parse.specs.Machine.Language.{Steps, run};
 ghost use Rattle.sf_parse.specs.Machine.Blobs.{H0, Group, Padded, grown};
-ghost use Rattle.sf_parse.specs.Machine.Blobs.{pad_step, end_step, blob_step, is_last, lacking};
-ghost use Rattle.sf_parse.specs.Machine.Tests.{blob_takes, blob_ends, pad_takes};
+ghost use Rattle.sf_parse.specs.Machine.Blobs.{pad_step, end_step, blob_step, blob_finish};
 
 use crate::sets::{BASE64, COLON, EQUALS, set_if};
 use sf_value::{OutOfMemory, ShortBytes, sextet};
@@ -158,7 +157,7 @@ impl BlobPhase {
     /// The bytes that the byte sequence can continue with.
     pub fn expected(self) -> u128
         // The bits are those of the bytes that may come, whatever was read before.
-        ensures { (bytes : List ℕ) → Marks result (blob_takes (blob_of self bytes)) }
+        ensures { (bytes : List ℕ) → MarksStep result (blob_step (blob_of self bytes)) }
     {
         match self {
             BlobPhase::Group(held) => return BASE64 | expected_end(held),
@@ -170,7 +169,7 @@ impl BlobPhase {
     /// Whether the byte sequence is closed.
     pub fn may_end(self) -> bool
         // The byte sequence may end exactly then, whatever was read before.
-        ensures { (bytes : List ℕ) → result ≡ blob_ends (blob_of self bytes) }
+        ensures { (bytes : List ℕ) → result ≡ is_some (blob_finish (blob_of self bytes)) }
     {
         matches!(self, BlobPhase::Ended)
     }
@@ -263,7 +262,7 @@ fn grow(held: Held, bytes: &mut ShortBytes, value: u8) -> Result<Held, OutOfMemo
 /// The bytes that may follow at the end, where at most this many `=` may follow.
 fn expected_pad(more: u8) -> u128
     // The bits are those of the bytes that may come.
-    ensures { Marks result (pad_takes more) }
+    ensures { (bytes : List ℕ) → MarksStep result (pad_step bytes more) }
 {
     COLON | set_if(more > 0, EQUALS)
 }
@@ -271,7 +270,7 @@ fn expected_pad(more: u8) -> u128
 /// The bytes that may follow an open group, other than characters.
 fn expected_end(held: Held) -> u128
     // The bits are those of the bytes that may come if this group is the last one.
-    ensures { Marks result (λ b. is_last (held_of held) && pad_takes (lacking (held_of held)) b) }
+    ensures { (bytes : List ℕ) → MarksStep result (end_step bytes (held_of held)) }
 {
     match held {
         Held::H0 => return COLON,

@@ -1,9 +1,8 @@
 //! A Boolean that is being read (RFC 9651 section 4.2.8).
-ghost use Rattle.std.specs.Prelude.{◌≡◌};
-ghost use Rattle.sf_parse.specs.Expected.{Marks};
+ghost use Rattle.std.specs.Prelude.{◌≡◌, is_some};
+ghost use Rattle.sf_parse.specs.Expected.{MarksStep};
 ghost use Rattle.sf_parse.specs.Machine.Language.{Steps};
 ghost use Rattle.sf_parse.specs.Machine.Texts.{boolean_step, boolean_finish};
-ghost use Rattle.sf_parse.specs.Machine.Tests.{boolean_takes, boolean_ends};
 
 use crate::sets::BITS;
 
@@ -33,7 +32,7 @@ impl BooleanState {
     /// The bytes that the boolean can continue with.
     pub fn expected(self) -> u128
         // The bits are those of the bytes that may come.
-        ensures { Marks result (boolean_takes self) }
+        ensures { MarksStep result (boolean_step self) }
     {
         match self {
             BooleanState::QuestionMark => return BITS,
@@ -43,7 +42,7 @@ impl BooleanState {
 
     /// Whether it is a boolean already.
     pub fn may_end(self) -> bool
-        ensures { result ≡ boolean_ends self }
+        ensures { result ≡ is_some (boolean_finish self) }
     {
         matches!(self, BooleanState::WithValue(_))
     }

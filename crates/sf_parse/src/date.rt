@@ -1,10 +1,9 @@
 //! A Date that is being read (RFC 9651 section 4.2.9).
-ghost use Rattle.std.specs.Prelude.{◌≡◌};
-ghost use Rattle.sf_parse.specs.Expected.{Marks};
+ghost use Rattle.std.specs.Prelude.{◌≡◌, is_some};
+ghost use Rattle.sf_parse.specs.Expected.{MarksStep};
 ghost use Rattle.sf_parse.specs.Prefixes.{Went};
 ghost use Rattle.sf_parse.specs.Machine.Language.{Steps};
 ghost use Rattle.sf_parse.specs.Machine.Numbers.{Sign, date_step, date_finish};
-ghost use Rattle.sf_parse.specs.Machine.Tests.{date_takes, date_ends};
 
 use crate::number::with_sign;
 use crate::sets::{DIGITS, MINUS, set_if};
@@ -83,7 +82,7 @@ impl DateReader {
     /// The bytes that the date can continue with.
     pub fn expected(&self) -> u128
         // The bits are those of the bytes that may come.
-        ensures { Marks result (date_takes self.now) }
+        ensures { MarksStep result (date_step self.now) }
     {
         if !self.begun {
             return MINUS | DIGITS;
@@ -93,7 +92,7 @@ impl DateReader {
 
     /// Whether it is a date already.
     pub fn may_end(&self) -> bool
-        ensures { result ≡ date_ends self.now }
+        ensures { result ≡ is_some (date_finish self.now) }
     {
         self.digits >= 1
     }

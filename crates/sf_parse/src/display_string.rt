@@ -1,18 +1,16 @@
 //! A Display String that is being read (RFC 9651 section 4.2.10).
 ghost use Rattle.std.specs.Prelude.{◌≡◌, ℕ, ◌<◌, ◌≤◌, List, [], ◌∷◌, ◌++◌, Some, IfOk, IfSome};
-ghost use Rattle.std.specs.Prelude.{take};
+ghost use Rattle.std.specs.Prelude.{is_some, take};
 ghost use Rattle.std.specs.Option.{option_map};
 ghost use Rattle.sf_value.specs.Ascii.{percent as percent_sign};
 ghost use Rattle.sf_value.specs.Grammar.Utf8.{Utf8, wants, rows, look_up, utf8_step};
-ghost use Rattle.sf_parse.specs.Expected.{Marks};
 ghost use Rattle.sf_parse.specs.Prefixes.{Went};
 ghost use Rattle.sf_parse.specs.Views.{utf8_of, shown_of, Leads, FitsShown, IsDigitPhase};
 ghost use Rattle.sf_parse.specs.Machine.Language.{Steps, run};
 ghost use Rattle.sf_parse.specs.Machine.Showns.{Unencoded, pushed};
 ghost use Rattle.sf_parse.specs.Machine.Showns.{can_begin as can_begin_at, shown_step};
-ghost use Rattle.sf_parse.specs.Machine.Showns.{GoodUtf8};
-ghost use Rattle.sf_parse.specs.Machine.Tests.{shown_takes, shown_ends};
-ghost use Rattle.sf_parse.specs.Expected.{digit_takes};
+ghost use Rattle.sf_parse.specs.Machine.Showns.{GoodUtf8, shown_finish};
+ghost use Rattle.sf_parse.specs.Expected.{MarksStep, digit_step};
 
 use crate::sets::{FIRST_DIGITS, PERCENT, QUOTE, VISIBLE};
 use sf_value::classes::{UnencodedByte, long_prefix};
@@ -194,8 +192,8 @@ impl ShownPlace {
         // The first digit of an escape that is open is below 16.
         requires { IsDigitPhase self.phase }
         // It can if and only if the machine can, whatever was read before.
-        ensures { (bytes : List ℕ) → result ≡ digit_takes (shown_of self.phase bytes self.chars)
-            byte }
+        ensures { (bytes : List ℕ) → result ≡ is_some (digit_step
+            (shown_of self.phase bytes self.chars) byte) }
     {
         let Some(digit) = unhex(byte) else {
             return false;
@@ -212,7 +210,7 @@ impl ShownPlace {
         // The first digit of an escape that is open is below 16.
         requires { IsDigitPhase self.phase }
         // The bits are those of the digits that may come, whatever was read before.
-        ensures { (bytes : List ℕ) → Marks result (digit_takes (shown_of self.phase bytes
+        ensures { (bytes : List ℕ) → MarksStep result (digit_step (shown_of self.phase bytes
             self.chars)) }
     {
         let mut expected = 0;
@@ -236,7 +234,7 @@ impl ShownPlace {
         // The next byte of a character that is open is from 0x80 to 0xbf.
         requires good { GoodUtf8 (utf8_of self.chars) }
         // The bits are those of the bytes that may come, whatever was read before.
-        ensures { (bytes : List ℕ) → Marks result (shown_takes (shown_of self.phase bytes
+        ensures { (bytes : List ℕ) → MarksStep result (shown_step (shown_of self.phase bytes
             self.chars)) }
     {
         match (self.phase, self.chars) {
@@ -253,7 +251,8 @@ impl ShownPlace {
     /// Whether the display string is closed.
     pub fn may_end(self) -> bool
         // The display string may end exactly then, whatever was read before.
-        ensures { (bytes : List ℕ) → result ≡ shown_ends (shown_of self.phase bytes self.chars) }
+        ensures { (bytes : List ℕ) → result ≡ is_some (shown_finish
+            (shown_of self.phase bytes self.chars)) }
     {
         matches!(self.phase, ShownPhase::Done)
     }

@@ -1,13 +1,12 @@
 //! A member of a Dictionary that is being read (RFC 9651 section 4.2.2).
-ghost use Rattle.std.specs.Prelude.{◌≡◌, [], ◌∷◌, false, IfOk};
+ghost use Rattle.std.specs.Prelude.{◌≡◌, is_some, [], ◌∷◌, false, IfOk};
 ghost use Rattle.sf_value.specs.Ascii.{asterisk};
 ghost use Rattle.sf_value.specs.Grammar.Fields.{flag as flag_member};
 ghost use Rattle.sf_parse.specs.Prefixes.{Starts};
 ghost use Rattle.sf_parse.specs.EntryView.{entry_stuck};
 ghost use Rattle.sf_parse.specs.MemberEnds.{with_entry};
 ghost use Rattle.sf_parse.specs.SeriesView.{Ends};
-ghost use Rattle.sf_parse.specs.Machine.Entries.{entry_start, entry_step};
-ghost use Rattle.sf_parse.specs.Machine.Tests.{entry_takes, entry_ends};
+ghost use Rattle.sf_parse.specs.Machine.Entries.{entry_start, entry_step, entry_finish};
 
 use crate::context::Context;
 use crate::level::Level;
@@ -121,9 +120,7 @@ impl Level for EntryReader {
 
     ghost stuck = { entry_stuck };
 
-    ghost takes = { entry_takes };
-
-    ghost ends = { entry_ends };
+    ghost ends = { λ s. is_some (entry_finish s) };
 
     ghost allocation_free = { λ d s more. ⊥ };
 

@@ -10,10 +10,11 @@ ghost use Rattle.sf_parse.specs.Parsers.{Parses, Makes};
 ghost use Rattle.sf_parse.specs.AllocationFree.{TakesNoMemory, FieldFree};
 ghost use Rattle.sf_parse.specs.AllocationFreeParsers.{IsOther};
 ghost use Rattle.sf_parse.specs.FieldSteps.{top_steps, list_steps, dict_steps};
+ghost use Rattle.sf_parse.specs.FieldSteps.{list_ends, dict_ends};
 ghost use Rattle.sf_parse.specs.Machine.States.{State, InList, InDict};
 ghost use Rattle.sf_parse.specs.Machine.Fields.{begin as begin_at, step as step_of};
 ghost use Rattle.sf_parse.specs.Machine.Fields.{finish as finish_of};
-ghost use Rattle.sf_parse.specs.Machine.Tests.{takes as takes_at, may_end as may_end_at};
+ghost use Rattle.sf_parse.specs.Machine.Tests.{may_end as may_end_at};
 
 use crate::context::Context;
 use crate::entry::EntryReader;
@@ -56,11 +57,9 @@ pub trait WholeField: Level + Drop {
         // If the state is allocation-free, the call does not fail.
         ensures allocation_free { FieldFree (state self.old) [] → IsOk result };
 
-    // The machine of fields takes the same steps as the level, and its tests are the same.
+    // The machine of fields takes the same steps as the level, and may end exactly if it may.
     ghost steps: { (d : Dialect) (s : Self) (b : ℕ)
         → step_of d (state s) b ≡ option_map state (Self.next d s b) };
-
-    ghost takes_too: { (d : Dialect) (s : Self) → Self.takes d s ≡ takes_at d (state s) };
 
     ghost ends_too: { (s : Self) → Self.ends s ≡ may_end_at (state s) };
 
@@ -79,8 +78,6 @@ impl WholeField for TopReader {
     ghost state = { λ s. s };
 
     ghost steps = { top_steps };
-
-    ghost takes_too = { λ d s. refl };
 
     ghost ends_too = { λ s. refl };
 
@@ -106,9 +103,7 @@ impl WholeField for ListReader {
 
     ghost steps = { list_steps };
 
-    ghost takes_too = { λ d s. refl };
-
-    ghost ends_too = { λ s. refl };
+    ghost ends_too = { list_ends };
 
     ghost free_too = { λ d s more h. h };
 
@@ -135,9 +130,7 @@ impl WholeField for DictReader {
 
     ghost steps = { dict_steps };
 
-    ghost takes_too = { λ d s. refl };
-
-    ghost ends_too = { λ s. refl };
+    ghost ends_too = { dict_ends };
 
     ghost free_too = { λ d s more h. h };
 

@@ -1,6 +1,7 @@
 //! An Item that is being read (RFC 9651 section 4.2.3).
 ghost use Rattle.std.specs.Option.{option_map};
 ghost use Rattle.std.specs.Prelude.{◌≡◌, ℕ, List as Seq, [], true, false, IfOk, IfNone, IsOk};
+ghost use Rattle.std.specs.Prelude.{is_some};
 ghost use Rattle.sf_value.specs.declared.value.Bare.{Bare};
 ghost use Rattle.sf_value.specs.declared.value.Bare.TheVariants as bare_is;
 ghost use Rattle.sf_parse.specs.AllocationFree.{ItemFree};
@@ -10,7 +11,6 @@ ghost use Rattle.sf_parse.specs.ItemView.{item_stuck};
 ghost use Rattle.sf_parse.specs.SeriesView.{Ends};
 ghost use Rattle.sf_parse.specs.Machine.Params.{ParamsState, Between, Opened, params_finish};
 ghost use Rattle.sf_parse.specs.Machine.Items.{InParams, item_start, item_step, item_finish};
-ghost use Rattle.sf_parse.specs.Machine.Tests.{item_takes, item_ends};
 
 use crate::bare::BareReader;
 use crate::context::Context;
@@ -150,9 +150,7 @@ impl Level for ItemReader {
 
     ghost stuck = { item_stuck };
 
-    ghost takes = { item_takes };
-
-    ghost ends = { item_ends };
+    ghost ends = { λ s. is_some (item_finish s) };
 
     ghost allocation_free = { λ d s more. ItemFree s more };
 

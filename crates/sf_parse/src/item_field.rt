@@ -7,7 +7,7 @@ ghost use Rattle.sf_parse.specs.AllocationFree.{FieldFree};
 ghost use Rattle.sf_parse.specs.StaysFree.{field_keeps};
 ghost use Rattle.sf_parse.specs.Machine.States.{BeforeItem};
 ghost use Rattle.sf_parse.specs.Machine.Fields.{step as step_of, finish as finish_of};
-ghost use Rattle.sf_parse.specs.Machine.Tests.{takes as takes_at, may_end as may_end_at};
+ghost use Rattle.sf_parse.specs.Machine.Tests.{may_end as may_end_at};
 
 use crate::bare::BareReader;
 use crate::context::Context;
@@ -88,8 +88,6 @@ impl Level for TopReader {
     ghost next = { step_of };
 
     ghost stuck = { top_stuck };
-
-    ghost takes = { takes_at };
 
     ghost ends = { may_end_at };
 

@@ -8,8 +8,7 @@ ghost use Rattle.sf_parse.specs.Reached.{ReachedEnd, ReachedStops, ReachedAll};
 ghost use Rattle.sf_parse.specs.ByteSets.{RunsAreTheSet, RunsAreWhole};
 ghost use Rattle.sf_parse.specs.Names.{NamesAreTheSet};
 ghost use Rattle.sf_parse.specs.Spots.{PlacesAreSpots};
-ghost use Rattle.sf_parse.specs.StateTests.{TakesStep, MayEnd, TakesNext, EndsText, NextBelow};
-ghost use Rattle.sf_parse.specs.StateTests.{SomeNext};
+ghost use Rattle.sf_parse.specs.StateTests.{TakesNext, EndsText, NextBelow, SomeNext};
 
 /// A text spells at most one value of a kind. Valid values with equal canonical texts are equal.
 /// Accepted lines spell one value, and their canonical text as the only line is accepted as that
@@ -54,11 +53,9 @@ pub fn what_was_taken()
     ensures all { ReachedAll }
 {}
 
-/// The tests on a state decide which bytes may come next and whether the text may end; those bytes
-/// are below 128, and there is always one.
+/// A state decides which bytes may come next and whether the text may end; those bytes are below
+/// 128, and there is always one.
 pub fn what_may_follow()
-    ensures step { TakesStep }
-    ensures finish { MayEnd }
     ensures next { TakesNext }
     ensures end { EndsText }
     ensures below { NextBelow }

@@ -1,7 +1,7 @@
 //! What every level of the grammar has in common: it takes the longest prefix of a chunk.
-ghost use Rattle.std.specs.Prelude.{◌≡◌, ℕ, Bool, List, [], ◌∷◌, Option, Some, IfOk, IsOk};
+ghost use Rattle.std.specs.Prelude.{◌≡◌, ℕ, Bool, List, [], ◌∷◌, Option, Some, is_some, IfOk, IsOk};
 ghost use Rattle.sf_value.specs.declared.dialect.Dialect.{Dialect};
-ghost use Rattle.sf_parse.specs.Expected.{Marks};
+ghost use Rattle.sf_parse.specs.Expected.{MarksStep};
 ghost use Rattle.sf_parse.specs.Prefixes.{Went, FirstIs, LongestPrefix, unless};
 ghost use Rattle.sf_parse.specs.Machine.Language.{Steps};
 ghost use Rattle.sf_parse.specs.Parsers.{Refuses};
@@ -18,9 +18,7 @@ pub trait Level {
     // The part that is open can't continue with this byte.
     ghost stuck: { Dialect → Self → ℕ → Type 0 };
 
-    // Whether it can continue with a byte, and whether it may end.
-    ghost takes: { Dialect → Self → ℕ → Bool };
-
+    // Whether it may end.
     ghost ends: { Self → Bool };
 
     // The states and further bytes that are allocation-free.
@@ -63,7 +61,7 @@ pub trait Level {
 
     /// The bytes below 128 that the level can continue with, a bit for each.
     fn expected(&self, dialect: Dialect) -> u128
-        ensures { Marks result (takes dialect self.now) };
+        ensures { MarksStep result (next dialect self.now) };
 
     /// Whether the level may end here.
     fn may_end(&self) -> bool
@@ -76,7 +74,8 @@ pub trait Level {
     /// The refusal of the byte that was found at this place, or of the end if none was.
     final fn refuse(&self, dialect: Dialect, place: u64, found: Option<u8>) -> Refusal
         // It names the bytes that the level can continue with, and whether it may end.
-        ensures { Refuses (takes dialect self.now) (ends self.now) place found result }
+        ensures { Refuses (λ b. is_some (next dialect self.now b)) (ends self.now) place found
+            result }
     {
         Refusal::Syntax {
             place,

@@ -1,8 +1,8 @@
 //! A member of a List that is being read: an Item or an Inner List (RFC 9651 sections 4.2.1.1 and
 //! 4.2.1.2).
-ghost use Rattle.std.specs.Prelude.{◌≡◌, [], true, false, IfOk, IfNone};
+ghost use Rattle.std.specs.Prelude.{◌≡◌, is_some, [], true, false, IfOk, IfNone};
 ghost use Rattle.sf_value.specs.declared.value.Bare.TheVariants as bare_is;
-ghost use Rattle.sf_parse.specs.Expected.{Marks};
+ghost use Rattle.sf_parse.specs.Expected.{MarksStep};
 ghost use Rattle.sf_parse.specs.Prefixes.{Starts};
 ghost use Rattle.sf_parse.specs.MemberView.{member_stuck};
 ghost use Rattle.sf_parse.specs.Machine.Params.{Opened};
@@ -12,7 +12,6 @@ ghost use Rattle.sf_parse.specs.MemberEnds.{with_member};
 ghost use Rattle.sf_parse.specs.Machine.Inners.{InnerState, inner_finish};
 ghost use Rattle.sf_parse.specs.Machine.Members.{InOne, InMany, member_start, member_step};
 ghost use Rattle.sf_parse.specs.Machine.Members.{member_finish};
-ghost use Rattle.sf_parse.specs.Machine.Tests.{member_begins, member_takes, member_ends};
 
 use crate::bare::BareReader;
 use crate::context::Context;
@@ -105,7 +104,7 @@ impl MemberReader {
 
     /// The bytes that a member may begin with.
     pub fn first_bytes(dialect: Dialect) -> u128
-        ensures { Marks result (member_begins dialect) }
+        ensures { MarksStep result (member_start dialect) }
     {
         BareReader::first_bytes(dialect) | OPEN
     }
@@ -205,9 +204,7 @@ impl Level for MemberReader {
 
     ghost stuck = { member_stuck };
 
-    ghost takes = { member_takes };
-
-    ghost ends = { member_ends };
+    ghost ends = { λ s. is_some (member_finish s) };
 
     ghost allocation_free = { λ d s more. ⊥ };
 

@@ -1,11 +1,10 @@
 //! A number that is being read (RFC 9651 section 4.2.4).
-ghost use Rattle.std.specs.Prelude.{◌≡◌, ◌≤◌, ◌<◌, ◌^◌, false, nat_abs};
+ghost use Rattle.std.specs.Prelude.{◌≡◌, is_some, ◌≤◌, ◌<◌, ◌^◌, false, nat_abs};
 ghost use Rattle.sf_value.specs.Grammar.Numbers.{signed};
-ghost use Rattle.sf_parse.specs.Expected.{Marks};
+ghost use Rattle.sf_parse.specs.Expected.{MarksStep};
 ghost use Rattle.sf_parse.specs.Prefixes.{Went, FirstIs, Halts, Starts};
 ghost use Rattle.sf_parse.specs.Machine.Language.{Steps};
 ghost use Rattle.sf_parse.specs.Machine.Numbers.{number_start, number_step, number_finish};
-ghost use Rattle.sf_parse.specs.Machine.Tests.{number_takes, number_ends};
 
 use crate::sets::{DIGITS, POINT, set_if};
 use sf_value::{Bare, Int, Thousandths};
@@ -139,7 +138,7 @@ impl NumberReader {
     /// The bytes that the number can continue with.
     pub fn expected(&self) -> u128
         // The bits are those of the bytes that may come.
-        ensures { Marks result (number_takes self.now) }
+        ensures { MarksStep result (number_step self.now) }
     {
         match self.whole {
             None => {
@@ -152,7 +151,7 @@ impl NumberReader {
 
     /// Whether it is a number already.
     pub fn may_end(&self) -> bool
-        ensures { result ≡ number_ends self.now }
+        ensures { result ≡ is_some (number_finish self.now) }
     {
         self.digits >= 1
     }

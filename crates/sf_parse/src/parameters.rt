@@ -1,9 +1,8 @@
 //! Parameters that are being read (RFC 9651 section 4.2.3.2).
-ghost use Rattle.std.specs.Prelude.{◌≡◌, [], IfOk, IfNone, OnOk};
+ghost use Rattle.std.specs.Prelude.{◌≡◌, is_some, [], IfOk, IfNone, OnOk};
 ghost use Rattle.sf_value.specs.Grammar.Pairs.{put as put_pair};
 ghost use Rattle.sf_value.specs.Grammar.Tokens.{IsKey};
 ghost use Rattle.sf_parse.specs.Machine.Params.{Between, Opened, params_step, params_finish};
-ghost use Rattle.sf_parse.specs.Machine.Tests.{params_takes, params_ends};
 ghost use Rattle.sf_parse.specs.ParamsView.{params_stuck};
 
 use crate::bare::BareReader;
@@ -117,9 +116,7 @@ impl Level for ParamsReader {
 
     ghost stuck = { λ d s b. params_stuck s b };
 
-    ghost takes = { params_takes };
-
-    ghost ends = { params_ends };
+    ghost ends = { λ s. is_some (params_finish s) };
 
     ghost allocation_free = { λ d s more. ⊥ };
 

@@ -1,14 +1,13 @@
 //! Members with commas between them that are being read: the members of a List or a Dictionary (RFC
 //! 9651 sections 4.2.1 and 4.2.2).
-ghost use Rattle.std.specs.Prelude.{◌≡◌, ℕ, Bool, [], false, Option, IfOk, IsOk};
+ghost use Rattle.std.specs.Prelude.{◌≡◌, is_some, ℕ, [], false, Option, IfOk, IsOk};
 ghost use Rattle.sf_value.specs.declared.dialect.Dialect.{Dialect};
-ghost use Rattle.sf_parse.specs.Expected.{Marks};
+ghost use Rattle.sf_parse.specs.Expected.{MarksStep};
 ghost use Rattle.sf_parse.specs.Prefixes.{Starts};
 ghost use Rattle.sf_parse.specs.SeriesView.{series_next, series_end, series_stuck, Ends};
 ghost use Rattle.sf_parse.specs.Machine.Series.{Begin};
 ghost use Rattle.sf_parse.specs.AllocationFree.{SeriesFree};
 ghost use Rattle.sf_parse.specs.StaysFree.{series_keeps};
-ghost use Rattle.sf_parse.specs.Machine.Tests.{series_takes, series_ends};
 
 use crate::context::Context;
 use crate::level::Level;
@@ -20,9 +19,7 @@ use std::mem;
 
 /// A member between commas; complete ones are added to a `G`.
 pub trait SeriesMember<G>: Level {
-    // Whether a member may begin with a byte, and the state after it.
-    ghost begins: { Dialect → ℕ → Bool };
-
+    // The state after the first byte of a member.
     ghost first: { Dialect → ℕ → Option Self };
 
     // The value without members.
@@ -37,7 +34,7 @@ pub trait SeriesMember<G>: Level {
 
     /// The bytes below 128 that a member may begin with, a bit for each.
     fn first_bytes(dialect: Dialect) -> u128
-        ensures { Marks result (begins dialect) };
+        ensures { MarksStep result (first dialect) };
 
     /// Begins a member with this byte, or reports that none begins with it.
     fn start(&mut self, context: &Context, byte: u8) -> Result<bool, OutOfMemory>
@@ -51,6 +48,9 @@ pub trait SeriesMember<G>: Level {
             given.new) }
         // If nothing was added, the reader is unchanged.
         ensures kept { IfOk result (λ ended. ended ≡ false → self.new ≡ self.old) };
+
+    // A member is added exactly if it may end.
+    ghost adds: { (s : Self) (given : G) → is_some (added s given) ≡ Self.Level.ends s };
 }
 
 /// The part of members with commas that is being read.
@@ -125,9 +125,7 @@ impl<P: SeriesMember<G>, G: Drop> Level for SeriesReader<P, G> {
 
     ghost stuck = { λ d. series_stuck (P.next d) };
 
-    ghost takes = { λ d. series_takes (P.begins d) (P.takes d) P.ends };
-
-    ghost ends = { λ s. series_ends P.ends s };
+    ghost ends = { λ s. is_some (series_end P.added P.none s) };
 
     ghost allocation_free = { λ d s more. SeriesFree s more };
 

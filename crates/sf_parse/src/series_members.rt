@@ -1,10 +1,8 @@
 //! The members of a List and of a Dictionary (RFC 9651 sections 4.2.1 and 4.2.2).
 ghost use Rattle.std.specs.Prelude.{[]};
-ghost use Rattle.sf_parse.specs.Machine.Tests.{member_begins};
-ghost use Rattle.sf_parse.specs.Machine.Members.{member_start};
-ghost use Rattle.sf_parse.specs.Machine.Entries.{entry_start};
-ghost use Rattle.sf_parse.specs.MemberEnds.{with_member, with_entry};
-ghost use Rattle.sf_value.specs.Grammar.Classes.{is_key_start};
+ghost use Rattle.sf_parse.specs.Machine.Members.{member_start, member_finish};
+ghost use Rattle.sf_parse.specs.Machine.Entries.{entry_start, entry_finish};
+ghost use Rattle.sf_parse.specs.MemberEnds.{with_member, with_entry, some_map};
 
 use crate::context::Context;
 use crate::entry::EntryReader;
@@ -15,13 +13,13 @@ use crate::sets::KEY_START;
 use sf_value::{Dialect, Entries, Member, OutOfMemory, Sequence};
 
 impl SeriesMember<Sequence<Member>> for MemberReader {
-    ghost begins = { member_begins };
-
     ghost first = { member_start };
 
     ghost none = { [] };
 
     ghost added = { with_member };
+
+    ghost adds = { λ s given. some_map _ (member_finish s) };
 
     fn none(context: &Context) -> Sequence<Member> {
         Sequence::new(context.alloc)
@@ -45,13 +43,13 @@ impl SeriesMember<Sequence<Member>> for MemberReader {
 }
 
 impl SeriesMember<Entries<Member>> for EntryReader {
-    ghost begins = { λ d. is_key_start };
-
     ghost first = { λ d. entry_start };
 
     ghost none = { [] };
 
     ghost added = { with_entry };
+
+    ghost adds = { λ s given. some_map _ (entry_finish s) };
 
     fn none(context: &Context) -> Entries<Member> {
         Entries::new(context.alloc, &context.seed)

@@ -1,14 +1,13 @@
 //! A String that is being read (RFC 9651 section 4.2.5).
-ghost use Rattle.std.specs.Prelude.{◌≡◌, ℕ, List, [], ◌∷◌, ◌++◌, IfOk, IsOk};
+ghost use Rattle.std.specs.Prelude.{◌≡◌, is_some, ℕ, List, [], ◌∷◌, ◌++◌, IfOk, IsOk};
 ghost use Rattle.sf_value.specs.Grammar.Words.{Every};
 ghost use Rattle.sf_value.specs.InPlace.{FitsInPlace};
 ghost use Rattle.sf_value.specs.Grammar.Classes.{is_visible as is_visible_byte};
-ghost use Rattle.sf_parse.specs.Expected.{Marks};
+ghost use Rattle.sf_parse.specs.Expected.{MarksStep};
 ghost use Rattle.sf_parse.specs.Prefixes.{Went};
 ghost use Rattle.sf_parse.specs.Views.{text_of};
 ghost use Rattle.sf_parse.specs.Machine.Language.{Steps};
-ghost use Rattle.sf_parse.specs.Machine.Texts.{text_step};
-ghost use Rattle.sf_parse.specs.Machine.Tests.{text_takes, text_ends};
+ghost use Rattle.sf_parse.specs.Machine.Texts.{text_step, text_finish};
 
 use crate::sets::{ESCAPED, VISIBLE};
 use sf_value::classes::{Unescaped, long_prefix};
@@ -93,7 +92,7 @@ impl TextPhase {
     /// The bytes that the string can continue with.
     pub fn expected(self) -> u128
         // The bits are those of the bytes that may come, whatever was read before.
-        ensures { (bytes : List ℕ) → Marks result (text_takes (text_of self bytes)) }
+        ensures { (bytes : List ℕ) → MarksStep result (text_step (text_of self bytes)) }
     {
         match self {
             TextPhase::Inside => return VISIBLE,
@@ -105,7 +104,7 @@ impl TextPhase {
     /// Whether the string is closed.
     pub fn may_end(self) -> bool
         // The string may end exactly then, whatever was read before.
-        ensures { (bytes : List ℕ) → result ≡ text_ends (text_of self bytes) }
+        ensures { (bytes : List ℕ) → result ≡ is_some (text_finish (text_of self bytes)) }
     {
         matches!(self, TextPhase::Closed)
     }

@@ -3,7 +3,7 @@ use Rattle.std.proofs.Common.{sym, ap, ◌∙◌, subst}
 use Rattle.sf_parse.specs.AllocationFree.{FieldFree}
 use Rattle.sf_parse.specs.Machine.Fields.{step}
 use Rattle.sf_parse.proofs.Prefixes.{prefix_above, never}
-use Rattle.sf_parse.proofs.FedChunks.{refuses_other, refuses_too}
+use Rattle.sf_parse.proofs.FedChunks.{refuses_other, refuses_above}
 use Rattle.sf_parse.proofs.WholeTexts.{whole_refused, whole_value, whole_free, begins_free}
 use Rattle.sf_parse.proofs.field.read_whole.Goals as goal
 
@@ -15,7 +15,8 @@ returns-then-is_some-clause-parses g c =
     c.in_ok-rest.ensures.prefix in
     whole_refused d _ _ _ _ _ _ _ _ c.requires prefix
     (c.copied-found.ensures ∙ c.first.ensures.value) (c.may_end-may_end.ensures ∙ law.ends_too _)
-    (refuses_too _ _ _ _ _ _ _ (law.takes_too d _) (law.ends_too _) c.refuse.ensures)
+    (refuses_above (g.W.Level.next d) (step d) g.W.WholeField.state (law.steps d) _ _ _ _ _ _
+    (law.ends_too _) c.refuse.ensures)
     (rw c.is_some.ensures at c.then-is_some.either)
 
 pub returns-then-is_some-clause-allocation_free : goal.returns-then-is_some-clause-allocation_free

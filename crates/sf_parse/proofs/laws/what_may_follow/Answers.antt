@@ -1,12 +1,6 @@
 use Rattle.sf_parse.proofs.laws.what_may_follow.Goals as goal
-use Rattle.sf_parse.proofs.StateTests.{takes_step, may_end_is, takes_next, ends_text}
+use Rattle.sf_parse.proofs.StateTests.{takes_next, ends_text}
 use Rattle.sf_parse.proofs.Below.{next_below, some_next}
-
-pub returns-clause-step : goal.returns-clause-step
-returns-clause-step c = takes_step
-
-pub returns-clause-finish : goal.returns-clause-finish
-returns-clause-finish c = may_end_is
 
 pub returns-clause-next : goal.returns-clause-next
 returns-clause-next c = takes_next

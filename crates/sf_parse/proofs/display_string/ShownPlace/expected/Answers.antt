@@ -1,19 +1,18 @@
 use Rattle.std.proofs.Common.{refl}
 use Rattle.sf_value.specs.Grammar.Utf8.{Start}
-use Rattle.sf_parse.specs.Machine.Showns.{Quote, Unencoded, Percent}
-use Rattle.sf_parse.specs.Machine.Tests.{shown_takes}
-use Rattle.sf_parse.proofs.Marks.{marks_table}
+use Rattle.sf_parse.specs.Machine.Showns.{Quote, Unencoded, Percent, Done, shown_step}
+use Rattle.sf_parse.proofs.Marks.{marks_steps}
 use Rattle.sf_parse.proofs.LevelMarks.{marks_wants}
 use Rattle.sf_parse.proofs.display_string.ShownPlace.expected.Goals as goal
 
 pub returns-in-Quote-default : goal.returns-in-Quote-default
 returns-in-Quote-default c =
-    rw c.in-Quote-default.is-0 (λ bytes. marks_table _ (shown_takes Quote) refl)
+    rw c.in-Quote-default.is-0 (λ bytes. marks_steps _ (shown_step Quote) refl)
 
 pub returns-in-Unencoded-Start : goal.returns-in-Unencoded-Start
 returns-in-Unencoded-Start c =
     rw (c.in-Unencoded-Start.is-0, c.in-Unencoded-Start.is-1)
-    (λ bytes. marks_table _ (shown_takes (Unencoded bytes Start)) refl)
+    (λ bytes. marks_steps _ (shown_step (Unencoded bytes Start)) refl)
 
 pub returns-in-Unencoded-Wants : goal.returns-in-Unencoded-Wants
 returns-in-Unencoded-Wants c =
@@ -24,7 +23,7 @@ returns-in-Unencoded-Wants c =
 pub returns-in-Percent-Start : goal.returns-in-Percent-Start
 returns-in-Percent-Start c =
     rw (c.in-Percent-Start.is-0, c.in-Percent-Start.is-1)
-    (λ bytes. marks_table _ (shown_takes (Percent bytes Start)) refl)
+    (λ bytes. marks_steps _ (shown_step (Percent bytes Start)) refl)
 
 pub returns-in-Percent-Wants : goal.returns-in-Percent-Wants
 returns-in-Percent-Wants c =
@@ -35,3 +34,7 @@ pub returns-in-Hex-default : goal.returns-in-Hex-default
 returns-in-Hex-default c =
     let digits = rw c.in-Hex-default.is-0 at c.expected_digits-in-Hex-default.ensures in
     rw c.in-Hex-default.is-0 (λ bytes. digits bytes)
+
+pub returns-in-Done-default : goal.returns-in-Done-default
+returns-in-Done-default c =
+    rw c.in-Done-default.is-0 (λ bytes. marks_steps _ (shown_step (Done bytes)) refl)

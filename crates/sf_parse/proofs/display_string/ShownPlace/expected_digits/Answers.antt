@@ -1,5 +1,5 @@
-use Rattle.std.proofs.Common.{sym, ◌∙◌, arith}
-use Rattle.sf_parse.specs.Expected.{digit_takes}
+use Rattle.std.proofs.Common.{is_some, sym, ◌∙◌, arith}
+use Rattle.sf_parse.specs.Expected.{digit_step}
 use Rattle.sf_parse.specs.Views.{shown_of}
 use Rattle.sf_parse.proofs.Marks.{mark_set, mark_clear}
 use Rattle.sf_parse.proofs.display_string.ShownPlace.expected_digits.Goals.{then-takes_digit}
@@ -15,11 +15,12 @@ loop-byte-preserved c =
     elim c.if-takes_digit.branch [
       | then-takes_digit w ↦ rw w.expected-is
           (λ bytes. mark_set loop.expected loop.byte
-          (digit_takes (shown_of place.phase bytes place.chars)) (omega arith)
+          (λ b. is_some (digit_step (shown_of place.phase bytes place.chars) b)) (omega arith)
           (loop.invariant bytes) (sym (c.takes_digit.ensures bytes) ∙ w.if-takes_digit.true))
       | else-takes_digit w ↦ rw w.expected-is
           (λ bytes. mark_clear loop.expected loop.byte
-          (digit_takes (shown_of place.phase bytes place.chars)) (loop.invariant bytes)
+          (λ b. is_some (digit_step (shown_of place.phase bytes place.chars) b))
+          (loop.invariant bytes)
           (sym (c.takes_digit.ensures bytes) ∙ w.if-takes_digit.false))
     ]
 
@@ -30,11 +31,12 @@ loop-byte-2-preserved c =
     elim c.if-takes_digit-2.branch [
       | then-takes_digit-2 w ↦ rw w.expected-is
           (λ bytes. mark_set loop.expected loop.byte
-          (digit_takes (shown_of place.phase bytes place.chars)) (omega arith)
+          (λ b. is_some (digit_step (shown_of place.phase bytes place.chars) b)) (omega arith)
           (loop.invariant bytes)
           (sym (c.takes_digit-in-loop-byte-2.ensures bytes) ∙ w.if-takes_digit-2.true))
       | else-takes_digit-2 w ↦ rw w.expected-is
           (λ bytes. mark_clear loop.expected loop.byte
-          (digit_takes (shown_of place.phase bytes place.chars)) (loop.invariant bytes)
+          (λ b. is_some (digit_step (shown_of place.phase bytes place.chars) b))
+          (loop.invariant bytes)
           (sym (c.takes_digit-in-loop-byte-2.ensures bytes) ∙ w.if-takes_digit-2.false))
     ]

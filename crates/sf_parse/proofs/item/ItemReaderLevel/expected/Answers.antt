@@ -1,6 +1,9 @@
-use Rattle.std.proofs.Common.{refl, ◌&&◌, ◌==◌}
-use Rattle.sf_parse.specs.Machine.Tests.{bare_takes, bare_ends}
-use Rattle.sf_parse.proofs.Marks.{marks_or, marks_if, marks_table}
+use Rattle.std.proofs.Common.{refl, []}
+use Rattle.std.specs.Option.{option_map}
+use Rattle.sf_parse.specs.Machine.Bares.{bare_step, bare_finish}
+use Rattle.sf_parse.specs.Machine.Params.{between_step}
+use Rattle.sf_parse.specs.Machine.Items.{InBare, InParams}
+use Rattle.sf_parse.proofs.Marks.{marks_onward, marks_steps}
 use Rattle.sf_parse.proofs.LevelMarks.{marks_params}
 use Rattle.sf_parse.proofs.item.ItemReaderLevel.expected.Goals as goal
 
@@ -14,5 +17,6 @@ pub returns : goal.returns
 returns c =
     let bare = c.self.inside.bare in
     rw (← c.self.view_is, c.if-self.false, c.set_if.ensures, c.may_end.ensures)
-    (marks_or _ _ (bare_takes bare) (λ b. bare_ends bare && b == 59) c.expected-2.ensures
-    (marks_if _ _ (λ b. b == 59) (marks_table _ (λ b. b == 59) refl)))
+    (marks_onward InBare _ _ (bare_step bare) (bare_finish bare)
+    (λ x b. option_map (InParams x) (between_step [] b)) c.expected-2.ensures
+    (λ x. marks_steps _ (λ b. option_map (InParams x) (between_step [] b)) refl))

@@ -1,6 +1,6 @@
 use Rattle.std.proofs.Common.{refl, nat_lt, nat_le, ◌&&◌, ◌==◌, ◌^◌}
 use Rattle.sf_value.specs.Grammar.Classes.{is_digit}
-use Rattle.sf_parse.proofs.Marks.{marks_or, marks_where, marks_both, marks_table}
+use Rattle.sf_parse.proofs.Marks.{marks_either, marks_allow, marks_where, marks_both, marks_table}
 use Rattle.sf_parse.proofs.number.NumberReader.expected.Goals as goal
 
 pub returns-in-None : goal.returns-in-None
@@ -13,12 +13,14 @@ returns-in-None c =
       c.set_if-point.ensures,
       c.set_if.ensures,
     )
-    (marks_or _ _ (λ b. is_digit b && nat_lt n 15) (λ b. b == 46 && (nat_le 1 n && nat_le n 12))
-    (marks_where _ _ is_digit (marks_table _ is_digit refl))
+    (marks_either _ _ _ _
+    (marks_allow _ (λ b. is_digit b && nat_lt n 15) _
+    (marks_where _ _ is_digit (marks_table _ is_digit refl)))
+    (marks_allow _ (λ b. b == 46 && (nat_le 1 n && nat_le n 12)) _
     (marks_both (nat_le 1 n) (nat_le n 12) (2 ^ 46) (λ b. b == 46)
-    (marks_table (2 ^ 46) (λ b. b == 46) refl)))
+    (marks_table (2 ^ 46) (λ b. b == 46) refl))))
 
 pub returns-in-Some : goal.returns-in-Some
 returns-in-Some c =
     rw (← c.self.view_is, c.in-Some.is, c.set_if-in-Some.ensures)
-    (marks_where _ _ is_digit (marks_table _ is_digit refl))
+    (marks_allow _ _ _ (marks_where _ _ is_digit (marks_table _ is_digit refl)))
