@@ -18,7 +18,7 @@ use Rattle.sf_view.specs.View.{DescribesText, DescribesBare, DescribesParams, De
 use Rattle.sf_view.specs.View.{DescribesItems, DescribesOpening, DescribesInner, DescribesMember}
 use Rattle.sf_view.specs.View.{DescribesMembers, DescribesEntries, DescribesField}
 use Rattle.sf_c.specs.Decodings.{Means, EachMeans}
-use Rattle.sf_c.proofs.Slices.{slice_at-append}
+use Rattle.sf_nodes.proofs.Slices.{slice_at-append}
 
 -- a node describes the same with more bytes after its source
 pub bare_stays : (d : Dialect) (source more : List ℕ) (r : Role) (k : List ℕ) (size : ℕ) (n : Node)

@@ -18,7 +18,7 @@ use Rattle.sf_view.specs.View.{slice_at, type_of, text_of, DescribesText}
 use Rattle.sf_view.specs.Decoding.{HasBytes}
 use Rattle.sf_c.specs.Decodings.{EachMeans, IsPlain, AreDecoded, IsNodeDecoded, HasCoded}
 use Rattle.sf_c.specs.Decodings.{decoded_to}
-use Rattle.sf_c.proofs.Slices.{slice_at-append, slice_at_behind}
+use Rattle.sf_nodes.proofs.Slices.{slice_at-append, slice_at_behind}
 use Rattle.sf_c.proofs.Carrying.{means_stays, each_more, each_push}
 
 -- a node that is not coded stays

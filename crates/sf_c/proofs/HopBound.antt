@@ -34,8 +34,8 @@ use Rattle.sf_use.specs.CacheStatus.Hops.{hop_named, hops, member_hop, outcome_b
 use Rattle.sf_use.specs.CacheStatus.Hops.{passed_by_token, unless}
 use Rattle.sf_use.specs.CacheStatus.Members.{passed_by}
 use Rattle.sf_view.specs.View.{text_of}
-use Rattle.sf_c.specs.NodeCounts.{member_nodes, members_nodes, field_nodes, params_bytes}
-use Rattle.sf_c.specs.NodeCounts.{member_bytes, members_bytes, field_bytes}
+use Rattle.sf_nodes.specs.NodeCounts.{member_nodes, members_nodes, field_nodes, params_bytes}
+use Rattle.sf_nodes.specs.NodeCounts.{member_bytes, members_bytes, field_bytes}
 use Rattle.sf_c.specs.Laws.{HopsAreFew, HopBytesAreFew}
 use Rattle.sf_c.specs.Hops.{HopContent, bytes_of, detail_bytes, hop_size, hops_size, hop_content}
 use Rattle.sf_c.specs.Hops.{why_token}

@@ -12,7 +12,7 @@ use Rattle.sf_c.specs.Hops.{HopContent, says_by, says_of, hop_content_by, hop_co
 use Rattle.sf_c.specs.Hops.{bytes_of, detail_bytes, why_token, hops_size}
 use Rattle.sf_c.specs.Hops.{IsHopWithin, AreHopsWithin, HopsHoldUp, PutsSpan, HopsAtFront}
 use Rattle.sf_c.specs.Hops.{hop_bytes, hops_bytes, end_of, AreHopsInOrder}
-use Rattle.sf_c.proofs.Slices.{slice_at-append, slice_at_last}
+use Rattle.sf_nodes.proofs.Slices.{slice_at-append, slice_at_last}
 use Rattle.std.specs.Prelude.{unwrap_or}
 
 -- a span of bytes is the same among more, and there

@@ -1,15 +1,8 @@
 pub mod ScannedTexts
-pub mod Slices
-pub mod ContentLemmas
 pub mod Joins
-pub mod NodeSteps
-pub mod FlatNodes
-pub mod NodeCounting
 pub mod Carrying
 pub mod DecodedNodes
 pub mod ParsedNodes
-pub mod OneValue
-pub mod NodeBound
 pub mod HopLemmas
 pub mod OneHop
 pub mod HopBound

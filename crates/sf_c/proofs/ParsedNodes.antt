@@ -13,13 +13,14 @@ use Rattle.sf_view.specs.Accepts.{Accepts}
 use Rattle.sf_view.specs.View.{DescribesField}
 use Rattle.sf_c.specs.declared.parsing.Sizes.{Sizes}
 use Rattle.sf_c.specs.Decodings.{AreDecoded, IsPlain}
-use Rattle.sf_c.specs.Flattening.{HasSizes, IsDecoded, IsInOne, IsSmall, IsHeld}
-use Rattle.sf_c.specs.Laws.{NodesAreFew, BytesAreFew, NodesAreTheirs}
-use Rattle.sf_c.specs.NodeCounts.{field_nodes, field_bytes}
-use Rattle.sf_c.specs.Nodes.{field_content}
-use Rattle.sf_c.specs.NodeContents.{NodeContent, content_size}
+use Rattle.sf_c.specs.Flattening.{HasSizes, IsSmall, IsHeld}
+use Rattle.sf_nodes.specs.NodeBytes.{IsDecoded, IsInOne}
+use Rattle.sf_nodes.specs.Laws.{NodesAreFew, BytesAreFew, NodesAreTheirs}
+use Rattle.sf_nodes.specs.NodeCounts.{field_nodes, field_bytes}
+use Rattle.sf_nodes.specs.Nodes.{field_content}
+use Rattle.sf_nodes.specs.NodeContents.{NodeContent, content_size}
 use Rattle.sf_c.proofs.Carrying.{field_carry}
-use Rattle.sf_c.proofs.NodeCounting.{content_nodes, content_bytes}
+use Rattle.sf_nodes.proofs.NodeCounting.{content_nodes, content_bytes}
 
 each_decoded : (size : ℕ) (ns : List Node) → Each (IsPlain size) ns → Each IsDecoded ns
 each_decoded size [] h = tt

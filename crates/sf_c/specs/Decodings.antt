@@ -9,7 +9,7 @@ use Rattle.sf_view.specs.declared.node_types.Role.{Role}
 use Rattle.sf_view.specs.declared.view.Slice.{Slice}
 use Rattle.sf_view.specs.NodeTypes.{type_number}
 use Rattle.sf_view.specs.View.{slice_at, DescribesBare, DescribesOpening}
-use Rattle.sf_c.specs.Flattening.{IsDecoded, IsInOne}
+use Rattle.sf_nodes.specs.NodeBytes.{IsDecoded, IsInOne}
 
 -- whatever the first node describes with one source, the second describes with the other
 pub record Means (old new : List ℕ) (n m : Node) : Type 0 where

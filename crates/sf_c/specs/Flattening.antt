@@ -12,7 +12,8 @@ use Rattle.sf_c.specs.declared.refusal.SyntaxRefusal.{SyntaxRefusal}
 use Rattle.sf_c.specs.declared.status.Status.{Status}
 use Rattle.sf_c.specs.declared.status.Status.TheVariants.{Answered, Refused, Short, OutOfMemory}
 use Rattle.sf_c.specs.declared.status.Status.TheVariants.{TooLong, TooMany}
-use Rattle.sf_c.specs.NodeCounts.{field_nodes, field_bytes}
+use Rattle.sf_nodes.specs.NodeBytes.{IsDecoded, IsInOne}
+use Rattle.sf_nodes.specs.NodeCounts.{field_nodes, field_bytes}
 use Rattle.sf_c.specs.Refusals.{SaysRefusal}
 
 -- what parsing into nodes may write to
@@ -21,19 +22,6 @@ pub record NodeOutput : Type 0 where
   pub bytes : List ℕ
   pub sizes : Sizes
   pub refusal : SyntaxRefusal
-
--- the bytes of the node are not coded
-abbrev pub IsDecoded : Node → Type 0
-IsDecoded n = n.coded ≡ 0
-
--- bytes at this offset are all before this place, or all at or after it
-abbrev pub IsOnOneSide : ℕ → ℕ → ℕ → Type 0
-IsOnOneSide place at count = (at + count ≤ place) ⊎ (place ≤ at)
-
--- the key of the node is in the text of this length, or in the bytes after it, and so are its bytes
-abbrev pub IsInOne : ℕ → Node → Type 0
-IsInOne size n =
-    IsOnOneSide size n.key_at n.key_length × IsOnOneSide size n.text_at n.text_length
 
 -- the value of the text t has few nodes and bytes: nodes are at most four fifths of the length of
 -- the text, rounded to the nearest number, and bytes at most eight fifths

@@ -1,9 +1,9 @@
--- The laws of the nodes and of the hops. Each is the contract of a function in `src/laws.rt`.
+-- The laws of the hops and of a priority. Each is the contract of a function in `src/laws.rt`.
 use Rattle.std.specs.Prelude.{◌≡◌, ℕ, ◌+◌, ◌*◌, ◌≤◌, List, length, map, Ok}
 use Rattle.sf_value.specs.declared.dialect.Dialect.{Dialect}
 use Rattle.sf_value.specs.declared.value.Field.{Field}
 use Rattle.sf_value.specs.declared.value.Kind.{Kind}
-use Rattle.sf_value.specs.Grammar.Fields.{SpellsField, kind_of}
+use Rattle.sf_value.specs.Grammar.Fields.{SpellsField}
 use Rattle.sf_use.specs.declared.cache_status.hop.Hop.{Hop}
 use Rattle.sf_use.specs.CacheStatus.Hops.{hops}
 use Rattle.sf_value.specs.declared.dialect.Dialect.TheVariants.{Rfc9651}
@@ -14,35 +14,8 @@ use Rattle.sf_parse.specs.Parsers.{IsOnly}
 use Rattle.sf_use.specs.Priority.{params_of_dict}
 use Rattle.sf_c.specs.declared.priority.PriorityFlags.{PriorityFlags}
 use Rattle.sf_c.specs.Priorities.{params_of_flags, dict_of_params}
-use Rattle.sf_view.specs.declared.node.Node.{Node}
-use Rattle.sf_view.specs.View.{DescribesField}
 use Rattle.sf_c.specs.declared.hops.HopNode.{HopNode}
-use Rattle.sf_c.specs.NodeCounts.{field_nodes, field_bytes}
 use Rattle.sf_c.specs.Hops.{hops_size, hop_content, hop_content_by}
-
--- if nodes describe two values of a kind, with the bytes that they point into, these are equal
-abbrev pub DescribeOneValue : Type 0
-DescribeOneValue =
-    (d : Dialect) (source : List ℕ) (nodes : List Node) (v w : Field) → kind_of v ≡ kind_of w
-    → DescribesField d source nodes v → DescribesField d source nodes w → v ≡ w
-
--- nodes that describe a value are as many as the value has
-abbrev pub NodesAreTheirs : Type 0
-NodesAreTheirs =
-    (d : Dialect) (source : List ℕ) (nodes : List Node) (v : Field)
-    → DescribesField d source nodes v → length nodes ≡ field_nodes v
-
--- the largest number of nodes of the value of a text
-abbrev pub NodesAreFew : Type 0
-NodesAreFew =
-    (d : Dialect) (kind : Kind) (t : List ℕ) (v : Field)
-    → SpellsField d kind t v → 10 * field_nodes v ≤ 8 * length t + 5
-
--- the largest number of its bytes
-abbrev pub BytesAreFew : Type 0
-BytesAreFew =
-    (d : Dialect) (kind : Kind) (t : List ℕ) (v : Field)
-    → SpellsField d kind t v → 5 * field_bytes v ≤ 8 * length t
 
 -- if structs describe two paths, these are equal
 abbrev pub DescribeOnePath : Type 0

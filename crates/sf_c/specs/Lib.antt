@@ -12,10 +12,7 @@ pub mod Priorities
 pub mod PriorityChanges
 pub mod Policies
 pub mod Joining
-pub mod NodeContents
 pub mod Spans
-pub mod NodeCounts
-pub mod Nodes
 pub mod Finding
 pub mod Flattening
 pub mod Decodings

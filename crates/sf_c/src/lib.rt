@@ -20,7 +20,6 @@ mod hop_text;
 mod hops;
 mod joining;
 pub mod laws;
-mod nodes;
 mod parsing;
 mod priority;
 mod priority_change;

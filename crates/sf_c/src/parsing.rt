@@ -6,11 +6,11 @@ ghost use Rattle.sf_c.specs.Statuses.{status_at};
 
 use crate::call::{dialect_of, kind_of, parse};
 use crate::decoding::decode_nodes;
-use crate::laws::{nodes_are_few, nodes_are_theirs};
-use crate::nodes::flatten;
 use crate::refusal::SyntaxRefusal;
 use crate::seed::Seed;
 use crate::status::Status;
+use sf_nodes::flatten;
+use sf_nodes::laws::{nodes_are_few, nodes_are_theirs};
 use sf_value::{Dialect, Kind};
 use sf_view::{Node, scan_text};
 use std::alloc::Global;
@@ -147,7 +147,10 @@ fn parse_tree(
     let Ok(flat) = flatten(alloc, &field) else {
         return Status::OutOfMemory;
     };
-    let required = flat.sizes();
+    let required = Sizes {
+        nodes: flat.node_count(),
+        bytes: flat.byte_count(),
+    };
     if required.bytes > OFFSET_MAX - text.len() {
         return Status::TooLong;
     }

@@ -1,0 +1,6 @@
+-- What nodes from a tree describe, how many there are, and where their bytes are.
+pub mod NodeBytes
+pub mod NodeContents
+pub mod NodeCounts
+pub mod Nodes
+pub mod Laws
