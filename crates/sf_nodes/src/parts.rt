@@ -14,6 +14,9 @@ use sf_view::{Node, NodeType, Role};
 use std::alloc::Global;
 use std::marker::Model;
 
+/// The largest offset of a node.
+const OFFSET_MAX: usize = 0xffff_ffff;
+
 /// A node before its offsets are known: they count in the bytes alone.
 #[derive(Clone, Copy, Drop)]
 pub(crate) struct Part {
@@ -147,6 +150,21 @@ impl Flat {
         write_parts(self.parts.as_slice(), start, nodes);
     }
 
+    /// The bytes, and the nodes that point into them.
+    pub(crate) fn into_nodes(self, alloc: Global) -> Result<(Vec<u8>, Vec<Node>), OutOfMemory>
+        // In both dialects, they describe the value.
+        ensures { IfOk result (λ made. (d : Which) (v : FieldValue)
+            → self ≡ field_content v
+            → DescribesField d made.0.items made.1.items v) }
+    {
+        let Flat { parts, bytes } = self;
+        if bytes.as_slice().len() > OFFSET_MAX {
+            return Err(OutOfMemory);
+        }
+        let nodes = nodes_of(alloc, parts.as_slice())?;
+        Ok((bytes, nodes))
+    }
+
     /// Adds a part, with its key and its bytes; if an allocation fails, nothing changes.
     pub(crate) fn push(&mut self, shape: Shape, key: &[u8], text: &[u8]) -> Result<(), OutOfMemory>
         ensures { IfOk result (λ _. self.new ≡ self.old ++ record {
@@ -207,6 +225,20 @@ fn write_parts(parts: &[Part], start: usize, nodes: &mut [Node])
         nodes[count] = parts[count].node(start);
         count += 1;
     }
+}
+
+/// The nodes of the parts, without a text before the bytes.
+fn nodes_of(alloc: Global, parts: &[Part]) -> Result<Vec<Node>, OutOfMemory>
+    requires small { Each (IsPartSmall 0) parts.now }
+    ensures { IfOk result (λ nodes. nodes.items ≡ map (node_of_part 0) parts.now) }
+{
+    let mut nodes = Vec::with_capacity(alloc, parts.len())?;
+    let mut count = 0;
+    while count < parts.len() {
+        nodes.push(parts[count].node(0))?;
+        count += 1;
+    }
+    Ok(nodes)
 }
 
 /// Appends a key and a text to the bytes; if an allocation fails, the bytes are unchanged.

@@ -13,6 +13,8 @@ mod cursors;
 #[cfg(test)]
 mod memory;
 #[cfg(test)]
+mod nodes;
+#[cfg(test)]
 mod trees;
 #[cfg(test)]
 mod views;

@@ -1,5 +1,7 @@
-//! Copies of whole fields, and nodes read as fields, with little memory: each allocation fails in
-//! turn.
+//! Copies of whole fields, nodes read as fields, and texts read as nodes, with little memory: each
+//! allocation fails in turn.
+use crate::trees::same_field;
+use sf_nodes::FieldNodes;
 use sf_parse::{Refusal, parse_text};
 use sf_test_alloc::{Seen, refusals};
 use sf_value::{Dialect, Field, Kind, OutOfMemory, same};
@@ -59,6 +61,29 @@ fn reading_refusals(
     }))
 }
 
+/// How many budgets of memory were too small for the nodes of a text.
+fn node_refusals(
+    alloc: Global,
+    seed: &RandomState,
+    kind: Kind,
+    text: &[u8],
+) -> Result<Option<usize>, Refusal> {
+    let want = parse_text(alloc, seed, kind, text)?;
+    Ok(refusals(alloc, || {
+        match FieldNodes::of_text(alloc, seed, Dialect::Rfc9651, kind, text) {
+            Ok(nodes) => {
+                if same_field(nodes.view(), &want) {
+                    Seen::Right
+                } else {
+                    Seen::Wrong
+                }
+            }
+            Err(Refusal::OutOfMemory) => Seen::Refused,
+            Err(_) => Seen::Wrong,
+        }
+    }))
+}
+
 // Keys and bytes that fit where they are, longer ones, and more entries than fit in place.
 static TEXTS: [(Kind, &[u8]); 5] = [
     (Kind::Item, b"\"x y\";p=tok;q=:YQ==:"),
@@ -95,6 +120,33 @@ fn readings(rt: HostRuntime) -> Result<(), Fail> {
     let seed = RandomState::new(&rt)?;
     for (kind, text) in &TEXTS {
         let found = reading_refusals(rt.alloc(), &seed, *kind, text)?;
+        assert!(rt; found > Some(0), "{found:?}");
+    }
+    Ok(())
+}
+
+// Their keys are repeated, so that their nodes are made from trees.
+static REPEATED: [(Kind, &[u8]); 3] = [
+    (
+        Kind::Item,
+        b"\"x y\";a-key-longer-than-16=tok;a-key-longer-than-16=:YQ==:",
+    ),
+    (Kind::List, b"(1 \"x\\\\y\";p *t);y=:YQ==:;y=1, b;x;x"),
+    (
+        Kind::Dict,
+        b"a=(1 *t;p;p=2 %\"f%c3%bc\");y=:YQ==:, b;x, c=tok;q=0.5, d, e, f, g, h, i, j, a=?0",
+    ),
+];
+
+#[test]
+fn nodes_of_texts(rt: HostRuntime) -> Result<(), Fail> {
+    let seed = RandomState::new(&rt)?;
+    for (kind, text) in &TEXTS {
+        let found = node_refusals(rt.alloc(), &seed, *kind, text)?;
+        assert!(rt; found > Some(0), "{found:?}");
+    }
+    for (kind, text) in &REPEATED {
+        let found = node_refusals(rt.alloc(), &seed, *kind, text)?;
         assert!(rt; found > Some(0), "{found:?}");
     }
     Ok(())

@@ -143,7 +143,7 @@ fn same_entries(view: View, members: &Entries<Member>) -> bool {
     rest.split_first().is_none()
 }
 
-fn same_field(view: View, field: &Field) -> bool {
+pub(crate) fn same_field(view: View, field: &Field) -> bool {
     match field {
         Field::Item(item) => return same_item(view, item),
         Field::List(list) => return same_members(view, list.members.as_slice()),

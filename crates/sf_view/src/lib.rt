@@ -4,6 +4,7 @@
 
 mod bare;
 mod bare_view;
+mod buffer;
 mod building;
 mod bytes;
 mod classes;
@@ -24,6 +25,7 @@ mod text_parts;
 mod view;
 mod writing;
 
+pub use buffer::node_buffer;
 pub use building::{NoField, field_of};
 pub use bytes::Bytes;
 pub use cursor::{DictCursor, EntryView, accepts};

@@ -9,6 +9,7 @@ ghost use Rattle.sf_view.specs.View.{DescribesField};
 ghost use Rattle.sf_view.specs.Views.{IsViewed};
 ghost use Rattle.sf_view.specs.Written.{IsCanonicalOf};
 
+use crate::buffer::node_buffer;
 use crate::node::Node;
 use crate::view::{Unviewed, View};
 use crate::writing::write_view;
@@ -20,9 +21,6 @@ use std::hash::RandomState;
 
 /// The number of nodes on the stack.
 const FEW: usize = 32;
-
-/// The number of bytes that are counted together: small enough that the count fits in a byte.
-const CHUNK: usize = 128;
 
 /// Returns the canonical text (RFC 9651 section 4.1) of the field of this kind that a view shows:
 /// the text that [`sf_write::to_text`] returns of that field. It fails only if an allocation fails.
@@ -109,7 +107,7 @@ fn by_many_nodes(
     ensures { IfOk result
         (λ found. IfSome found (λ c. IsCanonicalOf dialect kind text.now c.items)) }
 {
-    let mut nodes = buffer_of(alloc, most_nodes(text))?;
+    let mut nodes = node_buffer(alloc, text)?;
     match View::scan(dialect, kind, text, nodes.as_mut_slice()) {
         Ok(view) => return Ok(Some(view_text(alloc, &view, kind)?)),
         Err(_) => return Ok(None),
@@ -137,46 +135,4 @@ fn by_field(
 /// It is only a capacity: if it were too small, the buffer would grow.
 fn longest(length: usize) -> usize {
     (length / 5).saturating_add(1).saturating_mul(8)
-}
-
-/// A buffer of at least `count` nodes.
-fn buffer_of(alloc: Global, count: usize) -> Result<Vec<Node>, OutOfMemory> {
-    let block = [Node::NONE; FEW];
-    let blocks = count.div_ceil(FEW);
-    let mut nodes = Vec::with_capacity(alloc, blocks.saturating_mul(FEW))?;
-    for _ in 0..blocks {
-        nodes.extend_from_slice(&block)?;
-    }
-    Ok(nodes)
-}
-
-/// The largest number of nodes of a text: before each node but the first is a comma, a semicolon or
-/// an opening bracket, or, in an Inner List, a space. If it were too small, the field would be
-/// built.
-fn most_nodes(text: &[u8]) -> usize {
-    let lists = occurrences(text, b'(');
-    let spaces = if lists == 0 {
-        0
-    } else {
-        occurrences(text, b' ')
-    };
-    occurrences(text, b',')
-        .saturating_add(occurrences(text, b';'))
-        .saturating_add(lists)
-        .saturating_add(spaces)
-        .saturating_add(1)
-}
-
-/// The number of times that the byte is in the text. The compiler adds up a chunk in vectors of
-/// bytes.
-fn occurrences(text: &[u8], byte: u8) -> usize {
-    let mut count = 0usize;
-    for chunk in text.chunks(CHUNK) {
-        let mut few = 0u8;
-        for found in chunk {
-            few = few.wrapping_add((*found == byte) as u8);
-        }
-        count = count.wrapping_add(few as usize);
-    }
-    count
 }
