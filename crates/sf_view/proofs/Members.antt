@@ -340,10 +340,10 @@ dict_last d text rest after white old mid new between count s m a n apart =
     let i = rest_ends text rest old mid between s in
     let p = puts_then old mid new 0 between count s.nodes m.nodes s.puts m.puts in
     let raw = s.values ++ (m.key, m.value) ∷ [] in
-    let told = subst (λ y. DescribesEntries d text y raw)
+    let described = subst (λ y. DescribesEntries d text y raw)
     (sym (front_there old new count (s.nodes ++ m.nodes) p))
     (entries_more d text s.nodes m.nodes s.values (m.key, m.value) s.describes (m.describes i)) in
-    let keys = entry_keys d text (take count new) raw told in record {
+    let keys = entry_keys d text (take count new) raw described in record {
       within = p.within;
       value = dict_of raw;
       only = only_of d kind.Dict text (dict_of raw) (
@@ -352,5 +352,5 @@ dict_last d text rest after white old mid new between count s m a n apart =
         so_far_last (SpellsEntry d) (DescribesEntries d text) text rest m.front after white
             (m.key, m.value) old mid between s m.split (m.spelled i) a n,
       );
-      describes = told;
+      describes = described;
     }

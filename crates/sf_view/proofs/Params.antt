@@ -182,14 +182,14 @@ raw_more d source r text rest more left old mid new at between count place p n s
     }
 
 -- the keys that the nodes of parameters describe
-keys_told : (d : Dialect) (source : List ℕ) (r : Role) (ns : List Node) (raw : Pairs Bare)
+keys_described : (d : Dialect) (source : List ℕ) (r : Role) (ns : List Node) (raw : Pairs Bare)
     → DescribesParams d source r ns raw → keys_from source 0 ns ≡ keys_of raw
-keys_told d source r ns [] e = ap (keys_from source 0) e
-keys_told d source r ns (q ∷ raw) (n, ms, e, h, more) =
+keys_described d source r ns [] e = ap (keys_from source 0) e
+keys_described d source r ns (q ∷ raw) (n, ms, e, h, more) =
     ap (keys_from source 0) e
     ∙ ap (λ y. slice_at n.key_at n.key_length source ∷ keys_from source (y - 1) ms) h.size
     ∙ ap (λ y. y ∷ keys_from source 0 ms) h.key
-    ∙ ap (λ y. q.0 ∷ y) (keys_told d source r ms raw more)
+    ∙ ap (λ y. q.0 ∷ y) (keys_described d source r ms raw more)
 
 -- the nodes that were put are those there
 pub put_there : (old new : List Node) (at count : ℕ) (ns : List Node) → Puts old new at count ns
@@ -223,7 +223,7 @@ params_scan d source r text rest old new at count s same apart = record {
   split = s.split;
   spelled = λ i.
       let keys = ap (keys_from source 0) (put_there old new at count s.nodes s.puts same)
-      ∙ keys_told d source r s.nodes s.raw (s.describes i) in
+      ∙ keys_described d source r s.nodes s.raw (s.describes i) in
       (s.raw, sym (settle-distinct s.raw (subst (IsDistinct bytes_eq) keys apart)), s.spelled);
   puts = s.puts;
   describes = s.describes;

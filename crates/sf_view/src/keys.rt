@@ -1,5 +1,6 @@
 //! Whether the keys of the parts that nodes describe differ.
-ghost use Rattle.std.specs.Prelude.{◌≡◌, ◌∷◌, ◌≤◌, ◌<◌, ◌+◌, ◌*◌, ◌/◌, ◌%◌, ◌^◌, length, IsTrue, IfSome, IfNone, ℕ, drop, slice_index_or};
+ghost use Rattle.std.specs.Prelude.{◌≡◌, ◌∷◌, ◌≤◌, ◌<◌, ◌+◌, ◌*◌, ◌/◌, ◌%◌, ◌^◌, length, IsTrue};
+ghost use Rattle.std.specs.Prelude.{IfSome, IfNone, ℕ, drop, slice_index_or};
 ghost use Rattle.sf_view.specs.View.{slice_at};
 ghost use Rattle.sf_view.specs.Scans.{keys_from, AreApart};
 ghost use Rattle.sf_view.specs.Keys.{hash_of, tag_of, Holds, IsAbsent, Enters};

@@ -9,7 +9,8 @@ pub returns-in-Some : goal.returns-in-Some
 returns-in-Some c =
     let t = c.bytes_of-part.ensures in
     shown_scans _ _ _ _ (utf8_of c.loop-left.chars) _
-    (inside_plain _ _ _ (utf8_of c.loop-left.chars) c.loop-left.invariant c.plain-stop.ensures)
+    (inside_plain _ _ _ (utf8_of c.loop-left.chars) c.loop-left.invariant
+    c.after_unencoded-stop.ensures)
     (c.is_start.ensures c.if-not-is_start.false) c.in-Some.ensures t.node_type t.number t.at t.size
     t.coded
 
@@ -17,7 +18,8 @@ pub loop-left-preserved : goal.loop-left-preserved
 loop-left-preserved c =
     inside_escape _ _ _ (utf8_of c.loop-left.chars) (utf8_of c.in_ok-chars.chars)
     c.in_ok-byte.byte
-    (inside_plain _ _ _ (utf8_of c.loop-left.chars) c.loop-left.invariant c.plain-stop.ensures)
+    (inside_plain _ _ _ (utf8_of c.loop-left.chars) c.loop-left.invariant
+    c.after_unencoded-stop.ensures)
     c.in_ok-byte.ensures
     (stepped c.after.result (utf8_of c.loop-left.chars) c.in_ok-byte.byte c.in_ok-chars.chars
     c.after.ensures c.in_ok-chars.was)
