@@ -94,64 +94,37 @@ all_params ps =
     ∙ ap (λ i. record { urgency = (params_of_pairs ps).urgency; incremental = i })
     (overwritten-settle incremental (codes "i") ps)
 
--- a member by its Integer or its Boolean
+-- a bare item by its Integer or its Boolean, as an urgency, seconds, a Boolean and a directive
+by_type : (x : Bare) → (urgency_by (as_integer x) ≡ urgency_in x)
+    × (seconds_by (as_integer x) ≡ whole x)
+    × (as_boolean x ≡ boolean x)
+    × (sets_by (as_boolean x) ≡ not_false x)
+by_type (Integer (pos n)) = (refl, refl, refl, refl)
+by_type (Integer (negsuc n)) = (refl, refl, refl, refl)
+by_type (Decimal n) = (refl, refl, refl, refl)
+by_type (Text n) = (refl, refl, refl, refl)
+by_type (Token n) = (refl, refl, refl, refl)
+by_type (Blob n) = (refl, refl, refl, refl)
+by_type (Boolean n) = (refl, refl, refl, refl)
+by_type (Date n) = (refl, refl, refl, refl)
+by_type (Shown n) = (refl, refl, refl, refl)
+
+-- the same of a member
 pub urgency_is : (m : Member) → urgency_by (integer_in m) ≡ urgency (Some m)
 urgency_is (member.Inner l) = refl
-urgency_is (member.Item i) = by i.bare
-  where
-    by : (x : Bare) → urgency_by (as_integer x) ≡ urgency_in x
-    by (Integer (pos n)) = refl
-    by (Integer (negsuc n)) = refl
-    by (Decimal n) = refl
-    by (Text n) = refl
-    by (Token n) = refl
-    by (Blob n) = refl
-    by (Boolean n) = refl
-    by (Date n) = refl
-    by (Shown n) = refl
-
-pub incremental_is : (m : Member) → boolean_in m ≡ incremental (Some m)
-incremental_is (member.Inner l) = refl
-incremental_is (member.Item i) = by i.bare
-  where
-    by : (x : Bare) → as_boolean x ≡ boolean x
-    by (Integer n) = refl
-    by (Decimal n) = refl
-    by (Text n) = refl
-    by (Token n) = refl
-    by (Blob n) = refl
-    by (Boolean n) = refl
-    by (Date n) = refl
-    by (Shown n) = refl
+urgency_is (member.Item i) = (by_type i.bare).0
 
 pub seconds_are : (m : Member) → seconds_by (integer_in m) ≡ delta_seconds (Some m)
 seconds_are (member.Inner l) = refl
-seconds_are (member.Item i) = by i.bare
-  where
-    by : (x : Bare) → seconds_by (as_integer x) ≡ whole x
-    by (Integer (pos n)) = refl
-    by (Integer (negsuc n)) = refl
-    by (Decimal n) = refl
-    by (Text n) = refl
-    by (Token n) = refl
-    by (Blob n) = refl
-    by (Boolean n) = refl
-    by (Date n) = refl
-    by (Shown n) = refl
+seconds_are (member.Item i) = (by_type i.bare).1
+
+pub incremental_is : (m : Member) → boolean_in m ≡ incremental (Some m)
+incremental_is (member.Inner l) = refl
+incremental_is (member.Item i) = (by_type i.bare).2
 
 pub sets_is : (m : Member) → sets_by (boolean_in m) ≡ is_set (Some m)
 sets_is (member.Inner l) = refl
-sets_is (member.Item i) = by i.bare
-  where
-    by : (x : Bare) → sets_by (as_boolean x) ≡ not_false x
-    by (Integer n) = refl
-    by (Decimal n) = refl
-    by (Text n) = refl
-    by (Token n) = refl
-    by (Blob n) = refl
-    by (Boolean n) = refl
-    by (Date n) = refl
-    by (Shown n) = refl
+sets_is (member.Item i) = (by_type i.bare).3
 
 -- the parts of a policy
 policy_parts : (s : Policy) (ps : Pairs Member)
@@ -239,74 +212,30 @@ read_none f F text c a same h e = record {
   reads = λ ps r. (ps, h ps r, e ps);
 }
 
--- a member by its key
-module _ (a : Asked) (k : List ℕ) (m : Member) where
-  pub u_said : bytes_eq k (codes "u") ≡ true
-      → with_member a (k, m) ≡ record a { urgency = urgency (Some m) }
-  u_said e =
-      subst (λ q. with_member a (q, m) ≡ record a { urgency = urgency (Some m) })
-      (sym (key_is k (codes "u") e)) refl
+-- the answer for one of two equal keys is the answer for the other
+pub at_key : {A : Type 0} (f : List ℕ → A) (k key : List ℕ) (a : A) → bytes_eq k key ≡ true
+    → a ≡ f key → a ≡ f k
+at_key f k key a same h = h ∙ sym (ap f (key_is k key same))
 
-  pub i_said : bytes_eq k (codes "i") ≡ true
-      → with_member a (k, m) ≡ record a { incremental = incremental (Some m) }
-  i_said e =
-      subst (λ q. with_member a (q, m) ≡ record a { incremental = incremental (Some m) })
-      (sym (key_is k (codes "i") e)) refl
+-- a member of another key changes nothing
+pub other_param : (a : Asked) (k : List ℕ) (m : Member) → bytes_eq k (codes "u") ≡ false
+    → bytes_eq k (codes "i") ≡ false → with_member a (k, m) ≡ a
+other_param a k m u i =
+    ap (λ y. record { urgency = y; incremental = (with_member a (k, m)).incremental })
+    (overwritten_other urgency (codes "u") k a.urgency m u)
+    ∙ ap (λ y. record a { incremental = y })
+    (overwritten_other incremental (codes "i") k a.incremental m i)
 
-  pub nothing_said : bytes_eq k (codes "u") ≡ false → bytes_eq k (codes "i") ≡ false
-      → with_member a (k, m) ≡ a
-  nothing_said u i =
-      ap (λ y. record { urgency = y; incremental = (with_member a (k, m)).incremental })
-      (overwritten_other urgency (codes "u") k a.urgency m u)
-      ∙ ap (λ y. record a { incremental = y })
-      (overwritten_other incremental (codes "i") k a.incremental m i)
-
-module _ (s : Policy) (k : List ℕ) (m : Member) where
-  pub max_age_said : bytes_eq k (codes "max-age") ≡ true
-      → with_directive s (k, m) ≡ record s { max_age = delta_seconds (Some m) }
-  max_age_said e =
-      subst (λ q. with_directive s (q, m) ≡ record s { max_age = delta_seconds (Some m) })
-      (sym (key_is k (codes "max-age") e)) refl
-
-  pub s_maxage_said : bytes_eq k (codes "s-maxage") ≡ true
-      → with_directive s (k, m) ≡ record s { s_maxage = delta_seconds (Some m) }
-  s_maxage_said e =
-      subst (λ q. with_directive s (q, m) ≡ record s { s_maxage = delta_seconds (Some m) })
-      (sym (key_is k (codes "s-maxage") e)) refl
-
-  pub must_revalidate_said : bytes_eq k (codes "must-revalidate") ≡ true
-      → with_directive s (k, m) ≡ record s { must_revalidate = is_set (Some m) }
-  must_revalidate_said e =
-      subst (λ q. with_directive s (q, m) ≡ record s { must_revalidate = is_set (Some m) })
-      (sym (key_is k (codes "must-revalidate") e)) refl
-
-  pub no_store_said : bytes_eq k (codes "no-store") ≡ true
-      → with_directive s (k, m) ≡ record s { no_store = is_set (Some m) }
-  no_store_said e =
-      subst (λ q. with_directive s (q, m) ≡ record s { no_store = is_set (Some m) })
-      (sym (key_is k (codes "no-store") e)) refl
-
-  pub no_cache_said : bytes_eq k (codes "no-cache") ≡ true
-      → with_directive s (k, m) ≡ record s { no_cache = is_set (Some m) }
-  no_cache_said e =
-      subst (λ q. with_directive s (q, m) ≡ record s { no_cache = is_set (Some m) })
-      (sym (key_is k (codes "no-cache") e)) refl
-
-  pub private_said : bytes_eq k (codes "private") ≡ true
-      → with_directive s (k, m) ≡ record s { is_private = is_set (Some m) }
-  private_said e =
-      subst (λ q. with_directive s (q, m) ≡ record s { is_private = is_set (Some m) })
-      (sym (key_is k (codes "private") e)) refl
-
-  pub no_directive_said : bytes_eq k (codes "max-age") ≡ false
-      → bytes_eq k (codes "s-maxage") ≡ false → bytes_eq k (codes "must-revalidate") ≡ false
-      → bytes_eq k (codes "no-store") ≡ false → bytes_eq k (codes "no-cache") ≡ false
-      → bytes_eq k (codes "private") ≡ false → with_directive s (k, m) ≡ s
-  no_directive_said a b c d e f =
-      policies _ _ _ _ _ _ _ _ _ _ _ _
-      (overwritten_other delta_seconds (codes "max-age") k s.max_age m a)
-      (overwritten_other delta_seconds (codes "s-maxage") k s.s_maxage m b)
-      (overwritten_other is_set (codes "must-revalidate") k s.must_revalidate m c)
-      (overwritten_other is_set (codes "no-store") k s.no_store m d)
-      (overwritten_other is_set (codes "no-cache") k s.no_cache m e)
-      (overwritten_other is_set (codes "private") k s.is_private m f)
+pub other_directive : (s : Policy) (k : List ℕ) (m : Member)
+    → bytes_eq k (codes "max-age") ≡ false → bytes_eq k (codes "s-maxage") ≡ false
+    → bytes_eq k (codes "must-revalidate") ≡ false → bytes_eq k (codes "no-store") ≡ false
+    → bytes_eq k (codes "no-cache") ≡ false → bytes_eq k (codes "private") ≡ false
+    → with_directive s (k, m) ≡ s
+other_directive s k m a b c d e f =
+    policies _ _ _ _ _ _ _ _ _ _ _ _
+    (overwritten_other delta_seconds (codes "max-age") k s.max_age m a)
+    (overwritten_other delta_seconds (codes "s-maxage") k s.s_maxage m b)
+    (overwritten_other is_set (codes "must-revalidate") k s.must_revalidate m c)
+    (overwritten_other is_set (codes "no-store") k s.no_store m d)
+    (overwritten_other is_set (codes "no-cache") k s.no_cache m e)
+    (overwritten_other is_set (codes "private") k s.is_private m f)

@@ -12,13 +12,14 @@ use Rattle.sf_value.specs.Grammar.Valid.{ValidEntries}
 use Rattle.sf_value.proofs.CanonicalTexts.{canon_spells}
 use Rattle.sf_parse.proofs.GrammarLaws.{one_value}
 use Rattle.sf_use.specs.Ranges.{IsUrgency, usual_urgency}
-use Rattle.sf_use.specs.Priority.{incremental_written, plain, prio}
+use Rattle.sf_use.specs.Priority.{incremental_written, bare_member, prio}
 use Rattle.sf_use.specs.PriorityLaws.{ReadFromText}
 
 -- u and i are keys, and the urgency is an Integer
 valid_members : (n : ℕ) → IsUrgency n → (usual i : Bool)
     → ValidEntries Rfc9651
-    ((if usual then [] else (codes "u", plain (Integer (pos n))) ∷ []) ++ incremental_written i)
+    ((if usual then [] else (codes "u", bare_member (Integer (pos n))) ∷ [])
+    ++ incremental_written i)
 unfolding IsDistinct
 valid_members n h true true = ((((refl, tt), (tt, (tt, tt))), tt), (tt, tt))
 valid_members n h true false = (tt, tt)

@@ -63,17 +63,17 @@ priority_with_defaults a = record {
 }
 
 -- a member that is an Item without parameters
-abbrev pub plain : Bare → Member
-plain x = member.Item (item x [])
+abbrev pub bare_member : Bare → Member
+bare_member x = member.Item (item x [])
 
 -- the member u, unless it is the default
 abbrev pub urgency_written : ℕ → Pairs Member
 urgency_written n =
-    if n == usual_urgency then [] else (codes "u", plain (Integer (pos n))) ∷ []
+    if n == usual_urgency then [] else (codes "u", bare_member (Integer (pos n))) ∷ []
 
 -- the member i, unless it is the default
 abbrev pub incremental_written : Bool → Pairs Member
-incremental_written true = (codes "i", plain (Boolean true)) ∷ []
+incremental_written true = (codes "i", bare_member (Boolean true)) ∷ []
 incremental_written false = []
 
 -- the Dictionary of a priority

@@ -7,11 +7,13 @@ use Rattle.sf_field.specs.Asking.{Means}
 use Rattle.sf_use.specs.declared.priority.Asked.{Asked}
 use Rattle.sf_use.specs.declared.priority.Priority.{Priority}
 use Rattle.sf_use.specs.Ranges.{IsUrgency}
-use Rattle.sf_use.specs.Priority.{params_of_dict, params_of_field, priority_with_defaults, merge_params, prio}
+use Rattle.sf_use.specs.Priority.{params_of_dict, params_of_field, priority_with_defaults}
+use Rattle.sf_use.specs.Priority.{merge_params, prio}
 
 -- a priority is read as it was written
 abbrev pub ReadAsWritten : Type 0
-ReadAsWritten = (p : Priority) → IsUrgency p.urgency → priority_with_defaults (params_of_dict (prio p)) ≡ p
+ReadAsWritten =
+    (p : Priority) → IsUrgency p.urgency → priority_with_defaults (params_of_dict (prio p)) ≡ p
 
 -- the same from the text that is written, as the only line
 abbrev pub ReadFromText : Type 0
@@ -22,4 +24,5 @@ ReadFromText =
 
 -- three priorities may be merged in any grouping
 abbrev pub MergesInParts : Type 0
-MergesInParts = (a b c : Asked) → merge_params (merge_params a b) c ≡ merge_params a (merge_params b c)
+MergesInParts =
+    (a b c : Asked) → merge_params (merge_params a b) c ≡ merge_params a (merge_params b c)

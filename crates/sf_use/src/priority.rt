@@ -3,8 +3,8 @@ ghost use Rattle.std.specs.Prelude.{◌≡◌, ◌++◌, [], ◌∷◌, ◌↔�
 ghost use Rattle.std.specs.Option.{option_copied};
 ghost use Rattle.sf_value.specs.Grammar.Classes.{is_key_start};
 ghost use Rattle.sf_value.specs.Grammar.Pairs.{put};
-ghost use Rattle.sf_use.specs.Priority.{params_of_dict, priority_with_defaults, incremental, merge_params, plain, prio, urgency};
-ghost use Rattle.sf_use.specs.Priority.{params_of_field};
+ghost use Rattle.sf_use.specs.Priority.{params_of_dict, priority_with_defaults, incremental};
+ghost use Rattle.sf_use.specs.Priority.{merge_params, bare_member, prio, urgency, params_of_field};
 ghost use Rattle.sf_use.specs.Ranges.{IsUrgency, usual_urgency};
 ghost use Rattle.sf_use.specs.Scanning.{IsScanned, urgency_by, with_member};
 ghost use Rattle.sf_value.specs.declared.dialect.Dialect.TheVariants.{Rfc9651 as rfc9651};
@@ -320,7 +320,7 @@ pub(crate) fn put_item(
 ) -> Result<(), OutOfMemory>
     requires { is_key_start letter ≡ true }
     // The Item is put at the key of this letter.
-    ensures { IfOk result (λ _. members.new ≡ put members.old (letter ∷ []) (plain bare)) }
+    ensures { IfOk result (λ _. members.new ≡ put members.old (letter ∷ []) (bare_member bare)) }
 {
     let key = Key::first(alloc, letter)?;
     let item = Item::new(alloc, seed, bare);

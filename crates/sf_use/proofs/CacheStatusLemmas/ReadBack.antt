@@ -29,8 +29,8 @@ use Rattle.sf_use.specs.CacheStatus.Hops.{passed_by_token}
 use Rattle.sf_use.specs.CacheStatus.Members.{bare_of, entry, hit_value, parameters_of, passed_by}
 use Rattle.sf_use.specs.CacheStatus.Members.{collapsed_value, status_value, stored_value}
 use Rattle.sf_use.specs.CacheStatus.Members.{table_of, why_value}
-use Rattle.sf_use.specs.CacheStatus.Laws.{HasStatusInRange, plain, plain_outcome, plain_passed}
-use Rattle.sf_use.specs.CacheStatus.Laws.{plain_reason, ReadsBack}
+use Rattle.sf_use.specs.CacheStatus.Laws.{HasStatusInRange, canonical_hop, canonical_outcome}
+use Rattle.sf_use.specs.CacheStatus.Laws.{canonical_passed, canonical_reason, ReadsBack}
 use Rattle.sf_use.proofs.CacheStatusLemmas.Written.{value-present}
 
 distinct-table : (h : Hop) → HasDistinctKeys (table_of h)
@@ -70,7 +70,7 @@ status-back : (o : Option ℕ) → ForSome o IsHopStatus
 status-back None h = refl
 status-back (Some n) h = in-range n (h n refl)
 
-reason-back : (why : Forward) → forward_of (token_of why) ≡ plain_reason why
+reason-back : (why : Forward) → forward_of (token_of why) ≡ canonical_reason why
 reason-back Bypass = refl
 reason-back Method = refl
 reason-back UriMiss = refl
@@ -85,7 +85,7 @@ passed-back : (ps : Pairs Bare) (p : Passed) → ForSome p.status IsHopStatus
     → value_at (codes "fwd-status") ps ≡ status_value (Some p)
     → value_at (codes "stored") ps ≡ stored_value (Some p)
     → value_at (codes "collapsed") ps ≡ collapsed_value (Some p)
-    → passed_by_token ps (token_of p.why) ≡ plain_passed p
+    → passed_by_token ps (token_of p.why) ≡ canonical_passed p
 passed-back ps p h status stored collapsed =
     let why' = reason-back p.why in
     let status' =
@@ -107,7 +107,7 @@ outcome-back : (ps : Pairs Bare) (o : Outcome)
     → value_at (codes "fwd-status") ps ≡ status_value (passed_by o)
     → value_at (codes "stored") ps ≡ stored_value (passed_by o)
     → value_at (codes "collapsed") ps ≡ collapsed_value (passed_by o)
-    → outcome_of ps ≡ plain_outcome o
+    → outcome_of ps ≡ canonical_outcome o
 outcome-back ps Hit h hit fwd status stored collapsed = rw (hit, fwd)
 outcome-back ps (Forwarded p) h hit fwd status stored collapsed =
     rw (hit, fwd) (ap Forwarded (passed-back ps p h status stored collapsed))
@@ -115,7 +115,7 @@ outcome-back ps (Conflict p) h hit fwd status stored collapsed =
     rw (hit, fwd) (ap Conflict (passed-back ps p h status stored collapsed))
 outcome-back ps Unsaid h hit fwd status stored collapsed = rw (hit, fwd)
 
-hop-back : (h : Hop) → HasStatusInRange h → hop_named (parameters_of h) h.name ≡ plain h
+hop-back : (h : Hop) → HasStatusInRange h → hop_named (parameters_of h) h.name ≡ canonical_hop h
 hop-back h ok =
     let outcome' = outcome-back (parameters_of h) h.outcome ok
     (value-of h (codes "hit")) (value-of h (codes "fwd")) (value-of h (codes "fwd-status"))
@@ -137,6 +137,6 @@ one-hop m h e = rw e
 
 pub reads_back : ReadsBack
 reads_back h ok =
-    one-hop (entry h) (plain h)
+    one-hop (entry h) (canonical_hop h)
     (ap (option_map (hop_named (parameters_of h))) (bare-back h.name)
     ∙ ap (λ x. Some x) (hop-back h ok))

@@ -1,6 +1,7 @@
 -- Hops that borrow the text of a field.
 use Rattle.std.proofs.Common.{◌≡◌, ℕ, ℤ, Bool, true, false, List, [], ◌∷◌, Option, Some, None}
-use Rattle.std.proofs.Common.{◌≤◌, length, arith, refl, sym, ap, ◌∙◌, subst, fold, codes, option_copied, Bor}
+use Rattle.std.proofs.Common.{◌≤◌, length, arith, refl, sym, ap, ◌∙◌, subst, fold, codes}
+use Rattle.std.proofs.Common.{option_copied}
 use Rattle.std.specs.Option.{option_and_then}
 use Rattle.std.specs.Str.{bytes_eq}
 use Rattle.sf_value.specs.declared.dialect.Dialect.{Dialect}
@@ -17,9 +18,7 @@ use Rattle.sf_view.specs.ItemCursors.{RemainsInItem, RemainsInList, ReadsNextPar
 use Rattle.sf_view.specs.Overwriting.{overwritten_by}
 use Rattle.sf_view.proofs.Overwriting.{overwritten-settle, overwritten_other}
 use Rattle.sf_value.proofs.Settling.{key_is}
-use Rattle.sf_view.specs.declared.view.Slice.{Slice}
 use Rattle.sf_view.specs.Reads.{ShowsText}
-use Rattle.sf_use.specs.declared.cache_status.view.NameView.{NameView}
 use Rattle.sf_use.specs.declared.cache_status.hop.Name.{Name}
 use Rattle.sf_use.specs.declared.cache_status.view.HopParams.{HopParams}
 use Rattle.sf_use.specs.CacheStatus.Parameters.{as_name}
@@ -64,8 +63,8 @@ folded : (s : HopParts) (ps : Pairs Bare)
 folded s [] = refl
 folded s (p ∷ ps) = folded (with_param s p) ps
 
-abbrev pub parts_by : Option Bool → Option (List ℕ) → Option ℤ → Option ℤ → Option Bool → Option Bool
-    → Option (List ℕ) → Option Name → HopParts
+abbrev pub parts_by : Option Bool → Option (List ℕ) → Option ℤ → Option ℤ → Option Bool
+    → Option Bool → Option (List ℕ) → Option Name → HopParts
 parts_by a b c d e f g h = record {
   hit = a;
   fwd = b;
@@ -144,158 +143,49 @@ params_all start c v i s same h =
       remains = λ ms r. all.2 ms (h ms r);
     }
 
--- a parameter by its key
-module _ (d : Dialect) (v : HopParams) (s : HopParts) (k : List ℕ) (x : Bare)
-    (h : ShowsParts d v s) where
-  pub hit_shown : (o : Option Bool) → bytes_eq k (codes "hit") ≡ true → o ≡ as_boolean x
-      → ShowsParts d (record v { hit = o }) (with_param s (k, x))
-  hit_shown o t e =
-      subst (λ q. ShowsParts d (record v { hit = o }) (with_param s (q, x)))
-      (sym (key_is k (codes "hit") t))
-      (record {
-        hit = e;
-        fwd = h.fwd;
-        fwd_status = h.fwd_status;
-        ttl = h.ttl;
-        stored = h.stored;
-        collapsed = h.collapsed;
-        key = h.key;
-        detail = h.detail;
-      })
+-- the parameters after one more at this key, part by part
+pub shown_at : (d : Dialect) (v : HopParams) (s : HopParts) (k key : List ℕ) (x : Bare)
+    → bytes_eq k key ≡ true → v.hit ≡ (with_param s (key, x)).hit
+    → option_copied v.fwd ≡ (with_param s (key, x)).fwd
+    → v.fwd_status ≡ (with_param s (key, x)).fwd_status
+    → v.ttl ≡ (with_param s (key, x)).ttl
+    → v.stored ≡ (with_param s (key, x)).stored
+    → v.collapsed ≡ (with_param s (key, x)).collapsed
+    → ShowsText d v.key (with_param s (key, x)).key
+    → ShowsName d v.detail (with_param s (key, x)).detail
+    → ShowsParts d v (with_param s (k, x))
+shown_at d v s k key x same hit fwd fwd_status ttl stored collapsed text detail =
+    subst (λ q. ShowsParts d v (with_param s (q, x))) (sym (key_is k key same))
+    (record {
+      hit = hit;
+      fwd = fwd;
+      fwd_status = fwd_status;
+      ttl = ttl;
+      stored = stored;
+      collapsed = collapsed;
+      key = text;
+      detail = detail;
+    })
 
-  pub fwd_shown : (o : Option (Bor (List ℕ))) → bytes_eq k (codes "fwd") ≡ true → option_copied o ≡ as_token x
-      → ShowsParts d (record v { fwd = o }) (with_param s (k, x))
-  fwd_shown o t e =
-      subst (λ q. ShowsParts d (record v { fwd = o }) (with_param s (q, x)))
-      (sym (key_is k (codes "fwd") t))
-      (record {
-        hit = h.hit;
-        fwd = e;
-        fwd_status = h.fwd_status;
-        ttl = h.ttl;
-        stored = h.stored;
-        collapsed = h.collapsed;
-        key = h.key;
-        detail = h.detail;
-      })
-
-  pub fwd_status_shown : (o : Option ℤ) → bytes_eq k (codes "fwd-status") ≡ true → o ≡ as_integer x
-      → ShowsParts d (record v { fwd_status = o }) (with_param s (k, x))
-  fwd_status_shown o t e =
-      subst (λ q. ShowsParts d (record v { fwd_status = o }) (with_param s (q, x)))
-      (sym (key_is k (codes "fwd-status") t))
-      (record {
-        hit = h.hit;
-        fwd = h.fwd;
-        fwd_status = e;
-        ttl = h.ttl;
-        stored = h.stored;
-        collapsed = h.collapsed;
-        key = h.key;
-        detail = h.detail;
-      })
-
-  pub ttl_shown : (o : Option ℤ) → bytes_eq k (codes "ttl") ≡ true → o ≡ as_integer x
-      → ShowsParts d (record v { ttl = o }) (with_param s (k, x))
-  ttl_shown o t e =
-      subst (λ q. ShowsParts d (record v { ttl = o }) (with_param s (q, x)))
-      (sym (key_is k (codes "ttl") t))
-      (record {
-        hit = h.hit;
-        fwd = h.fwd;
-        fwd_status = h.fwd_status;
-        ttl = e;
-        stored = h.stored;
-        collapsed = h.collapsed;
-        key = h.key;
-        detail = h.detail;
-      })
-
-  pub stored_shown : (o : Option Bool) → bytes_eq k (codes "stored") ≡ true → o ≡ as_boolean x
-      → ShowsParts d (record v { stored = o }) (with_param s (k, x))
-  stored_shown o t e =
-      subst (λ q. ShowsParts d (record v { stored = o }) (with_param s (q, x)))
-      (sym (key_is k (codes "stored") t))
-      (record {
-        hit = h.hit;
-        fwd = h.fwd;
-        fwd_status = h.fwd_status;
-        ttl = h.ttl;
-        stored = e;
-        collapsed = h.collapsed;
-        key = h.key;
-        detail = h.detail;
-      })
-
-  pub collapsed_shown : (o : Option Bool) → bytes_eq k (codes "collapsed") ≡ true → o ≡ as_boolean x
-      → ShowsParts d (record v { collapsed = o }) (with_param s (k, x))
-  collapsed_shown o t e =
-      subst (λ q. ShowsParts d (record v { collapsed = o }) (with_param s (q, x)))
-      (sym (key_is k (codes "collapsed") t))
-      (record {
-        hit = h.hit;
-        fwd = h.fwd;
-        fwd_status = h.fwd_status;
-        ttl = h.ttl;
-        stored = h.stored;
-        collapsed = e;
-        key = h.key;
-        detail = h.detail;
-      })
-
-  pub key_shown : (o : Option Slice) → bytes_eq k (codes "key") ≡ true → ShowsText d o (as_text x)
-      → ShowsParts d (record v { key = o }) (with_param s (k, x))
-  key_shown o t e =
-      subst (λ q. ShowsParts d (record v { key = o }) (with_param s (q, x)))
-      (sym (key_is k (codes "key") t))
-      (record {
-        hit = h.hit;
-        fwd = h.fwd;
-        fwd_status = h.fwd_status;
-        ttl = h.ttl;
-        stored = h.stored;
-        collapsed = h.collapsed;
-        key = e;
-        detail = h.detail;
-      })
-
-  pub detail_shown : (o : Option NameView) → bytes_eq k (codes "detail") ≡ true → ShowsName d o (as_name x)
-      → ShowsParts d (record v { detail = o }) (with_param s (k, x))
-  detail_shown o t e =
-      subst (λ q. ShowsParts d (record v { detail = o }) (with_param s (q, x)))
-      (sym (key_is k (codes "detail") t))
-      (record {
-        hit = h.hit;
-        fwd = h.fwd;
-        fwd_status = h.fwd_status;
-        ttl = h.ttl;
-        stored = h.stored;
-        collapsed = h.collapsed;
-        key = h.key;
-        detail = e;
-      })
-
-  pub none_shown : bytes_eq k (codes "hit") ≡ false
-      → bytes_eq k (codes "fwd") ≡ false
-      → bytes_eq k (codes "fwd-status") ≡ false
-      → bytes_eq k (codes "ttl") ≡ false
-      → bytes_eq k (codes "stored") ≡ false
-      → bytes_eq k (codes "collapsed") ≡ false
-      → bytes_eq k (codes "key") ≡ false
-      → bytes_eq k (codes "detail") ≡ false
-      → ShowsParts d v (with_param s (k, x))
-  none_shown a b c e f g i j =
-      subst (ShowsParts d v)
-      (sym (same_parts _ _ _ _ _ _ _ _ _ _ _ _ _ _ _ _
-      (overwritten_other (option_and_then as_boolean) (codes "hit") k s.hit x a)
-      (overwritten_other (option_and_then as_token) (codes "fwd") k s.fwd x b)
-      (overwritten_other (option_and_then as_integer) (codes "fwd-status") k s.fwd_status x c)
-      (overwritten_other (option_and_then as_integer) (codes "ttl") k s.ttl x e)
-      (overwritten_other (option_and_then as_boolean) (codes "stored") k s.stored x f)
-      (overwritten_other (option_and_then as_boolean) (codes "collapsed") k s.collapsed x g)
-      (overwritten_other (option_and_then as_text) (codes "key") k s.key x i)
-      (overwritten_other (option_and_then as_name) (codes "detail") k s.detail x j)))
-      h
+-- a parameter of another key changes nothing
+pub other_shown : (d : Dialect) (v : HopParams) (s : HopParts) (k : List ℕ) (x : Bare)
+    → ShowsParts d v s → bytes_eq k (codes "hit") ≡ false → bytes_eq k (codes "fwd") ≡ false
+    → bytes_eq k (codes "fwd-status") ≡ false → bytes_eq k (codes "ttl") ≡ false
+    → bytes_eq k (codes "stored") ≡ false → bytes_eq k (codes "collapsed") ≡ false
+    → bytes_eq k (codes "key") ≡ false → bytes_eq k (codes "detail") ≡ false
+    → ShowsParts d v (with_param s (k, x))
+other_shown d v s k x h a b c e f g i j =
+    subst (ShowsParts d v)
+    (sym (same_parts _ _ _ _ _ _ _ _ _ _ _ _ _ _ _ _
+    (overwritten_other (option_and_then as_boolean) (codes "hit") k s.hit x a)
+    (overwritten_other (option_and_then as_token) (codes "fwd") k s.fwd x b)
+    (overwritten_other (option_and_then as_integer) (codes "fwd-status") k s.fwd_status x c)
+    (overwritten_other (option_and_then as_integer) (codes "ttl") k s.ttl x e)
+    (overwritten_other (option_and_then as_boolean) (codes "stored") k s.stored x f)
+    (overwritten_other (option_and_then as_boolean) (codes "collapsed") k s.collapsed x g)
+    (overwritten_other (option_and_then as_text) (codes "key") k s.key x i)
+    (overwritten_other (option_and_then as_name) (codes "detail") k s.detail x j)))
+    h
 
 -- a hop before the members that remain
 pub next_hop : (c e : HopCursor) (b : BareView) (start : ParamCursor) (v : HopView)

@@ -15,22 +15,22 @@ use Rattle.sf_use.specs.CacheStatus.Hops.{hops}
 use Rattle.sf_use.specs.CacheStatus.Members.{entry, passed_by}
 
 -- the reason; for a token, the reason that it names
-abbrev pub plain_reason : Forward → Forward
-plain_reason (Other token) = forward_of token
-plain_reason why = why
+abbrev pub canonical_reason : Forward → Forward
+canonical_reason (Other token) = forward_of token
+canonical_reason why = why
 
-abbrev pub plain_passed : Passed → Passed
-plain_passed p = record p { why = plain_reason p.why }
+abbrev pub canonical_passed : Passed → Passed
+canonical_passed p = record p { why = canonical_reason p.why }
 
-abbrev pub plain_outcome : Outcome → Outcome
-plain_outcome Hit = Hit
-plain_outcome (Forwarded p) = Forwarded (plain_passed p)
-plain_outcome (Conflict p) = Conflict (plain_passed p)
-plain_outcome Unsaid = Unsaid
+abbrev pub canonical_outcome : Outcome → Outcome
+canonical_outcome Hit = Hit
+canonical_outcome (Forwarded p) = Forwarded (canonical_passed p)
+canonical_outcome (Conflict p) = Conflict (canonical_passed p)
+canonical_outcome Unsaid = Unsaid
 
 -- the hop, in which a token that names a reason is replaced by that reason
-abbrev pub plain : Hop → Hop
-plain h = record h { outcome = plain_outcome h.outcome }
+abbrev pub canonical_hop : Hop → Hop
+canonical_hop h = record h { outcome = canonical_outcome h.outcome }
 
 -- the status is a status code, as each `HopStatus` is
 abbrev pub HasStatusInRange : Hop → Type 0
@@ -40,4 +40,4 @@ HasStatusInRange h =
 -- the member of a hop means that hop
 abbrev pub ReadsBack : Type 0
 ReadsBack =
-    (h : Hop) → HasStatusInRange h → hops (list_of (entry h ∷ [])) ≡ Ok (plain h ∷ [])
+    (h : Hop) → HasStatusInRange h → hops (list_of (entry h ∷ [])) ≡ Ok (canonical_hop h ∷ [])

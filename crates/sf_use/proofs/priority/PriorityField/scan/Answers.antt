@@ -6,12 +6,14 @@ use Rattle.sf_use.proofs.priority.PriorityField.scan.Goals as goal
 
 pub loop-member-init : goal.loop-member-init
 loop-member-init c =
-    read_none with_member params_of_pairs _ _ _ c.new-cursor.ensures.dialect c.new-cursor.ensures.whole
+    read_none with_member params_of_pairs _ _ _ c.new-cursor.ensures.dialect
+    c.new-cursor.ensures.whole
     all_params
 
 pub returns : goal.returns
 returns c =
     let is = c.in_default.is in
     let none : c.in_ok-member.field-0 ≡ None = cc in
-    read_all with_member params_of_pairs _ _ _ _ _ c.loop-member.invariant c.in_ok-member.ensures.next
+    read_all with_member params_of_pairs _ _ _ _ _ c.loop-member.invariant
+    c.in_ok-member.ensures.next
     none (λ v a. a ≡ params_of_field v) (λ all e. e)
