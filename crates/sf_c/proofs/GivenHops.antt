@@ -20,7 +20,8 @@ use Rattle.sf_c.specs.declared.hops.HopNode.{HopNode}
 use Rattle.sf_c.specs.declared.status.Status.{Status}
 use Rattle.sf_c.specs.declared.status.Status.TheVariants.{Answered, Refused, SecondRefused, Short}
 use Rattle.sf_c.specs.declared.status.Status.TheVariants.{OutOfMemory, Empty, BadCall}
-use Rattle.sf_c.specs.declared.status.Status.TheVariants.{NotACache, Invalid, Absent, TooLong, TooMany}
+use Rattle.sf_c.specs.declared.status.Status.TheVariants.{NotACache, Invalid, Absent, TooLong}
+use Rattle.sf_c.specs.declared.status.Status.TheVariants.{TooMany}
 use Rattle.sf_c.specs.GivenHops.{GivesHop, GivesMaybe, GivesNone}
 use Rattle.sf_c.specs.GivenHops.{GivesOutcome, GivesPassed, GivesStatus, IsReadAs, WritesHop}
 use Rattle.sf_c.specs.GivenHops.{hop_text}
@@ -44,51 +45,36 @@ conflicting bytes n e h (Forwarded p) g =
     absurd cc
 conflicting bytes n e h (Conflict p) g = h p g.1
 
+-- none of Q if none of P, given that no Q is where no P is
+none_of : {X Y : Type 0} (P : X → Type 0) (Q : Y → Type 0)
+    → (((x : X) → P x → ⊥) → (y : Y) → Q y → ⊥) → (s : Status) → GivesNone P s → GivesNone Q s
+none_of P Q none Invalid h = none h
+none_of P Q none OutOfMemory h = tt
+none_of P Q none Answered h = h
+none_of P Q none Refused h = h
+none_of P Q none SecondRefused h = h
+none_of P Q none Short h = h
+none_of P Q none Empty h = h
+none_of P Q none BadCall h = h
+none_of P Q none NotACache h = h
+none_of P Q none Absent h = h
+none_of P Q none TooLong h = h
+none_of P Q none TooMany h = h
+
 pub no_forwarded : (bytes : List ℕ) (n : HopNode) (s : Status) → n.outcome ≡ 2
     → GivesNone (GivesPassed bytes n) s → GivesNone (GivesOutcome bytes n) s
-no_forwarded bytes n Invalid e h = forwarded bytes n e h
-no_forwarded bytes n OutOfMemory e h = tt
-no_forwarded bytes n Answered e h = h
-no_forwarded bytes n Refused e h = h
-no_forwarded bytes n SecondRefused e h = h
-no_forwarded bytes n Short e h = h
-no_forwarded bytes n Empty e h = h
-no_forwarded bytes n BadCall e h = h
-no_forwarded bytes n NotACache e h = h
-no_forwarded bytes n Absent e h = h
-no_forwarded bytes n TooLong e h = h
-no_forwarded bytes n TooMany e h = h
+no_forwarded bytes n s e =
+    none_of (GivesPassed bytes n) (GivesOutcome bytes n) (forwarded bytes n e) s
 
 pub no_conflict : (bytes : List ℕ) (n : HopNode) (s : Status) → n.outcome ≡ 3
     → GivesNone (GivesPassed bytes n) s → GivesNone (GivesOutcome bytes n) s
-no_conflict bytes n Invalid e h = conflicting bytes n e h
-no_conflict bytes n OutOfMemory e h = tt
-no_conflict bytes n Answered e h = h
-no_conflict bytes n Refused e h = h
-no_conflict bytes n SecondRefused e h = h
-no_conflict bytes n Short e h = h
-no_conflict bytes n Empty e h = h
-no_conflict bytes n BadCall e h = h
-no_conflict bytes n NotACache e h = h
-no_conflict bytes n Absent e h = h
-no_conflict bytes n TooLong e h = h
-no_conflict bytes n TooMany e h = h
+no_conflict bytes n s e =
+    none_of (GivesPassed bytes n) (GivesOutcome bytes n) (conflicting bytes n e) s
 
 -- none of Q where none of P, which each of Q has
 pub no_whole : {X Y : Type 0} (P : X → Type 0) (Q : Y → Type 0) (part : Y → X)
     → ((y : Y) → Q y → P (part y)) → (s : Status) → GivesNone P s → GivesNone Q s
-no_whole P Q part has Invalid h = λ y g. h (part y) (has y g)
-no_whole P Q part has OutOfMemory h = tt
-no_whole P Q part has Answered h = h
-no_whole P Q part has Refused h = h
-no_whole P Q part has SecondRefused h = h
-no_whole P Q part has Short h = h
-no_whole P Q part has Empty h = h
-no_whole P Q part has BadCall h = h
-no_whole P Q part has NotACache h = h
-no_whole P Q part has Absent h = h
-no_whole P Q part has TooLong h = h
-no_whole P Q part has TooMany h = h
+no_whole P Q part has = none_of P Q (λ h y g. h (part y) (has y g))
 
 -- the status of a hop that a struct gives has three digits
 status_in_range : (flag number : ℕ) (status : Option ℕ)

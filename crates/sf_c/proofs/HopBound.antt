@@ -141,39 +141,20 @@ forward_back s = go (value_at s reasons) refl
         ∙ found s w reasons (refl, (refl, (refl, (refl, (refl, (refl, (refl, (refl, tt)))))))) e
 
 -- a parameter as a token, as a text and as a detail
-token_few : (ps : Pairs Bare) (o : Option Bare)
-    → length (why_token (option_map (passed_by_token ps) (option_and_then as_token o))) ≤ taken o
-token_few ps None = omega arith
-token_few ps (Some (Integer n)) = omega arith
-token_few ps (Some (Decimal n)) = omega arith
-token_few ps (Some (Text s)) = omega arith
-token_few ps (Some (Token s)) = let e = ap length (forward_back s) in omega arith
-token_few ps (Some (Blob s)) = omega arith
-token_few ps (Some (Boolean b)) = omega arith
-token_few ps (Some (Date n)) = omega arith
-token_few ps (Some (Shown s)) = omega arith
-
-text_few : (o : Option Bare) → length (unwrap_or (option_and_then as_text o) []) ≤ taken o
-text_few None = omega arith
-text_few (Some (Integer n)) = omega arith
-text_few (Some (Decimal n)) = omega arith
-text_few (Some (Text s)) = omega arith
-text_few (Some (Token s)) = omega arith
-text_few (Some (Blob s)) = omega arith
-text_few (Some (Boolean b)) = omega arith
-text_few (Some (Date n)) = omega arith
-text_few (Some (Shown s)) = omega arith
-
-detail_few : (o : Option Bare) → length (detail_bytes (option_and_then as_name o)) ≤ taken o
-detail_few None = omega arith
-detail_few (Some (Integer n)) = omega arith
-detail_few (Some (Decimal n)) = omega arith
-detail_few (Some (Text s)) = omega arith
-detail_few (Some (Token s)) = omega arith
-detail_few (Some (Blob s)) = omega arith
-detail_few (Some (Boolean b)) = omega arith
-detail_few (Some (Date n)) = omega arith
-detail_few (Some (Shown s)) = omega arith
+parts_few : (ps : Pairs Bare) (o : Option Bare)
+    → (length (why_token (option_map (passed_by_token ps) (option_and_then as_token o))) ≤ taken o)
+    × (length (unwrap_or (option_and_then as_text o) []) ≤ taken o)
+    × (length (detail_bytes (option_and_then as_name o)) ≤ taken o)
+parts_few ps None = (omega arith, omega arith, omega arith)
+parts_few ps (Some (Integer n)) = (omega arith, omega arith, omega arith)
+parts_few ps (Some (Decimal n)) = (omega arith, omega arith, omega arith)
+parts_few ps (Some (Text s)) = (omega arith, omega arith, omega arith)
+parts_few ps (Some (Token s)) =
+    let e = ap length (forward_back s) in (omega arith, omega arith, omega arith)
+parts_few ps (Some (Blob s)) = (omega arith, omega arith, omega arith)
+parts_few ps (Some (Boolean b)) = (omega arith, omega arith, omega arith)
+parts_few ps (Some (Date n)) = (omega arith, omega arith, omega arith)
+parts_few ps (Some (Shown s)) = (omega arith, omega arith, omega arith)
 
 pub passed_back : (b : Bool) (o : Option Passed) → passed_by (outcome_by b o) ≡ o
 passed_back true None = refl
@@ -188,9 +169,9 @@ hop_few : (ps : Pairs Bare) (n : Name)
 hop_few ps n =
     let back = ap (λ o. length (why_token o))
     (passed_back (unwrap_or (boolean_at (codes "hit") ps) false) (passed_at ps)) in
-    let why = token_few ps (value_at (codes "fwd") ps) in
-    let key = text_few (value_at (codes "key") ps) in
-    let detail = detail_few (value_at (codes "detail") ps) in
+    let why = (parts_few ps (value_at (codes "fwd") ps)).0 in
+    let key = (parts_few ps (value_at (codes "key") ps)).1 in
+    let detail = (parts_few ps (value_at (codes "detail") ps)).2 in
     let all = three_taken (bytes_eq (codes "fwd")) (bytes_eq (codes "key"))
     (bytes_eq (codes "detail")) (keys_apart (codes "fwd") (codes "key") refl)
     (keys_apart (codes "fwd") (codes "detail") refl)
@@ -280,7 +261,7 @@ path_few (field.Dict d) hs e =
 count_few : (n m : ℕ) (ts : Seq HopContent) (js hs : Seq Hop) → n ≡ length ts
     → ts ≡ map hop_content js → js ≡ hs → 10 * length hs ≤ m → 10 * n ≤ m
 count_few n m ts js hs e f g h =
-    let told = ap length f in
+    let count = ap length f in
     let each = length-map js hop_content in
     let same = ap length g in
     omega arith
@@ -288,7 +269,7 @@ count_few n m ts js hs e f g h =
 size_few : (n m : ℕ) (ts : Seq HopContent) (js hs : Seq Hop) → n ≡ hops_size ts
     → ts ≡ map hop_content js → js ≡ hs → 5 * hops_size (map hop_content hs) ≤ m → 5 * n ≤ m
 size_few n m ts js hs e f g h =
-    let told = ap hops_size f in
+    let size = ap hops_size f in
     let same = ap (λ z. hops_size (map hop_content z)) g in
     omega arith
 
@@ -297,7 +278,7 @@ pub content_few : (n size : ℕ) (t : Seq ℕ) (v : Field) (ts : Seq HopContent)
     → n ≡ length ts → size ≡ hops_size ts → ts ≡ map hop_content js → js ≡ hs
     → HopsAreFew → HopBytesAreFew → SpellsField Rfc9651 List t v → hops v ≡ Ok hs
     → (10 * n ≤ 8 * length t + 5) × (5 * size ≤ 8 * length t)
-content_few n size t v ts js hs e s f g few small spelled told = (
-  count_few n (8 * length t + 5) ts js hs e f g (few Rfc9651 List t v hs spelled told),
-  size_few size (8 * length t) ts js hs s f g (small Rfc9651 List t v hs spelled told),
+content_few n size t v ts js hs e s f g few small spelled means = (
+  count_few n (8 * length t + 5) ts js hs e f g (few Rfc9651 List t v hs spelled means),
+  size_few size (8 * length t) ts js hs s f g (small Rfc9651 List t v hs spelled means),
 )

@@ -149,9 +149,9 @@ hop_is b0 b1 b2 b3 b4 n w k d x h p t s =
     rw (name, why, key, detail, s) refl
 
 -- the hops with one more
-pub hop_content_is : (b0 b1 b2 b3 b4 n w k d : List ℕ) (x : HopNode) (h : Hop) (ns ms : List HopNode)
-    → PutsHop b0 b1 b2 b3 b4 n w k d x → TextsOf h n w k d → says_by x ≡ says_of h
-    → ms ≡ ns ++ x ∷ [] → AreHopsWithin b0 ns
+pub hop_content_is : (b0 b1 b2 b3 b4 n w k d : List ℕ) (x : HopNode) (h : Hop)
+    (ns ms : List HopNode) → PutsHop b0 b1 b2 b3 b4 n w k d x → TextsOf h n w k d
+    → says_by x ≡ says_of h → ms ≡ ns ++ x ∷ [] → AreHopsWithin b0 ns
     → map (hop_content_by b4) ms ≡ map (hop_content_by b0) ns ++ hop_content h ∷ []
 hop_content_is b0 b1 b2 b3 b4 n w k d x h ns ms p t s e a =
     let last = hop_is b0 b1 b2 b3 b4 n w k d x h p t s in
@@ -217,7 +217,7 @@ hop_held b0 b1 b2 b3 b4 n w k d x h ns ms p t s e a =
     let before = hops_there b0 b1 b2 b3 b4 n w k d x ns p a.0 in
     let there = spans_there b0 b1 b2 b3 b4 n w k d x p in
     let all = hop_content_is b0 b1 b2 b3 b4 n w k d x h ns ms p t s e a.0 in
-    let told = ap hops_size all in
+    let total = ap hops_size all in
     let sum = hops_size-append (map (hop_content_by b0) ns) (hop_content h ∷ []) in
     let l1 = ap length p.name.0 in
     let l2 = ap length p.why.0 in
@@ -236,7 +236,8 @@ hop_held b0 b1 b2 b3 b4 n w k d x h ns ms p t s e a =
     put_behind b0 b1 b2 b3 b4 n w k d x p
     ∙ ap (λ z. z ++ (n ++ (w ++ (k ++ d)))) a.3
     ∙ ap (λ z. hops_bytes (map (hop_content_by b0) ns) ++ z) (hop_bytes_are n w k d h t)
-    ∙ sym (hops_bytes-push (map (hop_content_by b0) ns) (hop_content h)) ∙ sym (ap hops_bytes all) in (
+    ∙ sym (hops_bytes-push (map (hop_content_by b0) ns) (hop_content h))
+    ∙ sym (ap hops_bytes all) in (
       rw e (hops_within_push b4 ns x before.0 there.0),
       omega arith,
       rw e (hops_order_more 0 b0 b1 b2 b3 b4 n w k d x ns p a.2),

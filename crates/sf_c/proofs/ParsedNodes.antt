@@ -74,8 +74,8 @@ pub flat_nodes : (v : Field) (ts : List NodeContent) (n : ℕ) → ts ≡ field_
     → n ≡ field_nodes v
 flat_nodes v ts n e h = h ∙ ap length e ∙ content_nodes v
 
-pub flat_bytes : (v : Field) (ts : List NodeContent) (n : ℕ) → ts ≡ field_content v → n ≡ content_size ts
-    → n ≡ field_bytes v
+pub flat_bytes : (v : Field) (ts : List NodeContent) (n : ℕ) → ts ≡ field_content v
+    → n ≡ content_size ts → n ≡ field_bytes v
 flat_bytes v ts n e h = h ∙ ap content_size e ∙ content_bytes v
 
 -- the sizes of the parts of a value
@@ -88,8 +88,8 @@ has_sizes d k t v ts sizes few small only e n b =
 -- nodes that were written from the tree
 pub written_held : (d : Dialect) (k : Kind) (t : List ℕ) (v : Field) (ts : List NodeContent)
     (nodes : List Node) (bytes : List ℕ) (sizes : Sizes) → NodesAreFew → BytesAreFew
-    → IsOnly d k t v → ts ≡ field_content v → sizes.nodes ≡ length ts → sizes.bytes ≡ content_size ts
-    → sizes.nodes ≤ length nodes → sizes.bytes ≤ length bytes
+    → IsOnly d k t v → ts ≡ field_content v → sizes.nodes ≡ length ts
+    → sizes.bytes ≡ content_size ts → sizes.nodes ≤ length nodes → sizes.bytes ≤ length bytes
     → DescribesField d (t ++ take (content_size ts) bytes) (take (length ts) nodes) v
     → Each IsDecoded (take (length ts) nodes)
     → Each (IsInOne (length t)) (take (length ts) nodes) → IsHeld d k t nodes bytes sizes
@@ -102,7 +102,8 @@ written_held d k t v ts nodes bytes sizes few small only e n b nodes_fit bytes_f
     bytes_fit = bytes_fit;
     describes =
         subst (λ y. DescribesField d (t ++ take y bytes) (take sizes.nodes nodes) v) (sym b)
-        (subst (λ y. DescribesField d (t ++ take (content_size ts) bytes) (take y nodes) v) (sym n) h);
+        (subst (λ y. DescribesField d (t ++ take (content_size ts) bytes) (take y nodes) v) (sym n)
+        h);
     decoded = subst (λ y. Each IsDecoded (take y nodes)) (sym n) p;
     in_one = subst (λ y. Each (IsInOne (length t)) (take y nodes)) (sym n) q;
     count = flat_nodes v ts sizes.nodes e n;

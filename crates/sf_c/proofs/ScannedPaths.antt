@@ -123,7 +123,8 @@ served_more hs h number place last next e at before hit other = by h.outcome ref
 -- what a hop with its bytes makes of the structs and bytes so far
 put_hop : (old new : Seq ℕ) (used : ℕ) (n : HopNode) (h : Hop) (p : IsHopPut old new used n h)
     → PutsHop (take used old) p.with_name p.with_why p.with_key (take (end_of n.detail) new)
-    (bytes_of h.name) (why_token (passed_by h.outcome)) (unwrap_or h.key []) (detail_bytes h.detail) n
+    (bytes_of h.name) (why_token (passed_by h.outcome)) (unwrap_or h.key [])
+    (detail_bytes h.detail) n
 put_hop old new used n h p =
     record { name = p.name; why = p.why; key = p.key; detail = p.detail }
 
@@ -145,9 +146,10 @@ hop_read text c e v nodes old new count used n last next s (m, h, means, shown, 
     sym (length-take-le count nodes s.fits)
     ∙ sym (length-map (take count nodes) (hop_content_by (take used old)))
     ∙ ap length s.describes ∙ length-map s.path hop_content in
-    let told = hop_content_is (take used old) p.with_name p.with_why p.with_key (take (end_of n.detail) new)
-    (bytes_of h.name) (why_token (passed_by h.outcome)) (unwrap_or h.key []) (detail_bytes h.detail) n h
-    (take count nodes) _ (put_hop old new used n h p) texts p.says pushed s.held.0 in
+    let contents = hop_content_is (take used old) p.with_name p.with_why p.with_key
+    (take (end_of n.detail) new) (bytes_of h.name) (why_token (passed_by h.outcome))
+    (unwrap_or h.key []) (detail_bytes h.detail) n h (take count nodes) _
+    (put_hop old new used n h p) texts p.says pushed s.held.0 in
     record {
       members = s.members ++ m ∷ [];
       path = s.path ++ h ∷ [];
@@ -159,14 +161,17 @@ hop_read text c e v nodes old new count used n last next s (m, h, means, shown, 
       fits = omega arith;
       within = within;
       describes =
-          told ∙ ap (λ y. y ++ hop_content h ∷ []) s.describes ∙ sym (map-append hop_content s.path (h ∷ []));
+          contents
+          ∙ ap (λ y. y ++ hop_content h ∷ []) s.describes
+          ∙ sym (map-append hop_content s.path (h ∷ []));
       held =
           hop_held (take used old) p.with_name p.with_why p.with_key (take (end_of n.detail) new)
-          (bytes_of h.name) (why_token (passed_by h.outcome)) (unwrap_or h.key []) (detail_bytes h.detail)
-          n h (take count nodes) _ (put_hop old new used n h p) texts p.says pushed s.held;
+          (bytes_of h.name) (why_token (passed_by h.outcome)) (unwrap_or h.key [])
+          (detail_bytes h.detail) n h (take count nodes) _ (put_hop old new used n h p) texts p.says
+          pushed s.held;
       place =
-          served_more s.path h n.outcome count last next (ap (λ y. y.outcome) p.says) many s.place hit
-          other;
+          served_more s.path h n.outcome count last next (ap (λ y. y.outcome) p.says) many s.place
+          hit other;
       reads = λ ms r.
           subst (SpellsWhole (SpellsMember Rfc9651) text) (sym (append_assoc s.members (m ∷ []) ms))
           (s.reads (m ∷ ms) (remains ms r));
@@ -222,8 +227,8 @@ path_read text c e o nodes bytes z s r none =
       size = sym used ∙ s.held.1 ∙ ap hops_size s.describes;
       place = s.place;
       front =
-          front_of (map hop_content s.path) nodes (take z.hops nodes) bytes (take z.bytes bytes) s.describes
-          s.held (ap (λ k. take k nodes) many) (ap (λ k. take k bytes) used);
+          front_of (map hop_content s.path) nodes (take z.hops nodes) bytes (take z.bytes bytes)
+          s.describes s.held (ap (λ k. take k nodes) many) (ap (λ k. take k bytes) used);
     }
 
 -- a hop whose bytes were put, each after those before it
@@ -263,7 +268,8 @@ hop_is_put v h b0 b1 b2 b3 b4 used e1 e2 e3 name why key detail n s1 s2 s3 s4 s 
       name = subst (PutsSpan (take used b0) (take (end_of name) b1) (bytes_of h.name)) (sym y1) q1;
       why =
           subst
-          (PutsSpan (take (end_of name) b1) (take (end_of why) b2) (why_token (passed_by h.outcome)))
+          (PutsSpan (take (end_of name) b1) (take (end_of why) b2)
+          (why_token (passed_by h.outcome)))
           (sym y2) (subst (λ e. PutsBehind b1 b2 e (why_token (passed_by h.outcome)) why) x1 q2);
       key =
           subst (PutsSpan (take (end_of why) b2) (take (end_of key) b3) (unwrap_or h.key []))

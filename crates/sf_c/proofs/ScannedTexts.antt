@@ -42,23 +42,23 @@ pub says_to_cache : (old new : PolicyOutput) (t : Seq ℕ) (o : Option Policy) (
     → new.refusal ≡ old.refusal → SaysToCache old new t (Some s)
 says_to_cache old new t o s (v, only, may) h same = by v only may
   where
-    told : (s : Status) (d : Dict) → IsOnly Rfc9651 kind.Dict t (field.Dict d)
+    by_status : (s : Status) (d : Dict) → IsOnly Rfc9651 kind.Dict t (field.Dict d)
         → Directs old.policy new.policy d s → SaysToCache old new t (Some s)
-    told status.Answered d only x = (d, only, x, same)
-    told status.Empty d only x = (d, only, x, same)
-    told status.Refused d only x = absurd x
-    told status.SecondRefused d only x = absurd x
-    told status.Short d only x = absurd x
-    told status.OutOfMemory d only x = absurd x
-    told status.BadCall d only x = absurd x
-    told status.NotACache d only x = absurd x
-    told status.Invalid d only x = absurd x
-    told status.Absent d only x = absurd x
-    told status.TooLong d only x = absurd x
-    told status.TooMany d only x = absurd x
+    by_status status.Answered d only x = (d, only, x, same)
+    by_status status.Empty d only x = (d, only, x, same)
+    by_status status.Refused d only x = absurd x
+    by_status status.SecondRefused d only x = absurd x
+    by_status status.Short d only x = absurd x
+    by_status status.OutOfMemory d only x = absurd x
+    by_status status.BadCall d only x = absurd x
+    by_status status.NotACache d only x = absurd x
+    by_status status.Invalid d only x = absurd x
+    by_status status.Absent d only x = absurd x
+    by_status status.TooLong d only x = absurd x
+    by_status status.TooMany d only x = absurd x
 
     by : (v : Field) → IsOnly Rfc9651 kind.Dict t v → MayOffer v o
         → SaysToCache old new t (Some s)
     by (field.Item i) only may = absurd only.spelled
     by (field.List l) only may = absurd only.spelled
-    by (field.Dict d) only may = told s d only (h d may)
+    by (field.Dict d) only may = by_status s d only (h d may)

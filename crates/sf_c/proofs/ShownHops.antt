@@ -1,6 +1,6 @@
 -- What is said of a hop that borrows its text.
-use Rattle.std.proofs.Common.{◌≡◌, ℕ, pos, ◌+◌, ◌*◌, Bool, true, false, List, [], Option, Some, None}
-use Rattle.std.proofs.Common.{Bor, refl, sym, ap, ◌∙◌, option_copied}
+use Rattle.std.proofs.Common.{◌≡◌, ℕ, pos, ◌+◌, ◌*◌, Bool, true, false, List, [], Option, Some}
+use Rattle.std.proofs.Common.{None, Bor, refl, sym, ap, ◌∙◌, option_copied}
 use Rattle.std.specs.Prelude.{is_some, unwrap_or}
 use Rattle.std.specs.Option.{option_and, option_map}
 use Rattle.sf_value.specs.declared.dialect.Dialect.{Dialect}
@@ -120,7 +120,8 @@ view_says d v s n named h =
     let passed : is_some v.params.fwd ≡ is_some s.fwd =
     sym (some_copied v.params.fwd) ∙ ap is_some fwd in
     let with_status : option_and v.params.fwd v.params.fwd_status ≡ option_and s.fwd s.fwd_status =
-    sym (and_copied v.params.fwd v.params.fwd_status) ∙ ap (λ o. option_and o v.params.fwd_status) fwd
+    sym (and_copied v.params.fwd v.params.fwd_status)
+    ∙ ap (λ o. option_and o v.params.fwd_status) fwd
     ∙ ap (option_and s.fwd) status in
     let with_stored : option_and v.params.fwd v.params.stored ≡ option_and s.fwd s.stored =
     sym (and_copied v.params.fwd v.params.stored) ∙ ap (λ o. option_and o v.params.stored) fwd
@@ -132,7 +133,8 @@ view_says d v s n named h =
     let detail = detail_some d v.params.detail s.detail h.detail in
     let token = detail_token d v.params.detail s.detail h.detail in
     let is = name_token d v.name n named in
-    rw (fwd, hit, ttl, passed, with_status, with_stored, with_collapsed, key, detail, token, is) refl
+    rw (fwd, hit, ttl, passed, with_status, with_stored, with_collapsed, key, detail, token, is)
+    refl
 
 pub says_shown : (v : HopView) (h : Hop) → ShowsHop v h → says_in v ≡ says_of h
 says_shown v h s =
@@ -154,6 +156,7 @@ token_shown v h s =
         ≡ unwrap_or s.parts.fwd []
     by o e = ap why_token e ∙ token s.parts.fwd
       where
-        token : (o : Option (List ℕ)) → why_token (passed_in (record s.parts { fwd = o })) ≡ unwrap_or o []
+        token : (o : Option (List ℕ))
+            → why_token (passed_in (record s.parts { fwd = o })) ≡ unwrap_or o []
         token None = refl
         token (Some t) = forward_back t

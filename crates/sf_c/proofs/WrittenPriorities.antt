@@ -15,7 +15,8 @@ use Rattle.sf_parse.proofs.GrammarLaws.{one_value}
 use Rattle.sf_use.specs.declared.priority.Asked.{Asked}
 use Rattle.sf_use.specs.Priority.{params_of_dict}
 use Rattle.sf_c.specs.Laws.{PriorityIsRead}
-use Rattle.sf_c.specs.Priorities.{params_of_flags, dict_of_params, incremental_member, urgency_at, urgency_member}
+use Rattle.sf_c.specs.Priorities.{params_of_flags, dict_of_params, incremental_member, urgency_at}
+use Rattle.sf_c.specs.Priorities.{urgency_member}
 
 -- u and i are keys, and the urgency is an Integer
 valid_given : (n : ℕ) → nat_le n 7 ≡ true → (i : Option Bool)
@@ -75,12 +76,14 @@ read_said says n i = by (says == 0) refl
     asks u = record { urgency = u; incremental = i }
 
     within : (b : Bool) → nat_le n 7 ≡ b
-        → params_of_dict (dict_of_params (asks (if b then Some n else None))) ≡ asks (if b then Some n else None)
+        → params_of_dict (dict_of_params (asks (if b then Some n else None)))
+        ≡ asks (if b then Some n else None)
     within true h = read_given n h i
     within false h = read_none i
 
     by : (b : Bool) → (says == 0) ≡ b
-        → params_of_dict (dict_of_params (asks (if b then None else (if nat_le n 7 then Some n else None))))
+        → params_of_dict
+        (dict_of_params (asks (if b then None else (if nat_le n 7 then Some n else None))))
         ≡ asks (if b then None else (if nat_le n 7 then Some n else None))
     by true h = read_none i
     by false h = within (nat_le n 7) refl

@@ -29,8 +29,8 @@ abbrev pub IsSmall : List ℕ → Field → Type 0
 IsSmall t v = (10 * field_nodes v ≤ 8 * length t + 5) × (5 * field_bytes v ≤ 8 * length t)
 
 -- the first nodes describe the value, with the text t and the first bytes after it
-pub record HoldsNodes (d : Dialect) (t : List ℕ) (nodes : List Node) (bytes : List ℕ) (sizes : Sizes)
-    (v : Field) : Type 0 where
+pub record HoldsNodes (d : Dialect) (t : List ℕ) (nodes : List Node) (bytes : List ℕ)
+    (sizes : Sizes) (v : Field) : Type 0 where
   pub nodes_fit : sizes.nodes ≤ length nodes
   pub bytes_fit : sizes.bytes ≤ length bytes
   pub describes : DescribesField d (t ++ take sizes.bytes bytes) (take sizes.nodes nodes) v
@@ -58,8 +58,8 @@ HasSizes d k t sizes =
     × (sizes.bytes ≡ field_bytes v)
 
 -- the starts of the buffers describe the only value that the text t spells; or it has more nodes
--- than the first of them holds; or the second is too small for it; or the struct has the refusal; or
--- an offset would have to be 2^32 or more
+-- than the first of them holds; or the second is too small for it; or the struct has the refusal;
+-- or an offset would have to be 2^32 or more
 abbrev pub Flattens : NodeOutput → NodeOutput → List ℕ → Dialect → Kind → Status → Type 0
 Flattens old new t d k Answered =
     IsHeld d k t new.nodes new.bytes new.sizes

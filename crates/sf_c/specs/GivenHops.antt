@@ -25,7 +25,7 @@ use Rattle.sf_use.specs.declared.cache_status.hop.Outcome.TheVariants.{Hit, Forw
 use Rattle.sf_use.specs.declared.cache_status.hop.Outcome.TheVariants.{Unsaid}
 use Rattle.sf_use.specs.declared.cache_status.hop.Hop.{Hop}
 use Rattle.sf_use.specs.CacheStatus.Hops.{hops}
-use Rattle.sf_use.specs.CacheStatus.Laws.{plain}
+use Rattle.sf_use.specs.CacheStatus.Laws.{canonical_hop}
 use Rattle.sf_use.specs.CacheStatus.Members.{entry}
 use Rattle.sf_c.specs.declared.span.Span.{Span}
 use Rattle.sf_c.specs.declared.hops.HopNode.{HopNode}
@@ -123,7 +123,8 @@ hop_text h = canon (field.List (record { members = entry h ∷ [] }))
 -- the text is a Cache-Status field that is read as this hop alone; a token of fwd that the RFC
 -- defines is read as its reason
 abbrev pub IsReadAs : List ℕ → Hop → Type 0
-IsReadAs text h = (v : Field) × IsOnly Rfc9651 kind.List text v × (hops v ≡ Ok (plain h ∷ []))
+IsReadAs text h =
+    (v : Field) × IsOnly Rfc9651 kind.List text v × (hops v ≡ Ok (canonical_hop h ∷ []))
 
 -- the text of a Cache-Status field with the hop that the struct gives as its only member
 abbrev pub WritesHop : TextBuffer → TextBuffer → List ℕ → HopNode → Option Status → Type 0

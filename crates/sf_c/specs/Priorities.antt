@@ -10,7 +10,7 @@ use Rattle.sf_value.specs.declared.value.Member.{Member}
 use Rattle.sf_value.specs.Grammar.Pairs.{Pairs}
 use Rattle.sf_parse.specs.Parsers.{IsOnly}
 use Rattle.sf_use.specs.declared.priority.Asked.{Asked}
-use Rattle.sf_use.specs.Priority.{params_of_field, priority_with_defaults, plain}
+use Rattle.sf_use.specs.Priority.{params_of_field, priority_with_defaults, bare_member}
 use Rattle.sf_use.specs.Ranges.{least_urgent}
 use Rattle.sf_c.specs.declared.priority.PriorityFlags.{PriorityFlags}
 use Rattle.sf_c.specs.declared.refusal.SyntaxRefusal.{SyntaxRefusal}
@@ -62,12 +62,12 @@ AsksFor old new t status = ⊥
 -- the member u with this urgency (RFC 9218 section 4.1), if there is one
 abbrev pub urgency_member : Option ℕ → Pairs Member
 urgency_member None = []
-urgency_member (Some n) = (codes "u", plain (Integer (pos n))) ∷ []
+urgency_member (Some n) = (codes "u", bare_member (Integer (pos n))) ∷ []
 
 -- the member i with this flag (section 4.2), if there is one
 abbrev pub incremental_member : Option Bool → Pairs Member
 incremental_member None = []
-incremental_member (Some b) = (codes "i", plain (Boolean b)) ∷ []
+incremental_member (Some b) = (codes "i", bare_member (Boolean b)) ∷ []
 
 -- the Dictionary that sets these parameters and nothing else, also to the defaults
 abbrev pub dict_of_params : Asked → Dictionary

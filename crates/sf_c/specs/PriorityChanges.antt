@@ -29,14 +29,14 @@ ChangesPriority old new t p (Some Answered) =
     × IsOnly Rfc9651 kind.Dict t (field.Dict d)
     × IsOnly Rfc9651 kind.Dict (canon (field.Dict (updated (params_of_flags p) d)))
     (field.Dict (updated (params_of_flags p) d))
-    × PutsText (text_buffer old) (text_buffer new) (canon (field.Dict (updated (params_of_flags p) d)))
-    (Some Answered)
+    × PutsText (text_buffer old) (text_buffer new)
+    (canon (field.Dict (updated (params_of_flags p) d))) (Some Answered)
     × (new.refusal ≡ old.refusal)
 ChangesPriority old new t p (Some Short) =
     (d : Dictionary)
     × IsOnly Rfc9651 kind.Dict t (field.Dict d)
-    × PutsText (text_buffer old) (text_buffer new) (canon (field.Dict (updated (params_of_flags p) d)))
-    (Some Short)
+    × PutsText (text_buffer old) (text_buffer new)
+    (canon (field.Dict (updated (params_of_flags p) d))) (Some Short)
     × (new.refusal ≡ old.refusal)
 ChangesPriority old new t p (Some Refused) =
     SaysRefusal Rfc9651 kind.Dict t new.refusal

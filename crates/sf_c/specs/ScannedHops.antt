@@ -17,8 +17,8 @@ use Rattle.sf_use.specs.CacheStatus.Served.{served}
 use Rattle.sf_c.specs.declared.hop_scan.PathSizes.{PathSizes}
 use Rattle.sf_c.specs.declared.hops.HopNode.{HopNode}
 use Rattle.sf_c.specs.declared.span.Span.{Span}
-use Rattle.sf_c.specs.Hops.{bytes_of, detail_bytes, end_of, hops_size, reason_number, says_by, says_of}
-use Rattle.sf_c.specs.Hops.{hop_content, why_token, HopSays, HopsAtFront, PutsSpan}
+use Rattle.sf_c.specs.Hops.{bytes_of, detail_bytes, end_of, hops_size, reason_number, says_by}
+use Rattle.sf_c.specs.Hops.{says_of, hop_content, why_token, HopSays, HopsAtFront, PutsSpan}
 use Rattle.sf_c.specs.Refusals.{flag_number}
 
 -- whether a name that is borrowed is a Token

@@ -3,7 +3,8 @@ use Rattle.std.specs.Prelude.{ℕ, ◌==◌, if◌then◌else◌, Option, Some, 
 use Rattle.sf_c.specs.declared.status.Status.{Status}
 use Rattle.sf_c.specs.declared.status.Status.TheVariants.{Answered, Refused, SecondRefused, Short}
 use Rattle.sf_c.specs.declared.status.Status.TheVariants.{OutOfMemory, Empty, BadCall}
-use Rattle.sf_c.specs.declared.status.Status.TheVariants.{NotACache, Invalid, Absent, TooLong, TooMany}
+use Rattle.sf_c.specs.declared.status.Status.TheVariants.{NotACache, Invalid, Absent, TooLong}
+use Rattle.sf_c.specs.declared.status.Status.TheVariants.{TooMany}
 
 -- the status of a number
 abbrev pub status_at : ℕ → Option Status

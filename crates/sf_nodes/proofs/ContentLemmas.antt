@@ -5,7 +5,8 @@ use Rattle.std.specs.Prelude.{is_ok, is_err}
 use Rattle.std.proofs.lemmas.List.{map-append}
 use Rattle.sf_view.specs.View.{slice_at}
 use Rattle.sf_nodes.specs.declared.parts.Part.{Part}
-use Rattle.sf_nodes.specs.NodeContents.{NodeContent, content_by, content_size, IsWithin, AreWithin, HoldsUp}
+use Rattle.sf_nodes.specs.NodeContents.{NodeContent, content_by, content_size, IsWithin, AreWithin}
+use Rattle.sf_nodes.specs.NodeContents.{HoldsUp}
 use Rattle.sf_nodes.proofs.Slices.{slice_at-append, slice_at_last}
 
 -- a node that points to bytes points to the same among more
@@ -108,7 +109,8 @@ content_more bytes now key text ns ms n e f p h =
     ) refl)
 
 -- how many bytes there are with one more part
-pub content_size-append : (ts us : List NodeContent) → content_size (ts ++ us) ≡ content_size ts + content_size us
+pub content_size-append : (ts us : List NodeContent)
+    → content_size (ts ++ us) ≡ content_size ts + content_size us
 content_size-append [] us = omega arith
 content_size-append (t ∷ ts) us = let e = content_size-append ts us in omega arith
 
@@ -128,9 +130,9 @@ holds_more bytes now key text ns ms n e f p h =
       text = text;
       size = n.size;
     } in
-    let told : map (content_by now) ms ≡ map (content_by bytes) ns ++ last ∷ []
+    let contents : map (content_by now) ms ≡ map (content_by bytes) ns ++ last ∷ []
     = content_more bytes now key text ns ms n e f p h.0 in
-    let size = ap content_size told in
+    let size = ap content_size contents in
     let sizes = content_size-append (map (content_by bytes) ns) (last ∷ []) in
     (within_more bytes now key text ns ms n e f p h.0, omega arith)
 

@@ -1,6 +1,6 @@
 -- The nodes of the parts of a value describe that value.
-use Rattle.std.proofs.Common.{◌≡◌, ℕ, ◌+◌, pos, List, [], ◌∷◌, ◌++◌, length, map, refl, sym, ap, ap₂}
-use Rattle.std.proofs.Common.{◌∙◌, ◌<◌, ◌^◌, subst, arith, length-append, take, drop, inr}
+use Rattle.std.proofs.Common.{◌≡◌, ℕ, ◌+◌, pos, List, [], ◌∷◌, ◌++◌, length, map, refl, sym, ap}
+use Rattle.std.proofs.Common.{ap₂, ◌∙◌, ◌<◌, ◌^◌, subst, arith, length-append, take, drop, inr}
 use Rattle.std.proofs.lemmas.List.{map-append, length-map}
 use Rattle.std.proofs.Math.Seq.{take-append_seam}
 use Rattle.sf_value.specs.declared.dialect.Dialect.{Dialect}
@@ -23,9 +23,10 @@ use Rattle.sf_view.specs.View.{DescribesOpening, DescribesInner, DescribesMember
 use Rattle.sf_view.specs.View.{DescribesEntries, DescribesField}
 use Rattle.sf_nodes.specs.declared.parts.Part.{Part}
 use Rattle.sf_nodes.specs.NodeBytes.{IsDecoded, IsInOne}
-use Rattle.sf_nodes.specs.NodeContents.{NodeContent, content_by, content_size, node_of, IsWithin, AreWithin, HoldsUp}
-use Rattle.sf_nodes.specs.NodeContents.{IsPartSmall}
-use Rattle.sf_nodes.specs.Nodes.{bare_content, params_content, item_content, items_content, inside_content, inner_content}
+use Rattle.sf_nodes.specs.NodeContents.{NodeContent, content_by, content_size, node_of, IsWithin}
+use Rattle.sf_nodes.specs.NodeContents.{AreWithin, HoldsUp, IsPartSmall}
+use Rattle.sf_nodes.specs.Nodes.{bare_content, params_content, item_content, items_content}
+use Rattle.sf_nodes.specs.Nodes.{inside_content, inner_content}
 use Rattle.sf_nodes.specs.Nodes.{member_content, members_content, entries_content, field_content}
 use Rattle.sf_nodes.proofs.NodeSteps.{length_params}
 use Rattle.sf_nodes.proofs.Slices.{slice_at_behind, slice_at_length}
@@ -102,8 +103,8 @@ record Fronts (bytes : List ℕ) (ws : List Part) (ts us : List NodeContent) : T
   within : AreWithin bytes front
   behind : AreWithin bytes back
 
-fronts : (bytes : List ℕ) (ws : List Part) (ts us : List NodeContent) → map (content_by bytes) ws ≡ ts ++ us
-    → AreWithin bytes ws → Fronts bytes ws ts us
+fronts : (bytes : List ℕ) (ws : List Part) (ts us : List NodeContent)
+    → map (content_by bytes) ws ≡ ts ++ us → AreWithin bytes ws → Fronts bytes ws ts us
 fronts bytes ws [] us e w = record {
   front = [];
   back = ws;
@@ -169,7 +170,8 @@ item_nodes d source bytes r k (p ∷ ws) i e w =
       map (node_of (length source)) ws,
       refl,
       subst
-          (λ s. DescribesBare d (source ++ bytes) r k (1 + s) (node_of (length source) p) i.bare) many
+          (λ s. DescribesBare d (source ++ bytes) r k (1 + s) (node_of (length source) p) i.bare)
+          many
           (bare_node d source bytes r k (1 + length i.params) i.bare p both.0 w.0),
       params_nodes d source bytes roles.Parameter ws i.params both.1 w.1,
     )
@@ -263,7 +265,8 @@ parts_small start bytes (p ∷ ws) w h =
     ((omega arith, omega arith), parts_small start bytes ws w.1 h)
 
 -- what was written describes the value, wherever the text ends
-pub record Written (start : ℕ) (ts : List NodeContent) (new : List ℕ) (ns : List Node) : Type 0 where
+pub record Written (start : ℕ) (ts : List NodeContent) (new : List ℕ) (ns : List Node)
+    : Type 0 where
   pub describes : (d : Dialect) (source : List ℕ) (v : Field) → length source ≡ start
       → ts ≡ field_content v
       → DescribesField d (source ++ take (content_size ts) new) (take (length ts) ns) v

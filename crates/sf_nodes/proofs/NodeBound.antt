@@ -1,7 +1,7 @@
 -- A valid value has at most half as many nodes as its canonical text with one byte more has bytes,
 -- and at most as many bytes as its canonical text.
-use Rattle.std.proofs.Common.{◌≡◌, ℕ, ◌+◌, ◌*◌, ◌≤◌, Bool, true, false, List as Seq, [], ◌∷◌, ◌++◌}
-use Rattle.std.proofs.Common.{length, refl, arith, length-append, ◌<◌, ◌^◌, ◌/◌, ◌%◌, ℤ, pos}
+use Rattle.std.proofs.Common.{ℕ, ◌+◌, ◌*◌, ◌≤◌, true, false, List as Seq, [], ◌∷◌, ◌++◌}
+use Rattle.std.proofs.Common.{length, arith, length-append, ◌<◌, ◌^◌, ◌/◌, ◌%◌, ℤ, pos}
 use Rattle.std.proofs.Common.{negsuc, nat_abs, replicate, decimal}
 use Rattle.std.specs.Fmt.{signed_decimal}
 use Rattle.std.proofs.lemmas.Fmt.{decimal_nonempty}
@@ -21,9 +21,8 @@ use Rattle.sf_value.specs.Grammar.Numbers.{sign}
 use Rattle.sf_value.specs.Grammar.Pairs.{Pairs}
 use Rattle.sf_value.specs.Grammar.Tokens.{IsKey, IsToken}
 use Rattle.sf_value.specs.Grammar.Valid.{ValidBare, ValidItem, ValidMember, Valid}
-use Rattle.sf_value.specs.Grammar.Strings.{escaped, is_escaped}
+use Rattle.sf_value.specs.Grammar.Strings.{escaped}
 use Rattle.sf_value.specs.Grammar.ByteSequences.{unpadded, needed}
-use Rattle.sf_value.specs.Grammar.DisplayStrings.{is_unencoded}
 use Rattle.sf_value.specs.Grammar.Canonical.{canon_bare, canon_value, canon_params, canon_item}
 use Rattle.sf_value.specs.Grammar.Canonical.{canon_more, canon_items, canon_inner, canon_member}
 use Rattle.sf_value.specs.Grammar.Canonical.{canon_flag, canon_entry, canon_commas}
@@ -38,12 +37,7 @@ use Rattle.sf_nodes.specs.NodeCounts.{field_bytes}
 -- the bytes of a String are no more than those of its text
 escaped_long : (s : Seq ℕ) → length s ≤ length (escaped s)
 escaped_long [] = omega arith
-escaped_long (b ∷ s) = go (is_escaped b) refl (escaped_long s)
-  where
-    go : (e : Bool) → is_escaped b ≡ e → length s ≤ length (escaped s)
-        → length (b ∷ s) ≤ length (escaped (b ∷ s))
-    go true h k = rw h (omega arith)
-    go false h k = rw h (omega arith)
+escaped_long (b ∷ s) = let h = escaped_long s in grind arith
 
 blob_long : (s : Seq ℕ) → length s ≤ length (unpadded 0 s)
 blob_long [] = omega arith
@@ -53,12 +47,7 @@ blob_long (a ∷ b ∷ c ∷ s) = let h = blob_long s in omega arith
 
 shown_long : (s : Seq ℕ) → length s ≤ length (canon_shown s)
 shown_long [] = omega arith
-shown_long (c ∷ s) = go (is_unencoded c) refl (shown_long s)
-  where
-    go : (e : Bool) → is_unencoded c ≡ e → length s ≤ length (canon_shown s)
-        → length (c ∷ s) ≤ length (canon_shown (c ∷ s))
-    go true h k = rw h (omega arith)
-    go false h k = rw h (omega arith)
+shown_long (c ∷ s) = let h = shown_long s in grind arith
 
 text_long : (x : Bare) → length (text_of x) ≤ length (canon_bare x)
 text_long (Integer n) = omega arith
@@ -165,7 +154,8 @@ more_small d (i ∷ is) valid =
     record { parts = omega arith; size = omega arith }
 
 items_small : (d : Dialect) (is : Seq Item) → Each (ValidItem d) is
-    → Small (items_nodes is) (items_bytes is) (1 + length (canon_items is)) (length (canon_items is))
+    → Small (items_nodes is) (items_bytes is) (1 + length (canon_items is))
+    (length (canon_items is))
 items_small d [] valid = record { parts = omega arith; size = omega arith }
 items_small d (i ∷ is) valid =
     let h = item_small d i valid.0 in
@@ -178,7 +168,8 @@ items_small d (i ∷ is) valid =
     record { parts = omega arith; size = omega arith }
 
 member_small : (d : Dialect) (m : Member) → ValidMember d m
-    → Small (member_nodes m) (member_bytes m) (1 + length (canon_member m)) (length (canon_member m))
+    → Small (member_nodes m) (member_bytes m) (1 + length (canon_member m))
+    (length (canon_member m))
 member_small d (member.Item i) valid = item_small d i valid
 member_small d (member.Inner l) valid =
     let h = items_small d l.items valid.0 in

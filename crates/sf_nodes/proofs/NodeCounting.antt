@@ -15,8 +15,8 @@ use Rattle.sf_view.specs.declared.node_types.Role.TheVariants as roles
 use Rattle.sf_view.specs.View.{DescribesParams, DescribesItem, DescribesItems}
 use Rattle.sf_view.specs.View.{DescribesMember, DescribesMembers, DescribesEntries, DescribesField}
 use Rattle.sf_nodes.specs.NodeContents.{NodeContent, content_size}
-use Rattle.sf_nodes.specs.Nodes.{params_content, item_content, items_content, member_content, members_content}
-use Rattle.sf_nodes.specs.Nodes.{entries_content, field_content}
+use Rattle.sf_nodes.specs.Nodes.{params_content, item_content, items_content, member_content}
+use Rattle.sf_nodes.specs.Nodes.{members_content, entries_content, field_content}
 use Rattle.sf_nodes.specs.NodeCounts.{item_nodes, items_nodes, member_nodes, members_nodes}
 use Rattle.sf_nodes.specs.NodeCounts.{entries_nodes, field_nodes, params_bytes, item_bytes}
 use Rattle.sf_nodes.specs.NodeCounts.{items_bytes, member_bytes, members_bytes, entries_bytes}
@@ -69,8 +69,9 @@ member_counted : (k : List ℕ) (m : Member)
     → Counted (member_content k m) (member_nodes m) (length k + member_bytes m)
 member_counted k (member.Item i) = item_counted roles.Member k i
 member_counted k (member.Inner l) =
-    let h = counted_append (items_content l.items) (params_content roles.InnerParameter l.params) _ _ _ _
-    (items_counted l.items) (params_counted roles.InnerParameter l.params) in
+    let h = counted_append (items_content l.items)
+    (params_content roles.InnerParameter l.params) _ _ _ _ (items_counted l.items)
+    (params_counted roles.InnerParameter l.params) in
     let n = h.nodes in
     let b = h.bytes in
     record { nodes = omega arith; bytes = omega arith }

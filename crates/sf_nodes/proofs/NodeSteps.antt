@@ -13,7 +13,8 @@ use Rattle.sf_nodes.specs.Nodes.{member_content, members_content}
 
 -- the next of the Items
 pub next_content : (items : List Item) (i : ℕ) (x : Item) → i < length items → x ≡ get_or items i x
-    → items_content (drop i items) ≡ item_content InnerItem [] x ++ items_content (drop (i + 1) items)
+    → items_content (drop i items)
+    ≡ item_content InnerItem [] x ++ items_content (drop (i + 1) items)
 next_content items i x h e = ap items_content (drop-cons items i x h) ∙ rw (add-one, ← e)
 
 -- the next of the members

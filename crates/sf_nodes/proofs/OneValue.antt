@@ -126,7 +126,8 @@ one_params : OneValue → (d : Dialect) (source : Seq ℕ) (r r' : Role) (ns : S
 one_params one d source r r' ns [] [] e f = refl
 one_params one d source r r' ns [] (q ∷ qs) e (n, ms, f, t, more) = absurd (no_nodes ns ms n e f)
 one_params one d source r r' ns (p ∷ ps) [] (n, ms, e, t, more) f = absurd (no_nodes ns ms n f e)
-one_params one d source r r' ns ((k, x) ∷ ps) ((l, y) ∷ qs) (n, ms, e, t, more) (m, os, f, u, rest) =
+one_params one d source r r' ns ((k, x) ∷ ps) ((l, y) ∷ qs) (n, ms, e, t, more)
+    (m, os, f, u, rest) =
     let both = heads_node n m ms os (sym e ∙ f) in
     let same : DescribesBare d source r k 1 m x
     = subst (λ z. DescribesBare d source r k 1 z x) both.0 t in
@@ -243,7 +244,8 @@ one_entries one d source ns [] ((l, y) ∷ qs) e (own, rest, f, u, w) =
     absurd (no_part source l ns own rest e f (opens d source l own y u))
 one_entries one d source ns ((k, x) ∷ ps) [] (front, back, e, t, q) f =
     absurd (no_part source k ns front back f e (opens d source k front x t))
-one_entries one d source ns ((k, x) ∷ ps) ((l, y) ∷ qs) (front, back, e, t, q) (own, rest, f, u, w) =
+one_entries one d source ns ((k, x) ∷ ps) ((l, y) ∷ qs) (front, back, e, t, q)
+    (own, rest, f, u, w) =
     let s = one_front source k l ns front back own rest (opens d source k front x t)
     (opens d source l own y u) e f in
     let key = s.key in

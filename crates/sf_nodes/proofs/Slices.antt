@@ -21,7 +21,8 @@ slice_at_length at count bytes h =
     length-take-le count (drop at bytes) enough
 
 -- those that come are behind them
-pub slice_at_last : (bytes more : List ℕ) → slice_at (length bytes) (length more) (bytes ++ more) ≡ more
+pub slice_at_last : (bytes more : List ℕ)
+    → slice_at (length bytes) (length more) (bytes ++ more) ≡ more
 slice_at_last bytes more =
     ap (take (length more)) (drop-append_seam bytes more) ∙ take-length more
 

@@ -29,7 +29,7 @@ returns c =
     let start = ap length c.as_slice-key_at.ensures.value in
     let sum = c.in_ok-text_at.ensures in
     let both = length-append c.self.inside.bytes.items c.args.key.now in
-    let told = content_more c.self.inside.bytes.items _ c.args.key.now c.args.text.now _ _ _
+    let content = content_more c.self.inside.bytes.items _ c.args.key.now c.args.text.now _ _ _
     c.in_ok-extend.ensures (pushed c.push.result _ _ _ c.push.ensures.items ok)
     (record {
       key_at = start;

@@ -6,43 +6,28 @@ use Rattle.sf_nodes.proofs.parts.Flat.write.Goals as goal
 pub write_parts-requires-clause-small : goal.write_parts-requires-clause-small
 write_parts-requires-clause-small c =
     let seen = c.self.view_is in
-    let described : map (content_by c.self.inside.bytes.items) c.self.inside.parts.items ≡ c.args.self.now
-    = first_of (cc, search rules) in
+    let described : map (content_by c.self.inside.bytes.items) c.self.inside.parts.items
+    ≡ c.args.self.now = first_of (cc, search rules) in
     let size = c.self.invariant.1 ∙ ap content_size described in
     let small = c.requires.small in
     rw c.as_slice-2.ensures.value
     (parts_small c.args.start c.self.inside.bytes.items c.self.inside.parts.items
     c.self.invariant.0 (omega arith))
 
-pub returns-clause-describes : goal.returns-clause-describes
-returns-clause-describes c =
+pub returns : goal.returns
+returns c =
     let seen = c.self.view_is in
-    let described : map (content_by c.self.inside.bytes.items) c.self.inside.parts.items ≡ c.args.self.now
-    = first_of (cc, search rules) in
+    let described : map (content_by c.self.inside.bytes.items) c.self.inside.parts.items
+    ≡ c.args.self.now = first_of (cc, search rules) in
     let bytes = rw c.as_slice.ensures.value at c.put.ensures in
     let nodes = rw c.as_slice-2.ensures.value at c.write_parts.ensures.nodes in
-    (written c.args.start c.args.self.now c.self.inside.parts.items c.self.inside.bytes.items
-    c.args.bytes.now c.put.new.buffer c.write_parts.new.nodes described c.self.invariant bytes
-    nodes).describes
-
-pub returns-clause-decoded : goal.returns-clause-decoded
-returns-clause-decoded c =
-    let seen = c.self.view_is in
-    let described : map (content_by c.self.inside.bytes.items) c.self.inside.parts.items ≡ c.args.self.now
-    = first_of (cc, search rules) in
-    let bytes = rw c.as_slice.ensures.value at c.put.ensures in
-    let nodes = rw c.as_slice-2.ensures.value at c.write_parts.ensures.nodes in
-    (written c.args.start c.args.self.now c.self.inside.parts.items c.self.inside.bytes.items
-    c.args.bytes.now c.put.new.buffer c.write_parts.new.nodes described c.self.invariant bytes
-    nodes).decoded
-
-pub returns-clause-in_one : goal.returns-clause-in_one
-returns-clause-in_one c =
-    let seen = c.self.view_is in
-    let described : map (content_by c.self.inside.bytes.items) c.self.inside.parts.items ≡ c.args.self.now
-    = first_of (cc, search rules) in
-    let bytes = rw c.as_slice.ensures.value at c.put.ensures in
-    let nodes = rw c.as_slice-2.ensures.value at c.write_parts.ensures.nodes in
-    (written c.args.start c.args.self.now c.self.inside.parts.items c.self.inside.bytes.items
-    c.args.bytes.now c.put.new.buffer c.write_parts.new.nodes described c.self.invariant bytes
-    nodes).in_one
+    let whole = written c.args.start c.args.self.now c.self.inside.parts.items
+    c.self.inside.bytes.items c.args.bytes.now c.put.new.buffer c.write_parts.new.nodes described
+    c.self.invariant bytes nodes in
+    record {
+      same_nodes = search rules;
+      same_bytes = search rules;
+      describes = whole.describes;
+      decoded = whole.decoded;
+      in_one = whole.in_one;
+    }
