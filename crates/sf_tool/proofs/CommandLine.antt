@@ -1,5 +1,6 @@
 -- What clap finds in the words of the command line.
-use Rattle.std.proofs.Common.{◌≡◌, ◌↔◌, inl, inr, ℕ, ◌+◌, ◌<◌, true, false, List, [], ◌∷◌, ◌++◌, length}
+use Rattle.std.proofs.Common.{◌≡◌, ◌↔◌, inl, inr, ℕ, ◌+◌, ◌<◌, true, false, List, [], ◌∷◌, ◌++◌}
+use Rattle.std.proofs.Common.{length}
 use Rattle.std.proofs.Common.{Option, Some, None, refl, ap, ap₂, sym, ◌∙◌, map, codes, arith, take}
 use Rattle.std.proofs.Common.{subst, bytes_eq, get_or, suc}
 use Rattle.std.specs.Prelude.{◌≢◌, option_map, Result, Ok, Err, IfOk, IfErr, MatchResult, IsErrAnd}

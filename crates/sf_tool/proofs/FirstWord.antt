@@ -29,7 +29,8 @@ turn-stray s names h word none dashes plain index =
     λ o. or_else (other_fault s (option_map (λ n. n.0) o) word h)
     (at (subcommand_or_other s.rules (option_map (λ n. n.0) o) idle 1 word h)) in
     let dashed : Bool → Kinds =
-    λ b. or_else (if b then [] else flag_word_fault s.rules s.args_override_self (long_of word) word h)
+    λ b. or_else
+    (if b then [] else flag_word_fault s.rules s.args_override_self (long_of word) word h)
     (at (if b then (h, trailing 1) else long_or_other s.rules idle word (long_of word) h)) in
     let long : Option Text → Kinds =
     λ rest. or_else

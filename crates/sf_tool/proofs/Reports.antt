@@ -37,7 +37,8 @@ use Rattle.sf_tool.specs.Fields.{IsFaultOf}
 use Rattle.sf_tool.specs.PathLines.{not_a_cache_line}
 use Rattle.sf_tool.specs.Run.{joined, input_limit, view_request, view_text}
 use Rattle.sf_tool.specs.Run.{MayAllocate, Refuses, Responds, Answers, Reports, ReportsText}
-use Rattle.sf_tool.specs.Run.{ReportsRefusal, ReportsAskFault, ReportsInputFault, IsOfText, IsAskOfText}
+use Rattle.sf_tool.specs.Run.{ReportsRefusal, ReportsAskFault, ReportsInputFault, IsOfText}
+use Rattle.sf_tool.specs.Run.{IsAskOfText}
 
 -- the text of an input was to be written
 pub reports_text : (request : Request) (input text : List ℕ) (status : Status) (old new : SinkState)
@@ -110,8 +111,8 @@ pub reports_refused : (request : Request) (d : Dialect) (kind : Kind) (input : L
     → ReportsRefusal e old new result → Reports request input old new result
 reports_refused request d kind input OutOfMemory old new result given takes p t =
     stopped request input old new result (takes refl) t.0 t.1
-reports_refused request d kind input (Syntax place found expected may_end) old new result given takes
-    p t =
+reports_refused request d kind input (Syntax place found expected may_end) old new result given
+    takes p t =
     let known = refuses d kind (lines_of input) place found expected may_end p in
     let line = refusal_line place found expected may_end in
     reports_text request input line Refused old new result
@@ -194,8 +195,9 @@ reports_input_fault names input input_fault.OutOfMemory old new result takes t =
     stopped (Targeted names) input old new result takes t.0 t.1
 
 -- a consumer has no answer
-pub reports_ask_fault : {A : Type 0} (request : Request) (kind : Kind) (meaning : Field → Result A ℕ)
-    (input : List ℕ) (fault : AskFault) (old new : SinkState) (result : Status)
+pub reports_ask_fault : {A : Type 0} (request : Request) (kind : Kind)
+    (meaning : Field → Result A ℕ) (input : List ℕ) (fault : AskFault) (old new : SinkState)
+    (result : Status)
     → MayAllocate request input
     → ((line : List ℕ) → Refuses Rfc9651 kind (joined input) line
     → Answers request input line Refused)
@@ -203,12 +205,13 @@ pub reports_ask_fault : {A : Type 0} (request : Request) (kind : Kind) (meaning 
     → Answers request input (not_a_cache_line index) Refused)
     → Asks kind meaning (lines_of input) (Err fault) → ReportsAskFault fault old new result
     → Reports request input old new result
-reports_ask_fault request kind meaning input (ask.Field refusal) old new result takes refused nameless
-    asks t =
+reports_ask_fault request kind meaning input (ask.Field refusal) old new result takes refused
+    nameless asks t =
     reports_refused request Rfc9651 kind input refusal old new result refused (λ e. takes) asks t
 reports_ask_fault request kind meaning input (ask.Answer (use_fault.NotACache index)) old new result
     takes refused nameless asks t =
-    reports_text request input (not_a_cache_line index) Refused old new result (nameless index asks) t
+    reports_text request input (not_a_cache_line index) Refused old new result
+    (nameless index asks) t
 reports_ask_fault request kind meaning input (ask.Answer use_fault.OutOfMemory) old new result takes
     refused nameless asks t =
     stopped request input old new result takes t.0 t.1

@@ -1,6 +1,6 @@
 -- What a run shows on standard error of an input that is refused, if that is a terminal.
-use Rattle.std.specs.Prelude.{◌≡◌, ℕ, ◌+◌, ◌⊎◌, Bool, true, List, [], ◌++◌, Some, Result, Err, codes, decimal}
-use Rattle.std.specs.Prelude.{get_or}
+use Rattle.std.specs.Prelude.{◌≡◌, ℕ, ◌+◌, ◌⊎◌, Bool, true, List, [], ◌++◌, Some, Result, Err}
+use Rattle.std.specs.Prelude.{codes, decimal, get_or}
 use Rattle.sf_value.specs.declared.dialect.Dialect.{Dialect}
 use Rattle.sf_value.specs.declared.dialect.Dialect.TheVariants.{Rfc9651}
 use Rattle.sf_value.specs.declared.value.Kind.{Kind}

@@ -77,7 +77,8 @@ impl fmt::Display for RequestFault {
         match self {
             RequestFault::Usage => write!(
                 f,
-                "sf: usage: sf show, check or normalise --kind item, list or dict [--dialect rfc8941 or rfc9651]; sf cache-status; sf targeted NAME..; sf priority"
+                "sf: usage: sf show, check or normalise --kind item, list or dict \
+                 [--dialect rfc8941 or rfc9651]; sf cache-status; sf targeted NAME..; sf priority"
             ),
             RequestFault::OutOfMemory => write!(f, "sf: out of memory or a device failed"),
         }

@@ -60,7 +60,8 @@ impl Status {
             Status::Accepted => None,
             Status::Refused => None,
             Status::Usage => Some(
-                "sf: usage: sf show, check or normalise --kind item, list or dict [--dialect rfc8941 or rfc9651]; sf cache-status; sf targeted NAME..; sf priority",
+                "sf: usage: sf show, check or normalise --kind item, list or dict \
+                 [--dialect rfc8941 or rfc9651]; sf cache-status; sf targeted NAME..; sf priority",
             ),
             Status::Stopped => Some("sf: out of memory or a device failed"),
         }

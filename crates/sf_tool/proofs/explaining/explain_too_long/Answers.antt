@@ -5,6 +5,6 @@ use Rattle.sf_tool.proofs.explaining.explain_too_long.Goals as goal
 
 pub returns-then-explains : goal.returns-then-explains
 returns-then-explains g c =
-    let told : IsExplained c.args.errors.now.is_terminal c.args.status = search rules in
+    let explained : IsExplained c.args.errors.now.is_terminal c.args.status = search rules in
     let all = then c.put-sent.ensures (then c.put_number-sent.ensures c.put.ensures) in
-    inr (told, (_, all.goes_on (omega arith)))
+    inr (explained, (_, all.goes_on (omega arith)))
