@@ -235,7 +235,7 @@ member_item d source text rest place old new at count s = record {
 pub entry_value : (d : Dialect) (source text after behind rest : List ℕ) (place : KeyPlace)
     (old new : List Node) (at count : ℕ) → ScansKey (length source) text place after
     → after ≡ 61 ∷ behind → ScansMember d source behind rest place old new at count
-    → ScansEntry d source text rest old new at count
+    → ScansEntry d source text rest place.mark old new at count
 entry_value d source text after behind rest place old new at count k e m =
     let split : text ≡ (k.front ++ 61 ∷ []) ++ behind =
     k.split ∙ ap (λ y. k.front ++ y) e ∙ sym (append_assoc k.front (61 ∷ []) behind) in
@@ -260,13 +260,14 @@ entry_value d source text after behind rest place old new at count k e m =
           (ap (λ y. slice_at place.at y source) k.size
           ∙ end_slice source text k.front after place.at i k.split k.at)
           (m.describes j (omega arith));
+      mark = k.mark;
     }
 
 pub entry_flag : (d : Dialect) (source text after rest : List ℕ) (place : KeyPlace) (p : Part)
     (n : Node) (old new : List Node) (at count : ℕ) → ScansKey (length source) text place after
     → p.node_type ≡ type_is.Boolean → p.number ≡ pos 1 → p.at ≡ 0 → p.length ≡ 0 → p.coded ≡ false
     → n ≡ node_from role_is.Member place p → ScansRest d source after rest n old new at count
-    → ScansEntry d source text rest old new at count
+    → ScansEntry d source text rest place.mark old new at count
 entry_flag d source text after rest place p n old new at count k node_type number zero none coded is s =
     record {
       front = k.front ++ s.front;
@@ -302,4 +303,5 @@ entry_flag d source text after rest place p n old new at count k node_type numbe
                 })) (omega arith) key),
             s.describes j,
           );
+      mark = k.mark;
     }

@@ -1,7 +1,7 @@
 -- Members with commas between them that are scanned.
 use Rattle.std.proofs.Common.{◌≡◌, ℕ, ◌+◌, ◌-◌, ◌≤◌, List, [], ◌∷◌, ◌++◌, length, take}
 use Rattle.std.proofs.Common.{refl, sym, ap, ◌∙◌, subst, arith, append_assoc, append-nil}
-use Rattle.std.proofs.Common.{length-append}
+use Rattle.std.proofs.Common.{length-append, ⊎_elim}
 use Rattle.std.specs.List.{IsDistinct}
 use Rattle.std.specs.Map.{keys_of}
 use Rattle.std.specs.Str.{bytes_eq}
@@ -26,8 +26,11 @@ use Rattle.sf_view.specs.declared.node.Node.{Node}
 use Rattle.sf_view.specs.declared.node_types.Role.TheVariants as role_is
 use Rattle.sf_view.specs.View.{slice_at, DescribesItem, DescribesMember, DescribesMembers, DescribesEntries}
 use Rattle.sf_view.specs.Scans.{Behind, IsEnd, ScansItem, ScansMember, ScansEntry, Puts}
-use Rattle.sf_view.specs.Scans.{keys_from, AreApart}
-use Rattle.sf_view.specs.Accepts.{Accepts, SoFar}
+use Rattle.sf_view.specs.Scans.{keys_from, AreToldApart}
+use Rattle.sf_view.specs.declared.keys.Marks.{Marks}
+use Rattle.sf_view.specs.Marks.{mark_of, HaveMarks}
+use Rattle.sf_view.specs.Accepts.{Accepts, SoFar, DescribesMarked}
+use Rattle.sf_view.proofs.KeyMarks.{keys_push}
 use Rattle.sf_view.proofs.Putting.{puts_none, puts_then}
 
 module _ {X : Type 0} (P : List ℕ → X → Type 0) where
@@ -101,11 +104,12 @@ module _ {X : Type 0} (P : List ℕ → X → Type 0) where
 
     pub so_far_more : (text rest f after white more left : List ℕ) (x : X)
         (old mid new : List Node) (between count : ℕ) (ms : List Node)
+        (U : List Node → List X → Type 0)
         → (s : SoFar X P T text rest old mid between) → rest ≡ f ++ after → P f x
-        → Puts mid new between count ms → T (s.nodes ++ ms) (s.values ++ x ∷ [])
+        → Puts mid new between count ms → U (s.nodes ++ ms) (s.values ++ x ∷ [])
         → Behind is_ows after white → white ≡ 44 ∷ more → Behind is_ows more left
-        → SoFar X P T text left old new count
-    so_far_more text rest f after white more left x old mid new between count ms s e h p t a c b =
+        → SoFar X P U text left old new count
+    so_far_more text rest f after white more left x old mid new between count ms U s e h p t a c b =
         let step = f ++ (a.front ++ 44 ∷ b.front) in
         let far : rest ≡ step ++ left =
         e
@@ -260,7 +264,7 @@ pub list_more : (d : Dialect) (text rest after white more left : List ℕ) (plac
 list_more d text rest after white more left place old mid new between count s m zero none a c b =
     let i = rest_ends text rest old mid between s in
     so_far_more (SpellsMember d) (DescribesMembers d text) text rest m.front after white more left
-    m.value old mid new between count m.nodes s m.split (m.spelled i) m.puts
+    m.value old mid new between count m.nodes (DescribesMembers d text) s m.split (m.spelled i) m.puts
     (members_more d text s.nodes m.nodes s.values m.value s.describes
     (member_there d text m.nodes m.value place zero none (m.describes i)))
     a c b
@@ -286,17 +290,35 @@ list_last d text rest after white place old mid new between count s m zero none 
           (member_there d text m.nodes m.value place zero none (m.describes i)));
     }
 
+-- the mark of one more key
+marked_with : (marks marks_2 : Marks) (mark : ℕ) (ps : Pairs Member) (k : List ℕ) (x : Member)
+    → HaveMarks marks (keys_of ps) → mark ≡ mark_of k
+    → ((ks : List (List ℕ)) (q : List ℕ) → mark ≡ mark_of q → HaveMarks marks ks
+    → HaveMarks marks_2 (ks ++ q ∷ []))
+    → HaveMarks marks_2 (keys_of (ps ++ (k, x) ∷ []))
+marked_with marks marks_2 mark ps k x h e w =
+    subst (HaveMarks marks_2) (sym (keys_push ps k x)) (w (keys_of ps) k e h)
+
+pub dict_none : (d : Dialect) (text : List ℕ) (marks : Marks) → DescribesMarked d text marks [] []
+unfolding IsDistinct
+dict_none d text marks = (refl, λ n. (tt, tt))
+
 pub dict_more : (d : Dialect) (text rest after white more left : List ℕ)
-    (old mid new : List Node) (between count : ℕ)
-    → SoFar (List ℕ × Member) (SpellsEntry d) (DescribesEntries d text) text rest old mid between
-    → ScansEntry d text rest after mid new between count
+    (old mid new : List Node) (between count mark : ℕ) (marks marks_2 : Marks)
+    → SoFar (List ℕ × Member) (SpellsEntry d) (DescribesMarked d text marks) text rest old mid between
+    → ScansEntry d text rest after mark mid new between count
+    → ((ks : List (List ℕ)) (k : List ℕ) → mark ≡ mark_of k → HaveMarks marks ks
+    → HaveMarks marks_2 (ks ++ k ∷ []))
     → Behind is_ows after white → white ≡ 44 ∷ more → Behind is_ows more left
-    → SoFar (List ℕ × Member) (SpellsEntry d) (DescribesEntries d text) text left old new count
-dict_more d text rest after white more left old mid new between count s m a c b =
+    → SoFar (List ℕ × Member) (SpellsEntry d) (DescribesMarked d text marks_2) text left old new count
+dict_more d text rest after white more left old mid new between count mark marks marks_2 s m w a c b =
     let i = rest_ends text rest old mid between s in
-    so_far_more (SpellsEntry d) (DescribesEntries d text) text rest m.front after white more left
-    (m.key, m.value) old mid new between count m.nodes s m.split (m.spelled i) m.puts
-    (entries_more d text s.nodes m.nodes s.values (m.key, m.value) s.describes (m.describes i))
+    so_far_more (SpellsEntry d) (DescribesMarked d text marks) text rest m.front after white more left
+    (m.key, m.value) old mid new between count m.nodes (DescribesMarked d text marks_2) s m.split
+    (m.spelled i) m.puts (
+      entries_more d text s.nodes m.nodes s.values (m.key, m.value) s.describes.0 (m.describes i),
+      marked_with marks marks_2 mark s.values m.key m.value s.describes.1 m.mark w,
+    )
     a c b
 
 -- the keys that the nodes of a Dictionary describe
@@ -332,24 +354,30 @@ entry_keys d source ns (q ∷ raw) (front, back, e, h, r) =
     ∙ ap (λ y. q.0 ∷ y) (entry_keys d source back raw r)
 
 pub dict_last : (d : Dialect) (text rest after white : List ℕ)
-    (old mid new : List Node) (between count : ℕ)
-    → SoFar (List ℕ × Member) (SpellsEntry d) (DescribesEntries d text) text rest old mid between
-    → ScansEntry d text rest after mid new between count → Behind is_ows after white
-    → white ≡ [] → AreApart text (take count new) → Accepts d kind.Dict text new count
-dict_last d text rest after white old mid new between count s m a n apart =
+    (old mid new : List Node) (between count mark : ℕ) (marks marks_2 : Marks)
+    → SoFar (List ℕ × Member) (SpellsEntry d) (DescribesMarked d text marks) text rest old mid between
+    → ScansEntry d text rest after mark mid new between count
+    → ((ks : List (List ℕ)) (k : List ℕ) → mark ≡ mark_of k → HaveMarks marks ks
+    → HaveMarks marks_2 (ks ++ k ∷ []))
+    → Behind is_ows after white
+    → white ≡ [] → AreToldApart marks_2 text (take count new) → Accepts d kind.Dict text new count
+dict_last d text rest after white old mid new between count mark marks marks_2 s m w a n apart =
     let i = rest_ends text rest old mid between s in
     let p = puts_then old mid new 0 between count s.nodes m.nodes s.puts m.puts in
     let raw = s.values ++ (m.key, m.value) ∷ [] in
     let described = subst (λ y. DescribesEntries d text y raw)
     (sym (front_there old new count (s.nodes ++ m.nodes) p))
-    (entries_more d text s.nodes m.nodes s.values (m.key, m.value) s.describes (m.describes i)) in
-    let keys = entry_keys d text (take count new) raw described in record {
+    (entries_more d text s.nodes m.nodes s.values (m.key, m.value) s.describes.0 (m.describes i)) in
+    let keys = entry_keys d text (take count new) raw described in
+    let marked = marked_with marks marks_2 mark s.values m.key m.value s.describes.1 m.mark w in
+    let distinct : IsDistinct bytes_eq (keys_of raw) =
+    ⊎_elim (λ f. f (keys_of raw) marked) (subst (IsDistinct bytes_eq) keys) apart in record {
       within = p.within;
       value = dict_of raw;
       only = only_of d kind.Dict text (dict_of raw) (
         raw,
-        sym (settle-distinct raw (subst (IsDistinct bytes_eq) keys apart)),
-        so_far_last (SpellsEntry d) (DescribesEntries d text) text rest m.front after white
+        sym (settle-distinct raw distinct),
+        so_far_last (SpellsEntry d) (DescribesMarked d text marks) text rest m.front after white
             (m.key, m.value) old mid between s m.split (m.spelled i) a n,
       );
       describes = described;

@@ -1,7 +1,7 @@
 -- Parameters that are scanned, and the nodes that describe them.
 use Rattle.std.proofs.Common.{◌≡◌, ℕ, Bool, pos, ◌+◌, ◌-◌, ◌<◌, ◌≤◌, true, false, List, [], ◌∷◌, ◌++◌}
 use Rattle.std.proofs.Common.{length, take, drop, set, refl, sym, ap, ◌∙◌, subst, arith, append_assoc}
-use Rattle.std.proofs.Common.{append-nil, inl, inr}
+use Rattle.std.proofs.Common.{append-nil, inl, inr, ⊎_elim}
 use Rattle.std.proofs.lemmas.List.{length-take}
 use Rattle.std.proofs.Math.Seq.{take-add, drop-append_seam}
 use Rattle.std.specs.List.{IsDistinct}
@@ -24,7 +24,10 @@ use Rattle.sf_view.specs.NodeTypes.{type_number, is_coded, coded_number}
 use Rattle.sf_view.specs.View.{slice_at, DescribesText, DescribesBare, DescribesParams}
 use Rattle.sf_view.specs.Scans.{Behind, IsEnd, ScansKey, ScansBare, ScansParam, ScansRaw}
 use Rattle.sf_view.specs.Scans.{ScansParams, ScansRest, PartDescribes, Puts, node_from, sized}
-use Rattle.sf_view.specs.Scans.{keys_from, AreApart}
+use Rattle.sf_view.specs.Scans.{keys_from, AreToldApart}
+use Rattle.sf_view.specs.declared.keys.Marks.{Marks}
+use Rattle.sf_view.specs.Marks.{mark_of, HaveMarks}
+use Rattle.sf_view.proofs.KeyMarks.{keys_push}
 use Rattle.sf_view.proofs.Ends.{end_further, end_slice, end_within}
 use Rattle.sf_view.proofs.Scanned.{number_describes}
 use Rattle.sf_view.proofs.Putting.{puts_none, puts_then, puts_one, puts_first}
@@ -59,6 +62,7 @@ flag_scans d whole text named after place p b k node_type number at size coded =
       (k.split ∙ ap (λ y. y ++ after) (sym (append-nil k.front)))
       ∙ sym (append_assoc b.front (k.front ++ []) after));
   spelled = (b.front, [], refl, b.each, k.key, inl (refl, refl));
+  mark = k.mark;
   key_at = key_there whole text named after place b k;
   describes = λ source e w. number_describes d source p (Boolean true) (record {
     node_type = node_type;
@@ -94,6 +98,7 @@ value_scans d whole text named after behind rest place p b k e x =
           ∙ sym (append_assoc k.front (61 ∷ x.front) rest))
           ∙ sym (append_assoc b.front (k.front ++ 61 ∷ x.front) rest));
       spelled = (b.front, 61 ∷ x.front, refl, b.each, k.key, inr (x.front, refl, x.spelled));
+      mark = k.mark;
       key_at = key_there whole text named after place b k;
       describes = λ source i w.
           x.describes source (end_further source (59 ∷ text) before behind i split) w;
@@ -145,8 +150,9 @@ node_describes d source r m k place p x t within e = record {
 }
 
 pub raw_none : (d : Dialect) (source : List ℕ) (r : Role) (text : List ℕ) (old : List Node)
-    (at : ℕ) → at ≤ length old → ScansRaw d source r text text old old at at
-raw_none d source r text old at h = record {
+    (at : ℕ) (marks : Marks) → at ≤ length old → ScansRaw d source r text text old old at at marks
+unfolding IsDistinct
+raw_none d source r text old at marks h = record {
   front = [];
   raw = [];
   nodes = [];
@@ -154,14 +160,18 @@ raw_none d source r text old at h = record {
   spelled = refl;
   puts = puts_none old at h;
   describes = λ e. refl;
+  marked = λ n. (tt, tt);
 }
 
 pub raw_more : (d : Dialect) (source : List ℕ) (r : Role) (text rest more left : List ℕ) (old mid new : List Node)
-    (at between count : ℕ) (place : KeyPlace) (p : Part) (n : Node)
-    → ScansRaw d source r text rest old mid at between → rest ≡ 59 ∷ more
+    (at between count : ℕ) (place : KeyPlace) (p : Part) (n : Node) (marks marks_2 : Marks)
+    → ScansRaw d source r text rest old mid at between marks → rest ≡ 59 ∷ more
     → ScansParam d (length source) (59 ∷ more) place p left → n ≡ node_from r place p
-    → Puts mid new between count (n ∷ []) → ScansRaw d source r text left old new at count
-raw_more d source r text rest more left old mid new at between count place p n s e x is q =
+    → Puts mid new between count (n ∷ [])
+    → ((ks : List (List ℕ)) (k : List ℕ) → place.mark ≡ mark_of k → HaveMarks marks ks
+    → HaveMarks marks_2 (ks ++ k ∷ []))
+    → ScansRaw d source r text left old new at count marks_2
+raw_more d source r text rest more left old mid new at between count place p n marks marks_2 s e x is q w =
     let split : text ≡ (s.front ++ x.front) ++ left =
     s.split
     ∙ ap (λ y. s.front ++ y) (e ∙ x.split)
@@ -179,6 +189,9 @@ raw_more d source r text rest more left old mid new at between count place p n s
           describes_push d source r s.nodes n s.raw x.key x.value (s.describes i)
           (subst (λ y. DescribesBare d source r x.key 1 y x.value) (sym is)
           (node_describes d source r 1 x.key place p x.value (x.describes source there refl) key.0 key.1));
+      marked =
+          subst (HaveMarks marks_2) (sym (keys_push s.raw x.key x.value))
+          (w (keys_of s.raw) x.key x.mark s.marked);
     }
 
 -- the keys that the nodes of parameters describe
@@ -213,10 +226,11 @@ put_there old new at count ns p same =
         ∙ drop-append_seam ys ws
 
 pub params_scan : (d : Dialect) (source : List ℕ) (r : Role) (text rest : List ℕ)
-    (old new : List Node) (at count : ℕ) → ScansRaw d source r text rest old new at count → length new ≡ length old
-    → AreApart source (take (count - at) (drop at new))
+    (old new : List Node) (at count : ℕ) (marks : Marks)
+    → ScansRaw d source r text rest old new at count marks → length new ≡ length old
+    → AreToldApart marks source (take (count - at) (drop at new))
     → ScansParams d source r text rest old new at count
-params_scan d source r text rest old new at count s same apart = record {
+params_scan d source r text rest old new at count marks s same apart = record {
   front = s.front;
   values = s.raw;
   nodes = s.nodes;
@@ -224,7 +238,9 @@ params_scan d source r text rest old new at count s same apart = record {
   spelled = λ i.
       let keys = ap (keys_from source 0) (put_there old new at count s.nodes s.puts same)
       ∙ keys_described d source r s.nodes s.raw (s.describes i) in
-      (s.raw, sym (settle-distinct s.raw (subst (IsDistinct bytes_eq) keys apart)), s.spelled);
+      let distinct : IsDistinct bytes_eq (keys_of s.raw) =
+      ⊎_elim (λ f. f (keys_of s.raw) s.marked) (subst (IsDistinct bytes_eq) keys) apart in
+      (s.raw, sym (settle-distinct s.raw distinct), s.spelled);
   puts = s.puts;
   describes = s.describes;
 }

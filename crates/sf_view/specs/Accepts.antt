@@ -8,8 +8,13 @@ use Rattle.sf_value.specs.Grammar.Classes.{is_sp}
 use Rattle.sf_value.specs.Grammar.Series.{SpellsSeries}
 use Rattle.sf_parse.specs.Parsers.{IsOnly}
 use Rattle.sf_view.specs.declared.node.Node.{Node}
-use Rattle.sf_view.specs.View.{DescribesField}
+use Rattle.sf_view.specs.View.{DescribesField, DescribesEntries}
+use Rattle.sf_view.specs.declared.keys.Marks.{Marks}
+use Rattle.sf_view.specs.Marks.{HaveMarks}
 use Rattle.sf_view.specs.Scans.{Puts}
+use Rattle.std.specs.Map.{keys_of}
+use Rattle.sf_value.specs.declared.value.Member.{Member}
+use Rattle.sf_value.specs.Grammar.Pairs.{Pairs}
 
 -- the text spells a field and no other, and the first nodes, count many, describe it
 pub record Accepts (d : Dialect) (kind : Kind) (text : List ℕ) (nodes : List Node) (count : ℕ)
@@ -32,3 +37,7 @@ pub record SoFar (X : Type 0) (P : List ℕ → X → Type 0) (T : List Node →
   pub glue : (f : List ℕ) (x : X) → P f x → SpellsSeries P (front ++ f) (values ++ x ∷ [])
   pub puts : Puts old new 0 count nodes
   pub describes : T nodes values
+
+-- the nodes describe the members of a Dictionary, and these are the marks of their keys
+abbrev pub DescribesMarked : Dialect → List ℕ → Marks → List Node → Pairs Member → Type 0
+DescribesMarked d text marks ns ps = DescribesEntries d text ns ps × HaveMarks marks (keys_of ps)

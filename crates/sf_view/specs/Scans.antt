@@ -15,7 +15,7 @@ use Rattle.sf_value.specs.Grammar.Numbers.{value_from, SpellsDate}
 use Rattle.sf_value.specs.Grammar.Pairs.{Pairs}
 use Rattle.sf_value.specs.Grammar.Tokens.{IsKey}
 use Rattle.sf_value.specs.Grammar.BareItems.{SpellsBare}
-use Rattle.std.specs.Prelude.{zero, suc}
+use Rattle.std.specs.Prelude.{zero, suc, ◌⊎◌}
 use Rattle.std.specs.List.{IsDistinct}
 use Rattle.std.specs.Str.{bytes_eq}
 use Rattle.sf_value.specs.Grammar.Parameters.{SpellsParam, SpellsRaw, SpellsParams}
@@ -25,6 +25,7 @@ use Rattle.sf_value.specs.Grammar.InnerLists.{SpellsItems, SpellsMember}
 use Rattle.sf_value.specs.Grammar.Fields.{SpellsEntry}
 use Rattle.sf_view.specs.declared.bare.Part.{Part}
 use Rattle.sf_view.specs.declared.item.KeyPlace.{KeyPlace}
+use Rattle.sf_view.specs.declared.keys.Marks.{Marks}
 use Rattle.sf_view.specs.declared.node.Node.{Node}
 use Rattle.sf_view.specs.declared.node_types.NodeType.TheVariants as type_is
 use Rattle.sf_view.specs.declared.node_types.Role.{Role}
@@ -32,6 +33,8 @@ use Rattle.sf_view.specs.declared.node_types.Role.TheVariants as role_is
 use Rattle.sf_view.specs.NodeTypes.{role_number, type_number, coded_number}
 use Rattle.sf_view.specs.View.{slice_at, type_of, number_of, text_of, DescribesText, DescribesParams, DescribesItem, DescribesItems}
 use Rattle.sf_view.specs.View.{DescribesMember}
+use Rattle.sf_view.specs.Marks.{mark_of, HaveMarks}
+use Rattle.std.specs.Map.{keys_of}
 
 -- bytes that pass the test are before the rest
 pub record Behind (p : ℕ → Bool) (text rest : List ℕ) : Type 0 where
@@ -51,6 +54,7 @@ pub record ScansKey (whole : ℕ) (text : List ℕ) (place : KeyPlace) (rest : L
   pub key : IsKey front
   pub at : place.at + length text ≡ whole
   pub size : place.length ≡ length front
+  pub mark : place.mark ≡ mark_of front
 
 -- digits at the start of the text, with their value and number
 pub record ScansDigits (text : List ℕ) (v n : ℕ) (rest : List ℕ) : Type 0 where
@@ -167,6 +171,11 @@ keys_from source (suc k) (n ∷ ns) = keys_from source k ns
 abbrev pub AreApart : List ℕ → List Node → Type 0
 AreApart source ns = IsDistinct bytes_eq (keys_from source 0 ns)
 
+-- any keys with these marks differ, or those of the nodes do
+abbrev pub AreToldApart : Marks → List ℕ → List Node → Type 0
+AreToldApart m source ns =
+    ((ks : List (List ℕ)) → HaveMarks m ks → IsDistinct bytes_eq ks) ⊎ AreApart source ns
+
 -- nodes were put after those that were there
 pub record Puts (old new : List Node) (at count : ℕ) (ns : List Node) : Type 0 where
   pub within : count ≤ length new
@@ -181,15 +190,16 @@ pub record ScansParam (d : Dialect) (whole : ℕ) (text : List ℕ) (place : Key
   pub value : Bare
   pub split : text ≡ front ++ rest
   pub spelled : SpellsParam d front key value
+  pub mark : place.mark ≡ mark_of key
   pub key_at : (source : List ℕ) → IsEnd source text → length source ≡ whole
       → (place.at + place.length ≤ length source) × (slice_at place.at place.length source ≡ key)
   pub describes : (source : List ℕ) → IsEnd source text → length source ≡ whole
       → PartDescribes d source p value
 
 -- the start of the text spells parameters, repeated keys included, and nodes that were put describe
--- them
+-- them; these are the marks of their keys
 pub record ScansRaw (d : Dialect) (source : List ℕ) (r : Role) (text rest : List ℕ) (old new : List Node)
-    (at count : ℕ) : Type 0 where
+    (at count : ℕ) (marks : Marks) : Type 0 where
   pub front : List ℕ
   pub raw : Pairs Bare
   pub nodes : List Node
@@ -197,6 +207,7 @@ pub record ScansRaw (d : Dialect) (source : List ℕ) (r : Role) (text rest : Li
   pub spelled : SpellsRaw d front raw
   pub puts : Puts old new at count nodes
   pub describes : IsEnd source text → DescribesParams d source r nodes raw
+  pub marked : HaveMarks marks (keys_of raw)
 
 -- the start of the text spells parameters, and nodes that were put describe them
 pub record ScansParams (d : Dialect) (source : List ℕ) (r : Role) (text rest : List ℕ) (old new : List Node)
@@ -282,8 +293,9 @@ pub record ScansMember (d : Dialect) (source text rest : List ℕ) (place : KeyP
   pub describes : IsEnd source text → place.at + place.length ≤ length source
       → DescribesMember d source (slice_at place.at place.length source) nodes value
 
--- the start of the text spells a member of a Dictionary, and nodes that were put describe it
-pub record ScansEntry (d : Dialect) (source text rest : List ℕ) (old new : List Node)
+-- the start of the text spells a member of a Dictionary whose key has this mark, and nodes that were
+-- put describe it
+pub record ScansEntry (d : Dialect) (source text rest : List ℕ) (m : ℕ) (old new : List Node)
     (at count : ℕ) : Type 0 where
   pub front : List ℕ
   pub key : List ℕ
@@ -293,3 +305,4 @@ pub record ScansEntry (d : Dialect) (source text rest : List ℕ) (old new : Lis
   pub spelled : IsEnd source text → SpellsEntry d front (key, value)
   pub puts : Puts old new at count nodes
   pub describes : IsEnd source text → DescribesMember d source key nodes value
+  pub mark : m ≡ mark_of key

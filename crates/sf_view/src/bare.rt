@@ -291,7 +291,7 @@ fn scan_token(whole: usize, text: &[u8]) -> Option<(Part, &[u8])>
 
 /// A bare item at the start of the text, which ends a source of `whole` bytes, and the rest.
 #[inline(always)]
-pub(crate) fn scan_bare(dialect: Dialect, whole: usize, text: &[u8]) -> Option<(Part, &[u8])>
+fn scan_bare(dialect: Dialect, whole: usize, text: &[u8]) -> Option<(Part, &[u8])>
     requires small { whole < 2 ^ 32 }
     requires within { length text.now ≤ whole }
     ensures { IfSome result (λ r. ScansBare dialect whole text.now r.0 r.1.now) }

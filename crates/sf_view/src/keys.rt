@@ -1,11 +1,47 @@
 //! Whether the keys of the parts that nodes describe differ.
-ghost use Rattle.std.specs.Prelude.{◌≡◌, ◌∷◌, ◌≤◌, ◌<◌, ◌+◌, ◌*◌, ◌/◌, ◌%◌, ◌^◌, length, IsTrue};
-ghost use Rattle.std.specs.Prelude.{IfSome, IfNone, ℕ, drop, slice_index_or};
+ghost use Rattle.std.specs.Prelude.{◌≡◌, ◌∷◌, [], ◌++◌, ◌≤◌, ◌<◌, ◌+◌, ◌*◌, ◌/◌, ◌%◌, ◌^◌, length};
+ghost use Rattle.std.specs.Prelude.{List, IsTrue, IfSome, IfNone, ℕ, drop, slice_index_or};
 ghost use Rattle.sf_view.specs.View.{slice_at};
-ghost use Rattle.sf_view.specs.Scans.{keys_from, AreApart};
+ghost use Rattle.sf_view.specs.Scans.{keys_from, AreApart, AreToldApart};
 ghost use Rattle.sf_view.specs.Keys.{hash_of, tag_of, Holds, IsAbsent, Enters};
+ghost use Rattle.sf_view.specs.Marks.{mark_of, HaveMarks};
 
 use crate::node::Node;
+
+/// The marks of keys, as a set of bits; all bits once two keys have the same mark.
+#[derive(Clone, Copy, Drop)]
+pub(crate) struct Marks {
+    pub bits: u64,
+}
+
+impl Marks {
+    /// Those of no keys.
+    pub(crate) const NONE: Marks = Marks { bits: 0 };
+
+    /// Those of the keys and of one more, with this mark.
+    #[inline]
+    pub(crate) fn with(self, mark: u32) -> Marks
+        ensures { (ks : List (List ℕ)) (k : List ℕ) → mark ≡ mark_of k
+            → HaveMarks self ks → HaveMarks result (ks ++ k ∷ []) }
+    {
+        let bit = mark % 64;
+        if self.bits >> bit & 1 == 1 {
+            return Marks { bits: u64::MAX };
+        }
+        Marks {
+            bits: self.bits | 1 << bit,
+        }
+    }
+
+    /// Whether the keys differ, by their marks or, if two have the same mark, by the keys of these
+    /// nodes; `false` also if there are too many.
+    #[inline]
+    pub(crate) fn differ(self, source: &[u8], nodes: &[Node]) -> bool
+        ensures { IsTrue result → AreToldApart self source.now nodes.now }
+    {
+        self.bits != u64::MAX || are_distinct(source, nodes)
+    }
+}
 
 /// The first node.
 #[inline]
@@ -223,8 +259,8 @@ fn by_table(source: &[u8], nodes: &[Node]) -> bool
 }
 
 /// Whether the keys of the parts differ; `false` also if there are too many.
-#[inline]
-pub(crate) fn are_distinct(source: &[u8], nodes: &[Node]) -> bool
+#[inline(never)]
+fn are_distinct(source: &[u8], nodes: &[Node]) -> bool
     ensures { IsTrue result → AreApart source.now nodes.now }
 {
     if nodes.len() <= 8 {

@@ -5,7 +5,7 @@ ghost use Rattle.sf_view.specs.Accepts.{Accepts};
 
 use crate::classes::{behind, behind_spaces, behind_white, ends};
 use crate::item::{NO_KEY, scan_entry, scan_item, scan_member};
-use crate::keys::are_distinct;
+use crate::keys::Marks;
 use crate::node::Node;
 use crate::node_types::Role;
 use sf_value::{Dialect, Kind};
@@ -57,14 +57,16 @@ fn whole_dict(dialect: Dialect, text: &[u8], nodes: &mut [Node]) -> Option<usize
 {
     let mut rest = behind_spaces(text);
     let mut count = 0;
+    let mut marks = Marks::NONE;
     if ends(rest) {
         return Some(0);
     }
     loop {
-        let scan = scan_entry(dialect, text, rest, nodes, count)?;
+        let (scan, mark) = scan_entry(dialect, text, rest, nodes, count)?;
+        marks = marks.with(mark);
         let white = behind_white(scan.rest);
         if ends(white) {
-            if !are_distinct(text, &nodes[..scan.count]) {
+            if !marks.differ(text, &nodes[..scan.count]) {
                 return None;
             }
             return Some(scan.count);
