@@ -7,8 +7,9 @@ use sf_use::{
     CachePath, CacheStatus, Forward, Hop, HopCursor, HopStatus, Name, NameView, Outcome, Passed,
     append_hop,
 };
-use sf_value::{Blob, List, OutOfRange, Token};
+use sf_value::{Blob, Field, List, OutOfRange, Token};
 use sf_write::to_text;
+use std::alloc::Global;
 use std::hash::RandomState;
 use std::process::Abort;
 
@@ -34,10 +35,24 @@ fn text_of(rt: &(impl Abort + AllocGlobal), list: List) -> Vec<u8> {
     to_text(rt.alloc(), &list.into()).expect(rt, "room")
 }
 
+/// Expects the cache that served, and the hops written again.
+fn check_path(
+    rt: &(impl Abort + AllocGlobal),
+    seed: &RandomState,
+    text: &str,
+    want: &str,
+    served: Option<usize>,
+) {
+    let path = read(rt, seed, text).expect(rt, "a List of caches");
+    assert!(rt; path.served_by() == served, "served by, of {text}");
+    let again = written(rt, seed, path.hops());
+    assert!(rt; again.as_slice() == want.as_bytes(), "written, of {text}");
+}
+
 #[test]
 fn reads_and_writes(rt: HostRuntime) {
     let seed = seed(&rt);
-    for (text, want, served) in [
+    for &(text, want, served) in &[
         ("", "", None),
         ("ExampleCache; hit", "ExampleCache;hit", Some(0)),
         (
@@ -86,23 +101,27 @@ fn reads_and_writes(rt: HostRuntime) {
             None,
         ),
     ] {
-        let path = read(&rt, &seed, text).expect(&rt, "a List of caches");
-        assert_eq!(rt; path.served_by(), served, "served by, of {text}");
-        let again = written(&rt, &seed, path.hops());
-        assert_eq!(rt; again.as_slice(), want.as_bytes(), "written, of {text}");
+        check_path(&rt, &seed, text, want, served);
+    }
+}
+
+fn fault_of(rt: &(impl Abort + AllocGlobal), seed: &RandomState, text: &str) -> Option<AskFault> {
+    match read(rt, seed, text) {
+        Ok(_) => None,
+        Err(fault) => Some(fault),
     }
 }
 
 #[test]
 fn refuses(rt: HostRuntime) {
     let seed = seed(&rt);
-    for (text, want) in [("7;hit", 0), ("a, (b), 7", 1), ("a, \"b\", :YQ==:, ()", 2)] {
-        let want = AskFault::Answer(UseFault::NotACache { index: want });
-        assert_eq!(rt; read(&rt, &seed, text).err(), Some(want), "of {text}");
+    for &(text, index) in &[("7;hit", 0), ("a, (b), 7", 1), ("a, \"b\", :YQ==:, ()", 2)] {
+        let want = AskFault::Answer(UseFault::NotACache { index });
+        assert_eq!(rt; fault_of(&rt, &seed, text), Some(want));
     }
     let refused = matches!(
-        read(&rt, &seed, "(a"),
-        Err(AskFault::Field(Refusal::Syntax {
+        fault_of(&rt, &seed, "(a"),
+        Some(AskFault::Field(Refusal::Syntax {
             place: 2,
             found: None,
             may_end: false,
@@ -129,10 +148,20 @@ fn reason_of(outcome: &Outcome) -> &str {
     }
 }
 
+/// Expects one hop, and this reason for it.
+fn check_reason(rt: &(impl Abort + AllocGlobal), seed: &RandomState, text: &str, want: &str) {
+    let path = read(rt, seed, text).expect(rt, "a List of caches");
+    let is_right = match path.hops() {
+        [hop] => reason_of(&hop.outcome) == want,
+        _ => false,
+    };
+    assert!(rt; is_right, "of {text}");
+}
+
 #[test]
 fn tells_reasons(rt: HostRuntime) {
     let seed = seed(&rt);
-    for (text, want) in [
+    for &(text, want) in &[
         ("a;fwd=bypass", "bypass"),
         ("b;fwd=method", "method"),
         ("c;fwd=uri-miss", "uri-miss"),
@@ -145,11 +174,7 @@ fn tells_reasons(rt: HostRuntime) {
         ("j;fwd=\"miss\"", "none"),
         ("k;hit", "none"),
     ] {
-        let path = read(&rt, &seed, text).expect(&rt, "a List of caches");
-        assert_eq!(rt; path.hops().len(), 1, "hops of {text}");
-        for hop in path.hops() {
-            assert_eq!(rt; reason_of(&hop.outcome), want, "of {text}");
-        }
+        check_reason(&rt, &seed, text, want);
     }
 }
 
@@ -173,13 +198,18 @@ fn stale_hop(name: Name, detail: Name, status: HopStatus) -> Hop {
     }
 }
 
+/// The hop `edge;fwd=stale;fwd-status=304;stored;detail=x`.
+fn edge(rt: &(impl Abort + AllocGlobal)) -> Hop {
+    let status = HopStatus::new(304).expect(rt, "a status");
+    stale_hop(token_name(rt, b"edge"), token_name(rt, b"x"), status)
+}
+
 /// The List of the path of two caches that RFC 9211 shows, with a third one behind them.
 fn with_edge(rt: &(impl Abort + AllocGlobal), seed: &RandomState) -> List {
     let text = b"OriginCache; hit; ttl=1100, \"CDN Company Here\"; hit; ttl=545";
     let mut list = parse_list(rt.alloc(), seed, text).expect(rt, "a List");
-    let status = HopStatus::new(304).expect(rt, "a status");
-    let hop = stale_hop(token_name(rt, b"edge"), token_name(rt, b"x"), status);
-    append_hop(rt.alloc(), seed, &mut list, &hop).expect(rt, "room");
+    let appended = append_hop(rt.alloc(), seed, &mut list, &edge(rt));
+    assert!(rt; appended.is_ok());
     list
 }
 
@@ -188,26 +218,39 @@ fn appends(rt: HostRuntime) {
     let text = text_of(&rt, with_edge(&rt, &seed(&rt)));
     let want = "OriginCache;hit;ttl=1100, \"CDN Company Here\";hit;ttl=545, \
                 edge;fwd=stale;fwd-status=304;stored;detail=x";
-    assert_eq!(rt; text.as_slice(), want.as_bytes());
+    assert!(rt; text.as_slice() == want.as_bytes());
+}
+
+fn served_by(alloc: Global, field: &Field) -> Option<usize> {
+    match CacheStatus.answer(alloc, field) {
+        Ok(path) => path.served_by(),
+        Err(_) => None,
+    }
 }
 
 #[test]
 fn appended_reads_back(rt: HostRuntime) {
     let field = with_edge(&rt, &seed(&rt)).into();
-    let path = CacheStatus.answer(rt.alloc(), &field);
-    assert_eq!(rt; path.expect(&rt, "a path").served_by(), Some(1));
+    assert!(rt; served_by(rt.alloc(), &field) == Some(1));
+}
+
+fn status_of(code: u16) -> Result<u16, OutOfRange> {
+    Ok(HopStatus::new(code)?.get())
+}
+
+fn status_from(code: u16) -> Result<u16, OutOfRange> {
+    Ok(HopStatus::try_from(code)?.get())
 }
 
 #[test]
 fn statuses(rt: HostRuntime) {
-    for (code, want) in [
+    for &(code, want) in &[
         (99u16, Err(OutOfRange)),
         (100, Ok(100)),
         (999, Ok(999)),
         (1000, Err(OutOfRange)),
     ] {
-        assert_eq!(rt; HopStatus::new(code).map(|status| status.get()), want);
-        assert_eq!(rt; HopStatus::try_from(code).map(|status| status.get()), want);
+        assert_eq!(rt; (status_of(code), status_from(code)), (want, want));
     }
 }
 
@@ -240,7 +283,7 @@ fn outcomes(text: &[u8]) -> Option<u32> {
 
 #[test]
 fn borrowed_hops(rt: HostRuntime) {
-    for (text, want) in [
+    for &(text, want) in &[
         (b"".as_slice(), Some(0)),
         (
             b"OriginCache; hit; ttl=1100, \"CDN Company Here\"; fwd=uri-miss",
@@ -258,27 +301,29 @@ fn borrowed_hops(rt: HostRuntime) {
     }
 }
 
+/// Which parts of the one hop of the text below are as they are written there.
+fn parts_of_edge(text: &[u8]) -> Option<[bool; 10]> {
+    let mut hops = HopCursor::new(text);
+    let hop = hops.next()??;
+    let params = hop.params;
+    Some([
+        is_named(hop.name, b"edge"),
+        params.hit.is_none(),
+        params.fwd == Some(b"miss".as_slice()),
+        params.fwd_status == Some(304),
+        params.stored == Some(true),
+        params.collapsed == Some(false),
+        params.ttl == Some(-2),
+        params.key?.bytes == b"k".as_slice(),
+        is_named(params.detail?, b"d"),
+        hops.next()?.is_none(),
+    ])
+}
+
 /// The last parameter of a key counts, also if it is of another type.
 #[test]
 fn borrowed_parameters(rt: HostRuntime) {
     let text =
         b"edge; ttl=1;fwd=miss; fwd-status=304;stored;collapsed=?0;ttl=-2;key=\"k\";detail=d";
-    let mut hops = HopCursor::new(text);
-    let Some(Some(hop)) = hops.next() else {
-        assert!(rt; false);
-        return;
-    };
-    let params = hop.params;
-    assert!(rt; is_named(hop.name, b"edge"));
-    assert_eq!(rt; params.hit, None);
-    assert_eq!(rt; params.fwd, Some(b"miss".as_slice()));
-    assert_eq!(rt; params.fwd_status, Some(304));
-    assert_eq!(rt;
-        (params.stored, params.collapsed),
-        (Some(true), Some(false))
-    );
-    assert_eq!(rt; params.ttl, Some(-2));
-    assert_eq!(rt; params.key.map(|slice| slice.bytes), Some(b"k".as_slice()));
-    assert_eq!(rt; params.detail.map(|name| is_named(name, b"d")), Some(true));
-    assert_eq!(rt; hops.next().is_some_and(|hop| hop.is_none()), true);
+    assert_eq!(rt; parts_of_edge(text), Some([true; 10]));
 }

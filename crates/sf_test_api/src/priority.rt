@@ -52,7 +52,7 @@ fn written(
 #[test]
 fn priorities(rt: HostRuntime) {
     let seed = seed(&rt);
-    for (line, want) in [
+    for &(line, want) in &[
         (b"u=8, i".as_slice(), (3, true)),
         (b"u=5, i", (5, true)),
         (b"u=0", (0, false)),
@@ -66,8 +66,8 @@ fn priorities(rt: HostRuntime) {
         (b"i=?0", (3, false)),
         (b"", (3, false)),
     ] {
-        assert_eq!(rt; alone(&rt, &seed, line), want);
-        assert_eq!(rt; scanned(line), Some(want));
+        let found = (alone(&rt, &seed, line), scanned(line));
+        assert_eq!(rt; found, (want, Some(want)));
     }
 }
 
@@ -75,7 +75,7 @@ fn priorities(rt: HostRuntime) {
 #[test]
 fn merging(rt: HostRuntime) {
     let seed = seed(&rt);
-    for (client, server, want) in [
+    for &(client, server, want) in &[
         (b"u=5, i".as_slice(), b"u=1".as_slice(), (1, true)),
         (b"u=5", b"i", (5, true)),
         (b"u=5, i", b"u=3, i=?0", (3, false)),
@@ -91,31 +91,35 @@ fn merging(rt: HostRuntime) {
 #[test]
 fn written_priorities(rt: HostRuntime) {
     let seed = seed(&rt);
-    for (urgency, incremental, want) in [
+    for &(urgency, incremental, want) in &[
         (1, true, b"u=1, i".as_slice()),
         (3, false, b""),
         (3, true, b"i"),
         (0, false, b"u=0"),
     ] {
         let text = written(&rt, &seed, urgency, incremental);
-        assert_eq!(rt; text.as_slice(), want);
+        assert!(rt; text.as_slice() == want, "{urgency} and {incremental}");
     }
     let default = Priority::default();
-    assert_eq!(rt; (default.urgency.get(), default.incremental), (3, false));
+    assert!(rt; default.urgency.get() == 3 && !default.incremental);
+}
+
+fn urgency_of(number: u8) -> Result<u8, OutOfRange> {
+    Ok(Urgency::new(number)?.get())
+}
+
+fn urgency_from(number: u8) -> Result<u8, OutOfRange> {
+    Ok(Urgency::try_from(number)?.get())
 }
 
 #[test]
 fn urgencies(rt: HostRuntime) {
-    for (number, want) in [
-        (0u8, Ok(0)),
+    for &(number, want) in &[
+        (0, Ok(0)),
         (7, Ok(7)),
         (8, Err(OutOfRange)),
         (255, Err(OutOfRange)),
     ] {
-        assert_eq!(rt; Urgency::new(number).map(|urgency| urgency.get()), want);
-        assert_eq!(rt;
-            Urgency::try_from(number).map(|urgency| urgency.get()),
-            want
-        );
+        assert_eq!(rt; (urgency_of(number), urgency_from(number)), (want, want));
     }
 }

@@ -19,56 +19,79 @@ fn scanned(line: &[u8]) -> Option<Policy> {
     Some(policy.unwrap_or_default())
 }
 
+const NONE: Policy = Policy {
+    max_age: None,
+    s_maxage: None,
+    must_revalidate: false,
+    no_store: false,
+    no_cache: false,
+    is_private: false,
+};
+
+const AGED: Policy = Policy {
+    max_age: Some(60),
+    ..NONE
+};
+
+const BOTH: Policy = Policy {
+    max_age: Some(30),
+    s_maxage: Some(90),
+    ..NONE
+};
+
+const STORED: Policy = Policy {
+    no_store: true,
+    ..BOTH
+};
+
+const LISTS: Policy = Policy {
+    is_private: true,
+    no_cache: true,
+    ..NONE
+};
+
+const REVALIDATED: Policy = Policy {
+    must_revalidate: true,
+    ..NONE
+};
+
 #[test]
 fn policies(rt: HostRuntime) {
     let seed = seed(&rt);
-    let none = Policy::default();
-    let aged = Policy {
-        max_age: Some(60),
-        ..none
-    };
-    let lists = Policy {
-        is_private: true,
-        no_cache: true,
-        ..none
-    };
-    let both = Policy {
-        max_age: Some(30),
-        s_maxage: Some(90),
-        no_store: true,
-        ..none
-    };
-    for (line, want) in [
-        (b"max-age=-1".as_slice(), none),
-        (b"max-age=1.0", none),
-        (b"max-age", none),
-        (b"max-age=(1)", none),
-        (b"max-age=60;x=1", aged),
-        (b"max-age=5, max-age=60", aged),
-        (b"public, stale-while-revalidate=5, max-age=60", aged),
-        (b"private=(a b), no-cache=\"x\"", lists),
-        (b"no-store=?0, must-revalidate=?0;x, private=?0", none),
-        (b"max-age=30,s-maxage=90,no-store=?1", both),
-        (b"max-age=30, s-maxage=90, no-store", both),
-        (
-            b"must-revalidate=?1",
-            Policy {
-                must_revalidate: true,
-                ..none
-            },
-        ),
-        (b"none", none),
-        (b"", none),
+    for &(line, want) in &[
+        (b"max-age=-1".as_slice(), NONE),
+        (b"max-age=1.0", NONE),
+        (b"max-age", NONE),
+        (b"max-age=(1)", NONE),
+        (b"max-age=60;x=1", AGED),
+        (b"max-age=5, max-age=60", AGED),
+        (b"public, stale-while-revalidate=5, max-age=60", AGED),
+        (b"private=(a b), no-cache=\"x\"", LISTS),
+        (b"no-store=?0, must-revalidate=?0;x, private=?0", NONE),
+        (b"max-age=30,s-maxage=90,no-store=?1", STORED),
+        (b"max-age=30, s-maxage=90, no-store", STORED),
+        (b"must-revalidate=?1", REVALIDATED),
+        (b"none", NONE),
+        (b"", NONE),
     ] {
-        assert_eq!(rt; policy_of(&rt, &seed, line), want);
-        assert_eq!(rt; scanned(line), Some(want));
+        let found = (policy_of(&rt, &seed, line), scanned(line));
+        assert_eq!(rt; found, (want, Some(want)));
     }
-    let shared_alone = policy_of(&rt, &seed, b"s-maxage=5");
-    assert_eq!(rt; shared_alone.lifetime(true), Some(5));
-    assert_eq!(rt; shared_alone.lifetime(false), None);
-    assert_eq!(rt; both.lifetime(true), Some(90));
-    assert_eq!(rt; both.lifetime(false), Some(30));
-    assert_eq!(rt; aged.lifetime(true), Some(60));
+    assert_eq!(rt; Policy::default(), NONE);
+}
+
+/// The lifetimes in a shared cache, and in one that is not.
+#[test]
+fn lifetimes(rt: HostRuntime) {
+    let shared_alone = policy_of(&rt, &seed(&rt), b"s-maxage=5");
+    for &(policy, shared, private) in &[
+        (shared_alone, Some(5), None),
+        (STORED, Some(90), Some(30)),
+        (AGED, Some(60), Some(60)),
+    ] {
+        let found = (policy.lifetime(true), policy.lifetime(false));
+        assert_eq!(rt; found, (shared, private));
+    }
 }
 
 fn name_of(rt: &(impl Abort + AllocGlobal), name: &[u8]) -> HeaderName {
@@ -84,93 +107,69 @@ fn headers_of(rt: &(impl Abort + AllocGlobal), fields: &[(&[u8], &[u8])]) -> Hea
     headers
 }
 
+fn names_of(rt: &(impl Abort + AllocGlobal), targets: &[&[u8]]) -> Vec<HeaderName> {
+    let mut names = Vec::new(rt.alloc());
+    for target in targets {
+        names.push(name_of(rt, target)).expect(rt, "room");
+    }
+    names
+}
+
 fn choice_of(
     rt: &(impl Abort + AllocGlobal),
     seed: &RandomState,
     targets: &[&[u8]],
     fields: &[(&[u8], &[u8])],
 ) -> Choice {
-    let mut names = Vec::new(rt.alloc());
-    for target in targets {
-        names.push(name_of(rt, target)).expect(rt, "room");
-    }
+    let names = names_of(rt, targets);
     let headers = headers_of(rt, fields);
     select(rt.alloc(), seed, names.as_slice(), &headers).expect(rt, "room")
 }
+
+const TARGETS: [&[u8]; 2] = [b"cdn-cache-control", b"x-cache-control"];
+
+// Fields of the first target, of the second, and of neither.
+const REFUSED: (&[u8], &[u8]) = (b"cdn-cache-control", b"max-age=60,");
+
+const CDN: (&[u8], &[u8]) = (b"cdn-cache-control", b"max-age=600");
+
+const CDN_NONE: (&[u8], &[u8]) = (b"cdn-cache-control", b"none");
+
+const SECOND: (&[u8], &[u8]) = (b"x-cache-control", b"max-age=30, s-maxage=90, no-store=?0");
+
+const EMPTY: (&[u8], &[u8]) = (b"x-cache-control", b"");
+
+const NO_STORE: (&[u8], &[u8]) = (b"x-cache-control", b"no-store");
+
+const GENERAL: (&[u8], &[u8]) = (b"cache-control", b"max-age=60, s-maxage=120");
+
+const FRESH: Policy = Policy {
+    max_age: Some(600),
+    ..NONE
+};
+
+const CHOICES: &[(&[(&[u8], &[u8])], Option<(usize, Policy)>)] = &[
+    (&[REFUSED, SECOND], Some((1, BOTH))),
+    (&[REFUSED, SECOND, NO_STORE], Some((1, STORED))),
+    (&[REFUSED, EMPTY], None),
+    (&[SECOND, CDN], Some((0, FRESH))),
+    (&[GENERAL, CDN], Some((0, FRESH))),
+    (&[GENERAL, CDN_NONE], Some((0, NONE))),
+    (&[GENERAL], None),
+    (&[], None),
+];
 
 /// The choice of the field of `cdn-cache-control` and of `x-cache-control`.
 #[test]
 fn choices(rt: HostRuntime) {
     let seed = seed(&rt);
-    let targets = [b"cdn-cache-control".as_slice(), b"x-cache-control"];
-    let none = Policy::default();
-    let both = Policy {
-        max_age: Some(30),
-        s_maxage: Some(90),
-        ..none
-    };
-    let second = (
-        b"x-cache-control".as_slice(),
-        b"max-age=30, s-maxage=90, no-store=?0".as_slice(),
-    );
-    let refused = (b"cdn-cache-control".as_slice(), b"max-age=60,".as_slice());
-    let empty = (b"x-cache-control".as_slice(), b"".as_slice());
-    let no_store = (b"x-cache-control".as_slice(), b"no-store".as_slice());
-    let cdn = (b"cdn-cache-control".as_slice(), b"max-age=600".as_slice());
-    let cdn_none = (b"cdn-cache-control".as_slice(), b"none".as_slice());
-    let general = (
-        b"cache-control".as_slice(),
-        b"max-age=60, s-maxage=120".as_slice(),
-    );
-    let stored = Policy {
-        no_store: true,
-        ..both
-    };
-    let fresh = Policy {
-        max_age: Some(600),
-        ..none
-    };
-    for (fields, want) in [
-        (
-            [refused, second].as_slice(),
-            Choice::Field {
-                index: 1,
-                policy: both,
-            },
-        ),
-        (
-            &[refused, second, no_store],
-            Choice::Field {
-                index: 1,
-                policy: stored,
-            },
-        ),
-        (&[refused, empty], Choice::Fallback),
-        (
-            &[second, cdn],
-            Choice::Field {
-                index: 0,
-                policy: fresh,
-            },
-        ),
-        (
-            &[general, cdn],
-            Choice::Field {
-                index: 0,
-                policy: fresh,
-            },
-        ),
-        (
-            &[general, cdn_none],
-            Choice::Field {
-                index: 0,
-                policy: none,
-            },
-        ),
-        (&[general], Choice::Fallback),
-        (&[], Choice::Fallback),
-    ] {
-        assert_eq!(rt; choice_of(&rt, &seed, &targets, fields), want);
+    for &(fields, want) in CHOICES {
+        let want = match want {
+            Some((index, policy)) => Choice::Field { index, policy },
+            None => Choice::Fallback,
+        };
+        assert_eq!(rt; choice_of(&rt, &seed, &TARGETS, fields), want);
     }
-    assert_eq!(rt; choice_of(&rt, &seed, &[], &[cdn]), Choice::Fallback);
+    let none = choice_of(&rt, &seed, &[], &[CDN]);
+    assert!(rt; none == Choice::Fallback);
 }

@@ -9,17 +9,22 @@ use sf_write::{
     Canonical, WriteFault, bare_text, display, put, put_bare, put_field, put_text, send_all,
     to_string, to_text, write_bare, write_field,
 };
+use std::alloc::{AllocError, Global};
 use std::hash::RandomState;
 use std::process::Abort;
 
 fn check(rt: &(impl Abort + AllocGlobal), field: Field, want: &str) {
-    let text = to_text(rt.alloc(), &field).expect(rt, "room");
-    assert_eq!(rt; text.as_slice(), want.as_bytes());
+    let text = to_text(rt.alloc(), &field);
+    check_text(rt, text.expect(rt, "room"), want);
 }
 
 fn check_bare(rt: &(impl Abort + AllocGlobal), bare: Bare, want: &str) {
-    let text = bare_text(rt.alloc(), &bare).expect(rt, "room");
-    assert_eq!(rt; text.as_slice(), want.as_bytes());
+    let text = bare_text(rt.alloc(), &bare);
+    check_text(rt, text.expect(rt, "room"), want);
+}
+
+fn check_text(rt: &impl Abort, text: Vec<u8>, want: &str) {
+    assert!(rt; text.as_slice() == want.as_bytes(), "{want}");
 }
 
 const EXAMPLE: &str = "a=(1 2);y=:YQ==:, b;x";
@@ -31,7 +36,7 @@ fn example(rt: &(impl Abort + AllocGlobal), seed: &RandomState) -> Field {
 
 #[test]
 fn numbers(rt: HostRuntime) {
-    for (n, want) in [
+    for &(n, want) in &[
         (0, "0"),
         (-1, "-1"),
         (42, "42"),
@@ -40,7 +45,14 @@ fn numbers(rt: HostRuntime) {
     ] {
         check_bare(&rt, integer(&rt, n), want);
     }
-    for (thousandths, want) in [
+    for &(seconds, want) in &[(0, "@0"), (1_659_578_233, "@1659578233"), (-3, "@-3")] {
+        check_bare(&rt, date(&rt, seconds), want);
+    }
+}
+
+#[test]
+fn decimals(rt: HostRuntime) {
+    for &(thousandths, want) in &[
         (0, "0.0"),
         (1500, "1.5"),
         (-500, "-0.5"),
@@ -53,38 +65,47 @@ fn numbers(rt: HostRuntime) {
     ] {
         check_bare(&rt, decimal(&rt, thousandths), want);
     }
-    check_bare(&rt, date(&rt, 0), "@0");
-    check_bare(&rt, date(&rt, 1_659_578_233), "@1659578233");
-    check_bare(&rt, date(&rt, -3), "@-3");
 }
 
 #[test]
 fn texts(rt: HostRuntime) {
-    check_bare(&rt, text(&rt, b""), "\"\"");
-    check_bare(&rt, text(&rt, b"a\"b\\"), "\"a\\\"b\\\\\"");
-    check_bare(&rt, text(&rt, b"\\\\x y"), "\"\\\\\\\\x y\"");
+    for &(bytes, want) in &[
+        (b"".as_slice(), "\"\""),
+        (b"a\"b\\", "\"a\\\"b\\\\\""),
+        (b"\\\\x y", "\"\\\\\\\\x y\""),
+    ] {
+        check_bare(&rt, text(&rt, bytes), want);
+    }
     check_bare(&rt, token(&rt, b"*a/b:c"), "*a/b:c");
     check_bare(&rt, Bare::Boolean(true), "?1");
     check_bare(&rt, Bare::Boolean(false), "?0");
-    check_bare(&rt, shown(&rt, ""), "%\"\"");
-    check_bare(&rt, shown(&rt, "fü"), "%\"f%c3%bc\"");
-    check_bare(&rt, shown(&rt, "%\"\n"), "%\"%25%22%0a\"");
-    check_bare(&rt, shown(&rt, "\x7f\0"), "%\"%7f%00\"");
-    check_bare(&rt, shown(&rt, "A\\"), "%\"A\\\"");
-    check_bare(&rt, shown(&rt, "\u{feff}a"), "%\"%ef%bb%bfa\"");
-    check_bare(&rt, shown(&rt, "for ü users."), "%\"for %c3%bc users.\"");
+}
+
+#[test]
+fn display_strings(rt: HostRuntime) {
+    for &(text, want) in &[
+        ("", "%\"\""),
+        ("fü", "%\"f%c3%bc\""),
+        ("%\"\n", "%\"%25%22%0a\""),
+        ("\x7f\0", "%\"%7f%00\""),
+        ("A\\", "%\"A\\\""),
+        ("\u{feff}a", "%\"%ef%bb%bfa\""),
+        ("for ü users.", "%\"for %c3%bc users.\""),
+    ] {
+        check_bare(&rt, shown(&rt, text), want);
+    }
 }
 
 #[test]
 fn byte_sequences(rt: HostRuntime) {
-    for (bytes, want) in [
+    for &(bytes, want) in &[
         (b"".as_slice(), "::"),
-        (b"a".as_slice(), ":YQ==:"),
-        (b"ab".as_slice(), ":YWI=:"),
-        (b"abc".as_slice(), ":YWJj:"),
-        (b"\x89".as_slice(), ":iQ==:"),
-        (b"\xfb\xff\xbf".as_slice(), ":+/+/:"),
-        (b"\xc3\x9cbung\xc3\xa4rzte".as_slice(), ":w5xidW5nw6RyenRl:"),
+        (b"a", ":YQ==:"),
+        (b"ab", ":YWI=:"),
+        (b"abc", ":YWJj:"),
+        (b"\x89", ":iQ==:"),
+        (b"\xfb\xff\xbf", ":+/+/:"),
+        (b"\xc3\x9cbung\xc3\xa4rzte", ":w5xidW5nw6RyenRl:"),
     ] {
         check_bare(&rt, blob(&rt, bytes), want);
     }
@@ -94,9 +115,9 @@ fn byte_sequences(rt: HostRuntime) {
 /// more, by the low eight bits.
 #[test]
 fn long_byte_sequences(rt: HostRuntime) {
-    for (n, want) in [
+    for &(n, want) in &[
         (
-            47u8,
+            47,
             ":LzY9REtSWWBnbnV8g4qRmJ+mrbS7wsnQ197l7PP6AQgPFh0kKzI5QEdOVVxjanE=:",
         ),
         (
@@ -114,14 +135,19 @@ fn long_byte_sequences(rt: HostRuntime) {
              /xs3U2+Lp8Pf+BQwTGiEoLzY9REtSWWBnbnV8g4qRmJ+mrbS7wsnQ197l7PP6AQ==:",
         ),
     ] {
-        let mut bytes = Vec::new(rt.alloc());
-        let mut byte = n;
-        for _ in 0..n {
-            bytes.push(byte).expect(&rt, "room");
-            byte = byte.wrapping_add(7);
-        }
+        let bytes = steps_of_seven(rt.alloc(), n).expect(&rt, "room");
         check_bare(&rt, blob(&rt, bytes.as_slice()), want);
     }
+}
+
+fn steps_of_seven(alloc: Global, n: u8) -> Result<Vec<u8>, AllocError> {
+    let mut bytes = Vec::new(alloc);
+    let mut byte = n;
+    for _ in 0..n {
+        bytes.push(byte)?;
+        byte = byte.wrapping_add(7);
+    }
+    Ok(bytes)
 }
 
 /// `1.5;q=?0;r=1`
@@ -212,41 +238,47 @@ fn send(rt: &(impl Abort + AllocGlobal), field: &Field, fails_at: u64) -> Sent {
     Sent { sink, answer }
 }
 
-fn check_whole(rt: &impl Abort, sent: &Sent, want: &[u8]) {
-    assert_eq!(rt; sent.answer, Ok(want.len() as u64));
-    assert_eq!(rt; sent.sink.taken.as_slice(), want);
-    assert_eq!(rt; sent.sink.failures, 0);
-    assert_eq!(rt; sent.sink.calls, want.len() as u64);
+fn is_whole(sent: &Sent, want: &[u8]) -> bool {
+    let sink = &sent.sink;
+    sent.answer == Ok(want.len() as u64)
+        && sink.taken.as_slice() == want
+        && sink.failures == 0
+        && sink.calls == want.len() as u64
 }
 
 /// One byte went out for each call before the one that failed, which was the last.
-fn check_prefix(rt: &impl Abort, sent: &Sent, written: u64, want: &[u8]) {
-    assert_eq!(rt; sent.answer, Err(WriteFault { written }), "after {written}");
-    assert!(rt; written as usize <= want.len());
-    assert_eq!(rt; sent.sink.taken.as_slice(), &want[..written as usize]);
-    assert_eq!(rt; sent.sink.failures, 1);
-    assert_eq!(rt; sent.sink.calls.checked_sub(1), Some(written));
+fn is_prefix(sent: &Sent, written: u64, want: &[u8]) -> bool {
+    let sink = &sent.sink;
+    sent.answer == Err(WriteFault { written })
+        && want.get(..written as usize) == Some(sink.taken.as_slice())
+        && sink.failures == 1
+        && sink.calls == written.wrapping_add(1)
+}
+
+/// Writes the text of a field into a sink that fails at no call, and in turn at each.
+fn check_sends(rt: &(impl Abort + AllocGlobal), field: &Field, want: &[u8]) {
+    let length = want.len() as u64;
+    assert!(rt; is_whole(&send(rt, field, 0), want));
+    for written in 0..length {
+        let sent = send(rt, field, written.wrapping_add(1));
+        assert!(rt; is_prefix(&sent, written, want), "after {written}");
+    }
+    assert!(rt; is_whole(&send(rt, field, length.wrapping_add(1)), want));
 }
 
 #[test]
 fn sends_that_fail(rt: HostRuntime) {
     let seed = seed(&rt);
     let one_and_two = two_items(&rt, &seed, integer(&rt, 1), integer(&rt, 2));
-    check_whole(&rt, &send(&rt, &one_and_two, 0), b"1, 2");
-    check_prefix(&rt, &send(&rt, &one_and_two, 3), 2, b"1, 2");
-    let field = example(&rt, &seed);
-    for written in 0..21u64 {
-        let sent = send(&rt, &field, written + 1);
-        check_prefix(&rt, &sent, written, EXAMPLE.as_bytes());
-    }
-    check_whole(&rt, &send(&rt, &field, 22), EXAMPLE.as_bytes());
+    check_sends(&rt, &one_and_two, b"1, 2");
+    check_sends(&rt, &example(&rt, &seed), EXAMPLE.as_bytes());
 }
 
 #[test]
 fn a_fault_says_how_much_went_out(rt: HostRuntime) {
     let fault = WriteFault { written: 2 };
     let told = format!(in rt.alloc(); "{fault}").expect(&rt, "room");
-    assert_eq!(rt; told.as_str(), "a write failed after 2 bytes");
+    assert!(rt; told.as_str() == "a write failed after 2 bytes");
 }
 
 #[test]
@@ -254,22 +286,19 @@ fn counts_go_on(rt: HostRuntime) {
     let mut out = Writing::new(Vec::new(rt.alloc()));
     let field = example(&rt, &seed(&rt));
     let sent = put_field(&field, Ok(0), &mut out);
-    assert_eq!(rt; sent, Ok(21));
-    assert_eq!(rt; put(b"\n", sent, &mut out), Ok(22));
-    let text = out.into_inner();
-    assert_eq!(rt; text.as_slice(), b"a=(1 2);y=:YQ==:, b;x\n".as_slice());
+    assert!(rt; sent == Ok(21) && put(b"\n", sent, &mut out) == Ok(22));
+    check_text(&rt, out.into_inner(), "a=(1 2);y=:YQ==:, b;x\n");
 }
 
 #[test]
 fn counts_of_bare_items_go_on(rt: HostRuntime) {
     let mut out = Writing::new(Vec::new(rt.alloc()));
-    assert_eq!(rt; put_bare(&token(&rt, b"end"), Ok(22), &mut out), Ok(25));
-    assert_eq!(rt; send_all(b"..", u64::MAX - 1, &mut out), Ok(u64::MAX));
-    assert_eq!(rt; write_bare(&integer(&rt, 7), &mut out), Ok(1));
+    assert!(rt; put_bare(&token(&rt, b"end"), Ok(22), &mut out) == Ok(25));
+    assert!(rt; send_all(b"..", u64::MAX - 1, &mut out) == Ok(u64::MAX));
+    assert!(rt; write_bare(&integer(&rt, 7), &mut out) == Ok(1));
     let text = Text::new(rt.alloc(), b"a\"").expect(&rt, "a String");
-    assert_eq!(rt; put_text(&text, Ok(1), &mut out), Ok(6));
-    let text = out.into_inner();
-    assert_eq!(rt; text.as_slice(), b"end..7\"a\\\"\"".as_slice());
+    assert!(rt; put_text(&text, Ok(1), &mut out) == Ok(6));
+    check_text(&rt, out.into_inner(), "end..7\"a\\\"\"");
 }
 
 /// Behind a fault nothing is sent, and the fault stays.
@@ -278,15 +307,19 @@ fn faults_go_on(rt: HostRuntime) {
     let mut out = Trickle::new(rt.alloc(), 2);
     let field = example(&rt, &seed(&rt));
     let fault = Err(WriteFault { written: 1 });
-    assert_eq!(rt; put(b"ab", Ok(0), &mut out), fault);
-    assert_eq!(rt; put(b"c", fault, &mut out), fault);
-    assert_eq!(rt; put_field(&field, fault, &mut out), fault);
-    assert_eq!(rt; (out.taken.as_slice(), out.calls), (b"a".as_slice(), 2));
+    assert!(rt; put(b"ab", Ok(0), &mut out) == fault);
+    assert!(rt; put(b"c", fault, &mut out) == fault);
+    assert!(rt; put_field(&field, fault, &mut out) == fault);
+    assert!(rt; out.taken.as_slice() == b"a".as_slice() && out.calls == 2);
+}
+
+fn check_told(rt: &impl Abort, told: String, want: &str) {
+    assert!(rt; told.as_str() == want, "{want}");
 }
 
 fn check_string(rt: &(impl Abort + AllocGlobal), field: Field, want: &str) {
-    let text = to_string(rt.alloc(), &field).expect(rt, "room");
-    assert_eq!(rt; text.as_str(), want);
+    let text = to_string(rt.alloc(), &field);
+    check_told(rt, text.expect(rt, "room"), want);
 }
 
 #[test]
@@ -303,8 +336,8 @@ fn texts_are_strings(rt: HostRuntime) {
 
 /// What `{}` shows of a value.
 fn check_display(rt: &(impl Abort + AllocGlobal), value: &impl Canonical, want: &str) {
-    let text = display(value).to_string(rt.alloc()).expect(rt, "room");
-    assert_eq!(rt; text.as_str(), want);
+    let text = display(value).to_string(rt.alloc());
+    check_told(rt, text.expect(rt, "room"), want);
 }
 
 #[test]
@@ -350,5 +383,5 @@ fn fields_are_displayed(rt: HostRuntime) {
 fn a_value_is_displayed_among_words(rt: HostRuntime) {
     let value = decimal(&rt, 4500);
     let told = format!(in rt.alloc(); "q is {}.", display(&value)).expect(&rt, "room");
-    assert_eq!(rt; told.as_str(), "q is 4.5.");
+    assert!(rt; told.as_str() == "q is 4.5.");
 }

@@ -3,18 +3,26 @@ use sf_value::{Bare, Entries};
 use std::hash::RandomState;
 use std::process::Abort;
 
+fn number_of(value: Option<Bare>) -> Option<i64> {
+    number_in(&value?)
+}
+
 /// `a` is put as 1, `b` as 2, and `a` again as 3.
 fn put_again(rt: &(impl Abort + AllocGlobal), seed: &RandomState) -> Entries<Bare> {
     let mut entries = Entries::new(rt.alloc(), seed);
-    for (key, value, old) in [
+    for &(key, value, old) in &[
         (b"a".as_slice(), 1, None),
-        (b"b".as_slice(), 2, None),
-        (b"a".as_slice(), 3, Some(1)),
+        (b"b", 2, None),
+        (b"a", 3, Some(1)),
     ] {
         let answer = put(rt, &mut entries, key, integer(rt, value));
-        assert_eq!(rt; answer.as_ref().and_then(number_in), old);
+        assert!(rt; number_of(answer) == old);
     }
     entries
+}
+
+fn number_under(entries: &Entries<Bare>, key: &[u8]) -> Option<i64> {
+    number_in(entries.get(key)?)
 }
 
 fn number_at(entries: &Entries<Bare>, index: usize, key: &[u8]) -> Option<i64> {
@@ -25,16 +33,15 @@ fn number_at(entries: &Entries<Bare>, index: usize, key: &[u8]) -> Option<i64> {
 #[test]
 fn a_later_value_takes_the_place(rt: HostRuntime) {
     let entries = put_again(&rt, &seed(&rt));
-    assert_eq!(rt; entries.len(), 2);
-    assert_eq!(rt; number_at(&entries, 0, b"a"), Some(3));
-    assert_eq!(rt; number_at(&entries, 1, b"b"), Some(2));
-    assert!(rt; entries.at(2).is_none());
+    assert!(rt; entries.len() == 2 && entries.at(2).is_none());
+    let found = [number_at(&entries, 0, b"a"), number_at(&entries, 1, b"b")];
+    assert_eq!(rt; found, [Some(3), Some(2)]);
 }
 
 #[test]
 fn entries_are_looked_up(rt: HostRuntime) {
     let entries = put_again(&rt, &seed(&rt));
-    assert_eq!(rt; entries.get(b"b").and_then(number_in), Some(2));
+    assert!(rt; number_under(&entries, b"b") == Some(2));
     assert!(rt; entries.get(b"c").is_none() && entries.get(b"A").is_none());
     assert!(rt; entries.contains_key(b"a") && !entries.contains_key(b"c"));
 }
@@ -65,8 +72,7 @@ fn list_entry(rt: &impl Abort, listed: &mut Vec<u8>, key: &[u8], value: &Bare) {
     } else {
         b'2'
     };
-    listed.extend_from_slice(key).expect(rt, "room");
-    listed.push(digit).expect(rt, "room");
+    assert!(rt; listed.extend_from_slice(key).is_ok() && listed.push(digit).is_ok());
 }
 
 fn list_by_iter(rt: &impl Abort, listed: &mut Vec<u8>, entries: &Entries<Bare>) {
@@ -94,5 +100,5 @@ fn entries_are_iterated_in_order(rt: HostRuntime) {
     list_by_iter(&rt, &mut listed, &entries);
     list_by_reference(&rt, &mut listed, &entries);
     list_by_value(&rt, &mut listed, entries);
-    assert_eq!(rt; listed.as_slice(), b"a3b2a3b2a3b2".as_slice());
+    assert!(rt; listed.as_slice() == b"a3b2a3b2a3b2".as_slice());
 }

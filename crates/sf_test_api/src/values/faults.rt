@@ -4,12 +4,12 @@ use std::process::Abort;
 
 fn check_text_of(rt: &(impl Abort + AllocGlobal), fault: &(impl Display + Drop), text: &str) {
     let shown = fault.to_string(rt.alloc()).expect(rt, "room");
-    assert_eq!(rt; shown.as_str(), text);
+    assert!(rt; shown.as_str() == text, "{text}");
 }
 
 #[test]
 fn faults_say_themselves(rt: HostRuntime) {
-    assert_eq!(rt; TextFault::from(OutOfMemory), TextFault::OutOfMemory);
+    assert!(rt; TextFault::from(OutOfMemory) == TextFault::OutOfMemory);
     check_text_of(&rt, &OutOfMemory, "out of memory");
     check_text_of(&rt, &OutOfRange, "a number out of range");
     check_text_of(&rt, &TextFault::Empty, "no byte");

@@ -9,11 +9,12 @@ use std::process::Abort;
 /// The bytes of the key at a place. Every third is too long to stand in place.
 fn key_at(rt: &(impl Abort + AllocGlobal), place: u8) -> Vec<u8> {
     let mut key = Vec::from_slice(rt.alloc(), b"k").expect(rt, "room");
-    key.push(b'a' + place % 26).expect(rt, "room");
-    if place % 3 == 2 {
-        key.extend_from_slice(b"-of-more-than-sixteen-bytes")
-            .expect(rt, "room");
-    }
+    let end: &[u8] = if place % 3 == 2 {
+        b"-of-more-than-sixteen-bytes"
+    } else {
+        b""
+    };
+    assert!(rt; key.push(b'a' + place % 26).is_ok() && key.extend_from_slice(end).is_ok());
     key
 }
 
@@ -33,55 +34,78 @@ fn put_at(
     value: i64,
 ) -> Option<i64> {
     let key = key_at(rt, place);
-    put(rt, entries, &key, integer(rt, value))
-        .as_ref()
-        .and_then(number_in)
+    match put(rt, entries, &key, integer(rt, value)) {
+        Some(old) => number_in(&old),
+        None => None,
+    }
 }
 
 /// Keys in order, and then every second of them once more.
 fn filled(rt: &(impl Abort + AllocGlobal), seed: &RandomState, count: u8) -> Entries<Bare> {
     let mut entries = Entries::new(rt.alloc(), seed);
     for place in 0..count {
-        assert_eq!(rt; put_at(rt, &mut entries, place, i64::from(place)), None);
+        assert!(rt; put_at(rt, &mut entries, place, i64::from(place)).is_none());
     }
     for place in 0..count {
         if place % 2 == 0 {
             let old = put_at(rt, &mut entries, place, 100 + i64::from(place));
-            assert_eq!(rt; old, Some(i64::from(place)));
+            assert!(rt; old == Some(i64::from(place)));
         }
     }
     entries
 }
 
+/// Whether a key and its value stand at a place.
+fn stands_at(entries: &Entries<Bare>, place: u8, key: &[u8], value: i64) -> bool {
+    match entries.at(usize::from(place)) {
+        Some((found, bare)) => found == key && number_in(bare) == Some(value),
+        None => false,
+    }
+}
+
+fn number_under(entries: &Entries<Bare>, key: &[u8]) -> Option<i64> {
+    number_in(entries.get(key)?)
+}
+
 fn look_up(rt: &(impl Abort + AllocGlobal), entries: &Entries<Bare>, count: u8) {
-    assert_eq!(rt; entries.len(), usize::from(count));
+    assert!(rt; entries.len() == usize::from(count));
     for place in 0..count {
         let key = key_at(rt, place);
-        let value = Some(value_of(place));
-        assert_eq!(rt; entries.get(&key).and_then(number_in), value);
-        let there = entries.at(usize::from(place));
-        assert_eq!(rt; there.map(|e| e.0), Some(key.as_slice()));
-        assert_eq!(rt; there.and_then(|e| number_in(e.1)), value);
+        assert!(rt; number_under(entries, &key) == Some(value_of(place)));
+        assert!(rt; stands_at(entries, place, &key, value_of(place)));
     }
     let absent = key_at(rt, count);
     assert!(rt; entries.get(&absent).is_none() && entries.at(usize::from(count)).is_none());
 }
 
-fn go_over(rt: &(impl Abort + AllocGlobal), entries: Entries<Bare>, count: u8) {
-    let mut place = 0;
-    for (key, value) in &entries {
-        assert_eq!(rt; key, key_at(rt, place).as_slice());
-        assert_eq!(rt; number_in(value), Some(value_of(place)));
-        place = place.wrapping_add(1);
-    }
-    assert_eq!(rt; place, count);
+/// Whether this is the key at a place, and what it has at last.
+fn is_pair(rt: &(impl Abort + AllocGlobal), place: u8, key: &[u8], value: &Bare) -> bool {
+    key == key_at(rt, place).as_slice() && number_in(value) == Some(value_of(place))
+}
+
+fn go_over(rt: &(impl Abort + AllocGlobal), entries: &Entries<Bare>, count: u8) {
     let mut place = 0;
     for (key, value) in entries {
-        assert_eq!(rt; key.as_bytes(), key_at(rt, place).as_slice());
-        assert_eq!(rt; number_in(&value), Some(value_of(place)));
+        assert!(rt; is_pair(rt, place, key, value));
         place = place.wrapping_add(1);
     }
-    assert_eq!(rt; place, count);
+    assert!(rt; place == count);
+}
+
+fn take_apart(rt: &(impl Abort + AllocGlobal), entries: Entries<Bare>, count: u8) {
+    let mut place = 0;
+    for (key, value) in entries {
+        assert!(rt; is_pair(rt, place, key.as_bytes(), &value));
+        place = place.wrapping_add(1);
+    }
+    assert!(rt; place == count);
+}
+
+/// Looks the pairs up, and goes over them.
+fn check_pairs(rt: &(impl Abort + AllocGlobal), entries: Entries<Bare>, count: u8) {
+    look_up(rt, &entries, count);
+    go_over(rt, &entries, count);
+    take_apart(rt, entries, count);
 }
 
 #[test]
@@ -89,13 +113,20 @@ fn entries_of_each_count_are_the_same_pairs(rt: HostRuntime) {
     let seed = seed(&rt);
     for count in 0..21u8 {
         let entries = filled(&rt, &seed, count);
-        look_up(&rt, &entries, count);
         let copy = entries.copy(rt.alloc(), &seed).expect(&rt, "room");
         assert!(rt; entries.same(&copy));
+        check_pairs(&rt, copy, count);
+        check_pairs(&rt, entries, count);
+    }
+}
+
+#[test]
+fn entries_of_two_counts_differ(rt: HostRuntime) {
+    let seed = seed(&rt);
+    for count in 0..21u8 {
         let fewer = filled(&rt, &seed, count.saturating_sub(1));
-        assert_eq!(rt; entries.same(&fewer), count == 0);
-        go_over(&rt, entries, count);
-        go_over(&rt, copy, count);
+        let is_same = filled(&rt, &seed, count).same(&fewer);
+        assert!(rt; is_same == (count == 0));
     }
 }
 
@@ -110,9 +141,7 @@ fn all_but(
     for place in 0..count {
         if Some(place) != left_out {
             let key = key(rt, &key_at(rt, place));
-            entries
-                .set(key, integer(rt, value_of(place)))
-                .expect(rt, "room");
+            assert!(rt; entries.set(key, integer(rt, value_of(place))).is_ok());
         }
     }
     entries
@@ -120,7 +149,10 @@ fn all_but(
 
 fn remove(rt: &(impl Abort + AllocGlobal), entries: &mut Entries<Bare>, place: u8) -> Option<i64> {
     let key = key_at(rt, place);
-    entries.remove(&key).as_ref().and_then(number_in)
+    match entries.remove(&key) {
+        Some(value) => number_in(&value),
+        None => None,
+    }
 }
 
 #[test]
@@ -134,9 +166,9 @@ fn each_key_is_taken_out(rt: HostRuntime) {
             } else {
                 None
             };
-            assert_eq!(rt; remove(&rt, &mut entries, place), there);
+            assert!(rt; remove(&rt, &mut entries, place) == there);
             assert!(rt; entries.same(&all_but(&rt, &seed, count, Some(place))));
-            assert_eq!(rt; remove(&rt, &mut entries, place), None);
+            assert!(rt; remove(&rt, &mut entries, place).is_none());
         }
     }
 }
@@ -147,13 +179,11 @@ fn all_keys_are_taken_out_and_one_is_set(rt: HostRuntime) {
     for count in 0..21u8 {
         let mut entries = all_but(&rt, &seed, count, None);
         for place in 0..count {
-            assert_eq!(rt; remove(&rt, &mut entries, place), Some(value_of(place)));
+            assert!(rt; remove(&rt, &mut entries, place) == Some(value_of(place)));
         }
         assert!(rt; entries.is_empty());
-        entries
-            .set(key(&rt, b"k"), integer(&rt, 7))
-            .expect(&rt, "room");
-        assert_eq!(rt; entries.get(b"k").and_then(number_in), Some(7));
+        assert!(rt; entries.set(key(&rt, b"k"), integer(&rt, 7)).is_ok());
+        assert!(rt; number_under(&entries, b"k") == Some(7));
     }
 }
 
@@ -171,12 +201,10 @@ fn raise(rt: &(impl Abort + AllocGlobal), entries: &mut Entries<Bare>, place: u8
 
 fn look_up_raised(rt: &(impl Abort + AllocGlobal), entries: &Entries<Bare>, count: u8) {
     for place in 0..count {
-        let there = entries.at(usize::from(place));
-        assert_eq!(rt; there.map(|e| e.0), Some(key_at(rt, place).as_slice()));
-        let raised = Some(value_of(place).saturating_add(1000));
-        assert_eq!(rt; there.and_then(|e| number_in(e.1)), raised);
+        let raised = value_of(place).saturating_add(1000);
+        assert!(rt; stands_at(entries, place, &key_at(rt, place), raised));
     }
-    assert_eq!(rt; entries.len(), usize::from(count));
+    assert!(rt; entries.len() == usize::from(count));
 }
 
 #[test]
@@ -185,7 +213,7 @@ fn each_value_is_changed_in_place(rt: HostRuntime) {
     for count in 0..21u8 {
         let mut entries = all_but(&rt, &seed, count, None);
         for place in 0..=count {
-            assert_eq!(rt; raise(&rt, &mut entries, place), place < count);
+            assert!(rt; raise(&rt, &mut entries, place) == (place < count));
         }
         look_up_raised(&rt, &entries, count);
     }
@@ -195,15 +223,14 @@ fn each_value_is_changed_in_place(rt: HostRuntime) {
 fn raise_all(rt: &(impl Abort + AllocGlobal), entries: &mut Entries<Bare>, count: u8) {
     let mut values = entries.iter_mut();
     for place in 0..count {
-        assert_eq!(rt; values.key(), Some(key_at(rt, place).as_slice()));
+        assert!(rt; values.key() == Some(key_at(rt, place).as_slice()));
         match values.next() {
             Some(value) => *value = integer(rt, value_of(place).saturating_add(1000)),
             None => panic!(rt; "no value"),
         }
     }
     assert!(rt; values.key().is_none());
-    assert!(rt; values.next().is_none());
-    assert!(rt; values.next().is_none());
+    assert!(rt; values.next().is_none() && values.next().is_none());
 }
 
 #[test]
@@ -218,7 +245,10 @@ fn values_are_lent_in_turn(rt: HostRuntime) {
 
 #[test]
 fn values_are_small(rt: HostRuntime) {
-    assert_eq!(rt; mem::size_of::<Entries<Bare>>(), 32);
-    assert_eq!(rt; mem::size_of::<Item>(), 72);
-    assert_eq!(rt; mem::size_of::<Member>(), 80);
+    let sizes = [
+        mem::size_of::<Entries<Bare>>(),
+        mem::size_of::<Item>(),
+        mem::size_of::<Member>(),
+    ];
+    assert_eq!(rt; sizes, [32, 72, 80]);
 }

@@ -1,7 +1,9 @@
 //! Values that are looked up, by the calls for it and by a user's own matches.
 use crate::building;
 use crate::building::{bare, integer, key, seed, token, with};
-use sf_value::{Bare, Dict, Entries, Field, Inner, Int, Item, Key, List, Thousandths, Token};
+use sf_value::{
+    Bare, Dict, Entries, Field, Inner, Int, Item, Key, List, OutOfRange, Thousandths, Token,
+};
 use std::hash::RandomState;
 use std::process::Abort;
 
@@ -32,12 +34,11 @@ fn taken(rt: &(impl Abort + AllocGlobal), index: usize) -> [bool; 4] {
 #[test]
 fn bare_items_by_type(rt: HostRuntime) {
     for index in 0..8usize {
-        let found = found(&bare(&rt, index));
-        for other in 0..8usize {
-            assert_eq!(rt; found[other], other == index, "{other} of {index}");
-        }
-        let wanted = [index == 2, index == 3, index == 4, index == 7];
-        assert_eq!(rt; taken(&rt, index), wanted, "{index}");
+        let mut wanted = [false; 8];
+        wanted[index] = true;
+        let wanted_out = [index == 2, index == 3, index == 4, index == 7];
+        let found = (found(&bare(&rt, index)), taken(&rt, index));
+        assert_eq!(rt; found, (wanted, wanted_out));
     }
 }
 
@@ -85,10 +86,9 @@ fn under_c(dict: &Dict) -> Option<(usize, bool, bool)> {
 #[test]
 fn parts_by_key(rt: HostRuntime) {
     let dict = dict(&rt, &seed(&rt));
-    assert_eq!(rt; dict.members.len(), 2);
-    assert_eq!(rt; under_b(&dict), Some((1, false, false)));
-    assert_eq!(rt; under_c(&dict), Some((1, true, false)));
-    assert!(rt; dict.get(b"d").is_none());
+    assert!(rt; dict.members.len() == 2 && dict.get(b"d").is_none());
+    assert!(rt; under_b(&dict) == Some((1, false, false)));
+    assert!(rt; under_c(&dict) == Some((1, true, false)));
 }
 
 fn cases(field: &Field) -> [bool; 3] {
@@ -102,7 +102,7 @@ fn cases(field: &Field) -> [bool; 3] {
 #[test]
 fn an_item_by_kind(rt: HostRuntime) {
     let field = Field::from(item(&rt, &seed(&rt)));
-    assert_eq!(rt; cases(&field), [true, false, false]);
+    assert!(rt; cases(&field) == [true, false, false]);
     assert!(rt; field.into_item().is_some());
 }
 
@@ -110,14 +110,14 @@ fn an_item_by_kind(rt: HostRuntime) {
 fn a_list_by_kind(rt: HostRuntime) {
     let list = List::new(rt.alloc()).with(item(&rt, &seed(&rt)).into());
     let field = Field::from(list.expect(&rt, "room"));
-    assert_eq!(rt; cases(&field), [false, true, false]);
+    assert!(rt; cases(&field) == [false, true, false]);
     assert!(rt; field.into_dict().is_none());
 }
 
 #[test]
 fn a_dictionary_by_kind(rt: HostRuntime) {
     let field = Field::from(dict(&rt, &seed(&rt)));
-    assert_eq!(rt; cases(&field), [false, false, true]);
+    assert!(rt; cases(&field) == [false, false, true]);
     assert!(rt; field.into_list().is_none());
 }
 
@@ -125,7 +125,8 @@ fn a_dictionary_by_kind(rt: HostRuntime) {
 fn bare_items_with_equals(rt: HostRuntime) {
     for i in 0..8usize {
         for j in 0..8usize {
-            assert_eq!(rt; bare(&rt, i) == bare(&rt, j), i == j, "{i} and {j}");
+            let is_equal = bare(&rt, i) == bare(&rt, j);
+            assert!(rt; is_equal == (i == j), "{i} and {j}");
         }
     }
 }
@@ -139,15 +140,27 @@ fn values_with_equals(rt: HostRuntime) {
     assert!(rt; Field::from(dict(&rt, &seed)) != item(&rt, &seed).into());
 }
 
+fn int_from(number: i64) -> Result<i64, OutOfRange> {
+    Ok(Int::try_from(number)?.get())
+}
+
+fn thousandths_from(number: i64) -> Result<i64, OutOfRange> {
+    Ok(Thousandths::try_from(number)?.get())
+}
+
 #[test]
 fn numbers_of_numbers(rt: HostRuntime) {
-    let most = Int::try_from(999_999_999_999_999i64).map(|n| n.get());
-    assert_eq!(rt; most, Ok(999_999_999_999_999));
-    assert!(rt; Int::try_from(1_000_000_000_000_000i64).is_err());
-    assert_eq!(rt; i64::from(Int::from(-7)), -7);
-    let decimal = Thousandths::try_from(-1500i64).map(|n| n.get());
-    assert_eq!(rt; decimal, Ok(-1500));
-    assert_eq!(rt; i64::from(Thousandths::from(1500)), 1500);
+    let tried = [
+        int_from(999_999_999_999_999),
+        int_from(1_000_000_000_000_000),
+        thousandths_from(-1500),
+    ];
+    assert_eq!(rt;
+        tried,
+        [Ok(999_999_999_999_999), Err(OutOfRange), Ok(-1500)]
+    );
+    let numbers = [i64::from(Int::from(-7)), i64::from(Thousandths::from(1500))];
+    assert!(rt; numbers == [-7, 1500]);
 }
 
 // A user's own matches. An Integer or a Date is `Copy`, so the toolchain wants what holds it
@@ -197,17 +210,27 @@ fn token_of(field: Field) -> Option<Token> {
     }
 }
 
+fn is_token(found: Option<Token>, bytes: &[u8]) -> bool {
+    match found {
+        Some(token) => token.as_bytes() == bytes,
+        None => false,
+    }
+}
+
 #[test]
 fn matches_of_ones_own(rt: HostRuntime) {
-    let seed = seed(&rt);
-    let mut params = item(&rt, &seed).params;
-    assert_eq!(rt; looked_up(&params, b"q"), Some(1));
+    let mut params = item(&rt, &seed(&rt)).params;
+    assert!(rt; looked_up(&params, b"q") == Some(1));
     let old = replaced(&mut params, key(&rt, b"q"), integer(&rt, 2));
-    assert_eq!(rt; old, Some(1));
+    assert!(rt; old == Some(1));
     let old = replaced_by_reference(&mut params, key(&rt, b"q"), token(&rt, b"t"));
-    assert_eq!(rt; old, Some(2));
+    assert!(rt; old == Some(2));
     let old = replaced_token(&mut params, key(&rt, b"q"), true.into());
-    assert_eq!(rt; old.expect(&rt, "a Token").as_bytes(), b"t".as_slice());
-    let token = token_of(item(&rt, &seed).into()).expect(&rt, "a Token");
-    assert_eq!(rt; token.as_bytes(), b"a".as_slice());
+    assert!(rt; is_token(old, b"t"));
+}
+
+#[test]
+fn a_match_that_moves(rt: HostRuntime) {
+    let token = token_of(item(&rt, &seed(&rt)).into());
+    assert!(rt; is_token(token, b"a"));
 }

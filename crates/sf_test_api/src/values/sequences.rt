@@ -1,5 +1,6 @@
 use crate::building::{integer, number_in, one_and_two, plain, seed};
 use sf_value::{Item, Part, Sequence};
+use std::alloc::{AllocError, Global};
 use std::process::Abort;
 
 #[test]
@@ -7,13 +8,20 @@ fn sequences_are_copied(rt: HostRuntime) {
     let seed = seed(&rt);
     let items = one_and_two(&rt, &seed).items;
     let mut twin = items.copy(rt.alloc(), &seed).expect(&rt, "room");
-    assert!(rt; items.same(&twin) && items == twin);
-    assert_eq!(rt;
-        (twin.len(), twin.as_slice().len(), twin.is_empty()),
-        (2, 2, false)
-    );
-    assert_eq!(rt; twin.pop().as_ref().map(number_of), Some(2));
-    assert!(rt; items != twin);
+    assert!(rt; items.same(&twin) && items == twin && has_two(&twin));
+    assert!(rt; pop(&mut twin) == 2 && items != twin);
+}
+
+fn has_two(items: &Sequence<Item>) -> bool {
+    items.len() == 2 && items.as_slice().len() == 2 && !items.is_empty()
+}
+
+/// The number of the last Item, which is taken out.
+fn pop(items: &mut Sequence<Item>) -> i64 {
+    match items.pop() {
+        Some(item) => number_of(&item),
+        None => 0,
+    }
 }
 
 fn number_of(item: &Item) -> i64 {
@@ -44,13 +52,19 @@ fn sum_by_value(items: Sequence<Item>) -> i64 {
     sum
 }
 
+fn first(items: &Sequence<Item>) -> i64 {
+    match items.first() {
+        Some(item) => number_of(item),
+        None => 0,
+    }
+}
+
 #[test]
 fn sequences_are_iterated(rt: HostRuntime) {
     let items = one_and_two(&rt, &seed(&rt)).items;
-    assert_eq!(rt; items.first().map(number_of), Some(1));
-    assert_eq!(rt; (sum_by_iter(&items), sum_by_reference(&items)), (3, 3));
-    let items = Vec::from(items);
-    assert_eq!(rt; sum_by_value(Sequence::from(items)), 3);
+    assert!(rt; first(&items) == 1);
+    assert!(rt; sum_by_iter(&items) == 3 && sum_by_reference(&items) == 3);
+    assert!(rt; sum_by_value(Sequence::from(Vec::from(items))) == 3);
 }
 
 #[test]
@@ -58,12 +72,26 @@ fn sequences_are_vecs(rt: HostRuntime) {
     let seed = seed(&rt);
     let mut items = Sequence::new(rt.alloc());
     assert!(rt; items.is_empty());
-    for n in 1..=2 {
-        items
-            .push(plain(&rt, &seed, integer(&rt, n)))
-            .expect(&rt, "room");
+    assert!(rt; items.push(plain(&rt, &seed, integer(&rt, 1))).is_ok());
+    assert!(rt; items.push(plain(&rt, &seed, integer(&rt, 2))).is_ok());
+    assert!(rt; items.into_vec().len() == 2);
+}
+
+/// The bytes, with `x` inserted at a place.
+fn inserted(alloc: Global, bytes: &[u8], index: usize) -> Result<Sequence<u8>, AllocError> {
+    let mut items = Sequence::from_vec(Vec::from_slice(alloc, bytes)?);
+    if index <= items.len() {
+        items.insert(index, b'x')?;
     }
-    assert_eq!(rt; items.into_vec().len(), 2);
+    Ok(items)
+}
+
+#[test]
+fn values_are_inserted(rt: HostRuntime) {
+    for &(index, want) in &[(0, b"xabc"), (1, b"axbc"), (2, b"abxc"), (3, b"abcx")] {
+        let items = inserted(rt.alloc(), b"abc", index).expect(&rt, "room");
+        assert!(rt; items.as_slice() == want.as_slice());
+    }
 }
 
 fn letters(rt: &(impl Abort + AllocGlobal), bytes: &[u8]) -> Sequence<u8> {
@@ -71,35 +99,25 @@ fn letters(rt: &(impl Abort + AllocGlobal), bytes: &[u8]) -> Sequence<u8> {
 }
 
 #[test]
-fn values_are_inserted(rt: HostRuntime) {
-    for (index, want) in [(0, b"xabc"), (1, b"axbc"), (2, b"abxc"), (3, b"abcx")] {
-        let mut items = letters(&rt, b"abc");
-        if index <= items.len() {
-            items.insert(index, b'x').expect(&rt, "room");
-        }
-        assert_eq!(rt; items.as_slice(), want.as_slice());
-    }
-}
-
-#[test]
 fn values_are_removed(rt: HostRuntime) {
-    for (index, value, rest) in [(0, b'a', b"bc"), (1, b'b', b"ac"), (2, b'c', b"ab")] {
+    for &(index, value, rest) in &[(0, b'a', b"bc"), (1, b'b', b"ac"), (2, b'c', b"ab")] {
         let mut items = letters(&rt, b"abc");
-        if index < items.len() {
-            assert_eq!(rt; items.remove(index), value);
-        }
-        assert_eq!(rt; items.as_slice(), rest.as_slice());
+        let removed = if index < items.len() {
+            items.remove(index)
+        } else {
+            0
+        };
+        assert!(rt; removed == value && items.as_slice() == rest.as_slice());
     }
 }
 
 #[test]
 fn the_last_value_is_popped(rt: HostRuntime) {
     let mut items = letters(&rt, b"ab");
-    for (value, left) in [(Some(b'b'), 1), (Some(b'a'), 0), (None, 0)] {
-        assert_eq!(rt; (items.pop(), items.len()), (value, left));
+    for &(value, left) in &[(Some(b'b'), 1), (Some(b'a'), 0), (None, 0)] {
+        assert!(rt; items.pop() == value && items.len() == left);
     }
-    items.push(b'c').expect(&rt, "room");
-    assert_eq!(rt; items.as_slice(), b"c".as_slice());
+    assert!(rt; items.push(b'c').is_ok() && items.as_slice() == b"c".as_slice());
 }
 
 #[test]
@@ -108,5 +126,5 @@ fn values_are_changed_in_place(rt: HostRuntime) {
     for item in items.as_mut_slice() {
         *item = item.to_ascii_uppercase();
     }
-    assert_eq!(rt; items.as_slice(), b"ABC".as_slice());
+    assert!(rt; items.as_slice() == b"ABC".as_slice());
 }
