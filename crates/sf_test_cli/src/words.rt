@@ -162,8 +162,8 @@ fn at_most_64_names(rt: HostRuntime) -> Result<(), Fail> {
     Ok(())
 }
 
-const USAGE: &str =
-    "sf: usage: sf show, check or normalise --kind item, list or dict [--dialect rfc8941 or rfc9651]; sf cache-status; sf targeted NAME..; sf priority";
+const USAGE: &str = "sf: usage: sf show, check or normalise --kind item, list or dict \
+    [--dialect rfc8941 or rfc9651]; sf cache-status; sf targeted NAME..; sf priority";
 
 const STOPPED: &str = "sf: out of memory or a device failed";
 

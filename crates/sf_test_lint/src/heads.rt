@@ -38,7 +38,8 @@ fn heads(rt: HostRuntime) -> Result<(), Fail> {
         (b"", b"other fields: 0\n", Status::Accepted),
         (
             b"HTTP/2 200 \r\ncache-status: OriginCache; hit; ttl=1100\r\npriority: u=1,i\r\nserver: x\r\n\r\n",
-            b"HTTP/2 200 \nok cache-status: OriginCache;hit;ttl=1100\nhop 0 OriginCache hit ttl=1100\nserved 0\nok priority: u=1, i\nurgency 1 incremental true\nother fields: 1\n",
+            b"HTTP/2 200 \nok cache-status: OriginCache;hit;ttl=1100\nhop 0 OriginCache hit ttl=1100\n\
+              served 0\nok priority: u=1, i\nurgency 1 incremental true\nother fields: 1\n",
             Status::Accepted,
         ),
         (
@@ -68,12 +69,14 @@ fn heads(rt: HostRuntime) -> Result<(), Fail> {
         ),
         (
             b"GET /a:b HTTP/1.1\nPriority: u=1\n\nHTTP/1.1 200 OK\npriority: i\nPRIORITY: u=2\n",
-            b"GET /a:b HTTP/1.1\nok priority: u=1\nurgency 1 incremental false\nHTTP/1.1 200 OK\nok priority: i, u=2\nurgency 2 incremental true\nother fields: 0\n",
+            b"GET /a:b HTTP/1.1\nok priority: u=1\nurgency 1 incremental false\n\
+              HTTP/1.1 200 OK\nok priority: i, u=2\nurgency 2 incremental true\nother fields: 0\n",
             Status::Accepted,
         ),
         (
             b"Example-CDN-Cache-Control: max-age=60\nDeprecation: @1688169599\nSec-GPC: @1\n",
-            b"ok example-cdn-cache-control: max-age=60\nlifetime shared 60\nlifetime private 60\nok deprecation: @1688169599\n\
+            b"ok example-cdn-cache-control: max-age=60\nlifetime shared 60\nlifetime private 60\n\
+              ok deprecation: @1688169599\n\
               refused sec-gpc: byte 0x40 '@' at place 0, expected \
               a letter, a digit, a quote, `*`, `-`, `:`, `?` or a space\n\
               line 3, place 9:\nSec-GPC: @1\n         ^\nother fields: 0\n",
@@ -188,7 +191,7 @@ fn ignored_members(rt: HostRuntime) -> Result<(), Fail> {
               hop 0 A unsaid detail=b\nhop 1 \"C\" unsaid detail=\"d\"\nserved none\nother fields: 0\n",
             Status::Accepted,
         ),
-        // Nothing is told as ignored of a field that is refused for a member.
+        // No parameter is reported as ignored in a field that is refused for a member.
         (
             b"Cache-Status: A; hit=1, 7\n",
             b"refused cache-status: member 1 names no cache\nother fields: 0\n",

@@ -376,7 +376,9 @@ fn appends(rt: HostRuntime) -> Result<(), Fail> {
     for (before, after) in [
         (
             b"OriginCache;hit;ttl=1100, \"CDN Company Here\";hit;ttl=545".as_slice(),
-            b"OriginCache;hit;ttl=1100, \"CDN Company Here\";hit;ttl=545, edge;fwd=stale;fwd-status=304;stored;detail=x".as_slice(),
+            b"OriginCache;hit;ttl=1100, \"CDN Company Here\";hit;ttl=545, \
+              edge;fwd=stale;fwd-status=304;stored;detail=x"
+                .as_slice(),
         ),
         (
             b"a, b, c, d",

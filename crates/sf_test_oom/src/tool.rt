@@ -196,7 +196,8 @@ fn runs_of_a_kind(rt: HostRuntime) -> Result<(), Fail> {
             &dict,
             (
                 b"a=1,b;x, a=(1  2 );y=:YQ:",
-                b"dict 2\n  a = inner 2\n    integer 1\n    integer 2\n    ; y bytes :YQ==:\n  b = boolean ?1\n    ; x boolean ?1\n",
+                b"dict 2\n  a = inner 2\n    integer 1\n    integer 2\n    ; y bytes :YQ==:\
+                  \n  b = boolean ?1\n    ; x boolean ?1\n",
                 Status::Accepted,
             ),
         ),
@@ -309,30 +310,30 @@ fn explained(
     row: Row,
     words: &[u8],
     room: &mut Vec<u8>,
-    told: &mut Vec<u8>,
+    explanation: &mut Vec<u8>,
 ) -> Seen {
     let (input, text, status) = row;
     room.clear();
-    told.clear();
+    explanation.clear();
     let mut sink = Writing::new(&mut *room);
     let mut errors = ErrorStream {
-        device: Writing::new(&mut *told),
+        device: Writing::new(&mut *explanation),
         is_terminal: true,
     };
     let mut source = Reading::new(input);
     let item = Request::Check(Dialect::Rfc9651, Kind::Item);
     let answer = run(alloc, seed, &item, &mut source, &mut sink, &mut errors);
     drop(errors);
-    if answer == Status::Stopped && room.is_empty() && told.is_empty() {
+    if answer == Status::Stopped && room.is_empty() && explanation.is_empty() {
         return Seen::Refused;
     }
     if answer != status || room.as_slice() != text {
         return Seen::Wrong;
     }
-    if told.is_empty() {
+    if explanation.is_empty() {
         return Seen::Refused;
     }
-    seen_if(told.as_slice() == words)
+    seen_if(explanation.as_slice() == words)
 }
 
 /// An explanation for which memory is wanting is left out, and the answer stays.
@@ -341,7 +342,7 @@ fn explanations(rt: HostRuntime) -> Result<(), Fail> {
     let alloc = rt.alloc();
     let seed = RandomState::new(&rt)?;
     let mut room = Vec::with_capacity(alloc, 1000)?;
-    let mut told = Vec::with_capacity(alloc, 1000)?;
+    let mut explanation = Vec::with_capacity(alloc, 1000)?;
     let row: Row = (
         b"1 2",
         b"refused at 2 found 0x32 expected 20 end\n",
@@ -350,7 +351,14 @@ fn explanations(rt: HostRuntime) -> Result<(), Fail> {
     let words =
         b"byte 0x32 '2' at place 2, expected a space or the end\nline 1, place 2:\n1 2\n  ^\n";
     let found = refusals(alloc, || {
-        explained(alloc, &seed, row, words.as_slice(), &mut room, &mut told)
+        explained(
+            alloc,
+            &seed,
+            row,
+            words.as_slice(),
+            &mut room,
+            &mut explanation,
+        )
     });
     assert!(rt; found > Some(0), "{found:?}");
     Ok(())

@@ -192,7 +192,7 @@ fn refused_texts_have_none(rt: HostRuntime) -> Result<(), Fail> {
 }
 
 #[test]
-fn a_short_buffer_is_told(rt: HostRuntime) -> Result<(), Fail> {
+fn a_short_buffer_is_reported(rt: HostRuntime) -> Result<(), Fail> {
     let mut buffer = [Node::NONE; 2];
     let short = View::scan(Dialect::Rfc9651, Kind::List, b"a, b, c", &mut buffer);
     assert!(&rt; short.err() == Some(Unviewed::ShortBuffer));
