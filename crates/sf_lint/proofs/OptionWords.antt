@@ -1,5 +1,6 @@
 -- What the words of `--field` name.
-use Rattle.std.proofs.Common.{◌≡◌, ℕ, ◌+◌, ◌<◌, true, false, List, [], ◌∷◌, ◌++◌, length, take, get_or}
+use Rattle.std.proofs.Common.{◌≡◌, ℕ, ◌+◌, ◌<◌, true, false, List, [], ◌∷◌, ◌++◌, length, take}
+use Rattle.std.proofs.Common.{get_or}
 use Rattle.std.proofs.Common.{Option, Some, None, refl, ap, ap₂, sym, ◌∙◌, map, arith, inl, inr}
 use Rattle.std.proofs.Common.{Result, Ok, Err, ◌⊎◌, subst}
 use Rattle.std.specs.Prelude.{MatchResult, IsErrAnd, codes}
@@ -62,7 +63,8 @@ fields_more words fields field i lt front one =
 
 -- a word names none
 pub no_fields : (words : List Text) (i : ℕ) → i < length words
-    → custom_of (get_or words i []) ≡ None → (fields : List CustomField) → ¬ (AreFields words fields)
+    → custom_of (get_or words i []) ≡ None → (fields : List CustomField)
+    → ¬ (AreFields words fields)
 no_fields words i lt none fields are =
     let size = ap length are in
     let of_words = length-map words custom_of in

@@ -55,7 +55,8 @@ field_with name kind = record { name = name; kind = kind }
 -- the field of a word: a header name in any case, a colon and a kind
 abbrev pub custom_of : Text → Option CustomField
 custom_of word =
-    if has_name word then option_map (field_with (name_of word)) (kind_named (after_first is_colon word))
+    if has_name word
+    then option_map (field_with (name_of word)) (kind_named (after_first is_colon word))
     else None
 
 -- each word is that of its field

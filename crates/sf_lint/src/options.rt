@@ -50,7 +50,16 @@ impl OptionsFault {
         match self {
             OptionsFault::Usage => None,
             OptionsFault::Help => Some(
-                "usage: sflint [--field NAME:item|list|dict].. [--quiet]\n\nReads the heads of HTTP messages from standard input, as curl -sI prints them, and\nshows each structured field: its canonical text and its meaning, or why it is refused.\n\n  --field NAME:KIND  a field that is not registered, with its kind: item, list or dict\n  --quiet            show only what is refused\n  --help             show this help\n  --version          show the version\n\nThe status is 0 if everything is accepted, 1 if something is refused, 2 if the arguments\nare wrong, and 3 if an allocation or a device fails.\n",
+                "usage: sflint [--field NAME:item|list|dict].. [--quiet]\n\n\
+                 Reads the heads of HTTP messages from standard input, as curl -sI prints them, and\n\
+                 shows each structured field: its canonical text and its meaning, or why it is \
+                 refused.\n\
+                 \n  --field NAME:KIND  a field that is not registered, with its kind: item, list or dict\
+                 \n  --quiet            show only what is refused\
+                 \n  --help             show this help\
+                 \n  --version          show the version\n\n\
+                 The status is 0 if everything is accepted, 1 if something is refused, 2 if the \
+                 arguments\nare wrong, and 3 if an allocation or a device fails.\n",
             ),
             OptionsFault::Version => Some("sflint 0.1.0\n"),
             OptionsFault::OutOfMemory => None,

@@ -1,5 +1,6 @@
 //! What is printed for the lines of an input.
-ghost use Rattle.std.specs.Prelude.{◌≡◌, ◌+◌, ◌<◌, ◌≤◌, ◌^◌, ◌↔◌, ◌++◌, true, false, length, map, get_or, IfOk, IfErr, IsTrue};
+ghost use Rattle.std.specs.Prelude.{◌≡◌, ◌+◌, ◌<◌, ◌≤◌, ◌^◌, ◌↔◌, ◌++◌, true, false, length, map};
+ghost use Rattle.std.specs.Prelude.{get_or, IfOk, IfErr, IsTrue};
 ghost use Rattle.std.specs.Prelude.{codes, decimal, string_bytes, [], Some};
 ghost use Rattle.sf_field.specs.Lines.{ParsesLines};
 ghost use Rattle.sf_parse.specs.Spots.{line_place};

@@ -37,5 +37,7 @@ returns-in-None c =
     sym (raw_values-rows f (codes "field")) ∙ sym c.get_strs.ensures
     ∙ ap (option_map texts) c.in-None.is in
     let P : Option (List Text) → Type 0 =
-    λ ws. AreFields (field_words ws) c.new.result.items in
-    (subst P (sym given) (ap (map Some) (sym c.new.ensures.items)), (c.is_quiet-quiet.ensures, refl))
+    λ ws. AreFields (field_words ws) c.new.result.items in (
+      subst P (sym given) (ap (map Some) (sym c.new.ensures.items)),
+      (c.is_quiet-quiet.ensures, refl),
+    )

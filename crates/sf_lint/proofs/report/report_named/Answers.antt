@@ -19,7 +19,8 @@ returns-then-is_repeated-clause-reported c =
     let type : type_of c.args.settings.now c.args.name.now ≡ Some c.in-Some.field_type =
     sym c.type_of.ensures ∙ c.in-Some.is in
     let P : List ℕ → Type 0 = λ name. IsRepeated name (map text c.args.lines.now) c.args.n in
-    let repeated = subst P c.as_bytes.ensures.value (c.is_repeated.ensures.0 c.if-is_repeated.true) in
+    let repeated = subst P c.as_bytes.ensures.value
+    (c.is_repeated.ensures.0 c.if-is_repeated.true) in
     rw type (inl (repeated, c.nothing.ensures))
 
 pub returns-clause-reported : goal.returns-clause-reported
@@ -41,8 +42,10 @@ returns-clause-reported c =
     (IfOk-weaker c.report_field.result _ _
     (λ reported h.
     let Q : List ℕ → Type 0 = λ name. ReportsField c.args.settings.now c.in-Some.field_type name
-    (n + 1) (map text c.message_in-message.result.now) reported.text.items reported.refused reported.others in
+    (n + 1) (map text c.message_in-message.result.now) reported.text.items reported.refused
+    reported.others in
     let R : List (List ℕ) → Type 0 = λ message. ReportsField c.args.settings.now
-    c.in-Some.field_type c.args.name.now (n + 1) message reported.text.items reported.refused reported.others in
+    c.in-Some.field_type c.args.name.now (n + 1) message reported.text.items reported.refused
+    reported.others in
     inr (unrepeated, subst R message (subst Q c.as_str.ensures.value h)))
     c.report_field.ensures.reported)
