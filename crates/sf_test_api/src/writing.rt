@@ -277,8 +277,8 @@ fn sends_that_fail(rt: HostRuntime) {
 #[test]
 fn a_fault_says_how_much_went_out(rt: HostRuntime) {
     let fault = WriteFault { written: 2 };
-    let told = format!(in rt.alloc(); "{fault}").expect(&rt, "room");
-    assert!(rt; told.as_str() == "a write failed after 2 bytes");
+    let message = format!(in rt.alloc(); "{fault}").expect(&rt, "room");
+    assert!(rt; message.as_str() == "a write failed after 2 bytes");
 }
 
 #[test]
@@ -382,6 +382,6 @@ fn fields_are_displayed(rt: HostRuntime) {
 #[test]
 fn a_value_is_displayed_among_words(rt: HostRuntime) {
     let value = decimal(&rt, 4500);
-    let told = format!(in rt.alloc(); "q is {}.", display(&value)).expect(&rt, "room");
-    assert!(rt; told.as_str() == "q is 4.5.");
+    let text = format!(in rt.alloc(); "q is {}.", display(&value)).expect(&rt, "room");
+    assert!(rt; text.as_str() == "q is 4.5.");
 }
