@@ -49,9 +49,10 @@ returns c =
           c.write.new.nodes c.write.new.bytes
           (record { nodes = c.node_count.result; bytes = c.byte_count.result })
           c.nodes_are_few.ensures.nodes c.nodes_are_few.ensures.bytes c.in-Ok.ensures.0
-          c.in-Ok-flatten.ensures c.node_count.ensures c.byte_count.ensures (omega arith) (omega arith)
-          (written.describes c.args.dialect c.args.text.now c.in-Ok.field refl c.in-Ok-flatten.ensures)
-          written.decoded written.in_one,
+          c.in-Ok-flatten.ensures c.node_count.ensures c.byte_count.ensures (omega arith)
+          (omega arith)
+          (written.describes c.args.dialect c.args.text.now c.in-Ok.field refl
+          c.in-Ok-flatten.ensures) written.decoded written.in_one,
       (nodes, bytes),
       c.in-Ok.ensures.1,
     )

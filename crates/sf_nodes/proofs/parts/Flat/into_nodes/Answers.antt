@@ -14,8 +14,8 @@ nodes_of-requires c = record {
 pub returns : goal.returns
 returns c =
     let seen = c.self.view_is in
-    let described : map (content_by c.self.inside.bytes.items) c.self.inside.parts.items ≡ c.args.self
-    = first_of (cc, search rules) in
+    let described : map (content_by c.self.inside.bytes.items) c.self.inside.parts.items
+    ≡ c.args.self = first_of (cc, search rules) in
     λ d v is.
     subst (λ y. DescribesField d c.self.inside.bytes.items y v)
     (sym (rw c.as_slice-2.ensures.value at c.in_ok-nodes.ensures))
