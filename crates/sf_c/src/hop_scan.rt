@@ -92,6 +92,7 @@ fn put_hop(hop: HopView, bytes: &mut [u8], used: usize) -> Option<HopNode>
 
 /// Puts the bytes of a slice, decoded if they are coded, after so many of the buffer; `None` if it
 /// is too small.
+#[inline(always)]
 fn put_slice(slice: Slice, bytes: &mut [u8], used: usize) -> Option<Span>
     requires used { used ≤ length bytes.old }
     ensures same { length bytes.new ≡ length bytes.old }
@@ -106,6 +107,12 @@ fn put_slice(slice: Slice, bytes: &mut [u8], used: usize) -> Option<Span>
         return Some(Span { at: used, length });
     }
     let length = slice.bytes.len();
+    if length == 0 {
+        return Some(Span {
+            at: used,
+            length: 0,
+        });
+    }
     if length > bytes.len() - used {
         return None;
     }
