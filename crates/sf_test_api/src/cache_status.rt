@@ -222,6 +222,9 @@ fn appends(rt: HostRuntime) {
 }
 
 fn served_by(alloc: Global, field: &Field) -> Option<usize> {
+    let Field::List(_) = field else {
+        return None;
+    };
     match CacheStatus.answer(alloc, field) {
         Ok(path) => path.served_by(),
         Err(_) => None,
