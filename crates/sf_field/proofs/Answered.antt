@@ -8,13 +8,13 @@ use Rattle.sf_value.specs.Grammar.Lines.{join, Viable}
 use Rattle.sf_parse.specs.declared.refusal.Refusal.{Refusal}
 use Rattle.sf_parse.specs.declared.refusal.Refusal.TheVariants.{OutOfMemory, Syntax, TooLong}
 use Rattle.sf_parse.specs.declared.refusal.Refusal.TheVariants.{ReadFault}
-use Rattle.sf_parse.specs.Parsers.{Progress, Took, RefusedFor, Fed, Finishes}
+use Rattle.sf_parse.specs.Parsers.{Progress, HasTaken, RefusedFor, Feeds, Finishes}
 use Rattle.sf_field.specs.Lines.{ParsesLines}
 
 -- a refusal of the joined text by a new parser
 pub refused_lines : (d : Dialect) (kind : Kind) (p q : Progress) (e : Refusal)
-    (lines : List (List ℕ)) → p.dialect ≡ d → p.kind ≡ kind → p.max ≡ 2 ^ 64 - 1 → Took p []
-    → Fed p q (Err e) (join lines) → ParsesLines d kind lines (Err e)
+    (lines : List (List ℕ)) → p.dialect ≡ d → p.kind ≡ kind → p.max ≡ 2 ^ 64 - 1 → HasTaken p []
+    → Feeds p q (Err e) (join lines) → ParsesLines d kind lines (Err e)
 refused_lines d kind p q e lines x y z k f =
     at e
     (subst (λ n. RefusedFor d kind n (join lines) e) z
@@ -37,9 +37,9 @@ refused_lines d kind p q e lines x y z k f =
 
 -- the end of the joined text that a new parser was fed
 pub finished_lines : (d : Dialect) (kind : Kind) (p q : Progress) (r : Result Field Refusal)
-    (lines : List (List ℕ)) → p.dialect ≡ d → p.kind ≡ kind → p.max ≡ 2 ^ 64 - 1 → Took p []
-    → Fed p q (Ok tt) (join lines)
-    → ((s : List ℕ) → Took q s → Finishes q.dialect q.kind s r) → ParsesLines d kind lines r
+    (lines : List (List ℕ)) → p.dialect ≡ d → p.kind ≡ kind → p.max ≡ 2 ^ 64 - 1 → HasTaken p []
+    → Feeds p q (Ok tt) (join lines)
+    → ((s : List ℕ) → HasTaken q s → Finishes q.dialect q.kind s r) → ParsesLines d kind lines r
 finished_lines d kind p q r lines x y z k f h =
     let fed = f.answer.1 [] k in
     let took = fed.2 in

@@ -5,7 +5,7 @@ use Rattle.std.proofs.lemmas.List.{drop_more}
 use Rattle.std.proofs.Common.{Ok, Err, refl, sym, ap, ◌∙◌, subst, append-nil, append_assoc}
 use Rattle.sf_value.specs.Grammar.Lines.{join}
 use Rattle.sf_parse.specs.declared.refusal.Refusal.{Refusal}
-use Rattle.sf_parse.specs.Parsers.{Progress, Fed, in_line}
+use Rattle.sf_parse.specs.Parsers.{Progress, Feeds, in_line}
 use Rattle.sf_parse.specs.AllocationFreeParsers.{IsAllocationFree}
 use Rattle.sf_parse.proofs.FedLines.{fed_after, fed_before}
 
@@ -37,15 +37,15 @@ appended text new line item whole after lines i h so_far is same added =
 pub record FedSoFar (o p : Progress) (all left : List ℕ) : Type 0 where
   pub front : List ℕ
   pub split : all ≡ front ++ left
-  pub fed : Fed o p (Ok tt) front
+  pub fed : Feeds o p (Ok tt) front
 
 -- nothing was fed yet
-pub fed_nothing : (o p : Progress) (all : List ℕ) → Fed o p (Ok tt) [] → FedSoFar o p all all
+pub fed_nothing : (o p : Progress) (all : List ℕ) → Feeds o p (Ok tt) [] → FedSoFar o p all all
 fed_nothing o p all f = record { front = []; split = refl; fed = f }
 
 -- a further piece was fed
 pub fed_piece : (o p q : Progress) (all left piece more : List ℕ) → FedSoFar o p all left
-    → left ≡ piece ++ more → Fed p q (Ok tt) piece → FedSoFar o q all more
+    → left ≡ piece ++ more → Feeds p q (Ok tt) piece → FedSoFar o q all more
 fed_piece o p q all left piece more l e f = record {
   front = l.front ++ piece;
   split = l.split ∙ ap (λ z. l.front ++ z) e ∙ sym (append_assoc l.front piece more);
@@ -55,16 +55,16 @@ fed_piece o p q all left piece more l e f = record {
 -- a further line was fed
 pub fed_line : (o p q : Progress) (all left line : List ℕ) (ls : List (List ℕ)) (after : Bool)
     → q.after_line ≡ true → FedSoFar o p all left → left ≡ in_line after line ++ behind true ls
-    → Fed p q (Ok tt) (in_line after line) → FedSoFar o q all (behind q.after_line ls)
+    → Feeds p q (Ok tt) (in_line after line) → FedSoFar o q all (behind q.after_line ls)
 fed_line o p q all left line ls after t l e f =
     subst (λ b. FedSoFar o q all (behind b ls)) (sym t)
     (fed_piece o p q all left (in_line after line) (behind true ls) l e f)
 
 -- a further piece was refused
 pub fed_refused : (o p q : Progress) (e : Refusal) (all left piece more : List ℕ)
-    → FedSoFar o p all left → left ≡ piece ++ more → Fed p q (Err e) piece → Fed o q (Err e) all
+    → FedSoFar o p all left → left ≡ piece ++ more → Feeds p q (Err e) piece → Feeds o q (Err e) all
 fed_refused o p q e all left piece more l s f =
-    subst (Fed o q (Err e))
+    subst (Feeds o q (Err e))
     (append_assoc l.front piece more ∙ sym (l.split ∙ ap (λ z. l.front ++ z) s))
     (fed_before o q e (l.front ++ piece) more (fed_after o p q (Err e) l.front piece l.fed f))
 

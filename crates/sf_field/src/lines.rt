@@ -4,7 +4,7 @@ ghost use Rattle.std.specs.Prelude.{Err, IfOk, IfSome, ◌++◌};
 ghost use Rattle.std.specs.Slice.Iter.{iter_rest};
 ghost use Rattle.sf_value.specs.Grammar.Lines.{join};
 ghost use Rattle.sf_value.specs.declared.dialect.Dialect.TheVariants.{Rfc9651};
-ghost use Rattle.sf_parse.specs.Parsers.{Fed, in_line};
+ghost use Rattle.sf_parse.specs.Parsers.{Feeds, in_line};
 ghost use Rattle.sf_parse.specs.AllocationFree.{TakesNoMemory};
 ghost use Rattle.sf_parse.specs.AllocationFreeParsers.{IsAllocationFree, KeptAllocationFree};
 ghost use Rattle.sf_parse.specs.AllocationFreeParsers.{NotForMemory};
@@ -197,7 +197,7 @@ fn append_line(text: &mut Vec<u8>, after_line: bool, line: &[u8]) -> Result<(), 
 fn feed_lines<'a, L: FieldLines<'a>>(parser: &mut Parser, mut lines: L) -> Result<(), Refusal>
     requires { parser.old.after_line ≡ false }
     // The joined text is fed; a refusal remains, whatever comes after it.
-    ensures fed { Fed parser.old parser.new result (join (L.lines lines)) }
+    ensures fed { Feeds parser.old parser.new result (join (L.lines lines)) }
     // Lines whose joined text is allocation-free are not refused as out of memory, nor is the end.
     ensures allocation_free { IsAllocationFree parser.old (join (L.lines lines))
         → KeptAllocationFree parser.new [] result }

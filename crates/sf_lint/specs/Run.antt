@@ -3,7 +3,7 @@ use Rattle.std.specs.Prelude.{◌≡◌, ℕ, ◌⊎◌, Bool, true, false, List
 use Rattle.sf_value.specs.Devices.{SourceState, SinkState}
 use Rattle.sf_tool.specs.declared.status.Status.{Status}
 use Rattle.sf_tool.specs.declared.status.Status.TheVariants.{Accepted, Refused, Stopped}
-use Rattle.sf_tool.specs.Run.{ReportsText, IsWhole, IsTooLong, ReadInPart, input_limit}
+use Rattle.sf_tool.specs.Run.{ReportsText, IsWhole, IsTooLong, ReadsInPart, input_limit}
 use Rattle.sf_lint.specs.declared.colours.Verdict.TheVariants as verdict
 use Rattle.sf_lint.specs.declared.settings.Settings.{Settings}
 use Rattle.sf_lint.specs.Colours.{verdict_text}
@@ -27,8 +27,8 @@ Answers settings input old new status =
 
 -- the whole input was read and then answered; or it was too long, which was reported, whatever
 -- memory there was; or it was not all read, and nothing was written
-abbrev pub Ran : Settings → SourceState → SourceState → SinkState → SinkState → Status → Type 0
-Ran settings source source' sink sink' status =
+abbrev pub Runs : Settings → SourceState → SourceState → SinkState → SinkState → Status → Type 0
+Runs settings source source' sink sink' status =
     ((input : List ℕ) × IsWhole source source' input × Answers settings input sink sink' status)
     ⊎ ((IsTooLong source source' × ReportsText (too_long_text settings) Refused sink sink' status)
-    ⊎ (ReadInPart source source' × (sink' ≡ sink) × (status ≡ Stopped)))
+    ⊎ (ReadsInPart source source' × (sink' ≡ sink) × (status ≡ Stopped)))

@@ -1,6 +1,6 @@
 //! Running the check of an input.
 ghost use Rattle.std.specs.Prelude.{◌≡◌, ◌≤◌, ◌⊎◌, length};
-ghost use Rattle.sf_lint.specs.Run.{Answers, Ran, status_of as status_in};
+ghost use Rattle.sf_lint.specs.Run.{Answers, Runs, status_of as status_in};
 ghost use Rattle.sf_lint.specs.Run.{too_long_text as too_long_in};
 ghost use Rattle.sf_tool.specs.declared.status.Status.TheVariants as status_is;
 ghost use Rattle.sf_tool.specs.Run.{input_limit};
@@ -37,7 +37,7 @@ pub fn run<R: Source, W: Sink>(
     sink: &mut W,
 ) -> Status
     // The whole input is read and answered, or refused as too long; otherwise nothing is written.
-    ensures { Ran settings.now (R.state source.old) (R.state source.new)
+    ensures { Runs settings.now (R.state source.old) (R.state source.new)
         (W.state sink.old) (W.state sink.new) result }
 {
     match read_all(alloc, INPUT_LIMIT, source) {

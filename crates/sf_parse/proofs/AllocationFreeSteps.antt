@@ -9,7 +9,7 @@ use Rattle.sf_parse.specs.Machine.Bares.{BareState, InNumber, InText, InToken, I
 use Rattle.sf_parse.specs.Machine.Bares.{InBlob, InShown}
 use Rattle.sf_parse.specs.Machine.Items.{InBare, InParams}
 use Rattle.sf_parse.specs.Machine.Series.{Begin, InMember, Gap, Comma}
-use Rattle.sf_parse.specs.Machine.States.{State, BeforeItem, InTop, AfterItem, InList, InDict}
+use Rattle.sf_parse.specs.Machine.States.{State, BeforeItem, InsideItem, AfterItem, InList, InDict}
 use Rattle.sf_parse.specs.Machine.Fields.{step}
 use Rattle.sf_parse.specs.AllocationFree.{scalar_byte, short_byte, no_semicolon, text_bytes}
 use Rattle.sf_parse.specs.AllocationFree.{BareFree, FieldFree}
@@ -37,9 +37,9 @@ pub field_free_first : (s : State) (a b : List ℕ) → FieldFree s (a ++ b) →
 field_free_first BeforeItem a b h = ⊎_elim
     (λ w. inl (every_split scalar_byte a b w).0)
     (λ w. inr (fits_first [] a b w.0, (every_split short_byte a b w.1).0)) h
-field_free_first (InTop (InBare s)) a b h =
+field_free_first (InsideItem (InBare s)) a b h =
     (bare_first s a b h.0, (every_split no_semicolon a b h.1).0)
-field_free_first (InTop (InParams x s)) a b h = absurd h
+field_free_first (InsideItem (InParams x s)) a b h = absurd h
 field_free_first (AfterItem i) a b h = tt
 field_free_first (InList Begin) a b h = (every_split is_sp a b h).0
 field_free_first (InList (InMember given s)) a b h = absurd h

@@ -14,7 +14,7 @@ use Rattle.sf_parse.specs.Machine.Series.{gap_step, series_step, series_finish}
 use Rattle.sf_parse.specs.Machine.Language.{onward}
 use Rattle.sf_parse.specs.MemberEnds.{some_map}
 use Rattle.sf_parse.specs.Machine.States.{State}
-use Rattle.sf_parse.specs.Machine.States.{BeforeItem, InTop, AfterItem, InList, InDict}
+use Rattle.sf_parse.specs.Machine.States.{BeforeItem, InsideItem, AfterItem, InList, InDict}
 use Rattle.sf_parse.specs.Machine.Fields.{Residual, list_series, dict_series}
 use Rattle.sf_parse.specs.Machine.Fields.{list_finish, dict_finish}
 use Rattle.sf_parse.specs.Machine.Items.{item_step, item_finish}
@@ -54,7 +54,7 @@ series_space k (Comma given) e = refl
 
 space : (d : Dialect) (s : State) → may_end s ≡ true → takes d s 32 ≡ true
 space d BeforeItem e = refl
-space d (InTop s) e = spaced InTop (item_step d s 32) (item_finish s) field.Item
+space d (InsideItem s) e = spaced InsideItem (item_step d s 32) (item_finish s) field.Item
     (λ i. allow (is_sp 32) (AfterItem i)) (λ i. refl) e
 space d (AfterItem i) e = refl
 space d (InList s) e = some_map InList (series_step (list_series d) s 32)

@@ -26,7 +26,7 @@ use Rattle.sf_parse.specs.Machine.Params.{InValue, params_step}
 use Rattle.sf_parse.specs.Machine.Items.{ItemState}
 use Rattle.sf_parse.specs.Machine.Items.{InBare, InParams}
 use Rattle.sf_parse.specs.Machine.Items.{item_start, item_step, item_finish}
-use Rattle.sf_parse.specs.Machine.Inners.{InnerState, Room, InItem, Closing, behind_step}
+use Rattle.sf_parse.specs.Machine.Inners.{InnerState, BetweenItems, InItem, Closing, behind_step}
 use Rattle.sf_parse.specs.Machine.Inners.{inner_step}
 use Rattle.sf_parse.specs.Machine.Members.{MemberState}
 use Rattle.sf_parse.specs.Machine.Members.{InOne, InMany}
@@ -35,7 +35,7 @@ use Rattle.sf_parse.specs.Machine.Series.{series_step}
 use Rattle.sf_parse.specs.Machine.Entries.{EntryState}
 use Rattle.sf_parse.specs.Machine.Entries.{InKey, Equals, InMemberValue, InFlag}
 use Rattle.sf_parse.specs.Machine.States.{State}
-use Rattle.sf_parse.specs.Machine.States.{BeforeItem, InTop, AfterItem, InList}
+use Rattle.sf_parse.specs.Machine.States.{BeforeItem, InsideItem, AfterItem, InList}
 use Rattle.sf_parse.specs.Machine.States.{InDict}
 use Rattle.sf_parse.specs.Machine.Fields.{list_series, dict_series, step}
 use Rattle.sf_parse.specs.Machine.Fields.{finish, begin}
@@ -146,8 +146,8 @@ item_near (InBare s) b = inl refl
 item_near (InParams x s) b = near_map (InParams x) (params_near s b)
 
 inner_near : (s : InnerState) (b : ℕ) → Near b (inner_step Rfc8941 s b) (inner_step Rfc9651 s b)
-inner_near (Room is) b =
-    near_second (allow (is_sp b) (Room is)) (mark_none (λ b. allow (is_sp b) (Room is)) refl refl b)
+inner_near (BetweenItems is) b =
+    near_second (allow (is_sp b) (BetweenItems is)) (mark_none (λ b. allow (is_sp b) (BetweenItems is)) refl refl b)
     (near_second (allow (b == 41) (Closing is (Between [])))
     (mark_none (λ b. allow (b == 41) (Closing is (Between []))) refl refl b)
     (near_map (InItem is) (item_start_near b)))
@@ -156,8 +156,8 @@ inner_near (InItem is s) b = near_onward (InItem is) (item_finish s) (λ i. behi
 inner_near (Closing is s) b = near_map (Closing is) (params_near s b)
 
 member_start_near : (b : ℕ) → Near b (member_start Rfc8941 b) (member_start Rfc9651 b)
-member_start_near b = near_first (option_map InMany (allow (b == 40) (Room [])))
-    (mark_none (λ b. option_map InMany (allow (b == 40) (Room []))) refl refl b)
+member_start_near b = near_first (option_map InMany (allow (b == 40) (BetweenItems [])))
+    (mark_none (λ b. option_map InMany (allow (b == 40) (BetweenItems []))) refl refl b)
     (near_map InOne (item_start_near b))
 
 member_near : (s : MemberState) (b : ℕ) → Near b (member_step Rfc8941 s b) (member_step Rfc9651 s b)
@@ -196,8 +196,8 @@ dict_near (Comma given) b = inl refl
 
 pub step_near : (s : State) (b : ℕ) → Near b (step Rfc8941 s b) (step Rfc9651 s b)
 step_near BeforeItem b = near_second (allow (is_sp b) BeforeItem)
-    (mark_none (λ b. allow (is_sp b) BeforeItem) refl refl b) (near_map InTop (item_start_near b))
-step_near (InTop s) b = near_onward InTop (item_finish s) (λ i. allow (is_sp b) (AfterItem i))
+    (mark_none (λ b. allow (is_sp b) BeforeItem) refl refl b) (near_map InsideItem (item_start_near b))
+step_near (InsideItem s) b = near_onward InsideItem (item_finish s) (λ i. allow (is_sp b) (AfterItem i))
     (λ i. mark_none (λ b. allow (is_sp b) (AfterItem i)) refl refl b) (item_near s b)
 step_near (AfterItem i) b = inl refl
 step_near (InList s) b = near_map InList (list_near s b)

@@ -12,10 +12,10 @@ use Rattle.sf_parse.specs.declared.refusal.Refusal.{Refusal}
 use Rattle.sf_parse.specs.declared.refusal.Refusal.TheVariants.{Syntax, TooLong}
 use Rattle.sf_parse.specs.Machine.Fields.{Residual, step, finish, begin}
 use Rattle.sf_parse.specs.Machine.Tests.{takes, may_end}
-use Rattle.sf_parse.specs.Reached.{Reached}
+use Rattle.sf_parse.specs.Reached.{IsReachedBy}
 use Rattle.sf_parse.specs.Expected.{Marks}
-use Rattle.sf_parse.specs.Parsers.{Progress, Took, Sound, IsSyntax, RefusedFor}
-use Rattle.sf_parse.specs.Parsers.{SameSettings, Fed, FedAnswer, Finishes, Refuses, StandsAt}
+use Rattle.sf_parse.specs.Parsers.{Progress, HasTaken, Sound, IsSyntax, RefusedFor}
+use Rattle.sf_parse.specs.Parsers.{SameSettings, Feeds, FeedAnswer, Finishes, Refuses, StandsAt}
 use Rattle.sf_parse.specs.AllocationFreeParsers.{IsOther}
 use Rattle.std.specs.Option.{option_map}
 use Rattle.std.proofs.Common.{is_some}
@@ -26,18 +26,18 @@ use Rattle.sf_parse.proofs.Reached.{reached_nothing, reached_viable}
 use Rattle.sf_parse.proofs.Refusals.{stops_exact, ends_exact, ends_only}
 
 -- what a sound parser took, as the machine's laws say it
-pub taken : (p : Progress) (s : List ℕ) → Sound p.refusal p.state p.count p.max → Took p s
-    → Reached p.dialect p.kind p.state s
+pub taken : (p : Progress) (s : List ℕ) → Sound p.refusal p.state p.count p.max → HasTaken p s
+    → IsReachedBy p.dialect p.kind p.state s
 taken p s g t = record {
   good = (subst (λ r. Sound r p.state p.count p.max) t.unrefused g).0;
   rest = t.rest;
 }
 
-within_max : (p : Progress) (s : List ℕ) → Sound p.refusal p.state p.count p.max → Took p s
+within_max : (p : Progress) (s : List ℕ) → Sound p.refusal p.state p.count p.max → HasTaken p s
     → p.count ≤ p.max
 within_max p s g t = (subst (λ r. Sound r p.state p.count p.max) t.unrefused g).1
 
-pub new_took : (p : Progress) → p.state ≡ begin p.kind → p.count ≡ 0 → p.refusal ≡ None → Took p []
+pub new_took : (p : Progress) → p.state ≡ begin p.kind → p.count ≡ 0 → p.refusal ≡ None → HasTaken p []
 new_took p e c r = record {
   count = c;
   rest = λ u v.
@@ -47,7 +47,7 @@ new_took p e c r = record {
 }
 
 stops_at : (p : Progress) (s q : List ℕ) (b bits : ℕ) (may : Bool)
-    → Sound p.refusal p.state p.count p.max → Took p s → step p.dialect p.state b ≡ None
+    → Sound p.refusal p.state p.count p.max → HasTaken p s → step p.dialect p.state b ≡ None
     → Marks bits (takes p.dialect p.state) → may ≡ may_end p.state
     → IsSyntax p.dialect p.kind ((s ++ b ∷ []) ++ q) p.count (Some b) bits may
 stops_at p s q b bits may g t n m e =
@@ -81,9 +81,9 @@ refuses_above next above into h s x y place found e k r = record {
 pub fed_stop : (p q : Progress) (b : ℕ) (e : Refusal) → Sound p.refusal p.state p.count p.max
     → p.count < p.max → step p.dialect p.state b ≡ None
     → Refuses (takes p.dialect p.state) (may_end p.state) p.count (Some b) e → SameSettings p q
-    → q.count ≡ p.count → q.refusal ≡ Some e → Fed p q (Err e) (b ∷ [])
+    → q.count ≡ p.count → q.refusal ≡ Some e → Feeds p q (Err e) (b ∷ [])
 fed_stop p q b e g h n m same c r =
-    subst (λ y. Fed p q (Err y) (b ∷ [])) (sym m.syntax) (record {
+    subst (λ y. Feeds p q (Err y) (b ∷ [])) (sym m.syntax) (record {
       settings = same;
       counted = omega arith;
       answer = (
@@ -95,7 +95,7 @@ fed_stop p q b e g h n m same c r =
 -- a byte is past the limit
 pub fed_past : (p q : Progress) (b : ℕ) → Sound p.refusal p.state p.count p.max
     → p.max ≤ p.count → SameSettings p q → q.count ≡ p.count → q.refusal ≡ Some (TooLong p.max)
-    → Fed p q (Err (TooLong p.max)) (b ∷ [])
+    → Feeds p q (Err (TooLong p.max)) (b ∷ [])
 fed_past p q b g h same c r = record {
   settings = same;
   counted = omega arith;
@@ -119,7 +119,7 @@ fed_past p q b g h same c r = record {
 pub finish_stop : (p : Progress) (e : Refusal) → Sound p.refusal p.state p.count p.max
     → Refuses (takes p.dialect p.state) (may_end p.state) p.count None e
     → false ≡ may_end p.state
-    → (s : List ℕ) → Took p s → Finishes p.dialect p.kind s (Err e)
+    → (s : List ℕ) → HasTaken p s → Finishes p.dialect p.kind s (Err e)
 finish_stop p e g m n s t =
     subst (λ y. Finishes p.dialect p.kind s (Err y))
     (ap (Syntax p.count None m.expected) n ∙ sym m.syntax) (
@@ -130,14 +130,14 @@ finish_stop p e g m n s t =
     )
 
 pub finish_with : (p : Progress) (v : Field) → Sound p.refusal p.state p.count p.max
-    → finish p.state ≡ Some v → (s : List ℕ) → Took p s → Finishes p.dialect p.kind s (Ok v)
+    → finish p.state ≡ Some v → (s : List ℕ) → HasTaken p s → Finishes p.dialect p.kind s (Ok v)
 finish_with p v g e s t = ends_only p.dialect p.kind p.state s v (taken p s g t) e
 
 -- what a prefix of the chunk made of the parser
 pub record FedPrefix (o p : Progress) (x : List ℕ) : Type 0 where
   pub settings : SameSettings o p
   pub counted : p.count ≤ o.count + length x
-  pub answer : FedAnswer o p (Ok tt) x
+  pub answer : FeedAnswer o p (Ok tt) x
 
 next_piece : (s chunk : List ℕ) (i : ℕ) → i < length chunk
     → (s ++ take i chunk) ++ get_or chunk i 0 ∷ [] ≡ s ++ take (i + 1) chunk
@@ -175,8 +175,8 @@ prefix_short chunk i h =
     omega arith
 
 pub stopped_in : (o p q : Progress) (chunk : List ℕ) (i : ℕ) (e : Refusal) → i < length chunk
-    → FedPrefix o p (take i chunk) → Fed p q (Err e) (get_or chunk i 0 ∷ [])
-    → Fed o q (Err e) chunk
+    → FedPrefix o p (take i chunk) → Feeds p q (Err e) (get_or chunk i 0 ∷ [])
+    → Feeds o q (Err e) chunk
 stopped_in o p q chunk i e h a f =
     let k = a.settings in
     record {

@@ -4,7 +4,7 @@ use Rattle.std.proofs.Common.{Result}
 use Rattle.std.proofs.Common.{Ok, Err, sym, ap, ◌∙◌, subst, arith, append_assoc, length-append}
 use Rattle.sf_value.specs.Grammar.Lines.{Viable}
 use Rattle.sf_parse.specs.declared.refusal.Refusal.{Refusal}
-use Rattle.sf_parse.specs.Parsers.{Progress, Took, RefusedFor, SameSettings, Fed, FedAnswer}
+use Rattle.sf_parse.specs.Parsers.{Progress, HasTaken, RefusedFor, SameSettings, Feeds, FeedAnswer}
 use Rattle.sf_parse.specs.Parsers.{in_line}
 
 joined_settings : (a b c : Progress) → SameSettings a b → SameSettings b c → SameSettings a c
@@ -29,7 +29,7 @@ same_viable o p t k x =
 
 -- one chunk after another
 pub fed_after : (o p q : Progress) (r : Result (Unit {0}) Refusal) (x y : List ℕ)
-    → Fed o p (Ok tt) x → Fed p q r y → Fed o q r (x ++ y)
+    → Feeds o p (Ok tt) x → Feeds p q r y → Feeds o q r (x ++ y)
 fed_after o p q r x y a f = record {
   settings = joined_settings o p q a.settings f.settings;
   counted =
@@ -39,7 +39,7 @@ fed_after o p q r x y a f = record {
   answer = at r f.answer;
 }
   where
-    at : (r : Result (Unit {0}) Refusal) → FedAnswer p q r y → FedAnswer o q r (x ++ y)
+    at : (r : Result (Unit {0}) Refusal) → FeedAnswer p q r y → FeedAnswer o q r (x ++ y)
     at (Ok u) g = (
       g.0 ∙ a.answer.0,
       λ s t.
@@ -48,7 +48,7 @@ fed_after o p q r x y a f = record {
             subst (λ z. length z ≤ o.max) e
                 (subst (λ z. length ((s ++ x) ++ y) ≤ z) a.settings.max k.0),
             subst (Viable o.dialect o.kind) e (same_viable o p ((s ++ x) ++ y) a.settings k.1),
-            subst (Took q) e k.2,
+            subst (HasTaken q) e k.2,
           ),
     )
     at (Err e) g = (
@@ -61,7 +61,7 @@ fed_after o p q r x y a f = record {
 
 -- a refusal remains, whatever comes after
 pub fed_before : (o q : Progress) (e : Refusal) (x y : List ℕ)
-    → Fed o q (Err e) x → Fed o q (Err e) (x ++ y)
+    → Feeds o q (Err e) x → Feeds o q (Err e) (x ++ y)
 fed_before o q e x y f = record {
   settings = f.settings;
   counted =
@@ -78,9 +78,9 @@ fed_before o q e x y f = record {
 
 -- that a line was fed changes nothing else
 pub fed_line : (o p q : Progress) (x : List ℕ) → q ≡ record p { after_line = true }
-    → Fed o p (Ok tt) x → Fed o q (Ok tt) x
+    → Feeds o p (Ok tt) x → Feeds o q (Ok tt) x
 fed_line o p q x e f =
-    subst (λ z. Fed o z (Ok tt) x) (sym e)
+    subst (λ z. Feeds o z (Ok tt) x) (sym e)
     (record {
       settings = record {
         dialect = f.settings.dialect;
@@ -98,19 +98,19 @@ fed_line o p q x e f =
 
 -- a line after another: the comma and the space are refused
 pub comma_refused : (o q : Progress) (e : Refusal) (after : Bool) (line : List ℕ) → after ≡ true
-    → Fed o q (Err e) (44 ∷ 32 ∷ []) → Fed o q (Err e) (in_line after line)
+    → Feeds o q (Err e) (44 ∷ 32 ∷ []) → Feeds o q (Err e) (in_line after line)
 comma_refused o q e after line t f =
-    subst (λ b. Fed o q (Err e) (in_line b line)) (sym t)
+    subst (λ b. Feeds o q (Err e) (in_line b line)) (sym t)
     (fed_before o q e (44 ∷ 32 ∷ []) line f)
 
 -- a line after another: they are taken, and then the line is fed
 pub line_behind : (o p q : Progress) (r : Result (Unit {0}) Refusal) (after : Bool) (line : List ℕ)
-    → after ≡ true → Fed o p (Ok tt) (44 ∷ 32 ∷ []) → Fed p q r line
-    → Fed o q r (in_line after line)
+    → after ≡ true → Feeds o p (Ok tt) (44 ∷ 32 ∷ []) → Feeds p q r line
+    → Feeds o q r (in_line after line)
 line_behind o p q r after line t f g =
-    subst (λ b. Fed o q r (in_line b line)) (sym t) (fed_after o p q r (44 ∷ 32 ∷ []) line f g)
+    subst (λ b. Feeds o q r (in_line b line)) (sym t) (fed_after o p q r (44 ∷ 32 ∷ []) line f g)
 
 -- the first line
 pub line_first : (o q : Progress) (r : Result (Unit {0}) Refusal) (after : Bool) (line : List ℕ)
-    → after ≡ false → Fed o q r line → Fed o q r (in_line after line)
-line_first o q r after line t f = subst (λ b. Fed o q r (in_line b line)) (sym t) f
+    → after ≡ false → Feeds o q r line → Feeds o q r (in_line after line)
+line_first o q r after line t f = subst (λ b. Feeds o q r (in_line b line)) (sym t) f

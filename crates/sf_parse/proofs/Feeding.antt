@@ -9,19 +9,19 @@ use Rattle.sf_parse.specs.declared.refusal.Refusal.{Refusal}
 use Rattle.sf_parse.specs.Machine.States.{State}
 use Rattle.sf_parse.specs.Machine.Language.{run}
 use Rattle.sf_parse.specs.Machine.Fields.{Residual, step}
-use Rattle.sf_parse.specs.Parsers.{Progress, Took, Sound, RefusedFor, SameSettings, Fed}
+use Rattle.sf_parse.specs.Parsers.{Progress, HasTaken, Sound, RefusedFor, SameSettings, Feeds}
 use Rattle.sf_parse.specs.AllocationFreeParsers.{IsAllocationFree}
 use Rattle.sf_parse.specs.Prefixes.{LongestPrefix, Went}
-use Rattle.sf_parse.specs.Feeding.{FedTo}
+use Rattle.sf_parse.specs.Feeding.{FeedsPrefix}
 use Rattle.sf_parse.proofs.Machines
 use Rattle.sf_parse.proofs.Machine.Fields.{machine}
 use Rattle.sf_parse.proofs.Reached.{reaches_more, reached_viable}
 use Rattle.sf_parse.proofs.FedChunks.{FedPrefix, taken, stopped_in}
 
 -- a text was taken after another
-took_run : (p q : Progress) (s t : List ℕ) → Sound p.refusal p.state p.count p.max → Took p s
+took_run : (p q : Progress) (s t : List ℕ) → Sound p.refusal p.state p.count p.max → HasTaken p s
     → run (step p.dialect) p.state t ≡ Some q.state → SameSettings p q
-    → q.count ≡ p.count + length t → q.refusal ≡ None → Took q (s ++ t)
+    → q.count ≡ p.count + length t → q.refusal ≡ None → HasTaken q (s ++ t)
 took_run p q s t g k e same c r =
     let more = reaches_more p.dialect p.kind p.state q.state s t (taken p s g k) e in
     record {
@@ -37,7 +37,7 @@ took_run p q s t g k e same c r =
 fed_run : (p q : Progress) (t : List ℕ) → Sound p.refusal p.state p.count p.max
     → p.count + length t ≤ p.max → run (step p.dialect) p.state t ≡ Some q.state
     → SameSettings p q → q.count ≡ p.count + length t → q.refusal ≡ p.refusal
-    → Fed p q (Ok tt) t
+    → Feeds p q (Ok tt) t
 fed_run p q t g h e same c r = record {
   settings = same;
   counted = omega arith;
@@ -71,7 +71,7 @@ sound_taken r d s u chunk rest count max g n h a =
 pub fed_taken : (p q : Progress) (chunk rest : List ℕ) → Sound p.refusal p.state p.count p.max
     → p.count + length chunk ≤ p.max → LongestPrefix (step p.dialect) p.state chunk rest q.state
     → SameSettings p q → q.count ≡ p.count + (length chunk - length rest)
-    → q.refusal ≡ p.refusal → FedTo p q chunk rest
+    → q.refusal ≡ p.refusal → FeedsPrefix p q chunk rest
 fed_taken p q chunk rest g h a same c r =
     let l = went_length (step p.dialect) p.state q.state chunk rest a.went in (
       a.went.taken,
@@ -97,18 +97,18 @@ at_seam (x ∷ xs) b more = at_seam xs b more
 
 -- a byte is refused after a prefix
 pub refused_behind : (o p q : Progress) (x : List ℕ) (b : ℕ) (more chunk : List ℕ) (e : Refusal)
-    → Fed o p (Ok tt) x → Fed p q (Err e) (b ∷ []) → chunk ≡ x ++ b ∷ more → Fed o q (Err e) chunk
+    → Feeds o p (Ok tt) x → Feeds p q (Err e) (b ∷ []) → chunk ≡ x ++ b ∷ more → Feeds o q (Err e) chunk
 refused_behind o p q x b more chunk e a f s =
-    subst (Fed o q (Err e)) (sym s)
+    subst (Feeds o q (Err e)) (sym s)
     (stopped_in o p q (x ++ b ∷ more) (length x) e (omega (arith, length-append x (b ∷ more)))
     (subst (FedPrefix o p) (sym (take-append_seam x (b ∷ more)))
     (record { settings = a.settings; counted = a.counted; answer = a.answer }))
-    (subst (λ y. Fed p q (Err e) (y ∷ [])) (sym (at_seam x b more)) f))
+    (subst (λ y. Feeds p q (Err e) (y ∷ [])) (sym (at_seam x b more)) f))
 
 -- what is refused in a prefix is refused in the chunk
-pub refused_before : (o q : Progress) (x suffix chunk : List ℕ) (e : Refusal) → Fed o q (Err e) x
-    → chunk ≡ x ++ suffix → Fed o q (Err e) chunk
-refused_before o q x suffix chunk e f s = subst (Fed o q (Err e)) (sym s) (record {
+pub refused_before : (o q : Progress) (x suffix chunk : List ℕ) (e : Refusal) → Feeds o q (Err e) x
+    → chunk ≡ x ++ suffix → Feeds o q (Err e) chunk
+refused_before o q x suffix chunk e f s = subst (Feeds o q (Err e)) (sym s) (record {
   settings = f.settings;
   counted = let k = f.counted in omega (arith, length-append x suffix);
   answer = (

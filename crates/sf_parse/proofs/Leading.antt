@@ -10,8 +10,9 @@ use Rattle.sf_parse.specs.Machine.Language.{run}
 use Rattle.sf_parse.specs.Machine.Showns.{Unencoded, pushed, shown_step}
 use Rattle.sf_parse.specs.Machine.Bares.{InShown, bare_finish}
 use Rattle.sf_value.specs.Grammar.Classes.{is_visible}
-use Rattle.sf_parse.specs.Views.{utf8_of, shown_of, FitsShown, Leads}
-use Rattle.sf_parse.specs.declared.display_string.Utf8State.{Utf8State}
+use Rattle.sf_value.specs.Utf8States.{utf8_of}
+use Rattle.sf_parse.specs.Views.{shown_of, FitsShown, Leads}
+use Rattle.sf_value.specs.declared.utf8.Utf8State.{Utf8State}
 use Rattle.sf_parse.specs.declared.display_string.ShownPhase.{ShownPhase}
 use Rattle.sf_parse.specs.declared.display_string.ShownPhase.TheVariants as shown_phase
 use Rattle.sf_parse.proofs.Machine.Language.{and_then_cases}

@@ -23,7 +23,7 @@ use Rattle.sf_parse.specs.Machine.Fields.{step}
 use Rattle.sf_parse.specs.ItemView.{with_params}
 use Rattle.sf_parse.specs.MemberView.{closing_of, IsInParams}
 use Rattle.sf_parse.specs.EntryView.{flag_at, IsFlag}
-use Rattle.sf_parse.specs.TopView.{after_of}
+use Rattle.sf_parse.specs.ItemFieldView.{after_of}
 use Rattle.sf_parse.proofs.Machine.Language.{and_then_cases}
 use Rattle.sf_parse.proofs.HighDigits.{utf8_good}
 use Rattle.sf_parse.proofs.Marks.{marks_table, marks_steps, marks_same, marks_map}

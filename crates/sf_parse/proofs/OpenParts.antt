@@ -16,12 +16,12 @@ use Rattle.sf_parse.specs.Machine.Params.{ParamsState, Opened, InParamKey, InVal
 use Rattle.sf_parse.specs.Machine.Params.{key_step}
 use Rattle.sf_parse.specs.Machine.Params.{params_step}
 use Rattle.sf_parse.specs.Machine.Items.{ItemState, InBare, InParams, item_step, item_finish}
-use Rattle.sf_parse.specs.Machine.Inners.{Room, InItem, Closing, behind_step, inner_step}
+use Rattle.sf_parse.specs.Machine.Inners.{BetweenItems, InItem, Closing, behind_step, inner_step}
 use Rattle.sf_parse.specs.Machine.Members.{MemberState, InOne, InMany, member_step}
 use Rattle.sf_parse.specs.Machine.Entries.{InKey, InMemberValue, InFlag, behind_key_step}
 use Rattle.sf_parse.specs.Machine.Entries.{entry_step}
-use Rattle.sf_parse.specs.Machine.States.{BeforeItem, InTop, AfterItem}
-use Rattle.sf_parse.specs.TopView.{after_of}
+use Rattle.sf_parse.specs.Machine.States.{BeforeItem, InsideItem, AfterItem}
+use Rattle.sf_parse.specs.ItemFieldView.{after_of}
 use Rattle.sf_parse.specs.Machine.Fields.{step}
 use Rattle.sf_parse.specs.Prefixes.{Went, LongestPrefix}
 use Rattle.sf_parse.specs.ItemView.{with_params}
@@ -50,7 +50,7 @@ bare_in_item d s t b e =
     ap (λ o. onward InBare o (bare_finish s) (λ x. option_map (InParams x) (between_step [] b))) e
 
 pub space_in_inner : (d : Dialect) (is : List Item) (b : ℕ) → is_sp b ≡ true
-    → inner_step d (Room is) b ≡ Some (Room is)
+    → inner_step d (BetweenItems is) b ≡ Some (BetweenItems is)
 space_in_inner d is b h = rw h refl
 
 pub item_in_inner : (d : Dialect) (is : List Item) (s t : ItemState) (b : ℕ)
@@ -63,9 +63,9 @@ pub key_in_entry : (d : Dialect) (s t : List ℕ) (b : ℕ) → word_step is_in_
 key_in_entry d s t b e = ap (λ o. onward InKey o (Some s) (λ k. behind_key_step k b)) e
 
 pub item_in_field : (d : Dialect) (s t : ItemState) (b : ℕ) → item_step d s b ≡ Some t
-    → step d (InTop s) b ≡ Some (InTop t)
+    → step d (InsideItem s) b ≡ Some (InsideItem t)
 item_in_field d s t b e =
-    ap (λ o. onward InTop o (item_finish s) (λ i. allow (is_sp b) (AfterItem i))) e
+    ap (λ o. onward InsideItem o (item_finish s) (λ i. allow (is_sp b) (AfterItem i))) e
 
 -- the parameters after a whole bare item
 pub params_part : {R E : Type 0} (d : Dialect) (o : Option Bare) (s : BareState) (p q : ParamsState)
@@ -79,7 +79,7 @@ params_part d (Some x) s p q chunk rest r h a =
 params_part d None s p q chunk rest r h a = absurd cc
 
 pub space_in_member : (d : Dialect) (is : List Item) (b : ℕ) → is_sp b ≡ true
-    → member_step d (InMany (Room is)) b ≡ Some (InMany (Room is))
+    → member_step d (InMany (BetweenItems is)) b ≡ Some (InMany (BetweenItems is))
 space_in_member d is b h = ap (option_map InMany) (space_in_inner d is b h)
 
 pub item_in_member : (d : Dialect) (s t : ItemState) (b : ℕ) → item_step d s b ≡ Some t

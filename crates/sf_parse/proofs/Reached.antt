@@ -10,7 +10,7 @@ use Rattle.sf_value.specs.declared.dialect.Dialect.{Dialect}
 use Rattle.sf_value.specs.declared.value.Kind.{Kind}
 use Rattle.sf_parse.specs.Machine.States.{State}
 use Rattle.sf_parse.specs.Machine.Fields.{Residual, step}
-use Rattle.sf_parse.specs.Reached.{Reached, ReachedNothing, ReachesMore, ReachedViable, ReachedNext}
+use Rattle.sf_parse.specs.Reached.{IsReachedBy, ReachedNothing, ReachesMore, ReachedViable, ReachedNext}
 use Rattle.sf_parse.specs.Reached.{ReachedEnd}
 use Rattle.sf_parse.specs.Reached.{ReachedStops, ReachedAll}
 use Rattle.sf_parse.proofs.Machine.Fields.{machine, begin_good, begins}
@@ -30,7 +30,7 @@ reaches_more d kind s t p x k e = record {
       );
 }
 
-reached_prefix : (d : Dialect) (kind : Kind) (s : State) (p x : List ℕ) → Reached d kind s p
+reached_prefix : (d : Dialect) (kind : Kind) (s : State) (p x : List ℕ) → IsReachedBy d kind s p
     → Continues (SpellsField d kind) (p ++ x) ↔ Continues (Residual d s) x
 reached_prefix d kind s p x k = (
   λ (u, v, h). (

@@ -12,7 +12,7 @@ use Rattle.sf_parse.specs.declared.refusal.Refusal.{Refusal}
 use Rattle.sf_parse.specs.declared.refusal.Refusal.TheVariants.{OutOfMemory, Syntax, TooLong}
 use Rattle.sf_parse.specs.declared.refusal.Refusal.TheVariants.{ReadFault}
 use Rattle.sf_parse.specs.Machine.Fields.{begin}
-use Rattle.sf_parse.specs.Parsers.{Progress, Took, Fed, RefusedFor, Finishes}
+use Rattle.sf_parse.specs.Parsers.{Progress, HasTaken, Feeds, RefusedFor, Finishes}
 use Rattle.sf_parse.specs.AllocationFree.{TakesNoMemory}
 use Rattle.sf_parse.specs.AllocationFreeParsers.{IsAllocationFree, IsOther, NotForMemory}
 use Rattle.sf_parse.specs.Reading.{GaveAll, AllocationFailed, ReadAndParsed}
@@ -24,7 +24,7 @@ pub record ReadSoFar (old now : SourceState) (kind : Kind) (max given : ℕ) (p 
     : Type 0 where
   pub text : List ℕ
   pub gave : Gave old now text
-  pub took : Took p text
+  pub took : HasTaken p text
   pub count : length text ≡ given
   pub dialect : p.dialect ≡ Rfc9651
   pub same_kind : p.kind ≡ kind
@@ -34,7 +34,7 @@ pub record ReadSoFar (old now : SourceState) (kind : Kind) (max given : ℕ) (p 
   -- while what was given begins a text that does not allocate, the parser does not either
   pub allocation_free : (more : List ℕ) → TakesNoMemory kind (text ++ more) → IsAllocationFree p more
 
-pub reads_start : (s : SourceState) (kind : Kind) (max : ℕ) (p : Progress) → Took p []
+pub reads_start : (s : SourceState) (kind : Kind) (max : ℕ) (p : Progress) → HasTaken p []
     → p.dialect ≡ Rfc9651 → p.kind ≡ kind → p.max ≡ max
     → ((text : List ℕ) → TakesNoMemory kind text → IsAllocationFree p text)
     → ReadSoFar s s kind max 0 p
@@ -53,7 +53,7 @@ reads_start s kind max p t d k m allocation_free = record {
 
 pub reads_more : (old a b : SourceState) (kind : Kind) (max given n : ℕ) (p q : Progress)
     (ys : List ℕ) → ReadSoFar old a kind max given p → GivesOnce a b ys → length ys ≡ n
-    → Fed p q (Ok tt) ys
+    → Feeds p q (Ok tt) ys
     → ((more : List ℕ) → IsAllocationFree p (ys ++ more) → IsAllocationFree q more)
     → ReadSoFar old b kind max (given + n) q
 reads_more old a b kind max given n p q ys r g e f allocation_free =
@@ -83,7 +83,7 @@ at_most m n k given top c e l = omega arith
 
 pub reads_refused : (old a b : SourceState) (kind : Kind) (max given : ℕ) (p q : Progress)
     (ys : List ℕ) (e : Refusal) → ReadSoFar old a kind max given p → GivesOnce a b ys
-    → given + length ys ≤ capped (max + 1) → Fed p q (Err e) ys
+    → given + length ys ≤ capped (max + 1) → Feeds p q (Err e) ys
     → ((more : List ℕ) → IsAllocationFree p (ys ++ more) → IsOther e)
     → ReadAndParsed Rfc9651 kind old b max (Err e)
 reads_refused old a b kind max given p q ys e r g l f allocation_free = at e refused other
@@ -146,7 +146,7 @@ ended old b kind max text (Err (ReadFault place)) g l m n f = absurd f
 
 finished : (kind : Kind) (max given : ℕ) (old a : SourceState) (p : Progress)
     (r : Result Field Refusal) (k : ReadSoFar old a kind max given p)
-    → ((s : List ℕ) → Took p s → Finishes p.dialect p.kind s r) → Finishes Rfc9651 kind k.text r
+    → ((s : List ℕ) → HasTaken p s → Finishes p.dialect p.kind s r) → Finishes Rfc9651 kind k.text r
 finished kind max given old a p r k f =
     subst (λ y. Finishes Rfc9651 y k.text r) k.same_kind
     (subst (λ d. Finishes d p.kind k.text r) k.dialect (f k.text k.took))
@@ -155,7 +155,7 @@ finished kind max given old a p r k f =
 pub reads_full : (old a : SourceState) (kind : Kind) (max given limit : ℕ) (p : Progress)
     (r : Result Field Refusal) → ReadSoFar old a kind max given p → max < 2 ^ 64
     → limit ≡ capped (max + 1) → limit ≤ given → (IsAllocationFree p [] → NotForMemory r)
-    → ((s : List ℕ) → Took p s → Finishes p.dialect p.kind s r)
+    → ((s : List ℕ) → HasTaken p s → Finishes p.dialect p.kind s r)
     → ReadAndParsed Rfc9651 kind old a max r
 reads_full old a kind max given limit p r k m e l n f =
     let c = k.count in
@@ -168,7 +168,7 @@ reads_full old a kind max given limit p r k m e l n f =
 pub reads_ended : (old a b : SourceState) (kind : Kind) (max given : ℕ) (p : Progress)
     (r : Result Field Refusal) → ReadSoFar old a kind max given p → max < 2 ^ 64 → EndsOnce a b
     → (IsAllocationFree p [] → NotForMemory r)
-    → ((s : List ℕ) → Took p s → Finishes p.dialect p.kind s r)
+    → ((s : List ℕ) → HasTaken p s → Finishes p.dialect p.kind s r)
     → ReadAndParsed Rfc9651 kind old b max r
 reads_ended old a b kind max given p r k m e n f =
     let c = k.count in

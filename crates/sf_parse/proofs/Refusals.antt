@@ -15,7 +15,7 @@ use Rattle.sf_value.specs.Grammar.Lines.{Viable, IsPlace, Continues}
 use Rattle.sf_parse.specs.Machine.States.{State}
 use Rattle.sf_parse.specs.Machine.Fields.{step, finish}
 use Rattle.sf_parse.specs.Machine.Tests.{takes, may_end}
-use Rattle.sf_parse.specs.Reached.{Reached}
+use Rattle.sf_parse.specs.Reached.{IsReachedBy}
 use Rattle.sf_parse.specs.Expected.{Marks}
 use Rattle.sf_parse.specs.Parsers.{IsSyntax, IsOnly}
 use Rattle.sf_parse.proofs.GrammarLaws.{one_value}
@@ -38,7 +38,7 @@ not_zero (suc n) b e = omega arith
 
 -- the bits tell the bytes that may follow what was taken
 marks_next : (d : Dialect) (kind : Kind) (state : State) (s : List ℕ) (bits b : ℕ)
-    → Reached d kind state s → Marks bits (takes d state) → b < 128
+    → IsReachedBy d kind state s → Marks bits (takes d state) → b < 128
     → (bit_at bits b ≡ 1) ↔ Viable d kind (s ++ b ∷ [])
 marks_next d kind state s bits b k m h =
     let bit = bit_is (takes d state b) (bit_at bits b)
@@ -47,13 +47,13 @@ marks_next d kind state s bits b k m h =
     (λ i. next.1 (bit.0 i), λ i. bit.1 (next.0 i))
 
 marks_some : (d : Dialect) (kind : Kind) (state : State) (s : List ℕ) (bits : ℕ)
-    → Reached d kind state s → Marks bits (takes d state) → 0 < bits
+    → IsReachedBy d kind state s → Marks bits (takes d state) → 0 < bits
 marks_some d kind state s bits k m =
     let n = some_next d kind state s k in
     not_zero bits n.0 ((marks_next d kind state s bits n.0 k m n.1.0).1 n.1.1)
 
 exact : (d : Dialect) (kind : Kind) (state : State) (s t : List ℕ) (place : ℕ) (found : Option ℕ)
-    (bits : ℕ) (may : Bool) → Reached d kind state s → Marks bits (takes d state)
+    (bits : ℕ) (may : Bool) → IsReachedBy d kind state s → Marks bits (takes d state)
     → may ≡ may_end state → take place t ≡ s → IsPlace d kind t place → found ≡ slice_get t place
     → ((v : Field) → SpellsField d kind t v → ⊥)
     → IsSyntax d kind t place found bits may
@@ -95,7 +95,7 @@ no_value d kind t n at h v k =
 -- at a byte that the state can't go on with
 pub stops_exact : (d : Dialect) (kind : Kind) (state : State) (s q : List ℕ) (b bits : ℕ)
     (may : Bool)
-    → Reached d kind state s → step d state b ≡ None → Marks bits (takes d state)
+    → IsReachedBy d kind state s → step d state b ≡ None → Marks bits (takes d state)
     → may ≡ may_end state
     → IsSyntax d kind (s ++ b ∷ q) (length s) (Some b) bits may
 stops_exact d kind state s q b bits may k n m e =
@@ -106,7 +106,7 @@ stops_exact d kind state s q b bits may k n m e =
 
 -- at an end where the state may not end
 pub ends_exact : (d : Dialect) (kind : Kind) (state : State) (s : List ℕ) (bits : ℕ)
-    → Reached d kind state s → Marks bits (takes d state) → false ≡ may_end state
+    → IsReachedBy d kind state s → Marks bits (takes d state) → false ≡ may_end state
     → IsSyntax d kind s (length s) None bits false
 ends_exact d kind state s bits k m e =
     exact d kind state s s (length s) None bits false k m e
@@ -118,7 +118,7 @@ ends_exact d kind state s bits k m e =
 
 -- at an end where it has a value
 pub ends_only : (d : Dialect) (kind : Kind) (state : State) (s : List ℕ) (v : Field)
-    → Reached d kind state s → finish state ≡ Some v → IsOnly d kind s v
+    → IsReachedBy d kind state s → finish state ≡ Some v → IsOnly d kind s v
 ends_only d kind state s v k e =
     let spelled = (reached_end d kind state s v k).1 e in
     record {

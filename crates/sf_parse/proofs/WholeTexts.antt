@@ -15,7 +15,7 @@ use Rattle.sf_parse.specs.Machine.Fields.{step, finish, begin}
 use Rattle.sf_parse.specs.Machine.Tests.{takes, may_end}
 use Rattle.sf_parse.specs.Expected.{Marks}
 use Rattle.sf_parse.specs.Prefixes.{LongestPrefix}
-use Rattle.sf_parse.specs.Reached.{Reached}
+use Rattle.sf_parse.specs.Reached.{IsReachedBy}
 use Rattle.sf_parse.specs.Parsers.{IsSyntax, IsOnly, Parses, Refuses}
 use Rattle.sf_parse.specs.AllocationFree.{TakesNoMemory, FieldFree}
 use Rattle.sf_parse.proofs.AllocationFreeSteps.{field_free_went}
@@ -23,10 +23,10 @@ use Rattle.sf_parse.proofs.Reached.{reached_nothing, reaches_more}
 use Rattle.sf_parse.proofs.Refusals.{stops_exact, ends_exact, ends_only}
 
 prefix_took : (d : Dialect) (kind : Kind) (s t : State) (text rest : List ℕ) → s ≡ begin kind
-    → (a : LongestPrefix (step d) s text rest t) → Reached d kind t a.went.taken
+    → (a : LongestPrefix (step d) s text rest t) → IsReachedBy d kind t a.went.taken
 prefix_took d kind s t text rest e a =
     reaches_more d kind s t [] a.went.taken
-    (subst (λ y. Reached d kind y []) (sym e) (reached_nothing d kind)) a.went.leads
+    (subst (λ y. IsReachedBy d kind y []) (sym e) (reached_nothing d kind)) a.went.leads
 
 -- the place is what was taken
 place_is : (taken rest text : List ℕ) → text ≡ taken ++ rest → length text - length rest

@@ -13,7 +13,7 @@ use Rattle.sf_parse.specs.Machine.Bares.{InDate, InBlob, InShown}
 use Rattle.sf_parse.specs.Machine.Items.{ItemState}
 use Rattle.sf_parse.specs.Machine.Items.{InBare, InParams}
 use Rattle.sf_parse.specs.Machine.Series.{SeriesState, Begin, InMember, Gap, Comma}
-use Rattle.sf_parse.specs.Machine.States.{State, BeforeItem, InTop, AfterItem, InList, InDict}
+use Rattle.sf_parse.specs.Machine.States.{State, BeforeItem, InsideItem, AfterItem, InList, InDict}
 
 -- a space, or a byte of numbers, Booleans and Dates
 abbrev pub scalar_byte : ℕ → Bool
@@ -68,7 +68,7 @@ SeriesFree (Comma given) more = ⊥
 -- nor do they in this state of a field
 abbrev pub FieldFree : State → List ℕ → Type 0
 FieldFree BeforeItem more = TakesNoMemory kind.Item more
-FieldFree (InTop s) more = ItemFree s more
+FieldFree (InsideItem s) more = ItemFree s more
 FieldFree (AfterItem i) more = ⊤
 FieldFree (InList s) more = SeriesFree s more
 FieldFree (InDict s) more = SeriesFree s more

@@ -2,12 +2,12 @@
 use Rattle.std.specs.Prelude.{◌≡◌, List, ◌++◌, ℕ, Result, Ok, Err}
 use Rattle.std.specs.Borrow.{Bor}
 use Rattle.sf_parse.specs.declared.refusal.Refusal.{Refusal}
-use Rattle.sf_parse.specs.Parsers.{Progress, Fed}
+use Rattle.sf_parse.specs.Parsers.{Progress, Feeds}
 use Rattle.sf_parse.specs.AllocationFreeParsers.{IsAllocationFree, IsOther}
 
 -- it was fed the bytes before the rest of the chunk
-abbrev pub FedTo : Progress → Progress → List ℕ → List ℕ → Type 0
-FedTo old new chunk rest = (taken : List ℕ) × (chunk ≡ taken ++ rest) × Fed old new (Ok tt) taken
+abbrev pub FeedsPrefix : Progress → Progress → List ℕ → List ℕ → Type 0
+FeedsPrefix old new chunk rest = (taken : List ℕ) × (chunk ≡ taken ++ rest) × Feeds old new (Ok tt) taken
 
 -- it is still allocation-free for the rest and for what comes after it, or refused for another
 -- reason than a failed allocation

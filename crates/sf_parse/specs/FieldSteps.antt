@@ -40,8 +40,8 @@ series_is k added h (Gap given) b = refl
 series_is k added h (Comma given) b = refl
 
 -- of an Item
-pub top_steps : (d : Dialect) (s : State) (b : ℕ) → step d s b ≡ option_map (λ s. s) (step d s b)
-top_steps d s b = same (step d s b)
+pub item_field_steps : (d : Dialect) (s : State) (b : ℕ) → step d s b ≡ option_map (λ s. s) (step d s b)
+item_field_steps d s b = same (step d s b)
   where
     same : (o : Option State) → o ≡ option_map (λ s. s) o
     same None = refl

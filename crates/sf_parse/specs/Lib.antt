@@ -6,7 +6,7 @@ pub mod Feeding
 pub mod Laws
 pub mod Reading
 pub mod StateView
-pub mod TopView
+pub mod ItemFieldView
 pub mod AllocationFreeParsers
 pub mod Parsers
 pub mod Expected

@@ -4,20 +4,20 @@ use Rattle.sf_value.specs.declared.dialect.Dialect.{Dialect}
 use Rattle.sf_value.specs.declared.value.Item.{Item}
 use Rattle.sf_parse.specs.Machine.Params.{params_step}
 use Rattle.sf_parse.specs.Machine.Items.{ItemState, InBare, InParams, item_step}
-use Rattle.sf_parse.specs.Machine.Inners.{InnerState, Room, InItem, Closing}
+use Rattle.sf_parse.specs.Machine.Inners.{InnerState, BetweenItems, InItem, Closing}
 use Rattle.sf_parse.specs.Machine.Members.{MemberState, InOne, InMany}
 use Rattle.sf_parse.specs.declared.member.MemberPhase.{MemberPhase}
 use Rattle.sf_parse.specs.declared.member.MemberPhase.TheVariants as phase
 
 -- the parameters that the reader of items reads are those after the bracket
 abbrev pub closing_of : List Item → ItemState → InnerState
-closing_of is (InBare s) = Room is
+closing_of is (InBare s) = BetweenItems is
 closing_of is (InParams x s) = Closing is s
 
 -- the phase says whether the member is an Item, or which part of an Inner List is open
 abbrev pub member_of : MemberPhase → ItemState → List Item → MemberState
 member_of phase.One s is = InOne s
-member_of phase.Room s is = InMany (Room is)
+member_of phase.BetweenItems s is = InMany (BetweenItems is)
 member_of phase.InItem s is = InMany (InItem is s)
 member_of phase.Closing s is = InMany (closing_of is s)
 
@@ -29,13 +29,13 @@ IsInParams (InParams x s) = ⊤
 -- after the bracket the reader of items is in parameters
 abbrev pub FitsMember : MemberPhase → ItemState → Type 0
 FitsMember phase.One s = ⊤
-FitsMember phase.Room s = ⊤
+FitsMember phase.BetweenItems s = ⊤
 FitsMember phase.InItem s = ⊤
 FitsMember phase.Closing s = IsInParams s
 
 -- the part of an Inner List that is open can't continue with this byte
 abbrev pub inner_stuck : Dialect → InnerState → ℕ → Type 0
-inner_stuck d (Room is) b = ⊤
+inner_stuck d (BetweenItems is) b = ⊤
 inner_stuck d (InItem is s) b = item_step d s b ≡ None
 inner_stuck d (Closing is s) b = params_step d s b ≡ None
 

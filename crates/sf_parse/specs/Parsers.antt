@@ -28,7 +28,7 @@ pub record Progress : Type 0 where
 
 -- it took the text s and refused nothing: its count is the length of s, and what completes its
 -- state completes s
-pub record Took (p : Progress) (s : List ℕ) : Type 0 where
+pub record HasTaken (p : Progress) (s : List ℕ) : Type 0 where
   pub count : p.count ≡ length s
   pub rest : (u : List ℕ) (v : Field) → Residual p.dialect p.state u v
       ↔ SpellsField p.dialect p.kind (s ++ u) v
@@ -89,21 +89,21 @@ pub record SameSettings (old new : Progress) : Type 0 where
   pub max : new.max ≡ old.max
 
 -- the result of feeding the bytes x after a text s that was taken
-abbrev pub FedAnswer : Progress → Progress → Result (Unit {0}) Refusal → List ℕ → Type 0
-FedAnswer old new (Ok u) x =
+abbrev pub FeedAnswer : Progress → Progress → Result (Unit {0}) Refusal → List ℕ → Type 0
+FeedAnswer old new (Ok u) x =
     (new.refusal ≡ old.refusal)
-    × ((s : List ℕ) → Took old s
-    → (length (s ++ x) ≤ old.max) × Viable old.dialect old.kind (s ++ x) × Took new (s ++ x))
-FedAnswer old new (Err e) x =
+    × ((s : List ℕ) → HasTaken old s
+    → (length (s ++ x) ≤ old.max) × Viable old.dialect old.kind (s ++ x) × HasTaken new (s ++ x))
+FeedAnswer old new (Err e) x =
     (new.refusal ≡ Some e)
-    × ((s : List ℕ) → Took old s → (more : List ℕ)
+    × ((s : List ℕ) → HasTaken old s → (more : List ℕ)
     → RefusedFor old.dialect old.kind old.max ((s ++ x) ++ more) e)
 
 -- the bytes x were fed; a refusal remains, whatever comes after them
-pub record Fed (old new : Progress) (result : Result (Unit {0}) Refusal) (x : List ℕ) : Type 0 where
+pub record Feeds (old new : Progress) (result : Result (Unit {0}) Refusal) (x : List ℕ) : Type 0 where
   pub settings : SameSettings old new
   pub counted : new.count ≤ old.count + length x
-  pub answer : FedAnswer old new result x
+  pub answer : FeedAnswer old new result x
 
 -- a field line in the joined text: after another line a comma and a space come first
 abbrev pub in_line : Bool → List ℕ → List ℕ

@@ -10,41 +10,41 @@ use Rattle.sf_parse.specs.Machine.States.{State}
 use Rattle.sf_parse.specs.Machine.Fields.{Residual, Good, step, finish, begin}
 
 -- what completes the state completes the text
-pub record Reached (d : Dialect) (kind : Kind) (s : State) (p : List ℕ) : Type 0 where
+pub record IsReachedBy (d : Dialect) (kind : Kind) (s : State) (p : List ℕ) : Type 0 where
   pub good : Good s
   pub rest : (u : List ℕ) (v : Field) → Residual d s u v ↔ SpellsField d kind (p ++ u) v
 
 -- the first state is reached by the empty text
 abbrev pub ReachedNothing : Type 0
-ReachedNothing = (d : Dialect) (kind : Kind) → Reached d kind (begin kind) []
+ReachedNothing = (d : Dialect) (kind : Kind) → IsReachedBy d kind (begin kind) []
 
 -- a state to which further bytes lead is reached by the text with them after it
 abbrev pub ReachesMore : Type 0
-ReachesMore = (d : Dialect) (kind : Kind) (s t : State) (p x : List ℕ) → Reached d kind s p
-    → run (step d) s x ≡ Some t → Reached d kind t (p ++ x)
+ReachesMore = (d : Dialect) (kind : Kind) (s t : State) (p x : List ℕ) → IsReachedBy d kind s p
+    → run (step d) s x ≡ Some t → IsReachedBy d kind t (p ++ x)
 
 -- the text is viable
 abbrev pub ReachedViable : Type 0
-ReachedViable = (d : Dialect) (kind : Kind) (s : State) (p : List ℕ) → Reached d kind s p
+ReachedViable = (d : Dialect) (kind : Kind) (s : State) (p : List ℕ) → IsReachedBy d kind s p
     → Viable d kind p
 
 -- a byte may come next exactly if the step takes it
 abbrev pub ReachedNext : Type 0
-ReachedNext = (d : Dialect) (kind : Kind) (s : State) (p : List ℕ) (b : ℕ) → Reached d kind s p
+ReachedNext = (d : Dialect) (kind : Kind) (s : State) (p : List ℕ) (b : ℕ) → IsReachedBy d kind s p
     → Viable d kind (p ++ b ∷ []) ↔ ((t : State)
     × (step d s b ≡ Some t))
 
 -- the text spells exactly the value that the state has at the end
 abbrev pub ReachedEnd : Type 0
-ReachedEnd = (d : Dialect) (kind : Kind) (s : State) (p : List ℕ) (v : Field) → Reached d kind s p
+ReachedEnd = (d : Dialect) (kind : Kind) (s : State) (p : List ℕ) (v : Field) → IsReachedBy d kind s p
     → SpellsField d kind p v ↔ (finish s ≡ Some v)
 
 -- if the step can't take the next byte, the refusal is at the end of the text
 abbrev pub ReachedStops : Type 0
-ReachedStops = (d : Dialect) (kind : Kind) (s : State) (p q : List ℕ) (b : ℕ) → Reached d kind s p
+ReachedStops = (d : Dialect) (kind : Kind) (s : State) (p q : List ℕ) (b : ℕ) → IsReachedBy d kind s p
     → step d s b ≡ None → IsPlace d kind (p ++ b ∷ q) (length p)
 
 -- if no byte is left, it is at the end of the text
 abbrev pub ReachedAll : Type 0
-ReachedAll = (d : Dialect) (kind : Kind) (s : State) (p : List ℕ) → Reached d kind s p
+ReachedAll = (d : Dialect) (kind : Kind) (s : State) (p : List ℕ) → IsReachedBy d kind s p
     → IsPlace d kind p (length p)

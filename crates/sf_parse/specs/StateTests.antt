@@ -7,16 +7,16 @@ use Rattle.sf_value.specs.declared.value.Field.{Field}
 use Rattle.sf_value.specs.declared.value.Kind.{Kind}
 use Rattle.sf_parse.specs.Machine.States.{State}
 use Rattle.sf_parse.specs.Machine.Tests.{takes, may_end}
-use Rattle.sf_parse.specs.Reached.{Reached}
+use Rattle.sf_parse.specs.Reached.{IsReachedBy}
 
 -- the step decides whether the byte may come next
 abbrev pub TakesNext : Type 0
-TakesNext = (d : Dialect) (kind : Kind) (s : State) (p : List ℕ) (b : ℕ) → Reached d kind s p
+TakesNext = (d : Dialect) (kind : Kind) (s : State) (p : List ℕ) (b : ℕ) → IsReachedBy d kind s p
     → Viable d kind (p ++ b ∷ []) ↔ (takes d s b ≡ true)
 
 -- the value at the end decides whether the text may end
 abbrev pub EndsText : Type 0
-EndsText = (d : Dialect) (kind : Kind) (s : State) (p : List ℕ) → Reached d kind s p → ((v : Field)
+EndsText = (d : Dialect) (kind : Kind) (s : State) (p : List ℕ) → IsReachedBy d kind s p → ((v : Field)
     × SpellsField d kind p v) ↔ (may_end s ≡ true)
 
 -- a byte that may come is below 128
@@ -25,5 +25,5 @@ NextBelow = (d : Dialect) (kind : Kind) (p : List ℕ) (b : ℕ) → Viable d ki
 
 -- after a text that reached a state, some byte may come next
 abbrev pub SomeNext : Type 0
-SomeNext = (d : Dialect) (kind : Kind) (s : State) (p : List ℕ) → Reached d kind s p → (b : ℕ)
+SomeNext = (d : Dialect) (kind : Kind) (s : State) (p : List ℕ) → IsReachedBy d kind s p → (b : ℕ)
     × Next d kind p b

@@ -24,7 +24,7 @@ use Rattle.sf_parse.specs.Machine.Params.{between_step}
 use Rattle.sf_parse.specs.Machine.Items.{ItemState, InBare, InParams, item_start, item_step}
 use Rattle.sf_parse.specs.Machine.Items.{item_finish}
 use Rattle.sf_parse.specs.Machine.Series.{SeriesState, Begin, InMember, Gap, Comma, series_step}
-use Rattle.sf_parse.specs.Machine.States.{State, BeforeItem, InTop, AfterItem, InList, InDict}
+use Rattle.sf_parse.specs.Machine.States.{State, BeforeItem, InsideItem, AfterItem, InList, InDict}
 use Rattle.sf_parse.specs.Machine.Fields.{step, list_series, dict_series}
 use Rattle.sf_parse.specs.SeriesView.{series_next}
 use Rattle.sf_parse.specs.AllocationFree.{scalar_byte, short_byte, no_semicolon, text_bytes, BareFree}
@@ -40,10 +40,10 @@ allow_cases : {S : Type 0} (c : Bool) (s t : S) → allow c s ≡ Some t → (c 
 allow_cases true s t e = (refl, cc)
 allow_cases false s t e = absurd cc
 
-otherwise_cases : {S : Type 0} (a b : Option S) (s : S) → option_or a b ≡ Some s
+option_or_cases : {S : Type 0} (a b : Option S) (s : S) → option_or a b ≡ Some s
     → (a ≡ Some s) ⊎ (b ≡ Some s)
-otherwise_cases (Some x) b s e = inl e
-otherwise_cases None b s e = inr e
+option_or_cases (Some x) b s e = inl e
+option_or_cases None b s e = inr e
 
 onward_cases : {S T X : Type 0} (into : S → T) (a : Option S) (end : Option X)
     (after : X → Option T) (t : T) → onward into a end after ≡ Some t
@@ -75,8 +75,8 @@ text_keeps (Inside bytes) t b more h e = ⊎_elim
     (λ i. subst (λ y. FitsInPlace (text_bytes y ++ more))
     (sym (allow_cases (is_visible b) (Inside (bytes ++ b ∷ [])) t i).1)
     (gathered bytes more b h))
-    (otherwise_cases (allow (b == 92) (Escaped bytes)) (allow (is_visible b) (Inside (bytes ++ b ∷ []))) t k))
-    (otherwise_cases (allow (b == 34) (Closed bytes))
+    (option_or_cases (allow (b == 92) (Escaped bytes)) (allow (is_visible b) (Inside (bytes ++ b ∷ []))) t k))
+    (option_or_cases (allow (b == 34) (Closed bytes))
     (option_or (allow (b == 92) (Escaped bytes)) (allow (is_visible b) (Inside (bytes ++ b ∷ [])))) t e)
 text_keeps (Escaped bytes) t b more h e =
     subst (λ y. FitsInPlace (text_bytes y ++ more))
@@ -155,7 +155,7 @@ module _ (P : BareState → Type 0) (d : Dialect) (b : ℕ) (numbers : (n : Numb
       (λ i. let k = map_cases InBlob (allow (b == 58) (Group [] H0)) s i in
       let a = allow_cases (b == 58) (Group [] H0) k.0 k.1 in
       subst P (sym k.2) (subst (λ y. P (InBlob y)) (sym a.1) (blobs a.0)))
-      (λ i. begun_shown s i) (otherwise_cases _ _ s e)
+      (λ i. begun_shown s i) (option_or_cases _ _ s e)
 
   begun_date : (s : BareState)
       → option_or (only (is_rfc9651 d) (option_map InDate (allow (b == 64) Sign)))
@@ -165,7 +165,7 @@ module _ (P : BareState → Type 0) (d : Dialect) (b : ℕ) (numbers : (n : Numb
       (λ i. let k = map_cases InDate (allow (b == 64) Sign) s (only_some _ _ s i) in
       let a = allow_cases (b == 64) Sign k.0 k.1 in
       subst P (sym k.2) (subst (λ y. P (InDate y)) (sym a.1) dates))
-      (λ i. begun_blob s i) (otherwise_cases _ _ s e)
+      (λ i. begun_blob s i) (option_or_cases _ _ s e)
 
   begun_boolean : (s : BareState)
       → option_or (option_map InBoolean (allow (b == 63) QuestionMark))
@@ -176,7 +176,7 @@ module _ (P : BareState → Type 0) (d : Dialect) (b : ℕ) (numbers : (n : Numb
       (λ i. let k = map_cases InBoolean (allow (b == 63) QuestionMark) s i in
       let a = allow_cases (b == 63) QuestionMark k.0 k.1 in
       subst P (sym k.2) (subst (λ y. P (InBoolean y)) (sym a.1) booleans))
-      (λ i. begun_date s i) (otherwise_cases _ _ s e)
+      (λ i. begun_date s i) (option_or_cases _ _ s e)
 
   begun_token : (s : BareState)
       → option_or (option_map InToken (word_start is_token_start b))
@@ -188,7 +188,7 @@ module _ (P : BareState → Type 0) (d : Dialect) (b : ℕ) (numbers : (n : Numb
       (λ i. let k = map_cases InToken (word_start is_token_start b) s i in
       let a = allow_cases (is_token_start b) (b ∷ []) k.0 k.1 in
       subst P (sym k.2) (subst (λ y. P (InToken y)) (sym a.1) (tokens a.0)))
-      (λ i. begun_boolean s i) (otherwise_cases _ _ s e)
+      (λ i. begun_boolean s i) (option_or_cases _ _ s e)
 
   begun_text : (s : BareState)
       → option_or (option_map InText (allow (b == 34) (Inside [])))
@@ -201,13 +201,13 @@ module _ (P : BareState → Type 0) (d : Dialect) (b : ℕ) (numbers : (n : Numb
       (λ i. let k = map_cases InText (allow (b == 34) (Inside [])) s i in
       let a = allow_cases (b == 34) (Inside []) k.0 k.1 in
       subst P (sym k.2) (subst (λ y. P (InText y)) (sym a.1) (texts a.0)))
-      (λ i. begun_token s i) (otherwise_cases _ _ s e)
+      (λ i. begun_token s i) (option_or_cases _ _ s e)
 
   pub begun : (s : BareState) → bare_start d b ≡ Some s → P s
   begun s e = ⊎_elim
       (λ i. let k = map_cases InNumber (number_start b) s i in subst P (sym k.2) (numbers k.0))
       (λ i. begun_text s i)
-      (otherwise_cases (option_map InNumber (number_start b)) _ s e)
+      (option_or_cases (option_map InNumber (number_start b)) _ s e)
 
 -- the bytes of scalars and of short texts
 every_less : (p q : ℕ → Bool) → ((b : ℕ) → p b ≡ true → q b ≡ true) → (t : List ℕ) → Every p t
@@ -274,7 +274,7 @@ pub field_keeps : (d : Dialect) (s t : State) (b : ℕ) (more : List ℕ) → Fi
 field_keeps d BeforeItem t b more h e = ⊎_elim
     (λ i. subst (λ y. FieldFree y more) (sym (allow_cases (is_sp b) BeforeItem t i).1)
     (⊎_elim (λ w. inl w.1) (λ w. inr (omega (arith, w.0), w.1.1)) h))
-    (λ i. let k = map_cases InTop (item_start d b) t i in
+    (λ i. let k = map_cases InsideItem (item_start d b) t i in
     let j = map_cases InBare (bare_start d b) k.0 k.1 in
     subst (λ y. FieldFree y more) (sym k.2) (subst (λ y. ItemFree y more) (sym j.2)
     (⊎_elim
@@ -283,11 +283,11 @@ field_keeps d BeforeItem t b more h e = ⊎_elim
       short_begun d b more j.0 w.1.0 w.0 j.1,
       every_less short_byte no_semicolon short_opens_none more w.1.1,
     )) h)))
-    (otherwise_cases (allow (is_sp b) BeforeItem) (option_map InTop (item_start d b)) t e)
-field_keeps d (InTop s) t b more h e = ⊎_elim
+    (option_or_cases (allow (is_sp b) BeforeItem) (option_map InsideItem (item_start d b)) t e)
+field_keeps d (InsideItem s) t b more h e = ⊎_elim
     (λ k. subst (λ y. FieldFree y more) (sym k.2) (item_keeps d s k.0 b more h k.1))
     (λ k. subst (λ y. FieldFree y more) (sym (allow_cases (is_sp b) (AfterItem k.0) t k.1).1) tt)
-    (onward_cases InTop (item_step d s b) (item_finish s) (λ i. allow (is_sp b) (AfterItem i)) t e)
+    (onward_cases InsideItem (item_step d s b) (item_finish s) (λ i. allow (is_sp b) (AfterItem i)) t e)
 field_keeps d (AfterItem i) t b more h e =
     subst (λ y. FieldFree y more) (sym (allow_cases (is_sp b) (AfterItem i) t e).1) tt
 field_keeps d (InList Begin) t b more h e =

@@ -1,7 +1,7 @@
 -- The state of the machine for what is read of a leaf, from the phase and the buffers of the code.
 use Rattle.std.specs.Prelude.{◌≡◌, ℕ, ◌^◌, ◌<◌, ◌≤◌, Bool, true, false, List, [], Option}
 use Rattle.std.specs.Prelude.{Some, None}
-use Rattle.sf_value.specs.Grammar.Utf8.{Utf8, Start, Wants, utf8_step}
+use Rattle.sf_value.specs.Grammar.Utf8.{Utf8, Start, utf8_step}
 use Rattle.sf_parse.specs.Machine.Language.{run}
 use Rattle.sf_parse.specs.Machine.Numbers.{NumberState, Whole, Fraction, DateState, Digits, Sign}
 use Rattle.sf_parse.specs.Machine.Texts.{TextState, Inside, Escaped, Closed}
@@ -14,8 +14,9 @@ use Rattle.sf_parse.specs.declared.blob.Held.{Held}
 use Rattle.sf_parse.specs.declared.blob.Held.TheVariants as held
 use Rattle.sf_parse.specs.declared.blob.BlobPhase.{BlobPhase}
 use Rattle.sf_parse.specs.declared.blob.BlobPhase.TheVariants as blob_phase
-use Rattle.sf_parse.specs.declared.display_string.Utf8State.{Utf8State}
-use Rattle.sf_parse.specs.declared.display_string.Utf8State.TheVariants as utf8
+use Rattle.sf_value.specs.declared.utf8.Utf8State.{Utf8State}
+use Rattle.sf_value.specs.declared.utf8.Utf8State.TheVariants as utf8
+use Rattle.sf_value.specs.Utf8States.{utf8_of}
 use Rattle.sf_parse.specs.declared.display_string.ShownPhase.{ShownPhase}
 use Rattle.sf_parse.specs.declared.display_string.ShownPhase.TheVariants as shown_phase
 
@@ -79,11 +80,6 @@ abbrev pub FitsBlob : BlobPhase → Type 0
 FitsBlob (blob_phase.Group h) = FitsHeld h
 FitsBlob (blob_phase.Padded more) = Unit {0}
 FitsBlob blob_phase.Ended = Unit {0}
-
--- the state in a character
-abbrev pub utf8_of : Utf8State → Utf8
-utf8_of utf8.Start = Start
-utf8_of (utf8.Wants more low high) = Wants more low high
 
 -- a Display String
 abbrev pub shown_of : ShownPhase → List ℕ → Utf8State → ShownState

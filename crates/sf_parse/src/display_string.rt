@@ -1,11 +1,11 @@
 //! A Display String that is being read (RFC 9651 section 4.2.10).
 ghost use Rattle.std.specs.Prelude.{◌≡◌, ℕ, ◌<◌, ◌≤◌, List, [], ◌∷◌, ◌++◌, Some, IfOk, IfSome};
 ghost use Rattle.std.specs.Prelude.{is_some, take};
-ghost use Rattle.std.specs.Option.{option_map};
 ghost use Rattle.sf_value.specs.Ascii.{percent as percent_sign};
-ghost use Rattle.sf_value.specs.Grammar.Utf8.{Utf8, wants, rows, look_up, utf8_step};
+ghost use Rattle.sf_value.specs.Grammar.Utf8.{Utf8, utf8_step};
 ghost use Rattle.sf_parse.specs.Prefixes.{Went};
-ghost use Rattle.sf_parse.specs.Views.{utf8_of, shown_of, Leads, FitsShown, IsDigitPhase};
+ghost use Rattle.sf_value.specs.Utf8States.{utf8_of};
+ghost use Rattle.sf_parse.specs.Views.{shown_of, Leads, FitsShown, IsDigitPhase};
 ghost use Rattle.sf_parse.specs.Machine.Language.{Steps, run};
 ghost use Rattle.sf_parse.specs.Machine.Showns.{Unencoded, pushed};
 ghost use Rattle.sf_parse.specs.Machine.Showns.{can_begin as can_begin_at, shown_step};
@@ -14,15 +14,7 @@ ghost use Rattle.sf_parse.specs.Expected.{MarksStep, digit_step};
 
 use crate::sets::{FIRST_DIGITS, PERCENT, QUOTE, VISIBLE};
 use sf_value::classes::{UnencodedByte, long_prefix};
-use sf_value::{OutOfMemory, ShortBytes, is_visible, unhex};
-
-/// Between two characters; or in one, whose next byte is from `low` to `high`, with `more` bytes
-/// after it.
-#[derive(Clone, Copy)]
-pub enum Utf8State {
-    Start,
-    Wants { more: u8, low: u8, high: u8 },
-}
+use sf_value::{OutOfMemory, ShortBytes, Utf8State, is_visible, unhex};
 
 /// The part of a Display String that is being read.
 #[derive(Clone, Copy)]
@@ -44,35 +36,6 @@ pub enum ShownPhase {
 pub struct ShownPlace {
     pub phase: ShownPhase,
     pub chars: Utf8State,
-}
-
-impl Utf8State {
-    /// The state after one more byte; `None` if it is not well-formed UTF-8 (RFC 3629 section 4).
-    pub fn after(self, byte: u8) -> Option<Utf8State>
-        // It is the state of the grammar, if the grammar allows the byte.
-        ensures { option_map utf8_of result ≡ utf8_step (utf8_of self) byte }
-    {
-        match self {
-            Utf8State::Start => first_byte(byte),
-            Utf8State::Wants { more, low, high } => {
-                if low <= byte && byte <= high {
-                    Some(wanted(more))
-                } else {
-                    None
-                }
-            }
-        }
-    }
-
-    /// Whether a byte with this high digit may come.
-    fn can_begin(self, digit: u8) -> bool
-        ensures { result ≡ can_begin_at (utf8_of self) digit }
-    {
-        match self {
-            Utf8State::Start => digit < 8 || digit >= 12,
-            Utf8State::Wants { low, high, .. } => low / 16 <= digit && digit <= high / 16,
-        }
-    }
 }
 
 impl ShownPlace {
@@ -149,7 +112,7 @@ impl ShownPlace {
                 let Some(high) = unhex(byte) else {
                     return Ok(false);
                 };
-                if !self.chars.can_begin(high) {
+                if !can_begin(self.chars, high) {
                     return Ok(false);
                 }
                 self.phase = ShownPhase::Hex(high);
@@ -199,7 +162,7 @@ impl ShownPlace {
             return false;
         };
         match self.phase {
-            ShownPhase::Percent => self.chars.can_begin(digit),
+            ShownPhase::Percent => can_begin(self.chars, digit),
             ShownPhase::Hex(high) => self.chars.after(high * 16 + digit).is_some(),
             ShownPhase::Quote | ShownPhase::Unencoded | ShownPhase::Done => false,
         }
@@ -258,39 +221,14 @@ impl ShownPlace {
     }
 }
 
-/// The state after a byte that this many bytes follow in its character.
-fn wanted(more: u8) -> Utf8State
-    // It is the state of the grammar.
-    ensures { utf8_of result ≡ wants more }
+/// Whether a byte with this high digit may come.
+fn can_begin(chars: Utf8State, digit: u8) -> bool
+    ensures { result ≡ can_begin_at (utf8_of chars) digit }
 {
-    if more == 0 {
-        return Utf8State::Start;
+    match chars {
+        Utf8State::Start => digit < 8 || digit >= 12,
+        Utf8State::Wants { low, high, .. } => low / 16 <= digit && digit <= high / 16,
     }
-    Utf8State::Wants {
-        more: more - 1,
-        low: 0x80,
-        high: 0xbf,
-    }
-}
-
-/// The state after the first byte of a character.
-fn first_byte(byte: u8) -> Option<Utf8State>
-    // It is what the table of well-formed UTF-8 says of the byte.
-    ensures { option_map utf8_of result ≡ look_up rows byte }
-{
-    let (more, low, high) = match byte {
-        0x00..=0x7f => return Some(Utf8State::Start),
-        0xc2..=0xdf => (0, 0x80, 0xbf),
-        0xe0 => (1, 0xa0, 0xbf),
-        0xe1..=0xec => (1, 0x80, 0xbf),
-        0xed => (1, 0x80, 0x9f),
-        0xee..=0xef => (1, 0x80, 0xbf),
-        0xf0 => (2, 0x90, 0xbf),
-        0xf1..=0xf3 => (2, 0x80, 0xbf),
-        0xf4 => (2, 0x80, 0x8f),
-        _ => return None,
-    };
-    Some(Utf8State::Wants { more, low, high })
 }
 
 /// The number of escapes that are read at a time.

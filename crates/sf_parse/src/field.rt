@@ -9,7 +9,7 @@ ghost use Rattle.sf_value.specs.declared.value.Kind.TheVariants as kind_is;
 ghost use Rattle.sf_parse.specs.Parsers.{Parses, Makes};
 ghost use Rattle.sf_parse.specs.AllocationFree.{TakesNoMemory, FieldFree};
 ghost use Rattle.sf_parse.specs.AllocationFreeParsers.{IsOther};
-ghost use Rattle.sf_parse.specs.FieldSteps.{top_steps, list_steps, dict_steps};
+ghost use Rattle.sf_parse.specs.FieldSteps.{item_field_steps, list_steps, dict_steps};
 ghost use Rattle.sf_parse.specs.FieldSteps.{list_ends, dict_ends};
 ghost use Rattle.sf_parse.specs.Machine.States.{State, InList, InDict};
 ghost use Rattle.sf_parse.specs.Machine.Fields.{begin as begin_at, step as step_of};
@@ -18,7 +18,7 @@ ghost use Rattle.sf_parse.specs.Machine.Tests.{may_end as may_end_at};
 
 use crate::context::Context;
 use crate::entry::EntryReader;
-use crate::item_field::TopReader;
+use crate::item_field::ItemFieldReader;
 use crate::level::Level;
 use crate::member::MemberReader;
 use crate::refusal::Refusal;
@@ -68,7 +68,7 @@ pub trait WholeField: Level + Drop {
         → Self.allocation_free d s more };
 }
 
-impl WholeField for TopReader {
+impl WholeField for ItemFieldReader {
     type Whole = Item;
 
     ghost kind = { kind_is.Item };
@@ -77,14 +77,14 @@ impl WholeField for TopReader {
 
     ghost state = { λ s. s };
 
-    ghost steps = { top_steps };
+    ghost steps = { item_field_steps };
 
     ghost ends_too = { λ s. refl };
 
     ghost free_too = { λ d s more h. h };
 
-    fn begin(context: &Context) -> TopReader {
-        TopReader::new(context)
+    fn begin(context: &Context) -> ItemFieldReader {
+        ItemFieldReader::new(context)
     }
 
     fn finish_whole(&mut self, context: &Context) -> Result<Option<Item>, OutOfMemory> {

@@ -2,7 +2,7 @@
 ghost use Rattle.std.specs.Option.{option_map};
 ghost use Rattle.std.specs.Prelude.{◌≡◌, [], IfOk, IsOk};
 ghost use Rattle.sf_value.specs.declared.value.Field.TheVariants as field;
-ghost use Rattle.sf_parse.specs.TopView.{top_stuck};
+ghost use Rattle.sf_parse.specs.ItemFieldView.{item_field_stuck};
 ghost use Rattle.sf_parse.specs.AllocationFree.{FieldFree};
 ghost use Rattle.sf_parse.specs.StaysFree.{field_keeps};
 ghost use Rattle.sf_parse.specs.Machine.States.{BeforeItem};
@@ -21,7 +21,7 @@ use std::mem;
 
 /// The part of a field between spaces that is being read.
 #[derive(Clone, Copy)]
-pub enum TopPhase {
+pub enum ItemFieldPhase {
     /// Before the item.
     Before,
     /// In the item.
@@ -32,31 +32,31 @@ pub enum TopPhase {
 
 /// What was read of an item between spaces: the item that is open, or the one that is complete.
 #[derive(Drop)]
-pub struct TopReader {
-    phase: TopPhase,
+pub struct ItemFieldReader {
+    phase: ItemFieldPhase,
     item: ItemReader,
     whole: Option<Item>,
 }
 
-impl Model for TopReader {
+impl Model for ItemFieldReader {
     ghost use Rattle.sf_parse.specs.Machine.States.{State};
 
     ghost Value = { State };
 
-    ghost use Rattle.sf_parse.specs.TopView.{top_of, FitsTop};
+    ghost use Rattle.sf_parse.specs.ItemFieldView.{item_field_of, FitsItemField};
 
-    ghost view = { λ r. top_of r.phase r.item r.whole };
+    ghost view = { λ r. item_field_of r.phase r.item r.whole };
 
-    ghost invariant = { λ r. FitsTop r.phase r.whole };
+    ghost invariant = { λ r. FitsItemField r.phase r.whole };
 }
 
-impl TopReader {
+impl ItemFieldReader {
     /// Before the item. It does not allocate.
-    pub fn new(context: &Context) -> TopReader
+    pub fn new(context: &Context) -> ItemFieldReader
         ensures { result ≡ BeforeItem }
     {
-        TopReader {
-            phase: TopPhase::Before,
+        ItemFieldReader {
+            phase: ItemFieldPhase::Before,
             item: ItemReader::new(context),
             whole: None,
         }
@@ -70,24 +70,24 @@ impl TopReader {
         ensures allocation_free { FieldFree self.old [] → IsOk result }
     {
         match self.phase {
-            TopPhase::Before => return Ok(None),
-            TopPhase::Inside => {
+            ItemFieldPhase::Before => return Ok(None),
+            ItemFieldPhase::Inside => {
                 let mut whole = None;
                 self.item.end(context, &mut whole)?;
                 return Ok(whole);
             }
-            TopPhase::Behind => {
-                self.phase = TopPhase::Before;
+            ItemFieldPhase::Behind => {
+                self.phase = ItemFieldPhase::Before;
                 return Ok(mem::replace(&mut self.whole, None));
             }
         }
     }
 }
 
-impl Level for TopReader {
+impl Level for ItemFieldReader {
     ghost next = { step_of };
 
-    ghost stuck = { top_stuck };
+    ghost stuck = { item_field_stuck };
 
     ghost ends = { may_end_at };
 
@@ -101,66 +101,66 @@ impl Level for TopReader {
         chunk: &'a [u8],
     ) -> Result<&'a [u8], OutOfMemory> {
         match self.phase {
-            TopPhase::Before => {
+            ItemFieldPhase::Before => {
                 let (_, rest) = short_prefix::<Space>(chunk);
                 return Ok(rest);
             }
-            TopPhase::Behind => {
+            ItemFieldPhase::Behind => {
                 let (_, rest) = short_prefix::<Space>(chunk);
                 return Ok(rest);
             }
-            TopPhase::Inside => return self.item.take(context, chunk),
+            ItemFieldPhase::Inside => return self.item.take(context, chunk),
         }
     }
 
     fn push_part(&mut self, context: &Context, byte: u8) -> Result<bool, OutOfMemory> {
         match self.phase {
-            TopPhase::Inside => return self.item.push(context, byte),
-            TopPhase::Before | TopPhase::Behind => return Ok(false),
+            ItemFieldPhase::Inside => return self.item.push(context, byte),
+            ItemFieldPhase::Before | ItemFieldPhase::Behind => return Ok(false),
         }
     }
 
     fn turn(&mut self, context: &Context, byte: u8) -> Result<bool, OutOfMemory> {
         match self.phase {
-            TopPhase::Before => {
+            ItemFieldPhase::Before => {
                 if byte == b' ' {
                     return Ok(true);
                 }
                 if !self.item.start(context, byte)? {
                     return Ok(false);
                 }
-                self.phase = TopPhase::Inside;
+                self.phase = ItemFieldPhase::Inside;
                 return Ok(true);
             }
-            TopPhase::Inside => {
+            ItemFieldPhase::Inside => {
                 if byte != b' ' {
                     return Ok(false);
                 }
                 if !self.item.end(context, &mut self.whole)? {
                     return Ok(false);
                 }
-                self.phase = TopPhase::Behind;
+                self.phase = ItemFieldPhase::Behind;
                 return Ok(true);
             }
-            TopPhase::Behind => return Ok(byte == b' '),
+            ItemFieldPhase::Behind => return Ok(byte == b' '),
         }
     }
 
     fn expected(&self, dialect: Dialect) -> u128 {
         match self.phase {
-            TopPhase::Before => return SPACE | BareReader::first_bytes(dialect),
-            TopPhase::Inside => {
+            ItemFieldPhase::Before => return SPACE | BareReader::first_bytes(dialect),
+            ItemFieldPhase::Inside => {
                 return self.item.expected(dialect) | set_if(self.item.may_end(), SPACE);
             }
-            TopPhase::Behind => return SPACE,
+            ItemFieldPhase::Behind => return SPACE,
         }
     }
 
     fn may_end(&self) -> bool {
         match self.phase {
-            TopPhase::Before => false,
-            TopPhase::Inside => self.item.may_end(),
-            TopPhase::Behind => true,
+            ItemFieldPhase::Before => false,
+            ItemFieldPhase::Inside => self.item.may_end(),
+            ItemFieldPhase::Behind => true,
         }
     }
 }

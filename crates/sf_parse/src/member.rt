@@ -29,7 +29,7 @@ pub enum MemberPhase {
     /// In an item that is the member.
     One,
     /// In an inner list, after the opening bracket or a space.
-    Room,
+    BetweenItems,
     /// In an item of an inner list.
     InItem,
     /// In the parameters after the closing bracket of an inner list.
@@ -86,7 +86,7 @@ impl MemberReader {
     {
         if byte == b'(' {
             self.items = Sequence::new(context.alloc);
-            self.phase = MemberPhase::Room;
+            self.phase = MemberPhase::BetweenItems;
             return Ok(true);
         }
         self.phase = MemberPhase::One;
@@ -119,10 +119,10 @@ impl MemberReader {
         ensures kept { IfOk result (λ inner. IfNone inner (self.new ≡ self.old)) }
     {
         match self.phase {
-            MemberPhase::One | MemberPhase::Room | MemberPhase::InItem => return Ok(None),
+            MemberPhase::One | MemberPhase::BetweenItems | MemberPhase::InItem => return Ok(None),
             MemberPhase::Closing => {
                 // After a failure the item need not be in parameters, as this phase requires.
-                self.phase = MemberPhase::Room;
+                self.phase = MemberPhase::BetweenItems;
                 let Some(params) = self.item.finish_params(context)? else {
                     self.phase = MemberPhase::Closing;
                     return Ok(None);
@@ -146,7 +146,7 @@ impl MemberReader {
                 self.item.end(context, &mut member)?;
                 return Ok(member);
             }
-            MemberPhase::Room | MemberPhase::InItem => return Ok(None),
+            MemberPhase::BetweenItems | MemberPhase::InItem => return Ok(None),
             MemberPhase::Closing => {
                 let Some(inner) = self.finish_inner(context)? else {
                     return Ok(None);
@@ -171,7 +171,7 @@ impl MemberReader {
     {
         match self.phase {
             MemberPhase::One => return self.item.end(context, given),
-            MemberPhase::Room | MemberPhase::InItem => return Ok(false),
+            MemberPhase::BetweenItems | MemberPhase::InItem => return Ok(false),
             MemberPhase::Closing => return self.end_inner(context, given),
         }
     }
@@ -216,7 +216,7 @@ impl Level for MemberReader {
         chunk: &'a [u8],
     ) -> Result<&'a [u8], OutOfMemory> {
         match self.phase {
-            MemberPhase::Room => {
+            MemberPhase::BetweenItems => {
                 let (_, rest) = short_prefix::<Space>(chunk);
                 return Ok(rest);
             }
@@ -224,7 +224,7 @@ impl Level for MemberReader {
             MemberPhase::InItem => return self.item.take(context, chunk),
             MemberPhase::Closing => {
                 // After a failure the item need not be in parameters, as this phase requires.
-                self.phase = MemberPhase::Room;
+                self.phase = MemberPhase::BetweenItems;
                 let rest = self.item.take(context, chunk)?;
                 self.phase = MemberPhase::Closing;
                 return Ok(rest);
@@ -234,12 +234,12 @@ impl Level for MemberReader {
 
     fn push_part(&mut self, context: &Context, byte: u8) -> Result<bool, OutOfMemory> {
         match self.phase {
-            MemberPhase::Room => return Ok(false),
+            MemberPhase::BetweenItems => return Ok(false),
             MemberPhase::One => return self.item.push(context, byte),
             MemberPhase::InItem => return self.item.push(context, byte),
             MemberPhase::Closing => {
                 // After a failure the item need not be in parameters, as this phase requires.
-                self.phase = MemberPhase::Room;
+                self.phase = MemberPhase::BetweenItems;
                 let took = self.item.push(context, byte)?;
                 self.phase = MemberPhase::Closing;
                 return Ok(took);
@@ -250,7 +250,7 @@ impl Level for MemberReader {
     fn turn(&mut self, context: &Context, byte: u8) -> Result<bool, OutOfMemory> {
         match self.phase {
             MemberPhase::One | MemberPhase::Closing => return Ok(false),
-            MemberPhase::Room => {
+            MemberPhase::BetweenItems => {
                 if byte == b' ' {
                     return Ok(true);
                 }
@@ -272,7 +272,7 @@ impl Level for MemberReader {
                 if !self.item.end(context, &mut self.items)? {
                     return Ok(false);
                 }
-                self.phase = MemberPhase::Room;
+                self.phase = MemberPhase::BetweenItems;
                 if byte == b')' {
                     self.item.begin_params(context);
                     self.phase = MemberPhase::Closing;
@@ -286,7 +286,7 @@ impl Level for MemberReader {
         match self.phase {
             MemberPhase::One => return self.item.expected(dialect),
             MemberPhase::Closing => return self.item.expected(dialect),
-            MemberPhase::Room => return SPACE | (CLOSE | BareReader::first_bytes(dialect)),
+            MemberPhase::BetweenItems => return SPACE | (CLOSE | BareReader::first_bytes(dialect)),
             MemberPhase::InItem => {
                 return self.item.expected(dialect) | set_if(self.item.may_end(), SPACE | CLOSE);
             }
@@ -296,7 +296,7 @@ impl Level for MemberReader {
     fn may_end(&self) -> bool {
         match self.phase {
             MemberPhase::One | MemberPhase::Closing => self.item.may_end(),
-            MemberPhase::Room | MemberPhase::InItem => false,
+            MemberPhase::BetweenItems | MemberPhase::InItem => false,
         }
     }
 }

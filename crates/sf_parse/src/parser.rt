@@ -4,8 +4,8 @@ ghost use Rattle.std.specs.Prelude.{Some, None};
 ghost use Rattle.std.specs.Prelude.{IfSome, IfNone, IfOk, OnOk, Err, MatchResult, false};
 ghost use Rattle.sf_value.specs.declared.dialect.Dialect.TheVariants as dialect_is;
 ghost use Rattle.sf_parse.specs.Prefixes.{FirstIs, Halts};
-ghost use Rattle.sf_parse.specs.Parsers.{Took, StandsAt, Fed, Finishes, in_line};
-ghost use Rattle.sf_parse.specs.Feeding.{FedTo, TakenAllocationFree};
+ghost use Rattle.sf_parse.specs.Parsers.{HasTaken, StandsAt, Feeds, Finishes, in_line};
+ghost use Rattle.sf_parse.specs.Feeding.{FeedsPrefix, TakenAllocationFree};
 ghost use Rattle.sf_parse.specs.AllocationFree.{TakesNoMemory};
 ghost use Rattle.sf_parse.specs.AllocationFreeParsers.{IsAllocationFree, IsOther};
 ghost use Rattle.sf_parse.specs.AllocationFreeParsers.{KeptAllocationFree, NotForMemory};
@@ -95,7 +95,7 @@ impl Parser {
         ensures kind { result.kind ≡ kind }
         ensures max { result.max ≡ max }
         // It took the empty text and refused nothing.
-        ensures took { Took result [] }
+        ensures took { HasTaken result [] }
         // No field line came before.
         ensures lines { result.after_line ≡ false }
         // A text of the kind that does not allocate is fed and ended without an allocation.
@@ -118,7 +118,7 @@ impl Parser {
         ensures kind { result.kind ≡ kind }
         ensures max { result.max ≡ max }
         // It took the empty text and refused nothing.
-        ensures took { Took result [] }
+        ensures took { HasTaken result [] }
         // No field line came before.
         ensures lines { result.after_line ≡ false }
         // A text of the kind that does not allocate is fed and ended without an allocation.
@@ -153,8 +153,8 @@ impl Parser {
         // The prefix is within the limit.
         requires room { self.old.count + length prefix.now ≤ self.old.max }
         // Ok took the bytes before the rest; a refusal remains, whatever comes after the prefix.
-        ensures fed { MatchResult result (λ rest. FedTo self.old self.new prefix.now rest.now)
-            (λ e. Fed self.old self.new (Err e) prefix.now) }
+        ensures fed { MatchResult result (λ rest. FeedsPrefix self.old self.new prefix.now rest.now)
+            (λ e. Feeds self.old self.new (Err e) prefix.now) }
         // The count increases by the bytes before the rest.
         ensures counted { IfOk result (λ rest. self.new.count + length rest.now
             ≡ self.old.count + length prefix.now) }
@@ -184,7 +184,7 @@ impl Parser {
         requires stops { self.old.count < self.old.max
             → Halts (step_of self.old.dialect) self.old.state byte }
         // The refusal remains whatever comes after the byte.
-        ensures fed { Fed self.old self.new (Err result) (byte ∷ []) }
+        ensures fed { Feeds self.old self.new (Err result) (byte ∷ []) }
         ensures lines { self.new.after_line ≡ self.old.after_line }
         // It is not out of memory.
         ensures other { IsOther result }
@@ -206,7 +206,7 @@ impl Parser {
     /// returns the same refusal to every later call, whatever the chunk.
     pub fn feed(&mut self, chunk: &[u8]) -> Result<(), Refusal>
         // Ok took the chunk; a refusal remains, whatever comes after it.
-        ensures fed { Fed self.old self.new result chunk.now }
+        ensures fed { Feeds self.old self.new result chunk.now }
         // A chunk is not a field line.
         ensures lines { self.new.after_line ≡ self.old.after_line }
         // A parser that refused returns the same refusal and is unchanged.
@@ -250,7 +250,7 @@ impl Parser {
     pub fn feed_line(&mut self, line: &[u8]) -> Result<(), Refusal>
         // Ok took the line, after a comma and a space if a line came before; a refusal remains,
         // whatever comes after it.
-        ensures fed { Fed self.old self.new result (in_line self.old.after_line line.now) }
+        ensures fed { Feeds self.old self.new result (in_line self.old.after_line line.now) }
         // Once a line was taken, the next one is joined to it.
         ensures lines { OnOk result (self.new.after_line ≡ true) }
         // A parser that refused returns the same refusal and is unchanged.
@@ -275,7 +275,7 @@ impl Parser {
         // A parser that refused returns the same refusal.
         ensures again { IfSome self.now.refusal (λ e. result ≡ Some e) }
         // If all bytes were taken, the refusal is exact at their end.
-        ensures ended { IfSome result (λ e. (s : List ℕ) → Took self.now s
+        ensures ended { IfSome result (λ e. (s : List ℕ) → HasTaken self.now s
             → Finishes self.now.dialect self.now.kind s (Err e)) }
         ensures unrefused { IfNone result (self.now.refusal ≡ None) }
         // Without a refusal the text may end.
@@ -297,7 +297,7 @@ impl Parser {
     pub fn finish(self) -> Result<Field, Refusal>
         // It is the one value of all bytes taken, or Syntax at their end; otherwise an allocation
         // failed.
-        ensures ended { (s : List ℕ) → Took self s → Finishes self.dialect self.kind s result }
+        ensures ended { (s : List ℕ) → HasTaken self s → Finishes self.dialect self.kind s result }
         // A parser that refused returns the same refusal.
         ensures again { IfSome self.refusal (λ e. result ≡ Err e) }
         // An allocation-free end is not refused as out of memory.

@@ -9,7 +9,7 @@ ghost use Rattle.sf_parse.specs.AllocationFreeParsers.{IsOther, NotForMemory};
 
 use crate::context::Context;
 use crate::field::{DictReader, ListReader, parse_whole};
-use crate::item_field::TopReader;
+use crate::item_field::ItemFieldReader;
 use crate::refusal::Refusal;
 use sf_value::{Dialect, Dict, Field, Item, Kind, List};
 use std::alloc::Global;
@@ -59,7 +59,7 @@ pub fn parse_text_in(
 {
     let context = Context::new(alloc, seed, dialect);
     match kind {
-        Kind::Item => Ok(Field::Item(parse_whole::<TopReader>(&context, text)?)),
+        Kind::Item => Ok(Field::Item(parse_whole::<ItemFieldReader>(&context, text)?)),
         Kind::List => Ok(Field::List(parse_whole::<ListReader>(&context, text)?)),
         Kind::Dict => Ok(Field::Dict(parse_whole::<DictReader>(&context, text)?)),
     }
@@ -78,7 +78,7 @@ pub fn parse_item(alloc: Global, seed: &RandomState, text: &[u8]) -> Result<Item
     // An allocation-free text is not refused as out of memory.
     ensures allocation_free { TakesNoMemory kind_is.Item text.now → IfErr result IsOther }
 {
-    parse_whole::<TopReader>(&Context::new(alloc, seed, Dialect::Rfc9651), text)
+    parse_whole::<ItemFieldReader>(&Context::new(alloc, seed, Dialect::Rfc9651), text)
 }
 
 /// The List that the text spells, in the dialect of RFC 9651 (section 4.2), with the result of

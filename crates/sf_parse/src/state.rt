@@ -10,7 +10,7 @@ ghost use Rattle.sf_parse.specs.Machine.Tests.{takes as takes_at, may_end as may
 
 use crate::context::Context;
 use crate::field::{DictReader, ListReader, WholeField};
-use crate::item_field::TopReader;
+use crate::item_field::ItemFieldReader;
 use crate::level::Level;
 use crate::refusal::Refusal;
 use sf_value::{Dialect, Field, Kind, OutOfMemory};
@@ -18,7 +18,7 @@ use sf_value::{Dialect, Field, Kind, OutOfMemory};
 /// What was read of a field, by its kind.
 #[derive(Drop)]
 pub enum FieldState {
-    Item(TopReader),
+    Item(ItemFieldReader),
     List(ListReader),
     Dict(DictReader),
 }
@@ -31,7 +31,7 @@ impl FieldState {
         ensures { state_of result ≡ begin_at kind }
     {
         match kind {
-            Kind::Item => FieldState::Item(TopReader::begin(context)),
+            Kind::Item => FieldState::Item(ItemFieldReader::begin(context)),
             Kind::List => FieldState::List(ListReader::begin(context)),
             Kind::Dict => FieldState::Dict(DictReader::begin(context)),
         }
@@ -69,7 +69,7 @@ impl FieldState {
         ensures allocation_free { FieldFree (state_of self.old) chunk.now → IsOk result }
     {
         match self {
-            FieldState::Item(top) => top.take(context, chunk),
+            FieldState::Item(item) => item.take(context, chunk),
             FieldState::List(list) => list.take(context, chunk),
             FieldState::Dict(dict) => dict.take(context, chunk),
         }
@@ -87,7 +87,7 @@ impl FieldState {
             → IsOk result }
     {
         match self {
-            FieldState::Item(top) => top.push(context, byte),
+            FieldState::Item(item) => item.push(context, byte),
             FieldState::List(list) => list.push(context, byte),
             FieldState::Dict(dict) => dict.push(context, byte),
         }
@@ -101,7 +101,7 @@ impl FieldState {
             place found result }
     {
         match self {
-            FieldState::Item(top) => top.refuse(dialect, place, found),
+            FieldState::Item(item) => item.refuse(dialect, place, found),
             FieldState::List(list) => list.refuse(dialect, place, found),
             FieldState::Dict(dict) => dict.refuse(dialect, place, found),
         }
@@ -112,7 +112,7 @@ impl FieldState {
         ensures { result ≡ may_end_at (state_of self.now) }
     {
         match self {
-            FieldState::Item(top) => top.may_end(),
+            FieldState::Item(item) => item.may_end(),
             FieldState::List(list) => list.may_end(),
             FieldState::Dict(dict) => dict.may_end(),
         }
@@ -127,7 +127,7 @@ impl FieldState {
         ensures allocation_free { FieldFree (state_of self.old) [] → IsOk result }
     {
         match self {
-            FieldState::Item(top) => Ok(top.finish_whole(context)?.map(Field::Item)),
+            FieldState::Item(item) => Ok(item.finish_whole(context)?.map(Field::Item)),
             FieldState::List(list) => Ok(list.finish_whole(context)?.map(Field::List)),
             FieldState::Dict(dict) => Ok(dict.finish_whole(context)?.map(Field::Dict)),
         }

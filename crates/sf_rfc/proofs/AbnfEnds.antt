@@ -1,5 +1,6 @@
 -- Every text of the ABNF's fields begins and ends with a character above SP, so it is not empty
 -- and has no white space around it.
+use Rattle.std.specs.List.{list_all}
 use Rattle.std.proofs.Common.{◌≡◌, ℕ, zero, suc, ◌<◌, true, ◌⊎◌, List, []}
 use Rattle.std.proofs.Common.{◌∷◌, ◌++◌, refl, sym, ap, ◌∙◌, inl, inr, append_assoc, append-nil}
 use Rattle.std.proofs.Common.{arith}
@@ -10,7 +11,6 @@ use Rattle.sf_value.specs.declared.dialect.Dialect.{Dialect}
 use Rattle.sf_value.specs.declared.dialect.Dialect.TheVariants.{Rfc8941, Rfc9651}
 use Rattle.sf_value.specs.declared.value.Kind.{Kind}
 use Rattle.sf_value.specs.declared.value.Kind.TheVariants as kind
-use Rattle.sf_rfc.specs.Rfc9651.Words.{all_are}
 use Rattle.sf_rfc.specs.Rfc9651.AbnfNotation.{Rule, text, range, then, either, one_of, times}
 use Rattle.sf_rfc.specs.Rfc9651.AbnfNotation.{repeated, many, optional, ALPHA, DIGIT, DQUOTE, tchar}
 use Rattle.sf_rfc.specs.Rfc9651.Abnf.{sf_integer, sf_decimal, sf_string, sf_token, sf_binary}
@@ -110,11 +110,11 @@ a_range low high l t (c, e, a, b) = (c, e, omega arith)
 a_text : (c : ℕ) → 32 < c → Single (text (c ∷ []))
 a_text c l t e = (c, e, l)
 
-any_of : (cs : List ℕ) → all_are (nat_lt 32) cs ≡ true → Single (one_of cs)
+any_of : (cs : List ℕ) → list_all (nat_lt 32) cs ≡ true → Single (one_of cs)
 any_of [] k t h = absurd h
 any_of (c ∷ cs) k t (inl e) =
-    (c, e, (let a = first_so (nat_lt 32 c) (all_are (nat_lt 32) cs) k in grind (arith, nat_tests)))
-any_of (c ∷ cs) k t (inr h) = any_of cs (second_so (nat_lt 32 c) (all_are (nat_lt 32) cs) k) t h
+    (c, e, (let a = first_so (nat_lt 32 c) (list_all (nat_lt 32) cs) k in grind (arith, nat_tests)))
+any_of (c ∷ cs) k t (inr h) = any_of cs (second_so (nat_lt 32 c) (list_all (nat_lt 32) cs) k) t h
 
 digit : Single DIGIT
 digit = a_range 0x30 0x39 (omega arith)

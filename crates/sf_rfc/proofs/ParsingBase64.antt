@@ -1,4 +1,5 @@
 -- Parsing Byte Sequences: base64 by bits and by groups of four characters.
+use Rattle.std.specs.List.{list_all}
 use Rattle.std.proofs.Common.{◌≡◌, ℕ, zero, suc, ◌+◌, ◌*◌, ◌/◌, ◌%◌, ◌<◌, ◌≤◌, Bool, true, false}
 use Rattle.std.proofs.Common.{not, ◌&&◌, ◌==◌, nat_le, List, [], ◌∷◌, ◌++◌, length, get_or, drop}
 use Rattle.std.proofs.Common.{replicate, Option, Some, None, refl, sym, ap, ap₂, ◌∙◌, subst, arith}
@@ -12,7 +13,7 @@ use Rattle.sf_value.proofs.Tables.{all_below, each_below}
 use Rattle.sf_parse.proofs.Quads.{byte_small, small_byte, first_small, second_small, third_small}
 use Rattle.sf_parse.proofs.Quads.{fourth_small, alone_small, last_small, quad, quad_gives}
 use Rattle.sf_parse.proofs.Quads.{one_byte, two_bytes, three_bytes}
-use Rattle.sf_rfc.specs.Rfc9651.Words.{and_then, first_is, all_are, before, from, place_from}
+use Rattle.sf_rfc.specs.Rfc9651.Words.{and_then, first_is, before, from, place_from}
 use Rattle.sf_rfc.specs.Rfc9651.Base64.{base64_alphabet, value_of, six_bits, by_eights}
 use Rattle.sf_rfc.specs.Rfc9651.Base64.{bits_of_characters, missing, base64_decode}
 use Rattle.sf_rfc.specs.Rfc9651.ParsingBare.{can_be_in_base64, parse_byte_sequence}
@@ -115,14 +116,14 @@ bits_letter x t bits h e = rw (letter_value x h, bits_of_characters) (rw e refl)
 abbrev padding : ℕ → List ℕ
 padding m = replicate m 61 ++ 58 ∷ []
 
-all_pads : (t : List ℕ) → all_are (λ c. c == 61) t ≡ true → t ≡ replicate (length t) 61
+all_pads : (t : List ℕ) → list_all (λ c. c == 61) t ≡ true → t ≡ replicate (length t) 61
 all_pads [] h = refl
 all_pads (c ∷ t) h =
     let i : c ≡ 61 = grind (arith, nat_tests, h) in
-    let j : all_are (λ c. c == 61) t ≡ true = cc in
+    let j : list_all (λ c. c == 61) t ≡ true = cc in
     ap₂ (λ x y. x ∷ y) i (all_pads t j)
 
-are_pads : (m : ℕ) → all_are (λ c. c == 61) (replicate m 61) ≡ true
+are_pads : (m : ℕ) → list_all (λ c. c == 61) (replicate m 61) ≡ true
 are_pads zero = refl
 are_pads (suc m) = are_pads m
 
@@ -243,7 +244,7 @@ pub is_first : (x : ℕ) (t : List ℕ) → first_is (λ c. c == x) t ≡ true �
 is_first x [] h = absurd cc
 is_first x (c ∷ t) h = let i : c ≡ x = grind (arith, nat_tests) in ap (λ y. y ∷ t) i
 
-cut_before : (x : ℕ) (q : ℕ → Bool) → q x ≡ false → (w t : List ℕ) → all_are q w ≡ true
+cut_before : (x : ℕ) (q : ℕ → Bool) → q x ≡ false → (w t : List ℕ) → list_all q w ≡ true
     → (before x (w ++ x ∷ t) ≡ w) × (from x (w ++ x ∷ t) ≡ x ∷ t)
 cut_before x q n [] t h =
     let i : (x == x) ≡ true = grind (arith, nat_tests) in
@@ -251,16 +252,16 @@ cut_before x q n [] t h =
 cut_before x q n (c ∷ w) t h = go (c == x) refl (cut_before x q n w t)
   where
     go : (b : Bool) → (c == x) ≡ b
-        → (all_are q w ≡ true
+        → (list_all q w ≡ true
         → (before x (w ++ x ∷ t) ≡ w) × (from x (w ++ x ∷ t) ≡ x ∷ t))
         → (before x (c ∷ (w ++ x ∷ t)) ≡ c ∷ w) × (from x (c ∷ (w ++ x ∷ t)) ≡ x ∷ t)
     go true i ih =
         let j : c ≡ x = grind (arith, nat_tests) in
-        let k : q c ≡ true = both_so (q c) (all_are q w) h in
+        let k : q c ≡ true = both_so (q c) (list_all q w) h in
         absurd (let l : q x ≡ true = subst (λ y. q y ≡ true) j k in
         let o : true ≡ false = sym l ∙ n in cc)
     go false i ih =
-        let k = ih (both_then (q c) (all_are q w) h) in
+        let k = ih (both_then (q c) (list_all q w) h) in
         (rw (i, before) (ap (λ y. c ∷ y) k.0), rw (i, from) k.1)
 
 -- the pads of a text that is decoded, by their count
@@ -268,10 +269,10 @@ decoded_sound : (t s : List ℕ) → base64_decode t ≡ Some s → Sextets (t +
 decoded_sound t s e =
     let characters : List ℕ = before 61 t in
     let pads : List ℕ = from 61 t in
-    let (h, a) = if_so (not (length characters % 4 == 1) && (all_are (λ c. c == 61) pads
+    let (h, a) = if_so (not (length characters % 4 == 1) && (list_all (λ c. c == 61) pads
     && nat_le (length pads) (missing 4 (length characters)))) _ s e in
     let (bits, b, d) = and_then_cases (bits_of_characters characters) _ s a in
-    let k = pad_tests (length characters % 4 == 1) (all_are (λ c. c == 61) pads) (length pads)
+    let k = pad_tests (length characters % 4 == 1) (list_all (λ c. c == 61) pads) (length pads)
     (missing 4 (length characters)) h in
     let i : pads ≡ replicate (length pads) 61 = all_pads pads k.1 in
     let j : t ++ 58 ∷ [] ≡ characters ++ padding (length pads) =
@@ -289,7 +290,7 @@ sequence_sound [] r s e = never (s, r) e
 sequence_sound (c ∷ t) r s e =
     let (h, a) = if_so (c == 58) _ (s, r) e in
     let (i, b) = if_so (first_is (λ x. x == 58) (from 58 t)) _ (s, r) a in
-    let (j, d) = if_so (all_are can_be_in_base64 (before 58 t)) _ (s, r) b in
+    let (j, d) = if_so (list_all can_be_in_base64 (before 58 t)) _ (s, r) b in
     let (x, f, g) = and_then_cases (base64_decode (before 58 t)) _ (s, r) d in
     let k = some_pair x s (drop 1 (from 58 t)) r g in
     let l : t ≡ (before 58 t ++ 58 ∷ []) ++ r =
@@ -317,8 +318,8 @@ unfolding is_letter
 a_letter x h =
     each_below 64 (λ y. can_be_in_base64 (letter y) && not (letter y == 61)) the_letters x h
 
-with_letter : (x : ℕ) (t : List ℕ) → x < 64 → all_are is_letter t ≡ true
-    → all_are is_letter (letter x ∷ t) ≡ true
+with_letter : (x : ℕ) (t : List ℕ) → x < 64 → list_all is_letter t ≡ true
+    → list_all is_letter (letter x ∷ t) ≡ true
 with_letter x t h e = rw (a_letter x h) e
 
 -- the characters of a whole text: their bits, and the count of the last group
@@ -326,7 +327,7 @@ record Decodes (t s : List ℕ) : Type 0 where
   bits : List ℕ
   are_bits : bits_of_characters t ≡ Some bits
   bytes : by_eights bits ≡ s
-  letters : all_are is_letter t ≡ true
+  letters : list_all is_letter t ≡ true
   not_one : (length t % 4 == 1) ≡ false
   lacks : missing 4 (length t) ≡ needed s
 
@@ -428,13 +429,13 @@ unfolding is_letter
 letter_no_pad = refl
 
 -- the cut at the first "=", if there is one
-cut_pads : (w : List ℕ) (m : ℕ) → all_are is_letter w ≡ true
+cut_pads : (w : List ℕ) (m : ℕ) → list_all is_letter w ≡ true
     → (before 61 (w ++ replicate m 61) ≡ w) × (from 61 (w ++ replicate m 61) ≡ replicate m 61)
 cut_pads w (suc m) h = cut_before 61 is_letter letter_no_pad w (replicate m 61) h
 cut_pads [] zero h = (refl, refl)
 cut_pads (c ∷ w) zero h =
-    let i : (c == 61) ≡ false = not_pad c (both_so (is_letter c) (all_are is_letter w) h) in
-    let k = cut_pads w zero (both_then (is_letter c) (all_are is_letter w) h) in
+    let i : (c == 61) ≡ false = not_pad c (both_so (is_letter c) (list_all is_letter w) h) in
+    let k = cut_pads w zero (both_then (is_letter c) (list_all is_letter w) h) in
     (rw (i, before) (ap (λ y. c ∷ y) k.0), rw (i, from) k.1)
 
 count_pads : (m : ℕ) → length {A = ℕ} (replicate m 61) ≡ m
@@ -447,7 +448,7 @@ at_most n m h = grind (arith, nat_tests)
 -- decoding by the two parts of the cut
 abbrev decode_parts : List ℕ → List ℕ → Option (List ℕ)
 decode_parts characters pads =
-    elim (not (length characters % 4 == 1) && (all_are (λ c. c == 61) pads
+    elim (not (length characters % 4 == 1) && (list_all (λ c. c == 61) pads
     && nat_le (length pads) (missing 4 (length characters)))) [
       | false ↦ None
       | true ↦ and_then (bits_of_characters characters) (λ bits. Some (by_eights bits))
@@ -474,26 +475,26 @@ in_base64 : (c : ℕ) → is_letter c ≡ true → can_be_in_base64 c ≡ true
 unfolding is_letter
 in_base64 c h = both_so (can_be_in_base64 c) (not (c == 61)) h
 
-all_in_base64 : (w : List ℕ) (m : ℕ) → all_are is_letter w ≡ true
-    → all_are can_be_in_base64 (w ++ replicate m 61) ≡ true
+all_in_base64 : (w : List ℕ) (m : ℕ) → list_all is_letter w ≡ true
+    → list_all can_be_in_base64 (w ++ replicate m 61) ≡ true
 all_in_base64 [] zero h = refl
 all_in_base64 [] (suc m) h = all_in_base64 [] m h
 all_in_base64 (c ∷ w) m h =
-    rw (in_base64 c (both_so (is_letter c) (all_are is_letter w) h))
-    (all_in_base64 w m (both_then (is_letter c) (all_are is_letter w) h))
+    rw (in_base64 c (both_so (is_letter c) (list_all is_letter w) h))
+    (all_in_base64 w m (both_then (is_letter c) (list_all is_letter w) h))
 
 -- a Byte Sequence by the two parts of the cut
 abbrev sequence_parts : List ℕ → List ℕ → Option (List ℕ × List ℕ)
 sequence_parts content suffix =
     elim (first_is (λ x. x == 58) suffix) [
       | false ↦ None
-      | true ↦ elim (all_are can_be_in_base64 content) [
+      | true ↦ elim (list_all can_be_in_base64 content) [
         | false ↦ None
         | true ↦ and_then (base64_decode content) (λ s. Some (s, drop 1 suffix))
       ]
     ]
 
-sequence_read : (t s r : List ℕ) → all_are can_be_in_base64 t ≡ true → base64_decode t ≡ Some s
+sequence_read : (t s r : List ℕ) → list_all can_be_in_base64 t ≡ true → base64_decode t ≡ Some s
     → parse_byte_sequence (58 ∷ (t ++ 58 ∷ r)) ≡ Some (s, r)
 sequence_read t s r h e =
     let c = cut_before 58 can_be_in_base64 refl t r h in

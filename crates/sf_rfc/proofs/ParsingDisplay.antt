@@ -9,7 +9,7 @@ use Rattle.sf_value.specs.Grammar.DisplayStrings.{hex, is_unencoded, EncodedByte
 use Rattle.sf_value.specs.Grammar.DisplayStrings.{SpellsDisplayString}
 use Rattle.sf_value.proofs.Tables.{all_below, each_below}
 use Rattle.sf_parse.proofs.Quads.{byte_small, small_byte}
-use Rattle.sf_rfc.specs.Rfc9651.Words.{only_if, first_is}
+use Rattle.sf_rfc.specs.Rfc9651.Words.{first_is, only_if}
 use Rattle.sf_rfc.specs.Rfc9651.Alphabets.{is_unprintable, is_lower_hex}
 use Rattle.sf_rfc.specs.Rfc9651.Utf8.{is_utf8}
 use Rattle.sf_rfc.specs.Rfc9651.ParsingBare.{hex_value, octet_of, display_loop, display_octet}

@@ -1,4 +1,5 @@
 -- Parsing whole fields.
+use Rattle.std.specs.List.{list_all}
 use Rattle.std.proofs.Common.{◌≡◌, ℕ, true, false, List, [], ◌∷◌, ◌++◌}
 use Rattle.std.proofs.Common.{Option, Some, None, refl, sym, ap, ◌∙◌, subst, append_assoc, append-nil}
 use Rattle.std.proofs.Common.{arith}
@@ -17,7 +18,7 @@ use Rattle.sf_value.specs.Grammar.InnerLists.{SpellsMember}
 use Rattle.sf_value.specs.Grammar.Series.{SpellsWhole}
 use Rattle.sf_value.specs.Grammar.Fields.{list_of, dict_of, SpellsEntry, SpellsField}
 use Rattle.sf_value.proofs.TextBytes.{is_text, spelled_text}
-use Rattle.sf_rfc.specs.Rfc9651.Words.{and_then, first_is, all_are, discard}
+use Rattle.sf_rfc.specs.Rfc9651.Words.{and_then, first_is, discard}
 use Rattle.sf_rfc.specs.Rfc9651.Alphabets.{is_ascii, is_SP, is_OWS}
 use Rattle.sf_rfc.specs.Rfc9651.Parsing.{parse_item, parse_list, parse_dictionary, parse_type}
 use Rattle.sf_rfc.specs.Rfc9651.Parsing.{parse_end, parse_field}
@@ -44,9 +45,9 @@ ows_no_sp c h = grind (arith, nat_tests)
 start_no_sp : (c : ℕ) → is_no_start c ≡ false → is_SP c ≡ false
 start_no_sp c h = grind (arith, nat_tests)
 
-all_ascii : (t : List ℕ) → Every is_text t → all_are is_ascii t ≡ true
+all_ascii : (t : List ℕ) → Every is_text t → list_all is_ascii t ≡ true
 all_ascii [] h = refl
-all_ascii (c ∷ t) h = rw (text_ascii c h.0, all_are) (all_ascii t h.1)
+all_ascii (c ∷ t) h = rw (text_ascii c h.0, list_all) (all_ascii t h.1)
 
 sp_first : (t : List ℕ) → Every is_sp t → first_is is_in_params t ≡ false
 sp_first [] h = refl
@@ -153,7 +154,7 @@ module _ (d : Dialect) where
   field_sound : (k : Kind) (t : List ℕ) (v : Field) → parse_field d k t ≡ Some v
       → SpellsField d k t v
   field_sound k t v e =
-      let (a, b) = if_so (all_are is_ascii t) _ v e in
+      let (a, b) = if_so (list_all is_ascii t) _ v e in
       let (q, f, h) = and_then_cases (parse_type d k (discard is_SP t)) parse_end v b in
       let (gap, i, g) = discarded is_SP t in
       let (j, s) = end_cases q.0 v q.1 h in

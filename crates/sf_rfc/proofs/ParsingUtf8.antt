@@ -1,19 +1,15 @@
 -- What keeps to the rules of RFC 3629 is well-formed by the table.
+use Rattle.std.specs.Option.{option_or}
 use Rattle.std.proofs.Common.{◌≡◌, ℕ, zero, suc, ◌≤◌, true, false, List, [], ◌∷◌, length, Option}
 use Rattle.std.proofs.Common.{Some, None, refl, sym, ap, subst, ◌⊎◌, inl, inr, arith}
 use Rattle.std.proofs.lemmas.Bool.Decides.{nat_tests}
 use Rattle.sf_value.specs.Grammar.Utf8.{Utf8, Start, Wants, wants, rows, look_up}
 use Rattle.sf_value.specs.Grammar.Utf8.{WellFormed}
-use Rattle.sf_rfc.specs.Rfc9651.Words.{or_else}
+use Rattle.sf_value.proofs.Words.{option_or_cases}
 use Rattle.sf_rfc.specs.Rfc9651.Alphabets.{in_range}
 use Rattle.sf_rfc.specs.Rfc9651.Utf8.{Rule, octet, then, utf8_tail, utf8_char, utf8_octets}
 use Rattle.sf_rfc.specs.Rfc9651.Utf8.{utf8_1, utf8_2, utf8_3, utf8_4, is_utf8}
 use Rattle.sf_rfc.proofs.ParsingSteps.{never, and_then_cases, only_if_cases}
-
-or_else_cases : {A : Type 0} (o p : Option A) (a : A) → or_else o p ≡ Some a
-    → (o ≡ Some a) ⊎ (p ≡ Some a)
-or_else_cases (Some b) p a e = inl e
-or_else_cases None p a e = inr e
 
 octet_cases : (low high : ℕ) (t u : List ℕ) → octet low high t ≡ Some u
     → (c : ℕ) × (t ≡ c ∷ u) × (in_range low high c ≡ true)
@@ -92,41 +88,41 @@ formed_2 t u w e =
     (λ s b. next_formed 0 128 191 s u b w) e
 
 formed_3 : (t u : List ℕ) → WellFormed Start u → utf8_3 t ≡ Some u → WellFormed Start t
-formed_3 t u w e = elim (or_else_cases _ _ u e) [
+formed_3 t u w e = elim (option_or_cases _ _ u e) [
   | inl a ↦ first_formed 224 224 (Wants 1 160 191) (then (octet 160 191) utf8_tail) t u row_3
       (λ s b. two_formed 160 191 s u b w) a
-  | inr f ↦ elim (or_else_cases _ _ u f) [
+  | inr (_, f) ↦ elim (option_or_cases _ _ u f) [
     | inl a ↦ first_formed 225 236 (Wants 1 128 191) (then utf8_tail utf8_tail) t u row_4
         (λ s b. two_formed 128 191 s u b w) a
-    | inr g ↦ elim (or_else_cases _ _ u g) [
+    | inr (_, g) ↦ elim (option_or_cases _ _ u g) [
       | inl a ↦ first_formed 237 237 (Wants 1 128 159) (then (octet 128 159) utf8_tail) t u row_5
           (λ s b. two_formed 128 159 s u b w) a
-      | inr a ↦ first_formed 238 239 (Wants 1 128 191) (then utf8_tail utf8_tail) t u row_6
+      | inr (_, a) ↦ first_formed 238 239 (Wants 1 128 191) (then utf8_tail utf8_tail) t u row_6
           (λ s b. two_formed 128 191 s u b w) a
     ]
   ]
 ]
 
 formed_4 : (t u : List ℕ) → WellFormed Start u → utf8_4 t ≡ Some u → WellFormed Start t
-formed_4 t u w e = elim (or_else_cases _ _ u e) [
+formed_4 t u w e = elim (option_or_cases _ _ u e) [
   | inl a ↦ first_formed 240 240 (Wants 2 144 191) (then (octet 144 191) (then utf8_tail utf8_tail)) t u
       row_7 (λ s b. three_formed 144 191 s u b w) a
-  | inr f ↦ elim (or_else_cases _ _ u f) [
+  | inr (_, f) ↦ elim (option_or_cases _ _ u f) [
     | inl a ↦ first_formed 241 243 (Wants 2 128 191) (then utf8_tail (then utf8_tail utf8_tail)) t u row_8
         (λ s b. three_formed 128 191 s u b w) a
-    | inr a ↦ first_formed 244 244 (Wants 2 128 143) (then (octet 128 143) (then utf8_tail utf8_tail)) t u
+    | inr (_, a) ↦ first_formed 244 244 (Wants 2 128 143) (then (octet 128 143) (then utf8_tail utf8_tail)) t u
         row_9 (λ s b. three_formed 128 143 s u b w) a
   ]
 ]
 
 character_formed : (t u : List ℕ) → WellFormed Start u → utf8_char t ≡ Some u → WellFormed Start t
-character_formed t u w e = elim (or_else_cases _ _ u e) [
+character_formed t u w e = elim (option_or_cases _ _ u e) [
   | inl a ↦ one_formed t u w a
-  | inr f ↦ elim (or_else_cases _ _ u f) [
+  | inr (_, f) ↦ elim (option_or_cases _ _ u f) [
     | inl a ↦ formed_2 t u w a
-    | inr g ↦ elim (or_else_cases _ _ u g) [
+    | inr (_, g) ↦ elim (option_or_cases _ _ u g) [
       | inl a ↦ formed_3 t u w a
-      | inr a ↦ formed_4 t u w a
+      | inr (_, a) ↦ formed_4 t u w a
     ]
   ]
 ]

@@ -1,4 +1,5 @@
 -- Serialising Integers, Decimals and Dates.
+use Rattle.std.specs.List.{list_all}
 use Rattle.std.proofs.Common.{◌≡◌, ℕ, zero, suc, ◌+◌, ◌/◌, ◌%◌, ◌^◌, ◌<◌, ◌≤◌, ℤ, pos, negsuc}
 use Rattle.std.proofs.Common.{nat_abs, Bool, true, false, ◌&&◌, ◌==◌, List, [], ◌∷◌, ◌++◌, Some}
 use Rattle.std.proofs.Common.{decimal}
@@ -9,7 +10,6 @@ use Rattle.std.proofs.lemmas.Fmt.{decimal_by_steps}
 use Rattle.std.proofs.lemmas.Bool.Decides.{nat_tests}
 use Rattle.sf_value.specs.Grammar.Numbers.{sign}
 use Rattle.sf_value.specs.Grammar.Canonical.{is_negative, fraction, canon_decimal}
-use Rattle.sf_rfc.specs.Rfc9651.Words.{all_are}
 use Rattle.sf_rfc.specs.Rfc9651.SerialisingBare.{minus_sign, digits_within, in_base10}
 use Rattle.sf_rfc.specs.Rfc9651.SerialisingBare.{serialise_integer, significant, serialise_fraction}
 use Rattle.sf_rfc.specs.Rfc9651.SerialisingBare.{serialise_decimal, serialise_date}
@@ -61,11 +61,11 @@ date_serialised z h = rw (integer_serialised z h) refl
 abbrev is_zero : ℕ → Bool
 is_zero x = x == 48
 
-keep : (c : ℕ) (t : List ℕ) → all_are is_zero (c ∷ t) ≡ false
+keep : (c : ℕ) (t : List ℕ) → list_all is_zero (c ∷ t) ≡ false
     → significant (c ∷ t) ≡ c ∷ significant t
 keep c t e = rw (e, significant) refl
 
-leave : (c : ℕ) (t : List ℕ) → all_are is_zero (c ∷ t) ≡ true → significant (c ∷ t) ≡ []
+leave : (c : ℕ) (t : List ℕ) → list_all is_zero (c ∷ t) ≡ true → significant (c ∷ t) ≡ []
 leave c t e = rw (e, significant) refl
 
 zero_digit : (a : ℕ) → a ≡ 0 → is_zero (48 + a) ≡ true

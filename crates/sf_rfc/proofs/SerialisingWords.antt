@@ -1,4 +1,5 @@
 -- Serialising keys, Tokens and Strings: the classes of characters.
+use Rattle.std.specs.List.{list_all}
 use Rattle.std.proofs.Common.{◌≡◌, ℕ, Bool, true, false, not, ◌||◌, ◌==◌, List, [], ◌∷◌, ◌++◌}
 use Rattle.std.proofs.Common.{Some, refl, ap, ap₂, ◌∙◌, arith}
 use Rattle.std.specs.Prelude.{codes}
@@ -10,7 +11,6 @@ use Rattle.sf_value.specs.Grammar.Classes.{is_lower, is_digit, is_alpha, is_tcha
 use Rattle.sf_value.specs.Grammar.Classes.{is_in_token}
 use Rattle.sf_value.specs.Grammar.Strings.{is_escaped, escaped}
 use Rattle.sf_value.specs.Grammar.Tokens.{IsKey, IsToken}
-use Rattle.sf_rfc.specs.Rfc9651.Words.{all_are}
 use Rattle.sf_rfc.specs.Rfc9651.Alphabets.{is_any_of, is_ascii, is_unprintable, needs_escape}
 use Rattle.sf_rfc.specs.Rfc9651.Alphabets.{in_range}
 use Rattle.sf_rfc.specs.Rfc9651.Alphabets.{can_start_key, can_be_in_key, can_start_token}
@@ -22,7 +22,7 @@ use Rattle.sf_rfc.specs.Rfc9651.Serialising.{serialise_key}
 
 -- what every byte passes, all are that pass
 pub every_all : (p q : ℕ → Bool) → ((c : ℕ) → p c ≡ true → q c ≡ true) → (s : List ℕ) → Every p s
-    → all_are q s ≡ true
+    → list_all q s ≡ true
 every_all p q f [] h = refl
 every_all p q f (c ∷ s) h = rw (f c h.0) (every_all p q f s h.1)
 
@@ -133,5 +133,5 @@ string_serialised s h =
 byte_range : (c : ℕ) → is_byte c ≡ true → in_range 0 255 c ≡ true
 byte_range c h = grind (arith, nat_tests)
 
-pub bytes_all : (s : List ℕ) → Every is_byte s → all_are (in_range 0 255) s ≡ true
+pub bytes_all : (s : List ℕ) → Every is_byte s → list_all (in_range 0 255) s ≡ true
 bytes_all = every_all is_byte (in_range 0 255) byte_range

@@ -41,8 +41,8 @@ use Rattle.sf_rfc.specs.Rfc9651.Parsing.{parse_member, parse_list, parse_diction
 pub record Agrees (V : Type 0) (L : List ℕ → V → Type 0) (f : Parse V) (more : ℕ → Bool)
     : Type 0 where
   -- A text that it takes is spelled.
-  pub sound : (t r : List ℕ) (v : V) → f t ≡ Some (v, r) → (front : List ℕ) × (t ≡ front ++ r)
-      × L front v
+  pub sound : (t r : List ℕ) (v : V) → f t ≡ Some (v, r) → (prefix : List ℕ) × (t ≡ prefix ++ r)
+      × L prefix v
   -- A text that is spelled it takes.
   pub whole : (t r : List ℕ) (v : V) → L t v → first_is more r ≡ false → f (t ++ r) ≡ Some (v, r)
 

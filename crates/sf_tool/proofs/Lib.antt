@@ -1,7 +1,7 @@
 pub mod Cuts
 pub mod Walks
 pub mod Names
-pub mod Room
+pub mod MapCapacity
 pub mod InputLines
 pub mod LineByLine
 pub mod CommandLine

@@ -19,7 +19,7 @@ use Rattle.sf_tool.specs.Fields.{Targets, is_refused, is_of_listed, field_of, na
 use Rattle.sf_tool.specs.Fields.{listed_fields}
 use Rattle.sf_tool.specs.Fields.{headers_of, IsOver, IsRefusedAt, NoneIsRefused, AreFields}
 use Rattle.sf_tool.specs.Fields.{IsFirstRefused, IsTaken, MayAllocateAt}
-use Rattle.sf_tool.specs.OneLine.{AddsField, FindsNoRoom}
+use Rattle.sf_tool.specs.OneLine.{AddsField, ExceedsCapacity}
 
 -- the fields of one line more
 headers-more : (targets : Targets) (lines : List (List ℕ)) (line : List ℕ)
@@ -62,7 +62,7 @@ at all more line n e w =
 
 not-refused : (targets : Targets) (all : List (List ℕ)) (line : List ℕ) (n : ℕ) (old : Headers)
     → get_or all n [] ≡ line → old ≡ headers_of targets (take n all)
-    → is_refused targets line ≡ false → ¬ (FindsNoRoom targets line old)
+    → is_refused targets line ≡ false → ¬ (ExceedsCapacity targets line old)
     → ¬ (IsRefusedAt targets all n)
 not-refused targets all line n old e h good room =
     rw e (λ r. elim r [
@@ -93,8 +93,8 @@ reads_on-adds targets all more line n old new r t =
 -- a line is refused
 pub reads_on-refused : (targets : Targets) (input : List ℕ) (more : List (List ℕ)) (line : List ℕ)
     (n : ℕ) (headers : Headers) → ReadsOn targets (lines_of input) (line ∷ more) n headers
-    → (FindsNoRoom targets line headers → 24576 ≤ length targets)
-    → (is_refused targets line ≡ true) ⊎ FindsNoRoom targets line headers
+    → (ExceedsCapacity targets line headers → 24576 ≤ length targets)
+    → (is_refused targets line ≡ true) ⊎ ExceedsCapacity targets line headers
     → IsFirstRefused targets input n
 reads_on-refused targets input more line n headers r many why =
     let all = lines_of input in

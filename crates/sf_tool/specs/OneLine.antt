@@ -19,19 +19,19 @@ IsLine targets line (Listed name value) =
     IsTaken targets line × (name ≡ name_of line) × (value ≡ plain_value (value_of line))
 
 -- the map has no capacity for the field of the line
-abbrev pub FindsNoRoom : Targets → List ℕ → Headers → Type 0
-FindsNoRoom targets line headers =
+abbrev pub ExceedsCapacity : Targets → List ℕ → Headers → Type 0
+ExceedsCapacity targets line headers =
     (is_of_listed targets line ≡ true) × RefusesAppend headers (name_of line)
 
 -- the line is not refused, and its field, if it is listed, is added
 abbrev pub AddsField : Targets → List ℕ → Headers → Headers → Type 0
 AddsField targets line old new =
     (is_refused targets line ≡ false)
-    × ¬ (FindsNoRoom targets line old)
+    × ¬ (ExceedsCapacity targets line old)
     × (new ≡ append_all old (listed_fields targets (line ∷ [])))
 
 -- why the line was not taken; an allocation fails only for a listed field
 abbrev pub IsLineFault : Targets → List ℕ → Headers → LineFault → Type 0
 IsLineFault targets line headers fault.Refused =
-    (is_refused targets line ≡ true) ⊎ FindsNoRoom targets line headers
+    (is_refused targets line ≡ true) ⊎ ExceedsCapacity targets line headers
 IsLineFault targets line headers fault.OutOfMemory = IsTaken targets line

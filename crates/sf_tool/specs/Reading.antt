@@ -6,15 +6,15 @@ use Rattle.sf_tool.specs.declared.reading.ReadAllFault.TheVariants.{OutOfMemory,
 use Rattle.sf_tool.specs.declared.reading.ReadAllFault.TheVariants.{TooLong}
 
 -- which bytes were given, to the end
-abbrev pub ReadToEnd : SourceState → SourceState → ℕ → List ℕ → Type 0
-ReadToEnd old new max bytes = GaveAndEnded old new bytes × (length bytes ≤ max)
+abbrev pub ReadsToEnd : SourceState → SourceState → ℕ → List ℕ → Type 0
+ReadsToEnd old new max bytes = GaveAndEnded old new bytes × (length bytes ≤ max)
 
 -- which bytes were given, and why reading ended: an allocation failed for some of them, within the
 -- limit; a read failed after them; or there was one more than the limit
-abbrev pub StoppedFor : SourceState → SourceState → ℕ → ReadAllFault → Type 0
-StoppedFor old new max OutOfMemory =
+abbrev pub StopsFor : SourceState → SourceState → ℕ → ReadAllFault → Type 0
+StopsFor old new max OutOfMemory =
     (bytes : List ℕ) × Gave old new bytes × (0 < length bytes) × (length bytes ≤ max)
-StoppedFor old new max (ReadFault place) =
+StopsFor old new max (ReadFault place) =
     (bytes : List ℕ) × GaveAndFailed old new bytes × (length bytes ≡ place) × (place ≤ max)
-StoppedFor old new max (TooLong limit) =
+StopsFor old new max (TooLong limit) =
     (bytes : List ℕ) × Gave old new bytes × (length bytes ≡ max + 1) × (limit ≡ max)

@@ -129,7 +129,7 @@ Answers Priority input text status = Responds Rfc9651 kind.Dict priority_of (joi
     status
 
 -- all of the text for an input was written, and this is its status
-pub record Finished (request : Request) (input : List ℕ) (old new : SinkState) (status : Status)
+pub record WritesAnswer (request : Request) (input : List ℕ) (old new : SinkState) (status : Status)
     : Type 0 where
   pub text : List ℕ
   pub after : ℕ
@@ -137,7 +137,7 @@ pub record Finished (request : Request) (input : List ℕ) (old new : SinkState)
   pub wrote : Wrote old new 0 after text
 
 -- a write failed, and before it a prefix of the text for an input was written
-pub record BrokeOff (request : Request) (input : List ℕ) (old new : SinkState) : Type 0 where
+pub record WritesAnswerPrefix (request : Request) (input : List ℕ) (old new : SinkState) : Type 0 where
   pub text : List ℕ
   pub status : Status
   pub after : ℕ
@@ -157,11 +157,11 @@ MayAllocate Priority input = ⊤
 -- this is the result for an input; or an allocation failed, for an answer that may allocate, and
 -- nothing was written, without a call; or a write failed
 abbrev pub Reports : Request → List ℕ → SinkState → SinkState → Status → Type 0
-Reports request input old new Accepted = Finished request input old new Accepted
-Reports request input old new Refused = Finished request input old new Refused
+Reports request input old new Accepted = WritesAnswer request input old new Accepted
+Reports request input old new Refused = WritesAnswer request input old new Refused
 Reports request input old new Usage = ⊥
 Reports request input old new Stopped =
-    (MayAllocate request input × (new ≡ old)) ⊎ BrokeOff request input old new
+    (MayAllocate request input × (new ≡ old)) ⊎ WritesAnswerPrefix request input old new
 
 -- this text was to be written, with a status if all of it was written; otherwise a write failed
 -- after a prefix of it
@@ -183,7 +183,7 @@ IsTooLong old new = (bytes : List ℕ) × Gave old new bytes × (length bytes �
 
 -- bytes within the limit were read: an allocation for some of them failed, or a read failed and was
 -- the last
-pub record ReadInPart (old new : SourceState) : Type 0 where
+pub record ReadsInPart (old new : SourceState) : Type 0 where
   pub bytes : List ℕ
   pub within : length bytes ≤ input_limit
   pub given : (Gave old new bytes × (0 < length bytes)) ⊎ GaveAndFailed old new bytes
@@ -191,14 +191,14 @@ pub record ReadInPart (old new : SourceState) : Type 0 where
 -- the whole input was read and then answered; or it was too long, which was reported, whatever
 -- memory there was; or it was not all read, and nothing was written. If the error stream is a
 -- terminal, a refusal is explained on it; otherwise nothing is written there
-abbrev pub Ran : Request → Bool → SourceState → SourceState → SinkState → SinkState → SinkState
+abbrev pub Runs : Request → Bool → SourceState → SourceState → SinkState → SinkState → SinkState
     → SinkState → Status → Type 0
-Ran request is_terminal source source' sink sink' errors errors' status =
+Runs request is_terminal source source' sink sink' errors errors' status =
     ((input : List ℕ) × IsWhole source source' input × Reports request input sink sink' status
     × Explained is_terminal status (Explains request input) errors errors')
     ⊎ ((IsTooLong source source' × ReportsText (too_long_line input_limit) Refused sink sink' status
     × ExplainedBy is_terminal status (too_long_words input_limit) errors errors')
-    ⊎ (ReadInPart source source' × (sink' ≡ sink) × (errors' ≡ errors) × (status ≡ Stopped)))
+    ⊎ (ReadsInPart source source' × (sink' ≡ sink) × (errors' ≡ errors) × (status ≡ Stopped)))
 
 -- a refusal was answered: its line was to be written, or an allocation failed
 abbrev pub ReportsRefusal : Refusal → SinkState → SinkState → Status → Type 0

@@ -1,6 +1,6 @@
 //! Reading a source to its end.
 ghost use Rattle.std.specs.Prelude.{◌<◌, ◌-◌, ◌^◌, MatchResult};
-ghost use Rattle.sf_tool.specs.Reading.{ReadToEnd, StoppedFor};
+ghost use Rattle.sf_tool.specs.Reading.{ReadsToEnd, StopsFor};
 
 use sf_value::Source;
 use std::alloc::Global;
@@ -27,8 +27,8 @@ pub fn read_all<R: Source>(alloc: Global, max: u64, source: &mut R) -> Result<Ve
     requires { max < 2 ^ 64 - 1 }
     // All bytes of the source, within the limit; or why reading stopped before its end.
     ensures { MatchResult result
-        (λ all. ReadToEnd (R.state source.old) (R.state source.new) max all.items)
-        (λ fault. StoppedFor (R.state source.old) (R.state source.new) max fault) }
+        (λ all. ReadsToEnd (R.state source.old) (R.state source.new) max all.items)
+        (λ fault. StopsFor (R.state source.old) (R.state source.new) max fault) }
 {
     let mut all = Vec::new(alloc);
     let mut block = [0u8; BLOCK];

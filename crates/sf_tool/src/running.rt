@@ -10,7 +10,7 @@ ghost use Rattle.sf_tool.specs.Lines.{lines_of as lines_in};
 ghost use Rattle.sf_tool.specs.ChoiceLines.{choice_lines, IsPlaceOf};
 ghost use Rattle.sf_tool.specs.Explaining.{Explained, Explains, ExplainsField, ExplainsLine};
 ghost use Rattle.sf_tool.specs.Explaining.{ExplainsPath};
-ghost use Rattle.sf_tool.specs.Run.{Ran, Reports, ReportsInputFault, ReportsText};
+ghost use Rattle.sf_tool.specs.Run.{Runs, Reports, ReportsInputFault, ReportsText};
 ghost use Rattle.sf_tool.specs.Run.{input_limit, joined, view_request, IsOfText, IsAskOfText};
 
 use crate::answering::{
@@ -72,7 +72,7 @@ pub fn run<R: Source, W: Sink, E: Sink>(
 ) -> Status
     // The whole input is read and answered, or refused as too long; otherwise nothing is written. A
     // refusal is explained if the error stream is a terminal.
-    ensures { Ran request.now errors.old.is_terminal (R.state source.old) (R.state source.new)
+    ensures { Runs request.now errors.old.is_terminal (R.state source.old) (R.state source.new)
         (W.state sink.old) (W.state sink.new)
         (E.state errors.old.device) (E.state errors.new.device) result }
 {
@@ -252,7 +252,7 @@ fn answer<W: Sink>(
 
 /// Returns an empty text with the capacity for most answers to an input of this length, or without
 /// capacity if the allocation fails.
-fn room_for(alloc: Global, length: usize) -> Vec<u8>
+fn buffer_for(alloc: Global, length: usize) -> Vec<u8>
     requires { length ≤ input_limit }
     ensures { result.items ≡ [] }
 {
@@ -275,7 +275,7 @@ fn answer_at_once<W: Sink>(
     // The whole answer was written; or a prefix of it, and a write failed; or nothing.
     ensures { Reports request.now input.now (W.state sink.old) (W.state sink.new) result }
 {
-    let mut made = Writing::new(room_for(alloc, input.len()));
+    let mut made = Writing::new(buffer_for(alloc, input.len()));
     match answer(alloc, seed, request, input, &mut made) {
         Status::Accepted => {
             let text = made.into_inner();

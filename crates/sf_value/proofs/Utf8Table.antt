@@ -6,7 +6,7 @@ use lib.Utf8.{encode, encodes, scalar, scalars, next}
 use Rattle.sf_value.specs.Grammar.Words.{allow}
 use Rattle.sf_value.specs.Grammar.Utf8.{Utf8, Start, Wants, wants, within, rows, look_up}
 use Rattle.sf_value.specs.Grammar.Utf8.{WellFormed}
-use Rattle.sf_value.proofs.Words.{allow_cases, otherwise_cases}
+use Rattle.sf_value.proofs.Words.{allow_cases, option_or_cases}
 
 pub ranged : (low high b : ℕ) → within low high b ≡ true → (low ≤ b) × (b ≤ high)
 ranged low high b e = (grind arith, grind arith)
@@ -26,7 +26,7 @@ looked_up P (r ∷ rs) h b x e = ⊎_elim
     (λ k. let c = allow_cases (within r.0 r.1 b) r.2 x k in let l = ranged r.0 r.1 b c.0 in
     subst (P b) (sym c.1) (h.0 b l.0 l.1))
     (λ k. looked_up P rs h.1 b x k.1)
-    (otherwise_cases (allow (within r.0 r.1 b) r.2) (look_up rs b) x e)
+    (option_or_cases (allow (within r.0 r.1 b) r.2) (look_up rs b) x e)
 
 -- the rows by their ranges
 row_two : (b : ℕ) → 194 ≤ b → b ≤ 223 → look_up rows b ≡ Some (Wants 0 128 191)

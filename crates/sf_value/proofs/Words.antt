@@ -56,7 +56,7 @@ pub allow_cases : {S : Type 0} (c : Bool) (s t : S) → allow c s ≡ Some t →
 allow_cases true s t e = (refl, cc)
 allow_cases false s t e = absurd cc
 
-pub otherwise_cases : {S : Type 0} (a b : Option S) (s : S) → option_or a b ≡ Some s
+pub option_or_cases : {S : Type 0} (a b : Option S) (s : S) → option_or a b ≡ Some s
     → (a ≡ Some s) ⊎ ((a ≡ None) × (b ≡ Some s))
-otherwise_cases (Some x) b s e = inl e
-otherwise_cases None b s e = inr (refl, e)
+option_or_cases (Some x) b s e = inl e
+option_or_cases None b s e = inr (refl, e)

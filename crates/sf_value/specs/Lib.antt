@@ -3,6 +3,7 @@
 pub mod Ascii
 pub mod Grammar
 pub mod Digits
+pub mod Utf8States
 pub mod Entries
 pub mod Stores
 pub mod Lending

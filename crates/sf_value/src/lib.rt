@@ -51,6 +51,7 @@ mod store;
 mod table;
 mod text;
 mod token;
+mod utf8;
 mod value;
 mod word;
 
@@ -72,4 +73,5 @@ pub use part::{Part, copy, same};
 pub use sequence::Sequence;
 pub use text::Text;
 pub use token::Token;
+pub use utf8::Utf8State;
 pub use value::{Bare, Dict, Field, Inner, Item, Kind, List, Member};

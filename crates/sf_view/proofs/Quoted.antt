@@ -14,9 +14,10 @@ use Rattle.sf_value.proofs.DigitValues.{read_hex}
 use Rattle.sf_parse.proofs.Quads.{small_byte}
 use Rattle.sf_view.specs.declared.bare.Part.{Part}
 use Rattle.sf_view.specs.declared.node_types.NodeType.TheVariants as type_is
-use Rattle.sf_view.specs.declared.display_string.Utf8State.{Utf8State}
+use Rattle.sf_value.specs.declared.utf8.Utf8State.{Utf8State}
 use Rattle.sf_view.specs.Scans.{ScansBare}
-use Rattle.sf_view.specs.Showns.{utf8_of, IsEscape, PlainBefore, InsideShown}
+use Rattle.sf_value.specs.Utf8States.{utf8_of}
+use Rattle.sf_view.specs.Showns.{IsEscape, PlainBefore, InsideShown}
 use Rattle.sf_view.proofs.Scanned.{coded_scans}
 
 pub escape_reads : (text more low_rest rest : List ℕ) (high low a b : ℕ) → text ≡ 37 ∷ more

@@ -5,13 +5,6 @@ use Rattle.sf_value.specs.Grammar.Words.{Every}
 use Rattle.sf_value.specs.Grammar.Classes.{is_byte}
 use Rattle.sf_value.specs.Grammar.Utf8.{Utf8, Start, Wants, WellFormed}
 use Rattle.sf_value.specs.Grammar.DisplayStrings.{hex, is_unencoded, EncodedBytes}
-use Rattle.sf_view.specs.declared.display_string.Utf8State.{Utf8State}
-use Rattle.sf_view.specs.declared.display_string.Utf8State.TheVariants as utf8
-
--- the state of the grammar
-abbrev pub utf8_of : Utf8State → Utf8
-utf8_of utf8.Start = Start
-utf8_of (utf8.Wants more low high) = Wants more low high
 
 abbrev pub between : Utf8
 between = Start

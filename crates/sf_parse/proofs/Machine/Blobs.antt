@@ -11,7 +11,7 @@ use Rattle.sf_parse.specs.Machine.Blobs.{Held, H0, H1, H2, H3, letters, is_last,
 use Rattle.sf_parse.specs.Machine.Blobs.{lacking, BlobState, Group, Padded, Ended, ResidualBlob}
 use Rattle.sf_parse.specs.Machine.Blobs.{GoodBlob, grown, pad_step, grow_step, blob_step}
 use Rattle.sf_parse.specs.Machine.Blobs.{blob_finish}
-use Rattle.sf_value.proofs.Words.{allow_cases, otherwise_cases}
+use Rattle.sf_value.proofs.Words.{allow_cases, option_or_cases}
 use Rattle.sf_value.proofs.DigitValues.{letter_read, read_letter, letter_same, not_letter}
 use Rattle.sf_parse.proofs.Quads.{byte_small}
 use Rattle.sf_parse.proofs.Quads.{small_byte, pads_letter, first_small, second_small, third_small}
@@ -49,7 +49,7 @@ pads_gives bytes n b u v s e h = ⊎_elim
     let r = subst (λ y. ResidualBlob y u v) c.1 h in
     let t = both_tests b n c.0 in
     ((suc r.0.0, room r.0.0 n r.0.1 t.1, ap₂ (λ x y. x ∷ y) t.0 r.0.2), r.1))
-    (otherwise_cases (allow (b == 58) (Ended bytes))
+    (option_or_cases (allow (b == 58) (Ended bytes))
     (allow (b == 61 && nat_lt 0 n) (Padded bytes (n - 1))) s e)
   where
     both_tests : (b n : ℕ) → (b == 61 && nat_lt 0 n) ≡ true → (b ≡ 61) × (0 < n)
@@ -242,7 +242,7 @@ pad_good bytes n b t e = ⊎_elim
     (λ k. subst GoodBlob (sym (allow_cases (b == 58) (Ended bytes) t k).1) tt)
     (λ k. subst GoodBlob
     (sym (allow_cases (b == 61 && nat_lt 0 n) (Padded bytes (n - 1)) t k.1).1) tt)
-    (otherwise_cases (allow (b == 58) (Ended bytes))
+    (option_or_cases (allow (b == 58) (Ended bytes))
     (allow (b == 61 && nat_lt 0 n) (Padded bytes (n - 1))) t e)
 
 group_good : (bytes : List ℕ) (h : Held) (b : ℕ) (t : BlobState) → GoodBlob (Group [] h)

@@ -29,7 +29,7 @@ use Rattle.sf_parse.specs.Machine.Series.{Begin}
 use Rattle.sf_parse.specs.Machine.Entries.{EntryState}
 use Rattle.sf_parse.specs.Machine.Entries.{InKey, Equals, InMemberValue, InFlag}
 use Rattle.sf_parse.specs.Machine.States.{State}
-use Rattle.sf_parse.specs.Machine.States.{BeforeItem, InTop, AfterItem, InList}
+use Rattle.sf_parse.specs.Machine.States.{BeforeItem, InsideItem, AfterItem, InList}
 use Rattle.sf_parse.specs.Machine.States.{InDict}
 use Rattle.sf_parse.specs.Machine.Fields.{list_series, dict_series, Tail, Residual, Good, step}
 use Rattle.sf_parse.specs.Machine.Fields.{finish}
@@ -38,7 +38,7 @@ use Rattle.sf_parse.proofs.Machine.Language.{reads_iff, reads_mapped, reads_then
 use Rattle.sf_parse.proofs.Machine.Language.{reads_either}
 use Rattle.sf_parse.proofs.Machine.Language.{reads_after, reads_nothing, reads_past, reads_as}
 use Rattle.sf_parse.proofs.Machine.Language.{otherwise_none, map_cases, onward_cases}
-use Rattle.sf_value.proofs.Words.{allow_cases, otherwise_cases}
+use Rattle.sf_value.proofs.Words.{allow_cases, option_or_cases}
 use Rattle.sf_value.proofs.Settling.{put_settled, put_more}
 use Rattle.sf_parse.proofs.Machine.Texts.{word_reads, word_starts}
 use Rattle.sf_parse.proofs.Machine.Bares.{same}
@@ -63,7 +63,7 @@ key_apart k b t e n = ⊎_elim
     (λ h. let c = map_cases (InFlag k) (between_step [] b) t h.1 in
     let x = eqb-true b 59 (allow_cases (b == 59) _ c.0 c.1).0 in
     let f : is_in_key 59 ≡ true = rw x at e in cc)
-    (otherwise_cases (allow (b == 61) (Equals k)) (option_map (InFlag k) (between_step [] b)) t n)
+    (option_or_cases (allow (b == 61) (Equals k)) (option_map (InFlag k) (between_step [] b)) t n)
 
 ows_cases : (b : ℕ) → is_ows b ≡ true → (b ≡ 32) ⊎ (b ≡ 9)
 ows_cases b e = grind arith
@@ -202,7 +202,7 @@ module _ (d : Dialect) where
       (λ h. not_equals b (allow_cases (b == 61) (Equals o.0) t h).0 f)
       (λ h. let c = map_cases (InFlag o.0) (between_step [] b) t h.1 in
       between_apart [] b c.0 c.1 f)
-      (otherwise_cases (allow (b == 61) (Equals o.0))
+      (option_or_cases (allow (b == 61) (Equals o.0))
       (option_map (InFlag o.0) (between_step [] b)) t o.3))
       (onward_cases InKey (word_step is_in_key k b) (Some k) (λ k. behind_key_step k b) t n)
   entry_apart (Equals k) v b t e n f = cc
@@ -272,12 +272,12 @@ module _ (d : Dialect) where
 
   reads : (s : State) → Good s → ReadsField (Residual d s) (step d s) (finish s)
   reads BeforeItem g = reads_past is_sp BeforeItem tt (λ u v. same) apart
-      (reads_first InTop (λ s g. g) (λ s t v. same) (item_starts d))
+      (reads_first InsideItem (λ s g. g) (λ s t v. same) (item_starts d))
     where
-      apart : (b : ℕ) (t : State) → is_sp b ≡ true → option_map InTop (item_start d b) ≡ Some t → ⊥
-      apart b t e n = let c = map_cases InTop (item_start d b) t n in
+      apart : (b : ℕ) (t : State) → is_sp b ≡ true → option_map InsideItem (item_start d b) ≡ Some t → ⊥
+      apart b t e n = let c = map_cases InsideItem (item_start d b) t n in
           item_not d b 32 c.0 (eqb-true b 32 e) (no_item d).0 c.1
-  reads (InTop s) g = reads_then InTop (λ s g. g) (λ s t v. same) (item_reads d s g)
+  reads (InsideItem s) g = reads_then InsideItem (λ s g. g) (λ s t v. same) (item_reads d s g)
       (λ i e. tail_reads i) apart
     where
       apart : (i : Item) (b : ℕ) (s' : ItemState) (t : State) → item_finish s ≡ Some i
@@ -309,7 +309,7 @@ module _ (d : Dialect) where
       ),
     );
   }
-  lives (InTop s) g = let l = item_lives d s g in
+  lives (InsideItem s) g = let l = item_lives d s g in
       record {
         text = l.text;
         value = field.Item l.value;

@@ -18,7 +18,7 @@ use Rattle.sf_parse.specs.Machine.Language.{Live, is_after}
 use Rattle.sf_parse.specs.Machine.Params.{Between, params_step, params_finish}
 use Rattle.sf_parse.specs.Machine.Items.{ItemState}
 use Rattle.sf_parse.specs.Machine.Items.{item_start, item_step, item_finish}
-use Rattle.sf_parse.specs.Machine.Inners.{InnerState, Room, InItem, Closing, MoreItems}
+use Rattle.sf_parse.specs.Machine.Inners.{InnerState, BetweenItems, InItem, Closing, MoreItems}
 use Rattle.sf_parse.specs.Machine.Inners.{ResidualInner}
 use Rattle.sf_parse.specs.Machine.Inners.{GoodInner, behind_step, inner_step, inner_finish}
 use Rattle.sf_parse.specs.Machine.Members.{MemberState}
@@ -26,7 +26,7 @@ use Rattle.sf_parse.specs.Machine.Members.{InOne, InMany}
 use Rattle.sf_parse.proofs.Machine.Language.{reads_iff, reads_mapped, reads_then, reads_first}
 use Rattle.sf_parse.proofs.Machine.Language.{reads_either}
 use Rattle.sf_parse.proofs.Machine.Language.{reads_after, reads_past, map_cases}
-use Rattle.sf_value.proofs.Words.{allow_cases, otherwise_cases}
+use Rattle.sf_value.proofs.Words.{allow_cases, option_or_cases}
 use Rattle.sf_parse.proofs.Machine.Bares.{same}
 use Rattle.sf_parse.proofs.Machine.Params.{params_reads, params_lives, params_apart, no_raw}
 use Rattle.sf_parse.proofs.Machine.Items.{no_item, item_not, item_reads, item_starts, item_lives}
@@ -37,9 +37,9 @@ use Rattle.sf_parse.specs.Machine.Members.{member_finish}
 behind_after : (is : List Item) (b : ℕ) (t : InnerState) → behind_step is b ≡ Some t
     → is_after b ≡ true
 behind_after is b t n = ⊎_elim
-    (λ e. ap is_after (eqb-true b 32 (allow_cases (b == 32) (Room is) t e).0))
+    (λ e. ap is_after (eqb-true b 32 (allow_cases (b == 32) (BetweenItems is) t e).0))
     (λ e. ap is_after (eqb-true b 41 (allow_cases (b == 41) (Closing is (Between [])) t e.1).0))
-    (otherwise_cases (allow (b == 32) (Room is)) (allow (b == 41) (Closing is (Between []))) t n)
+    (option_or_cases (allow (b == 32) (BetweenItems is)) (allow (b == 41) (Closing is (Between []))) t n)
 
 -- no member begins with a space or a tab
 pub no_member : (d : Dialect) → (member_start d 32 ≡ None) × (member_start d 9 ≡ None)
@@ -228,19 +228,19 @@ module _ (d : Dialect) where
     behind_to is u v,
     behind_from is u v,
   ))
-      (reads_either (reads_after 32 (Room is) tt)
+      (reads_either (reads_after 32 (BetweenItems is) tt)
       (reads_after 41 (Closing is (Between [])) refl) apart (λ v w. λ e. absurd cc))
     where
-      apart : (b : ℕ) (s t : InnerState) → allow (b == 32) (Room is) ≡ Some s
+      apart : (b : ℕ) (s t : InnerState) → allow (b == 32) (BetweenItems is) ≡ Some s
           → allow (b == 41) (Closing is (Between [])) ≡ Some t → ⊥
-      apart b s t e n = let x = eqb-true b 32 (allow_cases (b == 32) (Room is) s e).0 in
+      apart b s t e n = let x = eqb-true b 32 (allow_cases (b == 32) (BetweenItems is) s e).0 in
           let y = eqb-true b 41 (allow_cases (b == 41) (Closing is (Between [])) t n).0 in
           omega arith
 
   pub inner_reads : (s : InnerState) → GoodInner s
       → ReadsInner (ResidualInner d s) (inner_step d s) (inner_finish s)
-  inner_reads (Room is) g = reads_iff (λ u v. (opens_to is u v, opens_from is u v))
-      (reads_past is_sp (Room is) tt (λ u v. (opens_to is u v, opens_from is u v)) space_apart
+  inner_reads (BetweenItems is) g = reads_iff (λ u v. (opens_to is u v, opens_from is u v))
+      (reads_past is_sp (BetweenItems is) tt (λ u v. (opens_to is u v, opens_from is u v)) space_apart
       (reads_either (reads_after 41 (Closing is (Between [])) refl)
       (reads_first (InItem is) (λ s g. g) (λ s t v. same) (item_starts d)) bracket_apart
       (λ v w. λ e. absurd cc)))
@@ -257,7 +257,7 @@ module _ (d : Dialect) where
           omega arith)
           (λ k. let c = map_cases (InItem is) (item_start d b) t k.1 in
           item_not d b 32 c.0 x (no_item d).0 c.1)
-          (otherwise_cases (allow (b == 41) (Closing is (Between [])))
+          (option_or_cases (allow (b == 41) (Closing is (Between [])))
           (option_map (InItem is) (item_start d b)) t n)
 
       bracket_apart : (b : ℕ) (s t : InnerState)
@@ -286,7 +286,7 @@ module _ (d : Dialect) where
       (params_reads d s g)
 
   pub inner_lives : (s : InnerState) → GoodInner s → Live Inner (ResidualInner d s)
-  inner_lives (Room is) g = record {
+  inner_lives (BetweenItems is) g = record {
     text = 41 ∷ [];
     value = inner (is ++ []) [];
     whole = (
@@ -366,14 +366,14 @@ module _ (d : Dialect) where
   member_starts = reads_iff member_both (reads_either
       (reads_mapped InOne member.Item (λ s g. g) (λ s t v. same) (item_starts d))
       (reads_mapped InMany member.Inner (λ s g. g) (λ s t v. same)
-      (reads_iff inner_both (reads_after {Residual = ResidualInner d} 40 (Room []) tt)))
+      (reads_iff inner_both (reads_after {Residual = ResidualInner d} 40 (BetweenItems []) tt)))
       apart (λ v w. λ e. absurd cc))
     where
       apart : (b : ℕ) (s t : MemberState) → option_map InOne (item_start d b) ≡ Some s
-          → option_map InMany (allow (b == 40) (Room [])) ≡ Some t → ⊥
+          → option_map InMany (allow (b == 40) (BetweenItems [])) ≡ Some t → ⊥
       apart b s t e n =
-          let c = map_cases InMany (allow (b == 40) (Room [])) t n in
-          let x = eqb-true b 40 (allow_cases (b == 40) (Room []) c.0 c.1).0 in
+          let c = map_cases InMany (allow (b == 40) (BetweenItems [])) t n in
+          let x = eqb-true b 40 (allow_cases (b == 40) (BetweenItems []) c.0 c.1).0 in
           let k = map_cases InOne (item_start d b) s e in
           item_not d b 40 k.0 x (no_item d).2 k.1
 
@@ -390,7 +390,7 @@ module _ (d : Dialect) where
       let c = map_cases member.Item (item_finish s) v e in
       let k = map_cases InOne (item_step d s b) t n in
       item_apart d s c.0 b k.0 c.1 k.1 f
-  member_apart (InMany (Room is)) v b t e n f = cc
+  member_apart (InMany (BetweenItems is)) v b t e n f = cc
   member_apart (InMany (InItem is s)) v b t e n f = cc
   member_apart (InMany (Closing is s)) v b t e n f =
       let c = map_cases (inner is) (params_finish s) _

@@ -6,7 +6,7 @@ use Rattle.std.proofs.Common.{eq-eqb}
 use Rattle.sf_value.specs.Grammar.Words.{allow, Every}
 use Rattle.sf_parse.specs.Machine.Language.{Then, Mapped, Either, After, Nothing, Past, onward}
 use Rattle.sf_parse.specs.Machine.Language.{Where, only, Reads}
-use Rattle.sf_value.proofs.Words.{allow_cases, otherwise_cases}
+use Rattle.sf_value.proofs.Words.{allow_cases, option_or_cases}
 
 -- A language that is the same text by text is read alike.
 pub reads_iff : {S V : Type 0} {Good : S → Type 0} {Residual : S → List ℕ → V → Type 0}
@@ -160,13 +160,13 @@ reads_either {S = S} {V = V} {Residual = Residual} {A = A} {B = B} {nextA = next
     {endA = endA} {endB = endB} ra rb apart apart_ends = record {
       taken = λ b u v. ⊎_elim (left b u v) (right b u v);
       gives = λ b u v s n h. ⊎_elim (λ e. inl (ra.gives b u v s e h))
-          (λ e. inr (rb.gives b u v s e.1 h)) (otherwise_cases (nextA b) (nextB b) s n);
+          (λ e. inr (rb.gives b u v s e.1 h)) (option_or_cases (nextA b) (nextB b) s n);
       good = λ b s n. ⊎_elim (λ e. ra.good b s e) (λ e. rb.good b s e.1)
-          (otherwise_cases (nextA b) (nextB b) s n);
+          (option_or_cases (nextA b) (nextB b) s n);
       ends = λ v. ⊎_elim (λ h. rw (ra.ends v h) refl) (λ h. let e = rb.ends v h in
           rw (is_none endA (λ w k. apart_ends w v k e), e) refl);
       ended = λ v e. ⊎_elim (λ k. inl (ra.ended v k)) (λ k. inr (rb.ended v k.1))
-          (otherwise_cases endA endB v e);
+          (option_or_cases endA endB v e);
     }
   where
     left : (b : ℕ) (u : List ℕ) (v : V) → A (b ∷ u) v
@@ -223,9 +223,9 @@ reads_past {S = S} {V = V} {Good = Good} {Residual = Residual} p s {A = A} {next
           (λ e. let k = allow_cases (p b) s t e in
           past_more p A b u v k.0 ((same u v).1 (subst (λ y. Residual y u v) k.1 h)))
           (λ e. ([], b ∷ u, refl, tt, ra.gives b u v t e.1 h))
-          (otherwise_cases (allow (p b) s) (next b) t n);
+          (option_or_cases (allow (p b) s) (next b) t n);
       good = λ b t n. ⊎_elim (λ e. subst Good (sym (allow_cases (p b) s t e).1) g)
-          (λ e. ra.good b t e.1) (otherwise_cases (allow (p b) s) (next b) t n);
+          (λ e. ra.good b t e.1) (option_or_cases (allow (p b) s) (next b) t n);
       ends = λ v h. last v h.0 h.1 h.2 h.3 h.4;
       ended = λ v e. ([], [], refl, tt, ra.ended v e);
     }

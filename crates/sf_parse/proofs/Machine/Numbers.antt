@@ -14,7 +14,7 @@ use Rattle.sf_parse.specs.Machine.Numbers.{NumberState, Whole, Fraction, DateSta
 use Rattle.sf_parse.specs.Machine.Numbers.{SpellsNumber, number_start, ResidualDate, GoodDate}
 use Rattle.sf_parse.specs.Machine.Numbers.{digits_step, date_step, date_finish, ResidualInteger}
 use Rattle.sf_parse.specs.Machine.Numbers.{ResidualFraction, ResidualDecimal, ResidualNumber}
-use Rattle.sf_parse.specs.Machine.Numbers.{Counted}
+use Rattle.sf_parse.specs.Machine.Numbers.{FitsDigits}
 use Rattle.sf_parse.specs.Machine.Numbers.{GoodNumber, number_step, number_finish}
 use Rattle.sf_parse.proofs.Machine.Language.{reads_iff, reads_either, reads_after}
 use Rattle.sf_value.proofs.Words.{allow_cases}
@@ -43,8 +43,8 @@ pub next_digit : (count a x : ℕ) → a < 10 ^ count → x < 10 → 10 * a + x 
 next_digit count a x h k = let e : 10 ^ suc count ≡ 10 * 10 ^ count = omega arith in
     let i : suc count ≡ count + 1 = omega arith in subst (λ y. 10 * a + x < 10 ^ y) i (omega arith)
 
-counted_next : (most count a b : ℕ) → Counted most count a
-    → (is_digit b && nat_lt count most) ≡ true → Counted most (count + 1) (10 * a + (b - 48))
+counted_next : (most count a b : ℕ) → FitsDigits most count a
+    → (is_digit b && nat_lt count most) ≡ true → FitsDigits most (count + 1) (10 * a + (b - 48))
 counted_next most count a b g e = let k = digit_room b count most e in
     (omega arith, next_digit count a (b - 48) g.1 k.0)
 
@@ -137,7 +137,7 @@ whole_gives neg count a b u v s n h = ⊎_elim
     ))
     (whole_cases neg count a b s n)
 
-whole_good : (neg : Bool) (count a b : ℕ) (s : NumberState) → Counted 15 count a
+whole_good : (neg : Bool) (count a b : ℕ) (s : NumberState) → FitsDigits 15 count a
     → number_step (Whole neg count a) b ≡ Some s → GoodNumber s
 whole_good neg count a b s g n = ⊎_elim
     (λ k. subst GoodNumber (sym k.2) (counted_next 15 count a b g k.1))
@@ -325,7 +325,7 @@ digits_gives : (neg : Bool) (count a b : ℕ) (u : List ℕ) (n : ℤ) (s : Date
     → ResidualDate (Digits neg count a) (b ∷ u) n
 digits_gives neg count a b u n s e h = grind arith
 
-digits_good : (neg : Bool) (count a b : ℕ) (s : DateState) → Counted 15 count a
+digits_good : (neg : Bool) (count a b : ℕ) (s : DateState) → FitsDigits 15 count a
     → digits_step neg count a b ≡ Some s → GoodDate s
 digits_good neg count a b s g n = let k = allow_cases (is_digit b && nat_lt count 15)
     (Digits neg (count + 1) (10 * a + (b - 48))) s n in
@@ -339,7 +339,7 @@ digits_ended : (neg : Bool) (count a : ℕ) (n : ℤ) → count ≤ 15
     → date_finish (Digits neg count a) ≡ Some n → ResidualDate (Digits neg count a) [] n
 digits_ended neg count a n g e = grind arith
 
-digits_read : (neg : Bool) (count a : ℕ) → Counted 15 count a
+digits_read : (neg : Bool) (count a : ℕ) → FitsDigits 15 count a
     → Reads DateState ℤ GoodDate ResidualDate (ResidualInteger neg count a)
     (digits_step neg count a)
     (allow (nat_le 1 count) (signed neg a))

@@ -24,7 +24,7 @@ use Rattle.sf_parse.proofs.Machine.Language.{reads_iff, reads_either, reads_afte
 use Rattle.sf_parse.proofs.Machine.Language.{reads_first}
 use Rattle.sf_parse.proofs.Machine.Language.{reads_past, reads_maybe, map_cases, onward_cases}
 use Rattle.sf_parse.proofs.Machine.Language.{and_then_cases}
-use Rattle.sf_value.proofs.Words.{allow_cases, otherwise_cases}
+use Rattle.sf_value.proofs.Words.{allow_cases, option_or_cases}
 use Rattle.sf_parse.proofs.Classes.{not_follow}
 use Rattle.sf_value.proofs.Settling.{put_settled, put_more}
 use Rattle.sf_parse.proofs.Machine.Texts.{word_reads, word_starts}
@@ -47,7 +47,7 @@ key_apart ps x b t e n = ⊎_elim
     (λ k. let i = eqb-true b 59
     (allow_cases (b == 59) (Opened (put ps x (Boolean true))) t k.1).0 in
     (let f : is_in_key 59 ≡ true = rw i at e in cc))
-    (otherwise_cases (allow (b == 61) (EqualsParam ps x))
+    (option_or_cases (allow (b == 61) (EqualsParam ps x))
     (between_step (put ps x (Boolean true)) b) t n)
 
 -- Parameters that may end don't go on with what may be after an item.
@@ -75,7 +75,7 @@ key_step_apart : (ps : Pairs Bare) (k : List ℕ) (b : ℕ) (t : ParamsState) �
 key_step_apart ps k b t n f = ⊎_elim
     (λ e. not_equals b (allow_cases (b == 61) (EqualsParam ps k) t e).0 f)
     (λ e. between_apart (put ps k (Boolean true)) b t e.1 f)
-    (otherwise_cases (allow (b == 61) (EqualsParam ps k))
+    (option_or_cases (allow (b == 61) (EqualsParam ps k))
     (between_step (put ps k (Boolean true)) b) t n)
 
 module _ (d : Dialect) where

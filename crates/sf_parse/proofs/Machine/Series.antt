@@ -15,7 +15,7 @@ use Rattle.sf_parse.specs.Machine.Series.{series_step, series_finish}
 use Rattle.sf_parse.proofs.Machine.Language.{reads_iff, reads_then, reads_first, reads_either}
 use Rattle.sf_parse.proofs.Machine.Language.{reads_nothing, reads_past, reads_maybe, reads_as}
 use Rattle.sf_parse.proofs.Machine.Language.{otherwise_none, map_cases}
-use Rattle.sf_value.proofs.Words.{allow_cases, otherwise_cases}
+use Rattle.sf_value.proofs.Words.{allow_cases, option_or_cases}
 use Rattle.sf_parse.proofs.Machine.Bares.{same}
 
 -- what the machine of a member and the adding of members must meet
@@ -154,7 +154,7 @@ module _ {S X V : Type 0} (k : Series S X V) (law : SeriesLaws S X V k) where
   gap_after given b t n = ⊎_elim
       (λ e. ows_after b (allow_cases (is_ows b) (Gap given) t e).0)
       (λ e. ap is_after (eqb-true b 44 (allow_cases (b == 44) (Comma given) t e.1).0))
-      (otherwise_cases (allow (is_ows b) (Gap given)) (allow (b == 44) (Comma given)) t n)
+      (option_or_cases (allow (is_ows b) (Gap given)) (allow (b == 44) (Comma given)) t n)
 
   add_reads : (given : V) → k.Settled given
       → ReadsSeries (AddMembers k given) (λ b. option_map (InMember given) (k.start b)) None

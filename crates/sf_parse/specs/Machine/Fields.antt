@@ -20,7 +20,7 @@ use Rattle.sf_parse.specs.Machine.Members.{MemberState}
 use Rattle.sf_parse.specs.Machine.Series.{Begin, Series, ResidualSeries, GoodSeries, series_step}
 use Rattle.sf_parse.specs.Machine.Series.{SeriesState, series_finish}
 use Rattle.sf_parse.specs.Machine.States.{State}
-use Rattle.sf_parse.specs.Machine.States.{BeforeItem, InTop, AfterItem, InList}
+use Rattle.sf_parse.specs.Machine.States.{BeforeItem, InsideItem, AfterItem, InList}
 use Rattle.sf_parse.specs.Machine.States.{InDict}
 use Rattle.sf_parse.specs.Machine.Members.{ResidualMember, GoodMember, member_start, member_step}
 use Rattle.sf_parse.specs.Machine.Members.{member_finish}
@@ -62,21 +62,21 @@ Tail i = Past is_sp (Nothing (field.Item i))
 
 abbrev pub Residual : Dialect → State → List ℕ → Field → Type 0
 Residual d BeforeItem = Past is_sp (Then (SpellsItem d) Tail)
-Residual d (InTop s) = Then (ResidualItem d s) Tail
+Residual d (InsideItem s) = Then (ResidualItem d s) Tail
 Residual d (AfterItem i) = Tail i
 Residual d (InList s) = Mapped list_of (ResidualSeries (list_series d) s)
 Residual d (InDict s) = Mapped dict_of (ResidualSeries (dict_series d) s)
 
 abbrev pub Good : State → Type 0
 Good BeforeItem = Unit {0}
-Good (InTop s) = GoodItem s
+Good (InsideItem s) = GoodItem s
 Good (AfterItem i) = Unit {0}
 Good (InList s) = GoodSeries GoodMember (λ ms. Unit {0}) s
 Good (InDict s) = GoodSeries GoodEntry (λ ps. settle ps ≡ ps) s
 
 abbrev pub step : Dialect → State → ℕ → Option State
-step d BeforeItem b = option_or (allow (is_sp b) BeforeItem) (option_map InTop (item_start d b))
-step d (InTop s) b = onward InTop (item_step d s b) (item_finish s)
+step d BeforeItem b = option_or (allow (is_sp b) BeforeItem) (option_map InsideItem (item_start d b))
+step d (InsideItem s) b = onward InsideItem (item_step d s b) (item_finish s)
     (λ i. allow (is_sp b) (AfterItem i))
 step d (AfterItem i) b = allow (is_sp b) (AfterItem i)
 step d (InList s) b = option_map InList (series_step (list_series d) s b)
@@ -91,7 +91,7 @@ dict_finish s = series_finish entry_finish [] (λ ps p. put ps p.0 p.1) s
 
 abbrev pub finish : State → Option Field
 finish BeforeItem = None
-finish (InTop s) = option_and_then (λ i. Some (field.Item i)) (item_finish s)
+finish (InsideItem s) = option_and_then (λ i. Some (field.Item i)) (item_finish s)
 finish (AfterItem i) = Some (field.Item i)
 finish (InList s) = option_map list_of (list_finish s)
 finish (InDict s) = option_map dict_of (dict_finish s)

@@ -20,7 +20,7 @@ use Rattle.sf_parse.specs.Machine.Items.{ResidualItem, GoodItem, item_start, ite
 
 pub data InnerState : Type 0 where
   -- after the bracket or spaces
-  Room : (items : List Item) → InnerState
+  BetweenItems : (items : List Item) → InnerState
   InItem : (items : List Item) (state : ItemState) → InnerState
   -- after the closing bracket
   Closing : (items : List Item) (state : ParamsState) → InnerState
@@ -33,21 +33,21 @@ MoreItems d least is u v = (more : List Item) × (ps : Pairs Bare) × (body suff
     × (v ≡ inner (is ++ more) ps)
 
 abbrev pub ResidualInner : Dialect → InnerState → List ℕ → Inner → Type 0
-ResidualInner d (Room is) = MoreItems d 0 is
+ResidualInner d (BetweenItems is) = MoreItems d 0 is
 ResidualInner d (InItem is s) = Then (ResidualItem d s) (λ i. MoreItems d 1 (is ++ i ∷ []))
 ResidualInner d (Closing is s) = Mapped (inner is) (ResidualParams d s)
 
 abbrev pub GoodInner : InnerState → Type 0
-GoodInner (Room is) = Unit {0}
+GoodInner (BetweenItems is) = Unit {0}
 GoodInner (InItem is s) = GoodItem s
 GoodInner (Closing is s) = GoodParams s
 
 abbrev pub behind_step : List Item → ℕ → Option InnerState
-behind_step is b = option_or (allow (b == space) (Room is))
+behind_step is b = option_or (allow (b == space) (BetweenItems is))
     (allow (b == close_bracket) (Closing is (Between [])))
 
 abbrev pub inner_step : Dialect → InnerState → ℕ → Option InnerState
-inner_step d (Room is) b = option_or (allow (is_sp b) (Room is))
+inner_step d (BetweenItems is) b = option_or (allow (is_sp b) (BetweenItems is))
     (option_or (allow (b == close_bracket) (Closing is (Between [])))
     (option_map (InItem is) (item_start d b)))
 inner_step d (InItem is s) b = onward (InItem is) (item_step d s b) (item_finish s)
@@ -56,6 +56,6 @@ inner_step d (InItem is s) b = onward (InItem is) (item_step d s b) (item_finish
 inner_step d (Closing is s) b = option_map (Closing is) (params_step d s b)
 
 abbrev pub inner_finish : InnerState → Option Inner
-inner_finish (Room is) = None
+inner_finish (BetweenItems is) = None
 inner_finish (InItem is s) = None
 inner_finish (Closing is s) = option_map (inner is) (params_finish s)

@@ -9,7 +9,7 @@ use Rattle.sf_value.specs.Grammar.Words.{allow}
 use Rattle.sf_parse.specs.Machine.Language.{Mapped}
 use Rattle.sf_parse.specs.Machine.Items.{ItemState, ResidualItem, GoodItem, item_start, item_step}
 use Rattle.sf_parse.specs.Machine.Items.{item_finish}
-use Rattle.sf_parse.specs.Machine.Inners.{InnerState, Room, ResidualInner, GoodInner, inner_step}
+use Rattle.sf_parse.specs.Machine.Inners.{InnerState, BetweenItems, ResidualInner, GoodInner, inner_step}
 use Rattle.sf_parse.specs.Machine.Inners.{inner_finish}
 
 -- what was read of a member: of an item or of an inner list
@@ -27,7 +27,7 @@ GoodMember (InMany s) = GoodInner s
 
 abbrev pub member_start : Dialect → ℕ → Option MemberState
 member_start d b = option_or (option_map InOne (item_start d b))
-    (option_map InMany (allow (b == open_bracket) (Room [])))
+    (option_map InMany (allow (b == open_bracket) (BetweenItems [])))
 
 abbrev pub member_step : Dialect → MemberState → ℕ → Option MemberState
 member_step d (InOne s) b = option_map InOne (item_step d s b)

@@ -34,12 +34,12 @@ ResidualNumber (Fraction neg whole count a) u v = (m : ℤ) × (v ≡ Decimal m)
     × ResidualFraction neg whole count a u m
 
 -- this many digits, and a value below the power
-abbrev pub Counted : ℕ → ℕ → ℕ → Type 0
-Counted most count a = (count ≤ most) × (a < 10 ^ count)
+abbrev pub FitsDigits : ℕ → ℕ → ℕ → Type 0
+FitsDigits most count a = (count ≤ most) × (a < 10 ^ count)
 
 abbrev pub GoodNumber : NumberState → Type 0
-GoodNumber (Whole neg count a) = Counted 15 count a
-GoodNumber (Fraction neg whole count a) = Counted 3 count a × (whole < 10 ^ 12)
+GoodNumber (Whole neg count a) = FitsDigits 15 count a
+GoodNumber (Fraction neg whole count a) = FitsDigits 3 count a × (whole < 10 ^ 12)
 
 abbrev pub number_step : NumberState → ℕ → Option NumberState
 number_step (Whole neg count a) b = option_or
@@ -71,7 +71,7 @@ ResidualDate (Digits neg count a) u n = ResidualInteger neg count a u n
 ResidualDate Sign u n = SpellsInteger u n
 
 abbrev pub GoodDate : DateState → Type 0
-GoodDate (Digits neg count a) = Counted 15 count a
+GoodDate (Digits neg count a) = FitsDigits 15 count a
 GoodDate Sign = Unit {0}
 
 abbrev pub digits_step : Bool → ℕ → ℕ → ℕ → Option DateState

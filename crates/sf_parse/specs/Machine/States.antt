@@ -10,7 +10,7 @@ use Rattle.sf_parse.specs.Machine.Series.{SeriesState}
 
 pub data State : Type 0 where
   BeforeItem : State
-  InTop : (state : ItemState) → State
+  InsideItem : (state : ItemState) → State
   -- after a space after an Item
   AfterItem : (whole : Item) → State
   InList : (state : SeriesState MemberState (List Member)) → State

@@ -15,7 +15,7 @@ range low high t = (c : ℕ) × (t ≡ c ∷ []) × (low ≤ c) × (c ≤ high)
 
 -- P Q (section 3.1)
 abbrev pub then : Rule → Rule → Rule
-then P Q t = (front back : List ℕ) × (t ≡ front ++ back) × P front × Q back
+then P Q t = (prefix suffix : List ℕ) × (t ≡ prefix ++ suffix) × P prefix × Q suffix
 
 -- P / Q (section 3.2)
 abbrev pub either : Rule → Rule → Rule

@@ -1,10 +1,11 @@
 -- Base64 of RFC 4648 section 4, by bits: a character is its place in the alphabet, in six bits, and
 -- a byte is eight bits, the highest bits first.
+use Rattle.std.specs.List.{list_all}
 use Rattle.std.specs.Prelude.{ℕ, ◌+◌, ◌-◌, ◌*◌, ◌/◌, ◌%◌, true, false, ◌==◌, nat_le, ◌&&◌}
 use Rattle.std.specs.Prelude.{not}
 use Rattle.std.specs.Prelude.{List, [], ◌∷◌, ◌++◌, length, get_or, replicate, codes, Option, Some}
 use Rattle.std.specs.Prelude.{None}
-use Rattle.sf_rfc.specs.Rfc9651.Words.{and_then, all_are, before, from, place_from}
+use Rattle.sf_rfc.specs.Rfc9651.Words.{and_then, before, from, place_from}
 
 -- table 1
 abbrev pub base64_alphabet : List ℕ
@@ -59,7 +60,7 @@ abbrev pub base64_decode : List ℕ → Option (List ℕ)
 base64_decode t =
     let characters : List ℕ = before 61 t in
     let pads : List ℕ = from 61 t in
-    elim (not (length characters % 4 == 1) && (all_are (λ c. c == 61) pads
+    elim (not (length characters % 4 == 1) && (list_all (λ c. c == 61) pads
     && nat_le (length pads) (missing 4 (length characters)))) [
       | false ↦ None
       | true ↦ and_then (bits_of_characters characters) (λ bits. Some (by_eights bits))

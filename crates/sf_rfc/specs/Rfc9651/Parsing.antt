@@ -1,4 +1,5 @@
 -- Parsing fields: RFC 9651 sections 4.2 to 4.2.3, and 4.2.3.2 and 4.2.3.3.
+use Rattle.std.specs.List.{list_all}
 use Rattle.std.specs.Prelude.{ℕ, zero, suc, true, false, ◌==◌, List as Seq, [], ◌∷◌, ◌++◌, ◌||◌, drop}
 use Rattle.std.specs.Prelude.{length, Option, Some, None}
 use Rattle.sf_value.specs.declared.dialect.Dialect.{Dialect}
@@ -12,7 +13,7 @@ use Rattle.sf_value.specs.declared.value.Field.{Field}
 use Rattle.sf_value.specs.declared.value.Field.TheVariants as field
 use Rattle.sf_value.specs.declared.value.Kind.{Kind}
 use Rattle.sf_value.specs.declared.value.Kind.TheVariants as kind
-use Rattle.sf_rfc.specs.Rfc9651.Words.{Parse, and_then, first_is, all_are, discard, set_key}
+use Rattle.sf_rfc.specs.Rfc9651.Words.{Parse, and_then, first_is, discard, set_key}
 use Rattle.sf_rfc.specs.Rfc9651.Alphabets.{is_ascii, is_SP, is_OWS, can_start_key, can_be_in_key}
 use Rattle.sf_rfc.specs.Rfc9651.ParsingBare.{parse_bare}
 
@@ -201,7 +202,7 @@ parse_end p = elim (discard is_SP p.1) [ [] ↦ Some p.0 | c ∷ t ↦ None ]
 
 -- 1: bytes that are no ASCII string fail; 2: discard any leading SP; 3 to 5; 6 to 8
 abbrev pub parse_field : Dialect → Kind → Seq ℕ → Option Field
-parse_field d kind t = elim (all_are is_ascii t) [
+parse_field d kind t = elim (list_all is_ascii t) [
   | false ↦ None
   | true ↦ and_then (parse_type d kind (discard is_SP t)) parse_end
 ]

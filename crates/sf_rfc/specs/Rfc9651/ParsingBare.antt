@@ -1,4 +1,5 @@
 -- Parsing bare items: RFC 9651 sections 4.2.4 to 4.2.10, and 4.2.3.1.
+use Rattle.std.specs.List.{list_all}
 use Rattle.std.specs.Prelude.{ℕ, ◌+◌, ◌-◌, ◌*◌, Bool, true, false, ◌==◌, nat_lt, ◌&&◌, ◌||◌}
 use Rattle.std.specs.Prelude.{ℤ, pos, negsuc, ◌*ℤ◌, List, [], ◌∷◌, ◌++◌, length, drop, replicate}
 use Rattle.std.specs.Prelude.{codes, Option, Some, None}
@@ -7,7 +8,7 @@ use Rattle.sf_value.specs.declared.dialect.Dialect.TheVariants.{Rfc8941, Rfc9651
 use Rattle.sf_value.specs.declared.value.Bare.{Bare}
 use Rattle.sf_value.specs.declared.value.Bare.TheVariants.{Integer, Decimal, Text, Token}
 use Rattle.sf_value.specs.declared.value.Bare.TheVariants.{Blob, Boolean, Date, Shown}
-use Rattle.sf_rfc.specs.Rfc9651.Words.{Parse, and_then, only_if, first_is, all_are, before, from}
+use Rattle.sf_rfc.specs.Rfc9651.Words.{Parse, and_then, first_is, before, from, only_if}
 use Rattle.sf_rfc.specs.Rfc9651.Words.{place_from}
 use Rattle.sf_rfc.specs.Rfc9651.Alphabets.{is_DIGIT, is_ALPHA, is_any_of, is_unprintable}
 use Rattle.sf_rfc.specs.Rfc9651.Alphabets.{can_start_token, can_be_in_token, needs_escape}
@@ -167,7 +168,7 @@ parse_byte_sequence (c ∷ t) = elim (c == 58) [
   | false ↦ None
   | true ↦ elim (first_is (λ x. x == 58) (from 58 t)) [
     | false ↦ None
-    | true ↦ elim (all_are can_be_in_base64 (before 58 t)) [
+    | true ↦ elim (list_all can_be_in_base64 (before 58 t)) [
       | false ↦ None
       | true ↦ and_then (base64_decode (before 58 t)) (λ s. Some (s, drop 1 (from 58 t)))
     ]

@@ -1,4 +1,5 @@
 -- Serialising fields: sections 4.1 to 4.1.3.
+use Rattle.std.specs.List.{list_all}
 use Rattle.std.specs.Prelude.{ℕ, Bool, true, false, ◌&&◌, List as Seq, [], ◌∷◌, ◌++◌, Option, Some}
 use Rattle.sf_value.specs.declared.value.Bare.{Bare}
 use Rattle.sf_value.specs.declared.value.Bare.TheVariants.{Boolean}
@@ -8,7 +9,7 @@ use Rattle.sf_value.specs.declared.value.Member.{Member}
 use Rattle.sf_value.specs.declared.value.Member.TheVariants as member
 use Rattle.sf_value.specs.declared.value.Field.{Field}
 use Rattle.sf_value.specs.declared.value.Field.TheVariants as field
-use Rattle.sf_rfc.specs.Rfc9651.Words.{and_then, only_if, first_is, all_are}
+use Rattle.sf_rfc.specs.Rfc9651.Words.{and_then, first_is, only_if}
 use Rattle.sf_rfc.specs.Rfc9651.Alphabets.{is_ascii, can_start_key, can_be_in_key}
 use Rattle.sf_rfc.specs.Rfc9651.SerialisingBare.{serialise_bare}
 
@@ -31,7 +32,7 @@ if_more (x ∷ xs) s = s
 -- 6: output
 abbrev pub serialise_key : Seq ℕ → Option (Seq ℕ)
 serialise_key k = only_if
-    (all_are is_ascii k && (all_are can_be_in_key k && first_is can_start_key k)) k
+    (list_all is_ascii k && (list_all can_be_in_key k && first_is can_start_key k)) k
 
 -- 4.1.1.2, Serialising Parameters
 

@@ -1,11 +1,12 @@
 -- Serialising bare items: sections 4.1.3.1 and 4.1.4 to 4.1.11.
+use Rattle.std.specs.List.{list_all}
 use Rattle.std.specs.Prelude.{ℕ, zero, suc, ◌+◌, ◌/◌, ◌%◌, Bool, true, false, not, ◌==◌}
 use Rattle.std.specs.Prelude.{nat_lt, nat_le, ◌&&◌, ◌||◌, ℤ, pos, negsuc, nat_abs, List, [], ◌∷◌}
 use Rattle.std.specs.Prelude.{◌++◌, get_or, codes, Option, Some}
 use Rattle.sf_value.specs.declared.value.Bare.{Bare}
 use Rattle.sf_value.specs.declared.value.Bare.TheVariants.{Integer, Decimal, Text, Token}
 use Rattle.sf_value.specs.declared.value.Bare.TheVariants.{Blob, Boolean, Date, Shown}
-use Rattle.sf_rfc.specs.Rfc9651.Words.{and_then, only_if, first_is, all_are}
+use Rattle.sf_rfc.specs.Rfc9651.Words.{and_then, first_is, only_if}
 use Rattle.sf_rfc.specs.Rfc9651.Alphabets.{in_range, is_ascii, is_unprintable, needs_escape}
 use Rattle.sf_rfc.specs.Rfc9651.Alphabets.{can_start_token, can_be_in_token}
 use Rattle.sf_rfc.specs.Rfc9651.Base64.{base64_encode}
@@ -42,7 +43,7 @@ serialise_integer z = only_if (nat_le (nat_abs z) 999999999999999)
 -- 9: the significant digits of a fraction: those up to the last that is not "0"
 abbrev pub significant : List ℕ → List ℕ
 significant [] = []
-significant (c ∷ t) = elim (all_are (λ x. x == 48) (c ∷ t)) [
+significant (c ∷ t) = elim (list_all (λ x. x == 48) (c ∷ t)) [
   | true ↦ []
   | false ↦ c ∷ significant t
 ]
@@ -86,7 +87,7 @@ string_characters (char ∷ t) = elim (needs_escape char) [
 -- 5: DQUOTE
 -- 6: output
 abbrev pub serialise_string : List ℕ → Option (List ℕ)
-serialise_string s = only_if (all_are is_ascii s && all_are (λ c. not (is_unprintable c)) s)
+serialise_string s = only_if (list_all is_ascii s && list_all (λ c. not (is_unprintable c)) s)
     (34 ∷ (string_characters s ++ 34 ∷ []))
 
 -- 4.1.7, Serialising a Token
@@ -103,7 +104,7 @@ remaining (c ∷ t) = t
 -- 5: output
 abbrev pub serialise_token : List ℕ → Option (List ℕ)
 serialise_token s = only_if
-    (all_are is_ascii s && (first_is can_start_token s && all_are can_be_in_token (remaining s))) s
+    (list_all is_ascii s && (first_is can_start_token s && list_all can_be_in_token (remaining s))) s
 
 -- 4.1.8, Serialising a Byte Sequence
 
@@ -113,7 +114,7 @@ serialise_token s = only_if
 -- 5: ":"
 -- 6: output
 abbrev pub serialise_byte_sequence : List ℕ → Option (List ℕ)
-serialise_byte_sequence s = only_if (all_are (in_range 0 255) s) (58 ∷ (base64_encode s ++ 58 ∷ []))
+serialise_byte_sequence s = only_if (list_all (in_range 0 255) s) (58 ∷ (base64_encode s ++ 58 ∷ []))
 
 -- 4.1.9, Serialising a Boolean
 

@@ -1,7 +1,8 @@
 -- UTF-8 by the ABNF of RFC 3629 section 4. A rule is what it leaves of the octets, or None.
+use Rattle.std.specs.Option.{option_or}
 use Rattle.std.specs.Prelude.{ℕ, zero, suc, Bool, true, false, List, [], ◌∷◌, length, Option, Some}
 use Rattle.std.specs.Prelude.{None}
-use Rattle.sf_rfc.specs.Rfc9651.Words.{and_then, or_else, only_if}
+use Rattle.sf_rfc.specs.Rfc9651.Words.{and_then, only_if}
 use Rattle.sf_rfc.specs.Rfc9651.Alphabets.{in_range}
 
 abbrev pub Rule : Type 0
@@ -18,7 +19,7 @@ then p q t = and_then (p t) q
 
 -- one rule or else another
 abbrev pub either : Rule → Rule → Rule
-either p q t = or_else (p t) (q t)
+either p q t = option_or (p t) (q t)
 
 -- UTF8-tail = %x80-BF
 abbrev pub utf8_tail : Rule

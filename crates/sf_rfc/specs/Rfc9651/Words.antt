@@ -1,21 +1,16 @@
 -- What the steps are written with.
 use Rattle.std.specs.Prelude.{ℕ, suc, Bool, true, false, ◌&&◌, ◌==◌, List, [], ◌∷◌, ◌++◌, Option}
-use Rattle.std.specs.Prelude.{Some}
-use Rattle.std.specs.Prelude.{None}
+use Rattle.std.specs.Prelude.{Some, None}
 
 -- an algorithm that takes a prefix of its input: a value and the rest, or failure
 abbrev pub Parse : Type 0 → Type 0
 Parse V = List ℕ → Option (V × List ℕ)
 
--- go on with a result, or fail as it did
+-- go on with a result, or fail as it did: std's `option_and_then`, with the arguments in the order of
+-- the RFC's steps
 abbrev pub and_then : {A B : Type 0} → Option A → (A → Option B) → Option B
 and_then (Some a) f = f a
 and_then None f = None
-
--- the first result, or else the second
-abbrev pub or_else : {A : Type 0} → Option A → Option A → Option A
-or_else (Some a) o = Some a
-or_else None o = o
 
 -- s if the test holds, otherwise failure
 abbrev pub only_if : {A : Type 0} → Bool → A → Option A
@@ -26,11 +21,6 @@ only_if false a = None
 abbrev pub first_is : (ℕ → Bool) → List ℕ → Bool
 first_is p [] = false
 first_is p (c ∷ t) = p c
-
--- whether each character passes the test
-abbrev pub all_are : (ℕ → Bool) → List ℕ → Bool
-all_are p [] = true
-all_are p (c ∷ t) = p c && all_are p t
 
 -- discard any leading characters that pass the test
 abbrev pub discard : (ℕ → Bool) → List ℕ → List ℕ

@@ -1,5 +1,5 @@
 use Rattle.std.proofs.Common.{sym, ◌++◌, take, arith}
-use Rattle.sf_parse.specs.Views.{utf8_of}
+use Rattle.sf_value.specs.Utf8States.{utf8_of}
 use Rattle.sf_parse.proofs.Blocks.{escape_on, escape_leads}
 use Rattle.sf_parse.proofs.display_string.read_escapes.Goals as goal
 

@@ -2,9 +2,9 @@ use Rattle.std.proofs.Common.{◌≡◌, ℕ, ◌+◌, ◌<◌, ◌≤◌, ◌^�
 use Rattle.std.proofs.Common.{length, arith}
 use Rattle.std.specs.Str.Lines.{lines}
 use Rattle.sf_tool.specs.declared.fields.LineFault.{LineFault}
-use Rattle.sf_tool.specs.OneLine.{IsLineFault, FindsNoRoom}
+use Rattle.sf_tool.specs.OneLine.{IsLineFault, ExceedsCapacity}
 use Rattle.sf_tool.specs.Lines.{trim, lines_of}
-use Rattle.sf_tool.proofs.Room.{IsListedMap-empty, IsListedMap-adds, many-names}
+use Rattle.sf_tool.proofs.MapCapacity.{IsListedMap-empty, IsListedMap-adds, many-names}
 use Rattle.sf_tool.proofs.LineByLine.{ReadsOn, reads_on-start, reads_on-adds, reads_on-refused}
 use Rattle.sf_tool.proofs.LineByLine.{reads_on-memory}
 use Rattle.sf_tool.proofs.fields.read_fields.Goals as goal
@@ -36,7 +36,7 @@ returns-in-Err-Refused c =
     let reads =
     subst (λ ls. ReadsOn targets (lines_of c.args.input.now) ls number headers) e
     c.loop-line.invariant.reads in
-    let many : FindsNoRoom targets c.trimmed.result.now headers → 24576 ≤ length targets =
+    let many : ExceedsCapacity targets c.trimmed.result.now headers → 24576 ≤ length targets =
     λ room. many-names targets headers number _ small c.loop-line.invariant.listed room.1 in
     reads_on-refused targets c.args.input.now _ c.trimmed.result.now number headers reads many
     refused

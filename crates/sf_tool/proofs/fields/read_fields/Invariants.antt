@@ -1,6 +1,6 @@
 use Rattle.std.proofs.Common.{◌+◌, ◌≤◌, length}
 use Rattle.sf_tool.specs.Lines.{lines_of}
-use Rattle.sf_tool.proofs.Room.{IsListedMap}
+use Rattle.sf_tool.proofs.MapCapacity.{IsListedMap}
 use Rattle.sf_tool.proofs.LineByLine.{ReadsOn}
 use Rattle.sf_tool.proofs.fields.read_fields.Given as goal
 

@@ -1,4 +1,4 @@
-use Rattle.sf_view.specs.Showns.{utf8_of}
+use Rattle.sf_value.specs.Utf8States.{utf8_of}
 use Rattle.sf_view.proofs.Quoted.{inside_opens, inside_plain, inside_escape, stepped, shown_scans}
 use Rattle.sf_view.proofs.display_string.scan_shown.Goals as goal
 

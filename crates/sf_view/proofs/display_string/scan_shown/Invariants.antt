@@ -1,5 +1,6 @@
 use Rattle.std.proofs.Common.{length}
-use Rattle.sf_view.specs.Showns.{utf8_of, InsideShown}
+use Rattle.sf_value.specs.Utf8States.{utf8_of}
+use Rattle.sf_view.specs.Showns.{InsideShown}
 use Rattle.sf_view.proofs.display_string.scan_shown.Given as goal
 
 abbrev pub invariant-loop-left : goal.invariant-loop-left

@@ -1,5 +1,5 @@
 use Rattle.std.proofs.Common.{sym}
-use Rattle.sf_parse.specs.Views.{utf8_of}
+use Rattle.sf_value.specs.Utf8States.{utf8_of}
 use Rattle.sf_parse.proofs.Leading.{leads_push}
 use Rattle.sf_parse.proofs.display_string.ShownPlace.push.Goals as goal
 

@@ -4,7 +4,7 @@ use Rattle.sf_value.specs.Grammar.Classes.{is_sp}
 use Rattle.sf_parse.specs.Machine.Bares.{bare_start}
 use Rattle.sf_parse.specs.Machine.Params.{Between}
 use Rattle.sf_parse.specs.Machine.Items.{InBare, item_step, item_finish}
-use Rattle.sf_parse.specs.Machine.Inners.{Room, InItem, Closing, behind_step}
+use Rattle.sf_parse.specs.Machine.Inners.{BetweenItems, InItem, Closing, behind_step}
 use Rattle.sf_parse.specs.Machine.Members.{InOne, InMany}
 use Rattle.sf_parse.proofs.Marks.{marks_either, marks_map, marks_onward, marks_steps}
 use Rattle.sf_parse.proofs.LevelMarks.{marks_closing}
@@ -21,12 +21,12 @@ returns-in-Closing c =
     rw (← c.self.view_is, c.in-Closing.is)
     (marks_closing c.args.dialect _ _ _ fits c.expected-in-Closing.ensures)
 
-pub returns-in-Room : goal.returns-in-Room
-returns-in-Room c =
+pub returns-in-BetweenItems : goal.returns-in-BetweenItems
+returns-in-BetweenItems c =
     let is = c.self.inside.items in
-    rw (← c.self.view_is, c.in-Room.is)
-    (marks_map InMany _ _ (marks_either (2 ^ 32) _ (λ b. allow (is_sp b) (Room is)) _
-    (marks_steps (2 ^ 32) (λ b. allow (is_sp b) (Room is)) refl)
+    rw (← c.self.view_is, c.in-BetweenItems.is)
+    (marks_map InMany _ _ (marks_either (2 ^ 32) _ (λ b. allow (is_sp b) (BetweenItems is)) _
+    (marks_steps (2 ^ 32) (λ b. allow (is_sp b) (BetweenItems is)) refl)
     (marks_either (2 ^ 41) _ (λ b. allow (b == 41) (Closing is (Between []))) _
     (marks_steps (2 ^ 41) (λ b. allow (b == 41) (Closing is (Between []))) refl)
     (marks_map (InItem is) _ _ (marks_map InBare _ (bare_start c.args.dialect)

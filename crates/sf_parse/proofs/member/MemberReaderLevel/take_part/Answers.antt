@@ -1,7 +1,7 @@
 use Rattle.std.proofs.Common.{refl}
 use Rattle.sf_value.specs.Grammar.Classes.{is_sp}
 use Rattle.sf_parse.specs.Machine.Items.{item_step}
-use Rattle.sf_parse.specs.Machine.Inners.{Room, InItem}
+use Rattle.sf_parse.specs.Machine.Inners.{BetweenItems, InItem}
 use Rattle.sf_parse.specs.Machine.Members.{InOne, InMany, member_step}
 use Rattle.sf_parse.proofs.Prefixes.{part_above}
 use Rattle.sf_parse.proofs.ByteRuns.{stay_went}
@@ -9,12 +9,12 @@ use Rattle.sf_parse.proofs.OpenParts.{space_in_member, item_in_member, item_in_m
 use Rattle.sf_parse.proofs.OpenParts.{closing_kept}
 use Rattle.sf_parse.proofs.member.MemberReaderLevel.take_part.Goals as goal
 
-pub returns-in-Room-clause-went : goal.returns-in-Room-clause-went
-returns-in-Room-clause-went c =
+pub returns-in-BetweenItems-clause-went : goal.returns-in-BetweenItems-clause-went
+returns-in-BetweenItems-clause-went c =
     let d = c.args.context.now.dialect in
     let is = c.self.inside.items in
-    rw (← c.self.view_is, c.in-Room.is)
-    (stay_went (member_step d) is_sp (InMany (Room is)) _ _ _ (space_in_member d is)
+    rw (← c.self.view_is, c.in-BetweenItems.is)
+    (stay_went (member_step d) is_sp (InMany (BetweenItems is)) _ _ _ (space_in_member d is)
     c.short_prefix.ensures.whole c.short_prefix.ensures.every)
 
 pub returns-in-One-clause-went : goal.returns-in-One-clause-went

@@ -1,6 +1,6 @@
 use Rattle.std.proofs.Common.{◌∷◌}
 use Rattle.sf_parse.proofs.Prefixes.{never}
-use Rattle.sf_parse.proofs.item_field.TopReaderLevel.turn.Goals as goal
+use Rattle.sf_parse.proofs.item_field.ItemFieldReaderLevel.turn.Goals as goal
 
 pub returns-in_err-end-in-Inside-clause-allocation_free : goal.returns-in_err-end-in-Inside-clause-allocation_free
 returns-in_err-end-in-Inside-clause-allocation_free c =

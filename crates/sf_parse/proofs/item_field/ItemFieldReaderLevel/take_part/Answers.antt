@@ -1,13 +1,13 @@
 use Rattle.std.proofs.Common.{refl}
 use Rattle.sf_value.specs.Grammar.Classes.{is_sp}
 use Rattle.sf_parse.specs.Machine.Items.{item_step}
-use Rattle.sf_parse.specs.Machine.States.{BeforeItem, InTop}
+use Rattle.sf_parse.specs.Machine.States.{BeforeItem, InsideItem}
 use Rattle.sf_parse.specs.Machine.Fields.{step}
-use Rattle.sf_parse.specs.TopView.{after_of}
+use Rattle.sf_parse.specs.ItemFieldView.{after_of}
 use Rattle.sf_parse.proofs.Prefixes.{part_above}
 use Rattle.sf_parse.proofs.ByteRuns.{stay_went}
 use Rattle.sf_parse.proofs.OpenParts.{space_before, space_behind, item_in_field}
-use Rattle.sf_parse.proofs.item_field.TopReaderLevel.take_part.Goals as goal
+use Rattle.sf_parse.proofs.item_field.ItemFieldReaderLevel.take_part.Goals as goal
 
 pub returns-in-Before-clause-went : goal.returns-in-Before-clause-went
 returns-in-Before-clause-went c =
@@ -29,7 +29,7 @@ pub returns-in-Inside-clause-went : goal.returns-in-Inside-clause-went
 returns-in-Inside-clause-went c =
     let d = c.args.context.now.dialect in
     rw (← c.self.view_is, c.in-Inside.is)
-    (part_above (item_step d) (step d) InTop (item_in_field d) _ _ _ _ _ _ refl
+    (part_above (item_step d) (step d) InsideItem (item_in_field d) _ _ _ _ _ _ refl
     c.take.ensures.prefix)
 
 pub returns-in-Inside-clause-allocation_free : goal.returns-in-Inside-clause-allocation_free
