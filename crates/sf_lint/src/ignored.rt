@@ -21,42 +21,60 @@ use std::alloc::Global;
 fn is_no_boolean(params: &Entries<Bare>, key: &[u8]) -> bool
     ensures { result ≡ is_ignored (value_at key.now params.now) (boolean_at key.now params.now) }
 {
-    params.get(key).is_some_and(|bare| bare.as_boolean().is_none())
+    match params.get(key) {
+        Some(bare) => bare.as_boolean().is_none(),
+        None => false,
+    }
 }
 
 /// Returns whether the parameter at the key is present, and not an Integer.
 fn is_no_integer(params: &Entries<Bare>, key: &[u8]) -> bool
     ensures { result ≡ is_ignored (value_at key.now params.now) (integer_at key.now params.now) }
 {
-    params.get(key).is_some_and(|bare| bare.as_integer().is_none())
+    match params.get(key) {
+        Some(bare) => bare.as_integer().is_none(),
+        None => false,
+    }
 }
 
 /// Returns whether the parameter at the key is present, and not a status code.
 fn is_no_status(params: &Entries<Bare>, key: &[u8]) -> bool
     ensures { result ≡ is_ignored (value_at key.now params.now) (status_at key.now params.now) }
 {
-    params.get(key).is_some_and(|bare| status_of(bare).is_none())
+    match params.get(key) {
+        Some(bare) => status_of(bare).is_none(),
+        None => false,
+    }
 }
 
 /// Returns whether the parameter at the key is present, and not a Token.
 fn is_no_token(params: &Entries<Bare>, key: &[u8]) -> bool
     ensures { result ≡ is_ignored (value_at key.now params.now) (token_at key.now params.now) }
 {
-    params.get(key).is_some_and(|bare| bare.as_token().is_none())
+    match params.get(key) {
+        Some(bare) => bare.as_token().is_none(),
+        None => false,
+    }
 }
 
 /// Returns whether the parameter at the key is present, and not a String.
 fn is_no_text(params: &Entries<Bare>, key: &[u8]) -> bool
     ensures { result ≡ is_ignored (value_at key.now params.now) (text_at key.now params.now) }
 {
-    params.get(key).is_some_and(|bare| bare.as_text().is_none())
+    match params.get(key) {
+        Some(bare) => bare.as_text().is_none(),
+        None => false,
+    }
 }
 
 /// Returns whether the parameter at the key is present, and neither a String nor a Token.
 fn is_no_name(params: &Entries<Bare>, key: &[u8]) -> bool
     ensures { result ≡ is_ignored (value_at key.now params.now) (name_at key.now params.now) }
 {
-    params.get(key).is_some_and(|bare| !matches!(bare, Bare::Text(_) | Bare::Token(_)))
+    match params.get(key) {
+        Some(bare) => !matches!(bare, Bare::Text(_) | Bare::Token(_)),
+        None => false,
+    }
 }
 
 /// Returns a bare item as a status code, if it is one.
