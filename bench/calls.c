@@ -3,7 +3,8 @@
  * usage: calls [FILE..]
  *
  * Each table is of one set of texts: those below, and those of each FILE, which has records of a
- * kind ('i', 'l' or 'd'), a length of four bytes, little endian, and a text of that length.
+ * kind ('i', 'l' or 'd'), a length of four bytes, little endian, and a text of that length. The line
+ * above it has the time of the scanner alone, and that of sfparse for a walk.
  *
  *   ns       of a text, the least of five rounds over the set
  *   to scan  that time over the time of the scanner alone, sf_bench_view of crates/sf_bench
@@ -256,7 +257,7 @@ static void table(const struct set *set, const char *own_name, call own) {
   printf("\n%s: %zu texts, %zu bytes at most; scan %.0f ns", set->name, set->count, set->longest,
          scanned);
   if (walked > 0)
-    printf(", walk %.0f ns", walked);
+    printf(", walk %.0f ns, scan to walk %.2f", walked, scanned / walked);
   printf("\n\n| call | ns | to scan | to walk | peak |\n|---|---|---|---|---|\n");
   row(set, "sf_check", check, scanned, walked);
   row(set, "sf_parse", parse, scanned, walked);
@@ -349,6 +350,37 @@ static const char *const paths[] = {
     "ReverseProxyCache; hit, ForwardProxyCache; fwd=uri-miss; collapsed; stored",
     NULL};
 
+static const char *const inputs[] = {
+    "sig1=(\"@method\" \"@authority\" \"@path\" \"content-digest\" \"content-type\")"
+    ";created=1700000000;keyid=\"key-ed25519-7\"",
+    "sig-a=();created=1700000001;keyid=\"rsa-pss-1\";nonce=\"q5kWmVtd7Zb0-3xLr.hY\"",
+    "sig-b=(\"@authority\" \"content-digest\" \"@query-param\";name=\"page\")"
+    ";created=1700000002;keyid=\"rsa-pss-1\";tag=\"example-app\"",
+    "proxy_sig=(\"@method\" \"@authority\" \"@path\" \"content-length\" \"forwarded\")"
+    ";created=1700000480;keyid=\"proxy-key\";alg=\"rsa-v1_5-sha256\";expires=1700000540",
+    "sig1=(\"@status\" \"content-type\" \"content-digest\" \"@authority\";req \"@path\";req)"
+    ";created=1700000479;keyid=\"key-ecc-p256\"",
+    "sig1=(\"date\" \"@target-uri\" \"host\");keyid=\"k1\", "
+    "sig2=(\"signature\";key=\"sig1\" \"via\");created=1700000600;keyid=\"k2\"",
+    NULL};
+
+/* A List of so many Inner Lists, with parameters of the Items and of the Inner Lists. */
+static void add_inner_lists(struct set *set, size_t count) {
+  static const char member[] = "(sea tide;m=1.5 \"two words\" 1200);at=7, ";
+  add_repeated(set, 'l', member, count * (sizeof member - 1) - 1);
+}
+
+/* A Dictionary of so many Strings. */
+static void add_strings(struct set *set, size_t count) {
+  char *all = malloc(count * 64), *to = all;
+  if (all == NULL)
+    abort();
+  for (size_t i = 0; i < count; ++i)
+    to += sprintf(to, "%skey-%zu=\"the text of number %zu\"", i > 0 ? ", " : "", i, i);
+  memcpy(add(set, 'd', (size_t)(to - all)), all, (size_t)(to - all));
+  free(all);
+}
+
 int main(int argc, char **argv) {
   struct set *set = begin("Priority fields");
   add_all(set, 'd', priorities);
@@ -359,6 +391,15 @@ int main(int argc, char **argv) {
   set = begin("Cache-Status fields");
   add_all(set, 'l', paths);
   table(set, "sf_cache_status", cache_status);
+  set = begin("Signature-Input fields");
+  add_all(set, 'd', inputs);
+  table(set, NULL, NULL);
+  set = begin("A List of 512 Inner Lists");
+  add_inner_lists(set, 512);
+  table(set, NULL, NULL);
+  set = begin("A Dictionary of 256 Strings");
+  add_strings(set, 256);
+  table(set, NULL, NULL);
   set = begin("A List of 64 KiB of a;b,");
   add_repeated(set, 'l', "a;b,", 64 * KIB);
   table(set, NULL, NULL);

@@ -1,6 +1,7 @@
 pub mod ScannedTexts
 pub mod Joins
 pub mod Carrying
+pub mod EachNode
 pub mod DecodedNodes
 pub mod ParsedNodes
 pub mod HopLemmas

@@ -1,7 +1,7 @@
 -- What is in the buffers after a text was parsed.
 use Rattle.std.proofs.Common.{◌≡◌, ℕ, ◌≤◌, List, [], ◌∷◌, ◌++◌, length, take}
 use Rattle.std.proofs.Common.{sym, ap, ◌∙◌, subst, arith, length-append}
-use Rattle.std.proofs.lemmas.List.{length-take-le}
+use Rattle.std.proofs.lemmas.List.{length-take-le, append-nil}
 use Rattle.std.proofs.Math.Seq.{take-append_seam}
 use Rattle.sf_value.specs.declared.dialect.Dialect.{Dialect}
 use Rattle.sf_value.specs.declared.value.Field.{Field}
@@ -20,6 +20,7 @@ use Rattle.sf_nodes.specs.NodeCounts.{field_nodes, field_bytes}
 use Rattle.sf_nodes.specs.Nodes.{field_content}
 use Rattle.sf_nodes.specs.NodeContents.{NodeContent, content_size}
 use Rattle.sf_c.proofs.Carrying.{field_carry}
+use Rattle.sf_c.proofs.EachNode.{each_in_text}
 use Rattle.sf_nodes.proofs.NodeCounting.{content_nodes, content_bytes}
 
 each_decoded : (size : ℕ) (ns : List Node) → Each (IsPlain size) ns → Each IsDecoded ns
@@ -35,6 +36,19 @@ pub is_small : NodesAreFew → BytesAreFew → (d : Dialect) (k : Kind) (t : Lis
     → IsOnly d k t v → IsSmall t v
 is_small nodes bytes d k t v only = (nodes d k t v only.spelled, bytes d k t v only.spelled)
 
+-- so many nodes at the start, which were split off, are those and are there
+front_of : (scanned front back new : List Node) (count : ℕ) → count ≤ length scanned
+    → length front ≡ length (take count scanned) → new ≡ front ++ back
+    → (take count new ≡ front) × (count ≤ length new)
+front_of scanned front back new count within same e =
+    let size : length front ≡ count = same ∙ length-take-le count scanned within in
+    let whole = ap length e ∙ length-append front back in (
+      ap (take count) e
+          ∙ ap (λ n. take n (front ++ back)) (sym size)
+          ∙ take-append_seam front back,
+      omega arith,
+    )
+
 -- nodes that were scanned and decoded
 pub scanned_held : (d : Dialect) (k : Kind) (t : List ℕ) (scanned front back new : List Node)
     (bytes : List ℕ) (sizes : Sizes) → NodesAreFew → BytesAreFew → NodesAreTheirs
@@ -43,19 +57,13 @@ pub scanned_held : (d : Dialect) (k : Kind) (t : List ℕ) (scanned front back n
     → IsHeld d k t new bytes sizes
 scanned_held d k t scanned front back new bytes sizes nodes small theirs a same h e =
     let v = a.value in
-    let long : length (take sizes.nodes scanned) ≡ sizes.nodes
-    = length-take-le sizes.nodes scanned a.within in
-    let count : length front ≡ sizes.nodes = same ∙ long in
-    let whole = ap length e ∙ length-append front back in
-    let first : take sizes.nodes new ≡ front =
-    ap (take sizes.nodes) e
-    ∙ ap (λ n. take n (front ++ back)) (sym count)
-    ∙ take-append_seam front back in (
+    let f = front_of scanned front back new sizes.nodes a.within same e in
+    let first = f.0 in (
       v,
       a.only,
       is_small nodes small d k t v a.only,
       record {
-        nodes_fit = omega arith;
+        nodes_fit = f.1;
         bytes_fit = h.within;
         describes =
             subst (λ y. DescribesField d (t ++ take sizes.bytes bytes) y v) (sym first)
@@ -65,7 +73,37 @@ scanned_held d k t scanned front back new bytes sizes nodes small theirs a same 
             subst (Each IsDecoded) (sym first) (each_decoded (length t) front h.plain);
         in_one =
             subst (Each (IsInOne (length t))) (sym first) (each_in_one (length t) front h.plain);
-        count = sym long ∙ theirs d t (take sizes.nodes scanned) v a.describes;
+        count =
+            sym (length-take-le sizes.nodes scanned a.within)
+            ∙ theirs d t (take sizes.nodes scanned) v a.describes;
+      },
+    )
+
+-- nodes that were scanned, none of them coded
+pub uncoded_held : (d : Dialect) (k : Kind) (t : List ℕ) (scanned front back new : List Node)
+    (bytes : List ℕ) (count : ℕ) → NodesAreFew → BytesAreFew → NodesAreTheirs
+    → Accepts d k t scanned count → front ≡ take count scanned → Each IsDecoded front
+    → new ≡ front ++ back → IsHeld d k t new bytes (record { nodes = count; bytes = 0 })
+uncoded_held d k t scanned front back new bytes count few small theirs a same decoded e =
+    let v = a.value in
+    let f = front_of scanned front back new count a.within (ap length same) e in (
+      v,
+      a.only,
+      is_small few small d k t v a.only,
+      record {
+        nodes_fit = f.1;
+        bytes_fit = omega arith;
+        describes =
+            subst (λ y. DescribesField d (t ++ []) y v) (sym (f.0 ∙ same))
+            (subst (λ y. DescribesField d y (take count scanned) v) (sym (append-nil t))
+            a.describes);
+        decoded = subst (Each IsDecoded) (sym f.0) decoded;
+        in_one =
+            subst (Each (IsInOne (length t))) (sym (f.0 ∙ same))
+            (each_in_text d t (take count scanned) v a.describes);
+        count =
+            sym (length-take-le count scanned a.within)
+            ∙ theirs d t (take count scanned) v a.describes;
       },
     )
 

@@ -1,9 +1,24 @@
 //! The coded bytes of scanned nodes, decoded into the caller's buffer.
 ghost use Rattle.std.specs.Prelude.{◌≡◌, ◌≤◌, ◌<◌, ◌^◌, ◌+◌, length, IfSome, IsTrue};
+ghost use Rattle.sf_value.specs.Grammar.Words.{Each};
+ghost use Rattle.sf_nodes.specs.NodeBytes.{IsDecoded};
 ghost use Rattle.sf_c.specs.Decodings.{AreDecoded, IsNodeDecoded, HasCoded, decoded_to};
 
 use crate::span::Span;
 use sf_view::{Node, NodeType, Slice};
+
+/// Whether no node is coded. It reads each, without an early exit, which takes less time than to
+/// test where to stop.
+#[inline]
+pub(crate) fn none_coded(nodes: &[Node]) -> bool
+    ensures { IsTrue result → Each IsDecoded nodes.now }
+{
+    let mut none = true;
+    for node in nodes {
+        none &= node.coded == 0;
+    }
+    none
+}
 
 /// Decodes the bytes of each coded node into the buffer, one after another, points the node to
 /// them, and returns their number. `None` claims nothing.

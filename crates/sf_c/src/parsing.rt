@@ -5,7 +5,7 @@ ghost use Rattle.sf_c.specs.Flattening.{Flattens, IsHeld};
 ghost use Rattle.sf_c.specs.Statuses.{status_at};
 
 use crate::call::{dialect_of, kind_of, parse};
-use crate::decoding::decode_nodes;
+use crate::decoding::{decode_nodes, none_coded};
 use crate::refusal::SyntaxRefusal;
 use crate::seed::Seed;
 use crate::status::Status;
@@ -114,6 +114,12 @@ fn scan_nodes(
     nodes_are_few();
     nodes_are_theirs();
     let (front, _) = nodes.split_at_mut(count);
+    if none_coded(front) {
+        return Some(Sizes {
+            nodes: count,
+            bytes: 0,
+        });
+    }
     let used = decode_nodes(text, front, bytes)?;
     Some(Sizes {
         nodes: count,

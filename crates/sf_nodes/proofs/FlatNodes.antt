@@ -2,7 +2,7 @@
 use Rattle.std.proofs.Common.{◌≡◌, ℕ, ◌+◌, pos, List, [], ◌∷◌, ◌++◌, length, map, refl, sym, ap}
 use Rattle.std.proofs.Common.{ap₂, ◌∙◌, ◌<◌, ◌^◌, subst, arith, length-append, take, drop, inr}
 use Rattle.std.proofs.lemmas.List.{map-append, length-map}
-use Rattle.std.proofs.Math.Seq.{take-append_seam}
+use Rattle.std.proofs.Math.Seq.{drop-append_seam, take-append_seam}
 use Rattle.sf_value.specs.declared.dialect.Dialect.{Dialect}
 use Rattle.sf_value.specs.declared.value.Bare.{Bare}
 use Rattle.sf_value.specs.declared.value.Item.{Item}
@@ -263,6 +263,15 @@ parts_small start bytes (p ∷ ws) w h =
     let key = w.0.0 in
     let text = w.0.1 in
     ((omega arith, omega arith), parts_small start bytes ws w.1 h)
+
+-- items that are put at the start of a buffer leave those behind them as they were
+pub put_others : (bytes buffer new : List ℕ) (n : ℕ) → n ≡ length bytes
+    → new ≡ bytes ++ drop (length bytes) buffer → drop n new ≡ drop n buffer
+put_others bytes buffer new n e put =
+    ap (drop n) put
+    ∙ ap (λ k. drop k (bytes ++ drop (length bytes) buffer)) e
+    ∙ drop-append_seam bytes (drop (length bytes) buffer)
+    ∙ ap (λ k. drop k buffer) (sym e)
 
 -- what was written describes the value, wherever the text ends
 pub record Written (start : ℕ) (ts : List NodeContent) (new : List ℕ) (ns : List Node)

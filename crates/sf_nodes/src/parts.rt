@@ -137,6 +137,10 @@ impl Flat {
         requires small { start + content_size self.now < 2 ^ 32 }
         ensures same_nodes { length nodes.new ≡ length nodes.old }
         ensures same_bytes { length bytes.new ≡ length bytes.old }
+        // What is behind them in the buffers is unchanged.
+        ensures other_nodes { drop (length self.now) nodes.new ≡ drop (length self.now) nodes.old }
+        ensures other_bytes { drop (content_size self.now) bytes.new
+            ≡ drop (content_size self.now) bytes.old }
         // After any text of that length they describe the value.
         ensures describes { (d : Which) (source : List ℕ) (v : FieldValue)
             → length source ≡ start
@@ -219,6 +223,7 @@ fn write_parts(parts: &[Part], start: usize, nodes: &mut [Node])
     requires small { Each (IsPartSmall start) parts.now }
     ensures same { length nodes.new ≡ length nodes.old }
     ensures nodes { take (length parts.now) nodes.new ≡ map (node_of_part start) parts.now }
+    ensures others { drop (length parts.now) nodes.new ≡ drop (length parts.now) nodes.old }
 {
     let mut count = 0;
     while count < parts.len() {

@@ -9,6 +9,7 @@ pub mod StateView
 pub mod ItemFieldView
 pub mod AllocationFreeParsers
 pub mod Parsers
+pub mod Interchange
 pub mod Expected
 pub mod Reached
 pub mod StateTests

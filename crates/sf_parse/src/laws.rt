@@ -5,6 +5,7 @@ ghost use Rattle.sf_parse.specs.Laws.{StopsAt};
 ghost use Rattle.sf_parse.specs.Laws.{CanonOne, AnyChunks, OnlyNew, LinesOne};
 ghost use Rattle.sf_parse.specs.Reached.{ReachedNothing, ReachesMore, ReachedViable, ReachedNext};
 ghost use Rattle.sf_parse.specs.Reached.{ReachedEnd, ReachedStops, ReachedAll};
+ghost use Rattle.sf_parse.specs.Interchange.{RefusalsMove, CommaViable, MembersForgotten};
 ghost use Rattle.sf_parse.specs.ByteSets.{RunsAreTheSet, RunsAreWhole};
 ghost use Rattle.sf_parse.specs.Names.{NamesAreTheSet};
 ghost use Rattle.sf_parse.specs.Spots.{PlacesAreSpots};
@@ -60,6 +61,15 @@ pub fn what_may_follow()
     ensures end { EndsText }
     ensures below { NextBelow }
     ensures some { SomeNext }
+{}
+
+/// After two prefixes that the same texts complete, the same bytes are refused at the same byte, with
+/// the same bytes expected. After a comma in a List or a Dictionary, it makes no difference which
+/// members came before.
+pub fn refusals_move()
+    ensures moved { RefusalsMove }
+    ensures viable { CommaViable }
+    ensures members { MembersForgotten }
 {}
 
 /// The runs of a set, as [`crate::runs_of`] returns them, are exactly its bytes below 128, in

@@ -1,6 +1,6 @@
 //! Classes of bytes (RFC 9651 section 3), and the runs of them that a text begins with. A class is
 //! a type; each is tested here, once, for values, parsers and writers.
-ghost use Rattle.std.specs.Prelude.{◌≡◌, ◌++◌, ℕ, Bool, ◌&&◌, nat_le, true};
+ghost use Rattle.std.specs.Prelude.{◌≡◌, ◌≤◌, ◌++◌, ℕ, Bool, ◌&&◌, nat_le, true, length, take};
 ghost use Rattle.sf_value.specs.Grammar.Words.{Every};
 ghost use Rattle.sf_value.specs.Grammar.Classes.{is_in_key, is_in_token, is_key_start, is_sp};
 ghost use Rattle.sf_value.specs.Grammar.Classes.{is_ows as is_ows_byte, is_token_start};
@@ -252,9 +252,27 @@ fn all_of<C: ByteClass>(bytes: &[u8]) -> bool
     all
 }
 
+/// The number of bytes of the class that the text begins with, for runs that are mostly very long:
+/// blocks of 16 are tested. It is not inlined, so that a short run doesn't pay for its constants.
+#[inline(never)]
+fn long_run<C: ByteClass>(text: &[u8]) -> usize
+    ensures within { result ≤ length text.now }
+    // All of these bytes are of the class.
+    ensures every { Every C.test (take result text.now) }
+{
+    let mut run = 0;
+    while text.len() - run >= 16 && all_of::<C>(&text[run..run + 16]) {
+        run += 16;
+    }
+    while run < text.len() && C::has(text[run]) {
+        run += 1;
+    }
+    run
+}
+
 /// The bytes of the class that the text begins with, and the rest, for runs that are mostly long:
 /// after the first 16 bytes, blocks of 16 are tested. It does not allocate.
-#[inline]
+#[inline(always)]
 pub fn long_prefix<C: ByteClass>(text: &[u8]) -> (&[u8], &[u8])
     // Together they are the text.
     ensures whole { text.now ≡ result.0.now ++ result.1.now }
@@ -267,12 +285,7 @@ pub fn long_prefix<C: ByteClass>(text: &[u8]) -> (&[u8], &[u8])
         run += 1;
     }
     if run == 16 {
-        while text.len() - run >= 16 && all_of::<C>(&text[run..run + 16]) {
-            run += 16;
-        }
-        while run < text.len() && C::has(text[run]) {
-            run += 1;
-        }
+        run += long_run::<C>(&text[16..]);
     }
     text.split_at(run)
 }

@@ -13,8 +13,7 @@ use Rattle.sf_value.specs.Grammar.InnerLists.{SpellsItems, SpellsMember}
 use Rattle.sf_value.specs.Grammar.Fields.{SpellsEntry}
 use Rattle.sf_view.specs.declared.view.BareView.{BareView}
 use Rattle.sf_view.specs.declared.view.Slice.{Slice}
-use Rattle.sf_view.specs.declared.bare.Part.{Part}
-use Rattle.sf_view.specs.View.{type_of, number_of, DescribesText}
+use Rattle.sf_view.specs.View.{DescribesText}
 use Rattle.sf_view.specs.Views.{IsBorrowed}
 
 -- the start of the text, up to the rest, spells something as P says
@@ -48,12 +47,6 @@ pub record ReadsItems (d : Dialect) (least : ℕ) (text rest : List ℕ) : Type 
   pub items : List Item
   pub split : text ≡ front ++ close_bracket ∷ rest
   pub spelled : SpellsItems d least front items
-
--- a part with these bytes describes this bare item
-pub record PartShows (d : Dialect) (p : Part) (bytes : List ℕ) (x : Bare) : Type 0 where
-  pub node_type : p.node_type ≡ type_of x
-  pub number : p.number ≡ number_of x
-  pub text : DescribesText d p.coded bytes x
 
 -- the bare item of an Item is borrowed; an Inner List has none
 abbrev pub ShowsMember : Dialect → Option BareView → Member → Type 0

@@ -201,7 +201,7 @@ fn scan_escaped(whole: usize, text: &[u8]) -> Option<(Part, &[u8])>
 }
 
 /// A String, and the rest.
-#[inline]
+#[inline(always)]
 fn scan_string(whole: usize, text: &[u8]) -> Option<(Part, &[u8])>
     requires small { whole < 2 ^ 32 }
     requires within { length text.now ≤ whole }

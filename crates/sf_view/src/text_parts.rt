@@ -8,8 +8,9 @@ ghost use Rattle.sf_value.specs.Grammar.InnerLists.{SpellsInner};
 ghost use Rattle.sf_value.specs.declared.dialect.Dialect.{Dialect as Which};
 ghost use Rattle.sf_value.specs.declared.value.Bare.{Bare};
 ghost use Rattle.sf_view.specs.Scans.{PartDescribes};
-ghost use Rattle.sf_view.specs.Views.{IsBorrowed, ShowsBare};
-ghost use Rattle.sf_view.specs.Reads.{PartShows, Reads, ReadsBare, ReadsParam, ReadsItems, ReadsMember, ReadsEntry};
+ghost use Rattle.sf_view.specs.View.{slice_at};
+ghost use Rattle.sf_view.specs.Views.{IsBorrowed};
+ghost use Rattle.sf_view.specs.Reads.{Reads, ReadsBare, ReadsParam, ReadsItems, ReadsMember, ReadsEntry};
 
 use crate::bare::{Part, scan_value};
 use crate::classes::{InKey, behind, behind_spaces, is_key_start, short_front, split};
@@ -33,33 +34,36 @@ pub(crate) fn read_bare(dialect: Dialect, text: &[u8]) -> Option<(BareView, &[u8
     Some((borrowed(text, part)?, rest))
 }
 
-/// The bare item of a part of the text.
+/// The bare item of a part of the text; `None` for an Inner List.
 #[inline(always)]
 fn borrowed(text: &[u8], part: Part) -> Option<BareView>
     ensures { IfSome result (λ b. (d : Which) (x : Bare) → PartDescribes d text.now part x
         → IsBorrowed d b x) }
 {
-    let bytes = bytes_at(text, part.at as usize, part.length as usize)?;
-    typed(part, bytes)
-}
-
-/// The bare item of a part with these bytes; `None` for an Inner List.
-#[inline(always)]
-fn typed(part: Part, bytes: &[u8]) -> Option<BareView>
-    ensures { (d : Which) (x : Bare) → PartShows d part bytes.now x → ShowsBare d result x }
-{
-    let coded = part.coded;
     match part.node_type {
         NodeType::Integer => return Some(BareView::Integer(part.number)),
         NodeType::Decimal => return Some(BareView::Decimal(part.number)),
-        NodeType::Text => return Some(BareView::Text(Slice { bytes, coded })),
-        NodeType::Token => return Some(BareView::Token(bytes)),
-        NodeType::Blob => return Some(BareView::Blob(Slice { bytes, coded })),
+        NodeType::Text => return Some(BareView::Text(slice_of(text, part)?)),
+        NodeType::Token => return Some(BareView::Token(slice_of(text, part)?.bytes)),
+        NodeType::Blob => return Some(BareView::Blob(slice_of(text, part)?)),
         NodeType::Boolean => return Some(BareView::Boolean(part.number != 0)),
         NodeType::Date => return Some(BareView::Date(part.number)),
-        NodeType::Shown => return Some(BareView::Shown(Slice { bytes, coded })),
+        NodeType::Shown => return Some(BareView::Shown(slice_of(text, part)?)),
         NodeType::InnerList => return None,
     }
+}
+
+/// The bytes of a part of the text.
+#[inline(always)]
+fn slice_of(text: &[u8], part: Part) -> Option<Slice>
+    ensures coded { IfSome result (λ s. s.coded ≡ part.coded) }
+    ensures bytes { IfSome result (λ s. s.bytes.now ≡ slice_at part.at part.length text.now) }
+{
+    let bytes = bytes_at(text, part.at as usize, part.length as usize)?;
+    Some(Slice {
+        bytes,
+        coded: part.coded,
+    })
 }
 
 /// A key, and the rest.
@@ -76,7 +80,7 @@ fn read_key(text: &[u8]) -> Option<(&[u8], &[u8])>
 }
 
 /// One parameter, after its semicolon: its key, its value, and the rest.
-#[inline]
+#[inline(always)]
 pub(crate) fn read_param<'a>(
     dialect: Dialect,
     text: &'a [u8],

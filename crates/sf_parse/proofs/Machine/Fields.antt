@@ -215,7 +215,7 @@ module _ (d : Dialect) where
       let o = map_cases (InFlag k) (params_step d s b) t n in
       params_apart d s c.0 b o.0 c.1 o.1 f
 
-  list_laws : SeriesLaws MemberState Member (List Member) (list_series d)
+  pub list_laws : SeriesLaws MemberState Member (List Member) (list_series d)
   list_laws = record {
     starts = member_starts d;
     reads = member_reads d;
@@ -239,7 +239,7 @@ module _ (d : Dialect) where
     all_add = λ ms m more. append_assoc ms (m ∷ []) more;
   }
 
-  dict_laws : SeriesLaws EntryState (List ℕ × Member) (Pairs Member) (dict_series d)
+  pub dict_laws : SeriesLaws EntryState (List ℕ × Member) (Pairs Member) (dict_series d)
   dict_laws = record {
     starts = entry_starts;
     reads = entry_reads;

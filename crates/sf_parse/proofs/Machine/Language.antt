@@ -39,7 +39,7 @@ onward_some : {S T X : Type 0} (into : S → T) (a : Option S) (end : Option X) 
     → a ≡ Some s → onward into a end after ≡ Some (into s)
 onward_some into a end after s e = rw e refl
 
-onward_end : {S T X : Type 0} (into : S → T) (a : Option S) (end : Option X) (after : X
+pub onward_end : {S T X : Type 0} (into : S → T) (a : Option S) (end : Option X) (after : X
     → Option T) (x : X)
     → a ≡ None → end ≡ Some x → onward into a end after ≡ after x
 onward_end into a end after x e h = rw (e, h) refl

@@ -1,6 +1,7 @@
-use Rattle.std.proofs.Common.{◌≡◌, ap, ◌∙◌, map, rules, arith}
+use Rattle.std.proofs.Common.{◌≡◌, ap, ◌∙◌, drop, length, map, rules, arith, subst, sym}
+use Rattle.std.proofs.lemmas.List.{length-map}
 use Rattle.sf_nodes.specs.NodeContents.{content_by, content_size}
-use Rattle.sf_nodes.proofs.FlatNodes.{parts_small, written}
+use Rattle.sf_nodes.proofs.FlatNodes.{parts_small, put_others, written}
 use Rattle.sf_nodes.proofs.parts.Flat.write.Goals as goal
 
 pub write_parts-requires-clause-small : goal.write_parts-requires-clause-small
@@ -24,9 +25,16 @@ returns c =
     let whole = written c.args.start c.args.self.now c.self.inside.parts.items
     c.self.inside.bytes.items c.args.bytes.now c.put.new.buffer c.write_parts.new.nodes described
     c.self.invariant bytes nodes in
+    let count = sym (ap length described) ∙ length-map c.self.inside.parts.items _ in
+    let size = sym (c.self.invariant.1 ∙ ap content_size described) in
+    let others = rw c.as_slice-2.ensures.value at c.write_parts.ensures.others in
     record {
       same_nodes = search rules;
       same_bytes = search rules;
+      other_nodes = subst (λ k. drop k c.write_parts.new.nodes ≡ drop k c.args.nodes.now)
+          (sym count) others;
+      other_bytes = put_others c.self.inside.bytes.items c.args.bytes.now c.put.new.buffer _ size
+          bytes;
       describes = whole.describes;
       decoded = whole.decoded;
       in_one = whole.in_one;
