@@ -21,11 +21,11 @@ use Rattle.sf_parse.specs.Interchange.{CommaViable, MembersForgotten}
 use Rattle.sf_parse.specs.Machine.Language.{run}
 use Rattle.sf_parse.specs.Machine.Series.{SeriesState, Begin, InMember, Gap, Comma, Series}
 use Rattle.sf_parse.specs.Machine.Series.{ResidualSeries, series_step, series_finish, gap_step}
-use Rattle.sf_parse.specs.Machine.States.{State, BeforeItem, InTop, AfterItem, InList, InDict}
+use Rattle.sf_parse.specs.Machine.States.{State, BeforeItem, InsideItem, AfterItem, InList, InDict}
 use Rattle.sf_parse.specs.Machine.Items.{item_finish}
 use Rattle.sf_parse.specs.Machine.Fields.{Residual, step, finish, begin, list_series, dict_series}
 use Rattle.sf_parse.specs.Machine.Fields.{list_finish, dict_finish}
-use Rattle.sf_parse.specs.Reached.{Reached}
+use Rattle.sf_parse.specs.Reached.{IsReachedBy}
 use Rattle.sf_parse.proofs.Machine.Language.{and_then_cases, map_cases, is_none, onward_end}
 use Rattle.sf_parse.proofs.Machine.Series.{SeriesLaws}
 use Rattle.sf_parse.proofs.Machine.Fields.{list_laws, dict_laws}
@@ -176,7 +176,7 @@ module _ (d : Dialect) where
   list_comma : (s : State) (l : List Member) → finish s ≡ Some (list_of l) → 0 < length l
       → (ms : List Member) × (step d s 44 ≡ Some (InList (Comma ms)))
   list_comma BeforeItem l e h = absurd cc
-  list_comma (InTop s) l e h =
+  list_comma (InsideItem s) l e h =
       let c = and_then_cases (item_finish s) (λ i. Some (field.Item i)) (list_of l) e in
       let n : Some (field.Item c.0) ≡ Some (list_of l) = c.2 in absurd cc
   list_comma (AfterItem i) l e h = absurd cc
@@ -193,7 +193,7 @@ module _ (d : Dialect) where
   dict_comma : (s : State) (m : Pairs Member) → finish s ≡ Some (dict_of m) → 0 < length m
       → (ps : Pairs Member) × (step d s 44 ≡ Some (InDict (Comma ps)))
   dict_comma BeforeItem m e h = absurd cc
-  dict_comma (InTop s) m e h =
+  dict_comma (InsideItem s) m e h =
       let c = and_then_cases (item_finish s) (λ i. Some (field.Item i)) (dict_of m) e in
       let n : Some (field.Item c.0) ≡ Some (dict_of m) = c.2 in absurd cc
   dict_comma (AfterItem i) m e h = absurd cc
@@ -209,7 +209,7 @@ module _ (d : Dialect) where
 
   -- the state after a text
   reached : (kind : Kind) (t : List ℕ) (v : Field) → SpellsField d kind t v
-      → (s : State) × Reached d kind s t × (finish s ≡ Some v)
+      → (s : State) × IsReachedBy d kind s t × (finish s ≡ Some v)
   reached kind t v h =
       let c = and_then_cases (run (step d) (begin kind) t) finish v ((is_read d kind t v).0 h) in
       (c.0, reaches_more d kind (begin kind) c.0 [] t (reached_nothing d kind) c.1, c.2)
@@ -217,7 +217,7 @@ module _ (d : Dialect) where
   -- the state after members and a comma
   after_comma : (kind : Kind) (t white : List ℕ) (v : Field) → SpellsField d kind t v → HasMember v
       → Every is_ows white
-      → (s : State) × IsComma kind s × Reached d kind s (t ++ comma ∷ white)
+      → (s : State) × IsComma kind s × IsReachedBy d kind s (t ++ comma ∷ white)
   after_comma kind.Item t white (field.Item i) h m e = absurd m
   after_comma kind.Item t white (field.List l) h m e = absurd h
   after_comma kind.Item t white (field.Dict l) h m e = absurd h
@@ -256,7 +256,7 @@ module _ (d : Dialect) where
       (dict_of k.0, subst (λ y. Residual d y u (dict_of k.0)) (sym e') (k.0, k.1, refl))
 
   alike_text : (kind : Kind) (s s' : State) (p p' u : List ℕ) → IsComma kind s → IsComma kind s'
-      → Reached d kind s p → Reached d kind s' p' → SpellsSome d kind (p ++ u)
+      → IsReachedBy d kind s p → IsReachedBy d kind s' p' → SpellsSome d kind (p ++ u)
       → SpellsSome d kind (p' ++ u)
   alike_text kind s s' p p' u c c' r r' (v, h) =
       let k = alike kind s s' u v c c' ((r.rest u v).1 h) in
