@@ -47,6 +47,14 @@
 #define SF_VERSION_NUMBER                                                                          \
   (SF_VERSION_MAJOR * 10000 + SF_VERSION_MINOR * 100 + SF_VERSION_PATCH)
 
+/*
+ * The most bytes that a call has allocated at a time, for texts of this length together; for
+ * sf_cache_status, if a buffer is too small, twice as many. This is measured by the tests of the
+ * library, and not proved. The comment of a call says if it does not allocate, or when. The length
+ * is that of the text and the bytes, and for sf_write one more for each node.
+ */
+#define SF_MEMORY_SIZE(length) (sizeof(char[200]) * (length) + 2048)
+
 #ifdef __cplusplus
 extern "C" {
 #endif
@@ -165,6 +173,13 @@ typedef struct sf_refusal {
  */
 uint32_t sf_check(const sf_seed *seed, uint32_t dialect, uint32_t kind, const void *text,
                   size_t text_length, sf_refusal *refusal);
+
+/* The sizes in bytes of buffers that are large enough for each message of sf_refusal_text, and for
+ * each of sf_refusal_in_text with a text of this length, as the tests of the library show: the
+ * longest message has 739 bytes. The second is valid for lengths up to
+ * (SIZE_MAX - SF_REFUSAL_SIZE) / 2. */
+#define SF_REFUSAL_SIZE 1024
+#define SF_REFUSAL_IN_TEXT_SIZE(length) (SF_REFUSAL_SIZE + sizeof(char[2]) * (length))
 
 /*
  * Writes the error message of a refusal to buffer, such as

@@ -19,16 +19,14 @@
 
 /* The error message with the text, in a buffer that is to be freed; NULL without memory. */
 static char *message_of(const sf_refusal *refusal, const char *text, size_t length) {
-  size_t size = 0;
-  if (sf_refusal_in_text(refusal, text, length, NULL, 0, &size) != SF_SHORT)
-    return NULL;
+  size_t size = SF_REFUSAL_IN_TEXT_SIZE(length), written;
   char *message = malloc(size + 1);
   if (message == NULL ||
-      sf_refusal_in_text(refusal, text, length, message, size, &size) != SF_OK) {
+      sf_refusal_in_text(refusal, text, length, message, size, &written) != SF_OK) {
     free(message);
     return NULL;
   }
-  message[size] = '\0';
+  message[written] = '\0';
   return message;
 }
 

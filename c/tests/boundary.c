@@ -10,6 +10,7 @@
 #include "buffers.h"
 #include "texts.h"
 #include <inttypes.h>
+#include <malloc.h>
 #include <pthread.h>
 #include <sf.h>
 #include <stdio.h>
@@ -32,6 +33,7 @@ static __thread long refused_from;  /* the first call that is refused, counted f
 static __thread int refused_once;   /* whether only that one is */
 static __thread long refusals;      /* how many were */
 static __thread long blocks;        /* that were taken and not given back */
+static __thread size_t held, peak;  /* their bytes, now and at most */
 static __thread int watching;       /* whether the library runs */
 
 static int refuses(void) {
@@ -46,27 +48,41 @@ static int refuses(void) {
   return 1;
 }
 
+static void took(size_t size) {
+  held += size;
+  if (held > peak)
+    peak = held;
+}
+
 void *__wrap_malloc(size_t size) {
   if (refuses())
     return NULL;
   void *block = __real_malloc(size);
-  if (watching && block != NULL)
+  if (watching && block != NULL) {
     ++blocks;
+    took(malloc_usable_size(block));
+  }
   return block;
 }
 
 void *__wrap_realloc(void *block, size_t size) {
   if (refuses())
     return NULL;
+  size_t before = block == NULL ? 0 : malloc_usable_size(block);
   void *moved = __real_realloc(block, size);
-  if (watching && block == NULL && moved != NULL)
-    ++blocks;
+  if (watching && moved != NULL) {
+    blocks += block == NULL;
+    held -= before;
+    took(malloc_usable_size(moved));
+  }
   return moved;
 }
 
 void __wrap_free(void *block) {
-  if (watching && block != NULL)
+  if (watching && block != NULL) {
     --blocks;
+    held -= malloc_usable_size(block);
+  }
   __real_free(block);
 }
 
@@ -93,6 +109,7 @@ static void check(int holds, const char *what, int line, const char *about) {
 #define CALL(call)                                                                                 \
   do {                                                                                             \
     blocks = calls = 0;                                                                            \
+    held = peak = 0;                                                                               \
     watching = 1;                                                                                  \
     status = (call);                                                                               \
     watching = 0;                                                                                  \
@@ -105,6 +122,9 @@ static void check(int holds, const char *what, int line, const char *about) {
     CALL(call);                                                                                    \
     CHECK(calls == 0);                                                                             \
   } while (0)
+
+/* The most that a call had allocated at a time is within what the header states. */
+#define CHECK_MEMORY(length) CHECK(peak <= SF_MEMORY_SIZE(length))
 
 static const sf_seed seed = {{3, 1, 4, 1, 5, 9, 2, 6, 5, 3, 5, 8, 9, 7, 9, 3}};
 
@@ -691,6 +711,20 @@ static void refusals_in_words(void) {
   refusal.found = 0;
   WRITES(sf_refusal_text(&refusal, buffer, size, required),
          "byte 0x00 at place 0, expected 0x7f");
+
+  /* The longest message: each byte is listed by itself if one of each class is missing, here 9, A
+   * and a. These are 32 bytes in hexadecimal, a tab, a space, a quote, a backquote, and 89 others;
+   * then the end. */
+  about = "the longest message";
+  size_t required = 4711, longest = sizeof "the text ended at place 18446744073709551615, expected " - 1 +
+                                    32 * 4 + 5 + 7 + 7 + 11 + 89 * 3 + 124 * 2 + 4 + 7;
+  char buffer[SF_REFUSAL_SIZE], in_text[SF_REFUSAL_IN_TEXT_SIZE(sizeof "text" - 1)];
+  sf_refusal most = {UINT64_MAX, ~(UINT64_C(1) << '9'),
+                     ~(UINT64_C(1) << ('A' - 64) | UINT64_C(1) << ('a' - 64)), SF_ENDED, 1};
+  CALL(sf_refusal_text(&most, buffer, sizeof buffer, &required));
+  CHECK(status == SF_OK && required == longest && longest == 739);
+  CALL(sf_refusal_in_text(&most, "text", 4, in_text, sizeof in_text, &required));
+  CHECK(status == SF_OK && required == longest + sizeof "\nline 1, place 4:\ntext\n    ^" - 1);
 }
 
 /* A node by its role and its key, among some of the nodes of a Dictionary. */
@@ -2111,6 +2145,11 @@ static uint32_t ask(question asked, uint32_t dialect, uint32_t kind, const void 
   }
 }
 
+/* The length of the texts of a call together. */
+static size_t texts_length(question asked, size_t length) {
+  return asked == TO_COMPARE ? 2 * length : asked == TO_COMPARE_SECOND ? 3 + length : length;
+}
+
 /* Unless sf_parse or sf_cache_status succeeds, its buffers hold nothing of meaning. */
 static void forget(question asked, uint32_t status, answer *a) {
   if ((asked != TO_PARSE && asked != TO_ASK_PATH) || status == SF_OK)
@@ -2145,6 +2184,7 @@ static long scarce(uint32_t dialect, uint32_t kind, const char *text, size_t len
       continue;
     memcpy(&right, &blank, sizeof right);
     CALL(ask(asked, dialect, kind, text, length, &right));
+    CHECK_MEMORY(texts_length(asked, length));
     with_memory = status;
     forget(asked, status, &right);
     CHECK(status != SF_SHORT && status != SF_TOO_MANY && status != SF_NO_MEMORY &&
@@ -2167,6 +2207,106 @@ static long scarce(uint32_t dialect, uint32_t kind, const char *text, size_t len
     }
   }
   return met;
+}
+
+/* A text of at least so many bytes: the pattern again and again, with a new key of letters for each
+ * '#' in it, between a beginning and an end. It is to be freed. */
+static char *long_text(const char *begin, const char *pattern, const char *end, size_t least,
+                       size_t *length) {
+  char *text = malloc(least + 64);
+  size_t at = (size_t)sprintf(text, "%s", begin);
+  for (unsigned key = 0; at < least;) {
+    for (const char *from = pattern; *from != '\0'; ++from) {
+      if (*from != '#') {
+        text[at++] = *from;
+        continue;
+      }
+      unsigned left = key++;
+      do
+        text[at++] = (char)('a' + left % 26);
+      while ((left /= 26) > 0);
+    }
+  }
+  *length = at + (size_t)sprintf(text + at, "%s", end);
+  return text;
+}
+
+/* Texts that take much memory for their length, accepted and refused; the buffers of `ask` are too
+ * small for most of them, so that they are parsed into a tree. */
+static void memory(void) {
+  static const struct {
+    uint32_t kind;
+    const char *begin, *pattern, *end;
+  } rows[] = {
+      {SF_LIST, "a;b", ",a;b", ""},     {SF_LIST, "a;b", ",a;b", "="},
+      {SF_LIST, "a", ",a", ""},         {SF_LIST, "a", ",a", "="},
+      {SF_LIST, "()", ",()", ""},       {SF_LIST, "()", ",()", "="},
+      {SF_LIST, "(a", " a", ")"},       {SF_LIST, "(a", " a", "="},
+      {SF_LIST, "(a;b", " a;b", ")"},   {SF_LIST, "(a;b", " a;b", "="},
+      {SF_LIST, "(a)", ",(a)", ""},     {SF_LIST, "();a", ",();a", "="},
+      {SF_LIST, "::", ",::", ""},       {SF_LIST, "\"\\\"", "\\\"", "\""},
+      {SF_LIST, "%\"", "%c3%bc", "\""}, {SF_LIST, "%\"", "%c3%bc", "\"="},
+      {SF_LIST, ":YWJj", "YWJj", ":"},  {SF_ITEM, "1", ";#", ""},
+      {SF_ITEM, "1", ";#", "="},        {SF_ITEM, "1", ";#", ";a"},
+      {SF_ITEM, "1", ";#=1", ""},       {SF_ITEM, "\"a", "a", "\""},
+      {SF_DICT, "a", ",#", ""},         {SF_DICT, "a", ",#", "="},
+      {SF_DICT, "a", ",#=()", ""},      {SF_DICT, "a", ",#=()", "="},
+      {SF_DICT, "a", ",#;a", ""},       {SF_DICT, "a", ",#;a", "="},
+      {SF_DICT, "a", ",a", ""},         {SF_DICT, "a", ",a;b", "="},
+      {SF_DICT, "a=(a", " a", ")"},     {SF_DICT, "a=(a", " a", "="},
+  };
+  enum { SMALL = 1000, LARGE = 20000 };
+  for (size_t i = 0; i < sizeof rows / sizeof *rows; ++i) {
+    /* lengths from one to twice the other, since blocks grow by doubling */
+    for (size_t least = SMALL; least <= LARGE; least = least * 7 / 6) {
+      const char *about = rows[i].pattern;
+      uint32_t status;
+      size_t length, required, invalid;
+      char *text = long_text(rows[i].begin, rows[i].pattern, rows[i].end, least, &length);
+      sf_refusal refusal;
+      answer a;
+      for (question asked = TO_CHECK; asked < QUESTIONS; ++asked) {
+        if (!is_for(asked, SF_RFC9651, rows[i].kind))
+          continue;
+        CALL(ask(asked, SF_RFC9651, rows[i].kind, text, length, &a));
+        CHECK(status != SF_NO_MEMORY);
+        CHECK_MEMORY(texts_length(asked, status == SF_SHORT && asked == TO_ASK_PATH ? 2 * length : length));
+      }
+      CALL(sf_check(&seed, SF_RFC9651, rows[i].kind, text, length, &refusal));
+      if (status == SF_REFUSED) {
+        CALL(sf_refusal_text(&refusal, a.bytes, sizeof a.bytes, &required));
+        CHECK_MEMORY(0);
+        CALL(sf_refusal_in_text(&refusal, text, length, a.bytes, sizeof a.bytes, &required));
+        CHECK_MEMORY(length);
+      } else {
+        value v = {(const unsigned char *)text, length, malloc(SF_NODES_SIZE(length) * sizeof(sf_node)),
+                   malloc(SF_BYTES_SIZE(length)), {0, 0}};
+        CALL(sf_parse(&seed, SF_RFC9651, rows[i].kind, text, length, v.nodes, SF_NODES_SIZE(length),
+                      v.bytes, SF_BYTES_SIZE(length), &v.sizes, &refusal));
+        CHECK(status == SF_OK);
+        CHECK_MEMORY(length);
+        CALL(sf_write(&seed, SF_RFC9651, rows[i].kind, v.nodes, v.sizes.nodes, text, length, v.bytes,
+                      v.sizes.bytes, a.bytes, sizeof a.bytes, &required, &invalid));
+        CHECK(status == SF_SHORT || status == SF_OK);
+        CHECK_MEMORY(length + v.sizes.bytes + v.sizes.nodes);
+        free(v.bytes);
+        free(v.nodes);
+      }
+      free(text);
+    }
+  }
+
+  const char *about = "a long hop";
+  uint32_t status;
+  size_t length, required;
+  for (size_t least = SMALL; least <= LARGE; least = least * 7 / 6) {
+    char *bytes = long_text("", "a", "", least, &length);
+    sf_hop hop = {{0, length}, {0, 0}, {0, 0}, {0, 0}, 0, SF_HIT, 0, 0, 0, 0, 0, 0, 0, 0, 0, 0, 1, 0};
+    CALL(sf_hop_text(&seed, &hop, bytes, length, NULL, 0, &required));
+    CHECK(status == SF_SHORT && required == length + 4);
+    CHECK_MEMORY(length);
+    free(bytes);
+  }
 }
 
 static void scarce_texts(void) {
@@ -2445,6 +2585,7 @@ int main(void) {
   past_the_end(4, 3);
   past_the_end(3, 4);
   too_long();
+  memory();
   all();
   enum { MOST = 64 };
   pthread_t threads[MOST];

@@ -18,25 +18,24 @@ use sf_use::{CachePath, CacheStatus};
 use sf_value::{Dialect, Field, Kind};
 use std::alloc::Global;
 
-/// How many hops and bytes the path of a response has, and where it came from. In C an `sf_path`.
+/// The sizes of the path of a response, and the cache that served the response. In C an `sf_path`.
 #[repr(C)]
 #[derive(Clone, Copy, Debug, Drop)]
 pub struct Path {
-    /// How many hops.
+    /// The number of hops.
     pub hops: usize,
-    /// How many bytes, those of names, tokens, keys and details.
+    /// The number of bytes: those of names, `fwd` tokens, keys and details.
     pub bytes: usize,
-    /// The place of the hop that the response came from, counted from 0; 0 if there is none.
+    /// The index of the hop that served the response, from 0; 0 if there is none.
     pub served: usize,
-    /// The place of the first member that names no cache, counted from 0, where the answer is
-    /// `NotACache`.
+    /// The index of the first member that does not name a cache, from 0; set only by `NotACache`.
     pub nameless: usize,
-    /// 1 if a hop answered from its store, otherwise 0.
+    /// 1 if a hop served the response, otherwise 0.
     pub is_served: u32,
 }
 
 impl Path {
-    /// Sets how many hops and bytes there are, and which hop the response came from.
+    /// Sets the sizes, and the hop that served the response.
     fn set(&mut self, hops: usize, bytes: usize, served: Option<usize>)
         ensures { self.new ≡ record {
           hops = hops;
@@ -69,13 +68,13 @@ pub extern "C" fn sf_cache_status(
     path: &mut Path,
     refusal: &mut SyntaxRefusal,
 ) -> u32
-    // the buffers describe the hops of the List, or the status says why not
+    // The buffers describe the hops of the List, or the status says why not.
     ensures reports { ReportsPath
         (record { hops = hops.old; bytes = bytes.old; path = path.old; refusal = refusal.old })
         (record { hops = hops.new; bytes = bytes.new; path = path.new; refusal = refusal.new })
         text.now (status_at result) }
-    // if they are reported: hops at most four fifths of the text's length, rounded to the nearest
-    // number, and bytes at most eight fifths
+    // If they are reported, the hops are at most four fifths of the text's length, rounded to the
+    // nearest number, and the bytes at most eight fifths.
     ensures few { SaysFew text.now path.new (status_at result) }
 {
     path_of(alloc, seed, text, hops, bytes, path, refusal).code()
@@ -91,13 +90,13 @@ fn path_of(
     path: &mut Path,
     refusal: &mut SyntaxRefusal,
 ) -> Status
-    // the buffers describe the hops of the List, or the status says why not
+    // The buffers describe the hops of the List, or the status says why not.
     ensures reports { ReportsPath
         (record { hops = hops.old; bytes = bytes.old; path = path.old; refusal = refusal.old })
         (record { hops = hops.new; bytes = bytes.new; path = path.new; refusal = refusal.new })
         text.now (Some result) }
-    // if they are reported: hops at most four fifths of the text's length, rounded to the nearest
-    // number, and bytes at most eight fifths
+    // If they are reported, the hops are at most four fifths of the text's length, rounded to the
+    // nearest number, and the bytes at most eight fifths.
     ensures few { SaysFew text.now path.new (Some result) }
 {
     if let Some(found) = scan_hops(text, hops, bytes) {

@@ -30,7 +30,7 @@ pub(crate) struct PathSizes {
     pub(crate) served: Option<usize>,
 }
 
-/// The bytes of what is not said.
+/// The bytes of a part that is absent.
 const NO_BYTES: Slice = Slice {
     bytes: b"",
     coded: false,
@@ -134,7 +134,7 @@ fn name_slice(name: NameView) -> Slice
     }
 }
 
-/// The bytes of a detail; none if it is not said.
+/// The bytes of a detail; none if there is none.
 #[inline]
 fn detail_slice(detail: Option<NameView>) -> Slice
     ensures { (d : Which) (n : Maybe Name) → ShowsName d detail.entry n
@@ -146,7 +146,7 @@ fn detail_slice(detail: Option<NameView>) -> Slice
     }
 }
 
-/// The bytes of a String; none if it is not said.
+/// The bytes of a String; none if there is none.
 #[inline]
 fn text_slice(text: Option<Slice>) -> Slice
     ensures { (d : Which) (t : Maybe (List ℕ)) → ShowsText d text.entry t
@@ -158,7 +158,7 @@ fn text_slice(text: Option<Slice>) -> Slice
     }
 }
 
-/// The bytes of a token; none if it is not said.
+/// The bytes of a Token; none if there is none.
 #[inline]
 fn token_slice(token: Option<&[u8]>) -> Slice
     ensures { (d : Which) → HasBytes d result (unwrap_or (option_copied token.entry) []) }
@@ -224,7 +224,7 @@ fn status_of(number: Option<i64>) -> Option<u16>
     Some(HopStatus::new(code).ok()?.get())
 }
 
-/// The number of the reason of a token; 0 if it is not said.
+/// The number of the reason of a token; 0 if there is none.
 fn why_number(token: Option<&[u8]>) -> u16
     ensures { result ≡ unwrap_or (option_map token_number (option_copied token.entry)) 0 }
 {

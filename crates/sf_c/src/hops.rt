@@ -21,37 +21,37 @@ use std::marker::Model;
 pub struct HopNode {
     /// The cache's name.
     pub name: Span,
-    /// The token of `fwd` (section 2.2); empty if it is not said.
+    /// `fwd`: its token (section 2.2); empty if it is absent.
     pub why_token: Span,
-    /// The cache key: `key` (section 2.7); empty if it is not said.
+    /// `key`: the cache key (section 2.7); empty if it is absent.
     pub key: Span,
-    /// What else the cache tells: `detail` (section 2.8); empty if it is not said.
+    /// `detail`: further information from the cache (section 2.8); empty if it is absent.
     pub detail: Span,
-    /// For how many seconds the response is still fresh: `ttl` (section 2.4); 0 if it is not said.
+    /// `ttl`: the remaining freshness lifetime in seconds (section 2.4); 0 if it is absent.
     pub ttl: i64,
-    /// What it did: 0 if neither `hit` nor `fwd` is said, 1 for a hit, 2 where it forwarded the
-    /// request, 3 where both are said.
+    /// What it did: 1 for a hit, 2 if it forwarded the request (`fwd` is present), 3 for both, and 0
+    /// for neither.
     pub outcome: u16,
-    /// Why it forwarded the request: 0 if it is not said, then from 1 on `bypass`, `method`,
+    /// `fwd`: why it forwarded the request: 0 if it is absent, then from 1 on `bypass`, `method`,
     /// `uri-miss`, `vary-miss`, `miss`, `request`, `stale`, `partial`, and 9 for another token.
     pub why: u16,
-    /// The status that the next server answered: `fwd-status` (section 2.3); 0 if it is not said.
+    /// `fwd-status`: the status code of the next hop's response (section 2.3); 0 if it is absent.
     pub status: u16,
-    /// 1 if `fwd-status` is said, otherwise 0.
+    /// 1 if `fwd-status` is present, otherwise 0.
     pub has_status: u8,
-    /// 1 if the response was stored: `stored` (section 2.5), otherwise 0.
+    /// `stored`: 1 if the cache stored the response (section 2.5), otherwise 0.
     pub stored: u8,
-    /// 1 if `stored` is said, otherwise 0.
+    /// 1 if `stored` is present, otherwise 0.
     pub has_stored: u8,
-    /// 1 if the request was collapsed with others: `collapsed` (section 2.6), otherwise 0.
+    /// `collapsed`: 1 if the request was collapsed with others (section 2.6), otherwise 0.
     pub collapsed: u8,
-    /// 1 if `collapsed` is said, otherwise 0.
+    /// 1 if `collapsed` is present, otherwise 0.
     pub has_collapsed: u8,
-    /// 1 if `ttl` is said, otherwise 0.
+    /// 1 if `ttl` is present, otherwise 0.
     pub has_ttl: u8,
-    /// 1 if `key` is said, otherwise 0.
+    /// 1 if `key` is present, otherwise 0.
     pub has_key: u8,
-    /// 1 if `detail` is said, otherwise 0.
+    /// 1 if `detail` is present, otherwise 0.
     pub has_detail: u8,
     /// 1 if the name is a Token, 0 if it is a String.
     pub name_is_token: u8,
@@ -109,7 +109,7 @@ impl FlatPath {
         requires bytes { hops_size self.now ≤ length bytes.old }
         ensures same_hops { length hops.new ≡ length hops.old }
         ensures same_bytes { length bytes.new ≡ length bytes.old }
-        // the starts of the buffers describe the hops
+        // The starts of the buffers describe the hops.
         ensures front { HopsAtFront self.now hops.new bytes.new }
     {
         put(hops, 0, self.hops.as_slice());
@@ -135,7 +135,7 @@ impl FlatPath {
 
 /// A text after the bytes.
 fn put_span(bytes: &mut Vec<u8>, text: &[u8]) -> Result<Span, OutOfMemory>
-    // the text is after the bytes that were there, and the span is that of it
+    // The text is after the bytes that were there, and the span is that of it.
     ensures { IfOk result (λ span. PutsSpan bytes.old.items bytes.new.items text.now span) }
 {
     let at = bytes.as_slice().len();
@@ -163,7 +163,7 @@ fn is_token(name: &Name) -> bool
     matches!(name, Name::Token(_))
 }
 
-/// The bytes of a cache key; none if it is not said.
+/// The bytes of a cache key; none if there is none.
 fn key_bytes(key: &Option<Text>) -> &[u8]
     ensures { result.now ≡ unwrap_or key.now [] }
 {
@@ -173,7 +173,7 @@ fn key_bytes(key: &Option<Text>) -> &[u8]
     }
 }
 
-/// The bytes of a detail; none if it is not said.
+/// The bytes of a detail; none if there is none.
 fn detail_bytes(detail: &Option<Name>) -> &[u8]
     ensures { result.now ≡ bytes_of_detail detail.now }
 {
@@ -183,7 +183,7 @@ fn detail_bytes(detail: &Option<Name>) -> &[u8]
     }
 }
 
-/// Whether a detail is said and is a Token.
+/// Whether there is a detail that is a Token.
 fn detail_is_token(detail: &Option<Name>) -> bool
     ensures { result ≡ is_detail_token detail.now }
 {
@@ -193,7 +193,7 @@ fn detail_is_token(detail: &Option<Name>) -> bool
     }
 }
 
-/// The token of the reason for forwarding; empty if it is not said.
+/// The token of the reason for forwarding; empty if there is none.
 fn why_token(outcome: &Outcome) -> &[u8]
     ensures { result.now ≡ token_of_why (passed_by outcome.now) }
 {
@@ -232,7 +232,7 @@ fn reason_number(why: &Forward) -> u16
     }
 }
 
-/// The number of the reason for forwarding; 0 if it is not said.
+/// The number of the reason for forwarding; 0 if there is none.
 fn why_number(outcome: &Outcome) -> u16
     ensures { result ≡ number_of_why (passed_by outcome.now) }
 {
@@ -242,7 +242,7 @@ fn why_number(outcome: &Outcome) -> u16
     }
 }
 
-/// A status code; 0 if it is not said.
+/// A status code; 0 if there is none.
 fn code_of(status: Option<HopStatus>) -> u16
     ensures { result ≡ unwrap_or status 0 }
 {
@@ -252,7 +252,7 @@ fn code_of(status: Option<HopStatus>) -> u16
     }
 }
 
-/// The seconds of a `ttl`; 0 if it is not said.
+/// The seconds of a `ttl`; 0 if there is none.
 fn seconds_of(ttl: Option<Int>) -> i64
     ensures { result ≡ unwrap_or ttl (pos 0) }
 {

@@ -290,7 +290,7 @@ fn report_named(
     )
 }
 
-/// Returns why a line is no line of a head, and where it is refused.
+/// Returns the report of a line that is not a line of a head.
 fn bad_line_words(
     alloc: Global,
     settings: &Settings,

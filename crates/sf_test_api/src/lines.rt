@@ -284,7 +284,7 @@ fn lines_one_by_one(rt: HostRuntime) {
     assert!(rt; is_list(rt.alloc(), &seed, &parser.finish(), b"a, b, c"));
 }
 
-/// An empty first line stands before a comma, and none may stand there.
+/// An empty first line is joined by a comma, which is not allowed at the beginning.
 #[test]
 fn an_empty_first_line(rt: HostRuntime) {
     let mut parser = Parser::new(rt.alloc(), &seed(&rt), Kind::List, u64::MAX);

@@ -37,7 +37,7 @@ pub(crate) fn seen_if(right: bool) -> Seen {
     if right { Seen::Right } else { Seen::Wrong }
 }
 
-/// Whether a parse gave this field, or wanted memory.
+/// Whether a parse returned this field, or ran out of memory.
 pub(crate) fn seen_field(answer: Result<Field, Refusal>, want: &Field) -> Seen {
     match answer {
         Ok(field) => seen_if(same(&field, want)),
@@ -46,7 +46,7 @@ pub(crate) fn seen_field(answer: Result<Field, Refusal>, want: &Field) -> Seen {
     }
 }
 
-/// Whether a parse was refused at this place for this byte, or wanted memory.
+/// Whether a parse was refused at this place for this byte, or ran out of memory.
 pub(crate) fn seen_syntax(answer: Result<Field, Refusal>, at: u64, byte: u8) -> Seen {
     match answer {
         Err(Refusal::OutOfMemory) => Seen::Refused,
@@ -55,7 +55,7 @@ pub(crate) fn seen_syntax(answer: Result<Field, Refusal>, at: u64, byte: u8) -> 
     }
 }
 
-/// Whether a parse gave the Integer -7 and nothing else, or wanted memory.
+/// Whether a parse returned the Integer -7 and nothing else, or ran out of memory.
 pub(crate) fn seen_minus_seven(answer: Result<Field, Refusal>) -> Seen {
     match answer {
         Ok(field) => seen_if(is_minus_seven(&field)),

@@ -68,7 +68,7 @@ fn texts_in_a_dialect(rt: HostRuntime) -> Result<(), Fail> {
 /// Refused for its last byte, at 31.
 const REFUSED: &[u8] = b"a=(1 \"x y\" *t :YQ==:);y=tok, b=#";
 
-/// Want of memory ends a parse before a bad byte that stands behind it.
+/// A failed allocation ends a parse before a bad byte that is after it.
 #[test]
 fn refused_texts(rt: HostRuntime) -> Result<(), Fail> {
     let alloc = rt.alloc();

@@ -246,7 +246,7 @@ fn keys_that_are_set(rt: HostRuntime) -> Result<(), Fail> {
     Ok(())
 }
 
-/// Puts the key that stands first.
+/// Puts the key that is first.
 fn put_first(puts: &mut Vec<Put>, count: usize) -> Seen {
     let Some(put) = puts.pop() else {
         return Seen::Wrong;

@@ -1,5 +1,4 @@
-//! Keys and bare items. Those that may not have every value are made by functions that check it, so what
-//! is made of them can be written.
+//! Keys and bare items. Each is checked when it is made, so it can be written.
 
 use crate::call::{copied, copied_text};
 use crate::{Error, Type};
@@ -53,11 +52,11 @@ macro_rules! checked_text {
         pub struct $name(String);
 
         impl $name {
-            /// Takes a text, if it is one.
+            /// Checks a text, and keeps it.
             ///
             /// # Errors
             ///
-            /// [`Error::Invalid`] if it is not.
+            /// [`Error::Invalid`] if it is not valid.
             ///
             /// ```
             #[doc = concat!("assert!(sf::", stringify!($name), "::new(\"", $good, "\").is_ok());")]

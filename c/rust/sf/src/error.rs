@@ -147,8 +147,8 @@ pub enum Error {
     SecondRefused(Refusal),
     /// The index of the first member of a Cache-Status List that does not name a cache.
     NotACache(usize),
-    /// What is to be written is not a value: a key or Token with other characters than it may have, a
-    /// number out of range.
+    /// What is to be written is not valid: a key, Token or String has a character that is not allowed in
+    /// it, or a number is out of range.
     Invalid,
     /// A text to parse, or the keys and bytes of a value to write, of 4 GiB or more.
     TooLong,

@@ -261,7 +261,7 @@ pub struct Node<'a> {
     index: usize,
 }
 
-/// Nodes that are siblings, in order.
+/// An iterator over sibling nodes, in order.
 ///
 /// ```
 /// let tree = sf::Parser::new().tree(sf::Kind::List, "(1 2);a").unwrap();

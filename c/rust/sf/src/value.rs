@@ -8,7 +8,7 @@ use std::fmt;
 use std::ops::{Deref, DerefMut};
 use std::str::FromStr;
 
-/// What is made of each node, in a vector of their number.
+/// What is made of each node, in a vector that is allocated at once.
 fn collected<'a, T>(
     nodes: impl Iterator<Item = Node<'a>> + Clone,
     made_of: impl Fn(Node<'a>) -> Result<T, Error>,
@@ -70,12 +70,12 @@ macro_rules! keyed {
                     .map(|(_, value)| value)
             }
 
-            /// Sets the value of a key, at the place that the key has, or at the end if it has none.
-            /// Returns the value that it had.
+            /// Sets the value of a key: in its place if the key is present, otherwise at the end. Returns
+            /// the old value.
             ///
             /// # Errors
             ///
-            /// [`Error::Invalid`] if the key is none.
+            /// [`Error::Invalid`] if the key is not valid.
             ///
             /// ```
             #[doc = concat!("let mut item = sf::", $kind, "::parse(\"", $text, "\").unwrap();")]
@@ -107,7 +107,7 @@ macro_rules! keyed {
                 Ok(None)
             }
 
-            /// Removes a key, and returns its value. Those behind it keep their order.
+            /// Removes a key, and returns its value. The others keep their order.
             ///
             /// ```
             #[doc = concat!("let mut item = sf::", $kind, "::parse(\"", $text, "\").unwrap();")]
@@ -120,7 +120,7 @@ macro_rules! keyed {
                 Some(self.entries.remove(place).1)
             }
 
-            /// None of them.
+            /// Without keys.
             ///
             /// ```
             #[doc = concat!("assert!(sf::", stringify!($name), "::new().is_empty());")]
@@ -130,7 +130,7 @@ macro_rules! keyed {
                 $name::default()
             }
 
-            /// How many there are.
+            /// The number of keys.
             ///
             /// ```
             #[doc = concat!("let item = sf::", $kind, "::parse(\"", $text, "\").unwrap();")]
@@ -142,7 +142,7 @@ macro_rules! keyed {
                 self.entries.len()
             }
 
-            /// Whether there are none.
+            /// Whether there are no keys.
             ///
             /// ```
             #[doc = concat!("let item = sf::", $kind, "::parse(\"", $text, "\").unwrap();")]
@@ -253,7 +253,7 @@ impl Item {
     ///
     /// # Errors
     ///
-    /// [`Error::Invalid`] if the key is none.
+    /// [`Error::Invalid`] if the key is not valid.
     ///
     /// ```
     /// let item = sf::Item::new(7).with_param("a", 1).unwrap().with_param("b", true).unwrap();
@@ -308,7 +308,7 @@ impl InnerList {
     ///
     /// # Errors
     ///
-    /// [`Error::Invalid`] if the key is none.
+    /// [`Error::Invalid`] if the key is not valid.
     ///
     /// ```
     /// let inner = sf::InnerList::new([1, 2]).with_param("a", 1).unwrap().with_param("b", true).unwrap();

@@ -187,7 +187,7 @@ fn all_keys_are_taken_out_and_one_is_set(rt: HostRuntime) {
     }
 }
 
-/// Adds 1000 to what the key at a place has, and tells whether it has a value.
+/// Adds 1000 to the value of the key at a place, and returns whether it has a value.
 fn raise(rt: &(impl Abort + AllocGlobal), entries: &mut Entries<Bare>, place: u8) -> bool {
     let key = key_at(rt, place);
     match entries.get_mut(&key) {

@@ -63,7 +63,7 @@ fn dict(rt: &(impl Abort + AllocGlobal), seed: &RandomState) -> Dict {
     with(rt, dict, b"c", inner(rt, seed).into())
 }
 
-/// What stands under `b`: the number of `q`, and whether there is an `r` or an Inner List.
+/// The value of `b`: the number of `q`, and whether there is an `r` or an Inner List.
 fn under_b(dict: &Dict) -> Option<(i64, bool, bool)> {
     let member = dict.get(b"b")?;
     let item = member.as_item()?;
@@ -75,7 +75,7 @@ fn under_b(dict: &Dict) -> Option<(i64, bool, bool)> {
     ))
 }
 
-/// What stands under `c`: how many Items, the flag `r`, and whether there is an Item.
+/// The value of `c`: the number of Items, the flag `r`, and whether there is an Item.
 fn under_c(dict: &Dict) -> Option<(usize, bool, bool)> {
     let member = dict.get(b"c")?;
     let inner = member.as_inner()?;
