@@ -10,6 +10,7 @@
 #include "buffers.h"
 #include "texts.h"
 #include <inttypes.h>
+#include <malloc.h>
 #include <pthread.h>
 #include <sf.h>
 #include <stdio.h>
@@ -32,6 +33,7 @@ static __thread long refused_from;  /* the first call that is refused, counted f
 static __thread int refused_once;   /* whether only that one is */
 static __thread long refusals;      /* how many were */
 static __thread long blocks;        /* that were taken and not given back */
+static __thread size_t held, peak;  /* their bytes, now and at most */
 static __thread int watching;       /* whether the library runs */
 
 static int refuses(void) {
@@ -46,10 +48,24 @@ static int refuses(void) {
   return 1;
 }
 
+static void took(void *block) {
+  if (!watching || block == NULL)
+    return;
+  held += malloc_usable_size(block);
+  if (held > peak)
+    peak = held;
+}
+
+static void gave(void *block) {
+  if (watching && block != NULL)
+    held -= malloc_usable_size(block);
+}
+
 void *__wrap_malloc(size_t size) {
   if (refuses())
     return NULL;
   void *block = __real_malloc(size);
+  took(block);
   if (watching && block != NULL)
     ++blocks;
   return block;
@@ -58,13 +74,16 @@ void *__wrap_malloc(size_t size) {
 void *__wrap_realloc(void *block, size_t size) {
   if (refuses())
     return NULL;
+  gave(block);
   void *moved = __real_realloc(block, size);
+  took(moved != NULL ? moved : block);
   if (watching && block == NULL && moved != NULL)
     ++blocks;
   return moved;
 }
 
 void __wrap_free(void *block) {
+  gave(block);
   if (watching && block != NULL)
     --blocks;
   __real_free(block);
@@ -93,6 +112,7 @@ static void check(int holds, const char *what, int line, const char *about) {
 #define CALL(call)                                                                                 \
   do {                                                                                             \
     blocks = calls = 0;                                                                            \
+    held = peak = 0;                                                                               \
     watching = 1;                                                                                  \
     status = (call);                                                                               \
     watching = 0;                                                                                  \
@@ -1028,6 +1048,59 @@ static void many_keys(void) {
     CHECK(is_untouched(&refusal));
     give_value(v);
     free(text);
+  }
+}
+
+/* A call that refuses the text at its last byte, and has less memory than twice its length. */
+#define LEAN_CALL(call)                                                                            \
+  do {                                                                                             \
+    refusal = untouched;                                                                           \
+    CALL(call);                                                                                    \
+    CHECK(status == SF_REFUSED && refusal.offset == LENGTH - 1);                                   \
+    CHECK(peak < 2 * LENGTH);                                                                      \
+  } while (0)
+
+/* Malformed Lists and Dictionaries of many short members. */
+static void lean_refusals(void) {
+  enum { LENGTH = 65536 };
+  static const struct {
+    uint32_t kind;
+    const char *members;
+    char last;
+  } rows[] = {
+      {SF_LIST, "a;b,", '='},
+      {SF_LIST, "\"a text\" , ", ','},
+      {SF_LIST, "(1 :YQ==:;p);q,\t", '!'},
+      {SF_DICT, "k=1,", '!'},
+      {SF_DICT, "k;p=\"x, y\"; q, ", '='},
+      {SF_DICT, "k=(a b),", 'K'},
+  };
+  for (size_t i = 0; i < sizeof rows / sizeof *rows; ++i) {
+    const char *about = rows[i].members;
+    size_t each = strlen(about);
+    unsigned char *text = take_buffer(NULL, LENGTH);
+    /* spaces, whole members, and a byte that begins none */
+    size_t front = (LENGTH - 1) % each;
+    memset(text, ' ', front);
+    for (size_t at = front; at < LENGTH - 1; at += each)
+      memcpy(text + at, about, each);
+    text[LENGTH - 1] = (unsigned char)rows[i].last;
+    value v = {text, LENGTH, take_buffer(NULL, SF_NODES_SIZE(LENGTH) * sizeof *v.nodes),
+               take_buffer(NULL, SF_BYTES_SIZE(LENGTH)), {4711, 4712}};
+    sf_refusal refusal;
+    uint32_t status;
+    LEAN_CALL(sf_check(&seed, SF_RFC9651, rows[i].kind, text, LENGTH, &refusal));
+    LEAN_CALL(sf_check(&seed, SF_RFC8941, rows[i].kind, text, LENGTH, &refusal));
+    LEAN_CALL(sf_parse(&seed, SF_RFC9651, rows[i].kind, text, LENGTH, v.nodes,
+                       SF_NODES_SIZE(LENGTH), v.bytes, SF_BYTES_SIZE(LENGTH), &v.sizes, &refusal));
+    if (rows[i].kind == SF_DICT) {
+      sf_priority_flags priority;
+      sf_policy policy;
+      LEAN_CALL(sf_priority(&seed, text, LENGTH, &priority, &refusal));
+      LEAN_CALL(sf_cache_control(&seed, text, LENGTH, &policy, &refusal));
+    }
+    give_value(v);
+    give_buffer(text);
   }
 }
 
@@ -2377,6 +2450,7 @@ static void all(void) {
     refusals_in_words();
     nodes_of_values();
     many_keys();
+    lean_refusals();
     finding();
     building();
     changing();
