@@ -3,7 +3,8 @@ use Rattle.std.proofs.Common.{◌≡◌, ℕ, ◌+◌, ◌-◌, ◌<◌, ◌≤�
 use Rattle.std.proofs.Common.{Option, Some, None, Result, Ok, Err, inr}
 use Rattle.std.specs.Prelude.{IfErr}
 use Rattle.std.specs.Result.{result_err}
-use Rattle.std.proofs.Common.{refl, sym, ap, ◌∙◌, subst, append_assoc, append-nil, length-append, arith}
+use Rattle.std.proofs.Common.{refl, sym, ap, ◌∙◌, subst, append_assoc, append-nil, arith}
+use Rattle.std.proofs.Common.{length-append}
 use Rattle.std.proofs.Math.Seq.{take-append_seam}
 use Rattle.sf_value.specs.declared.dialect.Dialect.{Dialect}
 use Rattle.sf_value.specs.declared.value.Bare.TheVariants.{Token}
@@ -105,6 +106,8 @@ module _ {X : Type 0} (d : Dialect) (kind : Kind) (P : List ℕ → X → Type 0
       let w = t ++ 44 ∷ s.behind in
       let joined : r.front ++ (p.front ++ (s.before ++ 44 ∷ (s.behind ++ rest)))
       ≡ (r.front ++ w) ++ rest = simp append_assoc in
+      let whole : 44 ∷ p.front ≡ 44 ∷ (p.front ++ []) =
+      ap (λ y. 44 ∷ y) (sym (append-nil p.front)) in
       let two = as_one (one_member ++ t) s.behind fields.one (p.value ∷ []) (
         [],
         97 ∷ 44 ∷ p.front,
@@ -116,7 +119,7 @@ module _ {X : Type 0} (d : Dialect) (kind : Kind) (P : List ℕ → X → Type 0
           44 ∷ p.front,
           refl,
           fields.is_one,
-          ([], [], p.front, [], ap (λ y. 44 ∷ y) (sym (append-nil p.front)), tt, tt, p.spelled, refl),
+          ([], [], p.front, [], whole, tt, tt, p.spelled, refl),
         ),
         s.ows_before,
       )
