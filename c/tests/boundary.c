@@ -1065,6 +1065,59 @@ static void many_keys(void) {
   }
 }
 
+/* A call that refuses the text at its last byte, and has less memory than twice its length. */
+#define LEAN_CALL(call)                                                                            \
+  do {                                                                                             \
+    refusal = untouched;                                                                           \
+    CALL(call);                                                                                    \
+    CHECK(status == SF_REFUSED && refusal.offset == LENGTH - 1);                                   \
+    CHECK(peak < 2 * LENGTH);                                                                      \
+  } while (0)
+
+/* Malformed Lists and Dictionaries of many short members. */
+static void lean_refusals(void) {
+  enum { LENGTH = 65536 };
+  static const struct {
+    uint32_t kind;
+    const char *members;
+    char last;
+  } rows[] = {
+      {SF_LIST, "a;b,", '='},
+      {SF_LIST, "\"a text\" , ", ','},
+      {SF_LIST, "(1 :YQ==:;p);q,\t", '!'},
+      {SF_DICT, "k=1,", '!'},
+      {SF_DICT, "k;p=\"x, y\"; q, ", '='},
+      {SF_DICT, "k=(a b),", 'K'},
+  };
+  for (size_t i = 0; i < sizeof rows / sizeof *rows; ++i) {
+    const char *about = rows[i].members;
+    size_t each = strlen(about);
+    unsigned char *text = take_buffer(NULL, LENGTH);
+    /* spaces, whole members, and a byte that begins none */
+    size_t front = (LENGTH - 1) % each;
+    memset(text, ' ', front);
+    for (size_t at = front; at < LENGTH - 1; at += each)
+      memcpy(text + at, about, each);
+    text[LENGTH - 1] = (unsigned char)rows[i].last;
+    value v = {text, LENGTH, take_buffer(NULL, SF_NODES_SIZE(LENGTH) * sizeof *v.nodes),
+               take_buffer(NULL, SF_BYTES_SIZE(LENGTH)), {4711, 4712}};
+    sf_refusal refusal;
+    uint32_t status;
+    LEAN_CALL(sf_check(&seed, SF_RFC9651, rows[i].kind, text, LENGTH, &refusal));
+    LEAN_CALL(sf_check(&seed, SF_RFC8941, rows[i].kind, text, LENGTH, &refusal));
+    LEAN_CALL(sf_parse(&seed, SF_RFC9651, rows[i].kind, text, LENGTH, v.nodes,
+                       SF_NODES_SIZE(LENGTH), v.bytes, SF_BYTES_SIZE(LENGTH), &v.sizes, &refusal));
+    if (rows[i].kind == SF_DICT) {
+      sf_priority_flags priority;
+      sf_policy policy;
+      LEAN_CALL(sf_priority(&seed, text, LENGTH, &priority, &refusal));
+      LEAN_CALL(sf_cache_control(&seed, text, LENGTH, &policy, &refusal));
+    }
+    give_value(v);
+    give_buffer(text);
+  }
+}
+
 static void building(void) {
   static const step signature[] = {
       {'(', 0, "sig1", 0, NULL},           {'=', SF_STRING, NULL, 0, "@method"},
@@ -2517,6 +2570,7 @@ static void all(void) {
     refusals_in_words();
     nodes_of_values();
     many_keys();
+    lean_refusals();
     finding();
     building();
     changing();

@@ -6,8 +6,9 @@ ghost use Rattle.sf_c.specs.Parsing.{ParsesOrSays};
 use crate::refusal::SyntaxRefusal;
 use crate::seed::Seed;
 use crate::status::Status;
-use sf_parse::{Refusal, parse_text_in};
+use sf_parse::Refusal;
 use sf_value::{Dialect, Field, Kind};
+use sf_view::parse_declined;
 use std::alloc::Global;
 
 /// The dialect of this number, an `sf_dialect` of `include/sf.h`.
@@ -33,8 +34,8 @@ pub(crate) fn kind_of(number: u32) -> Option<Kind>
     }
 }
 
-/// The value that the text spells, or the status that says why there is none. A refusal is put into
-/// its struct, which is otherwise unchanged.
+/// The value that a text that the scanner declined spells, or the status that says why there is
+/// none. A refusal is put into its struct, which is otherwise unchanged.
 pub(crate) fn parse(
     alloc: Global,
     seed: &Seed,
@@ -50,7 +51,7 @@ pub(crate) fn parse(
     let Some(state) = seed.state() else {
         return Err(Status::OutOfMemory);
     };
-    match parse_text_in(alloc, &state, dialect, kind, text) {
+    match parse_declined(alloc, &state, dialect, kind, text) {
         Ok(field) => Ok(field),
         Err(Refusal::OutOfMemory) => Err(Status::OutOfMemory),
         Err(

@@ -6,9 +6,9 @@ ghost use Rattle.sf_view.specs.View.{DescribesField};
 ghost use Rattle.sf_nodes.specs.Owned.{AreNodesOf, nodes_in};
 
 use crate::flattening::flatten;
-use sf_parse::{Refusal, parse_text_in};
+use sf_parse::Refusal;
 use sf_value::{Dialect, Field, Kind, OutOfMemory};
-use sf_view::{Node, View, node_buffer, scan_text};
+use sf_view::{Node, View, node_buffer, parse_declined, scan_text};
 use std::alloc::Global;
 use std::borrow::CowSlice;
 use std::hash::RandomState;
@@ -58,7 +58,7 @@ impl<'a> FieldNodes<'a> {
     }
 
     /// Reads a text as a field of this kind (RFC 9651 section 4.2), and returns its nodes, or the
-    /// refusal that [`parse_text_in`] returns. The text is scanned, as by [`View::scan`]; only if
+    /// refusal that [`parse_declined`] returns. The text is scanned, as by [`View::scan`]; only if
     /// the scanner declines it, for example because a key is repeated, the field is built and its
     /// nodes are made from that. It allocates. `Refusal::OutOfMemory` is also returned for a text
     /// of some gigabytes whose keys and texts together have 4 GiB or more.
@@ -84,7 +84,7 @@ impl<'a> FieldNodes<'a> {
                 nodes,
             });
         }
-        let field = parse_text_in(alloc, seed, dialect, kind, text)?;
+        let field = parse_declined(alloc, seed, dialect, kind, text)?;
         Ok(FieldNodes::of_field(alloc, &field)?)
     }
 

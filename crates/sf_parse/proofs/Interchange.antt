@@ -47,7 +47,9 @@ module _ (d : Dialect) (kind : Kind) where
   moved_viable : (p q u : List ℕ) → AreInterchangeable d kind p q → Viable d kind (p ++ u)
       → Viable d kind (q ++ u)
   moved_viable p q u a (more, v, h) =
-      let k = (a (u ++ more)).0 (v, subst (λ y. SpellsField d kind y v) (append_assoc p u more) h) in
+      let joined : SpellsField d kind (p ++ (u ++ more)) v =
+      subst (λ y. SpellsField d kind y v) (append_assoc p u more) h in
+      let k = (a (u ++ more)).0 (v, joined) in
       (more, k.0, subst (λ y. SpellsField d kind y k.0) (sym (append_assoc q u more)) k.1)
 
   -- the longest viable prefix goes no further after one than after the other
@@ -131,7 +133,8 @@ module _ {S X V : Type 0} (k : Series S X V) (law : SeriesLaws S X V k) where
       let c = and_then_cases (k.finish s) (λ x. Some (k.add given x)) v e in
       let no = is_none (k.step s 44) (λ t m. law.apart s c.0 44 t c.1 m refl) in (
         k.add given c.0,
-        onward_end (InMember given) (k.step s 44) (k.finish s) (λ x. gap_step (k.add given x) 44) c.0
+        onward_end (InMember given) (k.step s 44) (k.finish s)
+            (λ x. gap_step (k.add given x) 44) c.0
             no c.1,
       )
   takes_comma (Gap given) v e n = (given, refl)

@@ -11,6 +11,8 @@ mod copies;
 #[cfg(test)]
 mod cursors;
 #[cfg(test)]
+mod declined;
+#[cfg(test)]
 mod memory;
 #[cfg(test)]
 mod nodes;

@@ -10,10 +10,11 @@ ghost use Rattle.sf_view.specs.Views.{IsViewed};
 ghost use Rattle.sf_view.specs.Written.{IsCanonicalOf};
 
 use crate::buffer::node_buffer;
+use crate::declined::parse_declined;
 use crate::node::Node;
 use crate::view::{Unviewed, View};
 use crate::writing::write_view;
-use sf_parse::{Refusal, parse_text_in};
+use sf_parse::Refusal;
 use sf_value::{Dialect, Kind, OutOfMemory, Writing};
 use sf_write::to_text;
 use std::alloc::Global;
@@ -47,7 +48,7 @@ pub fn view_text(alloc: Global, view: &View, kind: Kind) -> Result<Vec<u8>, OutO
 }
 
 /// Returns the canonical text (RFC 9651 section 4.1) of the field that a text spells in a dialect,
-/// or the refusal that [`parse_text_in`] returns. The canonical text is written from nodes that
+/// or the refusal that [`sf_parse::parse_text_in`] returns. The canonical text is written from nodes that
 /// point into the text; only if it has no view, for example because a key is repeated, the field is
 /// built. It allocates the canonical text, and nodes if there are more than 32.
 ///
@@ -72,7 +73,7 @@ pub fn normalise(
 }
 
 /// Returns the canonical text (RFC 9651 section 4.1) of the field that a text spells in a dialect,
-/// written from nodes; `None` if the text has no view: call [`sf_parse::parse_text_in`] then. It
+/// written from nodes; `None` if the text has no view: call [`crate::parse_declined`] then. It
 /// fails only if an allocation fails. It allocates the canonical text, and nodes if there are more
 /// than 32.
 ///
@@ -125,7 +126,7 @@ fn by_field(
     ensures { MatchResult result (λ c. IsCanonicalOf dialect kind text.now c.items)
         (λ e. Parses dialect kind text.now (Err e)) }
 {
-    let field = parse_text_in(alloc, seed, dialect, kind, text)?;
+    let field = parse_declined(alloc, seed, dialect, kind, text)?;
     let canonical = to_text(alloc, &field);
     drop(field);
     Ok(canonical?)

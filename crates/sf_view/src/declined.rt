@@ -1,0 +1,125 @@
+//! Texts that a scanner declined, parsed without the members before the one that is refused.
+ghost use Rattle.std.specs.Prelude.{◌++◌, IfSome, IfErr, Err};
+ghost use Rattle.sf_parse.specs.Parsers.{Parses};
+ghost use Rattle.sf_view.specs.LastMembers.{PassesMember, Resumes, IsExact, one_member};
+
+use crate::cursor::{first_start, next_start};
+use crate::text_parts::{read_entry, read_member};
+use sf_parse::{Parser, Refusal, parse_text_in};
+use sf_value::{Dialect, Field, Kind};
+use std::alloc::Global;
+use std::hash::RandomState;
+
+/// A text of at most this many bytes is parsed from its beginning.
+const SHORT: usize = 128;
+
+/// A member and a comma, of a List or of a Dictionary.
+const ONE_MEMBER: &[u8] = b"a,";
+
+/// Parses a text that a scanner declined, with the result of [`parse_text_in`]. If a List or a
+/// Dictionary is refused, the whole members before the place of the refusal are not built: only the
+/// member that is refused takes memory.
+///
+/// ```
+/// parse_declined(alloc, &seed, Dialect::Rfc9651, Kind::List, b"a, b, c, 1x")
+/// // Err: byte 0x78 'x' at place 10, expected ..
+/// ```
+pub fn parse_declined(
+    alloc: Global,
+    seed: &RandomState,
+    dialect: Dialect,
+    kind: Kind,
+    text: &[u8],
+) -> Result<Field, Refusal>
+    // The text spells only this value, or this is its exact refusal; otherwise an allocation
+    // failed.
+    ensures { Parses dialect kind text.now result }
+{
+    match refusal_of(alloc, seed, dialect, kind, text) {
+        Some(refusal) => return Err(refusal),
+        None => return parse_text_in(alloc, seed, dialect, kind, text),
+    }
+}
+
+/// The refusal of a long List or Dictionary, if it is refused after a whole member and a comma;
+/// `None` claims nothing.
+fn refusal_of(
+    alloc: Global,
+    seed: &RandomState,
+    dialect: Dialect,
+    kind: Kind,
+    text: &[u8],
+) -> Option<Refusal>
+    ensures { IfSome result (λ e. Parses dialect kind text.now (Err e)) }
+{
+    if text.len() <= SHORT {
+        return None;
+    }
+    let rest = behind_members(dialect, kind, text)?;
+    let refusal = parse_behind_member(alloc, seed, dialect, kind, rest).err()?;
+    match refusal {
+        Refusal::Syntax {
+            place,
+            found,
+            expected,
+            may_end,
+        } => {
+            let skipped = (text.len() - rest.len()) as u64;
+            return Some(Refusal::Syntax {
+                place: skipped + (place - ONE_MEMBER.len() as u64),
+                found,
+                expected,
+                may_end,
+            });
+        }
+        Refusal::OutOfMemory => return Some(refusal),
+        _ => return None,
+    }
+}
+
+/// Parses one member, a comma and the rest.
+fn parse_behind_member(
+    alloc: Global,
+    seed: &RandomState,
+    dialect: Dialect,
+    kind: Kind,
+    rest: &[u8],
+) -> Result<Field, Refusal>
+    ensures { IfErr result (IsExact dialect kind (one_member ++ rest.now)) }
+{
+    let mut parser = Parser::new_in(alloc, seed, dialect, kind, u64::MAX);
+    parser.feed(ONE_MEMBER)?;
+    parser.feed(rest)?;
+    parser.finish()
+}
+
+/// The text from its last member on, or from the first that can't be read; `None` if no member is
+/// before that.
+fn behind_members(dialect: Dialect, kind: Kind, text: &[u8]) -> Option<&[u8]>
+    ensures { IfSome result (λ rest. Resumes dialect kind text.now rest.now) }
+{
+    let start = first_start(text)?;
+    let mut rest = behind_member(dialect, kind, start)?;
+    while let Some(next) = behind_member(dialect, kind, rest) {
+        rest = next;
+    }
+    Some(rest)
+}
+
+/// The text from the next member on, after a member and a comma.
+#[inline]
+fn behind_member(dialect: Dialect, kind: Kind, text: &[u8]) -> Option<&[u8]>
+    ensures { IfSome result (λ rest. PassesMember dialect kind text.now rest.now) }
+{
+    match kind {
+        Kind::Item => return None,
+        Kind::List => {
+            let (_, after) = read_member(dialect, text)?;
+            return next_start(after)?;
+        }
+        Kind::Dict => {
+            let (_, _, after) = read_entry(dialect, text)?;
+            return next_start(after)?;
+        }
+    }
+}
