@@ -24,7 +24,7 @@ use Rattle.sf_parse.specs.declared.refusal.Refusal.{Refusal}
 use Rattle.sf_parse.specs.declared.refusal.Refusal.TheVariants.{OutOfMemory, Syntax, TooLong}
 use Rattle.sf_parse.specs.declared.refusal.Refusal.TheVariants.{ReadFault}
 use Rattle.sf_parse.specs.Interchange.{SpellsSome, AreInterchangeable, HasMember}
-use Rattle.sf_parse.specs.Parsers.{Progress, Took, IsSyntax, RefusedFor, Fed, Finishes, Parses}
+use Rattle.sf_parse.specs.Parsers.{Progress, HasTaken, IsSyntax, RefusedFor, Feeds, Finishes, Parses}
 use Rattle.sf_parse.proofs.Interchange.{refusals_move, comma_viable, members_forgotten}
 use Rattle.sf_view.specs.Scans.{Behind}
 use Rattle.sf_view.specs.LastMembers.{one_member, Passes, PassesMember, Resumes, IsExact}
@@ -241,10 +241,10 @@ finished_exact d kind t (ReadFault place) h = tt
 pub record Has (d : Dialect) (kind : Kind) (t : List ℕ) (p : Progress) : Type 0 where
   pub dialect : p.dialect ≡ d
   pub kind_is : p.kind ≡ kind
-  pub took : Took p t
+  pub took : HasTaken p t
 
 pub has_fed : (d : Dialect) (kind : Kind) (t x : List ℕ) (old new : Progress) (u : Unit {0})
-    → Has d kind t old → Fed old new (Ok u) x → Has d kind (t ++ x) new
+    → Has d kind t old → Feeds old new (Ok u) x → Has d kind (t ++ x) new
 has_fed d kind t x old new u h f = record {
   dialect = f.settings.dialect ∙ h.dialect;
   kind_is = f.settings.kind ∙ h.kind_is;
@@ -252,14 +252,14 @@ has_fed d kind t x old new u h f = record {
 }
 
 pub has_refused : (d : Dialect) (kind : Kind) (t x more : List ℕ) (old new : Progress) (e : Refusal)
-    → Has d kind t old → Fed old new (Err e) x → IsExact d kind ((t ++ x) ++ more) e
+    → Has d kind t old → Feeds old new (Err e) x → IsExact d kind ((t ++ x) ++ more) e
 has_refused d kind t x more old new e h f =
     subst (λ y. IsExact y kind ((t ++ x) ++ more) e) h.dialect
     (subst (λ y. IsExact old.dialect y ((t ++ x) ++ more) e) h.kind_is
     (refused_exact old.dialect old.kind old.max ((t ++ x) ++ more) e (f.answer.1 t h.took more)))
 
 pub has_finished : (d : Dialect) (kind : Kind) (t : List ℕ) (p : Progress) (e : Refusal)
-    → Has d kind t p → ((s : List ℕ) → Took p s → Finishes p.dialect p.kind s (Err e))
+    → Has d kind t p → ((s : List ℕ) → HasTaken p s → Finishes p.dialect p.kind s (Err e))
     → IsExact d kind t e
 has_finished d kind t p e h f =
     subst (λ y. IsExact y kind t e) h.dialect
@@ -267,13 +267,13 @@ has_finished d kind t p e h f =
     (finished_exact p.dialect p.kind t e (f t h.took)))
 
 pub has_ended : (d : Dialect) (kind : Kind) (t : List ℕ) (p : Progress) (r : Result Field Refusal)
-    → Has d kind t p → ((s : List ℕ) → Took p s → Finishes p.dialect p.kind s r)
+    → Has d kind t p → ((s : List ℕ) → HasTaken p s → Finishes p.dialect p.kind s r)
     → IfErr r (IsExact d kind t)
 has_ended d kind t p (Ok v) h f = tt
 has_ended d kind t p (Err e) h f = has_finished d kind t p e h f
 
 pub has_refused_last : (d : Dialect) (kind : Kind) (t x : List ℕ) (old new : Progress) (e : Refusal)
-    → Has d kind t old → Fed old new (Err e) x → IsExact d kind (t ++ x) e
+    → Has d kind t old → Feeds old new (Err e) x → IsExact d kind (t ++ x) e
 has_refused_last d kind t x old new e h f =
     subst (λ y. IsExact d kind y e) (append-nil (t ++ x))
     (has_refused d kind t x [] old new e h f)
