@@ -3,7 +3,7 @@ use Rattle.std.proofs.Common.{◌≡◌, ℕ, ◌*◌, ◌≤◌, List, ◌++◌
 use Rattle.sf_value.specs.declared.dialect.Dialect.{Dialect}
 use Rattle.sf_value.specs.declared.value.Kind.{Kind}
 use Rattle.sf_value.proofs.LengthBound.{canon_bound}
-use Rattle.sf_view.specs.Written.{IsCanonicalOf}
+use Rattle.sf_view.specs.CanonicalParts.{IsCanonicalOf}
 use Rattle.sf_c.specs.declared.refusal.SyntaxRefusal.{SyntaxRefusal}
 use Rattle.sf_c.specs.declared.status.Status.TheVariants.{Answered}
 use Rattle.sf_c.specs.Normal.{TextOutput, Normalises}
@@ -21,12 +21,12 @@ pub is_answered : (d : Dialect) (k : Kind) (t c old new : List ℕ) (m n : ℕ) 
     → IsCanonicalOf d k t c → s ≡ r → n ≡ length c → n ≤ length old
     → new ≡ c ++ drop (length c) old
     → Normalises (output old m r) (output new n s) t d k Answered
-is_answered d k t c old new m n r s h refusal e within front = (
+is_answered d k t c old new m n r s h refusal e within prefix = (
   h.value,
   h.only,
   e ∙ ap length h.canonical,
   short d k t c n h e,
   within,
-  front ∙ ap (λ y. y ++ drop (length y) old) h.canonical,
+  prefix ∙ ap (λ y. y ++ drop (length y) old) h.canonical,
   refusal,
 )

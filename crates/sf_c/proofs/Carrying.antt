@@ -113,20 +113,20 @@ each_first old new all n ns ms e h = by ms (subst (λ y. EachMeans old new y ms)
     by [] h = absurd h
     by (m ∷ ms) h = record { first = m; others = ms; split = refl; means = h.0; rest = h.1 }
 
-record Halves (old new : List ℕ) (front back ms : List Node) : Type 0 where
+record Halves (old new : List ℕ) (prefix suffix ms : List Node) : Type 0 where
   left : List Node
   right : List Node
   split : ms ≡ left ++ right
-  before : EachMeans old new front left
-  behind : EachMeans old new back right
+  before : EachMeans old new prefix left
+  behind : EachMeans old new suffix right
 
-halves : (old new : List ℕ) (front back ms : List Node) → EachMeans old new (front ++ back) ms
-    → Halves old new front back ms
-halves old new [] back ms h =
+halves : (old new : List ℕ) (prefix suffix ms : List Node) → EachMeans old new (prefix ++ suffix) ms
+    → Halves old new prefix suffix ms
+halves old new [] suffix ms h =
     record { left = []; right = ms; split = refl; before = tt; behind = h }
-halves old new (n ∷ front) back [] h = absurd h
-halves old new (n ∷ front) back (m ∷ ms) h =
-    let r = halves old new front back ms h.1 in
+halves old new (n ∷ prefix) suffix [] h = absurd h
+halves old new (n ∷ prefix) suffix (m ∷ ms) h =
+    let r = halves old new prefix suffix ms h.1 in
     record {
       left = m ∷ r.left;
       right = r.right;
@@ -135,10 +135,10 @@ halves old new (n ∷ front) back (m ∷ ms) h =
       behind = r.behind;
     }
 
-each_halves : (old new : List ℕ) (all front back ms : List Node) → all ≡ front ++ back
-    → EachMeans old new all ms → Halves old new front back ms
-each_halves old new all front back ms e h =
-    halves old new front back ms (subst (λ y. EachMeans old new y ms) e h)
+each_halves : (old new : List ℕ) (all prefix suffix ms : List Node) → all ≡ prefix ++ suffix
+    → EachMeans old new all ms → Halves old new prefix suffix ms
+each_halves old new all prefix suffix ms e h =
+    halves old new prefix suffix ms (subst (λ y. EachMeans old new y ms) e h)
 
 -- the parts of a field
 params_carry : (d : Dialect) (old new : List ℕ) (r : Role) (ns ms : List Node) (ps : Pairs Bare)
@@ -169,13 +169,13 @@ item_carry d old new r k ns ms i (n, rest, e, t, q) h =
 items_carry : (d : Dialect) (old new : List ℕ) (ns ms : List Node) (is : List Item)
     → DescribesItems d old ns is → EachMeans old new ns ms → DescribesItems d new ms is
 items_carry d old new ns ms [] e h = each_none old new ns ms e h
-items_carry d old new ns ms (i ∷ is) (front, back, e, t, q) h =
-    let f = each_halves old new ns front back ms e h in (
+items_carry d old new ns ms (i ∷ is) (prefix, suffix, e, t, q) h =
+    let f = each_halves old new ns prefix suffix ms e h in (
       f.left,
       f.right,
       f.split,
-      item_carry d old new role_is.InnerItem [] front f.left i t f.before,
-      items_carry d old new back f.right is q f.behind,
+      item_carry d old new role_is.InnerItem [] prefix f.left i t f.before,
+      items_carry d old new suffix f.right is q f.behind,
     )
 
 inner_carry : (d : Dialect) (old new k : List ℕ) (ns ms : List Node) (l : Inner)
@@ -203,25 +203,25 @@ member_carry d old new k ns ms (member.Inner l) t h = inner_carry d old new k ns
 members_carry : (d : Dialect) (old new : List ℕ) (ns ms : List Node) (xs : List Member)
     → DescribesMembers d old ns xs → EachMeans old new ns ms → DescribesMembers d new ms xs
 members_carry d old new ns ms [] e h = each_none old new ns ms e h
-members_carry d old new ns ms (x ∷ xs) (front, back, e, t, q) h =
-    let f = each_halves old new ns front back ms e h in (
+members_carry d old new ns ms (x ∷ xs) (prefix, suffix, e, t, q) h =
+    let f = each_halves old new ns prefix suffix ms e h in (
       f.left,
       f.right,
       f.split,
-      member_carry d old new [] front f.left x t f.before,
-      members_carry d old new back f.right xs q f.behind,
+      member_carry d old new [] prefix f.left x t f.before,
+      members_carry d old new suffix f.right xs q f.behind,
     )
 
 entries_carry : (d : Dialect) (old new : List ℕ) (ns ms : List Node) (ps : Pairs Member)
     → DescribesEntries d old ns ps → EachMeans old new ns ms → DescribesEntries d new ms ps
 entries_carry d old new ns ms [] e h = each_none old new ns ms e h
-entries_carry d old new ns ms (p ∷ ps) (front, back, e, t, q) h =
-    let f = each_halves old new ns front back ms e h in (
+entries_carry d old new ns ms (p ∷ ps) (prefix, suffix, e, t, q) h =
+    let f = each_halves old new ns prefix suffix ms e h in (
       f.left,
       f.right,
       f.split,
-      member_carry d old new p.0 front f.left p.1 t f.before,
-      entries_carry d old new back f.right ps q f.behind,
+      member_carry d old new p.0 prefix f.left p.1 t f.before,
+      entries_carry d old new suffix f.right ps q f.behind,
     )
 
 pub field_carry : (d : Dialect) (old new : List ℕ) (ns ms : List Node) (v : Field)

@@ -16,7 +16,7 @@ use Rattle.sf_view.specs.declared.view.Slice.{Slice}
 use Rattle.sf_view.specs.NodeTypes.{type_number, is_coded}
 use Rattle.sf_view.specs.View.{slice_at, type_of, text_of, DescribesText}
 use Rattle.sf_view.specs.Decoding.{HasBytes}
-use Rattle.sf_c.specs.Decodings.{EachMeans, IsPlain, AreDecoded, IsNodeDecoded, HasCoded}
+use Rattle.sf_c.specs.Decodings.{EachMeans, IsUncoded, AreDecoded, IsNodeDecoded, HasCoded}
 use Rattle.sf_c.specs.Decodings.{decoded_to}
 use Rattle.sf_nodes.proofs.Slices.{slice_at-append, slice_at_behind}
 use Rattle.sf_c.proofs.Carrying.{means_stays, each_more, each_push}
@@ -30,7 +30,7 @@ node_stays text bytes used n fits none key at = record {
   within = fits;
   kept = refl;
   means = means_stays text (take used bytes) n;
-  plain = (none, (inl key, inl at));
+  uncoded = (none, (inl key, inl at));
 }
 
 -- a number that is not 0 says that bytes are coded
@@ -77,10 +77,10 @@ slice_free : (text old free new : List ℕ) (used count : ℕ) → used ≤ leng
     → new ≡ take used old ++ free → count ≤ length free
     → slice_at (length text + used) count (text ++ take (used + count) new) ≡ take count free
 slice_free text old free new used count fits e small =
-    let front : length (take used old) ≡ used = length-take-le used old fits in
+    let prefix : length (take used old) ≡ used = length-take-le used old fits in
     let behind : drop used new ≡ free =
     ap (drop used) e
-    ∙ ap (λ y. drop y (take used old ++ free)) (sym front)
+    ∙ ap (λ y. drop y (take used old ++ free)) (sym prefix)
     ∙ drop-append_seam (take used old) free in
     let enough : length (take count free) ≤ count =
     (let l = length-take-le count free small in omega arith) in
@@ -95,7 +95,7 @@ pub node_decoded : (text old free new : List ℕ) (used count : ℕ) (n : Node) 
     → ((d : Dialect) (t : List ℕ) → HasBytes d s t → take count free ≡ t)
     → IsNodeDecoded text old new used n (decoded_to (length text + used) count n) (used + count)
 node_decoded text old free new used count n s coded some key fits e small gives =
-    let front : length (take used old) ≡ used = length-take-le used old fits in
+    let prefix : length (take used old) ≡ used = length-take-le used old fits in
     let whole = ap length e ∙ length-append (take used old) free in
     let end : used + count ≤ length new = omega arith in
     let size : length (take (used + count) new) ≡ used + count
@@ -106,7 +106,7 @@ node_decoded text old free new used count n s coded some key fits e small gives 
       within = end;
       kept =
           ap (take used) e
-          ∙ ap (λ y. take y (take used old ++ free)) (sym front)
+          ∙ ap (λ y. take y (take used old ++ free)) (sym prefix)
           ∙ seam (take used old) free;
       means = record {
         bare = λ d r k m x h. record {
@@ -124,7 +124,7 @@ node_decoded text old free new used count n s coded some key fits e small gives 
         };
         opening = λ k m h. absurd (no_opening n coded.node_type h.node_type);
       };
-      plain = (refl, (inl key, inr (omega arith)));
+      uncoded = (refl, (inl key, inr (omega arith)));
     }
   where
     seam : (xs ys : List ℕ) → take (length xs) (xs ++ ys) ≡ xs
@@ -136,7 +136,7 @@ pub record SoFar (text : List ℕ) (old now : List Node) (bytes : List ℕ) (use
     : Type 0 where
   pub within : used ≤ length bytes
   pub means : EachMeans text (text ++ take used bytes) (take count old) (take count now)
-  pub plain : Each (IsPlain (length text)) (take count now)
+  pub uncoded : Each (IsUncoded (length text)) (take count now)
   pub rest : drop count now ≡ drop count old
 
 -- the first of these nodes, and the others
@@ -151,10 +151,10 @@ first_same n m ns ms e = (ap (first n) e, ap others e)
     others [] = []
     others (x ∷ xs) = xs
 
-each_push_plain : (size : ℕ) (ns : List Node) (n : Node) → Each (IsPlain size) ns → IsPlain size n
-    → Each (IsPlain size) (ns ++ n ∷ [])
-each_push_plain size [] n h p = (p, tt)
-each_push_plain size (m ∷ ns) n h p = (h.0, each_push_plain size ns n h.1 p)
+each_push_uncoded : (size : ℕ) (ns : List Node) (n : Node) → Each (IsUncoded size) ns → IsUncoded size n
+    → Each (IsUncoded size) (ns ++ n ∷ [])
+each_push_uncoded size [] n h p = (p, tt)
+each_push_uncoded size (m ∷ ns) n h p = (h.0, each_push_uncoded size ns n h.1 p)
 
 take_next : (ns : List Node) (i : ℕ) (d : Node) → i < length ns
     → take (i + 1) ns ≡ take i ns ++ get_or ns i d ∷ []
@@ -194,9 +194,9 @@ decoded_more text old now bytes new used end count x m s h same t =
           (subst (λ y. EachMeans text (text ++ take end new) (take count old ++ n ∷ []) y) (sym put)
           (each_push text (text ++ take end new) (take count old) (take count now) n m means
           t.means));
-      plain =
-          subst (Each (IsPlain (length text))) (sym put)
-          (each_push_plain (length text) (take count now) m s.plain t.plain);
+      uncoded =
+          subst (Each (IsUncoded (length text))) (sym put)
+          (each_push_uncoded (length text) (take count now) m s.uncoded t.uncoded);
       rest =
           drop-set-lt (count + 1) now count m (omega arith)
           ∙ ap (λ y. drop y now) (sym next)
@@ -206,7 +206,7 @@ decoded_more text old now bytes new used end count x m s h same t =
 
 pub none_decoded : (text : List ℕ) (old : List Node) (bytes : List ℕ)
     → SoFar text old old bytes 0 0
-none_decoded text old bytes = record { within = omega arith; means = tt; plain = tt; rest = refl }
+none_decoded text old bytes = record { within = omega arith; means = tt; uncoded = tt; rest = refl }
 
 pub all_decoded : (text : List ℕ) (old now : List Node) (bytes : List ℕ) (used count : ℕ)
     → SoFar text old now bytes used count → length now ≤ count → length now ≡ length old
@@ -219,5 +219,5 @@ all_decoded text old now bytes used count s h same =
       means =
           subst (λ y. EachMeans text (text ++ take used bytes) y now) b
           (subst (λ y. EachMeans text (text ++ take used bytes) (take count old) y) a s.means);
-      plain = subst (Each (IsPlain (length text))) a s.plain;
+      uncoded = subst (Each (IsUncoded (length text))) a s.uncoded;
     }

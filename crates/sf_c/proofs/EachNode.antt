@@ -49,10 +49,10 @@ each_item d t P o r k ns i (n, ms, e, h, q) =
 each_items : (d : Dialect) (t : List ℕ) (P : Node → Type 0) → OfEach d t P → (ns : List Node)
     (is : List Item) → DescribesItems d t ns is → Each P ns
 each_items d t P o ns [] e = subst (Each P) (sym e) tt
-each_items d t P o ns (i ∷ is) (front, back, e, h, q) =
+each_items d t P o ns (i ∷ is) (prefix, suffix, e, h, q) =
     subst (Each P) (sym e)
-    (each_join P front back (each_item d t P o role_is.InnerItem [] front i h)
-    (each_items d t P o back is q))
+    (each_join P prefix suffix (each_item d t P o role_is.InnerItem [] prefix i h)
+    (each_items d t P o suffix is q))
 
 each_inner : (d : Dialect) (t : List ℕ) (P : Node → Type 0) → OfEach d t P → (k : List ℕ)
     (ns : List Node) (l : Inner) → DescribesInner d t k ns l → Each P ns
@@ -71,17 +71,17 @@ each_member d t P o k ns (member.Inner l) h = each_inner d t P o k ns l h
 each_of_members : (d : Dialect) (t : List ℕ) (P : Node → Type 0) → OfEach d t P → (ns : List Node)
     (xs : List Member) → DescribesMembers d t ns xs → Each P ns
 each_of_members d t P o ns [] e = subst (Each P) (sym e) tt
-each_of_members d t P o ns (x ∷ xs) (front, back, e, h, q) =
+each_of_members d t P o ns (x ∷ xs) (prefix, suffix, e, h, q) =
     subst (Each P) (sym e)
-    (each_join P front back (each_member d t P o [] front x h) (each_of_members d t P o back xs q))
+    (each_join P prefix suffix (each_member d t P o [] prefix x h) (each_of_members d t P o suffix xs q))
 
 each_of_entries : (d : Dialect) (t : List ℕ) (P : Node → Type 0) → OfEach d t P → (ns : List Node)
     (ps : Pairs Member) → DescribesEntries d t ns ps → Each P ns
 each_of_entries d t P o ns [] e = subst (Each P) (sym e) tt
-each_of_entries d t P o ns (p ∷ ps) (front, back, e, h, q) =
+each_of_entries d t P o ns (p ∷ ps) (prefix, suffix, e, h, q) =
     subst (Each P) (sym e)
-    (each_join P front back (each_member d t P o p.0 front p.1 h)
-    (each_of_entries d t P o back ps q))
+    (each_join P prefix suffix (each_member d t P o p.0 prefix p.1 h)
+    (each_of_entries d t P o suffix ps q))
 
 each_of_field : (d : Dialect) (t : List ℕ) (P : Node → Type 0) → OfEach d t P → (ns : List Node)
     (v : Field) → DescribesField d t ns v → Each P ns

@@ -167,7 +167,7 @@ hop_few : (ps : Pairs Bare) (n : Name)
     → hop_size (hop_content (hop_named ps n))
     ≤ length (bytes_of n) + params_bytes ps
 hop_few ps n =
-    let back = ap (λ o. length (why_token o))
+    let suffix = ap (λ o. length (why_token o))
     (passed_back (unwrap_or (boolean_at (codes "hit") ps) false) (passed_at ps)) in
     let why = (parts_few ps (value_at (codes "fwd") ps)).0 in
     let key = (parts_few ps (value_at (codes "key") ps)).1 in

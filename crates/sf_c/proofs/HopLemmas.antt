@@ -10,7 +10,7 @@ use Rattle.sf_c.specs.declared.hops.HopNode.{HopNode}
 use Rattle.sf_c.specs.Spans.{IsSpanWithin, span_bytes}
 use Rattle.sf_c.specs.Hops.{HopContent, says_by, says_of, hop_content_by, hop_content}
 use Rattle.sf_c.specs.Hops.{bytes_of, detail_bytes, why_token, hops_size}
-use Rattle.sf_c.specs.Hops.{IsHopWithin, AreHopsWithin, HopsHoldUp, PutsSpan, HopsAtFront}
+use Rattle.sf_c.specs.Hops.{IsHopWithin, AreHopsWithin, HopsHoldUp, PutsSpan, HopsAtStart}
 use Rattle.sf_c.specs.Hops.{hop_bytes, hops_bytes, end_of, AreHopsInOrder}
 use Rattle.sf_nodes.proofs.Slices.{slice_at-append, slice_at_last}
 use Rattle.std.specs.Prelude.{unwrap_or}
@@ -245,11 +245,11 @@ hop_held b0 b1 b2 b3 b4 n w k d x h ns ms p t s e a =
     )
 
 -- the hops and the bytes at the start of two buffers
-pub front_of : (ts : List HopContent) (hops some_hops : List HopNode) (bytes some_bytes : List ℕ)
+pub prefix_of : (ts : List HopContent) (hops some_hops : List HopNode) (bytes some_bytes : List ℕ)
     → map (hop_content_by some_bytes) some_hops ≡ ts → HopsHoldUp some_bytes some_hops
     → take (length some_hops) hops ≡ some_hops → take (length some_bytes) bytes ≡ some_bytes
-    → HopsAtFront ts hops bytes
-front_of ts hops some_hops bytes some_bytes described h e f =
+    → HopsAtStart ts hops bytes
+prefix_of ts hops some_hops bytes some_bytes described h e f =
     let size : length some_bytes ≡ hops_size ts = h.1 ∙ ap hops_size described in
     let count : length some_hops ≡ length ts =
     sym (length-map some_hops (hop_content_by some_bytes)) ∙ ap length described in
@@ -270,13 +270,13 @@ front_of ts hops some_hops bytes some_bytes described h e f =
     }
 
 -- hops and bytes that are put into buffers
-pub hops_at_front : (ts : List HopContent) (hops new_hops some_hops : List HopNode)
+pub hops_at_start : (ts : List HopContent) (hops new_hops some_hops : List HopNode)
     (bytes new_bytes some_bytes : List ℕ) → map (hop_content_by some_bytes) some_hops ≡ ts
     → HopsHoldUp some_bytes some_hops
     → new_hops ≡ some_hops ++ drop (0 + length some_hops) hops
     → new_bytes ≡ some_bytes ++ drop (0 + length some_bytes) bytes
-    → HopsAtFront ts new_hops new_bytes
-hops_at_front ts hops new_hops some_hops bytes new_bytes some_bytes described h e f =
-    front_of ts new_hops some_hops new_bytes some_bytes described h
+    → HopsAtStart ts new_hops new_bytes
+hops_at_start ts hops new_hops some_hops bytes new_bytes some_bytes described h e f =
+    prefix_of ts new_hops some_hops new_bytes some_bytes described h
     (ap (take (length some_hops)) e ∙ take-append_seam some_hops _)
     (ap (take (length some_bytes)) f ∙ take-append_seam some_bytes _)

@@ -21,19 +21,19 @@ join-push m (n ∷ ms) line =
     ∙ append_assoc m (44 ∷ 32 ∷ (join (n ∷ ms) ++ 44 ∷ 32 ∷ [])) line
     )
 
--- the front of a buffer, at a length that is known
-pub front_at : (n : ℕ) (xs ys : List ℕ) → length xs ≡ n → take n (xs ++ ys) ≡ xs
-front_at n xs ys e =
+-- the prefix of a buffer, at a length that is known
+pub prefix_at : (n : ℕ) (xs ys : List ℕ) → length xs ≡ n → take n (xs ++ ys) ≡ xs
+prefix_at n xs ys e =
     let P : ℕ → Type 0 = λ m. take m (xs ++ ys) ≡ xs in subst P e (take-append_seam xs ys)
 
 pub behind_at : (n : ℕ) (xs ys : List ℕ) → length xs ≡ n → drop n (xs ++ ys) ≡ ys
 behind_at n xs ys e =
     let P : ℕ → Type 0 = λ m. drop m (xs ++ ys) ≡ ys in subst P e (drop-append_seam xs ys)
 
--- how long the front with what was put is
-pub front_length : (n : ℕ) (buffer x : List ℕ) → n ≤ length buffer
+-- how long the prefix with what was put is
+pub prefix_length : (n : ℕ) (buffer x : List ℕ) → n ≤ length buffer
     → length (take n buffer ++ x) ≡ n + length x
-front_length n buffer x h =
+prefix_length n buffer x h =
     let a = length-append (take n buffer) x in
     let b = length-take-le n buffer h in
     omega arith
@@ -44,16 +44,16 @@ pub put_twice : (n : ℕ) (buffer mid new x y : List ℕ) → n ≤ length buffe
     → new ≡ (take (n + length x) mid ++ y) ++ drop (n + length x + length y) mid
     → new ≡ ((take n buffer ++ x) ++ y) ++ drop (n + length x + length y) buffer
 put_twice n buffer mid new x y h e f =
-    let long = front_length n buffer x h in
-    let front : take (n + length x) mid ≡ take n buffer ++ x
-    = ap (take (n + length x)) e ∙ front_at (n + length x) (take n buffer ++ x) _ long in
+    let long = prefix_length n buffer x h in
+    let prefix : take (n + length x) mid ≡ take n buffer ++ x
+    = ap (take (n + length x)) e ∙ prefix_at (n + length x) (take n buffer ++ x) _ long in
     let more : n + length x ≤ n + length x + length y = omega arith in
-    let back : drop (n + length x + length y) mid ≡ drop (n + length x + length y) buffer
+    let suffix : drop (n + length x + length y) mid ≡ drop (n + length x + length y) buffer
     = ap (drop (n + length x + length y)) e
     ∙ drop-append-drop (n + length x) buffer (take n buffer ++ x) (n + length x + length y) more
     long in
-    f ∙ ap (λ t. (t ++ y) ++ drop (n + length x + length y) mid) front
-    ∙ ap (λ t. ((take n buffer ++ x) ++ y) ++ t) back
+    f ∙ ap (λ t. (t ++ y) ++ drop (n + length x + length y) mid) prefix
+    ∙ ap (λ t. ((take n buffer ++ x) ++ y) ++ t) suffix
 
 -- lines that are joined, with one more
 pub joined_more : (ls : List (List ℕ)) (line text comma : List ℕ) (begun : ℕ) → text ≡ join ls
@@ -101,7 +101,7 @@ puts_one old line comma mid new is fits e f =
     let same : n + length comma + length line ≡ all = omega arith in
     let whole = put_twice n buffer mid new comma line enough e f in
     let text : List ℕ = (take n buffer ++ comma) ++ line in
-    let first = front_length n buffer comma enough in
+    let first = prefix_length n buffer comma enough in
     let second = length-append (take n buffer ++ comma) line in
     let long : length text ≡ all = omega arith in
     let adds : length (separator_of old.joined ++ line) ≡ length comma + length line
@@ -113,15 +113,15 @@ puts_one old line comma mid new is fits e f =
       joins = λ ls a. (
         ((λ h. absurd (omega arith)), (λ h. absurd (push_some ls line h))),
         ap (take all) whole
-            ∙ front_at all text (drop (n + length comma + length line) buffer) long
+            ∙ prefix_at all text (drop (n + length comma + length line) buffer) long
             ∙ joined_more ls line (take n buffer) comma old.joined.begun a.1 a.0 is,
       );
       longer = omega arith;
       fits = fits;
       begun = refl;
       required = refl;
-      front = ap (take all) whole
-          ∙ front_at all text (drop (n + length comma + length line) buffer) long
+      prefix = ap (take all) whole
+          ∙ prefix_at all text (drop (n + length comma + length line) buffer) long
           ∙ append_assoc (take n buffer) comma line
           ∙ ap (λ t. take n buffer ++ (t ++ line)) is;
       behind = ap (drop all) whole

@@ -12,7 +12,7 @@ use Rattle.sf_view.specs.declared.node.Node.{Node}
 use Rattle.sf_view.specs.Accepts.{Accepts}
 use Rattle.sf_view.specs.View.{DescribesField}
 use Rattle.sf_c.specs.declared.parsing.Sizes.{Sizes}
-use Rattle.sf_c.specs.Decodings.{AreDecoded, IsPlain}
+use Rattle.sf_c.specs.Decodings.{AreDecoded, IsUncoded}
 use Rattle.sf_c.specs.Flattening.{HasSizes, IsSmall, IsHeld}
 use Rattle.sf_nodes.specs.NodeBytes.{IsDecoded, IsInOne}
 use Rattle.sf_nodes.specs.Laws.{NodesAreFew, BytesAreFew, NodesAreTheirs}
@@ -23,11 +23,11 @@ use Rattle.sf_c.proofs.Carrying.{field_carry}
 use Rattle.sf_c.proofs.EachNode.{each_in_text}
 use Rattle.sf_nodes.proofs.NodeCounting.{content_nodes, content_bytes}
 
-each_decoded : (size : ℕ) (ns : List Node) → Each (IsPlain size) ns → Each IsDecoded ns
+each_decoded : (size : ℕ) (ns : List Node) → Each (IsUncoded size) ns → Each IsDecoded ns
 each_decoded size [] h = tt
 each_decoded size (n ∷ ns) h = (h.0.0, each_decoded size ns h.1)
 
-each_in_one : (size : ℕ) (ns : List Node) → Each (IsPlain size) ns → Each (IsInOne size) ns
+each_in_one : (size : ℕ) (ns : List Node) → Each (IsUncoded size) ns → Each (IsInOne size) ns
 each_in_one size [] h = tt
 each_in_one size (n ∷ ns) h = (h.0.1, each_in_one size ns h.1)
 
@@ -37,27 +37,27 @@ pub is_small : NodesAreFew → BytesAreFew → (d : Dialect) (k : Kind) (t : Lis
 is_small nodes bytes d k t v only = (nodes d k t v only.spelled, bytes d k t v only.spelled)
 
 -- so many nodes at the start, which were split off, are those and are there
-front_of : (scanned front back new : List Node) (count : ℕ) → count ≤ length scanned
-    → length front ≡ length (take count scanned) → new ≡ front ++ back
-    → (take count new ≡ front) × (count ≤ length new)
-front_of scanned front back new count within same e =
-    let size : length front ≡ count = same ∙ length-take-le count scanned within in
-    let whole = ap length e ∙ length-append front back in (
+prefix_of : (scanned prefix suffix new : List Node) (count : ℕ) → count ≤ length scanned
+    → length prefix ≡ length (take count scanned) → new ≡ prefix ++ suffix
+    → (take count new ≡ prefix) × (count ≤ length new)
+prefix_of scanned prefix suffix new count within same e =
+    let size : length prefix ≡ count = same ∙ length-take-le count scanned within in
+    let whole = ap length e ∙ length-append prefix suffix in (
       ap (take count) e
-          ∙ ap (λ n. take n (front ++ back)) (sym size)
-          ∙ take-append_seam front back,
+          ∙ ap (λ n. take n (prefix ++ suffix)) (sym size)
+          ∙ take-append_seam prefix suffix,
       omega arith,
     )
 
 -- nodes that were scanned and decoded
-pub scanned_held : (d : Dialect) (k : Kind) (t : List ℕ) (scanned front back new : List Node)
+pub scanned_held : (d : Dialect) (k : Kind) (t : List ℕ) (scanned prefix suffix new : List Node)
     (bytes : List ℕ) (sizes : Sizes) → NodesAreFew → BytesAreFew → NodesAreTheirs
-    → Accepts d k t scanned sizes.nodes → length front ≡ length (take sizes.nodes scanned)
-    → AreDecoded t (take sizes.nodes scanned) front bytes sizes.bytes → new ≡ front ++ back
+    → Accepts d k t scanned sizes.nodes → length prefix ≡ length (take sizes.nodes scanned)
+    → AreDecoded t (take sizes.nodes scanned) prefix bytes sizes.bytes → new ≡ prefix ++ suffix
     → IsHeld d k t new bytes sizes
-scanned_held d k t scanned front back new bytes sizes nodes small theirs a same h e =
+scanned_held d k t scanned prefix suffix new bytes sizes nodes small theirs a same h e =
     let v = a.value in
-    let f = front_of scanned front back new sizes.nodes a.within same e in
+    let f = prefix_of scanned prefix suffix new sizes.nodes a.within same e in
     let first = f.0 in (
       v,
       a.only,
@@ -67,12 +67,12 @@ scanned_held d k t scanned front back new bytes sizes nodes small theirs a same 
         bytes_fit = h.within;
         describes =
             subst (λ y. DescribesField d (t ++ take sizes.bytes bytes) y v) (sym first)
-            (field_carry d t (t ++ take sizes.bytes bytes) (take sizes.nodes scanned) front v
+            (field_carry d t (t ++ take sizes.bytes bytes) (take sizes.nodes scanned) prefix v
             a.describes h.means);
         decoded =
-            subst (Each IsDecoded) (sym first) (each_decoded (length t) front h.plain);
+            subst (Each IsDecoded) (sym first) (each_decoded (length t) prefix h.uncoded);
         in_one =
-            subst (Each (IsInOne (length t))) (sym first) (each_in_one (length t) front h.plain);
+            subst (Each (IsInOne (length t))) (sym first) (each_in_one (length t) prefix h.uncoded);
         count =
             sym (length-take-le sizes.nodes scanned a.within)
             ∙ theirs d t (take sizes.nodes scanned) v a.describes;
@@ -80,13 +80,13 @@ scanned_held d k t scanned front back new bytes sizes nodes small theirs a same 
     )
 
 -- nodes that were scanned, none of them coded
-pub uncoded_held : (d : Dialect) (k : Kind) (t : List ℕ) (scanned front back new : List Node)
+pub uncoded_held : (d : Dialect) (k : Kind) (t : List ℕ) (scanned prefix suffix new : List Node)
     (bytes : List ℕ) (count : ℕ) → NodesAreFew → BytesAreFew → NodesAreTheirs
-    → Accepts d k t scanned count → front ≡ take count scanned → Each IsDecoded front
-    → new ≡ front ++ back → IsHeld d k t new bytes (record { nodes = count; bytes = 0 })
-uncoded_held d k t scanned front back new bytes count few small theirs a same decoded e =
+    → Accepts d k t scanned count → prefix ≡ take count scanned → Each IsDecoded prefix
+    → new ≡ prefix ++ suffix → IsHeld d k t new bytes (record { nodes = count; bytes = 0 })
+uncoded_held d k t scanned prefix suffix new bytes count few small theirs a same decoded e =
     let v = a.value in
-    let f = front_of scanned front back new count a.within (ap length same) e in (
+    let f = prefix_of scanned prefix suffix new count a.within (ap length same) e in (
       v,
       a.only,
       is_small few small d k t v a.only,

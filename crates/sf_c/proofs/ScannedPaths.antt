@@ -42,7 +42,7 @@ use Rattle.sf_c.specs.Laws.{HopsAreFew, HopBytesAreFew}
 use Rattle.sf_c.specs.Paths.{IsShort}
 use Rattle.sf_c.specs.Refusals.{flag_number}
 use Rattle.sf_c.specs.ScannedHops.{says_in, IsHopPut, IsPathOf, PutsBehind}
-use Rattle.sf_c.proofs.HopLemmas.{front_of, hop_held, hop_content_is, PutsHop, TextsOf}
+use Rattle.sf_c.proofs.HopLemmas.{prefix_of, hop_held, hop_content_is, PutsHop, TextsOf}
 use Rattle.sf_c.proofs.ShownHops.{says_shown, token_shown}
 
 -- bytes that were put after those that were used
@@ -50,7 +50,7 @@ pub put_behind : (old new free t : Seq ℕ) (used count : ℕ) (p : Span) → us
     → new ≡ take used old ++ free → count ≤ length free → take count free ≡ t → p.at ≡ used
     → p.length ≡ count → PutsBehind old new used t p
 put_behind old new free t used count p fits e small is at long =
-    let front : length (take used old) ≡ used = length-take-le used old fits in
+    let prefix : length (take used old) ≡ used = length-take-le used old fits in
     let end : end_of p ≡ length (take used old) + count = omega arith in (
       ap (λ n. take n new) end
           ∙ ap (take (length (take used old) + count)) e
@@ -226,8 +226,8 @@ path_read text c e o nodes bytes z s r none =
           ∙ ap length s.describes ∙ length-map s.path hop_content;
       size = sym used ∙ s.held.1 ∙ ap hops_size s.describes;
       place = s.place;
-      front =
-          front_of (map hop_content s.path) nodes (take z.hops nodes) bytes (take z.bytes bytes)
+      hops =
+          prefix_of (map hop_content s.path) nodes (take z.hops nodes) bytes (take z.bytes bytes)
           s.describes s.held (ap (λ k. take k nodes) many) (ap (λ k. take k bytes) used);
     }
 

@@ -20,9 +20,9 @@ kind_at n =
 
 -- the status and the output are those of a call with this dialect and kind; if there is no such
 -- kind or dialect, the status is BadCall and everything is unchanged
-abbrev pub Called : {Output : Type 0} → Option Dialect → Option Kind → Option Status
+abbrev pub ChecksCall : {Output : Type 0} → Option Dialect → Option Kind → Option Status
     → (Output → Output → Dialect → Kind → Status → Type 0) → Output → Output → Type 0
-Called (Some d) (Some k) (Some s) P old new = P old new d k s
-Called (Some d) (Some k) None P old new = ⊥
-Called (Some d) None s P old new = (s ≡ Some BadCall) × (new ≡ old)
-Called None k s P old new = (s ≡ Some BadCall) × (new ≡ old)
+ChecksCall (Some d) (Some k) (Some s) P old new = P old new d k s
+ChecksCall (Some d) (Some k) None P old new = ⊥
+ChecksCall (Some d) None s P old new = (s ≡ Some BadCall) × (new ≡ old)
+ChecksCall None k s P old new = (s ≡ Some BadCall) × (new ≡ old)

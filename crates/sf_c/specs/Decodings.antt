@@ -39,15 +39,15 @@ decoded_to at count n = record {
 }
 
 -- the node is decoded, and its bytes are in the text, or after the text
-abbrev pub IsPlain : ℕ → Node → Type 0
-IsPlain size n = IsDecoded n × IsInOne size n
+abbrev pub IsUncoded : ℕ → Node → Type 0
+IsUncoded size n = IsDecoded n × IsInOne size n
 
 -- the nodes mean the same with the first of these bytes after the text
 pub record AreDecoded (text : List ℕ) (old new : List Node) (bytes : List ℕ) (used : ℕ)
     : Type 0 where
   pub within : used ≤ length bytes
   pub means : EachMeans text (text ++ take used bytes) old new
-  pub plain : Each (IsPlain (length text)) new
+  pub uncoded : Each (IsUncoded (length text)) new
 
 -- the node means the same with more bytes after the text, up to this end
 pub record IsNodeDecoded (text old new : List ℕ) (used : ℕ) (n m : Node) (end : ℕ)
@@ -56,7 +56,7 @@ pub record IsNodeDecoded (text old new : List ℕ) (used : ℕ) (n m : Node) (en
   pub within : end ≤ length new
   pub kept : take used new ≡ take used old
   pub means : Means text (text ++ take end new) n m
-  pub plain : IsPlain (length text) m
+  pub uncoded : IsUncoded (length text) m
 
 -- the slice has the coded bytes of a String, a Byte Sequence or a Display String
 pub record HasCoded (text : List ℕ) (n : Node) (s : Slice) : Type 0 where

@@ -207,7 +207,7 @@ PutsSpan old new text p =
 
 -- the structs and the bytes at the start of two buffers describe these hops: the bytes are their
 -- spans in order, and no other
-pub record HopsAtFront (ts : List HopContent) (hops : List HopNode) (bytes : List ℕ) : Type 0 where
+pub record HopsAtStart (ts : List HopContent) (hops : List HopNode) (bytes : List ℕ) : Type 0 where
   pub hops_fit : length ts ≤ length hops
   pub bytes_fit : hops_size ts ≤ length bytes
   pub describes : map (hop_content_by (take (hops_size ts) bytes)) (take (length ts) hops) ≡ ts

@@ -32,7 +32,7 @@ pub record PutsOne (old new : JoinOutput) (line : List ℕ) : Type 0 where
   pub fits : new.joined.length ≤ length old.buffer
   pub begun : new.joined.begun ≡ 1
   pub required : new.joined.required ≡ old.joined.required
-  pub front : take new.joined.length new.buffer
+  pub prefix : take new.joined.length new.buffer
       ≡ take old.joined.length old.buffer ++ added old.joined line
   pub behind : drop new.joined.length new.buffer ≡ drop new.joined.length old.buffer
   pub kept : length new.buffer ≡ length old.buffer

@@ -18,8 +18,8 @@ pub record TextOutput : Type 0 where
   pub refusal : SyntaxRefusal
 
 -- the text is at the start of the buffer, and the rest is unchanged
-abbrev pub IsAtFront : List ℕ → List ℕ → List ℕ → Type 0
-IsAtFront text old new = new ≡ text ++ drop (length text) old
+abbrev pub IsAtStart : List ℕ → List ℕ → List ℕ → Type 0
+IsAtStart text old new = new ≡ text ++ drop (length text) old
 
 -- the canonical text of the value that the text t spells, which is at most eight fifths as long as
 -- t, is put into a buffer that is long enough; everything else is unchanged
@@ -30,7 +30,7 @@ Normalises old new t d k Answered =
     × (new.required ≡ length (canon v))
     × (5 * new.required ≤ 8 * length t)
     × (new.required ≤ length old.buffer)
-    × IsAtFront (canon v) old.buffer new.buffer
+    × IsAtStart (canon v) old.buffer new.buffer
     × (new.refusal ≡ old.refusal)
 Normalises old new t d k Short =
     (v : Field)

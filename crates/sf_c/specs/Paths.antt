@@ -15,7 +15,7 @@ use Rattle.sf_c.specs.declared.refusal.SyntaxRefusal.{SyntaxRefusal}
 use Rattle.sf_c.specs.declared.status.Status.{Status}
 use Rattle.sf_c.specs.declared.status.Status.TheVariants.{Answered, Refused, Short, OutOfMemory}
 use Rattle.sf_c.specs.declared.status.Status.TheVariants.{NotACache}
-use Rattle.sf_c.specs.Hops.{hops_size, hop_content, HopsAtFront}
+use Rattle.sf_c.specs.Hops.{hops_size, hop_content, HopsAtStart}
 use Rattle.sf_c.specs.Refusals.{SaysRefusal, flag_number}
 
 -- the struct says how many hops and bytes there are, and which hop the response came from
@@ -52,7 +52,7 @@ ReportsPath old new t (Some Answered) =
     × (hops v ≡ Ok hs)
     × SaysPath new.path hs
     × (new.path.nameless ≡ old.path.nameless)
-    × HopsAtFront (map hop_content hs) new.hops new.bytes
+    × HopsAtStart (map hop_content hs) new.hops new.bytes
     × KeepsLengths old new
     × (new.refusal ≡ old.refusal)
 ReportsPath old new t (Some Short) =

@@ -18,7 +18,7 @@ use Rattle.sf_c.specs.declared.hop_scan.PathSizes.{PathSizes}
 use Rattle.sf_c.specs.declared.hops.HopNode.{HopNode}
 use Rattle.sf_c.specs.declared.span.Span.{Span}
 use Rattle.sf_c.specs.Hops.{bytes_of, detail_bytes, end_of, hops_size, reason_number, says_by}
-use Rattle.sf_c.specs.Hops.{says_of, hop_content, why_token, HopSays, HopsAtFront, PutsSpan}
+use Rattle.sf_c.specs.Hops.{says_of, hop_content, why_token, HopSays, HopsAtStart, PutsSpan}
 use Rattle.sf_c.specs.Refusals.{flag_number}
 
 -- whether a name that is borrowed is a Token
@@ -73,4 +73,4 @@ pub record IsPathOf (t : Seq ℕ) (nodes : Seq HopNode) (bytes : Seq ℕ) (s : P
   pub count : s.hops ≡ length path
   pub size : s.bytes ≡ hops_size (map hop_content path)
   pub place : s.served ≡ served path
-  pub front : HopsAtFront (map hop_content path) nodes bytes
+  pub hops : HopsAtStart (map hop_content path) nodes bytes

@@ -1,6 +1,6 @@
 -- A text in the caller's buffer.
 use Rattle.std.specs.Prelude.{◌≡◌, ℕ, ◌<◌, ◌≤◌, List, length, Option, Some}
-use Rattle.sf_c.specs.Normal.{IsAtFront}
+use Rattle.sf_c.specs.Normal.{IsAtStart}
 use Rattle.sf_c.specs.declared.status.Status.{Status}
 use Rattle.sf_c.specs.declared.status.Status.TheVariants.{Answered, Short, OutOfMemory}
 
@@ -15,7 +15,7 @@ abbrev pub PutsText : TextBuffer → TextBuffer → List ℕ → Option Status �
 PutsText old new text (Some Answered) =
     (new.required ≡ length text)
     × (length text ≤ length old.buffer)
-    × IsAtFront text old.buffer new.buffer
+    × IsAtStart text old.buffer new.buffer
 PutsText old new text (Some Short) =
     (new.required ≡ length text)
     × (length old.buffer < length text)

@@ -1,7 +1,7 @@
 //! The canonical text.
 ghost use Rattle.std.specs.Prelude.{◌≡◌, MatchResult, Err};
-ghost use Rattle.sf_view.specs.Written.{IsCanonicalOf};
-ghost use Rattle.sf_c.specs.Calls.{Called, dialect_at, kind_at};
+ghost use Rattle.sf_view.specs.CanonicalParts.{IsCanonicalOf};
+ghost use Rattle.sf_c.specs.Calls.{ChecksCall, dialect_at, kind_at};
 ghost use Rattle.sf_c.specs.Normal.{Normalises, Equals};
 ghost use Rattle.sf_c.specs.Parsing.{ParsesOrSays};
 ghost use Rattle.sf_c.specs.Statuses.{status_at};
@@ -35,7 +35,7 @@ pub extern "C" fn sf_normalise(
 ) -> u32
     // BadCall if and only if a number is no kind or no dialect; otherwise the canonical text, or
     // why there is none.
-    ensures { Called (dialect_at dialect) (kind_at kind) (status_at result)
+    ensures { ChecksCall (dialect_at dialect) (kind_at kind) (status_at result)
         (λ old new. Normalises old new text.now)
         (record { buffer = buffer.old; required = required.old; refusal = refusal.old })
         (record { buffer = buffer.new; required = required.new; refusal = refusal.new }) }
@@ -62,7 +62,7 @@ pub extern "C" fn sf_equal(
 ) -> u32
     // BadCall if and only if a number is no kind or no dialect; otherwise whether the values are
     // equal.
-    ensures { Called (dialect_at dialect) (kind_at kind) (status_at result)
+    ensures { ChecksCall (dialect_at dialect) (kind_at kind) (status_at result)
         (λ old new. Equals old new first.now second.now)
         (record { equal = equal_out.old; refusal = refusal.old })
         (record { equal = equal_out.new; refusal = refusal.new }) }

@@ -1,5 +1,5 @@
 //! Whether a text is accepted.
-ghost use Rattle.sf_c.specs.Calls.{Called, dialect_at, kind_at};
+ghost use Rattle.sf_c.specs.Calls.{ChecksCall, dialect_at, kind_at};
 ghost use Rattle.sf_c.specs.Checks.{Checks};
 ghost use Rattle.sf_c.specs.Statuses.{status_at};
 
@@ -25,7 +25,7 @@ pub extern "C" fn sf_check(
 ) -> u32
     // BadCall if and only if a number is no kind or no dialect; otherwise whether the text spells a
     // value.
-    ensures { Called (dialect_at dialect) (kind_at kind) (status_at result)
+    ensures { ChecksCall (dialect_at dialect) (kind_at kind) (status_at result)
         (λ old new. Checks old new text.now) refusal.old refusal.new }
 {
     let (Some(dialect), Some(kind)) = (dialect_of(dialect), kind_of(kind)) else {

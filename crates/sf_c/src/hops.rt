@@ -6,7 +6,7 @@ ghost use Rattle.sf_c.specs.Hops.{is_token as is_name_token, detail_is_token as 
 ghost use Rattle.sf_c.specs.Hops.{outcome_number as number_of_outcome};
 ghost use Rattle.sf_c.specs.Hops.{reason_number as number_of_reason, why_number as number_of_why};
 ghost use Rattle.sf_c.specs.Hops.{why_token as token_of_why, hops_size, hop_content, says_by, says_of};
-ghost use Rattle.sf_c.specs.Hops.{HopsAtFront, PutsSpan};
+ghost use Rattle.sf_c.specs.Hops.{HopsAtStart, PutsSpan};
 
 use crate::buffer::put;
 use crate::span::Span;
@@ -110,7 +110,7 @@ impl FlatPath {
         ensures same_hops { length hops.new ≡ length hops.old }
         ensures same_bytes { length bytes.new ≡ length bytes.old }
         // The starts of the buffers describe the hops.
-        ensures front { HopsAtFront self.now hops.new bytes.new }
+        ensures hops { HopsAtStart self.now hops.new bytes.new }
     {
         put(hops, 0, self.hops.as_slice());
         put(bytes, 0, self.bytes.as_slice());

@@ -1,6 +1,6 @@
 //! A value as nodes, into the caller's buffers.
 ghost use Rattle.std.specs.Prelude.{◌≡◌, ◌<◌, ◌^◌, length, IfSome};
-ghost use Rattle.sf_c.specs.Calls.{Called, dialect_at, kind_at};
+ghost use Rattle.sf_c.specs.Calls.{ChecksCall, dialect_at, kind_at};
 ghost use Rattle.sf_c.specs.Flattening.{Flattens, IsHeld};
 ghost use Rattle.sf_c.specs.Statuses.{status_at};
 
@@ -48,7 +48,7 @@ pub extern "C" fn sf_parse(
 ) -> u32
     // BadCall if and only if a number is no kind or no dialect; otherwise the value as nodes, or
     // why there is none.
-    ensures { Called (dialect_at dialect) (kind_at kind) (status_at result)
+    ensures { ChecksCall (dialect_at dialect) (kind_at kind) (status_at result)
         (λ old new. Flattens old new text.now)
         (record { nodes = nodes.old; bytes = bytes.old; sizes = sizes.old; refusal = refusal.old })
         (record {
@@ -113,14 +113,14 @@ fn scan_nodes(
     let count = scan_text(dialect, kind, text, nodes)?;
     nodes_are_few();
     nodes_are_theirs();
-    let (front, _) = nodes.split_at_mut(count);
-    if none_coded(front) {
+    let (prefix, _) = nodes.split_at_mut(count);
+    if none_coded(prefix) {
         return Some(Sizes {
             nodes: count,
             bytes: 0,
         });
     }
-    let used = decode_nodes(text, front, bytes)?;
+    let used = decode_nodes(text, prefix, bytes)?;
     Some(Sizes {
         nodes: count,
         bytes: used,

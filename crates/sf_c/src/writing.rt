@@ -1,6 +1,6 @@
 //! The canonical text of the field that nodes describe.
 ghost use Rattle.std.specs.Prelude.{◌≡◌, ◌++◌, IfOk};
-ghost use Rattle.sf_c.specs.Calls.{Called, dialect_at, kind_at};
+ghost use Rattle.sf_c.specs.Calls.{ChecksCall, dialect_at, kind_at};
 ghost use Rattle.sf_c.specs.Statuses.{status_at};
 ghost use Rattle.sf_c.specs.Writing.{WritesNodes};
 
@@ -35,7 +35,7 @@ pub extern "C" fn sf_write(
 ) -> u32
     // BadCall if and only if a number is no kind or no dialect; otherwise the canonical text, or
     // why there is none.
-    ensures { Called (dialect_at dialect) (kind_at kind) (status_at result)
+    ensures { ChecksCall (dialect_at dialect) (kind_at kind) (status_at result)
         (λ old new. WritesNodes old new nodes.now (text.now ++ bytes.now))
         (record { buffer = buffer.old; required = required.old; invalid = invalid.old })
         (record { buffer = buffer.new; required = required.new; invalid = invalid.new }) }

@@ -35,21 +35,21 @@ appended text new line item whole after lines i h so_far is same added =
 
 -- a prefix of all was fed, and this is left
 pub record FedSoFar (o p : Progress) (all left : List ℕ) : Type 0 where
-  pub front : List ℕ
-  pub split : all ≡ front ++ left
-  pub fed : Feeds o p (Ok tt) front
+  pub prefix : List ℕ
+  pub split : all ≡ prefix ++ left
+  pub fed : Feeds o p (Ok tt) prefix
 
 -- nothing was fed yet
 pub fed_nothing : (o p : Progress) (all : List ℕ) → Feeds o p (Ok tt) [] → FedSoFar o p all all
-fed_nothing o p all f = record { front = []; split = refl; fed = f }
+fed_nothing o p all f = record { prefix = []; split = refl; fed = f }
 
 -- a further piece was fed
-pub fed_piece : (o p q : Progress) (all left piece more : List ℕ) → FedSoFar o p all left
-    → left ≡ piece ++ more → Feeds p q (Ok tt) piece → FedSoFar o q all more
-fed_piece o p q all left piece more l e f = record {
-  front = l.front ++ piece;
-  split = l.split ∙ ap (λ z. l.front ++ z) e ∙ sym (append_assoc l.front piece more);
-  fed = fed_after o p q (Ok tt) l.front piece l.fed f;
+pub fed_piece : (o p q : Progress) (all left chunk more : List ℕ) → FedSoFar o p all left
+    → left ≡ chunk ++ more → Feeds p q (Ok tt) chunk → FedSoFar o q all more
+fed_piece o p q all left chunk more l e f = record {
+  prefix = l.prefix ++ chunk;
+  split = l.split ∙ ap (λ z. l.prefix ++ z) e ∙ sym (append_assoc l.prefix chunk more);
+  fed = fed_after o p q (Ok tt) l.prefix chunk l.fed f;
 }
 
 -- a further line was fed
@@ -61,12 +61,12 @@ fed_line o p q all left line ls after t l e f =
     (fed_piece o p q all left (in_line after line) (behind true ls) l e f)
 
 -- a further piece was refused
-pub fed_refused : (o p q : Progress) (e : Refusal) (all left piece more : List ℕ)
-    → FedSoFar o p all left → left ≡ piece ++ more → Feeds p q (Err e) piece → Feeds o q (Err e) all
-fed_refused o p q e all left piece more l s f =
+pub fed_refused : (o p q : Progress) (e : Refusal) (all left chunk more : List ℕ)
+    → FedSoFar o p all left → left ≡ chunk ++ more → Feeds p q (Err e) chunk → Feeds o q (Err e) all
+fed_refused o p q e all left chunk more l s f =
     subst (Feeds o q (Err e))
-    (append_assoc l.front piece more ∙ sym (l.split ∙ ap (λ z. l.front ++ z) s))
-    (fed_before o q e (l.front ++ piece) more (fed_after o p q (Err e) l.front piece l.fed f))
+    (append_assoc l.prefix chunk more ∙ sym (l.split ∙ ap (λ z. l.prefix ++ z) s))
+    (fed_before o q e (l.prefix ++ chunk) more (fed_after o p q (Err e) l.prefix chunk l.fed f))
 
 -- what is left allocates no more once a line was fed
 pub free_next : (p : Progress) (ls : List (List ℕ)) → p.after_line ≡ true

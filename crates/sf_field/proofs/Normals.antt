@@ -17,7 +17,7 @@ use Rattle.sf_parse.specs.declared.refusal.Refusal.TheVariants.{OutOfMemory, Syn
 use Rattle.sf_parse.specs.declared.refusal.Refusal.TheVariants.{ReadFault}
 use Rattle.sf_parse.specs.Parsers.{IsOnly, Parses}
 use Rattle.sf_value.specs.declared.fault.OutOfMemory.{OutOfMemory as NoMemory}
-use Rattle.sf_view.specs.Written.{IsCanonicalOf}
+use Rattle.sf_view.specs.CanonicalParts.{IsCanonicalOf}
 use Rattle.sf_parse.proofs.GrammarLaws.{one_value, canon_one}
 use Rattle.sf_field.specs.Asking.{MeansAsCanonical}
 use Rattle.sf_field.specs.Normal.{NormalisesTo}

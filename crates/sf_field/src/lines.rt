@@ -6,7 +6,7 @@ ghost use Rattle.sf_value.specs.Grammar.Lines.{join};
 ghost use Rattle.sf_value.specs.declared.dialect.Dialect.TheVariants.{Rfc9651};
 ghost use Rattle.sf_parse.specs.Parsers.{Feeds, in_line};
 ghost use Rattle.sf_parse.specs.AllocationFree.{TakesNoMemory};
-ghost use Rattle.sf_parse.specs.AllocationFreeParsers.{IsAllocationFree, KeptAllocationFree};
+ghost use Rattle.sf_parse.specs.AllocationFreeParsers.{IsAllocationFree, KeepsAllocationFree};
 ghost use Rattle.sf_parse.specs.AllocationFreeParsers.{NotForMemory};
 ghost use Rattle.sf_field.specs.Lines.{ParsesLines};
 ghost use Rattle.sf_field.specs.Normal.{NormalisesTo};
@@ -200,7 +200,7 @@ fn feed_lines<'a, L: FieldLines<'a>>(parser: &mut Parser, mut lines: L) -> Resul
     ensures fed { Feeds parser.old parser.new result (join (L.lines lines)) }
     // Lines whose joined text is allocation-free are not refused as out of memory, nor is the end.
     ensures allocation_free { IsAllocationFree parser.old (join (L.lines lines))
-        → KeptAllocationFree parser.new [] result }
+        → KeepsAllocationFree parser.new [] result }
 {
     // A parser that refused before refuses again, also if there are no lines.
     parser.feed(b"")?;

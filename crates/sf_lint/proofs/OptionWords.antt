@@ -56,9 +56,9 @@ pub fields_more : (words : List Text) (fields : List CustomField) (field : Custo
     → i < length words → map custom_of (take i words) ≡ map Some fields
     → custom_of (get_or words i []) ≡ Some field
     → map custom_of (take (i + 1) words) ≡ map Some (fields ++ field ∷ [])
-fields_more words fields field i lt front one =
+fields_more words fields field i lt prefix one =
     map_more custom_of words i [] lt
-    ∙ ap₂ (λ xs (x : Option CustomField). xs ++ x ∷ []) front one
+    ∙ ap₂ (λ xs (x : Option CustomField). xs ++ x ∷ []) prefix one
     ∙ sym (map-append Some fields (field ∷ []))
 
 -- a word names none

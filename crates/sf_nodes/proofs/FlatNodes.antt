@@ -94,33 +94,33 @@ opening_node source bytes k size p e w =
     }
 
 -- the parts of one list, and those after it
-record Fronts (bytes : List ℕ) (ws : List Part) (ts us : List NodeContent) : Type 0 where
-  front : List Part
-  back : List Part
-  split : ws ≡ front ++ back
-  these : map (content_by bytes) front ≡ ts
-  those : map (content_by bytes) back ≡ us
-  within : AreWithin bytes front
-  behind : AreWithin bytes back
+record SplitParts (bytes : List ℕ) (ws : List Part) (ts us : List NodeContent) : Type 0 where
+  prefix : List Part
+  suffix : List Part
+  split : ws ≡ prefix ++ suffix
+  these : map (content_by bytes) prefix ≡ ts
+  those : map (content_by bytes) suffix ≡ us
+  within : AreWithin bytes prefix
+  behind : AreWithin bytes suffix
 
-fronts : (bytes : List ℕ) (ws : List Part) (ts us : List NodeContent)
-    → map (content_by bytes) ws ≡ ts ++ us → AreWithin bytes ws → Fronts bytes ws ts us
-fronts bytes ws [] us e w = record {
-  front = [];
-  back = ws;
+split_parts : (bytes : List ℕ) (ws : List Part) (ts us : List NodeContent)
+    → map (content_by bytes) ws ≡ ts ++ us → AreWithin bytes ws → SplitParts bytes ws ts us
+split_parts bytes ws [] us e w = record {
+  prefix = [];
+  suffix = ws;
   split = refl;
   these = refl;
   those = e;
   within = tt;
   behind = w;
 }
-fronts bytes [] (t ∷ ts) us e w = absurd (no_parts t (ts ++ us) e)
-fronts bytes (p ∷ ws) (t ∷ ts) us e w =
+split_parts bytes [] (t ∷ ts) us e w = absurd (no_parts t (ts ++ us) e)
+split_parts bytes (p ∷ ws) (t ∷ ts) us e w =
     let both = heads_equal (content_by bytes p) t (map (content_by bytes) ws) (ts ++ us) e in
-    let f = fronts bytes ws ts us both.1 w.1 in
+    let f = split_parts bytes ws ts us both.1 w.1 in
     record {
-      front = p ∷ f.front;
-      back = f.back;
+      prefix = p ∷ f.prefix;
+      suffix = f.suffix;
       split = ap (λ y. p ∷ y) f.split;
       these = ap₂ (λ u us. u ∷ us) both.0 f.these;
       those = f.those;
@@ -137,10 +137,10 @@ as_many start bytes ws ts e =
     let c = ap length e in
     omega arith
 
-nodes_split : (start : ℕ) (ws front back : List Part) → ws ≡ front ++ back
-    → map (node_of start) ws ≡ map (node_of start) front ++ map (node_of start) back
-nodes_split start ws front back e =
-    ap (map (node_of start)) e ∙ map-append (node_of start) front back
+nodes_split : (start : ℕ) (ws prefix suffix : List Part) → ws ≡ prefix ++ suffix
+    → map (node_of start) ws ≡ map (node_of start) prefix ++ map (node_of start) suffix
+nodes_split start ws prefix suffix e =
+    ap (map (node_of start)) e ∙ map-append (node_of start) prefix suffix
 
 params_nodes : (d : Dialect) (source bytes : List ℕ) (r : Role) (ws : List Part) (ps : Pairs Bare)
     → map (content_by bytes) ws ≡ params_content r ps → AreWithin bytes ws
@@ -182,12 +182,12 @@ items_nodes : (d : Dialect) (source bytes : List ℕ) (ws : List Part) (is : Lis
 items_nodes d source bytes [] [] e w = refl
 items_nodes d source bytes (p ∷ ws) [] e w = absurd (no_parts _ _ (sym e))
 items_nodes d source bytes ws (i ∷ is) e w =
-    let f = fronts bytes ws (item_content roles.InnerItem [] i) (items_content is) e w in (
-      map (node_of (length source)) f.front,
-      map (node_of (length source)) f.back,
-      nodes_split (length source) ws f.front f.back f.split,
-      item_nodes d source bytes roles.InnerItem [] f.front i f.these f.within,
-      items_nodes d source bytes f.back is f.those f.behind,
+    let f = split_parts bytes ws (item_content roles.InnerItem [] i) (items_content is) e w in (
+      map (node_of (length source)) f.prefix,
+      map (node_of (length source)) f.suffix,
+      nodes_split (length source) ws f.prefix f.suffix f.split,
+      item_nodes d source bytes roles.InnerItem [] f.prefix i f.these f.within,
+      items_nodes d source bytes f.suffix is f.those f.behind,
     )
 
 inner_nodes : (d : Dialect) (source bytes k : List ℕ) (ws : List Part) (l : Inner)
@@ -196,20 +196,20 @@ inner_nodes : (d : Dialect) (source bytes k : List ℕ) (ws : List Part) (l : In
 inner_nodes d source bytes k [] l e w = absurd (no_parts _ _ e)
 inner_nodes d source bytes k (p ∷ ws) l e w =
     let both = heads_equal _ _ _ _ e in
-    let f = fronts bytes ws (items_content l.items) (params_content roles.InnerParameter l.params)
+    let f = split_parts bytes ws (items_content l.items) (params_content roles.InnerParameter l.params)
     both.1 w.1 in
-    let split = nodes_split (length source) ws f.front f.back f.split in
+    let split = nodes_split (length source) ws f.prefix f.suffix f.split in
     let many : length (inside_content l)
-    ≡ length (map (node_of (length source)) f.front ++ map (node_of (length source)) f.back) =
+    ≡ length (map (node_of (length source)) f.prefix ++ map (node_of (length source)) f.suffix) =
     sym (as_many (length source) bytes ws (inside_content l) both.1) ∙ ap length split in (
       node_of (length source) p,
-      map (node_of (length source)) f.front,
-      map (node_of (length source)) f.back,
+      map (node_of (length source)) f.prefix,
+      map (node_of (length source)) f.suffix,
       ap (λ y. node_of (length source) p ∷ y) split,
       subst (λ s. DescribesOpening (source ++ bytes) k (1 + s) (node_of (length source) p)) many
           (opening_node source bytes k (1 + length (inside_content l)) p both.0 w.0),
-      items_nodes d source bytes f.front l.items f.these f.within,
-      params_nodes d source bytes roles.InnerParameter f.back l.params f.those f.behind,
+      items_nodes d source bytes f.prefix l.items f.these f.within,
+      params_nodes d source bytes roles.InnerParameter f.suffix l.params f.those f.behind,
     )
 
 member_nodes : (d : Dialect) (source bytes k : List ℕ) (ws : List Part) (m : Member)
@@ -225,12 +225,12 @@ members_nodes : (d : Dialect) (source bytes : List ℕ) (ws : List Part) (ms : L
 members_nodes d source bytes [] [] e w = refl
 members_nodes d source bytes (p ∷ ws) [] e w = absurd (no_parts _ _ (sym e))
 members_nodes d source bytes ws (m ∷ ms) e w =
-    let f = fronts bytes ws (member_content [] m) (members_content ms) e w in (
-      map (node_of (length source)) f.front,
-      map (node_of (length source)) f.back,
-      nodes_split (length source) ws f.front f.back f.split,
-      member_nodes d source bytes [] f.front m f.these f.within,
-      members_nodes d source bytes f.back ms f.those f.behind,
+    let f = split_parts bytes ws (member_content [] m) (members_content ms) e w in (
+      map (node_of (length source)) f.prefix,
+      map (node_of (length source)) f.suffix,
+      nodes_split (length source) ws f.prefix f.suffix f.split,
+      member_nodes d source bytes [] f.prefix m f.these f.within,
+      members_nodes d source bytes f.suffix ms f.those f.behind,
     )
 
 entries_nodes : (d : Dialect) (source bytes : List ℕ) (ws : List Part) (ps : Pairs Member)
@@ -239,12 +239,12 @@ entries_nodes : (d : Dialect) (source bytes : List ℕ) (ws : List Part) (ps : P
 entries_nodes d source bytes [] [] e w = refl
 entries_nodes d source bytes (p ∷ ws) [] e w = absurd (no_parts _ _ (sym e))
 entries_nodes d source bytes ws (q ∷ qs) e w =
-    let f = fronts bytes ws (member_content q.0 q.1) (entries_content qs) e w in (
-      map (node_of (length source)) f.front,
-      map (node_of (length source)) f.back,
-      nodes_split (length source) ws f.front f.back f.split,
-      member_nodes d source bytes q.0 f.front q.1 f.these f.within,
-      entries_nodes d source bytes f.back qs f.those f.behind,
+    let f = split_parts bytes ws (member_content q.0 q.1) (entries_content qs) e w in (
+      map (node_of (length source)) f.prefix,
+      map (node_of (length source)) f.suffix,
+      nodes_split (length source) ws f.prefix f.suffix f.split,
+      member_nodes d source bytes q.0 f.prefix q.1 f.these f.within,
+      entries_nodes d source bytes f.suffix qs f.those f.behind,
     )
 
 pub field_nodes : (d : Dialect) (source bytes : List ℕ) (ws : List Part) (v : Field)

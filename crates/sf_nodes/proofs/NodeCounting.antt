@@ -127,10 +127,10 @@ item_many d source r k ns i (n, ms, e, t, q) =
 items_many : (d : Dialect) (source : List ℕ) (ns : List Node) (is : List Item)
     → DescribesItems d source ns is → length ns ≡ items_nodes is
 items_many d source ns [] e = ap length e
-items_many d source ns (i ∷ is) (front, back, e, t, q) =
-    let h = item_many d source roles.InnerItem [] front i t in
-    let k = items_many d source back is q in
-    let same = ap length e ∙ length-append front back in
+items_many d source ns (i ∷ is) (prefix, suffix, e, t, q) =
+    let h = item_many d source roles.InnerItem [] prefix i t in
+    let k = items_many d source suffix is q in
+    let same = ap length e ∙ length-append prefix suffix in
     omega arith
 
 member_many : (d : Dialect) (source k : List ℕ) (ns : List Node) (m : Member)
@@ -146,19 +146,19 @@ member_many d source k ns (member.Inner l) (n, items, params, e, t, q, r) =
 members_many : (d : Dialect) (source : List ℕ) (ns : List Node) (ms : List Member)
     → DescribesMembers d source ns ms → length ns ≡ members_nodes ms
 members_many d source ns [] e = ap length e
-members_many d source ns (m ∷ ms) (front, back, e, t, q) =
-    let h = member_many d source [] front m t in
-    let k = members_many d source back ms q in
-    let same = ap length e ∙ length-append front back in
+members_many d source ns (m ∷ ms) (prefix, suffix, e, t, q) =
+    let h = member_many d source [] prefix m t in
+    let k = members_many d source suffix ms q in
+    let same = ap length e ∙ length-append prefix suffix in
     omega arith
 
 entries_many : (d : Dialect) (source : List ℕ) (ns : List Node) (ps : Pairs Member)
     → DescribesEntries d source ns ps → length ns ≡ entries_nodes ps
 entries_many d source ns [] e = ap length e
-entries_many d source ns (p ∷ ps) (front, back, e, t, q) =
-    let h = member_many d source p.0 front p.1 t in
-    let k = entries_many d source back ps q in
-    let same = ap length e ∙ length-append front back in
+entries_many d source ns (p ∷ ps) (prefix, suffix, e, t, q) =
+    let h = member_many d source p.0 prefix p.1 t in
+    let k = entries_many d source suffix ps q in
+    let same = ap length e ∙ length-append prefix suffix in
     omega arith
 
 pub field_many : (d : Dialect) (source : List ℕ) (ns : List Node) (v : Field)

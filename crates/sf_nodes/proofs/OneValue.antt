@@ -115,10 +115,10 @@ heads_node n m ns ms e = (ap (first n) e, ap others e)
 no_nodes : (ns ms : Seq Node) (n : Node) → ns ≡ [] → ns ≡ n ∷ ms → ⊥
 no_nodes ns ms n e f = let g : [] ≡ n ∷ ms = sym e ∙ f in absurd cc
 
-no_part : (source k : Seq ℕ) (ns front back : Seq Node) → ns ≡ [] → ns ≡ front ++ back
-    → Opens source k front → ⊥
-no_part source k ns front back e f o =
-    no_nodes ns (o.more ++ back) o.first e (f ∙ ap (λ y. y ++ back) o.begins)
+no_part : (source k : Seq ℕ) (ns prefix suffix : Seq Node) → ns ≡ [] → ns ≡ prefix ++ suffix
+    → Opens source k prefix → ⊥
+no_part source k ns prefix suffix e f o =
+    no_nodes ns (o.more ++ suffix) o.first e (f ∙ ap (λ y. y ++ suffix) o.begins)
 
 one_params : OneValue → (d : Dialect) (source : Seq ℕ) (r r' : Role) (ns : Seq Node)
     (ps qs : Pairs Bare) → DescribesParams d source r ns ps → DescribesParams d source r' ns qs
@@ -152,10 +152,10 @@ one_item one d source r r' k k' ns i j (n, ms, e, t, more) (m, os, f, u, rest) =
     (subst (λ z. DescribesParams d source roles.Parameter z i.params) both.1 more) rest)
 
 -- the same nodes begin with one part
-one_front : (source j k : Seq ℕ) (ns front back own rest : Seq Node) → Opens source j front
-    → Opens source k own → ns ≡ front ++ back → ns ≡ own ++ rest → SamePart j k front back own rest
-one_front source j k ns front back own rest o q e f =
-    let hop : IsHop source ns j front back = record {
+one_prefix : (source j k : Seq ℕ) (ns prefix suffix own rest : Seq Node) → Opens source j prefix
+    → Opens source k own → ns ≡ prefix ++ suffix → ns ≡ own ++ rest → SamePart j k prefix suffix own rest
+one_prefix source j k ns prefix suffix own rest o q e f =
+    let hop : IsHop source ns j prefix suffix = record {
       first = o.first;
       more = o.more;
       begins = o.begins;
@@ -163,7 +163,7 @@ one_front source j k ns front back own rest o q e f =
       key = sym o.key;
       size = o.size;
     } in
-    same_part source k ns own rest j front back q f hop
+    same_part source k ns own rest j prefix suffix q f hop
 
 one_items : OneValue → (d : Dialect) (source : Seq ℕ) (ns : Seq Node) (is js : Seq Item)
     → DescribesItems d source ns is → DescribesItems d source ns js → is ≡ js
@@ -171,12 +171,12 @@ one_items one d source ns [] [] e f = refl
 one_items one d source ns [] (j ∷ js) e (own, rest, f, u, w) =
     absurd
     (no_part source [] ns own rest e f (item_opens d source roles.InnerItem [] own j u))
-one_items one d source ns (i ∷ is) [] (front, back, e, t, q) f =
+one_items one d source ns (i ∷ is) [] (prefix, suffix, e, t, q) f =
     absurd
-    (no_part source [] ns front back f e (item_opens d source roles.InnerItem [] front i t))
-one_items one d source ns (i ∷ is) (j ∷ js) (front, back, e, t, q) (own, rest, f, u, w) =
-    let s = one_front source [] [] ns front back own rest
-    (item_opens d source roles.InnerItem [] front i t)
+    (no_part source [] ns prefix suffix f e (item_opens d source roles.InnerItem [] prefix i t))
+one_items one d source ns (i ∷ is) (j ∷ js) (prefix, suffix, e, t, q) (own, rest, f, u, w) =
+    let s = one_prefix source [] [] ns prefix suffix own rest
+    (item_opens d source roles.InnerItem [] prefix i t)
     (item_opens d source roles.InnerItem [] own j u) e f in
     let first = one_item one d source roles.InnerItem roles.InnerItem [] [] own i j
     (subst (λ z. DescribesItem d source roles.InnerItem [] z i) s.here t) u in
@@ -226,10 +226,10 @@ one_members : OneValue → (d : Dialect) (source : Seq ℕ) (ns : Seq Node) (xs 
 one_members one d source ns [] [] e f = refl
 one_members one d source ns [] (y ∷ ys) e (own, rest, f, u, w) =
     absurd (no_part source [] ns own rest e f (opens d source [] own y u))
-one_members one d source ns (x ∷ xs) [] (front, back, e, t, q) f =
-    absurd (no_part source [] ns front back f e (opens d source [] front x t))
-one_members one d source ns (x ∷ xs) (y ∷ ys) (front, back, e, t, q) (own, rest, f, u, w) =
-    let s = one_front source [] [] ns front back own rest (opens d source [] front x t)
+one_members one d source ns (x ∷ xs) [] (prefix, suffix, e, t, q) f =
+    absurd (no_part source [] ns prefix suffix f e (opens d source [] prefix x t))
+one_members one d source ns (x ∷ xs) (y ∷ ys) (prefix, suffix, e, t, q) (own, rest, f, u, w) =
+    let s = one_prefix source [] [] ns prefix suffix own rest (opens d source [] prefix x t)
     (opens d source [] own y u) e f in
     let first = one_member one d source [] [] own x y
     (subst (λ z. DescribesMember d source [] z x) s.here t) u in
@@ -242,11 +242,11 @@ one_entries : OneValue → (d : Dialect) (source : Seq ℕ) (ns : Seq Node) (ps 
 one_entries one d source ns [] [] e f = refl
 one_entries one d source ns [] ((l, y) ∷ qs) e (own, rest, f, u, w) =
     absurd (no_part source l ns own rest e f (opens d source l own y u))
-one_entries one d source ns ((k, x) ∷ ps) [] (front, back, e, t, q) f =
-    absurd (no_part source k ns front back f e (opens d source k front x t))
-one_entries one d source ns ((k, x) ∷ ps) ((l, y) ∷ qs) (front, back, e, t, q)
+one_entries one d source ns ((k, x) ∷ ps) [] (prefix, suffix, e, t, q) f =
+    absurd (no_part source k ns prefix suffix f e (opens d source k prefix x t))
+one_entries one d source ns ((k, x) ∷ ps) ((l, y) ∷ qs) (prefix, suffix, e, t, q)
     (own, rest, f, u, w) =
-    let s = one_front source k l ns front back own rest (opens d source k front x t)
+    let s = one_prefix source k l ns prefix suffix own rest (opens d source k prefix x t)
     (opens d source l own y u) e f in
     let key = s.key in
     let value = one_member one d source k l own x y

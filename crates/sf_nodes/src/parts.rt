@@ -213,8 +213,8 @@ fn put(buffer: &mut [u8], bytes: &[u8])
     requires { length bytes.now ≤ length buffer.old }
     ensures { buffer.new ≡ bytes.now ++ drop (length bytes.now) buffer.old }
 {
-    let (front, _) = buffer.split_at_mut(bytes.len());
-    front.copy_from_slice(bytes);
+    let (prefix, _) = buffer.split_at_mut(bytes.len());
+    prefix.copy_from_slice(bytes);
 }
 
 /// Puts the nodes of the parts at the start of a buffer that is long enough.

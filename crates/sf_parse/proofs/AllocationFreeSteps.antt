@@ -13,9 +13,9 @@ use Rattle.sf_parse.specs.Machine.States.{State, BeforeItem, InsideItem, AfterIt
 use Rattle.sf_parse.specs.Machine.Fields.{step}
 use Rattle.sf_parse.specs.AllocationFree.{scalar_byte, short_byte, no_semicolon, text_bytes}
 use Rattle.sf_parse.specs.AllocationFree.{BareFree, FieldFree}
-use Rattle.sf_parse.specs.Prefixes.{Went}
+use Rattle.sf_parse.specs.Prefixes.{Goes}
 use Rattle.sf_parse.specs.StaysFree.{field_keeps}
-use Rattle.sf_parse.proofs.Prefixes.{every_split, free_went}
+use Rattle.sf_parse.proofs.Prefixes.{every_split, free_goes}
 
 fits_first : (xs a b : List ℕ) → FitsInPlace (xs ++ (a ++ b)) → FitsInPlace (xs ++ a)
 fits_first xs a b h =
@@ -51,15 +51,15 @@ field_free_first (InDict (Gap given)) a b h = absurd h
 field_free_first (InDict (Comma given)) a b h = absurd h
 
 -- what is left of a chunk does not allocate
-pub field_free_went : (d : Dialect) (s t : State) (chunk rest : List ℕ) → FieldFree s chunk
-    → Went (step d) s chunk rest t → FieldFree t rest
-field_free_went d s t chunk rest h a = free_went (step d) FieldFree (field_keeps d) s t chunk rest h a
+pub field_free_goes : (d : Dialect) (s t : State) (chunk rest : List ℕ) → FieldFree s chunk
+    → Goes (step d) s chunk rest t → FieldFree t rest
+field_free_goes d s t chunk rest h a = free_goes (step d) FieldFree (field_keeps d) s t chunk rest h a
 
 -- nor does what comes after it
 pub field_free_after : (d : Dialect) (s t : State) (chunk rest more : List ℕ)
-    → FieldFree s (chunk ++ more) → Went (step d) s chunk rest t → FieldFree t (rest ++ more)
+    → FieldFree s (chunk ++ more) → Goes (step d) s chunk rest t → FieldFree t (rest ++ more)
 field_free_after d s t chunk rest more h a =
-    field_free_went d s t (chunk ++ more) (rest ++ more) h (record {
+    field_free_goes d s t (chunk ++ more) (rest ++ more) h (record {
       taken = a.taken;
       split = ap (λ y. y ++ more) a.split ∙ append_assoc a.taken rest more;
       leads = a.leads;

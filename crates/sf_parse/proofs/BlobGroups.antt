@@ -2,10 +2,10 @@
 use Rattle.std.proofs.Common.{◌≡◌, ℕ, ◌-◌, ◌≤◌, List, [], ◌∷◌, ◌++◌, length, take, drop}
 use Rattle.std.proofs.Common.{get_or, Some, refl, sym, ap, ◌∙◌, subst, arith}
 use Rattle.std.proofs.lemmas.List.{take_rest}
-use Rattle.sf_parse.specs.Prefixes.{Went}
+use Rattle.sf_parse.specs.Prefixes.{Goes}
 use Rattle.sf_parse.specs.Machine.Language.{run}
 use Rattle.sf_parse.specs.Machine.Blobs.{H0, Group, blob_step}
-use Rattle.sf_parse.proofs.Prefixes.{went_more}
+use Rattle.sf_parse.proofs.Prefixes.{goes_more}
 
 -- the first four bytes, and the rest as a slice is seen
 four : (xs : List ℕ) → 4 ≤ length xs
@@ -18,15 +18,15 @@ four (a ∷ b ∷ c ∷ d ∷ xs) h = refl
 
 -- one group more
 pub group_on : (first bytes more out chunk xs : List ℕ)
-    → Went blob_step (Group first H0) chunk xs (Group bytes H0) → 4 ≤ length xs
+    → Goes blob_step (Group first H0) chunk xs (Group bytes H0) → 4 ≤ length xs
     → ((bs : List ℕ) → run blob_step (Group bs H0)
     (get_or xs 0 0 ∷ get_or xs 1 0 ∷ get_or xs 2 0 ∷ get_or xs 3 0 ∷ [])
     ≡ Some (Group (bs ++ out) H0))
     → more ≡ bytes ++ out
-    → Went blob_step (Group first H0) chunk (take (length xs - 4) (drop 4 xs)) (Group more H0)
+    → Goes blob_step (Group first H0) chunk (take (length xs - 4) (drop 4 xs)) (Group more H0)
 group_on first bytes more out chunk xs w h r e =
-    subst (λ y. Went blob_step (Group first H0) chunk y (Group more H0)) (sym (take_rest xs 4))
-    (went_more blob_step (Group first H0) (Group bytes H0) (Group more H0) chunk xs (drop 4 xs) w
+    subst (λ y. Goes blob_step (Group first H0) chunk y (Group more H0)) (sym (take_rest xs 4))
+    (goes_more blob_step (Group first H0) (Group bytes H0) (Group more H0) chunk xs (drop 4 xs) w
     (record {
       taken = get_or xs 0 0 ∷ get_or xs 1 0 ∷ get_or xs 2 0 ∷ get_or xs 3 0 ∷ [];
       split = four xs h;

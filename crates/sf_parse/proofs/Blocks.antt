@@ -4,13 +4,13 @@ use Rattle.std.proofs.Common.{length, take, drop}
 use Rattle.std.proofs.Common.{set, get_or, Some, refl, sym, ap, ◌∙◌, subst, arith, append_assoc}
 use Rattle.std.proofs.lemmas.List.{take_rest, take_more_set, length-set}
 use Rattle.sf_value.specs.Grammar.Utf8.{Utf8, utf8_step}
-use Rattle.sf_parse.specs.Prefixes.{Went}
+use Rattle.sf_parse.specs.Prefixes.{Goes}
 use Rattle.sf_parse.specs.Views.{Leads}
 use Rattle.sf_parse.specs.Machine.Language.{run}
 use Rattle.sf_parse.specs.Machine.Blobs.{H0, Group, blob_step}
 use Rattle.sf_value.specs.Digits.{unhex}
 use Rattle.sf_parse.specs.Machine.Showns.{Unencoded, can_begin, shown_step}
-use Rattle.sf_parse.proofs.Prefixes.{went_more}
+use Rattle.sf_parse.proofs.Prefixes.{goes_more}
 use Rattle.sf_value.proofs.DigitValues.{read_hex}
 use Rattle.sf_parse.proofs.HighDigits.{utf8_begins}
 use Rattle.sf_parse.proofs.Leading.{leads_push}
@@ -39,11 +39,11 @@ store_three l i x y z h =
 
 -- one group of base64 more
 pub decoded_on : (bs block chunk xs : List ℕ) (n x y z : ℕ) → n + 3 ≤ length block
-    → 4 ≤ length xs → Went blob_step (Group bs H0) chunk xs (Group (bs ++ take n block) H0)
+    → 4 ≤ length xs → Goes blob_step (Group bs H0) chunk xs (Group (bs ++ take n block) H0)
     → ((bs : List ℕ) → run blob_step (Group bs H0)
     (get_or xs 0 0 ∷ get_or xs 1 0 ∷ get_or xs 2 0 ∷ get_or xs 3 0 ∷ [])
     ≡ Some (Group (bs ++ x ∷ y ∷ z ∷ []) H0))
-    → Went blob_step (Group bs H0) chunk (take (length xs - 4) (drop 4 xs))
+    → Goes blob_step (Group bs H0) chunk (take (length xs - 4) (drop 4 xs))
     (Group (bs ++ take (n + 3) (set (set (set block n x) (n + 1) y) (n + 2) z)) H0)
 decoded_on bs block chunk xs n x y z h k w r =
     group_on bs (bs ++ take n block) _ (x ∷ y ∷ z ∷ []) chunk xs w k r
@@ -52,12 +52,12 @@ decoded_on bs block chunk xs n x y z h k w r =
 
 -- a block of groups more
 pub block_on : (first bytes more out chunk xs rest : List ℕ)
-    → Went blob_step (Group first H0) chunk xs (Group bytes H0)
-    → ((bs : List ℕ) → Went blob_step (Group bs H0) xs rest (Group (bs ++ out) H0))
-    → more ≡ bytes ++ out → Went blob_step (Group first H0) chunk rest (Group more H0)
+    → Goes blob_step (Group first H0) chunk xs (Group bytes H0)
+    → ((bs : List ℕ) → Goes blob_step (Group bs H0) xs rest (Group (bs ++ out) H0))
+    → more ≡ bytes ++ out → Goes blob_step (Group first H0) chunk rest (Group more H0)
 block_on first bytes more out chunk xs rest w h e =
-    went_more blob_step (Group first H0) (Group bytes H0) (Group more H0) chunk xs rest w
-    (subst (λ y. Went blob_step (Group bytes H0) xs rest (Group y H0)) (sym e) (h bytes))
+    goes_more blob_step (Group first H0) (Group bytes H0) (Group more H0) chunk xs rest w
+    (subst (λ y. Goes blob_step (Group bytes H0) xs rest (Group y H0)) (sym e) (h bytes))
 
 -- an escape is three steps of the machine
 pub escape_run : (high low h l : ℕ) → unhex high ≡ Some h → unhex low ≡ Some l → (bs : List ℕ)
@@ -81,18 +81,18 @@ three (a ∷ b ∷ c ∷ xs) h = refl
 -- one escape more
 pub escape_on : (x y z : Utf8) (bs block chunk xs : List ℕ) (n c : ℕ) → n < length block
     → 3 ≤ length xs → get_or xs 0 0 ≡ 37
-    → Went shown_step (Unencoded bs x) chunk xs (Unencoded (bs ++ take n block) y)
+    → Goes shown_step (Unencoded bs x) chunk xs (Unencoded (bs ++ take n block) y)
     → run shown_step (Unencoded (bs ++ take n block) y)
     (37 ∷ get_or xs 1 0 ∷ get_or xs 2 0 ∷ []) ≡ Some (Unencoded ((bs ++ take n block) ++ c ∷ []) z)
-    → Went shown_step (Unencoded bs x) chunk (take (length xs - 3) (drop 3 xs))
+    → Goes shown_step (Unencoded bs x) chunk (take (length xs - 3) (drop 3 xs))
     (Unencoded (bs ++ take (n + 1) (set block n c)) z)
 escape_on x y z bs block chunk xs n c h k e w r =
     let stored : bs ++ take (n + 1) (set block n c) ≡ (bs ++ take n block) ++ c ∷ [] =
     ap (λ l. bs ++ l) (take_more_set block n c h) ∙ sym (append_assoc bs (take n block) (c ∷ [])) in
-    subst (λ q. Went shown_step (Unencoded bs x) chunk q
+    subst (λ q. Goes shown_step (Unencoded bs x) chunk q
     (Unencoded (bs ++ take (n + 1) (set block n c)) z))
     (sym (take_rest xs 3))
-    (went_more shown_step (Unencoded bs x) (Unencoded (bs ++ take n block) y)
+    (goes_more shown_step (Unencoded bs x) (Unencoded (bs ++ take n block) y)
     (Unencoded (bs ++ take (n + 1) (set block n c)) z) chunk xs (drop 3 xs) w
     (record {
       taken = 37 ∷ get_or xs 1 0 ∷ get_or xs 2 0 ∷ [];

@@ -6,7 +6,7 @@ use Rattle.sf_value.specs.Grammar.Words.{Every, IsWord}
 use Rattle.sf_value.specs.Grammar.Classes.{is_visible}
 use Rattle.sf_value.proofs.Runs.{every_append}
 use Rattle.sf_value.specs.Grammar.Strings.{is_unescaped}
-use Rattle.sf_parse.specs.Prefixes.{Went}
+use Rattle.sf_parse.specs.Prefixes.{Goes}
 use Rattle.sf_parse.specs.Machine.Language.{run}
 use Rattle.sf_parse.specs.Machine.Texts.{Inside, text_step, word_step}
 
@@ -24,9 +24,9 @@ text_run bytes (b ∷ xs) h =
     ∙ ap (λ y. Some (Inside y)) (append_assoc bytes (b ∷ []) xs))
 
 -- a string takes a run
-pub text_went : (bytes xs rest chunk more : List ℕ) → chunk ≡ xs ++ rest → Every is_unescaped xs
-    → more ≡ bytes ++ xs → Went text_step (Inside bytes) chunk rest (Inside more)
-text_went bytes xs rest chunk more e h f = record {
+pub text_goes : (bytes xs rest chunk more : List ℕ) → chunk ≡ xs ++ rest → Every is_unescaped xs
+    → more ≡ bytes ++ xs → Goes text_step (Inside bytes) chunk rest (Inside more)
+text_goes bytes xs rest chunk more e h f = record {
   taken = xs;
   split = e;
   leads = text_run bytes xs h ∙ ap (λ y. Some (Inside y)) (sym f);
@@ -40,9 +40,9 @@ word_run q bytes (b ∷ xs) h =
     rw (h.0)
     (word_run q (bytes ++ b ∷ []) xs h.1 ∙ ap (λ y. Some y) (append_assoc bytes (b ∷ []) xs))
 
-pub word_went : (q : ℕ → Bool) (bytes xs rest chunk more : List ℕ) → chunk ≡ xs ++ rest
-    → Every q xs → more ≡ bytes ++ xs → Went (word_step q) bytes chunk rest more
-word_went q bytes xs rest chunk more e h f = record {
+pub word_goes : (q : ℕ → Bool) (bytes xs rest chunk more : List ℕ) → chunk ≡ xs ++ rest
+    → Every q xs → more ≡ bytes ++ xs → Goes (word_step q) bytes chunk rest more
+word_goes q bytes xs rest chunk more e h f = record {
   taken = xs;
   split = e;
   leads = word_run q bytes xs h ∙ ap (λ y. Some y) (sym f);
@@ -76,10 +76,10 @@ stay_run : {S : Type 0} (next : S → ℕ → Option S) (p : ℕ → Bool) (s : 
 stay_run next p s h [] w = refl
 stay_run next p s h (b ∷ xs) w = rw (h b w.0) (stay_run next p s h xs w.1)
 
-pub stay_went : {S : Type 0} (next : S → ℕ → Option S) (p : ℕ → Bool) (s : S)
+pub stay_goes : {S : Type 0} (next : S → ℕ → Option S) (p : ℕ → Bool) (s : S)
     (xs rest chunk : List ℕ) → ((b : ℕ) → p b ≡ true → next s b ≡ Some s) → chunk ≡ xs ++ rest
-    → Every p xs → Went next s chunk rest s
-stay_went next p s xs rest chunk h e w = record {
+    → Every p xs → Goes next s chunk rest s
+stay_goes next p s xs rest chunk h e w = record {
   taken = xs;
   split = e;
   leads = stay_run next p s h xs w;

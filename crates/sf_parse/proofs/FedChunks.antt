@@ -12,7 +12,7 @@ use Rattle.sf_parse.specs.declared.refusal.Refusal.{Refusal}
 use Rattle.sf_parse.specs.declared.refusal.Refusal.TheVariants.{Syntax, TooLong}
 use Rattle.sf_parse.specs.Machine.Fields.{Residual, step, finish, begin}
 use Rattle.sf_parse.specs.Machine.Tests.{takes, may_end}
-use Rattle.sf_parse.specs.Reached.{IsReachedBy}
+use Rattle.sf_parse.specs.Reaching.{IsReachedBy}
 use Rattle.sf_parse.specs.Expected.{Marks}
 use Rattle.sf_parse.specs.Parsers.{Progress, HasTaken, Sound, IsSyntax, RefusedFor}
 use Rattle.sf_parse.specs.Parsers.{SameSettings, Feeds, FeedAnswer, Finishes, Refuses, StandsAt}
@@ -22,7 +22,7 @@ use Rattle.std.proofs.Common.{is_some}
 use Rattle.sf_parse.specs.Machine.States.{State}
 use Rattle.sf_parse.specs.MemberEnds.{some_map}
 use Rattle.sf_parse.proofs.Marks.{marks_same}
-use Rattle.sf_parse.proofs.Reached.{reached_nothing, reached_viable}
+use Rattle.sf_parse.proofs.Reaching.{reached_nothing, reached_viable}
 use Rattle.sf_parse.proofs.Refusals.{stops_exact, ends_exact, ends_only}
 
 -- what a sound parser took, as the machine's laws say it

@@ -11,11 +11,11 @@ use Rattle.sf_parse.specs.Machine.Language.{run}
 use Rattle.sf_parse.specs.Machine.Fields.{Residual, step}
 use Rattle.sf_parse.specs.Parsers.{Progress, HasTaken, Sound, RefusedFor, SameSettings, Feeds}
 use Rattle.sf_parse.specs.AllocationFreeParsers.{IsAllocationFree}
-use Rattle.sf_parse.specs.Prefixes.{LongestPrefix, Went}
+use Rattle.sf_parse.specs.Prefixes.{LongestPrefix, Goes}
 use Rattle.sf_parse.specs.Feeding.{FeedsPrefix}
 use Rattle.sf_parse.proofs.Machines
 use Rattle.sf_parse.proofs.Machine.Fields.{machine}
-use Rattle.sf_parse.proofs.Reached.{reaches_more, reached_viable}
+use Rattle.sf_parse.proofs.Reaching.{reaches_more, reached_viable}
 use Rattle.sf_parse.proofs.FedChunks.{FedPrefix, taken, stopped_in}
 
 -- a text was taken after another
@@ -53,18 +53,18 @@ fed_run p q t g h e same c r = record {
   );
 }
 
-went_length : {S : Type 0} (next : S → ℕ → Option S) (s t : S) (chunk rest : List ℕ)
-    (w : Went next s chunk rest t) → length chunk ≡ length w.taken + length rest
-went_length next s t chunk rest w = ap length w.split ∙ length-append w.taken rest
+goes_length : {S : Type 0} (next : S → ℕ → Option S) (s t : S) (chunk rest : List ℕ)
+    (w : Goes next s chunk rest t) → length chunk ≡ length w.taken + length rest
+goes_length next s t chunk rest w = ap length w.split ∙ length-append w.taken rest
 
 pub sound_taken : (r : Option Refusal) (d : Dialect) (s u : State) (chunk rest : List ℕ)
     (count max : ℕ) → Sound r s count max → r ≡ None → count + length chunk ≤ max
     → LongestPrefix (step d) s chunk rest u → Sound r u (count + (length chunk - length rest)) max
 sound_taken r d s u chunk rest count max g n h a =
-    let l = went_length (step d) s u chunk rest a.went in
+    let l = goes_length (step d) s u chunk rest a.goes in
     subst (λ y. Sound y u (count + (length chunk - length rest)) max) (sym n) (
-      Machines.run_good (machine d) s u a.went.taken
-          (subst (λ y. Sound y s count max) n g).0 a.went.leads,
+      Machines.run_good (machine d) s u a.goes.taken
+          (subst (λ y. Sound y s count max) n g).0 a.goes.leads,
       omega arith,
     )
 
@@ -73,10 +73,10 @@ pub fed_taken : (p q : Progress) (chunk rest : List ℕ) → Sound p.refusal p.s
     → SameSettings p q → q.count ≡ p.count + (length chunk - length rest)
     → q.refusal ≡ p.refusal → FeedsPrefix p q chunk rest
 fed_taken p q chunk rest g h a same c r =
-    let l = went_length (step p.dialect) p.state q.state chunk rest a.went in (
-      a.went.taken,
-      a.went.split,
-      fed_run p q a.went.taken g (omega arith) a.went.leads same (omega arith) r,
+    let l = goes_length (step p.dialect) p.state q.state chunk rest a.goes in (
+      a.goes.taken,
+      a.goes.split,
+      fed_run p q a.goes.taken g (omega arith) a.goes.leads same (omega arith) r,
     )
 
 -- what does not allocate, where a chunk is split, and where nothing of it is left

@@ -17,7 +17,7 @@ use Rattle.sf_value.specs.Grammar.Pairs.{Pairs}
 use Rattle.sf_value.specs.Grammar.Fields.{SpellsField, list_of, dict_of}
 use Rattle.sf_value.specs.Grammar.Lines.{Viable}
 use Rattle.sf_parse.specs.Interchange.{SpellsSome, AreInterchangeable, RefusalsMove, HasMember}
-use Rattle.sf_parse.specs.Interchange.{CommaViable, MembersForgotten}
+use Rattle.sf_parse.specs.Interchange.{CommaViable, ForgetsMembers}
 use Rattle.sf_parse.specs.Machine.Language.{run}
 use Rattle.sf_parse.specs.Machine.Series.{SeriesState, Begin, InMember, Gap, Comma, Series}
 use Rattle.sf_parse.specs.Machine.Series.{ResidualSeries, series_step, series_finish, gap_step}
@@ -25,13 +25,13 @@ use Rattle.sf_parse.specs.Machine.States.{State, BeforeItem, InsideItem, AfterIt
 use Rattle.sf_parse.specs.Machine.Items.{item_finish}
 use Rattle.sf_parse.specs.Machine.Fields.{Residual, step, finish, begin, list_series, dict_series}
 use Rattle.sf_parse.specs.Machine.Fields.{list_finish, dict_finish}
-use Rattle.sf_parse.specs.Reached.{IsReachedBy}
+use Rattle.sf_parse.specs.Reaching.{IsReachedBy}
 use Rattle.sf_parse.proofs.Machine.Language.{and_then_cases, map_cases, is_none, onward_end}
 use Rattle.sf_parse.proofs.Machine.Series.{SeriesLaws}
 use Rattle.sf_parse.proofs.Machine.Fields.{list_laws, dict_laws}
 use Rattle.sf_parse.proofs.Machines.{cases_le}
 use Rattle.sf_parse.proofs.GrammarLaws.{is_read}
-use Rattle.sf_parse.proofs.Reached.{reached_nothing, reaches_more, reached_viable}
+use Rattle.sf_parse.proofs.Reaching.{reached_nothing, reaches_more, reached_viable}
 
 slice_get_behind : (p s : List ℕ) (n : ℕ) → slice_get (p ++ s) (length p + n) ≡ slice_get s n
 slice_get_behind [] s n = ap (slice_get s) (let e : 0 + n ≡ n = omega arith in e)
@@ -270,7 +270,7 @@ comma_viable d kind t white v h m e =
     let a = after_comma d kind t white v h m e in
     reached_viable d kind a.0 (t ++ comma ∷ white) a.2
 
-pub members_forgotten : MembersForgotten
+pub members_forgotten : ForgetsMembers
 members_forgotten d kind t t' white white' v v' h m e h' m' e' u =
     let a = after_comma d kind t white v h m e in
     let b = after_comma d kind t' white' v' h' m' e' in

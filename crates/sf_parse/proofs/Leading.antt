@@ -4,10 +4,10 @@ use Rattle.std.proofs.Common.{◌≡◌, ℕ, ◌==◌, true, false, List, [], �
 use Rattle.std.proofs.Common.{refl, sym, ap, ◌∙◌, subst, arith, append-nil, append_assoc}
 use Rattle.sf_value.specs.Grammar.Words.{Every}
 use Rattle.sf_value.specs.Grammar.DisplayStrings.{is_unencoded}
-use Rattle.sf_parse.specs.Prefixes.{Went}
+use Rattle.sf_parse.specs.Prefixes.{Goes}
 use Rattle.sf_value.specs.Grammar.Utf8.{Utf8, Start, Wants, within, utf8_step, WellFormed}
 use Rattle.sf_parse.specs.Machine.Language.{run}
-use Rattle.sf_parse.specs.Machine.Showns.{Unencoded, pushed, shown_step}
+use Rattle.sf_parse.specs.Machine.Showns.{Unencoded, push_byte, shown_step}
 use Rattle.sf_parse.specs.Machine.Bares.{InShown, bare_finish}
 use Rattle.sf_value.specs.Grammar.Classes.{is_visible}
 use Rattle.sf_value.specs.Utf8States.{utf8_of}
@@ -50,7 +50,7 @@ whole_when_led = whole_from Start
 
 -- an unencoded byte, and the second digit of an escape, are one more byte of the text
 pub unencoded_pushed : (bytes : List ℕ) (x : Utf8) (b : ℕ) → (b == 34) ≡ false → (b == 37) ≡ false
-    → is_visible b ≡ true → shown_step (Unencoded bytes x) b ≡ pushed (Unencoded bytes x) b
+    → is_visible b ≡ true → shown_step (Unencoded bytes x) b ≡ push_byte (Unencoded bytes x) b
 unencoded_pushed bytes x b q p v = rw (q, p, v) refl
 
 -- a byte that stands for itself between characters leads to between characters again
@@ -80,10 +80,10 @@ unencoded_run bytes (b ∷ xs) h =
     ∙ ap (λ y. Some (Unencoded y Start)) (append_assoc bytes (b ∷ []) xs))
 
 -- a run of such bytes
-pub unencoded_went : (bytes xs rest chunk more : List ℕ) → chunk ≡ xs ++ rest
+pub unencoded_goes : (bytes xs rest chunk more : List ℕ) → chunk ≡ xs ++ rest
     → Every is_unencoded xs → more ≡ bytes ++ xs
-    → Went shown_step (Unencoded bytes Start) chunk rest (Unencoded more Start)
-unencoded_went bytes xs rest chunk more e h f = record {
+    → Goes shown_step (Unencoded bytes Start) chunk rest (Unencoded more Start)
+unencoded_goes bytes xs rest chunk more e h f = record {
   taken = xs;
   split = e;
   leads = unencoded_run bytes xs h ∙ ap (λ y. Some (Unencoded y Start)) (sym f);

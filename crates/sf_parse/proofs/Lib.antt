@@ -3,7 +3,7 @@
 pub mod Machine
 pub mod Machines
 pub mod GrammarLaws
-pub mod Reached
+pub mod Reaching
 pub mod Interchange
 -- What may come next and where a text may end.
 pub mod StateTests

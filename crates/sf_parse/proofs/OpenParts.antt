@@ -23,12 +23,12 @@ use Rattle.sf_parse.specs.Machine.Entries.{entry_step}
 use Rattle.sf_parse.specs.Machine.States.{BeforeItem, InsideItem, AfterItem}
 use Rattle.sf_parse.specs.ItemFieldView.{after_of}
 use Rattle.sf_parse.specs.Machine.Fields.{step}
-use Rattle.sf_parse.specs.Prefixes.{Went, LongestPrefix}
+use Rattle.sf_parse.specs.Prefixes.{Goes, LongestPrefix}
 use Rattle.sf_parse.specs.ItemView.{with_params}
 use Rattle.sf_parse.specs.MemberView.{closing_of, IsInParams}
 use Rattle.sf_parse.specs.EntryView.{flag_at, IsFlag}
 use Rattle.sf_parse.proofs.Machine.Language.{and_then_cases, map_cases}
-use Rattle.sf_parse.proofs.Prefixes.{part_above, went_above}
+use Rattle.sf_parse.proofs.Prefixes.{part_above, goes_above}
 
 pub space_in_params : (d : Dialect) (ps : Pairs Bare) (b : ℕ) → is_sp b ≡ true
     → params_step d (Opened ps) b ≡ Some (Opened ps)
@@ -71,7 +71,7 @@ item_in_field d s t b e =
 pub params_part : {R E : Type 0} (d : Dialect) (o : Option Bare) (s : BareState) (p q : ParamsState)
     (chunk : List ℕ) (rest : R → List ℕ) (r : Result R E) → IsSome o
     → IfOk r (λ v. LongestPrefix (params_step d) p chunk (rest v) q)
-    → IfOk r (λ v. Went (item_step d) (with_params o s p) chunk (rest v) (with_params o s q))
+    → IfOk r (λ v. Goes (item_step d) (with_params o s p) chunk (rest v) (with_params o s q))
 params_part d (Some x) s p q chunk rest r h a =
     part_above (params_step d) (item_step d) (InParams x)
     (λ s t b e. ap (option_map (InParams x)) e) p q
@@ -104,46 +104,46 @@ params_of_item d x p t (b ∷ xs) e =
     (more.0, more.1, ap (λ o. option_and_then (λ s. run (params_step d) s xs) o) k.1 ∙ more.2)
 
 -- the parameters after the bracket of an inner list
-closing_went : (d : Dialect) (is : List Item) (x : Bare) (p : ParamsState) (t : ItemState)
+closing_goes : (d : Dialect) (is : List Item) (x : Bare) (p : ParamsState) (t : ItemState)
     (chunk rest : List ℕ) → LongestPrefix (item_step d) (InParams x p) chunk rest t
-    → Went (member_step d) (InMany (Closing is p)) chunk rest (InMany (closing_of is t))
-closing_went d is x p t chunk rest a =
-    let k = params_of_item d x p t a.went.taken a.went.leads in
-    subst (λ s. Went (member_step d) (InMany (Closing is p)) chunk rest (InMany (closing_of is s)))
+    → Goes (member_step d) (InMany (Closing is p)) chunk rest (InMany (closing_of is t))
+closing_goes d is x p t chunk rest a =
+    let k = params_of_item d x p t a.goes.taken a.goes.leads in
+    subst (λ s. Goes (member_step d) (InMany (Closing is p)) chunk rest (InMany (closing_of is s)))
     (sym k.1)
-    (went_above (params_step d) (member_step d) (λ q. InMany (Closing is q))
+    (goes_above (params_step d) (member_step d) (λ q. InMany (Closing is q))
     (λ s t b e. ap (λ o. option_map InMany (option_map (Closing is) o)) e) p k.0 chunk rest
-    (record { taken = a.went.taken; split = a.went.split; leads = k.2 }))
+    (record { taken = a.goes.taken; split = a.goes.split; leads = k.2 }))
 
 pub closing_part : (d : Dialect) (is : List Item) (s t : ItemState) (chunk rest : List ℕ)
     → IsInParams s → LongestPrefix (item_step d) s chunk rest t
-    → Went (member_step d) (InMany (closing_of is s)) chunk rest (InMany (closing_of is t))
+    → Goes (member_step d) (InMany (closing_of is s)) chunk rest (InMany (closing_of is t))
 closing_part d is (InBare s) t chunk rest h a = absurd h
-closing_part d is (InParams x p) t chunk rest h a = closing_went d is x p t chunk rest a
+closing_part d is (InParams x p) t chunk rest h a = closing_goes d is x p t chunk rest a
 
 pub closing_kept : (d : Dialect) (s t : ItemState) (chunk rest : List ℕ) → IsInParams s
     → LongestPrefix (item_step d) s chunk rest t → IsInParams t
 closing_kept d (InBare s) t chunk rest h a = absurd h
 closing_kept d (InParams x p) t chunk rest h a =
-    subst IsInParams (sym (params_of_item d x p t a.went.taken a.went.leads).1) tt
+    subst IsInParams (sym (params_of_item d x p t a.goes.taken a.goes.leads).1) tt
 
 pub member_in_entry : (d : Dialect) (k : List ℕ) (s t : MemberState) (b : ℕ)
     → member_step d s b ≡ Some t → entry_step d (InMemberValue k s) b ≡ Some (InMemberValue k t)
 member_in_entry d k s t b e = ap (option_map (InMemberValue k)) e
 
 -- the parameters of a flag, which are read as those of an item of Boolean true
-flag_went : (d : Dialect) (k : List ℕ) (x : Bare) (p : ParamsState) (t : MemberState)
+flag_goes : (d : Dialect) (k : List ℕ) (x : Bare) (p : ParamsState) (t : MemberState)
     (chunk rest : List ℕ) → LongestPrefix (member_step d) (InOne (InParams x p)) chunk rest t
     → (q : ParamsState) × (t ≡ InOne (InParams x q))
-    × Went (entry_step d) (InFlag k p) chunk rest (InFlag k q)
-flag_went d k x p t chunk rest a =
-    let one = one_of_member d (InParams x p) t a.went.taken a.went.leads in
-    let item = params_of_item d x p one.0 a.went.taken one.2 in (
+    × Goes (entry_step d) (InFlag k p) chunk rest (InFlag k q)
+flag_goes d k x p t chunk rest a =
+    let one = one_of_member d (InParams x p) t a.goes.taken a.goes.leads in
+    let item = params_of_item d x p one.0 a.goes.taken one.2 in (
       item.0,
       one.1 ∙ ap InOne item.1,
-      went_above (params_step d) (entry_step d) (InFlag k) (λ s t b e. ap (option_map (InFlag k)) e)
+      goes_above (params_step d) (entry_step d) (InFlag k) (λ s t b e. ap (option_map (InFlag k)) e)
           p item.0
-          chunk rest (record { taken = a.went.taken; split = a.went.split; leads = item.2 }),
+          chunk rest (record { taken = a.goes.taken; split = a.goes.split; leads = item.2 }),
     )
   where
     one_of_member : (d : Dialect) (s : ItemState) (t : MemberState) (xs : List ℕ)
@@ -159,18 +159,18 @@ flag_went d k x p t chunk rest a =
 
 pub flag_part : (d : Dialect) (k : List ℕ) (s t : MemberState) (chunk rest : List ℕ) → IsFlag s
     → LongestPrefix (member_step d) s chunk rest t
-    → Went (entry_step d) (flag_at k s) chunk rest (flag_at k t)
+    → Goes (entry_step d) (flag_at k s) chunk rest (flag_at k t)
 flag_part d k (InOne (InBare s)) t chunk rest h a = absurd h
 flag_part d k (InOne (InParams x p)) t chunk rest h a =
-    let w = flag_went d k x p t chunk rest a in
-    subst (λ s. Went (entry_step d) (InFlag k p) chunk rest (flag_at k s)) (sym w.1) w.2
+    let w = flag_goes d k x p t chunk rest a in
+    subst (λ s. Goes (entry_step d) (InFlag k p) chunk rest (flag_at k s)) (sym w.1) w.2
 flag_part d k (InMany s) t chunk rest h a = absurd h
 
 pub flag_kept : (d : Dialect) (k : List ℕ) (s t : MemberState) (chunk rest : List ℕ) → IsFlag s
     → LongestPrefix (member_step d) s chunk rest t → IsFlag t
 flag_kept d k (InOne (InBare s)) t chunk rest h a = absurd h
 flag_kept d k (InOne (InParams x p)) t chunk rest h a =
-    subst IsFlag (sym (flag_went d k x p t chunk rest a).1) h
+    subst IsFlag (sym (flag_goes d k x p t chunk rest a).1) h
 flag_kept d k (InMany s) t chunk rest h a = absurd h
 
 pub space_before : (d : Dialect) (b : ℕ) → is_sp b ≡ true → step d BeforeItem b ≡ Some BeforeItem

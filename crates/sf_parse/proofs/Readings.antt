@@ -3,7 +3,7 @@ use Rattle.std.proofs.Common.{◌≡◌, ℕ, ◌+◌, ◌^◌, ◌<◌, ◌≤�
 use Rattle.std.proofs.Common.{Some, None, inl, inr}
 use Rattle.std.proofs.Common.{Result, Ok, Err, refl, sym, ◌∙◌, subst, append-nil, append_assoc}
 use Rattle.std.proofs.Common.{length-append, arith}
-use Rattle.sf_value.specs.Devices.{SourceState, capped, Gave, GivesOnce, EndsOnce, FailsOnce}
+use Rattle.sf_value.specs.Devices.{SourceState, capped, Gives, GivesOnce, EndsOnce, FailsOnce}
 use Rattle.sf_value.specs.declared.dialect.Dialect.TheVariants.{Rfc9651}
 use Rattle.sf_value.specs.declared.value.Field.{Field}
 use Rattle.sf_value.specs.declared.value.Kind.{Kind}
@@ -15,15 +15,15 @@ use Rattle.sf_parse.specs.Machine.Fields.{begin}
 use Rattle.sf_parse.specs.Parsers.{Progress, HasTaken, Feeds, RefusedFor, Finishes}
 use Rattle.sf_parse.specs.AllocationFree.{TakesNoMemory}
 use Rattle.sf_parse.specs.AllocationFreeParsers.{IsAllocationFree, IsOther, NotForMemory}
-use Rattle.sf_parse.specs.Reading.{GaveAll, AllocationFailed, ReadAndParsed}
-use Rattle.sf_parse.proofs.Reached.{reached_nothing, reached_viable}
-use Rattle.sf_value.proofs.Gives.{gave_none, gave_more}
+use Rattle.sf_parse.specs.Reading.{GivesAll, AllocationFailed, ReadAndParsed}
+use Rattle.sf_parse.proofs.Reaching.{reached_nothing, reached_viable}
+use Rattle.sf_value.proofs.Gives.{gives_none, gives_more}
 
 -- what was given so far, and taken by the parser
 pub record ReadSoFar (old now : SourceState) (kind : Kind) (max given : ℕ) (p : Progress)
     : Type 0 where
   pub text : List ℕ
-  pub gave : Gave old now text
+  pub gives : Gives old now text
   pub took : HasTaken p text
   pub count : length text ≡ given
   pub dialect : p.dialect ≡ Rfc9651
@@ -40,7 +40,7 @@ pub reads_start : (s : SourceState) (kind : Kind) (max : ℕ) (p : Progress) →
     → ReadSoFar s s kind max 0 p
 reads_start s kind max p t d k m allocation_free = record {
   text = [];
-  gave = gave_none s;
+  gives = gives_none s;
   took = t;
   count = refl;
   dialect = d;
@@ -63,7 +63,7 @@ reads_more old a b kind max given n p q ys r g e f allocation_free =
     let l = length-append r.text ys in let c = r.count in omega arith in
     record {
       text = r.text ++ ys;
-      gave = gave_more old a b r.text ys r.gave g;
+      gives = gives_more old a b r.text ys r.gives g;
       took = fed.2;
       count = count;
       dialect = same.dialect ∙ r.dialect;
@@ -91,8 +91,8 @@ reads_refused old a b kind max given p q ys e r g l f allocation_free = at e ref
     text : List ℕ
     text = r.text ++ ys
 
-    gave : Gave old b text
-    gave = gave_more old a b r.text ys r.gave g
+    gives : Gives old b text
+    gives = gives_more old a b r.text ys r.gives g
 
     bound : length text ≤ capped (max + 1)
     bound = at_most (length r.text) (length ys) (length text) given (capped (max + 1)) r.count
@@ -112,29 +112,29 @@ reads_refused old a b kind max given p q ys e r g l f allocation_free = at e ref
 
     at : (e : Refusal) → ((more : List ℕ) → RefusedFor Rfc9651 kind max (text ++ more) e)
         → (TakesNoMemory kind text → IsOther e) → ReadAndParsed Rfc9651 kind old b max (Err e)
-    at OutOfMemory h o = (text, (o, inl (gave, bound)))
+    at OutOfMemory h o = (text, (o, inl (gives, bound)))
     at (Syntax place None expected may) h o = absurd (h [])
     at (Syntax place (Some c) expected may) h o =
-        (text, gave, bound, (h []).0, λ more. (h more).1)
+        (text, gives, bound, (h []).0, λ more. (h more).1)
     at (TooLong limit) h o =
         let none = append-nil text in
         let k = subst (λ y. RefusedFor Rfc9651 kind max y (TooLong limit)) none (h []) in
-        (text, gave, (let m = k.1 in let w = bound in omega arith), k.0, k.2)
+        (text, gives, (let m = k.1 in let w = bound in omega arith), k.0, k.2)
     at (ReadFault place) h o = absurd (h [])
 
 pub reads_failed : (old a b : SourceState) (kind : Kind) (max given : ℕ) (p : Progress)
     → ReadSoFar old a kind max given p → FailsOnce a b
     → ReadAndParsed Rfc9651 kind old b max (Err (ReadFault given))
 reads_failed old a b kind max given p r f =
-    (r.text, record { mid = a; gave = r.gave; failed = f }, r.count, r.within, r.viable)
+    (r.text, record { mid = a; gives = r.gives; failed = f }, r.count, r.within, r.viable)
 
-allocation_failed : (old b : SourceState) (kind : Kind) (max : ℕ) (text : List ℕ) → GaveAll old b text
+allocation_failed : (old b : SourceState) (kind : Kind) (max : ℕ) (text : List ℕ) → GivesAll old b text
     → length text ≤ max → max < 2 ^ 64 → ¬ (TakesNoMemory kind text) → AllocationFailed kind old b max text
 allocation_failed old b kind max text g l m n =
     elim g [ inl e ↦ (n, inr (e, l)) | inr f ↦ (n, inl (f.0, omega arith)) ]
 
 ended : (old b : SourceState) (kind : Kind) (max : ℕ) (text : List ℕ) (r : Result Field Refusal)
-    → GaveAll old b text → length text ≤ max → max < 2 ^ 64
+    → GivesAll old b text → length text ≤ max → max < 2 ^ 64
     → (TakesNoMemory kind text → NotForMemory r)
     → Finishes Rfc9651 kind text r → ReadAndParsed Rfc9651 kind old b max r
 ended old b kind max text (Ok v) g l m n f = (text, g, l, f)
@@ -160,7 +160,7 @@ pub reads_full : (old a : SourceState) (kind : Kind) (max given limit : ℕ) (p 
 reads_full old a kind max given limit p r k m e l n f =
     let c = k.count in
     let w = k.within in
-    ended old a kind max k.text r (inr (k.gave, omega arith)) (omega arith) m
+    ended old a kind max k.text r (inr (k.gives, omega arith)) (omega arith) m
     (λ h. n (k.allocation_free [] (subst (TakesNoMemory kind) (sym (append-nil k.text)) h)))
     (finished kind max given old a p r k f)
 
@@ -173,7 +173,7 @@ pub reads_ended : (old a b : SourceState) (kind : Kind) (max given : ℕ) (p : P
 reads_ended old a b kind max given p r k m e n f =
     let c = k.count in
     let w = k.within in
-    ended old b kind max k.text r (inl (record { mid = a; gave = k.gave; ended = e }))
+    ended old b kind max k.text r (inl (record { mid = a; gives = k.gives; ended = e }))
     (omega arith) m
     (λ h. n (k.allocation_free [] (subst (TakesNoMemory kind) (sym (append-nil k.text)) h)))
     (finished kind max given old a p r k f)

@@ -15,11 +15,11 @@ use Rattle.sf_value.specs.Grammar.Lines.{Viable, IsPlace, Continues}
 use Rattle.sf_parse.specs.Machine.States.{State}
 use Rattle.sf_parse.specs.Machine.Fields.{step, finish}
 use Rattle.sf_parse.specs.Machine.Tests.{takes, may_end}
-use Rattle.sf_parse.specs.Reached.{IsReachedBy}
+use Rattle.sf_parse.specs.Reaching.{IsReachedBy}
 use Rattle.sf_parse.specs.Expected.{Marks}
 use Rattle.sf_parse.specs.Parsers.{IsSyntax, IsOnly}
 use Rattle.sf_parse.proofs.GrammarLaws.{one_value}
-use Rattle.sf_parse.proofs.Reached.{reached_end, reached_stops, reached_all}
+use Rattle.sf_parse.proofs.Reaching.{reached_end, reached_stops, reached_all}
 use Rattle.sf_parse.proofs.StateTests.{takes_next, ends_text}
 use Rattle.sf_parse.proofs.Below.{some_next}
 

@@ -2,7 +2,7 @@
 use Rattle.std.proofs.Common.{◌≡◌, true, Option, Some, None, is_some, refl, ◌↔◌}
 use Rattle.sf_parse.specs.Machine.Fields.{step, finish}
 use Rattle.sf_parse.specs.StateTests.{TakesNext, EndsText}
-use Rattle.sf_parse.proofs.Reached.{reached_next, reached_end}
+use Rattle.sf_parse.proofs.Reaching.{reached_next, reached_end}
 
 some_is : {S : Type 0} (o : Option S) → ((s : S) × (o ≡ Some s)) ↔ (is_some o ≡ true)
 some_is (Some s) = (λ k. refl, λ k. (s, refl))

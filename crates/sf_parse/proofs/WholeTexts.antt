@@ -15,18 +15,18 @@ use Rattle.sf_parse.specs.Machine.Fields.{step, finish, begin}
 use Rattle.sf_parse.specs.Machine.Tests.{takes, may_end}
 use Rattle.sf_parse.specs.Expected.{Marks}
 use Rattle.sf_parse.specs.Prefixes.{LongestPrefix}
-use Rattle.sf_parse.specs.Reached.{IsReachedBy}
+use Rattle.sf_parse.specs.Reaching.{IsReachedBy}
 use Rattle.sf_parse.specs.Parsers.{IsSyntax, IsOnly, Parses, Refuses}
 use Rattle.sf_parse.specs.AllocationFree.{TakesNoMemory, FieldFree}
-use Rattle.sf_parse.proofs.AllocationFreeSteps.{field_free_went}
-use Rattle.sf_parse.proofs.Reached.{reached_nothing, reaches_more}
+use Rattle.sf_parse.proofs.AllocationFreeSteps.{field_free_goes}
+use Rattle.sf_parse.proofs.Reaching.{reached_nothing, reaches_more}
 use Rattle.sf_parse.proofs.Refusals.{stops_exact, ends_exact, ends_only}
 
 prefix_took : (d : Dialect) (kind : Kind) (s t : State) (text rest : List ℕ) → s ≡ begin kind
-    → (a : LongestPrefix (step d) s text rest t) → IsReachedBy d kind t a.went.taken
+    → (a : LongestPrefix (step d) s text rest t) → IsReachedBy d kind t a.goes.taken
 prefix_took d kind s t text rest e a =
-    reaches_more d kind s t [] a.went.taken
-    (subst (λ y. IsReachedBy d kind y []) (sym e) (reached_nothing d kind)) a.went.leads
+    reaches_more d kind s t [] a.goes.taken
+    (subst (λ y. IsReachedBy d kind y []) (sym e) (reached_nothing d kind)) a.goes.leads
 
 -- the place is what was taken
 place_is : (taken rest text : List ℕ) → text ≡ taken ++ rest → length text - length rest
@@ -45,20 +45,20 @@ whole_syntax d kind s t text (b ∷ rest) (Some c) bits may e a f m k h =
     let byte : b ≡ c = cc in
     let prefix = prefix_took d kind s t text (b ∷ rest) e a in
     subst (λ p. IsSyntax d kind text p (Some c) bits may)
-    (sym (place_is a.went.taken (b ∷ rest) text a.went.split))
-    (subst (λ y. IsSyntax d kind text (length a.went.taken) (Some y) bits may) byte
-    (subst (λ y. IsSyntax d kind y (length a.went.taken) (Some b) bits may) (sym a.went.split)
-    (stops_exact d kind t a.went.taken rest b bits may prefix a.stops m k)))
+    (sym (place_is a.goes.taken (b ∷ rest) text a.goes.split))
+    (subst (λ y. IsSyntax d kind text (length a.goes.taken) (Some y) bits may) byte
+    (subst (λ y. IsSyntax d kind y (length a.goes.taken) (Some b) bits may) (sym a.goes.split)
+    (stops_exact d kind t a.goes.taken rest b bits may prefix a.stops m k)))
 whole_syntax d kind s t text [] None bits may e a f m k (inl h) = absurd cc
 whole_syntax d kind s t text [] None bits may e a f m k (inr h) =
     let prefix = prefix_took d kind s t text [] e a in
-    let all : text ≡ a.went.taken = a.went.split ∙ append-nil a.went.taken in
+    let all : text ≡ a.goes.taken = a.goes.split ∙ append-nil a.goes.taken in
     subst (λ c. Parses d kind text (Err (Syntax (length text - 0) None bits c))) (sym h.1) (
       refl,
       subst (λ p. IsSyntax d kind text p None bits false)
-          (sym (place_is a.went.taken [] text a.went.split))
-          (subst (λ y. IsSyntax d kind y (length a.went.taken) None bits false) (sym all)
-          (ends_exact d kind t a.went.taken bits prefix m (sym h.1 ∙ k))),
+          (sym (place_is a.goes.taken [] text a.goes.split))
+          (subst (λ y. IsSyntax d kind y (length a.goes.taken) None bits false) (sym all)
+          (ends_exact d kind t a.goes.taken bits prefix m (sym h.1 ∙ k))),
     )
 whole_syntax d kind s t text [] (Some c) bits may e a f m k h = absurd cc
 whole_syntax d kind s t text (b ∷ rest) None bits may e a f m k h = absurd cc
@@ -80,9 +80,9 @@ pub whole_value : (d : Dialect) (kind : Kind) (s t : State) (text rest : List �
     (found : Option ℕ) (v : Field) → s ≡ begin kind → LongestPrefix (step d) s text rest t
     → found ≡ slice_get rest 0 → is_some found ≡ false → finish t ≡ Some v → IsOnly d kind text v
 whole_value d kind s t text [] found v e a f n g =
-    let all : text ≡ a.went.taken = a.went.split ∙ append-nil a.went.taken in
+    let all : text ≡ a.goes.taken = a.goes.split ∙ append-nil a.goes.taken in
     subst (λ y. IsOnly d kind y v) (sym all)
-    (ends_only d kind t a.went.taken v (prefix_took d kind s t text [] e a) g)
+    (ends_only d kind t a.goes.taken v (prefix_took d kind s t text [] e a) g)
 whole_value d kind s t text (b ∷ rest) found v e a f n g =
     absurd (let k : true ≡ false = sym (ap is_some f) ∙ n in cc)
 
@@ -98,7 +98,7 @@ pub whole_free : (d : Dialect) (kind : Kind) (s t : State) (text rest : List ℕ
     → s ≡ begin kind → TakesNoMemory kind text → LongestPrefix (step d) s text rest t
     → found ≡ slice_get rest 0 → is_some found ≡ false → FieldFree t []
 whole_free d kind s t text [] found e h a f n =
-    field_free_went d s t text [] (subst (λ y. FieldFree y text) (sym e) (begins_free kind text h))
-    a.went
+    field_free_goes d s t text [] (subst (λ y. FieldFree y text) (sym e) (begins_free kind text h))
+    a.goes
 whole_free d kind s t text (b ∷ rest) found e h a f n =
     absurd (let k : true ≡ false = sym (ap is_some f) ∙ n in cc)

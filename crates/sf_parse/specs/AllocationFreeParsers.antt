@@ -20,9 +20,9 @@ IsOther (TooLong max) = ⊤
 IsOther (ReadFault place) = ⊤
 
 -- the parser is still allocation-free, or refused for another reason than a failed allocation
-abbrev pub KeptAllocationFree : Progress → List ℕ → Result (Unit {0}) Refusal → Type 0
-KeptAllocationFree p more (Ok u) = IsAllocationFree p more
-KeptAllocationFree p more (Err e) = IsOther e
+abbrev pub KeepsAllocationFree : Progress → List ℕ → Result (Unit {0}) Refusal → Type 0
+KeepsAllocationFree p more (Ok u) = IsAllocationFree p more
+KeepsAllocationFree p more (Err e) = IsOther e
 
 -- there is a value, or a refusal for another reason than a failed allocation
 abbrev pub NotForMemory : Result Field Refusal → Type 0

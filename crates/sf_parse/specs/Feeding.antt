@@ -11,6 +11,6 @@ FeedsPrefix old new chunk rest = (taken : List ℕ) × (chunk ≡ taken ++ rest)
 
 -- it is still allocation-free for the rest and for what comes after it, or refused for another
 -- reason than a failed allocation
-abbrev pub TakenAllocationFree : Progress → List ℕ → Result (Bor (List ℕ)) Refusal → Type 0
-TakenAllocationFree p more (Ok rest) = IsAllocationFree p (rest.now ++ more)
-TakenAllocationFree p more (Err e) = IsOther e
+abbrev pub TakesAllocationFree : Progress → List ℕ → Result (Bor (List ℕ)) Refusal → Type 0
+TakesAllocationFree p more (Ok rest) = IsAllocationFree p (rest.now ++ more)
+TakesAllocationFree p more (Err e) = IsOther e

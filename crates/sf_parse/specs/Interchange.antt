@@ -43,8 +43,8 @@ CommaViable =
     → Viable d kind (t ++ comma ∷ white)
 
 -- a comma after members: what comes next does not depend on which members they are
-abbrev pub MembersForgotten : Type 0
-MembersForgotten =
+abbrev pub ForgetsMembers : Type 0
+ForgetsMembers =
     (d : Dialect) (kind : Kind) (t t' white white' : List ℕ) (v v' : Field)
     → SpellsField d kind t v → HasMember v → Every is_ows white
     → SpellsField d kind t' v' → HasMember v' → Every is_ows white'

@@ -11,7 +11,7 @@ pub mod AllocationFreeParsers
 pub mod Parsers
 pub mod Interchange
 pub mod Expected
-pub mod Reached
+pub mod Reaching
 pub mod StateTests
 pub mod Names
 pub mod RefusalTexts

@@ -1,5 +1,5 @@
 -- The machine that reads the grammar a byte at a time. A reader need not judge these definitions:
--- the grammar is that of `sf_value`, and the laws of `Laws`, `Reached` and `StateTests` state that
+-- the grammar is that of `sf_value`, and the laws of `Laws`, `Reaching` and `StateTests` state that
 -- the machine reads it exactly. Each level has its states, a step, a finish, and the residual of a
 -- state: the texts that complete it, defined by the grammar.
 pub mod Language

@@ -4,7 +4,7 @@ use Rattle.std.specs.Prelude.{⊤}
 use Rattle.sf_parse.specs.Machine.Language.{run}
 
 -- the bytes before the rest of the chunk lead from the old state to the new one
-pub record Went {S : Type 0} (next : S → ℕ → Option S) (old : S) (chunk rest : List ℕ) (new : S)
+pub record Goes {S : Type 0} (next : S → ℕ → Option S) (old : S) (chunk rest : List ℕ) (new : S)
     : Type 0 where
   pub taken : List ℕ
   pub split : chunk ≡ taken ++ rest
@@ -28,7 +28,7 @@ Halts next s b = next s b ≡ None
 pub record LongestPrefix {S : Type 0} (next : S → ℕ → Option S) (old : S) (chunk rest : List ℕ)
     (new : S)
     : Type 0 where
-  pub went : Went next old chunk rest new
+  pub goes : Goes next old chunk rest new
   pub stops : FirstIs (Halts next new) rest
 
 -- the new state is the one that the byte begins, or the byte begins none

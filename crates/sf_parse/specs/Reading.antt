@@ -1,7 +1,7 @@
 -- What parsing a reader's text returns.
 use Rattle.std.specs.Prelude.{◌≡◌, ℕ, ◌+◌, ◌-◌, ◌^◌, ◌<◌, ◌≤◌, ◌⊎◌, List, ◌++◌, length, take}
 use Rattle.std.specs.Prelude.{Some, None, Result, Ok, Err}
-use Rattle.sf_value.specs.Devices.{SourceState, capped, Gave, GaveAndEnded, GaveAndFailed}
+use Rattle.sf_value.specs.Devices.{SourceState, capped, Gives, GivesAndEnds, GivesAndFails}
 use Rattle.sf_value.specs.declared.dialect.Dialect.{Dialect}
 use Rattle.sf_value.specs.declared.value.Field.{Field}
 use Rattle.sf_value.specs.declared.value.Kind.{Kind}
@@ -14,23 +14,23 @@ use Rattle.sf_parse.specs.AllocationFree.{TakesNoMemory}
 
 -- calls gave these bytes up to the source's end, which one call returned; or these are as many as a
 -- count can be, and no further one was read
-abbrev pub GaveAll : SourceState → SourceState → List ℕ → Type 0
-GaveAll old new bytes =
-    GaveAndEnded old new bytes ⊎ (Gave old new bytes × (2 ^ 64 - 1 ≤ length bytes))
+abbrev pub GivesAll : SourceState → SourceState → List ℕ → Type 0
+GivesAll old new bytes =
+    GivesAndEnds old new bytes ⊎ (Gives old new bytes × (2 ^ 64 - 1 ≤ length bytes))
 
 -- an allocation failed while reading or at the end of the text, of a text that allocates
 abbrev pub AllocationFailed : Kind → SourceState → SourceState → ℕ → List ℕ → Type 0
 AllocationFailed kind old new max text =
     ¬ (TakesNoMemory kind text)
-    × ((Gave old new text × (length text ≤ capped (max + 1)))
-    ⊎ (GaveAndEnded old new text × (length text ≤ max)))
+    × ((Gives old new text × (length text ≤ capped (max + 1)))
+    ⊎ (GivesAndEnds old new text × (length text ≤ max)))
 
 -- the reader's end is within the limit, and the result is that at the end of its text
 abbrev pub ReadToEnd : Dialect → Kind → SourceState → SourceState → ℕ → Result Field Refusal
     → Type 0
 ReadToEnd d kind old new max r =
     (text : List ℕ)
-    × GaveAll old new text
+    × GivesAll old new text
     × (length text ≤ max)
     × Finishes d kind text r
 
@@ -46,19 +46,19 @@ ReadAndParsed d kind old new max (Err (Syntax place None expected may_end)) =
     ReadToEnd d kind old new max (Err (Syntax place None expected may_end))
 ReadAndParsed d kind old new max (Err (Syntax place (Some b) expected may_end)) =
     (text : List ℕ)
-    × Gave old new text
+    × Gives old new text
     × (length text ≤ capped (max + 1))
     × (place < max)
     × ((more : List ℕ) → IsSyntax d kind (text ++ more) place (Some b) expected may_end)
 ReadAndParsed d kind old new max (Err (ReadFault place)) =
     (text : List ℕ)
-    × GaveAndFailed old new text
+    × GivesAndFails old new text
     × (length text ≡ place)
     × (place ≤ max)
     × Viable d kind text
 ReadAndParsed d kind old new max (Err (TooLong limit)) =
     (text : List ℕ)
-    × Gave old new text
+    × Gives old new text
     × (length text ≡ max + 1)
     × (limit ≡ max)
     × Viable d kind (take max text)

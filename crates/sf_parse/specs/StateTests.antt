@@ -7,7 +7,7 @@ use Rattle.sf_value.specs.declared.value.Field.{Field}
 use Rattle.sf_value.specs.declared.value.Kind.{Kind}
 use Rattle.sf_parse.specs.Machine.States.{State}
 use Rattle.sf_parse.specs.Machine.Tests.{takes, may_end}
-use Rattle.sf_parse.specs.Reached.{IsReachedBy}
+use Rattle.sf_parse.specs.Reaching.{IsReachedBy}
 
 -- the step decides whether the byte may come next
 abbrev pub TakesNext : Type 0

@@ -2,7 +2,7 @@
 ghost use Rattle.std.specs.Prelude.{◌≡◌, is_some, ℕ, ◌<◌, ◌≤◌, List, [], ◌∷◌, ◌++◌, Some, IfOk};
 ghost use Rattle.std.specs.Prelude.{IfSome, take};
 ghost use Rattle.sf_parse.specs.Expected.{MarksStep};
-ghost use Rattle.sf_parse.specs.Prefixes.{Went};
+ghost use Rattle.sf_parse.specs.Prefixes.{Goes};
 ghost use Rattle.sf_parse.specs.Views.{held_of, blob_of, FitsHeld, FitsBlob};
 ghost use Rattle.sf_parse.specs.Machine.Language.{Steps, run};
 ghost use Rattle.sf_parse.specs.Machine.Blobs.{H0, Group, Padded, grown};
@@ -145,7 +145,7 @@ impl BlobPhase {
         chunk: &'a [u8],
     ) -> Result<&'a [u8], OutOfMemory>
         // The bytes before the rest lead the machine from the old state to the new one.
-        ensures { IfOk result (λ rest. Went blob_step (blob_of self bytes.old) chunk.now rest.now
+        ensures { IfOk result (λ rest. Goes blob_step (blob_of self bytes.old) chunk.now rest.now
             (blob_of self bytes.new)) }
     {
         match self {
@@ -197,7 +197,7 @@ fn decode_groups<'a>(chunk: &'a [u8], block: &mut [u8; BLOCK]) -> (usize, &'a [u
     ensures within { result.0 ≤ 96 }
     // If no group is open, the characters before the rest lead to a state that also has the bytes
     // of the block.
-    ensures went { (bs : List ℕ) → Went blob_step (Group bs H0) chunk.now result.1.now
+    ensures goes { (bs : List ℕ) → Goes blob_step (Group bs H0) chunk.now result.1.now
         (Group (bs ++ take result.0 block.new) H0) }
 {
     let mut count = 0;
@@ -221,7 +221,7 @@ fn decode_groups<'a>(chunk: &'a [u8], block: &mut [u8; BLOCK]) -> (usize, &'a [u
 /// Takes whole groups, after a whole one, with one growth of the buffer for each block.
 fn take_groups<'a>(bytes: &mut ShortBytes, chunk: &'a [u8]) -> Result<&'a [u8], OutOfMemory>
     // The bytes before the rest lead the machine from the old state to the new one.
-    ensures { IfOk result (λ rest. Went blob_step (Group bytes.old H0) chunk.now rest.now
+    ensures { IfOk result (λ rest. Goes blob_step (Group bytes.old H0) chunk.now rest.now
         (Group bytes.new H0)) }
 {
     let mut rest = chunk;

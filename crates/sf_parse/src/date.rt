@@ -1,7 +1,7 @@
 //! A Date that is being read (RFC 9651 section 4.2.9).
 ghost use Rattle.std.specs.Prelude.{◌≡◌, is_some};
 ghost use Rattle.sf_parse.specs.Expected.{MarksStep};
-ghost use Rattle.sf_parse.specs.Prefixes.{Went};
+ghost use Rattle.sf_parse.specs.Prefixes.{Goes};
 ghost use Rattle.sf_parse.specs.Machine.Language.{Steps};
 ghost use Rattle.sf_parse.specs.Machine.Numbers.{Sign, date_step, date_finish};
 
@@ -67,7 +67,7 @@ impl DateReader {
     /// Takes the bytes that the date continues with, and returns the rest.
     pub fn take_run<'a>(&mut self, chunk: &'a [u8]) -> &'a [u8]
         // The bytes before the rest lead the machine from the old state to the new one.
-        ensures { Went date_step self.old chunk.now result.now self.new }
+        ensures { Goes date_step self.old chunk.now result.now self.new }
     {
         let mut rest = chunk;
         while let Some((byte, more)) = rest.split_first() {

@@ -3,11 +3,11 @@ ghost use Rattle.std.specs.Prelude.{◌≡◌, ℕ, ◌<◌, ◌≤◌, List, []
 ghost use Rattle.std.specs.Prelude.{is_some, take};
 ghost use Rattle.sf_value.specs.Ascii.{percent as percent_sign};
 ghost use Rattle.sf_value.specs.Grammar.Utf8.{Utf8, utf8_step};
-ghost use Rattle.sf_parse.specs.Prefixes.{Went};
+ghost use Rattle.sf_parse.specs.Prefixes.{Goes};
 ghost use Rattle.sf_value.specs.Utf8States.{utf8_of};
 ghost use Rattle.sf_parse.specs.Views.{shown_of, Leads, FitsShown, IsDigitPhase};
 ghost use Rattle.sf_parse.specs.Machine.Language.{Steps, run};
-ghost use Rattle.sf_parse.specs.Machine.Showns.{Unencoded, pushed};
+ghost use Rattle.sf_parse.specs.Machine.Showns.{Unencoded, push_byte};
 ghost use Rattle.sf_parse.specs.Machine.Showns.{can_begin as can_begin_at, shown_step};
 ghost use Rattle.sf_parse.specs.Machine.Showns.{GoodUtf8, shown_finish};
 ghost use Rattle.sf_parse.specs.Expected.{MarksStep, digit_step};
@@ -52,7 +52,7 @@ impl ShownPlace {
         requires { FitsShown self.old.phase bytes.old self.old.chars }
         // The byte of the text leads to the next state, or it can't and the state is unchanged.
         ensures step { IfOk result (λ took. Steps took
-            (pushed (shown_of self.old.phase bytes.old self.old.chars) byte)
+            (push_byte (shown_of self.old.phase bytes.old self.old.chars) byte)
             (shown_of self.old.phase bytes.old self.old.chars)
             (shown_of self.new.phase bytes.new self.new.chars)) }
         // The same holds afterwards.
@@ -138,7 +138,7 @@ impl ShownPlace {
         // The bytes so far lead to the state in a character, and fit the phase.
         requires { FitsShown self.old.phase bytes.old self.old.chars }
         // The bytes before the rest lead the machine from the old state to the new one.
-        ensures went { IfOk result (λ rest. Went shown_step
+        ensures goes { IfOk result (λ rest. Goes shown_step
             (shown_of self.old.phase bytes.old self.old.chars) chunk.now rest.now
             (shown_of self.new.phase bytes.new self.new.chars)) }
         // The same holds afterwards.
@@ -257,8 +257,8 @@ fn read_escapes<'a>(
 ) -> (usize, Utf8State, &'a [u8])
     ensures within { result.0 ≤ 64 }
     // The escapes before the rest lead to a state that also has the bytes of the block.
-    ensures went { (bs : List ℕ)
-        → Went shown_step (Unencoded bs (utf8_of from)) chunk.now result.2.now
+    ensures goes { (bs : List ℕ)
+        → Goes shown_step (Unencoded bs (utf8_of from)) chunk.now result.2.now
         (Unencoded (bs ++ take result.0 block.new) (utf8_of result.1)) }
     // If the bytes so far lead to the first state in a character, they and the block lead to the
     // last.
@@ -298,7 +298,7 @@ fn take_escapes<'a>(
     // The bytes so far lead to the state in a character.
     requires { Leads bytes.old (utf8_of chars.old) }
     // The bytes before the rest lead the machine from the old state to the new one.
-    ensures went { IfOk result (λ rest. Went shown_step (Unencoded bytes.old (utf8_of chars.old))
+    ensures goes { IfOk result (λ rest. Goes shown_step (Unencoded bytes.old (utf8_of chars.old))
         chunk.now rest.now (Unencoded bytes.new (utf8_of chars.new))) }
     // Afterwards they lead to the new state, even if an allocation failed.
     ensures leads { Leads bytes.new (utf8_of chars.new) }
@@ -319,7 +319,7 @@ fn take_unencoded<'a>(
     // The bytes so far lead to the state in a character.
     requires { Leads bytes.old (utf8_of chars) }
     // The bytes before the rest lead the machine from the old state to the new one.
-    ensures went { IfOk result (λ rest. Went shown_step (Unencoded bytes.old (utf8_of chars))
+    ensures goes { IfOk result (λ rest. Goes shown_step (Unencoded bytes.old (utf8_of chars))
         chunk.now rest.now (Unencoded bytes.new (utf8_of chars))) }
     // The same holds afterwards, even if an allocation failed.
     ensures leads { Leads bytes.new (utf8_of chars) }
@@ -343,7 +343,7 @@ fn take_chars<'a>(
     // The bytes so far lead to the state in a character.
     requires { Leads bytes.old (utf8_of chars.old) }
     // The bytes before the rest lead the machine from the old state to the new one.
-    ensures went { IfOk result (λ rest. Went shown_step (Unencoded bytes.old (utf8_of chars.old))
+    ensures goes { IfOk result (λ rest. Goes shown_step (Unencoded bytes.old (utf8_of chars.old))
         chunk.now rest.now (Unencoded bytes.new (utf8_of chars.new))) }
     // Afterwards they lead to the new state, even if an allocation failed.
     ensures leads { Leads bytes.new (utf8_of chars.new) }

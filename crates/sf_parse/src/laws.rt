@@ -3,9 +3,9 @@
 ghost use Rattle.sf_parse.specs.Laws.{OneValue, IsRead, IsResidual, IsViable, IsNext, IsEnd};
 ghost use Rattle.sf_parse.specs.Laws.{StopsAt};
 ghost use Rattle.sf_parse.specs.Laws.{CanonOne, AnyChunks, OnlyNew, LinesOne};
-ghost use Rattle.sf_parse.specs.Reached.{ReachedNothing, ReachesMore, ReachedViable, ReachedNext};
-ghost use Rattle.sf_parse.specs.Reached.{ReachedEnd, ReachedStops, ReachedAll};
-ghost use Rattle.sf_parse.specs.Interchange.{RefusalsMove, CommaViable, MembersForgotten};
+ghost use Rattle.sf_parse.specs.Reaching.{ReachesNothing, ReachesMore, ReachesViable, ReachesNext};
+ghost use Rattle.sf_parse.specs.Reaching.{ReachesEnd, ReachesStops, ReachesAll};
+ghost use Rattle.sf_parse.specs.Interchange.{RefusalsMove, CommaViable, ForgetsMembers};
 ghost use Rattle.sf_parse.specs.ByteSets.{RunsAreTheSet, RunsAreWhole};
 ghost use Rattle.sf_parse.specs.Names.{NamesAreTheSet};
 ghost use Rattle.sf_parse.specs.Spots.{PlacesAreSpots};
@@ -45,13 +45,13 @@ pub fn only_new_types_differ()
 
 /// What follows from a state for the bytes that a parser took, however they came.
 pub fn what_was_taken()
-    ensures nothing { ReachedNothing }
+    ensures nothing { ReachesNothing }
     ensures more { ReachesMore }
-    ensures viable { ReachedViable }
-    ensures next { ReachedNext }
-    ensures end { ReachedEnd }
-    ensures stops { ReachedStops }
-    ensures all { ReachedAll }
+    ensures viable { ReachesViable }
+    ensures next { ReachesNext }
+    ensures end { ReachesEnd }
+    ensures stops { ReachesStops }
+    ensures all { ReachesAll }
 {}
 
 /// A state decides which bytes may come next and whether the text may end; those bytes are below
@@ -69,7 +69,7 @@ pub fn what_may_follow()
 pub fn refusals_move()
     ensures moved { RefusalsMove }
     ensures viable { CommaViable }
-    ensures members { MembersForgotten }
+    ensures members { ForgetsMembers }
 {}
 
 /// The runs of a set, as [`crate::runs_of`] returns them, are exactly its bytes below 128, in

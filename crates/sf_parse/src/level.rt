@@ -2,7 +2,7 @@
 ghost use Rattle.std.specs.Prelude.{◌≡◌, ℕ, Bool, List, [], ◌∷◌, Option, Some, is_some, IfOk, IsOk};
 ghost use Rattle.sf_value.specs.declared.dialect.Dialect.{Dialect};
 ghost use Rattle.sf_parse.specs.Expected.{MarksStep};
-ghost use Rattle.sf_parse.specs.Prefixes.{Went, FirstIs, LongestPrefix, unless};
+ghost use Rattle.sf_parse.specs.Prefixes.{Goes, FirstIs, LongestPrefix, unless};
 ghost use Rattle.sf_parse.specs.Machine.Language.{Steps};
 ghost use Rattle.sf_parse.specs.Parsers.{Refuses};
 
@@ -27,7 +27,7 @@ pub trait Level {
     /// Takes what the part that is open can continue with, and returns the rest.
     fn take_part<'a>(&mut self, context: &Context, chunk: &'a [u8]) -> Result<&'a [u8], OutOfMemory>
         // The bytes before the rest lead the machine from the old state to the new one.
-        ensures went { IfOk result (λ rest. Went (next context.now.dialect) self.old chunk.now
+        ensures goes { IfOk result (λ rest. Goes (next context.now.dialect) self.old chunk.now
             rest.now self.new) }
         // The part that is open can't continue with the first byte of the rest.
         ensures stuck { IfOk result (λ rest. FirstIs (stuck context.now.dialect self.new)
@@ -50,7 +50,7 @@ pub trait Level {
     /// Takes a byte that the part that is open continues with, or reports that the part can't.
     fn push_part(&mut self, context: &Context, byte: u8) -> Result<bool, OutOfMemory>
         // A byte that is taken leads to the next state; otherwise the state is unchanged.
-        ensures went { IfOk result (λ took. Went (next context.now.dialect) self.old (byte ∷ [])
+        ensures goes { IfOk result (λ took. Goes (next context.now.dialect) self.old (byte ∷ [])
             (unless took byte) self.new) }
         // The part that is open can't continue with a byte that is not taken.
         ensures stuck { IfOk result (λ took. FirstIs (stuck context.now.dialect self.new)

@@ -2,7 +2,7 @@
 ghost use Rattle.std.specs.Prelude.{◌≡◌, is_some, ◌≤◌, ◌<◌, ◌^◌, false, nat_abs};
 ghost use Rattle.sf_value.specs.Grammar.Numbers.{signed};
 ghost use Rattle.sf_parse.specs.Expected.{MarksStep};
-ghost use Rattle.sf_parse.specs.Prefixes.{Went, FirstIs, Halts, Starts};
+ghost use Rattle.sf_parse.specs.Prefixes.{Goes, FirstIs, Halts, Starts};
 ghost use Rattle.sf_parse.specs.Machine.Language.{Steps};
 ghost use Rattle.sf_parse.specs.Machine.Numbers.{number_start, number_step, number_finish};
 
@@ -121,7 +121,7 @@ impl NumberReader {
     /// Takes the bytes that the number continues with, and returns the rest.
     pub fn take_run<'a>(&mut self, chunk: &'a [u8]) -> &'a [u8]
         // The bytes before the rest lead the machine from the old state to the new one.
-        ensures went { Went number_step self.old chunk.now result.now self.new }
+        ensures goes { Goes number_step self.old chunk.now result.now self.new }
         // The number can't continue with the first byte of the rest.
         ensures stop { FirstIs (Halts number_step self.new) result.now }
     {

@@ -5,10 +5,10 @@ ghost use Rattle.std.specs.Prelude.{IfSome, IfNone, IfOk, OnOk, Err, MatchResult
 ghost use Rattle.sf_value.specs.declared.dialect.Dialect.TheVariants as dialect_is;
 ghost use Rattle.sf_parse.specs.Prefixes.{FirstIs, Halts};
 ghost use Rattle.sf_parse.specs.Parsers.{HasTaken, StandsAt, Feeds, Finishes, in_line};
-ghost use Rattle.sf_parse.specs.Feeding.{FeedsPrefix, TakenAllocationFree};
+ghost use Rattle.sf_parse.specs.Feeding.{FeedsPrefix, TakesAllocationFree};
 ghost use Rattle.sf_parse.specs.AllocationFree.{TakesNoMemory};
 ghost use Rattle.sf_parse.specs.AllocationFreeParsers.{IsAllocationFree, IsOther};
-ghost use Rattle.sf_parse.specs.AllocationFreeParsers.{KeptAllocationFree, NotForMemory};
+ghost use Rattle.sf_parse.specs.AllocationFreeParsers.{KeepsAllocationFree, NotForMemory};
 ghost use Rattle.sf_parse.specs.Machine.Fields.{step as step_of};
 ghost use Rattle.sf_parse.specs.Machine.Tests.{may_end};
 
@@ -151,7 +151,7 @@ impl Parser {
     fn take<'a>(&mut self, prefix: &'a [u8]) -> Result<&'a [u8], Refusal>
         requires unrefused { self.old.refusal ≡ None }
         // The prefix is within the limit.
-        requires room { self.old.count + length prefix.now ≤ self.old.max }
+        requires capacity { self.old.count + length prefix.now ≤ self.old.max }
         // Ok took the bytes before the rest; a refusal remains, whatever comes after the prefix.
         ensures fed { MatchResult result (λ rest. FeedsPrefix self.old self.new prefix.now rest.now)
             (λ e. Feeds self.old self.new (Err e) prefix.now) }
@@ -164,7 +164,7 @@ impl Parser {
             self.new.state) rest.now) }
         // Allocation-free bytes are not refused as out of memory, nor are those after them.
         ensures allocation_free { (more : List ℕ) → IsAllocationFree self.old (prefix.now ++ more)
-            → TakenAllocationFree self.new more result }
+            → TakesAllocationFree self.new more result }
     {
         let rest = match self.state.take(&self.context, prefix) {
             Ok(rest) => rest,
@@ -214,18 +214,18 @@ impl Parser {
         // An allocation-free chunk is not refused as out of memory, nor is what comes after it, if
         // that is allocation-free.
         ensures allocation_free { (more : List ℕ) → IsAllocationFree self.old (chunk.now ++ more)
-            → KeptAllocationFree self.new more result }
+            → KeepsAllocationFree self.new more result }
     {
         if let Some(refusal) = self.refusal {
             return Err(refusal);
         }
-        let room = (self.max - self.count).min(chunk.len() as u64) as usize;
-        let (prefix, back) = chunk.split_at(room);
+        let capacity = (self.max - self.count).min(chunk.len() as u64) as usize;
+        let (prefix, suffix) = chunk.split_at(capacity);
         let rest = self.take(prefix)?;
         if let Some((byte, _)) = rest.split_first() {
             return Err(self.refuse(*byte));
         }
-        if let Some((byte, _)) = back.split_first() {
+        if let Some((byte, _)) = suffix.split_first() {
             return Err(self.refuse(*byte));
         }
         Ok(())
@@ -259,7 +259,7 @@ impl Parser {
         // that is allocation-free.
         ensures allocation_free { (more : List ℕ)
             → IsAllocationFree self.old (in_line self.old.after_line line.now ++ more)
-            → KeptAllocationFree self.new more result }
+            → KeepsAllocationFree self.new more result }
     {
         if self.after_line {
             self.feed(b", ")?;

@@ -35,8 +35,8 @@ pub fn parse_reader<R: Source>(
     let mut block = [0u8; 512];
     let mut given = 0u64;
     while given < limit {
-        let room = (limit - given).min(512) as usize;
-        match reader.pull(&mut block[..room]) {
+        let length = (limit - given).min(512) as usize;
+        match reader.pull(&mut block[..length]) {
             Ok(0) => break,
             Ok(n) => {
                 parser.feed(&block[..n])?;

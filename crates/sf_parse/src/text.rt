@@ -4,7 +4,7 @@ ghost use Rattle.sf_value.specs.Grammar.Words.{Every};
 ghost use Rattle.sf_value.specs.InPlace.{FitsInPlace};
 ghost use Rattle.sf_value.specs.Grammar.Classes.{is_visible as is_visible_byte};
 ghost use Rattle.sf_parse.specs.Expected.{MarksStep};
-ghost use Rattle.sf_parse.specs.Prefixes.{Went};
+ghost use Rattle.sf_parse.specs.Prefixes.{Goes};
 ghost use Rattle.sf_parse.specs.Views.{text_of};
 ghost use Rattle.sf_parse.specs.Machine.Language.{Steps};
 ghost use Rattle.sf_parse.specs.Machine.Texts.{text_step, text_finish};
@@ -72,7 +72,7 @@ impl TextPhase {
         chunk: &'a [u8],
     ) -> Result<&'a [u8], OutOfMemory>
         // The bytes before the rest lead the machine from the old state to the new one.
-        ensures went { IfOk result (λ rest. Went text_step (text_of self text.old) chunk.now
+        ensures goes { IfOk result (λ rest. Goes text_step (text_of self text.old) chunk.now
             rest.now (text_of self text.new)) }
         // The bytes so far are still visible.
         ensures visible { Every is_visible_byte text.old → Every is_visible_byte text.new }

@@ -12,7 +12,7 @@ use std::alloc::Global;
 pub enum Seen {
     /// It answered as it does with ample memory.
     Right,
-    /// It answered want of memory by the name that it has for it, and left behind what it must.
+    /// It answered that memory ran out, by its name for that, and left behind what it must.
     Refused,
     /// Neither.
     Wrong,

@@ -275,7 +275,7 @@ fn sends_that_fail(rt: HostRuntime) {
 }
 
 #[test]
-fn a_fault_says_how_much_went_out(rt: HostRuntime) {
+fn a_fault_says_how_much_goes_out(rt: HostRuntime) {
     let fault = WriteFault { written: 2 };
     let message = format!(in rt.alloc(); "{fault}").expect(&rt, "room");
     assert!(rt; message.as_str() == "a write failed after 2 bytes");

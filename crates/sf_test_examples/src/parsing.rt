@@ -1,4 +1,4 @@
-//! Texts, pieces and lines.
+//! Texts, chunks and lines.
 use http_header::{HeaderMap, HeaderName, HeaderValue};
 use sf_field::{from_headers, normalise_lines, parse_from, parse_lines};
 use sf_parse::{Parser, Refusal, parse_reader, parse_text, runs_of};

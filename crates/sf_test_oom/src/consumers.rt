@@ -97,7 +97,7 @@ fn is_urgent(asked: Asked) -> bool {
     asked.urgency.get() == 1 && asked.incremental
 }
 
-/// Whether want of memory was answered.
+/// Whether the fault is that memory ran out.
 fn seen_fault(fault: AskFault) -> Seen {
     match fault {
         AskFault::Field(Refusal::OutOfMemory) => Seen::Refused,
@@ -200,7 +200,7 @@ fn answers(rt: HostRuntime) -> Result<(), Fail> {
     Ok(())
 }
 
-/// The field of the first target alone is right: want of memory is not absence.
+/// The field of the first target alone is right: out of memory is not absence.
 fn choose(alloc: Global, seed: &RandomState, targets: &[HeaderName], headers: &HeaderMap) -> Seen {
     match select(alloc, seed, targets, headers) {
         Ok(Choice::Field { index, policy }) => { seen_if(index == 0 && policy.max_age == Some(60)) }

@@ -16,7 +16,7 @@ pub(crate) const LISTED: &[u8] = b"(1 \"x y\";p *t);y=:YQ==:, b;x, \"c\", %\"f%c
 /// An Item with two parameters, which is its own canonical text.
 pub(crate) const SINGLE: &[u8] = b"\"x y\";p=tok;q=:YQ==:";
 
-/// Expects the call to be refused for want of memory at least once, and to be right with more.
+/// Expects the call to run out of memory at least once, and to be right with more.
 pub(crate) fn expect_refusals<F: FnMut() -> Seen>(rt: &(impl Abort + AllocGlobal), call: F)
     requires { F.IsAlwaysCallable call }
 {

@@ -1,4 +1,4 @@
-// Texts that are parsed whole, from a reader and in pieces.
+// Texts that are parsed whole, from a reader and in chunks.
 use crate::expecting::{
     LISTED, MEMBERS, SINGLE, expect_no_need, expect_refusals, padded_number, seen_field, seen_if,
     seen_minus_seven, seen_syntax,
@@ -111,13 +111,13 @@ fn stays_refused(mut parser: Parser, handed: usize) -> bool {
     refused && ended && place <= handed as u64
 }
 
-/// Feeds the text in pieces of so many bytes, at least one, up to the first piece that is refused,
+/// Feeds the text in chunks of so many bytes, at least one, up to the first chunk that is refused,
 /// and answers with its refusal how many bytes were handed in.
 fn feed_all(parser: &mut Parser, text: &[u8], size: usize) -> Result<(), (Refusal, usize)> {
     let mut handed = 0usize;
-    for piece in text.chunks(size.max(1)) {
-        handed = handed.saturating_add(piece.len());
-        if let Err(refusal) = parser.feed(piece) {
+    for chunk in text.chunks(size.max(1)) {
+        handed = handed.saturating_add(chunk.len());
+        if let Err(refusal) = parser.feed(chunk) {
             return Err((refusal, handed));
         }
     }

@@ -148,7 +148,7 @@ fn stray_words(rt: HostRuntime) -> Result<(), Fail> {
 // An input, and the text and the status that it is answered with.
 type Row = (&'static [u8], &'static [u8], Status);
 
-/// Runs over a reader that gives a byte a call, into the room that is there.
+/// Runs over a reader that gives a byte a call, into the buffer that is there.
 fn ran(alloc: Global, seed: &RandomState, request: &Request, row: Row, room: &mut Vec<u8>) -> Seen {
     let (input, text, status) = row;
     room.clear();
@@ -302,7 +302,7 @@ fn answers_without_memory(rt: HostRuntime) -> Result<(), Fail> {
     Ok(())
 }
 
-/// Runs at a terminal, whose bytes go into the second room: either the whole explanation or nothing
+/// Runs at a terminal, whose bytes go into the second buffer: the whole explanation or nothing
 /// is written, and the answer is there whatever memory is left for it.
 fn explained(
     alloc: Global,

@@ -40,7 +40,7 @@ fn texts(rt: HostRuntime) -> Result<(), Fail> {
     Ok(())
 }
 
-/// Writes and displays into the room that is there.
+/// Writes and displays into the buffer that is there.
 fn written(field: &Field, room: &mut Vec<u8>, want: &[u8]) -> Seen {
     room.clear();
     let mut sink = Writing::new(&mut *room);

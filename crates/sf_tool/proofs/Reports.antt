@@ -14,7 +14,7 @@ use Rattle.sf_parse.specs.declared.refusal.Refusal.TheVariants.{ReadFault}
 use Rattle.sf_parse.specs.AllocationFree.{TakesNoMemory}
 use Rattle.sf_parse.specs.AllocationFreeParsers.{NotForMemory}
 use Rattle.sf_parse.specs.Parsers.{IsSyntax}
-use Rattle.sf_write.specs.Writing.{Wrote}
+use Rattle.sf_write.specs.Writing.{SendsText}
 use Rattle.sf_field.specs.Asking.{Asks, Means}
 use Rattle.sf_field.specs.Lines.{ParsesLines}
 use Rattle.sf_field.specs.declared.asking.AskFault.{AskFault}
@@ -48,13 +48,13 @@ reports_text request input text status old new Accepted o t = record {
   text = text;
   after = t.1.0;
   answers = let P : Status → Type 0 = λ s. Answers request input text s in subst P (sym t.0) o;
-  wrote = t.1.1;
+  sends = t.1.1;
 }
 reports_text request input text status old new Refused o t = record {
   text = text;
   after = t.1.0;
   answers = let P : Status → Type 0 = λ s. Answers request input text s in subst P (sym t.0) o;
-  wrote = t.1.1;
+  sends = t.1.1;
 }
 reports_text request input text status old new Usage o t = absurd t
 reports_text request input text status old new Stopped o t = inr (record {
@@ -62,15 +62,15 @@ reports_text request input text status old new Stopped o t = inr (record {
   status = status;
   after = t.0;
   answers = o;
-  wrote = t.1;
+  sends = t.1;
 })
 
 -- all of a text went out
 pub reports_all : (old new : SinkState) (n : ℕ) (text : List ℕ) (status : Status)
-    → status ≡ Accepted ⊎ status ≡ Refused → Wrote old new 0 n text
+    → status ≡ Accepted ⊎ status ≡ Refused → SendsText old new 0 n text
     → ReportsText text status old new status
-reports_all old new n text status (inl e) wrote = rw e (refl, (n, wrote))
-reports_all old new n text status (inr e) wrote = rw e (refl, (n, wrote))
+reports_all old new n text status (inl e) sends = rw e (refl, (n, sends))
+reports_all old new n text status (inr e) sends = rw e (refl, (n, sends))
 
 -- what a request answers where it tells this of a value
 abbrev pub RespondsTo : Request → Dialect → Kind → (Field → List ℕ) → List ℕ → Type 0

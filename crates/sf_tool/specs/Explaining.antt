@@ -82,16 +82,16 @@ Shows text old new = (sent : Result ℕ WriteFault) × Writes old new 0 sent tex
 abbrev pub IsExplained : Bool → Status → Type 0
 IsExplained is_terminal status = (is_terminal ≡ true) × (status ≡ Refused)
 
--- a refusal was explained by such a text; nothing was written if an allocation for it failed, or
+-- a refusal is explained by such a text; nothing is written if an allocation for it fails, or
 -- there is no refusal or no terminal
-abbrev pub Explained : Bool → Status → (List ℕ → Type 0) → SinkState → SinkState → Type 0
-Explained is_terminal status explains old new =
+abbrev pub ExplainsWith : Bool → Status → (List ℕ → Type 0) → SinkState → SinkState → Type 0
+ExplainsWith is_terminal status explains old new =
     (new ≡ old)
     ⊎ (IsExplained is_terminal status × ((text : List ℕ) × explains text × Shows text old new))
 
--- a refusal was explained by this text, whatever memory there was; nothing was written if there is
+-- a refusal is explained by this text, whatever memory there is; nothing is written if there is
 -- no refusal or no terminal
-abbrev pub ExplainedBy : Bool → Status → List ℕ → SinkState → SinkState → Type 0
-ExplainedBy is_terminal status text old new =
+abbrev pub ExplainsBy : Bool → Status → List ℕ → SinkState → SinkState → Type 0
+ExplainsBy is_terminal status text old new =
     (¬ (IsExplained is_terminal status) × (new ≡ old))
     ⊎ (IsExplained is_terminal status × Shows text old new)

@@ -6,11 +6,11 @@ use Rattle.sf_value.specs.declared.dialect.Dialect.TheVariants.{Rfc9651}
 use Rattle.sf_value.specs.declared.value.Field.{Field}
 use Rattle.sf_value.specs.declared.value.Kind.{Kind}
 use Rattle.sf_value.specs.declared.value.Kind.TheVariants as kind
-use Rattle.sf_value.specs.Devices.{SourceState, SinkState, Gave, GaveAndEnded}
-use Rattle.sf_value.specs.Devices.{GaveAndFailed}
+use Rattle.sf_value.specs.Devices.{SourceState, SinkState, Gives, GivesAndEnds}
+use Rattle.sf_value.specs.Devices.{GivesAndFails}
 use Rattle.sf_value.specs.Grammar.Canonical.{canon}
 use Rattle.sf_value.specs.Grammar.Lines.{join}
-use Rattle.sf_write.specs.Writing.{Wrote, WrotePrefix}
+use Rattle.sf_write.specs.Writing.{SendsText, SendsPrefix}
 use Rattle.sf_parse.specs.declared.refusal.Refusal.{Refusal}
 use Rattle.sf_parse.specs.declared.refusal.Refusal.TheVariants.{OutOfMemory, Syntax, TooLong}
 use Rattle.sf_parse.specs.declared.refusal.Refusal.TheVariants.{ReadFault}
@@ -41,7 +41,7 @@ use Rattle.sf_tool.specs.PathLines.{path_lines, not_a_cache_line}
 use Rattle.sf_tool.specs.Fields.{AreFields, IsFirstRefused, MayAllocateAt}
 use Rattle.sf_tool.specs.ChoiceLines.{choice_lines, refused_line}
 use Rattle.sf_tool.specs.PriorityLine.{priority_line}
-use Rattle.sf_tool.specs.Explaining.{Explained, ExplainedBy, Explains, too_long_words}
+use Rattle.sf_tool.specs.Explaining.{ExplainsWith, ExplainsBy, Explains, too_long_words}
 
 -- the length in bytes of the longest input that is read
 abbrev pub input_limit : ℕ
@@ -134,7 +134,7 @@ pub record WritesAnswer (request : Request) (input : List ℕ) (old new : SinkSt
   pub text : List ℕ
   pub after : ℕ
   pub answers : Answers request input text status
-  pub wrote : Wrote old new 0 after text
+  pub sends : SendsText old new 0 after text
 
 -- a write failed, and before it a prefix of the text for an input was written
 pub record WritesAnswerPrefix (request : Request) (input : List ℕ) (old new : SinkState) : Type 0 where
@@ -142,7 +142,7 @@ pub record WritesAnswerPrefix (request : Request) (input : List ℕ) (old new : 
   pub status : Status
   pub after : ℕ
   pub answers : Answers request input text status
-  pub wrote : WrotePrefix old new 0 after text
+  pub sends : SendsPrefix old new 0 after text
 
 -- an answer to the request may allocate: for lines whose joined text is not allocation-free; for
 -- the first listed fields of an input, before a line that is refused
@@ -167,26 +167,26 @@ Reports request input old new Stopped =
 -- after a prefix of it
 abbrev pub ReportsText : List ℕ → Status → SinkState → SinkState → Status → Type 0
 ReportsText text status old new Accepted =
-    (Accepted ≡ status) × ((after : ℕ) × Wrote old new 0 after text)
+    (Accepted ≡ status) × ((after : ℕ) × SendsText old new 0 after text)
 ReportsText text status old new Refused =
-    (Refused ≡ status) × ((after : ℕ) × Wrote old new 0 after text)
+    (Refused ≡ status) × ((after : ℕ) × SendsText old new 0 after text)
 ReportsText text status old new Usage = ⊥
-ReportsText text status old new Stopped = (after : ℕ) × WrotePrefix old new 0 after text
+ReportsText text status old new Stopped = (after : ℕ) × SendsPrefix old new 0 after text
 
 -- the input is all that the source gave up to its end, which was read once, within the limit
 abbrev pub IsWhole : SourceState → SourceState → List ℕ → Type 0
-IsWhole old new input = GaveAndEnded old new input × (length input ≤ input_limit)
+IsWhole old new input = GivesAndEnds old new input × (length input ≤ input_limit)
 
 -- the source gave one byte more than the limit, and no further one was read
 abbrev pub IsTooLong : SourceState → SourceState → Type 0
-IsTooLong old new = (bytes : List ℕ) × Gave old new bytes × (length bytes ≡ input_limit + 1)
+IsTooLong old new = (bytes : List ℕ) × Gives old new bytes × (length bytes ≡ input_limit + 1)
 
 -- bytes within the limit were read: an allocation for some of them failed, or a read failed and was
 -- the last
 pub record ReadsInPart (old new : SourceState) : Type 0 where
   pub bytes : List ℕ
   pub within : length bytes ≤ input_limit
-  pub given : (Gave old new bytes × (0 < length bytes)) ⊎ GaveAndFailed old new bytes
+  pub given : (Gives old new bytes × (0 < length bytes)) ⊎ GivesAndFails old new bytes
 
 -- the whole input was read and then answered; or it was too long, which was reported, whatever
 -- memory there was; or it was not all read, and nothing was written. If the error stream is a
@@ -195,9 +195,9 @@ abbrev pub Runs : Request → Bool → SourceState → SourceState → SinkState
     → SinkState → Status → Type 0
 Runs request is_terminal source source' sink sink' errors errors' status =
     ((input : List ℕ) × IsWhole source source' input × Reports request input sink sink' status
-    × Explained is_terminal status (Explains request input) errors errors')
+    × ExplainsWith is_terminal status (Explains request input) errors errors')
     ⊎ ((IsTooLong source source' × ReportsText (too_long_line input_limit) Refused sink sink' status
-    × ExplainedBy is_terminal status (too_long_words input_limit) errors errors')
+    × ExplainsBy is_terminal status (too_long_words input_limit) errors errors')
     ⊎ (ReadsInPart source source' × (sink' ≡ sink) × (errors' ≡ errors) × (status ≡ Stopped)))
 
 -- a refusal was answered: its line was to be written, or an allocation failed

@@ -3,7 +3,7 @@ ghost use Rattle.std.specs.Prelude.{◌≡◌, ◌≢◌, ◌≤◌, ◌↔◌, 
 ghost use Rattle.std.specs.Prelude.{IfSome, IfOk, IsTrue, codes, decimal};
 ghost use Rattle.sf_parse.specs.declared.refusal.Refusal.TheVariants as refusal_is;
 ghost use Rattle.sf_parse.specs.Spots.{line_place, marked_text, place_in};
-ghost use Rattle.sf_tool.specs.Explaining.{ExplainedBy, IsExplained, Shows};
+ghost use Rattle.sf_tool.specs.Explaining.{ExplainsBy, IsExplained, Shows};
 ghost use Rattle.sf_tool.specs.Explaining.{bad_line_words, no_cache_words, refusal_words};
 ghost use Rattle.sf_tool.specs.Explaining.{too_long_words};
 ghost use Rattle.sf_tool.specs.Fields.{is_refused};
@@ -56,7 +56,7 @@ pub(crate) fn show<E: Sink>(text: &[u8], device: &mut E)
 
 /// Explains that an input is longer than this limit.
 pub(crate) fn explain_too_long<E: Sink>(limit: u64, status: Status, errors: &mut ErrorStream<E>)
-    ensures { ExplainedBy errors.old.is_terminal status (too_long_words limit)
+    ensures { ExplainsBy errors.old.is_terminal status (too_long_words limit)
         (E.state errors.old.device) (E.state errors.new.device) }
 {
     if errors.explains(status) {

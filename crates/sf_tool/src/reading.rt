@@ -34,8 +34,8 @@ pub fn read_all<R: Source>(alloc: Global, max: u64, source: &mut R) -> Result<Ve
     let mut block = [0u8; BLOCK];
     let mut given = 0u64;
     loop {
-        let room = (max - given + 1).min(BLOCK as u64) as usize;
-        match source.pull(&mut block[..room]) {
+        let length = (max - given + 1).min(BLOCK as u64) as usize;
+        match source.pull(&mut block[..length]) {
             Ok(0) => return Ok(all),
             Ok(n) => {
                 if n as u64 > max - given {

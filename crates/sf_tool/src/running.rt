@@ -8,7 +8,7 @@ ghost use Rattle.sf_tool.specs.declared.request.Request.TheVariants as request_i
 ghost use Rattle.sf_tool.specs.declared.status.Status.TheVariants as status_is;
 ghost use Rattle.sf_tool.specs.Lines.{lines_of as lines_in};
 ghost use Rattle.sf_tool.specs.ChoiceLines.{choice_lines, IsPlaceOf};
-ghost use Rattle.sf_tool.specs.Explaining.{Explained, Explains, ExplainsField, ExplainsLine};
+ghost use Rattle.sf_tool.specs.Explaining.{ExplainsWith, Explains, ExplainsField, ExplainsLine};
 ghost use Rattle.sf_tool.specs.Explaining.{ExplainsPath};
 ghost use Rattle.sf_tool.specs.Run.{Runs, Reports, ReportsInputFault, ReportsText};
 ghost use Rattle.sf_tool.specs.Run.{input_limit, joined, view_request, IsOfText, IsAskOfText};
@@ -378,7 +378,7 @@ fn explain<E: Sink>(
     errors: &mut ErrorStream<E>,
 )
     requires { length input.now ≤ input_limit }
-    ensures { Explained errors.old.is_terminal status (Explains request.now input.now)
+    ensures { ExplainsWith errors.old.is_terminal status (Explains request.now input.now)
         (E.state errors.old.device) (E.state errors.new.device) }
 {
     if errors.explains(status) {

@@ -24,13 +24,13 @@ use Rattle.sf_value.specs.Grammar.Canonical.{canon_commas, canon_behind}
 use Rattle.sf_value.specs.Laws.{CanonIsEmpty}
 
 -- what is joined is empty only if both parts are
-front_empty : (xs ys : Seq ℕ) → xs ++ ys ≡ [] → xs ≡ []
-front_empty [] ys e = refl
-front_empty (x ∷ xs) ys e = absurd cc
+prefix_empty : (xs ys : Seq ℕ) → xs ++ ys ≡ [] → xs ≡ []
+prefix_empty [] ys e = refl
+prefix_empty (x ∷ xs) ys e = absurd cc
 
-back_empty : (xs ys : Seq ℕ) → xs ++ ys ≡ [] → ys ≡ []
-back_empty [] ys e = e
-back_empty (x ∷ xs) ys e = absurd cc
+suffix_empty : (xs ys : Seq ℕ) → xs ++ ys ≡ [] → ys ≡ []
+suffix_empty [] ys e = e
+suffix_empty (x ∷ xs) ys e = absurd cc
 
 some_digit : (n : ℕ) → n < 10 ^ 15 → decimal n ≡ [] → ⊥
 some_digit n h e =
@@ -47,7 +47,7 @@ some_bare : (d : Dialect) (x : Bare) → ValidBare d x → canon_bare x ≡ [] �
 some_bare d (Integer n) h e = some_integer n h e
 some_bare d (Decimal m) h e =
     some_digit (nat_abs m / 1000) (omega arith)
-    (front_empty (decimal (nat_abs m / 1000)) _ (back_empty (sign (is_negative m)) _ e))
+    (prefix_empty (decimal (nat_abs m / 1000)) _ (suffix_empty (sign (is_negative m)) _ e))
 some_bare d (Text s) h e = absurd cc
 some_bare d (Token []) h e = absurd h
 some_bare d (Token (c ∷ s)) h e = absurd cc
@@ -57,7 +57,7 @@ some_bare d (Date n) h e = absurd cc
 some_bare d (Shown s) h e = absurd cc
 
 some_item : (d : Dialect) (i : Item) → ValidItem d i → canon_item i ≡ [] → ⊥
-some_item d i h e = some_bare d i.bare h.0 (front_empty (canon_bare i.bare) (canon_params i.params) e)
+some_item d i h e = some_bare d i.bare h.0 (prefix_empty (canon_bare i.bare) (canon_params i.params) e)
 
 some_member : (d : Dialect) (m : Member) → ValidMember d m → canon_member m ≡ [] → ⊥
 some_member d (member.Item i) h e = some_item d i h e
@@ -71,14 +71,14 @@ no_members : (d : Dialect) (ms : Seq Member) → Each (ValidMember d) ms
     → canon_series canon_member ms ≡ [] → ms ≡ []
 no_members d [] h e = refl
 no_members d (m ∷ ms) h e =
-    absurd (some_member d m h.0 (front_empty (canon_member m) (canon_commas canon_member ms) e))
+    absurd (some_member d m h.0 (prefix_empty (canon_member m) (canon_commas canon_member ms) e))
 
 no_entries : (d : Dialect) (ps : Pairs Member) → Each (λ p. IsKey p.0 × ValidMember d p.1) ps
     → canon_series canon_entry ps ≡ [] → ps ≡ []
 no_entries d [] h e = refl
 no_entries d (p ∷ ps) h e =
-    absurd (no_key p.0 h.0.0 (front_empty p.0 (canon_behind p.1)
-    (front_empty (canon_entry p) (canon_commas canon_entry ps) e)))
+    absurd (no_key p.0 h.0.0 (prefix_empty p.0 (canon_behind p.1)
+    (prefix_empty (canon_entry p) (canon_commas canon_entry ps) e)))
 
 pub canon_is_empty : CanonIsEmpty
 canon_is_empty d kind.Item (field.Item i) h = (λ e. some_item d i h e, λ n. absurd n)

@@ -90,20 +90,20 @@ Sends old new (Ok n) bytes =
 Sends old new (Err _) bytes = (0 < length bytes) × RefusesOnce old new
 
 -- calls gave these bytes, none of them failed, and none returned the end
-pub record Gave (old new : SourceState) (bytes : List ℕ) : Type 0 where
+pub record Gives (old new : SourceState) (bytes : List ℕ) : Type 0 where
   pub consumed : Consumes old.to_come new.to_come bytes
   pub given : Counts old.given new.given (length bytes)
   pub ends : new.ends ≡ old.ends
   pub failures : new.failures ≡ old.failures
 
 -- calls gave these bytes, and the last call returned the end
-pub record GaveAndEnded (old new : SourceState) (bytes : List ℕ) : Type 0 where
+pub record GivesAndEnds (old new : SourceState) (bytes : List ℕ) : Type 0 where
   pub mid : SourceState
-  pub gave : Gave old mid bytes
+  pub gives : Gives old mid bytes
   pub ended : EndsOnce mid new
 
 -- calls gave these bytes, and the last call failed
-pub record GaveAndFailed (old new : SourceState) (bytes : List ℕ) : Type 0 where
+pub record GivesAndFails (old new : SourceState) (bytes : List ℕ) : Type 0 where
   pub mid : SourceState
-  pub gave : Gave old mid bytes
+  pub gives : Gives old mid bytes
   pub failed : FailsOnce mid new

@@ -25,7 +25,7 @@ use Rattle.sf_view.specs.declared.building.NoField.TheVariants.{OutOfMemory, Inv
 use Rattle.sf_view.specs.Finding.{IsHop}
 use Rattle.sf_view.specs.View.{DescribesBare, DescribesMember, DescribesMembers, DescribesEntries}
 use Rattle.sf_view.specs.Building.{AreParams, AreMembers, AreEntries, IsInside, IsInner, IsMember}
-use Rattle.sf_view.specs.Building.{IsItem, IsParam, Reads, first_key, shifted, Gives, StartsItem}
+use Rattle.sf_view.specs.Building.{IsItem, IsParam, Reads, first_key, shift_fault, Gives, StartsItem}
 use Rattle.sf_view.specs.Building.{IsWrongAt}
 use Rattle.sf_view.proofs.Hops.{Opens, opens, item_opens, param_opens, DescribesParam}
 use Rattle.sf_view.proofs.Wholes.{Parts, Alike, PartLaws, Whole, After, opens_key, hop_key}
@@ -327,35 +327,35 @@ as_item d source ns i t v = (
 )
 
 -- a part with the key that was hopped over
-pub member_at : (d : Dialect) (source k : List ℕ) (nodes front later : List Node) (m : Member)
-    → IsHop source nodes k front later → IsMember d source front m → DescribesMember d source k front m
-member_at d source k nodes front later m h t =
-    subst (λ y. DescribesMember d source y front m) (hop_key source k nodes front later h) t.0
+pub member_at : (d : Dialect) (source k : List ℕ) (nodes prefix later : List Node) (m : Member)
+    → IsHop source nodes k prefix later → IsMember d source prefix m → DescribesMember d source k prefix m
+member_at d source k nodes prefix later m h t =
+    subst (λ y. DescribesMember d source y prefix m) (hop_key source k nodes prefix later h) t.0
 
-pub item_at : (d : Dialect) (source k : List ℕ) (nodes front later : List Node) (i : Item)
-    → IsHop source nodes k front later → IsItem d source role_is.InnerItem front i
-    → DescribesItem d source role_is.InnerItem k front i
-item_at d source k nodes front later i h t =
-    subst (λ y. DescribesItem d source role_is.InnerItem y front i)
-    (hop_key source k nodes front later h) t.0
+pub item_at : (d : Dialect) (source k : List ℕ) (nodes prefix later : List Node) (i : Item)
+    → IsHop source nodes k prefix later → IsItem d source role_is.InnerItem prefix i
+    → DescribesItem d source role_is.InnerItem k prefix i
+item_at d source k nodes prefix later i h t =
+    subst (λ y. DescribesItem d source role_is.InnerItem y prefix i)
+    (hop_key source k nodes prefix later h) t.0
 
-pub param_at : (d : Dialect) (source k : List ℕ) (r : Role) (nodes front later : List Node) (x : Bare)
-    → IsHop source nodes k front later → IsParam d source r front x → DescribesParam d source r k front x
-param_at d source k r nodes front later x h (n, e, t) =
+pub param_at : (d : Dialect) (source k : List ℕ) (r : Role) (nodes prefix later : List Node) (x : Bare)
+    → IsHop source nodes k prefix later → IsParam d source r prefix x → DescribesParam d source r k prefix x
+param_at d source k r nodes prefix later x h (n, e, t) =
     let same : slice_at n.key_at n.key_length source ≡ k =
-    sym (ap (first_key source) e) ∙ hop_key source k nodes front later h in
+    sym (ap (first_key source) e) ∙ hop_key source k nodes prefix later h in
     (n, e, subst (λ y. DescribesBare d source r y 1 n x) same t.0)
 
 -- the nodes that were hopped over are one node, if a parameter begins with the first of them
-pub one_param : (d : Dialect) (source k : List ℕ) (r : Role) (nodes front later : List Node)
-    (h : IsHop source nodes k front later) (fs : List Node) (p : List ℕ × Bare)
-    → Param d source r (h.first ∷ fs) p → ValidBare d p.1 → IsParam d source r front p.1
-one_param d source k r nodes front later h fs p (n, e, t) v =
+pub one_param : (d : Dialect) (source k : List ℕ) (r : Role) (nodes prefix later : List Node)
+    (h : IsHop source nodes k prefix later) (fs : List Node) (p : List ℕ × Bare)
+    → Param d source r (h.first ∷ fs) p → ValidBare d p.1 → IsParam d source r prefix p.1
+one_param d source k r nodes prefix later h fs p (n, e, t) v =
     let one : h.first ≡ n = heads h.first n fs [] e in
     let size : h.first.size ≡ 1 = ap (λ y. y.size) one ∙ t.size in
     let l : length h.more ≡ 0 =
     (let a = h.size in let b = ap length h.begins in omega arith) in
-    let is : front ≡ n ∷ [] =
+    let is : prefix ≡ n ∷ [] =
     h.begins ∙ ap (λ y. y ∷ h.more) one ∙ ap (λ y. n ∷ y) (nothing_left h.more l) in
     (n, is, (subst (λ y. DescribesBare d source r y 1 n p.1) (sym t.key) t, v))
 
@@ -366,7 +366,7 @@ no_nodes d source r = (refl, (tt, (AreEntries-none {V = Bare}).distinct))
 -- parameters that are wrong after the node of an Item, and what is wrong inside an Inner List
 pub item_wrong : (d : Dialect) (source : List ℕ) (r : Role) (nodes : List Node) (e : NoField)
     → 1 ≤ length nodes → Reads (AreParams d source role_is.Parameter) (drop 1 nodes) (Err e)
-    → Reads (IsItem d source r) nodes (Err (shifted 1 e))
+    → Reads (IsItem d source r) nodes (Err (shift_fault 1 e))
 item_wrong d source r nodes OutOfMemory l w = tt
 item_wrong d source r [] (Invalid i) l w = absurd (let k : ⊥ = omega arith in k)
 item_wrong d source r (n ∷ ms) (Invalid i) l w =
@@ -381,7 +381,7 @@ item_wrong d source r (n ∷ ms) (Invalid i) l w =
 
 pub inner_wrong : (d : Dialect) (source : List ℕ) (nodes : List Node) (e : NoField)
     → 1 ≤ length nodes → Reads (IsInside d source) (drop 1 nodes) (Err e)
-    → Reads (IsInner d source) nodes (Err (shifted 1 e))
+    → Reads (IsInner d source) nodes (Err (shift_fault 1 e))
 inner_wrong d source nodes OutOfMemory l w = tt
 inner_wrong d source [] (Invalid i) l w = absurd (let k : ⊥ = omega arith in k)
 inner_wrong d source (n ∷ ms) (Invalid i) l w =
@@ -447,7 +447,7 @@ params_stuck d source n more others i all left bad w same agree h = by left h.bo
 pub inside_end : (d : Dialect) (source : List ℕ) (nodes rest : List Node) (all : List Item)
     (e : NoField) → SoFar (InnerItem d source) (ValidItem d) nodes rest all
     → (StartsItem rest → ⊥) → Reads (AreParams d source role_is.InnerParameter) rest (Err e)
-    → Reads (IsInside d source) nodes (Err (shifted (length nodes - length rest) e))
+    → Reads (IsInside d source) nodes (Err (shift_fault (length nodes - length rest) e))
 inside_end d source nodes rest all OutOfMemory so none w = tt
 inside_end d source nodes [] all (Invalid i) so none w =
     absurd (w.stuck [] refl refl [] (no_nodes d source role_is.InnerParameter))

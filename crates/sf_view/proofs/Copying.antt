@@ -28,12 +28,12 @@ pub record PartsLeft {X : Type 0} (T : List Node → List X → Type 0) (E : X �
 
 module _ {X : Type 0} (P : List Node → X → Type 0) (T : List Node → List X → Type 0)
     (E : X → Type 0) where
-  pub parts_more : (nodes front later : List Node) (all more xs : List X) (x : X)
+  pub parts_more : (nodes prefix later : List Node) (all more xs : List X) (x : X)
       → PartsLeft T E nodes all xs
-      → ((ys : List X) → T nodes ys → SplitsOff P T ys front later)
-      → ((y : X) → P front y → E y → x ≡ y)
+      → ((ys : List X) → T nodes ys → SplitsOff P T ys prefix later)
+      → ((y : X) → P prefix y → E y → x ≡ y)
       → more ≡ all ++ x ∷ [] → PartsLeft T E later more xs
-  parts_more nodes front later all more xs x l splits copy e =
+  parts_more nodes prefix later all more xs x l splits copy e =
       let h = splits l.left l.describes in
       let each = subst (Each E) h.parts l.each in
       record {
@@ -49,11 +49,11 @@ module _ {X : Type 0} (P : List Node → X → Type 0) (T : List Node → List X
       }
 
   -- a first part that has no copy
-  pub parts_stuck : (nodes front later : List Node) (all xs : List X)
+  pub parts_stuck : (nodes prefix later : List Node) (all xs : List X)
       → PartsLeft T E nodes all xs
-      → ((ys : List X) → T nodes ys → SplitsOff P T ys front later)
-      → ((y : X) → P front y → E y → ⊥) → ⊥
-  parts_stuck nodes front later all xs l splits stuck =
+      → ((ys : List X) → T nodes ys → SplitsOff P T ys prefix later)
+      → ((y : X) → P prefix y → E y → ⊥) → ⊥
+  parts_stuck nodes prefix later all xs l splits stuck =
       let h = splits l.left l.describes in
       let each = subst (Each E) h.parts l.each in
       stuck h.value h.first each.0
@@ -78,12 +78,12 @@ pub record PairsLeft {X : Type 0} (T : List Node → Pairs X → Type 0) (E : Li
 
 module _ {X : Type 0} (P : List Node → List ℕ × X → Type 0) (T : List Node → Pairs X → Type 0)
     (E : List ℕ × X → Type 0) where
-  pub pairs_more : (nodes front later : List Node) (all more ps : Pairs X) (key : List ℕ)
+  pub pairs_more : (nodes prefix later : List Node) (all more ps : Pairs X) (key : List ℕ)
       (value : X) → PairsLeft T E nodes all ps
-      → ((qs : Pairs X) → T nodes qs → SplitsOff P T qs front later)
-      → ((q : List ℕ × X) → P front q → E q → (key, value) ≡ q)
+      → ((qs : Pairs X) → T nodes qs → SplitsOff P T qs prefix later)
+      → ((q : List ℕ × X) → P prefix q → E q → (key, value) ≡ q)
       → more ≡ settle (all ++ (key, value) ∷ []) → PairsLeft T E later more ps
-  pairs_more nodes front later all more ps key value l splits copy e =
+  pairs_more nodes prefix later all more ps key value l splits copy e =
       let h = splits l.left l.describes in
       let each = subst (Each E) h.parts l.each in
       record {
@@ -99,11 +99,11 @@ module _ {X : Type 0} (P : List Node → List ℕ × X → Type 0) (T : List Nod
       }
 
   -- a first part that has no copy
-  pub pairs_stuck : (nodes front later : List Node) (all ps : Pairs X)
+  pub pairs_stuck : (nodes prefix later : List Node) (all ps : Pairs X)
       → PairsLeft T E nodes all ps
-      → ((qs : Pairs X) → T nodes qs → SplitsOff P T qs front later)
-      → ((q : List ℕ × X) → P front q → E q → ⊥) → ⊥
-  pairs_stuck nodes front later all ps l splits stuck =
+      → ((qs : Pairs X) → T nodes qs → SplitsOff P T qs prefix later)
+      → ((q : List ℕ × X) → P prefix q → E q → ⊥) → ⊥
+  pairs_stuck nodes prefix later all ps l splits stuck =
       let h = splits l.left l.describes in
       let each = subst (Each E) h.parts l.each in
       stuck h.value h.first each.0

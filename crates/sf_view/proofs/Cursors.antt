@@ -20,28 +20,28 @@ use Rattle.sf_view.specs.Cursors.{IsFirst, IsNext, Separates, Remains, left_in}
 use Rattle.sf_view.proofs.Members.{only_of}
 
 -- spaces to the end
-pub all_front : (p : ℕ → Bool) (text rest : List ℕ) → Behind p text rest → rest ≡ []
+pub all_prefix : (p : ℕ → Bool) (text rest : List ℕ) → Behind p text rest → rest ≡ []
     → Every p text
-all_front p text rest b n =
-    subst (Every p) (sym (b.split ∙ ap (λ y. b.front ++ y) n ∙ append-nil b.front)) b.each
+all_prefix p text rest b n =
+    subst (Every p) (sym (b.split ∙ ap (λ y. b.prefix ++ y) n ∙ append-nil b.prefix)) b.each
 
 -- a comma with OWS around it
 pub separates : (text white more rest : List ℕ) → Behind is_ows text white → white ≡ 44 ∷ more
     → Behind is_ows more rest → Separates text rest
 separates text white more rest a e b = record {
-  before = a.front;
-  behind = b.front;
-  split = a.split ∙ ap (λ y. a.front ++ y) (e ∙ ap (λ y. 44 ∷ y) b.split);
+  before = a.prefix;
+  behind = b.prefix;
+  split = a.split ∙ ap (λ y. a.prefix ++ y) (e ∙ ap (λ y. 44 ∷ y) b.split);
   ows_before = a.each;
   ows_behind = b.each;
 }
 
 -- less is left after a part
-pub less_left : (text front after : List ℕ) (start : Option (List ℕ)) → text ≡ front ++ after
+pub less_left : (text prefix after : List ℕ) (start : Option (List ℕ)) → text ≡ prefix ++ after
     → IsNext after start → left_in start < left_in (Some text)
-less_left text front after None e n = omega arith
-less_left text front after (Some rest) e n =
-    let a = ap length e ∙ length-append front after in
+less_left text prefix after None e n = omega arith
+less_left text prefix after (Some rest) e n =
+    let a = ap length e ∙ length-append prefix after in
     let b = ap length n.split ∙ length-append n.before (44 ∷ (n.behind ++ rest)) in
     let c = length-append n.behind rest in
     omega arith
@@ -61,7 +61,7 @@ module _ {X : Type 0} (P : List ℕ → X → Type 0) where
   whole_remains text None xs s e = subst (SpellsWhole P text) (sym e) s
   whole_remains text (Some rest) [] s r = absurd r
   whole_remains text (Some rest) (x ∷ xs) s (body, tail, e, h, w) =
-      (s.front, body, tail, s.split ∙ ap (λ y. s.front ++ y) e, s.each, h, w)
+      (s.prefix, body, tail, s.split ∙ ap (λ y. s.prefix ++ y) e, s.each, h, w)
 
   -- a member before those that remain
   pub remains_then : (text f after : List ℕ) (start : Option (List ℕ)) (x : X) (xs : List X)
@@ -126,13 +126,13 @@ pub item_only : (d : Dialect) (text start rest left : List ℕ) → Behind is_sp
 item_only d text start rest left b r a n = (
   field.Item r.value,
   only_of d kind.Item text (field.Item r.value) (
-    b.front,
-    r.front,
+    b.prefix,
+    r.prefix,
     rest,
-    b.split ∙ ap (λ y. b.front ++ y) r.split,
+    b.split ∙ ap (λ y. b.prefix ++ y) r.split,
     b.each,
     r.spelled,
-    all_front is_sp rest left a n,
+    all_prefix is_sp rest left a n,
   ),
 )
 

@@ -18,17 +18,17 @@ use Rattle.sf_view.specs.View.{slice_at, DescribesMember, DescribesPairs, Descri
 use Rattle.sf_view.specs.Finding.{IsHop, NoHop}
 
 -- what the first node of a member says
-pub record Opens (source k : List ℕ) (front : List Node) : Type 0 where
+pub record Opens (source k : List ℕ) (prefix : List Node) : Type 0 where
   pub first : Node
   pub more : List Node
-  pub begins : front ≡ first ∷ more
-  pub size : length front ≡ first.size
+  pub begins : prefix ≡ first ∷ more
+  pub size : length prefix ≡ first.size
   pub within : first.key_at + first.key_length ≤ length source
   pub key : slice_at first.key_at first.key_length source ≡ k
 
-pub item_opens : (d : Dialect) (source : List ℕ) (r : Role) (k : List ℕ) (front : List Node)
-    (i : Item) → DescribesItem d source r k front i → Opens source k front
-item_opens d source r k front i (n, ms, e, h, more) = record {
+pub item_opens : (d : Dialect) (source : List ℕ) (r : Role) (k : List ℕ) (prefix : List Node)
+    (i : Item) → DescribesItem d source r k prefix i → Opens source k prefix
+item_opens d source r k prefix i (n, ms, e, h, more) = record {
   first = n;
   more = ms;
   begins = e;
@@ -37,10 +37,10 @@ item_opens d source r k front i (n, ms, e, h, more) = record {
   key = h.key;
 }
 
-pub opens : (d : Dialect) (source k : List ℕ) (front : List Node) (m : Member)
-    → DescribesMember d source k front m → Opens source k front
-opens d source k front (member.Item i) t = item_opens d source role_is.Member k front i t
-opens d source k front (member.Inner l) (n, is, ps, e, h, r, q) = record {
+pub opens : (d : Dialect) (source k : List ℕ) (prefix : List Node) (m : Member)
+    → DescribesMember d source k prefix m → Opens source k prefix
+opens d source k prefix (member.Item i) t = item_opens d source role_is.Member k prefix i t
+opens d source k prefix (member.Inner l) (n, is, ps, e, h, r, q) = record {
   first = n;
   more = is ++ ps;
   begins = e;
@@ -53,9 +53,9 @@ opens d source k front (member.Inner l) (n, is, ps, e, h, r, q) = record {
 abbrev pub DescribesParam : Dialect → List ℕ → Role → List ℕ → List Node → Bare → Type 0
 DescribesParam d source r k ns x = (n : Node) × (ns ≡ n ∷ []) × DescribesBare d source r k 1 n x
 
-pub param_opens : (d : Dialect) (source : List ℕ) (r : Role) (k : List ℕ) (front : List Node)
-    (x : Bare) → DescribesParam d source r k front x → Opens source k front
-param_opens d source r k front x (n, e, h) = record {
+pub param_opens : (d : Dialect) (source : List ℕ) (r : Role) (k : List ℕ) (prefix : List Node)
+    (x : Bare) → DescribesParam d source r k prefix x → Opens source k prefix
+param_opens d source r k prefix x (n, e, h) = record {
   first = n;
   more = [];
   begins = e;
@@ -73,65 +73,65 @@ param_parts d source r ns (p ∷ ps) (n, ms, e, h, more) =
 
 -- each part opens with a node of its key and span
 abbrev pub AllOpen : {X : Type 0} → List ℕ → (List ℕ → List Node → X → Type 0) → Type 0
-AllOpen {X} source P = (k : List ℕ) (front : List Node) (x : X) → P k front x → Opens source k front
+AllOpen {X} source P = (k : List ℕ) (prefix : List Node) (x : X) → P k prefix x → Opens source k prefix
 
 heads : (m n : Node) (ms ns : List Node) → m ∷ ms ≡ n ∷ ns → m ≡ n
 heads m n ms ns e = cc
 
 -- the part that was hopped over is the one that nodes describe
-pub record SamePart (k own_key : List ℕ) (front later own back : List Node) : Type 0 where
+pub record SamePart (k own_key : List ℕ) (prefix later own suffix : List Node) : Type 0 where
   pub key : k ≡ own_key
-  pub here : front ≡ own
-  pub others : later ≡ back
+  pub here : prefix ≡ own
+  pub others : later ≡ suffix
 
-pub same_part : (source j : List ℕ) (nodes own back : List Node) (k : List ℕ)
-    (front later : List Node) → Opens source j own → nodes ≡ own ++ back
-    → IsHop source nodes k front later → SamePart k j front later own back
-same_part source j nodes own back k front later o e h =
-    let both : front ++ later ≡ own ++ back = sym h.split ∙ e in
+pub same_part : (source j : List ℕ) (nodes own suffix : List Node) (k : List ℕ)
+    (prefix later : List Node) → Opens source j own → nodes ≡ own ++ suffix
+    → IsHop source nodes k prefix later → SamePart k j prefix later own suffix
+same_part source j nodes own suffix k prefix later o e h =
+    let both : prefix ++ later ≡ own ++ suffix = sym h.split ∙ e in
     let one : h.first ≡ o.first =
-    heads h.first o.first (h.more ++ later) (o.more ++ back)
-    (ap (λ y. y ++ later) (sym h.begins) ∙ both ∙ ap (λ y. y ++ back) o.begins) in
-    let size : length front ≡ length own = h.size ∙ ap (λ y. y.size) one ∙ sym o.size in
+    heads h.first o.first (h.more ++ later) (o.more ++ suffix)
+    (ap (λ y. y ++ later) (sym h.begins) ∙ both ∙ ap (λ y. y ++ suffix) o.begins) in
+    let size : length prefix ≡ length own = h.size ∙ ap (λ y. y.size) one ∙ sym o.size in
     record {
       key = h.key ∙ ap (λ y. slice_at y.key_at y.key_length source) one ∙ o.key;
       here =
-          sym (take-append_seam front later)
-          ∙ ap (λ y. take y (front ++ later)) size
+          sym (take-append_seam prefix later)
+          ∙ ap (λ y. take y (prefix ++ later)) size
           ∙ ap (take (length own)) both
-          ∙ take-append_seam own back;
+          ∙ take-append_seam own suffix;
       others =
-          sym (drop-append_seam front later)
-          ∙ ap (λ y. drop y (front ++ later)) size
+          sym (drop-append_seam prefix later)
+          ∙ ap (λ y. drop y (prefix ++ later)) size
           ∙ ap (drop (length own)) both
-          ∙ drop-append_seam own back;
+          ∙ drop-append_seam own suffix;
     }
 
 -- where nodes describe a part there is one to hop over
-pub no_part : (source j : List ℕ) (nodes own back : List Node) → Opens source j own
-    → nodes ≡ own ++ back → NoHop source nodes → ⊥
-no_part source j nodes own back o e n =
-    let e' : nodes ≡ o.first ∷ (o.more ++ back) = e ∙ ap (λ y. y ++ back) o.begins in
-    let n' : NoHop source (o.first ∷ (o.more ++ back)) = subst (NoHop source) e' n in
+pub no_part : (source j : List ℕ) (nodes own suffix : List Node) → Opens source j own
+    → nodes ≡ own ++ suffix → NoHop source nodes → ⊥
+no_part source j nodes own suffix o e n =
+    let e' : nodes ≡ o.first ∷ (o.more ++ suffix) = e ∙ ap (λ y. y ++ suffix) o.begins in
+    let n' : NoHop source (o.first ∷ (o.more ++ suffix)) = subst (NoHop source) e' n in
     let sizes = ap length o.begins in
-    let all = length-append o.more back in
+    let all = length-append o.more suffix in
     let s = o.size in
     n' o.within (omega arith) (omega arith)
 
--- the same front and the same rest
+-- the same nodes and the same rest
 record Hopped {X : Type 0} (P : List ℕ → List Node → X → Type 0) (k : List ℕ)
-    (front later : List Node) (p : List ℕ × X) (ps : Pairs X) : Type 0 where
+    (prefix later : List Node) (p : List ℕ × X) (ps : Pairs X) : Type 0 where
   key : k ≡ p.0
-  describes : P p.0 front p.1
+  describes : P p.0 prefix p.1
   rest : DescribesPairs P later ps
 
 hopped : {X : Type 0} (P : List ℕ → List Node → X → Type 0) (source : List ℕ)
-    → AllOpen source P → (nodes : List Node) (k : List ℕ) (front later : List Node)
+    → AllOpen source P → (nodes : List Node) (k : List ℕ) (prefix later : List Node)
     (p : List ℕ × X) (ps : Pairs X)
-    → IsHop source nodes k front later → DescribesPairs P nodes (p ∷ ps)
-    → Hopped P k front later p ps
-hopped P source opened nodes k front later p ps h (own, back, e, t, r) =
-    let o = same_part source p.0 nodes own back k front later (opened p.0 own p.1 t) e h in
+    → IsHop source nodes k prefix later → DescribesPairs P nodes (p ∷ ps)
+    → Hopped P k prefix later p ps
+hopped P source opened nodes k prefix later p ps h (own, suffix, e, t, r) =
+    let o = same_part source p.0 nodes own suffix k prefix later (opened p.0 own p.1 t) e h in
     record {
       key = o.key;
       describes = subst (λ y. P p.0 y p.1) (sym o.here) t;
@@ -143,8 +143,8 @@ none_left : {X : Type 0} (P : List ℕ → List Node → X → Type 0) (source :
     → AllOpen source P → (nodes : List Node) (ps : Pairs X)
     → NoHop source nodes → DescribesPairs P nodes ps → ps ≡ []
 none_left P source opened nodes [] n t = refl
-none_left P source opened nodes (p ∷ ps) n (own, back, e, t, r) =
-    absurd (no_part source p.0 nodes own back (opened p.0 own p.1 t) e n)
+none_left P source opened nodes (p ∷ ps) n (own, suffix, e, t, r) =
+    absurd (no_part source p.0 nodes own suffix (opened p.0 own p.1 t) e n)
 
 -- the rest holds the key as all does
 pub record Left {X : Type 0} (P : List ℕ → List Node → X → Type 0) (key : List ℕ) (ps : Pairs X)
@@ -170,24 +170,24 @@ pub left_none : {X : Type 0} (P : List ℕ → List Node → X → Type 0) (sour
 left_none P source opened key ps rest l n =
     l.same ∙ ap (value_at key) (none_left P source opened rest l.pairs n l.describes)
 
-pub some_hop : (source : List ℕ) (k : List ℕ) (nodes front later : List Node)
-    → IsHop source nodes k front later → nodes ≡ [] → ⊥
-some_hop source k nodes front later h e =
+pub some_hop : (source : List ℕ) (k : List ℕ) (nodes prefix later : List Node)
+    → IsHop source nodes k prefix later → nodes ≡ [] → ⊥
+some_hop source k nodes prefix later h e =
     let e' : [] ≡ h.first ∷ (h.more ++ later) =
     sym e ∙ h.split ∙ ap (λ y. y ++ later) h.begins in
     cc
 
 pub left_more : {X : Type 0} (P : List ℕ → List Node → X → Type 0) (source : List ℕ)
     → AllOpen source P → (key : List ℕ) (ps : Pairs X) (rest : List Node)
-    (k : List ℕ) (front later : List Node) → Left P key ps rest
-    → IsHop source rest k front later → bytes_eq key k ≡ false → Left P key ps later
-left_more {X} P source opened key ps rest k front later l h n = by l.pairs l.describes l.same
+    (k : List ℕ) (prefix later : List Node) → Left P key ps rest
+    → IsHop source rest k prefix later → bytes_eq key k ≡ false → Left P key ps later
+left_more {X} P source opened key ps rest k prefix later l h n = by l.pairs l.describes l.same
   where
     by : (qs : Pairs X) → DescribesPairs P rest qs → value_at key ps ≡ value_at key qs
         → Left P key ps later
-    by [] t e = absurd (some_hop source k rest front later h t)
+    by [] t e = absurd (some_hop source k rest prefix later h t)
     by (q ∷ qs) t e =
-        let o = hopped P source opened rest k front later q qs h t in
+        let o = hopped P source opened rest k prefix later q qs h t in
         let other : bytes_eq key q.0 ≡ false = subst (λ y. bytes_eq key y ≡ false) o.key n in
         record {
           pairs = qs;
@@ -197,19 +197,19 @@ left_more {X} P source opened key ps rest k front later l h n = by l.pairs l.des
 
 pub left_found : {X : Type 0} (P : List ℕ → List Node → X → Type 0) (source : List ℕ)
     → AllOpen source P → (key : List ℕ) (ps : Pairs X) (rest : List Node)
-    (k : List ℕ) (front later : List Node) → Left P key ps rest
-    → IsHop source rest k front later → key ≡ k → Found P key ps front
-left_found {X} P source opened key ps rest k front later l h is = by l.pairs l.describes l.same
+    (k : List ℕ) (prefix later : List Node) → Left P key ps rest
+    → IsHop source rest k prefix later → key ≡ k → Found P key ps prefix
+left_found {X} P source opened key ps rest k prefix later l h is = by l.pairs l.describes l.same
   where
     by : (qs : Pairs X) → DescribesPairs P rest qs → value_at key ps ≡ value_at key qs
-        → Found P key ps front
-    by [] t e = absurd (some_hop source k rest front later h t)
+        → Found P key ps prefix
+    by [] t e = absurd (some_hop source k rest prefix later h t)
     by (q ∷ qs) t e =
-        let o = hopped P source opened rest k front later q qs h t in
+        let o = hopped P source opened rest k prefix later q qs h t in
         let this : key ≡ q.0 = is ∙ o.key in
         let same : bytes_eq key q.0 ≡ true = subst (λ y. bytes_eq key y ≡ true) this (same_key key) in
         record {
           value = q.1;
           there = e ∙ (let s : value_at key (q ∷ qs) ≡ Some q.1 = rw same refl in s);
-          describes = subst (λ y. P y front q.1) (sym this) o.describes;
+          describes = subst (λ y. P y prefix q.1) (sym this) o.describes;
         }

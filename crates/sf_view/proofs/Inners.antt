@@ -27,11 +27,11 @@ use Rattle.sf_view.proofs.Params.{node_describes}
 use Rattle.sf_view.proofs.Putting.{puts_none, puts_then, puts_first}
 
 -- spaces before Items
-pub spaces_before : (d : Dialect) (least low : ℕ) (gap back : List ℕ) (is : List Item)
-    → Every is_sp gap → low ≤ least + length gap → SpellsItems d least back is
-    → SpellsItems d low (gap ++ back) is
-spaces_before d least low gap back [] h k s = every_append is_sp gap back h s
-spaces_before d least low gap back (i ∷ is) h k (g, f, b, e, sp, l, x, r) = (
+pub spaces_before : (d : Dialect) (least low : ℕ) (gap suffix : List ℕ) (is : List Item)
+    → Every is_sp gap → low ≤ least + length gap → SpellsItems d least suffix is
+    → SpellsItems d low (gap ++ suffix) is
+spaces_before d least low gap suffix [] h k s = every_append is_sp gap suffix h s
+spaces_before d least low gap suffix (i ∷ is) h k (g, f, b, e, sp, l, x, r) = (
   gap ++ g,
   f,
   b,
@@ -43,31 +43,31 @@ spaces_before d least low gap back (i ∷ is) h k (g, f, b, e, sp, l, x, r) = (
 )
 
 -- an Item before Items that a space comes before
-pub item_before : (d : Dialect) (f back : List ℕ) (i : Item) (is : List Item) → SpellsItem d f i
-    → SpellsItems d 1 back is → SpellsItems d 0 (f ++ back) (i ∷ is)
-item_before d f back i is x r = ([], f, back, refl, tt, omega arith, x, r)
+pub item_before : (d : Dialect) (f suffix : List ℕ) (i : Item) (is : List Item) → SpellsItem d f i
+    → SpellsItems d 1 suffix is → SpellsItems d 0 (f ++ suffix) (i ∷ is)
+item_before d f suffix i is x r = ([], f, suffix, refl, tt, omega arith, x, r)
 
 describes_more : (d : Dialect) (source : List ℕ) (ns ms : List Node) (is : List Item) (i : Item)
     → DescribesItems d source ns is → DescribesItem d source role_is.InnerItem [] ms i
     → DescribesItems d source (ns ++ ms) (is ++ i ∷ [])
 describes_more d source ns ms [] i e t =
     (ms, [], ap (λ y. y ++ ms) e ∙ sym (append-nil ms), t, refl)
-describes_more d source ns ms (j ∷ is) i (front, back, e, h, r) t = (
-  front,
-  back ++ ms,
-  ap (λ y. y ++ ms) e ∙ append_assoc front back ms,
+describes_more d source ns ms (j ∷ is) i (prefix, suffix, e, h, r) t = (
+  prefix,
+  suffix ++ ms,
+  ap (λ y. y ++ ms) e ∙ append_assoc prefix suffix ms,
   h,
-  describes_more d source back ms is i r t,
+  describes_more d source suffix ms is i r t,
 )
 
 pub items_none : (d : Dialect) (source text rest : List ℕ) (old : List Node) (at : ℕ)
     → Behind is_sp text rest → at ≤ length old → ItemsSoFar d source text rest old old at at
 items_none d source text rest old at b h = record {
-  front = b.front;
+  prefix = b.prefix;
   values = [];
   nodes = [];
   split = b.split;
-  glue = λ e back more s. spaces_before d 0 0 b.front back more b.each (omega arith) s;
+  glue = λ e suffix more s. spaces_before d 0 0 b.prefix suffix more b.each (omega arith) s;
   puts = puts_none old at h;
   describes = λ e. refl;
 }
@@ -79,31 +79,31 @@ pub items_more : (d : Dialect) (source text rest after more left : List ℕ) (pl
     → place.at ≡ 0 → place.length ≡ 0 → after ≡ 32 ∷ more → Behind is_sp more left
     → ItemsSoFar d source text left old new at count
 items_more d source text rest after more left place old mid new at between count s x zero none e b =
-    let gap = 32 ∷ b.front in
-    let step = x.front ++ gap in
+    let gap = 32 ∷ b.prefix in
+    let step = x.prefix ++ gap in
     let far : after ≡ gap ++ left = e ∙ ap (λ y. 32 ∷ y) b.split in
     record {
-      front = s.front ++ step;
+      prefix = s.prefix ++ step;
       values = s.values ++ x.value ∷ [];
       nodes = s.nodes ++ x.nodes;
       split =
           s.split
-          ∙ ap (λ y. s.front ++ y)
-          (x.split ∙ ap (λ y. x.front ++ y) far ∙ sym (append_assoc x.front gap left))
-          ∙ sym (append_assoc s.front step left);
-      glue = λ i back is h.
-          let j = end_further source text s.front rest i s.split in
-          let spaced = spaces_before d 0 1 gap back is (refl, b.each) (omega arith) h in
-          let one = item_before d x.front (gap ++ back) x.value is (x.spelled j) spaced in
-          let all = s.glue i (x.front ++ (gap ++ back)) (x.value ∷ is) one in
+          ∙ ap (λ y. s.prefix ++ y)
+          (x.split ∙ ap (λ y. x.prefix ++ y) far ∙ sym (append_assoc x.prefix gap left))
+          ∙ sym (append_assoc s.prefix step left);
+      glue = λ i suffix is h.
+          let j = end_further source text s.prefix rest i s.split in
+          let spaced = spaces_before d 0 1 gap suffix is (refl, b.each) (omega arith) h in
+          let one = item_before d x.prefix (gap ++ suffix) x.value is (x.spelled j) spaced in
+          let all = s.glue i (x.prefix ++ (gap ++ suffix)) (x.value ∷ is) one in
           subst (λ y. SpellsItems d 0 y ((s.values ++ x.value ∷ []) ++ is))
-          (ap (λ y. s.front ++ y) (sym (append_assoc x.front gap back))
-          ∙ sym (append_assoc s.front step back))
-          (subst (SpellsItems d 0 (s.front ++ (x.front ++ (gap ++ back))))
+          (ap (λ y. s.prefix ++ y) (sym (append_assoc x.prefix gap suffix))
+          ∙ sym (append_assoc s.prefix step suffix))
+          (subst (SpellsItems d 0 (s.prefix ++ (x.prefix ++ (gap ++ suffix))))
           (sym (append_assoc s.values (x.value ∷ []) is)) all);
       puts = puts_then old mid new at between count s.nodes x.nodes s.puts x.puts;
       describes = λ i.
-          let j = end_further source text s.front rest i s.split in
+          let j = end_further source text s.prefix rest i s.split in
           describes_more d source s.nodes x.nodes s.values x.value (s.describes i)
           (item_there d source x.nodes x.value place zero none (x.describes j));
     }
@@ -121,13 +121,13 @@ pub items_closed : (d : Dialect) (source text rest left : List ℕ) (old new : L
     (at count : ℕ) → ItemsSoFar d source text rest old new at count → rest ≡ 41 ∷ left
     → ScansItems d source text left old new at count
 items_closed d source text rest left old new at count s e = record {
-  front = s.front;
+  prefix = s.prefix;
   values = s.values;
   nodes = s.nodes;
-  split = s.split ∙ ap (λ y. s.front ++ y) e;
+  split = s.split ∙ ap (λ y. s.prefix ++ y) e;
   spelled = λ i.
-      subst (λ y. SpellsItems d 0 y s.values) (append-nil s.front)
-      (subst (SpellsItems d 0 (s.front ++ [])) (append-nil s.values) (s.glue i [] [] tt));
+      subst (λ y. SpellsItems d 0 y s.values) (append-nil s.prefix)
+      (subst (SpellsItems d 0 (s.prefix ++ [])) (append-nil s.values) (s.glue i [] [] tt));
   puts = s.puts;
   describes = s.describes;
 }
@@ -140,21 +140,21 @@ pub items_last : (d : Dialect) (source text rest after left : List ℕ) (place :
     → ScansItems d source text left old new at count
 items_last d source text rest after left place old mid new at between count s x zero none e =
     record {
-      front = s.front ++ x.front;
+      prefix = s.prefix ++ x.prefix;
       values = s.values ++ x.value ∷ [];
       nodes = s.nodes ++ x.nodes;
       split =
           s.split
-          ∙ ap (λ y. s.front ++ y) (x.split ∙ ap (λ y. x.front ++ y) e)
-          ∙ sym (append_assoc s.front x.front (41 ∷ left));
+          ∙ ap (λ y. s.prefix ++ y) (x.split ∙ ap (λ y. x.prefix ++ y) e)
+          ∙ sym (append_assoc s.prefix x.prefix (41 ∷ left));
       spelled = λ i.
-          let j = end_further source text s.front rest i s.split in
-          let one = item_before d x.front [] x.value [] (x.spelled j) tt in
-          s.glue i x.front (x.value ∷ [])
-          (subst (λ y. SpellsItems d 0 y (x.value ∷ [])) (append-nil x.front) one);
+          let j = end_further source text s.prefix rest i s.split in
+          let one = item_before d x.prefix [] x.value [] (x.spelled j) tt in
+          s.glue i x.prefix (x.value ∷ [])
+          (subst (λ y. SpellsItems d 0 y (x.value ∷ [])) (append-nil x.prefix) one);
       puts = puts_then old mid new at between count s.nodes x.nodes s.puts x.puts;
       describes = λ i.
-          let j = end_further source text s.front rest i s.split in
+          let j = end_further source text s.prefix rest i s.split in
           describes_more d source s.nodes x.nodes s.values x.value (s.describes i)
           (subst (λ y. DescribesItem d source role_is.InnerItem y x.nodes x.value)
           (ap (λ y. slice_at place.at y source) none)
@@ -173,27 +173,27 @@ inner_scans d source text body behind rest place m old mid new at between count 
     let both = puts_then old mid new (at + 1) between count is.nodes ps.nodes is.puts ps.puts in
     let f = both.from in
     let k : total ≡ 1 + length (is.nodes ++ ps.nodes) = omega arith in
-    let opened : text ≡ (40 ∷ (is.front ++ 41 ∷ [])) ++ behind =
+    let opened : text ≡ (40 ∷ (is.prefix ++ 41 ∷ [])) ++ behind =
     first
-    ∙ ap (λ y. 40 ∷ y) (is.split ∙ sym (append_assoc is.front (41 ∷ []) behind)) in
+    ∙ ap (λ y. 40 ∷ y) (is.split ∙ sym (append_assoc is.prefix (41 ∷ []) behind)) in
     record {
-      front = 40 ∷ (is.front ++ 41 ∷ ps.front);
+      prefix = 40 ∷ (is.prefix ++ 41 ∷ ps.prefix);
       value = member.Inner (inner is.values ps.values);
       nodes = m ∷ (is.nodes ++ ps.nodes);
       split =
           first
           ∙ ap (λ y. 40 ∷ y)
           (is.split
-          ∙ ap (λ y. is.front ++ 41 ∷ y) ps.split
-          ∙ sym (append_assoc is.front (41 ∷ ps.front) rest));
+          ∙ ap (λ y. is.prefix ++ 41 ∷ y) ps.split
+          ∙ sym (append_assoc is.prefix (41 ∷ ps.prefix) rest));
       spelled = λ i.
           let j = end_further source text (40 ∷ []) body i first in
-          let l = end_further source text (40 ∷ (is.front ++ 41 ∷ [])) behind i opened in
-          (is.front, ps.front, refl, is.spelled j, ps.spelled l);
+          let l = end_further source text (40 ∷ (is.prefix ++ 41 ∷ [])) behind i opened in
+          (is.prefix, ps.prefix, refl, is.spelled j, ps.spelled l);
       puts = puts_first old new at count (is.nodes ++ ps.nodes) m h same both;
       describes = λ i w.
           let j = end_further source text (40 ∷ []) body i first in
-          let l = end_further source text (40 ∷ (is.front ++ 41 ∷ [])) behind i opened in (
+          let l = end_further source text (40 ∷ (is.prefix ++ 41 ∷ [])) behind i opened in (
             m,
             is.nodes,
             ps.nodes,
@@ -222,7 +222,7 @@ pub member_item : (d : Dialect) (source text rest : List ℕ) (place : KeyPlace)
     → ScansItem d source text rest role_is.Member place old new at count
     → ScansMember d source text rest place old new at count
 member_item d source text rest place old new at count s = record {
-  front = s.front;
+  prefix = s.prefix;
   value = member.Item s.value;
   nodes = s.nodes;
   split = s.split;
@@ -237,28 +237,28 @@ pub entry_value : (d : Dialect) (source text after behind rest : List ℕ) (plac
     → after ≡ 61 ∷ behind → ScansMember d source behind rest place old new at count
     → ScansEntry d source text rest place.mark old new at count
 entry_value d source text after behind rest place old new at count k e m =
-    let split : text ≡ (k.front ++ 61 ∷ []) ++ behind =
-    k.split ∙ ap (λ y. k.front ++ y) e ∙ sym (append_assoc k.front (61 ∷ []) behind) in
+    let split : text ≡ (k.prefix ++ 61 ∷ []) ++ behind =
+    k.split ∙ ap (λ y. k.prefix ++ y) e ∙ sym (append_assoc k.prefix (61 ∷ []) behind) in
     record {
-      front = k.front ++ 61 ∷ m.front;
-      key = k.front;
+      prefix = k.prefix ++ 61 ∷ m.prefix;
+      key = k.prefix;
       value = m.value;
       nodes = m.nodes;
       split =
           k.split
-          ∙ ap (λ y. k.front ++ y) (e ∙ ap (λ y. 61 ∷ y) m.split)
-          ∙ sym (append_assoc k.front (61 ∷ m.front) rest);
+          ∙ ap (λ y. k.prefix ++ y) (e ∙ ap (λ y. 61 ∷ y) m.split)
+          ∙ sym (append_assoc k.prefix (61 ∷ m.prefix) rest);
       spelled = λ i.
-          let j = end_further source text (k.front ++ 61 ∷ []) behind i split in
-          (m.front, k.key, inl (refl, m.spelled j));
+          let j = end_further source text (k.prefix ++ 61 ∷ []) behind i split in
+          (m.prefix, k.key, inl (refl, m.spelled j));
       puts = m.puts;
       describes = λ i.
-          let j = end_further source text (k.front ++ 61 ∷ []) behind i split in
+          let j = end_further source text (k.prefix ++ 61 ∷ []) behind i split in
           let size = k.size in
-          let within = end_within source text k.front after place.at k.split k.at in
+          let within = end_within source text k.prefix after place.at k.split k.at in
           subst (λ y. DescribesMember d source y m.nodes m.value)
           (ap (λ y. slice_at place.at y source) k.size
-          ∙ end_slice source text k.front after place.at i k.split k.at)
+          ∙ end_slice source text k.prefix after place.at i k.split k.at)
           (m.describes j (omega arith));
       mark = k.mark;
     }
@@ -270,29 +270,29 @@ pub entry_flag : (d : Dialect) (source text after rest : List ℕ) (place : KeyP
     → ScansEntry d source text rest place.mark old new at count
 entry_flag d source text after rest place p n old new at count k node_type number zero none coded is s =
     record {
-      front = k.front ++ s.front;
-      key = k.front;
+      prefix = k.prefix ++ s.prefix;
+      key = k.prefix;
       value = flag s.values;
       nodes = sized (1 + length s.nodes) n ∷ s.nodes;
       split =
-          k.split ∙ ap (λ y. k.front ++ y) s.split ∙ sym (append_assoc k.front s.front rest);
+          k.split ∙ ap (λ y. k.prefix ++ y) s.split ∙ sym (append_assoc k.prefix s.prefix rest);
       spelled = λ i.
-          let j = end_further source text k.front after i k.split in
-          (s.front, k.key, inr (s.values, refl, refl, s.spelled j));
+          let j = end_further source text k.prefix after i k.split in
+          (s.prefix, k.key, inr (s.values, refl, refl, s.spelled j));
       puts = s.puts;
       describes = λ i.
-          let j = end_further source text k.front after i k.split in
+          let j = end_further source text k.prefix after i k.split in
           let size = k.size in
-          let within = end_within source text k.front after place.at k.split k.at in
+          let within = end_within source text k.prefix after place.at k.split k.at in
           let key = ap (λ y. slice_at place.at y source) k.size
-          ∙ end_slice source text k.front after place.at i k.split k.at in (
+          ∙ end_slice source text k.prefix after place.at i k.split k.at in (
             sized (1 + length s.nodes) n,
             s.nodes,
             refl,
             subst
-                (λ y. DescribesBare d source role_is.Member k.front (1 + length s.nodes)
+                (λ y. DescribesBare d source role_is.Member k.prefix (1 + length s.nodes)
                 (sized (1 + length s.nodes) y) (Boolean true)) (sym is)
-                (node_describes d source role_is.Member (1 + length s.nodes) k.front place p (Boolean true)
+                (node_describes d source role_is.Member (1 + length s.nodes) k.prefix place p (Boolean true)
                 (number_describes d source p (Boolean true) (record {
                   node_type = node_type;
                   number = number;

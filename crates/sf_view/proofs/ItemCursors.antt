@@ -18,15 +18,15 @@ use Rattle.sf_view.proofs.Cursors.{remains_then}
 
 module _ (d : Dialect) where
   -- an Item before the members that remain
-  pub item_remains : (text rest front after : List ℕ) (b : BareView) (start : Option (List ℕ))
-      (ps : Pairs Bare) (ms : List Member) → (r : ReadsBare d text b rest) → rest ≡ front ++ after
-      → SpellsRaw d front ps → IsNext after start → Remains (SpellsMember d) start ms
+  pub item_remains : (text rest prefix after : List ℕ) (b : BareView) (start : Option (List ℕ))
+      (ps : Pairs Bare) (ms : List Member) → (r : ReadsBare d text b rest) → rest ≡ prefix ++ after
+      → SpellsRaw d prefix ps → IsNext after start → Remains (SpellsMember d) start ms
       → Remains (SpellsMember d) (Some text) (member.Item (item r.value (settle ps)) ∷ ms)
-  item_remains text rest front after b start ps ms r e h n left =
-      remains_then (SpellsMember d) text (r.front ++ front) after start
+  item_remains text rest prefix after b start ps ms r e h n left =
+      remains_then (SpellsMember d) text (r.prefix ++ prefix) after start
       (member.Item (item r.value (settle ps))) ms
-      (r.split ∙ ap (λ y. r.front ++ y) e ∙ sym (append_assoc r.front front after))
-      (r.front, front, refl, r.spelled, (ps, refl, h)) n left
+      (r.split ∙ ap (λ y. r.prefix ++ y) e ∙ sym (append_assoc r.prefix prefix after))
+      (r.prefix, prefix, refl, r.spelled, (ps, refl, h)) n left
 
 -- a parameter before those that remain
 pub param_remains : (c e : ParamCursor) (text key : List ℕ) (b : BareView) (ps : Pairs Bare)
@@ -34,16 +34,16 @@ pub param_remains : (c e : ParamCursor) (text key : List ℕ) (b : BareView) (ps
     → c.rest.now ≡ 59 ∷ text → e.dialect ≡ c.dialect → RemainsInItem e ps ms
     → RemainsInItem c ((key, r.value) ∷ ps) ms
 param_remains c e text key b ps ms r begins same i = record {
-  front = r.front ++ i.front;
+  prefix = r.prefix ++ i.prefix;
   after = i.after;
   start = i.start;
   split =
       begins
       ∙ r.split
-      ∙ ap (λ y. r.front ++ y) i.split
-      ∙ sym (append_assoc r.front i.front i.after);
+      ∙ ap (λ y. r.prefix ++ y) i.split
+      ∙ sym (append_assoc r.prefix i.prefix i.after);
   spelled =
-      (r.front, i.front, refl, r.spelled, subst (λ d. SpellsRaw d i.front ps) same i.spelled);
+      (r.prefix, i.prefix, refl, r.spelled, subst (λ d. SpellsRaw d i.prefix ps) same i.spelled);
   next = i.next;
   remains = subst (λ d. Remains (SpellsMember d) i.start ms) same i.remains;
 }

@@ -19,17 +19,17 @@ pub item_scans : (d : Dialect) (source text behind rest : List ℕ) (r : Role) (
     → ScansItem d source text rest r place old new at count
 item_scans d source text behind rest r place p n old new at count b is s =
     let m = sized (1 + length s.nodes) n in record {
-      front = b.front ++ s.front;
+      prefix = b.prefix ++ s.prefix;
       value = item b.value s.values;
       nodes = m ∷ s.nodes;
       split =
-          b.split ∙ ap (λ y. b.front ++ y) s.split ∙ sym (append_assoc b.front s.front rest);
+          b.split ∙ ap (λ y. b.prefix ++ y) s.split ∙ sym (append_assoc b.prefix s.prefix rest);
       spelled = λ i.
-          let j = end_further source text b.front behind i b.split in
-          (b.front, s.front, refl, b.spelled, s.spelled j);
+          let j = end_further source text b.prefix behind i b.split in
+          (b.prefix, s.prefix, refl, b.spelled, s.spelled j);
       puts = s.puts;
       describes = λ i w.
-          let j = end_further source text b.front behind i b.split in (
+          let j = end_further source text b.prefix behind i b.split in (
             m,
             s.nodes,
             refl,

@@ -33,7 +33,7 @@ less_passed : {X : Type 0} (P : List ℕ → X → Type 0) (text rest : List ℕ
     → length rest < length text
 less_passed P text rest p =
     let s = p.separates in
-    let a = ap length p.split ∙ length-append p.front p.after in
+    let a = ap length p.split ∙ length-append p.prefix p.after in
     let b = ap length s.split ∙ length-append s.before (44 ∷ (s.behind ++ rest)) in
     let c = length-append s.behind rest in
     omega arith
@@ -74,23 +74,23 @@ module _ {X : Type 0} (d : Dialect) (kind : Kind) (P : List ℕ → X → Type 0
       → Resumes d kind text rest
   resumes_first text start rest b p =
       let s = p.separates in
-      let t = b.front ++ (p.front ++ s.before) in
-      let joined : b.front ++ (p.front ++ (s.before ++ 44 ∷ (s.behind ++ rest)))
+      let t = b.prefix ++ (p.prefix ++ s.before) in
+      let joined : b.prefix ++ (p.prefix ++ (s.before ++ 44 ∷ (s.behind ++ rest)))
       ≡ (t ++ 44 ∷ s.behind) ++ rest = simp append_assoc in
       record {
-        front = t ++ 44 ∷ s.behind;
+        prefix = t ++ 44 ∷ s.behind;
         split =
             b.split
-            ∙ ap (λ y. b.front ++ y) (p.split ∙ ap (λ y. p.front ++ y) s.split)
+            ∙ ap (λ y. b.prefix ++ y) (p.split ∙ ap (λ y. p.prefix ++ y) s.split)
             ∙ joined;
         same =
             as_one t s.behind p.value [] (
-              b.front,
-              p.front,
+              b.prefix,
+              p.prefix,
               s.before,
               refl,
               b.each,
-              (p.front, [], sym (append-nil p.front), p.spelled, refl),
+              (p.prefix, [], sym (append-nil p.prefix), p.spelled, refl),
               s.ows_before,
             )
             s.ows_behind;
@@ -102,38 +102,38 @@ module _ {X : Type 0} (d : Dialect) (kind : Kind) (P : List ℕ → X → Type 0
       → Resumes d kind text rest
   resumes_next text start rest r p =
       let s = p.separates in
-      let t = p.front ++ s.before in
+      let t = p.prefix ++ s.before in
       let w = t ++ 44 ∷ s.behind in
-      let joined : r.front ++ (p.front ++ (s.before ++ 44 ∷ (s.behind ++ rest)))
-      ≡ (r.front ++ w) ++ rest = simp append_assoc in
-      let whole : 44 ∷ p.front ≡ 44 ∷ (p.front ++ []) =
-      ap (λ y. 44 ∷ y) (sym (append-nil p.front)) in
+      let joined : r.prefix ++ (p.prefix ++ (s.before ++ 44 ∷ (s.behind ++ rest)))
+      ≡ (r.prefix ++ w) ++ rest = simp append_assoc in
+      let whole : 44 ∷ p.prefix ≡ 44 ∷ (p.prefix ++ []) =
+      ap (λ y. 44 ∷ y) (sym (append-nil p.prefix)) in
       let two = as_one (one_member ++ t) s.behind fields.one (p.value ∷ []) (
         [],
-        97 ∷ 44 ∷ p.front,
+        97 ∷ 44 ∷ p.prefix,
         s.before,
         refl,
         tt,
         (
           97 ∷ [],
-          44 ∷ p.front,
+          44 ∷ p.prefix,
           refl,
           fields.is_one,
-          ([], [], p.front, [], whole, tt, tt, p.spelled, refl),
+          ([], [], p.prefix, [], whole, tt, tt, p.spelled, refl),
         ),
         s.ows_before,
       )
       s.ows_behind in
       record {
-        front = r.front ++ w;
+        prefix = r.prefix ++ w;
         split =
             r.split
-            ∙ ap (λ y. r.front ++ y) (p.split ∙ ap (λ y. p.front ++ y) s.split)
+            ∙ ap (λ y. r.prefix ++ y) (p.split ∙ ap (λ y. p.prefix ++ y) s.split)
             ∙ joined;
         same = λ u.
             let a = r.same (w ++ u) in
             let b = two u in
-            let e = append_assoc r.front w u in
+            let e = append_assoc r.prefix w u in
             let f = append_assoc one_member w u in (
               λ h.
                   b.0 (subst (SpellsSome d kind) (sym f)
@@ -178,7 +178,7 @@ next_member d kind.Dict text start rest r p =
 pub rest_within : (d : Dialect) (kind : Kind) (text rest : List ℕ) → Resumes d kind text rest
     → length rest ≤ length text
 rest_within d kind text rest r =
-    omega (arith, ap length r.split, length-append r.front rest)
+    omega (arith, ap length r.split, length-append r.prefix rest)
 
 -- a refusal after one member and a comma is behind these
 pub behind_one : (d : Dialect) (kind : Kind) (rest : List ℕ) (place : ℕ) (found : Option ℕ)
@@ -202,12 +202,12 @@ moved_syntax d kind text rest place found expected may_end r h =
     let bound = behind_one d kind rest place found expected may_end r.viable h in
     let two : length one_member ≡ 2 = refl in
     let e : place ≡ length one_member + (place - 2) = omega (arith, bound.0) in
-    let l : length text - length rest ≡ length r.front =
-    omega (arith, ap length r.split, length-append r.front rest) in
-    let m = refusals_move d kind r.front one_member rest (place - 2) found expected may_end r.same
+    let l : length text - length rest ≡ length r.prefix =
+    omega (arith, ap length r.split, length-append r.prefix rest) in
+    let m = refusals_move d kind r.prefix one_member rest (place - 2) found expected may_end r.same
     (subst (λ n. IsSyntax d kind (one_member ++ rest) n found expected may_end) e h) in
     subst (λ n. IsSyntax d kind text (n + (place - 2)) found expected may_end) (sym l)
-    (subst (λ t. IsSyntax d kind t (length r.front + (place - 2)) found expected may_end)
+    (subst (λ t. IsSyntax d kind t (length r.prefix + (place - 2)) found expected may_end)
     (sym r.split) m)
 
 pub moved : (d : Dialect) (kind : Kind) (text rest : List ℕ) (place : ℕ) (found : Option ℕ)

@@ -26,7 +26,7 @@ use Rattle.sf_view.specs.declared.node.Node.{Node}
 use Rattle.sf_view.specs.declared.node_types.Role.TheVariants as role_is
 use Rattle.sf_view.specs.View.{slice_at, DescribesItem, DescribesMember, DescribesMembers, DescribesEntries}
 use Rattle.sf_view.specs.Scans.{Behind, IsEnd, ScansItem, ScansMember, ScansEntry, Puts}
-use Rattle.sf_view.specs.Scans.{keys_from, AreToldApart}
+use Rattle.sf_view.specs.Scans.{keys_from, DistinguishKeys}
 use Rattle.sf_view.specs.declared.keys.Marks.{Marks}
 use Rattle.sf_view.specs.Marks.{mark_of, HaveMarks}
 use Rattle.sf_view.specs.Accepts.{Accepts, SoFar, DescribesMarked}
@@ -49,33 +49,33 @@ module _ {X : Type 0} (P : List ℕ → X → Type 0) where
     h,
     refl,
   )
-  commas_push t before behind g (x ∷ xs) y (v, w, f, back, e, sv, sw, k, r) a b h =
+  commas_push t before behind g (x ∷ xs) y (v, w, f, suffix, e, sv, sw, k, r) a b h =
       let z = before ++ 44 ∷ (behind ++ g) in (
         v,
         w,
         f,
-        back ++ z,
+        suffix ++ z,
         ap (λ q. q ++ z) e
-            ∙ append_assoc v (44 ∷ (w ++ (f ++ back))) z
+            ∙ append_assoc v (44 ∷ (w ++ (f ++ suffix))) z
             ∙ ap (λ q. v ++ 44 ∷ q)
-            (append_assoc w (f ++ back) z ∙ ap (λ q. w ++ q) (append_assoc f back z)),
+            (append_assoc w (f ++ suffix) z ∙ ap (λ q. w ++ q) (append_assoc f suffix z)),
         sv,
         sw,
         k,
-        commas_push back before behind g xs y r a b h,
+        commas_push suffix before behind g xs y r a b h,
       )
 
   series_push : (t before behind g : List ℕ) (xs : List X) (y : X) → SpellsSeries P t xs
       → 1 ≤ length xs → Every is_ows before → Every is_ows behind → P g y
       → SpellsSeries P (t ++ (before ++ 44 ∷ (behind ++ g))) (xs ++ y ∷ [])
   series_push t before behind g [] y s n a b h = absurd (let k : ⊥ = omega arith in k)
-  series_push t before behind g (x ∷ xs) y (f, back, e, k, r) n a b h =
+  series_push t before behind g (x ∷ xs) y (f, suffix, e, k, r) n a b h =
       let z = before ++ 44 ∷ (behind ++ g) in (
         f,
-        back ++ z,
-        ap (λ q. q ++ z) e ∙ append_assoc f back z,
+        suffix ++ z,
+        ap (λ q. q ++ z) e ∙ append_assoc f suffix z,
         k,
-        commas_push back before behind g xs y r a b h,
+        commas_push suffix before behind g xs y r a b h,
       )
 
   whole_of : (t gap body tail : List ℕ) (xs : List X) → 1 ≤ length xs
@@ -91,8 +91,8 @@ module _ {X : Type 0} (P : List ℕ → X → Type 0) where
     pub so_far_none : (text rest : List ℕ) (old : List Node) → Behind is_sp text rest → T [] []
         → SoFar X P T text rest old old 0
     so_far_none text rest old b t = record {
-      gap = b.front;
-      front = [];
+      gap = b.prefix;
+      prefix = [];
       values = [];
       nodes = [];
       split = b.split;
@@ -110,34 +110,34 @@ module _ {X : Type 0} (P : List ℕ → X → Type 0) where
         → Behind is_ows after white → white ≡ 44 ∷ more → Behind is_ows more left
         → SoFar X P U text left old new count
     so_far_more text rest f after white more left x old mid new between count ms U s e h p t a c b =
-        let step = f ++ (a.front ++ 44 ∷ b.front) in
+        let step = f ++ (a.prefix ++ 44 ∷ b.prefix) in
         let far : rest ≡ step ++ left =
         e
         ∙ ap (λ y. f ++ y)
         (a.split
-        ∙ ap (λ y. a.front ++ y) (c ∙ ap (λ y. 44 ∷ y) b.split)
-        ∙ sym (append_assoc a.front (44 ∷ b.front) left))
-        ∙ sym (append_assoc f (a.front ++ 44 ∷ b.front) left) in
+        ∙ ap (λ y. a.prefix ++ y) (c ∙ ap (λ y. 44 ∷ y) b.split)
+        ∙ sym (append_assoc a.prefix (44 ∷ b.prefix) left))
+        ∙ sym (append_assoc f (a.prefix ++ 44 ∷ b.prefix) left) in
         record {
           gap = s.gap;
-          front = s.front ++ step;
+          prefix = s.prefix ++ step;
           values = s.values ++ x ∷ [];
           nodes = s.nodes ++ ms;
           split =
               s.split
               ∙ ap (λ y. s.gap ++ y)
-              (ap (λ y. s.front ++ y) far ∙ sym (append_assoc s.front step left));
+              (ap (λ y. s.prefix ++ y) far ∙ sym (append_assoc s.prefix step left));
           spaces = s.spaces;
           glue = λ g y k.
-              let z = a.front ++ 44 ∷ (b.front ++ g) in
-              let all = series_push (s.front ++ f) a.front b.front g (s.values ++ x ∷ []) y
+              let z = a.prefix ++ 44 ∷ (b.prefix ++ g) in
+              let all = series_push (s.prefix ++ f) a.prefix b.prefix g (s.values ++ x ∷ []) y
               (s.glue f x h) (some_last s.values x) a.each b.each k in
               subst (λ q. SpellsSeries P q ((s.values ++ x ∷ []) ++ y ∷ []))
-              (append_assoc s.front f z
-              ∙ ap (λ q. s.front ++ q)
-              (ap (λ q. f ++ q) (sym (append_assoc a.front (44 ∷ b.front) g))
-              ∙ sym (append_assoc f (a.front ++ 44 ∷ b.front) g))
-              ∙ sym (append_assoc s.front step g))
+              (append_assoc s.prefix f z
+              ∙ ap (λ q. s.prefix ++ q)
+              (ap (λ q. f ++ q) (sym (append_assoc a.prefix (44 ∷ b.prefix) g))
+              ∙ sym (append_assoc f (a.prefix ++ 44 ∷ b.prefix) g))
+              ∙ sym (append_assoc s.prefix step g))
               all;
           puts = puts_then old mid new 0 between count s.nodes ms s.puts p;
           describes = t;
@@ -147,11 +147,11 @@ module _ {X : Type 0} (P : List ℕ → X → Type 0) where
         (between : ℕ) → (s : SoFar X P T text rest old mid between) → rest ≡ f ++ after → P f x
         → Behind is_ows after white → white ≡ [] → SpellsWhole P text (s.values ++ x ∷ [])
     so_far_last text rest f after white x old mid between s e h a n =
-        let tail : after ≡ a.front = a.split ∙ ap (λ y. a.front ++ y) n ∙ append-nil a.front in
-        whole_of text s.gap (s.front ++ f) after (s.values ++ x ∷ []) (some_last s.values x)
+        let tail : after ≡ a.prefix = a.split ∙ ap (λ y. a.prefix ++ y) n ∙ append-nil a.prefix in
+        whole_of text s.gap (s.prefix ++ f) after (s.values ++ x ∷ []) (some_last s.values x)
         (s.split
         ∙ ap (λ y. s.gap ++ y)
-        (ap (λ y. s.front ++ y) e ∙ sym (append_assoc s.front f after)))
+        (ap (λ y. s.prefix ++ y) e ∙ sym (append_assoc s.prefix f after)))
         s.spaces (s.glue f x h) (subst (Every is_ows) (sym tail) a.each)
 
 -- a rest is an end of the text
@@ -159,8 +159,8 @@ pub rest_ends : {X : Type 0} {P : List ℕ → X → Type 0} {T : List Node → 
     (text rest : List ℕ) (old new : List Node) (count : ℕ)
     → SoFar X P T text rest old new count → IsEnd text rest
 rest_ends text rest old new count s = record {
-  before = s.gap ++ s.front;
-  whole = s.split ∙ sym (append_assoc s.gap s.front rest);
+  before = s.gap ++ s.prefix;
+  whole = s.split ∙ sym (append_assoc s.gap s.prefix rest);
 }
 
 members_more : (d : Dialect) (source : List ℕ) (ns ms : List Node) (xs : List Member) (x : Member)
@@ -168,12 +168,12 @@ members_more : (d : Dialect) (source : List ℕ) (ns ms : List Node) (xs : List 
     → DescribesMembers d source (ns ++ ms) (xs ++ x ∷ [])
 members_more d source ns ms [] x e t =
     (ms, [], ap (λ y. y ++ ms) e ∙ sym (append-nil ms), t, refl)
-members_more d source ns ms (j ∷ xs) x (front, back, e, h, r) t = (
-  front,
-  back ++ ms,
-  ap (λ y. y ++ ms) e ∙ append_assoc front back ms,
+members_more d source ns ms (j ∷ xs) x (prefix, suffix, e, h, r) t = (
+  prefix,
+  suffix ++ ms,
+  ap (λ y. y ++ ms) e ∙ append_assoc prefix suffix ms,
   h,
-  members_more d source back ms xs x r t,
+  members_more d source suffix ms xs x r t,
 )
 
 entries_more : (d : Dialect) (source : List ℕ) (ns ms : List Node) (xs : Pairs Member)
@@ -181,12 +181,12 @@ entries_more : (d : Dialect) (source : List ℕ) (ns ms : List Node) (xs : Pairs
     → DescribesEntries d source (ns ++ ms) (xs ++ x ∷ [])
 entries_more d source ns ms [] x e t =
     (ms, [], ap (λ y. y ++ ms) e ∙ sym (append-nil ms), t, refl)
-entries_more d source ns ms (j ∷ xs) x (front, back, e, h, r) t = (
-  front,
-  back ++ ms,
-  ap (λ y. y ++ ms) e ∙ append_assoc front back ms,
+entries_more d source ns ms (j ∷ xs) x (prefix, suffix, e, h, r) t = (
+  prefix,
+  suffix ++ ms,
+  ap (λ y. y ++ ms) e ∙ append_assoc prefix suffix ms,
   h,
-  entries_more d source back ms xs x r t,
+  entries_more d source suffix ms xs x r t,
 )
 
 member_there : (d : Dialect) (source : List ℕ) (ms : List Node) (x : Member) (place : KeyPlace)
@@ -198,10 +198,10 @@ member_there d source ms x place zero none t =
     subst (λ y. DescribesMember d source y ms x) (ap (λ y. slice_at place.at y source) none)
     (t (omega arith))
 
--- the nodes that were put are at the front
-front_there : (old new : List Node) (count : ℕ) (ns : List Node) → Puts old new 0 count ns
+-- the nodes that were put are at the start
+prefix_there : (old new : List Node) (count : ℕ) (ns : List Node) → Puts old new 0 count ns
     → take count new ≡ ns
-front_there old new count ns p = p.there
+prefix_there old new count ns p = p.there
 
 -- a value that is spelled is the only one
 pub only_of : (d : Dialect) (k : Kind) (t : List ℕ) (v : Field) → SpellsField d k t v → IsOnly d k t v
@@ -213,22 +213,22 @@ pub item_accepts : (d : Dialect) (text start rest left : List ℕ) (place : KeyP
     → ScansItem d text start rest role_is.Member place old new 0 count → place.at ≡ 0 → place.length ≡ 0
     → Behind is_sp rest left → left ≡ [] → Accepts d kind.Item text new count
 item_accepts d text start rest left place old new count b s zero none a n =
-    let i : IsEnd text start = record { before = b.front; whole = b.split } in
-    let tail : rest ≡ a.front = a.split ∙ ap (λ y. a.front ++ y) n ∙ append-nil a.front in
+    let i : IsEnd text start = record { before = b.prefix; whole = b.split } in
+    let tail : rest ≡ a.prefix = a.split ∙ ap (λ y. a.prefix ++ y) n ∙ append-nil a.prefix in
     record {
       within = s.puts.within;
       value = field.Item s.value;
       only = only_of d kind.Item text (field.Item s.value) (
-        b.front,
-        s.front,
+        b.prefix,
+        s.prefix,
         rest,
-        b.split ∙ ap (λ y. b.front ++ y) s.split,
+        b.split ∙ ap (λ y. b.prefix ++ y) s.split,
         b.each,
         s.spelled i,
         subst (Every is_sp) (sym tail) a.each,
       );
       describes =
-          subst (λ y. DescribesItem d text role_is.Member [] y s.value) (sym (front_there old new count s.nodes s.puts))
+          subst (λ y. DescribesItem d text role_is.Member [] y s.value) (sym (prefix_there old new count s.nodes s.puts))
           (subst (λ y. DescribesItem d text role_is.Member y s.nodes s.value)
           (ap (λ y. slice_at place.at y text) none) (s.describes i (omega arith)));
     }
@@ -236,7 +236,7 @@ item_accepts d text start rest left place old new count b s zero none a n =
 pub empty_list : (d : Dialect) (text rest : List ℕ) (new : List Node) → Behind is_sp text rest
     → rest ≡ [] → Accepts d kind.List text new 0
 empty_list d text rest new b n =
-    let all : text ≡ b.front = b.split ∙ ap (λ y. b.front ++ y) n ∙ append-nil b.front in
+    let all : text ≡ b.prefix = b.split ∙ ap (λ y. b.prefix ++ y) n ∙ append-nil b.prefix in
     record {
       within = omega arith;
       value = list_of [];
@@ -247,7 +247,7 @@ empty_list d text rest new b n =
 pub empty_dict : (d : Dialect) (text rest : List ℕ) (new : List Node) → Behind is_sp text rest
     → rest ≡ [] → Accepts d kind.Dict text new 0
 empty_dict d text rest new b n =
-    let all : text ≡ b.front = b.split ∙ ap (λ y. b.front ++ y) n ∙ append-nil b.front in
+    let all : text ≡ b.prefix = b.split ∙ ap (λ y. b.prefix ++ y) n ∙ append-nil b.prefix in
     record {
       within = omega arith;
       value = dict_of [];
@@ -263,7 +263,7 @@ pub list_more : (d : Dialect) (text rest after white more left : List ℕ) (plac
     → SoFar Member (SpellsMember d) (DescribesMembers d text) text left old new count
 list_more d text rest after white more left place old mid new between count s m zero none a c b =
     let i = rest_ends text rest old mid between s in
-    so_far_more (SpellsMember d) (DescribesMembers d text) text rest m.front after white more left
+    so_far_more (SpellsMember d) (DescribesMembers d text) text rest m.prefix after white more left
     m.value old mid new between count m.nodes (DescribesMembers d text) s m.split (m.spelled i) m.puts
     (members_more d text s.nodes m.nodes s.values m.value s.describes
     (member_there d text m.nodes m.value place zero none (m.describes i)))
@@ -282,10 +282,10 @@ list_last d text rest after white place old mid new between count s m zero none 
       value = list_of (s.values ++ m.value ∷ []);
       only =
           only_of d kind.List text (list_of (s.values ++ m.value ∷ []))
-          (so_far_last (SpellsMember d) (DescribesMembers d text) text rest m.front after white m.value
+          (so_far_last (SpellsMember d) (DescribesMembers d text) text rest m.prefix after white m.value
           old mid between s m.split (m.spelled i) a n);
       describes =
-          subst (λ y. DescribesMembers d text y (s.values ++ m.value ∷ [])) (sym (front_there old new count (s.nodes ++ m.nodes) p))
+          subst (λ y. DescribesMembers d text y (s.values ++ m.value ∷ [])) (sym (prefix_there old new count (s.nodes ++ m.nodes) p))
           (members_more d text s.nodes m.nodes s.values m.value s.describes
           (member_there d text m.nodes m.value place zero none (m.describes i)));
     }
@@ -313,7 +313,7 @@ pub dict_more : (d : Dialect) (text rest after white more left : List ℕ)
     → SoFar (List ℕ × Member) (SpellsEntry d) (DescribesMarked d text marks_2) text left old new count
 dict_more d text rest after white more left old mid new between count mark marks marks_2 s m w a c b =
     let i = rest_ends text rest old mid between s in
-    so_far_more (SpellsEntry d) (DescribesMarked d text marks) text rest m.front after white more left
+    so_far_more (SpellsEntry d) (DescribesMarked d text marks) text rest m.prefix after white more left
     (m.key, m.value) old mid new between count m.nodes (DescribesMarked d text marks_2) s m.split
     (m.spelled i) m.puts (
       entries_more d text s.nodes m.nodes s.values (m.key, m.value) s.describes.0 (m.describes i),
@@ -322,36 +322,36 @@ dict_more d text rest after white more left old mid new between count mark marks
     a c b
 
 -- the keys that the nodes of a Dictionary describe
-skipped : (source : List ℕ) (ms back : List Node)
-    → keys_from source (length ms) (ms ++ back) ≡ keys_from source 0 back
+skipped : (source : List ℕ) (ms suffix : List Node)
+    → keys_from source (length ms) (ms ++ suffix) ≡ keys_from source 0 suffix
 skipped source [] [] = refl
-skipped source [] (n ∷ back) = refl
-skipped source (m ∷ ms) back = skipped source ms back
+skipped source [] (n ∷ suffix) = refl
+skipped source (m ∷ ms) suffix = skipped source ms suffix
 
-member_key : (d : Dialect) (source k : List ℕ) (front back : List Node) (x : Member)
-    → DescribesMember d source k front x
-    → keys_from source 0 (front ++ back) ≡ k ∷ keys_from source 0 back
-member_key d source k front back (member.Item i) (n, ms, e, h, r) =
+member_key : (d : Dialect) (source k : List ℕ) (prefix suffix : List Node) (x : Member)
+    → DescribesMember d source k prefix x
+    → keys_from source 0 (prefix ++ suffix) ≡ k ∷ keys_from source 0 suffix
+member_key d source k prefix suffix (member.Item i) (n, ms, e, h, r) =
     let less : n.size - 1 ≡ length ms = let s = h.size in omega arith in
-    ap (λ y. keys_from source 0 (y ++ back)) e
-    ∙ ap (λ y. slice_at n.key_at n.key_length source ∷ keys_from source y (ms ++ back)) less
-    ∙ ap (λ y. y ∷ keys_from source (length ms) (ms ++ back)) h.key
-    ∙ ap (λ y. k ∷ y) (skipped source ms back)
-member_key d source k front back (member.Inner l) (n, is, ps, e, h, r, q) =
+    ap (λ y. keys_from source 0 (y ++ suffix)) e
+    ∙ ap (λ y. slice_at n.key_at n.key_length source ∷ keys_from source y (ms ++ suffix)) less
+    ∙ ap (λ y. y ∷ keys_from source (length ms) (ms ++ suffix)) h.key
+    ∙ ap (λ y. k ∷ y) (skipped source ms suffix)
+member_key d source k prefix suffix (member.Inner l) (n, is, ps, e, h, r, q) =
     let ms = is ++ ps in
     let less : n.size - 1 ≡ length ms = let s = h.size in omega arith in
-    ap (λ y. keys_from source 0 (y ++ back)) e
-    ∙ ap (λ y. slice_at n.key_at n.key_length source ∷ keys_from source y (ms ++ back)) less
-    ∙ ap (λ y. y ∷ keys_from source (length ms) (ms ++ back)) h.key
-    ∙ ap (λ y. k ∷ y) (skipped source ms back)
+    ap (λ y. keys_from source 0 (y ++ suffix)) e
+    ∙ ap (λ y. slice_at n.key_at n.key_length source ∷ keys_from source y (ms ++ suffix)) less
+    ∙ ap (λ y. y ∷ keys_from source (length ms) (ms ++ suffix)) h.key
+    ∙ ap (λ y. k ∷ y) (skipped source ms suffix)
 
 entry_keys : (d : Dialect) (source : List ℕ) (ns : List Node) (raw : Pairs Member)
     → DescribesEntries d source ns raw → keys_from source 0 ns ≡ keys_of raw
 entry_keys d source ns [] e = ap (keys_from source 0) e
-entry_keys d source ns (q ∷ raw) (front, back, e, h, r) =
+entry_keys d source ns (q ∷ raw) (prefix, suffix, e, h, r) =
     ap (keys_from source 0) e
-    ∙ member_key d source q.0 front back q.1 h
-    ∙ ap (λ y. q.0 ∷ y) (entry_keys d source back raw r)
+    ∙ member_key d source q.0 prefix suffix q.1 h
+    ∙ ap (λ y. q.0 ∷ y) (entry_keys d source suffix raw r)
 
 pub dict_last : (d : Dialect) (text rest after white : List ℕ)
     (old mid new : List Node) (between count mark : ℕ) (marks marks_2 : Marks)
@@ -360,13 +360,13 @@ pub dict_last : (d : Dialect) (text rest after white : List ℕ)
     → ((ks : List (List ℕ)) (k : List ℕ) → mark ≡ mark_of k → HaveMarks marks ks
     → HaveMarks marks_2 (ks ++ k ∷ []))
     → Behind is_ows after white
-    → white ≡ [] → AreToldApart marks_2 text (take count new) → Accepts d kind.Dict text new count
+    → white ≡ [] → DistinguishKeys marks_2 text (take count new) → Accepts d kind.Dict text new count
 dict_last d text rest after white old mid new between count mark marks marks_2 s m w a n apart =
     let i = rest_ends text rest old mid between s in
     let p = puts_then old mid new 0 between count s.nodes m.nodes s.puts m.puts in
     let raw = s.values ++ (m.key, m.value) ∷ [] in
     let described = subst (λ y. DescribesEntries d text y raw)
-    (sym (front_there old new count (s.nodes ++ m.nodes) p))
+    (sym (prefix_there old new count (s.nodes ++ m.nodes) p))
     (entries_more d text s.nodes m.nodes s.values (m.key, m.value) s.describes.0 (m.describes i)) in
     let keys = entry_keys d text (take count new) raw described in
     let marked = marked_with marks marks_2 mark s.values m.key m.value s.describes.1 m.mark w in
@@ -377,7 +377,7 @@ dict_last d text rest after white old mid new between count mark marks marks_2 s
       only = only_of d kind.Dict text (dict_of raw) (
         raw,
         sym (settle-distinct raw distinct),
-        so_far_last (SpellsEntry d) (DescribesMarked d text marks) text rest m.front after white
+        so_far_last (SpellsEntry d) (DescribesMarked d text marks) text rest m.prefix after white
             (m.key, m.value) old mid between s m.split (m.spelled i) a n,
       );
       describes = described;

@@ -24,7 +24,7 @@ use Rattle.sf_view.specs.NodeTypes.{type_number, is_coded, coded_number}
 use Rattle.sf_view.specs.View.{slice_at, DescribesText, DescribesBare, DescribesParams}
 use Rattle.sf_view.specs.Scans.{Behind, IsEnd, ScansKey, ScansBare, ScansParam, ScansRaw}
 use Rattle.sf_view.specs.Scans.{ScansParams, ScansRest, PartDescribes, Puts, node_from, sized}
-use Rattle.sf_view.specs.Scans.{keys_from, AreToldApart}
+use Rattle.sf_view.specs.Scans.{keys_from, DistinguishKeys}
 use Rattle.sf_view.specs.declared.keys.Marks.{Marks}
 use Rattle.sf_view.specs.Marks.{mark_of, HaveMarks}
 use Rattle.sf_view.proofs.KeyMarks.{keys_push}
@@ -36,15 +36,15 @@ use Rattle.sf_view.proofs.Putting.{puts_none, puts_then, puts_one, puts_first}
 key_there : (whole : ℕ) (text named after : List ℕ) (place : KeyPlace)
     → Behind is_sp text named → (k : ScansKey whole named place after)
     → (source : List ℕ) → IsEnd source (59 ∷ text) → length source ≡ whole
-    → (place.at + place.length ≤ length source) × (slice_at place.at place.length source ≡ k.front)
+    → (place.at + place.length ≤ length source) × (slice_at place.at place.length source ≡ k.prefix)
 key_there whole text named after place b k source e w =
-    let i = end_further source (59 ∷ text) (59 ∷ b.front) named e (ap (λ y. 59 ∷ y) b.split) in
+    let i = end_further source (59 ∷ text) (59 ∷ b.prefix) named e (ap (λ y. 59 ∷ y) b.split) in
     let here = k.at ∙ sym w in
     let size = k.size in
-    let within = end_within source named k.front after place.at k.split here in (
+    let within = end_within source named k.prefix after place.at k.split here in (
       omega arith,
       ap (λ y. slice_at place.at y source) k.size
-          ∙ end_slice source named k.front after place.at i k.split here,
+          ∙ end_slice source named k.prefix after place.at i k.split here,
     )
 
 pub flag_scans : (d : Dialect) (whole : ℕ) (text named after : List ℕ) (place : KeyPlace)
@@ -52,16 +52,16 @@ pub flag_scans : (d : Dialect) (whole : ℕ) (text named after : List ℕ) (plac
     → p.number ≡ pos 1 → p.at ≡ 0 → p.length ≡ 0 → p.coded ≡ false
     → ScansParam d whole (59 ∷ text) place p after
 flag_scans d whole text named after place p b k node_type number at size coded = record {
-  front = 59 ∷ (b.front ++ (k.front ++ []));
-  key = k.front;
+  prefix = 59 ∷ (b.prefix ++ (k.prefix ++ []));
+  key = k.prefix;
   value = Boolean true;
   split =
       ap (λ y. 59 ∷ y)
       (b.split
-      ∙ ap (λ y. b.front ++ y)
-      (k.split ∙ ap (λ y. y ++ after) (sym (append-nil k.front)))
-      ∙ sym (append_assoc b.front (k.front ++ []) after));
-  spelled = (b.front, [], refl, b.each, k.key, inl (refl, refl));
+      ∙ ap (λ y. b.prefix ++ y)
+      (k.split ∙ ap (λ y. y ++ after) (sym (append-nil k.prefix)))
+      ∙ sym (append_assoc b.prefix (k.prefix ++ []) after));
+  spelled = (b.prefix, [], refl, b.each, k.key, inl (refl, refl));
   mark = k.mark;
   key_at = key_there whole text named after place b k;
   describes = λ source e w. number_describes d source p (Boolean true) (record {
@@ -79,25 +79,25 @@ pub value_scans : (d : Dialect) (whole : ℕ) (text named after behind rest : Li
     → after ≡ 61 ∷ behind → ScansBare d whole behind p rest
     → ScansParam d whole (59 ∷ text) place p rest
 value_scans d whole text named after behind rest place p b k e x =
-    let before = 59 ∷ (b.front ++ (k.front ++ 61 ∷ [])) in
+    let before = 59 ∷ (b.prefix ++ (k.prefix ++ 61 ∷ [])) in
     let split : 59 ∷ text ≡ before ++ behind =
     ap (λ y. 59 ∷ y)
     (b.split
-    ∙ ap (λ y. b.front ++ y)
-    (k.split ∙ ap (λ y. k.front ++ y) e ∙ sym (append_assoc k.front (61 ∷ []) behind))
-    ∙ sym (append_assoc b.front (k.front ++ 61 ∷ []) behind)) in
+    ∙ ap (λ y. b.prefix ++ y)
+    (k.split ∙ ap (λ y. k.prefix ++ y) e ∙ sym (append_assoc k.prefix (61 ∷ []) behind))
+    ∙ sym (append_assoc b.prefix (k.prefix ++ 61 ∷ []) behind)) in
     record {
-      front = 59 ∷ (b.front ++ (k.front ++ 61 ∷ x.front));
-      key = k.front;
+      prefix = 59 ∷ (b.prefix ++ (k.prefix ++ 61 ∷ x.prefix));
+      key = k.prefix;
       value = x.value;
       split =
           ap (λ y. 59 ∷ y)
           (b.split
-          ∙ ap (λ y. b.front ++ y)
-          (k.split ∙ ap (λ y. k.front ++ y) (e ∙ ap (λ y. 61 ∷ y) x.split)
-          ∙ sym (append_assoc k.front (61 ∷ x.front) rest))
-          ∙ sym (append_assoc b.front (k.front ++ 61 ∷ x.front) rest));
-      spelled = (b.front, 61 ∷ x.front, refl, b.each, k.key, inr (x.front, refl, x.spelled));
+          ∙ ap (λ y. b.prefix ++ y)
+          (k.split ∙ ap (λ y. k.prefix ++ y) (e ∙ ap (λ y. 61 ∷ y) x.split)
+          ∙ sym (append_assoc k.prefix (61 ∷ x.prefix) rest))
+          ∙ sym (append_assoc b.prefix (k.prefix ++ 61 ∷ x.prefix) rest));
+      spelled = (b.prefix, 61 ∷ x.prefix, refl, b.each, k.key, inr (x.prefix, refl, x.spelled));
       mark = k.mark;
       key_at = key_there whole text named after place b k;
       describes = λ source i w.
@@ -108,12 +108,12 @@ value_scans d whole text named after behind rest place p b k e x =
 raw_push : (d : Dialect) (f g : List ℕ) (raw : Pairs Bare) (k : List ℕ) (x : Bare)
     → SpellsRaw d f raw → SpellsParam d g k x → SpellsRaw d (f ++ g) (raw ++ (k, x) ∷ [])
 raw_push d f g [] k x e p = (g, [], ap (λ y. y ++ g) e ∙ sym (append-nil g), p, refl)
-raw_push d f g (q ∷ raw) k x (front, back, e, h, r) p = (
-  front,
-  back ++ g,
-  ap (λ y. y ++ g) e ∙ append_assoc front back g,
+raw_push d f g (q ∷ raw) k x (prefix, suffix, e, h, r) p = (
+  prefix,
+  suffix ++ g,
+  ap (λ y. y ++ g) e ∙ append_assoc prefix suffix g,
   h,
-  raw_push d back g raw k x r p,
+  raw_push d suffix g raw k x r p,
 )
 
 describes_push : (d : Dialect) (source : List ℕ) (r : Role) (ns : List Node) (n : Node)
@@ -153,7 +153,7 @@ pub raw_none : (d : Dialect) (source : List ℕ) (r : Role) (text : List ℕ) (o
     (at : ℕ) (marks : Marks) → at ≤ length old → ScansRaw d source r text text old old at at marks
 unfolding IsDistinct
 raw_none d source r text old at marks h = record {
-  front = [];
+  prefix = [];
   raw = [];
   nodes = [];
   split = refl;
@@ -172,19 +172,19 @@ pub raw_more : (d : Dialect) (source : List ℕ) (r : Role) (text rest more left
     → HaveMarks marks_2 (ks ++ k ∷ []))
     → ScansRaw d source r text left old new at count marks_2
 raw_more d source r text rest more left old mid new at between count place p n marks marks_2 s e x is q w =
-    let split : text ≡ (s.front ++ x.front) ++ left =
+    let split : text ≡ (s.prefix ++ x.prefix) ++ left =
     s.split
-    ∙ ap (λ y. s.front ++ y) (e ∙ x.split)
-    ∙ sym (append_assoc s.front x.front left) in
+    ∙ ap (λ y. s.prefix ++ y) (e ∙ x.split)
+    ∙ sym (append_assoc s.prefix x.prefix left) in
     record {
-      front = s.front ++ x.front;
+      prefix = s.prefix ++ x.prefix;
       raw = s.raw ++ (x.key, x.value) ∷ [];
       nodes = s.nodes ++ n ∷ [];
       split = split;
-      spelled = raw_push d s.front x.front s.raw x.key x.value s.spelled x.spelled;
+      spelled = raw_push d s.prefix x.prefix s.raw x.key x.value s.spelled x.spelled;
       puts = puts_then old mid new at between count s.nodes (n ∷ []) s.puts q;
       describes = λ i.
-          let there = subst (IsEnd source) e (end_further source text s.front rest i s.split) in
+          let there = subst (IsEnd source) e (end_further source text s.prefix rest i s.split) in
           let key = x.key_at source there refl in
           describes_push d source r s.nodes n s.raw x.key x.value (s.describes i)
           (subst (λ y. DescribesBare d source r x.key 1 y x.value) (sym is)
@@ -210,13 +210,13 @@ pub put_there : (old new : List Node) (at count : ℕ) (ns : List Node) → Puts
 put_there old new at count ns p same =
     let f = p.from in
     let w = p.within in
-    let front : length (take at old) ≡ at = omega (arith, length-take at old) in
+    let prefix : length (take at old) ≡ at = omega (arith, length-take at old) in
     let k : at + (count - at) ≡ count = omega arith in
     let a : take count new ≡ take at new ++ take (count - at) (drop at new) =
     ap (λ y. take y new) (sym k) ∙ take-add at (count - at) new in
-    let front' : length (take at new) ≡ at = omega (arith, length-take at new) in
+    let prefix' : length (take at new) ≡ at = omega (arith, length-take at new) in
     seam (take at new) (take at old) (take (count - at) (drop at new)) ns
-    (front' ∙ sym front) (sym a ∙ p.there)
+    (prefix' ∙ sym prefix) (sym a ∙ p.there)
   where
     seam : (xs ys zs ws : List Node) → length xs ≡ length ys → xs ++ zs ≡ ys ++ ws → zs ≡ ws
     seam xs ys zs ws e f =
@@ -228,10 +228,10 @@ put_there old new at count ns p same =
 pub params_scan : (d : Dialect) (source : List ℕ) (r : Role) (text rest : List ℕ)
     (old new : List Node) (at count : ℕ) (marks : Marks)
     → ScansRaw d source r text rest old new at count marks → length new ≡ length old
-    → AreToldApart marks source (take (count - at) (drop at new))
+    → DistinguishKeys marks source (take (count - at) (drop at new))
     → ScansParams d source r text rest old new at count
 params_scan d source r text rest old new at count marks s same apart = record {
-  front = s.front;
+  prefix = s.prefix;
   values = s.raw;
   nodes = s.nodes;
   split = s.split;
@@ -250,7 +250,7 @@ pub rest_none : (d : Dialect) (source text : List ℕ) (n : Node) (old : List No
     → n.size ≡ 1 → at < length old
     → ScansRest d source text text n old (set old at n) at (at + 1)
 rest_none d source text n old at one h = record {
-  front = [];
+  prefix = [];
   values = [];
   nodes = [];
   split = refl;
@@ -268,7 +268,7 @@ pub rest_some : (d : Dialect) (source text rest : List ℕ) (n m : Node) (old ne
 rest_some d source text rest n m old new at count total s is size h same =
     let f = s.puts.from in
     let k : total ≡ 1 + length s.nodes = omega arith in record {
-      front = s.front;
+      prefix = s.prefix;
       values = s.values;
       nodes = s.nodes;
       split = s.split;

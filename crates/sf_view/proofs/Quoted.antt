@@ -17,7 +17,7 @@ use Rattle.sf_view.specs.declared.node_types.NodeType.TheVariants as type_is
 use Rattle.sf_value.specs.declared.utf8.Utf8State.{Utf8State}
 use Rattle.sf_view.specs.Scans.{ScansBare}
 use Rattle.sf_value.specs.Utf8States.{utf8_of}
-use Rattle.sf_view.specs.Showns.{IsEscape, PlainBefore, InsideShown}
+use Rattle.sf_view.specs.Showns.{IsEscape, UnencodedBefore, InsideShown}
 use Rattle.sf_view.proofs.Scanned.{coded_scans}
 
 pub escape_reads : (text more low_rest rest : List ℕ) (high low a b : ℕ) → text ≡ 37 ∷ more
@@ -41,10 +41,10 @@ escape_reads text more low_rest rest high low a b e f g h k =
 pub inside_opens : (text more rest : List ℕ) → text ≡ 37 ∷ more → more ≡ 34 ∷ rest
     → InsideShown text rest Start
 inside_opens text more rest e f = record {
-  front = [];
+  prefix = [];
   bytes = [];
   split = e ∙ ap (λ z. 37 ∷ z) f;
-  pieces = λ back s p. p;
+  joins = λ suffix s p. p;
   formed = λ s w. w;
 }
 
@@ -54,32 +54,32 @@ plain_low c h = grind arith
 plain_step : (c : ℕ) → is_unencoded c ≡ true → utf8_step Start c ≡ Some Start
 plain_step c h = rw (in_range 0 127 c (omega arith) (plain_low c h)) refl
 
-plain_pieces : (front back s : List ℕ) → Every is_unencoded front → EncodedBytes back s
-    → EncodedBytes (front ++ back) (front ++ s)
-plain_pieces [] back s h p = p
-plain_pieces (c ∷ front) back s h p =
-    (front ++ back, inl (h.0, refl), plain_pieces front back s h.1 p)
+unencoded_run : (prefix suffix s : List ℕ) → Every is_unencoded prefix → EncodedBytes suffix s
+    → EncodedBytes (prefix ++ suffix) (prefix ++ s)
+unencoded_run [] suffix s h p = p
+unencoded_run (c ∷ prefix) suffix s h p =
+    (prefix ++ suffix, inl (h.0, refl), unencoded_run prefix suffix s h.1 p)
 
-plain_formed : (front s : List ℕ) → Every is_unencoded front → WellFormed Start s
-    → WellFormed Start (front ++ s)
+plain_formed : (prefix s : List ℕ) → Every is_unencoded prefix → WellFormed Start s
+    → WellFormed Start (prefix ++ s)
 plain_formed [] s h w = w
-plain_formed (c ∷ front) s h w = (Start, plain_step c h.0, plain_formed front s h.1 w)
+plain_formed (c ∷ prefix) s h w = (Start, plain_step c h.0, plain_formed prefix s h.1 w)
 
 pub inside_plain : (text rest stop : List ℕ) (x : Utf8) → InsideShown text rest x
-    → PlainBefore x rest stop → InsideShown text stop x
-inside_plain text rest stop Start i (front, e, h) = record {
-  front = i.front ++ front;
-  bytes = i.bytes ++ front;
+    → UnencodedBefore x rest stop → InsideShown text stop x
+inside_plain text rest stop Start i (prefix, e, h) = record {
+  prefix = i.prefix ++ prefix;
+  bytes = i.bytes ++ prefix;
   split =
       i.split
-      ∙ ap (λ z. 37 ∷ 34 ∷ z) (ap (λ z. i.front ++ z) e ∙ sym (append_assoc i.front front stop));
-  pieces = λ back s p.
-      subst (λ z. EncodedBytes z ((i.bytes ++ front) ++ s)) (sym (append_assoc i.front front back))
-      (subst (EncodedBytes (i.front ++ (front ++ back))) (sym (append_assoc i.bytes front s))
-      (i.pieces (front ++ back) (front ++ s) (plain_pieces front back s h p)));
+      ∙ ap (λ z. 37 ∷ 34 ∷ z) (ap (λ z. i.prefix ++ z) e ∙ sym (append_assoc i.prefix prefix stop));
+  joins = λ suffix s p.
+      subst (λ z. EncodedBytes z ((i.bytes ++ prefix) ++ s)) (sym (append_assoc i.prefix prefix suffix))
+      (subst (EncodedBytes (i.prefix ++ (prefix ++ suffix))) (sym (append_assoc i.bytes prefix s))
+      (i.joins (prefix ++ suffix) (prefix ++ s) (unencoded_run prefix suffix s h p)));
   formed = λ s w.
-      subst (WellFormed Start) (sym (append_assoc i.bytes front s))
-      (i.formed (front ++ s) (plain_formed front s h w));
+      subst (WellFormed Start) (sym (append_assoc i.bytes prefix s))
+      (i.formed (prefix ++ s) (plain_formed prefix s h w));
 }
 inside_plain text rest stop (Wants n low high) i e = subst (λ z. InsideShown text z (Wants n low high)) e i
 
@@ -87,16 +87,16 @@ pub inside_escape : (text stop left : List ℕ) (x y : Utf8) (c : ℕ) → Insid
     → IsEscape stop c left → utf8_step x c ≡ Some y → InsideShown text left y
 inside_escape text stop left x y c i e h =
     let one = 37 ∷ hex (c / 16) ∷ hex (c % 16) ∷ [] in record {
-      front = i.front ++ one;
+      prefix = i.prefix ++ one;
       bytes = i.bytes ++ c ∷ [];
       split =
           i.split
           ∙ ap (λ z. 37 ∷ 34 ∷ z)
-          (ap (λ z. i.front ++ z) e.split ∙ sym (append_assoc i.front one left));
-      pieces = λ back s p.
-          subst (λ z. EncodedBytes z ((i.bytes ++ c ∷ []) ++ s)) (sym (append_assoc i.front one back))
-          (subst (EncodedBytes (i.front ++ (one ++ back))) (sym (append_assoc i.bytes (c ∷ []) s))
-          (i.pieces (one ++ back) (c ∷ s) (back, inr (e.byte, refl), p)));
+          (ap (λ z. i.prefix ++ z) e.split ∙ sym (append_assoc i.prefix one left));
+      joins = λ suffix s p.
+          subst (λ z. EncodedBytes z ((i.bytes ++ c ∷ []) ++ s)) (sym (append_assoc i.prefix one suffix))
+          (subst (EncodedBytes (i.prefix ++ (one ++ suffix))) (sym (append_assoc i.bytes (c ∷ []) s))
+          (i.joins (one ++ suffix) (c ∷ s) (suffix, inr (e.byte, refl), p)));
       formed = λ s w.
           subst (WellFormed Start) (sym (append_assoc i.bytes (c ∷ []) s))
           (i.formed (c ∷ s) (step x s w));
@@ -119,18 +119,18 @@ pub shown_scans : (whole : ℕ) (text stop left : List ℕ) (x : Utf8) (p : Part
     → p.at + length text ≡ whole → p.length ≡ length text - length left → p.coded ≡ true
     → ScansBare Rfc9651 whole text p left
 shown_scans whole text stop left x p i start close node_type number at size coded =
-    let body = i.front ++ 34 ∷ [] in
+    let body = i.prefix ++ 34 ∷ [] in
     let split : text ≡ (37 ∷ 34 ∷ body) ++ left =
     i.split
     ∙ ap (λ z. 37 ∷ 34 ∷ z)
-    (ap (λ z. i.front ++ z) close ∙ sym (append_assoc i.front (34 ∷ []) left)) in
+    (ap (λ z. i.prefix ++ z) close ∙ sym (append_assoc i.prefix (34 ∷ []) left)) in
     let sizes = ap length split ∙ length-append (37 ∷ 34 ∷ body) left in
     coded_scans Rfc9651 whole text (37 ∷ 34 ∷ body) left (Shown i.bytes) p split (
       refl,
       (
         body,
         refl,
-        subst (EncodedBytes body) (append-nil i.bytes) (i.pieces (34 ∷ []) [] refl),
+        subst (EncodedBytes body) (append-nil i.bytes) (i.joins (34 ∷ []) [] refl),
         subst (WellFormed Start) (append-nil i.bytes)
             (i.formed [] (subst (λ z. WellFormed z []) (sym start) tt)),
       ),

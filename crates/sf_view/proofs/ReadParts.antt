@@ -27,7 +27,7 @@ pub bare_reads : (d : Dialect) (text rest : List ℕ) (p : Part) (b : BareView)
     → ((e : Dialect) (x : Bare) → PartDescribes e text p x → IsBorrowed e b x)
     → ReadsBare d text b rest
 bare_reads d text rest p b s h = record {
-  front = s.front;
+  prefix = s.prefix;
   value = s.value;
   split = s.split;
   spelled = s.spelled;
@@ -46,14 +46,14 @@ pub flag_reads : (d : Dialect) (text named key after : List ℕ) → Behind is_s
     → named ≡ key ++ after → IsKey key
     → ReadsParam d (59 ∷ text) key (view_is.Boolean true) after
 flag_reads d text named key after b e k = record {
-  front = 59 ∷ (b.front ++ (key ++ []));
+  prefix = 59 ∷ (b.prefix ++ (key ++ []));
   value = Boolean true;
   split =
       ap (λ y. 59 ∷ y)
       (b.split
-      ∙ ap (λ y. b.front ++ y) (e ∙ ap (λ y. y ++ after) (sym (append-nil key)))
-      ∙ sym (append_assoc b.front (key ++ []) after));
-  spelled = (b.front, [], refl, b.each, k, inl (refl, refl));
+      ∙ ap (λ y. b.prefix ++ y) (e ∙ ap (λ y. y ++ after) (sym (append-nil key)))
+      ∙ sym (append_assoc b.prefix (key ++ []) after));
+  spelled = (b.prefix, [], refl, b.each, k, inl (refl, refl));
   borrowed = refl;
 }
 
@@ -61,110 +61,110 @@ pub value_reads : (d : Dialect) (text named key after inside rest : List ℕ) (x
     → Behind is_sp text named → named ≡ key ++ after → IsKey key → after ≡ 61 ∷ inside
     → ReadsBare d inside x rest → ReadsParam d (59 ∷ text) key x rest
 value_reads d text named key after inside rest x b e k f r = record {
-  front = 59 ∷ (b.front ++ (key ++ 61 ∷ r.front));
+  prefix = 59 ∷ (b.prefix ++ (key ++ 61 ∷ r.prefix));
   value = r.value;
   split =
       ap (λ y. 59 ∷ y)
       (b.split
-      ∙ ap (λ y. b.front ++ y)
+      ∙ ap (λ y. b.prefix ++ y)
       (e
       ∙ ap (λ y. key ++ y) (f ∙ ap (λ y. 61 ∷ y) r.split)
-      ∙ sym (append_assoc key (61 ∷ r.front) rest))
-      ∙ sym (append_assoc b.front (key ++ 61 ∷ r.front) rest));
-  spelled = (b.front, 61 ∷ r.front, refl, b.each, k, inr (r.front, refl, r.spelled));
+      ∙ sym (append_assoc key (61 ∷ r.prefix) rest))
+      ∙ sym (append_assoc b.prefix (key ++ 61 ∷ r.prefix) rest));
+  spelled = (b.prefix, 61 ∷ r.prefix, refl, b.each, k, inr (r.prefix, refl, r.spelled));
   borrowed = r.borrowed;
 }
 
 -- parameters: none, or one before others
 pub raw_end : (d : Dialect) (rest : List ℕ) → Reads (SpellsRaw d) rest rest
-raw_end d rest = record { front = []; value = []; split = refl; spelled = refl }
+raw_end d rest = record { prefix = []; value = []; split = refl; spelled = refl }
 
 pub raw_then : (d : Dialect) (text key left rest : List ℕ) (x : BareView)
     → ReadsParam d text key x left → Reads (SpellsRaw d) left rest
     → Reads (SpellsRaw d) text rest
 raw_then d text key left rest x p r = record {
-  front = p.front ++ r.front;
+  prefix = p.prefix ++ r.prefix;
   value = (key, p.value) ∷ r.value;
   split =
-      p.split ∙ ap (λ y. p.front ++ y) r.split ∙ sym (append_assoc p.front r.front rest);
-  spelled = (p.front, r.front, refl, p.spelled, r.spelled);
+      p.split ∙ ap (λ y. p.prefix ++ y) r.split ∙ sym (append_assoc p.prefix r.prefix rest);
+  spelled = (p.prefix, r.prefix, refl, p.spelled, r.spelled);
 }
 
 -- an Item
 pub item_reads : (d : Dialect) (text mid rest : List ℕ) (x : BareView) → ReadsBare d text x mid
     → Reads (SpellsRaw d) mid rest → Reads (SpellsItem d) text rest
 item_reads d text mid rest x b r = record {
-  front = b.front ++ r.front;
+  prefix = b.prefix ++ r.prefix;
   value = item b.value (settle r.value);
   split =
-      b.split ∙ ap (λ y. b.front ++ y) r.split ∙ sym (append_assoc b.front r.front rest);
-  spelled = (b.front, r.front, refl, b.spelled, (r.value, refl, r.spelled));
+      b.split ∙ ap (λ y. b.prefix ++ y) r.split ∙ sym (append_assoc b.prefix r.prefix rest);
+  spelled = (b.prefix, r.prefix, refl, b.spelled, (r.value, refl, r.spelled));
 }
 
 -- the Items of an Inner List: those after spaces, none, or one before others
 pub items_after : (d : Dialect) (text inside rest : List ℕ) → Behind is_sp text inside
     → ReadsItems d 0 inside rest → ReadsItems d 0 text rest
 items_after d text inside rest b i = record {
-  front = b.front ++ i.front;
+  prefix = b.prefix ++ i.prefix;
   items = i.items;
   split =
       b.split
-      ∙ ap (λ y. b.front ++ y) i.split
-      ∙ sym (append_assoc b.front i.front (41 ∷ rest));
-  spelled = spaces_before d 0 0 b.front i.front i.items b.each (omega arith) i.spelled;
+      ∙ ap (λ y. b.prefix ++ y) i.split
+      ∙ sym (append_assoc b.prefix i.prefix (41 ∷ rest));
+  spelled = spaces_before d 0 0 b.prefix i.prefix i.items b.each (omega arith) i.spelled;
 }
 
 pub items_apart : (d : Dialect) (text more inside rest : List ℕ) → text ≡ 32 ∷ more
     → Behind is_sp more inside → ReadsItems d 0 inside rest → ReadsItems d 1 text rest
 items_apart d text more inside rest e b i = record {
-  front = (32 ∷ b.front) ++ i.front;
+  prefix = (32 ∷ b.prefix) ++ i.prefix;
   items = i.items;
   split =
       e
       ∙ ap (λ y. 32 ∷ y)
       (b.split
-      ∙ ap (λ y. b.front ++ y) i.split
-      ∙ sym (append_assoc b.front i.front (41 ∷ rest)));
+      ∙ ap (λ y. b.prefix ++ y) i.split
+      ∙ sym (append_assoc b.prefix i.prefix (41 ∷ rest)));
   spelled =
-      spaces_before d 0 1 (32 ∷ b.front) i.front i.items (refl, b.each) (omega arith) i.spelled;
+      spaces_before d 0 1 (32 ∷ b.prefix) i.prefix i.items (refl, b.each) (omega arith) i.spelled;
 }
 
 pub items_end : (d : Dialect) (least : ℕ) (text rest : List ℕ) → text ≡ 41 ∷ rest
     → ReadsItems d least text rest
-items_end d least text rest e = record { front = []; items = []; split = e; spelled = tt }
+items_end d least text rest e = record { prefix = []; items = []; split = e; spelled = tt }
 
 pub items_then : (d : Dialect) (text after rest : List ℕ) → Reads (SpellsItem d) text after
     → ReadsItems d 1 after rest → ReadsItems d 0 text rest
 items_then d text after rest r i = record {
-  front = r.front ++ i.front;
+  prefix = r.prefix ++ i.prefix;
   items = r.value ∷ i.items;
   split =
       r.split
-      ∙ ap (λ y. r.front ++ y) i.split
-      ∙ sym (append_assoc r.front i.front (41 ∷ rest));
-  spelled = item_before d r.front i.front r.value i.items r.spelled i.spelled;
+      ∙ ap (λ y. r.prefix ++ y) i.split
+      ∙ sym (append_assoc r.prefix i.prefix (41 ∷ rest));
+  spelled = item_before d r.prefix i.prefix r.value i.items r.spelled i.spelled;
 }
 
 -- an Inner List
 pub inner_reads : (d : Dialect) (text inside mid rest : List ℕ) → text ≡ 40 ∷ inside
     → ReadsItems d 0 inside mid → Reads (SpellsRaw d) mid rest → Reads (SpellsInner d) text rest
 inner_reads d text inside mid rest e i r = record {
-  front = 40 ∷ (i.front ++ 41 ∷ r.front);
+  prefix = 40 ∷ (i.prefix ++ 41 ∷ r.prefix);
   value = inner i.items (settle r.value);
   split =
       e
       ∙ ap (λ y. 40 ∷ y)
       (i.split
-      ∙ ap (λ y. i.front ++ 41 ∷ y) r.split
-      ∙ sym (append_assoc i.front (41 ∷ r.front) rest));
-  spelled = (i.front, r.front, refl, i.spelled, (r.value, refl, r.spelled));
+      ∙ ap (λ y. i.prefix ++ 41 ∷ y) r.split
+      ∙ sym (append_assoc i.prefix (41 ∷ r.prefix) rest));
+  spelled = (i.prefix, r.prefix, refl, i.spelled, (r.value, refl, r.spelled));
 }
 
 -- a member
 pub inner_member : (d : Dialect) (text rest : List ℕ) → Reads (SpellsInner d) text rest
     → ReadsMember d text None rest
 inner_member d text rest r = record {
-  front = r.front;
+  prefix = r.prefix;
   value = member.Inner r.value;
   split = r.split;
   spelled = r.spelled;
@@ -176,7 +176,7 @@ pub item_member : (d : Dialect) (text mid rest : List ℕ) (x : BareView) → Re
 unfolding item_reads
 item_member d text mid rest x b r =
     let i = item_reads d text mid rest x b r in record {
-      front = i.front;
+      prefix = i.prefix;
       value = member.Item i.value;
       split = i.split;
       spelled = i.spelled;
@@ -188,23 +188,23 @@ pub entry_value : (d : Dialect) (text key after inside rest : List ℕ) (o : Opt
     → text ≡ key ++ after → IsKey key → after ≡ 61 ∷ inside → ReadsMember d inside o rest
     → ReadsEntry d text key o rest
 entry_value d text key after inside rest o e k f m = record {
-  front = key ++ 61 ∷ m.front;
+  prefix = key ++ 61 ∷ m.prefix;
   value = m.value;
   split =
       e
       ∙ ap (λ y. key ++ y) (f ∙ ap (λ y. 61 ∷ y) m.split)
-      ∙ sym (append_assoc key (61 ∷ m.front) rest);
-  spelled = (m.front, k, inl (refl, m.spelled));
+      ∙ sym (append_assoc key (61 ∷ m.prefix) rest);
+  spelled = (m.prefix, k, inl (refl, m.spelled));
   shows = m.shows;
 }
 
 pub entry_flag : (d : Dialect) (text key after rest : List ℕ) → text ≡ key ++ after → IsKey key
     → Reads (SpellsRaw d) after rest → ReadsEntry d text key (Some (view_is.Boolean true)) rest
 entry_flag d text key after rest e k r = record {
-  front = key ++ r.front;
+  prefix = key ++ r.prefix;
   value = flag (settle r.value);
-  split = e ∙ ap (λ y. key ++ y) r.split ∙ sym (append_assoc key r.front rest);
-  spelled = (r.front, k, inr (settle r.value, refl, refl, (r.value, refl, r.spelled)));
+  split = e ∙ ap (λ y. key ++ y) r.split ∙ sym (append_assoc key r.prefix rest);
+  spelled = (r.prefix, k, inr (settle r.value, refl, refl, (r.value, refl, r.spelled)));
   shows = refl;
 }
 
@@ -212,9 +212,9 @@ entry_flag d text key after rest e k r = record {
 pub less_after : (d : Dialect) (text key rest : List ℕ) (b : BareView)
     → ReadsParam d (59 ∷ text) key b rest → length rest ≤ length text
 less_after d text key rest b r =
-    by r.front r.spelled (ap length r.split ∙ length-append r.front rest)
+    by r.prefix r.spelled (ap length r.split ∙ length-append r.prefix rest)
   where
-    by : (front : List ℕ) → SpellsParam d front key r.value
-        → length (59 ∷ text) ≡ length front + length rest → length rest ≤ length text
-    by front (gap, value, e, s, k, v) n =
+    by : (prefix : List ℕ) → SpellsParam d prefix key r.value
+        → length (59 ∷ text) ≡ length prefix + length rest → length rest ≤ length text
+    by prefix (gap, value, e, s, k, v) n =
         let one = ap length e in omega arith

@@ -26,13 +26,13 @@ pub integer_scans : (text unsigned rest : List ℕ) (neg : Bool) (v n : ℕ) (p 
     → ScansNumber text p rest
 integer_scans text unsigned rest neg v n p e s some few node_type number at size coded =
     let count = s.count in record {
-      front = sign neg ++ s.front;
+      prefix = sign neg ++ s.prefix;
       value = Integer (signed neg v);
       split =
-          e ∙ ap (λ y. sign neg ++ y) s.split ∙ sym (append_assoc (sign neg) s.front rest);
+          e ∙ ap (λ y. sign neg ++ y) s.split ∙ sym (append_assoc (sign neg) s.prefix rest);
       spelled = λ d. (
         neg,
-        s.front,
+        s.prefix,
         refl,
         record { each = s.each; enough = omega arith; fits = omega arith },
         ap (signed neg) s.value,
@@ -54,17 +54,17 @@ pub decimal_scans : (text unsigned rest behind left : List ℕ) (neg : Bool) (v 
     → p.coded ≡ false → ScansNumber text p left
 decimal_scans text unsigned rest behind left neg v n th p e s some few point f node_type number at size coded =
     let count = s.count in record {
-      front = sign neg ++ (s.front ++ 46 ∷ f.front);
+      prefix = sign neg ++ (s.prefix ++ 46 ∷ f.prefix);
       value = Decimal (signed neg (v * 1000 + th));
       split =
           e ∙ ap (λ y. sign neg ++ y)
-          (s.split ∙ ap (λ y. s.front ++ y) (point ∙ ap (λ y. 46 ∷ y) f.split)
-          ∙ sym (append_assoc s.front (46 ∷ f.front) left))
-          ∙ sym (append_assoc (sign neg) (s.front ++ 46 ∷ f.front) left);
+          (s.split ∙ ap (λ y. s.prefix ++ y) (point ∙ ap (λ y. 46 ∷ y) f.split)
+          ∙ sym (append_assoc s.prefix (46 ∷ f.prefix) left))
+          ∙ sym (append_assoc (sign neg) (s.prefix ++ 46 ∷ f.prefix) left);
       spelled = λ d. (
         neg,
-        s.front,
-        f.front,
+        s.prefix,
+        f.prefix,
         refl,
         record { each = s.each; enough = omega arith; fits = omega arith },
         record {
@@ -73,7 +73,7 @@ decimal_scans text unsigned rest behind left neg v n th p e s some few point f n
           fits = let k = f.few in omega arith;
         },
         ap (λ y. signed neg (y * 1000 + th)) s.value
-            ∙ ap (λ y. signed neg (value_from 0 s.front * 1000 + y)) f.value,
+            ∙ ap (λ y. signed neg (value_from 0 s.prefix * 1000 + y)) f.value,
       );
       describes = record {
         node_type = node_type;
@@ -109,10 +109,10 @@ date_scans text inside rest p q first s one node_type number at size coded = by 
 
     by : (x : Bare) → s.value ≡ x → ScansDate text q rest
     by (Integer n) e = record {
-      front = 64 ∷ s.front;
+      prefix = 64 ∷ s.prefix;
       value = n;
       split = first ∙ ap (λ y. 64 ∷ y) s.split;
-      spelled = (s.front, refl, subst (SpellsBare Rfc9651 s.front) e (s.spelled Rfc9651));
+      spelled = (s.prefix, refl, subst (SpellsBare Rfc9651 s.prefix) e (s.spelled Rfc9651));
       describes = record {
         node_type = node_type;
         number = number ∙ s.describes.number ∙ ap number_of e;
@@ -135,7 +135,7 @@ pub boolean_scans : (text inside rest : List ℕ) (b : Bool) (p : Part) → text
     → inside ≡ (if b then 49 else 48) ∷ rest → p.node_type ≡ type_is.Boolean → p.number ≡ number_of (Boolean b)
     → p.at ≡ 0 → p.length ≡ 0 → p.coded ≡ false → ScansNumber text p rest
 boolean_scans text inside rest b p first second node_type number at size coded = record {
-  front = 63 ∷ (if b then 49 else 48) ∷ [];
+  prefix = 63 ∷ (if b then 49 else 48) ∷ [];
   value = Boolean b;
   split = first ∙ ap (λ y. 63 ∷ y) second;
   spelled = λ d. refl;
@@ -153,7 +153,7 @@ boolean_scans text inside rest b p first second node_type number at size coded =
 pub number_bare : (d : Dialect) (whole : ℕ) (text rest : List ℕ) (p : Part)
     → ScansNumber text p rest → ScansBare d whole text p rest
 number_bare d whole text rest p s = record {
-  front = s.front;
+  prefix = s.prefix;
   value = s.value;
   split = s.split;
   spelled = s.spelled d;
@@ -163,7 +163,7 @@ number_bare d whole text rest p s = record {
 pub date_bare : (whole : ℕ) (text rest : List ℕ) (p : Part)
     → ScansDate text p rest → ScansBare Rfc9651 whole text p rest
 date_bare whole text rest p s = record {
-  front = s.front;
+  prefix = s.prefix;
   value = Date s.value;
   split = s.split;
   spelled = (refl, s.spelled);
@@ -196,20 +196,20 @@ escaped-append (b ∷ s) t = by (is_escaped b) refl (escaped-append s t)
     by false e i = rw (e, i) refl
 
 -- a string without escapes
-pub string_scans : (d : Dialect) (whole : ℕ) (text inside front stop rest : List ℕ) (p : Part)
-    → text ≡ 34 ∷ inside → inside ≡ front ++ stop → Every is_unescaped front → stop ≡ 34 ∷ rest
-    → p.node_type ≡ type_is.Text → p.number ≡ pos 0 → p.at + length inside ≡ whole → p.length ≡ length front
+pub string_scans : (d : Dialect) (whole : ℕ) (text inside prefix stop rest : List ℕ) (p : Part)
+    → text ≡ 34 ∷ inside → inside ≡ prefix ++ stop → Every is_unescaped prefix → stop ≡ 34 ∷ rest
+    → p.node_type ≡ type_is.Text → p.number ≡ pos 0 → p.at + length inside ≡ whole → p.length ≡ length prefix
     → p.coded ≡ false → ScansBare d whole text p rest
-string_scans d whole text inside front stop rest p first run plain close node_type number at size coded =
+string_scans d whole text inside prefix stop rest p first run plain close node_type number at size coded =
     record {
-      front = 34 ∷ (front ++ 34 ∷ []);
-      value = Text front;
+      prefix = 34 ∷ (prefix ++ 34 ∷ []);
+      value = Text prefix;
       split =
           first ∙ ap (λ y. 34 ∷ y)
-          (run ∙ ap (λ y. front ++ y) close ∙ sym (append_assoc front (34 ∷ []) rest));
+          (run ∙ ap (λ y. prefix ++ y) close ∙ sym (append_assoc prefix (34 ∷ []) rest));
       spelled = (
-        ap (λ y. 34 ∷ (y ++ 34 ∷ [])) (sym (unescaped_same front plain)),
-        unescaped_visible front plain,
+        ap (λ y. 34 ∷ (y ++ 34 ∷ [])) (sym (unescaped_same prefix plain)),
+        unescaped_visible prefix plain,
       );
       describes = λ source e w.
           let i = end_further source text (34 ∷ []) inside e first in
@@ -217,11 +217,11 @@ string_scans d whole text inside front stop rest p first run plain close node_ty
             node_type = node_type;
             number = number;
             within =
-                let k = end_within source inside front stop p.at run here in omega arith;
+                let k = end_within source inside prefix stop p.at run here in omega arith;
             text =
-                subst (λ c. DescribesText d c (slice_at p.at p.length source) (Text front)) (sym coded)
+                subst (λ c. DescribesText d c (slice_at p.at p.length source) (Text prefix)) (sym coded)
                 (ap (λ y. slice_at p.at y source) size
-                ∙ end_slice source inside front stop p.at i run here);
+                ∙ end_slice source inside prefix stop p.at i run here);
           };
     }
 
@@ -229,18 +229,18 @@ string_scans d whole text inside front stop rest p first run plain close node_ty
 pub inside_start : (text rest : List ℕ) → text ≡ 34 ∷ rest → InsideString text rest
 inside_start text rest e = record { bytes = []; split = e; each = tt }
 
-pub inside_run : (text rest front stop : List ℕ) → InsideString text rest → rest ≡ front ++ stop
-    → Every is_unescaped front → InsideString text stop
-inside_run text rest front stop i e plain = record {
-  bytes = i.bytes ++ front;
+pub inside_run : (text rest prefix stop : List ℕ) → InsideString text rest → rest ≡ prefix ++ stop
+    → Every is_unescaped prefix → InsideString text stop
+inside_run text rest prefix stop i e plain = record {
+  bytes = i.bytes ++ prefix;
   split =
       i.split
       ∙ ap (λ y. 34 ∷ y)
       (ap (λ y. escaped i.bytes ++ y) e
-      ∙ sym (append_assoc (escaped i.bytes) front stop)
-      ∙ ap (λ y. (escaped i.bytes ++ y) ++ stop) (sym (unescaped_same front plain))
-      ∙ ap (λ y. y ++ stop) (sym (escaped-append i.bytes front)));
-  each = every_append is_visible i.bytes front i.each (unescaped_visible front plain);
+      ∙ sym (append_assoc (escaped i.bytes) prefix stop)
+      ∙ ap (λ y. (escaped i.bytes ++ y) ++ stop) (sym (unescaped_same prefix plain))
+      ∙ ap (λ y. y ++ stop) (sym (escaped-append i.bytes prefix)));
+  each = every_append is_visible i.bytes prefix i.each (unescaped_visible prefix plain);
 }
 
 pub inside_escape : (text rest left more : List ℕ) (b : ℕ) → InsideString text rest
@@ -262,26 +262,26 @@ inside_escape text rest left more b i e f h =
     seen b h = grind arith
 
 -- a bare item whose whole text is noted
-pub coded_scans : (d : Dialect) (whole : ℕ) (text front rest : List ℕ) (x : Bare) (p : Part)
-    → text ≡ front ++ rest → SpellsBare d front x → p.node_type ≡ type_of x
+pub coded_scans : (d : Dialect) (whole : ℕ) (text prefix rest : List ℕ) (x : Bare) (p : Part)
+    → text ≡ prefix ++ rest → SpellsBare d prefix x → p.node_type ≡ type_of x
     → p.number ≡ number_of x → p.at + length text ≡ whole → p.length + length rest ≡ length text
     → p.coded ≡ true → ScansBare d whole text p rest
-coded_scans d whole text front rest x p e h node_type number at size coded = record {
-  front = front;
+coded_scans d whole text prefix rest x p e h node_type number at size coded = record {
+  prefix = prefix;
   value = x;
   split = e;
   spelled = h;
   describes = λ source i w.
       let here = at ∙ sym w in
-      let sizes = ap length e ∙ length-append front rest in
-      let long : p.length ≡ length front = omega arith in record {
+      let sizes = ap length e ∙ length-append prefix rest in
+      let long : p.length ≡ length prefix = omega arith in record {
         node_type = node_type;
         number = number;
-        within = let k = end_within source text front rest p.at e here in omega arith;
+        within = let k = end_within source text prefix rest p.at e here in omega arith;
         text =
             subst (λ c. DescribesText d c (slice_at p.at p.length source) x) (sym coded)
             (subst (λ y. SpellsBare d y x)
-            (sym (ap (λ y. slice_at p.at y source) long ∙ end_slice source text front rest p.at i e here))
+            (sym (ap (λ y. slice_at p.at y source) long ∙ end_slice source text prefix rest p.at i e here))
             h);
       };
 }
@@ -298,28 +298,28 @@ escaped_scans d whole text stop left p i close node_type number at size coded =
     (refl, i.each) node_type number at size coded
 
 -- a Token
-pub token_scans : (d : Dialect) (whole : ℕ) (text more front rest : List ℕ) (b : ℕ) (p : Part)
-    → text ≡ b ∷ more → is_token_start b ≡ true → more ≡ front ++ rest
-    → Every is_in_token front → p.node_type ≡ type_is.Token → p.number ≡ pos 0 → p.at + length text ≡ whole
-    → p.length ≡ length front + 1 → p.coded ≡ false → ScansBare d whole text p rest
-token_scans d whole text more front rest b p e start run each node_type number at size coded =
-    let split : text ≡ (b ∷ front) ++ rest = e ∙ ap (λ y. b ∷ y) run in record {
-      front = b ∷ front;
-      value = Token (b ∷ front);
+pub token_scans : (d : Dialect) (whole : ℕ) (text more prefix rest : List ℕ) (b : ℕ) (p : Part)
+    → text ≡ b ∷ more → is_token_start b ≡ true → more ≡ prefix ++ rest
+    → Every is_in_token prefix → p.node_type ≡ type_is.Token → p.number ≡ pos 0 → p.at + length text ≡ whole
+    → p.length ≡ length prefix + 1 → p.coded ≡ false → ScansBare d whole text p rest
+token_scans d whole text more prefix rest b p e start run each node_type number at size coded =
+    let split : text ≡ (b ∷ prefix) ++ rest = e ∙ ap (λ y. b ∷ y) run in record {
+      prefix = b ∷ prefix;
+      value = Token (b ∷ prefix);
       split = split;
       spelled = (refl, (start, each));
       describes = λ source i w.
           let here = at ∙ sym w in
-          let long : p.length ≡ length (b ∷ front) = omega arith in record {
+          let long : p.length ≡ length (b ∷ prefix) = omega arith in record {
             node_type = node_type;
             number = number;
             within =
-                let k = end_within source text (b ∷ front) rest p.at split here in omega arith;
+                let k = end_within source text (b ∷ prefix) rest p.at split here in omega arith;
             text =
-                subst (λ c. DescribesText d c (slice_at p.at p.length source) (Token (b ∷ front)))
+                subst (λ c. DescribesText d c (slice_at p.at p.length source) (Token (b ∷ prefix)))
                 (sym coded)
                 (ap (λ y. slice_at p.at y source) long
-                ∙ end_slice source text (b ∷ front) rest p.at i split here);
+                ∙ end_slice source text (b ∷ prefix) rest p.at i split here);
           };
     }
 

@@ -24,13 +24,13 @@ use Rattle.sf_view.specs.Parts.{SplitsOff}
 use Rattle.sf_view.proofs.Hops.{Opens, opens, item_opens, param_opens, same_part, no_part, some_hop}
 
 pub members_split : (d : Dialect) (source : List ℕ) (nodes : List Node) (ms : List Member) (k : List ℕ)
-    (front later : List Node) → IsHop source nodes k front later
+    (prefix later : List Node) → IsHop source nodes k prefix later
     → DescribesMembers d source nodes ms
-    → SplitsOff (DescribesMember d source []) (DescribesMembers d source) ms front later
-members_split d source nodes [] k front later h t =
-    absurd (some_hop source k nodes front later h t)
-members_split d source nodes (m ∷ ms) k front later h (own, back, e, t, r) =
-    let o = same_part source [] nodes own back k front later (opens d source [] own m t) e h in
+    → SplitsOff (DescribesMember d source []) (DescribesMembers d source) ms prefix later
+members_split d source nodes [] k prefix later h t =
+    absurd (some_hop source k nodes prefix later h t)
+members_split d source nodes (m ∷ ms) k prefix later h (own, suffix, e, t, r) =
+    let o = same_part source [] nodes own suffix k prefix later (opens d source [] own m t) e h in
     record {
       value = m;
       others = ms;
@@ -42,18 +42,18 @@ members_split d source nodes (m ∷ ms) k front later h (own, back, e, t, r) =
 pub members_end : (d : Dialect) (source : List ℕ) (nodes : List Node) (ms : List Member)
     → NoHop source nodes → DescribesMembers d source nodes ms → ms ≡ []
 members_end d source nodes [] n t = refl
-members_end d source nodes (m ∷ ms) n (own, back, e, t, r) =
-    absurd (no_part source [] nodes own back (opens d source [] own m t) e n)
+members_end d source nodes (m ∷ ms) n (own, suffix, e, t, r) =
+    absurd (no_part source [] nodes own suffix (opens d source [] own m t) e n)
 
 pub entries_split : (d : Dialect) (source : List ℕ) (nodes : List Node) (ps : Pairs Member)
-    (k : List ℕ) (front later : List Node) → IsHop source nodes k front later
+    (k : List ℕ) (prefix later : List Node) → IsHop source nodes k prefix later
     → DescribesEntries d source nodes ps
-    → SplitsOff (λ ns p. DescribesMember d source p.0 ns p.1) (DescribesEntries d source) ps front
+    → SplitsOff (λ ns p. DescribesMember d source p.0 ns p.1) (DescribesEntries d source) ps prefix
     later
-entries_split d source nodes [] k front later h t =
-    absurd (some_hop source k nodes front later h t)
-entries_split d source nodes (p ∷ ps) k front later h (own, back, e, t, r) =
-    let o = same_part source p.0 nodes own back k front later (opens d source p.0 own p.1 t) e h in
+entries_split d source nodes [] k prefix later h t =
+    absurd (some_hop source k nodes prefix later h t)
+entries_split d source nodes (p ∷ ps) k prefix later h (own, suffix, e, t, r) =
+    let o = same_part source p.0 nodes own suffix k prefix later (opens d source p.0 own p.1 t) e h in
     record {
       value = p;
       others = ps;
@@ -65,18 +65,18 @@ entries_split d source nodes (p ∷ ps) k front later h (own, back, e, t, r) =
 pub entries_end : (d : Dialect) (source : List ℕ) (nodes : List Node) (ps : Pairs Member)
     → NoHop source nodes → DescribesEntries d source nodes ps → ps ≡ []
 entries_end d source nodes [] n t = refl
-entries_end d source nodes (p ∷ ps) n (own, back, e, t, r) =
-    absurd (no_part source p.0 nodes own back (opens d source p.0 own p.1 t) e n)
+entries_end d source nodes (p ∷ ps) n (own, suffix, e, t, r) =
+    absurd (no_part source p.0 nodes own suffix (opens d source p.0 own p.1 t) e n)
 
 pub items_split : (d : Dialect) (source : List ℕ) (nodes : List Node) (is : List Item) (k : List ℕ)
-    (front later : List Node) → IsHop source nodes k front later
+    (prefix later : List Node) → IsHop source nodes k prefix later
     → DescribesItems d source nodes is
-    → SplitsOff (DescribesItem d source role_is.InnerItem []) (DescribesItems d source) is front later
-items_split d source nodes [] k front later h t =
-    absurd (some_hop source k nodes front later h t)
-items_split d source nodes (i ∷ is) k front later h (own, back, e, t, r) =
+    → SplitsOff (DescribesItem d source role_is.InnerItem []) (DescribesItems d source) is prefix later
+items_split d source nodes [] k prefix later h t =
+    absurd (some_hop source k nodes prefix later h t)
+items_split d source nodes (i ∷ is) k prefix later h (own, suffix, e, t, r) =
     let o =
-    same_part source [] nodes own back k front later
+    same_part source [] nodes own suffix k prefix later
     (item_opens d source role_is.InnerItem [] own i t) e h in
     record {
       value = i;
@@ -89,20 +89,20 @@ items_split d source nodes (i ∷ is) k front later h (own, back, e, t, r) =
 pub items_end : (d : Dialect) (source : List ℕ) (nodes : List Node) (is : List Item)
     → NoHop source nodes → DescribesItems d source nodes is → is ≡ []
 items_end d source nodes [] n t = refl
-items_end d source nodes (i ∷ is) n (own, back, e, t, r) =
-    absurd (no_part source [] nodes own back (item_opens d source role_is.InnerItem [] own i t) e n)
+items_end d source nodes (i ∷ is) n (own, suffix, e, t, r) =
+    absurd (no_part source [] nodes own suffix (item_opens d source role_is.InnerItem [] own i t) e n)
 
 pub params_split : (d : Dialect) (source : List ℕ) (role : Role) (nodes : List Node) (ps : Pairs Bare)
-    (k : List ℕ) (front later : List Node) → IsHop source nodes k front later
+    (k : List ℕ) (prefix later : List Node) → IsHop source nodes k prefix later
     → DescribesParams d source role nodes ps
     → SplitsOff (λ ns p. DescribesParams d source role ns (p ∷ [])) (DescribesParams d source role) ps
-    front later
-params_split d source role nodes [] k front later h t =
-    absurd (some_hop source k nodes front later h t)
-params_split d source role nodes (p ∷ ps) k front later h (n, ms, e, t, r) =
+    prefix later
+params_split d source role nodes [] k prefix later h t =
+    absurd (some_hop source k nodes prefix later h t)
+params_split d source role nodes (p ∷ ps) k prefix later h (n, ms, e, t, r) =
     let own = n ∷ [] in
     let o =
-    same_part source p.0 nodes own ms k front later
+    same_part source p.0 nodes own ms k prefix later
     (param_opens d source role p.0 own p.1 (n, refl, t)) e h in
     record {
       value = p;
@@ -156,12 +156,12 @@ each_append (x ∷ xs) ys a b = (a.0, each_append xs ys a.1 b)
 pub inside_items : (d : Dialect) (source : List ℕ) (nodes : List Node) (is : List Item)
     → DescribesItems d source nodes is → Each IsInside nodes
 inside_items d source nodes [] e = subst (Each IsInside) (sym e) tt
-inside_items d source nodes (i ∷ is) (front, back, e, (n, ms, f, t, q), r) =
+inside_items d source nodes (i ∷ is) (prefix, suffix, e, (n, ms, f, t, q), r) =
     let own = t.role in
     subst (Each IsInside) (sym e)
-    (each_append front back
+    (each_append prefix suffix
     (subst (Each IsInside) (sym f) ((λ g. omega arith), inside_params d source ms i.params q))
-    (inside_items d source back is r))
+    (inside_items d source suffix is r))
 
 -- there is one place between Items and parameters
 one_seam : (xs ps ys qs : List Node) → xs ++ ps ≡ ys ++ qs → Each IsInside xs → IsAtParams ps

@@ -10,7 +10,7 @@ use Rattle.sf_view.specs.Finding.{IsHop, NoHop}
 use Rattle.sf_view.specs.declared.building.NoField.{NoField}
 use Rattle.sf_view.specs.declared.building.NoField.TheVariants.{OutOfMemory, Invalid}
 use Rattle.sf_view.specs.View.{slice_at}
-use Rattle.sf_view.specs.Building.{IsWrongAt, Reads, first_key, shifted}
+use Rattle.sf_view.specs.Building.{IsWrongAt, Reads, first_key, shift_fault}
 use Rattle.sf_view.proofs.Hops.{Opens, same_part}
 
 -- nodes that agree up to a place after some others have these at their start, and the rest agrees
@@ -24,13 +24,13 @@ pub agree_behind : (done rest others : List Node) (i j : ℕ) → length others 
     → j ≡ length done + suc i → take j others ≡ take j (done ++ rest) → Agreed done rest others i
 agree_behind done rest others i j same e t =
     let n = length done in
-    let front : take n others ≡ done =
+    let prefix : take n others ≡ done =
     sym (take-take n j others (omega arith))
     ∙ ap (take n) t
     ∙ take-take n j (done ++ rest) (omega arith)
     ∙ take-append_seam done rest in
     let split : others ≡ done ++ drop n others =
-    sym (take-append-drop n others) ∙ ap (λ y. y ++ drop n others) front in
+    sym (take-append-drop n others) ∙ ap (λ y. y ++ drop n others) prefix in
     let t' : take (n + suc i) others ≡ take (n + suc i) (done ++ rest) =
     subst (λ y. take y others ≡ take y (done ++ rest)) e t in
     record {
@@ -107,10 +107,10 @@ wrong_tail P Q n (m ∷ ms) i j f x p e w = record {
 abbrev pub Parts : {X : Type 0} → (List Node → X → Type 0) → List Node → List X → Type 0
 Parts P ns [] = ns ≡ []
 Parts P ns (x ∷ xs) =
-    (front back : List Node)
-    × (ns ≡ front ++ back)
-    × P front x
-    × Parts P back xs
+    (prefix suffix : List Node)
+    × (ns ≡ prefix ++ suffix)
+    × P prefix x
+    × Parts P suffix xs
 
 -- as many, and each two are alike
 abbrev pub Alike : {X : Type 0} → (X → X → Type 0) → List X → List X → Type 0
@@ -171,16 +171,16 @@ pub each_right : {X : Type 0} (V : X → Type 0) (xs ys : List X) → Each V (xs
 each_right V [] ys h = h
 each_right V (x ∷ xs) ys h = each_right V xs ys h.1
 
-pub parts_snoc : {X : Type 0} (P : List Node → X → Type 0) (done front : List Node) (all : List X)
-    (x : X) → Parts P done all → P front x → Parts P (done ++ front) (all ++ x ∷ [])
-parts_snoc P done front [] x e p =
-    (front, [], ap (λ y. y ++ front) e ∙ sym (append-nil front), p, refl)
-parts_snoc P done front (a ∷ all) x (f, b, e, q, r) p = (
+pub parts_snoc : {X : Type 0} (P : List Node → X → Type 0) (done prefix : List Node) (all : List X)
+    (x : X) → Parts P done all → P prefix x → Parts P (done ++ prefix) (all ++ x ∷ [])
+parts_snoc P done prefix [] x e p =
+    (prefix, [], ap (λ y. y ++ prefix) e ∙ sym (append-nil prefix), p, refl)
+parts_snoc P done prefix (a ∷ all) x (f, b, e, q, r) p = (
   f,
-  b ++ front,
-  ap (λ y. y ++ front) e ∙ append_assoc f b front,
+  b ++ prefix,
+  ap (λ y. y ++ prefix) e ∙ append_assoc f b prefix,
   q,
-  parts_snoc P b front all x r p,
+  parts_snoc P b prefix all x r p,
 )
 
 pub so_begin : {X : Type 0} (P : List Node → X → Type 0) (V : X → Type 0) (nodes : List Node)
@@ -188,14 +188,14 @@ pub so_begin : {X : Type 0} (P : List Node → X → Type 0) (V : X → Type 0) 
 so_begin P V nodes = record { done = []; split = refl; parts = refl; valid = tt }
 
 pub so_more : {X : Type 0} (P : List Node → X → Type 0) (V : X → Type 0)
-    (nodes rest front later : List Node) (all more : List X) (x : X) → SoFar P V nodes rest all
-    → rest ≡ front ++ later → P front x → V x → more ≡ all ++ x ∷ [] → SoFar P V nodes later more
-so_more P V nodes rest front later all more x s e p v m = record {
-  done = s.done ++ front;
+    (nodes rest prefix later : List Node) (all more : List X) (x : X) → SoFar P V nodes rest all
+    → rest ≡ prefix ++ later → P prefix x → V x → more ≡ all ++ x ∷ [] → SoFar P V nodes later more
+so_more P V nodes rest prefix later all more x s e p v m = record {
+  done = s.done ++ prefix;
   split =
-      s.split ∙ ap (λ y. s.done ++ y) e ∙ sym (append_assoc s.done front later);
+      s.split ∙ ap (λ y. s.done ++ y) e ∙ sym (append_assoc s.done prefix later);
   parts =
-      subst (Parts P (s.done ++ front)) (sym m) (parts_snoc P s.done front all x s.parts p);
+      subst (Parts P (s.done ++ prefix)) (sym m) (parts_snoc P s.done prefix all x s.parts p);
   valid = subst (Each V) (sym m) (each_snoc V all x s.valid v);
 }
 
@@ -211,9 +211,9 @@ so_whole P V nodes rest all s e =
     subst (λ y. Parts P y all) (sym is) s.parts
 
 -- a part that opens so is hopped over
-hop_of : (source k : List ℕ) (nodes front later : List Node) → Opens source k front
-    → nodes ≡ front ++ later → IsHop source nodes k front later
-hop_of source k nodes front later o e = record {
+hop_of : (source k : List ℕ) (nodes prefix later : List Node) → Opens source k prefix
+    → nodes ≡ prefix ++ later → IsHop source nodes k prefix later
+hop_of source k nodes prefix later o e = record {
   first = o.first;
   more = o.more;
   begins = o.begins;
@@ -309,15 +309,15 @@ module _ {X : Type 0} (source : List ℕ) (P : List Node → X → Type 0) (V : 
     value : X
     xs : List X
     before : List X
-    front : List Node
+    prefix : List Node
     later : List Node
     more : List Node
-    split : others ≡ front ++ later
-    begins : front ≡ n ∷ more
-    size : length front ≡ n.size
+    split : others ≡ prefix ++ later
+    begins : prefix ≡ n ∷ more
+    size : length prefix ≡ n.size
     key : List ℕ
-    opens : Opens source key front
-    part : P front value
+    opens : Opens source key prefix
+    part : P prefix value
     valid : V value
     alike : Alike R all before
     kept : D (before ++ value ∷ xs)
@@ -343,7 +343,7 @@ module _ {X : Type 0} (source : List ℕ) (P : List Node → X → Type 0) (V : 
             value = x;
             xs = xs;
             before = before;
-            front = f;
+            prefix = f;
             later = b ++ h.tail;
             more = o.1.more;
             split = split;
@@ -358,15 +358,15 @@ module _ {X : Type 0} (source : List ℕ) (P : List Node → X → Type 0) (V : 
           }
 
   -- the first part is wrong at a node, so the rest is
-  pub wrong_first : {Y : Type 0} (Q : List Node → Y → Type 0) (rest front later more : List Node)
-      (n : Node) (all : List X) (i : ℕ) → rest ≡ front ++ later → front ≡ n ∷ more
-      → length front ≡ n.size → NoTail n
+  pub wrong_first : {Y : Type 0} (Q : List Node → Y → Type 0) (rest prefix later more : List Node)
+      (n : Node) (all : List X) (i : ℕ) → rest ≡ prefix ++ later → prefix ≡ n ∷ more
+      → length prefix ≡ n.size → NoTail n
       → ((ns : List Node) (x : X) → P ns x → V x → (y : Y) × Q ns y)
-      → IsWrongAt Q front i → IsWrongAt (After P V D Z R all) rest i
-  wrong_first Q rest front later more n all i e b s t f w =
+      → IsWrongAt Q prefix i → IsWrongAt (After P V D Z R all) rest i
+  wrong_first Q rest prefix later more n all i e b s t f w =
       let k = w.within in
       let lb = ap length b in
-      let lr : length rest ≡ length front + length later = ap length e ∙ length-append front later in
+      let lr : length rest ≡ length prefix + length later = ap length e ∙ length-append prefix later in
       let begins : rest ≡ n ∷ (more ++ later) = e ∙ ap (λ y. y ++ later) b in
       record {
         within = omega arith;
@@ -374,14 +374,14 @@ module _ {X : Type 0} (source : List ℕ) (P : List Node → X → Type 0) (V : 
             let o = first_same others (more ++ later) n i (same ∙ ap length begins)
             (agree ∙ ap (take (suc i)) begins) in
             let p = starts all n others o.0 left t o.1 h in
-            let l : length p.front ≡ length front = p.size ∙ sym s in
-            let y = f p.front p.value p.part p.valid in
-            w.stuck p.front l
-            (sym (take-append-le (suc i) p.front p.later (omega arith))
+            let l : length p.prefix ≡ length prefix = p.size ∙ sym s in
+            let y = f p.prefix p.value p.part p.valid in
+            w.stuck p.prefix l
+            (sym (take-append-le (suc i) p.prefix p.later (omega arith))
             ∙ sym (ap (take (suc i)) p.split)
             ∙ agree
             ∙ ap (take (suc i)) e
-            ∙ take-append-le (suc i) front later (omega arith))
+            ∙ take-append-le (suc i) prefix later (omega arith))
             y.0 y.1;
       }
 
@@ -397,7 +397,7 @@ module _ {X : Type 0} (source : List ℕ) (P : List Node → X → Type 0) (V : 
         let o = first_same others more n 0 (same ∙ ap length e) (agree ∙ ap (take 1) e) in
         let p = starts all n others o.0 left t o.1 h in
         let l = ap length p.split in
-        let a = length-append p.front p.later in
+        let a = length-append p.prefix p.later in
         let b = ap length p.begins in
         bad p.more p.value p.xs p.before p.key (subst (Opens source p.key) p.begins p.opens)
         (subst (λ y. P y p.value) p.begins p.part) p.valid p.alike p.kept (omega arith);
@@ -420,18 +420,18 @@ module _ {X : Type 0} (source : List ℕ) (P : List Node → X → Type 0) (V : 
 pub opens_key : (source k : List ℕ) (ns : List Node) → Opens source k ns → first_key source ns ≡ k
 opens_key source k ns o = ap (first_key source) o.begins ∙ o.key
 
-pub hop_key : (source k : List ℕ) (nodes front later : List Node)
-    → IsHop source nodes k front later → first_key source front ≡ k
-hop_key source k nodes front later h = ap (first_key source) h.begins ∙ sym h.key
+pub hop_key : (source k : List ℕ) (nodes prefix later : List Node)
+    → IsHop source nodes k prefix later → first_key source prefix ≡ k
+hop_key source k nodes prefix later h = ap (first_key source) h.begins ∙ sym h.key
 
 pub some_first : (rest : List Node) → 1 ≤ length rest
     → (n : Node) × (more : List Node) × (rest ≡ n ∷ more)
 some_first [] l = absurd (let k : ⊥ = omega arith in k)
 some_first (n ∷ more) l = (n, more, refl)
 
-pub hop_begins : (source k : List ℕ) (nodes front later : List Node)
-    (h : IsHop source nodes k front later) → nodes ≡ h.first ∷ (h.more ++ later)
-hop_begins source k nodes front later h = h.split ∙ ap (λ y. y ++ later) h.begins
+pub hop_begins : (source k : List ℕ) (nodes prefix later : List Node)
+    (h : IsHop source nodes k prefix later) → nodes ≡ h.first ∷ (h.more ++ later)
+hop_begins source k nodes prefix later h = h.split ∙ ap (λ y. y ++ later) h.begins
 
 -- what is wrong with a part of all nodes
 module _ {X Y : Type 0} (source : List ℕ) (P : List Node → X → Type 0) (V : X → Type 0)
@@ -460,14 +460,14 @@ module _ {X Y : Type 0} (source : List ℕ) (P : List Node → X → Type 0) (V 
       (wrong_hop source P V D Z R laws rest f.1 f.0 all f.2 (t f.0 f.1 f.2) none)
 
   -- no part with this first node is valid
-  pub misfit : (nodes rest : List Node) (all : List X) (k : List ℕ) (front later : List Node)
-      → SoFar P V nodes rest all → (h : IsHop source rest k front later)
+  pub misfit : (nodes rest : List Node) (all : List X) (k : List ℕ) (prefix later : List Node)
+      → SoFar P V nodes rest all → (h : IsHop source rest k prefix later)
       → ((tail more : List Node) → Z tail → tail ≡ h.first ∷ more → ⊥)
       → ((fs : List Node) (x : X) (xs before : List X) → Opens source k (h.first ∷ fs)
       → P (h.first ∷ fs) x → V x → Alike R all before → D (before ++ x ∷ xs) → ⊥)
       → IsWrongAt A nodes (length nodes - length rest)
-  misfit nodes rest all k front later s h t bad =
-      let e = hop_begins source k rest front later h in
+  misfit nodes rest all k prefix later s h t bad =
+      let e = hop_begins source k rest prefix later h in
       let le = ap length e in
       after_wrong nodes rest all 0 (length nodes - length rest) s (omega arith) (omega arith)
       (wrong_here source P V D Z R laws rest (h.more ++ later) h.first all e t
@@ -478,15 +478,15 @@ module _ {X Y : Type 0} (source : List ℕ) (P : List Node → X → Type 0) (V 
 
   -- the part is wrong at a node
   pub part_wrong : {W : Type 0} (Q : List Node → W → Type 0) (nodes rest : List Node) (all : List X)
-      (k : List ℕ) (front later : List Node) (e : NoField)
-      → SoFar P V nodes rest all → (h : IsHop source rest k front later)
+      (k : List ℕ) (prefix later : List Node) (e : NoField)
+      → SoFar P V nodes rest all → (h : IsHop source rest k prefix later)
       → ((tail more : List Node) → Z tail → tail ≡ h.first ∷ more → ⊥)
       → ((ns : List Node) (x : X) → P ns x → V x → (y : W) × Q ns y)
-      → Reads Q front (Err e) → Reads A nodes (Err (shifted (length nodes - length rest) e))
-  part_wrong Q nodes rest all k front later OutOfMemory s h t f w = tt
-  part_wrong Q nodes rest all k front later (Invalid i) s h t f w =
-      let b = hop_begins source k rest front later h in
+      → Reads Q prefix (Err e) → Reads A nodes (Err (shift_fault (length nodes - length rest) e))
+  part_wrong Q nodes rest all k prefix later OutOfMemory s h t f w = tt
+  part_wrong Q nodes rest all k prefix later (Invalid i) s h t f w =
+      let b = hop_begins source k rest prefix later h in
       let le = ap length b in
       after_wrong nodes rest all i (length nodes - length rest + i) s (omega arith) refl
-      (wrong_first source P V D Z R laws Q rest front later h.more h.first all i h.split h.begins
+      (wrong_first source P V D Z R laws Q rest prefix later h.more h.first all i h.split h.begins
       h.size t f w)

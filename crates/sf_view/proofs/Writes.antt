@@ -32,7 +32,7 @@ use Rattle.sf_view.specs.View.{DescribesField}
 use Rattle.sf_view.specs.declared.view.BareView.{BareView}
 use Rattle.sf_view.specs.declared.view.BareView.TheVariants as view_is
 use Rattle.sf_view.specs.Views.{IsBorrowed, IsViewed}
-use Rattle.sf_view.specs.Written.{canon_param, encoding, is_flag, IsCanonicalOf, CanonicalRun, IsNeededEscape}
+use Rattle.sf_view.specs.CanonicalParts.{canon_param, encoding, is_flag, IsCanonicalOf, CanonicalRun, IsNeededEscape}
 use Rattle.sf_view.specs.declared.view.View.{View}
 
 -- of these parts some are written, and what f gives of the others, which the nodes describe, is
@@ -52,11 +52,11 @@ unwritten_all T f nodes R xs t r = record { left = xs; describes = t; rest = r }
 pub unwritten_less : {X : Type 0} (P : List Node → X → Type 0) (T : List Node → List X → Type 0)
     (f g : List X → List ℕ) (chunk : X → List ℕ)
     → ((x : X) (xs : List X) → f (x ∷ xs) ≡ chunk x ++ g xs)
-    → (nodes front later : List Node) (R S : List ℕ → Type 0) → Unwritten T f nodes R
-    → ((xs : List X) → T nodes xs → SplitsOff P T xs front later)
-    → ((x : X) → P front x → (u : List ℕ) → R (chunk x ++ u) → S u)
+    → (nodes prefix later : List Node) (R S : List ℕ → Type 0) → Unwritten T f nodes R
+    → ((xs : List X) → T nodes xs → SplitsOff P T xs prefix later)
+    → ((x : X) → P prefix x → (u : List ℕ) → R (chunk x ++ u) → S u)
     → Unwritten T g later S
-unwritten_less P T f g chunk e nodes front later R S w splits write =
+unwritten_less P T f g chunk e nodes prefix later R S w splits write =
     let h = splits w.left w.describes in
     record {
       left = h.others;
@@ -107,14 +107,14 @@ other_value d (view_is.Shown s) x h e = no_flag x (Shown h.0) h.1 (λ f. absurd 
 
 -- whole groups of base64, which are canonical, and what the rest spells, of at most three bytes
 pub record Groups (text t : List ℕ) : Type 0 where
-  pub front : List ℕ
+  pub prefix : List ℕ
   pub last : List ℕ
   pub left : List ℕ
-  pub split : text ≡ front ++ last
-  pub size : length front ≡ (length text - 2) / 4 * 4
+  pub split : text ≡ prefix ++ last
+  pub size : length prefix ≡ (length text - 2) / 4 * 4
   pub remains : Sextets last left
   pub few : length left ≤ 3
-  pub canonical : canon_base64 t ≡ front ++ canon_base64 left
+  pub canonical : canon_base64 t ≡ prefix ++ canon_base64 left
 
 pads_length : (n : ℕ) (suffix : List ℕ) → Pads n suffix → (1 ≤ length suffix) × (length suffix ≤ n + 1)
 pads_length n suffix (m, le, e) =
@@ -126,7 +126,7 @@ pads_length n suffix (m, le, e) =
 
 one_group : (text t : List ℕ) → Sextets text t → length text ≤ 5 → length t ≤ 3 → Groups text t
 one_group text t h short few = record {
-  front = [];
+  prefix = [];
   last = text;
   left = t;
   split = refl;
@@ -163,9 +163,9 @@ next_group a b c (x ∷ s) groups text (low, suffix, lt, e, f, p) =
     let size : length text ≡ 4 + length rest = ap length e ∙ four_more a b c rest in
     let least : 3 ≤ length rest = long_rest low x s suffix (pads_length (needed (x ∷ s)) suffix p).0 in
     let inner = g.size in
-    let outer = four_more a b c g.front in
+    let outer = four_more a b c g.prefix in
     record {
-      front = four a b c g.front;
+      prefix = four a b c g.prefix;
       last = g.last;
       left = g.left;
       split = e ∙ ap (four a b c) g.split;
@@ -191,24 +191,24 @@ groups_of text (a ∷ b ∷ []) (low, suffix, lt, e, f, p) =
 groups_of text (a ∷ b ∷ c ∷ s) h = next_group a b c s (λ u k. groups_of u s k) text h
 
 -- so many bytes of base64 are whole groups, and the rest spells at most three bytes
-pub record LastGroup (front rest t : List ℕ) : Type 0 where
+pub record LastGroup (prefix rest t : List ℕ) : Type 0 where
   pub left : List ℕ
   pub remains : Sextets rest left
   pub few : length left ≤ 3
-  pub canonical : canon_base64 t ≡ front ++ canon_base64 left
+  pub canonical : canon_base64 t ≡ prefix ++ canon_base64 left
 
-pub last_group : (text t : List ℕ) (n : ℕ) (front rest : List ℕ) → Sextets text t
-    → n ≡ (length text - 2) / 4 * 4 → front ≡ take n text → rest ≡ drop n text
-    → LastGroup front rest t
-last_group text t n front rest h e f r =
+pub last_group : (text t : List ℕ) (n : ℕ) (prefix rest : List ℕ) → Sextets text t
+    → n ≡ (length text - 2) / 4 * 4 → prefix ≡ take n text → rest ≡ drop n text
+    → LastGroup prefix rest t
+last_group text t n prefix rest h e f r =
     let g = groups_of text t h in
-    let size : n ≡ length g.front = e ∙ sym g.size in
-    let own : front ≡ g.front =
-    f ∙ ap (λ y. take y text) size ∙ ap (take (length g.front)) g.split
-    ∙ take-append_seam g.front g.last in
+    let size : n ≡ length g.prefix = e ∙ sym g.size in
+    let own : prefix ≡ g.prefix =
+    f ∙ ap (λ y. take y text) size ∙ ap (take (length g.prefix)) g.split
+    ∙ take-append_seam g.prefix g.last in
     let after : rest ≡ g.last =
-    r ∙ ap (λ y. drop y text) size ∙ ap (drop (length g.front)) g.split
-    ∙ drop-append_seam g.front g.last in
+    r ∙ ap (λ y. drop y text) size ∙ ap (drop (length g.prefix)) g.split
+    ∙ drop-append_seam g.prefix g.last in
     record {
       left = g.left;
       remains = subst (λ y. Sextets y g.left) (sym after) g.remains;
@@ -291,11 +291,11 @@ viewed_canonical d k t view c w canonical = record {
 }
 
 -- the bytes of a String, none of which needs a backslash
-pub unescaped_text : (bytes front rest t : List ℕ) → bytes ≡ front ++ rest
-    → Every is_unescaped front → rest ≡ [] → bytes ≡ t → bytes ≡ escaped t
-unescaped_text bytes front rest t e h none same =
-    let whole : bytes ≡ front = e ∙ ap (λ y. front ++ y) none ∙ append-nil front in
-    whole ∙ sym (unescaped_same front h) ∙ ap escaped (sym whole ∙ same)
+pub unescaped_text : (bytes prefix rest t : List ℕ) → bytes ≡ prefix ++ rest
+    → Every is_unescaped prefix → rest ≡ [] → bytes ≡ t → bytes ≡ escaped t
+unescaped_text bytes prefix rest t e h none same =
+    let whole : bytes ≡ prefix = e ∙ ap (λ y. prefix ++ y) none ∙ append-nil prefix in
+    whole ∙ sym (unescaped_same prefix h) ∙ ap escaped (sym whole ∙ same)
 
 -- the first byte of a text
 pub no_first : (text rest : List ℕ) (b : ℕ) → text ≡ [] → text ≡ b ∷ rest → ⊥
@@ -307,34 +307,34 @@ same_rest text rest more a b e f = let g : a ∷ rest ≡ b ∷ more = sym e ∙
 
 -- a text begins with canonical bytes of a Display String, and goes on with the rest
 pub record Canonical (text rest : List ℕ) : Type 0 where
-  pub front : List ℕ
-  pub split : text ≡ front ++ rest
-  pub run : (t : List ℕ) → EncodedBytes text t → CanonicalRun front rest t
+  pub prefix : List ℕ
+  pub split : text ≡ prefix ++ rest
+  pub run : (t : List ℕ) → EncodedBytes text t → CanonicalRun prefix rest t
 
 pub canonical_none : (text : List ℕ) → Canonical text text
 canonical_none text = record {
-  front = [];
+  prefix = [];
   split = refl;
   run = λ t h. record { left = t; remains = h; canonical = refl };
 }
 
 -- two runs, one after the other
-runs_join : (front more rest t u : List ℕ) → canon_shown t ≡ front ++ canon_shown u
-    → CanonicalRun more rest u → CanonicalRun (front ++ more) rest t
-runs_join front more rest t u e r = record {
+runs_join : (prefix more rest t u : List ℕ) → canon_shown t ≡ prefix ++ canon_shown u
+    → CanonicalRun more rest u → CanonicalRun (prefix ++ more) rest t
+runs_join prefix more rest t u e r = record {
   left = r.left;
   remains = r.remains;
   canonical =
-      e ∙ ap (λ y. front ++ y) r.canonical ∙ sym (append_assoc front more (canon_shown r.left));
+      e ∙ ap (λ y. prefix ++ y) r.canonical ∙ sym (append_assoc prefix more (canon_shown r.left));
 }
 
 pub canonical_more : (text mid more rest : List ℕ) → Canonical text mid → mid ≡ more ++ rest
     → ((t : List ℕ) → EncodedBytes mid t → CanonicalRun more rest t) → Canonical text rest
 canonical_more text mid more rest c e run = record {
-  front = c.front ++ more;
-  split = c.split ∙ ap (λ y. c.front ++ y) e ∙ sym (append_assoc c.front more rest);
+  prefix = c.prefix ++ more;
+  split = c.split ∙ ap (λ y. c.prefix ++ y) e ∙ sym (append_assoc c.prefix more rest);
   run = λ t h. let a = c.run t h in
-      runs_join c.front more rest t a.left a.canonical (run a.left a.remains);
+      runs_join c.prefix more rest t a.left a.canonical (run a.left a.remains);
 }
 
 pub canonical_plain : (text mid plain rest : List ℕ) → Canonical text mid → mid ≡ plain ++ rest
@@ -344,21 +344,21 @@ canonical_plain text mid plain rest c e h =
 
 pub canonical_escape : (text mid rest : List ℕ) → Canonical text mid → IsNeededEscape mid rest
     → Canonical text rest
-canonical_escape text mid rest c i = canonical_more text mid i.front rest c i.split i.run
+canonical_escape text mid rest c i = canonical_more text mid i.prefix rest c i.split i.run
 
--- the front by its length
-pub canonical_cut : (text rest : List ℕ) (n : ℕ) (front back : List ℕ) → Canonical text rest
-    → n ≡ length text - length rest → front ≡ take n text → back ≡ drop n text
-    → (t : List ℕ) → EncodedBytes text t → CanonicalRun front back t
-canonical_cut text rest n front back c e f b t h =
-    let sizes = ap length c.split ∙ length-append c.front rest in
-    let size : n ≡ length c.front = omega arith in
-    let own : front ≡ c.front =
-    f ∙ ap (λ y. take y text) size ∙ ap (take (length c.front)) c.split
-    ∙ take-append_seam c.front rest in
-    let after : back ≡ rest =
-    b ∙ ap (λ y. drop y text) size ∙ ap (drop (length c.front)) c.split
-    ∙ drop-append_seam c.front rest in
+-- the prefix by its length
+pub canonical_cut : (text rest : List ℕ) (n : ℕ) (prefix suffix : List ℕ) → Canonical text rest
+    → n ≡ length text - length rest → prefix ≡ take n text → suffix ≡ drop n text
+    → (t : List ℕ) → EncodedBytes text t → CanonicalRun prefix suffix t
+canonical_cut text rest n prefix suffix c e f b t h =
+    let sizes = ap length c.split ∙ length-append c.prefix rest in
+    let size : n ≡ length c.prefix = omega arith in
+    let own : prefix ≡ c.prefix =
+    f ∙ ap (λ y. take y text) size ∙ ap (take (length c.prefix)) c.split
+    ∙ take-append_seam c.prefix rest in
+    let after : suffix ≡ rest =
+    b ∙ ap (λ y. drop y text) size ∙ ap (drop (length c.prefix)) c.split
+    ∙ drop-append_seam c.prefix rest in
     let a = c.run t h in
     record {
       left = a.left;
@@ -368,7 +368,7 @@ canonical_cut text rest n front back c e f b t h =
 
 pub canonical_shorter : (text rest : List ℕ) → Canonical text rest → length rest ≤ length text
 canonical_shorter text rest c =
-    let sizes = ap length c.split ∙ length-append c.front rest in
+    let sizes = ap length c.split ∙ length-append c.prefix rest in
     omega arith
 
 -- an escape of a byte that needs one
@@ -396,7 +396,7 @@ pub needed_is : (text rest : List ℕ) (x y z b : ℕ) (P : List ℕ → Type 0)
     → text ≡ x ∷ y ∷ z ∷ rest → is_unencoded b ≡ false
     → ((t : List ℕ) → EncodedBytes text t → TakesByte b P t) → IsNeededEscape text rest
 needed_is text rest x y z b P e n takes = record {
-  front = x ∷ y ∷ z ∷ [];
+  prefix = x ∷ y ∷ z ∷ [];
   split = e;
   run = λ t h. let s = takes t h in
       subst (CanonicalRun (x ∷ y ∷ z ∷ []) rest) (sym s.split)

@@ -29,12 +29,12 @@ pub record Accepts (d : Dialect) (kind : Kind) (text : List ℕ) (nodes : List N
 pub record SoFar (X : Type 0) (P : List ℕ → X → Type 0) (T : List Node → List X → Type 0)
     (text rest : List ℕ) (old new : List Node) (count : ℕ) : Type 0 where
   pub gap : List ℕ
-  pub front : List ℕ
+  pub prefix : List ℕ
   pub values : List X
   pub nodes : List Node
-  pub split : text ≡ gap ++ (front ++ rest)
+  pub split : text ≡ gap ++ (prefix ++ rest)
   pub spaces : Every is_sp gap
-  pub glue : (f : List ℕ) (x : X) → P f x → SpellsSeries P (front ++ f) (values ++ x ∷ [])
+  pub glue : (f : List ℕ) (x : X) → P f x → SpellsSeries P (prefix ++ f) (values ++ x ∷ [])
   pub puts : Puts old new 0 count nodes
   pub describes : T nodes values
 

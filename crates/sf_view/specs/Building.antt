@@ -132,6 +132,6 @@ StartsItem [] = ⊥
 StartsItem (n ∷ ns) = n.role ≡ role_number role_is.InnerItem
 
 -- the same fault, after count more nodes
-abbrev pub shifted : ℕ → NoField → NoField
-shifted count OutOfMemory = OutOfMemory
-shifted count (Invalid index) = Invalid (count + index)
+abbrev pub shift_fault : ℕ → NoField → NoField
+shift_fault count OutOfMemory = OutOfMemory
+shift_fault count (Invalid index) = Invalid (count + index)

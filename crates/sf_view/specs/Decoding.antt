@@ -23,7 +23,7 @@ HasBytes d s t =
 -- that were already read are low: with characters for the bytes before, all 0, and for these bits,
 -- the rest is whole groups
 abbrev pub Remains : Coding → List ℕ → List ℕ → Type 0
-Remains coding.Plain rest s = rest ≡ s
+Remains coding.Verbatim rest s = rest ≡ s
 Remains coding.Escaped rest s = rest ≡ escaped s ++ quote ∷ []
 Remains coding.Percent rest s = EncodedBytes rest s
 Remains coding.First rest s = Sextets rest s

@@ -27,14 +27,14 @@ pub record FindsParam (d : Dialect) (source key : List ℕ) (r : Role) (ps : Pai
   pub describes : DescribesParams d source r ns ((key, value) ∷ [])
 
 -- the nodes begin with a part with this key: these are its nodes, and those after them
-pub record IsHop (source : List ℕ) (nodes : List Node) (k : List ℕ) (front later : List Node)
+pub record IsHop (source : List ℕ) (nodes : List Node) (k : List ℕ) (prefix later : List Node)
     : Type 0 where
   pub first : Node
   pub more : List Node
-  pub begins : front ≡ first ∷ more
-  pub split : nodes ≡ front ++ later
+  pub begins : prefix ≡ first ∷ more
+  pub split : nodes ≡ prefix ++ later
   pub key : k ≡ slice_at first.key_at first.key_length source
-  pub size : length front ≡ first.size
+  pub size : length prefix ≡ first.size
 
 -- the nodes do not begin with a part that is in the source
 abbrev pub NoHop : List ℕ → List Node → Type 0

@@ -21,11 +21,11 @@ RemainsInList c ms = Remains (SpellsMember c.dialect) (option_copied c.rest) ms
 
 -- these parameters of an Item remain, repeated keys included, and then these members of its List
 pub record RemainsInItem (c : ParamCursor) (ps : Pairs Bare) (ms : List Member) : Type 0 where
-  pub front : List ℕ
+  pub prefix : List ℕ
   pub after : List ℕ
   pub start : Option (List ℕ)
-  pub split : c.rest.now ≡ front ++ after
-  pub spelled : SpellsRaw c.dialect front ps
+  pub split : c.rest.now ≡ prefix ++ after
+  pub spelled : SpellsRaw c.dialect prefix ps
   pub next : IsNext after start
   pub remains : Remains (SpellsMember c.dialect) start ms
 

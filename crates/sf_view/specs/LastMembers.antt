@@ -18,11 +18,11 @@ one_member = codes "a,"
 
 -- a member, spelled as P says, OWS, a comma and OWS are before the rest
 pub record Passes {X : Type 0} (P : List ℕ → X → Type 0) (text rest : List ℕ) : Type 0 where
-  pub front : List ℕ
+  pub prefix : List ℕ
   pub after : List ℕ
   pub value : X
-  pub split : text ≡ front ++ after
-  pub spelled : P front value
+  pub split : text ≡ prefix ++ after
+  pub spelled : P prefix value
   pub separates : Separates after rest
 
 -- the same of a member of this kind of field
@@ -33,9 +33,9 @@ PassesMember d kind.Dict text rest = Passes (SpellsEntry d) text rest
 
 -- the same texts complete what is before the rest and one member with a comma
 pub record Resumes (d : Dialect) (kind : Kind) (text rest : List ℕ) : Type 0 where
-  pub front : List ℕ
-  pub split : text ≡ front ++ rest
-  pub same : AreInterchangeable d kind front one_member
+  pub prefix : List ℕ
+  pub split : text ≡ prefix ++ rest
+  pub same : AreInterchangeable d kind prefix one_member
   pub viable : Viable d kind one_member
 
 -- a refusal for its syntax is exact

@@ -14,11 +14,11 @@ use Rattle.sf_view.specs.View.{DescribesItems, DescribesParams}
 
 -- some nodes describe the first of these parts, and the others describe the rest
 pub record SplitsOff {X : Type 0} (P : Seq Node → X → Type 0) (T : Seq Node → Seq X → Type 0)
-    (xs : Seq X) (front later : Seq Node) : Type 0 where
+    (xs : Seq X) (prefix later : Seq Node) : Type 0 where
   pub value : X
   pub others : Seq X
   pub parts : xs ≡ value ∷ others
-  pub first : P front value
+  pub first : P prefix value
   pub rest : T later others
 
 -- the first part and the others, if there are any parts

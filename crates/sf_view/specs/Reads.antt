@@ -18,35 +18,35 @@ use Rattle.sf_view.specs.Views.{IsBorrowed}
 
 -- the start of the text, up to the rest, spells something as P says
 pub record Reads {X : Type 0} (P : List ℕ → X → Type 0) (text rest : List ℕ) : Type 0 where
-  pub front : List ℕ
+  pub prefix : List ℕ
   pub value : X
-  pub split : text ≡ front ++ rest
-  pub spelled : P front value
+  pub split : text ≡ prefix ++ rest
+  pub spelled : P prefix value
 
 -- it spells a bare item, which is borrowed
 pub record ReadsBare (d : Dialect) (text : List ℕ) (b : BareView) (rest : List ℕ) : Type 0 where
-  pub front : List ℕ
+  pub prefix : List ℕ
   pub value : Bare
-  pub split : text ≡ front ++ rest
-  pub spelled : SpellsBare d front value
+  pub split : text ≡ prefix ++ rest
+  pub spelled : SpellsBare d prefix value
   pub borrowed : IsBorrowed d b value
 
 -- it spells a parameter with this key, and its value is borrowed
 pub record ReadsParam (d : Dialect) (text key : List ℕ) (b : BareView) (rest : List ℕ)
     : Type 0 where
-  pub front : List ℕ
+  pub prefix : List ℕ
   pub value : Bare
-  pub split : text ≡ front ++ rest
-  pub spelled : SpellsParam d front key value
+  pub split : text ≡ prefix ++ rest
+  pub spelled : SpellsParam d prefix key value
   pub borrowed : IsBorrowed d b value
 
 -- it spells the Items of an Inner List, after at least this many spaces, and a closing bracket
 -- follows
 pub record ReadsItems (d : Dialect) (least : ℕ) (text rest : List ℕ) : Type 0 where
-  pub front : List ℕ
+  pub prefix : List ℕ
   pub items : List Item
-  pub split : text ≡ front ++ close_bracket ∷ rest
-  pub spelled : SpellsItems d least front items
+  pub split : text ≡ prefix ++ close_bracket ∷ rest
+  pub spelled : SpellsItems d least prefix items
 
 -- the bare item of an Item is borrowed; an Inner List has none
 abbrev pub ShowsMember : Dialect → Option BareView → Member → Type 0
@@ -57,19 +57,19 @@ ShowsMember d b m = ⊥
 -- it spells a member, of which this is borrowed
 pub record ReadsMember (d : Dialect) (text : List ℕ) (b : Option BareView) (rest : List ℕ)
     : Type 0 where
-  pub front : List ℕ
+  pub prefix : List ℕ
   pub value : Member
-  pub split : text ≡ front ++ rest
-  pub spelled : SpellsMember d front value
+  pub split : text ≡ prefix ++ rest
+  pub spelled : SpellsMember d prefix value
   pub shows : ShowsMember d b value
 
 -- it spells a member of a Dictionary with this key, of which this is borrowed
 pub record ReadsEntry (d : Dialect) (text key : List ℕ) (b : Option BareView) (rest : List ℕ)
     : Type 0 where
-  pub front : List ℕ
+  pub prefix : List ℕ
   pub value : Member
-  pub split : text ≡ front ++ rest
-  pub spelled : SpellsEntry d front (key, value)
+  pub split : text ≡ prefix ++ rest
+  pub spelled : SpellsEntry d prefix (key, value)
   pub shows : ShowsMember d b value
 
 -- the bytes of a String, or None if there is no String

@@ -38,9 +38,9 @@ use Rattle.std.specs.Map.{keys_of}
 
 -- bytes that pass the test are before the rest
 pub record Behind (p : ℕ → Bool) (text rest : List ℕ) : Type 0 where
-  pub front : List ℕ
-  pub split : text ≡ front ++ rest
-  pub each : Every p front
+  pub prefix : List ℕ
+  pub split : text ≡ prefix ++ rest
+  pub each : Every p prefix
 
 -- the source ends in this text
 pub record IsEnd (source text : List ℕ) : Type 0 where
@@ -49,29 +49,29 @@ pub record IsEnd (source text : List ℕ) : Type 0 where
 
 -- a key is at the start of the text, which ends a source of whole bytes
 pub record ScansKey (whole : ℕ) (text : List ℕ) (place : KeyPlace) (rest : List ℕ) : Type 0 where
-  pub front : List ℕ
-  pub split : text ≡ front ++ rest
-  pub key : IsKey front
+  pub prefix : List ℕ
+  pub split : text ≡ prefix ++ rest
+  pub key : IsKey prefix
   pub at : place.at + length text ≡ whole
-  pub size : place.length ≡ length front
-  pub mark : place.mark ≡ mark_of front
+  pub size : place.length ≡ length prefix
+  pub mark : place.mark ≡ mark_of prefix
 
 -- digits at the start of the text, with their value and number
 pub record ScansDigits (text : List ℕ) (v n : ℕ) (rest : List ℕ) : Type 0 where
-  pub front : List ℕ
-  pub split : text ≡ front ++ rest
-  pub each : Every is_digit front
-  pub value : v ≡ value_from 0 front
-  pub count : n ≡ length front
+  pub prefix : List ℕ
+  pub split : text ≡ prefix ++ rest
+  pub each : Every is_digit prefix
+  pub value : v ≡ value_from 0 prefix
+  pub count : n ≡ length prefix
 
 -- one to three digits at the start of the text, and the thousandths that they make
 pub record ScansFraction (text : List ℕ) (v : ℕ) (rest : List ℕ) : Type 0 where
-  pub front : List ℕ
-  pub split : text ≡ front ++ rest
-  pub each : Every is_digit front
-  pub some : 1 ≤ length front
-  pub few : length front ≤ 3
-  pub value : v ≡ value_from 0 front * 10 ^ (3 - length front)
+  pub prefix : List ℕ
+  pub split : text ≡ prefix ++ rest
+  pub each : Every is_digit prefix
+  pub some : 1 ≤ length prefix
+  pub few : length prefix ≤ 3
+  pub value : v ≡ value_from 0 prefix * 10 ^ (3 - length prefix)
 
 -- what was read of a bare item without bytes describes this one
 pub record NumberDescribes (p : Part) (x : Bare) : Type 0 where
@@ -84,18 +84,18 @@ pub record NumberDescribes (p : Part) (x : Bare) : Type 0 where
 
 -- the start of the text spells a number, which the part describes
 pub record ScansNumber (text : List ℕ) (p : Part) (rest : List ℕ) : Type 0 where
-  pub front : List ℕ
+  pub prefix : List ℕ
   pub value : Bare
-  pub split : text ≡ front ++ rest
-  pub spelled : (d : Dialect) → SpellsBare d front value
+  pub split : text ≡ prefix ++ rest
+  pub spelled : (d : Dialect) → SpellsBare d prefix value
   pub describes : NumberDescribes p value
 
 -- the start of the text spells a Date, which the part describes
 pub record ScansDate (text : List ℕ) (p : Part) (rest : List ℕ) : Type 0 where
-  pub front : List ℕ
+  pub prefix : List ℕ
   pub value : ℤ
-  pub split : text ≡ front ++ rest
-  pub spelled : SpellsDate front value
+  pub split : text ≡ prefix ++ rest
+  pub spelled : SpellsDate prefix value
   pub describes : NumberDescribes p (Date value)
 
 -- the most = signs after the last group, and = signs and a colon before the rest
@@ -125,10 +125,10 @@ pub record PartDescribes (d : Dialect) (source : List ℕ) (p : Part) (x : Bare)
 -- the text
 pub record ScansBare (d : Dialect) (whole : ℕ) (text : List ℕ) (p : Part) (rest : List ℕ)
     : Type 0 where
-  pub front : List ℕ
+  pub prefix : List ℕ
   pub value : Bare
-  pub split : text ≡ front ++ rest
-  pub spelled : SpellsBare d front value
+  pub split : text ≡ prefix ++ rest
+  pub spelled : SpellsBare d prefix value
   pub describes : (source : List ℕ) → IsEnd source text → length source ≡ whole
       → PartDescribes d source p value
 
@@ -172,8 +172,8 @@ abbrev pub AreApart : List ℕ → List Node → Type 0
 AreApart source ns = IsDistinct bytes_eq (keys_from source 0 ns)
 
 -- any keys with these marks differ, or those of the nodes do
-abbrev pub AreToldApart : Marks → List ℕ → List Node → Type 0
-AreToldApart m source ns =
+abbrev pub DistinguishKeys : Marks → List ℕ → List Node → Type 0
+DistinguishKeys m source ns =
     ((ks : List (List ℕ)) → HaveMarks m ks → IsDistinct bytes_eq ks) ⊎ AreApart source ns
 
 -- nodes were put after those that were there
@@ -185,11 +185,11 @@ pub record Puts (old new : List Node) (at count : ℕ) (ns : List Node) : Type 0
 -- the start of the text spells a parameter: its key, and a bare item that the part describes
 pub record ScansParam (d : Dialect) (whole : ℕ) (text : List ℕ) (place : KeyPlace) (p : Part)
     (rest : List ℕ) : Type 0 where
-  pub front : List ℕ
+  pub prefix : List ℕ
   pub key : List ℕ
   pub value : Bare
-  pub split : text ≡ front ++ rest
-  pub spelled : SpellsParam d front key value
+  pub split : text ≡ prefix ++ rest
+  pub spelled : SpellsParam d prefix key value
   pub mark : place.mark ≡ mark_of key
   pub key_at : (source : List ℕ) → IsEnd source text → length source ≡ whole
       → (place.at + place.length ≤ length source) × (slice_at place.at place.length source ≡ key)
@@ -200,11 +200,11 @@ pub record ScansParam (d : Dialect) (whole : ℕ) (text : List ℕ) (place : Key
 -- them; these are the marks of their keys
 pub record ScansRaw (d : Dialect) (source : List ℕ) (r : Role) (text rest : List ℕ) (old new : List Node)
     (at count : ℕ) (marks : Marks) : Type 0 where
-  pub front : List ℕ
+  pub prefix : List ℕ
   pub raw : Pairs Bare
   pub nodes : List Node
-  pub split : text ≡ front ++ rest
-  pub spelled : SpellsRaw d front raw
+  pub split : text ≡ prefix ++ rest
+  pub spelled : SpellsRaw d prefix raw
   pub puts : Puts old new at count nodes
   pub describes : IsEnd source text → DescribesParams d source r nodes raw
   pub marked : HaveMarks marks (keys_of raw)
@@ -212,33 +212,33 @@ pub record ScansRaw (d : Dialect) (source : List ℕ) (r : Role) (text rest : Li
 -- the start of the text spells parameters, and nodes that were put describe them
 pub record ScansParams (d : Dialect) (source : List ℕ) (r : Role) (text rest : List ℕ) (old new : List Node)
     (at count : ℕ) : Type 0 where
-  pub front : List ℕ
+  pub prefix : List ℕ
   pub values : Pairs Bare
   pub nodes : List Node
-  pub split : text ≡ front ++ rest
-  pub spelled : IsEnd source text → SpellsParams d front values
+  pub split : text ≡ prefix ++ rest
+  pub spelled : IsEnd source text → SpellsParams d prefix values
   pub puts : Puts old new at count nodes
   pub describes : IsEnd source text → DescribesParams d source r nodes values
 
 -- the same, after a node that counts them
 pub record ScansRest (d : Dialect) (source text rest : List ℕ) (node : Node) (old new : List Node)
     (at count : ℕ) : Type 0 where
-  pub front : List ℕ
+  pub prefix : List ℕ
   pub values : Pairs Bare
   pub nodes : List Node
-  pub split : text ≡ front ++ rest
-  pub spelled : IsEnd source text → SpellsParams d front values
+  pub split : text ≡ prefix ++ rest
+  pub spelled : IsEnd source text → SpellsParams d prefix values
   pub puts : Puts old new at count (sized (1 + length nodes) node ∷ nodes)
   pub describes : IsEnd source text → DescribesParams d source role_is.Parameter nodes values
 
 -- the start of the text spells an Item, and nodes that were put describe it
 pub record ScansItem (d : Dialect) (source text rest : List ℕ) (r : Role) (place : KeyPlace)
     (old new : List Node) (at count : ℕ) : Type 0 where
-  pub front : List ℕ
+  pub prefix : List ℕ
   pub value : Item
   pub nodes : List Node
-  pub split : text ≡ front ++ rest
-  pub spelled : IsEnd source text → SpellsItem d front value
+  pub split : text ≡ prefix ++ rest
+  pub spelled : IsEnd source text → SpellsItem d prefix value
   pub puts : Puts old new at count nodes
   pub describes : IsEnd source text → place.at + place.length ≤ length source
       → DescribesItem d source r (slice_at place.at place.length source) nodes value
@@ -261,34 +261,34 @@ opening_of key k = record {
 -- that were put describe them
 pub record ScansItems (d : Dialect) (source text rest : List ℕ) (old new : List Node)
     (at count : ℕ) : Type 0 where
-  pub front : List ℕ
+  pub prefix : List ℕ
   pub values : List Item
   pub nodes : List Node
-  pub split : text ≡ front ++ close_bracket ∷ rest
-  pub spelled : IsEnd source text → SpellsItems d 0 front values
+  pub split : text ≡ prefix ++ close_bracket ∷ rest
+  pub spelled : IsEnd source text → SpellsItems d 0 prefix values
   pub puts : Puts old new at count nodes
   pub describes : IsEnd source text → DescribesItems d source nodes values
 
 -- Items were read, and spaces if any follow: with Items after them they are Items
 pub record ItemsSoFar (d : Dialect) (source text rest : List ℕ) (old new : List Node)
     (at count : ℕ) : Type 0 where
-  pub front : List ℕ
+  pub prefix : List ℕ
   pub values : List Item
   pub nodes : List Node
-  pub split : text ≡ front ++ rest
-  pub glue : IsEnd source text → (back : List ℕ) (more : List Item) → SpellsItems d 0 back more
-      → SpellsItems d 0 (front ++ back) (values ++ more)
+  pub split : text ≡ prefix ++ rest
+  pub glue : IsEnd source text → (suffix : List ℕ) (more : List Item) → SpellsItems d 0 suffix more
+      → SpellsItems d 0 (prefix ++ suffix) (values ++ more)
   pub puts : Puts old new at count nodes
   pub describes : IsEnd source text → DescribesItems d source nodes values
 
 -- the start of the text spells a member, and nodes that were put describe it
 pub record ScansMember (d : Dialect) (source text rest : List ℕ) (place : KeyPlace)
     (old new : List Node) (at count : ℕ) : Type 0 where
-  pub front : List ℕ
+  pub prefix : List ℕ
   pub value : Member
   pub nodes : List Node
-  pub split : text ≡ front ++ rest
-  pub spelled : IsEnd source text → SpellsMember d front value
+  pub split : text ≡ prefix ++ rest
+  pub spelled : IsEnd source text → SpellsMember d prefix value
   pub puts : Puts old new at count nodes
   pub describes : IsEnd source text → place.at + place.length ≤ length source
       → DescribesMember d source (slice_at place.at place.length source) nodes value
@@ -297,12 +297,12 @@ pub record ScansMember (d : Dialect) (source text rest : List ℕ) (place : KeyP
 -- put describe it
 pub record ScansEntry (d : Dialect) (source text rest : List ℕ) (m : ℕ) (old new : List Node)
     (at count : ℕ) : Type 0 where
-  pub front : List ℕ
+  pub prefix : List ℕ
   pub key : List ℕ
   pub value : Member
   pub nodes : List Node
-  pub split : text ≡ front ++ rest
-  pub spelled : IsEnd source text → SpellsEntry d front (key, value)
+  pub split : text ≡ prefix ++ rest
+  pub spelled : IsEnd source text → SpellsEntry d prefix (key, value)
   pub puts : Puts old new at count nodes
   pub describes : IsEnd source text → DescribesMember d source key nodes value
   pub mark : m ≡ mark_of key

@@ -15,14 +15,14 @@ pub record IsEscape (text : List ℕ) (c : ℕ) (rest : List ℕ) : Type 0 where
   pub split : text ≡ percent ∷ hex (c / 16) ∷ hex (c % 16) ∷ rest
 
 -- unescaped bytes before the rest, which are allowed only between two characters
-abbrev pub PlainBefore : Utf8 → List ℕ → List ℕ → Type 0
-PlainBefore Start text rest = (front : List ℕ) × (text ≡ front ++ rest) × Every is_unencoded front
-PlainBefore (Wants n low high) text rest = text ≡ rest
+abbrev pub UnencodedBefore : Utf8 → List ℕ → List ℕ → Type 0
+UnencodedBefore Start text rest = (prefix : List ℕ) × (text ≡ prefix ++ rest) × Every is_unencoded prefix
+UnencodedBefore (Wants n low high) text rest = text ≡ rest
 
 -- the text begins with a Display String, read up to the rest
 pub record InsideShown (text rest : List ℕ) (x : Utf8) : Type 0 where
-  pub front : List ℕ
+  pub prefix : List ℕ
   pub bytes : List ℕ
-  pub split : text ≡ percent ∷ quote ∷ (front ++ rest)
-  pub pieces : (back s : List ℕ) → EncodedBytes back s → EncodedBytes (front ++ back) (bytes ++ s)
+  pub split : text ≡ percent ∷ quote ∷ (prefix ++ rest)
+  pub joins : (suffix s : List ℕ) → EncodedBytes suffix s → EncodedBytes (prefix ++ suffix) (bytes ++ s)
   pub formed : (s : List ℕ) → WellFormed x s → WellFormed Start (bytes ++ s)

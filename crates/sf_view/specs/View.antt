@@ -89,10 +89,10 @@ DescribesItem d source role key ns i =
 abbrev pub DescribesItems : Dialect → Seq ℕ → Seq Node → Seq Item → Type 0
 DescribesItems d source ns [] = ns ≡ []
 DescribesItems d source ns (i ∷ is) =
-    (front back : Seq Node)
-    × (ns ≡ front ++ back)
-    × DescribesItem d source role_is.InnerItem [] front i
-    × DescribesItems d source back is
+    (prefix suffix : Seq Node)
+    × (ns ≡ prefix ++ suffix)
+    × DescribesItem d source role_is.InnerItem [] prefix i
+    × DescribesItems d source suffix is
 
 -- the node of an Inner List of this size: it has neither a number nor bytes
 pub record DescribesOpening (source : Seq ℕ) (k : Seq ℕ) (m : ℕ) (n : Node) : Type 0 where
@@ -122,20 +122,20 @@ DescribesMember d source key ns (member.Inner l) = DescribesInner d source key n
 abbrev pub DescribesMembers : Dialect → Seq ℕ → Seq Node → Seq Member → Type 0
 DescribesMembers d source ns [] = ns ≡ []
 DescribesMembers d source ns (m ∷ ms) =
-    (front back : Seq Node)
-    × (ns ≡ front ++ back)
-    × DescribesMember d source [] front m
-    × DescribesMembers d source back ms
+    (prefix suffix : Seq Node)
+    × (ns ≡ prefix ++ suffix)
+    × DescribesMember d source [] prefix m
+    × DescribesMembers d source suffix ms
 
 -- parts with keys: some nodes describe each as P says
 abbrev pub DescribesPairs : {X : Type 0} → (Seq ℕ → Seq Node → X → Type 0) → Seq Node → Pairs X
     → Type 0
 DescribesPairs P ns [] = ns ≡ []
 DescribesPairs P ns (p ∷ ps) =
-    (front back : Seq Node)
-    × (ns ≡ front ++ back)
-    × P p.0 front p.1
-    × DescribesPairs P back ps
+    (prefix suffix : Seq Node)
+    × (ns ≡ prefix ++ suffix)
+    × P p.0 prefix p.1
+    × DescribesPairs P suffix ps
 
 -- the members of a Dictionary
 abbrev pub DescribesEntries : Dialect → Seq ℕ → Seq Node → Pairs Member → Type 0

@@ -24,11 +24,11 @@ pub record IsViewed (d : Dialect) (kind : Kind) (t : Seq ℕ) (v : PartView) : T
   pub only : IsOnly d kind t value
   pub describes : DescribesField d t v.nodes.now value
 
--- a text of this length has no view for this reason, in a buffer of room nodes
-abbrev pub IsExcused : ℕ → ℕ → Unviewed → Type 0
-IsExcused size room Declined = (size < 2 ^ 32) × (size ≤ room)
-IsExcused size room ShortBuffer = (size < 2 ^ 32) × (room < size)
-IsExcused size room TooLong = 2 ^ 32 ≤ size
+-- a text of this length has no view for this reason, in a buffer of this many nodes
+abbrev pub IsReason : ℕ → ℕ → Unviewed → Type 0
+IsReason size capacity Declined = (size < 2 ^ 32) × (size ≤ capacity)
+IsReason size capacity ShortBuffer = (size < 2 ^ 32) × (capacity < size)
+IsReason size capacity TooLong = 2 ^ 32 ≤ size
 
 -- the reason, if the buffer has a node for each byte of the text, or not
 abbrev pub reason : Bool → Unviewed

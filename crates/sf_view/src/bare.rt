@@ -4,7 +4,7 @@ ghost use Rattle.sf_value.specs.declared.dialect.Dialect.{Dialect as Which};
 ghost use Rattle.sf_value.specs.Grammar.Numbers.{sign, signed};
 ghost use Rattle.sf_view.specs.Scans.{ScansDigits, ScansFraction, ScansNumber, ScansDate, ScansBare, Closes};
 
-use crate::classes::{InBase64, InToken, Unescaped, behind, is_token_start, long_front, split};
+use crate::classes::{InBase64, InToken, Unescaped, behind, is_token_start, long_prefix, split};
 use crate::display_string::scan_shown;
 use crate::node_types::NodeType;
 use sf_value::Dialect;
@@ -51,7 +51,7 @@ pub(crate) fn bytes_of(
 ) -> Part
     requires small { whole < 2 ^ 32 }
     requires within { length text.now ≤ whole }
-    requires front { size ≤ length text.now }
+    requires prefix { size ≤ length text.now }
     ensures node_type { result.node_type ≡ node_type }
     ensures number { result.number ≡ pos 0 }
     ensures at { result.at + length text.now ≡ whole }
@@ -187,7 +187,7 @@ fn scan_escaped(whole: usize, text: &[u8]) -> Option<(Part, &[u8])>
 {
     let mut rest = behind(text, b'"')?;
     loop {
-        let (_, stop) = long_front::<Unescaped>(rest);
+        let (_, stop) = long_prefix::<Unescaped>(rest);
         if let Some(left) = behind(stop, b'"') {
             let part = bytes_of(whole, NodeType::Text, true, text, text.len() - left.len());
             return Some((part, left));
@@ -208,12 +208,12 @@ fn scan_string(whole: usize, text: &[u8]) -> Option<(Part, &[u8])>
     ensures { (d : Which) → IfSome result (λ r. ScansBare d whole text.now r.0 r.1.now) }
 {
     let inside = behind(text, b'"')?;
-    let (front, stop) = long_front::<Unescaped>(inside);
+    let (prefix, stop) = long_prefix::<Unescaped>(inside);
     let Some(rest) = behind(stop, b'"') else {
         return scan_escaped(whole, text);
     };
     Some((
-        bytes_of(whole, NodeType::Text, false, inside, front.len()),
+        bytes_of(whole, NodeType::Text, false, inside, prefix.len()),
         rest,
     ))
 }
@@ -252,8 +252,8 @@ fn scan_blob(whole: usize, text: &[u8]) -> Option<(Part, &[u8])>
     ensures { (d : Which) → IfSome result (λ r. ScansBare d whole text.now r.0 r.1.now) }
 {
     let inside = behind(text, b':')?;
-    let (front, stop) = long_front::<InBase64>(inside);
-    let rest = behind_pads(front.len() % 4, stop)?;
+    let (prefix, stop) = long_prefix::<InBase64>(inside);
+    let rest = behind_pads(prefix.len() % 4, stop)?;
     let part = bytes_of(whole, NodeType::Blob, true, text, text.len() - rest.len());
     Some((part, rest))
 }
@@ -282,9 +282,9 @@ fn scan_token(whole: usize, text: &[u8]) -> Option<(Part, &[u8])>
     if !is_token_start(first) {
         return None;
     }
-    let (front, rest) = long_front::<InToken>(more);
+    let (prefix, rest) = long_prefix::<InToken>(more);
     Some((
-        bytes_of(whole, NodeType::Token, false, text, front.len() + 1),
+        bytes_of(whole, NodeType::Token, false, text, prefix.len() + 1),
         rest,
     ))
 }

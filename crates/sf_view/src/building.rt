@@ -4,7 +4,7 @@ ghost use Rattle.sf_value.specs.Grammar.Pairs.{value_at};
 ghost use Rattle.sf_value.specs.Grammar.Tokens.{IsKey};
 ghost use Rattle.sf_view.specs.declared.building.NoField.TheVariants as no_field;
 ghost use Rattle.sf_view.specs.Building.{Gives, Reads, IsField, IsItemField, IsItem, IsInner, IsInside, IsMember};
-ghost use Rattle.sf_view.specs.Building.{AreParams, IsParam, AreMembers, AreEntries, StartsItem, shifted};
+ghost use Rattle.sf_view.specs.Building.{AreParams, IsParam, AreMembers, AreEntries, StartsItem, shift_fault};
 ghost use Rattle.sf_view.specs.View.{slice_at, DescribesOpening};
 
 use crate::copies::key_of;
@@ -43,7 +43,7 @@ impl NoField {
     /// The same fault, with `count` more nodes before these.
     fn behind(self, count: usize) -> NoField
         requires { (i : ℕ) → self ≡ no_field.Invalid i → count + i < 2 ^ 64 }
-        ensures { result ≡ shifted count self }
+        ensures { result ≡ shift_fault count self }
     {
         match self {
             NoField::OutOfMemory => return NoField::OutOfMemory,
@@ -121,13 +121,13 @@ fn members(source: Source, nodes: &[Node]) -> Result<Sequence<Member>, NoField>
     let mut rest = nodes;
     while !rest.is_empty() {
         let at = nodes.len() - rest.len();
-        let Some((key, front, later)) = hop(source.text, rest) else {
+        let Some((key, prefix, later)) = hop(source.text, rest) else {
             return Err(NoField::Invalid(at));
         };
         if !key.is_empty() {
             return Err(NoField::Invalid(at));
         }
-        let member = match member(source, front) {
+        let member = match member(source, prefix) {
             Ok(member) => member,
             Err(fault) => return Err(fault.behind(at)),
         };
@@ -147,13 +147,13 @@ fn entries(source: Source, nodes: &[Node]) -> Result<Entries<Member>, NoField>
     let mut rest = nodes;
     while !rest.is_empty() {
         let at = nodes.len() - rest.len();
-        let Some((bytes, front, later)) = hop(source.text, rest) else {
+        let Some((bytes, prefix, later)) = hop(source.text, rest) else {
             return Err(NoField::Invalid(at));
         };
         let Some(key) = new_key(source.alloc, bytes, &all)? else {
             return Err(NoField::Invalid(at));
         };
-        let member = match member(source, front) {
+        let member = match member(source, prefix) {
             Ok(member) => member,
             Err(fault) => return Err(fault.behind(at)),
         };
@@ -246,13 +246,13 @@ fn inside(source: Source, nodes: &[Node]) -> Result<Inner, NoField>
     let mut rest = nodes;
     while starts_item(rest) {
         let at = nodes.len() - rest.len();
-        let Some((key, front, later)) = hop(source.text, rest) else {
+        let Some((key, prefix, later)) = hop(source.text, rest) else {
             return Err(NoField::Invalid(at));
         };
         if !key.is_empty() {
             return Err(NoField::Invalid(at));
         }
-        let item = match item(source, Role::InnerItem, front) {
+        let item = match item(source, Role::InnerItem, prefix) {
             Ok(item) => item,
             Err(fault) => return Err(fault.behind(at)),
         };
@@ -287,13 +287,13 @@ fn params(source: Source, role: Role, nodes: &[Node]) -> Result<Entries<Bare>, N
     let mut rest = nodes;
     while !rest.is_empty() {
         let at = nodes.len() - rest.len();
-        let Some((bytes, front, later)) = hop(source.text, rest) else {
+        let Some((bytes, prefix, later)) = hop(source.text, rest) else {
             return Err(NoField::Invalid(at));
         };
         let Some(key) = new_key(source.alloc, bytes, &all)? else {
             return Err(NoField::Invalid(at));
         };
-        let Some(value) = param(source, role, front)? else {
+        let Some(value) = param(source, role, prefix)? else {
             return Err(NoField::Invalid(at));
         };
         all.set(key, value)?;

@@ -14,7 +14,7 @@ use sf_value::{sextet, unhex};
 #[derive(Clone, Copy, Debug, Drop)]
 pub(crate) enum Coding {
     /// As they are.
-    Plain,
+    Verbatim,
     /// As those of a String, up to its closing quote.
     Escaped,
     /// As those of a Display String, up to its closing quote.
@@ -43,13 +43,13 @@ impl<'a> Slice<'a> {
     {
         if !self.coded {
             return Bytes {
-                coding: Coding::Plain,
+                coding: Coding::Verbatim,
                 rest: self.bytes,
             };
         }
         let Some((first, inside)) = first_of(self.bytes) else {
             return Bytes {
-                coding: Coding::Plain,
+                coding: Coding::Verbatim,
                 rest: self.bytes,
             };
         };
@@ -83,8 +83,8 @@ impl<'a> Slice<'a> {
         let Some(count) = self.decode_to(buffer) else {
             return None;
         };
-        let (front, _) = buffer.split_at(count);
-        Some(front)
+        let (prefix, _) = buffer.split_at(count);
+        Some(prefix)
     }
 
     /// Writes the bytes, decoded if they are coded, to the beginning of the buffer, and returns
@@ -178,11 +178,11 @@ pub(crate) fn take_byte(coding: Coding, rest: &[u8]) -> Option<(u8, Coding, &[u8
     ensures shorter { IfSome result (λ r. length r.2.now < length rest.now) }
 {
     match coding {
-        Coding::Plain => {
+        Coding::Verbatim => {
             let Some((byte, later)) = first_of(rest) else {
                 return None;
             };
-            return Some((byte, Coding::Plain, later));
+            return Some((byte, Coding::Verbatim, later));
         }
         Coding::Escaped => {
             let Some((byte, later)) = unescaped(rest) else {

@@ -2,7 +2,7 @@
 ghost use Rattle.std.specs.Prelude.{◌≡◌, ◌∷◌, [], ◌++◌, ◌≤◌, ◌<◌, ◌+◌, ◌*◌, ◌/◌, ◌%◌, ◌^◌, length};
 ghost use Rattle.std.specs.Prelude.{List, IsTrue, IfSome, IfNone, ℕ, drop, slice_index_or};
 ghost use Rattle.sf_view.specs.View.{slice_at};
-ghost use Rattle.sf_view.specs.Scans.{keys_from, AreApart, AreToldApart};
+ghost use Rattle.sf_view.specs.Scans.{keys_from, AreApart, DistinguishKeys};
 ghost use Rattle.sf_view.specs.Keys.{hash_of, tag_of, Holds, IsAbsent, Enters};
 ghost use Rattle.sf_view.specs.Marks.{mark_of, HaveMarks};
 
@@ -37,7 +37,7 @@ impl Marks {
     /// nodes; `false` also if there are too many.
     #[inline]
     pub(crate) fn differ(self, source: &[u8], nodes: &[Node]) -> bool
-        ensures { IsTrue result → AreToldApart self source.now nodes.now }
+        ensures { IsTrue result → DistinguishKeys self source.now nodes.now }
     {
         self.bits != u64::MAX || are_distinct(source, nodes)
     }

@@ -27,8 +27,8 @@ pub(crate) fn hop<'a>(
     if size == 0 || size > nodes.len() {
         return None;
     }
-    let (front, later) = nodes.split_at(size);
-    Some((key, front, later))
+    let (prefix, later) = nodes.split_at(size);
+    Some((key, prefix, later))
 }
 
 /// The nodes of the part with this key, if there is one, among the nodes of a Dictionary or of
@@ -50,11 +50,11 @@ pub fn entry<'a>(source: &'a [u8], nodes: &'a [Node], key: &[u8]) -> Option<&'a 
 {
     let mut rest = nodes;
     loop {
-        let Some((name, front, later)) = hop(source, rest) else {
+        let Some((name, prefix, later)) = hop(source, rest) else {
             return None;
         };
         if key == name {
-            return Some(front);
+            return Some(prefix);
         }
         rest = later;
     }

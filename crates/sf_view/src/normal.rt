@@ -7,7 +7,7 @@ ghost use Rattle.sf_value.specs.Grammar.Fields.{kind_of};
 ghost use Rattle.sf_parse.specs.Parsers.{Parses};
 ghost use Rattle.sf_view.specs.View.{DescribesField};
 ghost use Rattle.sf_view.specs.Views.{IsViewed};
-ghost use Rattle.sf_view.specs.Written.{IsCanonicalOf};
+ghost use Rattle.sf_view.specs.CanonicalParts.{IsCanonicalOf};
 
 use crate::buffer::node_buffer;
 use crate::declined::parse_declined;

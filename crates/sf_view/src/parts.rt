@@ -56,12 +56,12 @@ impl<'a> View<'a> {
             → DescribesParams d self.now.text.now r self.now.nodes.now ps
             → ParamsSplit d self.now.text.now r ps result }
     {
-        let Some((_, front, later)) = hop(self.text, self.nodes) else {
+        let Some((_, prefix, later)) = hop(self.text, self.nodes) else {
             return None;
         };
         let first = View {
             text: self.text,
-            nodes: front,
+            nodes: prefix,
         };
         let others = View {
             text: self.text,

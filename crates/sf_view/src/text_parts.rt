@@ -13,7 +13,7 @@ ghost use Rattle.sf_view.specs.Views.{IsBorrowed};
 ghost use Rattle.sf_view.specs.Reads.{Reads, ReadsBare, ReadsParam, ReadsItems, ReadsMember, ReadsEntry};
 
 use crate::bare::{Part, scan_value};
-use crate::classes::{InKey, behind, behind_spaces, is_key_start, short_front, split};
+use crate::classes::{InKey, behind, behind_spaces, is_key_start, short_prefix, split};
 use crate::keys::bytes_at;
 use crate::node_types::NodeType;
 use crate::view::{BareView, Slice};
@@ -75,8 +75,8 @@ fn read_key(text: &[u8]) -> Option<(&[u8], &[u8])>
     if !is_key_start(first) {
         return None;
     }
-    let (front, _) = short_front::<InKey>(more);
-    Some(text.split_at(front.len() + 1))
+    let (prefix, _) = short_prefix::<InKey>(more);
+    Some(text.split_at(prefix.len() + 1))
 }
 
 /// One parameter, after its semicolon: its key, its value, and the rest.

@@ -11,7 +11,7 @@ ghost use Rattle.sf_view.specs.declared.node_types.Role.{Role as Place};
 ghost use Rattle.sf_view.specs.NodeTypes.{type_number};
 ghost use Rattle.sf_view.specs.View.{DescribesEntries, DescribesParams, DescribesItem, DescribesInner};
 ghost use Rattle.sf_view.specs.Finding.{Finds, FindsParam};
-ghost use Rattle.sf_view.specs.Views.{IsViewed, IsExcused, reason, NodeShows, ShowsBare};
+ghost use Rattle.sf_view.specs.Views.{IsViewed, IsReason, reason, NodeShows, ShowsBare};
 
 use crate::keys::{bytes_at, first_node};
 use crate::lookup::entry;
@@ -94,7 +94,7 @@ impl<'a> View<'a> {
         ensures accepts { IfOk result (λ v. IsViewed dialect kind text.now v) }
         // Only a text of 4 GiB or more is too long, and only a buffer with fewer nodes than the
         // text has bytes may be too short.
-        ensures excused { IfErr result (λ e. IsExcused (length text.now) (length nodes.old) e) }
+        ensures excused { IfErr result (λ e. IsReason (length text.now) (length nodes.old) e) }
     {
         if text.len() > 0xffff_ffff {
             return Err(Unviewed::TooLong);
@@ -103,8 +103,11 @@ impl<'a> View<'a> {
         let Some(count) = scan_text(dialect, kind, text, nodes) else {
             return Err(declined(enough));
         };
-        let (front, _) = nodes.split_at(count);
-        Ok(View { text, nodes: front })
+        let (prefix, _) = nodes.split_at(count);
+        Ok(View {
+            text,
+            nodes: prefix,
+        })
     }
 
     /// The member of a Dictionary with this key, or the parameter with this key; `None` if there is

@@ -22,11 +22,11 @@ ghost use Rattle.sf_view.specs.View.{DescribesText, DescribesItem, DescribesItem
 ghost use Rattle.sf_view.specs.View.{DescribesParams, DescribesMember, DescribesMembers};
 ghost use Rattle.sf_view.specs.View.{DescribesEntries, DescribesField};
 ghost use Rattle.sf_view.specs.Decoding.{Remains};
-ghost use Rattle.sf_view.specs.Written.{canon_param, encoding, is_flag, CanonicalRun, IsNeededEscape};
+ghost use Rattle.sf_view.specs.CanonicalParts.{canon_param, encoding, is_flag, CanonicalRun, IsNeededEscape};
 ghost use Rattle.sf_view.specs.Views.{IsBorrowed};
 
 use crate::bytes::{Coding, fill, first_of, unencoded};
-use crate::classes::{ShownPlain, Unescaped, ends, long_front};
+use crate::classes::{UnencodedByte, Unescaped, ends, long_prefix};
 use crate::view::{BareView, Slice, View};
 use sf_value::{Kind, Sink, stands_for_itself};
 use sf_write::{
@@ -110,7 +110,7 @@ fn put_text<W: Sink>(slice: Slice, before: Sent, out: &mut W) -> Sent
     if slice.coded {
         return put(slice.bytes, before, out);
     }
-    let (_, escaped) = long_front::<Unescaped>(slice.bytes);
+    let (_, escaped) = long_prefix::<Unescaped>(slice.bytes);
     if !ends(escaped) {
         return put_string(slice.bytes, before, out);
     }
@@ -200,7 +200,7 @@ fn put_encoded<W: Sink>(text: &[u8], before: Sent, out: &mut W) -> Sent
     let mut sent = before;
     let mut rest = text;
     loop {
-        let (canonical, stop) = canonical_front(rest);
+        let (canonical, stop) = canonical_prefix(rest);
         sent = put(canonical, sent, out);
         let Some((byte, later)) = unencoded(stop) else {
             return put(b"\"", sent, out);
@@ -212,14 +212,14 @@ fn put_encoded<W: Sink>(text: &[u8], before: Sent, out: &mut W) -> Sent
 
 /// The bytes of a Display String that are canonical as they are, up to the first escape that is not
 /// needed or the quote, and the rest.
-fn canonical_front(text: &[u8]) -> (&[u8], &[u8])
+fn canonical_prefix(text: &[u8]) -> (&[u8], &[u8])
     ensures run { (t : Seq ℕ) → Remains coding_is.Percent text.now t
         → CanonicalRun result.0.now result.1.now t }
     ensures shorter { length result.1.now ≤ length text.now }
 {
     let mut rest = text;
     loop {
-        let (_, stop) = long_front::<ShownPlain>(rest);
+        let (_, stop) = long_prefix::<UnencodedByte>(rest);
         let Some(later) = needed_escape(stop) else {
             return text.split_at(text.len().saturating_sub(stop.len()));
         };

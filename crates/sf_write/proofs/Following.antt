@@ -5,9 +5,9 @@ use Rattle.std.specs.Fmt.{WritesInCalls}
 use Rattle.std.specs.Prelude.{IfOk}
 use Rattle.std.proofs.Output.{writes_in_calls_nil, writes_in_calls_append}
 use Rattle.sf_value.specs.Devices.{SinkState}
-use Rattle.sf_write.specs.Writing.{Follows, Wrote}
+use Rattle.sf_write.specs.Writing.{Follows, SendsText}
 use Rattle.sf_write.specs.declared.sending.WriteFault.{WriteFault}
-use Rattle.sf_write.proofs.Joining.{Wrote-nil, Writes-append, WrotePrefix-longer}
+use Rattle.sf_write.proofs.Joining.{SendsText-nil, Writes-append, SendsPrefix-longer}
 
 abbrev Sent : Type 0
 Sent = Result ℕ WriteFault
@@ -21,7 +21,7 @@ module _ {S : Type 0} {gives : S → List ℕ → S → Type 0} where
 module _ {S : Type 0} {state : S → SinkState} {gives : S → List ℕ → S → Type 0} where
   nothing_at : (s : S) (x : Sent) → Follows state gives s s x x []
   nothing_at s (Ok n) = record {
-    goes_on = Wrote-nil (state s) n;
+    goes_on = SendsText-nil (state s) n;
     stays = tt;
     calls = writes_in_calls_nil gives s;
   }
@@ -34,14 +34,14 @@ module _ {S : Type 0} {state : S → SinkState} {gives : S → List ℕ → S �
   then_at : (a b c : S) (x y z : Sent) (t u : List ℕ) → Follows state gives a b x y t
       → Follows state gives b c y z u → Follows state gives a c x z (t ++ u)
   then_at a b c (Ok n) (Ok m) z t u p q = record {
-    goes_on = λ h. let w : Wrote (state a) (state b) n m t = p.goes_on h in
+    goes_on = λ h. let w : SendsText (state a) (state b) n m t = p.goes_on h in
         let count = w.count in
         Writes-append (state c) z u w (q.goes_on (omega arith));
     stays = tt;
     calls = calls_then a b c z t u p.calls q.calls;
   }
   then_at a b c (Ok n) (Err e) z t u p q = record {
-    goes_on = λ h. rw (q.stays.0, q.stays.1) (WrotePrefix-longer u (p.goes_on h));
+    goes_on = λ h. rw (q.stays.0, q.stays.1) (SendsPrefix-longer u (p.goes_on h));
     stays = tt;
     calls = rw q.stays.1 tt;
   }

@@ -7,25 +7,25 @@ use Rattle.sf_value.specs.Devices.{SinkState, RefusesOnce, capped}
 use Rattle.sf_write.specs.declared.sending.WriteFault.{WriteFault}
 
 -- calls took these bytes, and none failed; a count of bytes rose from before to after
-pub record Wrote (old new : SinkState) (before after : ℕ) (text : List ℕ) : Type 0 where
+pub record SendsText (old new : SinkState) (before after : ℕ) (text : List ℕ) : Type 0 where
   pub taken : Appends old.taken new.taken text
   pub failures : new.failures ≡ old.failures
   pub count : after ≡ capped (before + length text)
 
 -- calls took a prefix of the text, but not all of it, and then one failed
-pub record WrotePrefix (old new : SinkState) (before after : ℕ) (text : List ℕ) : Type 0 where
+pub record SendsPrefix (old new : SinkState) (before after : ℕ) (text : List ℕ) : Type 0 where
   pub prefix : List ℕ
   pub suffix : List ℕ
   pub mid : SinkState
   pub split : text ≡ prefix ++ suffix
   pub short : 0 < length suffix
-  pub wrote : Wrote old mid before after prefix
+  pub sends : SendsText old mid before after prefix
   pub failed : RefusesOnce mid new
 
 -- the text was written, or a prefix of it and then a call failed; a count of bytes rose from before
 abbrev pub Writes : SinkState → SinkState → ℕ → Result ℕ WriteFault → List ℕ → Type 0
-Writes old new before (Ok after) text = Wrote old new before after text
-Writes old new before (Err fault) text = WrotePrefix old new before fault.written text
+Writes old new before (Ok after) text = SendsText old new before after text
+Writes old new before (Err fault) text = SendsPrefix old new before fault.written text
 
 -- the text is put after earlier ones: it is written if none of these failed, and their count is
 -- continued; after a fault nothing is written, and the fault is returned. If all was written, calls

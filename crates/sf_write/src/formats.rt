@@ -2,7 +2,7 @@
 ghost use Rattle.std.specs.Prelude.{◌≡◌, ℕ, List, None, Some, IfOk, string_bytes};
 ghost use Rattle.sf_value.specs.Grammar.Canonical.{canon, canon_bare, canon_inner, canon_item};
 ghost use Rattle.sf_value.specs.Grammar.Canonical.{canon_member};
-ghost use Rattle.sf_write.specs.Formats.{WritesPiece};
+ghost use Rattle.sf_write.specs.Formats.{WritesChunk};
 ghost use Rattle.sf_write.specs.Writing.{Follows};
 
 use crate::bare::put_bare;
@@ -116,7 +116,7 @@ impl<'a, W> Drop for Formatting<'a, W> {
 impl<'a, W: fmt::Write> Sink for Formatting<'a, W> {
     ghost state = { λ out. record { taken = None; failures = out.failures } };
 
-    ghost send_gives = { WritesPiece W.write_str_gives };
+    ghost send_gives = { WritesChunk W.write_str_gives };
 
     fn send(&mut self, bytes: &[u8]) -> Result<usize, Failed> {
         if bytes.is_empty() {

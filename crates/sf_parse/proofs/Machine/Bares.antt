@@ -17,7 +17,7 @@ use Rattle.sf_value.specs.declared.dialect.Dialect.{Dialect}
 use Rattle.sf_value.specs.declared.value.Bare.{Bare}
 use Rattle.sf_value.specs.declared.value.Bare.TheVariants.{Integer, Decimal, Text, Token, Blob}
 use Rattle.sf_value.specs.declared.value.Bare.TheVariants.{Boolean, Date, Shown}
-use Rattle.sf_parse.specs.Machine.Language.{Mapped, Either, After, Where, only, Reads, Live}
+use Rattle.sf_parse.specs.Machine.Language.{MapValues, Either, After, Where, only, Reads, Live}
 use Rattle.sf_parse.specs.Machine.Language.{is_follow}
 use Rattle.sf_parse.specs.Machine.Numbers.{NumberState, Whole, Fraction, Digits, digits_step}
 use Rattle.sf_parse.specs.Machine.Numbers.{SpellsNumber, number_start, number_step, Sign}
@@ -246,12 +246,12 @@ number_apart c b s t e n = let k = map_cases InNumber (number_start b) s e in
 abbrev BareTexts : Bool → List ℕ → Bare → Type 0
 BareTexts c =
     Either SpellsNumber
-    (Either (Mapped Text SpellsString)
-    (Either (Mapped Token (SpellsWord is_token_start is_in_token))
-    (Either (Mapped Boolean SpellsBoolean)
-    (Either (Where c (Mapped Date SpellsDate))
-    (Either (Mapped Blob SpellsByteSequence)
-    (Where c (Mapped Shown SpellsDisplayString)))))))
+    (Either (MapValues Text SpellsString)
+    (Either (MapValues Token (SpellsWord is_token_start is_in_token))
+    (Either (MapValues Boolean SpellsBoolean)
+    (Either (Where c (MapValues Date SpellsDate))
+    (Either (MapValues Blob SpellsByteSequence)
+    (Where c (MapValues Shown SpellsDisplayString)))))))
 
 module _ (d : Dialect) where
   texts_both : (t : List ℕ) (v : Bare) → BareTexts (is_rfc9651 d) t v ↔ SpellsBare d t v

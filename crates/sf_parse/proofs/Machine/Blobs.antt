@@ -266,9 +266,9 @@ group_good bytes h b t g n = go (sextet b) refl
 is_letter : ℕ → Bool
 is_letter b = is_some (sextet b)
 
-every_back : (p : ℕ → Bool) (a b : List ℕ) → Every p (a ++ b) → Every p b
-every_back p [] b h = h
-every_back p (c ∷ a) b h = every_back p a b h.1
+every_suffix : (p : ℕ → Bool) (a b : List ℕ) → Every p (a ++ b) → Every p b
+every_suffix p [] b h = h
+every_suffix p (c ∷ a) b h = every_suffix p a b h.1
 
 letters_pass : (h : Held) → GoodBlob (Group [] h) → Every is_letter (letters h)
 unfolding is_letter
@@ -283,10 +283,10 @@ letters_pass (H3 x y z) g = (
 not_whole : (h : Held) (s : List ℕ) → GoodBlob (Group [] h) → Sextets (letters h ++ []) s → ⊥
 unfolding is_letter
 not_whole h s g (low, suffix, lt, e, f, (m, k, p)) =
-    let a = every_back is_letter (unpadded low s) suffix
+    let a = every_suffix is_letter (unpadded low s) suffix
     (subst (Every is_letter) (sym (append-nil (letters h))
     ∙ e) (letters_pass h g)) in
-    let b = every_back is_letter (replicate m 61) (58 ∷ []) (subst (Every is_letter) p a) in
+    let b = every_suffix is_letter (replicate m 61) (58 ∷ []) (subst (Every is_letter) p a) in
     cc (b.0)
 
 good_group : (bytes : List ℕ) (h : Held) → GoodBlob (Group bytes h) → GoodBlob (Group [] h)

@@ -13,7 +13,7 @@ use Rattle.sf_value.specs.declared.dialect.Dialect.TheVariants.{Rfc8941, Rfc9651
 use Rattle.sf_value.specs.declared.value.Item.{Item}
 use Rattle.sf_value.specs.declared.value.Inner.{Inner}
 use Rattle.sf_value.specs.declared.value.Member.{Member}
-use Rattle.sf_parse.specs.Machine.Language.{Then, Mapped, Either, After, Past, Reads}
+use Rattle.sf_parse.specs.Machine.Language.{Then, MapValues, Either, After, Past, Reads}
 use Rattle.sf_parse.specs.Machine.Language.{Live, is_after}
 use Rattle.sf_parse.specs.Machine.Params.{Between, params_step, params_finish}
 use Rattle.sf_parse.specs.Machine.Items.{ItemState}
@@ -345,8 +345,8 @@ module _ (d : Dialect) where
   )
 
   member_both : (t : List ℕ) (v : Member)
-      → Either (Mapped member.Item (SpellsItem d))
-      (Mapped member.Inner (SpellsInner d)) t v ↔ SpellsMember d t v
+      → Either (MapValues member.Item (SpellsItem d))
+      (MapValues member.Inner (SpellsInner d)) t v ↔ SpellsMember d t v
   member_both t v = (
     ⊎_elim (λ (i, s, c). subst (λ y. SpellsMember d t y) (sym c) s) (λ (
       l,
@@ -357,7 +357,7 @@ module _ (d : Dialect) where
   )
     where
       from : (v : Member) → SpellsMember d t v
-          → Either (Mapped member.Item (SpellsItem d)) (Mapped member.Inner (SpellsInner d)) t v
+          → Either (MapValues member.Item (SpellsItem d)) (MapValues member.Inner (SpellsInner d)) t v
       from (member.Item i) s = inl (i, s, refl)
       from (member.Inner l) s = inr (l, s, refl)
 

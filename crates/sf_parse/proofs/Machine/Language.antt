@@ -4,7 +4,7 @@ use Rattle.std.proofs.Common.{◌≡◌, ℕ, Bool, true, false, ◌==◌, List,
 use Rattle.std.proofs.Common.{None, ⊎_elim, refl, sym, ap, ◌∙◌, subst, ◌↔◌, ◌⊎◌, inl, inr, eqb-true}
 use Rattle.std.proofs.Common.{eq-eqb}
 use Rattle.sf_value.specs.Grammar.Words.{allow, Every}
-use Rattle.sf_parse.specs.Machine.Language.{Then, Mapped, Either, After, Nothing, Past, onward}
+use Rattle.sf_parse.specs.Machine.Language.{Then, MapValues, Either, After, Nothing, Past, onward}
 use Rattle.sf_parse.specs.Machine.Language.{Where, only, Reads}
 use Rattle.sf_value.proofs.Words.{allow_cases, option_or_cases}
 
@@ -131,9 +131,9 @@ pub reads_mapped : {S T X V : Type 0} {GoodS : S → Type 0} {GoodT : T → Type
     → X → Type 0} {ResidualT : T → List ℕ → V → Type 0} (into : S → T) (f : X → V) {A : List ℕ → X
     → Type 0} {next : ℕ → Option S} {end : Option X}
     → ((s : S) → GoodS s → GoodT (into s))
-    → ((s : S) (t : List ℕ) (v : V) → Mapped f (ResidualS s) t v ↔ ResidualT (into s) t v)
+    → ((s : S) (t : List ℕ) (v : V) → MapValues f (ResidualS s) t v ↔ ResidualT (into s) t v)
     → Reads S X GoodS ResidualS A next end
-    → Reads T V GoodT ResidualT (Mapped f A) (λ b. option_map into (next b)) (option_map f end)
+    → Reads T V GoodT ResidualT (MapValues f A) (λ b. option_map into (next b)) (option_map f end)
 reads_mapped {GoodT = GoodT} {ResidualT = ResidualT} into f {A = A} {next = next} {end = end}
     good_into
     rest_into ra = record {

@@ -8,7 +8,7 @@ use Rattle.sf_value.specs.Grammar.Dialects.{is_rfc9651}
 use Rattle.sf_value.specs.declared.dialect.Dialect.{Dialect}
 use Rattle.sf_value.specs.declared.value.Bare.{Bare}
 use Rattle.sf_value.specs.declared.value.Bare.TheVariants.{Text, Token, Blob, Boolean, Date, Shown}
-use Rattle.sf_parse.specs.Machine.Language.{Mapped, only}
+use Rattle.sf_parse.specs.Machine.Language.{MapValues, only}
 use Rattle.sf_parse.specs.Machine.Numbers.{NumberState, ResidualNumber, GoodNumber, number_start}
 use Rattle.sf_parse.specs.Machine.Numbers.{number_step, number_finish, DateState, Sign}
 use Rattle.sf_parse.specs.Machine.Numbers.{ResidualDate}
@@ -36,12 +36,12 @@ pub data BareState : Type 0 where
 
 abbrev pub ResidualBare : BareState → List ℕ → Bare → Type 0
 ResidualBare (InNumber s) = ResidualNumber s
-ResidualBare (InText s) = Mapped Text (ResidualText s)
-ResidualBare (InToken bytes) = Mapped Token (ResidualWord is_in_token bytes)
-ResidualBare (InBoolean s) = Mapped Boolean (ResidualBoolean s)
-ResidualBare (InDate s) = Mapped Date (ResidualDate s)
-ResidualBare (InBlob s) = Mapped Blob (ResidualBlob s)
-ResidualBare (InShown s) = Mapped Shown (ResidualShown s)
+ResidualBare (InText s) = MapValues Text (ResidualText s)
+ResidualBare (InToken bytes) = MapValues Token (ResidualWord is_in_token bytes)
+ResidualBare (InBoolean s) = MapValues Boolean (ResidualBoolean s)
+ResidualBare (InDate s) = MapValues Date (ResidualDate s)
+ResidualBare (InBlob s) = MapValues Blob (ResidualBlob s)
+ResidualBare (InShown s) = MapValues Shown (ResidualShown s)
 
 abbrev pub GoodBare : BareState → Type 0
 GoodBare (InNumber s) = GoodNumber s

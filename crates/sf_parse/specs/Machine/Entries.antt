@@ -10,7 +10,7 @@ use Rattle.sf_value.specs.Grammar.Classes.{is_key_start, is_in_key}
 use Rattle.sf_value.specs.Grammar.Pairs.{Pairs}
 use Rattle.sf_value.specs.Grammar.InnerLists.{SpellsMember}
 use Rattle.sf_value.specs.Grammar.Fields.{flag}
-use Rattle.sf_parse.specs.Machine.Language.{Then, Mapped, Either, After, onward}
+use Rattle.sf_parse.specs.Machine.Language.{Then, MapValues, Either, After, onward}
 use Rattle.sf_parse.specs.Machine.Texts.{ResidualWord, word_start, word_step}
 use Rattle.sf_parse.specs.Machine.Params.{ParamsState, MoreParams, ResidualParams, GoodParams}
 use Rattle.sf_parse.specs.Machine.Params.{between_step, params_step, params_finish}
@@ -33,14 +33,14 @@ abbrev pub flag_of : List ℕ → Pairs Bare → List ℕ × Member
 flag_of k ps = (k, flag ps)
 
 abbrev pub BehindKey : Dialect → List ℕ → List ℕ → List ℕ × Member → Type 0
-BehindKey d k = Either (After equals (Mapped (with_key k) (SpellsMember d)))
-    (Mapped (flag_of k) (MoreParams d []))
+BehindKey d k = Either (After equals (MapValues (with_key k) (SpellsMember d)))
+    (MapValues (flag_of k) (MoreParams d []))
 
 abbrev pub ResidualEntry : Dialect → EntryState → List ℕ → List ℕ × Member → Type 0
 ResidualEntry d (InKey k) = Then (ResidualWord is_in_key k) (BehindKey d)
-ResidualEntry d (Equals k) = Mapped (with_key k) (SpellsMember d)
-ResidualEntry d (InMemberValue k s) = Mapped (with_key k) (ResidualMember d s)
-ResidualEntry d (InFlag k s) = Mapped (flag_of k) (ResidualParams d s)
+ResidualEntry d (Equals k) = MapValues (with_key k) (SpellsMember d)
+ResidualEntry d (InMemberValue k s) = MapValues (with_key k) (ResidualMember d s)
+ResidualEntry d (InFlag k s) = MapValues (flag_of k) (ResidualParams d s)
 
 abbrev pub GoodEntry : EntryState → Type 0
 GoodEntry (InKey k) = Unit {0}

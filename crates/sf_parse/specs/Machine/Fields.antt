@@ -14,7 +14,7 @@ use Rattle.sf_value.specs.declared.value.Item.{Item}
 use Rattle.sf_value.specs.declared.value.Member.{Member}
 use Rattle.sf_value.specs.declared.value.Field.{Field}
 use Rattle.sf_value.specs.declared.value.Kind.{Kind}
-use Rattle.sf_parse.specs.Machine.Language.{Then, Mapped, Past, Nothing, onward}
+use Rattle.sf_parse.specs.Machine.Language.{Then, MapValues, Past, Nothing, onward}
 use Rattle.sf_parse.specs.Machine.Items.{ResidualItem, GoodItem, item_start, item_step, item_finish}
 use Rattle.sf_parse.specs.Machine.Members.{MemberState}
 use Rattle.sf_parse.specs.Machine.Series.{Begin, Series, ResidualSeries, GoodSeries, series_step}
@@ -64,8 +64,8 @@ abbrev pub Residual : Dialect → State → List ℕ → Field → Type 0
 Residual d BeforeItem = Past is_sp (Then (SpellsItem d) Tail)
 Residual d (InsideItem s) = Then (ResidualItem d s) Tail
 Residual d (AfterItem i) = Tail i
-Residual d (InList s) = Mapped list_of (ResidualSeries (list_series d) s)
-Residual d (InDict s) = Mapped dict_of (ResidualSeries (dict_series d) s)
+Residual d (InList s) = MapValues list_of (ResidualSeries (list_series d) s)
+Residual d (InDict s) = MapValues dict_of (ResidualSeries (dict_series d) s)
 
 abbrev pub Good : State → Type 0
 Good BeforeItem = Unit {0}

@@ -11,7 +11,7 @@ use Rattle.sf_value.specs.declared.dialect.Dialect.{Dialect}
 use Rattle.sf_value.specs.declared.value.Bare.{Bare}
 use Rattle.sf_value.specs.declared.value.Item.{Item}
 use Rattle.sf_value.specs.declared.value.Inner.{Inner}
-use Rattle.sf_parse.specs.Machine.Language.{Then, Mapped, onward}
+use Rattle.sf_parse.specs.Machine.Language.{Then, MapValues, onward}
 use Rattle.sf_parse.specs.Machine.Params.{ParamsState, Between, ResidualParams, GoodParams}
 use Rattle.sf_parse.specs.Machine.Params.{params_step}
 use Rattle.sf_parse.specs.Machine.Params.{params_finish}
@@ -35,7 +35,7 @@ MoreItems d least is u v = (more : List Item) × (ps : Pairs Bare) × (body suff
 abbrev pub ResidualInner : Dialect → InnerState → List ℕ → Inner → Type 0
 ResidualInner d (BetweenItems is) = MoreItems d 0 is
 ResidualInner d (InItem is s) = Then (ResidualItem d s) (λ i. MoreItems d 1 (is ++ i ∷ []))
-ResidualInner d (Closing is s) = Mapped (inner is) (ResidualParams d s)
+ResidualInner d (Closing is s) = MapValues (inner is) (ResidualParams d s)
 
 abbrev pub GoodInner : InnerState → Type 0
 GoodInner (BetweenItems is) = Unit {0}

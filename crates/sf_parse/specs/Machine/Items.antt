@@ -5,7 +5,7 @@ use Rattle.sf_value.specs.Grammar.Items.{item}
 use Rattle.sf_value.specs.declared.dialect.Dialect.{Dialect}
 use Rattle.sf_value.specs.declared.value.Bare.{Bare}
 use Rattle.sf_value.specs.declared.value.Item.{Item}
-use Rattle.sf_parse.specs.Machine.Language.{Then, Mapped, onward}
+use Rattle.sf_parse.specs.Machine.Language.{Then, MapValues, onward}
 use Rattle.sf_parse.specs.Machine.Bares.{BareState, ResidualBare, GoodBare, bare_start, bare_step}
 use Rattle.sf_parse.specs.Machine.Bares.{bare_finish}
 use Rattle.sf_parse.specs.Machine.Params.{ParamsState, MoreParams, ResidualParams, GoodParams}
@@ -18,11 +18,11 @@ pub data ItemState : Type 0 where
 
 -- the item of a bare item and parameters after it
 abbrev pub ItemOf : Dialect → Bare → List ℕ → Item → Type 0
-ItemOf d x = Mapped (item x) (MoreParams d [])
+ItemOf d x = MapValues (item x) (MoreParams d [])
 
 abbrev pub ResidualItem : Dialect → ItemState → List ℕ → Item → Type 0
 ResidualItem d (InBare s) = Then (ResidualBare s) (ItemOf d)
-ResidualItem d (InParams x s) = Mapped (item x) (ResidualParams d s)
+ResidualItem d (InParams x s) = MapValues (item x) (ResidualParams d s)
 
 abbrev pub GoodItem : ItemState → Type 0
 GoodItem (InBare s) = GoodBare s

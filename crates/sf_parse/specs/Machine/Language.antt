@@ -13,8 +13,8 @@ Then {X = X} A B t v = (x : X) × (prefix suffix : List ℕ) × (t ≡ prefix ++
     × B x suffix v
 
 -- the texts of A, with f of their values
-abbrev pub Mapped : {X V : Type 0} → (X → V) → (List ℕ → X → Type 0) → List ℕ → V → Type 0
-Mapped {X = X} f A t v = (x : X) × A t x × (v ≡ f x)
+abbrev pub MapValues : {X V : Type 0} → (X → V) → (List ℕ → X → Type 0) → List ℕ → V → Type 0
+MapValues {X = X} f A t v = (x : X) × A t x × (v ≡ f x)
 
 -- continues in the first part if that takes the byte, otherwise in what follows its value
 abbrev pub onward : {S T X : Type 0} → (S → T) → Option S → Option X → (X → Option T) → Option T

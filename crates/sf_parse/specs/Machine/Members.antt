@@ -6,7 +6,7 @@ use Rattle.sf_value.specs.declared.dialect.Dialect.{Dialect}
 use Rattle.sf_value.specs.declared.value.Member.{Member}
 use Rattle.sf_value.specs.declared.value.Member.TheVariants as member
 use Rattle.sf_value.specs.Grammar.Words.{allow}
-use Rattle.sf_parse.specs.Machine.Language.{Mapped}
+use Rattle.sf_parse.specs.Machine.Language.{MapValues}
 use Rattle.sf_parse.specs.Machine.Items.{ItemState, ResidualItem, GoodItem, item_start, item_step}
 use Rattle.sf_parse.specs.Machine.Items.{item_finish}
 use Rattle.sf_parse.specs.Machine.Inners.{InnerState, BetweenItems, ResidualInner, GoodInner, inner_step}
@@ -18,8 +18,8 @@ pub data MemberState : Type 0 where
   InMany : (state : InnerState) → MemberState
 
 abbrev pub ResidualMember : Dialect → MemberState → List ℕ → Member → Type 0
-ResidualMember d (InOne s) = Mapped member.Item (ResidualItem d s)
-ResidualMember d (InMany s) = Mapped member.Inner (ResidualInner d s)
+ResidualMember d (InOne s) = MapValues member.Item (ResidualItem d s)
+ResidualMember d (InMany s) = MapValues member.Inner (ResidualInner d s)
 
 abbrev pub GoodMember : MemberState → Type 0
 GoodMember (InOne s) = GoodItem s

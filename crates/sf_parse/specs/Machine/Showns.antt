@@ -53,12 +53,12 @@ GoodShown (Hex bytes x h) = GoodUtf8 x × (h < 16) × (can_begin x h ≡ true)
 GoodShown (Done bytes) = Unit {0}
 
 -- one more byte of the text
-abbrev pub pushed : ShownState → ℕ → Option ShownState
-pushed Quote b = None
-pushed (Unencoded bytes x) b = option_map (Unencoded (bytes ++ b ∷ [])) (utf8_step x b)
-pushed (Percent bytes x) b = option_map (Unencoded (bytes ++ b ∷ [])) (utf8_step x b)
-pushed (Hex bytes x h) b = option_map (Unencoded (bytes ++ b ∷ [])) (utf8_step x b)
-pushed (Done bytes) b = None
+abbrev pub push_byte : ShownState → ℕ → Option ShownState
+push_byte Quote b = None
+push_byte (Unencoded bytes x) b = option_map (Unencoded (bytes ++ b ∷ [])) (utf8_step x b)
+push_byte (Percent bytes x) b = option_map (Unencoded (bytes ++ b ∷ [])) (utf8_step x b)
+push_byte (Hex bytes x h) b = option_map (Unencoded (bytes ++ b ∷ [])) (utf8_step x b)
+push_byte (Done bytes) b = None
 
 abbrev pub quote_step : List ℕ → Utf8 → Option ShownState
 quote_step bytes Start = Some (Done bytes)

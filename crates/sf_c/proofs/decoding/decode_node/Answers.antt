@@ -6,7 +6,7 @@ use Rattle.sf_c.proofs.decoding.decode_node.Goals as goal
 pub returns-clause-decoded : goal.returns-clause-decoded
 returns-clause-decoded c =
     let first = c.split_at_mut-free.ensures.front in
-    let front : c.split_at_mut-free.result.0.now ≡ take c.args.used c.args.bytes.now
+    let prefix : c.split_at_mut-free.result.0.now ≡ take c.args.used c.args.bytes.now
     = first_of (cc, search rules) in
     let new = c.split_at_mut-free.result.0.now ++ c.decode_to.new.buffer in
     subst
@@ -16,5 +16,5 @@ returns-clause-decoded c =
     (node_decoded c.args.text.now c.args.bytes.now c.decode_to.new.buffer new c.args.used
     c.in_ok-count.count c.args.node c.in_ok-slice.slice c.in_ok-slice.ensures
     (λ z. let h = c.if-node-eq0.false in omega arith) (c.is_within.ensures c.if-not-is_within.false)
-    c.requires.used (ap (λ y. y ++ c.decode_to.new.buffer) front) c.in_ok-count.ensures.within
+    c.requires.used (ap (λ y. y ++ c.decode_to.new.buffer) prefix) c.in_ok-count.ensures.within
     c.in_ok-count.ensures.decoded)

@@ -3,5 +3,5 @@ use Rattle.sf_parse.proofs.blob.take_groups.Goals as goal
 
 pub loop-rest-preserved : goal.loop-rest-preserved
 loop-rest-preserved c =
-    block_on _ _ _ _ _ _ _ c.loop-rest.invariant c.decode_groups-count.ensures.went
+    block_on _ _ _ _ _ _ _ c.loop-rest.invariant c.decode_groups-count.ensures.goes
     c.in_ok-extend.ensures.bytes

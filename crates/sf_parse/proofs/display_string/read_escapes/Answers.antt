@@ -12,10 +12,10 @@ loop-rest-preserved c =
     let n = c.loop-rest.count in
     record {
       within = omega arith;
-      went =
+      goes =
           λ bs. escape_on x y z bs block c.args.chunk.now c.loop-rest.rest.now n c.in-Some.byte
           (omega arith) c.in-len3-up.len_at_least c.if-percent-ne37.false
-          (c.loop-rest.invariant.went bs)
+          (c.loop-rest.invariant.goes bs)
           (c.in-Some.ensures (bs ++ take n block) y z (sym c.in-Some-after.ensures));
       leads =
           λ bs h. escape_leads x y z bs block n c.in-Some.byte (omega arith)

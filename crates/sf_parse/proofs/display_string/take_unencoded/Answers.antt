@@ -1,10 +1,10 @@
-use Rattle.sf_parse.proofs.Leading.{unencoded_went, leads_run}
+use Rattle.sf_parse.proofs.Leading.{unencoded_goes, leads_run}
 use Rattle.sf_parse.proofs.display_string.take_unencoded.Goals as goal
 
-pub returns-in-Start-clause-went : goal.returns-in-Start-clause-went
-returns-in-Start-clause-went c =
+pub returns-in-Start-clause-goes : goal.returns-in-Start-clause-goes
+returns-in-Start-clause-goes c =
     rw c.in-Start.is
-    (unencoded_went _ _ _ _ _ c.long_prefix.ensures.whole c.long_prefix.ensures.every
+    (unencoded_goes _ _ _ _ _ c.long_prefix.ensures.whole c.long_prefix.ensures.every
     c.in_ok-extend-in-Start.ensures.bytes)
 
 pub returns-in-Start-clause-leads : goal.returns-in-Start-clause-leads

@@ -1,6 +1,6 @@
-use Rattle.sf_parse.proofs.Reached.{reached_nothing, reaches_more, reached_viable, reached_next}
-use Rattle.sf_parse.proofs.Reached.{reached_end}
-use Rattle.sf_parse.proofs.Reached.{reached_stops, reached_all}
+use Rattle.sf_parse.proofs.Reaching.{reached_nothing, reaches_more, reached_viable, reached_next}
+use Rattle.sf_parse.proofs.Reaching.{reached_end}
+use Rattle.sf_parse.proofs.Reaching.{reached_stops, reached_all}
 use Rattle.sf_parse.proofs.laws.what_was_taken.Goals as goal
 
 pub returns-clause-nothing : goal.returns-clause-nothing

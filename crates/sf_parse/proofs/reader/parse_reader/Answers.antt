@@ -26,7 +26,7 @@ returns-in_err-feed-in-Ok g c =
     let some : 0 < n = omega arith in
     let bound : c.loop-given.given + length chunk ≤ capped (c.args.max + 1) =
     simp length-take (search rules) in
-    let here = take-append-le n block (drop c.min-room.result c.loop-given.block) c.in-Ok.ensures.0
+    let here = take-append-le n block (drop c.min-length.result c.loop-given.block) c.in-Ok.ensures.0
     in
     rw (p.1, p.2)
     (reads_refused _ _ _ c.args.kind c.args.max c.loop-given.given _ _ chunk _
@@ -41,7 +41,7 @@ loop-given-preserved g c =
     let chunk = take n block in
     let some : 0 < n = omega arith in
     let size : length chunk ≡ n = simp length-take (search rules) in
-    let here = take-append-le n block (drop c.min-room.result c.loop-given.block) c.in-Ok.ensures.0
+    let here = take-append-le n block (drop c.min-length.result c.loop-given.block) c.in-Ok.ensures.0
     in (
       reads_more _ _ _ c.args.kind c.args.max c.loop-given.given n _ _ chunk
           c.loop-given.invariant.0

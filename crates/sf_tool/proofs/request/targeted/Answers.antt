@@ -42,7 +42,7 @@ loop-word-preserved c =
       are_names = names-more (texts c.args.words.now) c.loop-word.word-index [] at.0
           c.loop-word.invariant.are_names (subst P word c.in-Some.ensures.0);
       names = c.in-Ok-push.ensures.items
-          ∙ ap₂ (λ front name. front ++ name ∷ []) c.loop-word.invariant.names
+          ∙ ap₂ (λ prefix name. prefix ++ name ∷ []) c.loop-word.invariant.names
           (made ∙ ap lowercase word)
           ∙ sym (lowercase-more (texts c.args.words.now) c.loop-word.word-index [] at.0);
     }

@@ -35,7 +35,7 @@ returns-in_default-2 c =
     let none : c.in_ok-key.field-0 ≡ None = cc in
     misfit s (Entry d s) (ValidEntry d) (HasDistinctKeys {V = Member}) NoMore SameKey
     (entry_laws d s) (AreEntries d s) (whole_dict d s) c.args.nodes.now c.loop-source.rest.now all
-    key c.in-Some.front.now c.in-Some.later.now c.loop-source.invariant.so h (no_more h.first)
+    key c.in-Some.prefix.now c.in-Some.later.now c.loop-source.invariant.so h (no_more h.first)
     (λ fs p xs before o t v a k.
     gives_none (λ k. (k ≡ key) × IsKey k × (value_at k all ≡ None)) c.in_ok-key.field-0
     c.in_ok-key.ensures none p.0 (
@@ -52,7 +52,7 @@ returns-in-Err c =
     subst (λ y. Reads (AreEntries d s) c.args.nodes.now (Err y)) (sym c.behind.ensures)
     (part_wrong s (Entry d s) (ValidEntry d) (HasDistinctKeys {V = Member}) NoMore SameKey
     (entry_laws d s) (AreEntries d s) (whole_dict d s) (IsMember d s) c.args.nodes.now
-    c.loop-source.rest.now c.loop-source.all c.in-Some.bytes.now c.in-Some.front.now
+    c.loop-source.rest.now c.loop-source.all c.in-Some.bytes.now c.in-Some.prefix.now
     c.in-Some.later.now c.in-Err.fault c.loop-source.invariant.so h (no_more h.first) (as_entry d s)
     c.in-Err.ensures)
 
@@ -62,7 +62,7 @@ loop-source-preserved c =
     let s = c.args.source.text.now in
     let h = c.in-Some.ensures.hop in
     let bytes = c.in-Some.bytes.now in
-    let front = c.in-Some.front.now in
+    let prefix = c.in-Some.prefix.now in
     let all = c.loop-source.all in
     let more = c.set.new.self in
     let key = c.in-Some-2.key in
@@ -72,13 +72,13 @@ loop-source-preserved c =
     let k = gives_some (λ k. (k ≡ bytes) × IsKey k × (value_at k all ≡ None)) c.in_ok-key.field-0 key
     c.in_ok-key.ensures some in
     let new = c.in_ok-set.ensures.new in
-    let t = member_at d s bytes c.loop-source.rest.now front c.in-Some.later.now m h
+    let t = member_at d s bytes c.loop-source.rest.now prefix c.in-Some.later.now m h
     c.in-Ok.ensures in
     record {
       so =
-          so_more (Entry d s) (ValidEntry d) c.args.nodes.now c.loop-source.rest.now front
+          so_more (Entry d s) (ValidEntry d) c.args.nodes.now c.loop-source.rest.now prefix
           c.in-Some.later.now all more (key, m) c.loop-source.invariant.so h.split
-          (subst (λ y. DescribesMember d s y front m) (sym k.0) t) (k.1, c.in-Ok.ensures.1)
+          (subst (λ y. DescribesMember d s y prefix m) (sym k.0) t) (k.1, c.in-Ok.ensures.1)
           (pushed all more key m c.loop-source.invariant.distinct k.2 new);
       distinct = distinct_pushed all more key m new;
     }

@@ -29,14 +29,14 @@ returns-then-not-is_empty c =
     let rest = c.loop-at.rest.now in
     let starts = c.starts_item.ensures.starts c.loop-at-test.true in
     let key = c.in-Some.key.now in
-    let front = c.in-Some.front.now in
+    let prefix = c.in-Some.prefix.now in
     let later = c.in-Some.later.now in
     let keyed : key ≡ [] → ⊥ =
     λ e. (let a = c.is_empty.ensures in let b = c.if-not-is_empty.true in grind arith) in
     misfit s (InnerItem d s) (ValidItem d) AnyList (ParamsEnd d s) AnyTwo (inside_laws d s)
-    (IsInside d s) (whole_inside d s) c.args.nodes.now rest c.loop-at.items key front later
+    (IsInside d s) (whole_inside d s) c.args.nodes.now rest c.loop-at.items key prefix later
     c.loop-at.invariant.so h
-    (no_params d s h.first (starts_role rest _ h.first starts (hop_begins s key rest front later h)))
+    (no_params d s h.first (starts_role rest _ h.first starts (hop_begins s key rest prefix later h)))
     (λ fs x xs before o p v a k.
     keyed (sym (opens_key s key _ o) ∙ opens_key s [] _ (item_opens d s role_is.InnerItem [] _ x p)))
 
@@ -48,13 +48,13 @@ returns-in-Err c =
     let rest = c.loop-at.rest.now in
     let starts = c.starts_item.ensures.starts c.loop-at-test.true in
     let key = c.in-Some.key.now in
-    let front = c.in-Some.front.now in
+    let prefix = c.in-Some.prefix.now in
     let later = c.in-Some.later.now in
     subst (λ y. Reads (IsInside d s) c.args.nodes.now (Err y)) (sym c.behind.ensures)
     (part_wrong s (InnerItem d s) (ValidItem d) AnyList (ParamsEnd d s) AnyTwo (inside_laws d s)
     (IsInside d s) (whole_inside d s) (IsItem d s role_is.InnerItem) c.args.nodes.now rest
-    c.loop-at.items key front later c.in-Err.fault c.loop-at.invariant.so h
-    (no_params d s h.first (starts_role rest _ h.first starts (hop_begins s key rest front later h)))
+    c.loop-at.items key prefix later c.in-Err.fault c.loop-at.invariant.so h
+    (no_params d s h.first (starts_role rest _ h.first starts (hop_begins s key rest prefix later h)))
     (as_item d s) c.in-Err.ensures)
 
 pub loop-at-preserved : goal.loop-at-preserved
@@ -65,15 +65,15 @@ loop-at-preserved c =
     let a = c.is_empty.ensures in
     let b = c.if-not-is_empty.false in
     let none : c.in-Some.key.now ≡ [] = first_of (search rules, grind arith) in
-    let front = c.in-Some.front.now in
+    let prefix = c.in-Some.prefix.now in
     let i = c.in-Ok.item in
-    let t = item_at d s c.in-Some.key.now c.loop-at.rest.now front c.in-Some.later.now i h
+    let t = item_at d s c.in-Some.key.now c.loop-at.rest.now prefix c.in-Some.later.now i h
     c.in-Ok.ensures in
     record {
       so =
-          so_more (InnerItem d s) (ValidItem d) c.args.nodes.now c.loop-at.rest.now front
+          so_more (InnerItem d s) (ValidItem d) c.args.nodes.now c.loop-at.rest.now prefix
           c.in-Some.later.now c.loop-at.items c.push.new.self i c.loop-at.invariant.so h.split
-          (subst (λ y. DescribesItem d s role_is.InnerItem y front i) none t) c.in-Ok.ensures.1
+          (subst (λ y. DescribesItem d s role_is.InnerItem y prefix i) none t) c.in-Ok.ensures.1
           c.in-Ok-push.ensures.added;
     }
 

@@ -29,7 +29,7 @@ returns-then-not-is_empty c =
     λ e. (let a = c.is_empty-in-loop-rest.ensures in let b = c.if-not-is_empty.true in grind arith) in
     misfit s (DescribesMember d s []) (ValidMember d) AnyList NoMore AnyTwo (member_laws d s)
     (AreMembers d s) (whole_list d s) c.args.nodes.now c.loop-rest.rest.now c.loop-rest.all
-    c.in-Some.key.now c.in-Some.front.now c.in-Some.later.now c.loop-rest.invariant.so h
+    c.in-Some.key.now c.in-Some.prefix.now c.in-Some.later.now c.loop-rest.invariant.so h
     (no_more h.first)
     (λ fs x xs before o p v a k.
     keyed (sym (opens_key s c.in-Some.key.now _ o) ∙ opens_key s [] _ (opens d s [] _ x p)))
@@ -42,7 +42,7 @@ returns-in-Err c =
     subst (λ y. Reads (AreMembers d s) c.args.nodes.now (Err y)) (sym c.behind.ensures)
     (part_wrong s (DescribesMember d s []) (ValidMember d) AnyList NoMore AnyTwo (member_laws d s)
     (AreMembers d s) (whole_list d s) (IsMember d s) c.args.nodes.now c.loop-rest.rest.now
-    c.loop-rest.all c.in-Some.key.now c.in-Some.front.now c.in-Some.later.now c.in-Err.fault
+    c.loop-rest.all c.in-Some.key.now c.in-Some.prefix.now c.in-Some.later.now c.in-Err.fault
     c.loop-rest.invariant.so h (no_more h.first) (as_member d s) c.in-Err.ensures)
 
 pub loop-rest-preserved : goal.loop-rest-preserved
@@ -53,15 +53,15 @@ loop-rest-preserved c =
     let a = c.is_empty-in-loop-rest.ensures in
     let b = c.if-not-is_empty.false in
     let none : c.in-Some.key.now ≡ [] = first_of (search rules, grind arith) in
-    let front = c.in-Some.front.now in
+    let prefix = c.in-Some.prefix.now in
     let m = c.in-Ok.member in
-    let t = member_at d s c.in-Some.key.now c.loop-rest.rest.now front c.in-Some.later.now m h
+    let t = member_at d s c.in-Some.key.now c.loop-rest.rest.now prefix c.in-Some.later.now m h
     c.in-Ok.ensures in
     record {
       so =
           so_more (DescribesMember d s []) (ValidMember d) c.args.nodes.now c.loop-rest.rest.now
-          front c.in-Some.later.now c.loop-rest.all c.push.new.self m c.loop-rest.invariant.so
-          h.split (subst (λ y. DescribesMember d s y front m) none t) c.in-Ok.ensures.1
+          prefix c.in-Some.later.now c.loop-rest.all c.push.new.self m c.loop-rest.invariant.so
+          h.split (subst (λ y. DescribesMember d s y prefix m) none t) c.in-Ok.ensures.1
           c.in-Ok-push.ensures.added;
     }
 

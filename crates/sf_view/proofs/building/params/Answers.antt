@@ -35,7 +35,7 @@ returns-in_default-2 c =
     let none : c.in_ok-key.field-0 ≡ None = cc in
     misfit s (Param d s r) (ValidParam d) (HasDistinctKeys {V = Bare}) NoMore SameKey
     (param_laws d s r) (AreParams d s r) (whole_params d s r) c.args.nodes.now
-    c.loop-source.rest.now all key c.in-Some.front.now c.in-Some.later.now
+    c.loop-source.rest.now all key c.in-Some.prefix.now c.in-Some.later.now
     c.loop-source.invariant.so h (no_more h.first)
     (λ fs p xs before o t v a k.
     gives_none (λ k. (k ≡ key) × IsKey k × (value_at k all ≡ None)) c.in_ok-key.field-0
@@ -51,16 +51,16 @@ returns-in_default-3 c =
     let s = c.args.source.text.now in
     let r = c.args.role in
     let h = c.in-Some.ensures.hop in
-    let front = c.in-Some.front.now in
+    let prefix = c.in-Some.prefix.now in
     let is = c.in_default-3.is in
     let none : c.in_ok-value.field-0 ≡ None = cc in
     misfit s (Param d s r) (ValidParam d) (HasDistinctKeys {V = Bare}) NoMore SameKey
     (param_laws d s r) (AreParams d s r) (whole_params d s r) c.args.nodes.now
-    c.loop-source.rest.now c.loop-source.all c.in-Some.bytes.now front c.in-Some.later.now
+    c.loop-source.rest.now c.loop-source.all c.in-Some.bytes.now prefix c.in-Some.later.now
     c.loop-source.invariant.so h (no_more h.first)
     (λ fs p xs before o t v a k.
-    gives_none (IsParam d s r front) c.in_ok-value.field-0 c.in_ok-value.ensures none p.1
-    (one_param d s c.in-Some.bytes.now r c.loop-source.rest.now front c.in-Some.later.now h fs p t
+    gives_none (IsParam d s r prefix) c.in_ok-value.field-0 c.in_ok-value.ensures none p.1
+    (one_param d s c.in-Some.bytes.now r c.loop-source.rest.now prefix c.in-Some.later.now h fs p t
     v.1))
 
 pub loop-source-preserved : goal.loop-source-preserved
@@ -70,7 +70,7 @@ loop-source-preserved c =
     let r = c.args.role in
     let h = c.in-Some.ensures.hop in
     let bytes = c.in-Some.bytes.now in
-    let front = c.in-Some.front.now in
+    let prefix = c.in-Some.prefix.now in
     let all = c.loop-source.all in
     let more = c.set.new.self in
     let key = c.in-Some-2.key in
@@ -81,14 +81,14 @@ loop-source-preserved c =
     c.in_ok-key.ensures some in
     let there = c.in-Some-3.is in
     let one : c.in_ok-value.field-0 ≡ Some x = cc in
-    let v = gives_some (IsParam d s r front) c.in_ok-value.field-0 x c.in_ok-value.ensures one in
+    let v = gives_some (IsParam d s r prefix) c.in_ok-value.field-0 x c.in_ok-value.ensures one in
     let new = c.in_ok-set.ensures.new in
-    let t = param_at d s bytes r c.loop-source.rest.now front c.in-Some.later.now x h v in
+    let t = param_at d s bytes r c.loop-source.rest.now prefix c.in-Some.later.now x h v in
     record {
       so =
-          so_more (Param d s r) (ValidParam d) c.args.nodes.now c.loop-source.rest.now front
+          so_more (Param d s r) (ValidParam d) c.args.nodes.now c.loop-source.rest.now prefix
           c.in-Some.later.now all more (key, x) c.loop-source.invariant.so h.split
-          (subst (λ y. DescribesParam d s r y front x) (sym k.0) t) (k.1, v.2.1)
+          (subst (λ y. DescribesParam d s r y prefix x) (sym k.0) t) (k.1, v.2.1)
           (pushed all more key x c.loop-source.invariant.distinct k.2 new);
       distinct = distinct_pushed all more key x new;
     }

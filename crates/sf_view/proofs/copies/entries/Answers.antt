@@ -9,7 +9,7 @@ pub loop-part-preserved : goal.loop-part-preserved
 loop-part-preserved c =
     let h = c.in-Some.ensures in
     let s = c.loop-part.rest.text.now in
-    let front = c.in-Some.part.nodes.now in
+    let prefix = c.in-Some.part.nodes.now in
     let later = c.in-Some.others.nodes.now in
     let all = c.loop-part.all in
     let more = c.set.new.self in
@@ -29,12 +29,12 @@ loop-part-preserved c =
           PairsLeft (DescribesEntries d y) (λ p. IsKey p.0 × ValidMember d p.1) later more ps)
           (sym h.text.1)
           (pairs_more (λ ns p. DescribesMember d s p.0 ns p.1) (DescribesEntries d s)
-          (λ p. IsKey p.0 × ValidMember d p.1) c.loop-part.rest.nodes.now front later all more ps
+          (λ p. IsKey p.0 × ValidMember d p.1) c.loop-part.rest.nodes.now prefix later all more ps
           key member (c.loop-part.invariant.left d ps t valid) (λ qs u. h.entries d qs u)
           (λ p u v.
           some_is p (key, member) c.in_ok-key.field-0
           (c.in_ok-key.ensures d p.0 p.1
-          (subst (λ y. DescribesMember d y p.0 front p.1) (sym h.text.0) u) v.0 v.1)
+          (subst (λ y. DescribesMember d y p.0 prefix p.1) (sym h.text.0) u) v.0 v.1)
           some)
           e);
     }

@@ -11,24 +11,24 @@ pub returns-in_default-2 : goal.returns-in_default-2
 returns-in_default-2 c = λ d is t distinct all.
     let h = c.in-Some.ensures in
     let s = c.loop-part.rest.text.now in
-    let front = c.in-Some.part.nodes.now in
+    let prefix = c.in-Some.part.nodes.now in
     let it = c.in_default-2.is in
     let none : c.in_ok-item.field-0 ≡ None = cc in
     parts_stuck (DescribesItem d s role_is.InnerItem []) (DescribesItems d s)
     (λ i. HasDistinctKeys i.params × (Each (ValidItem d) is → ValidItem d i))
-    c.loop-part.rest.nodes.now front c.in-Some.others.nodes.now c.loop-part.all is
+    c.loop-part.rest.nodes.now prefix c.in-Some.others.nodes.now c.loop-part.all is
     (c.loop-part.invariant.left d is t distinct) (λ xs u. h.items d xs u)
     (λ x u e.
     uncopied (ValidItem d x) x c.in_ok-item.field-0
     (c.in_ok-item.ensures.copy d role_is.InnerItem [] x
-    (subst (λ y. DescribesItem d y role_is.InnerItem [] front x) (sym h.text.0) u) e.0)
+    (subst (λ y. DescribesItem d y role_is.InnerItem [] prefix x) (sym h.text.0) u) e.0)
     none (e.1 all))
 
 pub loop-part-preserved : goal.loop-part-preserved
 loop-part-preserved c =
     let h = c.in-Some.ensures in
     let s = c.loop-part.rest.text.now in
-    let front = c.in-Some.part.nodes.now in
+    let prefix = c.in-Some.part.nodes.now in
     let later = c.in-Some.others.nodes.now in
     let more = c.push.new.self in
     let it = c.in-Some-2.is in
@@ -43,12 +43,12 @@ loop-part-preserved c =
           (sym h.text.1)
           (parts_more (DescribesItem d s role_is.InnerItem []) (DescribesItems d s)
           (λ i. HasDistinctKeys i.params × (Each (ValidItem d) is → ValidItem d i))
-          c.loop-part.rest.nodes.now front later c.loop-part.all more is c.in-Some-2.item
+          c.loop-part.rest.nodes.now prefix later c.loop-part.all more is c.in-Some-2.item
           (c.loop-part.invariant.left d is t distinct) (λ xs u. h.items d xs u)
           (λ x u e.
           copied (ValidItem d x) x c.in-Some-2.item c.in_ok-item.field-0
           (c.in_ok-item.ensures.copy d role_is.InnerItem [] x
-          (subst (λ y. DescribesItem d y role_is.InnerItem [] front x) (sym h.text.0) u) e.0)
+          (subst (λ y. DescribesItem d y role_is.InnerItem [] prefix x) (sym h.text.0) u) e.0)
           some)
           c.in-Ok.ensures.added);
     }

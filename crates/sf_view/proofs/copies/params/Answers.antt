@@ -11,24 +11,24 @@ pub returns-in_default-2 : goal.returns-in_default-2
 returns-in_default-2 c = λ d r ps t all.
     let h = c.in-Some.ensures in
     let s = c.loop-param.rest.text.now in
-    let front = c.in-Some.param.nodes.now in
+    let prefix = c.in-Some.param.nodes.now in
     let is = c.in_default-2.is in
     let none : c.in_ok-key.field-0 ≡ None = cc in
     pairs_stuck (λ ns p. DescribesParams d s r ns (p ∷ [])) (DescribesParams d s r)
     (λ p. Each (λ q. IsKey q.0 × ValidBare d q.1) ps → IsKey p.0 × ValidBare d p.1)
-    c.loop-param.rest.nodes.now front c.in-Some.others.nodes.now c.loop-param.all ps
+    c.loop-param.rest.nodes.now prefix c.in-Some.others.nodes.now c.loop-param.all ps
     (c.loop-param.invariant.left d r ps t) (λ qs u. h.params d r qs u)
     (λ p u e.
     uncopied (IsKey p.0 × ValidBare d p.1) p c.in_ok-key.field-0
     (c.in_ok-key.ensures d r p.0 p.1
-    (subst (λ y. DescribesParams d y r front (p ∷ [])) (sym h.text.0) u))
+    (subst (λ y. DescribesParams d y r prefix (p ∷ [])) (sym h.text.0) u))
     none (e all))
 
 pub loop-param-preserved : goal.loop-param-preserved
 loop-param-preserved c =
     let h = c.in-Some.ensures in
     let s = c.loop-param.rest.text.now in
-    let front = c.in-Some.param.nodes.now in
+    let prefix = c.in-Some.param.nodes.now in
     let later = c.in-Some.others.nodes.now in
     let all = c.loop-param.all in
     let more = c.set.new.self in
@@ -51,12 +51,12 @@ loop-param-preserved c =
           (sym h.text.1)
           (pairs_more (λ ns p. DescribesParams d s r ns (p ∷ [])) (DescribesParams d s r)
           (λ p. Each (λ q. IsKey q.0 × ValidBare d q.1) ps → IsKey p.0 × ValidBare d p.1)
-          c.loop-param.rest.nodes.now front later all more ps key value
+          c.loop-param.rest.nodes.now prefix later all more ps key value
           (c.loop-param.invariant.left d r ps t) (λ qs u. h.params d r qs u)
           (λ p u _.
           copied (IsKey p.0 × ValidBare d p.1) p (key, value) c.in_ok-key.field-0
           (c.in_ok-key.ensures d r p.0 p.1
-          (subst (λ y. DescribesParams d y r front (p ∷ [])) (sym h.text.0) u))
+          (subst (λ y. DescribesParams d y r prefix (p ∷ [])) (sym h.text.0) u))
           some)
           e);
     }

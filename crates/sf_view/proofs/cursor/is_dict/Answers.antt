@@ -11,13 +11,13 @@ pub loop-start-smaller : goal.loop-start-smaller
 loop-start-smaller c =
     let e = c.in_ok-after.ensures in
     subst (λ o. left_in (option_copied c.in_ok-start.start) < left_in (option_copied o))
-    (sym c.in-Some.is) (less_left _ e.front _ _ e.split c.in_ok-start.ensures)
+    (sym c.in-Some.is) (less_left _ e.prefix _ _ e.split c.in_ok-start.ensures)
 
 pub loop-start-preserved : goal.loop-start-preserved
 loop-start-preserved c =
     let P = SpellsEntry c.args.dialect in
     let e = c.in_ok-after.ensures in
-    reached_next P _ _ e.front _ _ _
+    reached_next P _ _ e.prefix _ _ _
     (subst (λ o. IsReached P c.args.text.now (option_copied o)) c.in-Some.is
     c.loop-start.invariant)
     e.split e.spelled c.in_ok-start.ensures

@@ -32,7 +32,7 @@ returns-then-eq-clause-found c = λ d ps t.
     let h = c.eq.ensures in
     let e : c.args.key.now ≡ c.in-Some.name.now = first_of (search rules, grind arith) in
     let f = left_found (DescribesMember d s) s (opens d s) c.args.key.now ps
-    c.loop-name.rest.now c.in-Some.name.now c.in-Some.front.now c.in-Some.later.now
+    c.loop-name.rest.now c.in-Some.name.now c.in-Some.prefix.now c.in-Some.later.now
     (c.loop-name.invariant.members d ps t) c.in-Some.ensures.hop e in
     record { value = f.value; there = f.there; describes = f.describes }
 
@@ -42,7 +42,7 @@ returns-then-eq-clause-found_param c = λ d r ps t.
     let h = c.eq.ensures in
     let e : c.args.key.now ≡ c.in-Some.name.now = first_of (search rules, grind arith) in
     let f = left_found (DescribesParam d s r) s (param_opens d s r) c.args.key.now ps
-    c.loop-name.rest.now c.in-Some.name.now c.in-Some.front.now c.in-Some.later.now
+    c.loop-name.rest.now c.in-Some.name.now c.in-Some.prefix.now c.in-Some.later.now
     (c.loop-name.invariant.params d r ps t) c.in-Some.ensures.hop e in
     let p = f.describes in
     record { value = f.value; there = f.there; describes = (p.0, [], p.1, p.2, refl) }
@@ -56,10 +56,10 @@ loop-name-preserved c =
     record {
       members = λ d ps t.
           left_more (DescribesMember d s) s (opens d s) c.args.key.now ps c.loop-name.rest.now
-          c.in-Some.name.now c.in-Some.front.now c.in-Some.later.now
+          c.in-Some.name.now c.in-Some.prefix.now c.in-Some.later.now
           (c.loop-name.invariant.members d ps t) c.in-Some.ensures.hop e;
       params = λ d r ps t.
           left_more (DescribesParam d s r) s (param_opens d s r) c.args.key.now ps
-          c.loop-name.rest.now c.in-Some.name.now c.in-Some.front.now c.in-Some.later.now
+          c.loop-name.rest.now c.in-Some.name.now c.in-Some.prefix.now c.in-Some.later.now
           (c.loop-name.invariant.params d r ps t) c.in-Some.ensures.hop e;
     }

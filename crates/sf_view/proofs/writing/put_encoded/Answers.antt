@@ -7,14 +7,14 @@ use Rattle.sf_view.proofs.writing.put_encoded.Goals as goal
 pub returns-in_default : goal.returns-in_default
 returns-in_default g c = λ t h.
     let w = c.loop-byte.invariant t h in
-    let r = c.canonical_front.ensures.run w.left w.remains in
+    let r = c.canonical_prefix.ensures.run w.left w.remains in
     let left = remains_less w.unsent r.canonical c.put-sent.ensures in
     left.finish _ _ (rw (c.in_default.ensures.none r.left r.remains) c.put.ensures)
 
 pub loop-byte-preserved : goal.loop-byte-preserved
 loop-byte-preserved g c = λ t h.
     let w = c.loop-byte.invariant t h in
-    let r = c.canonical_front.ensures.run w.left w.remains in
+    let r = c.canonical_prefix.ensures.run w.left w.remains in
     let b = c.in-Some.ensures.some r.left r.remains in
     record {
       left = b.left;

@@ -13,7 +13,7 @@ pub loop-part-init : goal.loop-part-init
 loop-part-init g c =
     let h = c.in-Some.ensures in
     let s = c.args.view.text.now in
-    let front = c.in-Some.first.nodes.now in
+    let prefix = c.in-Some.first.nodes.now in
     let later = c.in-Some.others.nodes.now in
     record {
       text = h.text.1;
@@ -26,20 +26,20 @@ loop-part-init g c =
           c.args.before c.put_entry-sent.result (canon_series canon_entry xs) in
           subst (λ y. Unwritten (DescribesEntries d y) (canon_commas canon_entry) later new) (sym h.text.1)
           (unwritten_less (λ ns p. DescribesMember d s p.0 ns p.1) (DescribesEntries d s) (canon_series canon_entry) (canon_commas canon_entry)
-          canon_entry (λ x more. refl) c.args.view.nodes.now front later old new
+          canon_entry (λ x more. refl) c.args.view.nodes.now prefix later old new
           (unwritten_all (DescribesEntries d s) (canon_series canon_entry) c.args.view.nodes.now old xs t remains_all)
           (λ ys u. h.entries d ys u)
           (λ x u more left.
           remains_less left refl
           (c.put_entry-sent.ensures d x.0 x.1
-          (subst (λ y. DescribesMember d y x.0 front x.1) (sym h.text.0) u))));
+          (subst (λ y. DescribesMember d y x.0 prefix x.1) (sym h.text.0) u))));
     }
 
 pub loop-part-preserved : goal.loop-part-preserved
 loop-part-preserved g c =
     let h = c.in-Some-split_first.ensures in
     let s = c.loop-part.rest.text.now in
-    let front = c.in-Some-split_first.part.nodes.now in
+    let prefix = c.in-Some-split_first.part.nodes.now in
     let later = c.in-Some-split_first.others.nodes.now in
     record {
       text = h.text.1 ∙ c.loop-part.invariant.text;
@@ -53,13 +53,13 @@ loop-part-preserved g c =
           c.put_entry-sent-in-loop-part.result (canon_series canon_entry xs) in
           subst (λ y. Unwritten (DescribesEntries d y) (canon_commas canon_entry) later new) (sym h.text.1)
           (unwritten_less (λ ns p. DescribesMember d s p.0 ns p.1) (DescribesEntries d s) (canon_commas canon_entry) (canon_commas canon_entry)
-          (λ p. 44 ∷ 32 ∷ canon_entry p) (λ x more. refl) c.loop-part.rest.nodes.now front later old new
+          (λ p. 44 ∷ 32 ∷ canon_entry p) (λ x more. refl) c.loop-part.rest.nodes.now prefix later old new
           (c.loop-part.invariant.left d xs t) (λ ys u. h.entries d ys u)
           (λ x u more left.
           remains_less left refl
           (then c.put-sent.ensures
           (c.put_entry-sent-in-loop-part.ensures d x.0 x.1
-          (subst (λ y. DescribesMember d y x.0 front x.1) (sym h.text.0) u)))));
+          (subst (λ y. DescribesMember d y x.0 prefix x.1) (sym h.text.0) u)))));
     }
 
 pub returns-in_default-split_first : goal.returns-in_default-split_first

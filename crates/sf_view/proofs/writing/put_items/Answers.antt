@@ -14,7 +14,7 @@ pub loop-part-init : goal.loop-part-init
 loop-part-init g c =
     let h = c.in-Some.ensures in
     let s = c.args.view.text.now in
-    let front = c.in-Some.first.nodes.now in
+    let prefix = c.in-Some.first.nodes.now in
     let later = c.in-Some.others.nodes.now in
     record {
       text = h.text.1;
@@ -27,20 +27,20 @@ loop-part-init g c =
           c.args.before c.put_item-sent.result (canon_items xs) in
           subst (λ y. Unwritten (DescribesItems d y) canon_more later new) (sym h.text.1)
           (unwritten_less (DescribesItem d s role_is.InnerItem []) (DescribesItems d s) canon_items canon_more
-          canon_item (λ x more. refl) c.args.view.nodes.now front later old new
+          canon_item (λ x more. refl) c.args.view.nodes.now prefix later old new
           (unwritten_all (DescribesItems d s) canon_items c.args.view.nodes.now old xs t remains_all)
           (λ ys u. h.items d ys u)
           (λ x u more left.
           remains_less left refl
           (c.put_item-sent.ensures d role_is.InnerItem [] x
-          (subst (λ y. DescribesItem d y role_is.InnerItem [] front x) (sym h.text.0) u))));
+          (subst (λ y. DescribesItem d y role_is.InnerItem [] prefix x) (sym h.text.0) u))));
     }
 
 pub loop-part-preserved : goal.loop-part-preserved
 loop-part-preserved g c =
     let h = c.in-Some-split_first.ensures in
     let s = c.loop-part.rest.text.now in
-    let front = c.in-Some-split_first.part.nodes.now in
+    let prefix = c.in-Some-split_first.part.nodes.now in
     let later = c.in-Some-split_first.others.nodes.now in
     record {
       text = h.text.1 ∙ c.loop-part.invariant.text;
@@ -54,13 +54,13 @@ loop-part-preserved g c =
           c.put_item-sent-in-loop-part.result (canon_items xs) in
           subst (λ y. Unwritten (DescribesItems d y) canon_more later new) (sym h.text.1)
           (unwritten_less (DescribesItem d s role_is.InnerItem []) (DescribesItems d s) canon_more canon_more
-          (λ i. 32 ∷ canon_item i) (λ x more. refl) c.loop-part.rest.nodes.now front later old new
+          (λ i. 32 ∷ canon_item i) (λ x more. refl) c.loop-part.rest.nodes.now prefix later old new
           (c.loop-part.invariant.left d xs t) (λ ys u. h.items d ys u)
           (λ x u more left.
           remains_less left refl
           (then c.put-sent.ensures
           (c.put_item-sent-in-loop-part.ensures d role_is.InnerItem [] x
-          (subst (λ y. DescribesItem d y role_is.InnerItem [] front x) (sym h.text.0) u)))));
+          (subst (λ y. DescribesItem d y role_is.InnerItem [] prefix x) (sym h.text.0) u)))));
     }
 
 pub returns-in_default-split_first : goal.returns-in_default-split_first

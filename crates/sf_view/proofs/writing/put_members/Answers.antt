@@ -13,7 +13,7 @@ pub loop-part-init : goal.loop-part-init
 loop-part-init g c =
     let h = c.in-Some.ensures in
     let s = c.args.view.text.now in
-    let front = c.in-Some.first.nodes.now in
+    let prefix = c.in-Some.first.nodes.now in
     let later = c.in-Some.others.nodes.now in
     record {
       text = h.text.1;
@@ -26,20 +26,20 @@ loop-part-init g c =
           c.args.before c.put_member-sent.result (canon_series canon_member xs) in
           subst (λ y. Unwritten (DescribesMembers d y) (canon_commas canon_member) later new) (sym h.text.1)
           (unwritten_less (DescribesMember d s []) (DescribesMembers d s) (canon_series canon_member) (canon_commas canon_member)
-          canon_member (λ x more. refl) c.args.view.nodes.now front later old new
+          canon_member (λ x more. refl) c.args.view.nodes.now prefix later old new
           (unwritten_all (DescribesMembers d s) (canon_series canon_member) c.args.view.nodes.now old xs t remains_all)
           (λ ys u. h.members d ys u)
           (λ x u more left.
           remains_less left refl
           (c.put_member-sent.ensures d [] x
-          (subst (λ y. DescribesMember d y [] front x) (sym h.text.0) u))));
+          (subst (λ y. DescribesMember d y [] prefix x) (sym h.text.0) u))));
     }
 
 pub loop-part-preserved : goal.loop-part-preserved
 loop-part-preserved g c =
     let h = c.in-Some-split_first.ensures in
     let s = c.loop-part.rest.text.now in
-    let front = c.in-Some-split_first.part.nodes.now in
+    let prefix = c.in-Some-split_first.part.nodes.now in
     let later = c.in-Some-split_first.others.nodes.now in
     record {
       text = h.text.1 ∙ c.loop-part.invariant.text;
@@ -53,13 +53,13 @@ loop-part-preserved g c =
           c.put_member-sent-in-loop-part.result (canon_series canon_member xs) in
           subst (λ y. Unwritten (DescribesMembers d y) (canon_commas canon_member) later new) (sym h.text.1)
           (unwritten_less (DescribesMember d s []) (DescribesMembers d s) (canon_commas canon_member) (canon_commas canon_member)
-          (λ m. 44 ∷ 32 ∷ canon_member m) (λ x more. refl) c.loop-part.rest.nodes.now front later old new
+          (λ m. 44 ∷ 32 ∷ canon_member m) (λ x more. refl) c.loop-part.rest.nodes.now prefix later old new
           (c.loop-part.invariant.left d xs t) (λ ys u. h.members d ys u)
           (λ x u more left.
           remains_less left refl
           (then c.put-sent.ensures
           (c.put_member-sent-in-loop-part.ensures d [] x
-          (subst (λ y. DescribesMember d y [] front x) (sym h.text.0) u)))));
+          (subst (λ y. DescribesMember d y [] prefix x) (sym h.text.0) u)))));
     }
 
 pub returns-in_default-split_first : goal.returns-in_default-split_first

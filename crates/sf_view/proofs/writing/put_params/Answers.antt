@@ -2,7 +2,7 @@ use Rattle.std.proofs.Common.{ℕ, List, ◌∷◌, [], ◌∙◌, sym, subst, r
 use Rattle.sf_value.specs.Grammar.Canonical.{canon_params}
 use Rattle.sf_write.proofs.Following.{Remains, remains_all, remains_less, remains_none}
 use Rattle.sf_view.specs.View.{DescribesParams}
-use Rattle.sf_view.specs.Written.{canon_param}
+use Rattle.sf_view.specs.CanonicalParts.{canon_param}
 use Rattle.sf_view.proofs.Writes.{Unwritten, unwritten_all, unwritten_less, unwritten_none, params_are}
 use Rattle.sf_view.proofs.writing.put_params.Goals as goal
 
@@ -18,7 +18,7 @@ pub loop-param-preserved : goal.loop-param-preserved
 loop-param-preserved g c =
     let h = c.in-Some.ensures in
     let s = c.loop-param.rest.text.now in
-    let front = c.in-Some.param.nodes.now in
+    let prefix = c.in-Some.param.nodes.now in
     let later = c.in-Some.others.nodes.now in
     record {
       text = h.text.1 ∙ c.loop-param.invariant.text;
@@ -31,12 +31,12 @@ loop-param-preserved g c =
           c.args.before c.put_param-sent.result (canon_params ps) in
           subst (λ y. Unwritten (DescribesParams d y r) canon_params later new) (sym h.text.1)
           (unwritten_less (λ ns p. DescribesParams d s r ns (p ∷ [])) (DescribesParams d s r)
-          canon_params canon_params canon_param params_are c.loop-param.rest.nodes.now front later
+          canon_params canon_params canon_param params_are c.loop-param.rest.nodes.now prefix later
           old new (c.loop-param.invariant.left d r ps t) (λ qs u. h.params d r qs u)
           (λ p u rest left.
           remains_less left refl
           (c.put_param-sent.ensures d r p.0 p.1
-          (subst (λ y. DescribesParams d y r front (p ∷ [])) (sym h.text.0) u))));
+          (subst (λ y. DescribesParams d y r prefix (p ∷ [])) (sym h.text.0) u))));
     }
 
 pub returns-in_default : goal.returns-in_default

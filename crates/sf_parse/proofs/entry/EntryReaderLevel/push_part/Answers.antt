@@ -5,8 +5,8 @@ use Rattle.sf_parse.proofs.Prefixes.{part_above}
 use Rattle.sf_parse.proofs.OpenParts.{member_in_entry, flag_part, flag_kept}
 use Rattle.sf_parse.proofs.entry.EntryReaderLevel.push_part.Goals as goal
 
-pub returns-in-InMemberValue-clause-went : goal.returns-in-InMemberValue-clause-went
-returns-in-InMemberValue-clause-went c =
+pub returns-in-InMemberValue-clause-goes : goal.returns-in-InMemberValue-clause-goes
+returns-in-InMemberValue-clause-goes c =
     let d = c.args.context.now.dialect in
     let k = c.self.inside.key in
     rw (← c.self.view_is, c.in-InMemberValue.is)
@@ -22,8 +22,8 @@ invariant_of-self-in-InFlag c =
           c.in_ok-took-in-InFlag.ensures.prefix,
     )
 
-pub returns-in-InFlag-clause-went : goal.returns-in-InFlag-clause-went
-returns-in-InFlag-clause-went c =
+pub returns-in-InFlag-clause-goes : goal.returns-in-InFlag-clause-goes
+returns-in-InFlag-clause-goes c =
     let fits = rw c.in-InFlag.is at c.self.invariant in
     rw (← c.self.view_is, c.in-InFlag.is)
     (flag_part c.args.context.now.dialect _ _ _ _ _ fits.1 c.in_ok-took-in-InFlag.ensures.prefix)

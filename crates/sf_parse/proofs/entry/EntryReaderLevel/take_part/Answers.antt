@@ -3,8 +3,8 @@ use Rattle.sf_value.specs.Grammar.Classes.{is_key_start, is_in_key}
 use Rattle.sf_parse.specs.Machine.Texts.{word_step}
 use Rattle.sf_parse.specs.Machine.Members.{member_step}
 use Rattle.sf_parse.specs.Machine.Entries.{InKey, InMemberValue, entry_step}
-use Rattle.sf_parse.proofs.Prefixes.{part_above, went_above}
-use Rattle.sf_parse.proofs.ByteRuns.{word_went, word_run_kept}
+use Rattle.sf_parse.proofs.Prefixes.{part_above, goes_above}
+use Rattle.sf_parse.proofs.ByteRuns.{word_goes, word_run_kept}
 use Rattle.sf_parse.proofs.OpenParts.{key_in_entry, member_in_entry, flag_part, flag_kept}
 use Rattle.sf_parse.proofs.entry.EntryReaderLevel.take_part.Goals as goal
 
@@ -15,16 +15,16 @@ invariant_of-self-in-InKey c = (
   c.self.invariant.1,
 )
 
-pub returns-in-InKey-clause-went : goal.returns-in-InKey-clause-went
-returns-in-InKey-clause-went c =
+pub returns-in-InKey-clause-goes : goal.returns-in-InKey-clause-goes
+returns-in-InKey-clause-goes c =
     let d = c.args.context.now.dialect in
     rw (← c.self.view_is, c.in-InKey.is)
-    (went_above (word_step is_in_key) (entry_step d) InKey (key_in_entry d) _ _ _ _
-    (word_went is_in_key _ _ _ _ _ c.short_prefix.ensures.whole c.short_prefix.ensures.every
+    (goes_above (word_step is_in_key) (entry_step d) InKey (key_in_entry d) _ _ _ _
+    (word_goes is_in_key _ _ _ _ _ c.short_prefix.ensures.whole c.short_prefix.ensures.every
     c.in_ok-extend-in-InKey.ensures.bytes))
 
-pub returns-in-InMemberValue-clause-went : goal.returns-in-InMemberValue-clause-went
-returns-in-InMemberValue-clause-went c =
+pub returns-in-InMemberValue-clause-goes : goal.returns-in-InMemberValue-clause-goes
+returns-in-InMemberValue-clause-goes c =
     let d = c.args.context.now.dialect in
     let k = c.self.inside.key in
     rw (← c.self.view_is, c.in-InMemberValue.is)
@@ -40,8 +40,8 @@ invariant_of-self-in-InFlag c =
           c.in_ok-rest-in-InFlag.ensures.prefix,
     )
 
-pub returns-in-InFlag-clause-went : goal.returns-in-InFlag-clause-went
-returns-in-InFlag-clause-went c =
+pub returns-in-InFlag-clause-goes : goal.returns-in-InFlag-clause-goes
+returns-in-InFlag-clause-goes c =
     let fits = rw c.in-InFlag.is at c.self.invariant in
     rw (← c.self.view_is, c.in-InFlag.is)
     (flag_part c.args.context.now.dialect _ _ _ _ _ fits.1 c.in_ok-rest-in-InFlag.ensures.prefix)

@@ -6,8 +6,8 @@ use Rattle.sf_parse.proofs.Prefixes.{part_above}
 use Rattle.sf_parse.proofs.OpenParts.{item_in_field}
 use Rattle.sf_parse.proofs.item_field.ItemFieldReaderLevel.push_part.Goals as goal
 
-pub returns-in-Inside-clause-went : goal.returns-in-Inside-clause-went
-returns-in-Inside-clause-went c =
+pub returns-in-Inside-clause-goes : goal.returns-in-Inside-clause-goes
+returns-in-Inside-clause-goes c =
     let d = c.args.context.now.dialect in
     rw (← c.self.view_is, c.in-Inside.is)
     (part_above (item_step d) (step d) InsideItem (item_in_field d) _ _ _ _ _ _ refl

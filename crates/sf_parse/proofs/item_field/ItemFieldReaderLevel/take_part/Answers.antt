@@ -5,28 +5,28 @@ use Rattle.sf_parse.specs.Machine.States.{BeforeItem, InsideItem}
 use Rattle.sf_parse.specs.Machine.Fields.{step}
 use Rattle.sf_parse.specs.ItemFieldView.{after_of}
 use Rattle.sf_parse.proofs.Prefixes.{part_above}
-use Rattle.sf_parse.proofs.ByteRuns.{stay_went}
+use Rattle.sf_parse.proofs.ByteRuns.{stay_goes}
 use Rattle.sf_parse.proofs.OpenParts.{space_before, space_behind, item_in_field}
 use Rattle.sf_parse.proofs.item_field.ItemFieldReaderLevel.take_part.Goals as goal
 
-pub returns-in-Before-clause-went : goal.returns-in-Before-clause-went
-returns-in-Before-clause-went c =
+pub returns-in-Before-clause-goes : goal.returns-in-Before-clause-goes
+returns-in-Before-clause-goes c =
     let d = c.args.context.now.dialect in
     rw (← c.self.view_is, c.in-Before.is)
-    (stay_went (step d) is_sp BeforeItem _ _ _ (space_before d)
+    (stay_goes (step d) is_sp BeforeItem _ _ _ (space_before d)
     c.short_prefix.ensures.whole c.short_prefix.ensures.every)
 
-pub returns-in-Behind-clause-went : goal.returns-in-Behind-clause-went
-returns-in-Behind-clause-went c =
+pub returns-in-Behind-clause-goes : goal.returns-in-Behind-clause-goes
+returns-in-Behind-clause-goes c =
     let d = c.args.context.now.dialect in
     let fits = rw c.in-Behind.is at c.self.invariant in
     rw (← c.self.view_is, c.in-Behind.is)
-    (stay_went (step d) is_sp (after_of c.self.inside.whole) _ _ _
+    (stay_goes (step d) is_sp (after_of c.self.inside.whole) _ _ _
     (space_behind d c.self.inside.whole fits)
     c.short_prefix-in-Behind.ensures.whole c.short_prefix-in-Behind.ensures.every)
 
-pub returns-in-Inside-clause-went : goal.returns-in-Inside-clause-went
-returns-in-Inside-clause-went c =
+pub returns-in-Inside-clause-goes : goal.returns-in-Inside-clause-goes
+returns-in-Inside-clause-goes c =
     let d = c.args.context.now.dialect in
     rw (← c.self.view_is, c.in-Inside.is)
     (part_above (item_step d) (step d) InsideItem (item_in_field d) _ _ _ _ _ _ refl

@@ -6,15 +6,15 @@ use Rattle.sf_parse.proofs.Prefixes.{part_above}
 use Rattle.sf_parse.proofs.OpenParts.{item_in_member, item_in_many, closing_part, closing_kept}
 use Rattle.sf_parse.proofs.member.MemberReaderLevel.push_part.Goals as goal
 
-pub returns-in-One-clause-went : goal.returns-in-One-clause-went
-returns-in-One-clause-went c =
+pub returns-in-One-clause-goes : goal.returns-in-One-clause-goes
+returns-in-One-clause-goes c =
     let d = c.args.context.now.dialect in
     rw (← c.self.view_is, c.in-One.is)
     (part_above (item_step d) (member_step d) InOne (item_in_member d) _ _ _ _ _ _ refl
     c.push.ensures.prefix)
 
-pub returns-in-InItem-clause-went : goal.returns-in-InItem-clause-went
-returns-in-InItem-clause-went c =
+pub returns-in-InItem-clause-goes : goal.returns-in-InItem-clause-goes
+returns-in-InItem-clause-goes c =
     let d = c.args.context.now.dialect in
     let is = c.self.inside.items in
     rw (← c.self.view_is, c.in-InItem.is)
@@ -26,8 +26,8 @@ invariant_of-self-in-Closing c =
     let fits = rw c.in-Closing.is at c.self.invariant in
     closing_kept c.args.context.now.dialect _ _ _ _ fits c.in_ok-took-in-Closing.ensures.prefix
 
-pub returns-in-Closing-clause-went : goal.returns-in-Closing-clause-went
-returns-in-Closing-clause-went c =
+pub returns-in-Closing-clause-goes : goal.returns-in-Closing-clause-goes
+returns-in-Closing-clause-goes c =
     let fits = rw c.in-Closing.is at c.self.invariant in
     rw (← c.self.view_is, c.in-Closing.is)
     (closing_part c.args.context.now.dialect _ _ _ _ _ fits c.in_ok-took-in-Closing.ensures.prefix)

@@ -4,28 +4,28 @@ use Rattle.sf_parse.specs.Machine.Items.{item_step}
 use Rattle.sf_parse.specs.Machine.Inners.{BetweenItems, InItem}
 use Rattle.sf_parse.specs.Machine.Members.{InOne, InMany, member_step}
 use Rattle.sf_parse.proofs.Prefixes.{part_above}
-use Rattle.sf_parse.proofs.ByteRuns.{stay_went}
+use Rattle.sf_parse.proofs.ByteRuns.{stay_goes}
 use Rattle.sf_parse.proofs.OpenParts.{space_in_member, item_in_member, item_in_many, closing_part}
 use Rattle.sf_parse.proofs.OpenParts.{closing_kept}
 use Rattle.sf_parse.proofs.member.MemberReaderLevel.take_part.Goals as goal
 
-pub returns-in-BetweenItems-clause-went : goal.returns-in-BetweenItems-clause-went
-returns-in-BetweenItems-clause-went c =
+pub returns-in-BetweenItems-clause-goes : goal.returns-in-BetweenItems-clause-goes
+returns-in-BetweenItems-clause-goes c =
     let d = c.args.context.now.dialect in
     let is = c.self.inside.items in
     rw (← c.self.view_is, c.in-BetweenItems.is)
-    (stay_went (member_step d) is_sp (InMany (BetweenItems is)) _ _ _ (space_in_member d is)
+    (stay_goes (member_step d) is_sp (InMany (BetweenItems is)) _ _ _ (space_in_member d is)
     c.short_prefix.ensures.whole c.short_prefix.ensures.every)
 
-pub returns-in-One-clause-went : goal.returns-in-One-clause-went
-returns-in-One-clause-went c =
+pub returns-in-One-clause-goes : goal.returns-in-One-clause-goes
+returns-in-One-clause-goes c =
     let d = c.args.context.now.dialect in
     rw (← c.self.view_is, c.in-One.is)
     (part_above (item_step d) (member_step d) InOne (item_in_member d) _ _ _ _ _ _ refl
     c.take.ensures.prefix)
 
-pub returns-in-InItem-clause-went : goal.returns-in-InItem-clause-went
-returns-in-InItem-clause-went c =
+pub returns-in-InItem-clause-goes : goal.returns-in-InItem-clause-goes
+returns-in-InItem-clause-goes c =
     let d = c.args.context.now.dialect in
     let is = c.self.inside.items in
     rw (← c.self.view_is, c.in-InItem.is)
@@ -37,8 +37,8 @@ invariant_of-self-in-Closing c =
     let fits = rw c.in-Closing.is at c.self.invariant in
     closing_kept c.args.context.now.dialect _ _ _ _ fits c.in_ok-rest-in-Closing.ensures.prefix
 
-pub returns-in-Closing-clause-went : goal.returns-in-Closing-clause-went
-returns-in-Closing-clause-went c =
+pub returns-in-Closing-clause-goes : goal.returns-in-Closing-clause-goes
+returns-in-Closing-clause-goes c =
     let fits = rw c.in-Closing.is at c.self.invariant in
     rw (← c.self.view_is, c.in-Closing.is)
     (closing_part c.args.context.now.dialect _ _ _ _ _ fits c.in_ok-rest-in-Closing.ensures.prefix)

@@ -7,8 +7,8 @@ loop-byte-preserved c =
     byte_on number_step _ _ _ _ _ _ _ _ c.loop-byte.invariant c.in-Some.ensures.cases.0
     c.if-not-step.false c.step.ensures
 
-pub returns-then-not-step-clause-went : goal.returns-then-not-step-clause-went
-returns-then-not-step-clause-went c =
+pub returns-then-not-step-clause-goes : goal.returns-then-not-step-clause-goes
+returns-then-not-step-clause-goes c =
     byte_stop number_step _ _ _ _ _ _ _ c.loop-byte.invariant c.if-not-step.true c.step.ensures
 
 pub returns-then-not-step-clause-stop : goal.returns-then-not-step-clause-stop

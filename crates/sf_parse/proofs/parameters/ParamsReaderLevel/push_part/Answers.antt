@@ -5,8 +5,8 @@ use Rattle.sf_parse.proofs.Prefixes.{part_above}
 use Rattle.sf_parse.proofs.OpenParts.{value_in_params}
 use Rattle.sf_parse.proofs.parameters.ParamsReaderLevel.push_part.Goals as goal
 
-pub returns-in-InValue-clause-went : goal.returns-in-InValue-clause-went
-returns-in-InValue-clause-went c =
+pub returns-in-InValue-clause-goes : goal.returns-in-InValue-clause-goes
+returns-in-InValue-clause-goes c =
     let d = c.args.context.now.dialect in
     let ps = c.self.inside.params in
     let k = c.self.inside.key in

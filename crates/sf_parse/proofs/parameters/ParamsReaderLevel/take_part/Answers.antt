@@ -3,17 +3,17 @@ use Rattle.sf_value.specs.Grammar.Classes.{is_key_start, is_in_key, is_sp}
 use Rattle.sf_parse.specs.Machine.Texts.{word_step}
 use Rattle.sf_parse.specs.Machine.Bares.{bare_step}
 use Rattle.sf_parse.specs.Machine.Params.{Opened, InParamKey, InValue, params_step}
-use Rattle.sf_parse.proofs.Prefixes.{part_above, went_above}
-use Rattle.sf_parse.proofs.ByteRuns.{stay_went, word_went, word_run_kept}
+use Rattle.sf_parse.proofs.Prefixes.{part_above, goes_above}
+use Rattle.sf_parse.proofs.ByteRuns.{stay_goes, word_goes, word_run_kept}
 use Rattle.sf_parse.proofs.OpenParts.{space_in_params, key_in_params, value_in_params}
 use Rattle.sf_parse.proofs.parameters.ParamsReaderLevel.take_part.Goals as goal
 
-pub returns-in-Opened-clause-went : goal.returns-in-Opened-clause-went
-returns-in-Opened-clause-went c =
+pub returns-in-Opened-clause-goes : goal.returns-in-Opened-clause-goes
+returns-in-Opened-clause-goes c =
     let d = c.args.context.now.dialect in
     let ps = c.self.inside.params in
     rw (← c.self.view_is, c.in-Opened.is)
-    (stay_went (params_step d) is_sp (Opened ps) _ _ _ (space_in_params d ps)
+    (stay_goes (params_step d) is_sp (Opened ps) _ _ _ (space_in_params d ps)
     c.short_prefix.ensures.whole c.short_prefix.ensures.every)
 
 pub invariant_of-self-in-InKey : goal.invariant_of-self-in-InKey
@@ -23,17 +23,17 @@ invariant_of-self-in-InKey c =
     (word_run_kept is_key_start is_in_key _ _ _ c.in_ok-extend-in-InKey.ensures.bytes
     c.short_prefix-in-InKey.ensures.every key)
 
-pub returns-in-InKey-clause-went : goal.returns-in-InKey-clause-went
-returns-in-InKey-clause-went c =
+pub returns-in-InKey-clause-goes : goal.returns-in-InKey-clause-goes
+returns-in-InKey-clause-goes c =
     let d = c.args.context.now.dialect in
     let ps = c.self.inside.params in
     rw (← c.self.view_is, c.in-InKey.is)
-    (went_above (word_step is_in_key) (params_step d) (InParamKey ps) (key_in_params d ps) _ _ _ _
-    (word_went is_in_key _ _ _ _ _ c.short_prefix-in-InKey.ensures.whole
+    (goes_above (word_step is_in_key) (params_step d) (InParamKey ps) (key_in_params d ps) _ _ _ _
+    (word_goes is_in_key _ _ _ _ _ c.short_prefix-in-InKey.ensures.whole
     c.short_prefix-in-InKey.ensures.every c.in_ok-extend-in-InKey.ensures.bytes))
 
-pub returns-in-InValue-clause-went : goal.returns-in-InValue-clause-went
-returns-in-InValue-clause-went c =
+pub returns-in-InValue-clause-goes : goal.returns-in-InValue-clause-goes
+returns-in-InValue-clause-goes c =
     let d = c.args.context.now.dialect in
     let ps = c.self.inside.params in
     let k = c.self.inside.key in

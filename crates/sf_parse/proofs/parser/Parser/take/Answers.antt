@@ -7,14 +7,14 @@ use Rattle.sf_parse.proofs.parser.Parser.take.Goals as goal
 pub invariant_of-self-2 : goal.invariant_of-self-2
 invariant_of-self-2 c =
     let none = ap (λ p. p.refusal) c.self.view_is ∙ c.requires.unrefused in
-    let room = rw (← c.self.view_is) at c.requires.room in
-    sound_taken _ _ _ _ _ _ _ _ c.self.invariant none room c.in-Ok.ensures.prefix
+    let capacity = rw (← c.self.view_is) at c.requires.capacity in
+    sound_taken _ _ _ _ _ _ _ _ c.self.invariant none capacity c.in-Ok.ensures.prefix
 
 pub returns-clause-fed : goal.returns-clause-fed
 returns-clause-fed c =
-    let room = rw (← c.self.view_is) at c.requires.room in
+    let capacity = rw (← c.self.view_is) at c.requires.capacity in
     rw (← c.self.view_is)
-    (fed_taken _ _ _ _ c.self.invariant room c.in-Ok.ensures.prefix
+    (fed_taken _ _ _ _ c.self.invariant capacity c.in-Ok.ensures.prefix
     (record { dialect = refl; kind = refl; max = refl }) refl refl)
 
 pub returns-clause-allocation_free : goal.returns-clause-allocation_free
@@ -24,7 +24,7 @@ returns-clause-allocation_free c =
       unrefused = h.unrefused;
       state =
           field_free_after c.self.inside.context.dialect _ _ _ _ more h.state
-          c.in-Ok.ensures.prefix.went;
+          c.in-Ok.ensures.prefix.goes;
     })
 
 pub returns-in-Err-clause-allocation_free : goal.returns-in-Err-clause-allocation_free

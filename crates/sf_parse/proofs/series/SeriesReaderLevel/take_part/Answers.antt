@@ -3,23 +3,23 @@ use Rattle.sf_value.specs.Grammar.Classes.{is_sp, is_ows}
 use Rattle.sf_parse.specs.Machine.Series.{Begin, InMember, Gap, Comma}
 use Rattle.sf_parse.specs.SeriesView.{series_next}
 use Rattle.sf_parse.proofs.Prefixes.{part_above}
-use Rattle.sf_parse.proofs.ByteRuns.{stay_went}
+use Rattle.sf_parse.proofs.ByteRuns.{stay_goes}
 use Rattle.sf_parse.proofs.SeriesSteps.{space_stays, gap_stays, comma_stays, member_goes_on}
 use Rattle.sf_parse.proofs.series.SeriesReaderLevel.take_part.Goals as goal
 
-pub returns-in-Begin-clause-went : goal.returns-in-Begin-clause-went
-returns-in-Begin-clause-went g c =
+pub returns-in-Begin-clause-goes : goal.returns-in-Begin-clause-goes
+returns-in-Begin-clause-goes g c =
     let d = c.args.context.now.dialect in
     let first = g.P.SeriesMember.first d in
     let next = g.P.Level.next d in
     let added = g.P.SeriesMember.added in
     let none = g.P.SeriesMember.none in
     rw (← c.self.view_is, c.in-Begin.is)
-    (stay_went (series_next first next added none) is_sp Begin _ _ _
+    (stay_goes (series_next first next added none) is_sp Begin _ _ _
     (space_stays first next added none) c.short_prefix.ensures.whole c.short_prefix.ensures.every)
 
-pub returns-in-Gap-clause-went : goal.returns-in-Gap-clause-went
-returns-in-Gap-clause-went g c =
+pub returns-in-Gap-clause-goes : goal.returns-in-Gap-clause-goes
+returns-in-Gap-clause-goes g c =
     let d = c.args.context.now.dialect in
     let first = g.P.SeriesMember.first d in
     let next = g.P.Level.next d in
@@ -27,12 +27,12 @@ returns-in-Gap-clause-went g c =
     let none = g.P.SeriesMember.none in
     let given = c.self.inside.given in
     rw (← c.self.view_is, c.in-Gap.is)
-    (stay_went (series_next first next added none) is_ows (Gap given) _ _ _
+    (stay_goes (series_next first next added none) is_ows (Gap given) _ _ _
     (gap_stays first next added none given) c.short_prefix-in-Gap.ensures.whole
     c.short_prefix-in-Gap.ensures.every)
 
-pub returns-in-Comma-clause-went : goal.returns-in-Comma-clause-went
-returns-in-Comma-clause-went g c =
+pub returns-in-Comma-clause-goes : goal.returns-in-Comma-clause-goes
+returns-in-Comma-clause-goes g c =
     let d = c.args.context.now.dialect in
     let first = g.P.SeriesMember.first d in
     let next = g.P.Level.next d in
@@ -40,12 +40,12 @@ returns-in-Comma-clause-went g c =
     let none = g.P.SeriesMember.none in
     let given = c.self.inside.given in
     rw (← c.self.view_is, c.in-Comma.is)
-    (stay_went (series_next first next added none) is_ows (Comma given) _ _ _
+    (stay_goes (series_next first next added none) is_ows (Comma given) _ _ _
     (comma_stays first next added none given) c.short_prefix-in-Comma.ensures.whole
     c.short_prefix-in-Comma.ensures.every)
 
-pub returns-in-InMember-clause-went : goal.returns-in-InMember-clause-went
-returns-in-InMember-clause-went g c =
+pub returns-in-InMember-clause-goes : goal.returns-in-InMember-clause-goes
+returns-in-InMember-clause-goes g c =
     let d = c.args.context.now.dialect in
     let first = g.P.SeriesMember.first d in
     let next = g.P.Level.next d in

@@ -14,11 +14,11 @@ returns-clause-next c =
       e.shows,
       λ ps r.
           subst (λ o. Remains P (option_copied o) (p ∷ ps)) (sym c.in-Some.is)
-          (remains_then P _ e.front _ _ p ps e.split e.spelled c.in_ok-self.ensures r),
+          (remains_then P _ e.prefix _ _ p ps e.split e.spelled c.in_ok-self.ensures r),
     )
 
 pub returns-clause-fewer : goal.returns-clause-fewer
 returns-clause-fewer c =
     let e = c.in_ok-key.ensures in
     subst (λ o. left_in (option_copied c.in_ok-self.field-0) < left_in (option_copied o))
-    (sym c.in-Some.is) (less_left _ e.front _ _ e.split c.in_ok-self.ensures)
+    (sym c.in-Some.is) (less_left _ e.prefix _ _ e.split c.in_ok-self.ensures)

@@ -19,5 +19,5 @@ returns-clause-next c =
           (λ o. Remains (SpellsMember d) (option_copied o)
           (member.Item (item e.value (settle ps)) ∷ ms))
           (sym c.in-Some.is)
-          (item_remains d _ _ r.front r.after _ r.start ps ms e r.split r.spelled r.next r.remains),
+          (item_remains d _ _ r.prefix r.after _ r.start ps ms e r.split r.spelled r.next r.remains),
     )

@@ -22,22 +22,22 @@ pub returns-clause-members : goal.returns-clause-members
 returns-clause-members c = λ d ms t.
     let h = c.in-Some in
     members_split d c.args.self.now.text.now c.args.self.now.nodes.now ms h.field-0-0.now
-    h.front.now h.later.now h.ensures.hop t
+    h.prefix.now h.later.now h.ensures.hop t
 
 pub returns-clause-entries : goal.returns-clause-entries
 returns-clause-entries c = λ d ps t.
     let h = c.in-Some in
     entries_split d c.args.self.now.text.now c.args.self.now.nodes.now ps h.field-0-0.now
-    h.front.now h.later.now h.ensures.hop t
+    h.prefix.now h.later.now h.ensures.hop t
 
 pub returns-clause-items : goal.returns-clause-items
 returns-clause-items c = λ d is t.
     let h = c.in-Some in
     items_split d c.args.self.now.text.now c.args.self.now.nodes.now is h.field-0-0.now
-    h.front.now h.later.now h.ensures.hop t
+    h.prefix.now h.later.now h.ensures.hop t
 
 pub returns-clause-params : goal.returns-clause-params
 returns-clause-params c = λ d r ps t.
     let h = c.in-Some in
     params_split d c.args.self.now.text.now r c.args.self.now.nodes.now ps h.field-0-0.now
-    h.front.now h.later.now h.ensures.hop t
+    h.prefix.now h.later.now h.ensures.hop t

@@ -1,7 +1,7 @@
 use Rattle.std.proofs.Common.{rules}
 use Rattle.sf_view.proofs.Writes.{canonical_none, canonical_plain, canonical_escape}
 use Rattle.sf_view.proofs.Writes.{canonical_cut}
-use Rattle.sf_view.proofs.writing.canonical_front.Goals as goal
+use Rattle.sf_view.proofs.writing.canonical_prefix.Goals as goal
 
 pub loop-later-init : goal.loop-later-init
 loop-later-init c = canonical_none c.args.text.now

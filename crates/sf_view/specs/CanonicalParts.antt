@@ -17,16 +17,16 @@ encoding b =
     if is_unencoded b then b ∷ [] else percent ∷ hex (b / 16) ∷ hex (b % 16) ∷ []
 
 -- the text begins with bytes of a Display String that are canonical, and the rest spells the others
-pub record CanonicalRun (front rest t : Seq ℕ) : Type 0 where
+pub record CanonicalRun (prefix rest t : Seq ℕ) : Type 0 where
   pub left : Seq ℕ
   pub remains : EncodedBytes rest left
-  pub canonical : canon_shown t ≡ front ++ canon_shown left
+  pub canonical : canon_shown t ≡ prefix ++ canon_shown left
 
 -- the text begins with the escape of a byte that must be escaped in a Display String
 pub record IsNeededEscape (text rest : Seq ℕ) : Type 0 where
-  pub front : Seq ℕ
-  pub split : text ≡ front ++ rest
-  pub run : (t : Seq ℕ) → EncodedBytes text t → CanonicalRun front rest t
+  pub prefix : Seq ℕ
+  pub split : text ≡ prefix ++ rest
+  pub run : (t : Seq ℕ) → EncodedBytes text t → CanonicalRun prefix rest t
 
 -- a parameter (4.1.1.2)
 abbrev pub canon_param : Seq ℕ × Bare → Seq ℕ

@@ -15,8 +15,8 @@ pub record IsReachedBy (d : Dialect) (kind : Kind) (s : State) (p : List ℕ) : 
   pub rest : (u : List ℕ) (v : Field) → Residual d s u v ↔ SpellsField d kind (p ++ u) v
 
 -- the first state is reached by the empty text
-abbrev pub ReachedNothing : Type 0
-ReachedNothing = (d : Dialect) (kind : Kind) → IsReachedBy d kind (begin kind) []
+abbrev pub ReachesNothing : Type 0
+ReachesNothing = (d : Dialect) (kind : Kind) → IsReachedBy d kind (begin kind) []
 
 -- a state to which further bytes lead is reached by the text with them after it
 abbrev pub ReachesMore : Type 0
@@ -24,27 +24,27 @@ ReachesMore = (d : Dialect) (kind : Kind) (s t : State) (p x : List ℕ) → IsR
     → run (step d) s x ≡ Some t → IsReachedBy d kind t (p ++ x)
 
 -- the text is viable
-abbrev pub ReachedViable : Type 0
-ReachedViable = (d : Dialect) (kind : Kind) (s : State) (p : List ℕ) → IsReachedBy d kind s p
+abbrev pub ReachesViable : Type 0
+ReachesViable = (d : Dialect) (kind : Kind) (s : State) (p : List ℕ) → IsReachedBy d kind s p
     → Viable d kind p
 
 -- a byte may come next exactly if the step takes it
-abbrev pub ReachedNext : Type 0
-ReachedNext = (d : Dialect) (kind : Kind) (s : State) (p : List ℕ) (b : ℕ) → IsReachedBy d kind s p
+abbrev pub ReachesNext : Type 0
+ReachesNext = (d : Dialect) (kind : Kind) (s : State) (p : List ℕ) (b : ℕ) → IsReachedBy d kind s p
     → Viable d kind (p ++ b ∷ []) ↔ ((t : State)
     × (step d s b ≡ Some t))
 
 -- the text spells exactly the value that the state has at the end
-abbrev pub ReachedEnd : Type 0
-ReachedEnd = (d : Dialect) (kind : Kind) (s : State) (p : List ℕ) (v : Field) → IsReachedBy d kind s p
+abbrev pub ReachesEnd : Type 0
+ReachesEnd = (d : Dialect) (kind : Kind) (s : State) (p : List ℕ) (v : Field) → IsReachedBy d kind s p
     → SpellsField d kind p v ↔ (finish s ≡ Some v)
 
 -- if the step can't take the next byte, the refusal is at the end of the text
-abbrev pub ReachedStops : Type 0
-ReachedStops = (d : Dialect) (kind : Kind) (s : State) (p q : List ℕ) (b : ℕ) → IsReachedBy d kind s p
+abbrev pub ReachesStops : Type 0
+ReachesStops = (d : Dialect) (kind : Kind) (s : State) (p q : List ℕ) (b : ℕ) → IsReachedBy d kind s p
     → step d s b ≡ None → IsPlace d kind (p ++ b ∷ q) (length p)
 
 -- if no byte is left, it is at the end of the text
-abbrev pub ReachedAll : Type 0
-ReachedAll = (d : Dialect) (kind : Kind) (s : State) (p : List ℕ) → IsReachedBy d kind s p
+abbrev pub ReachesAll : Type 0
+ReachesAll = (d : Dialect) (kind : Kind) (s : State) (p : List ℕ) → IsReachedBy d kind s p
     → IsPlace d kind p (length p)

@@ -1,6 +1,6 @@
 use Rattle.std.proofs.Common.{length}
 use Rattle.sf_view.proofs.Writes.{Canonical}
-use Rattle.sf_view.proofs.writing.canonical_front.Given as goal
+use Rattle.sf_view.proofs.writing.canonical_prefix.Given as goal
 
 abbrev pub invariant-loop-later : goal.invariant-loop-later
 invariant-loop-later l = Canonical l.text l.rest

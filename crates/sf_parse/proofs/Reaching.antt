@@ -10,12 +10,12 @@ use Rattle.sf_value.specs.declared.dialect.Dialect.{Dialect}
 use Rattle.sf_value.specs.declared.value.Kind.{Kind}
 use Rattle.sf_parse.specs.Machine.States.{State}
 use Rattle.sf_parse.specs.Machine.Fields.{Residual, step}
-use Rattle.sf_parse.specs.Reached.{IsReachedBy, ReachedNothing, ReachesMore, ReachedViable, ReachedNext}
-use Rattle.sf_parse.specs.Reached.{ReachedEnd}
-use Rattle.sf_parse.specs.Reached.{ReachedStops, ReachedAll}
+use Rattle.sf_parse.specs.Reaching.{IsReachedBy, ReachesNothing, ReachesMore, ReachesViable, ReachesNext}
+use Rattle.sf_parse.specs.Reaching.{ReachesEnd}
+use Rattle.sf_parse.specs.Reaching.{ReachesStops, ReachesAll}
 use Rattle.sf_parse.proofs.Machine.Fields.{machine, begin_good, begins}
 
-pub reached_nothing : ReachedNothing
+pub reached_nothing : ReachesNothing
 reached_nothing d kind = record { good = begin_good kind; rest = begins d kind }
 
 pub reaches_more : ReachesMore
@@ -45,24 +45,24 @@ reached_prefix d kind s p x k = (
   ),
 )
 
-pub reached_viable : ReachedViable
+pub reached_viable : ReachesViable
 reached_viable d kind s p k = let l = (machine d).lives s k.good in
     (l.text, l.value, (k.rest l.text l.value).0 l.whole)
 
-pub reached_next : ReachedNext
+pub reached_next : ReachesNext
 reached_next d kind s p b k =
     let a = Machines.next (machine d) s s [] b k.good refl in
     let f = reached_prefix d kind s p (b ∷ []) k in
     (λ h. a.0 (f.0 h), λ h. f.1 (a.1 h))
 
-pub reached_end : ReachedEnd
+pub reached_end : ReachesEnd
 reached_end d kind s p v k =
     let r = (machine d).reads s k.good in (
       λ h. r.ends v ((k.rest [] v).1 (subst (λ y. SpellsField d kind y v) (sym (append-nil p)) h)),
       λ e. subst (λ y. SpellsField d kind y v) (append-nil p) ((k.rest [] v).0 (r.ended v e)),
     )
 
-pub reached_stops : ReachedStops
+pub reached_stops : ReachesStops
 reached_stops d kind s p q b k n = record {
   within = omega (arith, length-append p (b ∷ q));
   viable = subst (Continues (SpellsField d kind)) (sym (take-append_seam p (b ∷ q)))
@@ -82,7 +82,7 @@ reached_stops d kind s p q b k n = record {
         let r = (reached_next d kind s p b k).0 f in
         clash (step d s b) r.0 n r.1
 
-pub reached_all : ReachedAll
+pub reached_all : ReachesAll
 reached_all d kind s p k = record {
   within = omega arith;
   viable = subst (Continues (SpellsField d kind)) (sym (take_all (length p) p (omega arith)))
