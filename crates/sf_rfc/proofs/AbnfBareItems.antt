@@ -55,7 +55,7 @@ decimal_keeps t n (neg, w, f, e, k, j, v) = (
 )
 
 pub date_keeps : (t : List ℕ) (n : ℤ) → SpellsDate t n → sf_date t
-date_keeps t n (back, e, s) = (64 ∷ [], back, e, refl, integer_keeps back n s)
+date_keeps t n (suffix, e, s) = (64 ∷ [], suffix, e, refl, integer_keeps suffix n s)
 
 -- Strings
 abbrev string_char : Rule
@@ -165,7 +165,7 @@ pads zero = refl
 pads (suc m) = (61 ∷ [], replicate m 61, refl, refl, pads m)
 
 pub blob_keeps : (t s : List ℕ) → SpellsByteSequence t s → sf_binary t
-blob_keeps t s (suffix, e, (low, back, l, f, h, (m, k, g))) = (
+blob_keeps t s (suffix, e, (low, tail, l, f, h, (m, k, g))) = (
   58 ∷ [],
   suffix,
   e,
@@ -219,23 +219,23 @@ encoded c h = (
 shown_chars : (s t : List ℕ) → EncodedBytes t s → then (many shown_char) DQUOTE t
 shown_chars [] t e = ([], 34 ∷ [], e, (0, refl), refl)
 shown_chars (c ∷ s) t (suffix, inl (h, e), k) =
-    let (front, back, f, (n, g), q) = shown_chars s suffix k in (
-      c ∷ front,
-      back,
+    let (before, behind, f, (n, g), q) = shown_chars s suffix k in (
+      c ∷ before,
+      behind,
       e ∙ ap (λ y. c ∷ y) f,
-      (suc n, (c ∷ [], front, refl, itself c h, g)),
+      (suc n, (c ∷ [], before, refl, itself c h, g)),
       q,
     )
 shown_chars (c ∷ s) t (suffix, inr (h, e), k) =
-    let (front, back, f, (n, g), q) = shown_chars s suffix k in (
-      37 ∷ hex (c / 16) ∷ hex (c % 16) ∷ front,
-      back,
+    let (before, behind, f, (n, g), q) = shown_chars s suffix k in (
+      37 ∷ hex (c / 16) ∷ hex (c % 16) ∷ before,
+      behind,
       e ∙ ap (λ y. 37 ∷ hex (c / 16) ∷ hex (c % 16) ∷ y) f,
       (
         suc n,
         (
           37 ∷ hex (c / 16) ∷ hex (c % 16) ∷ [],
-          front,
+          before,
           refl,
           inr (inr (encoded c (byte c h))),
           g,

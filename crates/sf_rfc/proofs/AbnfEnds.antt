@@ -51,33 +51,33 @@ module _ {P Q : Rule} where
   single_either f g t (inr q) = g t q
 
   begin_then : AllBegin P → AllBegin (then P Q)
-  begin_then f t (front, back, e, p, q) =
-      let (c, u, g, l) = f front p in (c, u ++ back, e ∙ ap (λ y. y ++ back) g, l)
+  begin_then f t (prefix, suffix, e, p, q) =
+      let (c, u, g, l) = f prefix p in (c, u ++ suffix, e ∙ ap (λ y. y ++ suffix) g, l)
 
   begin_behind : AllBegin P → AllBegin Q → AllBegin (then (optional P) Q)
-  begin_behind f g t (front, back, e, inl z, q) =
-      let (c, u, h, l) = g back q in (c, u, e ∙ ap (λ y. y ++ back) z ∙ h, l)
-  begin_behind f g t (front, back, e, inr p, q) =
-      let (c, u, h, l) = f front p in (c, u ++ back, e ∙ ap (λ y. y ++ back) h, l)
+  begin_behind f g t (prefix, suffix, e, inl z, q) =
+      let (c, u, h, l) = g suffix q in (c, u, e ∙ ap (λ y. y ++ suffix) z ∙ h, l)
+  begin_behind f g t (prefix, suffix, e, inr p, q) =
+      let (c, u, h, l) = f prefix p in (c, u ++ suffix, e ∙ ap (λ y. y ++ suffix) h, l)
 
   begin_either : AllBegin P → AllBegin Q → AllBegin (either P Q)
   begin_either f g t (inl p) = f t p
   begin_either f g t (inr q) = g t q
 
   end_then : AllEnd Q → AllEnd (then P Q)
-  end_then f t (front, back, e, p, q) =
-      let (u, c, g, l) = f back q in
-      (front ++ u, c, e ∙ ap (λ y. front ++ y) g ∙ sym (append_assoc front u (c ∷ [])), l)
+  end_then f t (prefix, suffix, e, p, q) =
+      let (u, c, g, l) = f suffix q in
+      (prefix ++ u, c, e ∙ ap (λ y. prefix ++ y) g ∙ sym (append_assoc prefix u (c ∷ [])), l)
 
   end_before : AllEnd P → MayEnd Q → AllEnd (then P Q)
-  end_before f g t (front, back, e, p, q) = go (g back q)
+  end_before f g t (prefix, suffix, e, p, q) = go (g suffix q)
     where
-      go : (back ≡ []) ⊎ Ends back → Ends t
+      go : (suffix ≡ []) ⊎ Ends suffix → Ends t
       go (inl z) =
-          let (u, c, h, l) = f front p in
-          (u, c, e ∙ ap (λ y. front ++ y) z ∙ append-nil front ∙ h, l)
+          let (u, c, h, l) = f prefix p in
+          (u, c, e ∙ ap (λ y. prefix ++ y) z ∙ append-nil prefix ∙ h, l)
       go (inr (u, c, h, l)) =
-          (front ++ u, c, e ∙ ap (λ y. front ++ y) h ∙ sym (append_assoc front u (c ∷ [])), l)
+          (prefix ++ u, c, e ∙ ap (λ y. prefix ++ y) h ∙ sym (append_assoc prefix u (c ∷ [])), l)
 
   end_either : AllEnd P → AllEnd Q → AllEnd (either P Q)
   end_either f g t (inl p) = f t p

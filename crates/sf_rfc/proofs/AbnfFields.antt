@@ -181,16 +181,16 @@ module _ (d : Dialect) where
       → then (many (then (some SP) (sf_item d))) (many SP) t
   more_keep t [] h = ([], t, refl, (0, refl), spaces t h)
   more_keep t (i ∷ is) (gap, prefix, suffix, e, g, l, h, k) =
-      let (front, back, f, (n, r), s) = more_keep suffix is k in (
-        (gap ++ prefix) ++ front,
-        back,
-        e ∙ ap (λ y. gap ++ (prefix ++ y)) f ∙ sym (append_assoc gap prefix (front ++ back))
-            ∙ sym (append_assoc (gap ++ prefix) front back),
+      let (before, behind, f, (n, r), s) = more_keep suffix is k in (
+        (gap ++ prefix) ++ before,
+        behind,
+        e ∙ ap (λ y. gap ++ (prefix ++ y)) f ∙ sym (append_assoc gap prefix (before ++ behind))
+            ∙ sym (append_assoc (gap ++ prefix) before behind),
         (
           suc n,
           (
             gap ++ prefix,
-            front,
+            before,
             refl,
             (gap, prefix, refl, some_spaces gap l g, item_keeps prefix i h),
             r,

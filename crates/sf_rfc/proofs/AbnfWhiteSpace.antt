@@ -20,11 +20,11 @@ no_empty t z (c, u, e, l) =
     let none : ⊥ = omega arith in none
 
 -- no SP before
-no_gap : (gap back t : Seq ℕ) → t ≡ gap ++ back → many SP gap → Begins t → gap ≡ []
-no_gap gap back t e (zero, z) b = z
-no_gap gap back t e (suc n, (front, more, f, p, q)) (c, u, h, l) =
-    let g : t ≡ 32 ∷ (more ++ back) =
-    e ∙ ap (λ y. y ++ back) (f ∙ ap (λ y. y ++ more) p) in
+no_gap : (gap suffix t : Seq ℕ) → t ≡ gap ++ suffix → many SP gap → Begins t → gap ≡ []
+no_gap gap suffix t e (zero, z) b = z
+no_gap gap suffix t e (suc n, (prefix, more, f, p, q)) (c, u, h, l) =
+    let g : t ≡ 32 ∷ (more ++ suffix) =
+    e ∙ ap (λ y. y ++ suffix) (f ∙ ap (λ y. y ++ more) p) in
     let same : 32 ≡ c = ap (λ y. get_or y 0 0) (sym g ∙ h) in
     absurd (let none : ⊥ = omega arith in none)
 
@@ -47,30 +47,30 @@ white : (t : Seq ℕ) → either SP HTAB t → EndsWhite t
 white t (inl e) = ([], 32, e, omega arith)
 white t (inr e) = ([], 9, e, omega arith)
 
-behind : (front : Seq ℕ) (t back : Seq ℕ) → t ≡ front ++ back → EndsWhite back → EndsWhite t
-behind front t back e (u, c, g, l) =
-    (front ++ u, c, e ∙ ap (λ y. front ++ y) g ∙ sym (append_assoc front u (c ∷ [])), l)
+behind : (prefix : Seq ℕ) (t suffix : Seq ℕ) → t ≡ prefix ++ suffix → EndsWhite suffix → EndsWhite t
+behind prefix t suffix e (u, c, g, l) =
+    (prefix ++ u, c, e ∙ ap (λ y. prefix ++ y) g ∙ sym (append_assoc prefix u (c ∷ [])), l)
 
 ends_white : (n : ℕ) (t : Seq ℕ) → times (suc n) (either SP HTAB) t → EndsWhite t
-ends_white zero t (front, back, e, p, z) =
-    let (u, c, g, l) = white front p in
-    (u, c, e ∙ ap (λ y. front ++ y) z ∙ append-nil front ∙ g, l)
-ends_white (suc n) t (front, back, e, p, q) = behind front t back e (ends_white n back q)
+ends_white zero t (prefix, suffix, e, p, z) =
+    let (u, c, g, l) = white prefix p in
+    (u, c, e ∙ ap (λ y. prefix ++ y) z ∙ append-nil prefix ∙ g, l)
+ends_white (suc n) t (prefix, suffix, e, p, q) = behind prefix t suffix e (ends_white n suffix q)
 
-no_tail : (front tail t : Seq ℕ) → t ≡ front ++ tail → OWS tail → Ends t → tail ≡ []
-no_tail front tail t e (zero, z) b = z
-no_tail front tail t e (suc n, h) (u, c, g, l) =
-    let (w, x, f, k) = behind front t tail e (ends_white n tail h) in
+no_tail : (prefix tail t : Seq ℕ) → t ≡ prefix ++ tail → OWS tail → Ends t → tail ≡ []
+no_tail prefix tail t e (zero, z) b = z
+no_tail prefix tail t e (suc n, h) (u, c, g, l) =
+    let (w, x, f, k) = behind prefix t tail e (ends_white n tail h) in
     let same : x ≡ c =
     sym (last_push w x) ∙ ap last_of (sym f ∙ g) ∙ last_push u c in
     absurd (let none : ⊥ = omega arith in none)
 
 between_trimmed : (R : Rule) (t : Seq ℕ) → Between R OWS t → IsTrimmed t → R t
 between_trimmed R t (gap, body, tail, e, g, r, w) (b, z) =
-    let no_front = no_gap gap (body ++ tail) t e g b in
-    let f : t ≡ body ++ tail = e ∙ ap (λ y. y ++ (body ++ tail)) no_front in
-    let no_back = no_tail body tail t f w z in
-    subst R (sym (f ∙ ap (λ y. body ++ y) no_back ∙ append-nil body)) r
+    let no_prefix = no_gap gap (body ++ tail) t e g b in
+    let f : t ≡ body ++ tail = e ∙ ap (λ y. y ++ (body ++ tail)) no_prefix in
+    let no_suffix = no_tail body tail t f w z in
+    subst R (sym (f ∙ ap (λ y. body ++ y) no_suffix ∙ append-nil body)) r
 
 sent : {X : Type 0} (xs : Seq X) (R : Rule) (t : Seq ℕ) → if_sent xs R t → Begins t → R t
 sent [] R t e b = absurd (no_empty t e b)
@@ -78,7 +78,7 @@ sent (x ∷ xs) R t h b = h
 
 times_sp : (n : ℕ) (t : Seq ℕ) → times n SP t → times n (either SP HTAB) t
 times_sp zero t e = e
-times_sp (suc n) t (front, back, e, p, q) = (front, back, e, inl p, times_sp n back q)
+times_sp (suc n) t (prefix, suffix, e, p, q) = (prefix, suffix, e, inl p, times_sp n suffix q)
 
 module _ (d : Dialect) where
   keeps : (kind : Kind) (t : Seq ℕ) (v : Field) → SpellsField d kind t v → IsTrimmed t

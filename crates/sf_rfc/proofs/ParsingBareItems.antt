@@ -42,18 +42,18 @@ as_cases f None v r e = never (v, r) e
 as_cases f (Some (x, u)) v r e =
     let k = some_pair (f x) v u r e in (x, ap (λ y. Some (x, y)) k.1, sym k.0)
 
--- a front with its rest and its value
-abbrev Front : (List ℕ → Bare → Type 0) → List ℕ → List ℕ → Bare → Type 0
-Front L t r v = (front : List ℕ) × (t ≡ front ++ r) × L front v
+-- a prefix with its rest and its value
+abbrev Prefix : (List ℕ → Bare → Type 0) → List ℕ → List ℕ → Bare → Type 0
+Prefix L t r v = (prefix : List ℕ) × (t ≡ prefix ++ r) × L prefix v
 
-front_as : (d : Dialect) {A : Type 0} (f : A → Bare) (L : List ℕ → A → Type 0) (g : Parse A)
+prefix_as : (d : Dialect) {A : Type 0} (f : A → Bare) (L : List ℕ → A → Type 0) (g : Parse A)
     (more : ℕ → Bool) → Agrees A L g more
-    → ((front : List ℕ) (x : A) → L front x → SpellsBare d front (f x)) → (t r : List ℕ) (v : Bare)
-    → as_bare f (g t) ≡ Some (v, r) → Front (SpellsBare d) t r v
-front_as d f L g more agree into t r v e =
+    → ((prefix : List ℕ) (x : A) → L prefix x → SpellsBare d prefix (f x)) → (t r : List ℕ) (v : Bare)
+    → as_bare f (g t) ≡ Some (v, r) → Prefix (SpellsBare d) t r v
+prefix_as d f L g more agree into t r v e =
     let (x, a, b) = as_cases f (g t) v r e in
-    let (front, i, s) = agree.sound t r x a in
-    (front, i, subst (λ y. SpellsBare d front y) (sym b) (into front x s))
+    let (prefix, i, s) = agree.sound t r x a in
+    (prefix, i, subst (λ y. SpellsBare d prefix y) (sym b) (into prefix x s))
 
 number_as : (d : Dialect) (t : List ℕ) (v : Bare) → SpellsNumber t v → SpellsBare d t v
 number_as d t v (inl (n, e, s)) = subst (λ y. SpellsBare d t y) (sym e) s
@@ -63,30 +63,30 @@ date_as : (t : List ℕ) (v : Bare) → SpellsBareDate t v → SpellsBare Rfc965
 date_as t v (n, e, s) = subst (λ y. SpellsBare Rfc9651 t y) (sym e) (refl, s)
 
 added_sound : (d : Dialect) (t r : List ℕ) (v : Bare) → parse_added d t ≡ Some (v, r)
-    → Front (SpellsBare d) t r v
+    → Prefix (SpellsBare d) t r v
 added_sound Rfc8941 t r v e = never (v, r) e
 added_sound Rfc9651 t r v e = elim (if_either (first_is (λ c. c == 64) t) _ _ (v, r) e) [
   | inl k ↦
-      let (front, i, s) = dates_agree.sound t r v k.1 in (front, i, date_as front v s)
+      let (prefix, i, s) = dates_agree.sound t r v k.1 in (prefix, i, date_as prefix v s)
   | inr k ↦
       let (h, a) = if_so (first_is (λ c. c == 37) t) _ (v, r) k.1 in
-      front_as Rfc9651 Shown _ parse_display_string _ display_strings_agree (λ f x s. (refl, s)) t r v a
+      prefix_as Rfc9651 Shown _ parse_display_string _ display_strings_agree (λ f x s. (refl, s)) t r v a
 ]
 
 bare_sound : (d : Dialect) (t r : List ℕ) (v : Bare) → parse_bare d t ≡ Some (v, r)
-    → Front (SpellsBare d) t r v
+    → Prefix (SpellsBare d) t r v
 bare_sound d t r v e =
     elim (if_either (first_is (λ c. c == 45 || is_DIGIT c) t) _ _ (v, r) e) [
-      | inl k ↦ let (front, i, s) = numbers_agree.sound t r v k.1 in
-          (front, i, number_as d front v s)
+      | inl k ↦ let (prefix, i, s) = numbers_agree.sound t r v k.1 in
+          (prefix, i, number_as d prefix v s)
       | inr k ↦ elim (if_either (first_is (λ c. c == 34) t) _ _ (v, r) k.1) [
-        | inl j ↦ front_as d Text _ parse_string _ strings_agree (λ f x s. s) t r v j.1
+        | inl j ↦ prefix_as d Text _ parse_string _ strings_agree (λ f x s. s) t r v j.1
         | inr j ↦ elim (if_either (first_is can_start_token t) _ _ (v, r) j.1) [
-          | inl m ↦ front_as d Token _ parse_token _ tokens_agree (λ f x s. s) t r v m.1
+          | inl m ↦ prefix_as d Token _ parse_token _ tokens_agree (λ f x s. s) t r v m.1
           | inr m ↦ elim (if_either (first_is (λ c. c == 58) t) _ _ (v, r) m.1) [
-            | inl n ↦ front_as d Blob _ parse_byte_sequence _ byte_sequences_agree (λ f x s. s) t r v n.1
+            | inl n ↦ prefix_as d Blob _ parse_byte_sequence _ byte_sequences_agree (λ f x s. s) t r v n.1
             | inr n ↦ elim (if_either (first_is (λ c. c == 63) t) _ _ (v, r) n.1) [
-              | inl o ↦ front_as d Boolean _ parse_boolean _ booleans_agree (λ f x s. s) t r v o.1
+              | inl o ↦ prefix_as d Boolean _ parse_boolean _ booleans_agree (λ f x s. s) t r v o.1
               | inr o ↦ added_sound d t r v o.1
             ]
           ]

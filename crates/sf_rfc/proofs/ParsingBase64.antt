@@ -285,7 +285,7 @@ is_colon : (c : ℕ) → (c == 58) ≡ true → c ≡ 58
 is_colon c h = grind (arith, nat_tests)
 
 sequence_sound : (t r s : List ℕ) → parse_byte_sequence t ≡ Some (s, r)
-    → (front : List ℕ) × (t ≡ front ++ r) × SpellsByteSequence front s
+    → (prefix : List ℕ) × (t ≡ prefix ++ r) × SpellsByteSequence prefix s
 sequence_sound [] r s e = never (s, r) e
 sequence_sound (c ∷ t) r s e =
     let (h, a) = if_so (c == 58) _ (s, r) e in

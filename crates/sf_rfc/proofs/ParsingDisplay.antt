@@ -66,7 +66,7 @@ octet_sound a b c e =
 -- what the loop takes: encoded bytes and the quote
 abbrev Shown : List ℕ → List ℕ → List ℕ → List ℕ → Type 0
 Shown bytes t v r =
-    (front s : List ℕ) × (t ≡ front ++ r) × EncodedBytes front s × (v ≡ bytes ++ s)
+    (prefix s : List ℕ) × (t ≡ prefix ++ r) × EncodedBytes prefix s × (v ≡ bytes ++ s)
     × (is_utf8 v ≡ true)
 
 unencoded : (c : ℕ) → is_unprintable c ≡ false → (c == 37) ≡ false → (c == 34) ≡ false
@@ -78,23 +78,23 @@ same_byte c d h = grind (arith, nat_tests)
 
 itself : (bytes : List ℕ) (c : ℕ) (t v r : List ℕ) → is_unencoded c ≡ true
     → Shown (bytes ++ c ∷ []) t v r → Shown bytes (c ∷ t) v r
-itself bytes c t v r h (front, s, i, a, j, k) = (
-  c ∷ front,
+itself bytes c t v r h (prefix, s, i, a, j, k) = (
+  c ∷ prefix,
   c ∷ s,
   ap (λ x. c ∷ x) i,
-  (front, inl (h, refl), a),
+  (prefix, inl (h, refl), a),
   j ∙ append_assoc bytes (c ∷ []) s,
   k,
 )
 
 encoded : (bytes : List ℕ) (a b c : ℕ) (t v r : List ℕ) → octet_of a b ≡ Some c
     → Shown (bytes ++ c ∷ []) t v r → Shown bytes (37 ∷ a ∷ b ∷ t) v r
-encoded bytes a b c t v r o (front, s, i, e, j, k) =
+encoded bytes a b c t v r o (prefix, s, i, e, j, k) =
     let (h, p, q) = octet_sound a b c o in (
-      37 ∷ a ∷ b ∷ front,
+      37 ∷ a ∷ b ∷ prefix,
       c ∷ s,
       ap (λ x. 37 ∷ a ∷ b ∷ x) i,
-      (front, inr (h, ap₂ (λ x y. 37 ∷ x ∷ y ∷ front) p q), e),
+      (prefix, inr (h, ap₂ (λ x y. 37 ∷ x ∷ y ∷ prefix) p q), e),
       j ∙ append_assoc bytes (c ∷ []) s,
       k,
     )
@@ -152,17 +152,17 @@ shown_sound bytes (c ∷ a ∷ b ∷ t) v r e =
     (shown_sound (bytes ++ c ∷ []) (a ∷ b ∷ t) v r) e
 
 display_sound : (t r v : List ℕ) → parse_display_string t ≡ Some (v, r)
-    → (front : List ℕ) × (t ≡ front ++ r) × SpellsDisplayString front v
+    → (prefix : List ℕ) × (t ≡ prefix ++ r) × SpellsDisplayString prefix v
 display_sound [] r v e = never (v, r) e
 display_sound (a ∷ []) r v e = never (v, r) e
 display_sound (a ∷ b ∷ t) r v e =
     let (h, k) = if_so (a == 37 && b == 34) _ (v, r) e in
     let i = same_byte a 37 (both_so (a == 37) (b == 34) h) in
     let j = same_byte b 34 (both_then (a == 37) (b == 34) h) in
-    let (front, s, m, c, n, u) = shown_sound [] t v r k in (
-      37 ∷ 34 ∷ front,
+    let (prefix, s, m, c, n, u) = shown_sound [] t v r k in (
+      37 ∷ 34 ∷ prefix,
       ap₂ (λ x y. x ∷ y) i (ap₂ (λ x y. x ∷ y) j m),
-      (front, refl, subst (λ y. EncodedBytes front y) (sym n) c, utf8_formed v u),
+      (prefix, refl, subst (λ y. EncodedBytes prefix y) (sym n) c, utf8_formed v u),
     )
 
 -- what is spelled is read

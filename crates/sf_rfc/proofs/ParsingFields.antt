@@ -91,12 +91,12 @@ end_read : (f : Field) (r : List ℕ) → Every is_sp r → parse_end (f, r) ≡
 end_read f r h = rw (all_sp r h, parse_end) refl
 
 -- what is left of a series is SP
-whole_of : {X : Type 0} (P : List ℕ → X → Type 0) (t gap front r : List ℕ) (xs : List X)
-    → t ≡ gap ++ (front ++ r) → Every is_sp gap → SpellsToEnd P front xs → Every is_sp r
+whole_of : {X : Type 0} (P : List ℕ → X → Type 0) (t gap prefix r : List ℕ) (xs : List X)
+    → t ≡ gap ++ (prefix ++ r) → Every is_sp gap → SpellsToEnd P prefix xs → Every is_sp r
     → SpellsWhole P t xs
-whole_of P t gap front r [] e g s h =
+whole_of P t gap prefix r [] e g s h =
     subst (Every is_sp) (sym (e ∙ ap (λ y. gap ++ (y ++ r)) s)) (sp_behind gap r g h)
-whole_of P t gap front r (x ∷ xs) e g (body, tail, i, s, w) h = (
+whole_of P t gap prefix r (x ∷ xs) e g (body, tail, i, s, w) h = (
   gap,
   body,
   tail ++ r,
@@ -130,26 +130,26 @@ module _ (d : Dialect) where
   type_sound kind.Item t gap w r f e g a h =
       let (q, b, c) = and_then_cases (parse_item d w) _ (f, r) a in
       let j = some_pair (field.Item q.0) f q.1 r c in
-      let (front, i, s) = (items_agree d).sound w q.1 q.0 b in
-      let m : t ≡ gap ++ (front ++ r) =
-      e ∙ ap (λ y. gap ++ y) (i ∙ ap (λ y. front ++ y) j.1) in
-      subst (λ y. SpellsField d kind.Item t y) j.0 (gap, front, r, m, g, s, h)
+      let (prefix, i, s) = (items_agree d).sound w q.1 q.0 b in
+      let m : t ≡ gap ++ (prefix ++ r) =
+      e ∙ ap (λ y. gap ++ y) (i ∙ ap (λ y. prefix ++ y) j.1) in
+      subst (λ y. SpellsField d kind.Item t y) j.0 (gap, prefix, r, m, g, s, h)
   type_sound kind.List t gap w r f e g a h =
       let (q, b, c) = and_then_cases (parse_list d w) _ (f, r) a in
       let j = some_pair (list_of q.0) f q.1 r c in
-      let (front, i, s) = (lists_agree d).sound w q.1 q.0 b in
-      let m : t ≡ gap ++ (front ++ r) =
-      e ∙ ap (λ y. gap ++ y) (i ∙ ap (λ y. front ++ y) j.1) in
+      let (prefix, i, s) = (lists_agree d).sound w q.1 q.0 b in
+      let m : t ≡ gap ++ (prefix ++ r) =
+      e ∙ ap (λ y. gap ++ y) (i ∙ ap (λ y. prefix ++ y) j.1) in
       subst (λ y. SpellsField d kind.List t y) j.0
-      (whole_of (SpellsMember d) t gap front r q.0 m g s h)
+      (whole_of (SpellsMember d) t gap prefix r q.0 m g s h)
   type_sound kind.Dict t gap w r f e g a h =
       let (q, b, c) = and_then_cases (parse_dictionary d w) _ (f, r) a in
       let j = some_pair (dict_of q.0) f q.1 r c in
-      let (front, i, (raw, k, s)) = (dictionaries_agree d).sound w q.1 q.0 b in
-      let m : t ≡ gap ++ (front ++ r) =
-      e ∙ ap (λ y. gap ++ y) (i ∙ ap (λ y. front ++ y) j.1) in
+      let (prefix, i, (raw, k, s)) = (dictionaries_agree d).sound w q.1 q.0 b in
+      let m : t ≡ gap ++ (prefix ++ r) =
+      e ∙ ap (λ y. gap ++ y) (i ∙ ap (λ y. prefix ++ y) j.1) in
       subst (λ y. SpellsField d kind.Dict t y) j.0
-      (raw, k, whole_of (SpellsEntry d) t gap front r raw m g s h)
+      (raw, k, whole_of (SpellsEntry d) t gap prefix r raw m g s h)
 
   field_sound : (k : Kind) (t : List ℕ) (v : Field) → parse_field d k t ≡ Some v
       → SpellsField d k t v

@@ -140,7 +140,7 @@ module _ (d : Dialect) where
       ]
 
   inner_sound : (t r : List ℕ) (l : Inner) → parse_inner d t ≡ Some (l, r)
-      → (front : List ℕ) × (t ≡ front ++ r) × SpellsInner d front l
+      → (prefix : List ℕ) × (t ≡ prefix ++ r) × SpellsInner d prefix l
   inner_sound [] r l e = never (l, r) e
   inner_sound (c ∷ t) r l e =
       let (h, a) = if_so (c == 40) _ (l, r) e in
@@ -255,18 +255,18 @@ module _ (d : Dialect) where
 
   -- members
   member_sound : (t r : List ℕ) (m : Member) → parse_member d t ≡ Some (m, r)
-      → (front : List ℕ) × (t ≡ front ++ r) × SpellsMember d front m
+      → (prefix : List ℕ) × (t ≡ prefix ++ r) × SpellsMember d prefix m
   member_sound t r m e = elim (if_either (first_is (λ c. c == 40) t) _ _ (m, r) e) [
     | inl k ↦
         let (q, a, b) = and_then_cases (parse_inner d t) _ (m, r) k.1 in
         let j = some_pair (member.Inner q.0) m q.1 r b in
-        let (front, i, s) = inner_sound t q.1 q.0 a in
-        (front, i ∙ ap (λ y. front ++ y) j.1, subst (λ y. SpellsMember d front y) j.0 s)
+        let (prefix, i, s) = inner_sound t q.1 q.0 a in
+        (prefix, i ∙ ap (λ y. prefix ++ y) j.1, subst (λ y. SpellsMember d prefix y) j.0 s)
     | inr k ↦
         let (q, a, b) = and_then_cases (parse_item d t) _ (m, r) k.1 in
         let j = some_pair (member.Item q.0) m q.1 r b in
-        let (front, i, s) = (items_agree d).sound t q.1 q.0 a in
-        (front, i ∙ ap (λ y. front ++ y) j.1, subst (λ y. SpellsMember d front y) j.0 s)
+        let (prefix, i, s) = (items_agree d).sound t q.1 q.0 a in
+        (prefix, i ∙ ap (λ y. prefix ++ y) j.1, subst (λ y. SpellsMember d prefix y) j.0 s)
   ]
 
   as_inner : Inner × List ℕ → Option (Member × List ℕ)

@@ -84,7 +84,7 @@ module _ (d : Dialect) where
 
   -- Items
   item_sound : (t r : List ℕ) (i : Item) → parse_item d t ≡ Some (i, r)
-      → (front : List ℕ) × (t ≡ front ++ r) × SpellsItem d front i
+      → (prefix : List ℕ) × (t ≡ prefix ++ r) × SpellsItem d prefix i
   item_sound t r i e =
       let (p, a, b) = and_then_cases (parse_bare d t) _ (i, r) e in
       let (q, f, g) = and_then_cases (parse_params d p.1) _ (i, r) b in

@@ -69,20 +69,20 @@ module _ (d : Dialect) where
       ⊎ ((ps : Pairs Bare) × (m ≡ flag ps) × SpellsParams d t ps)
 
   flag_sound : (t r : List ℕ) (m : Member) → flag_member d t ≡ Some (m, r)
-      → (front : List ℕ) × (t ≡ front ++ r) × SpellsBehind front m
+      → (prefix : List ℕ) × (t ≡ prefix ++ r) × SpellsBehind prefix m
   flag_sound t r m e =
       let (q, a, b) = and_then_cases (parse_params d t) _ (m, r) e in
       let k = some_pair (flag q.0) m q.1 r b in
-      let (front, i, s) = (parameters_agree d).sound t q.1 q.0 a in
-      (front, i ∙ ap (λ y. front ++ y) k.1, inr (q.0, sym k.0, s))
+      let (prefix, i, s) = (parameters_agree d).sound t q.1 q.0 a in
+      (prefix, i ∙ ap (λ y. prefix ++ y) k.1, inr (q.0, sym k.0, s))
 
   behind_sound : (t r : List ℕ) (m : Member) → entry_member d t ≡ Some (m, r)
-      → (front : List ℕ) × (t ≡ front ++ r) × SpellsBehind front m
+      → (prefix : List ℕ) × (t ≡ prefix ++ r) × SpellsBehind prefix m
   behind_sound [] r m e = flag_sound [] r m e
   behind_sound (c ∷ t) r m e = elim (if_either (c == 61) _ _ (m, r) e) [
     | inl k ↦
-        let (front, i, s) = (members_agree d).sound t r m k.1 in
-        (61 ∷ front, ap₂ (λ y z. y ∷ z) (same_byte c 61 k.0) i, inl (front, refl, s))
+        let (prefix, i, s) = (members_agree d).sound t r m k.1 in
+        (61 ∷ prefix, ap₂ (λ y z. y ∷ z) (same_byte c 61 k.0) i, inl (prefix, refl, s))
     | inr k ↦ flag_sound (c ∷ t) r m k.1
   ]
 
@@ -92,7 +92,7 @@ module _ (d : Dialect) where
   entry_of k behind m w (inr (ps, e, s)) = (behind, w, inr (ps, e, refl, s))
 
   entry_sound : (t r : List ℕ) (x : List ℕ × Member) → parse_entry d t ≡ Some (x, r)
-      → (front : List ℕ) × (t ≡ front ++ r) × SpellsEntry d front x
+      → (prefix : List ℕ) × (t ≡ prefix ++ r) × SpellsEntry d prefix x
   entry_sound t r x e =
       let (q, a, b) = and_then_cases (parse_key t) _ (x, r) e in
       let (p, f, g) = and_then_cases (entry_member d q.1) _ (x, r) b in
@@ -203,8 +203,8 @@ module _ (d : Dialect) where
 pub lists_agree : ListsAgree
 lists_agree d = record {
   sound = λ t r v e.
-      let (front, i, (ms, j, s)) = (list_agrees d).sound t r v e in
-      (front, i, subst (SpellsToEnd (SpellsMember d) front) (sym j) s);
+      let (prefix, i, (ms, j, s)) = (list_agrees d).sound t r v e in
+      (prefix, i, subst (SpellsToEnd (SpellsMember d) prefix) (sym j) s);
   whole = λ t r v s f. (list_agrees d).whole t r v (v, refl, s) f;
 }
 

@@ -255,7 +255,7 @@ first_round c t q d e = rw (d, number_loop) at e
 
 unsigned_sound : (neg : Bool) (t r : List ℕ) (v : Bare)
     → unsigned_number (factor neg) t ≡ Some (v, r)
-    → (front : List ℕ) × (t ≡ front ++ r) × Unsigned neg front v
+    → (prefix : List ℕ) × (t ≡ prefix ++ r) × Unsigned neg prefix v
 unsigned_sound neg [] r v e = never (v, r) e
 unsigned_sound neg (c ∷ t) r v e =
     let (d, e2) = if_so (is_DIGIT c) _ (v, r) e in
@@ -268,7 +268,7 @@ unsigned_sound neg (c ∷ t) r v e =
     ended : (p : NumberType × List ℕ) (u : List ℕ) → is_DIGIT c ≡ true
         → and_then (number_of (factor neg) p.0 p.1) (with_rest u) ≡ Some (v, r)
         → Taken (c ∷ []) t p u
-        → (front : List ℕ) × (c ∷ t ≡ front ++ r) × Unsigned neg front v
+        → (prefix : List ℕ) × (c ∷ t ≡ prefix ++ r) × Unsigned neg prefix v
     ended p u d b (w, g, inl (i, j, h)) =
         let b2 = subst (λ (y : NumberType × List ℕ). and_then (number_of (factor neg) y.0 y.1)
         (with_rest u) ≡ Some (v, r)) j b in
@@ -284,11 +284,11 @@ unsigned_sound neg (c ∷ t) r v e =
           k.1,
         )
 
-signed_as : (neg : Bool) (front : List ℕ) (v : Bare) → Unsigned neg front v
-    → SpellsNumber (sign neg ++ front) v
-signed_as neg front v (inl (d, e)) =
-    inl (signed neg (value_from 0 front), e, (neg, front, refl, d, refl))
-signed_as neg front v (inr (w, f, i, d, g, e)) = inr (
+signed_as : (neg : Bool) (prefix : List ℕ) (v : Bare) → Unsigned neg prefix v
+    → SpellsNumber (sign neg ++ prefix) v
+signed_as neg prefix v (inl (d, e)) =
+    inl (signed neg (value_from 0 prefix), e, (neg, prefix, refl, d, refl))
+signed_as neg prefix v (inr (w, f, i, d, g, e)) = inr (
   thousandths neg (value_from 0 w) (length f) (value_from 0 f),
   e,
   (neg, w, f, ap (λ x. sign neg ++ x) i, d, g, refl),
@@ -298,15 +298,15 @@ is_minus : (c : ℕ) → (c == 45) ≡ true → c ≡ 45
 is_minus c h = grind (arith, nat_tests)
 
 number_sound : (t r : List ℕ) (v : Bare) → parse_number t ≡ Some (v, r)
-    → (front : List ℕ) × (t ≡ front ++ r) × SpellsNumber front v
+    → (prefix : List ℕ) × (t ≡ prefix ++ r) × SpellsNumber prefix v
 number_sound [] r v e = never (v, r) e
 number_sound (c ∷ t) r v e = elim (if_either (c == 45) _ _ (v, r) e) [
   | inl k ↦
-      let (front, a, b) = unsigned_sound true t r v k.1 in
-      (45 ∷ front, ap₂ (λ x y. x ∷ y) (is_minus c k.0) a, signed_as true front v b)
+      let (prefix, a, b) = unsigned_sound true t r v k.1 in
+      (45 ∷ prefix, ap₂ (λ x y. x ∷ y) (is_minus c k.0) a, signed_as true prefix v b)
   | inr k ↦
-      let (front, a, b) = unsigned_sound false (c ∷ t) r v k.1 in
-      (front, a, signed_as false front v b)
+      let (prefix, a, b) = unsigned_sound false (c ∷ t) r v k.1 in
+      (prefix, a, signed_as false prefix v b)
 ]
 
 -- what is spelled is read
@@ -454,17 +454,17 @@ date_from x y t (inr (m, e, s)) d =
     never y (subst (λ z. date_of z ≡ Some y) e d)
 
 date_sound : (t r : List ℕ) (v : Bare) → parse_date t ≡ Some (v, r)
-    → (front : List ℕ) × (t ≡ front ++ r) × SpellsBareDate front v
+    → (prefix : List ℕ) × (t ≡ prefix ++ r) × SpellsBareDate prefix v
 date_sound [] r v e = never (v, r) e
 date_sound (c ∷ t) r v e =
     let (i, a) = if_so (c == 64) _ (v, r) e in
     let (q, b, d) = and_then_cases (parse_number t) _ (v, r) a in
     let (y, f, g) = and_then_cases (date_of q.0) _ (v, r) d in
     let k = some_pair y v q.1 r g in
-    let (front, m, s) = number_sound t q.1 q.0 b in (
-      64 ∷ front,
-      ap₂ (λ x y. x ∷ y) (is_at c i) (m ∙ ap (λ x. front ++ x) k.1),
-      subst (λ x. SpellsBareDate (64 ∷ front) x) k.0 (date_from q.0 y front s f),
+    let (prefix, m, s) = number_sound t q.1 q.0 b in (
+      64 ∷ prefix,
+      ap₂ (λ x y. x ∷ y) (is_at c i) (m ∙ ap (λ x. prefix ++ x) k.1),
+      subst (λ x. SpellsBareDate (64 ∷ prefix) x) k.0 (date_from q.0 y prefix s f),
     )
 
 date_whole : (t r : List ℕ) (v : Bare) → SpellsBareDate t v → first_is is_in_number r ≡ false

@@ -50,13 +50,13 @@ is_value_or_key c = is_in_token c || c == 61
 module _ (d : Dialect) where
   -- the value of a parameter
   value_sound : (t r : List ℕ) (x : Bare) → param_value d t ≡ Some (x, r)
-      → (front : List ℕ) × (t ≡ front ++ r) × SpellsValue d front x
+      → (prefix : List ℕ) × (t ≡ prefix ++ r) × SpellsValue d prefix x
   value_sound [] r x e =
       let k = some_pair (Boolean true) x [] r e in ([], k.1, inl (sym k.0, refl))
   value_sound (c ∷ t) r x e = elim (if_either (c == 61) _ _ (x, r) e) [
     | inl k ↦
-        let (front, i, s) = (bare_items_agree d).sound t r x k.1 in
-        (61 ∷ front, ap₂ (λ y z. y ∷ z) (same_byte c 61 k.0) i, inr (front, refl, s))
+        let (prefix, i, s) = (bare_items_agree d).sound t r x k.1 in
+        (61 ∷ prefix, ap₂ (λ y z. y ∷ z) (same_byte c 61 k.0) i, inr (prefix, refl, s))
     | inr k ↦
         let j = some_pair (Boolean true) x (c ∷ t) r k.1 in ([], j.1, inl (sym j.0, refl))
   ]
@@ -69,7 +69,7 @@ module _ (d : Dialect) where
   -- sound
   abbrev Taken : Pairs Bare → List ℕ → Pairs Bare → List ℕ → Type 0
   Taken raw t qs r =
-      (front : List ℕ) × (more : Pairs Bare) × (t ≡ front ++ r) × SpellsRaw d front more
+      (prefix : List ℕ) × (more : Pairs Bare) × (t ≡ prefix ++ r) × SpellsRaw d prefix more
       × (qs ≡ settle (raw ++ more))
 
   none_taken : (raw : Pairs Bare) (t : List ℕ) (qs : Pairs Bare) (r : List ℕ)
@@ -83,13 +83,13 @@ module _ (d : Dialect) where
       (qs : Pairs Bare) (r t : List ℕ) → (c == 59) ≡ true → t ≡ gap ++ (k ++ (value ++ s))
       → Every is_sp gap → IsKey k → SpellsValue d value x → Taken (raw ++ (k, x) ∷ []) s qs r
       → Taken raw (c ∷ t) qs r
-  one_taken raw c gap k value s x qs r t h i g w v (front, more, j, sp, e) = (
-    (59 ∷ (gap ++ (k ++ value))) ++ front,
+  one_taken raw c gap k value s x qs r t h i g w v (prefix, more, j, sp, e) = (
+    (59 ∷ (gap ++ (k ++ value))) ++ prefix,
     (k, x) ∷ more,
     rw (same_byte c 59 h, i, j) (simp append_assoc refl),
     (
       59 ∷ (gap ++ (k ++ value)),
-      front,
+      prefix,
       refl,
       (gap, value, refl, g, w, v),
       sp,
@@ -99,7 +99,7 @@ module _ (d : Dialect) where
 
   key_taken : (t r k : List ℕ) → parse_key t ≡ Some (k, r) → (t ≡ k ++ r) × IsKey k
   key_taken t r k e =
-      let (front, i, s) = keys_agree.sound t r k e in (i ∙ ap (λ y. y ++ r) s.0, s.1)
+      let (prefix, i, s) = keys_agree.sound t r k e in (i ∙ ap (λ y. y ++ r) s.0, s.1)
 
   params_sound : (n : ℕ) (raw : Pairs Bare) (t : List ℕ) (qs : Pairs Bare) (r : List ℕ)
       → params_loop d n (settle raw) t ≡ Some (qs, r) → Taken raw t qs r
@@ -120,10 +120,10 @@ module _ (d : Dialect) where
   ]
 
   parameters_sound : (t r : List ℕ) (qs : Pairs Bare) → parse_params d t ≡ Some (qs, r)
-      → (front : List ℕ) × (t ≡ front ++ r) × SpellsParams d front qs
+      → (prefix : List ℕ) × (t ≡ prefix ++ r) × SpellsParams d prefix qs
   parameters_sound t r qs e =
-      let (front, more, i, s, j) = params_sound (suc (length t)) [] t qs r e in
-      (front, i, (more, j, s))
+      let (prefix, more, i, s, j) = params_sound (suc (length t)) [] t qs r e in
+      (prefix, i, (more, j, s))
 
   -- whole: no key, no value and no semicolon goes on with what may follow
   pub raw_first : (t r : List ℕ) (raw : Pairs Bare) → SpellsRaw d t raw

@@ -134,8 +134,8 @@ module _ (X S : Type 0) (P : List ℕ → X → Type 0) (one : Parse X) (fold : 
       (q.0, prefix, q.1, i, p, after_sound n (xs ++ q.0 ∷ []) q.1 v r (loop_sound n) b)
 
   series_sound : (n : ℕ) (t r : List ℕ) (v : S) → loop (suc n) (fold []) t ≡ Some (v, r)
-      → (front : List ℕ) × (t ≡ front ++ r)
-      × ((xs : List X) × (v ≡ fold xs) × SpellsToEnd P front xs)
+      → (prefix : List ℕ) × (t ≡ prefix ++ r)
+      × ((xs : List X) × (v ≡ fold xs) × SpellsToEnd P prefix xs)
   series_sound n [] r v e =
       let k = some_pair (fold []) v [] r (sym (is.ends n (fold [])) ∙ e) in
       ([], k.1, ([], sym k.0, refl))

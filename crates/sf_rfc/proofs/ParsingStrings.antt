@@ -43,12 +43,12 @@ value_sound (c ∷ t) r v e = go (c == 49) refl
     go false i = zero_or_none (c == 48) refl i
 
 boolean_sound : (t r : List ℕ) (v : Bool) → parse_boolean t ≡ Some (v, r)
-    → (front : List ℕ) × (t ≡ front ++ r) × SpellsBoolean front v
+    → (prefix : List ℕ) × (t ≡ prefix ++ r) × SpellsBoolean prefix v
 boolean_sound [] r v e = absurd cc
 boolean_sound (c ∷ t) r v e = go (c == 63) refl
   where
     go : (x : Bool) → (c == 63) ≡ x
-        → (front : List ℕ) × (c ∷ t ≡ front ++ r) × SpellsBoolean front v
+        → (prefix : List ℕ) × (c ∷ t ≡ prefix ++ r) × SpellsBoolean prefix v
     go false i =
         let e' : ◌≡◌ {A = Option (Bool × List ℕ)} None (Some (v, r)) = rw (i, parse_boolean) at e in
         absurd cc
@@ -213,12 +213,12 @@ string_whole output (c ∷ w) r h =
         (ih ∙ ap (λ y. Some (y, r)) (append_assoc output (c ∷ []) w)))
 
 strings_sound : (t r v : List ℕ) → parse_string t ≡ Some (v, r)
-    → (front : List ℕ) × (t ≡ front ++ r) × SpellsString front v
+    → (prefix : List ℕ) × (t ≡ prefix ++ r) × SpellsString prefix v
 strings_sound [] r v e = absurd cc
 strings_sound (c ∷ t) r v e = go (c == 34) refl
   where
     go : (x : Bool) → (c == 34) ≡ x
-        → (front : List ℕ) × (c ∷ t ≡ front ++ r) × SpellsString front v
+        → (prefix : List ℕ) × (c ∷ t ≡ prefix ++ r) × SpellsString prefix v
     go false i =
         let e' : ◌≡◌ {A = Option (List ℕ × List ℕ)} None (Some (v, r)) = rw (i, parse_string) at e in
         absurd cc

@@ -85,12 +85,12 @@ pub word_agrees : (p q p' q' : ℕ → Bool) → ((c : ℕ) → p c ≡ p' c) �
 word_agrees p q p' q' same_p same_q starts = record { sound = sound; whole = whole }
   where
     sound : (t r v : List ℕ) → parse_word p q t ≡ Some (v, r)
-        → (front : List ℕ) × (t ≡ front ++ r) × SpellsWord p' q' front v
+        → (prefix : List ℕ) × (t ≡ prefix ++ r) × SpellsWord p' q' prefix v
     sound [] r v e = absurd cc
     sound (c ∷ t) r v e = go (p c) refl
       where
         go : (x : Bool) → p c ≡ x
-            → (front : List ℕ) × (c ∷ t ≡ front ++ r) × SpellsWord p' q' front v
+            → (prefix : List ℕ) × (c ∷ t ≡ prefix ++ r) × SpellsWord p' q' prefix v
         go false i =
             let e' : ◌≡◌ {A = Option (List ℕ × List ℕ)} None (Some (v, r)) = rw (i, parse_word) at e in
             absurd cc

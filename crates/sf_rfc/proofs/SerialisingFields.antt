@@ -100,11 +100,11 @@ module _ (d : Dialect) where
   list_loop output (m ∷ []) h = rw (member_serialised m h.0) refl
   list_loop output (m ∷ n ∷ ms) h =
       let s = canon_member m in
-      let back = canon_series canon_member (n ∷ ms) in
+      let suffix = canon_series canon_member (n ∷ ms) in
       rw (member_serialised m h.0)
       (list_loop (output ++ (s ++ 44 ∷ 32 ∷ [])) (n ∷ ms) h.1
-      ∙ ap Some (append_assoc output (s ++ 44 ∷ 32 ∷ []) back
-      ∙ ap (λ t. output ++ t) (append_assoc s (44 ∷ 32 ∷ []) back)))
+      ∙ ap Some (append_assoc output (s ++ 44 ∷ 32 ∷ []) suffix
+      ∙ ap (λ t. output ++ t) (append_assoc s (44 ∷ 32 ∷ []) suffix)))
 
   flag_serialised : (x : Bare) (ps : Pairs Bare) → ValidBare d x → ValidParams d ps
       → serialise_behind (member.Item (record { bare = x; params = ps })) ≡ Some (canon_flag x ps)
@@ -134,13 +134,13 @@ module _ (d : Dialect) where
   dictionary_loop output (p ∷ q ∷ ps) h =
       let k = p.0 in
       let s = canon_behind p.1 in
-      let back = canon_series canon_entry (q ∷ ps) in
+      let suffix = canon_series canon_entry (q ∷ ps) in
       rw (key_serialised p.0 h.0.0, behind_serialised p.1 h.0.1)
       (dictionary_loop (output ++ (k ++ (s ++ 44 ∷ 32 ∷ []))) (q ∷ ps) h.1
-      ∙ ap Some (append_assoc output (k ++ (s ++ 44 ∷ 32 ∷ [])) back
-      ∙ ap (λ t. output ++ t) (append_assoc k (s ++ 44 ∷ 32 ∷ []) back
-      ∙ ap (λ t. k ++ t) (append_assoc s (44 ∷ 32 ∷ []) back)
-      ∙ sym (append_assoc k s (44 ∷ 32 ∷ back)))))
+      ∙ ap Some (append_assoc output (k ++ (s ++ 44 ∷ 32 ∷ [])) suffix
+      ∙ ap (λ t. output ++ t) (append_assoc k (s ++ 44 ∷ 32 ∷ []) suffix
+      ∙ ap (λ t. k ++ t) (append_assoc s (44 ∷ 32 ∷ []) suffix)
+      ∙ sym (append_assoc k s (44 ∷ 32 ∷ suffix)))))
 
   -- a valid field serialises as its canonical text
   pub field_serialised : (kind : Kind) (v : Field) → Valid d kind v → serialise v ≡ Some (canon v)

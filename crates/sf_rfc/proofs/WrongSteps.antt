@@ -27,7 +27,7 @@ use Rattle.sf_rfc.specs.ParsingLaws.{Agrees, SpellsNumber, is_in_number}
 digit_key : (f : Parse (List ℕ)) → f (codes "1") ≡ Some (codes "1", [])
     → Agrees (List ℕ) (SpellsWord is_key_start is_in_key) f is_in_key → ⊥
 digit_key f e k =
-    let (front, g, (h, (start, more))) = k.sound (codes "1") [] (codes "1") e in
+    let (prefix, g, (h, (start, more))) = k.sound (codes "1") [] (codes "1") e in
     true≢false (sym start)
 
 -- a Decimal with four digits after its point, whatever its value
@@ -47,18 +47,18 @@ is_decimal : Bare → Bool
 is_decimal (Decimal m) = true
 is_decimal x = false
 
-not_spelled : (x : ℤ) (front : List ℕ) → codes "1.2345" ≡ front ++ []
-    → SpellsNumber front (Decimal x) → ⊥
+not_spelled : (x : ℤ) (prefix : List ℕ) → codes "1.2345" ≡ prefix ++ []
+    → SpellsNumber prefix (Decimal x) → ⊥
 unfolding is_decimal
-not_spelled x front e (inl (n, f, s)) = true≢false (ap is_decimal f)
-not_spelled x front e (inr (m, f, (neg, w, u, g, k, j, v))) =
+not_spelled x prefix e (inl (n, f, s)) = true≢false (ap is_decimal f)
+not_spelled x prefix e (inr (m, f, (neg, w, u, g, k, j, v))) =
     four_digits neg w u k.each (let a = k.enough in omega arith) (let a = j.fits in omega arith)
-    (e ∙ append-nil front ∙ g)
+    (e ∙ append-nil prefix ∙ g)
 
 long_decimal : (f : Parse Bare) (x : ℤ) → f (codes "1.2345") ≡ Some (Decimal x, [])
     → Agrees Bare SpellsNumber f is_in_number → ⊥
 long_decimal f x e k =
-    let (front, g, s) = k.sound (codes "1.2345") [] (Decimal x) e in not_spelled x front g s
+    let (prefix, g, s) = k.sound (codes "1.2345") [] (Decimal x) e in not_spelled x prefix g s
 
 -- HTAB before an Item
 abbrev five : Field
