@@ -1,5 +1,5 @@
 -- What is in the buffers after a text was parsed.
-use Rattle.std.proofs.Common.{◌≡◌, ℕ, ◌≤◌, List, [], ◌∷◌, ◌++◌, length, take}
+use Rattle.std.proofs.Common.{◌≡◌, ℕ, ◌+◌, ◌^◌, ◌<◌, ◌≤◌, List, [], ◌∷◌, ◌++◌, length, take}
 use Rattle.std.proofs.Common.{sym, ap, ◌∙◌, subst, arith, length-append}
 use Rattle.std.proofs.lemmas.List.{length-take-le, append-nil}
 use Rattle.std.proofs.Math.Seq.{take-append_seam}
@@ -119,9 +119,10 @@ flat_bytes v ts n e h = h ∙ ap content_size e ∙ content_bytes v
 -- the sizes of the parts of a value
 pub has_sizes : (d : Dialect) (k : Kind) (t : List ℕ) (v : Field) (ts : List NodeContent)
     (sizes : Sizes) → NodesAreFew → BytesAreFew → IsOnly d k t v → ts ≡ field_content v
-    → sizes.nodes ≡ length ts → sizes.bytes ≡ content_size ts → HasSizes d k t sizes
-has_sizes d k t v ts sizes few small only e n b =
-    (v, only, is_small few small d k t v only, flat_nodes v ts _ e n, flat_bytes v ts _ e b)
+    → sizes.nodes ≡ length ts → sizes.bytes ≡ content_size ts → length t + sizes.bytes < 2 ^ 32
+    → HasSizes d k t sizes
+has_sizes d k t v ts sizes few small only e n b fits =
+    (v, only, is_small few small d k t v only, flat_nodes v ts _ e n, flat_bytes v ts _ e b, fits)
 
 -- nodes that were written from the tree
 pub written_held : (d : Dialect) (k : Kind) (t : List ℕ) (v : Field) (ts : List NodeContent)

@@ -48,7 +48,8 @@ abbrev pub KeepsLengths : NodeOutput → NodeOutput → Type 0
 KeepsLengths old new =
     (length new.nodes ≡ length old.nodes) × (length new.bytes ≡ length old.bytes)
 
--- the text spells this value only, which has this number of nodes and of bytes
+-- the text spells this value only, which has this number of nodes and of bytes; no offset would be
+-- 2^32 or more, so buffers of these sizes are large enough
 abbrev pub HasSizes : Dialect → Kind → List ℕ → Sizes → Type 0
 HasSizes d k t sizes =
     (v : Field)
@@ -56,6 +57,7 @@ HasSizes d k t sizes =
     × IsSmall t v
     × (sizes.nodes ≡ field_nodes v)
     × (sizes.bytes ≡ field_bytes v)
+    × (length t + sizes.bytes < 2 ^ 32)
 
 -- the starts of the buffers describe the only value that the text t spells; or it has more nodes
 -- than the first of them holds; or the second is too small for it; or the struct has the refusal;

@@ -15,23 +15,27 @@ returns-then-required-text c =
     )
 
 pub returns-then-nodes-required : goal.returns-then-nodes-required
-returns-then-nodes-required c = (
-  has_sizes c.args.dialect c.args.kind c.args.text.now c.in-Ok.field c.in-Ok-flatten.flat
-      (record { nodes = c.node_count.result; bytes = c.byte_count.result })
-      c.nodes_are_few.ensures.nodes c.nodes_are_few.ensures.bytes c.in-Ok.ensures.0
-      c.in-Ok-flatten.ensures c.node_count.ensures c.byte_count.ensures,
-  c.if-nodes-required.true,
-  (refl, refl),
-  c.in-Ok.ensures.1,
-)
+returns-then-nodes-required c =
+    let small = c.requires.small in
+    let few = c.if-required-text.false in (
+      has_sizes c.args.dialect c.args.kind c.args.text.now c.in-Ok.field c.in-Ok-flatten.flat
+          (record { nodes = c.node_count.result; bytes = c.byte_count.result })
+          c.nodes_are_few.ensures.nodes c.nodes_are_few.ensures.bytes c.in-Ok.ensures.0
+          c.in-Ok-flatten.ensures c.node_count.ensures c.byte_count.ensures (omega arith),
+      c.if-nodes-required.true,
+      (refl, refl),
+      c.in-Ok.ensures.1,
+    )
 
 pub returns-then-bytes-required : goal.returns-then-bytes-required
 returns-then-bytes-required c =
+    let small = c.requires.small in
+    let few = c.if-required-text.false in
     let enough = c.if-nodes-required.false in (
       has_sizes c.args.dialect c.args.kind c.args.text.now c.in-Ok.field c.in-Ok-flatten.flat
           (record { nodes = c.node_count.result; bytes = c.byte_count.result })
           c.nodes_are_few.ensures.nodes c.nodes_are_few.ensures.bytes c.in-Ok.ensures.0
-          c.in-Ok-flatten.ensures c.node_count.ensures c.byte_count.ensures,
+          c.in-Ok-flatten.ensures c.node_count.ensures c.byte_count.ensures (omega arith),
       omega arith,
       c.if-bytes-required.true,
       (refl, refl),
