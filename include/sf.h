@@ -996,6 +996,7 @@ uint32_t sf_cache_status(const sf_seed *seed, const void *text, size_t text_leng
  *               SF_FWD_STATUS_MAX; or ttl is not in the range of an Integer
  *   SF_NO_MEMORY
  *
+ * SF_INVALID is returned if and only if *hop is not a hop, also where memory would not suffice.
  * Unless SF_OK or SF_SHORT is returned, buffer and *required are unchanged. In *hop, any number but
  * 0 sets a flag. A member whose flag is not set is ignored; so are why, why_token, status, stored,
  * collapsed and their flags if outcome is SF_UNSAID or SF_HIT, and why_token if why is not

@@ -1,5 +1,8 @@
--- Where a part of a hop is not given, no hop is; and a text that is written is that of the hop.
-use Rattle.std.proofs.Common.{◌≡◌, ℕ, ◌≤◌, List, [], ◌∷◌, Option, None, Some, arith}
+-- Where a part of a hop is not given, no hop is; where each is, a hop is; and a text that is written
+-- is that of the hop.
+use Rattle.std.proofs.Common.{◌≡◌, ◌≢◌, ℕ, ℤ, ◌≤◌, ◌||◌, Bool, true, false, List, [], ◌∷◌}
+use Rattle.std.proofs.Common.{Option, None, Some, Result, Ok, Err, MatchResult}
+use Rattle.std.proofs.Common.{refl, sym, subst, arith}
 use Rattle.std.specs.Option.{option_and_then, ForSome}
 use Rattle.sf_value.specs.declared.dialect.Dialect.TheVariants.{Rfc9651}
 use Rattle.sf_value.specs.declared.value.Field.{Field}
@@ -10,8 +13,15 @@ use Rattle.sf_value.specs.Grammar.Valid.{Valid}
 use Rattle.sf_value.proofs.CanonicalTexts.{canon_spells}
 use Rattle.sf_parse.proofs.GrammarLaws.{one_value}
 use Rattle.sf_use.specs.CacheStatus.Members.{entry, passed_by}
+use Rattle.sf_use.specs.Ranges.{IsHopStatus}
 use Rattle.sf_use.proofs.CacheStatusLemmas.ReadBack.{reads_back}
+use Rattle.sf_use.specs.declared.cache_status.hop.Forward.{Forward}
+use Rattle.sf_use.specs.declared.cache_status.hop.Forward.TheVariants.{Bypass, Method, UriMiss}
+use Rattle.sf_use.specs.declared.cache_status.hop.Forward.TheVariants.{VaryMiss, Miss, Request}
+use Rattle.sf_use.specs.declared.cache_status.hop.Forward.TheVariants.{Stale, Partial, Other}
 use Rattle.sf_use.specs.declared.cache_status.hop.Hop.{Hop}
+use Rattle.sf_use.specs.declared.cache_status.hop.Name.{Name}
+use Rattle.sf_use.specs.declared.cache_status.hop.Name.TheVariants as name
 use Rattle.sf_use.specs.declared.cache_status.hop.Outcome.{Outcome}
 use Rattle.sf_use.specs.declared.cache_status.hop.Outcome.TheVariants.{Hit, Forwarded, Conflict}
 use Rattle.sf_use.specs.declared.cache_status.hop.Outcome.TheVariants.{Unsaid}
@@ -22,9 +32,10 @@ use Rattle.sf_c.specs.declared.status.Status.TheVariants.{Answered, Refused, Sec
 use Rattle.sf_c.specs.declared.status.Status.TheVariants.{OutOfMemory, Empty, BadCall}
 use Rattle.sf_c.specs.declared.status.Status.TheVariants.{NotACache, Invalid, Absent, TooLong}
 use Rattle.sf_c.specs.declared.status.Status.TheVariants.{TooMany}
-use Rattle.sf_c.specs.GivenHops.{GivesHop, GivesMaybe, GivesNone}
-use Rattle.sf_c.specs.GivenHops.{GivesOutcome, GivesPassed, GivesStatus, IsReadAs, WritesHop}
-use Rattle.sf_c.specs.GivenHops.{hop_text}
+use Rattle.sf_c.specs.declared.span.Span.{Span}
+use Rattle.sf_c.specs.GivenHops.{GivesFlag, GivesHop, GivesInteger, GivesMaybe, GivesName, GivesNone}
+use Rattle.sf_c.specs.GivenHops.{GivesOutcome, GivesPassed, GivesStatus, GivesString, GivesToken}
+use Rattle.sf_c.specs.GivenHops.{GivesWhy, IsReadAs, WritesHop, hop_text, is_invalid}
 use Rattle.sf_c.specs.TextBuffers.{PutsText, TextBuffer}
 
 forwarded : (bytes : List ℕ) (n : HopNode) → n.outcome ≡ 2
@@ -45,52 +56,237 @@ conflicting bytes n e h (Forwarded p) g =
     absurd cc
 conflicting bytes n e h (Conflict p) g = h p g.1
 
--- none of Q if none of P, given that no Q is where no P is
-none_of : {X Y : Type 0} (P : X → Type 0) (Q : Y → Type 0)
-    → (((x : X) → P x → ⊥) → (y : Y) → Q y → ⊥) → (s : Status) → GivesNone P s → GivesNone Q s
-none_of P Q none Invalid h = none h
-none_of P Q none OutOfMemory h = tt
-none_of P Q none Answered h = h
-none_of P Q none Refused h = h
-none_of P Q none SecondRefused h = h
-none_of P Q none Short h = h
-none_of P Q none Empty h = h
-none_of P Q none BadCall h = h
-none_of P Q none NotACache h = h
-none_of P Q none Absent h = h
-none_of P Q none TooLong h = h
-none_of P Q none TooMany h = h
+-- there is no value of Q for a status if there is none of P: none of Q where none of P is, and one of
+-- Q for one of P
+carries : {X Y : Type 0} (P : X → Type 0) (Q : Y → Type 0) (make : X → Y)
+    → ((x : X) → P x → Q (make x)) → (((x : X) → P x → ⊥) → (y : Y) → Q y → ⊥) → (s : Status)
+    → GivesNone P s → GivesNone Q s
+carries P Q make has none Invalid h = none h
+carries P Q make has none OutOfMemory h = (make h.0, has h.0 h.1)
+carries P Q make has none Answered h = h
+carries P Q make has none Refused h = h
+carries P Q make has none SecondRefused h = h
+carries P Q make has none Short h = h
+carries P Q make has none Empty h = h
+carries P Q make has none BadCall h = h
+carries P Q make has none NotACache h = h
+carries P Q make has none Absent h = h
+carries P Q make has none TooLong h = h
+carries P Q make has none TooMany h = h
 
 pub no_forwarded : (bytes : List ℕ) (n : HopNode) (s : Status) → n.outcome ≡ 2
     → GivesNone (GivesPassed bytes n) s → GivesNone (GivesOutcome bytes n) s
 no_forwarded bytes n s e =
-    none_of (GivesPassed bytes n) (GivesOutcome bytes n) (forwarded bytes n e) s
+    carries (GivesPassed bytes n) (GivesOutcome bytes n) (λ p. Forwarded p) (λ p g. (e, g))
+    (forwarded bytes n e) s
 
 pub no_conflict : (bytes : List ℕ) (n : HopNode) (s : Status) → n.outcome ≡ 3
     → GivesNone (GivesPassed bytes n) s → GivesNone (GivesOutcome bytes n) s
 no_conflict bytes n s e =
-    none_of (GivesPassed bytes n) (GivesOutcome bytes n) (conflicting bytes n e) s
+    carries (GivesPassed bytes n) (GivesOutcome bytes n) (λ p. Conflict p) (λ p g. (e, g))
+    (conflicting bytes n e) s
 
--- none of Q where none of P, which each of Q has
+-- a name
+not_text : (bytes : List ℕ) (p : Span) (flag : ℕ) → flag ≡ 0
+    → ((t : List ℕ) → GivesString bytes p t → ⊥) → (x : Name) → GivesName bytes p flag x → ⊥
+not_text bytes p flag e none (name.Text t) g = none t g.1
+not_text bytes p flag e none (name.Token t) g = absurd (g.0 e)
+
+not_token : (bytes : List ℕ) (p : Span) (flag : ℕ) → flag ≢ 0
+    → ((t : List ℕ) → GivesToken bytes p t → ⊥) → (x : Name) → GivesName bytes p flag x → ⊥
+not_token bytes p flag e none (name.Text t) g = absurd (e g.0)
+not_token bytes p flag e none (name.Token t) g = none t g.1
+
+pub no_text_name : (bytes : List ℕ) (p : Span) (flag : ℕ) (s : Status) → flag ≡ 0
+    → GivesNone (GivesString bytes p) s → GivesNone (GivesName bytes p flag) s
+no_text_name bytes p flag s e =
+    carries (GivesString bytes p) (GivesName bytes p flag) (λ t. name.Text t) (λ t g. (e, g))
+    (not_text bytes p flag e) s
+
+pub no_token_name : (bytes : List ℕ) (p : Span) (flag : ℕ) (s : Status) → flag ≢ 0
+    → GivesNone (GivesToken bytes p) s → GivesNone (GivesName bytes p flag) s
+no_token_name bytes p flag s e =
+    carries (GivesToken bytes p) (GivesName bytes p flag) (λ t. name.Token t) (λ t g. (e, g))
+    (not_token bytes p flag e) s
+
+-- a value whose flag is set
+not_some : {X : Type 0} (flag : ℕ) (P : X → Type 0) → flag ≢ 0 → ((x : X) → P x → ⊥)
+    → (x : Option X) → GivesMaybe flag P x → ⊥
+not_some flag P e none None g = e g
+not_some flag P e none (Some x) g = none x g.1
+
+pub no_some : {X : Type 0} (flag : ℕ) (P : X → Type 0) (s : Status) → flag ≢ 0 → GivesNone P s
+    → GivesNone (GivesMaybe flag P) s
+no_some flag P s e =
+    carries P (GivesMaybe flag P) (λ x. Some x) (λ x g. (e, g)) (not_some flag P e) s
+
+-- a reason with a token of its own
+not_other : (bytes : List ℕ) (n : HopNode) → n.why ≡ 9
+    → ((t : List ℕ) → GivesToken bytes n.why_token t → ⊥) → (w : Forward) → GivesWhy bytes n w → ⊥
+not_other bytes n e none Bypass g = absurd cc
+not_other bytes n e none Method g = absurd cc
+not_other bytes n e none UriMiss g = absurd cc
+not_other bytes n e none VaryMiss g = absurd cc
+not_other bytes n e none Miss g = absurd cc
+not_other bytes n e none Request g = absurd cc
+not_other bytes n e none Stale g = absurd cc
+not_other bytes n e none Partial g = absurd cc
+not_other bytes n e none (Other t) g = none t g.1
+
+pub no_other : (bytes : List ℕ) (n : HopNode) (s : Status) → n.why ≡ 9
+    → GivesNone (GivesToken bytes n.why_token) s → GivesNone (GivesWhy bytes n) s
+no_other bytes n s e =
+    carries (GivesToken bytes n.why_token) (GivesWhy bytes n) (λ t. Other t) (λ t g. (e, g))
+    (not_other bytes n e) s
+
+-- the parameters of a request, of which the reason is made last
+pub no_passed : (bytes : List ℕ) (n : HopNode) (status : Option ℕ) (stored collapsed : Option Bool)
+    (s : Status) → GivesMaybe n.has_status (GivesStatus n.status) status
+    → GivesMaybe n.has_stored (GivesFlag n.stored) stored
+    → GivesMaybe n.has_collapsed (GivesFlag n.collapsed) collapsed
+    → GivesNone (GivesWhy bytes n) s → GivesNone (GivesPassed bytes n) s
+no_passed bytes n status stored collapsed s a b c =
+    carries (GivesWhy bytes n) (GivesPassed bytes n)
+    (λ w. record { why = w; status = status; stored = stored; collapsed = collapsed })
+    (λ w g. (g, a, b, c)) (λ none p g. none p.why g.0) s
+
+-- none of Q where a part of it is Invalid
 pub no_whole : {X Y : Type 0} (P : X → Type 0) (Q : Y → Type 0) (part : Y → X)
-    → ((y : Y) → Q y → P (part y)) → (s : Status) → GivesNone P s → GivesNone Q s
-no_whole P Q part has = none_of P Q (λ h y g. h (part y) (has y g))
+    → ((y : Y) → Q y → P (part y)) → (s : Status) → s ≡ Invalid → GivesNone P s → GivesNone Q s
+no_whole P Q part has s e h =
+    subst (GivesNone Q) (sym e) (λ y g. (subst (GivesNone P) e h) (part y) (has y g))
+
+-- a part that is not Invalid is given
+held : {X : Type 0} (P : X → Type 0) (r : Result X Status) → MatchResult r P (GivesNone P)
+    → is_invalid r ≡ false → (x : X) × P x
+held P (Ok x) m e = (x, m)
+held P (Err OutOfMemory) m e = m
+held P (Err Invalid) m e = absurd cc
+held P (Err Answered) m e = absurd m
+held P (Err Refused) m e = absurd m
+held P (Err SecondRefused) m e = absurd m
+held P (Err Short) m e = absurd m
+held P (Err Empty) m e = absurd m
+held P (Err BadCall) m e = absurd m
+held P (Err NotACache) m e = absurd m
+held P (Err Absent) m e = absurd m
+held P (Err TooLong) m e = absurd m
+held P (Err TooMany) m e = absurd m
+
+-- of a part that is Invalid there is none
+unheld : {X : Type 0} (P : X → Type 0) (r : Result X Status) → MatchResult r P (GivesNone P)
+    → is_invalid r ≡ true → (x : X) → P x → ⊥
+unheld P (Err Invalid) m e = m
+unheld P (Ok x) m e = absurd cc
+unheld P (Err OutOfMemory) m e = absurd cc
+unheld P (Err Answered) m e = absurd cc
+unheld P (Err Refused) m e = absurd cc
+unheld P (Err SecondRefused) m e = absurd cc
+unheld P (Err Short) m e = absurd cc
+unheld P (Err Empty) m e = absurd cc
+unheld P (Err BadCall) m e = absurd cc
+unheld P (Err NotACache) m e = absurd cc
+unheld P (Err Absent) m e = absurd cc
+unheld P (Err TooLong) m e = absurd cc
+unheld P (Err TooMany) m e = absurd cc
+
+-- what is made of the parts of a hop that need memory
+pub record Made (bytes : List ℕ) (n : HopNode) (a : Result Name Status) (b : Result Outcome Status)
+    (k : Result (Option (List ℕ)) Status) (d : Result (Option Name) Status) : Type 0 where
+  pub name : MatchResult a (GivesName bytes n.name n.name_is_token)
+      (GivesNone (GivesName bytes n.name n.name_is_token))
+  pub outcome : MatchResult b (GivesOutcome bytes n) (GivesNone (GivesOutcome bytes n))
+  pub key : MatchResult k (GivesMaybe n.has_key (GivesString bytes n.key))
+      (GivesNone (GivesMaybe n.has_key (GivesString bytes n.key)))
+  pub detail : MatchResult d
+      (GivesMaybe n.has_detail (GivesName bytes n.detail n.detail_is_token))
+      (GivesNone (GivesMaybe n.has_detail (GivesName bytes n.detail n.detail_is_token)))
+
+any_of : {C : Type 0} (w x y z : Bool) → (((w || x) || y) || z) ≡ true → (w ≡ true → C)
+    → (x ≡ true → C) → (y ≡ true → C) → (z ≡ true → C) → C
+any_of true x y z e f g h i = f refl
+any_of false true y z e f g h i = g refl
+any_of false false true z e f g h i = h refl
+any_of false false false true e f g h i = i refl
+any_of false false false false e f g h i = absurd cc
+
+none_is : (w x y z : Bool) → (((w || x) || y) || z) ≡ false
+    → (w ≡ false) × (x ≡ false) × (y ≡ false) × (z ≡ false)
+none_is false false false false e = (refl, refl, refl, refl)
+none_is true x y z e = absurd cc
+none_is false true y z e = absurd cc
+none_is false false true z e = absurd cc
+none_is false false false true e = absurd cc
+
+-- no hop is given if one of these parts is Invalid
+pub no_hop : (bytes : List ℕ) (n : HopNode) (a : Result Name Status) (b : Result Outcome Status)
+    (k : Result (Option (List ℕ)) Status) (d : Result (Option Name) Status) → Made bytes n a b k d
+    → (((is_invalid a || is_invalid b) || is_invalid k) || is_invalid d) ≡ true
+    → (h : Hop) → GivesHop bytes n h → ⊥
+no_hop bytes n a b k d m e h g =
+    any_of (is_invalid a) (is_invalid b) (is_invalid k) (is_invalid d) e
+    (λ w. unheld _ a m.name w h.name g.0) (λ w. unheld _ b m.outcome w h.outcome g.1)
+    (λ w. unheld _ k m.key w h.key g.3) (λ w. unheld _ d m.detail w h.detail g.4)
+
+-- a hop is given if none is
+pub a_hop : (bytes : List ℕ) (n : HopNode) (a : Result Name Status) (b : Result Outcome Status)
+    (k : Result (Option (List ℕ)) Status) (d : Result (Option Name) Status) (ttl : Option ℤ)
+    → Made bytes n a b k d → GivesMaybe n.has_ttl (GivesInteger n.ttl) ttl
+    → (((is_invalid a || is_invalid b) || is_invalid k) || is_invalid d) ≡ false
+    → (h : Hop) × GivesHop bytes n h
+a_hop bytes n a b k d ttl m t e =
+    let valid = none_is (is_invalid a) (is_invalid b) (is_invalid k) (is_invalid d) e in
+    let x = held _ a m.name valid.0 in
+    let y = held _ b m.outcome valid.1 in
+    let z = held _ k m.key valid.2 in
+    let w = held _ d m.detail valid.3 in (
+      record { name = x.0; outcome = y.0; ttl = ttl; key = z.0; detail = w.0 },
+      (x.1, y.1, t, z.1, w.1),
+    )
+
+-- what fails then is an allocation
+pub no_memory : {X Y : Type 0} (P : X → Type 0) (Q : Y → Type 0) (s : Status) → GivesNone P s
+    → s ≢ Invalid → ((y : Y) × Q y) → GivesNone Q s
+no_memory P Q OutOfMemory h e q = q
+no_memory P Q Invalid h e q = absurd (e refl)
+no_memory P Q Answered h e q = h
+no_memory P Q Refused h e q = h
+no_memory P Q SecondRefused h e q = h
+no_memory P Q Short h e q = h
+no_memory P Q Empty h e q = h
+no_memory P Q BadCall h e q = h
+no_memory P Q NotACache h e q = h
+no_memory P Q Absent h e q = h
+no_memory P Q TooLong h e q = h
+no_memory P Q TooMany h e q = h
+
+-- the call writes nothing where no hop is made
+pub no_text : (o : TextBuffer) (bytes : List ℕ) (n : HopNode) (s : Status)
+    → GivesNone (GivesHop bytes n) s → WritesHop o o bytes n (Some s)
+no_text o bytes n Invalid h = (h, refl)
+no_text o bytes n OutOfMemory h = (h, refl)
+no_text o bytes n Answered h = absurd h
+no_text o bytes n Refused h = h
+no_text o bytes n SecondRefused h = h
+no_text o bytes n Short h = absurd h
+no_text o bytes n Empty h = h
+no_text o bytes n BadCall h = h
+no_text o bytes n NotACache h = h
+no_text o bytes n Absent h = h
+no_text o bytes n TooLong h = h
+no_text o bytes n TooMany h = h
 
 -- the status of a hop that a struct gives has three digits
 status_in_range : (flag number : ℕ) (status : Option ℕ)
-    → GivesMaybe flag (GivesStatus number) status
-    → ForSome status (λ n. (100 ≤ n) × (n ≤ 999))
+    → GivesMaybe flag (GivesStatus number) status → ForSome status IsHopStatus
 status_in_range flag number None g = λ x e. absurd cc
 status_in_range flag number (Some n) g =
     λ x e.
-    let same : n ≡ x = cc in
-    let given = g.1.0 in
-    let least = g.1.1 in
-    let most = g.1.2 in
-    (omega arith, omega arith)
+    let same : number ≡ x = cc in
+    subst IsHopStatus same g.1.1
 
 outcome_in_range : (bytes : List ℕ) (n : HopNode) (o : Outcome) → GivesOutcome bytes n o
-    → ForSome (option_and_then (λ p. p.status) (passed_by o)) (λ s. (100 ≤ s) × (s ≤ 999))
+    → ForSome (option_and_then (λ p. p.status) (passed_by o)) IsHopStatus
 outcome_in_range bytes n Unsaid g = λ x e. absurd cc
 outcome_in_range bytes n Hit g = λ x e. absurd cc
 outcome_in_range bytes n (Forwarded p) g = status_in_range n.has_status n.status p.status g.1.1

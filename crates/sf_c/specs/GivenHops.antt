@@ -1,16 +1,18 @@
 -- The hop that a struct describes, to be written (RFC 9211 section 2). Any number but 0 sets a
 -- flag, and a member whose flag is not set is ignored.
-use Rattle.std.specs.Prelude.{◌≡◌, ◌≢◌, ℕ, ℤ, ◌<◌, ◌≤◌, ◌^◌, ◌==◌, not, nat_abs, Bool}
-use Rattle.std.specs.Prelude.{List, [], ◌∷◌, Option, Some, None, Ok}
+use Rattle.std.specs.Prelude.{◌≡◌, ◌≢◌, ℕ, ℤ, ◌==◌, not, Bool}
+use Rattle.std.specs.Prelude.{true, false, List, [], ◌∷◌, Option, Some, None, Result, Ok, Err}
 use Rattle.sf_value.specs.declared.dialect.Dialect.TheVariants.{Rfc9651}
 use Rattle.sf_value.specs.declared.fault.TextFault.{TextFault}
 use Rattle.sf_value.specs.declared.fault.TextFault.TheVariants as text_fault
+use Rattle.sf_value.specs.declared.value.Bare.TheVariants.{Integer}
 use Rattle.sf_value.specs.declared.value.Field.{Field}
 use Rattle.sf_value.specs.declared.value.Field.TheVariants as field
 use Rattle.sf_value.specs.declared.value.Kind.TheVariants as kind
 use Rattle.sf_value.specs.Grammar.Canonical.{canon}
 use Rattle.sf_value.specs.Grammar.Classes.{is_visible}
 use Rattle.sf_value.specs.Grammar.Tokens.{IsToken}
+use Rattle.sf_value.specs.Grammar.Valid.{ValidBare}
 use Rattle.sf_value.specs.Grammar.Words.{Every}
 use Rattle.sf_parse.specs.Parsers.{IsOnly}
 use Rattle.sf_use.specs.declared.cache_status.hop.Name.{Name}
@@ -27,6 +29,7 @@ use Rattle.sf_use.specs.declared.cache_status.hop.Hop.{Hop}
 use Rattle.sf_use.specs.CacheStatus.Hops.{hops}
 use Rattle.sf_use.specs.CacheStatus.Laws.{canonical_hop}
 use Rattle.sf_use.specs.CacheStatus.Members.{entry}
+use Rattle.sf_use.specs.Ranges.{IsHopStatus}
 use Rattle.sf_c.specs.declared.span.Span.{Span}
 use Rattle.sf_c.specs.declared.hops.HopNode.{HopNode}
 use Rattle.sf_c.specs.declared.status.Status.{Status}
@@ -68,9 +71,9 @@ GivesWhy bytes n Stale = n.why ≡ 7
 GivesWhy bytes n Partial = n.why ≡ 8
 GivesWhy bytes n (Other token) = (n.why ≡ 9) × GivesToken bytes n.why_token token
 
--- a status from 100 to 999 (2.3)
+-- a status code (2.3)
 abbrev pub GivesStatus : ℕ → ℕ → Type 0
-GivesStatus number status = (status ≡ number) × (100 ≤ number) × (number ≤ 999)
+GivesStatus number status = (status ≡ number) × IsHopStatus number
 
 -- a flag of the request
 abbrev pub GivesFlag : ℕ → Bool → Type 0
@@ -93,7 +96,7 @@ GivesOutcome bytes n (Conflict p) = (n.outcome ≡ 3) × GivesPassed bytes n p
 
 -- an Integer
 abbrev pub GivesInteger : ℤ → ℤ → Type 0
-GivesInteger number n = (n ≡ number) × (nat_abs number < 10 ^ 15)
+GivesInteger number n = (n ≡ number) × ValidBare Rfc9651 (Integer number)
 
 -- the hop that a struct describes, whose spans are in these bytes
 abbrev pub GivesHop : List ℕ → HopNode → Hop → Type 0
@@ -104,11 +107,16 @@ GivesHop bytes n h =
     × GivesMaybe n.has_key (GivesString bytes n.key) h.key
     × GivesMaybe n.has_detail (GivesName bytes n.detail n.detail_is_token) h.detail
 
--- why there is no value: the struct describes none, or an allocation failed
+-- why there is no value: the struct describes none, or it describes one and an allocation failed
 abbrev pub GivesNone : {X : Type 0} → (X → Type 0) → Status → Type 0
 GivesNone P Invalid = (x : _) → P x → ⊥
-GivesNone P OutOfMemory = Unit {0}
+GivesNone P OutOfMemory = (x : _) × P x
 GivesNone P status = ⊥
+
+-- the struct describes no value, whatever memory there is
+abbrev pub is_invalid : {X : Type 0} → Result X Status → Bool
+is_invalid (Err Invalid) = true
+is_invalid r = false
 
 -- the status for bytes that are not a String or a Token
 abbrev pub fault_status : TextFault → Status
@@ -126,7 +134,8 @@ abbrev pub IsReadAs : List ℕ → Hop → Type 0
 IsReadAs text h =
     (v : Field) × IsOnly Rfc9651 kind.List text v × (hops v ≡ Ok (canonical_hop h ∷ []))
 
--- the text of a Cache-Status field with the hop that the struct gives as its only member
+-- the text of a Cache-Status field with the hop that the struct gives as its only member; Invalid
+-- exactly if it gives none, since an allocation fails only for a hop
 abbrev pub WritesHop : TextBuffer → TextBuffer → List ℕ → HopNode → Option Status → Type 0
 WritesHop old new bytes n (Some Invalid) = ((h : Hop) → GivesHop bytes n h → ⊥) × (new ≡ old)
 WritesHop old new bytes n (Some Answered) =
@@ -138,5 +147,5 @@ WritesHop old new bytes n (Some Short) =
     (h : Hop)
     × GivesHop bytes n h
     × PutsText old new (hop_text h) (Some Short)
-WritesHop old new bytes n (Some OutOfMemory) = new ≡ old
+WritesHop old new bytes n (Some OutOfMemory) = ((h : Hop) × GivesHop bytes n h) × (new ≡ old)
 WritesHop old new bytes n status = ⊥

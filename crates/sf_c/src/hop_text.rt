@@ -1,5 +1,5 @@
 //! The member of a Cache-Status field for a hop.
-ghost use Rattle.std.specs.Prelude.{◌≡◌, [], ◌∷◌, Some, IfOk, MatchResult};
+ghost use Rattle.std.specs.Prelude.{◌≡◌, [], ◌∷◌, Some, IfOk, IfErr, MatchResult};
 ghost use Rattle.sf_value.specs.declared.dialect.Dialect.TheVariants.{Rfc9651};
 ghost use Rattle.sf_value.specs.declared.value.Kind.TheVariants as kind_is;
 ghost use Rattle.sf_value.specs.Grammar.Fields.{list_of};
@@ -7,9 +7,10 @@ ghost use Rattle.sf_value.specs.Grammar.Valid.{Valid};
 ghost use Rattle.sf_use.specs.CacheStatus.Members.{entry};
 ghost use Rattle.sf_c.specs.GivenHops.{AreBytes, GivesFlag, GivesHop, GivesInteger, GivesMaybe};
 ghost use Rattle.sf_c.specs.GivenHops.{GivesName, GivesNone, GivesOutcome, GivesPassed};
-ghost use Rattle.sf_c.specs.GivenHops.{fault_status, hop_text};
+ghost use Rattle.sf_c.specs.GivenHops.{fault_status, hop_text, is_invalid as is_invalid_part};
 ghost use Rattle.sf_c.specs.GivenHops.{GivesStatus, GivesString, GivesToken, GivesWhy, WritesHop};
 ghost use Rattle.sf_c.specs.Statuses.{status_at};
+ghost use Rattle.sf_c.specs.declared.status.Status.TheVariants.{Invalid};
 
 use crate::buffer::put_text;
 use crate::hops::HopNode;
@@ -25,7 +26,7 @@ use std::hash::RandomState;
 /// The text of a Cache-Status field whose only member is this hop (RFC 9211 section 2): a field
 /// line to be sent after those from the caches nearer the origin. The spans of the hop are in
 /// `bytes`. Returns `Answered` if the buffer holds the text; `Short` if it is too small; `Invalid`
-/// if the struct is not a valid hop; or `OutOfMemory`.
+/// if and only if the struct is not a valid hop; or `OutOfMemory`.
 #[unsafe(no_mangle)]
 pub extern "C" fn sf_hop_text(
     alloc: Global,
@@ -87,24 +88,31 @@ fn hop_of(alloc: Global, hop: &HopNode, bytes: &[u8]) -> Result<Hop, Status>
     ensures { MatchResult result (λ made. GivesHop bytes.now hop.now made)
         (GivesNone (GivesHop bytes.now hop.now)) }
 {
-    let name = name_of(alloc, bytes, hop.name, hop.name_is_token)?;
-    let outcome = outcome_of(alloc, hop, bytes)?;
-    let ttl = match ttl_of(hop) {
-        Ok(ttl) => ttl,
-        Err(status) => return Err(status),
-    };
-    let key = key_of(alloc, bytes, hop.key, hop.has_key)?;
-    let detail = match detail_of(alloc, hop, bytes) {
-        Ok(detail) => detail,
-        Err(status) => return Err(status),
-    };
+    let ttl = ttl_of(hop)?;
+    let name = name_of(alloc, bytes, hop.name, hop.name_is_token);
+    let outcome = outcome_of(alloc, hop, bytes);
+    let key = key_of(alloc, bytes, hop.key, hop.has_key);
+    let detail = detail_of(alloc, hop, bytes);
+    // A part that is wrong counts before an allocation that failed.
+    let invalid =
+        is_invalid(&name) | is_invalid(&outcome) | is_invalid(&key) | is_invalid(&detail);
+    if invalid {
+        return Err(Status::Invalid);
+    }
     Ok(Hop {
-        name,
-        outcome,
+        name: name?,
+        outcome: outcome?,
         ttl,
-        key,
-        detail,
+        key: key?,
+        detail: detail?,
     })
+}
+
+/// Whether a part of the struct is wrong.
+fn is_invalid<T>(part: &Result<T, Status>) -> bool
+    ensures { result ≡ is_invalid_part part.now }
+{
+    matches!(part, Err(Status::Invalid))
 }
 
 /// The bytes of a span.
@@ -192,13 +200,14 @@ fn passed_of(alloc: Global, hop: &HopNode, bytes: &[u8]) -> Result<Passed, Statu
     ensures { MatchResult result (λ passed. GivesPassed bytes.now hop.now passed)
         (GivesNone (GivesPassed bytes.now hop.now)) }
 {
-    let why = why_of(alloc, hop, bytes)?;
     let status = status_of(hop.has_status, hop.status)?;
+    let stored = flag_of(hop.has_stored, hop.stored);
+    let collapsed = flag_of(hop.has_collapsed, hop.collapsed);
     Ok(Passed {
-        why,
+        why: why_of(alloc, hop, bytes)?,
         status,
-        stored: flag_of(hop.has_stored, hop.stored),
-        collapsed: flag_of(hop.has_collapsed, hop.collapsed),
+        stored,
+        collapsed,
     })
 }
 
@@ -226,8 +235,10 @@ fn why_of(alloc: Global, hop: &HopNode, bytes: &[u8]) -> Result<Forward, Status>
 
 /// The status code of the next hop's response, if there is one.
 fn status_of(has_status: u8, status: u16) -> Result<Option<HopStatus>, Status>
-    ensures { MatchResult result (λ made. GivesMaybe has_status (GivesStatus status) made)
+    ensures gives { MatchResult result (λ made. GivesMaybe has_status (GivesStatus status) made)
         (GivesNone (GivesMaybe has_status (GivesStatus status))) }
+    // It allocates nothing.
+    ensures invalid { IfErr result (λ status. status ≡ Invalid) }
 {
     if has_status == 0 {
         return Ok(None);
@@ -250,9 +261,11 @@ fn flag_of(has_flag: u8, flag: u8) -> Option<bool>
 
 /// The seconds for which the response is fresh, if `ttl` is present.
 fn ttl_of(hop: &HopNode) -> Result<Option<Int>, Status>
-    ensures { MatchResult result
+    ensures gives { MatchResult result
         (λ made. GivesMaybe hop.now.has_ttl (GivesInteger hop.now.ttl) made)
         (GivesNone (GivesMaybe hop.now.has_ttl (GivesInteger hop.now.ttl))) }
+    // It allocates nothing.
+    ensures invalid { IfErr result (λ status. status ≡ Invalid) }
 {
     if hop.has_ttl == 0 {
         return Ok(None);
