@@ -210,7 +210,7 @@ any_of false false true z e f g h i = h refl
 any_of false false false true e f g h i = i refl
 any_of false false false false e f g h i = absurd cc
 
-none_is : (w x y z : Bool) → (((w || x) || y) || z) ≡ false
+pub none_is : (w x y z : Bool) → (((w || x) || y) || z) ≡ false
     → (w ≡ false) × (x ≡ false) × (y ≡ false) × (z ≡ false)
 none_is false false false false e = (refl, refl, refl, refl)
 none_is true x y z e = absurd cc
@@ -245,10 +245,10 @@ a_hop bytes n a b k d ttl m t e =
     )
 
 -- what fails then is an allocation
-pub no_memory : {X Y : Type 0} (P : X → Type 0) (Q : Y → Type 0) (s : Status) → GivesNone P s
-    → s ≢ Invalid → ((y : Y) × Q y) → GivesNone Q s
+no_memory : {X Y : Type 0} (P : X → Type 0) (Q : Y → Type 0) (s : Status) → GivesNone P s
+    → is_invalid {X = X} (Err s) ≡ false → ((y : Y) × Q y) → GivesNone Q s
 no_memory P Q OutOfMemory h e q = q
-no_memory P Q Invalid h e q = absurd (e refl)
+no_memory P Q Invalid h e q = absurd cc
 no_memory P Q Answered h e q = h
 no_memory P Q Refused h e q = h
 no_memory P Q SecondRefused h e q = h
@@ -259,6 +259,13 @@ no_memory P Q NotACache h e q = h
 no_memory P Q Absent h e q = h
 no_memory P Q TooLong h e q = h
 no_memory P Q TooMany h e q = h
+
+pub no_part : {X Y : Type 0} (P : X → Type 0) (Q : Y → Type 0) (r : Result X Status) (s : Status)
+    → r ≡ Err s → MatchResult r P (GivesNone P) → is_invalid r ≡ false → ((y : Y) × Q y)
+    → GivesNone Q s
+no_part P Q r s e m f q =
+    no_memory P Q s (subst (λ z. MatchResult z P (GivesNone P)) e m)
+    (subst (λ z. is_invalid z ≡ false) e f) q
 
 -- the call writes nothing where no hop is made
 pub no_text : (o : TextBuffer) (bytes : List ℕ) (n : HopNode) (s : Status)

@@ -30,7 +30,7 @@ no_string bytes p part (BadByte place) a e =
     let same : text ≡ part = g.0.1 ∙ sym a.1 in
     let none = every-place is_visible part (subst (Every is_visible) same g.1) in
     absurd cc
-no_string bytes p part OutOfMemory a e = (part, a, e)
+no_string bytes p part OutOfMemory a e = (part, (a, e))
 
 pub no_token : (bytes : List ℕ) (p : Span) (part : List ℕ) (fault : TextFault)
     → AreBytes bytes p part → IsTokenFault part fault
@@ -46,4 +46,4 @@ no_token bytes p part (BadByte place) a e =
     let only =
     refused_word is_token_start is_in_token part (BadByte place) (subst IsToken same g.1) e in
     absurd cc
-no_token bytes p part OutOfMemory a e = (part, a, e)
+no_token bytes p part OutOfMemory a e = (part, (a, e))

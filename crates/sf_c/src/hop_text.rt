@@ -94,8 +94,7 @@ fn hop_of(alloc: Global, hop: &HopNode, bytes: &[u8]) -> Result<Hop, Status>
     let key = key_of(alloc, bytes, hop.key, hop.has_key);
     let detail = detail_of(alloc, hop, bytes);
     // A part that is wrong counts before an allocation that failed.
-    let invalid =
-        is_invalid(&name) | is_invalid(&outcome) | is_invalid(&key) | is_invalid(&detail);
+    let invalid = is_invalid(&name) | is_invalid(&outcome) | is_invalid(&key) | is_invalid(&detail);
     if invalid {
         return Err(Status::Invalid);
     }
@@ -117,8 +116,10 @@ fn is_invalid<T>(part: &Result<T, Status>) -> bool
 
 /// The bytes of a span.
 fn bytes_of<'a>(bytes: &'a [u8], span: Span) -> Result<&'a [u8], Status>
-    ensures { MatchResult result (λ part. AreBytes bytes.now span part.now)
+    ensures gives { MatchResult result (λ part. AreBytes bytes.now span part.now)
         (GivesNone (AreBytes bytes.now span)) }
+    // It allocates nothing.
+    ensures invalid { IfErr result (λ status. status ≡ Invalid) }
 {
     match span.of(bytes) {
         Some(part) => Ok(part),

@@ -19,6 +19,7 @@ use Rattle.sf_tool.specs.declared.request.Request.TheVariants.{Targeted, Priorit
 use Rattle.sf_tool.specs.declared.request.RequestFault.{RequestFault}
 use Rattle.sf_tool.specs.declared.request.RequestFault.TheVariants.{Usage, OutOfMemory}
 use Rattle.sf_tool.specs.Fields.{is_header_name}
+use Rattle.sf_tool.specs.Request.{most_names}
 
 -- `--kind`, which is required
 abbrev pub kind_option : Rule
@@ -80,10 +81,10 @@ NamesKind rows kind = first_of (codes "kind") rows ≡ Some (kind_word kind)
 abbrev pub NamesDialect : List Row → Dialect → Type 0
 NamesDialect rows dialect = first_of (codes "dialect") rows ≡ Some (dialect_word dialect)
 
--- from 1 to 64 header names, whose letters may be of either case
+-- header names, as many as a request may have, whose letters may be of either case
 abbrev pub AreNames : List Text → List Text → Type 0
 AreNames words names =
-    (1 ≤ length words) × (length words ≤ 64) × (list_all is_header_name words ≡ true)
+    (1 ≤ length words) × (length words ≤ most_names) × (list_all is_header_name words ≡ true)
     × (names ≡ map lowercase words)
 
 -- the request has the arguments that were given with the command's name

@@ -10,16 +10,17 @@ use Rattle.sf_tool.specs.declared.request.RequestFault.{RequestFault}
 use Rattle.sf_tool.specs.declared.request.RequestFault.TheVariants.{Usage, OutOfMemory}
 use Rattle.sf_tool.specs.CommandLine.{AreNames, AsksFor}
 use Rattle.sf_tool.specs.Fields.{is_header_name}
+use Rattle.sf_tool.specs.Request.{most_names}
 
 -- no request is made
 abbrev pub AsksForNone : Text → List Row → Type 0
 AsksForNone word rows = (request : Request) → ¬ (AsksFor word rows request)
 
--- there are from 1 to 64 words, and those up to one of them are names: for that one an allocation
--- may fail
+-- there are one or more words, as many as a request may have names, and those up to one of them are
+-- names: for that one an allocation may fail
 abbrev pub MayAllocate : List Text → Type 0
 MayAllocate words =
-    (length words ≤ 64)
+    (length words ≤ most_names)
     × ((n : ℕ) × (n < length words) × (list_all is_header_name (take (n + 1) words) ≡ true))
 
 -- Usage, if a command that was found makes no request; an allocation fails only for the names of

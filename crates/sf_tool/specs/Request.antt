@@ -1,12 +1,16 @@
 -- What holds for a request that was read.
-use Rattle.std.specs.Prelude.{◌≤◌, length, ⊤}
+use Rattle.std.specs.Prelude.{ℕ, ◌≤◌, length, ⊤}
 use Rattle.sf_tool.specs.declared.request.Request.{Request}
 use Rattle.sf_tool.specs.declared.request.Request.TheVariants.{Show, Check, Normalise, CacheStatus}
 use Rattle.sf_tool.specs.declared.request.Request.TheVariants.{Targeted, Priority}
 
--- if it has names, there are from 1 to 64
+-- the largest number of names
+abbrev pub most_names : ℕ
+most_names = 64
+
+-- if it has names, there are from one to that many
 abbrev pub HasFewNames : Request → Type 0
-HasFewNames (Targeted names) = (1 ≤ length names.items) × (length names.items ≤ 64)
+HasFewNames (Targeted names) = (1 ≤ length names.items) × (length names.items ≤ most_names)
 HasFewNames (Show dialect kind) = ⊤
 HasFewNames (Check dialect kind) = ⊤
 HasFewNames (Normalise dialect kind) = ⊤
