@@ -6,7 +6,7 @@ ghost use Rattle.sf_c.specs.Paths.{NamesCaches, SaysFew, ReportsPath};
 ghost use Rattle.sf_c.specs.Refusals.{flag_number};
 ghost use Rattle.sf_c.specs.Statuses.{status_at};
 
-use crate::call::parse;
+use crate::call::{Scan, parse};
 use crate::hop_scan::scan_hops;
 use crate::hops::{HopNode, flatten_hops};
 use crate::laws::hops_are_few;
@@ -123,7 +123,15 @@ fn path_by_tree(
         text.now (Some result) }
     ensures few { SaysFew text.now path.new (Some result) }
 {
-    let field = match parse(alloc, seed, Dialect::Rfc9651, Kind::List, text, refusal) {
+    let field = match parse(
+        alloc,
+        seed,
+        Scan::Declined,
+        Dialect::Rfc9651,
+        Kind::List,
+        text,
+        refusal,
+    ) {
         Ok(field) => field,
         Err(status) => return status,
     };

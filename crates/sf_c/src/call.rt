@@ -1,15 +1,26 @@
 //! The numbers that C passes for a dialect and a kind, and parsing for every call.
 ghost use Rattle.std.specs.Prelude.{◌≡◌};
+ghost use Rattle.sf_parse.specs.Parsers.{Parses};
 ghost use Rattle.sf_c.specs.Calls.{dialect_at, kind_at};
 ghost use Rattle.sf_c.specs.Parsing.{ParsesOrSays};
 
 use crate::refusal::SyntaxRefusal;
 use crate::seed::Seed;
 use crate::status::Status;
-use sf_parse::Refusal;
+use sf_parse::{Refusal, parse_text_in};
 use sf_value::{Dialect, Field, Kind};
 use sf_view::parse_declined;
 use std::alloc::Global;
+use std::hash::RandomState;
+
+/// What a scanner made of a text before it is parsed.
+#[derive(Clone, Copy, Debug, Drop)]
+pub(crate) enum Scan {
+    /// It was not scanned.
+    Skipped,
+    /// The scanner declined it, so most likely it is malformed.
+    Declined,
+}
 
 /// The dialect of this number, an `sf_dialect` of `include/sf.h`.
 pub(crate) fn dialect_of(number: u32) -> Option<Dialect>
@@ -34,11 +45,12 @@ pub(crate) fn kind_of(number: u32) -> Option<Kind>
     }
 }
 
-/// The value that a text that the scanner declined spells, or the status that says why there is
-/// none. A refusal is put into its struct, which is otherwise unchanged.
+/// The value that the text spells, or the status that says why there is none. A refusal is put into
+/// its struct, which is otherwise unchanged.
 pub(crate) fn parse(
     alloc: Global,
     seed: &Seed,
+    scan: Scan,
     dialect: Dialect,
     kind: Kind,
     text: &[u8],
@@ -51,7 +63,7 @@ pub(crate) fn parse(
     let Some(state) = seed.state() else {
         return Err(Status::OutOfMemory);
     };
-    match parse_declined(alloc, &state, dialect, kind, text) {
+    match parse_after(alloc, &state, scan, dialect, kind, text) {
         Ok(field) => Ok(field),
         Err(Refusal::OutOfMemory) => Err(Status::OutOfMemory),
         Err(
@@ -66,5 +78,23 @@ pub(crate) fn parse(
             Err(Status::Refused)
         }
         Err(_) => unreachable!(),
+    }
+}
+
+/// The value that the text spells, or its refusal, without the members before a malformed one if the
+/// text was declined.
+fn parse_after(
+    alloc: Global,
+    state: &RandomState,
+    scan: Scan,
+    dialect: Dialect,
+    kind: Kind,
+    text: &[u8],
+) -> Result<Field, Refusal>
+    ensures { Parses dialect kind text.now result }
+{
+    match scan {
+        Scan::Skipped => return parse_text_in(alloc, state, dialect, kind, text),
+        Scan::Declined => return parse_declined(alloc, state, dialect, kind, text),
     }
 }

@@ -7,7 +7,7 @@ ghost use Rattle.sf_c.specs.Parsing.{ParsesOrSays};
 ghost use Rattle.sf_c.specs.Statuses.{status_at};
 
 use crate::buffer::put;
-use crate::call::{dialect_of, kind_of, parse};
+use crate::call::{Scan, dialect_of, kind_of, parse};
 use crate::refusal::SyntaxRefusal;
 use crate::seed::Seed;
 use crate::status::Status;
@@ -127,7 +127,7 @@ fn canonical(
         Ok(None) => {}
         Err(_) => return Err(Status::OutOfMemory),
     }
-    let field = parse(alloc, seed, dialect, kind, text, refusal)?;
+    let field = parse(alloc, seed, Scan::Declined, dialect, kind, text, refusal)?;
     match to_text(alloc, &field) {
         Ok(canonical) => return Ok(canonical),
         Err(_) => return Err(Status::OutOfMemory),
@@ -150,11 +150,11 @@ fn equal(
         (record { equal = equal.new; refusal = refusal.new })
         first.now second.now dialect kind result }
 {
-    let field = match parse(alloc, seed, dialect, kind, first, refusal) {
+    let field = match parse(alloc, seed, Scan::Skipped, dialect, kind, first, refusal) {
         Ok(field) => field,
         Err(status) => return status,
     };
-    let other = match parse(alloc, seed, dialect, kind, second, refusal) {
+    let other = match parse(alloc, seed, Scan::Skipped, dialect, kind, second, refusal) {
         Ok(field) => field,
         Err(Status::Refused) => return Status::SecondRefused,
         Err(status) => return status,

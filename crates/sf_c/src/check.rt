@@ -3,7 +3,7 @@ ghost use Rattle.sf_c.specs.Calls.{ChecksCall, dialect_at, kind_at};
 ghost use Rattle.sf_c.specs.Checks.{Checks};
 ghost use Rattle.sf_c.specs.Statuses.{status_at};
 
-use crate::call::{dialect_of, kind_of, parse};
+use crate::call::{Scan, dialect_of, kind_of, parse};
 use crate::refusal::SyntaxRefusal;
 use crate::seed::Seed;
 use crate::status::Status;
@@ -49,7 +49,7 @@ fn check(
     if accepts(dialect, kind, text) {
         return Status::Answered;
     }
-    match parse(alloc, seed, dialect, kind, text, refusal) {
+    match parse(alloc, seed, Scan::Declined, dialect, kind, text, refusal) {
         Ok(_) => Status::Answered,
         Err(status) => status,
     }

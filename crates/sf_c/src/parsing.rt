@@ -4,7 +4,7 @@ ghost use Rattle.sf_c.specs.Calls.{ChecksCall, dialect_at, kind_at};
 ghost use Rattle.sf_c.specs.Flattening.{Flattens, IsHeld};
 ghost use Rattle.sf_c.specs.Statuses.{status_at};
 
-use crate::call::{dialect_of, kind_of, parse};
+use crate::call::{Scan, dialect_of, kind_of, parse};
 use crate::decoding::{decode_nodes, none_coded};
 use crate::refusal::SyntaxRefusal;
 use crate::seed::Seed;
@@ -145,7 +145,7 @@ fn parse_tree(
         (record { nodes = nodes.new; bytes = bytes.new; sizes = sizes.new; refusal = refusal.new })
         text.now dialect kind result }
 {
-    let field = match parse(alloc, seed, dialect, kind, text, refusal) {
+    let field = match parse(alloc, seed, Scan::Declined, dialect, kind, text, refusal) {
         Ok(field) => field,
         Err(status) => return status,
     };

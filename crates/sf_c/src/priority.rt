@@ -4,7 +4,7 @@ ghost use Rattle.sf_use.specs.Priority.{merge_params};
 ghost use Rattle.sf_c.specs.Priorities.{AsksFor, SaysAsked, params_of_flags, flag_at, urgency_at};
 ghost use Rattle.sf_c.specs.Statuses.{status_at};
 
-use crate::call::parse;
+use crate::call::{Scan, parse};
 use crate::refusal::SyntaxRefusal;
 use crate::seed::Seed;
 use crate::status::Status;
@@ -119,7 +119,15 @@ fn read_params(
         *priority = PriorityFlags::of(asked);
         return Status::Answered;
     }
-    let field = match parse(alloc, seed, Dialect::Rfc9651, Kind::Dict, text, refusal) {
+    let field = match parse(
+        alloc,
+        seed,
+        Scan::Declined,
+        Dialect::Rfc9651,
+        Kind::Dict,
+        text,
+        refusal,
+    ) {
         Ok(field) => field,
         Err(status) => return status,
     };

@@ -10,7 +10,7 @@ ghost use Rattle.sf_c.specs.PriorityChanges.{ChangesPriority};
 ghost use Rattle.sf_c.specs.Statuses.{status_at};
 
 use crate::buffer::put_text;
-use crate::call::parse;
+use crate::call::{Scan, parse};
 use crate::priority::PriorityFlags;
 use crate::refusal::SyntaxRefusal;
 use crate::seed::Seed;
@@ -60,7 +60,15 @@ fn change(
         (record { buffer = buffer.new; required = required.new; refusal = refusal.new })
         text.now priority.now (Some result) }
 {
-    let field = match parse(alloc, seed, Dialect::Rfc9651, Kind::Dict, text, refusal) {
+    let field = match parse(
+        alloc,
+        seed,
+        Scan::Skipped,
+        Dialect::Rfc9651,
+        Kind::Dict,
+        text,
+        refusal,
+    ) {
         Ok(field) => field,
         Err(status) => return status,
     };

@@ -7,7 +7,7 @@ ghost use Rattle.sf_c.specs.Policies.{Directs, LifeIs, SaysPolicy, SaysToCache};
 ghost use Rattle.sf_c.specs.Policies.{policy_by, seconds_at};
 ghost use Rattle.sf_c.specs.Statuses.{status_at};
 
-use crate::call::parse;
+use crate::call::{Scan, parse};
 use crate::refusal::SyntaxRefusal;
 use crate::seed::Seed;
 use crate::status::Status;
@@ -160,7 +160,15 @@ pub(crate) fn direct(
     if let Some(offer) = Directives::scan(text) {
         return offered(offer, policy);
     }
-    let field = match parse(alloc, seed, Dialect::Rfc9651, Kind::Dict, text, refusal) {
+    let field = match parse(
+        alloc,
+        seed,
+        Scan::Declined,
+        Dialect::Rfc9651,
+        Kind::Dict,
+        text,
+        refusal,
+    ) {
         Ok(field) => field,
         Err(status) => return status,
     };
