@@ -220,6 +220,7 @@ impl Level for BareReader {
         }
     }
 
+    #[inline(always)]
     fn turn(&mut self, _context: &Context, byte: u8) -> Result<bool, OutOfMemory> {
         match self.kind {
             // Its run is as long as possible.

@@ -163,6 +163,7 @@ impl Level for EntryReader {
         }
     }
 
+    #[inline(always)]
     fn turn(&mut self, context: &Context, byte: u8) -> Result<bool, OutOfMemory> {
         match self.phase {
             EntryPhase::InKey => {

@@ -174,6 +174,7 @@ impl Level for ItemReader {
         self.bare.push(context, byte)
     }
 
+    #[inline(always)]
     fn turn(&mut self, context: &Context, byte: u8) -> Result<bool, OutOfMemory> {
         if self.in_params || byte != b';' || !self.bare.may_end() {
             return Ok(false);

@@ -120,6 +120,7 @@ impl Level for ItemFieldReader {
         }
     }
 
+    #[inline(always)]
     fn turn(&mut self, context: &Context, byte: u8) -> Result<bool, OutOfMemory> {
         match self.phase {
             ItemFieldPhase::Before => {

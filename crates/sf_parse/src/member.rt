@@ -247,6 +247,7 @@ impl Level for MemberReader {
         }
     }
 
+    #[inline(always)]
     fn turn(&mut self, context: &Context, byte: u8) -> Result<bool, OutOfMemory> {
         match self.phase {
             MemberPhase::One | MemberPhase::Closing => return Ok(false),

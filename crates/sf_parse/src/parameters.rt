@@ -150,6 +150,7 @@ impl Level for ParamsReader {
         }
     }
 
+    #[inline(always)]
     fn turn(&mut self, context: &Context, byte: u8) -> Result<bool, OutOfMemory> {
         match self.phase {
             ParamsPhase::Between => {

@@ -161,6 +161,7 @@ impl<P: SeriesMember<G>, G: Drop> Level for SeriesReader<P, G> {
         }
     }
 
+    #[inline(always)]
     fn turn(&mut self, context: &Context, byte: u8) -> Result<bool, OutOfMemory> {
         match self.phase {
             SeriesPhase::Begin => {
