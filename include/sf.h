@@ -168,7 +168,8 @@ typedef struct sf_refusal {
  *   SF_NO_MEMORY, SF_BAD_CALL
  *
  * Does not allocate for a well-formed text of less than 4 GiB. Of a malformed List or Dictionary of
- * more than 128 bytes, and of less than 4 GiB, each function builds only the malformed member.
+ * more than 128 bytes, and of less than 4 GiB, each function but sf_equal and sf_priority_change
+ * builds only the malformed member and the one before it.
  *
  * This and each function below writes refusal only if it returns SF_REFUSED or SF_SECOND_REFUSED.
  */

@@ -1,11 +1,11 @@
 //! Texts that a scanner declined, parsed without the members before the one that is refused.
-ghost use Rattle.std.specs.Prelude.{◌++◌, IfSome, IfErr, Err};
+ghost use Rattle.std.specs.Prelude.{IfSome, Err};
 ghost use Rattle.sf_parse.specs.Parsers.{Parses};
-ghost use Rattle.sf_view.specs.LastMembers.{PassesMember, Resumes, IsExact, one_member};
+ghost use Rattle.sf_view.specs.LastMembers.{PassesMember, Resumes};
 
 use crate::cursor::{first_start, next_start};
 use crate::text_parts::{read_entry, read_member};
-use sf_parse::{Parser, Refusal, parse_text_in};
+use sf_parse::{Refusal, parse_text_in};
 use sf_value::{Dialect, Field, Kind};
 use std::alloc::Global;
 use std::hash::RandomState;
@@ -13,12 +13,8 @@ use std::hash::RandomState;
 /// A text of at most this many bytes is parsed from its beginning.
 const SHORT: usize = 128;
 
-/// A member and a comma, of a List or of a Dictionary.
-const ONE_MEMBER: &[u8] = b"a,";
-
 /// Parses a text that a scanner declined, with the result of [`parse_text_in`]. If a List or a
-/// Dictionary is refused, the whole members before the place of the refusal are not built: only the
-/// member that is refused takes memory.
+/// Dictionary is refused, only the member that is refused and the one before it are built.
 ///
 /// ```
 /// parse_declined(alloc, &seed, Dialect::Rfc9651, Kind::List, b"a, b, c, 1x")
@@ -55,8 +51,8 @@ fn refusal_of(
     if text.len() <= SHORT {
         return None;
     }
-    let rest = behind_members(dialect, kind, text)?;
-    let refusal = parse_behind_member(alloc, seed, dialect, kind, rest).err()?;
+    let tail = last_member(dialect, kind, text)?;
+    let refusal = parse_text_in(alloc, seed, dialect, kind, tail).err()?;
     match refusal {
         Refusal::Syntax {
             place,
@@ -64,9 +60,9 @@ fn refusal_of(
             expected,
             may_end,
         } => {
-            let skipped = (text.len() - rest.len()) as u64;
+            let skipped = (text.len() - tail.len()) as u64;
             return Some(Refusal::Syntax {
-                place: skipped + (place - ONE_MEMBER.len() as u64),
+                place: skipped + place,
                 found,
                 expected,
                 may_end,
@@ -77,33 +73,18 @@ fn refusal_of(
     }
 }
 
-/// Parses one member, a comma and the rest.
-fn parse_behind_member(
-    alloc: Global,
-    seed: &RandomState,
-    dialect: Dialect,
-    kind: Kind,
-    rest: &[u8],
-) -> Result<Field, Refusal>
-    ensures { IfErr result (IsExact dialect kind (one_member ++ rest.now)) }
+/// The text from its last whole member on that has a comma after it; `None` if it has no such
+/// member.
+fn last_member(dialect: Dialect, kind: Kind, text: &[u8]) -> Option<&[u8]>
+    ensures { IfSome result (λ tail. Resumes dialect kind text.now tail.now) }
 {
-    let mut parser = Parser::new_in(alloc, seed, dialect, kind, u64::MAX);
-    parser.feed(ONE_MEMBER)?;
-    parser.feed(rest)?;
-    parser.finish()
-}
-
-/// The text from its last member on, or from the first that can't be read; `None` if no member is
-/// before that.
-fn behind_members(dialect: Dialect, kind: Kind, text: &[u8]) -> Option<&[u8]>
-    ensures { IfSome result (λ rest. Resumes dialect kind text.now rest.now) }
-{
-    let start = first_start(text)?;
-    let mut rest = behind_member(dialect, kind, start)?;
+    let mut last = first_start(text)?;
+    let mut rest = behind_member(dialect, kind, last)?;
     while let Some(next) = behind_member(dialect, kind, rest) {
+        last = rest;
         rest = next;
     }
-    Some(rest)
+    Some(last)
 }
 
 /// The text from the next member on, after a member and a comma.
