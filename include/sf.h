@@ -1,19 +1,19 @@
 /*
  * Structured Field Values for HTTP (RFC 9651), proved. These functions parse, compare and write
  * values, join the lines of a field, and interpret three kinds of fields: Priority (RFC 9218), the
- * targeted cache control fields (RFC 9213) and Cache-Status (RFC 9211). They are in the archive
- * libsf.a, which requires only the C library.
+ * targeted cache control fields (RFC 9213) and Cache-Status (RFC 9211). They are in libsf.a and
+ * libsf.so.0, which require only the C library.
  *
  * The caller provides the buffer for each result, and never owns or frees memory of the library. If
- * a buffer is too small, the call returns SF_SHORT and stores the required length. What a call
- * allocates with malloc it frees before it returns.
+ * a buffer is too small, the call returns SF_SHORT (SF_TOO_MANY for the nodes of sf_parse) and
+ * stores the required length. What a call allocates with malloc it frees before it returns.
  *
- * Every function accepts any numbers and any bytes. Pointers must be valid as usual in C: a pointer
- * with a length points to that many bytes or elements, and may be NULL if the length is 0; any
- * other pointer is aligned and not NULL; and the memory that a call writes overlaps none of its
- * other arguments. Arguments that are not outputs are only read. Calls share no state, so any
- * number of threads may call at the same time, each with its own buffers. No function may be called
- * from a signal handler, or in the child after a fork of a program with several threads. The
+ * Every function but the inline ones accepts any numbers and any bytes. Pointers must be valid as
+ * usual in C: a pointer with a length points to that many bytes or elements, and may be NULL if the
+ * length is 0; any other pointer is aligned and not NULL; and the memory that a call writes overlaps
+ * none of its other arguments. Arguments that are not outputs are only read. Calls share no state,
+ * so any number of threads may call at the same time, each with its own buffers. No function may be
+ * called from a signal handler, or in the child after a fork of a program with several threads. The
  * program's malloc and realloc must return memory that is aligned as C requires.
  *
  * Each function returns an sf_status, except sf_priority_merge, sf_lifetime, sf_version and, of the
@@ -48,10 +48,10 @@
   (SF_VERSION_MAJOR * 10000 + SF_VERSION_MINOR * 100 + SF_VERSION_PATCH)
 
 /*
- * The most bytes that a call has allocated at a time, for texts of this length together; for
- * sf_cache_status, if a buffer is too small, twice as many. This is measured by the tests of the
- * library, and not proved. The comment of a call says if it does not allocate, or when. The length
- * is that of the text and the bytes, and for sf_write one more for each node.
+ * A bound on the bytes that a call has allocated at any one time; it is tested, not proved. The
+ * length is that of the texts and bytes that the call reads, together, and for sf_write one more
+ * for each node. For sf_cache_status with a buffer that is too small, the length counts twice.
+ * The comment of a call says if it does not allocate, or when.
  */
 #define SF_MEMORY_SIZE(length) (sizeof(char[200]) * (length) + 2048)
 
@@ -167,19 +167,18 @@ typedef struct sf_refusal {
  *   SF_REFUSED    it is not; refusal says where and why
  *   SF_NO_MEMORY, SF_BAD_CALL
  *
- * Does not allocate for a well-formed text of less than 4 GiB. Of a malformed List or Dictionary of
- * more than 128 bytes, and of less than 4 GiB, each function but sf_equal and sf_priority_change
- * builds only the malformed member and the one before it.
+ * Does not allocate for a well-formed text of less than 4 GiB. For a malformed List or Dictionary
+ * of more than 128 bytes and less than 4 GiB, each function but sf_equal and sf_priority_change
+ * allocates only for the malformed member and the one before it, not for the whole value.
  *
- * This and each function below writes refusal only if it returns SF_REFUSED or SF_SECOND_REFUSED.
+ * Each function writes refusal only if it returns SF_REFUSED or SF_SECOND_REFUSED.
  */
 uint32_t sf_check(const sf_seed *seed, uint32_t dialect, uint32_t kind, const void *text,
                   size_t text_length, sf_refusal *refusal);
 
 /* The sizes in bytes of buffers that are large enough for each message of sf_refusal_text, and for
- * each of sf_refusal_in_text with a text of this length, as the tests of the library show: the
- * longest message has 739 bytes. The second is valid for lengths up to
- * (SIZE_MAX - SF_REFUSAL_SIZE) / 2. */
+ * each of sf_refusal_in_text with a text of this length. This is tested, not proved: the longest
+ * message has 739 bytes. The second is valid for lengths up to (SIZE_MAX - SF_REFUSAL_SIZE) / 2. */
 #define SF_REFUSAL_SIZE 1024
 #define SF_REFUSAL_IN_TEXT_SIZE(length) (SF_REFUSAL_SIZE + sizeof(char[2]) * (length))
 
@@ -192,8 +191,7 @@ uint32_t sf_check(const sf_seed *seed, uint32_t dialect, uint32_t kind, const vo
  *   SF_SHORT      the message has *required bytes, more than buffer_length; buffer is unchanged
  *   SF_NO_MEMORY  buffer and *required are unchanged
  *
- * In *refusal, a found that is not a byte from 0 to 255 means that the text ended, and any may_end
- * but 0 counts as 1.
+ * A refusal->found that is not from 0 to 255 counts as SF_ENDED; any refusal->may_end but 0, as 1.
  */
 uint32_t sf_refusal_text(const sf_refusal *refusal, void *buffer, size_t buffer_length,
                          size_t *required);
@@ -207,9 +205,9 @@ uint32_t sf_refusal_text(const sf_refusal *refusal, void *buffer, size_t buffer_
  *   1 2
  *     ^
  *
- * Each byte of the text is one character there: a question mark if the byte is not printable. If
- * the offset is greater than the length of the text, the caret is at its end. The results are those
- * of sf_refusal_text.
+ * Each byte of the text is written as one character: a question mark if it is not printable. If the
+ * offset is greater than the length of the text, the caret is at the end of the text. The results
+ * are those of sf_refusal_text.
  */
 uint32_t sf_refusal_in_text(const sf_refusal *refusal, const void *text, size_t text_length,
                             void *buffer, size_t buffer_length, size_t *required);
@@ -281,8 +279,8 @@ typedef enum sf_type {
  * followed by its parameters; an Inner List is one node, followed by its Items, each with its
  * parameters, and then by its own parameters.
  *
- * An offset below text_length, the length of the text that was parsed, is one in that text; for any
- * other, offset - text_length is one in the caller's buffer bytes. sf_key and sf_bytes return the
+ * An offset below text_length, the length of the text that was parsed, is in that text. Any other
+ * offset is in the caller's buffer bytes, at offset - text_length. sf_key and sf_bytes return the
  * pointers.
  */
 typedef struct sf_node {
@@ -321,7 +319,7 @@ static inline const char *sf_bytes(const sf_node *node, const void *text, size_t
 
 /* The sizes of buffers that are large enough for the value of any text of this length: in nodes or
  * hops, four fifths of the length, rounded to the nearest integer; and in bytes, eight fifths. The
- * type, the largest length and the double evaluation are those of SF_CANONICAL_SIZE. */
+ * type, the largest length and the double evaluation are as for SF_CANONICAL_SIZE. */
 #define SF_NODES_SIZE(length)                                                                      \
   (sizeof(char) * (length) / 5 * 4 + (sizeof(char) * (length) % 5 * 8 + 5) / 10)
 #define SF_BYTES_SIZE(length) SF_CANONICAL_SIZE(length)
@@ -335,7 +333,7 @@ typedef struct sf_sizes {
 /*
  * Parses a text and writes its value as nodes. If a key is repeated, its member or parameter
  * appears once, at the position of the first and with the value of the last (RFC 9651 section 4.2).
- * With the text and the bytes, nodes describe at most one value of a kind.
+ * No two values of a kind have the same nodes, text and bytes.
  *
  *   SF_OK         the first sizes->nodes nodes are the value, with the text and the first
  *                 sizes->bytes bytes, to which they point
@@ -347,18 +345,18 @@ typedef struct sf_sizes {
  *   SF_NO_MEMORY, SF_BAD_CALL
  *
  * Nodes point to keys and bytes in the text; only Strings with escapes, Byte Sequences and Display
- * Strings are decoded into bytes. If a key is repeated, and rarely otherwise, all keys and bytes
- * are copied there. The nodes are valid as long as the text and bytes are. Buffers of
- * SF_NODES_SIZE(text_length) nodes and SF_BYTES_SIZE(text_length) bytes are always large enough. If
- * the text is well-formed and the buffers are large enough, the call allocates only if keys are
- * copied.
+ * Strings are decoded into bytes. If a key is repeated, and rarely otherwise with more than eight
+ * keys, all keys and bytes are copied there. The nodes are valid as long as the text and bytes are.
+ * Buffers of SF_NODES_SIZE(text_length) nodes and SF_BYTES_SIZE(text_length) bytes are always large
+ * enough. If the text is well-formed and the buffers are large enough, the call allocates only if
+ * keys are copied.
  *
- * So nodes_capacity is the largest number of nodes that the caller allows for a value. After
- * SF_TOO_MANY and SF_SHORT, buffers of these sizes are large enough.
+ * The caller can limit the number of nodes of a value by nodes_capacity. After SF_TOO_MANY and
+ * SF_SHORT, buffers of the sizes in *sizes are large enough.
  *
- * After SF_OK, the contents of the nodes and bytes beyond these sizes are unspecified; after any
- * other status, those of all are. Unless SF_OK, SF_TOO_MANY or SF_SHORT is returned, *sizes is
- * unchanged.
+ * After SF_OK, the contents of the nodes and bytes beyond *sizes are unspecified; after any other
+ * status, those of all nodes and bytes are. Unless SF_OK, SF_TOO_MANY or SF_SHORT is returned,
+ * *sizes is unchanged.
  */
 uint32_t sf_parse(const sf_seed *seed, uint32_t dialect, uint32_t kind, const void *text,
                   size_t text_length, sf_node *nodes, size_t nodes_capacity, void *bytes,
@@ -374,36 +372,35 @@ uint32_t sf_parse(const sf_seed *seed, uint32_t dialect, uint32_t kind, const vo
  *   SF_OK      it is nodes[*index]
  *   SF_ABSENT  there is none; *index is unchanged
  *
- * Any nodes may be passed. A node whose key is neither within the text_length bytes of the text nor
- * within the bytes_length bytes after it is not found. The time is proportional to nodes_length.
- * Does not allocate.
+ * Any nodes may be passed. A node is not found if its key is neither entirely in the text nor
+ * entirely in bytes. The time is proportional to nodes_length. Does not allocate.
  */
 uint32_t sf_find(const sf_node *nodes, size_t nodes_length, const void *text, size_t text_length,
                  const void *bytes, size_t bytes_length, uint32_t role, const void *key,
                  size_t key_length, size_t *index);
 
 /*
- * Writes the canonical text (RFC 9651 section 4.1) of the field that nodes describe to buffer: the
- * nodes of sf_parse, changed or not, or the caller's. Offsets are those of sf_parse: below
- * text_length they are in the text, from there on in bytes. The caller's own nodes may have all
- * keys and bytes in bytes, with a text_length of 0.
+ * Writes to buffer the canonical text (RFC 9651 section 4.1) of the field that nodes describe. The
+ * nodes are those of sf_parse, changed or not, or the caller's. Offsets are those of sf_parse:
+ * below text_length they are in the text, from there on in bytes. The caller's own nodes may have
+ * all keys and bytes in bytes, with a text_length of 0.
  *
  *   SF_OK       the first *required bytes of buffer are the text; the others are unchanged
  *   SF_SHORT    the text has *required bytes, more than buffer_length; buffer is unchanged
  *   SF_INVALID  the nodes do not describe a valid field of this kind and dialect; *invalid is the
- *               index of the first node that is wrong, whatever comes after it, or 0 if
- *               nodes_length is 0
+ *               index of the first node that is wrong, or 0 if nodes_length is 0: no change of
+ *               the nodes after it makes the field valid
  *   SF_NO_MEMORY, SF_BAD_CALL
  *
- * Unless SF_OK or SF_SHORT is returned, buffer and *required are unchanged; unless SF_INVALID is
- * returned, *invalid is. The other functions accept the text as the field that was written.
+ * Unless SF_OK or SF_SHORT is returned, buffer and *required are unchanged. Unless SF_INVALID is
+ * returned, *invalid is unchanged. The text parses as the field that was written, and as no other.
  *
- * Nodes are in the order of sf_parse. Each has the role and the type of its part, and as size the
- * number of nodes of the part. It has a key that is valid and occurs once among its siblings, or a
- * key_length of 0 if the part has no key. It has a number or bytes, and the other is 0 or empty. If
- * coded is 0, the bytes are those of the value; if it is 1, they are the text of the bare item in a
- * field, with its quotes or colons. Offsets are at most text_length + bytes_length, also those of
- * an empty key and of empty bytes.
+ * Nodes are in the order of sf_parse. Each is an Item, an Inner List or a parameter, with its role
+ * and type; size is the number of nodes in its subtree. It has a valid key that occurs once among
+ * its siblings, or a key_length of 0 if it has no key. It has a number or bytes, and the other is 0
+ * or empty. If coded is 0, the bytes are those of the value; if it is 1, they are the text of the
+ * bare item in a field, with its quotes or colons. Offsets are at most text_length + bytes_length,
+ * also those of an empty key and of empty bytes.
  */
 uint32_t sf_write(const sf_seed *seed, uint32_t dialect, uint32_t kind, const sf_node *nodes,
                   size_t nodes_length, const void *text, size_t text_length, const void *bytes,
@@ -411,9 +408,9 @@ uint32_t sf_write(const sf_seed *seed, uint32_t dialect, uint32_t kind, const sf
                   size_t *invalid);
 
 /*
- * Changes the bare item of a node to an Integer, Decimal, Boolean or Date with this number. Its key
- * and its parameters stay. This changes a parameter of the member nodes[i], before the field is
- * written by sf_write:
+ * Changes the bare item of a node to an Integer, Decimal, Boolean or Date with this number. The key
+ * and the parameters of the node stay. This code changes a parameter of the member nodes[i], before
+ * sf_write writes the field:
  *
  *   size_t at;
  *   if (sf_find(nodes + i, nodes[i].size, text, text_length, bytes, sizes.bytes, SF_PARAMETER,
@@ -430,10 +427,10 @@ static inline void sf_set_number(sf_node *node, uint32_t type, int64_t number) {
 }
 
 /*
- * Changes the bare item of a node that sf_parse wrote to a String, Token, Byte Sequence or Display
- * String with this value, likewise. The value is copied after the first sizes->bytes bytes of the
- * buffer bytes of that call, and sizes->bytes is increased by its length. The text_length is that
- * of the text that was parsed.
+ * Likewise changes the bare item of a node to a String, Token, Byte Sequence or Display String with
+ * this value. The node is one that sf_parse wrote. The value is copied to the buffer bytes of that
+ * call, after the first sizes->bytes bytes, and sizes->bytes is increased by its length. The
+ * text_length is that of the text that was parsed.
  *
  *   SF_OK        the node is changed
  *   SF_SHORT     the buffer bytes is too small: sizes->bytes + length bytes are required
@@ -566,7 +563,7 @@ static inline void sf_put_node(sf_builder *builder, uint32_t role, uint32_t type
  * Puts a bare item of any type, with a key and a text of stated lengths. The functions below call
  * it. An Integer, Decimal, Boolean or Date has a number and an empty text; the other types have a
  * text and the number 0. SF_INNER_LIST puts an Inner List without Items; sf_begin begins one with
- * Items. If it is no sf_type, sf_write refuses the node.
+ * Items. If type is no sf_type, sf_write refuses the node.
  *
  * If an Inner List is open, the item is one of its Items; otherwise it is a member of the field.
  * The key is that of a member of a Dictionary; for an Item, a member of a List, and an Item of an
@@ -710,9 +707,9 @@ static inline void sf_param_display_string(sf_builder *builder, const char *key,
 }
 
 /*
- * Puts a copy of a part of a parsed value: of an Item or Inner List with its parameters, or of a
- * parameter. The node is one that sf_parse wrote, followed by the others of its subtree, and the
- * text and the bytes are those of that call. To change a field, copy what stays, in order:
+ * Puts a copy of an Item or Inner List of a parsed value, with its parameters, or of a parameter.
+ * The node is one that sf_parse wrote, followed by the others of its subtree, and the text and the
+ * bytes are those of that call. To change a field, copy what stays, in order:
  *
  *   for (const sf_node *node = nodes; node < nodes + sizes.nodes; node += node->size)
  *     sf_put_copy(&field, node, text, text_length, bytes);
@@ -746,8 +743,8 @@ static inline void sf_put_copy(sf_builder *builder, const sf_node *node, const v
 }
 
 /*
- * Writes the canonical text of what was put, by sf_write, whose results it returns. If a call with
- * the builder failed, it returns SF_BAD_CALL and writes nothing.
+ * Writes the canonical text of what was put, by sf_write, and returns the result of sf_write. If a
+ * call with the builder failed, returns SF_BAD_CALL and writes nothing.
  */
 static inline uint32_t sf_write_built(const sf_seed *seed, uint32_t dialect, uint32_t kind,
                                       const sf_builder *builder, void *buffer, size_t buffer_length,
@@ -788,9 +785,9 @@ uint32_t sf_priority(const sf_seed *seed, const void *text, size_t text_length,
 /*
  * Merges the priorities of a client's request and a server's response (RFC 9218 section 8). Each
  * parameter is the server's if the server sets it, otherwise the client's if the client sets it,
- * otherwise the default. In the arguments, any number but 0 counts as 1 in the last three members,
- * urgency and incremental count only if has_urgency and has_incremental are set, and an urgency
- * above SF_URGENCY_LAST counts as not set.
+ * otherwise the default. In the arguments, any number but 0 counts as 1 in incremental, has_urgency
+ * and has_incremental; urgency counts only if has_urgency is set, and incremental only if
+ * has_incremental is; and an urgency above SF_URGENCY_LAST counts as not set.
  */
 sf_priority_flags sf_priority_merge(const sf_priority_flags *client,
                                     const sf_priority_flags *server);
@@ -800,9 +797,9 @@ sf_priority_flags sf_priority_merge(const sf_priority_flags *client,
 
 /*
  * Writes the text of a Priority field (RFC 9218 section 5) that sets what *priority sets, and
- * nothing else: u if has_urgency is set, then i if has_incremental is set, also to the defaults.
- * sf_priority reads it as the same. If the text is empty, the field is not to be sent (RFC 9651
- * section 4.1).
+ * nothing else: u if has_urgency is set, then i if has_incremental is set, even to the defaults.
+ * sf_priority reads the same priority from it. If the text is empty, the field is not to be sent
+ * (RFC 9651 section 4.1).
  *
  *   SF_OK     the first *required bytes of buffer are the text; the others are unchanged
  *   SF_SHORT  the text has *required bytes, more than buffer_length; buffer is unchanged
@@ -813,10 +810,10 @@ uint32_t sf_priority_text(const sf_priority_flags *priority, void *buffer, size_
                           size_t *required);
 
 /*
- * Writes the canonical text of a Priority field with what *priority sets put into it (RFC 9218
- * section 4): u is overwritten in its place if has_urgency is set, i if has_incremental is set, and
- * a new one goes last; all other members stay as they are. If the text is empty, the field is not
- * to be sent.
+ * Writes the canonical text of a Priority field in which u is set if has_urgency is set, and i if
+ * has_incremental is (RFC 9218 section 4). A member that the field has is overwritten in its place,
+ * and a new one is added at the end; all other members stay as they are. If the text is empty, the
+ * field is not to be sent.
  *
  *   SF_OK       the first *required bytes of buffer are the text; the others are unchanged
  *   SF_SHORT    the text has *required bytes, more than buffer_length; buffer is unchanged
@@ -832,11 +829,11 @@ uint32_t sf_priority_change(const sf_seed *seed, const void *text, size_t text_l
 
 /* The directives of a targeted field (RFC 9213 section 2.1, RFC 9111 section 5.2.2). */
 typedef struct sf_policy {
-  uint64_t max_age;        /* max-age in seconds; 0 if absent */
-  uint64_t s_maxage;       /* s-maxage in seconds; 0 if absent */
+  uint64_t max_age;        /* max-age in seconds; 0 if has_max_age is 0 */
+  uint64_t s_maxage;       /* s-maxage in seconds; 0 if has_s_maxage is 0 */
   uint8_t has_max_age;     /* 1 if max-age is present with an Integer of at least 0, otherwise 0 */
   uint8_t has_s_maxage;    /* the same for s-maxage */
-  uint8_t must_revalidate; /* 1 if the directive is set, otherwise 0 */
+  uint8_t must_revalidate; /* 1 if the directive is present and not ?0, otherwise 0 */
   uint8_t no_store;        /* the same for no-store */
   uint8_t no_cache;        /* the same for no-cache */
   uint8_t is_private;      /* the same for private */
@@ -878,14 +875,14 @@ typedef struct sf_span {
  *   SF_NO_MEMORY
  *
  * After SF_OK, the fields after fields[*index] and their ranges have no effect. Unless SF_OK is
- * returned, *index and *policy are unchanged. sf_check returns which of the ignored fields are
- * malformed, and where. Allocates only for fields that are malformed, or of 4 GiB or more.
+ * returned, *index and *policy are unchanged. Call sf_check to learn which of the ignored fields
+ * are malformed, and where. Allocates only for fields that are malformed, or of 4 GiB or more.
  */
 uint32_t sf_select(const sf_seed *seed, const void *texts, size_t texts_length,
                    const sf_span *fields, size_t fields_length, size_t *index, sf_policy *policy);
 
 /*
- * Returns the freshness lifetime of a response by a policy, in a shared cache if shared is not 0,
+ * Computes the freshness lifetime of a response by a policy, in a shared cache if shared is not 0,
  * otherwise in a private cache. In a shared cache s-maxage takes precedence over max-age (RFC 9111
  * section 4.2.1); in a private cache only max-age counts. In *policy, any number but 0 sets a flag.
  *
@@ -969,14 +966,14 @@ typedef struct sf_path {
  *   SF_REFUSED      the text is not a well-formed List; refusal says where and why
  *   SF_NO_MEMORY
  *
- * The bytes are those of each hop in order, of its name, why_token, key and detail, with nothing
- * between them; an empty range is at the offset at which it would begin. Buffers of
+ * The bytes are, for each hop in order, its name, why_token, key and detail, with nothing between
+ * them; an empty range is at the offset at which it would begin. Buffers of
  * SF_NODES_SIZE(text_length) hops and SF_BYTES_SIZE(text_length) bytes are always large enough. A
  * call that returns SF_OK does not allocate, unless the text has 4 GiB or more.
  *
- * Unless SF_OK is returned, the contents of hops and bytes are unspecified, and so are those of the
- * other hops and bytes if it is. Unless SF_OK or SF_SHORT is returned, *path is unchanged, except
- * that SF_NOT_A_CACHE, and no other status, writes path->nameless.
+ * After SF_OK, the contents of the hops and bytes beyond these sizes are unspecified; after any
+ * other status, those of all are. With SF_OK and SF_SHORT, all of *path but nameless is written;
+ * with SF_NOT_A_CACHE, nameless alone; with any other status, *path is unchanged.
  */
 uint32_t sf_cache_status(const sf_seed *seed, const void *text, size_t text_length, sf_hop *hops,
                          size_t hops_capacity, void *bytes, size_t bytes_capacity, sf_path *path,
@@ -990,14 +987,14 @@ uint32_t sf_cache_status(const sf_seed *seed, const void *text, size_t text_leng
  *
  *   SF_OK       the first *required bytes of buffer are the text; the others are unchanged
  *   SF_SHORT    the text has *required bytes, more than buffer_length; buffer is unchanged
- *   SF_INVALID  *hop is not a hop: a range is not within the bytes_length bytes; name_is_token or
- *               detail_is_token is set and the bytes are not a Token, or it is not set and they are
- *               not a String, nor are those of key; outcome or why is not one of the enum (SF_OTHER
- *               requires a why_token that is a Token); status is below SF_FWD_STATUS_MIN or above
- *               SF_FWD_STATUS_MAX; or ttl is not in the range of an Integer
+ *   SF_INVALID  *hop is not a hop: a range is not within the bytes_length bytes; name or detail is
+ *               not a Token if name_is_token or detail_is_token is set, or else not a String; key
+ *               is not a String; outcome is no sf_outcome; why is SF_NO_FORWARD or no sf_forward,
+ *               or is SF_OTHER and why_token is not a Token; status is below SF_FWD_STATUS_MIN or
+ *               above SF_FWD_STATUS_MAX; or ttl is not in the range of an Integer
  *   SF_NO_MEMORY
  *
- * SF_INVALID is returned if and only if *hop is not a hop, also where memory would not suffice.
+ * SF_INVALID is returned if and only if *hop is not a hop, even if an allocation would fail.
  * Unless SF_OK or SF_SHORT is returned, buffer and *required are unchanged. In *hop, any number but
  * 0 sets a flag. A member whose flag is not set is ignored; so are why, why_token, status, stored,
  * collapsed and their flags if outcome is SF_UNSAID or SF_HIT, and why_token if why is not
@@ -1021,9 +1018,9 @@ typedef struct sf_joined {
  *
  *   SF_OK        the first joined->length bytes of buffer are the text with this line; the others
  *                and joined->required are unchanged; joined->begun is 1
- *   SF_SHORT     buffer has to be joined->required bytes long, or longer than a size_t can state if
- *                that is SIZE_MAX; everything else is unchanged. Call again with a longer buffer
- *                that begins with the same bytes
+ *   SF_SHORT     buffer has to be joined->required bytes long, or perhaps more if that is SIZE_MAX;
+ *                everything else is unchanged. Call again with a longer buffer that begins with the
+ *                same bytes
  *   SF_BAD_CALL  joined->length is greater than buffer_length; everything is unchanged
  */
 uint32_t sf_join(const void *line, size_t line_length, void *buffer, size_t buffer_length,
