@@ -10,11 +10,12 @@
  *
  * Every function but the inline ones accepts any numbers and any bytes. Pointers must be valid as
  * usual in C: a pointer with a length points to that many bytes or elements, and may be NULL if the
- * length is 0; any other pointer is aligned and not NULL; and the memory that a call writes overlaps
- * none of its other arguments. Arguments that are not outputs are only read. Calls share no state,
- * so any number of threads may call at the same time, each with its own buffers. No function may be
- * called from a signal handler, or in the child after a fork of a program with several threads. The
- * program's malloc and realloc must return memory that is aligned as C requires.
+ * length is 0; any other pointer is aligned and not NULL; and the memory that a call writes
+ * overlaps none of its other arguments. Arguments that are not outputs are only read. Calls share
+ * no state, so any number of threads may call at the same time, each with its own buffers. No
+ * function may be called from a signal handler, or in the child after a fork of a program with
+ * several threads. The program's malloc and realloc must return memory that is aligned as C
+ * requires.
  *
  * Each function returns an sf_status, except sf_priority_merge, sf_lifetime, sf_version and, of the
  * inline functions, those that say otherwise; a dialect is an sf_dialect, and a kind is an sf_kind.
@@ -287,7 +288,7 @@ typedef struct sf_node {
   int64_t number;       /* value of an Integer, Decimal, Boolean or Date; otherwise 0 */
   uint32_t key_at;      /* offset of the key of a parameter or Dictionary member */
   uint32_t key_length;  /* length of the key; 0 without a key */
-  uint32_t text_at;     /* offset of the bytes of a String, Token, Byte Sequence or Display String */
+  uint32_t text_at;     /* offset of the bytes of a String, Token, Byte Sequence, Display String */
   uint32_t text_length; /* their length; 0 for other types */
   uint32_t size;        /* number of nodes in the subtree of this node, itself included: node + size
                            is its next sibling or, after the last, the end of its parent */
