@@ -472,13 +472,14 @@ static inline uint32_t sf_set_bytes(sf_node *node, uint32_t type, const void *va
  *   sf_param_integer(&field, "created", 1);
  *   sf_param_string(&field, "keyid", "k");
  *   if (sf_write_built(&seed, SF_RFC9651, SF_DICT, &field, text, sizeof text, &length, &invalid) ==
- *       SF_OK) the text is sig1=("@method" "@path");created=1;keyid="k"
+ *       SF_OK)
+ *     printf("%.*s\n", (int)length, text); // sig1=("@method" "@path");created=1;keyid="k"
  *
  * A node is required for each Item, each Inner List and each parameter, and as many bytes as all
  * keys and texts have. These are copied, so a builder keeps no pointer to its arguments.
  *
- * The calls with a builder return nothing. If one fails, it puts nothing, builder->status says why,
- * and later calls do nothing:
+ * The calls that change a builder return nothing. If one fails, it puts nothing, builder->status
+ * says why, and later calls do nothing:
  *
  *   SF_SHORT     one of the two buffers is too small
  *   SF_BAD_CALL  a parameter with nothing before it that it could belong to, an Inner List in
@@ -487,7 +488,8 @@ static inline uint32_t sf_set_bytes(sf_node *node, uint32_t type, const void *va
  *
  * Builders do not check what is put: sf_write does. It refuses bytes that are not a String, a
  * number out of range, a repeated key, or the nodes of a List if a Dictionary is to be written.
- * These functions do not allocate, and are not in the library: all are inline.
+ * These functions are not in the library: all are inline. Only sf_write_built allocates, by
+ * sf_write.
  */
 typedef struct sf_builder {
   sf_node *nodes;        /* the first nodes_length are the nodes of what was put */
