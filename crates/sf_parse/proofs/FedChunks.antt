@@ -30,7 +30,7 @@ pub taken : (p : Progress) (s : List ℕ) → Sound p.refusal p.state p.count p.
     → IsReachedBy p.dialect p.kind p.state s
 taken p s g t = record {
   good = (subst (λ r. Sound r p.state p.count p.max) t.unrefused g).0;
-  rest = t.rest;
+  completes = t.completes;
 }
 
 within_max : (p : Progress) (s : List ℕ) → Sound p.refusal p.state p.count p.max → HasTaken p s
@@ -40,9 +40,9 @@ within_max p s g t = (subst (λ r. Sound r p.state p.count p.max) t.unrefused g)
 pub new_took : (p : Progress) → p.state ≡ begin p.kind → p.count ≡ 0 → p.refusal ≡ None → HasTaken p []
 new_took p e c r = record {
   count = c;
-  rest = λ u v.
+  completes = λ u v.
       subst (λ s. Residual p.dialect s u v ↔ SpellsField p.dialect p.kind ([] ++ u) v) (sym e)
-      ((reached_nothing p.dialect p.kind).rest u v);
+      ((reached_nothing p.dialect p.kind).completes u v);
   unrefused = r;
 }
 

@@ -92,7 +92,7 @@ fed_line o p q x e f =
         f.answer.0,
         λ s t.
             let k = f.answer.1 s t in
-            (k.0, k.1, record { count = k.2.count; rest = k.2.rest; unrefused = k.2.unrefused }),
+            (k.0, k.1, record { count = k.2.count; completes = k.2.completes; unrefused = k.2.unrefused }),
       );
     })
 

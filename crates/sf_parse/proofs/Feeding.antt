@@ -26,11 +26,11 @@ took_run p q s t g k e same c r =
     let more = reaches_more p.dialect p.kind p.state q.state s t (taken p s g k) e in
     record {
       count = let n : p.count ≡ length s = k.count in omega (arith, length-append s t);
-      rest = λ u v.
+      completes = λ u v.
           subst (λ d. Residual d q.state u v ↔ SpellsField d q.kind ((s ++ t) ++ u) v)
           (sym same.dialect)
           (subst (λ k. Residual p.dialect q.state u v ↔ SpellsField p.dialect k ((s ++ t) ++ u) v)
-          (sym same.kind) (more.rest u v));
+          (sym same.kind) (more.completes u v));
       unrefused = r;
     }
 

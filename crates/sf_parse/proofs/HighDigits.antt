@@ -1,7 +1,7 @@
 -- The bytes of UTF-8 by their two hexadecimal digits.
 use Rattle.std.proofs.Common.{◌≡◌, ℕ, zero, suc, ◌*◌, ◌/◌, ◌%◌, ◌+◌, ◌<◌, ◌≤◌, true, nat_le, ◌&&◌}
 use Rattle.std.proofs.Common.{Some, ⊎_elim, refl, sym, subst, ◌⊎◌, arith, max}
-use Rattle.sf_value.specs.Grammar.Utf8.{Utf8, Start, Wants, wants, within, rows, utf8_step}
+use Rattle.sf_value.specs.Grammar.Utf8.{Utf8, Start, Within, followed_by, within, rows, utf8_step}
 use Rattle.sf_parse.specs.Machine.Showns.{can_begin, GoodUtf8}
 use Rattle.sf_value.proofs.Words.{allow_cases}
 use Rattle.sf_value.proofs.Utf8Table.{ranged, in_range, EachRow, looked_up}
@@ -72,22 +72,22 @@ begin_rows = (
   ),
 )
 
-pub wants_good : (n : ℕ) → GoodUtf8 (wants n)
-wants_good zero = tt
-wants_good (suc n) = omega arith
+pub followed_good : (n : ℕ) → GoodUtf8 (followed_by n)
+followed_good zero = tt
+followed_good (suc n) = omega arith
 
 pub utf8_good : (x y : Utf8) (b : ℕ) → utf8_step x b ≡ Some y → GoodUtf8 y
 utf8_good Start y b e = looked_up (λ b x. GoodUtf8 x) rows good_rows b y e
-utf8_good (Wants n low high) y b e = subst GoodUtf8
-    (sym (allow_cases (within low high b) (wants n) y e).1) (wants_good n)
+utf8_good (Within n low high) y b e = subst GoodUtf8
+    (sym (allow_cases (within low high b) (followed_by n) y e).1) (followed_good n)
 
 pub utf8_begins : (x y : Utf8) (b : ℕ) → utf8_step x b ≡ Some y → can_begin x (b / 16) ≡ true
 utf8_begins Start y b e = looked_up (λ b x. can_begin Start (b / 16) ≡ true) rows begin_rows b y e
-utf8_begins (Wants n low high) y b e = let r = ranged low high b
-    (allow_cases (within low high b) (wants n) y e).0 in
+utf8_begins (Within n low high) y b e = let r = ranged low high b
+    (allow_cases (within low high b) (followed_by n) y e).0 in
     go low high b r.0 r.1
   where
-    go : (low high b : ℕ) → low ≤ b → b ≤ high → can_begin (Wants n low high) (b / 16) ≡ true
+    go : (low high b : ℕ) → low ≤ b → b ≤ high → can_begin (Within n low high) (b / 16) ≡ true
     go low high b l h = let k1 : low / 16 ≤ b / 16 = omega arith in
         let k2 : b / 16 ≤ high / 16 = omega arith in grind arith
 
@@ -104,10 +104,10 @@ found_small h k = (
 
 found_large : (h : ℕ) → 12 ≤ h → h < 16
     → (c : ℕ) × (y : Utf8) × (c / 16 ≡ h) × (c < 256) × (utf8_step Start c ≡ Some y)
-found_large h k l = ⊎_elim (λ e. at 12 h e (194, Wants 0 128 191, refl, omega arith, refl))
-    (⊎_elim (λ e. at 13 h e (208, Wants 0 128 191, refl, omega arith, refl))
-    (⊎_elim (λ e. at 14 h e (225, Wants 1 128 191, refl, omega arith, refl))
-    (λ e. at 15 h e (241, Wants 2 128 191, refl, omega arith, refl))))
+found_large h k l = ⊎_elim (λ e. at 12 h e (194, Within 0 128 191, refl, omega arith, refl))
+    (⊎_elim (λ e. at 13 h e (208, Within 0 128 191, refl, omega arith, refl))
+    (⊎_elim (λ e. at 14 h e (225, Within 1 128 191, refl, omega arith, refl))
+    (λ e. at 15 h e (241, Within 2 128 191, refl, omega arith, refl))))
     (four h k l)
   where
     four : (h : ℕ) → 12 ≤ h → h < 16 → (12 ≡ h) ⊎ ((13 ≡ h) ⊎ ((14 ≡ h) ⊎ (15 ≡ h)))
@@ -125,7 +125,7 @@ found Start h g k e = ⊎_elim (λ l. found_small h l) (λ l. found_large h l k)
   where
     start_cases : (h : ℕ) → can_begin Start h ≡ true → (h < 8) ⊎ (12 ≤ h)
     start_cases h e = grind arith
-found (Wants n low high) h g k e = go (wants_cases low high h e)
+found (Within n low high) h g k e = go (wants_cases low high h e)
   where
     wants_cases : (low high h : ℕ) → (nat_le (low / 16) h && nat_le h (high / 16)) ≡ true
         → (low / 16 ≤ h) × (h ≤ high / 16)
@@ -133,11 +133,11 @@ found (Wants n low high) h g k e = go (wants_cases low high h e)
 
     go : (low / 16 ≤ h) × (h ≤ high / 16)
         → (c : ℕ) × (y : Utf8) × (c / 16 ≡ h) × (c < 256)
-        × (utf8_step (Wants n low high) c ≡ Some y)
+        × (utf8_step (Within n low high) c ≡ Some y)
     go r =
         let c = max low (h * 16) in (
           c,
-          wants n,
+          followed_by n,
           omega arith,
           omega arith,
           rw (in_range low high c (omega arith) (omega arith)) refl,

@@ -262,8 +262,8 @@ module _ (d : Dialect) where
       → IsReachedBy d kind s p → IsReachedBy d kind s' p' → SpellsSome d kind (p ++ u)
       → SpellsSome d kind (p' ++ u)
   alike_text kind s s' p p' u c c' r r' (v, h) =
-      let k = alike kind s s' u v c c' ((r.rest u v).1 h) in
-      (k.0, (r'.rest u k.0).0 k.1)
+      let k = alike kind s s' u v c c' ((r.completes u v).1 h) in
+      (k.0, (r'.completes u k.0).0 k.1)
 
 pub comma_viable : CommaViable
 comma_viable d kind t white v h m e =

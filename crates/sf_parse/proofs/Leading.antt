@@ -5,7 +5,7 @@ use Rattle.std.proofs.Common.{refl, sym, ap, ◌∙◌, subst, arith, append-nil
 use Rattle.sf_value.specs.Grammar.Words.{Every}
 use Rattle.sf_value.specs.Grammar.DisplayStrings.{is_unencoded}
 use Rattle.sf_parse.specs.Prefixes.{Goes}
-use Rattle.sf_value.specs.Grammar.Utf8.{Utf8, Start, Wants, within, utf8_step, WellFormed}
+use Rattle.sf_value.specs.Grammar.Utf8.{Utf8, Start, Within, within, utf8_step, WellFormed}
 use Rattle.sf_parse.specs.Machine.Language.{run}
 use Rattle.sf_parse.specs.Machine.Showns.{Unencoded, push_byte, shown_step}
 use Rattle.sf_parse.specs.Machine.Bares.{InShown, bare_finish}
@@ -32,15 +32,15 @@ leads_push bytes b x y e h = run_push Start x y bytes b e h
 
 whole_from : (x : Utf8) (bytes : List ℕ) → run utf8_step x bytes ≡ Some Start → WellFormed x bytes
 whole_from Start [] e = tt
-whole_from (Wants n low high) [] e = absurd (no e)
+whole_from (Within n low high) [] e = absurd (no e)
   where
-    no : Some (Wants n low high) ≡ Some Start → ⊥
+    no : Some (Within n low high) ≡ Some Start → ⊥
     no e = cc
 whole_from Start (b ∷ bytes) e =
     let k = and_then_cases (utf8_step Start b) (λ s. run utf8_step s bytes) Start e in
     (k.0, k.1, whole_from k.0 bytes k.2)
-whole_from (Wants n low high) (b ∷ bytes) e =
-    let k = and_then_cases (utf8_step (Wants n low high) b) (λ s. run utf8_step s bytes) Start e in
+whole_from (Within n low high) (b ∷ bytes) e =
+    let k = and_then_cases (utf8_step (Within n low high) b) (λ s. run utf8_step s bytes) Start e in
     (k.0, k.1, whole_from k.0 bytes k.2)
 
 -- bytes that lead to the start are whole characters

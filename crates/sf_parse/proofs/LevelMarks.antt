@@ -7,7 +7,7 @@ use Rattle.sf_value.specs.declared.dialect.Dialect.{Dialect}
 use Rattle.sf_value.specs.declared.value.Bare.{Bare}
 use Rattle.sf_value.specs.declared.value.Item.{Item}
 use Rattle.sf_value.specs.Grammar.Classes.{is_visible}
-use Rattle.sf_value.specs.Grammar.Utf8.{Utf8, Wants, within, utf8_step}
+use Rattle.sf_value.specs.Grammar.Utf8.{Utf8, Within, within, utf8_step}
 use Rattle.sf_parse.specs.Expected.{MarksStep}
 use Rattle.sf_parse.specs.Machine.Language.{run}
 use Rattle.sf_parse.specs.Machine.Showns.{Unencoded, Percent, GoodUtf8, quote_step, shown_step}
@@ -56,7 +56,7 @@ pub marks_after : (d : Dialect) (o : Option Item) → IsSome o
 marks_after d (Some i) k = marks_steps 4294967296 (step d (AfterItem i)) refl
 marks_after d None k = absurd cc
 
--- what bytes lead to wants bytes of the table
+-- bytes lead from a good state to a good one
 pub leads_good : (x y : Utf8) (bytes : List ℕ) → GoodUtf8 x → run utf8_step x bytes ≡ Some y
     → GoodUtf8 y
 leads_good x y [] g e = let k : x ≡ y = cc in subst GoodUtf8 k g
@@ -72,22 +72,22 @@ no_quote : (b : ℕ) → (b == 34) ≡ true → false ≡ (b == 37)
 no_quote b e = grind arith
 
 only_escapes : (bytes : List ℕ) (n low high b : ℕ) → 128 ≤ low
-    → is_some (shown_step (Unencoded bytes (Wants n low high)) b) ≡ (b == 37)
+    → is_some (shown_step (Unencoded bytes (Within n low high)) b) ≡ (b == 37)
 only_escapes bytes n low high b l = go (b == 34) (b == 37) (is_visible b) refl refl refl
   where
     go : (p q r : Bool) → (b == 34) ≡ p → (b == 37) ≡ q → is_visible b ≡ r
         → is_some
-        (if p then quote_step bytes (Wants n low high) else
-        (if q then Some (Percent bytes (Wants n low high)) else
-        (if r then option_map (Unencoded (bytes ++ b ∷ [])) (utf8_step (Wants n low high) b) else
+        (if p then quote_step bytes (Within n low high) else
+        (if q then Some (Percent bytes (Within n low high)) else
+        (if r then option_map (Unencoded (bytes ++ b ∷ [])) (utf8_step (Within n low high) b) else
         None))) ≡ (b == 37)
     go true q r e f g = no_quote b e
     go false true r e f g = sym f
     go false false true e f g = rw (outside low high b l g) (sym f)
     go false false false e f g = sym f
 
-pub marks_wants : (bytes : List ℕ) (n low high : ℕ) → GoodUtf8 (Wants n low high)
-    → MarksStep 137438953472 (shown_step (Unencoded bytes (Wants n low high)))
+pub marks_wants : (bytes : List ℕ) (n low high : ℕ) → GoodUtf8 (Within n low high)
+    → MarksStep 137438953472 (shown_step (Unencoded bytes (Within n low high)))
 marks_wants bytes n low high g =
     marks_same _ _ _ (λ b. only_escapes bytes n low high b g.0)
     (marks_table 137438953472 (λ b. b == 37) refl)

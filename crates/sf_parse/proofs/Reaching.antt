@@ -16,14 +16,14 @@ use Rattle.sf_parse.specs.Reaching.{ReachesStops, ReachesAll}
 use Rattle.sf_parse.proofs.Machine.Fields.{machine, begin_good, begins}
 
 pub reached_nothing : ReachesNothing
-reached_nothing d kind = record { good = begin_good kind; rest = begins d kind }
+reached_nothing d kind = record { good = begin_good kind; completes = begins d kind }
 
 pub reaches_more : ReachesMore
 reaches_more d kind s t p x k e = record {
   good = Machines.run_good (machine d) s t x k.good e;
-  rest = λ u v.
+  completes = λ u v.
       let a = Machines.took (machine d) s t x k.good e u v in
-      let b = k.rest (x ++ u) v in
+      let b = k.completes (x ++ u) v in
       let c = append_assoc p x u in (
         λ h. subst (λ y. SpellsField d kind y v) (sym c) (b.0 (a.0 h)),
         λ h. a.1 (b.1 (subst (λ y. SpellsField d kind y v) c h)),
@@ -36,18 +36,18 @@ reached_prefix d kind s p x k = (
   λ (u, v, h). (
     u,
     v,
-    (k.rest (x ++ u) v).1 (subst (λ y. SpellsField d kind y v) (append_assoc p x u) h),
+    (k.completes (x ++ u) v).1 (subst (λ y. SpellsField d kind y v) (append_assoc p x u) h),
   ),
   λ (u, v, h). (
     u,
     v,
-    subst (λ y. SpellsField d kind y v) (sym (append_assoc p x u)) ((k.rest (x ++ u) v).0 h),
+    subst (λ y. SpellsField d kind y v) (sym (append_assoc p x u)) ((k.completes (x ++ u) v).0 h),
   ),
 )
 
 pub reached_viable : ReachesViable
 reached_viable d kind s p k = let l = (machine d).lives s k.good in
-    (l.text, l.value, (k.rest l.text l.value).0 l.whole)
+    (l.text, l.value, (k.completes l.text l.value).0 l.whole)
 
 pub reached_next : ReachesNext
 reached_next d kind s p b k =
@@ -58,8 +58,8 @@ reached_next d kind s p b k =
 pub reached_end : ReachesEnd
 reached_end d kind s p v k =
     let r = (machine d).reads s k.good in (
-      λ h. r.ends v ((k.rest [] v).1 (subst (λ y. SpellsField d kind y v) (sym (append-nil p)) h)),
-      λ e. subst (λ y. SpellsField d kind y v) (append-nil p) ((k.rest [] v).0 (r.ended v e)),
+      λ h. r.ends v ((k.completes [] v).1 (subst (λ y. SpellsField d kind y v) (sym (append-nil p)) h)),
+      λ e. subst (λ y. SpellsField d kind y v) (append-nil p) ((k.completes [] v).0 (r.ended v e)),
     )
 
 pub reached_stops : ReachesStops

@@ -3,7 +3,7 @@ use Rattle.std.proofs.Common.{◌≡◌, ℕ, zero, suc, ◌+◌, ◌-◌, ◌<�
 use Rattle.std.proofs.Common.{List, [], ◌∷◌, refl, arith, rules}
 use Rattle.std.specs.Prelude.{◌==◌, ⊤}
 use Rattle.std.proofs.lemmas.Bool.{cases_Bool}
-use Rattle.sf_parse.specs.ByteSets.{is_in, in_front, runs_from}
+use Rattle.sf_parse.specs.ByteSets.{is_in, runs_with, runs_from}
 
 -- the first of the runs does not begin below b
 abbrev pub BeginsFrom : ℕ → List (ℕ × ℕ) → Type 0
@@ -14,9 +14,9 @@ BeginsFrom-less : (a b : ℕ) (rs : List (ℕ × ℕ)) → a ≤ b → BeginsFro
 BeginsFrom-less a b [] h p = tt
 BeginsFrom-less a b (r ∷ rs) h p = omega arith
 
-BeginsFrom-in_front : (b : ℕ) (rs : List (ℕ × ℕ)) → BeginsFrom b (in_front b rs)
-BeginsFrom-in_front b [] = omega arith
-BeginsFrom-in_front b (r ∷ rs) =
+BeginsFrom-runs_with : (b : ℕ) (rs : List (ℕ × ℕ)) → BeginsFrom b (runs_with b rs)
+BeginsFrom-runs_with b [] = omega arith
+BeginsFrom-runs_with b (r ∷ rs) =
     elim (cases_Bool (r.0 == suc b)) [
       | inl t ↦ rw t (omega arith)
       | inr f ↦ rw f (omega arith)
@@ -27,7 +27,7 @@ unfolding runs_from
 runs_begin set b zero = tt
 runs_begin set b (suc n) =
     elim (cases_Bool (is_in set b)) [
-      | inl t ↦ rw t (BeginsFrom-in_front b (runs_from set (suc b) n))
+      | inl t ↦ rw t (BeginsFrom-runs_with b (runs_from set (suc b) n))
       | inr f ↦ rw f (BeginsFrom-less b (suc b) _ (omega arith) (runs_begin set (suc b) n))
     ]
 
@@ -44,14 +44,14 @@ runs-out set b n f = rw f refl
 
 -- a byte that is in the set
 pub runs-in : (set b n : ℕ) → is_in set b ≡ true
-    → runs_from set b (suc n) ≡ in_front b (runs_from set (suc b) n)
+    → runs_from set b (suc n) ≡ runs_with b (runs_from set (suc b) n)
 unfolding runs_from
 runs-in set b n t = rw t refl
 
-in_front-apart : (b : ℕ) (rs : List (ℕ × ℕ)) → BeginsFrom (suc (suc b)) rs
-    → in_front b rs ≡ (b, b) ∷ rs
-in_front-apart b [] h = refl
-in_front-apart b (r ∷ rs) h =
+runs_with-apart : (b : ℕ) (rs : List (ℕ × ℕ)) → BeginsFrom (suc (suc b)) rs
+    → runs_with b rs ≡ (b, b) ∷ rs
+runs_with-apart b [] h = refl
+runs_with-apart b (r ∷ rs) h =
     elim (cases_Bool (r.0 == suc b)) [
       | inl t ↦ (let e : r.0 ≡ suc b = search (rules, t) in absurd (omega arith))
       | inr f ↦ rw f refl
@@ -76,7 +76,7 @@ runs-whole set b zero n all stop =
     let here = all b (omega arith) (omega arith) in
     let after : (n ≡ 0) ⊎ (is_in set (suc b) ≡ false) = rw e at stop in
     rw (e, z, runs-in set b n here)
-    (in_front-apart b (runs_from set (suc b) n) (behind set (suc b) n after))
+    (runs_with-apart b (runs_from set (suc b) n) (behind set (suc b) n after))
 runs-whole set b (suc m) n all stop =
     let e : b + suc m ≡ suc b + m = omega arith in
     let s : suc m + n ≡ suc (m + n) = omega arith in

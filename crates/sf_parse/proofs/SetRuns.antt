@@ -3,7 +3,7 @@ use Rattle.std.proofs.Common.{◌≡◌, ℕ, zero, suc, ◌+◌, ◌<◌, ◌�
 use Rattle.std.proofs.Common.{List, [], ◌∷◌, arith, rules, subst, sym, ap, ◌∙◌}
 use Rattle.std.specs.Prelude.{◌==◌, ◌↔◌}
 use Rattle.std.proofs.lemmas.Bool.{cases_Bool, false≢true}
-use Rattle.sf_parse.specs.ByteSets.{is_in, in_front, runs_from}
+use Rattle.sf_parse.specs.ByteSets.{is_in, runs_with, runs_from}
 use Rattle.sf_parse.specs.ByteSets.{IsWithin, Ascends, RunsAreTheSet, RunsAreWhole}
 use Rattle.sf_parse.proofs.RunSteps.{runs-none, runs-out, runs-in}
 
@@ -12,9 +12,9 @@ Ascends-less a b [] h p = tt
 Ascends-less a b (r ∷ rs) h p = (omega arith, p.1, p.2)
 
 -- a byte joins the first run, or is before it with a gap
-Ascends-in_front : (b : ℕ) (rs : List (ℕ × ℕ)) → Ascends (suc b) rs → Ascends b (in_front b rs)
-Ascends-in_front b [] p = (omega arith, omega arith, tt)
-Ascends-in_front b (r ∷ rs) p =
+Ascends-runs_with : (b : ℕ) (rs : List (ℕ × ℕ)) → Ascends (suc b) rs → Ascends b (runs_with b rs)
+Ascends-runs_with b [] p = (omega arith, omega arith, tt)
+Ascends-runs_with b (r ∷ rs) p =
     elim (cases_Bool (r.0 == suc b)) [
       | inl t ↦ (
           let e : r.0 ≡ suc b = search (rules, t) in
@@ -33,7 +33,7 @@ runs_ascend set b zero = rw (runs-none set b) tt
 runs_ascend set b (suc n) =
     elim (cases_Bool (is_in set b)) [
       | inl t ↦ rw (runs-in set b n t)
-          (Ascends-in_front b (runs_from set (suc b) n) (runs_ascend set (suc b) n))
+          (Ascends-runs_with b (runs_from set (suc b) n) (runs_ascend set (suc b) n))
       | inr f ↦ rw (runs-out set b n f)
           (Ascends-less b (suc b) _ (omega arith) (runs_ascend set (suc b) n))
     ]
@@ -43,7 +43,7 @@ runs_are_whole set = runs_ascend set 0 128
 
 -- within the runs with a byte in front lie that byte and what lies within the runs
 prefix_within : (b k : ℕ) (rs : List (ℕ × ℕ)) → Ascends (suc b) rs
-    → IsWithin k (in_front b rs) ↔ ((k ≡ b) ⊎ IsWithin k rs)
+    → IsWithin k (runs_with b rs) ↔ ((k ≡ b) ⊎ IsWithin k rs)
 prefix_within b k [] p = (
   λ h. elim h [ inl w ↦ inl (omega (arith, w.0, w.1)) | inr w ↦ absurd w ],
   λ h. elim h [ inl e ↦ inl (omega (arith, e), omega (arith, e)) | inr w ↦ absurd w ],

@@ -14,15 +14,15 @@ abbrev pub is_in : ℕ → ℕ → Bool
 is_in set b = bit_at set b == 1
 
 -- a byte before runs of higher bytes: it joins the first run if that begins one above
-abbrev pub in_front : ℕ → List (ℕ × ℕ) → List (ℕ × ℕ)
-in_front b [] = (b, b) ∷ []
-in_front b (run ∷ runs) = if run.0 == suc b then (b, run.1) ∷ runs else (b, b) ∷ run ∷ runs
+abbrev pub runs_with : ℕ → List (ℕ × ℕ) → List (ℕ × ℕ)
+runs_with b [] = (b, b) ∷ []
+runs_with b (run ∷ runs) = if run.0 == suc b then (b, run.1) ∷ runs else (b, b) ∷ run ∷ runs
 
 -- the runs of the n bytes from b on that are in the set, each as its first and its last byte
 unfoldable pub runs_from : ℕ → ℕ → ℕ → List (ℕ × ℕ)
 runs_from set b zero = []
 runs_from set b (suc n) =
-    if is_in set b then in_front b (runs_from set (suc b) n) else runs_from set (suc b) n
+    if is_in set b then runs_with b (runs_from set (suc b) n) else runs_from set (suc b) n
 
 -- the runs of a set of bytes below 128
 abbrev pub runs_of : ℕ → List (ℕ × ℕ)

@@ -30,7 +30,7 @@ pub record Progress : Type 0 where
 -- state completes s
 pub record HasTaken (p : Progress) (s : List ℕ) : Type 0 where
   pub count : p.count ≡ length s
-  pub rest : (u : List ℕ) (v : Field) → Residual p.dialect p.state u v
+  pub completes : (u : List ℕ) (v : Field) → Residual p.dialect p.state u v
       ↔ SpellsField p.dialect p.kind (s ++ u) v
   pub unrefused : p.refusal ≡ None
 

@@ -12,7 +12,7 @@ use Rattle.sf_parse.specs.Machine.Fields.{Residual, Good, step, finish, begin}
 -- what completes the state completes the text
 pub record IsReachedBy (d : Dialect) (kind : Kind) (s : State) (p : List ℕ) : Type 0 where
   pub good : Good s
-  pub rest : (u : List ℕ) (v : Field) → Residual d s u v ↔ SpellsField d kind (p ++ u) v
+  pub completes : (u : List ℕ) (v : Field) → Residual d s u v ↔ SpellsField d kind (p ++ u) v
 
 -- the first state is reached by the empty text
 abbrev pub ReachesNothing : Type 0

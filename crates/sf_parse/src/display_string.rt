@@ -203,9 +203,9 @@ impl ShownPlace {
         match (self.phase, self.chars) {
             (ShownPhase::Quote, _) => return QUOTE,
             (ShownPhase::Unencoded, Utf8State::Start) => return VISIBLE,
-            (ShownPhase::Unencoded, Utf8State::Wants { .. }) => return PERCENT,
+            (ShownPhase::Unencoded, Utf8State::Within { .. }) => return PERCENT,
             (ShownPhase::Percent, Utf8State::Start) => return FIRST_DIGITS,
-            (ShownPhase::Percent, Utf8State::Wants { .. }) => return self.expected_digits(),
+            (ShownPhase::Percent, Utf8State::Within { .. }) => return self.expected_digits(),
             (ShownPhase::Hex(_), _) => return self.expected_digits(),
             (ShownPhase::Done, _) => return 0,
         }
@@ -227,7 +227,7 @@ fn can_begin(chars: Utf8State, digit: u8) -> bool
 {
     match chars {
         Utf8State::Start => digit < 8 || digit >= 12,
-        Utf8State::Wants { low, high, .. } => low / 16 <= digit && digit <= high / 16,
+        Utf8State::Within { low, high, .. } => low / 16 <= digit && digit <= high / 16,
     }
 }
 
@@ -330,7 +330,7 @@ fn take_unencoded<'a>(
             bytes.extend(run)?;
             return Ok(rest);
         }
-        Utf8State::Wants { .. } => return Ok(chunk),
+        Utf8State::Within { .. } => return Ok(chunk),
     }
 }
 

@@ -3,7 +3,7 @@ use Rattle.std.specs.Option.{option_or}
 use Rattle.std.proofs.Common.{◌≡◌, ℕ, zero, suc, ◌≤◌, true, false, List, [], ◌∷◌, length, Option}
 use Rattle.std.proofs.Common.{Some, None, refl, sym, ap, subst, ◌⊎◌, inl, inr, arith}
 use Rattle.std.proofs.lemmas.Bool.Decides.{nat_tests}
-use Rattle.sf_value.specs.Grammar.Utf8.{Utf8, Start, Wants, wants, rows, look_up}
+use Rattle.sf_value.specs.Grammar.Utf8.{Utf8, Start, Within, followed_by, rows, look_up}
 use Rattle.sf_value.specs.Grammar.Utf8.{WellFormed}
 use Rattle.sf_value.proofs.Words.{option_or_cases}
 use Rattle.sf_rfc.specs.Rfc9651.Alphabets.{in_range}
@@ -18,22 +18,22 @@ octet_cases low high (c ∷ t) u e =
     let k = only_if_cases (in_range low high c) t u e in
     (c, ap (λ y. c ∷ y) k.1, k.0)
 
--- a byte in the range that is wanted, and what follows it
-next_formed : (n low high : ℕ) (t u : List ℕ) → octet low high t ≡ Some u → WellFormed (wants n) u
-    → WellFormed (Wants n low high) t
+-- a byte in the range, and what follows it
+next_formed : (n low high : ℕ) (t u : List ℕ) → octet low high t ≡ Some u → WellFormed (followed_by n) u
+    → WellFormed (Within n low high) t
 next_formed n low high t u e w =
     let (c, i, h) = octet_cases low high t u e in
-    rw i (wants n, rw h refl, w)
+    rw i (followed_by n, rw h refl, w)
 
 two_formed : (low high : ℕ) (t u : List ℕ) → then (octet low high) utf8_tail t ≡ Some u
-    → WellFormed Start u → WellFormed (Wants 1 low high) t
+    → WellFormed Start u → WellFormed (Within 1 low high) t
 two_formed low high t u e w =
     let (s, a, b) = and_then_cases (octet low high t) utf8_tail u e in
     next_formed 1 low high t s a (next_formed 0 128 191 s u b w)
 
 three_formed : (low high : ℕ) (t u : List ℕ)
     → then (octet low high) (then utf8_tail utf8_tail) t ≡ Some u → WellFormed Start u
-    → WellFormed (Wants 2 low high) t
+    → WellFormed (Within 2 low high) t
 three_formed low high t u e w =
     let (s, a, b) = and_then_cases (octet low high t) (then utf8_tail utf8_tail) u e in
     next_formed 2 low high t s a (two_formed 128 191 s u b w)
@@ -52,28 +52,28 @@ first_formed low high x q t u row more e =
 row_1 : (c : ℕ) → in_range 0 127 c ≡ true → look_up rows c ≡ Some Start
 row_1 c h = rw h refl
 
-row_2 : (c : ℕ) → in_range 194 223 c ≡ true → look_up rows c ≡ Some (Wants 0 128 191)
+row_2 : (c : ℕ) → in_range 194 223 c ≡ true → look_up rows c ≡ Some (Within 0 128 191)
 row_2 c h = grind (arith, nat_tests)
 
-row_3 : (c : ℕ) → in_range 224 224 c ≡ true → look_up rows c ≡ Some (Wants 1 160 191)
+row_3 : (c : ℕ) → in_range 224 224 c ≡ true → look_up rows c ≡ Some (Within 1 160 191)
 row_3 c h = grind (arith, nat_tests)
 
-row_4 : (c : ℕ) → in_range 225 236 c ≡ true → look_up rows c ≡ Some (Wants 1 128 191)
+row_4 : (c : ℕ) → in_range 225 236 c ≡ true → look_up rows c ≡ Some (Within 1 128 191)
 row_4 c h = grind (arith, nat_tests)
 
-row_5 : (c : ℕ) → in_range 237 237 c ≡ true → look_up rows c ≡ Some (Wants 1 128 159)
+row_5 : (c : ℕ) → in_range 237 237 c ≡ true → look_up rows c ≡ Some (Within 1 128 159)
 row_5 c h = grind (arith, nat_tests)
 
-row_6 : (c : ℕ) → in_range 238 239 c ≡ true → look_up rows c ≡ Some (Wants 1 128 191)
+row_6 : (c : ℕ) → in_range 238 239 c ≡ true → look_up rows c ≡ Some (Within 1 128 191)
 row_6 c h = grind (arith, nat_tests)
 
-row_7 : (c : ℕ) → in_range 240 240 c ≡ true → look_up rows c ≡ Some (Wants 2 144 191)
+row_7 : (c : ℕ) → in_range 240 240 c ≡ true → look_up rows c ≡ Some (Within 2 144 191)
 row_7 c h = grind (arith, nat_tests)
 
-row_8 : (c : ℕ) → in_range 241 243 c ≡ true → look_up rows c ≡ Some (Wants 2 128 191)
+row_8 : (c : ℕ) → in_range 241 243 c ≡ true → look_up rows c ≡ Some (Within 2 128 191)
 row_8 c h = grind (arith, nat_tests)
 
-row_9 : (c : ℕ) → in_range 244 244 c ≡ true → look_up rows c ≡ Some (Wants 2 128 143)
+row_9 : (c : ℕ) → in_range 244 244 c ≡ true → look_up rows c ≡ Some (Within 2 128 143)
 row_9 c h = grind (arith, nat_tests)
 
 -- a character and what follows it
@@ -84,20 +84,20 @@ one_formed t u w e =
 
 formed_2 : (t u : List ℕ) → WellFormed Start u → utf8_2 t ≡ Some u → WellFormed Start t
 formed_2 t u w e =
-    first_formed 194 223 (Wants 0 128 191) utf8_tail t u row_2
+    first_formed 194 223 (Within 0 128 191) utf8_tail t u row_2
     (λ s b. next_formed 0 128 191 s u b w) e
 
 formed_3 : (t u : List ℕ) → WellFormed Start u → utf8_3 t ≡ Some u → WellFormed Start t
 formed_3 t u w e = elim (option_or_cases _ _ u e) [
-  | inl a ↦ first_formed 224 224 (Wants 1 160 191) (then (octet 160 191) utf8_tail) t u row_3
+  | inl a ↦ first_formed 224 224 (Within 1 160 191) (then (octet 160 191) utf8_tail) t u row_3
       (λ s b. two_formed 160 191 s u b w) a
   | inr (_, f) ↦ elim (option_or_cases _ _ u f) [
-    | inl a ↦ first_formed 225 236 (Wants 1 128 191) (then utf8_tail utf8_tail) t u row_4
+    | inl a ↦ first_formed 225 236 (Within 1 128 191) (then utf8_tail utf8_tail) t u row_4
         (λ s b. two_formed 128 191 s u b w) a
     | inr (_, g) ↦ elim (option_or_cases _ _ u g) [
-      | inl a ↦ first_formed 237 237 (Wants 1 128 159) (then (octet 128 159) utf8_tail) t u row_5
+      | inl a ↦ first_formed 237 237 (Within 1 128 159) (then (octet 128 159) utf8_tail) t u row_5
           (λ s b. two_formed 128 159 s u b w) a
-      | inr (_, a) ↦ first_formed 238 239 (Wants 1 128 191) (then utf8_tail utf8_tail) t u row_6
+      | inr (_, a) ↦ first_formed 238 239 (Within 1 128 191) (then utf8_tail utf8_tail) t u row_6
           (λ s b. two_formed 128 191 s u b w) a
     ]
   ]
@@ -105,12 +105,12 @@ formed_3 t u w e = elim (option_or_cases _ _ u e) [
 
 formed_4 : (t u : List ℕ) → WellFormed Start u → utf8_4 t ≡ Some u → WellFormed Start t
 formed_4 t u w e = elim (option_or_cases _ _ u e) [
-  | inl a ↦ first_formed 240 240 (Wants 2 144 191) (then (octet 144 191) (then utf8_tail utf8_tail)) t u
+  | inl a ↦ first_formed 240 240 (Within 2 144 191) (then (octet 144 191) (then utf8_tail utf8_tail)) t u
       row_7 (λ s b. three_formed 144 191 s u b w) a
   | inr (_, f) ↦ elim (option_or_cases _ _ u f) [
-    | inl a ↦ first_formed 241 243 (Wants 2 128 191) (then utf8_tail (then utf8_tail utf8_tail)) t u row_8
+    | inl a ↦ first_formed 241 243 (Within 2 128 191) (then utf8_tail (then utf8_tail utf8_tail)) t u row_8
         (λ s b. three_formed 128 191 s u b w) a
-    | inr (_, a) ↦ first_formed 244 244 (Wants 2 128 143) (then (octet 128 143) (then utf8_tail utf8_tail)) t u
+    | inr (_, a) ↦ first_formed 244 244 (Within 2 128 143) (then (octet 128 143) (then utf8_tail utf8_tail)) t u
         row_9 (λ s b. three_formed 128 143 s u b w) a
   ]
 ]

@@ -2,7 +2,7 @@
 use Rattle.std.proofs.Common.{◌≡◌, ℕ, zero, suc, ◌<◌, ◌≤◌, true, false, List, [], ◌∷◌, length}
 use Rattle.std.proofs.Common.{Some, refl, subst, arith, le_refl}
 use Rattle.std.proofs.lemmas.Bool.Decides.{nat_tests}
-use Rattle.sf_value.specs.Grammar.Utf8.{Utf8, Start, Wants, wants, within, rows}
+use Rattle.sf_value.specs.Grammar.Utf8.{Utf8, Start, Within, followed_by, within, rows}
 use Rattle.sf_value.specs.Grammar.Utf8.{WellFormed}
 use Rattle.sf_value.proofs.Utf8Table.{EachRow, looked_up}
 use Rattle.sf_value.proofs.Words.{allow_cases}
@@ -18,11 +18,11 @@ below low high b l = grind arith
 pub above : (low high b : ℕ) → high < b → in_range low high b ≡ false
 above low high b l = grind arith
 
--- the next byte that is wanted
-next_is : (n low high c : ℕ) (s : List ℕ) → WellFormed (Wants n low high) (c ∷ s)
-    → (in_range low high c ≡ true) × WellFormed (wants n) s
+-- the next byte
+next_is : (n low high c : ℕ) (s : List ℕ) → WellFormed (Within n low high) (c ∷ s)
+    → (in_range low high c ≡ true) × WellFormed (followed_by n) s
 next_is n low high c s (y, e, w) =
-    let k = allow_cases (within low high c) (wants n) y e in
+    let k = allow_cases (within low high c) (followed_by n) y e in
     (k.0, subst (λ z. WellFormed z s) k.1 w)
 
 -- a character is taken, and what is left is well-formed
@@ -31,7 +31,7 @@ Takes b y =
     (s : List ℕ) → WellFormed y s
     → (t : List ℕ) × (utf8_char (b ∷ s) ≡ Some t) × (length t ≤ length s) × WellFormed Start t
 
-takes_two : (b : ℕ) → 194 ≤ b → b ≤ 223 → Takes b (Wants 0 128 191)
+takes_two : (b : ℕ) → 194 ≤ b → b ≤ 223 → Takes b (Within 0 128 191)
 takes_two b l h [] w = absurd w
 takes_two b l h (c ∷ s) w =
     let k = next_is 0 128 191 c s w in
@@ -41,7 +41,7 @@ takes_two b l h (c ∷ s) w =
 two_more : (b low high : ℕ)
     → ((c d : ℕ) (s : List ℕ) → in_range low high c ≡ true → in_range 128 191 d ≡ true
     → utf8_char (b ∷ c ∷ d ∷ s) ≡ Some s)
-    → Takes b (Wants 1 low high)
+    → Takes b (Within 1 low high)
 two_more b low high char [] w = absurd w
 two_more b low high char (c ∷ []) w = absurd (next_is 1 low high c [] w).1
 two_more b low high char (c ∷ d ∷ s) w =
@@ -53,7 +53,7 @@ two_more b low high char (c ∷ d ∷ s) w =
 three_more : (b low high : ℕ)
     → ((c d f : ℕ) (s : List ℕ) → in_range low high c ≡ true → in_range 128 191 d ≡ true
     → in_range 128 191 f ≡ true → utf8_char (b ∷ c ∷ d ∷ f ∷ s) ≡ Some s)
-    → Takes b (Wants 2 low high)
+    → Takes b (Within 2 low high)
 three_more b low high char [] w = absurd w
 three_more b low high char (c ∷ []) w = absurd (next_is 2 low high c [] w).1
 three_more b low high char (c ∷ d ∷ []) w =
@@ -64,25 +64,25 @@ three_more b low high char (c ∷ d ∷ f ∷ s) w =
     let i = next_is 0 128 191 f s j.1 in
     (s, char c d f s k.0 j.0 i.0, omega arith, i.1)
 
-takes_224 : (b : ℕ) → 224 ≤ b → b ≤ 224 → Takes b (Wants 1 160 191)
+takes_224 : (b : ℕ) → 224 ≤ b → b ≤ 224 → Takes b (Within 1 160 191)
 takes_224 b l h = two_more b 160 191 (λ c d s p q. grind (arith, nat_tests))
 
-takes_225 : (b : ℕ) → 225 ≤ b → b ≤ 236 → Takes b (Wants 1 128 191)
+takes_225 : (b : ℕ) → 225 ≤ b → b ≤ 236 → Takes b (Within 1 128 191)
 takes_225 b l h = two_more b 128 191 (λ c d s p q. grind (arith, nat_tests))
 
-takes_237 : (b : ℕ) → 237 ≤ b → b ≤ 237 → Takes b (Wants 1 128 159)
+takes_237 : (b : ℕ) → 237 ≤ b → b ≤ 237 → Takes b (Within 1 128 159)
 takes_237 b l h = two_more b 128 159 (λ c d s p q. grind (arith, nat_tests))
 
-takes_238 : (b : ℕ) → 238 ≤ b → b ≤ 239 → Takes b (Wants 1 128 191)
+takes_238 : (b : ℕ) → 238 ≤ b → b ≤ 239 → Takes b (Within 1 128 191)
 takes_238 b l h = two_more b 128 191 (λ c d s p q. grind (arith, nat_tests))
 
-takes_240 : (b : ℕ) → 240 ≤ b → b ≤ 240 → Takes b (Wants 2 144 191)
+takes_240 : (b : ℕ) → 240 ≤ b → b ≤ 240 → Takes b (Within 2 144 191)
 takes_240 b l h = three_more b 144 191 (λ c d f s p q r. grind (arith, nat_tests))
 
-takes_241 : (b : ℕ) → 241 ≤ b → b ≤ 243 → Takes b (Wants 2 128 191)
+takes_241 : (b : ℕ) → 241 ≤ b → b ≤ 243 → Takes b (Within 2 128 191)
 takes_241 b l h = three_more b 128 191 (λ c d f s p q r. grind (arith, nat_tests))
 
-takes_244 : (b : ℕ) → 244 ≤ b → b ≤ 244 → Takes b (Wants 2 128 143)
+takes_244 : (b : ℕ) → 244 ≤ b → b ≤ 244 → Takes b (Within 2 128 143)
 takes_244 b l h = three_more b 128 143 (λ c d f s p q r. grind (arith, nat_tests))
 
 takes_one : (b : ℕ) → b ≤ 127 → Takes b Start

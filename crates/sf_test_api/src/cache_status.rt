@@ -1,5 +1,4 @@
-//! Hops read from texts and written again. What is expected comes from RFC 9211: its sections 2 and
-//! 4, and what they say of parameters of other types.
+//! Hops read from texts and written again. Expected values come from RFC 9211, sections 2 and 4.
 use crate::building::seed;
 use sf_field::{AskFault, Consumer, UseFault, ask};
 use sf_parse::{Refusal, parse_list};

@@ -13,7 +13,7 @@ use Rattle.sf_value.specs.Grammar.Pairs.{settle, value_at}
 use Rattle.sf_value.specs.Grammar.Items.{item}
 use Rattle.sf_value.specs.Grammar.InnerLists.{inner}
 use Rattle.sf_value.specs.Grammar.ByteSequences.{letter, unpadded, spare, needed}
-use Rattle.sf_value.specs.Grammar.Utf8.{Utf8, Start, Wants, utf8_step}
+use Rattle.sf_value.specs.Grammar.Utf8.{Utf8, Start, Within, utf8_step}
 use Rattle.sf_value.specs.Grammar.Fields.{list_of, dict_of}
 use Rattle.sf_value.specs.Grammar.Canonical.{canon, canon_bare, canon_item}
 use Rattle.sf_value.specs.Grammar.Lines.{join}
@@ -124,5 +124,5 @@ characters = refl
 no_characters : map (utf8_run Start)
     ((195 ∷ []) ∷ (195 ∷ 40 ∷ []) ∷ (192 ∷ []) ∷ (193 ∷ []) ∷ (224 ∷ 159 ∷ []) ∷ (237 ∷ 160 ∷ [])
     ∷ (240 ∷ 143 ∷ []) ∷ (244 ∷ 144 ∷ []) ∷ (245 ∷ []) ∷ (128 ∷ []) ∷ [])
-    ≡ Some (Wants 0 128 191) ∷ None ∷ None ∷ None ∷ None ∷ None ∷ None ∷ None ∷ None ∷ None ∷ []
+    ≡ Some (Within 0 128 191) ∷ None ∷ None ∷ None ∷ None ∷ None ∷ None ∷ None ∷ None ∷ None ∷ []
 no_characters = refl

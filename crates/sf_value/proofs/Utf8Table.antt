@@ -4,7 +4,7 @@ use Rattle.std.proofs.Common.{◌&&◌, List, [], ◌∷◌, ◌++◌, Some, ref
 use Rattle.std.proofs.Common.{inr, ⊎_elim, ◌⊎◌, arith, IsUtf8, length, length-append, le_refl}
 use lib.Utf8.{encode, encodes, scalar, scalars, next}
 use Rattle.sf_value.specs.Grammar.Words.{allow}
-use Rattle.sf_value.specs.Grammar.Utf8.{Utf8, Start, Wants, wants, within, rows, look_up}
+use Rattle.sf_value.specs.Grammar.Utf8.{Utf8, Start, Within, followed_by, within, rows, look_up}
 use Rattle.sf_value.specs.Grammar.Utf8.{WellFormed}
 use Rattle.sf_value.proofs.Words.{allow_cases, option_or_cases}
 
@@ -29,16 +29,16 @@ looked_up P (r ∷ rs) h b x e = ⊎_elim
     (option_or_cases (allow (within r.0 r.1 b) r.2) (look_up rs b) x e)
 
 -- the rows by their ranges
-row_two : (b : ℕ) → 194 ≤ b → b ≤ 223 → look_up rows b ≡ Some (Wants 0 128 191)
+row_two : (b : ℕ) → 194 ≤ b → b ≤ 223 → look_up rows b ≡ Some (Within 0 128 191)
 row_two b l h = grind arith
 
-row_e0 : look_up rows 224 ≡ Some (Wants 1 160 191)
+row_e0 : look_up rows 224 ≡ Some (Within 1 160 191)
 row_e0 = refl
 
-row_low : (b : ℕ) → 225 ≤ b → b ≤ 236 → look_up rows b ≡ Some (Wants 1 128 191)
+row_low : (b : ℕ) → 225 ≤ b → b ≤ 236 → look_up rows b ≡ Some (Within 1 128 191)
 row_low b l h = grind arith
 
-row_f1 : (b : ℕ) → 241 ≤ b → b ≤ 243 → look_up rows b ≡ Some (Wants 2 128 191)
+row_f1 : (b : ℕ) → 241 ≤ b → b ≤ 243 → look_up rows b ≡ Some (Within 2 128 191)
 row_f1 b l h = grind arith
 
 encode_one : (c : ℕ) → c < 128 → encode c ≡ c ∷ []
@@ -59,42 +59,42 @@ encode_four : (c : ℕ) → 65536 ≤ c
 unfolding encode
 encode_four c l = grind arith
 
-row_ed : look_up rows 237 ≡ Some (Wants 1 128 159)
+row_ed : look_up rows 237 ≡ Some (Within 1 128 159)
 row_ed = refl
 
-row_high : (b : ℕ) → 238 ≤ b → b ≤ 239 → look_up rows b ≡ Some (Wants 1 128 191)
+row_high : (b : ℕ) → 238 ≤ b → b ≤ 239 → look_up rows b ≡ Some (Within 1 128 191)
 row_high b l h = grind arith
 
-row_f0 : look_up rows 240 ≡ Some (Wants 2 144 191)
+row_f0 : look_up rows 240 ≡ Some (Within 2 144 191)
 row_f0 = refl
 
-row_f4 : look_up rows 244 ≡ Some (Wants 2 128 143)
+row_f4 : look_up rows 244 ≡ Some (Within 2 128 143)
 row_f4 = refl
 
 row_one : (b : ℕ) → b ≤ 127 → look_up rows b ≡ Some Start
 row_one b h = grind arith
 
--- a byte in the range that is wanted
-wanted : (n low high b : ℕ) (s : List ℕ) → low ≤ b → b ≤ high → WellFormed (wants n) s
-    → WellFormed (Wants n low high) (b ∷ s)
-wanted n low high b s l h w = (wants n, rw (in_range low high b l h) refl, w)
+-- a byte in the range
+next_byte : (n low high b : ℕ) (s : List ℕ) → low ≤ b → b ≤ high → WellFormed (followed_by n) s
+    → WellFormed (Within n low high) (b ∷ s)
+next_byte n low high b s l h w = (followed_by n, rw (in_range low high b l h) refl, w)
 
-first_of_three : (b low high c d : ℕ) (s : List ℕ) → look_up rows b ≡ Some (Wants 1 low high)
+first_of_three : (b low high c d : ℕ) (s : List ℕ) → look_up rows b ≡ Some (Within 1 low high)
     → low ≤ c → c ≤ high → 128 ≤ d → d ≤ 191 → WellFormed Start s → WellFormed Start (b ∷ c ∷ d ∷ s)
 first_of_three b low high c d s e l h l' h' w = (
-  Wants 1 low high,
+  Within 1 low high,
   e,
-  wanted 1 low high c (d ∷ s) l h (wanted 0 128 191 d s l' h' w),
+  next_byte 1 low high c (d ∷ s) l h (next_byte 0 128 191 d s l' h' w),
 )
 
-first_of_four : (b low high c d f : ℕ) (s : List ℕ) → look_up rows b ≡ Some (Wants 2 low high)
+first_of_four : (b low high c d f : ℕ) (s : List ℕ) → look_up rows b ≡ Some (Within 2 low high)
     → low ≤ c → c ≤ high → 128 ≤ d → d ≤ 191 → 128 ≤ f → f ≤ 191 → WellFormed Start s
     → WellFormed Start (b ∷ c ∷ d ∷ f ∷ s)
 first_of_four b low high c d f s e l h l' h' l2 h2 w = (
-  Wants 2 low high,
+  Within 2 low high,
   e,
-  wanted 2 low high c (d ∷ f ∷ s) l h
-      (wanted 1 128 191 d (f ∷ s) l' h' (wanted 0 128 191 f s l2 h2 w)),
+  next_byte 2 low high c (d ∷ f ∷ s) l h
+      (next_byte 1 128 191 d (f ∷ s) l' h' (next_byte 0 128 191 f s l2 h2 w)),
 )
 
 next_low : (x : ℕ) → 128 ≤ next x
@@ -132,7 +132,7 @@ three_from : (c : ℕ) (s : List ℕ) → 2048 ≤ c → c < 65536 → scalar c 
 unfolding Split3
 three_from c s l h e w = ⊎_elim
     (λ k. first_of_three (224 + c / 4096) 160 191 (next (c / 64)) (next c) s
-    (lead_is 224 (Wants 1 160 191) (224 + c / 4096) (omega arith) row_e0) (omega arith)
+    (lead_is 224 (Within 1 160 191) (224 + c / 4096) (omega arith) row_e0) (omega arith)
     (omega arith) (next_low c) (next_high c) w)
     (⊎_elim
     (λ k. first_of_three (224 + c / 4096) 128 191 (next (c / 64)) (next c) s
@@ -140,7 +140,7 @@ three_from c s l h e w = ⊎_elim
     (next_low c) (next_high c) w)
     (⊎_elim
     (λ k. first_of_three (224 + c / 4096) 128 159 (next (c / 64)) (next c) s
-    (lead_is 237 (Wants 1 128 159) (224 + c / 4096) (omega arith) row_ed) (omega arith)
+    (lead_is 237 (Within 1 128 159) (224 + c / 4096) (omega arith) row_ed) (omega arith)
     (omega arith) (next_low c) (next_high c) w)
     (λ k. first_of_three (224 + c / 4096) 128 191 (next (c / 64)) (next c) s
     (row_high (224 + c / 4096) (omega arith) (omega arith)) (omega arith) (omega arith)
@@ -152,14 +152,14 @@ four_from : (c : ℕ) (s : List ℕ) → 65536 ≤ c → scalar c ≡ true → W
 unfolding Split4
 four_from c s l e w = ⊎_elim
     (λ k. first_of_four (240 + c / 262144) 144 191 (next (c / 4096)) (next (c / 64)) (next c) s
-    (lead_is 240 (Wants 2 144 191) (240 + c / 262144) (omega arith) row_f0) (omega arith)
+    (lead_is 240 (Within 2 144 191) (240 + c / 262144) (omega arith) row_f0) (omega arith)
     (omega arith) (next_low (c / 64)) (next_high (c / 64)) (next_low c) (next_high c) w)
     (⊎_elim
     (λ k. first_of_four (240 + c / 262144) 128 191 (next (c / 4096)) (next (c / 64)) (next c) s
     (row_f1 (240 + c / 262144) (omega arith) (omega arith)) (omega arith) (omega arith)
     (next_low (c / 64)) (next_high (c / 64)) (next_low c) (next_high c) w)
     (λ k. first_of_four (240 + c / 262144) 128 143 (next (c / 4096)) (next (c / 64)) (next c) s
-    (lead_is 244 (Wants 2 128 143) (240 + c / 262144) (omega arith) row_f4) (omega arith)
+    (lead_is 244 (Within 2 128 143) (240 + c / 262144) (omega arith) row_f4) (omega arith)
     (omega arith) (next_low (c / 64)) (next_high (c / 64)) (next_low c) (next_high c) w))
     (split4 c l e)
 
@@ -169,9 +169,9 @@ unfolding Split
 char_from c s e w = ⊎_elim
     (λ k. of (c ∷ []) (encode_one c k) (Start, row_one c (omega arith), w))
     (⊎_elim (λ k. of _ (encode_two c k.0 k.1) (
-      Wants 0 128 191,
+      Within 0 128 191,
       row_two (192 + c / 64) (omega arith) (omega arith),
-      wanted 0 128 191 (next c) s (next_low c) (next_high c) w,
+      next_byte 0 128 191 (next c) s (next_low c) (next_high c) w,
     ))
     (⊎_elim (λ k. of _ (encode_three c k.0 k.1) (three_from c s k.0 k.1 e w))
     (λ k. of _ (encode_four c k) (four_from c s k e w))))
@@ -197,9 +197,9 @@ from_utf8 s (cs, (e, i)) = subst (WellFormed Start) i (chars_from cs e)
 Shape : ℕ → Utf8 → Type 0
 Shape b y = ((b ≤ 127)
     × (y ≡ Start)) ⊎ (((194 ≤ b) × (b ≤ 223)
-    × (y ≡ Wants 0 128 191)) ⊎ (((low high : ℕ) × (y ≡ Wants 1 low high) × (224 ≤ b) × (b ≤ 239)
+    × (y ≡ Within 0 128 191)) ⊎ (((low high : ℕ) × (y ≡ Within 1 low high) × (224 ≤ b) × (b ≤ 239)
     × (128 ≤ low) × (high ≤ 191) × (b ≡ 224 → 160 ≤ low)
-    × (b ≡ 237 → high ≤ 159)) ⊎ ((low high : ℕ) × (y ≡ Wants 2 low high) × (240 ≤ b)
+    × (b ≡ 237 → high ≤ 159)) ⊎ ((low high : ℕ) × (y ≡ Within 2 low high) × (240 ≤ b)
     × (b ≤ 244) × (128 ≤ low) × (high ≤ 191) × (b ≡ 240 → 144 ≤ low)
     × (b ≡ 244 → high ≤ 143))))
 
@@ -365,10 +365,10 @@ of_four b c d f l h l' h' l2 h2 l3 h3 low high =
 shorter : (t s : List ℕ) (n : ℕ) → length (t ++ s) ≤ suc n → 1 ≤ length t → length s ≤ n
 shorter t s n h k = let e = length-append t s in omega arith
 
--- what is wanted, then well-formed
-after_one : (low high c : ℕ) (s : List ℕ) (n : ℕ) → WellFormed (Wants n low high) (c ∷ s)
-    → (low ≤ c) × (c ≤ high) × WellFormed (wants n) s
-after_one low high c s n (y, e, w) = let k = allow_cases (within low high c) (wants n) y e in
+-- the byte is in its range, and well-formed text follows
+after_one : (low high c : ℕ) (s : List ℕ) (n : ℕ) → WellFormed (Within n low high) (c ∷ s)
+    → (low ≤ c) × (c ≤ high) × WellFormed (followed_by n) s
+after_one low high c s n (y, e, w) = let k = allow_cases (within low high c) (followed_by n) y e in
     let r = ranged low high c k.0 in (r.0, r.1, subst (λ z. WellFormed z s) k.1 w)
 
 by_length : (n : ℕ) (s : List ℕ) → length s ≤ n → WellFormed Start s → IsUtf8 s
@@ -384,7 +384,7 @@ by_length (suc n) (b ∷ s) h (
     Rec : Type 0
     Rec = (t : List ℕ) → length t ≤ n → WellFormed Start t → IsUtf8 t
 
-    two : (s : List ℕ) → length (b ∷ s) ≤ suc n → 194 ≤ b → b ≤ 223 → WellFormed (Wants 0 128 191) s
+    two : (s : List ℕ) → length (b ∷ s) ≤ suc n → 194 ≤ b → b ≤ 223 → WellFormed (Within 0 128 191) s
         → Rec → IsUtf8 (b ∷ s)
     two [] h l u w rec = absurd w
     two (c ∷ s) h l u w rec =
@@ -394,7 +394,7 @@ by_length (suc n) (b ∷ s) h (
 
     three : (s : List ℕ) (low high : ℕ) → length (b ∷ s) ≤ suc n → 224 ≤ b → b ≤ 239 → 128 ≤ low
         → high ≤ 191 → (b ≡ 224 → 160 ≤ low) → (b ≡ 237 → high ≤ 159)
-        → WellFormed (Wants 1 low high) s → Rec → IsUtf8 (b ∷ s)
+        → WellFormed (Within 1 low high) s → Rec → IsUtf8 (b ∷ s)
     three [] low high h l u l' u' lo hi w rec = absurd w
     three (c ∷ []) low high h l u l' u' lo hi w rec = absurd ((after_one low high c [] 1 w).2)
     three (c ∷ d ∷ s) low high h l u l' u' lo hi w rec =
@@ -407,7 +407,7 @@ by_length (suc n) (b ∷ s) h (
 
     four : (s : List ℕ) (low high : ℕ) → length (b ∷ s) ≤ suc n → 240 ≤ b → b ≤ 244 → 128 ≤ low
         → high ≤ 191 → (b ≡ 240 → 144 ≤ low) → (b ≡ 244 → high ≤ 143)
-        → WellFormed (Wants 2 low high) s → Rec → IsUtf8 (b ∷ s)
+        → WellFormed (Within 2 low high) s → Rec → IsUtf8 (b ∷ s)
     four [] low high h l u l' u' lo hi w rec = absurd w
     four (c ∷ []) low high h l u l' u' lo hi w rec = absurd ((after_one low high c [] 2 w).2)
     four (c ∷ d ∷ []) low high h l u l' u' lo hi w rec = absurd

@@ -1,7 +1,7 @@
 //! Well-formed UTF-8, a byte at a time (RFC 3629 section 4).
 ghost use Rattle.std.specs.Prelude.{◌≡◌};
 ghost use Rattle.std.specs.Option.{option_map};
-ghost use Rattle.sf_value.specs.Grammar.Utf8.{utf8_step, look_up, rows, wants};
+ghost use Rattle.sf_value.specs.Grammar.Utf8.{utf8_step, look_up, rows, followed_by as followed};
 ghost use Rattle.sf_value.specs.Utf8States.{utf8_of};
 
 /// Between two characters; or in one, whose next byte is from `low` to `high`, with `more` bytes
@@ -9,7 +9,7 @@ ghost use Rattle.sf_value.specs.Utf8States.{utf8_of};
 #[derive(Clone, Copy)]
 pub enum Utf8State {
     Start,
-    Wants { more: u8, low: u8, high: u8 },
+    Within { more: u8, low: u8, high: u8 },
 }
 
 impl Utf8State {
@@ -25,9 +25,9 @@ impl Utf8State {
     {
         match self {
             Utf8State::Start => first_byte(byte),
-            Utf8State::Wants { more, low, high } => {
+            Utf8State::Within { more, low, high } => {
                 if low <= byte && byte <= high {
-                    Some(wanted(more))
+                    Some(followed_by(more))
                 } else {
                     None
                 }
@@ -38,14 +38,14 @@ impl Utf8State {
 
 /// The state after a byte that this many bytes follow in its character.
 #[inline]
-fn wanted(more: u8) -> Utf8State
+fn followed_by(more: u8) -> Utf8State
     // It is the state of the grammar.
-    ensures { utf8_of result ≡ wants more }
+    ensures { utf8_of result ≡ followed more }
 {
     if more == 0 {
         return Utf8State::Start;
     }
-    Utf8State::Wants {
+    Utf8State::Within {
         more: more - 1,
         low: 0x80,
         high: 0xbf,
@@ -70,5 +70,5 @@ fn first_byte(byte: u8) -> Option<Utf8State>
         0xf4 => (2, 0x80, 0x8f),
         _ => return None,
     };
-    Some(Utf8State::Wants { more, low, high })
+    Some(Utf8State::Within { more, low, high })
 }

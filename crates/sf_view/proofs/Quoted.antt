@@ -6,7 +6,7 @@ use Rattle.std.specs.Option.{option_map}
 use Rattle.sf_value.specs.declared.dialect.Dialect.TheVariants.{Rfc9651}
 use Rattle.sf_value.specs.declared.value.Bare.TheVariants.{Shown}
 use Rattle.sf_value.specs.Grammar.Words.{Every}
-use Rattle.sf_value.specs.Grammar.Utf8.{Utf8, Start, Wants, WellFormed, utf8_step}
+use Rattle.sf_value.specs.Grammar.Utf8.{Utf8, Start, Within, WellFormed, utf8_step}
 use Rattle.sf_value.specs.Grammar.DisplayStrings.{hex, is_unencoded, EncodedBytes}
 use Rattle.sf_value.specs.Digits.{unhex}
 use Rattle.sf_value.proofs.Utf8Table.{in_range}
@@ -81,7 +81,7 @@ inside_plain text rest stop Start i (prefix, e, h) = record {
       subst (WellFormed Start) (sym (append_assoc i.bytes prefix s))
       (i.formed (prefix ++ s) (plain_formed prefix s h w));
 }
-inside_plain text rest stop (Wants n low high) i e = subst (λ z. InsideShown text z (Wants n low high)) e i
+inside_plain text rest stop (Within n low high) i e = subst (λ z. InsideShown text z (Within n low high)) e i
 
 pub inside_escape : (text stop left : List ℕ) (x y : Utf8) (c : ℕ) → InsideShown text stop x
     → IsEscape stop c left → utf8_step x c ≡ Some y → InsideShown text left y
@@ -107,7 +107,7 @@ inside_escape text stop left x y c i e h =
       where
         by : (v : Utf8) → utf8_step v c ≡ Some y → WellFormed v (c ∷ s)
         by Start k = (y, k, w)
-        by (Wants n low high) k = (y, k, w)
+        by (Within n low high) k = (y, k, w)
 
 -- the answer of a step
 pub stepped : (r : Option Utf8State) (x : Utf8) (c : ℕ) (s : Utf8State)

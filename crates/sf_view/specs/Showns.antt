@@ -3,7 +3,7 @@ use Rattle.std.specs.Prelude.{◌≡◌, ℕ, ◌/◌, ◌%◌, true, List, ◌�
 use Rattle.sf_value.specs.Ascii.{percent, quote}
 use Rattle.sf_value.specs.Grammar.Words.{Every}
 use Rattle.sf_value.specs.Grammar.Classes.{is_byte}
-use Rattle.sf_value.specs.Grammar.Utf8.{Utf8, Start, Wants, WellFormed}
+use Rattle.sf_value.specs.Grammar.Utf8.{Utf8, Start, Within, WellFormed}
 use Rattle.sf_value.specs.Grammar.DisplayStrings.{hex, is_unencoded, EncodedBytes}
 
 abbrev pub between : Utf8
@@ -17,7 +17,7 @@ pub record IsEscape (text : List ℕ) (c : ℕ) (rest : List ℕ) : Type 0 where
 -- unescaped bytes before the rest, which are allowed only between two characters
 abbrev pub UnencodedBefore : Utf8 → List ℕ → List ℕ → Type 0
 UnencodedBefore Start text rest = (prefix : List ℕ) × (text ≡ prefix ++ rest) × Every is_unencoded prefix
-UnencodedBefore (Wants n low high) text rest = text ≡ rest
+UnencodedBefore (Within n low high) text rest = text ≡ rest
 
 -- the text begins with a Display String, read up to the rest
 pub record InsideShown (text rest : List ℕ) (x : Utf8) : Type 0 where

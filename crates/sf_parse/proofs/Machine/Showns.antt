@@ -6,7 +6,7 @@ use Rattle.std.proofs.Common.{refl, sym, ap, ap₂, ◌∙◌, subst, ◌⊎◌,
 use Rattle.std.proofs.Common.{append_assoc, eqb-true, arith}
 use Rattle.sf_value.specs.Grammar.Words.{allow}
 use Rattle.sf_value.specs.Grammar.Classes.{is_visible, is_byte}
-use Rattle.sf_value.specs.Grammar.Utf8.{Utf8, Start, Wants, wants, within, utf8_step}
+use Rattle.sf_value.specs.Grammar.Utf8.{Utf8, Start, Within, followed_by, within, utf8_step}
 use Rattle.sf_value.specs.Grammar.Utf8.{WellFormed}
 use Rattle.sf_value.specs.Grammar.DisplayStrings.{hex, is_unencoded, EncodedBytes}
 use Rattle.sf_parse.specs.Machine.Language.{Reads, Live}
@@ -21,7 +21,7 @@ use Rattle.sf_parse.proofs.Quads.{byte_small, small_byte}
 use Rattle.sf_value.proofs.DigitValues.{hex_read, read_hex}
 use Rattle.sf_parse.proofs.HighDigits.{high_small, low_small, joined, found}
 use Rattle.sf_value.proofs.Utf8Table.{in_range}
-use Rattle.sf_parse.proofs.HighDigits.{wants_good, utf8_good, utf8_begins}
+use Rattle.sf_parse.proofs.HighDigits.{followed_good, utf8_good, utf8_begins}
 
 -- steps in unencoded text
 abbrev UnencodedStep : List ℕ → Utf8 → ℕ → ShownState → Type 0
@@ -59,17 +59,17 @@ unencoded_goes bytes x b e = let k = unencoded_tests b e in rw (k.0, k.1, k.2) r
 
 well_formed_end : (x : Utf8) → WellFormed x [] → x ≡ Start
 well_formed_end Start w = refl
-well_formed_end (Wants n low high) w = absurd w
+well_formed_end (Within n low high) w = absurd w
 
 well_formed_next : (x : Utf8) (b : ℕ) (s : List ℕ) → WellFormed x (b ∷ s)
     → (y : Utf8) × (utf8_step x b ≡ Some y) × WellFormed y s
 well_formed_next Start b s w = w
-well_formed_next (Wants n low high) b s w = w
+well_formed_next (Within n low high) b s w = w
 
 well_formed_more : (x y : Utf8) (b : ℕ) (s : List ℕ) → utf8_step x b ≡ Some y → WellFormed y s
     → WellFormed x (b ∷ s)
 well_formed_more Start y b s e w = (y, e, w)
-well_formed_more (Wants n low high) y b s e w = (y, e, w)
+well_formed_more (Within n low high) y b s e w = (y, e, w)
 
 unencoded_taken : (bytes : List ℕ) (x : Utf8) (b : ℕ) (u v : List ℕ)
     → ResidualUnencoded bytes x (b ∷ u) v
@@ -124,7 +124,7 @@ unencoded_gives bytes x b u v t n r = ⊎_elim
           r'.1
               ∙ sym (append-nil bytes),
         )
-    quoted (Wants k low high) e m = absurd cc
+    quoted (Within k low high) e m = absurd cc
 
     escaped : b ≡ 37 → ResidualShown (Percent bytes x) u v → ResidualUnencoded bytes x (b ∷ u) v
     escaped e (c, suffix, e1, (s, k, p, w, i)) = (
@@ -262,7 +262,7 @@ shown_reads (Unencoded bytes x) g = record {
   where
     quoted : (x : Utf8) (t : ShownState) → quote_step bytes x ≡ Some t → GoodShown t
     quoted Start t m = let c : t ≡ Done bytes = cc in subst GoodShown (sym c) tt
-    quoted (Wants k low high) t m = absurd cc
+    quoted (Within k low high) t m = absurd cc
 
     unencoded_good : (b : ℕ) (t : ShownState) → shown_step (Unencoded bytes x) b ≡ Some t
         → GoodShown t
@@ -310,7 +310,7 @@ low_byte low high g k l = (
   small_byte low (omega arith),
 )
 
-char_ends : (n low high : ℕ) → GoodUtf8 (Wants n low high) → Ending (Wants n low high)
+char_ends : (n low high : ℕ) → GoodUtf8 (Within n low high) → Ending (Within n low high)
 char_ends zero low high g = let k = low_byte low high g.0 g.1 g.2 in record {
   bytes = low ∷ [];
   text = 37 ∷ hex (low / 16) ∷ hex (low % 16) ∷ 34 ∷ [];
@@ -322,12 +322,12 @@ char_ends (suc n) low high g = let k = low_byte low high g.0 g.1 g.2 in
       bytes = low ∷ e.bytes;
       text = 37 ∷ hex (low / 16) ∷ hex (low % 16) ∷ e.text;
       chunks = (e.text, inr (k.1, refl), e.chunks);
-      whole = (Wants n 128 191, rw k.0 refl, e.whole);
+      whole = (Within n 128 191, rw k.0 refl, e.whole);
     }
 
 ending : (x : Utf8) → GoodUtf8 x → Ending x
 ending Start g = record { bytes = []; text = 34 ∷ []; chunks = refl; whole = tt }
-ending (Wants n low high) g = char_ends n low high g
+ending (Within n low high) g = char_ends n low high g
 
 pub shown_lives : (s : ShownState) → GoodShown s → Live (List ℕ) (ResidualShown s)
 shown_lives Quote g = record {
@@ -351,9 +351,9 @@ shown_lives (Percent bytes Start) g = record {
     ([], refl, refl, (Start, refl, tt), refl),
   );
 }
-shown_lives (Percent bytes (Wants n low high)) g =
+shown_lives (Percent bytes (Within n low high)) g =
     let k = low_byte low high g.0 g.1 g.2 in
-    let e = ending (wants n) (wants_good n) in
+    let e = ending (followed_by n) (followed_good n) in
     record {
       text = hex (low / 16) ∷ hex (low % 16) ∷ e.text;
       value = bytes ++ low ∷ e.bytes;
@@ -361,7 +361,7 @@ shown_lives (Percent bytes (Wants n low high)) g =
         low,
         e.text,
         refl,
-        (e.bytes, k.1, e.chunks, (wants n, rw k.0 refl, e.whole), refl),
+        (e.bytes, k.1, e.chunks, (followed_by n, rw k.0 refl, e.whole), refl),
       );
     }
 shown_lives (Hex bytes x h) g =

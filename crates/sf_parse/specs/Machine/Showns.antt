@@ -6,7 +6,7 @@ use Rattle.std.specs.Prelude.{None}
 use Rattle.sf_value.specs.Ascii.{quote, percent}
 use Rattle.sf_value.specs.Grammar.Words.{allow}
 use Rattle.sf_value.specs.Grammar.Classes.{is_visible, is_byte}
-use Rattle.sf_value.specs.Grammar.Utf8.{Utf8, Start, Wants, utf8_step, WellFormed}
+use Rattle.sf_value.specs.Grammar.Utf8.{Utf8, Start, Within, utf8_step, WellFormed}
 use Rattle.sf_value.specs.Digits.{unhex}
 use Rattle.sf_value.specs.Grammar.DisplayStrings.{hex, EncodedBytes}
 
@@ -39,11 +39,11 @@ ResidualShown (Done bytes) u v = (u ≡ []) × (v ≡ bytes)
 -- whether a byte with this high digit may come
 abbrev pub can_begin : Utf8 → ℕ → Bool
 can_begin Start h = nat_lt h 8 || nat_le 12 h
-can_begin (Wants n low high) h = nat_le (low / 16) h && nat_le h (high / 16)
+can_begin (Within n low high) h = nat_le (low / 16) h && nat_le h (high / 16)
 
 abbrev pub GoodUtf8 : Utf8 → Type 0
 GoodUtf8 Start = Unit {0}
-GoodUtf8 (Wants n low high) = (128 ≤ low) × (low ≤ high) × (high ≤ 191)
+GoodUtf8 (Within n low high) = (128 ≤ low) × (low ≤ high) × (high ≤ 191)
 
 abbrev pub GoodShown : ShownState → Type 0
 GoodShown Quote = Unit {0}
@@ -62,7 +62,7 @@ push_byte (Done bytes) b = None
 
 abbrev pub quote_step : List ℕ → Utf8 → Option ShownState
 quote_step bytes Start = Some (Done bytes)
-quote_step bytes (Wants n low high) = None
+quote_step bytes (Within n low high) = None
 
 abbrev pub shown_step : ShownState → ℕ → Option ShownState
 shown_step Quote b = allow (b == quote) (Unencoded [] Start)

@@ -8,12 +8,12 @@ use Rattle.sf_value.specs.Grammar.Words.{allow}
 -- it
 pub data Utf8 : Type 0 where
   Start : Utf8
-  Wants : (more low high : ℕ) → Utf8
+  Within : (more low high : ℕ) → Utf8
 
 -- after a byte that this many bytes follow in its character
-abbrev pub wants : ℕ → Utf8
-wants zero = Start
-wants (suc n) = Wants n 128 191
+abbrev pub followed_by : ℕ → Utf8
+followed_by zero = Start
+followed_by (suc n) = Within n 128 191
 
 -- from low to high
 abbrev pub within : ℕ → ℕ → ℕ → Bool
@@ -23,14 +23,14 @@ within low high b = nat_le low b && nat_le b high
 abbrev pub rows : List (ℕ × ℕ × Utf8)
 rows =
     (0, 127, Start)
-    ∷ (194, 223, Wants 0 128 191)
-    ∷ (224, 224, Wants 1 160 191)
-    ∷ (225, 236, Wants 1 128 191)
-    ∷ (237, 237, Wants 1 128 159)
-    ∷ (238, 239, Wants 1 128 191)
-    ∷ (240, 240, Wants 2 144 191)
-    ∷ (241, 243, Wants 2 128 191)
-    ∷ (244, 244, Wants 2 128 143)
+    ∷ (194, 223, Within 0 128 191)
+    ∷ (224, 224, Within 1 160 191)
+    ∷ (225, 236, Within 1 128 191)
+    ∷ (237, 237, Within 1 128 159)
+    ∷ (238, 239, Within 1 128 191)
+    ∷ (240, 240, Within 2 144 191)
+    ∷ (241, 243, Within 2 128 191)
+    ∷ (244, 244, Within 2 128 143)
     ∷ []
 
 -- the state of the first row that has the byte
@@ -41,10 +41,10 @@ look_up (r ∷ rs) b = option_or (allow (within r.0 r.1 b) r.2) (look_up rs b)
 -- the state after one more byte
 abbrev pub utf8_step : Utf8 → ℕ → Option Utf8
 utf8_step Start b = look_up rows b
-utf8_step (Wants n low high) b = allow (within low high b) (wants n)
+utf8_step (Within n low high) b = allow (within low high b) (followed_by n)
 
 -- the bytes complete the character, and whole characters follow
 abbrev pub WellFormed : Utf8 → List ℕ → Type 0
 WellFormed Start [] = Unit {0}
-WellFormed (Wants n low high) [] = ⊥
+WellFormed (Within n low high) [] = ⊥
 WellFormed x (b ∷ s) = (y : Utf8) × (utf8_step x b ≡ Some y) × WellFormed y s

@@ -14,10 +14,10 @@ returns-in-Unencoded-Start c =
     rw (c.in-Unencoded-Start.is-0, c.in-Unencoded-Start.is-1)
     (λ bytes. marks_steps _ (shown_step (Unencoded bytes Start)) refl)
 
-pub returns-in-Unencoded-Wants : goal.returns-in-Unencoded-Wants
-returns-in-Unencoded-Wants c =
-    let good = rw c.in-Unencoded-Wants.is-1 at c.requires.good in
-    rw (c.in-Unencoded-Wants.is-0, c.in-Unencoded-Wants.is-1)
+pub returns-in-Unencoded-Within : goal.returns-in-Unencoded-Within
+returns-in-Unencoded-Within c =
+    let good = rw c.in-Unencoded-Within.is-1 at c.requires.good in
+    rw (c.in-Unencoded-Within.is-0, c.in-Unencoded-Within.is-1)
     (λ bytes. marks_wants bytes _ _ _ good)
 
 pub returns-in-Percent-Start : goal.returns-in-Percent-Start
@@ -25,10 +25,10 @@ returns-in-Percent-Start c =
     rw (c.in-Percent-Start.is-0, c.in-Percent-Start.is-1)
     (λ bytes. marks_steps _ (shown_step (Percent bytes Start)) refl)
 
-pub returns-in-Percent-Wants : goal.returns-in-Percent-Wants
-returns-in-Percent-Wants c =
-    let digits = rw c.in-Percent-Wants.is-0 at c.expected_digits.ensures in
-    rw c.in-Percent-Wants.is-0 (λ bytes. digits bytes)
+pub returns-in-Percent-Within : goal.returns-in-Percent-Within
+returns-in-Percent-Within c =
+    let digits = rw c.in-Percent-Within.is-0 at c.expected_digits.ensures in
+    rw c.in-Percent-Within.is-0 (λ bytes. digits bytes)
 
 pub returns-in-Hex-default : goal.returns-in-Hex-default
 returns-in-Hex-default c =
