@@ -1,16 +1,21 @@
-/* A fuzz target over the archive, for libFuzzer. The first byte of an input says the kind, the
- * dialect and what pointer stands beside a length of 0; the rest is a text. A text that is accepted
- * is normalised, parsed again and compared; its nodes and those of its canonical text say the same,
- * as they do after they were copied by a builder, and are written as the canonical text; changed at
- * random they are written as a text of the nodes, or refused; its path of caches is that of its
- * canonical text, and so is its priority, also after it was changed; the field that is chosen among parts of the text is the first that
- * has a policy; buffers that are one short are answered with what is required; the lines of the
- * text, joined one by one, are the text again; the text is accepted exactly where parts of it are
- * that are cut at some of its commas, and then it is equal to their canonical texts, joined; a
- * refusal agrees with the front of the text that it names.
+/* A fuzz target for the archive, for libFuzzer. The first byte of an input selects the kind, the
+ * dialect and the pointer that goes with a length of 0; the rest is a text. It checks:
  *
- * The archive is not instrumented: the sanitizers see this file, and of the archive only what it
- * calls, as memcpy. So texts and buffers end where a page begins that can't be read
+ * - An accepted text, normalised and parsed again, has an equal value. Its nodes and those of its
+ *   canonical text describe the same, also after a builder copied them, and are written as the
+ *   canonical text.
+ * - Nodes with a random change are written as a text that has these nodes, or refused.
+ * - A text and its canonical text have the same hops and the same priority, also after the priority
+ *   was changed.
+ * - The field that is chosen among parts of a text is the first that has a policy.
+ * - For a buffer that is one element too small, the required size is returned.
+ * - The parts of a text between its commas, joined one by one, are the text again.
+ * - A text is accepted if and only if its parts are, if it is cut at some of its commas; it is then
+ *   equal to their canonical texts, joined.
+ * - A refusal agrees with the prefix of the text that it names.
+ *
+ * The archive is not instrumented: the sanitizers see this file, and of the archive only the
+ * functions that it calls, such as memcpy. So texts and buffers end at a page that can't be read
  * (tests/buffers.h).
  */
 #define _DEFAULT_SOURCE
@@ -30,8 +35,8 @@
     }                                                                                              \
   } while (0)
 
-/* The archive does not count its branches for the fuzzer. It is told what the answers say instead:
- * an input with an answer of a new shape is kept. */
+/* The archive does not count its branches for the fuzzer. The shapes of results are reported to it
+ * instead: an input with a result of a new shape is kept. */
 __attribute__((section("__libfuzzer_extra_counters"))) static uint8_t shapes[1 << 14];
 
 static void shape(uint64_t a, uint64_t b, uint64_t c) {
@@ -61,8 +66,8 @@ static int is_expected(const sf_refusal *refusal, unsigned byte) {
   return byte < 128 && (word >> (byte % 64) & 1) != 0;
 }
 
-/* What a refusal says of the text: its front is good, the byte behind it is not, and each byte that
- * it names could have stood there. */
+/* What a refusal says of the text: the prefix up to its offset is viable, with the byte after it it
+ * is not, and with each expected byte instead it is. */
 static void refused(uint32_t dialect, uint32_t kind, const uint8_t *text, size_t length,
                     const sf_refusal *refusal) {
   CHECK(refusal->offset <= length);
@@ -203,7 +208,7 @@ static void same_nodes(const value *v, const value *w) {
   }
 }
 
-/* A copy of a value by a builder, in buffers of exactly its size. One element less is too little. */
+/* A copy of a value by a builder, in buffers of exactly its size; it fails in smaller ones. */
 static value copy(const value *v) {
   size_t bytes = 0;
   for (size_t i = 0; i < v->sizes.nodes; ++i)
@@ -379,8 +384,8 @@ static void joining(const uint8_t *text, size_t length) {
   give_buffer(buffer);
 }
 
-/* The text against parts of it. It is cut behind a part that is accepted and not empty, at a
- * comma that its bytes choose, and the spaces behind the comma are left away. */
+/* The text against parts of it. It is cut after a part that is accepted and not empty, at a comma
+ * that its bytes choose, and the spaces after the comma are omitted. */
 static void parts(uint32_t dialect, uint32_t kind, const uint8_t *text, size_t length,
                   int is_some) {
   uint32_t bits = hash(text, length);
@@ -426,7 +431,7 @@ typedef struct caches {
   sf_path path;
 } caches;
 
-/* The path of a List, in buffers of exactly its size; no hops where a member names no cache. */
+/* The path of a List, in buffers of exactly its size; no hops if a member names no cache. */
 static caches tell(const uint8_t *text, size_t length) {
   caches c = {NULL, NULL, {0, 0, 0, 0, 0}};
   sf_refusal refusal;
@@ -552,7 +557,7 @@ static void selecting(const uint8_t *text, size_t length) {
   give_buffer(fields);
 }
 
-/* The field with a priority put into it says that priority, and is as long as it has to be. */
+/* A changed field has the changed priority, and exactly the required length. */
 static void change_priority(const uint8_t *text, size_t length, const sf_priority_flags *before) {
   uint32_t bits = hash(text, length);
   const sf_priority_flags sets = {(uint8_t)(bits % 8), (uint8_t)(bits >> 3 & 1),

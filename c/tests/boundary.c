@@ -1,10 +1,10 @@
-/* Every function of sf.h, called as C calls it: the worked texts in both dialects, buffers of
- * exactly the size that is required, one short and empty, length 0 with NULL and with a pointer one
- * past a block, numbers that are no kind, malloc refused at each call in turn, and a thread for
- * each processor. Texts and buffers end where a page begins that can't be read (buffers.h).
+/* Tests of every function of sf.h, called from C: the worked texts in both dialects; buffers of
+ * exactly the required size, one element too small, and empty; length 0 with NULL and with a
+ * pointer one past a block; numbers that are no kind; malloc failing at each call in turn; and a
+ * thread for each processor. Each text and buffer ends at a page that can't be read (buffers.h).
  *
- * Prints 'N passed, M failed'. It is linked with --wrap=malloc and --wrap=realloc and --wrap=free,
- * and counts blocks that the library takes and gives back. */
+ * Prints 'N passed, M failed'. It is linked with --wrap=malloc, --wrap=realloc and --wrap=free, and
+ * counts the blocks that the library allocates and frees. */
 #define _DEFAULT_SOURCE
 #define _POSIX_C_SOURCE 200809L
 #include "buffers.h"
@@ -102,10 +102,10 @@ static void check(int holds, const char *what, int line, const char *about) {
   pthread_mutex_unlock(&counting);
 }
 
-/* That a fact holds of the text that is looked at. */
+/* That a fact holds of the text that is tested. */
 #define CHECK(fact) check((fact) != 0, #fact, __LINE__, about)
 
-/* A call of the library, watched: what it takes it gives back. */
+/* A call of the library, watched: it frees what it allocates. */
 #define CALL(call)                                                                                 \
   do {                                                                                             \
     blocks = calls = 0;                                                                            \
@@ -177,7 +177,7 @@ static int is_set(const sf_refusal *refusal, const char *set) {
          refusal->may_end == may_end;
 }
 
-/* The structs have the layout of those in the archive; rust/src/raw.rs has the same numbers. */
+/* The structs have the layout of those in the archive; rust/sf-sys/src/lib.rs has their sizes. */
 #define SIZE(type, size) CHECK(sizeof(type) == (size))
 #define AT(type, member, place) CHECK(offsetof(type, member) == (place))
 
@@ -511,7 +511,7 @@ static void refused(uint32_t dialect, uint32_t kind, const char *from, size_t le
 }
 
 /* A text that RFC 9651 accepts, by RFC 8941: it has the same value, or it is refused at the first
- * Date or Display String, which in the worked texts stands where the first @ or % does. */
+ * Date or Display String, which in the worked texts begins at the first @ or %. */
 static void older(uint32_t kind, const char *text, size_t length, const char *canonical,
                   size_t canonical_length) {
   const char *about = text;
@@ -655,7 +655,7 @@ static int is_text(const unsigned char *bytes, size_t size, size_t at, size_t le
 static void refusals_in_words(void) {
   static const struct {
     uint32_t kind;
-    const char *text, *message, *shown; /* what stands after the message in the second call */
+    const char *text, *message, *shown; /* what follows the message in the second call */
   } rows[] = {
       {SF_ITEM, "1 2", "byte 0x32 '2' at place 2, expected a space or the end",
        "\nline 1, place 2:\n1 2\n  ^"},
@@ -2090,15 +2090,15 @@ static void joining(void) {
   CHECK(joined.begun == 1 && joined.required == 6);
 }
 
-/* Malloc refused at its n-th call, alone or from there on, for each n: the answer is the right one
- * or SF_NO_MEMORY, which leaves all that the call might write as it was, and nothing leaks. */
+/* malloc fails at its n-th call, alone or from there on, for each n: the result is the right one or
+ * SF_NO_MEMORY, with all that the call may write unchanged, and nothing leaks. */
 
 static const char large[] = "abc;a=1;b=2; cde_456, "
                             "(ghi;jk=4 \"l\" :YWJjZA:);q=\"9\";r=%\"w%c3%bc\", "
                             "k;a;b;c;d;e;f;g;h;i;j;k;l;m;n;o;p;q;r;s;t;u;v;w;x;y;z, 1, 2, 3, 4, 5";
 static const char directives[] = "max-age=30, s-maxage=90, a;b;c, d=(e f), g=\"h\", u=1, i";
 
-/* A call that takes no memory is answered without. */
+/* A call that does not allocate has the same result without memory. */
 #define WITHOUT_MEMORY(call, right)                                                                \
   do {                                                                                             \
     refused_once = 0;                                                                              \
@@ -2212,7 +2212,7 @@ static void forget(question asked, uint32_t status, answer *a) {
   memset(a->bytes, 0xa5, sizeof a->bytes);
 }
 
-/* Whether two answers are the same, but for what stands between members. */
+/* Whether two outputs are the same, except for padding between members. */
 static int is_same(const answer *a, const answer *b) {
   return memcmp(&a->refusal, &b->refusal, sizeof a->refusal) == 0 && a->required == b->required &&
          a->equal == b->equal && memcmp(&a->sizes, &b->sizes, sizeof a->sizes) == 0 &&
@@ -2224,8 +2224,8 @@ static int is_same(const answer *a, const answer *b) {
          memcmp(a->bytes, b->bytes, sizeof a->bytes) == 0;
 }
 
-/* How many answers a text got that were SF_NO_MEMORY; each of the others is the one that it gets
- * with memory, a refusal too. */
+/* How many results of a text were SF_NO_MEMORY; each of the others is the one with enough memory,
+ * also if that is a refusal. */
 static long scarce(uint32_t dialect, uint32_t kind, const char *text, size_t length) {
   const char *about = text;
   uint32_t status, with_memory;
@@ -2284,7 +2284,7 @@ static char *long_text(const char *begin, const char *pattern, const char *end, 
   return text;
 }
 
-/* Texts that take much memory for their length, accepted and refused; the buffers of `ask` are too
+/* Texts that need much memory for their length, accepted and refused; the buffers of `ask` are too
  * small for most of them, so that they are parsed into a tree. */
 static void memory(void) {
   static const struct {
@@ -2536,7 +2536,7 @@ static void want_of_memory(void) {
           all_are(buffer + required, sizeof buffer - required),
       required == 4711 && all_are(buffer, sizeof buffer));
 
-  /* what takes no memory is answered without */
+  /* what does not allocate has the same result without memory */
   about = "no memory is taken";
   static const char spaces[] = "    -007     ";
   refused_once = 0;
@@ -2609,7 +2609,7 @@ static void past_the_end(size_t text_length, size_t buffer_length) {
   CHECK(!WIFEXITED(status) || WEXITSTATUS(status) != 0);
 }
 
-/* A text of 4 GiB. None of it is looked at. */
+/* A text of 4 GiB. None of it is read. */
 static void too_long(void) {
   const char *about = "4 GiB";
   uint32_t status;

@@ -1,7 +1,7 @@
-/* Buffers that end where a page begins that can be neither read nor written. An access past the end
- * of one ends the program, whoever makes it: no sanitizer sees the loads and stores of the archive,
- * which is not instrumented. The bytes before a buffer are looked at when it is given back. Each
- * thread has buffers of its own.
+/* Buffers that end at a page that can be neither read nor written, so any access past the end of
+ * one ends the program: sanitizers don't see the loads and stores of the archive, which is not
+ * instrumented. The bytes before a buffer are checked when it is freed. Each thread has its own
+ * buffers.
  *
  * A file that includes this defines _DEFAULT_SOURCE first. */
 #ifndef BUFFERS_H
@@ -16,20 +16,20 @@
 
 enum {
   BUFFERS = 32,          /* the most that a thread has at a time */
-  BUFFER_EDGE = 64,      /* how many bytes before a buffer are looked at */
+  BUFFER_EDGE = 64,      /* how many bytes before a buffer are checked */
   BUFFER_BYTE = 0xa5,    /* what a buffer is filled with */
-  BUFFER_OUTSIDE = 0x5a  /* what stands before it */
+  BUFFER_OUTSIDE = 0x5a  /* what the bytes before it are */
 };
 
 typedef struct guarded {
-  unsigned char *pages; /* the last can't be read; NULL where there are none */
+  unsigned char *pages; /* the last can't be read; NULL if there are none */
   size_t size;          /* in bytes, of the others */
-  unsigned char *front; /* NULL where the buffer is free */
+  unsigned char *front; /* NULL if the buffer is free */
 } guarded;
 
 static __thread guarded buffers[BUFFERS];
 
-/* Whether a buffer of no bytes is where such a page begins, one past a block, and not NULL. */
+/* Whether an empty buffer is the start of such a page, one past a block, and not NULL. */
 static __thread int none_is_a_place;
 
 static void stop(const char *why) {
@@ -37,7 +37,7 @@ static void stop(const char *why) {
   abort();
 }
 
-/* So many bytes before a page that can't be read, or more. */
+/* Maps at least so many bytes before a page that can't be read. */
 static void map_buffer(guarded *one, size_t size) {
   size_t page = (size_t)sysconf(_SC_PAGESIZE), pages = size / page + 1;
   if (one->pages != NULL)
@@ -52,7 +52,7 @@ static void map_buffer(guarded *one, size_t size) {
     stop("no page can be protected");
 }
 
-/* A buffer of exactly so many bytes, with a copy of a text, or filled where there is none. */
+/* A buffer of exactly so many bytes, with a copy of a text, or filled if there is none. */
 static void *take_buffer(const void *text, size_t length) {
   if (length == 0 && !none_is_a_place)
     return NULL;

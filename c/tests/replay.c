@@ -1,5 +1,5 @@
-/* The fuzz target without a fuzzer: each file that is named is an input, and so is each front of
- * it, and it with each byte left away or made another. Prints how many there were. */
+/* The fuzz target without a fuzzer: each file named is an input, and so is each prefix of it, and
+ * it with each byte omitted or replaced. Prints the number of inputs. */
 #include <stddef.h>
 #include <stdint.h>
 #include <stdio.h>
