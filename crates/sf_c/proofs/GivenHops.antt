@@ -1,5 +1,5 @@
--- Where a part of a hop is not given, no hop is; where each is, a hop is; and a text that is written
--- is that of the hop.
+-- Where a part of a hop is not given, no hop is; where each is, a hop is; and a text that is
+-- written is that of the hop.
 use Rattle.std.proofs.Common.{◌≡◌, ◌≢◌, ℕ, ℤ, ◌||◌, Bool, true, false, List, [], ◌∷◌}
 use Rattle.std.proofs.Common.{Option, None, Some, Result, Ok, Err, MatchResult}
 use Rattle.std.proofs.Common.{refl, sym, subst}
@@ -56,8 +56,8 @@ conflicting bytes n e h (Forwarded p) g =
     absurd cc
 conflicting bytes n e h (Conflict p) g = h p g.1
 
--- there is no value of Q for a status if there is none of P: none of Q where none of P is, and one of
--- Q for one of P
+-- there is no value of Q for a status if there is none of P: none of Q where none of P is, and one
+-- of Q for one of P
 carries : {X Y : Type 0} (P : X → Type 0) (Q : Y → Type 0) (make : X → Y)
     → ((x : X) → P x → Q (make x)) → (((x : X) → P x → ⊥) → (y : Y) → Q y → ⊥) → (s : Status)
     → GivesNone P s → GivesNone Q s

@@ -1,5 +1,5 @@
 -- The hop that a struct describes, to be written (RFC 9211 section 2). Any number but 0 sets a
--- flag, and a member whose flag is not set is ignored.
+-- flag, and a field of the struct whose flag is not set is ignored.
 use Rattle.std.specs.Prelude.{◌≡◌, ◌≢◌, ℕ, ℤ, ◌==◌, not, Bool}
 use Rattle.std.specs.Prelude.{true, false, List, [], ◌∷◌, Option, Some, None, Result, Ok, Err}
 use Rattle.sf_value.specs.declared.dialect.Dialect.TheVariants.{Rfc9651}

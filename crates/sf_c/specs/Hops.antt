@@ -20,7 +20,7 @@ use Rattle.sf_c.specs.declared.hops.HopNode.{HopNode}
 use Rattle.sf_c.specs.Refusals.{flag_number}
 use Rattle.sf_c.specs.Spans.{IsSpanWithin, span_bytes}
 
--- what a hop says in numbers; a number that is not said is 0
+-- the numbers of a hop; an absent one is 0
 pub record HopSays : Type 0 where
   pub outcome : ℕ
   pub why : ℕ
@@ -37,7 +37,7 @@ pub record HopSays : Type 0 where
   pub name_is_token : ℕ
   pub detail_is_token : ℕ
 
--- what a hop says; bytes that are not said are none
+-- the contents of a hop; absent bytes are empty
 pub record HopContent : Type 0 where
   pub name : List ℕ
   pub why_token : List ℕ
@@ -192,7 +192,8 @@ abbrev pub AreHopsInOrder : ℕ → List HopNode → ℕ → Type 0
 AreHopsInOrder at [] end = at ≡ end
 AreHopsInOrder at (n ∷ ns) end = IsHopInOrder at n × AreHopsInOrder (end_of n.detail) ns end
 
--- the structs point to bytes that are there, one span after another, and no byte is in vain
+-- the structs point to bytes that are there, one span after another, and each byte belongs to a
+-- span
 abbrev pub HopsHoldUp : List ℕ → List HopNode → Type 0
 HopsHoldUp bytes ns =
     AreHopsWithin bytes ns

@@ -45,7 +45,8 @@ pub record RequiresMore (old new : JoinOutput) (line : List ℕ) : Type 0 where
   pub buffer : new.buffer ≡ old.buffer
   pub still : new.joined ≡ record old.joined { required = new.joined.required }
 
--- the line is appended, or the buffer is too small, or shorter than the text that is to be in it
+-- the line is appended; Short: the buffer is too small for the text with this line; BadCall: the
+-- buffer is shorter than the lines so far
 abbrev pub PutsLine : JoinOutput → JoinOutput → List ℕ → Option Status → Type 0
 PutsLine old new line (Some Answered) = PutsOne old new line
 PutsLine old new line (Some Short) = RequiresMore old new line

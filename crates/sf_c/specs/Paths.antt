@@ -43,8 +43,8 @@ abbrev pub IsTooSmall : PathOutput → Path → Type 0
 IsTooSmall r p = (length r.hops < p.hops) ⊎ (length r.bytes < p.bytes)
 
 -- the text spells a List, and the starts of the buffers describe its hops; or a buffer is too
--- small; or a member names no cache, the first such at this place; or the struct says the refusal.
--- Of the buffers only what the path needs has a meaning; all else is left as it was
+-- small; or a member names no cache, the first such at this place; or the struct has the refusal;
+-- or an allocation failed. The buffers' other contents are unspecified; all else is unchanged
 abbrev pub ReportsPath : PathOutput → PathOutput → Seq ℕ → Option Status → Type 0
 ReportsPath old new t (Some Answered) =
     (v : Field) × (hs : Seq Hop)
@@ -91,7 +91,7 @@ NamesCaches old new v (Err status) = ⊥
 abbrev pub IsShort : Seq ℕ → Path → Type 0
 IsShort t p = (10 * p.hops ≤ 8 * length t + 5) × (5 * p.bytes ≤ 8 * length t)
 
--- so are they where the struct says how many there are
+-- the same of the sizes in the struct, if the status says that they are there
 abbrev pub SaysFew : Seq ℕ → Path → Option Status → Type 0
 SaysFew t p (Some Answered) = IsShort t p
 SaysFew t p (Some Short) = IsShort t p

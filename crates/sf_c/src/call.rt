@@ -81,8 +81,8 @@ pub(crate) fn parse(
     }
 }
 
-/// The value that the text spells, or its refusal, without the members before a malformed one if the
-/// text was declined.
+/// The value that the text spells, or its refusal, without the members before a malformed one if
+/// the text was declined.
 fn parse_after(
     alloc: Global,
     state: &RandomState,

@@ -29,8 +29,8 @@ pub struct HopNode {
     pub detail: Span,
     /// `ttl`: the remaining freshness lifetime in seconds (section 2.4); 0 if it is absent.
     pub ttl: i64,
-    /// What it did: 1 for a hit, 2 if it forwarded the request (`fwd` is present), 3 for both, and 0
-    /// for neither.
+    /// What it did: 1 for a hit, 2 if it forwarded the request (`fwd` is present), 3 for both, and
+    /// 0 for neither.
     pub outcome: u16,
     /// `fwd`: why it forwarded the request: 0 if it is absent, then from 1 on `bypass`, `method`,
     /// `uri-miss`, `vary-miss`, `miss`, `request`, `stale`, `partial`, and 9 for another token.

@@ -33,7 +33,7 @@ pub struct Sizes {
 /// fewer than `sizes.nodes` nodes, or else `Short` if `bytes` has fewer than `sizes.bytes` bytes;
 /// `Refused` if no value is spelled, with the refusal in `refusal`; `TooLong` if the text, or the
 /// text and the required bytes together, have 4 GiB or more; `OutOfMemory`; or `BadCall`. Only
-/// `BadCall` leaves the buffers unchanged.
+/// for `BadCall` are the buffers claimed to be unchanged.
 #[unsafe(no_mangle)]
 pub extern "C" fn sf_parse(
     alloc: Global,
