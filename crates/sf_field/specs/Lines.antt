@@ -20,8 +20,8 @@ IsCounted n (Err (Syntax place (Some b) expected may_end)) = place < 2 ^ 64 - 1
 IsCounted n (Err (TooLong limit)) = ⊥
 IsCounted n (Err (ReadFault place)) = ⊥
 
--- the lines are parsed as their joined text; it is TooLong if it has 2^64 bytes or more, of which
--- the first 2^64 - 1 are viable
+-- the lines are parsed as their joined text; the result is TooLong if this text has 2^64 bytes or
+-- more, of which the first 2^64 - 1 are viable
 abbrev pub ParsesLines : Dialect → Kind → List (List ℕ) → Result Field Refusal → Type 0
 ParsesLines d kind lines (Err (TooLong limit)) =
     (limit ≡ 2 ^ 64 - 1) × (limit < length (join lines)) × Viable d kind (take limit (join lines))
