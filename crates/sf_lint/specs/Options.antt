@@ -59,7 +59,7 @@ custom_of word =
     then option_map (field_with (name_of word)) (kind_named (after_first is_colon word))
     else None
 
--- each word is that of its field
+-- the words name these fields
 abbrev pub AreFields : List Text → List CustomField → Type 0
 AreFields words fields = map custom_of words ≡ map Some fields
 

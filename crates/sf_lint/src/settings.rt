@@ -19,8 +19,8 @@ pub struct CustomField {
 /// The fields that are checked in addition to the registered ones, and how much is printed.
 #[derive(Debug, Drop)]
 pub struct Settings {
-    /// Fields that are structured in addition to the registered ones. The first of a name counts,
-    /// also if the name is registered.
+    /// Fields that are structured in addition to the registered ones. The first for a name
+    /// counts, and takes precedence over a registered field.
     pub fields: Vec<CustomField>,
     /// Whether only what is refused is printed.
     pub quiet: bool,
