@@ -20,13 +20,14 @@ NodesAreTheirs =
     (d : Dialect) (source : List ℕ) (nodes : List Node) (v : Field)
     → DescribesField d source nodes v → length nodes ≡ field_nodes v
 
--- the largest number of nodes of the value of a text
+-- the nodes of the value of a text are at most four fifths of the text's length, rounded to the
+-- nearest number
 abbrev pub NodesAreFew : Type 0
 NodesAreFew =
     (d : Dialect) (kind : Kind) (t : List ℕ) (v : Field)
     → SpellsField d kind t v → 10 * field_nodes v ≤ 8 * length t + 5
 
--- the largest number of its bytes
+-- the bytes of the value of a text are at most eight fifths of the text's length
 abbrev pub BytesAreFew : Type 0
 BytesAreFew =
     (d : Dialect) (kind : Kind) (t : List ℕ) (v : Field)

@@ -1,5 +1,5 @@
--- What the parts of a value describe before they become nodes, and the nodes that they become. They
--- are used only by the proofs about the nodes that sf_parse makes from a tree.
+-- What the parts of a value describe before they become nodes, and the nodes that they become, for
+-- the clauses of `flatten` and `Flat`.
 use Rattle.std.specs.Prelude.{◌≡◌, ℕ, ℤ, ◌+◌, ◌^◌, ◌<◌, ◌≤◌, List, [], ◌∷◌, length, map}
 use Rattle.sf_view.specs.declared.node.Node.{Node}
 use Rattle.sf_view.specs.declared.node_types.NodeType.{NodeType}

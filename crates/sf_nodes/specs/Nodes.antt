@@ -1,5 +1,4 @@
--- The parts of a value in the order of the canonical text. They are used only by the proofs about
--- the nodes that sf_parse makes from a tree.
+-- The parts of a value in the order of the canonical text, for the clauses of `flatten` and `Flat`.
 use Rattle.std.specs.Prelude.{ℕ, ◌+◌, pos, List as Seq, [], ◌∷◌, ◌++◌, length}
 use Rattle.sf_value.specs.declared.value.Bare.{Bare}
 use Rattle.sf_value.specs.declared.value.Item.{Item}

@@ -14,9 +14,9 @@ use std::borrow::CowSlice;
 use std::hash::RandomState;
 use std::marker::Model;
 
-/// The nodes of a field, and the bytes that they point into: the text that was read, or bytes of
-/// its own. Unlike a scan, it has a view of every field: a repeated key has one node, at the first
-/// place and with the last value (RFC 9651 sections 3.1.2 and 3.2). Contracts see both.
+/// The nodes of a field, and the bytes that they point into: the text that was read, or a copy of
+/// the field's bytes. Unlike a scan, it has a view of every field: a repeated key has one node, at
+/// the first place and with the last value (RFC 9651 sections 3.1.2 and 3.2). Contracts see both.
 ///
 /// ```
 /// let nodes = FieldNodes::of_text(alloc, &seed, Dialect::Rfc9651, Kind::Dict, b"u=1, i, u=2")?;
@@ -38,9 +38,9 @@ impl<'a> Model for FieldNodes<'a> {
 }
 
 impl<'a> FieldNodes<'a> {
-    /// Returns the nodes of a field, with bytes of their own: those of its keys, and of its
-    /// Strings, Tokens, Byte Sequences and Display Strings, decoded. It fails if an allocation
-    /// fails, or if these bytes, or the nodes of one member, are 2^32 or more.
+    /// Returns the nodes of a field, with their own copy of the bytes: those of its keys, and of
+    /// its Strings, Tokens, Byte Sequences and Display Strings, decoded. It fails if an allocation
+    /// fails, or if these bytes, or the nodes of one member, number 2^32 or more.
     ///
     /// ```
     /// let nodes = FieldNodes::of_field(alloc, &field)?; // of u=1, i
