@@ -56,7 +56,7 @@ stops_at p s q b bits may g t n m e =
     (subst (λ c. IsSyntax p.dialect p.kind (s ++ b ∷ q) c (Some b) bits may) (sym t.count)
     (stops_exact p.dialect p.kind p.state s q b bits may (taken p s g t) n m e))
 
--- a refusal of a state is where it is said to be, and not for want of memory
+-- a refusal of a state is where it is said to be, and is not out of memory
 pub refuses_at : (takes : ℕ → Bool) (ends : Bool) (place max : ℕ) (found : Option ℕ) (e : Refusal)
     → Refuses takes ends place found e → StandsAt e place max
 refuses_at takes ends place max found e r = subst (λ y. StandsAt y place max) (sym r.syntax) refl

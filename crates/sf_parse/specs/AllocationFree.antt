@@ -24,7 +24,7 @@ scalar_byte b =
 abbrev pub short_byte : ℕ → Bool
 short_byte b = not (b == semicolon || b == colon || b == percent)
 
--- at most 16 of those
+-- a text of at most 16 such bytes
 abbrev pub IsShortText : List ℕ → Type 0
 IsShortText text = FitsInPlace text × Every short_byte text
 
@@ -53,19 +53,20 @@ BareFree (InShown s) more = ⊥
 abbrev pub no_semicolon : ℕ → Bool
 no_semicolon b = not (b == semicolon)
 
--- nor do they in this state of an Item: no parameter was begun, and none begins
+-- in this state of an Item these bytes do not allocate: no parameter was begun, and none begins
 abbrev pub ItemFree : ItemState → List ℕ → Type 0
 ItemFree (InBare s) more = BareFree s more × Every no_semicolon more
 ItemFree (InParams x s) more = ⊥
 
--- nor do spaces before the first member
+-- in this state of a List or a Dictionary these bytes do not allocate: they are spaces before the
+-- first member
 abbrev pub SeriesFree : {S V : Type 0} → SeriesState S V → List ℕ → Type 0
 SeriesFree Begin more = Every is_sp more
 SeriesFree (InMember given s) more = ⊥
 SeriesFree (Gap given) more = ⊥
 SeriesFree (Comma given) more = ⊥
 
--- nor do they in this state of a field
+-- in this state of a field these bytes do not allocate
 abbrev pub FieldFree : State → List ℕ → Type 0
 FieldFree BeforeItem more = TakesNoMemory kind.Item more
 FieldFree (InsideItem s) more = ItemFree s more

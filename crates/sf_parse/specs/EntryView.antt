@@ -36,7 +36,7 @@ FitsFlag phase.Equals m = ⊤
 FitsFlag phase.InMemberValue m = ⊤
 FitsFlag phase.InFlag m = IsFlag m
 
--- the key is one, and a flag is Boolean true
+-- the key is well-formed, and a flag is Boolean true
 abbrev pub FitsEntry : EntryPhase → List ℕ → MemberState → Type 0
 FitsEntry p k m = IsKey k × FitsFlag p m
 

@@ -18,7 +18,7 @@ use Rattle.sf_parse.specs.Machine.Fields.{finish, list_finish, dict_finish}
 use Rattle.sf_parse.specs.SeriesView.{series_next, series_end}
 use Rattle.sf_parse.specs.MemberEnds.{with_member, with_entry, some_map}
 
--- a value may be seen before the machine goes on or after
+-- mapping the value at the end first or inside `after` gives the same state
 onward_map : {S T X V : Type 0} (into : S → T) (o : Option S) (f : X → V) (e : Option X)
     (after : V → Option T) → onward into o (option_map f e) after
     ≡ onward into o e (λ x. after (f x))
@@ -26,7 +26,7 @@ onward_map into (Some s) f e after = refl
 onward_map into None f (Some x) after = refl
 onward_map into None f None after = refl
 
--- the same, with a member added at its end
+-- the reader of a series takes the same steps, with the open member added at its end
 series_is : {S X V : Type 0} (k : Series S X V) (added : S → V → Option V)
     → ((s : S) (given : V) → added s given ≡ option_map (k.add given) (k.finish s))
     → (s : SeriesState S V) (b : ℕ)
@@ -39,7 +39,7 @@ series_is k added h (InMember given s) b =
 series_is k added h (Gap given) b = refl
 series_is k added h (Comma given) b = refl
 
--- of an Item
+-- the steps of an Item
 pub item_field_steps : (d : Dialect) (s : State) (b : ℕ) → step d s b ≡ option_map (λ s. s) (step d s b)
 item_field_steps d s b = same (step d s b)
   where
@@ -47,14 +47,14 @@ item_field_steps d s b = same (step d s b)
     same None = refl
     same (Some s) = refl
 
--- of a List
+-- the steps of a List
 pub list_steps : (d : Dialect) (s : SeriesState MemberState (List Member)) (b : ℕ)
     → step d (InList s) b
     ≡ option_map InList (series_next (member_start d) (member_step d) with_member [] s b)
 list_steps d s b = ap (option_map InList)
     (sym (series_is (list_series d) with_member (λ s given. refl) s b))
 
--- of a Dictionary
+-- the steps of a Dictionary
 pub dict_steps : (d : Dialect) (s : SeriesState EntryState (Pairs Member)) (b : ℕ)
     → step d (InDict s) b
     ≡ option_map InDict (series_next entry_start (entry_step d) with_entry [] s b)

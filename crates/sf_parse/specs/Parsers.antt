@@ -26,8 +26,8 @@ pub record Progress : Type 0 where
   -- a field line was fed to it
   pub after_line : Bool
 
--- it took the text s and refused nothing: its count is the length of s, and what completes its
--- state completes s
+-- the parser took the text s and refused nothing: its count is the length of s, and what completes
+-- its state completes s
 pub record HasTaken (p : Progress) (s : List ℕ) : Type 0 where
   pub count : p.count ≡ length s
   pub completes : (u : List ℕ) (v : Field) → Residual p.dialect p.state u v

@@ -10,7 +10,7 @@ pub record Goes {S : Type 0} (next : S → ℕ → Option S) (old : S) (chunk re
   pub split : chunk ≡ taken ++ rest
   pub leads : run next old taken ≡ Some new
 
--- the first byte, if there is one, is as P says
+-- P holds for the first byte, if there is one
 abbrev pub FirstIs : (ℕ → Type 0) → List ℕ → Type 0
 FirstIs P [] = ⊤
 FirstIs P (b ∷ more) = P b

@@ -23,7 +23,7 @@ abbrev pub ReachesMore : Type 0
 ReachesMore = (d : Dialect) (kind : Kind) (s t : State) (p x : List ℕ) → IsReachedBy d kind s p
     → run (step d) s x ≡ Some t → IsReachedBy d kind t (p ++ x)
 
--- the text is viable
+-- a text that reaches a state is viable
 abbrev pub ReachesViable : Type 0
 ReachesViable = (d : Dialect) (kind : Kind) (s : State) (p : List ℕ) → IsReachedBy d kind s p
     → Viable d kind p
@@ -44,7 +44,7 @@ abbrev pub ReachesStops : Type 0
 ReachesStops = (d : Dialect) (kind : Kind) (s : State) (p q : List ℕ) (b : ℕ) → IsReachedBy d kind s p
     → step d s b ≡ None → IsPlace d kind (p ++ b ∷ q) (length p)
 
--- if no byte is left, it is at the end of the text
+-- if no byte is left, the refusal is at the end of the text
 abbrev pub ReachesAll : Type 0
 ReachesAll = (d : Dialect) (kind : Kind) (s : State) (p : List ℕ) → IsReachedBy d kind s p
     → IsPlace d kind p (length p)

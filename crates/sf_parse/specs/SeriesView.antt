@@ -16,7 +16,8 @@ series_of phase.InMember given s = InMember given s
 series_of phase.Gap given s = Gap given
 series_of phase.Comma given s = Comma given
 
--- first is the state that a byte begins, added the value with a member that may end
+-- the state after one more byte. first b: the state in a member that begins with b; added s v: v
+-- with the member of s, if it may end
 abbrev pub series_next : {S V : Type 0} → (ℕ → Option S) → (S → ℕ → Option S)
     → (S → V → Option V) → V → SeriesState S V → ℕ → Option (SeriesState S V)
 series_next first next added none Begin b = option_or (allow (is_sp b) Begin)

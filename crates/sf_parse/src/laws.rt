@@ -63,9 +63,9 @@ pub fn what_may_follow()
     ensures some { SomeNext }
 {}
 
-/// After two prefixes that the same texts complete, the same bytes are refused at the same byte, with
-/// the same bytes expected. After a comma in a List or a Dictionary, it makes no difference which
-/// members came before.
+/// After two prefixes that the same texts complete, the same bytes are refused at the same byte,
+/// with the same bytes expected. After a comma in a List or a Dictionary, it makes no difference
+/// which members came before.
 pub fn refusals_move()
     ensures moved { RefusalsMove }
     ensures viable { CommaViable }

@@ -37,8 +37,8 @@ pub trait Level {
             → IsOk result };
 
     /// Takes a byte with which the part that is open can't continue, or returns false, and is
-    /// unchanged, if the level can't either. Each is inlined: a call for each turn would take a sixth
-    /// more instructions for a List of short members.
+    /// unchanged, if the level can't either. Each is inlined: a call for each turn would take a
+    /// sixth more instructions for a List of short members.
     fn turn(&mut self, context: &Context, byte: u8) -> Result<bool, OutOfMemory>
         // A byte that the part can't take leads to the next state, or it can't and the state is
         // unchanged.
