@@ -37,13 +37,13 @@ use Rattle.sf_rfc.specs.Rfc9651.ParsingBare.{parse_bare}
 use Rattle.sf_rfc.specs.Rfc9651.Parsing.{parse_key, parse_params, parse_item, parse_inner}
 use Rattle.sf_rfc.specs.Rfc9651.Parsing.{parse_member, parse_list, parse_dictionary, parse_field}
 
--- the algorithm f takes the texts of L, before any rest whose first character the test refuses
+-- the algorithm f takes only texts of L, and each of them if the next character fails the test
 pub record Agrees (V : Type 0) (L : List ℕ → V → Type 0) (f : Parse V) (more : ℕ → Bool)
     : Type 0 where
-  -- A text that it takes is spelled.
+  -- The prefix that f takes is a text of L.
   pub sound : (t r : List ℕ) (v : V) → f t ≡ Some (v, r) → (prefix : List ℕ) × (t ≡ prefix ++ r)
       × L prefix v
-  -- A text that is spelled it takes.
+  -- f takes a text of L if the rest does not begin with a character that passes the test.
   pub whole : (t r : List ℕ) (v : V) → L t v → first_is more r ≡ false → f (t ++ r) ≡ Some (v, r)
 
 -- an Integer or a Decimal

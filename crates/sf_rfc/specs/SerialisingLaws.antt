@@ -1,4 +1,4 @@
--- What it is that serialising by the RFC and the canonical texts agree.
+-- What it means that serialising by RFC 9651 and the canonical texts agree.
 use Rattle.std.specs.Prelude.{◌≡◌, Some}
 use Rattle.sf_value.specs.declared.dialect.Dialect.{Dialect}
 use Rattle.sf_value.specs.declared.value.Bare.{Bare}

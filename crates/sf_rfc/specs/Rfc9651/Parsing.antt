@@ -40,7 +40,7 @@ parse_key t = elim (first_is can_start_key t) [ false ↦ None | true ↦ key_lo
 
 -- 4.2.3.2, Parsing Parameters
 
--- 5: param_value is Boolean true; 6: unless "=" is first: 6.1: consume it; 6.2: parse a bare item
+-- 2.5: param_value is Boolean true; 2.6: at "=", 2.6.1: consume it; 2.6.2: parse a bare item
 abbrev pub param_value : Dialect → Parse Bare
 param_value d [] = Some (Boolean true, [])
 param_value d (c ∷ t) = elim (c == 61) [
@@ -107,7 +107,7 @@ parse_inner d (c ∷ t) = elim (c == 40) [
 
 -- 4.2.1.1, Parsing an Item or Inner List
 
--- 1: at "(" an Inner List; 2: else an Item
+-- 1: at "(" an Inner List; 2: otherwise an Item
 abbrev pub parse_member : Dialect → Parse Member
 parse_member d t = elim (first_is (λ c. c == 40) t) [
   | true ↦ and_then (parse_inner d t) (λ (l, u). Some (member.Inner l, u))

@@ -1,4 +1,4 @@
--- UTF-8 by the ABNF of RFC 3629 section 4. A rule is what it leaves of the octets, or None.
+-- UTF-8 by the ABNF of RFC 3629 section 4. A rule returns the octets that it leaves, or None.
 use Rattle.std.specs.Option.{option_or}
 use Rattle.std.specs.Prelude.{ℕ, zero, suc, Bool, true, false, List, [], ◌∷◌, length, Option, Some}
 use Rattle.std.specs.Prelude.{None}

@@ -6,8 +6,8 @@ use Rattle.std.specs.Prelude.{Some, None}
 abbrev pub Parse : Type 0 → Type 0
 Parse V = List ℕ → Option (V × List ℕ)
 
--- go on with a result, or fail as it did: std's `option_and_then`, with the arguments in the order of
--- the RFC's steps
+-- go on with a result, or fail as it did: std's `option_and_then`, with the arguments in the order
+-- of the RFC's steps
 abbrev pub and_then : {A B : Type 0} → Option A → (A → Option B) → Option B
 and_then (Some a) f = f a
 and_then None f = None
