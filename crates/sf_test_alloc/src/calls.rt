@@ -10,18 +10,19 @@ use std::alloc::Global;
 /// What one call showed.
 #[derive(Clone, Copy, PartialEq, Eq, Debug)]
 pub enum Seen {
-    /// It answered as it does with ample memory.
+    /// It returned what it does with ample memory.
     Right,
-    /// It answered that memory ran out, by its name for that, and left behind what it must.
+    /// It returned out of memory, as its error type names it, and left what it borrowed as
+    /// documented.
     Refused,
     /// Neither.
     Wrong,
 }
 
 /// Calls once with ample memory and then with ever larger budgets, from none on and each 16 bytes
-/// larger than the one before, and answers how many were refused before one was right. None where
-/// the first call or the one after the refusals was not right, where 65,520 bytes were not enough,
-/// or where memory could not be made scarce. What it took is given back when it returns.
+/// larger than the one before, and returns how many were refused before one was right. Returns
+/// `None` if the first call or the one after the refusals was not right, if 65,520 bytes were not
+/// enough, or if memory could not be made scarce. What it took is freed when it returns.
 pub fn refusals<F: FnMut() -> Seen>(alloc: Global, mut call: F) -> Option<usize>
     // The call can be made again, whatever it did before.
     requires { F.IsAlwaysCallable call }
@@ -48,9 +49,9 @@ pub fn refusals<F: FnMut() -> Seen>(alloc: Global, mut call: F) -> Option<usize>
     None
 }
 
-/// Calls once with ample memory and once with none left, and answers what the second call showed.
-/// None where the first was not right, or where memory could not be made scarce. What it took is
-/// given back when it returns.
+/// Calls once with ample memory and once with none left, and returns what the second call showed.
+/// Returns `None` if the first was not right, or if memory could not be made scarce. What it took
+/// is freed when it returns.
 pub fn seen_without_memory<F: FnMut() -> Seen>(alloc: Global, mut call: F) -> Option<Seen>
     // The call can be made again, whatever it did before.
     requires { F.IsAlwaysCallable call }

@@ -39,8 +39,8 @@ impl Model for Scarcity {
 }
 
 impl Scarcity {
-    /// Makes the spares and room for the blocks, some 280 MB of addresses of which nearly nothing
-    /// is touched, and takes nothing yet. It is refused where there is no memory for them.
+    /// Reserves the spares and space for the blocks, some 280 MB of addresses of which almost none
+    /// is touched; it takes no block yet. It fails if memory does not suffice.
     pub fn new(alloc: Global) -> Result<Scarcity, AllocError>
         ensures { IfOk result (λ s. s ≡ 0) }
     {
@@ -81,7 +81,7 @@ impl Scarcity {
         }
     }
 
-    /// Gives a spare back, but for a budget of it.
+    /// Frees a spare, and takes it again but for a budget.
     fn leave_of_spare(&mut self, alloc: Global, budget: usize) -> bool
         ensures kept { self.old ≤ self.new }
         // If it returns true, it holds more blocks than before.
@@ -101,7 +101,7 @@ impl Scarcity {
     }
 
     /// Takes all memory but one block of about `budget` bytes, at most 65,536. It can do so 4,096
-    /// times. Answers whether it did: false says that memory may not be scarce.
+    /// times. Returns whether it did: `false` says that memory may not be scarce.
     pub fn leave(&mut self, alloc: Global, budget: usize) -> bool
         ensures kept { self.old ≤ self.new }
         // If it returns true, it holds more blocks than before.
@@ -112,7 +112,7 @@ impl Scarcity {
             && Vec::<u8>::with_capacity(alloc, budget.saturating_add(4 * STEP)).is_err()
     }
 
-    /// Gives all of it back, the spares too.
+    /// Frees all of it, the spares too.
     pub fn end(&mut self)
         ensures { self.new ≡ 0 }
     {
