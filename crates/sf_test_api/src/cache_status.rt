@@ -263,8 +263,8 @@ fn is_named(name: NameView, token: &[u8]) -> bool {
     }
 }
 
-/// The hops of a text, as the digits of a number: 1 for a hit, 2 if the request was forwarded, 3 for
-/// both, otherwise 9; None if the text is declined.
+/// The hops of a text, as the digits of a number: 1 for a hit, 2 if the request was forwarded, 3
+/// for both, otherwise 9; None if the text is declined.
 fn outcomes(text: &[u8]) -> Option<u32> {
     let mut hops = HopCursor::new(text);
     let mut all = 0u32;
