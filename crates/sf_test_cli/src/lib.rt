@@ -1,6 +1,6 @@
-//! Tests of the command. It has tests alone: `words` for its words, `fields`, `consumers` and
-//! `targeted` for inputs of [`sf_tool::run`] whose answer is known, and `explaining` for what a
-//! terminal shows of a refusal; in how many ways each input is read says the README.
+//! Tests of the command: `words` for its words, `fields`, `consumers` and `targeted` for inputs of
+//! [`sf_tool::run`] whose answer is known, and `explaining` for what a terminal shows of a refusal.
+//! README.md says in which ways each input is read.
 #![tactic(auto)]
 
 #[cfg(test)]
