@@ -1,4 +1,5 @@
-//! Laws: functions that do nothing. Where one is called, the proof of the caller knows what it says.
+//! Laws: functions that do nothing. Where one is called, the proof of the caller knows what it
+//! says.
 use sf_value::Bare;
 use std::test::Fail;
 

@@ -1,5 +1,5 @@
-//! The examples of docs/GUIDE.md, as tests: each is one that it shows, word for word. Beside them
-//! the laws are called.
+//! The examples of docs/GUIDE.md, as tests: each is one that it shows, word for word. The laws are
+//! called too.
 #![tactic(auto)]
 
 #[cfg(test)]
