@@ -184,7 +184,8 @@ fn ignored_members(rt: HostRuntime) -> Result<(), Fail> {
               served none\nother fields: 0\n",
             Status::Accepted,
         ),
-        // Not ignored: a false hit, a status without fwd, each type of detail, an unknown parameter.
+        // Not ignored: a false hit, a status without fwd, each type of detail, an unknown
+        // parameter.
         (
             b"Cache-Status: A; hit=?0; detail=b, \"C\"; fwd-status=304; detail=\"d\"; x=1\n",
             b"ok cache-status: A;hit=?0;detail=b, \"C\";fwd-status=304;detail=\"d\";x=1\n\
