@@ -1,8 +1,9 @@
-//! Want of memory, met on purpose; the README says how.
+//! Tests with failing allocations; README.md says how they are made to fail.
 //!
-//! It has tests alone, a file for each layer below: `values` for the calls of `sf_value`, `building`
-//! for those that build and for what is made of a value, `writing` for `sf_write`, `parsing` and
-//! `words` for `sf_parse`, `lines` for `sf_field`, `consumers` for `sf_use`, `tool` for `sf_tool`.
+//! There is a file for each layer below: `values` for the calls of `sf_value`,
+//! `building` for those that build and for what is made of a value, `writing` for `sf_write`,
+//! `parsing` and `words` for `sf_parse`, `lines` for `sf_field`, `consumers` for `sf_use`, `tool`
+//! for `sf_tool`.
 #![tactic(auto)]
 
 #[cfg(test)]

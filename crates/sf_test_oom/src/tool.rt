@@ -130,7 +130,7 @@ fn other_words(rt: HostRuntime) -> Result<(), Fail> {
     Ok(())
 }
 
-/// A first word that is no command takes no memory.
+/// A first word that is no command needs no allocation.
 #[test]
 fn stray_words(rt: HostRuntime) -> Result<(), Fail> {
     let rows: [&[&str]; 3] = [
