@@ -84,8 +84,8 @@ fn with_part(node: Node, part: Part, number: u32) -> Node {
 
 // The nodes of DICTIONARY_TEXT: 0 is u=-1; 1 and 2 are i;q=1.5; 3 to 8 are the Inner List l, of
 // which 4 is a/b, 5 its x, 6 the String, 7 its y and 8 its z; 9 is b and 10 is s. A row has the
-// index of a node, the part of it that is changed, what it is changed to, and the index of the first
-// node that is then wrong. A number counts in millions, so 1,000,000,000 has 16 digits.
+// index of a node, the part of it that is changed, what it is changed to, and the index of the
+// first node that is then wrong. A number counts in millions, so 1,000,000,000 has 16 digits.
 static WRONG: [(usize, Part, u32, usize); 33] = [
     (0, Part::Number, 1_000_000_000, 0),
     (1, Part::Number, 2, 1),
