@@ -16,8 +16,8 @@ use Rattle.sf_tool.specs.Request.{most_names}
 abbrev pub AsksForNone : Text → List Row → Type 0
 AsksForNone word rows = (request : Request) → ¬ (AsksFor word rows request)
 
--- there are one or more words, as many as a request may have names, and those up to one of them are
--- names: for that one an allocation may fail
+-- there are at most 64 words, and the first n + 1 of them are names: an allocation may fail for the
+-- last of these
 abbrev pub MayAllocate : List Text → Type 0
 MayAllocate words =
     (length words ≤ most_names)

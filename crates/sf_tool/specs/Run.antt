@@ -155,7 +155,7 @@ MayAllocate (Targeted names) input = (n : ℕ) × MayAllocateAt names.items inpu
 MayAllocate Priority input = ⊤
 
 -- this is the result for an input; or an allocation failed, for an answer that may allocate, and
--- nothing was written, without a call; or a write failed
+-- the sink is unchanged: nothing was written, and no write failed; or a write failed
 abbrev pub Reports : Request → List ℕ → SinkState → SinkState → Status → Type 0
 Reports request input old new Accepted = WritesAnswer request input old new Accepted
 Reports request input old new Refused = WritesAnswer request input old new Refused

@@ -113,8 +113,8 @@ pub(crate) fn read_fields(
     targets: &[HeaderName],
     input: &[u8],
 ) -> Result<HeaderMap, InputFault>
-    // The listed fields if no line is refused, otherwise the first line that is; OutOfMemory only for
-    // a listed field before it.
+    // The listed fields if no line is refused, otherwise the first line that is; OutOfMemory only
+    // for a listed field before it.
     ensures { MatchResult result (AreFields targets.now input.now)
         (IsFaultOf targets.now input.now) }
 {
