@@ -107,8 +107,8 @@ impl Urgency {
 
 impl PriorityField {
     /// Reads the text of a Priority field in one pass, and returns what it sets, as
-    /// [`Priority::from_dict`] does for its Dictionary. Does not allocate. `None` claims nothing: the
-    /// text may spell no Dictionary, or have 4 GiB or more.
+    /// [`Priority::from_dict`] does for its Dictionary. Does not allocate. `None` claims nothing:
+    /// the text may spell no Dictionary, or have 4 GiB or more.
     ///
     /// ```
     /// let asked = PriorityField::scan(b"u=5, i")?;

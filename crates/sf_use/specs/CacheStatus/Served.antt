@@ -12,7 +12,8 @@ IsLastHit hops (Some place) =
     IsSomeAnd (slice_get hops place) (λ h. h.outcome ≡ Hit)
     × All (λ h. h.outcome ≢ Hit) (drop (suc place) hops)
 
--- an index one later; if there is none, the first if it is a hit
+-- the index in the list with one more hop in front; if there is none, that of this hop if it is a
+-- hit
 abbrev pub later : Option ℕ → Bool → Option ℕ
 later (Some place) first = Some (suc place)
 later None true = Some 0
