@@ -10,7 +10,7 @@ use Rattle.sf_value.specs.Grammar.Tokens.{IsKey}
 abbrev pub deref_entry : {V : Type 0} → Bor (List ℕ) × Bor V → List ℕ × V
 deref_entry e = (e.0.now, e.1.now)
 
--- each key is one, and none occurs twice
+-- each key is well-formed, and none occurs twice
 pub record AreEntries {V : Type 0} (ps : Pairs V) : Type 0 where
   pub keys : Each IsKey (keys_of ps)
   pub distinct : HasDistinctKeys ps

@@ -19,7 +19,7 @@ use Rattle.sf_value.specs.contracts.entries.Entries.{the_row as entries_row}
 use Rattle.sf_value.specs.contracts.sequence.Sequence.{the_row as sequence_row}
 use Rattle.sf_value.specs.Grammar.Pairs.{Pairs}
 
--- xs in place of as many of the values
+-- xs replace the first values; the length stays
 abbrev pub with_items : {T : Type 0} → List T → List T → List T
 with_items values xs = take (length values) (xs ++ drop (length xs) values)
 

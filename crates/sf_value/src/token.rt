@@ -12,8 +12,9 @@ use crate::word::word_bytes;
 use std::alloc::Global;
 use std::marker::Model;
 
-/// A token (RFC 9651 section 3.3.4): a byte that may start one ([`crate::can_start_token`]), then any
-/// number of bytes that may be in one ([`crate::can_be_in_token`]). Contracts see the list of its bytes.
+/// A token (RFC 9651 section 3.3.4): a byte that may start one ([`crate::can_start_token`]), then
+/// any number of bytes that may be in one ([`crate::can_be_in_token`]). Contracts see the list of
+/// its bytes.
 ///
 /// ```
 /// let token = Token::new(alloc, b"text/html")?;

@@ -92,12 +92,12 @@ abbrev pub canon_member : Member → Seq ℕ
 canon_member (member.Item i) = canon_item i
 canon_member (member.Inner l) = canon_inner l
 
--- after the key of an Item: for Boolean true the parameters alone
+-- an Item after its key: for Boolean true its parameters alone (4.1.2)
 abbrev pub canon_flag : Bare → Pairs Bare → Seq ℕ
 canon_flag (Boolean true) ps = canon_params ps
 canon_flag x ps = equals ∷ (canon_bare x ++ canon_params ps)
 
--- after a key (4.1.2)
+-- a member after its key (4.1.2)
 abbrev pub canon_behind : Member → Seq ℕ
 canon_behind (member.Item i) = canon_flag i.bare i.params
 canon_behind (member.Inner l) = equals ∷ canon_inner l
@@ -106,7 +106,7 @@ canon_behind (member.Inner l) = equals ∷ canon_inner l
 abbrev pub canon_entry : Seq ℕ × Member → Seq ℕ
 canon_entry p = p.0 ++ canon_behind p.1
 
--- a comma and a space before each
+-- each after a comma and a space
 abbrev pub canon_commas : {X : Type 0} → (X → Seq ℕ) → Seq X → Seq ℕ
 canon_commas f [] = []
 canon_commas f (x ∷ xs) = comma ∷ space ∷ (f x ++ canon_commas f xs)

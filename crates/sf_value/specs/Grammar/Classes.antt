@@ -53,6 +53,6 @@ is_in_token b = is_tchar b || b == colon || b == slash
 abbrev pub is_visible : ℕ → Bool
 is_visible b = nat_le space b && nat_le b tilde
 
--- what any byte is: a number below 256
+-- a byte: below 256
 abbrev pub is_byte : ℕ → Bool
 is_byte b = nat_lt b 256

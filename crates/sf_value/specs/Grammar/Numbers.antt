@@ -20,7 +20,7 @@ abbrev pub value_from : ℕ → List ℕ → ℕ
 value_from a [] = a
 value_from a (d ∷ w) = value_from (10 * a + (d - digit_zero)) w
 
--- the digits w, whose number, with the digits before them, is from low to high
+-- w is digits, and there are low to high of them with the `before` earlier ones
 pub record AreDigits (low high : ℕ) (before : ℕ) (w : List ℕ) : Type 0 where
   pub each : Every is_digit w
   pub enough : low ≤ before + length w

@@ -10,7 +10,7 @@ pub data Utf8 : Type 0 where
   Start : Utf8
   Within : (more low high : ℕ) → Utf8
 
--- after a byte that this many bytes follow in its character
+-- the state if n more bytes complete the character
 abbrev pub followed_by : ℕ → Utf8
 followed_by zero = Start
 followed_by (suc n) = Within n 128 191
@@ -33,7 +33,7 @@ rows =
     ∷ (244, 244, Within 2 128 143)
     ∷ []
 
--- the state of the first row that has the byte
+-- the state in the first row whose range has the byte
 abbrev pub look_up : List (ℕ × ℕ × Utf8) → ℕ → Option Utf8
 look_up [] b = None
 look_up (r ∷ rs) b = option_or (allow (within r.0 r.1 b) r.2) (look_up rs b)
