@@ -24,8 +24,7 @@ pub record Accepts (d : Dialect) (kind : Kind) (text : List ℕ) (nodes : List N
   pub only : IsOnly d kind text value
   pub describes : DescribesField d text (take count nodes) value
 
--- members were read, and the rest begins with another: with any member at the start of the rest
--- they are a series
+-- members were read; with the text of any further member after them they are a series
 pub record SoFar (X : Type 0) (P : List ℕ → X → Type 0) (T : List Node → List X → Type 0)
     (text rest : List ℕ) (old new : List Node) (count : ℕ) : Type 0 where
   pub gap : List ℕ

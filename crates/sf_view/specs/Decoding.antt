@@ -18,10 +18,10 @@ HasBytes d s t =
     ⊎ DescribesText d s.coded s.bytes.now (Blob t)
     ⊎ DescribesText d s.coded s.bytes.now (Shown t)
 
--- the rest of the text spells these bytes: as they are, between quotes, percent-encoded, or in
--- base64 at the first, second or third byte of a group. In the last two cases the bits of the byte
--- that were already read are low: with characters for the bytes before, all 0, and for these bits,
--- the rest is whole groups
+-- the rest of the text spells these bytes: as they are, escaped, percent-encoded, or in base64 at
+-- the first, second or third byte of a group. In the last two cases low is the bits of the next
+-- byte that were read so far; with letter 0 for each earlier character and the letter of low before
+-- it, the rest is whole groups
 abbrev pub Remains : Coding → List ℕ → List ℕ → Type 0
 Remains coding.Verbatim rest s = rest ≡ s
 Remains coding.Escaped rest s = rest ≡ escaped s ++ quote ∷ []

@@ -26,7 +26,7 @@ pub record FindsParam (d : Dialect) (source key : List ℕ) (r : Role) (ps : Pai
   pub there : value_at key ps ≡ Some value
   pub describes : DescribesParams d source r ns ((key, value) ∷ [])
 
--- the nodes begin with a part with this key: these are its nodes, and those after them
+-- prefix has the nodes of the first part, which has the key k; later has the nodes after it
 pub record IsHop (source : List ℕ) (nodes : List Node) (k : List ℕ) (prefix later : List Node)
     : Type 0 where
   pub first : Node
@@ -36,7 +36,8 @@ pub record IsHop (source : List ℕ) (nodes : List Node) (k : List ℕ) (prefix 
   pub key : k ≡ slice_at first.key_at first.key_length source
   pub size : length prefix ≡ first.size
 
--- the nodes do not begin with a part that is in the source
+-- there is no node, or the key of the first is not in the source, or its size is 0 or more than the
+-- number of nodes
 abbrev pub NoHop : List ℕ → List Node → Type 0
 NoHop source [] = Unit {0}
 NoHop source (n ∷ ns) =

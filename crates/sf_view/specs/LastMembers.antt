@@ -24,8 +24,8 @@ PassesMember d kind.Item text rest = ⊥
 PassesMember d kind.List text rest = Passes (SpellsMember d) text rest
 PassesMember d kind.Dict text rest = Passes (SpellsEntry d) text rest
 
--- the tail begins with a member and a comma, which the same texts complete with and without what is
--- before the tail
+-- the tail begins with a member and a comma, or other viable bytes; the same texts complete them
+-- with and without what precedes the tail
 pub record Resumes (d : Dialect) (kind : Kind) (text tail : List ℕ) : Type 0 where
   pub before : List ℕ
   pub member : List ℕ

@@ -3,7 +3,7 @@ use Rattle.std.specs.Prelude.{ℕ, if◌then◌else◌, List, [], ◌∷◌, Opt
 use Rattle.std.specs.Str.{bytes_eq}
 use Rattle.sf_value.specs.Grammar.Pairs.{Pairs}
 
--- what is known of a key after a pair: changed if the pair has the key
+-- what is known of the key k after a pair: f of its value if it has this key, otherwise y
 abbrev pub overwritten : {V Y : Type 0} → (Option V → Y) → List ℕ → Y → List ℕ × V → Y
 overwritten f k y p = if bytes_eq k p.0 then f (Some p.1) else y
 

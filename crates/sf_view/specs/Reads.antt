@@ -23,7 +23,7 @@ pub record Reads {X : Type 0} (P : List ℕ → X → Type 0) (text rest : List 
   pub split : text ≡ prefix ++ rest
   pub spelled : P prefix value
 
--- it spells a bare item, which is borrowed
+-- the start of the text spells a bare item, which is borrowed
 pub record ReadsBare (d : Dialect) (text : List ℕ) (b : BareView) (rest : List ℕ) : Type 0 where
   pub prefix : List ℕ
   pub value : Bare
@@ -31,7 +31,7 @@ pub record ReadsBare (d : Dialect) (text : List ℕ) (b : BareView) (rest : List
   pub spelled : SpellsBare d prefix value
   pub borrowed : IsBorrowed d b value
 
--- it spells a parameter with this key, and its value is borrowed
+-- the start of the text spells a parameter with this key, and its value is borrowed
 pub record ReadsParam (d : Dialect) (text key : List ℕ) (b : BareView) (rest : List ℕ)
     : Type 0 where
   pub prefix : List ℕ
@@ -40,8 +40,8 @@ pub record ReadsParam (d : Dialect) (text key : List ℕ) (b : BareView) (rest :
   pub spelled : SpellsParam d prefix key value
   pub borrowed : IsBorrowed d b value
 
--- it spells the Items of an Inner List, after at least this many spaces, and a closing bracket
--- follows
+-- the start of the text spells the Items of an Inner List, after at least this many spaces, and a
+-- closing bracket follows
 pub record ReadsItems (d : Dialect) (least : ℕ) (text rest : List ℕ) : Type 0 where
   pub prefix : List ℕ
   pub items : List Item
@@ -54,7 +54,7 @@ ShowsMember d (Some b) (member.Item i) = IsBorrowed d b i.bare
 ShowsMember d None (member.Inner l) = Unit {0}
 ShowsMember d b m = ⊥
 
--- it spells a member, of which this is borrowed
+-- the start of the text spells a member; if it is an Item, its bare item is borrowed
 pub record ReadsMember (d : Dialect) (text : List ℕ) (b : Option BareView) (rest : List ℕ)
     : Type 0 where
   pub prefix : List ℕ
@@ -63,7 +63,8 @@ pub record ReadsMember (d : Dialect) (text : List ℕ) (b : Option BareView) (re
   pub spelled : SpellsMember d prefix value
   pub shows : ShowsMember d b value
 
--- it spells a member of a Dictionary with this key, of which this is borrowed
+-- the start of the text spells a member of a Dictionary with this key; if it is an Item, its bare
+-- item is borrowed
 pub record ReadsEntry (d : Dialect) (text key : List ℕ) (b : Option BareView) (rest : List ℕ)
     : Type 0 where
   pub prefix : List ℕ

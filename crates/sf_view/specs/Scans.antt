@@ -98,10 +98,11 @@ pub record ScansDate (text : List ℕ) (p : Part) (rest : List ℕ) : Type 0 whe
   pub spelled : SpellsDate prefix value
   pub describes : NumberDescribes p (Date value)
 
--- the most = signs after the last group, and = signs and a colon before the rest
+-- the most = signs that may follow a last group of this many characters, where 0 is a whole group
 abbrev pub pads_at : ℕ → ℕ
 pads_at over = if over == 2 then 2 else (if over == 3 then 1 else 0)
 
+-- after a last group of this many characters, = signs and a colon are before the rest
 pub record Closes (over : ℕ) (text rest : List ℕ) : Type 0 where
   pub count : ℕ
   pub split : text ≡ replicate count equals ++ colon ∷ rest
@@ -269,7 +270,7 @@ pub record ScansItems (d : Dialect) (source text rest : List ℕ) (old new : Lis
   pub puts : Puts old new at count nodes
   pub describes : IsEnd source text → DescribesItems d source nodes values
 
--- Items were read, and spaces if any follow: with Items after them they are Items
+-- Items were read; with the text of further Items after them they spell all of these
 pub record ItemsSoFar (d : Dialect) (source text rest : List ℕ) (old new : List Node)
     (at count : ℕ) : Type 0 where
   pub prefix : List ℕ
@@ -293,8 +294,8 @@ pub record ScansMember (d : Dialect) (source text rest : List ℕ) (place : KeyP
   pub describes : IsEnd source text → place.at + place.length ≤ length source
       → DescribesMember d source (slice_at place.at place.length source) nodes value
 
--- the start of the text spells a member of a Dictionary whose key has this mark, and nodes that were
--- put describe it
+-- the start of the text spells a member of a Dictionary whose key has this mark, and nodes that
+-- were put describe it
 pub record ScansEntry (d : Dialect) (source text rest : List ℕ) (m : ℕ) (old new : List Node)
     (at count : ℕ) : Type 0 where
   pub prefix : List ℕ

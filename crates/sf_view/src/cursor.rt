@@ -110,8 +110,8 @@ impl EntryView<'_> {
 }
 
 /// Returns whether the text spells a field of the kind (RFC 9651 section 4.2). `false` claims
-/// nothing: the text may still spell one if it has 4 GiB or more. It does not allocate, and repeated
-/// keys are accepted.
+/// nothing: the text may still spell one if it has 4 GiB or more. It does not allocate, and
+/// repeated keys are accepted.
 ///
 /// ```
 /// accepts(Dialect::Rfc9651, Kind::Dict, b"u=1, i") // true

@@ -14,7 +14,8 @@ use std::hash::RandomState;
 const SHORT: usize = 128;
 
 /// Parses a text that a scanner declined, with the result of [`parse_text_in`]. If a List or a
-/// Dictionary is refused, only the member that is refused and the one before it are built.
+/// Dictionary of more than 128 bytes is refused, only the member that is refused and the one before
+/// it are built.
 ///
 /// ```
 /// parse_declined(alloc, &seed, Dialect::Rfc9651, Kind::List, b"a, b, c, 1x")

@@ -239,8 +239,8 @@ fn by_largest_table(source: &[u8], nodes: &[Node]) -> bool
     all_enter(&mut table, source, nodes)
 }
 
-/// The same by a table. It is not inlined, nor are the others: a function reserves stack for all its
-/// tables on entry.
+/// The same by a table. It is not inlined, nor are the others: a function reserves stack for all
+/// its tables on entry.
 #[inline(never)]
 fn by_table(source: &[u8], nodes: &[Node]) -> bool
     ensures { IsTrue result → AreApart source.now nodes.now }

@@ -48,9 +48,9 @@ pub fn view_text(alloc: Global, view: &View, kind: Kind) -> Result<Vec<u8>, OutO
 }
 
 /// Returns the canonical text (RFC 9651 section 4.1) of the field that a text spells in a dialect,
-/// or the refusal that [`sf_parse::parse_text_in`] returns. The canonical text is written from nodes that
-/// point into the text; only if it has no view, for example because a key is repeated, the field is
-/// built. It allocates the canonical text, and nodes if there are more than 32.
+/// or the refusal that [`sf_parse::parse_text_in`] returns. The canonical text is written from
+/// nodes that point into the text; only if it has no view, for example because a key is repeated,
+/// the field is built. It allocates the canonical text, and nodes if there are more than 32.
 ///
 /// ```
 /// normalise(alloc, &seed, Dialect::Rfc9651, Kind::Dict, b"u=1,  i=?1") // Ok: u=1, i
