@@ -62,9 +62,8 @@ pub record FailsOnce (old new : SourceState) : Type 0 where
   pub ends : new.ends ≡ old.ends
   pub failures : new.failures ≡ capped (old.failures + 1)
 
--- pull returned r and left block: this many bytes are at the start of a block that is not empty,
--- and if there are none, the source is at its end; for an empty block nothing is given, and the
--- call can't fail
+-- pull left block: it gave the n bytes at its start, or it failed; n is 0 only at the end of the
+-- source or for an empty block, for which nothing is given and the call can't fail
 abbrev pub Pulls : {E : Type 0} → SourceState → SourceState → Result ℕ E → List ℕ → Type 0
 Pulls old new (Ok n) block =
     (n ≤ length block)
@@ -83,7 +82,8 @@ pub record RefusesOnce (old new : SinkState) : Type 0 where
   pub kept : Keeps old.taken new.taken
   pub failures : new.failures ≡ capped (old.failures + 1)
 
--- send got bytes and returned r; without bytes it can't fail
+-- send got bytes, and took the first n, at least one if there are any, or failed; without bytes it
+-- can't fail
 abbrev pub Sends : {E : Type 0} → SinkState → SinkState → Result ℕ E → List ℕ → Type 0
 Sends old new (Ok n) bytes =
     (n ≤ length bytes) × (0 < length bytes → 0 < n) × TakesOnce old new (take n bytes)

@@ -22,7 +22,7 @@ BareInPlace (Boolean b) = Unit {0}
 BareInPlace (Date n) = Unit {0}
 BareInPlace (Shown s) = FitsInPlace s
 
--- such a bare item without parameters
+-- an Item whose bare item is stored in place, without parameters
 abbrev pub ItemInPlace : Item → Type 0
 ItemInPlace i = BareInPlace i.bare × (i.params ≡ [])
 
@@ -34,7 +34,7 @@ abbrev pub MemberInPlace : Member → Type 0
 MemberInPlace (member.Item i) = ItemInPlace i
 MemberInPlace (member.Inner l) = InnerInPlace l
 
--- such an Item, or a List or a Dictionary without members
+-- an Item that is stored in place, or a List or a Dictionary without members
 abbrev pub FieldInPlace : Field → Type 0
 FieldInPlace (field.Item i) = ItemInPlace i
 FieldInPlace (field.List l) = l.members ≡ []

@@ -44,12 +44,13 @@ abbrev pub LendsStored : (V : RattleType) → MutBor (Store V.Denot) → ℕ →
     → Fml
 LendsStored V s i r = LendsIf (store_row V) V s r (with_stored s.now i) s.now
 
--- the same for the key k
+-- once the borrow r ends, the value of the key k is the final value of r; at `None` nothing changes
 abbrev pub LendsValue : (V : RattleType) → MutBor (Pairs V.Denot) → List ℕ
     → Option (MutBor V.Denot) → Fml
 LendsValue V e k r = LendsIf (entries_row V) V e r (set_value (bytes_eq k) e.now) e.now
 
--- the same for the index i
+-- once the borrow r ends, the value at the index i is the final value of r; at `None` nothing
+-- changes
 abbrev pub LendsValueAt : (V : RattleType) → MutBor (Pairs V.Denot) → ℕ → Option (MutBor V.Denot)
     → Fml
 LendsValueAt V e i r = LendsIf (entries_row V) V e r (set_value_at e.now i) e.now
@@ -67,7 +68,7 @@ module _ {V : Type 0} where
   abbrev pub values_left : IterMut V → ℕ
   values_left values = length values.entries.now - values.index
 
-  -- that value is w, and the one after it comes next
+  -- after w became the value that comes next: the one after it comes next
   abbrev pub with_lent : IterMut V → V → IterMut V
   with_lent values w = record {
     entries = record values.entries { now = set_value_at values.entries.now values.index w };

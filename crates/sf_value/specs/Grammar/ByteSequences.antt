@@ -9,7 +9,7 @@ use Rattle.sf_value.specs.Grammar.Classes.{is_alpha, is_byte, is_digit, is_one_o
 abbrev pub alphabet : List ℕ
 alphabet = codes "ABCDEFGHIJKLMNOPQRSTUVWXYZabcdefghijklmnopqrstuvwxyz0123456789+/"
 
--- one of the characters
+-- one of the 64 characters
 abbrev pub is_base64 : ℕ → Bool
 is_base64 b = is_alpha b || is_digit b || is_one_of (codes "+/") b
 
@@ -18,7 +18,7 @@ unfoldable pub letter : ℕ → ℕ
 letter x = slice_index alphabet x
 
 -- base64 without padding: three bytes are four characters of six bits, the highest bits first; low
--- are the bits of a last character that belong to no byte
+-- is the bits of a last character that belong to no byte
 abbrev pub unpadded : ℕ → List ℕ → List ℕ
 unpadded low [] = []
 unpadded low (a ∷ []) = letter (a / 4) ∷ letter (a % 4 * 16 + low) ∷ []

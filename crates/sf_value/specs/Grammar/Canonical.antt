@@ -59,7 +59,7 @@ canon_bare (Boolean b) = question_mark ∷ (if b then digit_one else digit_zero)
 canon_bare (Date n) = at_sign ∷ signed_decimal n
 canon_bare (Shown s) = percent ∷ quote ∷ canon_shown s
 
--- a parameter's value: nothing for Boolean true
+-- a parameter's value: nothing for Boolean true (4.1.1.2)
 abbrev pub canon_value : Bare → Seq ℕ
 canon_value (Boolean true) = []
 canon_value x = equals ∷ canon_bare x
@@ -106,12 +106,12 @@ canon_behind (member.Inner l) = equals ∷ canon_inner l
 abbrev pub canon_entry : Seq ℕ × Member → Seq ℕ
 canon_entry p = p.0 ++ canon_behind p.1
 
--- each after a comma and a space
+-- members, each after a comma and a space
 abbrev pub canon_commas : {X : Type 0} → (X → Seq ℕ) → Seq X → Seq ℕ
 canon_commas f [] = []
 canon_commas f (x ∷ xs) = comma ∷ space ∷ (f x ++ canon_commas f xs)
 
--- a comma and a space between two
+-- members with a comma and a space between two (4.1.1, 4.1.2)
 abbrev pub canon_series : {X : Type 0} → (X → Seq ℕ) → Seq X → Seq ℕ
 canon_series f [] = []
 canon_series f (x ∷ xs) = f x ++ canon_commas f xs

@@ -4,7 +4,7 @@ use Rattle.std.specs.Prelude.{◌≡◌, ℕ, zero, suc, Bool, nat_le, ◌&&◌,
 use Rattle.std.specs.Prelude.{None}
 use Rattle.sf_value.specs.Grammar.Words.{allow}
 
--- between two characters, or within one: the next byte is from low to high, and more bytes follow
+-- between two characters, or within one: the next byte is from low to high, and `more` bytes follow
 -- it
 pub data Utf8 : Type 0 where
   Start : Utf8
