@@ -7,7 +7,7 @@ use Rattle.sf_parse.specs.declared.refusal.Refusal.{Refusal}
 use Rattle.sf_parse.specs.declared.refusal.Refusal.TheVariants.{OutOfMemory, Syntax, TooLong}
 use Rattle.sf_parse.specs.declared.refusal.Refusal.TheVariants.{ReadFault}
 
--- it refused nothing, and in its state these bytes and the end after them do not allocate
+-- the parser refused nothing, and in its state these bytes and the end after them do not allocate
 pub record IsAllocationFree (p : Progress) (more : List ℕ) : Type 0 where
   pub unrefused : p.refusal ≡ None
   pub state : FieldFree p.state more

@@ -35,7 +35,7 @@ FitsAt kind.Date r = Unit {0}
 FitsAt kind.Blob r = FitsBlob r.blob
 FitsAt kind.Shown r = FitsShown r.shown.phase r.bytes r.shown.chars
 
--- a number can't continue with this byte
+-- if a number is open, it can't continue with this byte
 abbrev pub bare_stuck : BareState → ℕ → Type 0
 bare_stuck (InNumber s) b = number_step s b ≡ None
 bare_stuck (InText s) b = ⊤
@@ -45,6 +45,6 @@ bare_stuck (InDate s) b = ⊤
 bare_stuck (InBlob s) b = ⊤
 bare_stuck (InShown s) b = ⊤
 
--- the same for the kind that is open
+-- the bytes are possible for the kind that is open
 abbrev pub FitsBare : Inside → Type 0
 FitsBare r = FitsAt r.kind r

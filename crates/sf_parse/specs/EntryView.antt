@@ -40,7 +40,7 @@ FitsFlag phase.InFlag m = IsFlag m
 abbrev pub FitsEntry : EntryPhase → List ℕ → MemberState → Type 0
 FitsEntry p k m = IsKey k × FitsFlag p m
 
--- the part that is open can't continue with this byte
+-- if a value or the parameters of a flag are open, they can't continue with this byte
 abbrev pub entry_stuck : Dialect → EntryState → ℕ → Type 0
 entry_stuck d (InKey k) b = ⊤
 entry_stuck d (Equals k) b = ⊤

@@ -4,19 +4,19 @@ use Rattle.std.specs.Int.{bit_at}
 use Rattle.sf_parse.specs.Machine.Showns.{ShownState, Quote, Unencoded, Percent, Hex, Done}
 use Rattle.sf_parse.specs.Machine.Showns.{shown_step}
 
--- the bits of the bytes below a bound that pass the test
+-- bit b is set exactly if the byte b is below the bound and passes the test
 abbrev pub MarksBelow : ℕ → ℕ → (ℕ → Bool) → Type 0
 MarksBelow bound bits test = (b : ℕ) → bit_at bits b ≡ (if nat_lt b bound && test b then 1 else 0)
 
--- the bits of the bytes that pass the test, and that may be in a text
+-- bit b is set exactly if the byte b passes the test and is below 128, as all bytes of texts are
 abbrev pub Marks : ℕ → (ℕ → Bool) → Type 0
 Marks bits test = MarksBelow 128 bits test
 
--- the bits of the bytes that the step takes
+-- bit b is set exactly if the step takes the byte b, and it is below 128
 abbrev pub MarksStep : {S : Type 0} → ℕ → (ℕ → Option S) → Type 0
 MarksStep bits step = Marks bits (λ b. is_some (step b))
 
--- the step with a digit of an escape
+-- the step of a Display String with a digit of an escape
 abbrev pub digit_step : ShownState → ℕ → Option ShownState
 digit_step Quote b = None
 digit_step (Unencoded bytes x) b = None

@@ -7,24 +7,24 @@ use Rattle.sf_parse.specs.Machine.States.{State, BeforeItem, InsideItem, AfterIt
 use Rattle.sf_parse.specs.declared.item_field.ItemFieldPhase.{ItemFieldPhase}
 use Rattle.sf_parse.specs.declared.item_field.ItemFieldPhase.TheVariants as phase
 
--- there is one after a space
+-- the state among the spaces after an Item, or before one if there is none
 abbrev pub after_of : Option Item → State
 after_of (Some i) = AfterItem i
 after_of None = BeforeItem
 
--- before the item, in it, or among the spaces after it
+-- the phase says whether the Item is to come, open, or followed by spaces
 abbrev pub item_field_of : ItemFieldPhase → ItemState → Option Item → State
 item_field_of phase.Before s whole = BeforeItem
 item_field_of phase.Inside s whole = InsideItem s
 item_field_of phase.Behind s whole = after_of whole
 
--- spaces are after a whole item
+-- among the spaces after the Item, the Item is whole
 abbrev pub FitsItemField : ItemFieldPhase → Option Item → Type 0
 FitsItemField phase.Before whole = ⊤
 FitsItemField phase.Inside whole = ⊤
 FitsItemField phase.Behind whole = IsSome whole
 
--- the part that is open can't continue with this byte
+-- if the Item is open, it can't continue with this byte
 abbrev pub item_field_stuck : Dialect → State → ℕ → Type 0
 item_field_stuck d BeforeItem b = ⊤
 item_field_stuck d (InsideItem s) b = item_step d s b ≡ None

@@ -6,17 +6,17 @@ use Rattle.sf_parse.specs.Machine.Bares.{BareState, bare_step, bare_finish}
 use Rattle.sf_parse.specs.Machine.Params.{ParamsState, params_step}
 use Rattle.sf_parse.specs.Machine.Items.{ItemState, InBare, InParams}
 
--- the bare item is taken out of its reader's state
+-- in the parameters of the bare item, or still in the bare item if it may not end
 abbrev pub with_params : Option Bare → BareState → ParamsState → ItemState
 with_params (Some x) s ps = InParams x ps
 with_params None s ps = InBare s
 
--- in parameters, or still in the bare item
+-- the flag says whether parameters are open, or the bare item
 abbrev pub item_of : Bool → BareState → ParamsState → ItemState
 item_of true s ps = with_params (bare_finish s) s ps
 item_of false s ps = InBare s
 
--- parameters are after a whole bare item
+-- if parameters are open, the bare item may end
 abbrev pub FitsItem : Bool → BareState → Type 0
 FitsItem true s = IsSome (bare_finish s)
 FitsItem false s = ⊤

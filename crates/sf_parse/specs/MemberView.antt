@@ -9,7 +9,7 @@ use Rattle.sf_parse.specs.Machine.Members.{MemberState, InOne, InMany}
 use Rattle.sf_parse.specs.declared.member.MemberPhase.{MemberPhase}
 use Rattle.sf_parse.specs.declared.member.MemberPhase.TheVariants as phase
 
--- the parameters that the reader of items reads are those after the bracket
+-- after the closing bracket, the reader of Items reads the parameters of the Inner List
 abbrev pub closing_of : List Item → ItemState → InnerState
 closing_of is (InBare s) = BetweenItems is
 closing_of is (InParams x s) = Closing is s
@@ -26,14 +26,14 @@ abbrev pub IsInParams : ItemState → Type 0
 IsInParams (InBare s) = ⊥
 IsInParams (InParams x s) = ⊤
 
--- after the bracket the reader of items is in parameters
+-- after the closing bracket, the reader of Items is in parameters
 abbrev pub FitsMember : MemberPhase → ItemState → Type 0
 FitsMember phase.One s = ⊤
 FitsMember phase.BetweenItems s = ⊤
 FitsMember phase.InItem s = ⊤
 FitsMember phase.Closing s = IsInParams s
 
--- the part of an Inner List that is open can't continue with this byte
+-- if a part of an Inner List is open, it can't continue with this byte
 abbrev pub inner_stuck : Dialect → InnerState → ℕ → Type 0
 inner_stuck d (BetweenItems is) b = ⊤
 inner_stuck d (InItem is s) b = item_step d s b ≡ None

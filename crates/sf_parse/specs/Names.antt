@@ -68,7 +68,7 @@ NamesAreTheSet =
     (set : ℕ) (may_end : Bool) (b : ℕ) → b < 128
     → (is_in set b ≡ true) ↔ IsNamed b (names_of set may_end)
 
--- those that remain of an iteration
+-- the names that remain of an iteration
 abbrev pub names_left : Names → List Name
 names_left names = fitting names.set names.place (137 - names.place) ++ end_name names.may_end
 

@@ -25,7 +25,7 @@ FitsParams phase.InKey k = IsKey k
 FitsParams phase.Equals k = IsKey k
 FitsParams phase.InValue k = IsKey k
 
--- the value that is open can't continue with this byte
+-- if a value is open, it can't continue with this byte
 abbrev pub params_stuck : ParamsState → ℕ → Type 0
 params_stuck (Between ps) b = ⊤
 params_stuck (Opened ps) b = ⊤

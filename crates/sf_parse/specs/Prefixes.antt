@@ -24,7 +24,8 @@ unless false b = b ∷ []
 abbrev pub Halts : {S : Type 0} → (S → ℕ → Option S) → S → ℕ → Type 0
 Halts next s b = next s b ≡ None
 
--- the same, and the new state can't continue with the first byte of the rest
+-- the bytes before the rest of the chunk lead from the old state to the new one, which can't
+-- continue with the first byte of the rest
 pub record LongestPrefix {S : Type 0} (next : S → ℕ → Option S) (old : S) (chunk rest : List ℕ)
     (new : S)
     : Type 0 where

@@ -18,7 +18,7 @@ abbrev pub GivesAll : SourceState → SourceState → List ℕ → Type 0
 GivesAll old new bytes =
     GivesAndEnds old new bytes ⊎ (Gives old new bytes × (2 ^ 64 - 1 ≤ length bytes))
 
--- an allocation failed while reading or at the end of the text, of a text that allocates
+-- an allocation failed for a text that allocates, while it was read or at its end
 abbrev pub AllocationFailed : Kind → SourceState → SourceState → ℕ → List ℕ → Type 0
 AllocationFailed kind old new max text =
     ¬ (TakesNoMemory kind text)

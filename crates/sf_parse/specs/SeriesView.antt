@@ -35,7 +35,7 @@ series_end added none (InMember given s) = added s given
 series_end added none (Gap given) = Some given
 series_end added none (Comma given) = None
 
--- the member that is open can't continue with this byte
+-- if a member is open, it can't continue with this byte
 abbrev pub series_stuck : {S V : Type 0} → (S → ℕ → Option S) → SeriesState S V → ℕ → Type 0
 series_stuck next Begin b = ⊤
 series_stuck next (InMember given s) b = next s b ≡ None

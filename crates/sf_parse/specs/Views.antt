@@ -20,36 +20,36 @@ use Rattle.sf_value.specs.Utf8States.{utf8_of}
 use Rattle.sf_parse.specs.declared.display_string.ShownPhase.{ShownPhase}
 use Rattle.sf_parse.specs.declared.display_string.ShownPhase.TheVariants as shown_phase
 
--- after the point there is a whole part
+-- the state of a number: in the fraction if there is a whole part, otherwise in the whole part
 abbrev pub number_of : Bool → Option ℕ → ℕ → ℕ → NumberState
 number_of negative None digits value = Whole negative digits value
 number_of negative (Some whole) digits value = Fraction negative whole digits value
 
--- a whole part before this many digits of a fraction
+-- if there is a whole part, it has at most 12 digits, and the fraction this many, at most 3
 abbrev pub FitsWhole : Option ℕ → ℕ → Type 0
 FitsWhole None digits = Unit {0}
 FitsWhole (Some whole) digits = (digits ≤ 3) × (whole < 10 ^ 12)
 
--- this many digits bound the value
+-- there are at most 15 digits, which bound the value, and the whole part fits
 abbrev pub FitsNumber : Option ℕ → ℕ → ℕ → Type 0
 FitsNumber whole digits value = (digits ≤ 15) × (value < 10 ^ digits) × FitsWhole whole digits
 
--- a date that was begun has a sign or a digit
+-- the state of a Date: before its sign, or after a sign or a digit
 abbrev pub date_of : Bool → Bool → ℕ → ℕ → DateState
 date_of false negative digits value = Sign
 date_of true negative digits value = Digits negative digits value
 
--- before the sign there is none, and no digit
+-- before anything was read there is no sign and no digit
 abbrev pub FitsSign : Bool → Bool → ℕ → Type 0
 FitsSign false negative digits = (negative ≡ false) × (digits ≡ 0)
 FitsSign true negative digits = Unit {0}
 
--- this many digits bound the value
+-- there are at most 15 digits, which bound the value, and the sign fits
 abbrev pub FitsDate : Bool → Bool → ℕ → ℕ → Type 0
 FitsDate begun negative digits value =
     (digits ≤ 15) × (value < 10 ^ digits) × FitsSign begun negative digits
 
--- a String
+-- the state of a String
 abbrev pub text_of : TextPhase → List ℕ → TextState
 text_of text_phase.Inside bytes = Inside bytes
 text_of text_phase.Escaped bytes = Escaped bytes
@@ -62,26 +62,26 @@ held_of (held.H1 x) = machine.H1 x
 held_of (held.H2 x y) = machine.H2 x y
 held_of (held.H3 x y z) = machine.H3 x y z
 
--- a Byte Sequence
+-- the state of a Byte Sequence
 abbrev pub blob_of : BlobPhase → List ℕ → BlobState
 blob_of (blob_phase.Group h) bytes = Group bytes (held_of h)
 blob_of (blob_phase.Padded more) bytes = Padded bytes more
 blob_of blob_phase.Ended bytes = Ended bytes
 
--- the values of characters are below 64
+-- the values of the characters of a group are below 64
 abbrev pub FitsHeld : Held → Type 0
 FitsHeld held.H0 = Unit {0}
 FitsHeld (held.H1 x) = x < 64
 FitsHeld (held.H2 x y) = (x < 64) × (y < 64)
 FitsHeld (held.H3 x y z) = (x < 64) × (y < 64) × (z < 64)
 
--- the same for the group that is open
+-- if a group is open, the values of its characters are below 64
 abbrev pub FitsBlob : BlobPhase → Type 0
 FitsBlob (blob_phase.Group h) = FitsHeld h
 FitsBlob (blob_phase.Padded more) = Unit {0}
 FitsBlob blob_phase.Ended = Unit {0}
 
--- a Display String
+-- the state of a Display String
 abbrev pub shown_of : ShownPhase → List ℕ → Utf8State → ShownState
 shown_of shown_phase.Quote bytes chars = Quote
 shown_of shown_phase.Unencoded bytes chars = Unencoded bytes (utf8_of chars)

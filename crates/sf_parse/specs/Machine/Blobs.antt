@@ -58,7 +58,7 @@ GoodBlob (Group bytes (H3 x y z)) = (x < 64) × (y < 64) × (z < 64)
 GoodBlob (Padded bytes n) = Unit {0}
 GoodBlob (Ended bytes) = Unit {0}
 
--- one more value
+-- the group with one more value
 abbrev pub grown : List ℕ → Held → ℕ → BlobState
 grown bytes H0 w = Group bytes (H1 w)
 grown bytes (H1 x) w = Group bytes (H2 x w)

@@ -65,7 +65,7 @@ abbrev pub run : {S : Type 0} → (S → ℕ → Option S) → S → List ℕ �
 run step s [] = Some s
 run step s (b ∷ t) = option_and_then (λ s'. run step s' t) (step s b)
 
--- some continuation completes the text
+-- the language L has a text
 pub record Live (V : Type 0) (L : List ℕ → V → Type 0) : Type 0 where
   pub text : List ℕ
   pub value : V

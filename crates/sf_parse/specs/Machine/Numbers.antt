@@ -10,7 +10,7 @@ use Rattle.sf_value.specs.Grammar.Numbers.{SpellsInteger, SpellsDecimal}
 use Rattle.sf_value.specs.declared.value.Bare.{Bare}
 use Rattle.sf_value.specs.declared.value.Bare.TheVariants.{Integer, Decimal}
 
--- the number of digits of a whole part and their value; after a point, the same of the fraction
+-- the number of digits of a whole part and their value; after a point, those of the fraction
 pub data NumberState : Type 0 where
   Whole : (neg : Bool) (count value : ℕ) → NumberState
   Fraction : (neg : Bool) (whole count value : ℕ) → NumberState
@@ -33,7 +33,7 @@ ResidualNumber (Whole neg count a) u v = ((n : ℤ) × (v ≡ Integer n)
 ResidualNumber (Fraction neg whole count a) u v = (m : ℤ) × (v ≡ Decimal m)
     × ResidualFraction neg whole count a u m
 
--- this many digits, and a value below the power
+-- at most `most` digits, which bound the value
 abbrev pub FitsDigits : ℕ → ℕ → ℕ → Type 0
 FitsDigits most count a = (count ≤ most) × (a < 10 ^ count)
 
@@ -53,7 +53,7 @@ number_finish (Whole neg count a) = allow (nat_le 1 count) (Integer (signed neg 
 number_finish (Fraction neg whole count a) = allow (nat_le 1 count)
     (Decimal (thousandths neg whole count a))
 
--- The text of a number of either type, and its first byte
+-- the text of an Integer or of a Decimal
 abbrev pub SpellsNumber : List ℕ → Bare → Type 0
 SpellsNumber t v = ((n : ℤ) × (v ≡ Integer n) × SpellsInteger t n) ⊎ ((m : ℤ) × (v ≡ Decimal m)
     × SpellsDecimal t m)

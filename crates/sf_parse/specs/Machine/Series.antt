@@ -23,7 +23,7 @@ given_of none (InMember given s) = given
 given_of none (Gap given) = given
 given_of none (Comma given) = given
 
--- What differs between a list and a dictionary: the members, and how a member is added to the
+-- What differs between a List and a Dictionary: the members, and how a member is added to the
 -- value.
 pub record Series (S X V : Type 0) : Type 1 where
   pub Spells : List ℕ → X → Type 0

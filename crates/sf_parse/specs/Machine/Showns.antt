@@ -20,7 +20,7 @@ pub data ShownState : Type 0 where
 abbrev pub ResidualUnencoded : List ℕ → Utf8 → List ℕ → List ℕ → Type 0
 ResidualUnencoded bytes x u v = (s : List ℕ) × EncodedBytes u s × WellFormed x s × (v ≡ bytes ++ s)
 
--- the byte c by the digits that remain of it, and what follows
+-- after the digits of an escape for the byte c: the rest of the Display String
 abbrev pub ResidualEscape : List ℕ → Utf8 → ℕ → List ℕ → List ℕ → Type 0
 ResidualEscape bytes x c suffix v = (s : List ℕ) × (is_byte c ≡ true) × EncodedBytes suffix s
     × WellFormed x (c ∷ s) × (v ≡ bytes ++ c ∷ s)
@@ -36,7 +36,7 @@ ResidualShown (Hex bytes x h) u v = (c : ℕ) × (suffix : List ℕ) × (h ≡ c
     × ResidualEscape bytes x c suffix v
 ResidualShown (Done bytes) u v = (u ≡ []) × (v ≡ bytes)
 
--- whether a byte with this high digit may come
+-- whether a byte with this high digit may come next in UTF-8
 abbrev pub can_begin : Utf8 → ℕ → Bool
 can_begin Start h = nat_lt h 8 || nat_le 12 h
 can_begin (Within n low high) h = nat_le (low / 16) h && nat_le h (high / 16)
