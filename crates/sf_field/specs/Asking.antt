@@ -29,7 +29,7 @@ Asks kind meaning lines (Err (fault.Answer (NotACache index))) =
 Asks kind meaning lines (Err (fault.Answer OutOfMemory)) =
     (v : Field) × IsOnly Rfc9651 kind (join lines) v × IsOk (meaning v)
 
--- no allocation failed to parse the lines
+-- no allocation failed while the lines were parsed
 abbrev pub ParsedOrRefused : {A : Type 0} → Result A AskFault → Type 0
 ParsedOrRefused (Ok answer) = ⊤
 ParsedOrRefused (Err (fault.Field refusal)) = IsOther refusal

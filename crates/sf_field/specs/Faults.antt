@@ -14,7 +14,7 @@ abbrev pub use_fault_text : UseFault → List ℕ
 use_fault_text (NotACache index) = codes "member " ++ decimal index ++ codes " names no cache"
 use_fault_text OutOfMemory = codes "out of memory"
 
--- the same if a consumer gave no answer, otherwise the error message of the refusal
+-- the error message of a refusal, or of a consumer's fault
 abbrev pub ask_fault_text : AskFault → List ℕ
 ask_fault_text (Field refusal) = refusal_text refusal
 ask_fault_text (Answer fault) = use_fault_text fault

@@ -60,13 +60,14 @@ IsBack v (Err (Syntax place found expected may_end)) = ⊥
 IsBack v (Err (TooLong limit)) = ⊥
 IsBack v (Err (ReadFault place)) = ⊥
 
--- parsing that text returns the value again
+-- parsing the canonical text of a valid value returns the value, or an allocation failed
 abbrev pub BuiltIsParsed : Type 0
 BuiltIsParsed =
     (d : Dialect) (kind : Kind) (v : Field) → Valid d kind v → (r : Result Field Refusal)
     → Parses d kind (canon v) r → IsBack v r
 
--- so does parsing it as the only line, if it is shorter than 2^64 bytes
+-- parsing the canonical text of a valid value as the only line returns the value, if the text is
+-- shorter than 2^64 bytes, or an allocation failed
 abbrev pub BuiltLineIsParsed : Type 0
 BuiltLineIsParsed =
     (d : Dialect) (kind : Kind) (v : Field) → Valid d kind v → length (canon v) < 2 ^ 64
