@@ -10,7 +10,8 @@ IsDecoded n = n.coded ≡ 0
 abbrev pub IsOnOneSide : ℕ → ℕ → ℕ → Type 0
 IsOnOneSide place at count = (at + count ≤ place) ⊎ (place ≤ at)
 
--- the key of the node is in the text of this length, or in the bytes after it, and so are its bytes
+-- the key of the node is within the text of this length or within the bytes after it, and so are
+-- the bytes of the node
 abbrev pub IsInOne : ℕ → Node → Type 0
 IsInOne size n =
     IsOnOneSide size n.key_at n.key_length × IsOnOneSide size n.text_at n.text_length

@@ -33,7 +33,7 @@ abbrev pub IsWithin : List ℕ → Part → Type 0
 IsWithin bytes p =
     (p.key_at + p.key_length ≤ length bytes) × (p.text_at + p.text_length ≤ length bytes)
 
--- the same for each part
+-- each part points to bytes within these
 abbrev pub AreWithin : List ℕ → List Part → Type 0
 AreWithin bytes [] = Unit {0}
 AreWithin bytes (p ∷ ps) = IsWithin bytes p × AreWithin bytes ps
@@ -43,7 +43,7 @@ abbrev pub content_size : List NodeContent → ℕ
 content_size [] = 0
 content_size (t ∷ ts) = length t.key + length t.text + content_size ts
 
--- the parts point to bytes within these, and every byte is used
+-- the parts point to bytes within these, and have as many bytes together as there are
 abbrev pub HoldsUp : List ℕ → List Part → Type 0
 HoldsUp bytes ps = AreWithin bytes ps × (length bytes ≡ content_size (map (content_by bytes) ps))
 
@@ -61,7 +61,7 @@ node_of start p = record {
   coded = 0;
 }
 
--- the offsets of that node are below 2^32
+-- the key and the bytes of the node of a part, after a text of this length, end below 2^32
 abbrev pub IsPartSmall : ℕ → Part → Type 0
 IsPartSmall start p =
     (start + p.key_at + p.key_length < 2 ^ 32) × (start + p.text_at + p.text_length < 2 ^ 32)
