@@ -78,8 +78,8 @@ AnyChunks =
 abbrev pub At : List ℕ → ℕ → ℕ → Type 0
 At t n b = (p q : List ℕ) × (t ≡ p ++ b ∷ q) × (length p ≡ n)
 
--- a text that spells a value in RFC 9651 and none in RFC 8941 has @ or % at the place of its refusal
--- in RFC 8941
+-- a text that spells a value in RFC 9651 and none in RFC 8941 has @ or % at the place where it is
+-- refused in RFC 8941
 abbrev pub OnlyNew : Type 0
 OnlyNew =
     (kind : Kind) (t : List ℕ) (v : Field)
