@@ -13,8 +13,8 @@ use Rattle.sf_rfc.specs.Rfc9651.Parsing.{parse_field}
 use Rattle.sf_rfc.specs.Rfc9651.Serialising.{serialise}
 use Rattle.sf_rfc.specs.Rfc9651.Abnf.{sf_item, sf_list, sf_dictionary}
 
--- P, if there are members; a List or a Dictionary without members is not sent (3.1, 3.2), and its
--- text is empty, for which there is no rule
+-- P if there are members, otherwise the empty text: a List or a Dictionary without members is not
+-- sent (3.1, 3.2), and there is no rule for it
 abbrev pub if_sent : {X : Type 0} → Seq X → Rule → Rule
 if_sent [] P = text []
 if_sent (x ∷ xs) P = P
@@ -30,7 +30,7 @@ abbrev pub CanonKeepsAbnf : Type 0
 CanonKeepsAbnf =
     (d : Dialect) (kind : Kind) (v : Field) → Valid d kind v → field_rule d v (canon v)
 
--- the same for what the steps of the RFC write (4.1)
+-- what the steps of the RFC write for a valid field (4.1) keeps to the ABNF
 abbrev pub SerialisedKeepsAbnf : Type 0
 SerialisedKeepsAbnf =
     (d : Dialect) (kind : Kind) (v : Field) → Valid d kind v
@@ -74,7 +74,7 @@ AbnfIsTrimmed =
     (d : Dialect) (kind : Kind) (t : Seq ℕ) (v : Field) → SpellsField d kind t v
     → (kind_rule d kind t ↔ IsTrimmed t)
 
--- the same for what the steps of the RFC parse (4.2)
+-- a text that the steps of the RFC parse (4.2) keeps to the ABNF exactly if it is trimmed
 abbrev pub ParsedIsTrimmed : Type 0
 ParsedIsTrimmed =
     (d : Dialect) (kind : Kind) (t : Seq ℕ) (v : Field) → parse_field d kind t ≡ Some v

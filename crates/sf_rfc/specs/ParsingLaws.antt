@@ -149,7 +149,7 @@ AnswersAgree =
     (d : Dialect) (kind : Kind) (t : List ℕ) (answer : Result Field Refusal)
     → Parses d kind t answer → AnswersAsRfc d kind t answer
 
--- the same for the clause of the end of a parser that is fed
+-- a result that meets the clause of the end of a parser that is fed is that of the RFC's steps
 abbrev pub EndsAgree : Type 0
 EndsAgree =
     (d : Dialect) (kind : Kind) (t : List ℕ) (answer : Result Field Refusal)

@@ -47,7 +47,7 @@ abbrev pub bits_of_bytes : List ℕ → List ℕ
 bits_of_bytes [] = []
 bits_of_bytes (b ∷ t) = eight_bits b ++ bits_of_bytes t
 
--- how many more complete groups of this size
+-- how many more than n complete groups of this size
 abbrev pub missing : ℕ → ℕ → ℕ
 missing size n = (size - n % size) % size
 

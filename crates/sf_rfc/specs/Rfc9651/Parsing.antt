@@ -185,7 +185,7 @@ parse_dictionary d t = dictionary_loop d (suc (length t)) [] t
 
 -- 4.2, Parsing Structured Fields
 
--- by field_type
+-- the output by field_type
 abbrev pub parse_type : Dialect → Kind → Parse Field
 -- 3: "list"
 parse_type d kind.List t = and_then (parse_list d t) (λ (ms, u).

@@ -177,7 +177,7 @@ parse_byte_sequence (c ∷ t) = elim (c == 58) [
 
 -- 4.2.8, Parsing a Boolean
 
--- 3: "1" is true; 4: "0" is false; 5: else fail
+-- 3: "1" is true; 4: "0" is false; 5: otherwise fail
 abbrev pub boolean_value : Parse Bool
 boolean_value [] = None
 boolean_value (c ∷ t) = elim (c == 49) [
@@ -271,7 +271,7 @@ as_bare f o = and_then o (λ (x, t). Some (f x, t))
 abbrev pub parse_added : Dialect → Parse Bare
 -- RFC 8941 has no steps for them: its last step fails
 parse_added Rfc8941 t = None
--- 6: "@" is a Date; 7: "%" a Display String; 8: else fail
+-- 6: "@" is a Date; 7: "%" is a Display String; 8: otherwise fail
 parse_added Rfc9651 t = elim (first_is (λ c. c == 64) t) [
   | true ↦ parse_date t
   | false ↦ elim (first_is (λ c. c == 37) t) [
@@ -280,7 +280,7 @@ parse_added Rfc9651 t = elim (first_is (λ c. c == 64) t) [
   ]
 ]
 
--- by the first character
+-- the type by the first character
 abbrev pub parse_bare : Dialect → Parse Bare
 -- 1: "-" or a DIGIT is an Integer or Decimal
 parse_bare d t = elim (first_is (λ c. c == 45 || is_DIGIT c) t) [

@@ -41,18 +41,18 @@ abbrev pub place_from : ℕ → List ℕ → ℕ → Option ℕ
 place_from n [] c = None
 place_from n (x ∷ xs) c = elim (x == c) [ true ↦ Some n | false ↦ place_from (suc n) xs c ]
 
--- comparing character for character
+-- whether two keys are equal, comparing character for character
 abbrev pub same : List ℕ → List ℕ → Bool
 same [] [] = true
 same (a ∷ s) (b ∷ t) = a == b && same s t
 same _ _ = false
 
--- an ordered map by its pairs: whether it contains a key
+-- whether an ordered map, given by its pairs, contains a key
 abbrev pub contains : {V : Type 0} → List (List ℕ × V) → List ℕ → Bool
 contains [] k = false
 contains (p ∷ ps) k = elim (same p.0 k) [ true ↦ true | false ↦ contains ps k ]
 
--- its pairs with the key's value overwritten, which stays in its place
+-- the map with the key's value overwritten; the key stays in its place
 abbrev pub overwrite : {V : Type 0} → List (List ℕ × V) → List ℕ → V → List (List ℕ × V)
 overwrite [] k v = []
 overwrite (p ∷ ps) k v = elim (same p.0 k) [
@@ -60,7 +60,7 @@ overwrite (p ∷ ps) k v = elim (same p.0 k) [
   | false ↦ p ∷ overwrite ps k v
 ]
 
--- if it already contains the key, overwrite its value; otherwise append the key with the value
+-- if the map already contains the key, overwrite its value; otherwise append the key with the value
 abbrev pub set_key : {V : Type 0} → List (List ℕ × V) → List ℕ → V → List (List ℕ × V)
 set_key ps k v = elim (contains ps k) [
   | true ↦ overwrite ps k v
