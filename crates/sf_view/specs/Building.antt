@@ -47,7 +47,7 @@ Reads P nodes (Err (Invalid index)) = IsWrongAt P nodes index
 abbrev pub IsField : Dialect → Kind → Seq ℕ → Seq Node → Field → Type 0
 IsField d kind source ns v = DescribesField d source ns v × Valid d kind v
 
--- the same for an Item field
+-- the nodes describe this Item field, and it is valid
 abbrev pub IsItemField : Dialect → Seq ℕ → Seq Node → Item → Type 0
 IsItemField d source ns i = IsField d kind.Item source ns (field.Item i)
 
@@ -56,7 +56,7 @@ abbrev pub Gives : {X : Type 0} → (X → Type 0) → Option X → Type 0
 Gives P (Some x) = P x
 Gives P None = (x : _) → P x → ⊥
 
--- a valid bare item of a node that points to these bytes
+-- a node that points to these bytes describes this bare item, which is valid
 abbrev pub IsBare : Dialect → Node → Seq ℕ → Bare → Type 0
 IsBare d n bytes x = NodeShows d n bytes x × ValidBare d x
 
@@ -65,24 +65,24 @@ abbrev pub first_key : Seq ℕ → Seq Node → Seq ℕ
 first_key source [] = []
 first_key source (n ∷ ns) = slice_at n.key_at n.key_length source
 
--- a valid bare item of a node of this role and size
+-- the node, of this role and size, describes this bare item, which is valid, whatever its key
 abbrev pub IsValue : Dialect → Seq ℕ → Role → ℕ → Node → Bare → Type 0
 IsValue d source r m n x =
     DescribesBare d source r (slice_at n.key_at n.key_length source) m n x × ValidBare d x
 
--- parameters of this role
+-- the nodes, of this role, describe these parameters, which are valid
 abbrev pub AreParams : Dialect → Seq ℕ → Role → Seq Node → Pairs Bare → Type 0
 AreParams d source r ns ps = DescribesParams d source r ns ps × ValidParams d ps
 
--- the value of a parameter that one node of this role describes
+-- one node of this role describes this value of a parameter, which is valid, whatever its key
 abbrev pub IsParam : Dialect → Seq ℕ → Role → Seq Node → Bare → Type 0
 IsParam d source r ns x = (n : Node) × (ns ≡ n ∷ []) × IsValue d source r 1 n x
 
--- an Item of this role, whatever its key
+-- the nodes describe this Item, of this role, which is valid, whatever its key
 abbrev pub IsItem : Dialect → Seq ℕ → Role → Seq Node → Item → Type 0
 IsItem d source r ns i = DescribesItem d source r (first_key source ns) ns i × ValidItem d i
 
--- what is inside an Inner List
+-- the nodes describe the Items and the parameters of this Inner List, which is valid
 abbrev pub IsInside : Dialect → Seq ℕ → Seq Node → Inner → Type 0
 IsInside d source ns l =
     (items params : Seq Node)
@@ -91,19 +91,19 @@ IsInside d source ns l =
     × DescribesParams d source role_is.InnerParameter params l.params
     × ValidInner d l
 
--- an Inner List, whatever its key
+-- the nodes describe this Inner List, which is valid, whatever its key
 abbrev pub IsInner : Dialect → Seq ℕ → Seq Node → Inner → Type 0
 IsInner d source ns l = DescribesInner d source (first_key source ns) ns l × ValidInner d l
 
--- a member, whatever its key
+-- the nodes describe this member, which is valid, whatever its key
 abbrev pub IsMember : Dialect → Seq ℕ → Seq Node → Member → Type 0
 IsMember d source ns m = DescribesMember d source (first_key source ns) ns m × ValidMember d m
 
--- the members of a List
+-- the nodes describe these members of a List, which are valid
 abbrev pub AreMembers : Dialect → Seq ℕ → Seq Node → Seq Member → Type 0
 AreMembers d source ns ms = DescribesMembers d source ns ms × Each (ValidMember d) ms
 
--- the members of a Dictionary
+-- the nodes describe these members of a Dictionary, which are valid
 abbrev pub AreEntries : Dialect → Seq ℕ → Seq Node → Pairs Member → Type 0
 AreEntries d source ns ps = DescribesEntries d source ns ps × ValidEntries d ps
 

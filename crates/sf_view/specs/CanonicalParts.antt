@@ -16,13 +16,15 @@ abbrev pub encoding : ℕ → Seq ℕ
 encoding b =
     if is_unencoded b then b ∷ [] else percent ∷ hex (b / 16) ∷ hex (b % 16) ∷ []
 
--- the text begins with bytes of a Display String that are canonical, and the rest spells the others
+-- of the bytes t of a Display String, prefix is the canonical text of the first, and rest spells the
+-- others
 pub record CanonicalRun (prefix rest t : Seq ℕ) : Type 0 where
   pub left : Seq ℕ
   pub remains : EncodedBytes rest left
   pub canonical : canon_shown t ≡ prefix ++ canon_shown left
 
--- the text begins with the escape of a byte that must be escaped in a Display String
+-- the text begins with a prefix, such as a needed escape, that is canonical in every Display String
+-- whose bytes the text spells
 pub record IsNeededEscape (text rest : Seq ℕ) : Type 0 where
   pub prefix : Seq ℕ
   pub split : text ≡ prefix ++ rest

@@ -19,7 +19,8 @@ use Rattle.sf_view.specs.Cursors.{IsNext, Remains}
 abbrev pub RemainsInList : ItemCursor → List Member → Type 0
 RemainsInList c ms = Remains (SpellsMember c.dialect) (option_copied c.rest) ms
 
--- these parameters of an Item remain, repeated keys included, and then these members of its List
+-- these parameters of an Item remain, repeated keys included, and after them these members of its
+-- List
 pub record RemainsInItem (c : ParamCursor) (ps : Pairs Bare) (ms : List Member) : Type 0 where
   pub prefix : List ℕ
   pub after : List ℕ

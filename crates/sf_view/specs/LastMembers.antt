@@ -18,7 +18,7 @@ pub record Passes {X : Type 0} (P : List ℕ → X → Type 0) (text rest : List
   pub spelled : P prefix value
   pub separates : Separates after rest
 
--- the same of a member of this kind of field
+-- a member of a field of this kind, OWS, a comma and OWS are before the rest; an Item has none
 abbrev pub PassesMember : Dialect → Kind → List ℕ → List ℕ → Type 0
 PassesMember d kind.Item text rest = ⊥
 PassesMember d kind.List text rest = Passes (SpellsMember d) text rest

@@ -9,11 +9,11 @@ use Rattle.sf_view.specs.declared.keys.Marks.{Marks}
 abbrev pub mark_of : List ℕ → ℕ
 mark_of k = 9 * (get_or k 0 0 + length k % 64) + get_or k (length k - 1) 0
 
--- the bits of the marks of these keys are in the set
+-- the marks of these keys, modulo 64, are in the set
 abbrev pub MarksEach : ℕ → List (List ℕ) → Type 0
 MarksEach bits [] = Unit {0}
 MarksEach bits (k ∷ ks) = (bit_at bits (mark_of k % 64) ≡ 1) × MarksEach bits ks
 
--- these are the marks of the keys: unless the set has all bits, the keys differ
+-- unless the set has all bits, the keys differ and their marks are in it
 abbrev pub HaveMarks : Marks → List (List ℕ) → Type 0
 HaveMarks m ks = m.bits ≢ 0xffff_ffff_ffff_ffff → IsDistinct bytes_eq ks × MarksEach m.bits ks

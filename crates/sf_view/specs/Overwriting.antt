@@ -7,7 +7,7 @@ use Rattle.sf_value.specs.Grammar.Pairs.{Pairs}
 abbrev pub overwritten : {V Y : Type 0} → (Option V → Y) → List ℕ → Y → List ℕ × V → Y
 overwritten f k y p = if bytes_eq k p.0 then f (Some p.1) else y
 
--- the same after several pairs
+-- what is known of the key k after several pairs
 abbrev pub overwritten_by : {V Y : Type 0} → (Option V → Y) → List ℕ → Y → Pairs V → Y
 overwritten_by f k y [] = y
 overwritten_by f k y (p ∷ ps) = overwritten_by f k (overwritten f k y p) ps

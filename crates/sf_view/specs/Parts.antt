@@ -27,21 +27,21 @@ abbrev pub Splits : {X : Type 0} → (Seq Node → X → Type 0) → (Seq Node �
 Splits P T xs None = xs ≡ []
 Splits P T xs (Some r) = SplitsOff P T xs r.0.nodes.now r.1.nodes.now
 
--- the members of a List
+-- the members of a List, split into the first and the others
 abbrev pub MembersSplit : Dialect → Seq ℕ → Seq Member → Option (PartView × PartView) → Type 0
 MembersSplit d source ms r = Splits (DescribesMember d source []) (DescribesMembers d source) ms r
 
--- the members of a Dictionary
+-- the members of a Dictionary, split into the first and the others
 abbrev pub EntriesSplit : Dialect → Seq ℕ → Pairs Member → Option (PartView × PartView) → Type 0
 EntriesSplit d source ps r =
     Splits (λ ns p. DescribesMember d source p.0 ns p.1) (DescribesEntries d source) ps r
 
--- the Items of an Inner List
+-- the Items of an Inner List, split into the first and the others
 abbrev pub ItemsSplit : Dialect → Seq ℕ → Seq Item → Option (PartView × PartView) → Type 0
 ItemsSplit d source is r =
     Splits (DescribesItem d source role_is.InnerItem []) (DescribesItems d source) is r
 
--- parameters
+-- parameters, split into the first and the others
 abbrev pub ParamsSplit : Dialect → Seq ℕ → Role → Pairs Bare → Option (PartView × PartView)
     → Type 0
 ParamsSplit d source r ps s =

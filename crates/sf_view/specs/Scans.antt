@@ -147,7 +147,7 @@ node_from role key part = record {
   coded = coded_number part.coded;
 }
 
--- the same node with this size
+-- the node with this size instead of its own
 abbrev pub sized : ℕ → Node → Node
 sized k n = record {
   number = n.number;
@@ -177,7 +177,7 @@ abbrev pub DistinguishKeys : Marks → List ℕ → List Node → Type 0
 DistinguishKeys m source ns =
     ((ks : List (List ℕ)) → HaveMarks m ks → IsDistinct bytes_eq ks) ⊎ AreApart source ns
 
--- nodes were put after those that were there
+-- these nodes were put after the first `at`; now there are `count`
 pub record Puts (old new : List Node) (at count : ℕ) (ns : List Node) : Type 0 where
   pub within : count ≤ length new
   pub from : count ≡ at + length ns
@@ -221,7 +221,8 @@ pub record ScansParams (d : Dialect) (source : List ℕ) (r : Role) (text rest :
   pub puts : Puts old new at count nodes
   pub describes : IsEnd source text → DescribesParams d source r nodes values
 
--- the same, after a node that counts them
+-- the start of the text spells parameters; a node whose size counts them, and nodes that describe
+-- them, were put
 pub record ScansRest (d : Dialect) (source text rest : List ℕ) (node : Node) (old new : List Node)
     (at count : ℕ) : Type 0 where
   pub prefix : List ℕ

@@ -31,7 +31,7 @@ type_of (Boolean b) = type_is.Boolean
 type_of (Date n) = type_is.Date
 type_of (Shown s) = type_is.Shown
 
--- an Integer, the thousandths of a Decimal, the second of a Date, or 1 for true
+-- an Integer, the thousandths of a Decimal, the seconds of a Date, or 1 for true; otherwise 0
 abbrev pub number_of : Bare → ℤ
 number_of (Integer n) = n
 number_of (Decimal m) = m
@@ -39,7 +39,7 @@ number_of (Boolean true) = pos 1
 number_of (Date n) = n
 number_of x = pos 0
 
--- the bytes of the others
+-- the bytes of a String, a Token, a Byte Sequence or a Display String; otherwise none
 abbrev pub text_of : Bare → Seq ℕ
 text_of (Text s) = s
 text_of (Token s) = s

@@ -30,7 +30,7 @@ IsReason size capacity Declined = (size < 2 ^ 32) × (size ≤ capacity)
 IsReason size capacity ShortBuffer = (size < 2 ^ 32) × (capacity < size)
 IsReason size capacity TooLong = 2 ^ 32 ≤ size
 
--- the reason, if the buffer has a node for each byte of the text, or not
+-- Declined if the buffer has a node for each byte of the text, otherwise ShortBuffer
 abbrev pub reason : Bool → Unviewed
 reason true = Declined
 reason false = ShortBuffer
