@@ -18,13 +18,13 @@ pub record Means (old new : List ℕ) (n m : Node) : Type 0 where
   pub opening : (k : List ℕ) (size : ℕ) → DescribesOpening old k size n
       → DescribesOpening new k size m
 
--- the same for each two nodes
+-- each two nodes at the same index mean the same with their sources
 abbrev pub EachMeans : List ℕ → List ℕ → List Node → List Node → Type 0
 EachMeans old new [] [] = Unit {0}
 EachMeans old new (n ∷ ns) (m ∷ ms) = Means old new n m × EachMeans old new ns ms
 EachMeans old new ns ms = ⊥
 
--- the uncoded node with its bytes at this offset
+-- the node, uncoded, with count bytes at this offset
 abbrev pub decoded_to : ℕ → ℕ → Node → Node
 decoded_to at count n = record {
   number = n.number;

@@ -17,17 +17,17 @@ found_at text bytes at count =
     then Some (slice_at (at - length text) count bytes)
     else None)
 
--- the node points to such bytes, and they are this key
+-- the key of the node is in one of the two, and is this one
 abbrev pub has_key : List ℕ → List ℕ → List ℕ → Node → Bool
 has_key text bytes key n =
     unwrap_or
     (option_map (λ found. bytes_eq found key) (found_at text bytes n.key_at n.key_length)) false
 
--- and it has this role
+-- the node has this role and this key
 abbrev pub is_named : List ℕ → List ℕ → ℕ → List ℕ → Node → Bool
 is_named text bytes role key n = (n.role == role) && has_key text bytes key n
 
--- the index of the first such node; if there is none, the index is unchanged
+-- the index of the first node with this role and this key; if there is none, the index is unchanged
 abbrev pub Finds : List ℕ → List ℕ → ℕ → List ℕ → List Node → ℕ → ℕ → Option Status → Type 0
 Finds text bytes role key nodes old new (Some Answered) =
     position (is_named text bytes role key) nodes ≡ Some new

@@ -38,7 +38,8 @@ pub record HoldsNodes (d : Dialect) (t : List ℕ) (nodes : List Node) (bytes : 
   pub in_one : Each (IsInOne (length t)) (take sizes.nodes nodes)
   pub count : sizes.nodes ≡ field_nodes v
 
--- the same for the only value that the text spells
+-- the first nodes, with the text t and the first bytes after it, describe the only value that the
+-- text spells
 abbrev pub IsHeld : Dialect → Kind → List ℕ → List Node → List ℕ → Sizes → Type 0
 IsHeld d k t nodes bytes sizes =
     (v : Field) × IsOnly d k t v × IsSmall t v × HoldsNodes d t nodes bytes sizes v

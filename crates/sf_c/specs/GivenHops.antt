@@ -46,11 +46,11 @@ abbrev pub GivesMaybe : {X : Type 0} → ℕ → (X → Type 0) → Option X →
 GivesMaybe flag P None = flag ≡ 0
 GivesMaybe flag P (Some x) = (flag ≢ 0) × P x
 
--- a String
+-- the bytes of a String
 abbrev pub GivesString : List ℕ → Span → List ℕ → Type 0
 GivesString bytes p text = AreBytes bytes p text × Every is_visible text
 
--- a Token
+-- the bytes of a Token
 abbrev pub GivesToken : List ℕ → Span → List ℕ → Type 0
 GivesToken bytes p token = AreBytes bytes p token × IsToken token
 
@@ -75,7 +75,7 @@ GivesWhy bytes n (Other token) = (n.why ≡ 9) × GivesToken bytes n.why_token t
 abbrev pub GivesStatus : ℕ → ℕ → Type 0
 GivesStatus number status = (status ≡ number) × IsHopStatus number
 
--- a flag of the request
+-- a flag: any number but 0 is true
 abbrev pub GivesFlag : ℕ → Bool → Type 0
 GivesFlag number flag = flag ≡ not (number == 0)
 
@@ -94,7 +94,7 @@ GivesOutcome bytes n Hit = n.outcome ≡ 1
 GivesOutcome bytes n (Forwarded p) = (n.outcome ≡ 2) × GivesPassed bytes n p
 GivesOutcome bytes n (Conflict p) = (n.outcome ≡ 3) × GivesPassed bytes n p
 
--- an Integer
+-- a number in the range of an Integer (RFC 9651 section 3.3.1)
 abbrev pub GivesInteger : ℤ → ℤ → Type 0
 GivesInteger number n = (n ≡ number) × ValidBare Rfc9651 (Integer number)
 

@@ -154,20 +154,21 @@ IsHopWithin bytes n =
     × IsSpanWithin bytes n.key
     × IsSpanWithin bytes n.detail
 
--- so does each struct
+-- each struct points to bytes that are there
 abbrev pub AreHopsWithin : List ℕ → List HopNode → Type 0
 AreHopsWithin bytes [] = Unit {0}
 AreHopsWithin bytes (n ∷ ns) = IsHopWithin bytes n × AreHopsWithin bytes ns
 
--- how many bytes hops have together
+-- how many bytes a hop has
 abbrev pub hop_size : HopContent → ℕ
 hop_size t = length t.name + length t.why_token + length t.key + length t.detail
 
+-- how many bytes hops have together
 abbrev pub hops_size : List HopContent → ℕ
 hops_size [] = 0
 hops_size (t ∷ ts) = hop_size t + hops_size ts
 
--- these bytes, in the order of the struct
+-- the bytes of a hop, in the order of the struct
 abbrev pub hop_bytes : HopContent → List ℕ
 hop_bytes t = t.name ++ (t.why_token ++ (t.key ++ t.detail))
 
@@ -187,7 +188,7 @@ IsHopInOrder at n =
     × (n.key.at ≡ end_of n.why_token)
     × (n.detail.at ≡ end_of n.key)
 
--- those of hops are one after another from this place on, and end at that one
+-- the spans of hops are one after another, from the first place to the second
 abbrev pub AreHopsInOrder : ℕ → List HopNode → ℕ → Type 0
 AreHopsInOrder at [] end = at ≡ end
 AreHopsInOrder at (n ∷ ns) end = IsHopInOrder at n × AreHopsInOrder (end_of n.detail) ns end

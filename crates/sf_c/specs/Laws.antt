@@ -24,13 +24,14 @@ DescribeOnePath =
     → map (hop_content_by bytes) hops ≡ map hop_content hs
     → map (hop_content_by bytes) hops ≡ map hop_content js → hs ≡ js
 
--- the largest number of hops of the path that a text spells
+-- the hops of the path that a text spells are at most four fifths of the text's length, rounded to
+-- the nearest number
 abbrev pub HopsAreFew : Type 0
 HopsAreFew =
     (d : Dialect) (kind : Kind) (t : List ℕ) (v : Field) (hs : List Hop)
     → SpellsField d kind t v → hops v ≡ Ok hs → 10 * length hs ≤ 8 * length t + 5
 
--- the largest number of its bytes
+-- the bytes of the path that a text spells are at most eight fifths of the text's length
 abbrev pub HopBytesAreFew : Type 0
 HopBytesAreFew =
     (d : Dialect) (kind : Kind) (t : List ℕ) (v : Field) (hs : List Hop)

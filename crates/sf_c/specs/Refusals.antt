@@ -13,7 +13,7 @@ abbrev pub found_number : Option ℕ → ℤ
 found_number (Some b) = pos b
 found_number None = negsuc 0
 
--- 1 if it holds
+-- 1 for true, 0 for false
 abbrev pub flag_number : Bool → ℕ
 flag_number true = 1
 flag_number false = 0

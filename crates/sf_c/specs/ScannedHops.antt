@@ -53,7 +53,8 @@ says_in v = record {
 abbrev pub PutsBehind : Seq ℕ → Seq ℕ → ℕ → Seq ℕ → Span → Type 0
 PutsBehind old new used text p = PutsSpan (take used old) (take (end_of p) new) text p
 
--- so are the four texts of a hop, one after another, and the struct describes the hop
+-- the four texts of a hop are after the first bytes of the buffer, of which so many were used, one
+-- after another, and the struct describes the hop
 pub record IsHopPut (old new : Seq ℕ) (used : ℕ) (n : HopNode) (h : Hop) : Type 0 where
   pub with_name : Seq ℕ
   pub with_why : Seq ℕ

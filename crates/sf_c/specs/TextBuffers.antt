@@ -22,7 +22,8 @@ PutsText old new text (Some Short) =
     × (new.buffer ≡ old.buffer)
 PutsText old new text status = ⊥
 
--- the same, or an allocation failed and everything is unchanged
+-- the text is put into the buffer, or the buffer is too small, or an allocation failed and
+-- everything is unchanged
 abbrev pub Writes : TextBuffer → TextBuffer → List ℕ → Option Status → Type 0
 Writes old new text (Some OutOfMemory) = new ≡ old
 Writes old new text status = PutsText old new text status

@@ -10,6 +10,6 @@ minor = 1
 abbrev pub patch : ℕ
 patch = 0
 
--- as one number: two digits for the minor version, and two for the patch
+-- the version as one number: two digits for the minor version, and two for the patch
 abbrev pub version_number : ℕ
 version_number = major * 10000 + minor * 100 + patch

@@ -18,7 +18,7 @@ pub record NodesOutput : Type 0 where
   pub required : ℕ
   pub invalid : ℕ
 
--- its buffer
+-- the buffer of a call that writes nodes
 abbrev pub text_buffer : NodesOutput → TextBuffer
 text_buffer o = record { buffer = o.buffer; required = o.required }
 
