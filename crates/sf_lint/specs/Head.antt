@@ -30,7 +30,7 @@ is_request_line line =
 abbrev pub is_start : List ℕ → Bool
 is_start line = is_status_line line || is_request_line line
 
--- a line that is not empty
+-- the type of a line that is not empty
 abbrev pub line_with : ℕ → List ℕ → Line
 line_with first line =
     if is_ows first then Folded
@@ -38,7 +38,7 @@ line_with first line =
     else if has_name line then Field (name_of line)
     else Nameless
 
--- the type of a line
+-- the type of any line
 abbrev pub line_of : List ℕ → Line
 line_of [] = Empty
 line_of (b ∷ bs) = line_with b (b ∷ bs)

@@ -52,8 +52,8 @@ ignored_at s n params meant key =
 abbrev pub status_at : Seq ℕ → Pairs Bare → Option ℕ
 status_at key params = status_of (integer_at key params)
 
--- the parameters of the n-th member that are ignored, of the eight that RFC 9211 defines (sections
--- 2.1 to 2.8)
+-- the ignored ones of the parameters of the n-th member, of the eight that RFC 9211 defines
+-- (sections 2.1 to 2.8)
 abbrev pub ignored_params : Settings → ℕ → Pairs Bare → Seq ℕ
 ignored_params s n params =
     ignored_at s n params boolean_at (codes "hit")
@@ -65,12 +65,12 @@ ignored_params s n params =
     ++ (ignored_at s n params text_at (codes "key")
     ++ ignored_at s n params name_at (codes "detail")))))))
 
--- the same for any member; an Inner List names no cache
+-- the parameters of the n-th member that are ignored; an Inner List names no cache
 abbrev pub ignored_member : Settings → ℕ → Member → Seq ℕ
 ignored_member s n (member.Item i) = ignored_params s n i.params
 ignored_member s n (member.Inner l) = []
 
--- the same for members, whose first is the n-th
+-- the parameters of members that are ignored; the first member is the n-th
 abbrev pub ignored_members : Settings → ℕ → Seq Member → Seq ℕ
 ignored_members s n [] = []
 ignored_members s n (m ∷ ms) = ignored_member s n m ++ ignored_members s (suc n) ms

@@ -95,35 +95,35 @@ IsFaultOf words Help = IsAmong DisplayHelp (fault_of command_line words)
 IsFaultOf words Version = IsAmong DisplayVersion (fault_of command_line words)
 IsFaultOf words OutOfMemory = ⊤
 
--- the same for what was given
+-- a fault is Usage only if what was given makes no settings, and is not Help or Version
 abbrev pub IsGivenFault : List Row → OptionsFault → Type 0
 IsGivenFault rows Usage = (settings : Settings) → ¬ (AreGiven rows settings)
 IsGivenFault rows Help = ⊥
 IsGivenFault rows Version = ⊥
 IsGivenFault rows OutOfMemory = ⊤
 
--- the same for the words of `--field`
+-- a fault is Usage only if the words of `--field` name no fields, and is not Help or Version
 abbrev pub IsFieldsFault : List Text → OptionsFault → Type 0
 IsFieldsFault words Usage = (fields : List CustomField) → ¬ (AreFields words fields)
 IsFieldsFault words Help = ⊥
 IsFieldsFault words Version = ⊥
 IsFieldsFault words OutOfMemory = ⊤
 
--- the result of the command
+-- the status of the command for a fault
 abbrev pub fault_status : OptionsFault → Status
 fault_status Usage = status.Usage
 fault_status Help = status.Accepted
 fault_status Version = status.Accepted
 fault_status OutOfMemory = status.Stopped
 
--- what is on standard output
+-- the text on standard output for a fault
 abbrev pub fault_text : OptionsFault → Option (List ℕ)
 fault_text Usage = None
 fault_text Help = Some (codes "usage: sflint [--field NAME:item|list|dict].. [--quiet]\n\nReads the heads of HTTP messages from standard input, as curl -sI prints them, and\nshows each structured field: its canonical text and its meaning, or why it is refused.\n\n  --field NAME:KIND  a field that is not registered, with its kind: item, list or dict\n  --quiet            show only what is refused\n  --help             show this help\n  --version          show the version\n\nThe status is 0 if everything is accepted, 1 if something is refused, 2 if the arguments\nare wrong, and 3 if an allocation or a device fails.\n")
 fault_text Version = Some (codes "sflint 0.1.0\n")
 fault_text OutOfMemory = None
 
--- what is on standard error, in a line
+-- the line on standard error for a status
 abbrev pub fault_line : Status → Option (List ℕ)
 fault_line status.Accepted = None
 fault_line status.Refused = None

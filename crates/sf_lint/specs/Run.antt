@@ -13,7 +13,7 @@ abbrev pub status_of : Bool → Status
 status_of true = Refused
 status_of false = Accepted
 
--- an input that is longer than the limit
+-- the line for an input that is longer than the limit
 abbrev pub too_long_text : Settings → List ℕ
 too_long_text s =
     verdict_text s verdict.Refused ++ (codes " too long " ++ (decimal input_limit ++ codes "\n"))
