@@ -12,7 +12,7 @@ use Rattle.sf_tool.specs.CommandLine.{AreNames, AsksFor}
 use Rattle.sf_tool.specs.Fields.{is_header_name}
 use Rattle.sf_tool.specs.Request.{most_names}
 
--- no request is made
+-- the command, with what was given, makes no request
 abbrev pub AsksForNone : Text → List Row → Type 0
 AsksForNone word rows = (request : Request) → ¬ (AsksFor word rows request)
 
@@ -35,7 +35,7 @@ IsCommandFault word rows OutOfMemory =
 abbrev pub AsksAsFound : Option (Text × List Row) → Request → Type 0
 AsksAsFound found request = IsSomeAnd found (λ f. AsksFor f.0 f.1 request)
 
--- it makes none; Usage, if clap found no command
+-- the command that clap found makes no request; Usage, if clap found no command
 abbrev pub IsFoundFault : Option (Text × List Row) → RequestFault → Type 0
 IsFoundFault None fault = fault ≡ Usage
 IsFoundFault (Some found) fault = IsCommandFault found.0 found.1 fault

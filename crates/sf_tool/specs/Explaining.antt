@@ -44,7 +44,7 @@ ExplainsField d kind input text =
     × ¬ (refusal ≡ OutOfMemory)
     × (text ≡ refusal_words refusal (lines_of input))
 
--- they spell no List; or a member of the List that they spell names no cache
+-- the input's lines spell no List; or a member of the List that they spell names no cache
 abbrev pub ExplainsPath : List ℕ → List ℕ → Type 0
 ExplainsPath input text =
     ExplainsField Rfc9651 kind.List input text
@@ -82,8 +82,8 @@ Shows text old new = (sent : Result ℕ WriteFault) × Writes old new 0 sent tex
 abbrev pub IsExplained : Bool → Status → Type 0
 IsExplained is_terminal status = (is_terminal ≡ true) × (status ≡ Refused)
 
--- a refusal is explained by such a text; nothing is written if an allocation for it fails, or
--- there is no refusal or no terminal
+-- a refusal is explained by a text that `explains` allows; nothing is written if an allocation for
+-- it fails, or there is no refusal or no terminal
 abbrev pub ExplainsWith : Bool → Status → (List ℕ → Type 0) → SinkState → SinkState → Type 0
 ExplainsWith is_terminal status explains old new =
     (new ≡ old)

@@ -33,7 +33,8 @@ is_field_value value = list_all (λ b. b == tab || not (is_control b)) value
 abbrev pub word_of : List ℕ → List ℕ
 word_of line = before_first is_colon line
 
--- the same in lower case, since case does not count in names (RFC 9110 section 5.1)
+-- what is before the first colon, in lower case, since case does not count in names (RFC 9110
+-- section 5.1)
 abbrev pub name_of : List ℕ → List ℕ
 name_of line = lowercase (word_of line)
 
@@ -68,7 +69,7 @@ is_refused targets (b ∷ line) =
 abbrev pub IsTaken : Targets → List ℕ → Type 0
 IsTaken targets line = (is_refused targets line ≡ false) × (is_of_listed targets line ≡ true)
 
--- a name with a value
+-- the name and the value of a line
 abbrev pub field_of : List ℕ → List ℕ × FieldValue
 field_of line = (name_of line, plain_value (value_of line))
 

@@ -8,7 +8,7 @@ use Rattle.sf_tool.specs.declared.request.Request.TheVariants.{Targeted, Priorit
 abbrev pub most_names : ℕ
 most_names = 64
 
--- if it has names, there are from one to that many
+-- if a request has names, there are from one to `most_names`
 abbrev pub HasFewNames : Request → Type 0
 HasFewNames (Targeted names) = (1 ≤ length names.items) × (length names.items ≤ most_names)
 HasFewNames (Show dialect kind) = ⊤

@@ -29,7 +29,7 @@ line_of Refused = None
 line_of Usage = Some usage_line
 line_of Stopped = Some stopped_line
 
--- the same for arguments that make no request
+-- the line on standard error for arguments that make no request
 abbrev pub fault_line : RequestFault → List ℕ
 fault_line fault.Usage = usage_line
 fault_line fault.OutOfMemory = stopped_line
