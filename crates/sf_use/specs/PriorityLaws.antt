@@ -15,7 +15,7 @@ abbrev pub ReadAsWritten : Type 0
 ReadAsWritten =
     (p : Priority) → IsUrgency p.urgency → priority_with_defaults (params_of_dict (prio p)) ≡ p
 
--- the same from the text that is written, as the only line
+-- the text that is written for a priority, as the only line, means what its Dictionary sets
 abbrev pub ReadFromText : Type 0
 ReadFromText =
     (p : Priority) → IsUrgency p.urgency

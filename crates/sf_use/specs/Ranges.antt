@@ -23,6 +23,6 @@ greatest_status = 999
 abbrev pub IsHopStatus : ℕ → Type 0
 IsHopStatus n = (least_status ≤ n) × (n ≤ greatest_status)
 
--- the same as a test
+-- whether a number is a status code
 abbrev pub is_hop_status : ℕ → Bool
 is_hop_status n = nat_le least_status n && nat_le n greatest_status

@@ -17,15 +17,17 @@ use Rattle.sf_use.specs.Targeted.{delta_seconds, is_set}
 abbrev pub IsScanned : {A : Type 0} → (Field → A → Type 0) → List ℕ → A → Type 0
 IsScanned P text a = (v : Field) × IsOnly Rfc9651 kind.Dict text v × P v a
 
--- an Integer as an urgency, as seconds, and a Boolean as a directive
+-- an Integer as an urgency
 abbrev pub urgency_by : Option ℤ → Option ℕ
 urgency_by (Some (pos n)) = if nat_le n least_urgent then Some n else None
 urgency_by x = None
 
+-- an Integer as seconds
 abbrev pub seconds_by : Option ℤ → Option ℕ
 seconds_by (Some (pos n)) = Some n
 seconds_by x = None
 
+-- whether a member sets a directive, by its Boolean, if it has one
 abbrev pub sets_by : Option Bool → Bool
 sets_by b = unwrap_or b true
 

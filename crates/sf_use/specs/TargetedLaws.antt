@@ -18,7 +18,7 @@ use Rattle.sf_use.specs.TargetedChoice.{IsChosen, IsOffer}
 abbrev pub SomeChoice : Type 0
 SomeChoice = (targets : Seq (Seq ℕ)) (headers : Headers) → (c : Choice) × IsChosen targets headers c
 
--- they have one choice at most
+-- the targets and the headers have at most one choice
 abbrev pub OneChoice : Type 0
 OneChoice =
     (targets : Seq (Seq ℕ)) (headers : Headers) (c e : Choice)

@@ -67,16 +67,16 @@ hop_named params name =
       detail = name_at (codes "detail") params;
     }
 
--- an Item of a String or a Token names a cache (2)
+-- the hop of an Item: a String or a Token names a cache (2)
 abbrev pub hop_of : Item → Option Hop
 hop_of item = option_map (hop_named item.params) (as_name item.bare)
 
--- an Inner List does not
+-- the hop of a member; an Inner List names no cache
 abbrev pub member_hop : Member → Option Hop
 member_hop (member.Item i) = hop_of i
 member_hop (member.Inner l) = None
 
--- the hops, or the index if there is one
+-- the index of a member that names no cache, if there is one, otherwise the hops
 abbrev pub unless : Option ℕ → Seq Hop → Result (Seq Hop) ℕ
 unless (Some index) hs = Err index
 unless None hs = Ok hs

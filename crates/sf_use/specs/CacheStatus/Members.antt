@@ -86,7 +86,7 @@ table_of h =
     ∷ (codes "detail", option_map bare_of h.detail)
     ∷ []
 
--- those that have a value
+-- the parameters of a table that have a value
 abbrev pub present : Table → Pairs Bare
 present table = filter_map (λ p. option_map (λ value. (p.0, value)) p.1) table
 
