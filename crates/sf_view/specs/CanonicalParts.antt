@@ -16,8 +16,8 @@ abbrev pub encoding : ℕ → Seq ℕ
 encoding b =
     if is_unencoded b then b ∷ [] else percent ∷ hex (b / 16) ∷ hex (b % 16) ∷ []
 
--- of the bytes t of a Display String, prefix is the canonical text of the first, and rest spells the
--- others
+-- of the bytes t of a Display String, prefix is the canonical text of the first, and the others are
+-- spelled by rest
 pub record CanonicalRun (prefix rest t : Seq ℕ) : Type 0 where
   pub left : Seq ℕ
   pub remains : EncodedBytes rest left
