@@ -18,7 +18,8 @@ pub record Means (old new : List ℕ) (n m : Node) : Type 0 where
   pub opening : (k : List ℕ) (size : ℕ) → DescribesOpening old k size n
       → DescribesOpening new k size m
 
--- each two nodes at the same index mean the same with their sources
+-- each node of the second list, with its source, describes what the node at its index in the first
+-- describes
 abbrev pub EachMeans : List ℕ → List ℕ → List Node → List Node → Type 0
 EachMeans old new [] [] = Unit {0}
 EachMeans old new (n ∷ ns) (m ∷ ms) = Means old new n m × EachMeans old new ns ms
@@ -42,14 +43,14 @@ decoded_to at count n = record {
 abbrev pub IsUncoded : ℕ → Node → Type 0
 IsUncoded size n = IsDecoded n × IsInOne size n
 
--- the nodes mean the same with the first of these bytes after the text
+-- the new nodes, with the first of these bytes after the text, mean what the old ones mean
 pub record AreDecoded (text : List ℕ) (old new : List Node) (bytes : List ℕ) (used : ℕ)
     : Type 0 where
   pub within : used ≤ length bytes
   pub means : EachMeans text (text ++ take used bytes) old new
   pub uncoded : Each (IsUncoded (length text)) new
 
--- the node means the same with more bytes after the text, up to this end
+-- the node m, with more bytes after the text, up to this end, means what the node n means
 pub record IsNodeDecoded (text old new : List ℕ) (used : ℕ) (n m : Node) (end : ℕ)
     : Type 0 where
   pub more : used ≤ end

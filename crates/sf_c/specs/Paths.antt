@@ -1,4 +1,4 @@
--- What the text of a Cache-Status field answers (RFC 9211 section 2).
+-- What reading the text of a Cache-Status field returns (RFC 9211 section 2).
 use Rattle.std.specs.Prelude.{◌≡◌, ℕ, ◌+◌, ◌*◌, ◌<◌, ◌≤◌, ◌⊎◌, List as Seq, length, map}
 use Rattle.std.specs.Prelude.{is_some, unwrap_or}
 use Rattle.std.specs.Prelude.{IsOk, Option, Some, Result, Ok, Err, ⊤}
@@ -91,7 +91,7 @@ NamesCaches old new v (Err status) = ⊥
 abbrev pub IsShort : Seq ℕ → Path → Type 0
 IsShort t p = (10 * p.hops ≤ 8 * length t + 5) × (5 * p.bytes ≤ 8 * length t)
 
--- the same of the sizes in the struct, if the status says that they are there
+-- the sizes in the struct, if the status says that they are there, are that few
 abbrev pub SaysFew : Seq ℕ → Path → Option Status → Type 0
 SaysFew t p (Some Answered) = IsShort t p
 SaysFew t p (Some Short) = IsShort t p

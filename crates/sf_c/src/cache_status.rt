@@ -80,7 +80,7 @@ pub extern "C" fn sf_cache_status(
     path_of(alloc, seed, text, hops, bytes, path, refusal).code()
 }
 
-/// As [`sf_cache_status`] answers.
+/// The result of [`sf_cache_status`].
 fn path_of(
     alloc: Global,
     seed: &Seed,
@@ -107,7 +107,7 @@ fn path_of(
     path_by_tree(alloc, seed, text, hops, bytes, path, refusal)
 }
 
-/// As [`sf_cache_status`] answers, by the tree of the value.
+/// The result of [`sf_cache_status`], by the tree of the value.
 fn path_by_tree(
     alloc: Global,
     seed: &Seed,

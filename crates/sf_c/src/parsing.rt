@@ -30,7 +30,7 @@ pub struct Sizes {
 
 /// The value that the text spells, as nodes. Returns `Answered` if the first `sizes.nodes` nodes
 /// describe it, with the text and the first `sizes.bytes` bytes after it; `TooMany` if `nodes` has
-/// fewer than `sizes.nodes` nodes, or else `Short` if `bytes` has fewer than `sizes.bytes` bytes;
+/// fewer than `sizes.nodes` nodes, otherwise `Short` if `bytes` has fewer than `sizes.bytes` bytes;
 /// `Refused` if no value is spelled, with the refusal in `refusal`; `TooLong` if the text, or the
 /// text and the required bytes together, have 4 GiB or more; `OutOfMemory`; or `BadCall`. Only
 /// for `BadCall` are the buffers claimed to be unchanged.
