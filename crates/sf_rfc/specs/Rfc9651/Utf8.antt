@@ -17,7 +17,7 @@ octet low high (c ∷ t) = only_if (in_range low high c) t
 abbrev pub then : Rule → Rule → Rule
 then p q t = and_then (p t) q
 
--- one rule or else another
+-- one rule, or another if that fails
 abbrev pub either : Rule → Rule → Rule
 either p q t = option_or (p t) (q t)
 
