@@ -1,4 +1,4 @@
-//! All memory, taken.
+//! All memory of the process, allocated.
 ghost use Rattle.std.specs.Prelude.{◌≡◌, ◌<◌, ◌≤◌, IfOk, IsTrue};
 
 use std::alloc::{AllocError, Global};
@@ -13,7 +13,7 @@ pub(crate) const SPARES: usize = 4096;
 /// The length in bytes of a spare, which is the most that can be left.
 const SPARE_SIZE: usize = 65_536;
 
-/// The step in bytes in which the C library hands out memory.
+/// The step in bytes in which the C library allocates memory.
 pub(crate) const STEP: usize = 16;
 
 /// The smallest blocks are taken in each of so many sizes, a step apart, and up to this one: the C
@@ -23,7 +23,7 @@ const SMALL_SIZES: usize = 64;
 const LARGEST_SMALL: usize = 1032;
 
 /// All memory of the process, held in blocks, and spares from which a little of it can be left.
-/// Dropping it gives all of it back. Contracts see how many blocks it holds.
+/// Dropping it frees all of it. Contracts see how many blocks it holds.
 #[derive(Drop)]
 pub struct Scarcity {
     blocks: Vec<Vec<u8>>,
