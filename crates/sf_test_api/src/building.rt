@@ -1,4 +1,4 @@
-//! Values for the tests. A test ends where memory is wanting for one, or a part of it is refused.
+//! Values for the tests. A test ends if an allocation for one fails, or a part of it is refused.
 use sf_value::{
     Bare, Blob, Dict, Entries, Field, Inner, Int, Item, Key, List, Member, Shown, Text,
     Thousandths, Token,

@@ -1,9 +1,9 @@
 //! Calls of the libraries on what they are for: values that are made, put together, copied and
 //! written, lines and header maps that are read, and what consumers read of them. What is expected
-//! comes from the RFCs. It has tests alone, a module for each subject: so the libraries are proved
-//! once, and not again with tests of their own.
+//! comes from the RFCs. There is a module for each subject. The tests are in a crate of their own,
+//! so that the libraries are not proved again with them.
 //!
-//! Texts that are parsed stand in `sf_test_vectors`, runs of the command in `sf_test_cli`.
+//! Texts that are parsed are in `sf_test_vectors`, runs of the command in `sf_test_cli`.
 #![tactic(auto)]
 
 #[cfg(test)]

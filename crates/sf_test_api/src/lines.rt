@@ -1,4 +1,4 @@
-//! Lines and header maps with their answers.
+//! Lines and header maps with their results.
 use crate::building::seed;
 use http_header::{HeaderMap, HeaderName, HeaderValue};
 use sf_field::{
@@ -146,7 +146,7 @@ fn parses_lines(rt: HostRuntime) {
     check(&rt, found, Err(refusal));
 }
 
-/// The older dialect stops at a date, where these bytes, a digit, a colon or a letter could stand.
+/// The older dialect refuses a date, and expects these bytes, a digit, a colon or a letter.
 fn no_date(place: u64, others: &[u8]) -> Refusal {
     Refusal::Syntax {
         place,

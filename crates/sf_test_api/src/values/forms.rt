@@ -1,4 +1,4 @@
-//! Entries of up to 8 stand in one form, more in another: both, and the change from one to the
+//! Up to 8 entries are stored in one form, more in another: both, and the change from one to the
 //! other.
 use crate::building::{integer, key, number_in, put, seed};
 use sf_value::{Bare, Entries, Item, Member, Part};
@@ -6,7 +6,7 @@ use std::hash::RandomState;
 use std::mem;
 use std::process::Abort;
 
-/// The bytes of the key at a place. Every third is too long to stand in place.
+/// The bytes of the key at a place. Every third is too long to be stored in place.
 fn key_at(rt: &(impl Abort + AllocGlobal), place: u8) -> Vec<u8> {
     let mut key = Vec::from_slice(rt.alloc(), b"k").expect(rt, "room");
     let end: &[u8] = if place % 3 == 2 {
@@ -55,7 +55,7 @@ fn filled(rt: &(impl Abort + AllocGlobal), seed: &RandomState, count: u8) -> Ent
     entries
 }
 
-/// Whether a key and its value stand at a place.
+/// Whether a key and its value are at a place.
 fn stands_at(entries: &Entries<Bare>, place: u8, key: &[u8], value: i64) -> bool {
     match entries.at(usize::from(place)) {
         Some((found, bare)) => found == key && number_in(bare) == Some(value),
