@@ -41,7 +41,7 @@ fn expect_explained(
     assert_eq!(rt; errors.device.calls, u64::from(!words.is_empty()));
 }
 
-/// The same where the write after this prefix of the explanation fails: output and status stay.
+/// The same if the write after this prefix of the explanation fails: output and status stay.
 fn expect_broken_off(
     rt: &(impl Abort + AllocGlobal),
     seed: &RandomState,

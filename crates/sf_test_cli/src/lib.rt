@@ -1,5 +1,5 @@
 //! Tests of the command: `words` for its words, `fields`, `consumers` and `targeted` for inputs of
-//! [`sf_tool::run`] whose answer is known, and `explaining` for what a terminal shows of a refusal.
+//! [`sf_tool::run`] whose output is known, and `explaining` for what a terminal shows of a refusal.
 //! README.md says in which ways each input is read.
 #![tactic(auto)]
 

@@ -201,7 +201,7 @@ fn the_last_of_64_names(rt: HostRuntime) -> Result<(), Fail> {
     Ok(())
 }
 
-/// More names than a header map can hold are answered as any others.
+/// More names than a header map can hold make no difference.
 #[test]
 fn more_names_than_a_map_holds(rt: HostRuntime) -> Result<(), Fail> {
     let seed = RandomState::new(&rt)?;
