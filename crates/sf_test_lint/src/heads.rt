@@ -1,4 +1,4 @@
-//! Heads whose answer is known.
+//! Heads whose output is known.
 use http_header::HeaderName;
 use sf_lint::{CustomField, Settings, is_coloured, run};
 use sf_tool::Status;
