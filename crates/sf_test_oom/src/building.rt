@@ -63,7 +63,7 @@ fn value_of(alloc: Global, field: &Field) -> Seen {
     }
 }
 
-/// Sets the field in a map without names, which a refusal leaves as it was.
+/// Sets the field in a map without names, which a refusal leaves unchanged.
 fn set(alloc: Global, field: &Field) -> Seen {
     let mut headers = HeaderMap::new(alloc);
     let name = HeaderName::from_static("x");

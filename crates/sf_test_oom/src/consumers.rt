@@ -1,4 +1,4 @@
-// What consumers of fields answer and write.
+// What consumers of fields return and write.
 use crate::expecting::{expect_no_need, expect_refusals, seen_if};
 use http_header::{HeaderMap, HeaderName, HeaderValue};
 use sf_field::{AskFault, Consumer, UseFault, ask};
@@ -13,7 +13,7 @@ use std::alloc::Global;
 use std::hash::RandomState;
 use std::test::Fail;
 
-/// A cache that answered from its store, and one that has all else that takes memory.
+/// A cache that answered from its store, and one with everything else that allocates.
 const HOPS: &[u8] = b"OriginCache;hit;ttl=1100, \"CDN Company Here\";fwd=odd;key=\"k\";detail=x";
 
 const DIRECTIVES: &[u8] = b"max-age=60, s-maxage=90";
@@ -151,7 +151,7 @@ fn write_priority(alloc: Global, seed: &RandomState, want: &Field) -> Seen {
     }
 }
 
-// The calls that take memory and change nothing.
+// The calls that allocate and change nothing.
 #[derive(Clone, Copy)]
 enum Call {
     AskHops,
@@ -258,7 +258,7 @@ fn makes_numbers() -> bool {
         && Urgency::new(8).is_err()
 }
 
-/// Calls that take no memory, by the field that they are made on.
+/// Calls that do not allocate, by the field that they are made on.
 fn answers_field(alloc: Global, field: &Field) -> bool {
     match field {
         Field::List(_) => is_no_cache(alloc, field),

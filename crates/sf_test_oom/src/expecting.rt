@@ -32,7 +32,7 @@ pub(crate) fn expect_no_need<F: FnMut() -> Seen>(rt: &(impl Abort + AllocGlobal)
     assert_eq!(rt; seen, Some(Seen::Right));
 }
 
-/// `Right` where this holds.
+/// `Right` if this holds.
 pub(crate) fn seen_if(right: bool) -> Seen {
     if right { Seen::Right } else { Seen::Wrong }
 }

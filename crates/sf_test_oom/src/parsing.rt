@@ -99,7 +99,7 @@ fn ends_for_memory(parser: Parser) -> bool {
     parser.finish().err() == Some(Refusal::OutOfMemory)
 }
 
-/// Whether each later call wants memory, too, after so many bytes were handed in.
+/// Whether each later call returns out of memory, too, after so many bytes were fed.
 fn stays_refused(mut parser: Parser, handed: usize) -> bool {
     let place = parser.place();
     let first = parser.feed(b"");
@@ -112,7 +112,7 @@ fn stays_refused(mut parser: Parser, handed: usize) -> bool {
 }
 
 /// Feeds the text in chunks of so many bytes, at least one, up to the first chunk that is refused,
-/// and answers with its refusal how many bytes were handed in.
+/// and returns with its refusal how many bytes were fed.
 fn feed_all(parser: &mut Parser, text: &[u8], size: usize) -> Result<(), (Refusal, usize)> {
     let mut handed = 0usize;
     for chunk in text.chunks(size.max(1)) {
@@ -150,7 +150,7 @@ fn pieces(rt: HostRuntime) -> Result<(), Fail> {
     Ok(())
 }
 
-/// A parser that was refused with no memory left; there is memory again when it is given.
+/// A parser that was refused with no memory left; there is memory again when this returns it.
 fn refused_parser(alloc: Global, seed: &RandomState) -> Option<Parser> {
     let mut scarcity = Scarcity::new(alloc).ok()?;
     let mut parser = Parser::new(alloc, seed, Kind::Dict, u64::MAX);

@@ -145,7 +145,7 @@ fn stray_words(rt: HostRuntime) -> Result<(), Fail> {
     Ok(())
 }
 
-// An input, and the text and the status that it is answered with.
+// An input, and the text and the status for it.
 type Row = (&'static [u8], &'static [u8], Status);
 
 /// Runs over a reader that gives a byte a call, into the buffer that is there.
@@ -276,7 +276,7 @@ fn runs_of_a_consumer(rt: HostRuntime) -> Result<(), Fail> {
     Ok(())
 }
 
-/// An answer goes out where no memory is left for its text.
+/// The output is written also if no memory is left for its text.
 #[test]
 fn answers_without_memory(rt: HostRuntime) -> Result<(), Fail> {
     let alloc = rt.alloc();
@@ -303,7 +303,7 @@ fn answers_without_memory(rt: HostRuntime) -> Result<(), Fail> {
 }
 
 /// Runs at a terminal, whose bytes go into the second buffer: the whole explanation or nothing
-/// is written, and the answer is there whatever memory is left for it.
+/// is written, and the output is written whatever memory is left for it.
 fn explained(
     alloc: Global,
     seed: &RandomState,
@@ -336,7 +336,7 @@ fn explained(
     seen_if(explanation.as_slice() == words)
 }
 
-/// An explanation for which memory is wanting is left out, and the answer stays.
+/// An explanation whose allocation fails is omitted, and the output stays.
 #[test]
 fn explanations(rt: HostRuntime) -> Result<(), Fail> {
     let alloc = rt.alloc();

@@ -53,7 +53,7 @@ fn make_shown(alloc: Global) -> Seen {
     }
 }
 
-// The words that take memory.
+// The words that allocate.
 #[derive(Clone, Copy)]
 enum Word {
     Key,
@@ -81,7 +81,7 @@ fn words(rt: HostRuntime) {
     }
 }
 
-/// What is refused for its bytes is refused for them with no memory, too.
+/// What is refused for its bytes is refused for them also with no memory left.
 fn make_bad(alloc: Global) -> Seen {
     let bad = Some(TextFault::BadByte { place: 1 });
     let key = Key::new(alloc, b"aB").err();
@@ -212,7 +212,7 @@ fn new_keys(rt: HostRuntime) -> Result<(), Fail> {
     Ok(())
 }
 
-/// Sets a new key, of one byte, which takes no memory; a refusal leaves the entries as they were.
+/// Sets a new key, of one byte, which is stored in place; a refusal leaves the entries unchanged.
 fn set_new(alloc: Global, filled: &mut Vec<Entries<Bare>>, count: usize) -> Seen {
     let Some(mut entries) = filled.pop() else {
         return Seen::Wrong;

@@ -1,4 +1,4 @@
-// Refusals in words, alone and beside their line, which take no memory.
+// The error messages of refusals, alone and with their line, which do not allocate.
 use crate::expecting::{expect_no_need, seen_if};
 use sf_field::parse_lines;
 use sf_parse::{Refusal, parse_text};
