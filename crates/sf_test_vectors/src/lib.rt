@@ -1,6 +1,5 @@
 //! Conformance vectors: texts of every kind with their outcomes, run through the parser whole, in
-//! every cutting into two chunks and one byte at a time, and through the writer. It has tests
-//! alone.
+//! every cutting into two chunks and one byte at a time, and through the writer.
 #![tactic(auto)]
 
 #[cfg(test)]

@@ -15,7 +15,7 @@ fn read_whole(alloc: Global, seed: &RandomState) -> Result<(Field, u64), Refusal
     Ok((field, source.calls))
 }
 
-/// The refusal where the read of this number fails, and how often one failed.
+/// The refusal if the read of this number fails, and how often one failed.
 fn read_until(alloc: Global, seed: &RandomState, fails_at: u64) -> (Option<Refusal>, u64) {
     let mut source = Paced::new(MEMBERS, 1, 0, fails_at);
     let refusal = parse_reader(alloc, seed, Kind::Dict, 25, &mut source).err();
@@ -45,7 +45,7 @@ fn each_read_fails(rt: HostRuntime) -> Result<(), Fail> {
     Ok(())
 }
 
-// What a reader is answered, without the value and the set of a refusal.
+// The result for a reader, without the value and the set of a refusal.
 #[derive(Debug, PartialEq, Drop)]
 enum Answer {
     Accepted(Kind),

@@ -8,7 +8,7 @@ use std::process::Abort;
 use std::test::Fail;
 
 // The kind, the text, the place, the byte found there, and the bytes that could have followed: two
-// hexadecimal digits each, a run as its ends, and `end` where the prefix is a text.
+// hexadecimal digits each, a run as its ends, and `end` if the prefix is a text.
 pub(crate) type Row = (Kind, &'static [u8], u64, Option<u8>, &'static str);
 
 const ITEM: &str = "20 22 25 2a 2d 30-3a 3f-5a 61-7a";
@@ -335,7 +335,8 @@ fn old_dialect(rt: HostRuntime) -> Result<(), Fail> {
     Ok(())
 }
 
-/// What a parser of one byte answers to two, to none behind them and at the end, and its place.
+/// What a parser with a limit of one byte returns for two, for none after them and at the end, and
+/// its place.
 fn past_the_limit(alloc: Global, seed: &RandomState) -> ([Option<Refusal>; 3], u64) {
     let mut parser = Parser::new(alloc, seed, Kind::Item, 1);
     let fed = parser.feed(b"ab").err();
