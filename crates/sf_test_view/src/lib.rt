@@ -1,5 +1,4 @@
-//! Views beside trees: accepted texts have nodes, and the nodes describe what the tree has. It has
-//! tests alone.
+//! Views compared with trees: accepted texts have nodes, and the nodes describe what the tree has.
 #![tactic(auto)]
 
 #[cfg(test)]
