@@ -1,1 +1,1 @@
--- This crate has tests alone.
+-- This crate has only tests.
