@@ -1,4 +1,4 @@
--- The results of the exports.
+-- The definitions that the contracts of the exported functions use.
 pub mod Versions
 pub mod Statuses
 pub mod Calls

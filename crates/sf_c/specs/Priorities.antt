@@ -18,7 +18,7 @@ use Rattle.sf_c.specs.declared.status.Status.{Status}
 use Rattle.sf_c.specs.declared.status.Status.TheVariants.{Answered, Refused, OutOfMemory}
 use Rattle.sf_c.specs.Refusals.{SaysRefusal, flag_number}
 
--- the struct has these parameters, and the defaults for absent ones
+-- the struct has these parameters, and the defaults for absent ones (RFC 9218 sections 4.1 and 4.2)
 abbrev pub SaysAsked : PriorityFlags → Asked → Type 0
 SaysAsked p a =
     (p.urgency ≡ (priority_with_defaults a).urgency)
