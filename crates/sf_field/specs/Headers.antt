@@ -29,6 +29,7 @@ ParsesHeaders kind headers name (Err e) =
     ContainsKey headers name × ParsesLines Rfc9651 kind (lines_under headers name) (Err e)
 
 -- the map with this text as the only value under the name; a field with an empty text is not sent
+-- (RFC 9651 section 4.1)
 abbrev pub set_text : Headers → List ℕ → List ℕ → Headers
 set_text headers name [] = remove headers name
 set_text headers name (b ∷ text) = insert headers name (plain_value (b ∷ text))
