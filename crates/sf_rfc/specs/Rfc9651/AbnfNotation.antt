@@ -1,5 +1,6 @@
--- The notation of ABNF (RFC 5234) and the rules that RFC 9651 takes from RFC 5234 and RFC 9110. A
--- rule is the texts that it matches. Nothing here uses a definition of the algorithms.
+-- The notation of ABNF (RFC 5234), and the rules that RFC 9651 takes from RFC 5234 (appendix B.1)
+-- and RFC 9110. Sections without an RFC are those of RFC 5234. A rule is the texts that it matches.
+-- Nothing here uses a definition of the algorithms.
 use Rattle.std.specs.Prelude.{◌≡◌, ℕ, zero, suc, ◌≤◌, ◌⊎◌, List, [], ◌∷◌, ◌++◌, codes}
 
 abbrev pub Rule : Type 1
