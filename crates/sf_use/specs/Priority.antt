@@ -15,7 +15,7 @@ use Rattle.sf_use.specs.Ranges.{least_urgent, usual_urgency}
 use Rattle.sf_use.specs.declared.priority.Asked.{Asked}
 use Rattle.sf_use.specs.declared.priority.Priority.{Priority}
 
--- an Integer that is an urgency
+-- an Integer that is an urgency (section 4.1)
 abbrev pub urgency_in : Bare → Option ℕ
 urgency_in (Integer (pos n)) = if nat_le n least_urgent then Some n else None
 urgency_in x = None
