@@ -9,7 +9,7 @@ abbrev pub unhex : ℕ → Option ℕ
 unhex b = if is_digit b then Some (b - digit_zero) else
     (if within lower_a lower_f b then Some (b - 87) else None)
 
--- the value of a character of base64
+-- the value of a character of base64 (RFC 4648 section 4)
 abbrev pub sextet : ℕ → Option ℕ
 sextet b = if nat_le upper_a b && nat_le b upper_z then Some (b - upper_a) else
     (if is_lower b then Some (b - 71) else
