@@ -52,7 +52,7 @@ ignored_at s n params meant key =
 abbrev pub status_at : Seq ℕ → Pairs Bare → Option ℕ
 status_at key params = status_of (integer_at key params)
 
--- the ignored ones of the parameters of the n-th member, of the eight that RFC 9211 defines
+-- the lines for the ignored parameters of the n-th member, among the eight that RFC 9211 defines
 -- (sections 2.1 to 2.8)
 abbrev pub ignored_params : Settings → ℕ → Pairs Bare → Seq ℕ
 ignored_params s n params =
@@ -65,12 +65,12 @@ ignored_params s n params =
     ++ (ignored_at s n params text_at (codes "key")
     ++ ignored_at s n params name_at (codes "detail")))))))
 
--- the parameters of the n-th member that are ignored; an Inner List names no cache
+-- the lines for the ignored parameters of the n-th member; an Inner List names no cache
 abbrev pub ignored_member : Settings → ℕ → Member → Seq ℕ
 ignored_member s n (member.Item i) = ignored_params s n i.params
 ignored_member s n (member.Inner l) = []
 
--- the parameters of members that are ignored; the first member is the n-th
+-- the lines for the ignored parameters of members, whose first is the n-th
 abbrev pub ignored_members : Settings → ℕ → Seq Member → Seq ℕ
 ignored_members s n [] = []
 ignored_members s n (m ∷ ms) = ignored_member s n m ++ ignored_members s (suc n) ms
@@ -81,16 +81,16 @@ abbrev pub path_text : Seq ℕ → Result (Seq Hop) ℕ → Result (Seq ℕ) ℕ
 path_text ignored (Ok path) = Ok (ignored ++ path_lines path)
 path_text ignored (Err index) = Err index
 
--- the members of a Priority field that are ignored (RFC 9218 section 4), and its parameters with
--- the defaults filled in
+-- the lines for the members of a Priority field that are ignored (RFC 9218 section 4), and for its
+-- parameters with the defaults filled in
 abbrev pub priority_lines : Settings → Pairs Member → Asked → Seq ℕ
 priority_lines s members a =
     (ignored_line s (codes "u") (is_ignored (value_at (codes "u") members) a.urgency)
     ++ ignored_line s (codes "i") (is_ignored (value_at (codes "i") members) a.incremental))
     ++ priority_line (priority_with_defaults a)
 
--- the members of a targeted field that are ignored (RFC 9213 section 2.1), and its policy; any
--- value but false sets the other directives
+-- the lines for the members of a targeted field that are ignored (RFC 9213 section 2.1), and for
+-- its policy; any value but false sets the other directives
 abbrev pub targeted_lines : Settings → Pairs Member → Policy → Seq ℕ
 targeted_lines s members p =
     (ignored_line s (codes "max-age") (is_ignored (value_at (codes "max-age") members) p.max_age)
