@@ -39,7 +39,7 @@ abbrev pub date_of : Bool → Bool → ℕ → ℕ → DateState
 date_of false negative digits value = Sign
 date_of true negative digits value = Digits negative digits value
 
--- before anything was read there is no sign and no digit
+-- a Date that was not begun has no sign and no digit
 abbrev pub FitsSign : Bool → Bool → ℕ → Type 0
 FitsSign false negative digits = (negative ≡ false) × (digits ≡ 0)
 FitsSign true negative digits = Unit {0}
