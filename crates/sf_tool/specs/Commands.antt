@@ -35,7 +35,7 @@ IsCommandFault word rows OutOfMemory =
 abbrev pub AsksAsFound : Option (Text × List Row) → Request → Type 0
 AsksAsFound found request = IsSomeAnd found (λ f. AsksFor f.0 f.1 request)
 
--- the command that clap found makes no request; Usage, if clap found no command
+-- the fault of the command that clap found; Usage, if clap found no command
 abbrev pub IsFoundFault : Option (Text × List Row) → RequestFault → Type 0
 IsFoundFault None fault = fault ≡ Usage
 IsFoundFault (Some found) fault = IsCommandFault found.0 found.1 fault
