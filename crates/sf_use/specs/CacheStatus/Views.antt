@@ -93,7 +93,7 @@ BorrowsName d (view_is.Text s) n =
     (t : List ℕ) × (n ≡ name.Text t) × DescribesText d s.coded s.bytes.now (Text t)
 BorrowsName d (view_is.Token s) n = n ≡ name.Token s.now
 
--- a name that is borrowed, or that is absent
+-- a name that is borrowed, or that is absent from both
 abbrev pub ShowsName : Dialect → Option NameView → Option Name → Type 0
 ShowsName d (Some v) (Some n) = BorrowsName d v n
 ShowsName d None None = Unit {0}
