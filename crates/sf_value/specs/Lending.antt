@@ -68,7 +68,7 @@ module _ {V : Type 0} where
   abbrev pub values_left : IterMut V → ℕ
   values_left values = length values.entries.now - values.index
 
-  -- after w became the value that comes next: the one after it comes next
+  -- w replaces the value that comes next, and the one after it comes next
   abbrev pub with_lent : IterMut V → V → IterMut V
   with_lent values w = record {
     entries = record values.entries { now = set_value_at values.entries.now values.index w };
