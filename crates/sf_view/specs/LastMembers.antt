@@ -18,7 +18,8 @@ pub record Passes {X : Type 0} (P : List ℕ → X → Type 0) (text rest : List
   pub spelled : P prefix value
   pub separates : Separates after rest
 
--- a member of a field of this kind, OWS, a comma and OWS are before the rest; an Item has none
+-- a member of a field of this kind, OWS, a comma and OWS are before the rest; a field of kind Item
+-- has no members
 abbrev pub PassesMember : Dialect → Kind → List ℕ → List ℕ → Type 0
 PassesMember d kind.Item text rest = ⊥
 PassesMember d kind.List text rest = Passes (SpellsMember d) text rest
