@@ -346,8 +346,9 @@ typedef struct sf_sizes {
  *   SF_NO_MEMORY, SF_BAD_CALL
  *
  * Nodes point to keys and bytes in the text; only Strings with escapes, Byte Sequences and Display
- * Strings are decoded into bytes. If a key is repeated, and rarely otherwise with more than eight
- * keys, all keys and bytes are copied there. The nodes are valid as long as the text and bytes are.
+ * Strings are decoded into bytes. If a key is repeated, and rarely for another Dictionary of more
+ * than eight nodes or part of more than eight parameters, all keys and bytes are copied there. The
+ * nodes are valid as long as the text and bytes are.
  * Buffers of SF_NODES_SIZE(text_length) nodes and SF_BYTES_SIZE(text_length) bytes are always large
  * enough. If the text is well-formed and the buffers are large enough, the call allocates only if
  * keys are copied.
