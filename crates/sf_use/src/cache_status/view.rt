@@ -98,6 +98,7 @@ impl<'a> HopCursor<'a> {
     /// Reads the next hop: `Some(None)` after the last one, and `None` if the cursor declines the
     /// text, of which nothing is then claimed. It declines a text that spells no List, a List with
     /// a member that names no cache, and a bare item with 4 GiB or more of text from it on.
+    #[inline(always)]
     pub fn next(&mut self) -> Option<Option<HopView<'a>>>
         // A member with this hop comes before those that remain; after the last one, none remain.
         ensures next { IfSome result (λ hop. ReadsNextHop self.old self.new hop) }
@@ -129,7 +130,7 @@ fn name_of(bare: BareView) -> Option<NameView>
 }
 
 /// Reads the parameters of an Item.
-#[inline]
+#[inline(always)]
 fn read_params(start: ParamCursor) -> Option<(HopParams, ItemCursor)>
     // Parameters that show these parts come before the members that remain.
     ensures reads { IfSome result (λ r. ReadsParams start.entry r.0 r.1) }
@@ -139,66 +140,36 @@ fn read_params(start: ParamCursor) -> Option<(HopParams, ItemCursor)>
     let mut cursor = start;
     let mut params = NO_PARAMS;
     while let Some(param) = cursor.next()? {
-        params = params_with(params, param);
+        params.set(param);
     }
     Some((params, cursor.end()?))
 }
 
-/// Returns the parameters after one more, which overwrites an earlier one with its key.
-#[inline]
-fn params_with<'a>(params: HopParams<'a>, param: ParamView<'a>) -> HopParams<'a>
-    ensures { (d : Which) (s : HopParts) (x : Bare) → ShowsParts d params.entry s
-        → IsBorrowed d param.entry.bare x
-        → ShowsParts d result (with_param s (param.entry.key.now, x)) }
-{
-    let bare = param.bare;
-    if param.key == b"hit".as_slice() {
-        return HopParams {
-            hit: bare.as_boolean(),
-            ..params
-        };
+impl<'a> HopParams<'a> {
+    /// Sets the parameter with this key, over an earlier one.
+    #[inline(always)]
+    fn set(&mut self, param: ParamView<'a>)
+        ensures { (d : Which) (s : HopParts) (x : Bare) → ShowsParts d self.old s
+            → IsBorrowed d param.entry.bare x
+            → ShowsParts d self.new (with_param s (param.entry.key.now, x)) }
+    {
+        let bare = param.bare;
+        if param.key == b"hit".as_slice() {
+            self.hit = bare.as_boolean();
+        } else if param.key == b"fwd".as_slice() {
+            self.fwd = bare.as_token();
+        } else if param.key == b"fwd-status".as_slice() {
+            self.fwd_status = bare.as_integer();
+        } else if param.key == b"ttl".as_slice() {
+            self.ttl = bare.as_integer();
+        } else if param.key == b"stored".as_slice() {
+            self.stored = bare.as_boolean();
+        } else if param.key == b"collapsed".as_slice() {
+            self.collapsed = bare.as_boolean();
+        } else if param.key == b"key".as_slice() {
+            self.key = bare.as_text();
+        } else if param.key == b"detail".as_slice() {
+            self.detail = name_of(bare);
+        }
     }
-    if param.key == b"fwd".as_slice() {
-        return HopParams {
-            fwd: bare.as_token(),
-            ..params
-        };
-    }
-    if param.key == b"fwd-status".as_slice() {
-        return HopParams {
-            fwd_status: bare.as_integer(),
-            ..params
-        };
-    }
-    if param.key == b"ttl".as_slice() {
-        return HopParams {
-            ttl: bare.as_integer(),
-            ..params
-        };
-    }
-    if param.key == b"stored".as_slice() {
-        return HopParams {
-            stored: bare.as_boolean(),
-            ..params
-        };
-    }
-    if param.key == b"collapsed".as_slice() {
-        return HopParams {
-            collapsed: bare.as_boolean(),
-            ..params
-        };
-    }
-    if param.key == b"key".as_slice() {
-        return HopParams {
-            key: bare.as_text(),
-            ..params
-        };
-    }
-    if param.key == b"detail".as_slice() {
-        return HopParams {
-            detail: name_of(bare),
-            ..params
-        };
-    }
-    params
 }
