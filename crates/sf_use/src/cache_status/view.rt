@@ -98,7 +98,6 @@ impl<'a> HopCursor<'a> {
     /// Reads the next hop: `Some(None)` after the last one, and `None` if the cursor declines the
     /// text, of which nothing is then claimed. It declines a text that spells no List, a List with
     /// a member that names no cache, and a bare item with 4 GiB or more of text from it on.
-    #[inline(always)]
     pub fn next(&mut self) -> Option<Option<HopView<'a>>>
         // A member with this hop comes before those that remain; after the last one, none remain.
         ensures next { IfSome result (λ hop. ReadsNextHop self.old self.new hop) }
@@ -130,7 +129,7 @@ fn name_of(bare: BareView) -> Option<NameView>
 }
 
 /// Reads the parameters of an Item.
-#[inline(always)]
+#[inline]
 fn read_params(start: ParamCursor) -> Option<(HopParams, ItemCursor)>
     // Parameters that show these parts come before the members that remain.
     ensures reads { IfSome result (λ r. ReadsParams start.entry r.0 r.1) }
@@ -147,7 +146,7 @@ fn read_params(start: ParamCursor) -> Option<(HopParams, ItemCursor)>
 
 impl<'a> HopParams<'a> {
     /// Sets the parameter with this key, over an earlier one.
-    #[inline(always)]
+    #[inline]
     fn set(&mut self, param: ParamView<'a>)
         ensures { (d : Which) (s : HopParts) (x : Bare) → ShowsParts d self.old s
             → IsBorrowed d param.entry.bare x
