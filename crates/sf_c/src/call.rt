@@ -1,5 +1,9 @@
 //! The numbers that C passes for a dialect and a kind, and parsing for every call.
 ghost use Rattle.std.specs.Prelude.{◌≡◌};
+ghost use Rattle.std.specs.Result.{result_map_both};
+ghost use Rattle.sf_value.specs.declared.dialect.Dialect.TheVariants.{Rfc9651};
+ghost use Rattle.sf_value.specs.declared.value.Field.TheVariants as field_is;
+ghost use Rattle.sf_value.specs.declared.value.Kind.TheVariants as kind_is;
 ghost use Rattle.sf_parse.specs.Parsers.{Parses};
 ghost use Rattle.sf_c.specs.Calls.{dialect_at, kind_at};
 ghost use Rattle.sf_c.specs.Parsing.{ParsesOrSays};
@@ -8,7 +12,7 @@ use crate::refusal::SyntaxRefusal;
 use crate::seed::Seed;
 use crate::status::Status;
 use sf_parse::{Refusal, parse_text_in};
-use sf_value::{Dialect, Field, Kind};
+use sf_value::{Dialect, Dict, Field, Kind};
 use sf_view::parse_declined;
 use std::alloc::Global;
 use std::hash::RandomState;
@@ -78,6 +82,25 @@ pub(crate) fn parse(
             Err(Status::Refused)
         }
         Err(_) => unreachable!(),
+    }
+}
+
+/// The Dictionary that the text spells, or the status that says why there is none, as of [`parse`].
+pub(crate) fn parse_dict(
+    alloc: Global,
+    seed: &Seed,
+    scan: Scan,
+    text: &[u8],
+    refusal: &mut SyntaxRefusal,
+) -> Result<Dict, Status>
+    // The text spells this Dictionary and no other value, or the struct has its refusal, or an
+    // allocation failed.
+    ensures { ParsesOrSays refusal.old refusal.new text.now Rfc9651 kind_is.Dict
+        (result_map_both field_is.Dict (λ status. status) result) }
+{
+    match parse(alloc, seed, scan, Dialect::Rfc9651, Kind::Dict, text, refusal)? {
+        Field::Dict(dict) => Ok(dict),
+        _ => unreachable!(),
     }
 }
 

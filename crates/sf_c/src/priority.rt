@@ -4,12 +4,11 @@ ghost use Rattle.sf_use.specs.Priority.{merge_params};
 ghost use Rattle.sf_c.specs.Priorities.{AsksFor, SaysAsked, params_of_flags, flag_at, urgency_at};
 ghost use Rattle.sf_c.specs.Statuses.{status_at};
 
-use crate::call::{Scan, parse};
+use crate::call::{Scan, parse_dict};
 use crate::refusal::SyntaxRefusal;
 use crate::seed::Seed;
 use crate::status::Status;
 use sf_use::{Asked, Priority, PriorityField, Urgency, merge};
-use sf_value::{Dialect, Field, Kind};
 use std::alloc::Global;
 
 /// The parameters of a Priority field, with the defaults for absent ones (RFC 9218 section 4). In C
@@ -119,23 +118,11 @@ fn read_params(
         *priority = PriorityFlags::of(asked);
         return Status::Answered;
     }
-    let field = match parse(
-        alloc,
-        seed,
-        Scan::Declined,
-        Dialect::Rfc9651,
-        Kind::Dict,
-        text,
-        refusal,
-    ) {
-        Ok(field) => field,
-        Err(status) => return status,
-    };
-    match &field {
-        Field::Dict(dict) => {
-            *priority = PriorityFlags::of(Priority::from_dict(dict));
+    match parse_dict(alloc, seed, Scan::Declined, text, refusal) {
+        Ok(dict) => {
+            *priority = PriorityFlags::of(Priority::from_dict(&dict));
             Status::Answered
         }
-        _ => unreachable!(),
+        Err(status) => status,
     }
 }

@@ -10,13 +10,13 @@ ghost use Rattle.sf_c.specs.PriorityChanges.{ChangesPriority};
 ghost use Rattle.sf_c.specs.Statuses.{status_at};
 
 use crate::buffer::put_text;
-use crate::call::{Scan, parse};
+use crate::call::{Scan, parse_dict};
 use crate::priority::PriorityFlags;
 use crate::refusal::SyntaxRefusal;
 use crate::seed::Seed;
 use crate::status::Status;
 use sf_use::{Asked, update_priority};
-use sf_value::{Dialect, Dict, Field, Kind, OutOfMemory};
+use sf_value::{Dict, Field, OutOfMemory};
 use sf_write::to_text;
 use std::alloc::Global;
 use std::hash::RandomState;
@@ -60,31 +60,17 @@ fn change(
         (record { buffer = buffer.new; required = required.new; refusal = refusal.new })
         text.now priority.now (Some result) }
 {
-    let field = match parse(
-        alloc,
-        seed,
-        Scan::Skipped,
-        Dialect::Rfc9651,
-        Kind::Dict,
-        text,
-        refusal,
-    ) {
-        Ok(field) => field,
+    let dict = match parse_dict(alloc, seed, Scan::Skipped, text, refusal) {
+        Ok(dict) => dict,
         Err(status) => return status,
     };
     let Some(state) = seed.state() else {
         return Status::OutOfMemory;
     };
-    match field {
-        Field::Dict(dict) => {
-            let Ok(canonical) = changed_text(alloc, &state, dict, priority.asked()) else {
-                return Status::OutOfMemory;
-            };
-            return put_text(canonical.as_slice(), buffer, required);
-        }
-        Field::Item(_) => unreachable!(),
-        Field::List(_) => unreachable!(),
-    }
+    let Ok(canonical) = changed_text(alloc, &state, dict, priority.asked()) else {
+        return Status::OutOfMemory;
+    };
+    put_text(canonical.as_slice(), buffer, required)
 }
 
 /// The canonical text of the Dictionary with a priority put into it.

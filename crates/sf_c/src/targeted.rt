@@ -7,12 +7,12 @@ ghost use Rattle.sf_c.specs.Policies.{Directs, LifeIs, SaysPolicy, SaysToCache};
 ghost use Rattle.sf_c.specs.Policies.{policy_by, seconds_at};
 ghost use Rattle.sf_c.specs.Statuses.{status_at};
 
-use crate::call::{Scan, parse};
+use crate::call::{Scan, parse_dict};
 use crate::refusal::SyntaxRefusal;
 use crate::seed::Seed;
 use crate::status::Status;
 use sf_use::{Directives, Policy};
-use sf_value::{Dialect, Dict, Field, Kind};
+use sf_value::Dict;
 use std::alloc::Global;
 
 /// The directives of a targeted field (RFC 9213 section 2.1). In C an `sf_policy`.
@@ -160,20 +160,8 @@ pub(crate) fn direct(
     if let Some(offer) = Directives::scan(text) {
         return offered(offer, policy);
     }
-    let field = match parse(
-        alloc,
-        seed,
-        Scan::Declined,
-        Dialect::Rfc9651,
-        Kind::Dict,
-        text,
-        refusal,
-    ) {
-        Ok(field) => field,
-        Err(status) => return status,
-    };
-    match &field {
-        Field::Dict(dict) => directed(dict, policy),
-        _ => unreachable!(),
+    match parse_dict(alloc, seed, Scan::Declined, text, refusal) {
+        Ok(dict) => directed(&dict, policy),
+        Err(status) => status,
     }
 }

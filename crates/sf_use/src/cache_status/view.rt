@@ -139,66 +139,36 @@ fn read_params(start: ParamCursor) -> Option<(HopParams, ItemCursor)>
     let mut cursor = start;
     let mut params = NO_PARAMS;
     while let Some(param) = cursor.next()? {
-        params = params_with(params, param);
+        params.set(param);
     }
     Some((params, cursor.end()?))
 }
 
-/// Returns the parameters after one more, which overwrites an earlier one with its key.
-#[inline]
-fn params_with<'a>(params: HopParams<'a>, param: ParamView<'a>) -> HopParams<'a>
-    ensures { (d : Which) (s : HopParts) (x : Bare) → ShowsParts d params.entry s
-        → IsBorrowed d param.entry.bare x
-        → ShowsParts d result (with_param s (param.entry.key.now, x)) }
-{
-    let bare = param.bare;
-    if param.key == b"hit".as_slice() {
-        return HopParams {
-            hit: bare.as_boolean(),
-            ..params
-        };
+impl<'a> HopParams<'a> {
+    /// Sets the parameter with this key, over an earlier one.
+    #[inline]
+    fn set(&mut self, param: ParamView<'a>)
+        ensures { (d : Which) (s : HopParts) (x : Bare) → ShowsParts d self.old s
+            → IsBorrowed d param.entry.bare x
+            → ShowsParts d self.new (with_param s (param.entry.key.now, x)) }
+    {
+        let bare = param.bare;
+        if param.key == b"hit".as_slice() {
+            self.hit = bare.as_boolean();
+        } else if param.key == b"fwd".as_slice() {
+            self.fwd = bare.as_token();
+        } else if param.key == b"fwd-status".as_slice() {
+            self.fwd_status = bare.as_integer();
+        } else if param.key == b"ttl".as_slice() {
+            self.ttl = bare.as_integer();
+        } else if param.key == b"stored".as_slice() {
+            self.stored = bare.as_boolean();
+        } else if param.key == b"collapsed".as_slice() {
+            self.collapsed = bare.as_boolean();
+        } else if param.key == b"key".as_slice() {
+            self.key = bare.as_text();
+        } else if param.key == b"detail".as_slice() {
+            self.detail = name_of(bare);
+        }
     }
-    if param.key == b"fwd".as_slice() {
-        return HopParams {
-            fwd: bare.as_token(),
-            ..params
-        };
-    }
-    if param.key == b"fwd-status".as_slice() {
-        return HopParams {
-            fwd_status: bare.as_integer(),
-            ..params
-        };
-    }
-    if param.key == b"ttl".as_slice() {
-        return HopParams {
-            ttl: bare.as_integer(),
-            ..params
-        };
-    }
-    if param.key == b"stored".as_slice() {
-        return HopParams {
-            stored: bare.as_boolean(),
-            ..params
-        };
-    }
-    if param.key == b"collapsed".as_slice() {
-        return HopParams {
-            collapsed: bare.as_boolean(),
-            ..params
-        };
-    }
-    if param.key == b"key".as_slice() {
-        return HopParams {
-            key: bare.as_text(),
-            ..params
-        };
-    }
-    if param.key == b"detail".as_slice() {
-        return HopParams {
-            detail: name_of(bare),
-            ..params
-        };
-    }
-    params
 }

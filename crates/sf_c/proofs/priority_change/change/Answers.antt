@@ -12,8 +12,8 @@ use Rattle.sf_c.specs.TextBuffers.{PutsText, TextBuffer}
 use Rattle.sf_c.proofs.NodeTexts.{changes_priority}
 use Rattle.sf_c.proofs.priority_change.change.Goals as goal
 
-pub returns-in-Dict : goal.returns-in-Dict
-returns-in-Dict c =
+pub returns : goal.returns
+returns c =
     let old : TextBuffer = record { buffer = c.args.buffer.now; required = c.args.required.now } in
     let new : TextBuffer = record {
       buffer = c.put_text.new.buffer;
@@ -27,9 +27,9 @@ returns-in-Dict c =
     let after : TextOutput = record {
       buffer = c.put_text.new.buffer;
       required = c.put_text.new.required;
-      refusal = c.parse.new.refusal;
+      refusal = c.parse_dict.new.refusal;
     } in
-    let m = c.in-Dict.dict in
+    let m = c.in-Ok.dict in
     let p = c.args.priority.now in
     let asked = c.asked.ensures in
     let text : c.as_slice.result.now ≡ canon (field.Dict (updated (params_of_flags p) m)) =
@@ -39,7 +39,7 @@ returns-in-Dict c =
     let puts : PutsText old new c.as_slice.result.now (Some c.put_text.result) =
     c.put_text.ensures.puts in
     changes_priority before after c.args.text.now p m c.put_text.result
-    (subst (IsOnly Rfc9651 kind.Dict c.args.text.now) c.in-Dict.is c.in-Ok.ensures.0)
+    c.in-Ok.ensures.0
     (subst (λ a. Valid Rfc9651 kind.Dict (field.Dict (updated a m))) asked
     c.in-Ok-changed_text.ensures.valid)
     (subst (λ t. PutsText old new t (Some c.put_text.result)) text puts) c.in-Ok.ensures.1

@@ -21,7 +21,7 @@ loop-param-preserved c =
     params_step _ _ _ _ _ c.in-Some.param c.loop-param.invariant c.in_ok-param.ensures.dialect
     (subst (ReadsNextParam c.loop-param.cursor c.next.new.self) c.in-Some.is
     c.in_ok-param.ensures.next)
-    c.params_with-params.ensures c.in_ok-param.ensures.kept
+    c.set.ensures c.in_ok-param.ensures.kept
 
 pub returns-clause-reads : goal.returns-clause-reads
 returns-clause-reads c =
