@@ -15,9 +15,7 @@ use Rattle.sf_use.specs.CacheStatus.Served.{IsLastHit, served}
 -- what the test tells
 hit-is : (o : Outcome) → is_hit o ≡ true → o ≡ Hit
 hit-is Hit e = refl
-hit-is (Forwarded p) e = absurd cc
-hit-is (Conflict p) e = absurd cc
-hit-is Unsaid e = absurd cc
+hit-is o e = absurd cc
 
 miss-is : (o : Outcome) → is_hit o ≡ false → o ≢ Hit
 miss-is o e h =

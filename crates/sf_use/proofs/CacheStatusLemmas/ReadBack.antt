@@ -72,14 +72,7 @@ status-back (Some n) h = in-range n (h n refl)
 
 reason-back : (why : Forward) → forward_of (token_of why) ≡ canonical_reason why
 reason-back Bypass = refl
-reason-back Method = refl
-reason-back UriMiss = refl
-reason-back VaryMiss = refl
-reason-back Miss = refl
-reason-back Request = refl
-reason-back Stale = refl
-reason-back Partial = refl
-reason-back (Other token) = refl
+reason-back why = refl
 
 passed-back : (ps : Pairs Bare) (p : Passed) → ForSome p.status IsHopStatus
     → value_at (codes "fwd-status") ps ≡ status_value (Some p)
