@@ -1,5 +1,5 @@
 -- Nodes describe one value: no two fields of a kind have the same nodes with the same source.
-use Rattle.std.proofs.Common.{◌≡◌, ℕ, ◌+◌, ℤ, pos, negsuc, zero, suc, Bool, true, false, ◌==◌}
+use Rattle.std.proofs.Common.{◌≡◌, ℕ, ◌+◌, ℤ, pos, zero, Bool, true, false, ◌==◌}
 use Rattle.std.proofs.Common.{List as Seq, [], ◌∷◌, ◌++◌, length, refl, sym, ap, ◌∙◌, subst}
 use Rattle.std.proofs.Common.{cond, append-nil}
 use Rattle.sf_value.specs.declared.dialect.Dialect.{Dialect}
