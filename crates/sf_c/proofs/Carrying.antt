@@ -55,12 +55,6 @@ opening_stays source more k size n h =
       empty = h.empty;
     }
 
-pub means_stays : (source more : List ℕ) (n : Node) → Means source (source ++ more) n n
-means_stays source more n = record {
-  bare = λ d r k size x h. bare_stays d source more r k size n x h;
-  opening = λ k size h. opening_stays source more k size n h;
-}
-
 means_more : (old new more : List ℕ) (n m : Node) → Means old new n m
     → Means old (new ++ more) n m
 means_more old new more n m h = record {
@@ -71,32 +65,26 @@ means_more old new more n m h = record {
 pub each_more : (old new more : List ℕ) (ns ms : List Node) → EachMeans old new ns ms
     → EachMeans old (new ++ more) ns ms
 each_more old new more [] [] h = tt
-each_more old new more [] (m ∷ ms) h = absurd h
-each_more old new more (n ∷ ns) [] h = absurd h
 each_more old new more (n ∷ ns) (m ∷ ms) h =
     (means_more old new more n m h.0, each_more old new more ns ms h.1)
+each_more old new more ns ms h = absurd h
 
 pub each_push : (old new : List ℕ) (ns ms : List Node) (n m : Node) → EachMeans old new ns ms
     → Means old new n m → EachMeans old new (ns ++ n ∷ []) (ms ++ m ∷ [])
 each_push old new [] [] n m h t = (t, tt)
-each_push old new [] (b ∷ ms) n m h t = absurd h
-each_push old new (a ∷ ns) [] n m h t = absurd h
 each_push old new (a ∷ ns) (b ∷ ms) n m h t = (h.0, each_push old new ns ms n m h.1 t)
+each_push old new ns ms n m h t = absurd h
 
 each_length : (old new : List ℕ) (ns ms : List Node) → EachMeans old new ns ms
     → length ns ≡ length ms
 each_length old new [] [] h = refl
-each_length old new [] (m ∷ ms) h = absurd h
-each_length old new (n ∷ ns) [] h = absurd h
-each_length old new (n ∷ ns) (m ∷ ms) h = let e = each_length old new ns ms h.1 in omega arith
+each_length old new (n ∷ ns) (m ∷ ms) h = omega (arith, each_length old new ns ms h.1)
+each_length old new ns ms h = absurd h
 
 -- the others, if there are no nodes, the first of them, or two lists of them
 each_none : (old new : List ℕ) (ns ms : List Node) → ns ≡ [] → EachMeans old new ns ms → ms ≡ []
-each_none old new ns ms e h = by ms (subst (λ y. EachMeans old new y ms) e h)
-  where
-    by : (ms : List Node) → EachMeans old new [] ms → ms ≡ []
-    by [] h = refl
-    by (m ∷ ms) h = absurd h
+each_none old new ns [] e h = refl
+each_none old new ns (m ∷ ms) e h = absurd (rw e at h)
 
 record First (old new : List ℕ) (n : Node) (ns ms : List Node) : Type 0 where
   first : Node
@@ -107,11 +95,10 @@ record First (old new : List ℕ) (n : Node) (ns ms : List Node) : Type 0 where
 
 each_first : (old new : List ℕ) (all : List Node) (n : Node) (ns ms : List Node) → all ≡ n ∷ ns
     → EachMeans old new all ms → First old new n ns ms
-each_first old new all n ns ms e h = by ms (subst (λ y. EachMeans old new y ms) e h)
-  where
-    by : (ms : List Node) → EachMeans old new (n ∷ ns) ms → First old new n ns ms
-    by [] h = absurd h
-    by (m ∷ ms) h = record { first = m; others = ms; split = refl; means = h.0; rest = h.1 }
+each_first old new all n ns [] e h = absurd (rw e at h)
+each_first old new all n ns (m ∷ ms) e h =
+    let k = rw e at h in
+    record { first = m; others = ms; split = refl; means = k.0; rest = k.1 }
 
 record Halves (old new : List ℕ) (prefix suffix ms : List Node) : Type 0 where
   left : List Node
@@ -137,8 +124,7 @@ halves old new (n ∷ prefix) suffix (m ∷ ms) h =
 
 each_halves : (old new : List ℕ) (all prefix suffix ms : List Node) → all ≡ prefix ++ suffix
     → EachMeans old new all ms → Halves old new prefix suffix ms
-each_halves old new all prefix suffix ms e h =
-    halves old new prefix suffix ms (subst (λ y. EachMeans old new y ms) e h)
+each_halves old new all prefix suffix ms e h = halves old new prefix suffix ms (rw e at h)
 
 -- the parts of a field
 params_carry : (d : Dialect) (old new : List ℕ) (r : Role) (ns ms : List Node) (ps : Pairs Bare)

@@ -19,19 +19,7 @@ use Rattle.sf_view.specs.Decoding.{HasBytes}
 use Rattle.sf_c.specs.Decodings.{EachMeans, IsUncoded, AreDecoded, IsNodeDecoded, HasCoded}
 use Rattle.sf_c.specs.Decodings.{decoded_to}
 use Rattle.sf_nodes.proofs.Slices.{slice_at-append, slice_at_behind}
-use Rattle.sf_c.proofs.Carrying.{means_stays, each_more, each_push}
-
--- a node that is not coded stays
-pub node_stays : (text bytes : List ℕ) (used : ℕ) (n : Node) → used ≤ length bytes
-    → n.coded ≡ 0 → n.key_at + n.key_length ≤ length text → n.text_at + n.text_length ≤ length text
-    → IsNodeDecoded text bytes bytes used n n used
-node_stays text bytes used n fits none key at = record {
-  more = omega arith;
-  within = fits;
-  kept = refl;
-  means = means_stays text (take used bytes) n;
-  uncoded = (none, (inl key, inl at));
-}
+use Rattle.sf_c.proofs.Carrying.{each_more, each_push}
 
 -- a number that is not 0 says that bytes are coded
 coded_true : (n : ℕ) → n ≢ 0 → is_coded n ≡ true
@@ -203,10 +191,6 @@ decoded_more text old now bytes new used end count x m s h same t =
           ∙ both.1
           ∙ ap (λ y. drop y old) next;
     }
-
-pub none_decoded : (text : List ℕ) (old : List Node) (bytes : List ℕ)
-    → SoFar text old old bytes 0 0
-none_decoded text old bytes = record { within = omega arith; means = tt; uncoded = tt; rest = refl }
 
 pub all_decoded : (text : List ℕ) (old now : List Node) (bytes : List ℕ) (used count : ℕ)
     → SoFar text old now bytes used count → length now ≤ count → length now ≡ length old

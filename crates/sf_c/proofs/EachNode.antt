@@ -21,7 +21,7 @@ use Rattle.sf_view.specs.View.{DescribesBare, DescribesParams, DescribesItem, De
 use Rattle.sf_view.specs.View.{DescribesOpening, DescribesInner, DescribesMember}
 use Rattle.sf_view.specs.View.{DescribesMembers, DescribesEntries, DescribesField}
 use Rattle.sf_nodes.specs.NodeBytes.{IsDecoded, IsInOne, IsOnOneSide}
-use Rattle.sf_value.proofs.Tables.{both}
+use Rattle.std.proofs.lemmas.Bool.{and_parts}
 use Rattle.sf_view.proofs.Wholes.{each_snoc}
 
 -- what each node of a part has
@@ -114,6 +114,6 @@ pub uncoded_more : (ns : List Node) (i : ℕ) (n : Node) (none : Bool)
     → (none ≡ true → Each IsDecoded (take i ns)) → i < length ns
     → (none && (get_or ns i n).coded == 0) ≡ true → Each IsDecoded (take (i + 1) ns)
 uncoded_more ns i n none h w e =
-    let t = both none ((get_or ns i n).coded == 0) e in
+    let t = and_parts none ((get_or ns i n).coded == 0) e in
     subst (Each IsDecoded) (sym (take_more ns i n w))
     (each_snoc IsDecoded (take i ns) (get_or ns i n) (h t.0) (eqb-true (get_or ns i n).coded 0 t.1))

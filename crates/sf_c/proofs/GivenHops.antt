@@ -5,56 +5,43 @@ use Rattle.std.proofs.Common.{Option, None, Some, Result, Ok, Err, MatchResult}
 use Rattle.std.proofs.Common.{refl, sym, subst}
 use Rattle.std.specs.Option.{option_and_then, ForSome}
 use Rattle.sf_value.specs.declared.dialect.Dialect.TheVariants.{Rfc9651}
-use Rattle.sf_value.specs.declared.value.Field.{Field}
 use Rattle.sf_value.specs.declared.value.Kind.TheVariants as kind
-use Rattle.sf_value.specs.Grammar.Canonical.{canon}
 use Rattle.sf_value.specs.Grammar.Fields.{list_of}
 use Rattle.sf_value.specs.Grammar.Valid.{Valid}
-use Rattle.sf_value.proofs.CanonicalTexts.{canon_spells}
-use Rattle.sf_parse.proofs.GrammarLaws.{one_value}
 use Rattle.sf_use.specs.CacheStatus.Members.{entry, passed_by}
 use Rattle.sf_use.specs.Ranges.{IsHopStatus}
 use Rattle.sf_use.proofs.CacheStatusLemmas.ReadBack.{reads_back}
 use Rattle.sf_use.specs.declared.cache_status.hop.Forward.{Forward}
-use Rattle.sf_use.specs.declared.cache_status.hop.Forward.TheVariants.{Bypass, Method, UriMiss}
-use Rattle.sf_use.specs.declared.cache_status.hop.Forward.TheVariants.{VaryMiss, Miss, Request}
-use Rattle.sf_use.specs.declared.cache_status.hop.Forward.TheVariants.{Stale, Partial, Other}
+use Rattle.sf_use.specs.declared.cache_status.hop.Forward.TheVariants.{Other}
 use Rattle.sf_use.specs.declared.cache_status.hop.Hop.{Hop}
 use Rattle.sf_use.specs.declared.cache_status.hop.Name.{Name}
 use Rattle.sf_use.specs.declared.cache_status.hop.Name.TheVariants as name
 use Rattle.sf_use.specs.declared.cache_status.hop.Outcome.{Outcome}
-use Rattle.sf_use.specs.declared.cache_status.hop.Outcome.TheVariants.{Hit, Forwarded, Conflict}
-use Rattle.sf_use.specs.declared.cache_status.hop.Outcome.TheVariants.{Unsaid}
+use Rattle.sf_use.specs.declared.cache_status.hop.Outcome.TheVariants.{Forwarded, Conflict}
 use Rattle.sf_use.specs.declared.cache_status.hop.Passed.{Passed}
 use Rattle.sf_c.specs.declared.hops.HopNode.{HopNode}
 use Rattle.sf_c.specs.declared.status.Status.{Status}
-use Rattle.sf_c.specs.declared.status.Status.TheVariants.{Answered, Refused, SecondRefused, Short}
-use Rattle.sf_c.specs.declared.status.Status.TheVariants.{OutOfMemory, Empty, BadCall}
-use Rattle.sf_c.specs.declared.status.Status.TheVariants.{NotACache, Invalid, Absent, TooLong}
-use Rattle.sf_c.specs.declared.status.Status.TheVariants.{TooMany}
+use Rattle.sf_c.specs.declared.status.Status.TheVariants.{Answered, Short}
+use Rattle.sf_c.specs.declared.status.Status.TheVariants.{OutOfMemory}
+use Rattle.sf_c.specs.declared.status.Status.TheVariants.{Invalid}
 use Rattle.sf_c.specs.declared.span.Span.{Span}
-use Rattle.sf_c.specs.GivenHops.{GivesFlag, GivesHop, GivesInteger, GivesMaybe, GivesName, GivesNone}
-use Rattle.sf_c.specs.GivenHops.{GivesOutcome, GivesPassed, GivesStatus, GivesString, GivesToken}
-use Rattle.sf_c.specs.GivenHops.{GivesWhy, IsReadAs, WritesHop, hop_text, is_invalid}
+use Rattle.sf_c.specs.GivenHops.{GivesFlag, GivesHop, GivesInteger, GivesMaybe, GivesName}
+use Rattle.sf_c.specs.GivenHops.{GivesNone, GivesOutcome, GivesPassed, GivesStatus, GivesString}
+use Rattle.sf_c.specs.GivenHops.{GivesToken, GivesWhy, IsReadAs, WritesHop, hop_text, is_invalid}
 use Rattle.sf_c.specs.TextBuffers.{PutsText, TextBuffer}
+use Rattle.sf_c.proofs.NodeTexts.{canon_only}
 
 forwarded : (bytes : List ℕ) (n : HopNode) → n.outcome ≡ 2
     → ((p : Passed) → GivesPassed bytes n p → ⊥) → (o : Outcome) → GivesOutcome bytes n o → ⊥
-forwarded bytes n e h Unsaid g = absurd cc
-forwarded bytes n e h Hit g = absurd cc
 forwarded bytes n e h (Forwarded p) g = h p g.1
-forwarded bytes n e h (Conflict p) g =
-    let other = g.0 in
-    absurd cc
+forwarded bytes n e h (Conflict p) g = let other = g.0 in absurd cc
+forwarded bytes n e h o g = absurd cc
 
 conflicting : (bytes : List ℕ) (n : HopNode) → n.outcome ≡ 3
     → ((p : Passed) → GivesPassed bytes n p → ⊥) → (o : Outcome) → GivesOutcome bytes n o → ⊥
-conflicting bytes n e h Unsaid g = absurd cc
-conflicting bytes n e h Hit g = absurd cc
-conflicting bytes n e h (Forwarded p) g =
-    let other = g.0 in
-    absurd cc
+conflicting bytes n e h (Forwarded p) g = let other = g.0 in absurd cc
 conflicting bytes n e h (Conflict p) g = h p g.1
+conflicting bytes n e h o g = absurd cc
 
 -- there is no value of Q for a status if there is none of P: none of Q where none of P is, and one
 -- of Q for one of P
@@ -63,16 +50,7 @@ carries : {X Y : Type 0} (P : X → Type 0) (Q : Y → Type 0) (make : X → Y)
     → GivesNone P s → GivesNone Q s
 carries P Q make has none Invalid h = none h
 carries P Q make has none OutOfMemory h = (make h.0, has h.0 h.1)
-carries P Q make has none Answered h = h
-carries P Q make has none Refused h = h
-carries P Q make has none SecondRefused h = h
-carries P Q make has none Short h = h
-carries P Q make has none Empty h = h
-carries P Q make has none BadCall h = h
-carries P Q make has none NotACache h = h
-carries P Q make has none Absent h = h
-carries P Q make has none TooLong h = h
-carries P Q make has none TooMany h = h
+carries P Q make has none s h = absurd h
 
 pub no_forwarded : (bytes : List ℕ) (n : HopNode) (s : Status) → n.outcome ≡ 2
     → GivesNone (GivesPassed bytes n) s → GivesNone (GivesOutcome bytes n) s
@@ -123,15 +101,8 @@ no_some flag P s e =
 -- a reason with a token of its own
 not_other : (bytes : List ℕ) (n : HopNode) → n.why ≡ 9
     → ((t : List ℕ) → GivesToken bytes n.why_token t → ⊥) → (w : Forward) → GivesWhy bytes n w → ⊥
-not_other bytes n e none Bypass g = absurd cc
-not_other bytes n e none Method g = absurd cc
-not_other bytes n e none UriMiss g = absurd cc
-not_other bytes n e none VaryMiss g = absurd cc
-not_other bytes n e none Miss g = absurd cc
-not_other bytes n e none Request g = absurd cc
-not_other bytes n e none Stale g = absurd cc
-not_other bytes n e none Partial g = absurd cc
 not_other bytes n e none (Other t) g = none t g.1
+not_other bytes n e none w g = absurd cc
 
 pub no_other : (bytes : List ℕ) (n : HopNode) (s : Status) → n.why ≡ 9
     → GivesNone (GivesToken bytes n.why_token) s → GivesNone (GivesWhy bytes n) s
@@ -162,33 +133,13 @@ held : {X : Type 0} (P : X → Type 0) (r : Result X Status) → MatchResult r P
 held P (Ok x) m e = (x, m)
 held P (Err OutOfMemory) m e = m
 held P (Err Invalid) m e = absurd cc
-held P (Err Answered) m e = absurd m
-held P (Err Refused) m e = absurd m
-held P (Err SecondRefused) m e = absurd m
-held P (Err Short) m e = absurd m
-held P (Err Empty) m e = absurd m
-held P (Err BadCall) m e = absurd m
-held P (Err NotACache) m e = absurd m
-held P (Err Absent) m e = absurd m
-held P (Err TooLong) m e = absurd m
-held P (Err TooMany) m e = absurd m
+held P (Err s) m e = absurd m
 
 -- of a part that is Invalid there is none
 unheld : {X : Type 0} (P : X → Type 0) (r : Result X Status) → MatchResult r P (GivesNone P)
     → is_invalid r ≡ true → (x : X) → P x → ⊥
 unheld P (Err Invalid) m e = m
-unheld P (Ok x) m e = absurd cc
-unheld P (Err OutOfMemory) m e = absurd cc
-unheld P (Err Answered) m e = absurd cc
-unheld P (Err Refused) m e = absurd cc
-unheld P (Err SecondRefused) m e = absurd cc
-unheld P (Err Short) m e = absurd cc
-unheld P (Err Empty) m e = absurd cc
-unheld P (Err BadCall) m e = absurd cc
-unheld P (Err NotACache) m e = absurd cc
-unheld P (Err Absent) m e = absurd cc
-unheld P (Err TooLong) m e = absurd cc
-unheld P (Err TooMany) m e = absurd cc
+unheld P r m e = absurd cc
 
 -- what is made of the parts of a hop that need memory
 pub record Made (bytes : List ℕ) (n : HopNode) (a : Result Name Status) (b : Result Outcome Status)
@@ -210,121 +161,89 @@ any_of false false true z e f g h i = h refl
 any_of false false false true e f g h i = i refl
 any_of false false false false e f g h i = absurd cc
 
-pub none_is : (w x y z : Bool) → (((w || x) || y) || z) ≡ false
+none_is : (w x y z : Bool) → (((w || x) || y) || z) ≡ false
     → (w ≡ false) × (x ≡ false) × (y ≡ false) × (z ≡ false)
 none_is false false false false e = (refl, refl, refl, refl)
-none_is true x y z e = absurd cc
-none_is false true y z e = absurd cc
-none_is false false true z e = absurd cc
-none_is false false false true e = absurd cc
+none_is w x y z e = absurd cc
 
--- no hop is given if one of these parts is Invalid
-pub no_hop : (bytes : List ℕ) (n : HopNode) (a : Result Name Status) (b : Result Outcome Status)
-    (k : Result (Option (List ℕ)) Status) (d : Result (Option Name) Status) → Made bytes n a b k d
-    → (((is_invalid a || is_invalid b) || is_invalid k) || is_invalid d) ≡ true
-    → (h : Hop) → GivesHop bytes n h → ⊥
-no_hop bytes n a b k d m e h g =
-    any_of (is_invalid a) (is_invalid b) (is_invalid k) (is_invalid d) e
-    (λ w. unheld _ a m.name w h.name g.0) (λ w. unheld _ b m.outcome w h.outcome g.1)
-    (λ w. unheld _ k m.key w h.key g.3) (λ w. unheld _ d m.detail w h.detail g.4)
-
--- a hop is given if none is
-pub a_hop : (bytes : List ℕ) (n : HopNode) (a : Result Name Status) (b : Result Outcome Status)
-    (k : Result (Option (List ℕ)) Status) (d : Result (Option Name) Status) (ttl : Option ℤ)
-    → Made bytes n a b k d → GivesMaybe n.has_ttl (GivesInteger n.ttl) ttl
-    → (((is_invalid a || is_invalid b) || is_invalid k) || is_invalid d) ≡ false
-    → (h : Hop) × GivesHop bytes n h
-a_hop bytes n a b k d ttl m t e =
-    let valid = none_is (is_invalid a) (is_invalid b) (is_invalid k) (is_invalid d) e in
-    let x = held _ a m.name valid.0 in
-    let y = held _ b m.outcome valid.1 in
-    let z = held _ k m.key valid.2 in
-    let w = held _ d m.detail valid.3 in (
-      record { name = x.0; outcome = y.0; ttl = ttl; key = z.0; detail = w.0 },
-      (x.1, y.1, t, z.1, w.1),
-    )
-
--- what fails then is an allocation
+-- what fails of a part that is not Invalid is an allocation, and so it is for what is given
 no_memory : {X Y : Type 0} (P : X → Type 0) (Q : Y → Type 0) (s : Status) → GivesNone P s
     → is_invalid {X = X} (Err s) ≡ false → ((y : Y) × Q y) → GivesNone Q s
 no_memory P Q OutOfMemory h e q = q
 no_memory P Q Invalid h e q = absurd cc
-no_memory P Q Answered h e q = h
-no_memory P Q Refused h e q = h
-no_memory P Q SecondRefused h e q = h
-no_memory P Q Short h e q = h
-no_memory P Q Empty h e q = h
-no_memory P Q BadCall h e q = h
-no_memory P Q NotACache h e q = h
-no_memory P Q Absent h e q = h
-no_memory P Q TooLong h e q = h
-no_memory P Q TooMany h e q = h
+no_memory P Q s h e q = absurd h
 
-pub no_part : {X Y : Type 0} (P : X → Type 0) (Q : Y → Type 0) (r : Result X Status) (s : Status)
-    → r ≡ Err s → MatchResult r P (GivesNone P) → is_invalid r ≡ false → ((y : Y) × Q y)
-    → GivesNone Q s
-no_part P Q r s e m f q =
+no_part : {X Y : Type 0} (P : X → Type 0) (Q : Y → Type 0) (r : Result X Status)
+    → MatchResult r P (GivesNone P) → is_invalid r ≡ false → ((y : Y) × Q y) → (s : Status)
+    → r ≡ Err s → GivesNone Q s
+no_part P Q r m f q s e =
     no_memory P Q s (subst (λ z. MatchResult z P (GivesNone P)) e m)
     (subst (λ z. is_invalid z ≡ false) e f) q
 
--- the call writes nothing where no hop is made
-pub no_text : (o : TextBuffer) (bytes : List ℕ) (n : HopNode) (s : Status)
-    → GivesNone (GivesHop bytes n) s → WritesHop o o bytes n (Some s)
-no_text o bytes n Invalid h = (h, refl)
-no_text o bytes n OutOfMemory h = (h, refl)
-no_text o bytes n Answered h = absurd h
-no_text o bytes n Refused h = h
-no_text o bytes n SecondRefused h = h
-no_text o bytes n Short h = absurd h
-no_text o bytes n Empty h = h
-no_text o bytes n BadCall h = h
-no_text o bytes n NotACache h = h
-no_text o bytes n Absent h = h
-no_text o bytes n TooLong h = h
-no_text o bytes n TooMany h = h
+-- why a part was not made is why no hop is
+pub record Unmade (bytes : List ℕ) (n : HopNode) (a : Result Name Status)
+    (b : Result Outcome Status)
+    (k : Result (Option (List ℕ)) Status) (d : Result (Option Name) Status) : Type 0 where
+  pub name : (s : Status) → a ≡ Err s → GivesNone (GivesHop bytes n) s
+  pub outcome : (s : Status) → b ≡ Err s → GivesNone (GivesHop bytes n) s
+  pub key : (s : Status) → k ≡ Err s → GivesNone (GivesHop bytes n) s
+  pub detail : (s : Status) → d ≡ Err s → GivesNone (GivesHop bytes n) s
+
+module _ {bytes : List ℕ} {n : HopNode} {a : Result Name Status} {b : Result Outcome Status}
+    {k : Result (Option (List ℕ)) Status} {d : Result (Option Name) Status}
+    (m : Made bytes n a b k d) where
+  -- no hop is given if one of these parts is Invalid
+  pub no_hop : (((is_invalid a || is_invalid b) || is_invalid k) || is_invalid d) ≡ true
+      → (h : Hop) → GivesHop bytes n h → ⊥
+  no_hop e h g =
+      any_of (is_invalid a) (is_invalid b) (is_invalid k) (is_invalid d) e
+      (λ w. unheld _ a m.name w h.name g.0) (λ w. unheld _ b m.outcome w h.outcome g.1)
+      (λ w. unheld _ k m.key w h.key g.3) (λ w. unheld _ d m.detail w h.detail g.4)
+
+  -- a hop is given if none is
+  pub unmade : (ttl : Option ℤ) → GivesMaybe n.has_ttl (GivesInteger n.ttl) ttl
+      → (((is_invalid a || is_invalid b) || is_invalid k) || is_invalid d) ≡ false
+      → Unmade bytes n a b k d
+  unmade ttl t e =
+      let valid = none_is (is_invalid a) (is_invalid b) (is_invalid k) (is_invalid d) e in
+      let x = held _ a m.name valid.0 in
+      let y = held _ b m.outcome valid.1 in
+      let z = held _ k m.key valid.2 in
+      let w = held _ d m.detail valid.3 in
+      let hop : (h : Hop) × GivesHop bytes n h = (
+        record { name = x.0; outcome = y.0; ttl = ttl; key = z.0; detail = w.0 },
+        (x.1, y.1, t, z.1, w.1),
+      ) in
+      record {
+        name = no_part _ (GivesHop bytes n) a m.name valid.0 hop;
+        outcome = no_part _ (GivesHop bytes n) b m.outcome valid.1 hop;
+        key = no_part _ (GivesHop bytes n) k m.key valid.2 hop;
+        detail = no_part _ (GivesHop bytes n) d m.detail valid.3 hop;
+      }
 
 -- the status of a hop that a struct gives has three digits
 status_in_range : (flag number : ℕ) (status : Option ℕ)
     → GivesMaybe flag (GivesStatus number) status → ForSome status IsHopStatus
 status_in_range flag number None g = λ x e. absurd cc
 status_in_range flag number (Some n) g =
-    λ x e.
-    let same : number ≡ x = cc in
-    subst IsHopStatus same g.1.1
+    λ x e. let same : number ≡ x = cc in subst IsHopStatus same g.1.1
 
 outcome_in_range : (bytes : List ℕ) (n : HopNode) (o : Outcome) → GivesOutcome bytes n o
     → ForSome (option_and_then (λ p. p.status) (passed_by o)) IsHopStatus
-outcome_in_range bytes n Unsaid g = λ x e. absurd cc
-outcome_in_range bytes n Hit g = λ x e. absurd cc
 outcome_in_range bytes n (Forwarded p) g = status_in_range n.has_status n.status p.status g.1.1
 outcome_in_range bytes n (Conflict p) g = status_in_range n.has_status n.status p.status g.1.1
+outcome_in_range bytes n o g = λ x e. absurd cc
 
 -- what is written of it is read as it
 pub read_as : (bytes : List ℕ) (n : HopNode) (h : Hop) → GivesHop bytes n h
     → Valid Rfc9651 kind.List (list_of (entry h ∷ [])) → IsReadAs (hop_text h) h
 read_as bytes n h g valid =
-    let v : Field = list_of (entry h ∷ []) in
-    let spelled = canon_spells Rfc9651 kind.List v valid in (
-      v,
-      record {
-        spelled = spelled;
-        only = λ w k. one_value Rfc9651 kind.List (canon v) w v k spelled;
-      },
-      reads_back h (outcome_in_range bytes n h.outcome g.1),
-    )
+    let v = list_of (entry h ∷ []) in
+    (v, canon_only Rfc9651 kind.List v valid, reads_back h (outcome_in_range bytes n h.outcome g.1))
 
 pub writes_hop : (old new : TextBuffer) (bytes : List ℕ) (n : HopNode) (h : Hop) (s : Status)
     → GivesHop bytes n h → IsReadAs (hop_text h) h → PutsText old new (hop_text h) (Some s)
     → WritesHop old new bytes n (Some s)
 writes_hop old new bytes n h Answered g r w = (h, g, r, w)
 writes_hop old new bytes n h Short g r w = (h, g, w)
-writes_hop old new bytes n h OutOfMemory g r w = absurd w
-writes_hop old new bytes n h Invalid g r w = absurd w
-writes_hop old new bytes n h Refused g r w = w
-writes_hop old new bytes n h SecondRefused g r w = w
-writes_hop old new bytes n h Empty g r w = w
-writes_hop old new bytes n h BadCall g r w = w
-writes_hop old new bytes n h NotACache g r w = w
-writes_hop old new bytes n h Absent g r w = w
-writes_hop old new bytes n h TooLong g r w = w
-writes_hop old new bytes n h TooMany g r w = w
+writes_hop old new bytes n h s g r w = absurd w

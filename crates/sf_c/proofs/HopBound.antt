@@ -1,9 +1,9 @@
 -- A path has at most as many hops as the value of its text has nodes, and at most as many bytes.
-use Rattle.std.proofs.Common.{◌≡◌, ℕ, ◌+◌, ◌*◌, ◌≤◌, Bool, true, false, List as Seq, [], ◌∷◌}
+use Rattle.std.proofs.Common.{◌≡◌, ℕ, ◌+◌, ◌*◌, ◌≤◌, Bool, true, false, ◌&&◌, List as Seq, [], ◌∷◌}
 use Rattle.std.proofs.Common.{length}
-use Rattle.std.proofs.Common.{map, Option, Some, None, Ok, Err, Result, refl, sym, ap, ◌∙◌, arith}
+use Rattle.std.proofs.Common.{map, Option, Some, None, Ok, refl, sym, ap, ◌∙◌, arith}
 use Rattle.std.proofs.Common.{codes, bytes_eq}
-use Rattle.std.proofs.lemmas.Bool.{false≢true}
+use Rattle.std.proofs.lemmas.Bool.{and_parts, false≢true, false_from_ne_true}
 use Rattle.std.proofs.lemmas.List.{length-map}
 use Rattle.std.proofs.lemmas.Slice.Eq.{bytes_eq-Decides}
 use Rattle.std.specs.List.{filter_map}
@@ -11,8 +11,7 @@ use Rattle.std.specs.Map.{lookup}
 use Rattle.std.specs.Option.{option_and_then, option_map}
 use Rattle.std.specs.Prelude.{unwrap_or}
 use Rattle.sf_value.specs.declared.value.Bare.{Bare}
-use Rattle.sf_value.specs.declared.value.Bare.TheVariants.{Integer, Decimal, Text, Token}
-use Rattle.sf_value.specs.declared.value.Bare.TheVariants.{Blob, Boolean, Date, Shown}
+use Rattle.sf_value.specs.declared.value.Bare.TheVariants.{Text, Token}
 use Rattle.sf_value.specs.declared.value.Member.{Member}
 use Rattle.sf_value.specs.declared.value.Member.TheVariants as member
 use Rattle.sf_value.specs.declared.value.Field.{Field}
@@ -47,36 +46,24 @@ taken (Some x) = length (text_of x)
 
 -- no key passes both tests
 abbrev Apart : (Seq ℕ → Bool) → (Seq ℕ → Bool) → Type 0
-Apart f g = (k : Seq ℕ) → f k ≡ true → g k ≡ true → ⊥
+Apart f g = (k : Seq ℕ) → (f k && g k) ≡ false
 
 -- what is looked up among parameters has at most their bytes
 one_taken : (f : Seq ℕ → Bool) (ps : Pairs Bare)
     → taken (lookup f ps) ≤ params_bytes ps
 one_taken f [] = omega arith
-one_taken f (p ∷ ps) = go (f p.0) refl (one_taken f ps)
-  where
-    go : (b : Bool) → f p.0 ≡ b → taken (lookup f ps) ≤ params_bytes ps
-        → taken (lookup f (p ∷ ps)) ≤ params_bytes (p ∷ ps)
-    go true e rest = rw e (omega arith)
-    go false e rest = rw e (omega arith)
+one_taken f (p ∷ ps) = let rest = one_taken f ps in grind arith
 
 -- so have two that differ
 two_taken : (f g : Seq ℕ → Bool) → Apart f g → (ps : Pairs Bare)
     → taken (lookup f ps) + taken (lookup g ps) ≤ params_bytes ps
 two_taken f g d [] = omega arith
 two_taken f g d (p ∷ ps) =
-    go (f p.0) refl (g p.0) refl (one_taken f ps) (one_taken g ps) (two_taken f g d ps)
-  where
-    go : (b : Bool) → f p.0 ≡ b → (c : Bool) → g p.0 ≡ c
-        → taken (lookup f ps) ≤ params_bytes ps
-        → taken (lookup g ps) ≤ params_bytes ps
-        → taken (lookup f ps) + taken (lookup g ps) ≤ params_bytes ps
-        → taken (lookup f (p ∷ ps)) + taken (lookup g (p ∷ ps))
-        ≤ params_bytes (p ∷ ps)
-    go true e true i one other both = absurd (d p.0 e i)
-    go true e false i one other both = rw (e, i) (omega arith)
-    go false e true i one other both = rw (e, i) (omega arith)
-    go false e false i one other both = rw (e, i) (omega arith)
+    let one = one_taken f ps in
+    let other = one_taken g ps in
+    let both = two_taken f g d ps in
+    let apart : (f p.0 && g p.0) ≡ false = d p.0 in
+    grind arith
 
 -- and three
 three_taken : (f g h : Seq ℕ → Bool) → Apart f g → Apart f h → Apart g h → (ps : Pairs Bare)
@@ -84,39 +71,27 @@ three_taken : (f g h : Seq ℕ → Bool) → Apart f g → Apart f h → Apart g
     ≤ params_bytes ps
 three_taken f g h d m n [] = omega arith
 three_taken f g h d m n (p ∷ ps) =
-    go (f p.0) refl (g p.0) refl (h p.0) refl (two_taken f g d ps) (two_taken f h m ps)
-    (two_taken g h n ps) (three_taken f g h d m n ps)
-  where
-    go : (b : Bool) → f p.0 ≡ b → (c : Bool) → g p.0 ≡ c → (a : Bool) → h p.0 ≡ a
-        → taken (lookup f ps) + taken (lookup g ps) ≤ params_bytes ps
-        → taken (lookup f ps) + taken (lookup h ps) ≤ params_bytes ps
-        → taken (lookup g ps) + taken (lookup h ps) ≤ params_bytes ps
-        → taken (lookup f ps) + taken (lookup g ps) + taken (lookup h ps)
-        ≤ params_bytes ps
-        → taken (lookup f (p ∷ ps)) + taken (lookup g (p ∷ ps)) + taken (lookup h (p ∷ ps))
-        ≤ params_bytes (p ∷ ps)
-    go true e true i b j fg fh gh all = absurd (d p.0 e i)
-    go true e false i true j fg fh gh all = absurd (m p.0 e j)
-    go true e false i false j fg fh gh all = rw (e, i, j) (omega arith)
-    go false e true i true j fg fh gh all = absurd (n p.0 i j)
-    go false e true i false j fg fh gh all = rw (e, i, j) (omega arith)
-    go false e false i true j fg fh gh all = rw (e, i, j) (omega arith)
-    go false e false i false j fg fh gh all = rw (e, i, j) (omega arith)
+    let fg = two_taken f g d ps in
+    let fh = two_taken f h m ps in
+    let gh = two_taken g h n ps in
+    let all = three_taken f g h d m n ps in
+    let a : (f p.0 && g p.0) ≡ false = d p.0 in
+    let b : (f p.0 && h p.0) ≡ false = m p.0 in
+    let c : (g p.0 && h p.0) ≡ false = n p.0 in
+    grind arith
 
 -- two keys that differ
 keys_apart : (a b : Seq ℕ) → bytes_eq a b ≡ false → Apart (bytes_eq a) (bytes_eq b)
-keys_apart a b differ k p q =
-    let same : a ≡ b = (bytes_eq-Decides a k).0 p ∙ sym ((bytes_eq-Decides b k).0 q) in
-    false≢true (sym differ ∙ (bytes_eq-Decides a b).1 same)
+keys_apart a b differ k =
+    false_from_ne_true (bytes_eq a k && bytes_eq b k) (λ both.
+    let p = and_parts (bytes_eq a k) (bytes_eq b k) both in
+    let same : a ≡ b = (bytes_eq-Decides a k).0 p.0 ∙ sym ((bytes_eq-Decides b k).0 p.1) in
+    false≢true (sym differ ∙ (bytes_eq-Decides a b).1 same))
 
 -- the reason of a token has that token
 abbrev AreTheirs : Pairs Forward → Type 0
 AreTheirs [] = Unit {0}
 AreTheirs (p ∷ ps) = (token_of p.1 ≡ p.0) × AreTheirs ps
-
-abbrev from_some : Forward → Option Forward → Forward
-from_some w (Some v) = v
-from_some w None = w
 
 found : (s : Seq ℕ) (w : Forward) (ps : Pairs Forward) → AreTheirs ps → value_at s ps ≡ Some w
     → token_of w ≡ s
@@ -127,9 +102,9 @@ found s w (p ∷ ps) h e = go (bytes_eq s p.0) refl e (found s w ps h.1)
         → (value_at s ps ≡ Some w → token_of w ≡ s) → token_of w ≡ s
     go true i f rest =
         let here : Some p.1 ≡ Some w = rw i at f in
-        ap token_of (sym (ap (from_some w) here)) ∙ h.0 ∙ sym ((bytes_eq-Decides s p.0).0 i)
-    go false i f rest =
-        let there : value_at s ps ≡ Some w = rw i at f in rest there
+        let same : w ≡ p.1 = cc in
+        ap token_of same ∙ h.0 ∙ sym ((bytes_eq-Decides s p.0).0 i)
+    go false i f rest = rest (rw i at f)
 
 pub forward_back : (s : Seq ℕ) → token_of (forward_of s) ≡ s
 forward_back s = go (value_at s reasons) refl
@@ -145,22 +120,12 @@ parts_few : (ps : Pairs Bare) (o : Option Bare)
     → (length (why_token (option_map (passed_by_token ps) (option_and_then as_token o))) ≤ taken o)
     × (length (unwrap_or (option_and_then as_text o) []) ≤ taken o)
     × (length (detail_bytes (option_and_then as_name o)) ≤ taken o)
-parts_few ps None = (omega arith, omega arith, omega arith)
-parts_few ps (Some (Integer n)) = (omega arith, omega arith, omega arith)
-parts_few ps (Some (Decimal n)) = (omega arith, omega arith, omega arith)
-parts_few ps (Some (Text s)) = (omega arith, omega arith, omega arith)
-parts_few ps (Some (Token s)) =
-    let e = ap length (forward_back s) in (omega arith, omega arith, omega arith)
-parts_few ps (Some (Blob s)) = (omega arith, omega arith, omega arith)
-parts_few ps (Some (Boolean b)) = (omega arith, omega arith, omega arith)
-parts_few ps (Some (Date n)) = (omega arith, omega arith, omega arith)
-parts_few ps (Some (Shown s)) = (omega arith, omega arith, omega arith)
+parts_few ps None = omega arith
+parts_few ps (Some (Token s)) = omega (arith, ap length (forward_back s))
+parts_few ps o = omega arith
 
 pub passed_back : (b : Bool) (o : Option Passed) → passed_by (outcome_by b o) ≡ o
-passed_back true None = refl
-passed_back true (Some p) = refl
-passed_back false None = refl
-passed_back false (Some p) = refl
+passed_back b o = grind arith
 
 -- a hop has at most the bytes of its name and its parameters
 hop_few : (ps : Pairs Bare) (n : Name)
@@ -186,17 +151,12 @@ few (Some h) = hop_size (hop_content h)
 bare_few : (x : Bare) (ps : Pairs Bare)
     → few (option_map (hop_named ps) (as_name x))
     ≤ length (text_of x) + params_bytes ps
-bare_few (Integer n) ps = omega arith
-bare_few (Decimal n) ps = omega arith
 bare_few (Text s) ps = hop_few ps (name.Text s)
 bare_few (Token s) ps = hop_few ps (name.Token s)
-bare_few (Blob s) ps = omega arith
-bare_few (Boolean b) ps = omega arith
-bare_few (Date n) ps = omega arith
-bare_few (Shown s) ps = omega arith
+bare_few x ps = omega arith
 
 member_few : (m : Member) → few (member_hop m) ≤ member_bytes m
-member_few (member.Item i) = let h = bare_few i.bare i.params in omega arith
+member_few (member.Item i) = omega (arith, bare_few i.bare i.params)
 member_few (member.Inner l) = omega arith
 
 -- a member has a node
@@ -207,71 +167,44 @@ member_some (member.Inner l) = omega arith
 members_few : (ms : Seq Member)
     → hops_size (map hop_content (filter_map member_hop ms)) ≤ members_bytes ms
 members_few [] = omega arith
-members_few (m ∷ ms) = go (member_hop m) refl (member_few m) (members_few ms)
-  where
-    go : (o : Option Hop) → member_hop m ≡ o → few o ≤ member_bytes m
-        → hops_size (map hop_content (filter_map member_hop ms)) ≤ members_bytes ms
-        → hops_size (map hop_content (filter_map member_hop (m ∷ ms)))
-        ≤ members_bytes (m ∷ ms)
-    go None e one rest = rw e (omega arith)
-    go (Some h) e one rest = rw e (omega arith)
+members_few (m ∷ ms) =
+    let one = member_few m in
+    let rest = members_few ms in
+    grind arith
 
 members_count : (ms : Seq Member)
     → length (filter_map member_hop ms) ≤ members_nodes ms
 members_count [] = omega arith
-members_count (m ∷ ms) = go (member_hop m) refl (member_some m) (members_count ms)
-  where
-    go : (o : Option Hop) → member_hop m ≡ o → 1 ≤ member_nodes m
-        → length (filter_map member_hop ms) ≤ members_nodes ms
-        → length (filter_map member_hop (m ∷ ms)) ≤ members_nodes (m ∷ ms)
-    go None e one rest = rw e (omega arith)
-    go (Some h) e one rest = rw e (omega arith)
-
--- the hops of an answer
-abbrev from_ok : Seq Hop → Result (Seq Hop) ℕ → Seq Hop
-from_ok hs (Ok js) = js
-from_ok hs (Err index) = hs
+members_count (m ∷ ms) =
+    let one = member_some m in
+    let rest = members_count ms in
+    grind arith
 
 unless_ok : (o : Option ℕ) (js hs : Seq Hop) → unless o js ≡ Ok hs → js ≡ hs
-unless_ok None js hs e = ap (from_ok hs) e
-unless_ok (Some index) js hs e = let never : Err index ≡ Ok hs = e in absurd cc
+unless_ok None js hs e = cc
+unless_ok (Some index) js hs e = absurd cc
 
 pub path_few : (v : Field) (hs : Seq Hop) → hops v ≡ Ok hs
     → (length hs ≤ field_nodes v)
     × (hops_size (map hop_content hs) ≤ field_bytes v)
 path_few (field.List l) hs e =
     let same = unless_ok _ (filter_map member_hop l.members) hs e in
-    let count = ap length same in
     let size = ap (λ js. hops_size (map hop_content js)) same in
-    let nodes = members_count l.members in
-    let bytes = members_few l.members in
-    (omega arith, omega arith)
-path_few (field.Item i) hs e =
-    let same : [] ≡ hs = ap (from_ok hs) e in
-    let count = ap length same in
+    omega (arith, ap length same, members_count l.members, members_few l.members)
+path_few v hs e =
+    let same : [] ≡ hs = cc in
     let size = ap (λ js. hops_size (map hop_content js)) same in
-    (omega arith, omega arith)
-path_few (field.Dict d) hs e =
-    let same : [] ≡ hs = ap (from_ok hs) e in
-    let count = ap length same in
-    let size = ap (λ js. hops_size (map hop_content js)) same in
-    (omega arith, omega arith)
+    omega (arith, ap length same)
 
 -- the same of numbers that say how many there are
 count_few : (n m : ℕ) (ts : Seq HopContent) (js hs : Seq Hop) → n ≡ length ts
     → ts ≡ map hop_content js → js ≡ hs → 10 * length hs ≤ m → 10 * n ≤ m
-count_few n m ts js hs e f g h =
-    let count = ap length f in
-    let each = length-map js hop_content in
-    let same = ap length g in
-    omega arith
+count_few n m ts js hs e f g h = omega (arith, ap length f, length-map js hop_content, ap length g)
 
 size_few : (n m : ℕ) (ts : Seq HopContent) (js hs : Seq Hop) → n ≡ hops_size ts
     → ts ≡ map hop_content js → js ≡ hs → 5 * hops_size (map hop_content hs) ≤ m → 5 * n ≤ m
 size_few n m ts js hs e f g h =
-    let size = ap hops_size f in
-    let same = ap (λ z. hops_size (map hop_content z)) g in
-    omega arith
+    omega (arith, ap hops_size f, ap (λ z. hops_size (map hop_content z)) g)
 
 -- and of the two together, of the path of a text
 pub content_few : (n size : ℕ) (t : Seq ℕ) (v : Field) (ts : Seq HopContent) (js hs : Seq Hop)

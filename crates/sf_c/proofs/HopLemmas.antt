@@ -22,7 +22,7 @@ span_more bytes more p h = slice_at-append p.at p.length bytes more h
 
 within_more : (bytes more : List ℕ) (p : Span) → IsSpanWithin bytes p
     → IsSpanWithin (bytes ++ more) p
-within_more bytes more p h = let longer = length-append bytes more in omega arith
+within_more bytes more p h = omega (arith, length-append bytes more)
 
 -- so is a hop
 hop_within_more : (bytes more : List ℕ) (n : HopNode) → IsHopWithin bytes n
@@ -63,12 +63,7 @@ hops_within_push bytes (m ∷ ns) n h w = (h.0, hops_within_push bytes ns n h.1 
 
 -- a text that was put is there
 put_within : (old new text : List ℕ) (p : Span) → PutsSpan old new text p → IsSpanWithin new p
-put_within old new text p h =
-    let now = ap length h.0 in
-    let at = h.1 in
-    let long = h.2 in
-    let both = length-append old text in
-    omega arith
+put_within old new text p h = omega (arith, ap length h.0, h.1, h.2, length-append old text)
 
 put_there : (old new text : List ℕ) (p : Span) → PutsSpan old new text p
     → span_bytes new p ≡ text
@@ -93,43 +88,6 @@ pub record PutsHop (b0 b1 b2 b3 b4 n w k d : List ℕ) (x : HopNode) : Type 0 wh
   pub key : PutsSpan b2 b3 k x.key
   pub detail : PutsSpan b3 b4 d x.detail
 
--- where they are in the end
-spans_there : (b0 b1 b2 b3 b4 n w k d : List ℕ) (x : HopNode)
-    → PutsHop b0 b1 b2 b3 b4 n w k d x
-    → IsHopWithin b4 x
-    × (span_bytes b4 x.name ≡ n)
-    × (span_bytes b4 x.why_token ≡ w)
-    × (span_bytes b4 x.key ≡ k)
-    × (span_bytes b4 x.detail ≡ d)
-spans_there b0 b1 b2 b3 b4 n w k d x p =
-    let n1 = put_within b0 b1 n x.name p.name in
-    let n2 = put_keeps b1 b2 w x.name x.why_token p.why n1 in
-    let n3 = put_keeps b2 b3 k x.name x.key p.key n2.0 in
-    let n4 = put_keeps b3 b4 d x.name x.detail p.detail n3.0 in
-    let w2 = put_within b1 b2 w x.why_token p.why in
-    let w3 = put_keeps b2 b3 k x.why_token x.key p.key w2 in
-    let w4 = put_keeps b3 b4 d x.why_token x.detail p.detail w3.0 in
-    let k3 = put_within b2 b3 k x.key p.key in
-    let k4 = put_keeps b3 b4 d x.key x.detail p.detail k3 in
-    let d4 = put_within b3 b4 d x.detail p.detail in (
-      (n4.0, w4.0, k4.0, d4),
-      n4.1 ∙ n3.1 ∙ n2.1 ∙ put_there b0 b1 n x.name p.name,
-      w4.1 ∙ w3.1 ∙ put_there b1 b2 w x.why_token p.why,
-      k4.1 ∙ put_there b2 b3 k x.key p.key,
-      put_there b3 b4 d x.detail p.detail,
-    )
-
--- the hops that were there, in the end
-hops_there : (b0 b1 b2 b3 b4 n w k d : List ℕ) (x : HopNode) (ns : List HopNode)
-    → PutsHop b0 b1 b2 b3 b4 n w k d x → AreHopsWithin b0 ns
-    → AreHopsWithin b4 ns × (map (hop_content_by b4) ns ≡ map (hop_content_by b0) ns)
-hops_there b0 b1 b2 b3 b4 n w k d x ns p h =
-    let h1 = put_keeps_hops b0 b1 n ns x.name p.name h in
-    let h2 = put_keeps_hops b1 b2 w ns x.why_token p.why h1.0 in
-    let h3 = put_keeps_hops b2 b3 k ns x.key p.key h2.0 in
-    let h4 = put_keeps_hops b3 b4 d ns x.detail p.detail h3.0 in
-    (h4.0, h4.1 ∙ h3.1 ∙ h2.1 ∙ h1.1)
-
 -- the struct describes the hop whose texts they are
 pub record TextsOf (h : Hop) (n w k d : List ℕ) : Type 0 where
   pub name : n ≡ bytes_of h.name
@@ -137,57 +95,9 @@ pub record TextsOf (h : Hop) (n w k d : List ℕ) : Type 0 where
   pub key : k ≡ unwrap_or h.key []
   pub detail : d ≡ detail_bytes h.detail
 
-hop_is : (b0 b1 b2 b3 b4 n w k d : List ℕ) (x : HopNode) (h : Hop)
-    → PutsHop b0 b1 b2 b3 b4 n w k d x → TextsOf h n w k d → says_by x ≡ says_of h
-    → hop_content_by b4 x ≡ hop_content h
-hop_is b0 b1 b2 b3 b4 n w k d x h p t s =
-    let there = spans_there b0 b1 b2 b3 b4 n w k d x p in
-    let name = there.1 ∙ t.name in
-    let why = there.2 ∙ t.why in
-    let key = there.3 ∙ t.key in
-    let detail = there.4 ∙ t.detail in
-    rw (name, why, key, detail, s) refl
-
--- the hops with one more
-pub hop_content_is : (b0 b1 b2 b3 b4 n w k d : List ℕ) (x : HopNode) (h : Hop)
-    (ns ms : List HopNode) → PutsHop b0 b1 b2 b3 b4 n w k d x → TextsOf h n w k d
-    → says_by x ≡ says_of h → ms ≡ ns ++ x ∷ [] → AreHopsWithin b0 ns
-    → map (hop_content_by b4) ms ≡ map (hop_content_by b0) ns ++ hop_content h ∷ []
-hop_content_is b0 b1 b2 b3 b4 n w k d x h ns ms p t s e a =
-    let last = hop_is b0 b1 b2 b3 b4 n w k d x h p t s in
-    let before = hops_there b0 b1 b2 b3 b4 n w k d x ns p a in
-    let others = before.1 in
-    rw e (map-append (hop_content_by b4) ns (x ∷ []) ∙ rw (others, last) refl)
-
 hops_size-append : (ts us : List HopContent) → hops_size (ts ++ us) ≡ hops_size ts + hops_size us
 hops_size-append [] us = omega arith
-hops_size-append (t ∷ ts) us = let e = hops_size-append ts us in omega arith
-
--- where the spans of the last hop stand
-hops_order_more : (at : ℕ) (b0 b1 b2 b3 b4 n w k d : List ℕ) (x : HopNode) (ns : List HopNode)
-    → PutsHop b0 b1 b2 b3 b4 n w k d x → AreHopsInOrder at ns (length b0)
-    → AreHopsInOrder at (ns ++ x ∷ []) (length b4)
-hops_order_more at b0 b1 b2 b3 b4 n w k d x [] p h =
-    let here : at ≡ length b0 = h in
-    let l1 = ap length p.name.0 in
-    let l2 = ap length p.why.0 in
-    let l3 = ap length p.key.0 in
-    let l4 = ap length p.detail.0 in
-    let a1 = length-append b0 n in
-    let a2 = length-append b1 w in
-    let a3 = length-append b2 k in
-    let a4 = length-append b3 d in
-    let s1 = p.name.1 in
-    let s2 = p.why.1 in
-    let s3 = p.key.1 in
-    let s4 = p.detail.1 in
-    let t1 = p.name.2 in
-    let t2 = p.why.2 in
-    let t3 = p.key.2 in
-    let t4 = p.detail.2 in
-    ((omega arith, omega arith, omega arith, omega arith), omega arith)
-hops_order_more at b0 b1 b2 b3 b4 n w k d x (m ∷ ns) p h =
-    (h.0, hops_order_more (end_of m.detail) b0 b1 b2 b3 b4 n w k d x ns p h.1)
+hops_size-append (t ∷ ts) us = omega (arith, hops_size-append ts us)
 
 -- the bytes with those of one more hop
 hops_bytes-push : (ts : List HopContent) (t : HopContent)
@@ -201,48 +111,110 @@ hop_bytes_are : (n w k d : List ℕ) (h : Hop) → TextsOf h n w k d
     → n ++ (w ++ (k ++ d)) ≡ hop_bytes (hop_content h)
 hop_bytes_are n w k d h t = rw (t.name, t.why, t.key, t.detail) refl
 
-put_behind : (b0 b1 b2 b3 b4 n w k d : List ℕ) (x : HopNode) → PutsHop b0 b1 b2 b3 b4 n w k d x
-    → b4 ≡ b0 ++ (n ++ (w ++ (k ++ d)))
-put_behind b0 b1 b2 b3 b4 n w k d x p =
-    p.detail.0
-    ∙ ap (λ z. z ++ d) (p.key.0 ∙ ap (λ z. z ++ k) (p.why.0 ∙ ap (λ z. z ++ w) p.name.0))
-    ∙ append_assoc ((b0 ++ n) ++ w) k d
-    ∙ append_assoc (b0 ++ n) w (k ++ d)
-    ∙ append_assoc b0 n (w ++ (k ++ d))
+module _ {b0 b1 b2 b3 b4 n w k d : List ℕ} {x : HopNode}
+    (p : PutsHop b0 b1 b2 b3 b4 n w k d x) where
+  -- where they are in the end
+  spans_there : IsHopWithin b4 x
+      × (span_bytes b4 x.name ≡ n)
+      × (span_bytes b4 x.why_token ≡ w)
+      × (span_bytes b4 x.key ≡ k)
+      × (span_bytes b4 x.detail ≡ d)
+  spans_there =
+      let n1 = put_within b0 b1 n x.name p.name in
+      let n2 = put_keeps b1 b2 w x.name x.why_token p.why n1 in
+      let n3 = put_keeps b2 b3 k x.name x.key p.key n2.0 in
+      let n4 = put_keeps b3 b4 d x.name x.detail p.detail n3.0 in
+      let w2 = put_within b1 b2 w x.why_token p.why in
+      let w3 = put_keeps b2 b3 k x.why_token x.key p.key w2 in
+      let w4 = put_keeps b3 b4 d x.why_token x.detail p.detail w3.0 in
+      let k3 = put_within b2 b3 k x.key p.key in
+      let k4 = put_keeps b3 b4 d x.key x.detail p.detail k3 in
+      let d4 = put_within b3 b4 d x.detail p.detail in (
+        (n4.0, w4.0, k4.0, d4),
+        n4.1 ∙ n3.1 ∙ n2.1 ∙ put_there b0 b1 n x.name p.name,
+        w4.1 ∙ w3.1 ∙ put_there b1 b2 w x.why_token p.why,
+        k4.1 ∙ put_there b2 b3 k x.key p.key,
+        put_there b3 b4 d x.detail p.detail,
+      )
 
-pub hop_held : (b0 b1 b2 b3 b4 n w k d : List ℕ) (x : HopNode) (h : Hop) (ns ms : List HopNode)
-    → PutsHop b0 b1 b2 b3 b4 n w k d x → TextsOf h n w k d → says_by x ≡ says_of h
-    → ms ≡ ns ++ x ∷ [] → HopsHoldUp b0 ns → HopsHoldUp b4 ms
-hop_held b0 b1 b2 b3 b4 n w k d x h ns ms p t s e a =
-    let before = hops_there b0 b1 b2 b3 b4 n w k d x ns p a.0 in
-    let there = spans_there b0 b1 b2 b3 b4 n w k d x p in
-    let all = hop_content_is b0 b1 b2 b3 b4 n w k d x h ns ms p t s e a.0 in
-    let total = ap hops_size all in
-    let sum = hops_size-append (map (hop_content_by b0) ns) (hop_content h ∷ []) in
-    let l1 = ap length p.name.0 in
-    let l2 = ap length p.why.0 in
-    let l3 = ap length p.key.0 in
-    let l4 = ap length p.detail.0 in
-    let a1 = length-append b0 n in
-    let a2 = length-append b1 w in
-    let a3 = length-append b2 k in
-    let a4 = length-append b3 d in
-    let t1 = ap length t.name in
-    let t2 = ap length t.why in
-    let t3 = ap length t.key in
-    let t4 = ap length t.detail in
-    let size = a.1 in
-    let whole : b4 ≡ hops_bytes (map (hop_content_by b4) ms) =
-    put_behind b0 b1 b2 b3 b4 n w k d x p
-    ∙ ap (λ z. z ++ (n ++ (w ++ (k ++ d)))) a.3
-    ∙ ap (λ z. hops_bytes (map (hop_content_by b0) ns) ++ z) (hop_bytes_are n w k d h t)
-    ∙ sym (hops_bytes-push (map (hop_content_by b0) ns) (hop_content h))
-    ∙ sym (ap hops_bytes all) in (
-      rw e (hops_within_push b4 ns x before.0 there.0),
-      omega arith,
-      rw e (hops_order_more 0 b0 b1 b2 b3 b4 n w k d x ns p a.2),
-      whole,
-    )
+  -- the hops that were there, in the end
+  hops_there : (ns : List HopNode) → AreHopsWithin b0 ns
+      → AreHopsWithin b4 ns × (map (hop_content_by b4) ns ≡ map (hop_content_by b0) ns)
+  hops_there ns h =
+      let h1 = put_keeps_hops b0 b1 n ns x.name p.name h in
+      let h2 = put_keeps_hops b1 b2 w ns x.why_token p.why h1.0 in
+      let h3 = put_keeps_hops b2 b3 k ns x.key p.key h2.0 in
+      let h4 = put_keeps_hops b3 b4 d ns x.detail p.detail h3.0 in
+      (h4.0, h4.1 ∙ h3.1 ∙ h2.1 ∙ h1.1)
+
+  -- where the spans of the last hop stand
+  hops_order_more : (at : ℕ) (ns : List HopNode) → AreHopsInOrder at ns (length b0)
+      → AreHopsInOrder at (ns ++ x ∷ []) (length b4)
+  hops_order_more at [] h =
+      let here : at ≡ length b0 = h in
+      omega (
+        arith,
+        ap length p.name.0,
+        ap length p.why.0,
+        ap length p.key.0,
+        ap length p.detail.0,
+        length-append {A = ℕ},
+      )
+  hops_order_more at (m ∷ ns) h = (h.0, hops_order_more (end_of m.detail) ns h.1)
+
+  put_behind : b4 ≡ b0 ++ (n ++ (w ++ (k ++ d)))
+  put_behind =
+      p.detail.0
+      ∙ ap (λ z. z ++ d) (p.key.0 ∙ ap (λ z. z ++ k) (p.why.0 ∙ ap (λ z. z ++ w) p.name.0))
+      ∙ append_assoc ((b0 ++ n) ++ w) k d
+      ∙ append_assoc (b0 ++ n) w (k ++ d)
+      ∙ append_assoc b0 n (w ++ (k ++ d))
+
+  module _ {h : Hop} (t : TextsOf h n w k d) (s : says_by x ≡ says_of h) where
+    hop_is : hop_content_by b4 x ≡ hop_content h
+    hop_is =
+        let there = spans_there in
+        let name = there.1 ∙ t.name in
+        let why = there.2 ∙ t.why in
+        let key = there.3 ∙ t.key in
+        let detail = there.4 ∙ t.detail in
+        rw (name, why, key, detail, s) refl
+
+    -- the hops with one more
+    pub hop_content_is : (ns ms : List HopNode) → ms ≡ ns ++ x ∷ [] → AreHopsWithin b0 ns
+        → map (hop_content_by b4) ms ≡ map (hop_content_by b0) ns ++ hop_content h ∷ []
+    hop_content_is ns ms e a =
+        let others = (hops_there ns a).1 in
+        rw e (map-append (hop_content_by b4) ns (x ∷ []) ∙ rw (others, hop_is) refl)
+
+    pub hop_held : (ns ms : List HopNode) → ms ≡ ns ++ x ∷ [] → HopsHoldUp b0 ns → HopsHoldUp b4 ms
+    hop_held ns ms e a =
+        let all = hop_content_is ns ms e a.0 in
+        let size = a.1 in
+        let whole : b4 ≡ hops_bytes (map (hop_content_by b4) ms) =
+        put_behind
+        ∙ ap (λ z. z ++ (n ++ (w ++ (k ++ d)))) a.3
+        ∙ ap (λ z. hops_bytes (map (hop_content_by b0) ns) ++ z) (hop_bytes_are n w k d h t)
+        ∙ sym (hops_bytes-push (map (hop_content_by b0) ns) (hop_content h))
+        ∙ sym (ap hops_bytes all) in (
+          rw e (hops_within_push b4 ns x (hops_there ns a.0).0 spans_there.0),
+          omega (
+            arith,
+            ap hops_size all,
+            hops_size-append (map (hop_content_by b0) ns) (hop_content h ∷ []),
+            ap length p.name.0,
+            ap length p.why.0,
+            ap length p.key.0,
+            ap length p.detail.0,
+            ap length t.name,
+            ap length t.why,
+            ap length t.key,
+            ap length t.detail,
+            length-append {A = ℕ},
+          ),
+          rw e (hops_order_more 0 ns a.2),
+          whole,
+        )
 
 -- the hops and the bytes at the start of two buffers
 pub prefix_of : (ts : List HopContent) (hops some_hops : List HopNode) (bytes some_bytes : List ℕ)

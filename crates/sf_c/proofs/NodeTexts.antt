@@ -17,9 +17,7 @@ use Rattle.sf_view.specs.declared.node.Node.{Node}
 use Rattle.sf_view.specs.View.{DescribesField}
 use Rattle.sf_c.specs.declared.priority.PriorityFlags.{PriorityFlags}
 use Rattle.sf_c.specs.declared.status.Status.{Status}
-use Rattle.sf_c.specs.declared.status.Status.TheVariants.{Answered, Refused, SecondRefused, Short}
-use Rattle.sf_c.specs.declared.status.Status.TheVariants.{OutOfMemory, Empty, BadCall, NotACache}
-use Rattle.sf_c.specs.declared.status.Status.TheVariants.{Invalid, Absent, TooLong, TooMany}
+use Rattle.sf_c.specs.declared.status.Status.TheVariants.{Answered, Short}
 use Rattle.sf_c.specs.Normal.{TextOutput}
 use Rattle.sf_c.specs.Priorities.{params_of_flags}
 use Rattle.sf_c.specs.PriorityChanges.{ChangesPriority}
@@ -39,16 +37,7 @@ pub writes_nodes : (old new : NodesOutput) (nodes : List Node) (source : List �
     → new.invalid ≡ old.invalid → WritesNodes old new nodes source d k s
 writes_nodes old new nodes source d k v Answered t h w e = (v, t, canon_only d k v h, w, e)
 writes_nodes old new nodes source d k v Short t h w e = (v, t, canon_only d k v h, w, e)
-writes_nodes old new nodes source d k v OutOfMemory t h w e = absurd w
-writes_nodes old new nodes source d k v Invalid t h w e = absurd w
-writes_nodes old new nodes source d k v Refused t h w e = w
-writes_nodes old new nodes source d k v SecondRefused t h w e = w
-writes_nodes old new nodes source d k v Empty t h w e = w
-writes_nodes old new nodes source d k v BadCall t h w e = w
-writes_nodes old new nodes source d k v NotACache t h w e = w
-writes_nodes old new nodes source d k v Absent t h w e = w
-writes_nodes old new nodes source d k v TooLong t h w e = w
-writes_nodes old new nodes source d k v TooMany t h w e = w
+writes_nodes old new nodes source d k v s t h w e = absurd w
 
 pub changes_priority : (old new : TextOutput) (t : List ℕ) (p : PriorityFlags) (m : Dictionary)
     (s : Status) → IsOnly Rfc9651 kind.Dict t (field.Dict m)
@@ -59,13 +48,4 @@ pub changes_priority : (old new : TextOutput) (t : List ℕ) (p : PriorityFlags)
 changes_priority old new t p m Answered h v w e =
     (m, h, canon_only Rfc9651 kind.Dict (field.Dict (updated (params_of_flags p) m)) v, w, e)
 changes_priority old new t p m Short h v w e = (m, h, w, e)
-changes_priority old new t p m OutOfMemory h v w e = absurd w
-changes_priority old new t p m Refused h v w e = absurd w
-changes_priority old new t p m SecondRefused h v w e = w
-changes_priority old new t p m Invalid h v w e = w
-changes_priority old new t p m Empty h v w e = w
-changes_priority old new t p m BadCall h v w e = w
-changes_priority old new t p m NotACache h v w e = w
-changes_priority old new t p m Absent h v w e = w
-changes_priority old new t p m TooLong h v w e = w
-changes_priority old new t p m TooMany h v w e = w
+changes_priority old new t p m s h v w e = absurd w

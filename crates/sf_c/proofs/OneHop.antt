@@ -22,23 +22,15 @@ use Rattle.sf_c.specs.Refusals.{flag_number}
 abbrev said : {A : Type 0} → ℕ → A → Option A
 said n x = cond (n == 1) (Some x) None
 
-number_is : (x : Option ℕ) → said (flag_number (is_some x)) (unwrap_or x 0) ≡ x
-number_is (Some n) = refl
-number_is None = refl
+said_is : {A : Type 0} (x : Option A) (d : A) → said (flag_number (is_some x)) (unwrap_or x d) ≡ x
+said_is (Some n) d = refl
+said_is None d = refl
 
 flag_is : (x : Option Bool)
     → said (flag_number (is_some x)) (flag_number (unwrap_or x false) == 1) ≡ x
 flag_is (Some true) = refl
 flag_is (Some false) = refl
 flag_is None = refl
-
-seconds_is : (x : Option ℤ) → said (flag_number (is_some x)) (unwrap_or x (pos 0)) ≡ x
-seconds_is (Some n) = refl
-seconds_is None = refl
-
-bytes_is : (x : Option (Seq ℕ)) → said (flag_number (is_some x)) (unwrap_or x []) ≡ x
-bytes_is (Some s) = refl
-bytes_is None = refl
 
 -- the name of a number and bytes
 abbrev name_by : ℕ → Seq ℕ → Name
@@ -69,23 +61,12 @@ why_by n s =
 
 why_is : (w : Forward) → why_by (reason_number w) (token_of w) ≡ w
 why_is Bypass = refl
-why_is Method = refl
-why_is UriMiss = refl
-why_is VaryMiss = refl
-why_is Miss = refl
-why_is Request = refl
-why_is Stale = refl
-why_is Partial = refl
-why_is (Other token) = refl
+why_is w = refl
 
 -- what is said of a forwarded request
 abbrev passed : Forward → Option ℕ → Option Bool → Option Bool → Passed
 passed why status stored collapsed =
     record { why = why; status = status; stored = stored; collapsed = collapsed }
-
-same_passed : (v w : Forward) (a b : Option ℕ) (c d e f : Option Bool) → v ≡ w → a ≡ b → c ≡ d
-    → e ≡ f → passed v a c e ≡ passed w b d f
-same_passed v w a b c d e f g h i j = rw (g, h, i, j) refl
 
 abbrev passed_from : HopSays → Seq ℕ → Passed
 passed_from says token =
@@ -95,8 +76,7 @@ passed_from says token =
 passed_is : (p : Passed) (h : Hop)
     → passed_from (says_passed (Some p) h) (why_token (Some p)) ≡ p
 passed_is p h =
-    same_passed _ _ _ _ _ _ _ _ (why_is p.why) (number_is p.status) (flag_is p.stored)
-    (flag_is p.collapsed)
+    λ i. passed (why_is p.why i) (said_is p.status 0 i) (flag_is p.stored i) (flag_is p.collapsed i)
 
 -- what a cache did
 abbrev outcome_from : ℕ → Passed → Outcome
@@ -108,10 +88,6 @@ abbrev hop : Name → Outcome → Option ℤ → Option (Seq ℕ) → Option Nam
 hop name outcome ttl key detail =
     record { name = name; outcome = outcome; ttl = ttl; key = key; detail = detail }
 
-same_hop : (m n : Name) (o p : Outcome) (a b : Option ℤ) (k l : Option (Seq ℕ)) (c d : Option Name)
-    → m ≡ n → o ≡ p → a ≡ b → k ≡ l → c ≡ d → hop m o a k c ≡ hop n p b l d
-same_hop m n o p a b k l c d e f g h i = rw (e, f, g, h, i) refl
-
 abbrev hop_from : HopContent → Hop
 hop_from t =
     hop (name_by t.says.name_is_token t.name)
@@ -121,27 +97,18 @@ hop_from t =
 
 hop_is : (n : Name) (o : Outcome) (ttl : Option ℤ) (key : Option (Seq ℕ)) (detail : Option Name)
     → hop_from (hop_content (hop n o ttl key detail)) ≡ hop n o ttl key detail
-hop_is n Unsaid ttl key detail =
-    same_hop _ _ _ _ _ _ _ _ _ _ (name_is n) refl (seconds_is ttl) (bytes_is key)
-    (detail_is detail)
-hop_is n Hit ttl key detail =
-    same_hop _ _ _ _ _ _ _ _ _ _ (name_is n) refl (seconds_is ttl) (bytes_is key)
-    (detail_is detail)
-hop_is n (Forwarded p) ttl key detail =
-    same_hop _ _ _ _ _ _ _ _ _ _ (name_is n)
-    (ap Forwarded (passed_is p (hop n (Forwarded p) ttl key detail))) (seconds_is ttl)
-    (bytes_is key) (detail_is detail)
-hop_is n (Conflict p) ttl key detail =
-    same_hop _ _ _ _ _ _ _ _ _ _ (name_is n)
-    (ap Conflict (passed_is p (hop n (Conflict p) ttl key detail))) (seconds_is ttl)
-    (bytes_is key) (detail_is detail)
+hop_is n (Forwarded p) ttl key detail = λ i.
+    hop (name_is n i) (Forwarded (passed_is p (hop n (Forwarded p) ttl key detail) i))
+    (said_is ttl (pos 0) i) (said_is key [] i) (detail_is detail i)
+hop_is n (Conflict p) ttl key detail = λ i.
+    hop (name_is n i) (Conflict (passed_is p (hop n (Conflict p) ttl key detail) i))
+    (said_is ttl (pos 0) i) (said_is key [] i) (detail_is detail i)
+hop_is n o ttl key detail = λ i.
+    hop (name_is n i) o (said_is ttl (pos 0) i) (said_is key [] i) (detail_is detail i)
 
 hops_are : (hs : Seq Hop) → map hop_from (map hop_content hs) ≡ hs
 hops_are [] = refl
-hops_are (h ∷ hs) =
-    let first : hop_from (hop_content h) ≡ h = hop_is h.name h.outcome h.ttl h.key h.detail in
-    let rest = hops_are hs in
-    rw (first, rest) refl
+hops_are (h ∷ hs) = λ i. hop_is h.name h.outcome h.ttl h.key h.detail i ∷ hops_are hs i
 
 -- two paths that say the same
 pub one_path : (hs js : Seq Hop) → map hop_content hs ≡ map hop_content js → hs ≡ js

@@ -146,10 +146,8 @@ hop_read text c e v nodes old new count used n last next s (m, h, means, shown, 
     sym (length-take-le count nodes s.fits)
     ∙ sym (length-map (take count nodes) (hop_content_by (take used old)))
     ∙ ap length s.describes ∙ length-map s.path hop_content in
-    let contents = hop_content_is (take used old) p.with_name p.with_why p.with_key
-    (take (end_of n.detail) new) (bytes_of h.name) (why_token (passed_by h.outcome))
-    (unwrap_or h.key []) (detail_bytes h.detail) n h (take count nodes) _
-    (put_hop old new used n h p) texts p.says pushed s.held.0 in
+    let hop = put_hop old new used n h p in
+    let contents = hop_content_is hop texts p.says (take count nodes) _ pushed s.held.0 in
     record {
       members = s.members ++ m ∷ [];
       path = s.path ++ h ∷ [];
@@ -164,11 +162,7 @@ hop_read text c e v nodes old new count used n last next s (m, h, means, shown, 
           contents
           ∙ ap (λ y. y ++ hop_content h ∷ []) s.describes
           ∙ sym (map-append hop_content s.path (h ∷ []));
-      held =
-          hop_held (take used old) p.with_name p.with_why p.with_key (take (end_of n.detail) new)
-          (bytes_of h.name) (why_token (passed_by h.outcome)) (unwrap_or h.key [])
-          (detail_bytes h.detail) n h (take count nodes) _ (put_hop old new used n h p) texts p.says
-          pushed s.held;
+      held = hop_held hop texts p.says (take count nodes) _ pushed s.held;
       place =
           served_more s.path h n.outcome count last next (ap (λ y. y.outcome) p.says) many s.place
           hit other;
@@ -194,12 +188,11 @@ all_named ms hs e = rw (none_nameless ms hs e) (grind (arith, nat_tests))
 each_meant : (ms : Seq Member) (hs : Seq Hop) → map member_hop ms ≡ map Some hs
     → filter_map member_hop ms ≡ hs
 each_meant [] [] e = refl
-each_meant [] (h ∷ hs) e = absurd cc
-each_meant (m ∷ ms) [] e = absurd cc
 each_meant (m ∷ ms) (h ∷ hs) e =
     let first : member_hop m ≡ Some h = cc in
     let rest : map member_hop ms ≡ map Some hs = cc in
     rw (first, each_meant ms hs rest) refl
+each_meant ms hs e = absurd cc
 
 -- the path of a text that was read to its end
 pub path_read : (text : Seq ℕ) (c e : HopCursor) (o : Option HopView) (nodes : Seq HopNode)

@@ -46,16 +46,7 @@ says_to_cache old new t o s (v, only, may) h same = by v only may
         → Directs old.policy new.policy d s → SaysToCache old new t (Some s)
     by_status status.Answered d only x = (d, only, x, same)
     by_status status.Empty d only x = (d, only, x, same)
-    by_status status.Refused d only x = absurd x
-    by_status status.SecondRefused d only x = absurd x
-    by_status status.Short d only x = absurd x
-    by_status status.OutOfMemory d only x = absurd x
-    by_status status.BadCall d only x = absurd x
-    by_status status.NotACache d only x = absurd x
-    by_status status.Invalid d only x = absurd x
-    by_status status.Absent d only x = absurd x
-    by_status status.TooLong d only x = absurd x
-    by_status status.TooMany d only x = absurd x
+    by_status s d only x = absurd x
 
     by : (v : Field) → IsOnly Rfc9651 kind.Dict t v → MayOffer v o
         → SaysToCache old new t (Some s)

@@ -61,23 +61,20 @@ name_token d (view_is.Token s) n h = sym (ap is_token h)
 detail_some : (d : Dialect) (v : Option NameView) (n : Option Name) → ShowsName d v n
     → is_some v ≡ is_some n
 detail_some d (Some v) (Some n) h = refl
-detail_some d (Some v) None h = absurd h
-detail_some d None (Some n) h = absurd h
 detail_some d None None h = refl
+detail_some d v o h = absurd h
 
 detail_token : (d : Dialect) (v : Option NameView) (n : Option Name) → ShowsName d v n
     → unwrap_or (option_map is_token_view v) false ≡ detail_is_token n
 detail_token d (Some v) (Some n) h = name_token d v n h
-detail_token d (Some v) None h = absurd h
-detail_token d None (Some n) h = absurd h
 detail_token d None None h = refl
+detail_token d v n h = absurd h
 
 text_some : (d : Dialect) (v : Option Slice) (t : Option (List ℕ)) → ShowsText d v t
     → is_some v ≡ is_some t
 text_some d (Some v) (Some n) h = refl
-text_some d (Some v) None h = absurd h
-text_some d None (Some n) h = absurd h
 text_some d None None h = refl
+text_some d v o h = absurd h
 
 -- a hop by its parts says these numbers
 parts_say : (s : HopParts) (n : Name)

@@ -1,5 +1,5 @@
 -- Nodes describe one value: no two fields of a kind have the same nodes with the same source.
-use Rattle.std.proofs.Common.{◌≡◌, ℕ, ◌+◌, ℤ, pos, negsuc, zero, suc, Bool, true, false, ◌==◌}
+use Rattle.std.proofs.Common.{◌≡◌, ℕ, ◌+◌, ℤ, pos, zero, Bool, true, false, ◌==◌}
 use Rattle.std.proofs.Common.{List as Seq, [], ◌∷◌, ◌++◌, length, refl, sym, ap, ◌∙◌, subst}
 use Rattle.std.proofs.Common.{cond, append-nil}
 use Rattle.sf_value.specs.declared.dialect.Dialect.{Dialect}
@@ -32,8 +32,7 @@ use Rattle.sf_view.proofs.Splitting.{all_params, inside_items, bare_type, inner_
 -- the Boolean of a number
 abbrev truth : ℤ → Bool
 truth (pos zero) = false
-truth (pos (suc n)) = true
-truth (negsuc n) = true
+truth n = true
 
 -- the bare item of a type, a number and bytes
 abbrev bare_by : ℕ → ℤ → Seq ℕ → Bare
@@ -47,21 +46,14 @@ bare_by n z s =
     (cond (n == 28) (Date z) (Shown s)))))))
 
 bare_is : (x : Bare) → bare_by (type_number (type_of x)) (number_of x) (text_of x) ≡ x
-bare_is (Integer n) = refl
-bare_is (Decimal n) = refl
-bare_is (Text s) = refl
-bare_is (Token s) = refl
-bare_is (Blob s) = refl
 bare_is (Boolean true) = refl
 bare_is (Boolean false) = refl
-bare_is (Date n) = refl
-bare_is (Shown s) = refl
+bare_is x = refl
 
 -- the bare item that a text spells is the only one: as an Item it is the only field
 abbrev bare_in : Bare → Field → Bare
 bare_in x (field.Item i) = i.bare
-bare_in x (field.List l) = x
-bare_in x (field.Dict m) = x
+bare_in x v = x
 
 spelled_alone : (d : Dialect) (t : Seq ℕ) (x : Bare) → SpellsBare d t x
     → SpellsField d kind.Item t (field.Item (item x []))

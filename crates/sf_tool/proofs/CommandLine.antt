@@ -126,13 +126,9 @@ apart a b differ same = false≢true (sym differ ∙ (bytes_eq-Decides a b).1 sa
 only-targeted : (rows : List Row) (word : Text) → word ≡ codes "targeted"
     → ((names : List Text) (words : List Text) → all_of (codes "name") rows ≡ Some words
     → ¬ (AreNames words names)) → AsksForNone word rows
-only-targeted rows word e none (Show d k) asks = apart _ _ refl (sym e ∙ asks.0)
-only-targeted rows word e none (Check d k) asks = apart _ _ refl (sym e ∙ asks.0)
-only-targeted rows word e none (Normalise d k) asks = apart _ _ refl (sym e ∙ asks.0)
-only-targeted rows word e none CacheStatus asks = apart _ _ refl (sym e ∙ asks.0)
 only-targeted rows word e none (Targeted names) asks =
     none names.items asks.1.0 asks.1.1 asks.1.2
-only-targeted rows word e none Priority asks = apart _ _ refl (sym e ∙ asks.0)
+only-targeted rows word e none command asks = apart _ _ refl (sym e ∙ asks.0)
 
 pub targeted-nothing : (rows : List Row) (word : Text) → word ≡ codes "targeted"
     → all_of (codes "name") rows ≡ None → AsksForNone word rows
@@ -145,11 +141,7 @@ pub targeted-asks : (rows : List Row) (word : Text) (texts : List Text) → word
     → MatchResult r (IsTargetedOf texts) (IsNamesFault texts)
     → MatchResult r (AsksFor word rows) (IsCommandFault word rows)
 targeted-asks rows word texts e given (Ok (Targeted names)) h = (e, (texts, given, h))
-targeted-asks rows word texts e given (Ok (Show d k)) h = absurd h
-targeted-asks rows word texts e given (Ok (Check d k)) h = absurd h
-targeted-asks rows word texts e given (Ok (Normalise d k)) h = absurd h
-targeted-asks rows word texts e given (Ok CacheStatus) h = absurd h
-targeted-asks rows word texts e given (Ok Priority) h = absurd h
+targeted-asks rows word texts e given (Ok command) h = absurd h
 targeted-asks rows word texts e given (Err Usage) h =
     only-targeted rows word e
     (λ names words some are.
@@ -247,11 +239,7 @@ asks-few rows word (Targeted names) asks =
     let size : length names.items ≡ length asks.1.0 =
     ap length are.3 ∙ length-map asks.1.0 lowercase in
     (omega (arith, size, are.0), omega (arith, size, are.1))
-asks-few rows word (Show d k) asks = tt
-asks-few rows word (Check d k) asks = tt
-asks-few rows word (Normalise d k) asks = tt
-asks-few rows word CacheStatus asks = tt
-asks-few rows word Priority asks = tt
+asks-few rows word command asks = tt
 
 pub request-few : (words : List Text) (r : Result Request RequestFault)
     → MatchResult r (IsRequestOf words) (IsUsageOf words) → IfOk r HasFewNames

@@ -125,26 +125,21 @@ reports_refused request d kind input (Syntax place found expected may_end) old n
       unended = known.1;
       line_is = refl;
     })) t
-reports_refused request d kind input (TooLong limit) old new result given takes p t = absurd t
-reports_refused request d kind input (ReadFault place) old new result given takes p t = absurd t
+reports_refused request d kind input e old new result given takes p t = absurd t
 
 -- a view of the value of the lines, or their refusal
 
 responds : (view : View) (d : Dialect) (kind : Kind) (input : List ℕ)
     → RespondsTo (view_request view d kind) d kind (view_text view) input
 responds Tree d kind input text status r = r
-responds Verdict d kind input text status r = r
-responds Canonical d kind input text status r = r
+responds view d kind input text status r = r
 
 for-memory : (view : View) (d : Dialect) (kind : Kind) (input : List ℕ) (e : Refusal)
     → (TakesNoMemory kind (joined input) → NotForMemory (Err e)) → e ≡ OutOfMemory
     → MayAllocate (view_request view d kind) input
 for-memory Tree d kind input OutOfMemory free is = free
-for-memory Verdict d kind input OutOfMemory free is = free
-for-memory Canonical d kind input OutOfMemory free is = free
-for-memory view d kind input (Syntax place found expected may_end) free is = absurd cc
-for-memory view d kind input (TooLong limit) free is = absurd cc
-for-memory view d kind input (ReadFault place) free is = absurd cc
+for-memory view d kind input OutOfMemory free is = free
+for-memory view d kind input e free is = absurd cc
 
 pub reports_view : (view : View) (d : Dialect) (kind : Kind) (input : List ℕ) (v : Field)
     (old new : SinkState) (result : Status) → ParsesLines d kind (lines_of input) (Ok v)

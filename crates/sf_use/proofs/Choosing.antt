@@ -62,11 +62,8 @@ refused_offer h n place (Some b) expected may_end r =
 -- what is read of headers fails for no source
 pub of_headers : (h : Headers) (n : List ℕ) (read : Result (Option Field) Refusal)
     → ParsesHeaders kind.Dict h n read → IfErr read IsOfHeaders
-of_headers h n (Ok f) r = tt
-of_headers h n (Err OutOfMemory) r = tt
-of_headers h n (Err (Syntax place found expected may_end)) r = tt
-of_headers h n (Err (TooLong limit)) r = tt
 of_headers h n (Err (ReadFault place)) r = absurd r.1.1
+of_headers h n read r = tt
 
 -- what the name offers is what its field offers as it was read
 pub offers : (h : Headers) (n : List ℕ) (read : Result (Option Field) Refusal)

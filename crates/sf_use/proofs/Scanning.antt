@@ -4,8 +4,8 @@ use Rattle.std.proofs.Common.{Option, Some, None, refl, sym, ap, ◌∙◌, subs
 use Rattle.std.specs.Prelude.{unwrap_or}
 use Rattle.sf_value.specs.declared.dialect.Dialect.TheVariants.{Rfc9651}
 use Rattle.sf_value.specs.declared.value.Bare.{Bare}
-use Rattle.sf_value.specs.declared.value.Bare.TheVariants.{Integer, Decimal, Text, Token}
-use Rattle.sf_value.specs.declared.value.Bare.TheVariants.{Blob, Boolean, Date, Shown}
+use Rattle.sf_value.specs.declared.value.Bare.TheVariants.{Integer}
+use Rattle.sf_value.specs.declared.value.Bare.TheVariants.{Boolean}
 use Rattle.sf_value.specs.declared.value.Dict.{Dict}
 use Rattle.sf_value.specs.declared.value.Field.{Field}
 use Rattle.sf_value.specs.declared.value.Field.TheVariants as field
@@ -54,14 +54,6 @@ pub record ReadSoFar {A : Type 0} (f : A → List ℕ × Member → A) (F : Pair
       → (all : Pairs Member) × SpellsWhole (SpellsEntry Rfc9651) text all × (fold f a ps ≡ F all)
 
 module _ {A : Type 0} (f : A → List ℕ × Member → A) (F : Pairs Member → A) where
-  pub read_more : (text : List ℕ) (c e : DictCursor) (a : A) (k : List ℕ) (m : Member)
-      → ReadSoFar f F text c a → e.dialect ≡ c.dialect
-      → ((ps : Pairs Member) → RemainsInDict e ps → RemainsInDict c ((k, m) ∷ ps))
-      → ReadSoFar f F text e (f a (k, m))
-  read_more text c e a k m s same h = record {
-    dialect = same ∙ s.dialect;
-    reads = λ ps r. s.reads ((k, m) ∷ ps) (h ps r);
-  }
 
   pub read_all : (text : List ℕ) (c e : DictCursor) (a : A) (o : Option EntryView)
       → ReadSoFar f F text c a → ReadsNextEntry c e o → o ≡ None → (P : Field → A → Type 0)
@@ -101,13 +93,7 @@ by_type : (x : Bare) → (urgency_by (as_integer x) ≡ urgency_in x)
     × (sets_by (as_boolean x) ≡ not_false x)
 by_type (Integer (pos n)) = (refl, refl, refl, refl)
 by_type (Integer (negsuc n)) = (refl, refl, refl, refl)
-by_type (Decimal n) = (refl, refl, refl, refl)
-by_type (Text n) = (refl, refl, refl, refl)
-by_type (Token n) = (refl, refl, refl, refl)
-by_type (Blob n) = (refl, refl, refl, refl)
-by_type (Boolean n) = (refl, refl, refl, refl)
-by_type (Date n) = (refl, refl, refl, refl)
-by_type (Shown n) = (refl, refl, refl, refl)
+by_type x = (refl, refl, refl, refl)
 
 -- the same of a member
 pub urgency_is : (m : Member) → urgency_by (integer_in m) ≡ urgency (Some m)

@@ -6,8 +6,7 @@ use Rattle.std.proofs.Math.ListN.{length-take}
 use Rattle.std.proofs.lemmas.List.{take_more}
 use Rattle.std.proofs.lemmas.List.Elements.{All-nil, All-cons}
 use Rattle.sf_use.specs.declared.cache_status.hop.Outcome.{Outcome}
-use Rattle.sf_use.specs.declared.cache_status.hop.Outcome.TheVariants.{Hit, Forwarded, Conflict}
-use Rattle.sf_use.specs.declared.cache_status.hop.Outcome.TheVariants.{Unsaid}
+use Rattle.sf_use.specs.declared.cache_status.hop.Outcome.TheVariants.{Hit}
 use Rattle.sf_use.specs.declared.cache_status.hop.Hop.{Hop}
 use Rattle.sf_use.specs.CacheStatus.Members.{is_hit}
 use Rattle.sf_use.specs.CacheStatus.Served.{IsLastHit, served}
@@ -15,9 +14,7 @@ use Rattle.sf_use.specs.CacheStatus.Served.{IsLastHit, served}
 -- what the test tells
 hit-is : (o : Outcome) → is_hit o ≡ true → o ≡ Hit
 hit-is Hit e = refl
-hit-is (Forwarded p) e = absurd cc
-hit-is (Conflict p) e = absurd cc
-hit-is Unsaid e = absurd cc
+hit-is o e = absurd cc
 
 miss-is : (o : Outcome) → is_hit o ≡ false → o ≢ Hit
 miss-is o e h =

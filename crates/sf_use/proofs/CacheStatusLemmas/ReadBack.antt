@@ -10,9 +10,7 @@ use Rattle.sf_value.specs.declared.value.Bare.TheVariants.{Integer, Text, Boolea
 use Rattle.sf_value.specs.declared.value.Member.{Member}
 use Rattle.sf_value.specs.Grammar.Pairs.{Pairs, HasDistinctKeys, value_at}
 use Rattle.sf_use.specs.declared.cache_status.hop.Forward.{Forward}
-use Rattle.sf_use.specs.declared.cache_status.hop.Forward.TheVariants.{Bypass, Method, UriMiss}
-use Rattle.sf_use.specs.declared.cache_status.hop.Forward.TheVariants.{VaryMiss, Miss, Request}
-use Rattle.sf_use.specs.declared.cache_status.hop.Forward.TheVariants.{Stale, Partial, Other}
+use Rattle.sf_use.specs.declared.cache_status.hop.Forward.TheVariants.{Bypass}
 use Rattle.sf_use.specs.declared.cache_status.hop.Name.{Name}
 use Rattle.sf_use.specs.declared.cache_status.hop.Name.TheVariants as name
 use Rattle.sf_use.specs.declared.cache_status.hop.Passed.{Passed}
@@ -72,14 +70,7 @@ status-back (Some n) h = in-range n (h n refl)
 
 reason-back : (why : Forward) → forward_of (token_of why) ≡ canonical_reason why
 reason-back Bypass = refl
-reason-back Method = refl
-reason-back UriMiss = refl
-reason-back VaryMiss = refl
-reason-back Miss = refl
-reason-back Request = refl
-reason-back Stale = refl
-reason-back Partial = refl
-reason-back (Other token) = refl
+reason-back why = refl
 
 passed-back : (ps : Pairs Bare) (p : Passed) → ForSome p.status IsHopStatus
     → value_at (codes "fwd-status") ps ≡ status_value (Some p)
