@@ -36,20 +36,9 @@ names word name kind at good k e =
 unnamed : (word : Text) → has_name word ≡ false → custom_of word ≡ None
 unnamed word not = rw not refl
 
-pub without_colon : (word : Text) → position_or_len is_colon word ≡ length word
-    → custom_of word ≡ None
-without_colon word none = unnamed word (rw (no-colon word none) refl)
-
 pub without_name : (word : Text) → position_or_len is_colon word < length word
     → is_header_name (word_of word) ≡ false → custom_of word ≡ None
 without_name word at bad = unnamed word (rw (colon word at, bad) refl)
-
-pub without_kind : (word : Text) → kind_named (after_first is_colon word) ≡ None
-    → custom_of word ≡ None
-without_kind word none = elim (cases_Bool (has_name word)) [
-  | inl has ↦ rw (has, none) refl
-  | inr not ↦ unnamed word not
-]
 
 -- one field more
 pub fields_more : (words : List Text) (fields : List CustomField) (field : CustomField) (i : ℕ)

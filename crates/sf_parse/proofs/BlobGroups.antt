@@ -10,11 +10,8 @@ use Rattle.sf_parse.proofs.Prefixes.{goes_more}
 -- the first four bytes, and the rest as a slice is seen
 four : (xs : List ℕ) → 4 ≤ length xs
     → xs ≡ get_or xs 0 0 ∷ get_or xs 1 0 ∷ get_or xs 2 0 ∷ get_or xs 3 0 ∷ drop 4 xs
-four [] h = absurd (let k : ⊥ = omega arith in k)
-four (a ∷ []) h = absurd (let k : ⊥ = omega arith in k)
-four (a ∷ b ∷ []) h = absurd (let k : ⊥ = omega arith in k)
-four (a ∷ b ∷ c ∷ []) h = absurd (let k : ⊥ = omega arith in k)
 four (a ∷ b ∷ c ∷ d ∷ xs) h = refl
+four xs h = absurd (omega arith)
 
 -- one group more
 pub group_on : (first bytes more out chunk xs : List ℕ)

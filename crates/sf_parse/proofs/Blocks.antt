@@ -73,10 +73,8 @@ escape_run high low h l e f bs x y g =
 
 three : (xs : List ℕ) → 3 ≤ length xs
     → xs ≡ get_or xs 0 0 ∷ get_or xs 1 0 ∷ get_or xs 2 0 ∷ drop 3 xs
-three [] h = absurd (let k : ⊥ = omega arith in k)
-three (a ∷ []) h = absurd (let k : ⊥ = omega arith in k)
-three (a ∷ b ∷ []) h = absurd (let k : ⊥ = omega arith in k)
 three (a ∷ b ∷ c ∷ xs) h = refl
+three xs h = absurd (omega arith)
 
 -- one escape more
 pub escape_on : (x y z : Utf8) (bs block chunk xs : List ℕ) (n c : ℕ) → n < length block

@@ -5,6 +5,7 @@ use Rattle.std.proofs.Common.{subst, arith, append-nil, append_assoc}
 use Rattle.sf_value.specs.Grammar.Words.{Every, IsWord}
 use Rattle.sf_value.specs.Grammar.Classes.{is_visible}
 use Rattle.sf_value.proofs.Runs.{every_append}
+use Rattle.sf_value.proofs.Words.{every_map}
 use Rattle.sf_value.specs.Grammar.Strings.{is_unescaped}
 use Rattle.sf_parse.specs.Prefixes.{Goes}
 use Rattle.sf_parse.specs.Machine.Language.{run}
@@ -48,18 +49,15 @@ word_goes q bytes xs rest chunk more e h f = record {
   leads = word_run q bytes xs h ∙ ap (λ y. Some y) (sym f);
 }
 
-visible_each : (xs : List ℕ) → Every is_unescaped xs → Every is_visible xs
-visible_each [] h = tt
-visible_each (b ∷ xs) h = (visible_of b h.0, visible_each xs h.1)
-  where
-    visible_of : (b : ℕ) → is_unescaped b ≡ true → is_visible b ≡ true
-    visible_of b h = grind arith
+visible_of : (b : ℕ) → is_unescaped b ≡ true → is_visible b ≡ true
+visible_of b h = grind arith
 
 -- what a run keeps
 pub visible_run : (bytes xs more : List ℕ) → more ≡ bytes ++ xs → Every is_unescaped xs
     → Every is_visible bytes → Every is_visible more
 visible_run bytes xs more e h k =
-    subst (Every is_visible) (sym e) (every_append is_visible bytes xs k (visible_each xs h))
+    subst (Every is_visible) (sym e)
+    (every_append is_visible bytes xs k (every_map is_unescaped is_visible visible_of xs h))
 
 pub word_run_kept : (p q : ℕ → Bool) (bytes xs more : List ℕ) → more ≡ bytes ++ xs → Every q xs
     → IsWord p q bytes → IsWord p q more

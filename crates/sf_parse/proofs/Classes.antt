@@ -1,12 +1,9 @@
 -- Tests on bytes.
-use Rattle.std.proofs.Common.{◌≡◌, ℕ, Bool, true, false, ◌==◌, ◌||◌, List, [], ◌∷◌, ⊎_elim, refl}
-use Rattle.std.proofs.Common.{ap, ◌∙◌, ◌⊎◌, inl, inr, eqb-true}
+use Rattle.std.proofs.Common.{◌≡◌, ℕ, Bool, true, false, ◌==◌, List, [], ◌∷◌, ⊎_elim}
+use Rattle.std.proofs.Common.{ap, ◌∙◌, ◌⊎◌, eqb-true}
+use Rattle.std.proofs.lemmas.Bool.{or_cases}
 use Rattle.sf_value.specs.Grammar.Classes.{is_one_of}
 use Rattle.sf_parse.specs.Machine.Language.{is_follow}
-
-or_cases : (x y : Bool) → (x || y) ≡ true → (x ≡ true) ⊎ (y ≡ true)
-or_cases true y e = inl refl
-or_cases false y e = inr e
 
 -- the test fails at each byte of the list
 abbrev pub NoneOf : (ℕ → Bool) → List ℕ → Type 0

@@ -21,7 +21,7 @@ use Rattle.sf_parse.specs.Machine.Bares.{BareState}
 use Rattle.sf_parse.specs.Machine.Bares.{InNumber, InText, InToken, InBoolean}
 use Rattle.sf_parse.specs.Machine.Bares.{InDate, InBlob, InShown}
 use Rattle.sf_parse.specs.Machine.Bares.{bare_start}
-use Rattle.sf_parse.specs.Machine.Params.{ParamsState, Between, Opened, InParamKey, EqualsParam}
+use Rattle.sf_parse.specs.Machine.Params.{ParamsState, Between, EqualsParam}
 use Rattle.sf_parse.specs.Machine.Params.{InValue, params_step}
 use Rattle.sf_parse.specs.Machine.Items.{ItemState}
 use Rattle.sf_parse.specs.Machine.Items.{InBare, InParams}
@@ -132,11 +132,8 @@ bare_near b =
     (⊎_elim (λ e. inl (old_last b ∙ e)) (λ e. inr (old_last b ∙ e.0, e.1)) (last_near b)))))
 
 params_near : (s : ParamsState) (b : ℕ) → Near b (params_step Rfc8941 s b) (params_step Rfc9651 s b)
-params_near (Between ps) b = inl refl
-params_near (Opened ps) b = inl refl
-params_near (InParamKey ps k) b = inl refl
 params_near (EqualsParam ps k) b = near_map (InValue ps k) (bare_near b)
-params_near (InValue ps k s) b = inl refl
+params_near s b = inl refl
 
 item_start_near : (b : ℕ) → Near b (item_start Rfc8941 b) (item_start Rfc9651 b)
 item_start_near b = near_map InBare (bare_near b)
@@ -202,22 +199,6 @@ step_near (InsideItem s) b = near_onward InsideItem (item_finish s) (λ i. allow
 step_near (AfterItem i) b = inl refl
 step_near (InList s) b = near_map InList (list_near s b)
 step_near (InDict s) b = near_map InDict (dict_near s b)
-
--- what the old machine runs through the new one does
-pub run_more : (s : State) (t : List ℕ) (r : State) → run (step Rfc8941) s t ≡ Some r
-    → run (step Rfc9651) s t ≡ Some r
-run_more s [] r e = e
-run_more s (b ∷ t) r e =
-    let c = and_then_cases (step Rfc8941 s b) (λ s. run (step Rfc8941) s t) r e in
-    go c.0 c.1 (step_near s b) (run_more c.0 t r c.2)
-  where
-    clash : (o : Option State) (x : State) → o ≡ None → o ≡ Some x → ⊥
-    clash o x e k = cc
-
-    go : (x : State) → step Rfc8941 s b ≡ Some x → Near b (step Rfc8941 s b) (step Rfc9651 s b)
-        → run (step Rfc9651) x t ≡ Some r → run (step Rfc9651) s (b ∷ t) ≡ Some r
-    go x k (inl i) h = rw (sym i ∙ k) h
-    go x k (inr (n, m)) h = absurd (clash (step Rfc8941 s b) x n k)
 
 -- where the old machine stops in a text
 abbrev Stuck : State → List ℕ → Type 0

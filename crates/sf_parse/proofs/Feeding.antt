@@ -88,8 +88,7 @@ free_split p chunk f suffix more e h =
 pub free_taken : (p : Progress) (rest suffix more : List ℕ) → length rest ≡ 0 → length suffix ≡ 0
     → IsAllocationFree p (rest ++ (suffix ++ more)) → IsAllocationFree p more
 free_taken p [] [] more e f h = h
-free_taken p (b ∷ rest) suffix more e f h = absurd (let k : ⊥ = omega arith in k)
-free_taken p [] (b ∷ suffix) more e f h = absurd (let k : ⊥ = omega arith in k)
+free_taken p rest suffix more e f h = absurd (omega arith)
 
 at_seam : (xs : List ℕ) (b : ℕ) (more : List ℕ) → get_or (xs ++ b ∷ more) (length xs) 0 ≡ b
 at_seam [] b more = refl

@@ -221,10 +221,6 @@ module _ (d : Dialect) where
   after_comma : (kind : Kind) (t white : List ℕ) (v : Field) → SpellsField d kind t v → HasMember v
       → Every is_ows white
       → (s : State) × IsComma kind s × IsReachedBy d kind s (t ++ comma ∷ white)
-  after_comma kind.Item t white (field.Item i) h m e = absurd m
-  after_comma kind.Item t white (field.List l) h m e = absurd h
-  after_comma kind.Item t white (field.Dict l) h m e = absurd h
-  after_comma kind.List t white (field.Item i) h m e = absurd m
   after_comma kind.List t white (field.List l) h m e =
       let r = reached kind.List t (field.List l) h in
       let k = list_comma r.0 l.members r.2 m in (
@@ -233,9 +229,6 @@ module _ (d : Dialect) where
         reaches_more d kind.List r.0 (InList (Comma k.0)) t (comma ∷ white) r.1
             (rw k.1 (stays_list k.0 white e)),
       )
-  after_comma kind.List t white (field.Dict l) h m e = absurd h
-  after_comma kind.Dict t white (field.Item i) h m e = absurd m
-  after_comma kind.Dict t white (field.List l) h m e = absurd h
   after_comma kind.Dict t white (field.Dict l) h m e =
       let r = reached kind.Dict t (field.Dict l) h in
       let k = dict_comma r.0 l.members r.2 m in (
@@ -244,6 +237,8 @@ module _ (d : Dialect) where
         reaches_more d kind.Dict r.0 (InDict (Comma k.0)) t (comma ∷ white) r.1
             (rw k.1 (stays_dict k.0 white e)),
       )
+  after_comma k t white (field.Item i) h m e = absurd m
+  after_comma k t white v h m e = absurd h
 
   -- such states are completed by the same texts
   alike : (kind : Kind) (s s' : State) (u : List ℕ) (v : Field) → IsComma kind s → IsComma kind s'

@@ -104,9 +104,6 @@ leads_run bytes xs more l h f =
 -- a closed display string is whole characters
 pub shown_whole : (p : ShownPhase) (bytes : List ℕ) (chars : Utf8State) → FitsShown p bytes chars
     → is_some (bare_finish (InShown (shown_of p bytes chars))) ≡ true → WellFormed Start bytes
-shown_whole shown_phase.Quote bytes chars f e = absurd cc
-shown_whole shown_phase.Unencoded bytes chars f e = absurd cc
-shown_whole shown_phase.Percent bytes chars f e = absurd cc
-shown_whole (shown_phase.Hex high) bytes chars f e = absurd cc
 shown_whole shown_phase.Done bytes chars f e =
     whole_when_led bytes (subst (λ c. Leads bytes (utf8_of c)) f.1 f.0)
+shown_whole p bytes chars f e = absurd cc

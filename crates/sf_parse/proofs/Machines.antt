@@ -2,7 +2,7 @@
 use Rattle.std.specs.Option.{option_and_then}
 use Rattle.std.proofs.Common.{◌≡◌, ℕ, suc, ◌<◌, ◌≤◌, List, [], ◌∷◌, ◌++◌, length, take, Option}
 use Rattle.std.proofs.Common.{Some, None, ⊎_elim, refl, sym, ap, ◌∙◌, subst, ◌↔◌, ◌⊎◌, inl, inr}
-use Rattle.std.proofs.Common.{append_assoc, append-nil, arith, ◌+◌, ◌-◌, length-append, take_all}
+use Rattle.std.proofs.Common.{append_assoc, append-nil, arith, ◌+◌, ◌-◌, length-append}
 use Rattle.std.proofs.Math.Seq.{take-append_seam, take-append-add}
 use Rattle.std.proofs.lemmas.Bool.{cases_lt}
 use Rattle.sf_value.specs.Grammar.Lines.{Continues, IsLongest}
@@ -130,16 +130,3 @@ module _ {S V : Type 0} {Good : S → Type 0} {Residual : S → List ℕ → V �
           ++ b ∷ []) (take (m - suc (length p)) q) (subst (Continues (Residual s)) cut h) in
           let r = (next s t p b g e).0 v in
           cc (r.1, n)
-
-  -- where the run takes all, all is the longest viable prefix
-  pub ends_viable : (s t : S) (p : List ℕ) → Good s → run step s p ≡ Some t
-      → IsLongest V (Residual s) p (length p)
-  ends_viable s t p g e = record {
-    within = omega arith;
-    viable = subst (Continues (Residual s)) (sym (take_all (length p) p (omega arith)))
-        ((viable s p g).1 (
-          t,
-          e,
-        ));
-    longest = λ m within h. within;
-  }

@@ -1,20 +1,17 @@
 -- Digits bound a number.
-use Rattle.std.proofs.Common.{◌≡◌, ℕ, suc, ◌+◌, ◌*◌, ◌^◌, ◌<◌, ◌≤◌, subst, arith}
+use Rattle.std.proofs.Common.{ℕ, ◌+◌, ◌*◌, ◌^◌, ◌<◌, ◌≤◌, arith}
 use Rattle.std.proofs.Math.Nat.{pow-le-pow_right}
+use Rattle.std.proofs.lemmas.Grind.{pow_more}
 
 -- so many digits are below the power
 below : (count most value : ℕ) → value < 10 ^ count → count ≤ most → value < 10 ^ most
 below count most value h k =
     let ten : 0 < 10 = omega arith in
-    let p : 10 ^ count ≤ 10 ^ most = pow-le-pow_right ten k in
-    omega arith
+    omega (arith, pow-le-pow_right ten k)
 
 pub next_digit : (count value d : ℕ) → value < 10 ^ count → d < 10
     → 10 * value + d < 10 ^ (count + 1)
-next_digit count value d h k =
-    let e : 10 ^ suc count ≡ 10 * 10 ^ count = omega arith in
-    let i : suc count ≡ count + 1 = omega arith in
-    subst (λ y. 10 * value + d < 10 ^ y) i (omega arith)
+next_digit count value d h k = omega (arith, pow_more 10 count)
 
 pub room : (count value : ℕ) → value < 10 ^ count → count < 15 → value < 10 ^ 14
 room count value h k = below count 14 value h (omega arith)
@@ -23,4 +20,4 @@ pub whole_fits : (count value : ℕ) → value < 10 ^ count → count ≤ 12 →
 whole_fits count value = below count 12 value
 
 pub short : (count value : ℕ) → value < 10 ^ count → count ≤ 15 → value ≤ 999999999999999
-short count value h k = let p = below count 15 value h k in omega arith
+short count value h k = omega (arith, below count 15 value h k)

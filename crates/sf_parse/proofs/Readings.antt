@@ -138,11 +138,10 @@ ended : (old b : SourceState) (kind : Kind) (max : ℕ) (text : List ℕ) (r : R
     → (TakesNoMemory kind text → NotForMemory r)
     → Finishes Rfc9651 kind text r → ReadAndParsed Rfc9651 kind old b max r
 ended old b kind max text (Ok v) g l m n f = (text, g, l, f)
-ended old b kind max text (Err OutOfMemory) g l m n f = (text, allocation_failed old b kind max text g l m n)
+ended old b kind max text (Err OutOfMemory) g l m n f =
+    (text, allocation_failed old b kind max text g l m n)
 ended old b kind max text (Err (Syntax place None expected may)) g l m n f = (text, g, l, f)
-ended old b kind max text (Err (Syntax place (Some c) expected may)) g l m n f = absurd f
-ended old b kind max text (Err (TooLong limit)) g l m n f = absurd f
-ended old b kind max text (Err (ReadFault place)) g l m n f = absurd f
+ended old b kind max text r g l m n f = absurd f
 
 finished : (kind : Kind) (max given : ℕ) (old a : SourceState) (p : Progress)
     (r : Result Field Refusal) (k : ReadSoFar old a kind max given p)

@@ -90,8 +90,7 @@ whole_value d kind s t text (b ∷ rest) found v e a f n g =
 pub begins_free : (kind : Kind) (text : List ℕ) → TakesNoMemory kind text
     → FieldFree (begin kind) text
 begins_free kind_is.Item text h = h
-begins_free kind_is.List text h = h
-begins_free kind_is.Dict text h = h
+begins_free kind text h = h
 
 -- and no byte is left
 pub whole_free : (d : Dialect) (kind : Kind) (s t : State) (text rest : List ℕ) (found : Option ℕ)

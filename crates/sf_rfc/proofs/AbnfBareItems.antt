@@ -21,13 +21,15 @@ use Rattle.sf_value.specs.Grammar.ByteSequences.{unpadded, spare, letter, Spells
 use Rattle.sf_value.specs.Grammar.DisplayStrings.{hex, is_unencoded, EncodedBytes}
 use Rattle.sf_value.specs.Grammar.DisplayStrings.{SpellsDisplayString}
 use Rattle.sf_value.specs.Grammar.BareItems.{SpellsBare}
+use Rattle.sf_parse.proofs.Quads.{byte_small}
 use Rattle.sf_rfc.specs.Rfc9651.AbnfNotation.{Rule, text, either, then, times, many, repeated}
 use Rattle.sf_rfc.specs.Rfc9651.AbnfNotation.{optional, DIGIT, DQUOTE}
 use Rattle.sf_rfc.specs.Rfc9651.Abnf.{sf_integer, sf_decimal, unescaped, bs_escaped, sf_string}
 use Rattle.sf_rfc.specs.Rfc9651.Abnf.{sf_token, sf_binary, sf_boolean, sf_date, pct_encoded}
 use Rattle.sf_rfc.specs.Rfc9651.Abnf.{sf_displaystring, bare_item}
 use Rattle.sf_rfc.proofs.AbnfCharacters.{digit, token_start, in_token, base64_char, a_letter}
-use Rattle.sf_rfc.proofs.AbnfCharacters.{hex_digit, every_times, every_many, one_passes}
+use Rattle.std.proofs.lemmas.Bool.{or_cases}
+use Rattle.sf_rfc.proofs.AbnfCharacters.{hex_digit, every_times, every_many}
 
 -- numbers
 digits : (low high : ℕ) (w : List ℕ) → AreDigits low high 0 w → repeated low high DIGIT w
@@ -92,7 +94,7 @@ escape c h = (
   refl,
   refl,
   ⊎_elim (λ k. inl (ap (λ y. y ∷ []) (eqb-true c 34 k)))
-      (λ k. inr (ap (λ y. y ∷ []) (eqb-true c 92 k))) (one_passes (c == 34) (c == 92) h),
+      (λ k. inr (ap (λ y. y ∷ []) (eqb-true c 92 k))) (or_cases (c == 34) (c == 92) h),
 )
 
 string_chars : (s : List ℕ) → Every is_visible s → times (length s) string_char (escaped s)
@@ -127,9 +129,6 @@ boolean_keeps t true e = (63 ∷ [], 49 ∷ [], e, refl, inr refl)
 boolean_keeps t false e = (63 ∷ [], 48 ∷ [], e, refl, inl refl)
 
 -- Byte Sequences
-byte : (b : ℕ) → is_byte b ≡ true → b < 256
-byte b e = grind (arith, nat_tests)
-
 -- one more letter
 with_letter : (n x : ℕ) (t : List ℕ) → x < 64 → times n base64_char t
     → times (suc n) base64_char (letter x ∷ t)
@@ -139,21 +138,21 @@ letters : (low : ℕ) (s : List ℕ) → low < spare s → Every is_byte s
     → many base64_char (unpadded low s)
 letters low [] l h = (0, refl)
 letters low (a ∷ []) l h =
-    let p = byte a h.0 in (
+    let p = byte_small a h.0 in (
       2,
       with_letter 1 _ _ (omega arith) (with_letter 0 _ [] (omega arith) refl),
     )
 letters low (a ∷ b ∷ []) l h =
-    let p = byte a h.0 in
-    let q = byte b h.1.0 in (
+    let p = byte_small a h.0 in
+    let q = byte_small b h.1.0 in (
       3,
       with_letter 2 _ _ (omega arith) (with_letter 1 _ _ (omega arith)
           (with_letter 0 _ [] (omega arith) refl)),
     )
 letters low (a ∷ b ∷ c ∷ s) l h =
-    let p = byte a h.0 in
-    let q = byte b h.1.0 in
-    let r = byte c h.1.1.0 in
+    let p = byte_small a h.0 in
+    let q = byte_small b h.1.0 in
+    let r = byte_small c h.1.1.0 in
     let (n, k) = letters low s l h.1.1.1 in (
       suc (suc (suc (suc n))),
       with_letter (suc (suc (suc n))) _ _ (omega arith) (with_letter (suc (suc n)) _ _ (omega arith)
@@ -237,7 +236,7 @@ shown_chars (c ∷ s) t (suffix, inr (h, e), k) =
           37 ∷ hex (c / 16) ∷ hex (c % 16) ∷ [],
           before,
           refl,
-          inr (inr (encoded c (byte c h))),
+          inr (inr (encoded c (byte_small c h))),
           g,
         ),
       ),

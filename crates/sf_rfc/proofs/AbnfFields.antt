@@ -28,7 +28,7 @@ use Rattle.sf_value.specs.Grammar.Valid.{ValidBare, ValidParams, ValidMember, Va
 use Rattle.sf_value.specs.Grammar.Canonical.{canon_params, canon_item, canon_bare, canon_inner}
 use Rattle.sf_value.specs.Grammar.Canonical.{canon_member, canon_flag, canon_behind, canon_entry}
 use Rattle.sf_value.specs.Grammar.Canonical.{canon_commas, canon_series, canon}
-use Rattle.sf_value.proofs.CanonicalTexts.{member_canon}
+use Rattle.sf_value.proofs.CanonicalTexts.{each_map, member_canon}
 use Rattle.sf_rfc.specs.Rfc9651.AbnfNotation.{Rule, text, either, then, many, some, optional}
 use Rattle.sf_rfc.specs.Rfc9651.AbnfNotation.{SP, OWS}
 use Rattle.sf_rfc.specs.Rfc9651.Abnf.{bare_item, key, parameters, sf_item, inner_list, list_member}
@@ -125,11 +125,6 @@ series_canon : {X : Type 0} (R : Rule) (f : X → Seq ℕ) (xs : Seq X) → Each
     → if_sent xs (with_commas R) (canon_series f xs)
 series_canon R f [] h = refl
 series_canon R f (x ∷ xs) h = (f x, canon_commas f xs, refl, h.0, commas_canon R f xs h.1)
-
-each_map : {X : Type 0} (P Q : X → Type 0) → ((x : X) → P x → Q x) → (xs : Seq X) → Each P xs
-    → Each Q xs
-each_map P Q g [] h = tt
-each_map P Q g (x ∷ xs) h = (g x h.0, each_map P Q g xs h.1)
 
 -- members are sent, settled or not
 settled_sent : {V : Type 0} (R : Rule) (t : Seq ℕ) (raw : Pairs V) → if_sent raw R t
@@ -253,14 +248,8 @@ module _ (d : Dialect) where
       → Between (field_rule d v) (white_space_after v) t
   spelled_keeps kind.Item t (field.Item i) (gap, body, tail, e, g, h, w) =
       (gap, body, tail, e, spaces gap g, item_keeps body i h, spaces tail w)
-  spelled_keeps kind.Item t (field.List l) h = elim h [ ]
-  spelled_keeps kind.Item t (field.Dict m) h = elim h [ ]
-  spelled_keeps kind.List t (field.Item i) h = elim h [ ]
   spelled_keeps kind.List t (field.List l) h =
       whole_keeps (SpellsMember d) (list_member d) member_keeps t l.members h
-  spelled_keeps kind.List t (field.Dict m) h = elim h [ ]
-  spelled_keeps kind.Dict t (field.Item i) h = elim h [ ]
-  spelled_keeps kind.Dict t (field.List l) h = elim h [ ]
   spelled_keeps kind.Dict t (field.Dict m) (raw, e, h) =
       let (gap, body, tail, f, g, k, w) =
       whole_keeps (SpellsEntry d) (dict_member d) entry_keeps t raw h in (
@@ -273,6 +262,7 @@ module _ (d : Dialect) where
             (settled_sent (sf_dictionary d) body raw k),
         w,
       )
+  spelled_keeps kind t v h = elim h [ ]
 
   -- canonical texts
   params_canon : (ps : Pairs Bare) → ValidParams d ps → parameters d (canon_params ps)
@@ -316,17 +306,12 @@ module _ (d : Dialect) where
   pub canon_keeps : (kind : Kind) (v : Field) → Valid d kind v → field_rule d v (canon v)
   canon_keeps kind.Item (field.Item i) h =
       item_keeps (canon_item i) i (member_canon d (member.Item i) h)
-  canon_keeps kind.Item (field.List l) h = elim h [ ]
-  canon_keeps kind.Item (field.Dict m) h = elim h [ ]
-  canon_keeps kind.List (field.Item i) h = elim h [ ]
   canon_keeps kind.List (field.List l) h =
       series_canon (list_member d) canon_member l.members
       (each_map (ValidMember d) (λ m. list_member d (canon_member m))
       (λ m k. member_keeps (canon_member m) m (member_canon d m k)) l.members h)
-  canon_keeps kind.List (field.Dict m) h = elim h [ ]
-  canon_keeps kind.Dict (field.Item i) h = elim h [ ]
-  canon_keeps kind.Dict (field.List l) h = elim h [ ]
   canon_keeps kind.Dict (field.Dict m) h =
       series_canon (dict_member d) canon_entry m.members
       (each_map (λ p. IsKey p.0 × ValidMember d p.1) (λ p. dict_member d (canon_entry p))
       (λ p k. (p.0, canon_behind p.1, refl, key_keeps p.0 k.0, behind_canon p.1 k.1)) m.members h.0)
+  canon_keeps kind v h = elim h [ ]

@@ -86,20 +86,15 @@ module _ (d : Dialect) where
   keeps kind.Item t (field.Item i) h k =
       let (gap, body, tail, e, g, r, (n, w)) = spelled_keeps d kind.Item t (field.Item i) h in
       between_trimmed (sf_item d) t (gap, body, tail, e, g, r, (n, times_sp n tail w)) k
-  keeps kind.Item t (field.List l) h k = elim h [ ]
-  keeps kind.Item t (field.Dict m) h k = elim h [ ]
-  keeps kind.List t (field.Item i) h k = elim h [ ]
   keeps kind.List t (field.List l) h k =
       sent l.members (sf_list d) t
       (between_trimmed (if_sent l.members (sf_list d)) t
       (spelled_keeps d kind.List t (field.List l) h) k) k.0
-  keeps kind.List t (field.Dict m) h k = elim h [ ]
-  keeps kind.Dict t (field.Item i) h k = elim h [ ]
-  keeps kind.Dict t (field.List l) h k = elim h [ ]
   keeps kind.Dict t (field.Dict m) h k =
       sent m.members (sf_dictionary d) t
       (between_trimmed (if_sent m.members (sf_dictionary d)) t
       (spelled_keeps d kind.Dict t (field.Dict m) h) k) k.0
+  keeps kind t v h k = elim h [ ]
 
   pub exactly_trimmed : (kind : Kind) (t : Seq ℕ) (v : Field) → SpellsField d kind t v
       → (kind_rule d kind t ↔ IsTrimmed t)

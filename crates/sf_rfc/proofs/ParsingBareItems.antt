@@ -18,7 +18,8 @@ use Rattle.sf_rfc.specs.Rfc9651.ParsingBare.{parse_byte_sequence, parse_boolean,
 use Rattle.sf_rfc.specs.Rfc9651.ParsingBare.{parse_display_string, parse_added, parse_bare}
 use Rattle.sf_rfc.specs.ParsingLaws.{Agrees, SpellsNumber, SpellsBareDate, is_in_number}
 use Rattle.sf_rfc.specs.ParsingLaws.{BareItemsAgree}
-use Rattle.sf_rfc.proofs.ParsingWords.{tokens_agree, token_start}
+use Rattle.sf_rfc.proofs.ParsingWords.{tokens_agree}
+use Rattle.sf_rfc.proofs.SerialisingWords.{token_start}
 use Rattle.sf_rfc.proofs.ParsingStrings.{booleans_agree, strings_agree}
 use Rattle.sf_rfc.proofs.ParsingNumbers.{numbers_agree, dates_agree}
 use Rattle.sf_rfc.proofs.ParsingBase64.{byte_sequences_agree}

@@ -3,13 +3,15 @@ use Rattle.std.specs.List.{list_all}
 use Rattle.std.proofs.Common.{◌≡◌, ℕ, zero, suc, ◌+◌, ◌*◌, ◌/◌, ◌%◌, ◌<◌, ◌≤◌, Bool, true, false}
 use Rattle.std.proofs.Common.{not, ◌&&◌, ◌==◌, nat_le, List, [], ◌∷◌, ◌++◌, length, get_or, drop}
 use Rattle.std.proofs.Common.{replicate, Option, Some, None, refl, sym, ap, ap₂, ◌∙◌, subst, arith}
-use Rattle.std.proofs.Common.{append_assoc}
+use Rattle.std.proofs.Common.{append_assoc, eqb-true}
 use Rattle.std.proofs.lemmas.Bool.Decides.{nat_tests}
+use Rattle.std.proofs.lemmas.List.{length-replicate}
+use Rattle.std.specs.Cmp.{first_so, second_so}
 use Rattle.sf_value.specs.Grammar.Words.{Every}
 use Rattle.sf_value.specs.Grammar.Classes.{is_byte}
 use Rattle.sf_value.specs.Grammar.ByteSequences.{alphabet, letter, unpadded, spare, needed}
 use Rattle.sf_value.specs.Grammar.ByteSequences.{Sextets, SpellsByteSequence}
-use Rattle.sf_value.proofs.Tables.{all_below, each_below}
+use Rattle.sf_value.proofs.Tables.{each_below}
 use Rattle.sf_parse.proofs.Quads.{byte_small, small_byte, first_small, second_small, third_small}
 use Rattle.sf_parse.proofs.Quads.{fourth_small, alone_small, last_small, quad, quad_gives}
 use Rattle.sf_parse.proofs.Quads.{one_byte, two_bytes, three_bytes}
@@ -26,19 +28,16 @@ unfoldable pub is_value : Option ℕ → ℕ → Bool
 is_value None x = false
 is_value (Some y) x = y == x
 
-the_values : all_below 64 (λ x. is_value (value_of (letter x)) x) ≡ true
-unfolding value_of letter is_value
-the_values = refl
-
 pub the_value : (o : Option ℕ) (x : ℕ) → is_value o x ≡ true → o ≡ Some x
 unfolding is_value
 the_value None x h = absurd cc
 the_value (Some y) x h = let i : y ≡ x = grind (arith, nat_tests) in ap Some i
 
 letter_value : (x : ℕ) → x < 64 → value_of (letter x) ≡ Some x
+unfolding value_of letter is_value
 letter_value x h =
     the_value (value_of (letter x)) x
-    (each_below 64 (λ y. is_value (value_of (letter y)) y) the_values x h)
+    (each_below 64 (λ y. is_value (value_of (letter y)) y) refl x h)
 
 pub placed : (n : ℕ) (xs : List ℕ) (c x : ℕ) → place_from n xs c ≡ Some x
     → (i : ℕ) × (x ≡ n + i) × (i < length xs) × (get_or xs i 0 ≡ c)
@@ -217,19 +216,9 @@ decoded_spell (a ∷ b ∷ c ∷ d ∷ t) bits m e n h =
     (four_spell x y z w (t ++ padding m) (by_eights rest) hx hy hz hw ih)
 
 -- the cuts at ":" and "="
-pub both_so : (a b : Bool) → (a && b) ≡ true → a ≡ true
-both_so true b h = refl
-both_so false b h = h
-
-pub both_then : (a b : Bool) → (a && b) ≡ true → b ≡ true
-both_then true b h = h
-both_then false b h = absurd cc
-
 pad_tests : (a b : Bool) (n m : ℕ) → (not a && (b && nat_le n m)) ≡ true
     → (a ≡ false) × (b ≡ true) × (n ≤ m)
-pad_tests true b n m h = absurd cc
-pad_tests false true n m h = (refl, refl, grind (arith, nat_tests))
-pad_tests false false n m h = absurd cc
+pad_tests a b n m h = grind (arith, nat_tests)
 
 cut : (x : ℕ) (t : List ℕ) → t ≡ before x t ++ from x t
 cut x [] = refl
@@ -257,11 +246,11 @@ cut_before x q n (c ∷ w) t h = go (c == x) refl (cut_before x q n w t)
         → (before x (c ∷ (w ++ x ∷ t)) ≡ c ∷ w) × (from x (c ∷ (w ++ x ∷ t)) ≡ x ∷ t)
     go true i ih =
         let j : c ≡ x = grind (arith, nat_tests) in
-        let k : q c ≡ true = both_so (q c) (list_all q w) h in
+        let k : q c ≡ true = first_so (q c) (list_all q w) h in
         absurd (let l : q x ≡ true = subst (λ y. q y ≡ true) j k in
         let o : true ≡ false = sym l ∙ n in cc)
     go false i ih =
-        let k = ih (both_then (q c) (list_all q w) h) in
+        let k = ih (second_so (q c) (list_all q w) h) in
         (rw (i, before) (ap (λ y. c ∷ y) k.0), rw (i, from) k.1)
 
 -- the pads of a text that is decoded, by their count
@@ -281,9 +270,6 @@ decoded_sound t s e =
     rw j (subst (λ y. Sextets (characters ++ padding (length pads)) y) (some_is (by_eights bits) s d)
     (decoded_spell characters bits (length pads) b k.0 k.2))
 
-is_colon : (c : ℕ) → (c == 58) ≡ true → c ≡ 58
-is_colon c h = grind (arith, nat_tests)
-
 sequence_sound : (t r s : List ℕ) → parse_byte_sequence t ≡ Some (s, r)
     → (prefix : List ℕ) × (t ≡ prefix ++ r) × SpellsByteSequence prefix s
 sequence_sound [] r s e = never (s, r) e
@@ -297,7 +283,7 @@ sequence_sound (c ∷ t) r s e =
     cut 58 t ∙ ap (λ y. before 58 t ++ y) (is_first 58 (from 58 t) i ∙ ap (λ y. 58 ∷ y) k.1)
     ∙ sym (append_assoc (before 58 t) (58 ∷ []) r) in (
       58 ∷ (before 58 t ++ 58 ∷ []),
-      ap₂ (λ y z. y ∷ z) (is_colon c h) l,
+      ap₂ (λ y z. y ∷ z) (eqb-true c 58 h) l,
       (
         before 58 t ++ 58 ∷ [],
         refl,
@@ -306,17 +292,12 @@ sequence_sound (c ∷ t) r s e =
     )
 
 -- what is spelled is decoded
-the_letters : all_below 64 (λ x. can_be_in_base64 (letter x) && not (letter x == 61)) ≡ true
-unfolding letter
-the_letters = refl
-
 is_letter : ℕ → Bool
 is_letter c = can_be_in_base64 c && not (c == 61)
 
 a_letter : (x : ℕ) → x < 64 → is_letter (letter x) ≡ true
-unfolding is_letter
-a_letter x h =
-    each_below 64 (λ y. can_be_in_base64 (letter y) && not (letter y == 61)) the_letters x h
+unfolding is_letter letter
+a_letter x h = each_below 64 (λ y. is_letter (letter y)) refl x h
 
 with_letter : (x : ℕ) (t : List ℕ) → x < 64 → list_all is_letter t ≡ true
     → list_all is_letter (letter x ∷ t) ≡ true
@@ -416,9 +397,7 @@ decodes low (a ∷ b ∷ c ∷ s) l h =
     (byte_small c h.1.1.0) (decodes low s l h.1.1.1)
 
 pad_no : (a b : Bool) → (a && not b) ≡ true → b ≡ false
-pad_no true false h = refl
-pad_no true true h = absurd cc
-pad_no false b h = absurd cc
+pad_no a b h = grind arith
 
 not_pad : (c : ℕ) → is_letter c ≡ true → (c == 61) ≡ false
 unfolding is_letter
@@ -434,13 +413,9 @@ cut_pads : (w : List ℕ) (m : ℕ) → list_all is_letter w ≡ true
 cut_pads w (suc m) h = cut_before 61 is_letter letter_no_pad w (replicate m 61) h
 cut_pads [] zero h = (refl, refl)
 cut_pads (c ∷ w) zero h =
-    let i : (c == 61) ≡ false = not_pad c (both_so (is_letter c) (list_all is_letter w) h) in
-    let k = cut_pads w zero (both_then (is_letter c) (list_all is_letter w) h) in
+    let i : (c == 61) ≡ false = not_pad c (first_so (is_letter c) (list_all is_letter w) h) in
+    let k = cut_pads w zero (second_so (is_letter c) (list_all is_letter w) h) in
     (rw (i, before) (ap (λ y. c ∷ y) k.0), rw (i, from) k.1)
-
-count_pads : (m : ℕ) → length {A = ℕ} (replicate m 61) ≡ m
-count_pads zero = refl
-count_pads (suc m) = ap (λ n. suc n) (count_pads m)
 
 at_most : (n m : ℕ) → n ≤ m → nat_le n m ≡ true
 at_most n m h = grind (arith, nat_tests)
@@ -457,9 +432,10 @@ decode_parts characters pads =
 parts_decoded : (t s : List ℕ) (m : ℕ) → Decodes t s → m ≤ needed s
     → decode_parts t (replicate m 61) ≡ Some s
 parts_decoded t s m g k =
-    let n : nat_le m (missing 4 (length t)) ≡ true = at_most m (missing 4 (length t)) (rw g.lacks k) in
+    let n : nat_le m (missing 4 (length t)) ≡ true =
+    at_most m (missing 4 (length t)) (rw g.lacks k) in
     let c : nat_le (length {A = ℕ} (replicate m 61)) (missing 4 (length t)) ≡ true =
-    ap (λ y. nat_le y (missing 4 (length t))) (count_pads m) ∙ n in
+    ap (λ y. nat_le y (missing 4 (length t))) (length-replicate m 61) ∙ n in
     rw (g.not_one, are_pads m, c, decode_parts) (ap (λ o. and_then o (λ bits. Some (by_eights bits))) g.are_bits
     ∙ ap Some g.bytes)
 
@@ -473,15 +449,15 @@ decoded low s m l h k =
 -- the characters before the ":"
 in_base64 : (c : ℕ) → is_letter c ≡ true → can_be_in_base64 c ≡ true
 unfolding is_letter
-in_base64 c h = both_so (can_be_in_base64 c) (not (c == 61)) h
+in_base64 c h = first_so (can_be_in_base64 c) (not (c == 61)) h
 
 all_in_base64 : (w : List ℕ) (m : ℕ) → list_all is_letter w ≡ true
     → list_all can_be_in_base64 (w ++ replicate m 61) ≡ true
 all_in_base64 [] zero h = refl
 all_in_base64 [] (suc m) h = all_in_base64 [] m h
 all_in_base64 (c ∷ w) m h =
-    rw (in_base64 c (both_so (is_letter c) (list_all is_letter w) h))
-    (all_in_base64 w m (both_then (is_letter c) (list_all is_letter w) h))
+    rw (in_base64 c (first_so (is_letter c) (list_all is_letter w) h))
+    (all_in_base64 w m (second_so (is_letter c) (list_all is_letter w) h))
 
 -- a Byte Sequence by the two parts of the cut
 abbrev sequence_parts : List ℕ → List ℕ → Option (List ℕ × List ℕ)

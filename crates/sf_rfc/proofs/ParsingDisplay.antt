@@ -3,11 +3,12 @@ use Rattle.std.proofs.Common.{◌≡◌, ℕ, ◌+◌, ◌*◌, ◌/◌, ◌%◌
 use Rattle.std.proofs.Common.{◌∷◌, ◌++◌, get_or, Option, Some, None, refl, sym, ap, ap₂, ◌∙◌, subst}
 use Rattle.std.proofs.Common.{append_assoc, append-nil, inl, inr, arith, eqb-true}
 use Rattle.std.proofs.lemmas.Bool.Decides.{nat_tests}
+use Rattle.std.specs.Cmp.{first_so, second_so}
 use Rattle.std.specs.Prelude.{codes}
 use Rattle.sf_value.specs.Grammar.Classes.{is_byte}
 use Rattle.sf_value.specs.Grammar.DisplayStrings.{hex, is_unencoded, EncodedBytes}
 use Rattle.sf_value.specs.Grammar.DisplayStrings.{SpellsDisplayString}
-use Rattle.sf_value.proofs.Tables.{all_below, each_below}
+use Rattle.sf_value.proofs.Tables.{each_below}
 use Rattle.sf_parse.proofs.Quads.{byte_small, small_byte}
 use Rattle.sf_rfc.specs.Rfc9651.Words.{first_is, only_if}
 use Rattle.sf_rfc.specs.Rfc9651.Alphabets.{is_unprintable, is_lower_hex}
@@ -17,7 +18,7 @@ use Rattle.sf_rfc.specs.Rfc9651.ParsingBare.{display_second, parse_display_strin
 use Rattle.sf_rfc.specs.ParsingLaws.{DisplayStringsAgree}
 use Rattle.sf_rfc.proofs.SerialisingUtf8.{well_formed_utf8}
 use Rattle.sf_rfc.proofs.ParsingUtf8.{utf8_formed}
-use Rattle.sf_rfc.proofs.ParsingBase64.{placed, is_value, the_value, both_so, both_then}
+use Rattle.sf_rfc.proofs.ParsingBase64.{placed, is_value, the_value}
 use Rattle.sf_rfc.proofs.ParsingSteps.{never, some_is, some_pair, and_then_cases, only_if_cases}
 use Rattle.sf_rfc.proofs.ParsingSteps.{if_so, if_not, if_either}
 
@@ -25,13 +26,10 @@ use Rattle.sf_rfc.proofs.ParsingSteps.{if_so, if_not, if_either}
 abbrev hex_digits : List ℕ
 hex_digits = codes "0123456789abcdef"
 
-the_digits : all_below 16 (λ x. get_or hex_digits x 0 == hex x) ≡ true
-the_digits = refl
-
 digit_is : (x : ℕ) → x < 16 → get_or hex_digits x 0 ≡ hex x
 digit_is x h =
     eqb-true (get_or hex_digits x 0) (hex x)
-    (each_below 16 (λ y. get_or hex_digits y 0 == hex y) the_digits x h)
+    (each_below 16 (λ y. get_or hex_digits y 0 == hex y) refl x h)
 
 hex_sound : (c x : ℕ) → hex_value c ≡ Some x → (x < 16) × (c ≡ hex x)
 unfolding hex_value
@@ -41,14 +39,11 @@ hex_sound c x e =
     let h : x < 16 = omega arith in
     (h, sym d ∙ ap (λ y. get_or hex_digits y 0) k ∙ digit_is x h)
 
-the_octets : all_below 256 (λ c. is_value (octet_of (hex (c / 16)) (hex (c % 16))) c) ≡ true
-unfolding hex_value is_value
-the_octets = refl
-
 octet_is : (c : ℕ) → c < 256 → octet_of (hex (c / 16)) (hex (c % 16)) ≡ Some c
+unfolding hex_value is_value
 octet_is c h =
     the_value (octet_of (hex (c / 16)) (hex (c % 16))) c
-    (each_below 256 (λ y. is_value (octet_of (hex (y / 16)) (hex (y % 16))) y) the_octets c h)
+    (each_below 256 (λ y. is_value (octet_of (hex (y / 16)) (hex (y % 16))) y) refl c h)
 
 octet_sound : (a b c : ℕ) → octet_of a b ≡ Some c
     → (is_byte c ≡ true) × (a ≡ hex (c / 16)) × (b ≡ hex (c % 16))
@@ -72,9 +67,6 @@ Shown bytes t v r =
 unencoded : (c : ℕ) → is_unprintable c ≡ false → (c == 37) ≡ false → (c == 34) ≡ false
     → is_unencoded c ≡ true
 unencoded c i j k = grind (arith, nat_tests)
-
-same_byte : (c d : ℕ) → (c == d) ≡ true → c ≡ d
-same_byte c d h = grind (arith, nat_tests)
 
 itself : (bytes : List ℕ) (c : ℕ) (t v r : List ℕ) → is_unencoded c ≡ true
     → Shown (bytes ++ c ∷ []) t v r → Shown bytes (c ∷ t) v r
@@ -106,7 +98,7 @@ ended bytes t v r c h e =
     let i = some_pair bytes v t r (ap Some k.1) in (
       34 ∷ [],
       [],
-      ap₂ (λ x y. x ∷ y) (same_byte c 34 h) i.1,
+      ap₂ (λ x y. x ∷ y) (eqb-true c 34 h) i.1,
       refl,
       sym i.0 ∙ sym (append-nil bytes),
       subst (λ y. is_utf8 y ≡ true) i.0 k.0,
@@ -131,7 +123,7 @@ shown_round : (bytes : List ℕ) (c : ℕ) (t v r : List ℕ)
 shown_round bytes c t v r octet loop e =
     let (i, a) = if_not (is_unprintable c) _ (v, r) e in
     elim (if_either (c == 37) _ _ (v, r) a) [
-      | inl k ↦ subst (λ y. Shown bytes (y ∷ t) v r) (sym (same_byte c 37 k.0)) (octet k.1)
+      | inl k ↦ subst (λ y. Shown bytes (y ∷ t) v r) (sym (eqb-true c 37 k.0)) (octet k.1)
       | inr k ↦ elim (if_either (c == 34) _ _ (v, r) k.1) [
         | inl j ↦ ended bytes t v r c j.0 j.1
         | inr j ↦ itself bytes c t v r (unencoded c i k.0 j.0) (loop j.1)
@@ -157,8 +149,8 @@ display_sound [] r v e = never (v, r) e
 display_sound (a ∷ []) r v e = never (v, r) e
 display_sound (a ∷ b ∷ t) r v e =
     let (h, k) = if_so (a == 37 && b == 34) _ (v, r) e in
-    let i = same_byte a 37 (both_so (a == 37) (b == 34) h) in
-    let j = same_byte b 34 (both_then (a == 37) (b == 34) h) in
+    let i = eqb-true a 37 (first_so (a == 37) (b == 34) h) in
+    let j = eqb-true b 34 (second_so (a == 37) (b == 34) h) in
     let (prefix, s, m, c, n, u) = shown_sound [] t v r k in (
       37 ∷ 34 ∷ prefix,
       ap₂ (λ x y. x ∷ y) i (ap₂ (λ x y. x ∷ y) j m),

@@ -17,7 +17,9 @@ use Rattle.sf_value.specs.Grammar.Pairs.{Pairs}
 use Rattle.sf_value.specs.Grammar.InnerLists.{SpellsMember}
 use Rattle.sf_value.specs.Grammar.Series.{SpellsWhole}
 use Rattle.sf_value.specs.Grammar.Fields.{list_of, dict_of, SpellsEntry, SpellsField}
+use Rattle.sf_value.proofs.Runs.{every_append}
 use Rattle.sf_value.proofs.TextBytes.{is_text, spelled_text}
+use Rattle.sf_value.proofs.Words.{every_map}
 use Rattle.sf_rfc.specs.Rfc9651.Words.{and_then, first_is, discard}
 use Rattle.sf_rfc.specs.Rfc9651.Alphabets.{is_ascii, is_SP, is_OWS}
 use Rattle.sf_rfc.specs.Rfc9651.Parsing.{parse_item, parse_list, parse_dictionary, parse_type}
@@ -58,13 +60,7 @@ all_sp [] h = refl
 all_sp (c ∷ t) h = rw (h.0, discard) (all_sp t h.1)
 
 ows_behind : (s t : List ℕ) → Every is_ows s → Every is_sp t → Every is_ows (s ++ t)
-ows_behind [] [] h k = tt
-ows_behind [] (c ∷ t) h k = (sp_ows c k.0, ows_behind [] t tt k.1)
-ows_behind (c ∷ s) t h k = (h.0, ows_behind s t h.1 k)
-
-sp_behind : (s t : List ℕ) → Every is_sp s → Every is_sp t → Every is_sp (s ++ t)
-sp_behind [] t h k = k
-sp_behind (c ∷ s) t h k = (h.0, sp_behind s t h.1 k)
+ows_behind s t h k = every_append is_ows s t h (every_map is_sp is_ows sp_ows t k)
 
 -- steps 6 to 8
 end_cases : (f v : Field) (r : List ℕ) → parse_end (f, r) ≡ Some v → (f ≡ v) × Every is_sp r
@@ -95,7 +91,7 @@ whole_of : {X : Type 0} (P : List ℕ → X → Type 0) (t gap prefix r : List �
     → t ≡ gap ++ (prefix ++ r) → Every is_sp gap → SpellsToEnd P prefix xs → Every is_sp r
     → SpellsWhole P t xs
 whole_of P t gap prefix r [] e g s h =
-    subst (Every is_sp) (sym (e ∙ ap (λ y. gap ++ (y ++ r)) s)) (sp_behind gap r g h)
+    subst (Every is_sp) (sym (e ∙ ap (λ y. gap ++ (y ++ r)) s)) (every_append is_sp gap r g h)
 whole_of P t gap prefix r (x ∷ xs) e g (body, tail, i, s, w) h = (
   gap,
   body,
@@ -200,12 +196,7 @@ module _ (d : Dialect) where
             ∙ ap (λ o. and_then o as_dict) e,
         tt,
       )
-  type_whole kind.Item t (field.List l) s = absurd s
-  type_whole kind.Item t (field.Dict l) s = absurd s
-  type_whole kind.List t (field.Item i) s = absurd s
-  type_whole kind.List t (field.Dict l) s = absurd s
-  type_whole kind.Dict t (field.Item i) s = absurd s
-  type_whole kind.Dict t (field.List l) s = absurd s
+  type_whole k t v s = absurd s
 
   field_whole : (k : Kind) (t : List ℕ) (v : Field) → SpellsField d k t v
       → parse_field d k t ≡ Some v

@@ -2,6 +2,7 @@
 use Rattle.std.proofs.Common.{◌≡◌, ℕ, zero, suc, ◌+◌, ◌≤◌, Bool, true, false, ◌||◌, ◌==◌}
 use Rattle.std.proofs.Common.{List, [], ◌∷◌, ◌++◌, length, drop, Option, Some, None, refl, sym, ap, ap₂}
 use Rattle.std.proofs.Common.{◌∙◌, subst, append_assoc, append-nil, length-append, inl, inr, arith}
+use Rattle.std.proofs.Common.{eqb-true}
 use Rattle.std.proofs.lemmas.Bool.Decides.{nat_tests}
 use Rattle.sf_value.specs.declared.dialect.Dialect.{Dialect}
 use Rattle.sf_value.specs.declared.value.Bare.{Bare}
@@ -21,7 +22,7 @@ use Rattle.sf_rfc.specs.Rfc9651.Parsing.{parse_params, parse_item, end_inner, in
 use Rattle.sf_rfc.specs.Rfc9651.Parsing.{parse_member}
 use Rattle.sf_rfc.specs.ParsingLaws.{is_in_params, InnerListsAgree, MembersAgree}
 use Rattle.sf_rfc.proofs.ParsingBase64.{is_first}
-use Rattle.sf_rfc.proofs.ParsingParameters.{parameters_agree, discarded, discard_gap, same_byte}
+use Rattle.sf_rfc.proofs.ParsingParameters.{parameters_agree, discarded, discard_gap}
 use Rattle.sf_rfc.proofs.ParsingItems.{items_agree, item_start, is_no_start}
 use Rattle.sf_rfc.proofs.ParsingSteps.{never, some_pair, and_then_cases, if_so, if_either}
 
@@ -146,7 +147,7 @@ module _ (d : Dialect) where
       let (h, a) = if_so (c == 40) _ (l, r) e in
       let (body, suffix, more, ps, i, s, p, j) = loop_sound (suc (length t)) [] t l r a in (
         40 ∷ (body ++ 41 ∷ suffix),
-        ap₂ (λ x y. x ∷ y) (same_byte c 40 h) (i ∙ sym (append_assoc body (41 ∷ suffix) r)),
+        ap₂ (λ x y. x ∷ y) (eqb-true c 40 h) (i ∙ sym (append_assoc body (41 ∷ suffix) r)),
         subst (λ y. SpellsInner d (40 ∷ (body ++ 41 ∷ suffix)) y) (sym j)
             (body, suffix, refl, s, p),
       )
@@ -233,13 +234,8 @@ module _ (d : Dialect) where
       → length more ≤ length body
   items_count least body [] s = omega arith
   items_count least body (i ∷ is) (gap, prefix, u, e, g, k, s, m) =
-      let ih = items_count 1 u is m in
       let (c, v, j, h) = item_start d prefix i s in
-      let a : length body ≡ length gap + length (prefix ++ u) =
-      ap length e ∙ length-append gap (prefix ++ u) in
-      let b : length (prefix ++ u) ≡ suc (length (v ++ u)) = ap (λ y. length (y ++ u)) j in
-      let f : length (v ++ u) ≡ length v + length u = length-append v u in
-      omega arith
+      omega (arith, ap length e, ap length j, items_count 1 u is m, length-append {A = ℕ})
 
   inner_whole : (t r : List ℕ) (l : Inner) → SpellsInner d t l → first_is is_in_params r ≡ false
       → parse_inner d (t ++ r) ≡ Some (l, r)
@@ -247,11 +243,9 @@ module _ (d : Dialect) where
       let w : List ℕ = body ++ 41 ∷ (suffix ++ r) in
       let a : t ++ r ≡ 40 ∷ (body ++ 41 ∷ (suffix ++ r)) =
       ap (λ y. y ++ r) e ∙ ap (λ y. 40 ∷ y) (append_assoc body (41 ∷ suffix) r) in
-      let k = items_count 0 body l.items s in
-      let b : length w ≡ length body + length (41 ∷ (suffix ++ r)) =
-      length-append body (41 ∷ (suffix ++ r)) in
       ap (parse_inner d) a
-      ∙ loop_read (length w) [] l.items 0 body suffix r l.params s p f (omega arith)
+      ∙ loop_read (length w) [] l.items 0 body suffix r l.params s p f
+      (omega (arith, items_count 0 body l.items s, length-append {A = ℕ}))
 
   -- members
   member_sound : (t r : List ℕ) (m : Member) → parse_member d t ≡ Some (m, r)

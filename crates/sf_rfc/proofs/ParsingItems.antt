@@ -25,35 +25,29 @@ use Rattle.sf_rfc.proofs.ParsingSteps.{never, some_pair, and_then_cases}
 abbrev pub is_no_start : ℕ → Bool
 is_no_start c = c == 32 || (c == 9 || (c == 44 || (c == 41 || c == 40)))
 
-not_number : (c : ℕ) → is_no_start c ≡ true → (c == 45 || is_DIGIT c) ≡ false
-not_number c h = grind (arith, nat_tests)
-
-not_quote : (c : ℕ) → is_no_start c ≡ true → (c == 34) ≡ false
-not_quote c h = grind (arith, nat_tests)
-
-not_token : (c : ℕ) → is_no_start c ≡ true → can_start_token c ≡ false
-not_token c h = grind (arith, nat_tests)
-
-not_colon : (c : ℕ) → is_no_start c ≡ true → (c == 58) ≡ false
-not_colon c h = grind (arith, nat_tests)
-
-not_question : (c : ℕ) → is_no_start c ≡ true → (c == 63) ≡ false
-not_question c h = grind (arith, nat_tests)
-
-not_at : (c : ℕ) → is_no_start c ≡ true → (c == 64) ≡ false
-not_at c h = grind (arith, nat_tests)
-
-not_percent : (c : ℕ) → is_no_start c ≡ true → (c == 37) ≡ false
-not_percent c h = grind (arith, nat_tests)
+no_start : (c : ℕ) → is_no_start c ≡ true
+    → ((c == 45 || is_DIGIT c) ≡ false) × ((c == 34) ≡ false) × (can_start_token c ≡ false)
+    × ((c == 58) ≡ false) × ((c == 63) ≡ false) × ((c == 64) ≡ false) × ((c == 37) ≡ false)
+no_start c h = (
+  grind (arith, nat_tests),
+  grind (arith, nat_tests),
+  grind (arith, nat_tests),
+  grind (arith, nat_tests),
+  grind (arith, nat_tests),
+  grind (arith, nat_tests),
+  grind (arith, nat_tests),
+)
 
 no_added : (d : Dialect) (c : ℕ) (t : List ℕ) → is_no_start c ≡ true → parse_added d (c ∷ t) ≡ None
 no_added Rfc8941 c t h = refl
-no_added Rfc9651 c t h = rw (not_at c h, not_percent c h, parse_added) refl
+no_added Rfc9651 c t h =
+    let (n, q, s, b, v, a, p) = no_start c h in
+    rw (a, p, parse_added) refl
 
 no_bare : (d : Dialect) (c : ℕ) (t : List ℕ) → is_no_start c ≡ true → parse_bare d (c ∷ t) ≡ None
 no_bare d c t h =
-    rw (not_number c h, not_quote c h, not_token c h, not_colon c h, not_question c h, parse_bare)
-    (no_added d c t h)
+    let (n, q, s, b, v, a, p) = no_start c h in
+    rw (n, q, s, b, v, parse_bare) (no_added d c t h)
 
 none_bare : (d : Dialect) → parse_bare d [] ≡ None
 none_bare Rfc8941 = refl

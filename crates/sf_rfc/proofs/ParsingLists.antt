@@ -1,7 +1,7 @@
 -- Parsing Lists and Dictionaries.
 use Rattle.std.proofs.Common.{◌≡◌, ℕ, suc, true, false, ◌==◌, List, [], ◌∷◌, ◌++◌}
 use Rattle.std.proofs.Common.{length, Option, Some, None, refl, sym, ap, ap₂, ◌∙◌, subst, append_assoc}
-use Rattle.std.proofs.Common.{◌⊎◌, inl, inr, arith}
+use Rattle.std.proofs.Common.{◌⊎◌, inl, inr, arith, eqb-true}
 use Rattle.std.proofs.lemmas.Bool.Decides.{nat_tests}
 use Rattle.sf_value.specs.declared.dialect.Dialect.{Dialect}
 use Rattle.sf_value.specs.declared.value.Bare.{Bare}
@@ -21,7 +21,7 @@ use Rattle.sf_rfc.specs.ParsingLaws.{DictionariesAgree}
 use Rattle.sf_rfc.proofs.ParsingWords.{keys_agree}
 use Rattle.sf_rfc.proofs.ParsingBareItems.{first_less}
 use Rattle.sf_rfc.proofs.ParsingMaps.{set_settled}
-use Rattle.sf_rfc.proofs.ParsingParameters.{parameters_agree, is_value_or_key, same_byte}
+use Rattle.sf_rfc.proofs.ParsingParameters.{parameters_agree, is_value_or_key}
 use Rattle.sf_rfc.proofs.ParsingItems.{params_first}
 use Rattle.sf_rfc.proofs.ParsingInnerLists.{members_agree, member_start}
 use Rattle.sf_rfc.proofs.ParsingSeries.{after, IsLoop, series_agrees}
@@ -82,7 +82,7 @@ module _ (d : Dialect) where
   behind_sound (c ∷ t) r m e = elim (if_either (c == 61) _ _ (m, r) e) [
     | inl k ↦
         let (prefix, i, s) = (members_agree d).sound t r m k.1 in
-        (61 ∷ prefix, ap₂ (λ y z. y ∷ z) (same_byte c 61 k.0) i, inl (prefix, refl, s))
+        (61 ∷ prefix, ap₂ (λ y z. y ∷ z) (eqb-true c 61 k.0) i, inl (prefix, refl, s))
     | inr k ↦ flag_sound (c ∷ t) r m k.1
   ]
 

@@ -2,7 +2,7 @@
 use Rattle.std.proofs.Common.{◌≡◌, ℕ, ◌+◌, ◌-◌, ◌*◌, ◌^◌, ◌≤◌, ℤ, pos, negsuc, ◌*ℤ◌, Bool}
 use Rattle.std.proofs.Common.{true, false, ◌||◌, ◌==◌, nat_lt, List, [], ◌∷◌, ◌++◌, length, drop}
 use Rattle.std.proofs.Common.{replicate, Option, Some, refl, sym, ap, ap₂, ◌∙◌, subst, arith}
-use Rattle.std.proofs.Common.{append_assoc, append-nil, length-append, ◌⊎◌, inl, inr}
+use Rattle.std.proofs.Common.{append_assoc, append-nil, eqb-true, length-append, ◌⊎◌, inl, inr}
 use Rattle.std.proofs.lemmas.Bool.Decides.{nat_tests}
 use Rattle.std.proofs.Math.IntN.{pos-*ℤ-pos, negsuc-*ℤ-pos}
 use Rattle.sf_value.specs.declared.value.Bare.{Bare}
@@ -47,9 +47,6 @@ not_long number h = grind (arith, nat_tests)
 
 not_more : (n m : ℕ) → nat_lt m n ≡ false → n ≤ m
 not_more n m h = grind (arith, nat_tests)
-
-is_point : (c : ℕ) → (c == 46) ≡ true → c ≡ 46
-is_point c h = grind (arith, nat_tests)
 
 -- the loop from the first digit on: an Integer's digits, or a Decimal's with the point
 abbrev Taken : List ℕ → List ℕ → NumberType × List ℕ → List ℕ → Type 0
@@ -105,9 +102,9 @@ point_taken number t c p r i h e =
       tt,
       inr (
         f,
-        ap₂ (λ x y. x ∷ y) (is_point c i) a,
+        ap₂ (λ x y. x ∷ y) (eqb-true c 46 i) a,
         b ∙ ap (λ x. (ADecimal, x)) (append_assoc number (c ∷ []) f
-            ∙ ap (λ x. number ++ x ∷ f) (is_point c i)),
+            ∙ ap (λ x. number ++ x ∷ f) (eqb-true c 46 i)),
         rw (append-nil number) h,
         d,
       ),
@@ -158,11 +155,8 @@ behind_point w f h = ap (λ x. drop 1 x) (from_point w f h)
 in_thousands : (n : ℕ) (f : List ℕ) → 1 ≤ length f → length f ≤ 3
     → base10 n (f ++ replicate (3 - length f) 48)
     ≡ n * 1000 + value_from 0 f * 10 ^ (3 - length f)
-in_thousands n [] l h = absurd (omega (arith, l))
-in_thousands n (a ∷ []) l h = omega arith
-in_thousands n (a ∷ b ∷ []) l h = omega arith
-in_thousands n (a ∷ b ∷ c ∷ []) l h = omega arith
 in_thousands n (a ∷ b ∷ c ∷ d ∷ f) l h = absurd (omega (arith, h))
+in_thousands n f l h = omega arith
 
 same_thousandths : (w f : List ℕ) → Every is_digit w → 1 ≤ length f → length f ≤ 3
     → in_thousandths (w ++ 46 ∷ f) ≡ value_from 0 w * 1000 + value_from 0 f * 10 ^ (3 - length f)
@@ -294,16 +288,13 @@ signed_as neg prefix v (inr (w, f, i, d, g, e)) = inr (
   (neg, w, f, ap (λ x. sign neg ++ x) i, d, g, refl),
 )
 
-is_minus : (c : ℕ) → (c == 45) ≡ true → c ≡ 45
-is_minus c h = grind (arith, nat_tests)
-
 number_sound : (t r : List ℕ) (v : Bare) → parse_number t ≡ Some (v, r)
     → (prefix : List ℕ) × (t ≡ prefix ++ r) × SpellsNumber prefix v
 number_sound [] r v e = never (v, r) e
 number_sound (c ∷ t) r v e = elim (if_either (c == 45) _ _ (v, r) e) [
   | inl k ↦
       let (prefix, a, b) = unsigned_sound true t r v k.1 in
-      (45 ∷ prefix, ap₂ (λ x y. x ∷ y) (is_minus c k.0) a, signed_as true prefix v b)
+      (45 ∷ prefix, ap₂ (λ x y. x ∷ y) (eqb-true c 45 k.0) a, signed_as true prefix v b)
   | inr k ↦
       let (prefix, a, b) = unsigned_sound false (c ∷ t) r v k.1 in
       (prefix, a, signed_as false prefix v b)
@@ -320,8 +311,7 @@ is_short : (n m : ℕ) → n ≤ m → nat_lt m n ≡ false
 is_short n m h = grind (arith, nat_tests)
 
 prefix_length : (a b : List ℕ) (m : ℕ) → length (a ++ b) ≤ m → length a ≤ m
-prefix_length a b m h =
-    let i : length (a ++ b) ≡ length a + length b = length-append a b in omega arith
+prefix_length a b m h = omega (arith, length-append a b)
 
 fraction_read : (number f r : List ℕ) → Every is_digit f → first_is is_in_number r ≡ false
     → length (number ++ f) ≤ 16
@@ -442,9 +432,6 @@ pub numbers_agree : NumbersAgree
 numbers_agree = record { sound = number_sound; whole = number_whole }
 
 -- Dates
-is_at : (c : ℕ) → (c == 64) ≡ true → c ≡ 64
-is_at c h = grind (arith, nat_tests)
-
 date_from : (x y : Bare) (t : List ℕ) → SpellsNumber t x → date_of x ≡ Some y
     → SpellsBareDate (64 ∷ t) y
 date_from x y t (inl (n, e, s)) d =
@@ -463,7 +450,7 @@ date_sound (c ∷ t) r v e =
     let k = some_pair y v q.1 r g in
     let (prefix, m, s) = number_sound t q.1 q.0 b in (
       64 ∷ prefix,
-      ap₂ (λ x y. x ∷ y) (is_at c i) (m ∙ ap (λ x. prefix ++ x) k.1),
+      ap₂ (λ x y. x ∷ y) (eqb-true c 64 i) (m ∙ ap (λ x. prefix ++ x) k.1),
       subst (λ x. SpellsBareDate (64 ∷ prefix) x) k.0 (date_from q.0 y prefix s f),
     )
 

@@ -1,7 +1,7 @@
 -- Parsing parameters.
 use Rattle.std.proofs.Common.{◌≡◌, ℕ, zero, suc, ◌+◌, ◌≤◌, Bool, true, false, ◌||◌, ◌==◌, List, []}
 use Rattle.std.proofs.Common.{◌∷◌, ◌++◌, length, Option, Some, refl, sym, ap, ap₂, ◌∙◌, subst}
-use Rattle.std.proofs.Common.{append_assoc, append-nil, length-append, inl, inr, arith}
+use Rattle.std.proofs.Common.{append_assoc, append-nil, length-append, inl, inr, arith, eqb-true}
 use Rattle.std.proofs.lemmas.Bool.Decides.{nat_tests}
 use Rattle.sf_value.specs.declared.dialect.Dialect.{Dialect}
 use Rattle.sf_value.specs.declared.value.Bare.{Bare}
@@ -40,9 +40,6 @@ pub discard_gap : (p : ℕ → Bool) (gap w : List ℕ) → Every p gap → firs
 discard_gap p [] w h f = discard_none p w f
 discard_gap p (c ∷ gap) w h f = rw (h.0, discard) (discard_gap p gap w h.1 f)
 
-pub same_byte : (c d : ℕ) → (c == d) ≡ true → c ≡ d
-same_byte c d h = grind (arith, nat_tests)
-
 -- what a key or a value goes on with
 abbrev pub is_value_or_key : ℕ → Bool
 is_value_or_key c = is_in_token c || c == 61
@@ -56,7 +53,7 @@ module _ (d : Dialect) where
   value_sound (c ∷ t) r x e = elim (if_either (c == 61) _ _ (x, r) e) [
     | inl k ↦
         let (prefix, i, s) = (bare_items_agree d).sound t r x k.1 in
-        (61 ∷ prefix, ap₂ (λ y z. y ∷ z) (same_byte c 61 k.0) i, inr (prefix, refl, s))
+        (61 ∷ prefix, ap₂ (λ y z. y ∷ z) (eqb-true c 61 k.0) i, inr (prefix, refl, s))
     | inr k ↦
         let j = some_pair (Boolean true) x (c ∷ t) r k.1 in ([], j.1, inl (sym j.0, refl))
   ]
@@ -86,7 +83,7 @@ module _ (d : Dialect) where
   one_taken raw c gap k value s x qs r t h i g w v (prefix, more, j, sp, e) = (
     (59 ∷ (gap ++ (k ++ value))) ++ prefix,
     (k, x) ∷ more,
-    rw (same_byte c 59 h, i, j) (simp append_assoc refl),
+    rw (eqb-true c 59 h, i, j) (simp append_assoc refl),
     (
       59 ∷ (gap ++ (k ++ value)),
       prefix,
@@ -207,18 +204,13 @@ module _ (d : Dialect) where
   raw_count : (t : List ℕ) (raw : Pairs Bare) → SpellsRaw d t raw → length raw ≤ length t
   raw_count t [] s = omega arith
   raw_count t (p ∷ raw) (prefix, suffix, i, (gap, value, j, g, k, v), s) =
-      let ih = raw_count suffix raw s in
-      let e : length t ≡ length (59 ∷ (gap ++ (p.0 ++ value))) + length suffix =
-      ap length (i ∙ ap (λ y. y ++ suffix) j)
-      ∙ length-append (59 ∷ (gap ++ (p.0 ++ value))) suffix in
-      omega arith
+      omega (arith, ap length i, ap length j, raw_count suffix raw s, length-append {A = ℕ})
 
   parameters_whole : (t r : List ℕ) (qs : Pairs Bare) → SpellsParams d t qs
       → first_is is_in_params r ≡ false → parse_params d (t ++ r) ≡ Some (qs, r)
   parameters_whole t r qs (raw, e, s) f =
-      let l : length (t ++ r) ≡ length t + length r = length-append t r in
-      let h = raw_count t raw s in
-      params_read (length (t ++ r)) [] raw t r s f (omega arith)
+      params_read (length (t ++ r)) [] raw t r s f
+      (omega (arith, raw_count t raw s, length-append {A = ℕ}))
       ∙ ap (λ y. Some (y, r)) (sym e)
 
 pub parameters_agree : ParametersAgree

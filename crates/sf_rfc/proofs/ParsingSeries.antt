@@ -1,7 +1,7 @@
 -- Parsing members with commas between them: the loop that Lists and Dictionaries have in common.
 use Rattle.std.proofs.Common.{◌≡◌, ℕ, zero, suc, ◌+◌, ◌<◌, ◌≤◌, Bool, true, false, ◌||◌, ◌==◌, List, []}
 use Rattle.std.proofs.Common.{◌∷◌, ◌++◌, length, Option, Some, None, refl, sym, ap, ◌∙◌, subst}
-use Rattle.std.proofs.Common.{append_assoc, append-nil, length-append, arith}
+use Rattle.std.proofs.Common.{append_assoc, append-nil, length-append, arith, eqb-true}
 use Rattle.std.proofs.lemmas.Bool.Decides.{nat_tests}
 use Rattle.sf_value.specs.Grammar.Words.{Every}
 use Rattle.sf_value.specs.Grammar.Classes.{is_ows}
@@ -9,7 +9,7 @@ use Rattle.sf_value.specs.Grammar.Series.{SpellsCommas}
 use Rattle.sf_rfc.specs.Rfc9651.Words.{Parse, and_then, first_is, discard}
 use Rattle.sf_rfc.specs.Rfc9651.Alphabets.{is_OWS}
 use Rattle.sf_rfc.specs.ParsingLaws.{Agrees, is_in_params, SpellsToEnd}
-use Rattle.sf_rfc.proofs.ParsingParameters.{discarded, discard_gap, same_byte}
+use Rattle.sf_rfc.proofs.ParsingParameters.{discarded, discard_gap}
 use Rattle.sf_rfc.proofs.ParsingSteps.{never, some_pair, and_then_cases, if_so}
 
 -- OWS or a comma
@@ -89,7 +89,7 @@ module _ (X S : Type 0) (P : List ℕ → X → Type 0) (one : Parse X) (fold : 
     y ∷ more,
     gap ++ 44 ∷ (behind ++ (prefix ++ body)),
     tail,
-    e ∙ rw (same_byte x 44 h, i, j) (simp append_assoc refl),
+    e ∙ rw (eqb-true x 44 h, i, j) (simp append_assoc refl),
     (gap, behind, prefix, body, refl, g, b, p, s),
     w,
     k ∙ ap fold (append_assoc xs (y ∷ []) more),
@@ -217,14 +217,7 @@ module _ (X S : Type 0) (P : List ℕ → X → Type 0) (one : Parse X) (fold : 
       → length more ≤ length body
   commas_count body [] s = omega arith
   commas_count body (x ∷ more) (before, behind, prefix, suffix, e, g, b, p, s) =
-      let ih = commas_count suffix more s in
-      let i : length body ≡ length before + suc (length (behind ++ (prefix ++ suffix))) =
-      ap length e ∙ length-append before (44 ∷ (behind ++ (prefix ++ suffix))) in
-      let j : length (behind ++ (prefix ++ suffix)) ≡ length behind + length (prefix ++ suffix) =
-      length-append behind (prefix ++ suffix) in
-      let k : length (prefix ++ suffix) ≡ length prefix + length suffix =
-      length-append prefix suffix in
-      omega arith
+      omega (arith, ap length e, commas_count suffix more s, length-append {A = ℕ})
 
   series_whole : (t r : List ℕ) (xs : List X) → SpellsToEnd P t xs → first_is (λ c. true) r ≡ false
       → loop (suc (length (t ++ r))) (fold []) (t ++ r) ≡ Some (fold xs, r)
@@ -233,13 +226,9 @@ module _ (X S : Type 0) (P : List ℕ → X → Type 0) (one : Parse X) (fold : 
   series_whole t [] (x ∷ more) (body, tail, e, (prefix, suffix, i, p, s), w) f =
       let k : t ++ [] ≡ prefix ++ (suffix ++ tail) =
       append-nil t ∙ e ∙ ap (λ y. y ++ tail) i ∙ append_assoc prefix suffix tail in
-      let l = commas_count suffix more s in
-      let a : length (prefix ++ (suffix ++ tail)) ≡ length prefix + length (suffix ++ tail) =
-      length-append prefix (suffix ++ tail) in
-      let b : length (suffix ++ tail) ≡ length suffix + length tail = length-append suffix tail in
       ap (λ y. loop (suc (length y)) (fold []) y) k
       ∙ loop_read (suc (length (prefix ++ (suffix ++ tail)))) [] x more prefix suffix tail p s w
-      (omega arith)
+      (omega (arith, commas_count suffix more s, length-append {A = ℕ}))
 
   pub series_agrees : Agrees S (λ t v. (xs : List X) × (v ≡ fold xs) × SpellsToEnd P t xs)
       (λ t. loop (suc (length t)) (fold []) t) (λ c. true)

@@ -1,7 +1,7 @@
 -- Booleans and Strings.
 use Rattle.std.proofs.Common.{◌≡◌, ℕ, Bool, true, false, ◌==◌, List, [], ◌∷◌, ◌++◌}
-use Rattle.std.proofs.Common.{Option, Some, None, refl, sym, ap, ap₂, ◌∙◌, subst, arith, append_assoc}
-use Rattle.std.proofs.Common.{append-nil}
+use Rattle.std.proofs.Common.{Some, None, refl, sym, ap, ap₂, ◌∙◌, subst, arith, append_assoc}
+use Rattle.std.proofs.Common.{append-nil, inl, inr, eqb-true}
 use Rattle.std.specs.Prelude.{if◌then◌else◌}
 use Rattle.std.proofs.lemmas.Bool.Decides.{nat_tests}
 use Rattle.sf_value.specs.Grammar.Words.{Every}
@@ -12,11 +12,8 @@ use Rattle.sf_rfc.specs.Rfc9651.Words.{Parse, first_is}
 use Rattle.sf_rfc.specs.Rfc9651.Alphabets.{is_unprintable, needs_escape}
 use Rattle.sf_rfc.specs.Rfc9651.ParsingBare.{parse_boolean, boolean_value, parse_string, string_loop}
 use Rattle.sf_rfc.specs.Rfc9651.ParsingBare.{string_escape}
-use Rattle.sf_rfc.proofs.ParsingWords.{some_pair}
+use Rattle.sf_rfc.proofs.ParsingSteps.{some_pair, if_so, if_not, if_either}
 use Rattle.sf_rfc.specs.ParsingLaws.{BooleansAgree, StringsAgree}
-
-is_equal : (a b : ℕ) → (a == b) ≡ true → a ≡ b
-is_equal a b h = grind (arith, nat_tests)
 
 abbrev text_of : Bool → List ℕ
 text_of v = 63 ∷ (if v then 49 else 48) ∷ []
@@ -24,40 +21,22 @@ text_of v = 63 ∷ (if v then 49 else 48) ∷ []
 value_sound : (t r : List ℕ) (v : Bool) → boolean_value t ≡ Some (v, r)
     → 63 ∷ t ≡ text_of v ++ r
 value_sound [] r v e = absurd cc
-value_sound (c ∷ t) r v e = go (c == 49) refl
-  where
-    zero_or_none : (y : Bool) → (c == 48) ≡ y → (c == 49) ≡ false → 63 ∷ c ∷ t ≡ text_of v ++ r
-    zero_or_none false j i =
-        let e' : ◌≡◌ {A = Option (Bool × List ℕ)} None (Some (v, r)) = rw (i, j, boolean_value) at e in
-        absurd cc
-    zero_or_none true j i =
-        let e' : ◌≡◌ {A = Option (Bool × List ℕ)} (Some (false, t)) (Some (v, r)) = rw (i, j, boolean_value) at e in
-        let k = some_pair false v t r e' in
-        rw (← k.0, ← k.1) (ap (λ x. 63 ∷ x ∷ t) (is_equal c 48 j))
-
-    go : (x : Bool) → (c == 49) ≡ x → 63 ∷ c ∷ t ≡ text_of v ++ r
-    go true i =
-        let e' : ◌≡◌ {A = Option (Bool × List ℕ)} (Some (true, t)) (Some (v, r)) = rw (i, boolean_value) at e in
-        let k = some_pair true v t r e' in
-        rw (← k.0, ← k.1) (ap (λ x. 63 ∷ x ∷ t) (is_equal c 49 i))
-    go false i = zero_or_none (c == 48) refl i
+value_sound (c ∷ t) r v e = elim (if_either (c == 49) _ _ (v, r) e) [
+  | inl (i, k) ↦
+      let j = some_pair true v t r k in
+      rw (← j.0, ← j.1) (ap (λ x. 63 ∷ x ∷ t) (eqb-true c 49 i))
+  | inr (i, k) ↦
+      let (h, m) = if_so (c == 48) _ (v, r) k in
+      let j = some_pair false v t r m in
+      rw (← j.0, ← j.1) (ap (λ x. 63 ∷ x ∷ t) (eqb-true c 48 h))
+]
 
 boolean_sound : (t r : List ℕ) (v : Bool) → parse_boolean t ≡ Some (v, r)
     → (prefix : List ℕ) × (t ≡ prefix ++ r) × SpellsBoolean prefix v
 boolean_sound [] r v e = absurd cc
-boolean_sound (c ∷ t) r v e = go (c == 63) refl
-  where
-    go : (x : Bool) → (c == 63) ≡ x
-        → (prefix : List ℕ) × (c ∷ t ≡ prefix ++ r) × SpellsBoolean prefix v
-    go false i =
-        let e' : ◌≡◌ {A = Option (Bool × List ℕ)} None (Some (v, r)) = rw (i, parse_boolean) at e in
-        absurd cc
-    go true i =
-        let e' : boolean_value t ≡ Some (v, r) = rw (i, parse_boolean) at e in (
-          text_of v,
-          ap (λ x. x ∷ t) (is_equal c 63 i) ∙ value_sound t r v e',
-          refl,
-        )
+boolean_sound (c ∷ t) r v e =
+    let (i, k) = if_so (c == 63) _ (v, r) e in
+    (text_of v, ap (λ x. x ∷ t) (eqb-true c 63 i) ∙ value_sound t r v k, refl)
 
 boolean_whole : (t r : List ℕ) (v : Bool) → SpellsBoolean t v
     → first_is (λ c. false) r ≡ false → parse_boolean (t ++ r) ≡ Some (v, r)
@@ -117,6 +96,44 @@ escaped_taken output c t v r i h (w, a, b, k) = (
   (h, k),
 )
 
+sound_step : (output : List ℕ) (c : ℕ) (t v r : List ℕ)
+    → (string_loop (output ++ c ∷ []) t ≡ Some (v, r) → TakenString (output ++ c ∷ []) t v r)
+    → (string_escape output t ≡ Some (v, r) → TakenString output (92 ∷ t) v r)
+    → string_loop output (c ∷ t) ≡ Some (v, r) → TakenString output (c ∷ t) v r
+sound_step output c t v r loop escape e = elim (if_either (c == 92) _ _ (v, r) e) [
+  | inl (i, a) ↦
+      subst (λ y. TakenString output (y ∷ t) v r) (sym (eqb-true c 92 i)) (escape a)
+  | inr (i, a) ↦ elim (if_either (c == 34) _ _ (v, r) a) [
+    | inl (j, b) ↦
+        let k = some_pair output v t r b in
+        ([], ap₂ (λ x y. x ∷ y) (eqb-true c 34 j) k.1, sym k.0 ∙ sym (append-nil output), tt)
+    | inr (j, b) ↦
+        let (u, k) = if_not (is_unprintable c) _ (v, r) b in
+        plain_taken output c t v r (not_escaped c i j) (visible_not c u) (loop k)
+  ]
+]
+
+escape_step : (output : List ℕ) (c : ℕ) (t v r : List ℕ)
+    → (string_loop (output ++ c ∷ []) t ≡ Some (v, r) → TakenString (output ++ c ∷ []) t v r)
+    → string_escape output (c ∷ t) ≡ Some (v, r) → TakenString output (92 ∷ c ∷ t) v r
+escape_step output c t v r loop e =
+    let (i, k) = if_so (needs_escape c) _ (v, r) e in
+    escaped_taken output c t v r (escape_is c i) (escape_visible c i) (loop k)
+
+mutual
+  string_sound : (output t v r : List ℕ) → string_loop output t ≡ Some (v, r)
+      → TakenString output t v r
+  string_sound output [] v r e = absurd cc
+  string_sound output (c ∷ t) v r e =
+      sound_step output c t v r (string_sound (output ++ c ∷ []) t v r) (escape_sound output t v r)
+      e
+
+  escape_sound : (output t v r : List ℕ) → string_escape output t ≡ Some (v, r)
+      → TakenString output (92 ∷ t) v r
+  escape_sound output [] v r e = absurd cc
+  escape_sound output (c ∷ t) v r e =
+      escape_step output c t v r (string_sound (output ++ c ∷ []) t v r) e
+
 -- a round of the loop by its three tests
 abbrev string_round : Bool → Bool → Bool → List ℕ → ℕ → Parse (List ℕ)
 string_round x y z output c t = elim x [
@@ -137,66 +154,6 @@ escape_round : (output : List ℕ) (c : ℕ) (t : List ℕ)
     ≡ (elim (needs_escape c) [ false ↦ None | true ↦ string_loop (output ++ c ∷ []) t ])
 escape_round output c t = refl
 
-sound_step : (output : List ℕ) (c : ℕ) (t v r : List ℕ)
-    → (string_loop (output ++ c ∷ []) t ≡ Some (v, r) → TakenString (output ++ c ∷ []) t v r)
-    → (string_escape output t ≡ Some (v, r) → TakenString output (92 ∷ t) v r)
-    → string_loop output (c ∷ t) ≡ Some (v, r) → TakenString output (c ∷ t) v r
-sound_step output c t v r loop escape e = at_backslash (c == 92) refl
-  where
-    at_other : (x : Bool) → is_unprintable c ≡ x → (c == 92) ≡ false → (c == 34) ≡ false
-        → TakenString output (c ∷ t) v r
-    at_other true u i j =
-        let e' : ◌≡◌ {A = Option (List ℕ × List ℕ)} None (Some (v, r)) = rw (round_is output c t, i, j, u) at e in
-        absurd cc
-    at_other false u i j =
-        let e' : string_loop (output ++ c ∷ []) t ≡ Some (v, r) = rw (round_is output c t, i, j, u) at e in
-        plain_taken output c t v r (not_escaped c i j) (visible_not c u) (loop e')
-
-    at_quote : (x : Bool) → (c == 34) ≡ x → (c == 92) ≡ false → TakenString output (c ∷ t) v r
-    at_quote true j i =
-        let e' : ◌≡◌ {A = Option (List ℕ × List ℕ)} (Some (output, t)) (Some (v, r)) =
-        rw (round_is output c t, i, j) at e in
-        let k = some_pair output v t r e' in (
-          [],
-          ap₂ (λ x y. x ∷ y) (is_equal c 34 j) k.1,
-          sym k.0 ∙ sym (append-nil output),
-          tt,
-        )
-    at_quote false j i = at_other (is_unprintable c) refl i j
-
-    at_backslash : (x : Bool) → (c == 92) ≡ x → TakenString output (c ∷ t) v r
-    at_backslash true i =
-        let e' : string_escape output t ≡ Some (v, r) = rw (round_is output c t, i) at e in
-        subst (λ y. TakenString output (y ∷ t) v r) (sym (is_equal c 92 i)) (escape e')
-    at_backslash false i = at_quote (c == 34) refl i
-
-escape_step : (output : List ℕ) (c : ℕ) (t v r : List ℕ)
-    → (string_loop (output ++ c ∷ []) t ≡ Some (v, r) → TakenString (output ++ c ∷ []) t v r)
-    → string_escape output (c ∷ t) ≡ Some (v, r) → TakenString output (92 ∷ c ∷ t) v r
-escape_step output c t v r loop e = go (needs_escape c) refl
-  where
-    go : (x : Bool) → needs_escape c ≡ x → TakenString output (92 ∷ c ∷ t) v r
-    go false i =
-        let e' : ◌≡◌ {A = Option (List ℕ × List ℕ)} None (Some (v, r)) = rw (escape_round output c t, i) at e in
-        absurd cc
-    go true i =
-        let e' : string_loop (output ++ c ∷ []) t ≡ Some (v, r) = rw (escape_round output c t, i) at e in
-        escaped_taken output c t v r (escape_is c i) (escape_visible c i) (loop e')
-
-mutual
-  string_sound : (output t v r : List ℕ) → string_loop output t ≡ Some (v, r)
-      → TakenString output t v r
-  string_sound output [] v r e = absurd cc
-  string_sound output (c ∷ t) v r e =
-      sound_step output c t v r (string_sound (output ++ c ∷ []) t v r) (escape_sound output t v r)
-      e
-
-  escape_sound : (output t v r : List ℕ) → string_escape output t ≡ Some (v, r)
-      → TakenString output (92 ∷ t) v r
-  escape_sound output [] v r e = absurd cc
-  escape_sound output (c ∷ t) v r e =
-      escape_step output c t v r (string_sound (output ++ c ∷ []) t v r) e
-
 -- what is spelled the loop takes
 string_whole : (output w r : List ℕ) → Every is_visible w
     → string_loop output (escaped w ++ 34 ∷ r) ≡ Some (output ++ w, r)
@@ -215,24 +172,16 @@ string_whole output (c ∷ w) r h =
 strings_sound : (t r v : List ℕ) → parse_string t ≡ Some (v, r)
     → (prefix : List ℕ) × (t ≡ prefix ++ r) × SpellsString prefix v
 strings_sound [] r v e = absurd cc
-strings_sound (c ∷ t) r v e = go (c == 34) refl
-  where
-    go : (x : Bool) → (c == 34) ≡ x
-        → (prefix : List ℕ) × (c ∷ t ≡ prefix ++ r) × SpellsString prefix v
-    go false i =
-        let e' : ◌≡◌ {A = Option (List ℕ × List ℕ)} None (Some (v, r)) = rw (i, parse_string) at e in
-        absurd cc
-    go true i =
-        let e' : string_loop [] t ≡ Some (v, r) = rw (i, parse_string) at e in
-        let k = string_sound [] t v r e' in (
-          34 ∷ (escaped k.0 ++ 34 ∷ []),
-          ap₂ (λ x y. x ∷ y) (is_equal c 34 i) (k.1
-              ∙ sym (append_assoc (escaped k.0) (34 ∷ []) r)),
-          (
-            ap (λ y. 34 ∷ (escaped y ++ 34 ∷ [])) (sym k.2),
-            subst (Every is_visible) (sym k.2) k.3,
-          ),
-        )
+strings_sound (c ∷ t) r v e =
+    let (i, j) = if_so (c == 34) _ (v, r) e in
+    let k = string_sound [] t v r j in (
+      34 ∷ (escaped k.0 ++ 34 ∷ []),
+      ap₂ (λ x y. x ∷ y) (eqb-true c 34 i) (k.1 ∙ sym (append_assoc (escaped k.0) (34 ∷ []) r)),
+      (
+        ap (λ y. 34 ∷ (escaped y ++ 34 ∷ [])) (sym k.2),
+        subst (Every is_visible) (sym k.2) k.3,
+      ),
+    )
 
 strings_whole : (t r v : List ℕ) → SpellsString t v
     → first_is (λ c. false) r ≡ false → parse_string (t ++ r) ≡ Some (v, r)

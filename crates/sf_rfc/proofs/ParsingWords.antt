@@ -1,19 +1,21 @@
 -- Words: the loops for keys and Tokens, and the classes of characters.
-use Rattle.std.proofs.Common.{◌≡◌, ℕ, Bool, true, false, ◌||◌, ◌==◌, List, [], ◌∷◌, ◌++◌, Option}
-use Rattle.std.proofs.Common.{Some, None, refl, sym, ap, ap₂, ◌∙◌, subst, arith, append_assoc, append-nil}
-use Rattle.std.specs.Prelude.{codes}
+use Rattle.std.proofs.Common.{◌≡◌, ℕ, Bool, true, false, List, [], ◌∷◌, ◌++◌, Option}
+use Rattle.std.proofs.Common.{Some, None, refl, sym, ap, ◌∙◌, subst, arith, append_assoc}
+use Rattle.std.proofs.Common.{append-nil}
 use Rattle.std.proofs.lemmas.Bool.Decides.{nat_tests}
 use Rattle.sf_value.specs.Grammar.Words.{Every, IsWord}
-use Rattle.sf_value.specs.Grammar.Classes.{is_one_of, is_lower, is_digit, is_alpha, is_key_start}
-use Rattle.sf_value.specs.Grammar.Classes.{is_in_key, is_token_start, is_in_token, is_tchar}
+use Rattle.sf_value.specs.Grammar.Classes.{is_key_start}
+use Rattle.sf_value.specs.Grammar.Classes.{is_in_key, is_token_start, is_in_token}
 use Rattle.sf_value.specs.Grammar.Tokens.{SpellsWord}
 use Rattle.sf_rfc.specs.Rfc9651.Words.{Parse, first_is}
-use Rattle.sf_rfc.specs.Rfc9651.Alphabets.{is_any_of, can_start_key, can_be_in_key}
+use Rattle.sf_rfc.specs.Rfc9651.Alphabets.{can_start_key, can_be_in_key}
 use Rattle.sf_rfc.specs.Rfc9651.Alphabets.{can_start_token, can_be_in_token}
-use Rattle.sf_rfc.specs.Rfc9651.Alphabets as rfc
 use Rattle.sf_rfc.specs.Rfc9651.Parsing.{parse_key}
 use Rattle.sf_rfc.specs.Rfc9651.ParsingBare.{parse_token}
 use Rattle.sf_rfc.specs.ParsingLaws.{Agrees}
+use Rattle.sf_value.proofs.Words.{every_map}
+use Rattle.sf_rfc.proofs.ParsingSteps.{some_pair}
+use Rattle.sf_rfc.proofs.SerialisingWords.{key_rest, token_start, token_rest}
 
 -- the two loops are one
 abbrev pub word_loop : (ℕ → Bool) → List ℕ → Parse (List ℕ)
@@ -30,11 +32,6 @@ key_is : (t : List ℕ) → parse_key t ≡ parse_word can_start_key can_be_in_k
 key_is t = refl
 
 -- the loop
-pub some_pair : {A B : Type 0} (a c : A) (b d : B) → ◌≡◌ {A = Option (A × B)} (Some (a, b)) (Some (c, d))
-    → (a ≡ c) × (b ≡ d)
-some_pair {A = A} {B = B} a c b d e =
-    let p : ◌≡◌ {A = A × B} (a, b) (c, d) = cc in (ap (λ (x : A × B). x.0) p, ap (λ (x : A × B). x.1) p)
-
 loop_sound : (q : ℕ → Bool) (output t v r : List ℕ) → word_loop q output t ≡ Some (v, r)
     → (w : List ℕ) × (t ≡ w ++ r) × (v ≡ output ++ w) × Every q w
 loop_sound q output [] v r e = (
@@ -70,8 +67,7 @@ loop_whole q output (c ∷ w) r h f =
     ∙ ap (λ y. Some (y, r)) (append_assoc output (c ∷ []) w))
 
 every_as : (q q' : ℕ → Bool) → ((c : ℕ) → q c ≡ q' c) → (w : List ℕ) → Every q w → Every q' w
-every_as q q' same [] h = tt
-every_as q q' same (c ∷ w) h = (sym (same c) ∙ h.0, every_as q q' same w h.1)
+every_as q q' same = every_map q q' (λ c e. sym (same c) ∙ e)
 
 first_as : (q q' : ℕ → Bool) → ((c : ℕ) → q c ≡ q' c) → (r : List ℕ) → first_is q' r ≡ false
     → first_is q r ≡ false
@@ -115,48 +111,8 @@ word_agrees p q p' q' same_p same_q starts = record { sound = sound; whole = who
         (every_as q' q (λ x. sym (same_q x)) w h.1.1) (first_as q q' same_q r f)))
 
 -- the classes
-equal_other : (a b : ℕ) → (a == b) ≡ (b == a)
-equal_other a b = grind (arith, nat_tests)
-
-one_of : (xs : List ℕ) (c : ℕ) → is_any_of xs c ≡ is_one_of xs c
-one_of [] c = refl
-one_of (x ∷ xs) c = ap₂ (λ a b. a || b) (equal_other x c) (one_of xs c)
-
-or_swap : (a b : Bool) → (a || b) ≡ (b || a)
-or_swap true true = refl
-or_swap true false = refl
-or_swap false true = refl
-or_swap false false = refl
-
-or_turn : (a b c : Bool) → (a || b || c) ≡ (c || b || a)
-or_turn true true true = refl
-or_turn true true false = refl
-or_turn true false true = refl
-or_turn true false false = refl
-or_turn false true true = refl
-or_turn false true false = refl
-or_turn false false true = refl
-or_turn false false false = refl
-
 key_start : (c : ℕ) → can_start_key c ≡ is_key_start c
 key_start c = refl
-
-key_rest : (c : ℕ) → can_be_in_key c ≡ is_in_key c
-key_rest c = ap (λ x. is_lower c || is_digit c || x) (one_of (codes "_-.*") c)
-
-alpha : (c : ℕ) → rfc.is_ALPHA c ≡ is_alpha c
-alpha c = or_swap (rfc.in_range 65 90 c) (rfc.in_range 97 122 c)
-
-pub tchar : (c : ℕ) → rfc.is_tchar c ≡ is_tchar c
-tchar c =
-    or_turn (is_any_of (codes "!#$%&'*+-.^_`|~") c) (is_digit c) (rfc.is_ALPHA c)
-    ∙ ap₂ (λ x y. x || is_digit c || y) (alpha c) (one_of (codes "!#$%&'*+-.^_`|~") c)
-
-pub token_start : (c : ℕ) → can_start_token c ≡ is_token_start c
-token_start c = ap (λ x. x || c == 42) (alpha c)
-
-token_rest : (c : ℕ) → can_be_in_token c ≡ is_in_token c
-token_rest c = ap (λ x. x || c == 58 || c == 47) (tchar c)
 
 key_starts : (c : ℕ) → can_start_key c ≡ true → can_be_in_key c ≡ true
 key_starts c h = grind (arith, nat_tests)

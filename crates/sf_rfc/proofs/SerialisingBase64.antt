@@ -1,12 +1,12 @@
 -- Serialising Byte Sequences: base64 by bits and by groups of three bytes.
-use Rattle.std.proofs.Common.{◌≡◌, ℕ, ◌+◌, ◌*◌, ◌/◌, ◌%◌, ◌<◌, true, List, []}
+use Rattle.std.proofs.Common.{◌≡◌, ℕ, ◌+◌, ◌*◌, ◌/◌, ◌%◌, ◌<◌, List, []}
 use Rattle.std.proofs.Common.{◌∷◌, ◌++◌, length, replicate, Some, refl, ap, ap₂, ◌∙◌, arith}
 use Rattle.std.proofs.Common.{append_assoc}
-use Rattle.std.proofs.lemmas.Bool.Decides.{nat_tests}
 use Rattle.sf_value.specs.Grammar.Words.{Every}
 use Rattle.sf_value.specs.Grammar.Classes.{is_byte}
 use Rattle.sf_value.specs.Grammar.ByteSequences.{letter, unpadded, needed}
 use Rattle.sf_value.specs.Grammar.Canonical.{canon_base64}
+use Rattle.sf_parse.proofs.Quads.{byte_small}
 use Rattle.sf_rfc.specs.Rfc9651.Base64.{character_of, eight_bits, bits_of_bytes, by_sixes}
 use Rattle.sf_rfc.specs.Rfc9651.Base64.{characters_of, missing, base64_encode}
 use Rattle.sf_rfc.specs.Rfc9651.SerialisingBare.{serialise_byte_sequence}
@@ -15,9 +15,6 @@ use Rattle.sf_rfc.proofs.SerialisingWords.{bytes_all}
 same_letter : (x : ℕ) → character_of x ≡ letter x
 unfolding character_of letter
 same_letter x = refl
-
-byte_small : (c : ℕ) → is_byte c ≡ true → c < 256
-byte_small c h = grind (arith, nat_tests)
 
 -- one sextet by its bits
 first_six : (a : ℕ) → a < 256
@@ -91,13 +88,11 @@ pub missing_group : (a b c d : ℕ) (t : List ℕ)
 missing_group a b c d t = omega arith
 
 missing_needed : (s : List ℕ) → missing 4 (length (unpadded 0 s)) ≡ needed s
-missing_needed [] = refl
-missing_needed (a ∷ []) = refl
-missing_needed (a ∷ b ∷ []) = refl
 missing_needed (a ∷ b ∷ c ∷ s) =
     missing_group (letter (a / 4)) (letter (a % 4 * 16 + b / 16)) (letter (b % 16 * 4 + c / 64))
     (letter (c % 64)) (unpadded 0 s)
     ∙ missing_needed s
+missing_needed s = refl
 
 encoded : (s : List ℕ) → Every is_byte s
     → base64_encode s ≡ unpadded 0 s ++ replicate (needed s) 61

@@ -10,6 +10,7 @@ use Rattle.sf_value.specs.Grammar.Classes.{is_byte}
 use Rattle.sf_value.specs.Grammar.Utf8.{WellFormed, Start}
 use Rattle.sf_value.specs.Grammar.DisplayStrings.{hex, is_unencoded}
 use Rattle.sf_value.specs.Grammar.Canonical.{canon_shown}
+use Rattle.sf_parse.proofs.Quads.{byte_small}
 use Rattle.sf_rfc.specs.Rfc9651.Alphabets.{is_unprintable}
 use Rattle.sf_rfc.specs.Rfc9651.SerialisingBare.{hex_character, display_bytes}
 use Rattle.sf_rfc.specs.Rfc9651.SerialisingBare.{serialise_display_string}
@@ -28,9 +29,6 @@ plain_kept c e = grind (arith, nat_tests)
 
 other_escaped : (c : ℕ) → is_unencoded c ≡ false → (c == 37 || (c == 34 || is_unprintable c)) ≡ true
 other_escaped c e = grind (arith, nat_tests)
-
-byte_small : (c : ℕ) → is_byte c ≡ true → c < 256
-byte_small c h = grind (arith, nat_tests)
 
 bytes_shown : (s : List ℕ) → Every is_byte s → display_bytes s ++ 34 ∷ [] ≡ canon_shown s
 bytes_shown [] h = refl

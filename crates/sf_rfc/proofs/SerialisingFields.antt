@@ -45,15 +45,9 @@ module _ (d : Dialect) where
   bare_serialised (Shown s) h = shown_serialised s h.1 h.2
 
   value_serialised : (x : Bare) → ValidBare d x → serialise_value x ≡ Some (canon_value x)
-  value_serialised (Integer z) h = rw (bare_serialised (Integer z) h) refl
-  value_serialised (Decimal z) h = rw (bare_serialised (Decimal z) h) refl
-  value_serialised (Text s) h = rw (bare_serialised (Text s) h) refl
-  value_serialised (Token s) h = rw (bare_serialised (Token s) h) refl
-  value_serialised (Blob s) h = rw (bare_serialised (Blob s) h) refl
   value_serialised (Boolean true) h = refl
   value_serialised (Boolean false) h = refl
-  value_serialised (Date z) h = rw (bare_serialised (Date z) h) refl
-  value_serialised (Shown s) h = rw (bare_serialised (Shown s) h) refl
+  value_serialised x h = rw (bare_serialised x h) refl
 
   params_loop : (output : Seq ℕ) (ps : Pairs Bare) → Each (λ p. IsKey p.0 × ValidBare d p.1) ps
       → serialise_params_loop output ps ≡ Some (output ++ canon_params ps)
@@ -108,17 +102,9 @@ module _ (d : Dialect) where
 
   flag_serialised : (x : Bare) (ps : Pairs Bare) → ValidBare d x → ValidParams d ps
       → serialise_behind (member.Item (record { bare = x; params = ps })) ≡ Some (canon_flag x ps)
-  flag_serialised (Integer z) ps h k =
-      rw (bare_serialised (Integer z) h, params_serialised ps k) refl
-  flag_serialised (Decimal z) ps h k =
-      rw (bare_serialised (Decimal z) h, params_serialised ps k) refl
-  flag_serialised (Text s) ps h k = rw (bare_serialised (Text s) h, params_serialised ps k) refl
-  flag_serialised (Token s) ps h k = rw (bare_serialised (Token s) h, params_serialised ps k) refl
-  flag_serialised (Blob s) ps h k = rw (bare_serialised (Blob s) h, params_serialised ps k) refl
   flag_serialised (Boolean true) ps h k = params_serialised ps k
   flag_serialised (Boolean false) ps h k = rw (params_serialised ps k) refl
-  flag_serialised (Date z) ps h k = rw (bare_serialised (Date z) h, params_serialised ps k) refl
-  flag_serialised (Shown s) ps h k = rw (bare_serialised (Shown s) h, params_serialised ps k) refl
+  flag_serialised x ps h k = rw (bare_serialised x h, params_serialised ps k) refl
 
   behind_serialised : (m : Member) → ValidMember d m → serialise_behind m ≡ Some (canon_behind m)
   behind_serialised (member.Item i) h = flag_serialised i.bare i.params h.0 h.1
@@ -145,11 +131,6 @@ module _ (d : Dialect) where
   -- a valid field serialises as its canonical text
   pub field_serialised : (kind : Kind) (v : Field) → Valid d kind v → serialise v ≡ Some (canon v)
   field_serialised kind.Item (field.Item i) h = item_serialised i h
-  field_serialised kind.Item (field.List l) h = elim h [ ]
-  field_serialised kind.Item (field.Dict m) h = elim h [ ]
-  field_serialised kind.List (field.Item i) h = elim h [ ]
   field_serialised kind.List (field.List l) h = list_loop [] l.members h
-  field_serialised kind.List (field.Dict m) h = elim h [ ]
-  field_serialised kind.Dict (field.Item i) h = elim h [ ]
-  field_serialised kind.Dict (field.List l) h = elim h [ ]
   field_serialised kind.Dict (field.Dict m) h = dictionary_loop [] m.members h.0
+  field_serialised kind v h = elim h [ ]

@@ -1,6 +1,6 @@
 -- Serialising Integers, Decimals and Dates.
 use Rattle.std.specs.List.{list_all}
-use Rattle.std.proofs.Common.{◌≡◌, ℕ, zero, suc, ◌+◌, ◌/◌, ◌%◌, ◌^◌, ◌<◌, ◌≤◌, ℤ, pos, negsuc}
+use Rattle.std.proofs.Common.{◌≡◌, ℕ, zero, suc, ◌+◌, ◌/◌, ◌%◌, ◌^◌, ◌<◌, ◌≤◌, ℤ}
 use Rattle.std.proofs.Common.{nat_abs, Bool, true, false, ◌&&◌, ◌==◌, List, [], ◌∷◌, ◌++◌, Some}
 use Rattle.std.proofs.Common.{decimal}
 use Rattle.std.proofs.Common.{refl, ap, ◌∙◌, arith, eqb-true}
@@ -45,8 +45,7 @@ range_test : (n : ℕ) → n < 10 ^ 15 → nat_le n 999999999999999 ≡ true
 range_test n h = grind (arith, nat_tests)
 
 signed_is : (z : ℤ) → minus_sign z ++ decimal (nat_abs z) ≡ signed_decimal z
-signed_is (pos n) = refl
-signed_is (negsuc n) = refl
+signed_is z = grind arith
 
 pub integer_serialised : (z : ℤ) → nat_abs z < 10 ^ 15
     → serialise_integer z ≡ Some (signed_decimal z)
@@ -75,8 +74,7 @@ other_digit : (a : ℕ) → 0 < a → is_zero (48 + a) ≡ false
 other_digit a h = grind (arith, nat_tests)
 
 and_false : (x : Bool) → (x && false) ≡ false
-and_false true = refl
-and_false false = refl
+and_false x = grind arith
 
 three_digits : (a b c : ℕ) → 0 < c
     → significant ((48 + a) ∷ (48 + b) ∷ (48 + c) ∷ []) ≡ (48 + a) ∷ (48 + b) ∷ (48 + c) ∷ []
@@ -135,8 +133,7 @@ whole_test : (n : ℕ) → n < 10 ^ 15 → nat_lt (n / 1000) 1000000000000 ≡ t
 whole_test n h = let e : n / 1000 < 1000000000000 = omega arith in grind (arith, nat_tests)
 
 sign_is : (z : ℤ) → minus_sign z ≡ sign (is_negative z)
-sign_is (pos n) = refl
-sign_is (negsuc n) = refl
+sign_is z = grind arith
 
 pub decimal_serialised : (z : ℤ) → nat_abs z < 10 ^ 15
     → serialise_decimal z ≡ Some (canon_decimal z)

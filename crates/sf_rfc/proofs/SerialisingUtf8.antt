@@ -64,27 +64,6 @@ three_more b low high char (c ∷ d ∷ f ∷ s) w =
     let i = next_is 0 128 191 f s j.1 in
     (s, char c d f s k.0 j.0 i.0, omega arith, i.1)
 
-takes_224 : (b : ℕ) → 224 ≤ b → b ≤ 224 → Takes b (Within 1 160 191)
-takes_224 b l h = two_more b 160 191 (λ c d s p q. grind (arith, nat_tests))
-
-takes_225 : (b : ℕ) → 225 ≤ b → b ≤ 236 → Takes b (Within 1 128 191)
-takes_225 b l h = two_more b 128 191 (λ c d s p q. grind (arith, nat_tests))
-
-takes_237 : (b : ℕ) → 237 ≤ b → b ≤ 237 → Takes b (Within 1 128 159)
-takes_237 b l h = two_more b 128 159 (λ c d s p q. grind (arith, nat_tests))
-
-takes_238 : (b : ℕ) → 238 ≤ b → b ≤ 239 → Takes b (Within 1 128 191)
-takes_238 b l h = two_more b 128 191 (λ c d s p q. grind (arith, nat_tests))
-
-takes_240 : (b : ℕ) → 240 ≤ b → b ≤ 240 → Takes b (Within 2 144 191)
-takes_240 b l h = three_more b 144 191 (λ c d f s p q r. grind (arith, nat_tests))
-
-takes_241 : (b : ℕ) → 241 ≤ b → b ≤ 243 → Takes b (Within 2 128 191)
-takes_241 b l h = three_more b 128 191 (λ c d f s p q r. grind (arith, nat_tests))
-
-takes_244 : (b : ℕ) → 244 ≤ b → b ≤ 244 → Takes b (Within 2 128 143)
-takes_244 b l h = three_more b 128 143 (λ c d f s p q r. grind (arith, nat_tests))
-
 takes_one : (b : ℕ) → b ≤ 127 → Takes b Start
 takes_one b h s w = (s, rw (inside 0 127 b (omega arith) h) refl, le_refl (length s), w)
 
@@ -94,18 +73,18 @@ takes = (
   (
     takes_two,
     (
-      takes_224,
+      (λ b l h. two_more b 160 191 (λ c d s p q. grind (arith, nat_tests))),
       (
-        takes_225,
+        (λ b l h. two_more b 128 191 (λ c d s p q. grind (arith, nat_tests))),
         (
-          takes_237,
+          (λ b l h. two_more b 128 159 (λ c d s p q. grind (arith, nat_tests))),
           (
-            takes_238,
+            (λ b l h. two_more b 128 191 (λ c d s p q. grind (arith, nat_tests))),
             (
-              takes_240,
+              (λ b l h. three_more b 144 191 (λ c d f s p q r. grind (arith, nat_tests))),
               (
-                takes_241,
-                (takes_244, tt),
+                (λ b l h. three_more b 128 191 (λ c d f s p q r. grind (arith, nat_tests))),
+                ((λ b l h. three_more b 128 143 (λ c d f s p q r. grind (arith, nat_tests))), tt),
               ),
             ),
           ),

@@ -11,9 +11,9 @@ use Rattle.sf_value.specs.Grammar.Classes.{is_lower, is_digit, is_alpha, is_tcha
 use Rattle.sf_value.specs.Grammar.Classes.{is_in_token}
 use Rattle.sf_value.specs.Grammar.Strings.{is_escaped, escaped}
 use Rattle.sf_value.specs.Grammar.Tokens.{IsKey, IsToken}
-use Rattle.sf_rfc.specs.Rfc9651.Alphabets.{is_any_of, is_ascii, is_unprintable, needs_escape}
+use Rattle.sf_rfc.specs.Rfc9651.Alphabets.{is_any_of, is_ascii, is_unprintable}
 use Rattle.sf_rfc.specs.Rfc9651.Alphabets.{in_range}
-use Rattle.sf_rfc.specs.Rfc9651.Alphabets.{can_start_key, can_be_in_key, can_start_token}
+use Rattle.sf_rfc.specs.Rfc9651.Alphabets.{can_be_in_key, can_start_token}
 use Rattle.sf_rfc.specs.Rfc9651.Alphabets.{can_be_in_token}
 use Rattle.sf_rfc.specs.Rfc9651.SerialisingBare.{serialise_string, string_characters}
 use Rattle.sf_rfc.specs.Rfc9651.SerialisingBare.{serialise_token}
@@ -34,22 +34,12 @@ one_of [] c = refl
 one_of (x ∷ xs) c = ap₂ (λ a b. a || b) (equal_other x c) (one_of xs c)
 
 or_swap : (a b : Bool) → (a || b) ≡ (b || a)
-or_swap true true = refl
-or_swap true false = refl
-or_swap false true = refl
-or_swap false false = refl
+or_swap a b = grind arith
 
 or_turn : (a b c : Bool) → (a || b || c) ≡ (c || b || a)
-or_turn true true true = refl
-or_turn true true false = refl
-or_turn true false true = refl
-or_turn true false false = refl
-or_turn false true true = refl
-or_turn false true false = refl
-or_turn false false true = refl
-or_turn false false false = refl
+or_turn a b c = grind arith
 
-key_rest : (c : ℕ) → can_be_in_key c ≡ is_in_key c
+pub key_rest : (c : ℕ) → can_be_in_key c ≡ is_in_key c
 key_rest c = ap (λ x. is_lower c || is_digit c || x) (one_of (codes "_-.*") c)
 
 alpha : (c : ℕ) → rfc.is_ALPHA c ≡ is_alpha c
@@ -58,7 +48,7 @@ alpha c = or_swap (in_range 65 90 c) (in_range 97 122 c)
 pub token_start : (c : ℕ) → can_start_token c ≡ is_token_start c
 token_start c = ap (λ x. x || c == 42) (alpha c)
 
-tchar : (c : ℕ) → rfc.is_tchar c ≡ is_tchar c
+pub tchar : (c : ℕ) → rfc.is_tchar c ≡ is_tchar c
 tchar c =
     ap₂ (λ x y. x || rfc.is_DIGIT c || y) (one_of (codes "!#$%&'*+-.^_`|~") c) (alpha c)
     ∙ or_turn (is_one_of (codes "!#$%&'*+-.^_`|~") c) (is_digit c) (is_alpha c)

@@ -12,28 +12,16 @@ use Rattle.sf_value.specs.Grammar.Series.{SpellsCommas, SpellsWhole}
 use Rattle.sf_value.specs.Grammar.Fields.{SpellsEntry, SpellsField}
 use Rattle.sf_value.specs.declared.dialect.Dialect.TheVariants.{Rfc8941, Rfc9651}
 use Rattle.sf_value.specs.declared.value.Bare.{Bare}
-use Rattle.sf_value.specs.declared.value.Bare.TheVariants.{Integer, Decimal, Text, Token}
-use Rattle.sf_value.specs.declared.value.Bare.TheVariants.{Blob, Boolean, Date, Shown}
+use Rattle.sf_value.specs.declared.value.Bare.TheVariants.{Date, Shown}
 use Rattle.sf_value.specs.declared.value.Item.{Item}
 use Rattle.sf_value.specs.declared.value.Member.{Member}
 use Rattle.sf_value.specs.declared.value.Field.{Field}
 use Rattle.sf_value.specs.declared.value.Kind.{Kind}
 
 bare_both : (t : List ℕ) (x : Bare) → SpellsBare Rfc8941 t x → SpellsBare Rfc9651 t x
-bare_both t (Integer n) h = h
-bare_both t (Decimal m) h = h
-bare_both t (Text s) h = h
-bare_both t (Token s) h = h
-bare_both t (Blob s) h = h
-bare_both t (Boolean b) h = h
-bare_both t (Date n) (on, h) = absurd (no on)
-  where
-    no : false ≡ true → ⊥
-    no e = cc
-bare_both t (Shown s) (on, h) = absurd (no on)
-  where
-    no : false ≡ true → ⊥
-    no e = cc
+bare_both t (Date n) (on, h) = let never : false ≡ true = on in cc
+bare_both t (Shown s) (on, h) = let never : false ≡ true = on in cc
+bare_both t x h = h
 
 value_both : (t : List ℕ) (x : Bare) → SpellsValue Rfc8941 t x → SpellsValue Rfc9651 t x
 value_both t x (inl h) = inl h
@@ -82,13 +70,8 @@ pub field_both : (k : Kind) (t : List ℕ) (v : Field) → SpellsField Rfc8941 k
     → SpellsField Rfc9651 k t v
 field_both kind.Item t (field.Item i) (gap, body, tail, e, f, h, g) =
     (gap, body, tail, e, f, item_both body i h, g)
-field_both kind.Item t (field.List l) h = elim h [ ]
-field_both kind.Item t (field.Dict m) h = elim h [ ]
-field_both kind.List t (field.Item i) h = elim h [ ]
 field_both kind.List t (field.List l) h =
     whole_both (SpellsMember Rfc8941) (SpellsMember Rfc9651) member_both t l.members h
-field_both kind.List t (field.Dict m) h = elim h [ ]
-field_both kind.Dict t (field.Item i) h = elim h [ ]
-field_both kind.Dict t (field.List l) h = elim h [ ]
 field_both kind.Dict t (field.Dict m) (raw, e, h) =
     (raw, e, whole_both (SpellsEntry Rfc8941) (SpellsEntry Rfc9651) entry_both t raw h)
+field_both k t v h = elim h [ ]

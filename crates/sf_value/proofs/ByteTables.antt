@@ -54,10 +54,7 @@ abbrev pub has_flags : List ℕ → ℕ → (ℕ → Bool) → Bool
 has_flags table flag test = all_below 256 (λ b. same (has_flag table flag b) (test b))
 
 same_is : (x y : Bool) → same x y ≡ true → x ≡ y
-same_is true true h = refl
-same_is true false h = absurd cc
-same_is false true h = absurd cc
-same_is false false h = refl
+same_is x y h = grind arith
 
 pub flag_read : (table : List ℕ) (flag : ℕ) (test : ℕ → Bool) → has_flags table flag test ≡ true
     → (b : ℕ) → b < 256 → has_flag table flag b ≡ test b

@@ -70,15 +70,12 @@ numeral : (n : ℕ) → n < 2 ^ 64 → Numeral n (decimal n)
 numeral = decimal_by_steps Numeral one_digit more_digits
 
 digits : (n k : ℕ) → n < 10 ^ k → n < 2 ^ 64 → 1 ≤ k → AreDigits 1 k 0 (decimal n)
-digits n k h s l = let d = numeral n s in
+digits n k h s l =
+    let d = numeral n s in
     record {
       each = d.each;
-      enough = omega (
-        arith,
-        d.some,
-      );
-      fits = let e = length-decimal-le k n l h s in
-          omega arith;
+      enough = omega (arith, d.some);
+      fits = omega (arith, length-decimal-le k n l h s);
     }
 
 small : (n k : ℕ) → n < 10 ^ 15 → n < 2 ^ 64
@@ -103,10 +100,7 @@ record Fraction (f : ℕ) (w : List ℕ) : Type 0 where
 one_place : (f : ℕ) → f < 1000 → f % 100 ≡ 0 → Fraction f ((48 + f / 100) ∷ [])
 one_place f h e = record {
   digits = record {
-    each = (
-      digit_is (f / 100) (omega arith),
-      tt,
-    );
+    each = (digit_is (f / 100) (omega arith), tt);
     enough = omega arith;
     fits = omega arith;
   };
@@ -116,13 +110,7 @@ one_place f h e = record {
 two_places : (f : ℕ) → f < 1000 → f % 10 ≡ 0 → Fraction f ((48 + f / 100) ∷ (48 + f / 10 % 10) ∷ [])
 two_places f h e = record {
   digits = record {
-    each = (
-      digit_is (f / 100) (omega arith),
-      (
-        digit_is (f / 10 % 10) (omega arith),
-        tt,
-      ),
-    );
+    each = (digit_is (f / 100) (omega arith), (digit_is (f / 10 % 10) (omega arith), tt));
     enough = omega arith;
     fits = omega arith;
   };
@@ -135,13 +123,7 @@ three_places f h = record {
   digits = record {
     each = (
       digit_is (f / 100) (omega arith),
-      (
-        digit_is (f / 10 % 10) (omega arith),
-        (
-          digit_is (f % 10) (omega arith),
-          tt,
-        ),
-      ),
+      (digit_is (f / 10 % 10) (omega arith), (digit_is (f % 10) (omega arith), tt)),
     );
     enough = omega arith;
     fits = omega arith;
@@ -158,8 +140,7 @@ fraction_is f h = go (f % 100 == 0) (f % 10 == 0) refl refl
     go false false e d = rw (e, d) (three_places f h)
 
 sign_mag : (m : ℤ) → m ≡ signed (is_negative m) (nat_abs m)
-sign_mag (pos n) = refl
-sign_mag (negsuc n) = refl
+sign_mag m = grind arith
 
 canon_dec : (m : ℤ) → nat_abs m < 10 ^ 15 → SpellsDecimal (canon_decimal m) m
 canon_dec m h =
@@ -190,10 +171,8 @@ shown_bytes (c ∷ s) h = go (is_unencoded c) refl (shown_bytes s h.1)
     go false e k = (canon_shown s, inr (h.0, rw e refl), k)
 
 zero_spare : (s : List ℕ) → 0 < spare s
-zero_spare [] = omega arith
-zero_spare (a ∷ []) = omega arith
-zero_spare (a ∷ b ∷ []) = omega arith
 zero_spare (a ∷ b ∷ c ∷ s) = zero_spare s
+zero_spare s = omega arith
 
 commas_canon : {X : Type 0} (P : List ℕ → X → Type 0) (f : X → List ℕ) (xs : List X)
     → Each (λ x. P (f x) x) xs → SpellsCommas P (canon_commas f xs) xs
@@ -223,7 +202,7 @@ whole_canon P f (x ∷ xs) h = (
   tt,
 )
 
-each_map : {X : Type 0} (P Q : X → Type 0) → ((x : X) → P x → Q x) → (xs : List X) → Each P xs
+pub each_map : {X : Type 0} (P Q : X → Type 0) → ((x : X) → P x → Q x) → (xs : List X) → Each P xs
     → Each Q xs
 each_map P Q g [] h = tt
 each_map P Q g (x ∷ xs) h = (g x h.0, each_map P Q g xs h.1)
@@ -252,18 +231,7 @@ module _ (d : Dialect) where
 
   value_canon : (x : Bare) → ValidBare d x → SpellsValue d (canon_value x) x
   value_canon (Boolean true) h = inl (refl, refl)
-  value_canon (Boolean false) h = inr (
-    canon_bare (Boolean false),
-    refl,
-    bare_canon (Boolean false) h,
-  )
-  value_canon (Integer n) h = inr (canon_bare (Integer n), refl, bare_canon (Integer n) h)
-  value_canon (Decimal m) h = inr (canon_bare (Decimal m), refl, bare_canon (Decimal m) h)
-  value_canon (Text s) h = inr (canon_bare (Text s), refl, bare_canon (Text s) h)
-  value_canon (Token s) h = inr (canon_bare (Token s), refl, bare_canon (Token s) h)
-  value_canon (Blob s) h = inr (canon_bare (Blob s), refl, bare_canon (Blob s) h)
-  value_canon (Date n) h = inr (canon_bare (Date n), refl, bare_canon (Date n) h)
-  value_canon (Shown s) h = inr (canon_bare (Shown s), refl, bare_canon (Shown s) h)
+  value_canon x h = inr (canon_bare x, refl, bare_canon x h)
 
   raw_canon : (ps : Pairs Bare) → Each (λ p. IsKey p.0 × ValidBare d p.1) ps
       → SpellsRaw d (canon_params ps) ps
@@ -347,14 +315,7 @@ module _ (d : Dialect) where
     w,
     inr (ps, refl, refl, params_canon ps g),
   )
-  flag_canon k (Boolean false) ps w h g = given_canon k (Boolean false) ps w h g
-  flag_canon k (Integer n) ps w h g = given_canon k (Integer n) ps w h g
-  flag_canon k (Decimal n) ps w h g = given_canon k (Decimal n) ps w h g
-  flag_canon k (Text s) ps w h g = given_canon k (Text s) ps w h g
-  flag_canon k (Token s) ps w h g = given_canon k (Token s) ps w h g
-  flag_canon k (Blob s) ps w h g = given_canon k (Blob s) ps w h g
-  flag_canon k (Date n) ps w h g = given_canon k (Date n) ps w h g
-  flag_canon k (Shown s) ps w h g = given_canon k (Shown s) ps w h g
+  flag_canon k x ps w h g = given_canon k x ps w h g
 
   entry_canon : (k : List ℕ) (m : Member) → IsKey k → ValidMember d m
       → SpellsEntry d (canon_entry (k, m)) (k, m)
@@ -365,15 +326,9 @@ module _ (d : Dialect) where
   pub canon_spells : (kind : Kind) (v : Field) → Valid d kind v → SpellsField d kind (canon v) v
   canon_spells kind.Item (field.Item i) h =
       ([], canon_item i, [], sym (append-nil (canon_item i)), tt, item_canon i h, tt)
-  canon_spells kind.Item (field.List l) h = elim h [ ]
-  canon_spells kind.Item (field.Dict m) h = elim h [ ]
-  canon_spells kind.List (field.Item i) h = elim h [ ]
   canon_spells kind.List (field.List l) h =
       whole_canon (SpellsMember d) canon_member l.members
       (each_map (ValidMember d) (λ m. SpellsMember d (canon_member m) m) member_canon l.members h)
-  canon_spells kind.List (field.Dict m) h = elim h [ ]
-  canon_spells kind.Dict (field.Item i) h = elim h [ ]
-  canon_spells kind.Dict (field.List l) h = elim h [ ]
   canon_spells kind.Dict (field.Dict m) h = (
     m.members,
     sym (settle-distinct m.members h.1),
@@ -381,3 +336,4 @@ module _ (d : Dialect) where
         (each_map (λ p. IsKey p.0 × ValidMember d p.1) (λ p. SpellsEntry d (canon_entry p) p)
         (λ p k. entry_canon p.0 p.1 k.0 k.1) m.members h.0),
   )
+  canon_spells kind v h = elim h [ ]

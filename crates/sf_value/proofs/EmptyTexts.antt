@@ -6,8 +6,7 @@ use Rattle.std.specs.Fmt.{signed_decimal}
 use Rattle.std.proofs.lemmas.Fmt.{decimal_nonempty}
 use Rattle.sf_value.specs.declared.dialect.Dialect.{Dialect}
 use Rattle.sf_value.specs.declared.value.Bare.{Bare}
-use Rattle.sf_value.specs.declared.value.Bare.TheVariants.{Integer, Decimal, Text, Token}
-use Rattle.sf_value.specs.declared.value.Bare.TheVariants.{Blob, Boolean, Date, Shown}
+use Rattle.sf_value.specs.declared.value.Bare.TheVariants.{Integer, Decimal, Token}
 use Rattle.sf_value.specs.declared.value.Item.{Item}
 use Rattle.sf_value.specs.declared.value.Member.{Member}
 use Rattle.sf_value.specs.declared.value.Member.TheVariants as member
@@ -48,13 +47,8 @@ some_bare d (Integer n) h e = some_integer n h e
 some_bare d (Decimal m) h e =
     some_digit (nat_abs m / 1000) (omega arith)
     (prefix_empty (decimal (nat_abs m / 1000)) _ (suffix_empty (sign (is_negative m)) _ e))
-some_bare d (Text s) h e = absurd cc
 some_bare d (Token []) h e = absurd h
-some_bare d (Token (c ∷ s)) h e = absurd cc
-some_bare d (Blob s) h e = absurd cc
-some_bare d (Boolean b) h e = absurd cc
-some_bare d (Date n) h e = absurd cc
-some_bare d (Shown s) h e = absurd cc
+some_bare d x h e = absurd cc
 
 some_item : (d : Dialect) (i : Item) → ValidItem d i → canon_item i ≡ [] → ⊥
 some_item d i h e = some_bare d i.bare h.0 (prefix_empty (canon_bare i.bare) (canon_params i.params) e)
@@ -82,13 +76,8 @@ no_entries d (p ∷ ps) h e =
 
 pub canon_is_empty : CanonIsEmpty
 canon_is_empty d kind.Item (field.Item i) h = (λ e. some_item d i h e, λ n. absurd n)
-canon_is_empty d kind.Item (field.List l) h = absurd h
-canon_is_empty d kind.Item (field.Dict m) h = absurd h
-canon_is_empty d kind.List (field.Item i) h = absurd h
 canon_is_empty d kind.List (field.List l) h =
     (no_members d l.members h, λ n. ap (canon_series canon_member) n)
-canon_is_empty d kind.List (field.Dict m) h = absurd h
-canon_is_empty d kind.Dict (field.Item i) h = absurd h
-canon_is_empty d kind.Dict (field.List l) h = absurd h
 canon_is_empty d kind.Dict (field.Dict m) h =
     (no_entries d m.members h.0, λ n. ap (canon_series canon_entry) n)
+canon_is_empty d k v h = absurd h

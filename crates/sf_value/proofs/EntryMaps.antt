@@ -38,11 +38,6 @@ module _ {V : Type 0} where
   insert_entry-absent k v [] h = refl
   insert_entry-absent k v (p ∷ ps) h = rw (h.0, insert_entry-absent k v ps h.1)
 
-  pub IsAbsent-append : (k : List ℕ) (ps : Pairs V) (q : List ℕ × V) → IsAbsent k ps
-      → bytes_eq k q.0 ≡ false → IsAbsent k (ps ++ q ∷ [])
-  IsAbsent-append k [] q h e = (e, tt)
-  IsAbsent-append k (p ∷ ps) q h e = (h.0, IsAbsent-append k ps q h.1 e)
-
   pub IsAbsent-insert : (k q : List ℕ) (v : V) (ps : Pairs V) → IsAbsent k ps → bytes_eq k q ≡ false
       → IsAbsent k (insert_entry bytes_eq ps q v)
   IsAbsent-insert k q v [] h e = (e, tt)

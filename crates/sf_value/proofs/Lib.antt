@@ -1,4 +1,5 @@
 pub mod Words
+pub mod Faults
 pub mod Tables
 pub mod ByteTables
 pub mod DigitValues

@@ -1,11 +1,11 @@
 -- Runs of bytes that pass a test.
 use Rattle.std.proofs.Common.{◌≡◌, ℕ, ◌+◌, ◌-◌, ◌<◌, ◌≤◌, Bool, true, ◌&&◌, List, [], ◌∷◌, ◌++◌}
 use Rattle.std.proofs.Common.{length, take, drop, get_or, sym, ◌∙◌, subst, arith}
+use Rattle.std.proofs.lemmas.Bool.{and_parts}
 use Rattle.std.proofs.lemmas.List.{take_more}
 use Rattle.std.proofs.Math.Seq.{take-add}
 use Rattle.sf_value.specs.Grammar.Words.{Every}
 use Rattle.sf_value.proofs.Words.{every_push}
-use Rattle.sf_value.proofs.Tables.{both}
 
 pub every_append : (p : ℕ → Bool) (xs ys : List ℕ) → Every p xs → Every p ys → Every p (xs ++ ys)
 every_append p [] ys h k = k
@@ -30,4 +30,4 @@ pub all_more : (p : ℕ → Bool) (xs : List ℕ) (n : ℕ) (all more : Bool)
     → (all ≡ true → Every p (take n xs)) → n < length xs → more ≡ p (get_or xs n 0)
     → (all && more) ≡ true → Every p (take (n + 1) xs)
 all_more p xs n all more h w e k =
-    let t = both all more k in every_more p xs n (h t.0) w (sym e ∙ t.1)
+    let t = and_parts all more k in every_more p xs n (h t.0) w (sym e ∙ t.1)

@@ -138,11 +138,6 @@ module _ {V : Type 0} where
       ∙ ap (λ es. insert_all bytes_eq es qs) (settle-distinct (settle ps) (distinct-settle ps))
       ∙ sym (settle-append ps qs)
 
-  latest_append : (k : List ℕ) (v : V) (a b : Pairs V)
-      → latest k v (a ++ b) ≡ latest k (latest k v a) b
-  latest_append k v [] b = refl
-  latest_append k v (p ∷ a) b = latest_append k (if bytes_eq k p.0 then p.1 else v) a b
-
   latest_step : (k : List ℕ) (v : V) (p : List ℕ × V) (ps : Pairs V) → latest k v (without k ps) ≡ v
       → latest k v (without k (p ∷ ps)) ≡ v
   latest_step k v p ps h = grind arith

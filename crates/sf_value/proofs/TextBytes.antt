@@ -1,8 +1,9 @@
 -- The bytes of a text that spells a field are visible, or tabs.
-use Rattle.std.proofs.Common.{◌≡◌, ℕ, zero, suc, ◌+◌, ◌*◌, ◌/◌, ◌%◌, ◌<◌, ◌≤◌, ℤ, Bool, true, false}
-use Rattle.std.proofs.Common.{◌==◌, nat_lt, ◌&&◌, ◌||◌, if◌then◌else◌, List, [], ◌∷◌, ◌++◌, length}
-use Rattle.std.proofs.Common.{replicate, codes, refl, sym, subst, inl, inr, ⊎_elim, ◌⊎◌, arith}
-use Rattle.std.proofs.Common.{eqb-true, true≢false, slice_index}
+use Rattle.std.proofs.Common.{◌≡◌, ℕ, zero, suc, ◌+◌, ◌*◌, ◌/◌, ◌%◌, ◌<◌, ℤ, Bool, true, false}
+use Rattle.std.proofs.Common.{◌==◌, ◌&&◌, ◌||◌, if◌then◌else◌, List, [], ◌∷◌, ◌++◌}
+use Rattle.std.proofs.Common.{replicate, codes, refl, inl, inr, ⊎_elim, ◌⊎◌, arith}
+use Rattle.std.proofs.Common.{eqb-true}
+use Rattle.std.proofs.lemmas.Bool.{or_cases}
 use Rattle.std.specs.Cmp.{first_so, second_so}
 use Rattle.sf_value.specs.declared.value.Member.TheVariants as member
 use Rattle.sf_value.specs.declared.value.Field.TheVariants as field
@@ -16,14 +17,14 @@ use Rattle.sf_value.specs.declared.value.Member.{Member}
 use Rattle.sf_value.specs.declared.value.Field.{Field}
 use Rattle.sf_value.specs.declared.value.Kind.{Kind}
 use Rattle.sf_value.specs.Grammar.Words.{Every, IsWord}
-use Rattle.sf_value.specs.Grammar.Classes.{is_one_of, is_sp, is_ows, is_digit, is_lower, is_alpha}
+use Rattle.sf_value.specs.Grammar.Classes.{is_one_of, is_sp, is_ows, is_digit, is_alpha}
 use Rattle.sf_value.specs.Grammar.Classes.{is_key_start, is_in_key, is_tchar, is_token_start}
 use Rattle.sf_value.specs.Grammar.Classes.{is_in_token, is_visible, is_byte}
 use Rattle.sf_value.specs.Grammar.Pairs.{Pairs}
 use Rattle.sf_value.specs.Grammar.Numbers.{sign, SpellsInteger, SpellsDecimal}
 use Rattle.sf_value.specs.Grammar.Strings.{is_escaped, escaped}
 use Rattle.sf_value.specs.Grammar.Tokens.{IsKey}
-use Rattle.sf_value.specs.Grammar.ByteSequences.{alphabet, letter, unpadded, spare}
+use Rattle.sf_value.specs.Grammar.ByteSequences.{letter, unpadded, spare}
 use Rattle.sf_value.specs.Grammar.DisplayStrings.{hex, EncodedBytes}
 use Rattle.sf_value.specs.Grammar.BareItems.{SpellsBare}
 use Rattle.sf_value.specs.Grammar.Parameters.{SpellsValue, SpellsRaw, SpellsParams}
@@ -31,93 +32,59 @@ use Rattle.sf_value.specs.Grammar.Items.{SpellsItem}
 use Rattle.sf_value.specs.Grammar.InnerLists.{SpellsItems, SpellsMember}
 use Rattle.sf_value.specs.Grammar.Series.{SpellsCommas, SpellsWhole}
 use Rattle.sf_value.specs.Grammar.Fields.{SpellsEntry, SpellsField}
+use Rattle.sf_value.proofs.Runs.{every_append}
+use Rattle.sf_value.proofs.Tables.{each_below}
+use Rattle.sf_value.proofs.Words.{every_map}
 
 -- a visible byte, or a tab
 abbrev pub is_text : ℕ → Bool
 is_text b = is_visible b || b == 9
 
-left : (x y : Bool) → x ≡ true → (x || y) ≡ true
-left true y e = refl
-left false y e = absurd (true≢false (sym e))
-
-right : (x y : Bool) → y ≡ true → (x || y) ≡ true
-right true y e = refl
-right false y e = e
-
-either : (x y : Bool) → (x || y) ≡ true → (x ≡ true) ⊎ (y ≡ true)
-either true y e = inl refl
-either false y e = inr e
-
 visible : (b : ℕ) → is_visible b ≡ true → is_text b ≡ true
-visible b e = left (is_visible b) (b == 9) e
-
-between : (b : ℕ) → 32 ≤ b → b ≤ 126 → is_visible b ≡ true
-between b l h = grind arith
+visible b e = grind arith
 
 of_sp : (b : ℕ) → is_sp b ≡ true → is_text b ≡ true
-of_sp b e =
-    let same : b ≡ 32 = eqb-true b 32 e in
-    visible b (between b (omega arith) (omega arith))
+of_sp b e = grind arith
 
 of_ows : (b : ℕ) → is_ows b ≡ true → is_text b ≡ true
-of_ows b e =
-    ⊎_elim (λ k. of_sp b k) (λ k. right (is_visible b) (b == 9) k) (either (b == 32) (b == 9) e)
+of_ows b e = grind arith
 
 of_digit : (b : ℕ) → is_digit b ≡ true → is_text b ≡ true
-of_digit b e = let h : is_visible b ≡ true = grind arith in visible b h
+of_digit b e = grind arith
 
-of_lower : (b : ℕ) → is_lower b ≡ true → is_text b ≡ true
-of_lower b e = let h : is_visible b ≡ true = grind arith in visible b h
+of_key_start : (b : ℕ) → is_key_start b ≡ true → is_text b ≡ true
+of_key_start b e = grind arith
 
-of_alpha : (b : ℕ) → is_alpha b ≡ true → is_text b ≡ true
-of_alpha b e = let h : is_visible b ≡ true = grind arith in visible b h
-
-of_equal : (b c : ℕ) → is_text c ≡ true → (b == c) ≡ true → is_text b ≡ true
-of_equal b c h e = subst (λ x. is_text x ≡ true) (sym (eqb-true b c e)) h
+of_in_key : (b : ℕ) → is_in_key b ≡ true → is_text b ≡ true
+of_in_key b e = grind arith
 
 abbrev all_text : List ℕ → Bool
 all_text [] = true
 all_text (c ∷ cs) = is_text c && all_text cs
 
 one_of : (cs : List ℕ) (b : ℕ) → all_text cs ≡ true → is_one_of cs b ≡ true → is_text b ≡ true
-one_of [] b h e = absurd (true≢false (sym e))
+one_of [] b h e = absurd cc
 one_of (c ∷ cs) b h e =
-    ⊎_elim (λ k. of_equal b c (first_so (is_text c) (all_text cs) h) k)
+    ⊎_elim (λ k. rw (eqb-true b c k) (first_so (is_text c) (all_text cs) h))
     (λ k. one_of cs b (second_so (is_text c) (all_text cs) h) k)
-    (either (b == c) (is_one_of cs b) e)
-
-of_key_start : (b : ℕ) → is_key_start b ≡ true → is_text b ≡ true
-of_key_start b e =
-    ⊎_elim (λ k. of_lower b k) (λ k. of_equal b 42 refl k) (either (is_lower b) (b == 42) e)
-
-of_in_key : (b : ℕ) → is_in_key b ≡ true → is_text b ≡ true
-of_in_key b e =
-    ⊎_elim
-    (λ k. ⊎_elim (λ x. of_lower b x) (λ x. of_digit b x) (either (is_lower b) (is_digit b) k))
-    (λ k. one_of (codes "_-.*") b refl k)
-    (either (is_lower b || is_digit b) (is_one_of (codes "_-.*") b) e)
+    (or_cases (b == c) (is_one_of cs b) e)
 
 of_tchar : (b : ℕ) → is_tchar b ≡ true → is_text b ≡ true
 of_tchar b e =
-    ⊎_elim
-    (λ k. ⊎_elim (λ x. of_alpha b x) (λ x. of_digit b x) (either (is_alpha b) (is_digit b) k))
-    (λ k. one_of (codes "!#$%&'*+-.^_`|~") b refl k)
-    (either (is_alpha b || is_digit b) (is_one_of (codes "!#$%&'*+-.^_`|~") b) e)
+    ⊎_elim (λ k. grind arith) (λ k. one_of (codes "!#$%&'*+-.^_`|~") b refl k)
+    (or_cases (is_alpha b || is_digit b) (is_one_of (codes "!#$%&'*+-.^_`|~") b) e)
 
 of_token_start : (b : ℕ) → is_token_start b ≡ true → is_text b ≡ true
-of_token_start b e =
-    ⊎_elim (λ k. of_alpha b k) (λ k. of_equal b 42 refl k) (either (is_alpha b) (b == 42) e)
+of_token_start b e = grind arith
 
 of_in_token : (b : ℕ) → is_in_token b ≡ true → is_text b ≡ true
 of_in_token b e =
-    ⊎_elim
-    (λ k. ⊎_elim (λ x. of_tchar b x) (λ x. of_equal b 58 refl x) (either (is_tchar b) (b == 58) k))
-    (λ k. of_equal b 47 refl k) (either (is_tchar b || b == 58) (b == 47) e)
+    ⊎_elim (λ k. ⊎_elim (of_tchar b) (λ x. grind arith) (or_cases (is_tchar b) (b == 58) k))
+    (λ k. grind arith) (or_cases (is_tchar b || b == 58) (b == 47) e)
 
 every_by : (p : ℕ → Bool) → ((b : ℕ) → p b ≡ true → is_text b ≡ true) → (t : List ℕ) → Every p t
     → Every is_text t
-every_by p f [] h = tt
-every_by p f (b ∷ t) h = (f b h.0, every_by p f t h.1)
+every_by p = every_map p is_text
 
 word : (p q : ℕ → Bool) → ((b : ℕ) → p b ≡ true → is_text b ≡ true)
     → ((b : ℕ) → q b ≡ true → is_text b ≡ true) → (t : List ℕ) → IsWord p q t → Every is_text t
@@ -125,11 +92,7 @@ word p q f g [] h = absurd h
 word p q f g (b ∷ t) h = (f b h.0, every_by q g t h.1)
 
 cat : (s t : List ℕ) → Every is_text s → Every is_text t → Every is_text (s ++ t)
-cat [] t h k = k
-cat (b ∷ s) t h k = (h.0, cat s t h.1 k)
-
-is : (t u : List ℕ) → t ≡ u → Every is_text u → Every is_text t
-is t u e h = subst (Every is_text) (sym e) h
+cat = every_append is_text
 
 sign_text : (neg : Bool) → Every is_text (sign neg)
 sign_text false = tt
@@ -140,12 +103,11 @@ digits_text w h = every_by is_digit of_digit w h
 
 integer_text : (n : ℤ) (t : List ℕ) → SpellsInteger t n → Every is_text t
 integer_text n t (neg, w, e, d, i) =
-    is t (sign neg ++ w) e (cat (sign neg) w (sign_text neg) (digits_text w d.each))
+    rw e (cat (sign neg) w (sign_text neg) (digits_text w d.each))
 
 decimal_text : (m : ℤ) (t : List ℕ) → SpellsDecimal t m → Every is_text t
 decimal_text m t (neg, w, f, e, d, d', i) =
-    is t (sign neg ++ (w ++ 46 ∷ f)) e
-    (cat (sign neg) (w ++ 46 ∷ f) (sign_text neg)
+    rw e (cat (sign neg) (w ++ 46 ∷ f) (sign_text neg)
     (cat w (46 ∷ f) (digits_text w d.each) (refl, digits_text f d'.each)))
 
 escaped_byte : (b : ℕ) (t : List ℕ) (x : Bool) → is_text b ≡ true → Every is_text t
@@ -158,75 +120,56 @@ escaped_text [] h = tt
 escaped_text (b ∷ s) h =
     escaped_byte b (escaped s) (is_escaped b) (visible b h.0) (escaped_text s h.1)
 
-at_text : (cs : List ℕ) (k : ℕ) → k < length cs → all_text cs ≡ true
-    → is_text (slice_index cs k) ≡ true
-at_text [] k h e = absurd (let n : ⊥ = omega arith in n)
-at_text (c ∷ cs) zero h e = first_so (is_text c) (all_text cs) e
-at_text (c ∷ cs) (suc k) h e =
-    at_text cs k (omega arith) (second_so (is_text c) (all_text cs) e)
-
 letter_text : (x : ℕ) → x < 64 → is_text (letter x) ≡ true
 unfolding letter
-letter_text x h = at_text alphabet x h refl
+letter_text x h = each_below 64 (λ y. is_text (letter y)) refl x h
 
 byte : (b : ℕ) → is_byte b ≡ true → b < 256
 byte b e = grind arith
 
-quarter : (b : ℕ) → b < 256 → b / 4 < 64
-quarter b h = omega arith
-
-sixteenth : (a b : ℕ) → b < 256 → a % 4 * 16 + b / 16 < 64
-sixteenth a b h = omega arith
-
-last : (b c : ℕ) → c < 256 → b % 16 * 4 + c / 64 < 64
-last b c h = omega arith
-
 unpadded_text : (low : ℕ) (s : List ℕ) → low < spare s → Every is_byte s
     → Every is_text (unpadded low s)
 unpadded_text low [] l h = tt
-unpadded_text low (a ∷ []) l h = (
-  letter_text (a / 4) (quarter a (byte a h.0)),
-  (letter_text (a % 4 * 16 + low) (omega arith), tt),
-)
-unpadded_text low (a ∷ b ∷ []) l h = (
-  letter_text (a / 4) (quarter a (byte a h.0)),
-  (
-    letter_text (a % 4 * 16 + b / 16) (sixteenth a b (byte b h.1.0)),
-    (letter_text (b % 16 * 4 + low) (omega arith), tt),
-  ),
-)
-unpadded_text low (a ∷ b ∷ c ∷ s) l h = (
-  letter_text (a / 4) (quarter a (byte a h.0)),
-  (
-    letter_text (a % 4 * 16 + b / 16) (sixteenth a b (byte b h.1.0)),
-    (
-      letter_text (b % 16 * 4 + c / 64) (last b c (byte c h.1.1.0)),
-      (letter_text (c % 64) (omega arith), unpadded_text low s l h.1.1.1),
-    ),
-  ),
-)
+unpadded_text low (a ∷ []) l h =
+    let x = byte a h.0 in
+    (letter_text (a / 4) (omega arith), (letter_text (a % 4 * 16 + low) (omega arith), tt))
+unpadded_text low (a ∷ b ∷ []) l h =
+    let x = byte a h.0 in
+    let y = byte b h.1.0 in (
+      letter_text (a / 4) (omega arith),
+      (
+        letter_text (a % 4 * 16 + b / 16) (omega arith),
+        (letter_text (b % 16 * 4 + low) (omega arith), tt),
+      ),
+    )
+unpadded_text low (a ∷ b ∷ c ∷ s) l h =
+    let x = byte a h.0 in
+    let y = byte b h.1.0 in
+    let z = byte c h.1.1.0 in (
+      letter_text (a / 4) (omega arith),
+      (
+        letter_text (a % 4 * 16 + b / 16) (omega arith),
+        (
+          letter_text (b % 16 * 4 + c / 64) (omega arith),
+          (letter_text (c % 64) (omega arith), unpadded_text low s l h.1.1.1),
+        ),
+      ),
+    )
 
 pads_text : (n : ℕ) → Every is_text (replicate n 61 ++ 58 ∷ [])
 pads_text zero = (refl, tt)
 pads_text (suc n) = (refl, pads_text n)
 
 hex_text : (x : ℕ) → x < 16 → is_text (hex x) ≡ true
-hex_text x h = go (nat_lt x 10) refl
-  where
-    go : (t : Bool) → nat_lt x 10 ≡ t → is_text (if t then x + 48 else x + 87) ≡ true
-    go true e = visible (x + 48) (between (x + 48) (omega arith) (omega arith))
-    go false e = visible (x + 87) (between (x + 87) (omega arith) (omega arith))
+hex_text x h = grind arith
 
 shown_text : (s t : List ℕ) → EncodedBytes t s → Every is_text t
-shown_text [] t e = is t (34 ∷ []) e (refl, tt)
+shown_text [] t e = rw e (refl, tt)
 shown_text (c ∷ s) t (suffix, inl (k, e), p) =
-    is t (c ∷ suffix) e (
-      let h : is_visible c ≡ true = grind arith in visible c h,
-      shown_text s suffix p,
-    )
+    let h : is_visible c ≡ true = grind arith in rw e (visible c h, shown_text s suffix p)
 shown_text (c ∷ s) t (suffix, inr (k, e), p) =
     let b = byte c k in
-    is t (37 ∷ hex (c / 16) ∷ hex (c % 16) ∷ suffix) e (
+    rw e (
       refl,
       (
         hex_text (c / 16) (omega arith),
@@ -244,10 +187,9 @@ key_text k h = word is_key_start is_in_key of_key_start of_in_key k h
 commas_text : {X : Type 0} (P : List ℕ → X → Type 0)
     → ((x : X) (t : List ℕ) → P t x → Every is_text t) → (xs : List X) (t : List ℕ)
     → SpellsCommas P t xs → Every is_text t
-commas_text P g [] t e = is t [] e tt
+commas_text P g [] t e = rw e tt
 commas_text P g (x ∷ xs) t (before, behind, prefix, suffix, e, f, f2, s, c) =
-    is t (before ++ 44 ∷ (behind ++ (prefix ++ suffix))) e
-    (cat before (44 ∷ (behind ++ (prefix ++ suffix))) (every_by is_ows of_ows before f) (
+    rw e (cat before (44 ∷ (behind ++ (prefix ++ suffix))) (every_by is_ows of_ows before f) (
       refl,
       cat behind (prefix ++ suffix) (every_by is_ows of_ows behind f2)
           (cat prefix suffix (g x prefix s) (commas_text P g xs suffix c)),
@@ -258,10 +200,8 @@ whole_text : {X : Type 0} (P : List ℕ → X → Type 0)
     → SpellsWhole P t xs → Every is_text t
 whole_text P g [] t h = every_by is_sp of_sp t h
 whole_text P g (x ∷ xs) t (gap, body, tail, e, f, (prefix, suffix, e1, s, c), w) =
-    is t (gap ++ (body ++ tail)) e
-    (cat gap (body ++ tail) (every_by is_sp of_sp gap f)
-    (cat body tail
-    (is body (prefix ++ suffix) e1 (cat prefix suffix (g x prefix s) (commas_text P g xs suffix c)))
+    rw e (cat gap (body ++ tail) (every_by is_sp of_sp gap f)
+    (cat body tail (rw e1 (cat prefix suffix (g x prefix s) (commas_text P g xs suffix c)))
     (every_by is_ows of_ows tail w)))
 
 module _ (d : Dialect) where
@@ -269,32 +209,27 @@ module _ (d : Dialect) where
   bare_text (Integer n) t h = integer_text n t h
   bare_text (Decimal m) t h = decimal_text m t h
   bare_text (Text s) t h =
-      is t (34 ∷ (escaped s ++ 34 ∷ [])) h.0
-      (refl, cat (escaped s) (34 ∷ []) (escaped_text s h.1) (refl, tt))
+      rw h.0 (refl, cat (escaped s) (34 ∷ []) (escaped_text s h.1) (refl, tt))
   bare_text (Token s) t h =
-      is t s h.0 (word is_token_start is_in_token of_token_start of_in_token s h.1)
+      rw h.0 (word is_token_start is_in_token of_token_start of_in_token s h.1)
   bare_text (Blob s) t (suffix, e, (low, b, lt, e1, f, (m, n, e2))) =
-      is t (58 ∷ suffix) e (
+      rw e (
         refl,
-        is suffix (unpadded low s ++ b) e1
-            (cat (unpadded low s) b (unpadded_text low s lt f)
-            (is b (replicate m 61 ++ 58 ∷ []) e2 (pads_text m))),
+        rw e1 (cat (unpadded low s) b (unpadded_text low s lt f) (rw e2 (pads_text m))),
       )
-  bare_text (Boolean b) t h = is t (63 ∷ (if b then 49 else 48) ∷ []) h (boolean_text b)
-  bare_text (Date n) t (on, (suffix, e, h)) = is t (64 ∷ suffix) e (refl, integer_text n suffix h)
-  bare_text (Shown s) t (on, (suffix, e, p, w)) =
-      is t (37 ∷ 34 ∷ suffix) e (refl, (refl, shown_text s suffix p))
+  bare_text (Boolean b) t h = rw h (boolean_text b)
+  bare_text (Date n) t (on, (suffix, e, h)) = rw e (refl, integer_text n suffix h)
+  bare_text (Shown s) t (on, (suffix, e, p, w)) = rw e (refl, (refl, shown_text s suffix p))
 
   value_text : (x : Bare) (t : List ℕ) → SpellsValue d t x → Every is_text t
-  value_text x t (inl (e, n)) = is t [] n tt
-  value_text x t (inr (suffix, e, h)) = is t (61 ∷ suffix) e (refl, bare_text x suffix h)
+  value_text x t (inl (e, n)) = rw n tt
+  value_text x t (inr (suffix, e, h)) = rw e (refl, bare_text x suffix h)
 
   raw_text : (ps : Pairs Bare) (t : List ℕ) → SpellsRaw d t ps → Every is_text t
-  raw_text [] t e = is t [] e tt
+  raw_text [] t e = rw e tt
   raw_text (p ∷ ps) t (prefix, suffix, e, (gap, value, e1, f, i, s), r) =
-      is t (prefix ++ suffix) e
-      (cat prefix suffix
-      (is prefix (59 ∷ (gap ++ (p.0 ++ value))) e1 (
+      rw e (cat prefix suffix
+      (rw e1 (
         refl,
         cat gap (p.0 ++ value) (every_by is_sp of_sp gap f)
             (cat p.0 value (key_text p.0 i) (value_text p.1 value s)),
@@ -306,46 +241,37 @@ module _ (d : Dialect) where
 
   item_text : (i : Item) (t : List ℕ) → SpellsItem d t i → Every is_text t
   item_text i t (prefix, suffix, e, h, k) =
-      is t (prefix ++ suffix) e
-      (cat prefix suffix (bare_text i.bare prefix h) (params_text i.params suffix k))
+      rw e (cat prefix suffix (bare_text i.bare prefix h) (params_text i.params suffix k))
 
-  items_text : (least : ℕ) (is' : List Item) (t : List ℕ) → SpellsItems d least t is'
+  items_text : (least : ℕ) (is : List Item) (t : List ℕ) → SpellsItems d least t is
       → Every is_text t
   items_text least [] t h = every_by is_sp of_sp t h
-  items_text least (i ∷ is') t (gap, prefix, suffix, e, f, z, s, r) =
-      is t (gap ++ (prefix ++ suffix)) e
-      (cat gap (prefix ++ suffix) (every_by is_sp of_sp gap f)
-      (cat prefix suffix (item_text i prefix s) (items_text 1 is' suffix r)))
+  items_text least (i ∷ is) t (gap, prefix, suffix, e, f, z, s, r) =
+      rw e (cat gap (prefix ++ suffix) (every_by is_sp of_sp gap f)
+      (cat prefix suffix (item_text i prefix s) (items_text 1 is suffix r)))
 
   member_text : (m : Member) (t : List ℕ) → SpellsMember d t m → Every is_text t
   member_text (member.Item i) t h = item_text i t h
   member_text (member.Inner l) t (body, suffix, e, s, k) =
-      is t (40 ∷ (body ++ 41 ∷ suffix)) e (
+      rw e (
         refl,
         cat body (41 ∷ suffix) (items_text 0 l.items body s) (refl, params_text l.params suffix k),
       )
 
   entry_text : (p : List ℕ × Member) (t : List ℕ) → SpellsEntry d t p → Every is_text t
   entry_text p t (suffix, w, inl (e, s)) =
-      is t (p.0 ++ 61 ∷ suffix) e
-      (cat p.0 (61 ∷ suffix) (key_text p.0 w) (refl, member_text p.1 suffix s))
+      rw e (cat p.0 (61 ∷ suffix) (key_text p.0 w) (refl, member_text p.1 suffix s))
   entry_text p t (suffix, w, inr (ps, i, e, s)) =
-      is t (p.0 ++ suffix) e (cat p.0 suffix (key_text p.0 w) (params_text ps suffix s))
+      rw e (cat p.0 suffix (key_text p.0 w) (params_text ps suffix s))
 
   -- each byte of a text that spells a field is visible, or a tab
   pub spelled_text : (kind : Kind) (v : Field) (t : List ℕ) → SpellsField d kind t v
       → Every is_text t
   spelled_text kind.Item (field.Item i) t (gap, body, tail, e, f, s, w) =
-      is t (gap ++ (body ++ tail)) e
-      (cat gap (body ++ tail) (every_by is_sp of_sp gap f)
+      rw e (cat gap (body ++ tail) (every_by is_sp of_sp gap f)
       (cat body tail (item_text i body s) (every_by is_sp of_sp tail w)))
-  spelled_text kind.Item (field.List l) t h = elim h [ ]
-  spelled_text kind.Item (field.Dict m) t h = elim h [ ]
-  spelled_text kind.List (field.Item i) t h = elim h [ ]
   spelled_text kind.List (field.List l) t h =
       whole_text (SpellsMember d) member_text l.members t h
-  spelled_text kind.List (field.Dict m) t h = elim h [ ]
-  spelled_text kind.Dict (field.Item i) t h = elim h [ ]
-  spelled_text kind.Dict (field.List l) t h = elim h [ ]
   spelled_text kind.Dict (field.Dict m) t (raw, e, h) =
       whole_text (SpellsEntry d) entry_text raw t h
+  spelled_text kind v t h = elim h [ ]

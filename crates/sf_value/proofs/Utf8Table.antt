@@ -1,7 +1,8 @@
 -- The table of UTF-8 and the UTF-8 of std are one.
-use Rattle.std.proofs.Common.{◌≡◌, ℕ, zero, suc, ◌+◌, ◌-◌, ◌*◌, ◌/◌, ◌<◌, ◌≤◌, Bool, true, false}
-use Rattle.std.proofs.Common.{◌&&◌, List, [], ◌∷◌, ◌++◌, Some, refl, sym, ap, ap₂, ◌∙◌, subst, inl}
+use Rattle.std.proofs.Common.{◌≡◌, ℕ, zero, suc, ◌+◌, ◌-◌, ◌*◌, ◌/◌, ◌<◌, ◌≤◌, true}
+use Rattle.std.proofs.Common.{List, [], ◌∷◌, ◌++◌, Some, refl, sym, ap₂, ◌∙◌, subst, inl}
 use Rattle.std.proofs.Common.{inr, ⊎_elim, ◌⊎◌, arith, IsUtf8, length, length-append, le_refl}
+use Rattle.std.proofs.lemmas.Bool.{and_parts}
 use lib.Utf8.{encode, encodes, scalar, scalars, next}
 use Rattle.sf_value.specs.Grammar.Words.{allow}
 use Rattle.sf_value.specs.Grammar.Utf8.{Utf8, Start, Within, followed_by, within, rows, look_up}
@@ -32,8 +33,8 @@ looked_up P (r ∷ rs) h b x e = ⊎_elim
 row_two : (b : ℕ) → 194 ≤ b → b ≤ 223 → look_up rows b ≡ Some (Within 0 128 191)
 row_two b l h = grind arith
 
-row_e0 : look_up rows 224 ≡ Some (Within 1 160 191)
-row_e0 = refl
+row_e0 : (b : ℕ) → 224 ≤ b → b ≤ 224 → look_up rows b ≡ Some (Within 1 160 191)
+row_e0 b l h = grind arith
 
 row_low : (b : ℕ) → 225 ≤ b → b ≤ 236 → look_up rows b ≡ Some (Within 1 128 191)
 row_low b l h = grind arith
@@ -59,17 +60,17 @@ encode_four : (c : ℕ) → 65536 ≤ c
 unfolding encode
 encode_four c l = grind arith
 
-row_ed : look_up rows 237 ≡ Some (Within 1 128 159)
-row_ed = refl
+row_ed : (b : ℕ) → 237 ≤ b → b ≤ 237 → look_up rows b ≡ Some (Within 1 128 159)
+row_ed b l h = grind arith
 
 row_high : (b : ℕ) → 238 ≤ b → b ≤ 239 → look_up rows b ≡ Some (Within 1 128 191)
 row_high b l h = grind arith
 
-row_f0 : look_up rows 240 ≡ Some (Within 2 144 191)
-row_f0 = refl
+row_f0 : (b : ℕ) → 240 ≤ b → b ≤ 240 → look_up rows b ≡ Some (Within 2 144 191)
+row_f0 b l h = grind arith
 
-row_f4 : look_up rows 244 ≡ Some (Within 2 128 143)
-row_f4 = refl
+row_f4 : (b : ℕ) → 244 ≤ b → b ≤ 244 → look_up rows b ≡ Some (Within 2 128 143)
+row_f4 b l h = grind arith
 
 row_one : (b : ℕ) → b ≤ 127 → look_up rows b ≡ Some Start
 row_one b h = grind arith
@@ -79,32 +80,27 @@ next_byte : (n low high b : ℕ) (s : List ℕ) → low ≤ b → b ≤ high →
     → WellFormed (Within n low high) (b ∷ s)
 next_byte n low high b s l h w = (followed_by n, rw (in_range low high b l h) refl, w)
 
-first_of_three : (b low high c d : ℕ) (s : List ℕ) → look_up rows b ≡ Some (Within 1 low high)
-    → low ≤ c → c ≤ high → 128 ≤ d → d ≤ 191 → WellFormed Start s → WellFormed Start (b ∷ c ∷ d ∷ s)
-first_of_three b low high c d s e l h l' h' w = (
+-- a character of three bytes, and one of four
+first_of_three : (b low high x y : ℕ) (s : List ℕ) → look_up rows b ≡ Some (Within 1 low high)
+    → low ≤ next x → next x ≤ high → WellFormed Start s
+    → WellFormed Start (b ∷ next x ∷ next y ∷ s)
+first_of_three b low high x y s e l h w = (
   Within 1 low high,
   e,
-  next_byte 1 low high c (d ∷ s) l h (next_byte 0 128 191 d s l' h' w),
+  next_byte 1 low high (next x) (next y ∷ s) l h
+      (next_byte 0 128 191 (next y) s (omega arith) (omega arith) w),
 )
 
-first_of_four : (b low high c d f : ℕ) (s : List ℕ) → look_up rows b ≡ Some (Within 2 low high)
-    → low ≤ c → c ≤ high → 128 ≤ d → d ≤ 191 → 128 ≤ f → f ≤ 191 → WellFormed Start s
-    → WellFormed Start (b ∷ c ∷ d ∷ f ∷ s)
-first_of_four b low high c d f s e l h l' h' l2 h2 w = (
+first_of_four : (b low high x y z : ℕ) (s : List ℕ) → look_up rows b ≡ Some (Within 2 low high)
+    → low ≤ next x → next x ≤ high → WellFormed Start s
+    → WellFormed Start (b ∷ next x ∷ next y ∷ next z ∷ s)
+first_of_four b low high x y z s e l h w = (
   Within 2 low high,
   e,
-  next_byte 2 low high c (d ∷ f ∷ s) l h
-      (next_byte 1 128 191 d (f ∷ s) l' h' (next_byte 0 128 191 f s l2 h2 w)),
+  next_byte 2 low high (next x) (next y ∷ next z ∷ s) l h
+      (next_byte 1 128 191 (next y) (next z ∷ s) (omega arith) (omega arith)
+      (next_byte 0 128 191 (next z) s (omega arith) (omega arith) w)),
 )
-
-next_low : (x : ℕ) → 128 ≤ next x
-next_low x = omega arith
-
-next_high : (x : ℕ) → next x ≤ 191
-next_high x = omega arith
-
-lead_is : (x : ℕ) (y : Utf8) (a : ℕ) → a ≡ x → look_up rows x ≡ Some y → look_up rows a ≡ Some y
-lead_is x y a e h = ap (look_up rows) e ∙ h
 
 Split : ℕ → Type 0
 Split c = (c < 128) ⊎ (((128 ≤ c) × (c < 2048)) ⊎ (((2048 ≤ c) × (c < 65536)) ⊎ (65536 ≤ c)))
@@ -131,36 +127,29 @@ three_from : (c : ℕ) (s : List ℕ) → 2048 ≤ c → c < 65536 → scalar c 
     → WellFormed Start ((224 + c / 4096) ∷ next (c / 64) ∷ next c ∷ s)
 unfolding Split3
 three_from c s l h e w = ⊎_elim
-    (λ k. first_of_three (224 + c / 4096) 160 191 (next (c / 64)) (next c) s
-    (lead_is 224 (Within 1 160 191) (224 + c / 4096) (omega arith) row_e0) (omega arith)
-    (omega arith) (next_low c) (next_high c) w)
+    (λ k. first_of_three (224 + c / 4096) 160 191 (c / 64) c s
+    (row_e0 (224 + c / 4096) (omega arith) (omega arith)) (omega arith) (omega arith) w)
     (⊎_elim
-    (λ k. first_of_three (224 + c / 4096) 128 191 (next (c / 64)) (next c) s
-    (row_low (224 + c / 4096) (omega arith) (omega arith)) (omega arith) (omega arith)
-    (next_low c) (next_high c) w)
+    (λ k. first_of_three (224 + c / 4096) 128 191 (c / 64) c s
+    (row_low (224 + c / 4096) (omega arith) (omega arith)) (omega arith) (omega arith) w)
     (⊎_elim
-    (λ k. first_of_three (224 + c / 4096) 128 159 (next (c / 64)) (next c) s
-    (lead_is 237 (Within 1 128 159) (224 + c / 4096) (omega arith) row_ed) (omega arith)
-    (omega arith) (next_low c) (next_high c) w)
-    (λ k. first_of_three (224 + c / 4096) 128 191 (next (c / 64)) (next c) s
-    (row_high (224 + c / 4096) (omega arith) (omega arith)) (omega arith) (omega arith)
-    (next_low c) (next_high c) w)))
+    (λ k. first_of_three (224 + c / 4096) 128 159 (c / 64) c s
+    (row_ed (224 + c / 4096) (omega arith) (omega arith)) (omega arith) (omega arith) w)
+    (λ k. first_of_three (224 + c / 4096) 128 191 (c / 64) c s
+    (row_high (224 + c / 4096) (omega arith) (omega arith)) (omega arith) (omega arith) w)))
     (split3 c e)
 
 four_from : (c : ℕ) (s : List ℕ) → 65536 ≤ c → scalar c ≡ true → WellFormed Start s
     → WellFormed Start ((240 + c / 262144) ∷ next (c / 4096) ∷ next (c / 64) ∷ next c ∷ s)
 unfolding Split4
 four_from c s l e w = ⊎_elim
-    (λ k. first_of_four (240 + c / 262144) 144 191 (next (c / 4096)) (next (c / 64)) (next c) s
-    (lead_is 240 (Within 2 144 191) (240 + c / 262144) (omega arith) row_f0) (omega arith)
-    (omega arith) (next_low (c / 64)) (next_high (c / 64)) (next_low c) (next_high c) w)
+    (λ k. first_of_four (240 + c / 262144) 144 191 (c / 4096) (c / 64) c s
+    (row_f0 (240 + c / 262144) (omega arith) (omega arith)) (omega arith) (omega arith) w)
     (⊎_elim
-    (λ k. first_of_four (240 + c / 262144) 128 191 (next (c / 4096)) (next (c / 64)) (next c) s
-    (row_f1 (240 + c / 262144) (omega arith) (omega arith)) (omega arith) (omega arith)
-    (next_low (c / 64)) (next_high (c / 64)) (next_low c) (next_high c) w)
-    (λ k. first_of_four (240 + c / 262144) 128 143 (next (c / 4096)) (next (c / 64)) (next c) s
-    (lead_is 244 (Within 2 128 143) (240 + c / 262144) (omega arith) row_f4) (omega arith)
-    (omega arith) (next_low (c / 64)) (next_high (c / 64)) (next_low c) (next_high c) w))
+    (λ k. first_of_four (240 + c / 262144) 128 191 (c / 4096) (c / 64) c s
+    (row_f1 (240 + c / 262144) (omega arith) (omega arith)) (omega arith) (omega arith) w)
+    (λ k. first_of_four (240 + c / 262144) 128 143 (c / 4096) (c / 64) c s
+    (row_f4 (240 + c / 262144) (omega arith) (omega arith)) (omega arith) (omega arith) w))
     (split4 c l e)
 
 char_from : (c : ℕ) (s : List ℕ) → scalar c ≡ true → WellFormed Start s
@@ -171,7 +160,7 @@ char_from c s e w = ⊎_elim
     (⊎_elim (λ k. of _ (encode_two c k.0 k.1) (
       Within 0 128 191,
       row_two (192 + c / 64) (omega arith) (omega arith),
-      next_byte 0 128 191 (next c) s (next_low c) (next_high c) w,
+      next_byte 0 128 191 (next c) s (omega arith) (omega arith) w,
     ))
     (⊎_elim (λ k. of _ (encode_three c k.0 k.1) (three_from c s k.0 k.1 e w))
     (λ k. of _ (encode_four c k) (four_from c s k e w))))
@@ -180,28 +169,32 @@ char_from c s e w = ⊎_elim
     of : (t : List ℕ) → encode c ≡ t → WellFormed Start (t ++ s) → WellFormed Start (encode c ++ s)
     of t i h = subst (λ y. WellFormed Start (y ++ s)) (sym i) h
 
-and_both : (x y : Bool) → (x && y) ≡ true → (x ≡ true) × (y ≡ true)
-and_both true y e = (refl, e)
-and_both false y e = absurd cc
-
 chars_from : (cs : List ℕ) → scalars cs ≡ true → WellFormed Start (encodes cs)
 chars_from [] e = tt
-chars_from (c ∷ cs) e = let k = and_both (scalar c) (scalars cs) e in
+chars_from (c ∷ cs) e = let k = and_parts (scalar c) (scalars cs) e in
     char_from c (encodes cs) k.0 (chars_from cs k.1)
 
 -- what std calls UTF-8 is in the table
 pub from_utf8 : (s : List ℕ) → IsUtf8 s → WellFormed Start s
 from_utf8 s (cs, (e, i)) = subst (WellFormed Start) i (chars_from cs e)
 
--- what the table says of a first byte
+-- what the table says of a first byte of three, and of one of four
+abbrev Three : ℕ → ℕ → ℕ → Type 0
+Three b low high =
+    (224 ≤ b) × (b ≤ 239) × (128 ≤ low) × (high ≤ 191) × (b ≡ 224 → 160 ≤ low)
+    × (b ≡ 237 → high ≤ 159)
+
+abbrev Four : ℕ → ℕ → ℕ → Type 0
+Four b low high =
+    (240 ≤ b) × (b ≤ 244) × (128 ≤ low) × (high ≤ 191) × (b ≡ 240 → 144 ≤ low)
+    × (b ≡ 244 → high ≤ 143)
+
 Shape : ℕ → Utf8 → Type 0
-Shape b y = ((b ≤ 127)
-    × (y ≡ Start)) ⊎ (((194 ≤ b) × (b ≤ 223)
-    × (y ≡ Within 0 128 191)) ⊎ (((low high : ℕ) × (y ≡ Within 1 low high) × (224 ≤ b) × (b ≤ 239)
-    × (128 ≤ low) × (high ≤ 191) × (b ≡ 224 → 160 ≤ low)
-    × (b ≡ 237 → high ≤ 159)) ⊎ ((low high : ℕ) × (y ≡ Within 2 low high) × (240 ≤ b)
-    × (b ≤ 244) × (128 ≤ low) × (high ≤ 191) × (b ≡ 240 → 144 ≤ low)
-    × (b ≡ 244 → high ≤ 143))))
+Shape b y =
+    ((b ≤ 127) × (y ≡ Start))
+    ⊎ (((194 ≤ b) × (b ≤ 223) × (y ≡ Within 0 128 191))
+    ⊎ (((low high : ℕ) × (y ≡ Within 1 low high) × Three b low high)
+    ⊎ ((low high : ℕ) × (y ≡ Within 2 low high) × Four b low high)))
 
 shapes : EachRow Shape rows
 unfolding Shape
@@ -210,91 +203,18 @@ shapes = (
   (
     (λ b l h. inr (inl (l, h, refl))),
     (
-      (λ b l h. inr (inr (inl (
-        160,
-        191,
-        refl,
-        omega arith,
-        omega arith,
-        omega arith,
-        omega arith,
-        (λ e. omega arith),
-        λ e. omega arith,
-      )))),
+      (λ b l h. inr (inr (inl (160, 191, refl, omega arith)))),
       (
-        (λ b l h. inr (inr (inl (
-          128,
-          191,
-          refl,
-          omega arith,
-          omega arith,
-          omega arith,
-          omega arith,
-          (λ e. omega arith),
-          λ e. omega arith,
-        )))),
+        (λ b l h. inr (inr (inl (128, 191, refl, omega arith)))),
         (
-          (λ b l h. inr (inr (inl (
-            128,
-            159,
-            refl,
-            omega arith,
-            omega arith,
-            omega arith,
-            omega arith,
-            (λ e. omega arith),
-            λ e. omega arith,
-          )))),
+          (λ b l h. inr (inr (inl (128, 159, refl, omega arith)))),
           (
-            (λ b l h. inr (inr (inl (
-              128,
-              191,
-              refl,
-              omega arith,
-              omega arith,
-              omega arith,
-              omega arith,
-              (λ e. omega arith),
-              λ e. omega arith,
-            )))),
+            (λ b l h. inr (inr (inl (128, 191, refl, omega arith)))),
             (
-              (λ b l h. inr (inr (inr (
-                144,
-                191,
-                refl,
-                omega arith,
-                omega arith,
-                omega arith,
-                omega arith,
-                (λ e. omega arith),
-                λ e. omega arith,
-              )))),
+              (λ b l h. inr (inr (inr (144, 191, refl, omega arith)))),
               (
-                (λ b l h. inr (inr (inr (
-                  128,
-                  191,
-                  refl,
-                  omega arith,
-                  omega arith,
-                  omega arith,
-                  omega arith,
-                  (λ e. omega arith),
-                  λ e. omega arith,
-                )))),
-                (
-                  (λ b l h. inr (inr (inr (
-                    128,
-                    143,
-                    refl,
-                    omega arith,
-                    omega arith,
-                    omega arith,
-                    omega arith,
-                    (λ e. omega arith),
-                    λ e. omega arith,
-                  )))),
-                  tt,
-                ),
+                (λ b l h. inr (inr (inr (128, 191, refl, omega arith)))),
+                ((λ b l h. inr (inr (inr (128, 143, refl, omega arith)))), tt),
               ),
             ),
           ),
@@ -363,7 +283,7 @@ of_four b c d f l h l' h' l2 h2 l3 h3 low high =
     )
 
 shorter : (t s : List ℕ) (n : ℕ) → length (t ++ s) ≤ suc n → 1 ≤ length t → length s ≤ n
-shorter t s n h k = let e = length-append t s in omega arith
+shorter t s n h k = omega (arith, length-append t s)
 
 -- the byte is in its range, and well-formed text follows
 after_one : (low high c : ℕ) (s : List ℕ) (n : ℕ) → WellFormed (Within n low high) (c ∷ s)
@@ -392,33 +312,30 @@ by_length (suc n) (b ∷ s) h (
         let x = of_two b c l u k.0 k.1 in
         more_chars x.0 (b ∷ c ∷ []) s x.1 x.2 (rec s (shorter (b ∷ c ∷ []) s n h (omega arith)) k.2)
 
-    three : (s : List ℕ) (low high : ℕ) → length (b ∷ s) ≤ suc n → 224 ≤ b → b ≤ 239 → 128 ≤ low
-        → high ≤ 191 → (b ≡ 224 → 160 ≤ low) → (b ≡ 237 → high ≤ 159)
+    three : (s : List ℕ) (low high : ℕ) → length (b ∷ s) ≤ suc n → Three b low high
         → WellFormed (Within 1 low high) s → Rec → IsUtf8 (b ∷ s)
-    three [] low high h l u l' u' lo hi w rec = absurd w
-    three (c ∷ []) low high h l u l' u' lo hi w rec = absurd ((after_one low high c [] 1 w).2)
-    three (c ∷ d ∷ s) low high h l u l' u' lo hi w rec =
+    three [] low high h t w rec = absurd w
+    three (c ∷ []) low high h t w rec = absurd ((after_one low high c [] 1 w).2)
+    three (c ∷ d ∷ s) low high h t w rec =
         let k = after_one low high c (d ∷ s) 1 w in
         let j = after_one 128 191 d s 0 k.2 in
-        let x = of_three b c d l u (omega arith) (omega arith) j.0 j.1 (λ e. let a = lo e in
-        omega arith) (λ e. let a = hi e in omega arith) in
+        let x = of_three b c d t.0 t.1 (omega arith) (omega arith) j.0 j.1
+        (λ e. omega (arith, t.4 e)) (λ e. omega (arith, t.5 e)) in
         more_chars x.0 (b ∷ c ∷ d ∷ []) s x.1 x.2
         (rec s (shorter (b ∷ c ∷ d ∷ []) s n h (omega arith)) j.2)
 
-    four : (s : List ℕ) (low high : ℕ) → length (b ∷ s) ≤ suc n → 240 ≤ b → b ≤ 244 → 128 ≤ low
-        → high ≤ 191 → (b ≡ 240 → 144 ≤ low) → (b ≡ 244 → high ≤ 143)
+    four : (s : List ℕ) (low high : ℕ) → length (b ∷ s) ≤ suc n → Four b low high
         → WellFormed (Within 2 low high) s → Rec → IsUtf8 (b ∷ s)
-    four [] low high h l u l' u' lo hi w rec = absurd w
-    four (c ∷ []) low high h l u l' u' lo hi w rec = absurd ((after_one low high c [] 2 w).2)
-    four (c ∷ d ∷ []) low high h l u l' u' lo hi w rec = absurd
+    four [] low high h t w rec = absurd w
+    four (c ∷ []) low high h t w rec = absurd ((after_one low high c [] 2 w).2)
+    four (c ∷ d ∷ []) low high h t w rec = absurd
         ((after_one 128 191 d [] 1 (after_one low high c (d ∷ []) 2 w).2).2)
-    four (c ∷ d ∷ f ∷ s) low high h l u l' u' lo hi w rec =
+    four (c ∷ d ∷ f ∷ s) low high h t w rec =
         let k = after_one low high c (d ∷ f ∷ s) 2 w in
         let j = after_one 128 191 d (f ∷ s) 1 k.2 in
         let i = after_one 128 191 f s 0 j.2 in
-        let x =
-        of_four b c d f l u (omega arith) (omega arith) j.0 j.1 i.0 i.1 (λ e. let a = lo e in
-        omega arith) (λ e. let a = hi e in omega arith) in
+        let x = of_four b c d f t.0 t.1 (omega arith) (omega arith) j.0 j.1 i.0 i.1
+        (λ e. omega (arith, t.4 e)) (λ e. omega (arith, t.5 e)) in
         more_chars x.0 (b ∷ c ∷ d ∷ f ∷ []) s x.1 x.2
         (rec s (shorter (b ∷ c ∷ d ∷ f ∷ []) s n h (omega arith)) i.2)
 
@@ -427,9 +344,8 @@ by_length (suc n) (b ∷ s) h (
         (λ k. more_chars b (b ∷ []) s (small_scalar b (omega arith)) (encode_one b (omega arith))
         (rec s (shorter (b ∷ []) s n h (omega arith)) (subst (λ z. WellFormed z s) k.1 w)))
         (⊎_elim (λ k. two s h k.0 k.1 (subst (λ z. WellFormed z s) k.2 w) rec)
-        (⊎_elim
-        (λ k. three s k.0 k.1 h k.3 k.4 k.5 k.6 k.7 k.8 (subst (λ z. WellFormed z s) k.2 w) rec)
-        (λ k. four s k.0 k.1 h k.3 k.4 k.5 k.6 k.7 k.8 (subst (λ z. WellFormed z s) k.2 w) rec)))
+        (⊎_elim (λ k. three s k.0 k.1 h k.3 (subst (λ z. WellFormed z s) k.2 w) rec)
+        (λ k. four s k.0 k.1 h k.3 (subst (λ z. WellFormed z s) k.2 w) rec)))
 
 -- what is in the table is std's UTF-8
 pub to_utf8 : (s : List ℕ) → WellFormed Start s → IsUtf8 s

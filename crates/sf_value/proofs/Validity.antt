@@ -1,8 +1,9 @@
 -- What a text spells is valid.
 use Rattle.std.proofs.Common.{◌≡◌, ℕ, zero, suc, ◌+◌, ◌-◌, ◌*◌, ◌^◌, ◌<◌, ◌≤◌, ℤ, nat_abs, Bool}
 use Rattle.std.proofs.Common.{true, false, if◌then◌else◌, List, [], ◌∷◌, length, refl, sym, ap, ◌∙◌}
-use Rattle.std.proofs.Common.{subst, inl, inr, ⊎_elim, arith, mul-le-mul_right, ◌⊎◌}
+use Rattle.std.proofs.Common.{subst, inl, inr, arith, mul-le-mul_right}
 use Rattle.std.proofs.Math.Nat.{pow-le-pow_right}
+use Rattle.std.proofs.lemmas.Bool.{cond_both}
 use Rattle.std.specs.Str.{bytes_eq}
 use Rattle.sf_value.specs.declared.value.Member.TheVariants as member
 use Rattle.sf_value.specs.declared.value.Field.TheVariants as field
@@ -53,30 +54,18 @@ digits_bound w k h l =
     let p : 10 ^ length w ≤ 10 ^ k = pow-le-pow_right (omega arith) l in
     omega arith
 
-signed_abs : (neg : Bool) (n : ℕ) → nat_abs (signed neg n) ≡ n
-signed_abs false n = refl
-signed_abs true zero = refl
-signed_abs true (suc n) = refl
+pub signed_abs : (neg : Bool) (n : ℕ) → nat_abs (signed neg n) ≡ n
+signed_abs neg n = grind arith
 
 integer_valid : (n : ℤ) (t : List ℕ) → SpellsInteger t n → nat_abs n < 10 ^ 15
 integer_valid n t (neg, w, e, d, i) = subst (λ y. y < 10 ^ 15) (sym (ap nat_abs i
     ∙ signed_abs neg (value_from 0 w))) (digits_bound w 15 d.each (let f = d.fits in omega arith))
 
 pub scaled_bound : (v k : ℕ) → 1 ≤ k → k ≤ 3 → v < 10 ^ k → v * 10 ^ (3 - k) < 1000
-scaled_bound v k l h e = all k l h e
-  where
-    three : (k : ℕ) → 1 ≤ k → k ≤ 3 → (1 ≡ k) ⊎ ((2 ≡ k) ⊎ (3 ≡ k))
-    three k l h = grind arith
-
-    lit : (v : ℕ)
-        → (v < 10 ^ 1 → v * 10 ^ (3 - 1) < 1000) × (v < 10 ^ 2 → v * 10 ^ (3 - 2) < 1000)
-        × (v < 10 ^ 3 → v * 10 ^ (3 - 3) < 1000)
-    lit v = (λ h. omega arith, λ h. omega arith, λ h. omega arith)
-
-    all : (g : ℕ) → 1 ≤ g → g ≤ 3 → v < 10 ^ g → v * 10 ^ (3 - g) < 1000
-    all g l h e = ⊎_elim (λ i. subst (λ y. v < 10 ^ y → v * 10 ^ (3 - y) < 1000) i (lit v).0 e)
-        (⊎_elim (λ i. subst (λ y. v < 10 ^ y → v * 10 ^ (3 - y) < 1000) i (lit v).1 e)
-        (λ i. subst (λ y. v < 10 ^ y → v * 10 ^ (3 - y) < 1000) i (lit v).2 e)) (three g l h)
+scaled_bound v (suc zero) l h e = omega arith
+scaled_bound v (suc (suc zero)) l h e = omega arith
+scaled_bound v (suc (suc (suc zero))) l h e = omega arith
+scaled_bound v k l h e = absurd (omega arith)
 
 decimal_valid : (m : ℤ) (t : List ℕ) → SpellsDecimal t m → nat_abs m < 10 ^ 15
 decimal_valid m t (neg, w, f, e, d, d', i) =
@@ -103,12 +92,9 @@ module _ {V : Type 0} (P : List ℕ → Type 0) (Q : V → Type 0) where
 
   latest_valid : (k : List ℕ) (v : V) (ps : Pairs V) → Q v → Hold ps → Q (latest k v ps)
   latest_valid k v [] q h = q
-  latest_valid k v (p ∷ ps) q h = latest_valid k (if bytes_eq k p.0 then p.1 else v) ps
-      (chosen (bytes_eq k p.0) p.1 v h.0.1 q) h.1
-    where
-      chosen : (b : Bool) (x y : V) → Q x → Q y → Q (if b then x else y)
-      chosen true x y g k = g
-      chosen false x y g k = k
+  latest_valid k v (p ∷ ps) q h =
+      latest_valid k (if bytes_eq k p.0 then p.1 else v) ps
+      (cond_both (bytes_eq k p.0) p.1 v Q (λ _. h.0.1) (λ _. q)) h.1
 
   without_valid : (k : List ℕ) (ps : Pairs V) → Hold ps → Hold (without k ps)
   without_valid k [] h = tt
@@ -210,17 +196,12 @@ module _ (d : Dialect) where
   pub spelled_valid : (kind : Kind) (v : Field) (t : List ℕ) → SpellsField d kind t v
       → Valid d kind v
   spelled_valid kind.Item (field.Item i) t (gap, body, tail, e, f, s, w) = item_valid i body s
-  spelled_valid kind.Item (field.List l) t h = elim h [ ]
-  spelled_valid kind.Item (field.Dict m) t h = elim h [ ]
-  spelled_valid kind.List (field.Item i) t h = elim h [ ]
   spelled_valid kind.List (field.List l) t h =
       whole_valid (SpellsMember d) (ValidMember d) member_valid l.members t h
-  spelled_valid kind.List (field.Dict m) t h = elim h [ ]
-  spelled_valid kind.Dict (field.Item i) t h = elim h [ ]
-  spelled_valid kind.Dict (field.List l) t h = elim h [ ]
   spelled_valid kind.Dict (field.Dict m) t (raw, e, h) =
       subst (ValidEntries d) (sym e) (
         settle_valid IsKey (ValidMember d) raw
             (whole_valid (SpellsEntry d) (λ p. IsKey p.0 × ValidMember d p.1) entry_valid raw t h),
         distinct-settle raw,
       )
+  spelled_valid kind v t h = elim h [ ]

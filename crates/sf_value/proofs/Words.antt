@@ -51,6 +51,12 @@ pub word_push : (p q : ℕ → Bool) (bs : List ℕ) (b : ℕ) → IsWord p q bs
 word_push p q [] b h e = absurd h
 word_push p q (c ∷ bs) b h e = (h.0, every_push q bs b h.1 e)
 
+-- what each byte passes if it passes another test
+pub every_map : (p q : ℕ → Bool) → ((b : ℕ) → p b ≡ true → q b ≡ true) → (bs : List ℕ) → Every p bs
+    → Every q bs
+every_map p q f [] h = tt
+every_map p q f (b ∷ bs) h = (f b h.0, every_map p q f bs h.1)
+
 -- what a test, and a choice, gave
 pub allow_cases : {S : Type 0} (c : Bool) (s t : S) → allow c s ≡ Some t → (c ≡ true) × (t ≡ s)
 allow_cases true s t e = (refl, cc)

@@ -11,7 +11,6 @@ use Rattle.sf_value.specs.declared.value.Member.{Member}
 use Rattle.sf_value.specs.Grammar.Pairs.{Pairs, HasDistinctKeys, settle, value_at}
 use Rattle.sf_value.specs.Grammar.Tokens.{IsKey}
 use Rattle.sf_value.specs.Grammar.Valid.{ValidBare, ValidItem, ValidMember}
-use Rattle.sf_value.specs.Grammar.Words.{Each}
 use Rattle.sf_value.proofs.EntryMaps.{IsAbsent, IsAbsent-before, insert_entry-absent, settle-push}
 use Rattle.sf_value.proofs.EntryMaps.{AreEntries-none}
 use Rattle.sf_value.proofs.Settling.{distinct-settle}
@@ -203,11 +202,6 @@ pub items_parts : (d : Dialect) (source : List ℕ) (ns : List Node) (is : List 
     → DescribesItems d source ns is → Parts (InnerItem d source) ns is
 items_parts d source ns [] e = e
 items_parts d source ns (i ∷ is) (f, b, e, t, r) = (f, b, e, t, items_parts d source b is r)
-
-pub parts_items : (d : Dialect) (source : List ℕ) (ns : List Node) (is : List Item)
-    → Parts (InnerItem d source) ns is → DescribesItems d source ns is
-parts_items d source ns [] e = e
-parts_items d source ns (i ∷ is) (f, b, e, t, r) = (f, b, e, t, parts_items d source b is r)
 
 -- parameters of an Inner List begin with no Item's node
 pub params_role : (d : Dialect) (source : List ℕ) (n : Node) (tail more : List Node)

@@ -1,5 +1,5 @@
 -- Parts are copied one after another.
-use Rattle.std.proofs.Common.{◌≡◌, ℕ, List, [], ◌∷◌, ◌++◌, refl, sym, ap, ◌∙◌, append-nil}
+use Rattle.std.proofs.Common.{◌≡◌, ℕ, List, [], ◌∷◌, ◌++◌, sym, ap, ◌∙◌}
 use Rattle.std.proofs.Common.{append_assoc, subst, Option, Some, None}
 use Rattle.sf_value.specs.declared.dialect.Dialect.{Dialect}
 use Rattle.sf_value.specs.declared.value.Field.{Field}
@@ -58,97 +58,55 @@ module _ {X : Type 0} (P : List Node → X → Type 0) (T : List Node → List X
       let each = subst (Each E) h.parts l.each in
       stuck h.value h.first each.0
 
-pub parts_begin : {X : Type 0} (T : List Node → List X → Type 0) (E : X → Type 0)
-    (nodes : List Node) (xs : List X) → T nodes xs → Each E xs → PartsLeft T E nodes [] xs
-parts_begin T E nodes xs t e = record { left = xs; describes = t; each = e; same = refl }
-
-pub parts_done : {X : Type 0} (T : List Node → List X → Type 0) (E : X → Type 0)
-    (nodes : List Node) (all xs : List X) → PartsLeft T E nodes all xs
-    → ((ys : List X) → T nodes ys → ys ≡ []) → all ≡ xs
-parts_done T E nodes all xs l none =
-    sym (append-nil all) ∙ ap (λ y. all ++ y) (sym (none l.left l.describes)) ∙ l.same
-
 -- the same of parts with keys, of which a later one takes the place of one with its key
-pub record PairsLeft {X : Type 0} (T : List Node → Pairs X → Type 0) (E : List ℕ × X → Type 0)
-    (nodes : List Node) (all ps : Pairs X) : Type 0 where
+pub record PairsLeft {X : Type 0} (T : List ℕ → List Node → Pairs X → Type 0)
+    (E : List ℕ × X → Type 0) (view : View) (all ps : Pairs X) : Type 0 where
   pub left : Pairs X
-  pub describes : T nodes left
+  pub describes : T view.text.now view.nodes.now left
   pub each : Each E left
   pub same : settle (all ++ left) ≡ settle ps
 
-module _ {X : Type 0} (P : List Node → List ℕ × X → Type 0) (T : List Node → Pairs X → Type 0)
-    (E : List ℕ × X → Type 0) where
-  pub pairs_more : (nodes prefix later : List Node) (all more ps : Pairs X) (key : List ℕ)
-      (value : X) → PairsLeft T E nodes all ps
-      → ((qs : Pairs X) → T nodes qs → SplitsOff P T qs prefix later)
-      → ((q : List ℕ × X) → P prefix q → E q → (key, value) ≡ q)
-      → more ≡ settle (all ++ (key, value) ∷ []) → PairsLeft T E later more ps
-  pairs_more nodes prefix later all more ps key value l splits copy e =
+module _ {X : Type 0} (P : List ℕ → List Node → List ℕ × X → Type 0)
+    (T : List ℕ → List Node → Pairs X → Type 0) (E : List ℕ × X → Type 0)
+    (view part others : View) (all ps : Pairs X) (l : PairsLeft T E view all ps)
+    (text : (part.text.now ≡ view.text.now) × (others.text.now ≡ view.text.now))
+    (splits : (qs : Pairs X) → T view.text.now view.nodes.now qs
+    → SplitsOff (P view.text.now) (T view.text.now) qs part.nodes.now others.nodes.now) where
+  pub pairs_more : (more : Pairs X) (key : List ℕ) (value : X)
+      → ((q : List ℕ × X) → P part.text.now part.nodes.now q → E q → (key, value) ≡ q)
+      → more ≡ settle (all ++ (key, value) ∷ []) → PairsLeft T E others more ps
+  pairs_more more key value copy e =
       let h = splits l.left l.describes in
       let each = subst (Each E) h.parts l.each in
       record {
         left = h.others;
-        describes = h.rest;
+        describes = rw text.1 h.rest;
         each = each.1;
         same =
             ap (λ y. settle (y ++ h.others)) e
             ∙ put_more all key value h.others
-            ∙ ap (λ y. settle (all ++ y ∷ h.others)) (copy h.value h.first each.0)
+            ∙ ap (λ y. settle (all ++ y ∷ h.others))
+            (copy h.value (rw text.0 h.first) each.0)
             ∙ ap (λ y. settle (all ++ y)) (sym h.parts)
             ∙ l.same;
       }
 
   -- a first part that has no copy
-  pub pairs_stuck : (nodes prefix later : List Node) (all ps : Pairs X)
-      → PairsLeft T E nodes all ps
-      → ((qs : Pairs X) → T nodes qs → SplitsOff P T qs prefix later)
-      → ((q : List ℕ × X) → P prefix q → E q → ⊥) → ⊥
-  pairs_stuck nodes prefix later all ps l splits stuck =
+  pub pairs_stuck : ((q : List ℕ × X) → P part.text.now part.nodes.now q → E q → ⊥) → ⊥
+  pairs_stuck stuck =
       let h = splits l.left l.describes in
       let each = subst (Each E) h.parts l.each in
-      stuck h.value h.first each.0
-
-pub pairs_begin : {X : Type 0} (T : List Node → Pairs X → Type 0) (E : List ℕ × X → Type 0)
-    (nodes : List Node) (ps : Pairs X) → T nodes ps → Each E ps → PairsLeft T E nodes [] ps
-pairs_begin T E nodes ps t e = record { left = ps; describes = t; each = e; same = refl }
-
-pub pairs_done : {X : Type 0} (T : List Node → Pairs X → Type 0) (E : List ℕ × X → Type 0)
-    (nodes : List Node) (all ps : Pairs X) → PairsLeft T E nodes all ps
-    → ((qs : Pairs X) → T nodes qs → qs ≡ []) → settle all ≡ all → all ≡ settle ps
-pairs_done T E nodes all ps l none settled =
-    sym settled
-    ∙ ap settle (sym (append-nil all))
-    ∙ ap (λ y. settle (all ++ y)) (sym (none l.left l.describes))
-    ∙ l.same
+      stuck h.value (rw text.0 h.first) each.0
 
 pub settled_more : {X : Type 0} (all more : Pairs X) (key : List ℕ) (value : X)
     → more ≡ settle (all ++ (key, value) ∷ []) → settle more ≡ more
 settled_more all more key value e =
     ap settle e ∙ put_settled all key value ∙ sym e
 
--- what holds of each if it holds of all
-pub each_if : {X : Type 0} (K : Type 0) (V : X → Type 0) (xs : List X) → (K → Each V xs)
-    → Each (λ x. K → V x) xs
-each_if K V [] f = tt
-each_if K V (x ∷ xs) f = (λ k. (f k).0, each_if K V xs (λ k. (f k).1))
-
-pub each_both : {X : Type 0} (K : Type 0) (W V : X → Type 0) (xs : List X) → Each W xs
-    → (K → Each V xs) → Each (λ x. W x × (K → V x)) xs
-each_both K W V [] w f = tt
-each_both K W V (x ∷ xs) w f = ((w.0, λ k. (f k).0), each_both K W V xs w.1 (λ k. (f k).1))
-
--- a copy that is there, and one that is not
-pub copied : {X : Type 0} (V : Type 0) (x y : X) (o : Option X) → IsCopy V x o → o ≡ Some y → y ≡ x
-copied V x y o h e = let s = subst (IsCopy V x) e h in s
-
-pub uncopied : {X : Type 0} (V : Type 0) (x : X) (o : Option X) → IsCopy V x o → o ≡ None → V → ⊥
-uncopied V x o h e = let s = subst (IsCopy V x) e h in s
-
-pub some_is : {X : Type 0} (x y : X) (o : Option X) → o ≡ Some x → o ≡ Some y → y ≡ x
-some_is x y o e f = let g : Some y ≡ Some x = sym f ∙ e in cc
-
-pub none_is : {X : Type 0} (x : X) (o : Option X) → o ≡ Some x → o ≡ None → ⊥
-none_is x o e f = let g : None ≡ Some x = sym f ∙ e in absurd cc
+-- a copy of a valid value
+pub copy_is : {X : Type 0} (V : Type 0) (x : X) (o : Option X) → IsCopy V x o → V → o ≡ Some x
+copy_is V x None h v = absurd (h v)
+copy_is V x (Some y) h v = ap Some h
 
 -- no key is repeated in valid Items
 pub items_distinct : (d : Dialect) (is : List Item) → Each (ValidItem d) is

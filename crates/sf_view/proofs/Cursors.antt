@@ -1,5 +1,5 @@
 -- Members that are read one after another.
-use Rattle.std.proofs.Common.{◌≡◌, ℕ, ◌<◌, ◌≤◌, Bool, List, [], ◌∷◌, ◌++◌, Option, Some, None}
+use Rattle.std.proofs.Common.{◌≡◌, ℕ, ◌<◌, Bool, List, [], ◌∷◌, ◌++◌, Option, Some, None}
 use Rattle.std.proofs.Common.{refl, sym, ap, ◌∙◌, subst, append_assoc, append-nil, length}
 use Rattle.std.proofs.Common.{length-append, arith}
 use Rattle.sf_value.specs.declared.dialect.Dialect.{Dialect}
@@ -42,14 +42,6 @@ pub less_left : (text prefix after : List ℕ) (start : Option (List ℕ)) → t
 less_left text prefix after None e n = omega arith
 less_left text prefix after (Some rest) e n =
     let a = ap length e ∙ length-append prefix after in
-    let b = ap length n.split ∙ length-append n.before (44 ∷ (n.behind ++ rest)) in
-    let c = length-append n.behind rest in
-    omega arith
-
-pub left_after : (after : List ℕ) (start : Option (List ℕ)) → IsNext after start
-    → left_in start ≤ length after
-left_after after None n = omega arith
-left_after after (Some rest) n =
     let b = ap length n.split ∙ length-append n.before (44 ∷ (n.behind ++ rest)) in
     let c = length-append n.behind rest in
     omega arith

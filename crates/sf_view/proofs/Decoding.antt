@@ -1,6 +1,6 @@
 -- Bytes are decoded.
-use Rattle.std.proofs.Common.{◌≡◌, ◌≢◌, ℕ, ◌+◌, ◌*◌, ◌/◌, ◌%◌, ◌≤◌, ◌<◌, Bool, true, false, List, []}
-use Rattle.std.proofs.Common.{length, append_assoc, append-nil, length-append}
+use Rattle.std.proofs.Common.{◌≡◌, ◌≢◌, ℕ, ◌+◌, ◌*◌, ◌/◌, ◌%◌, ◌<◌, Bool, true, false, List, []}
+use Rattle.std.proofs.Common.{append_assoc}
 use Rattle.std.proofs.Common.{◌∷◌, ◌++◌, refl, sym, ap, ◌∙◌, subst, arith, inl, inr, ◌⊎◌}
 use Rattle.sf_value.specs.Ascii.{quote, backslash, percent}
 use Rattle.sf_value.specs.Grammar.Words.{Every}
@@ -184,19 +184,16 @@ behind_second low (b ∷ c ∷ s) =
 by_first : (low a : ℕ) (s : List ℕ) → unpadded low (a ∷ s)
     ≡ letter (a / 4) ∷ letter (a % 4 * 16 + second_high low s) ∷ behind_second low s
 unfolding second_high behind_second
-by_first low a [] = refl
-by_first low a (b ∷ []) = refl
 by_first low a (b ∷ c ∷ s) = refl
+by_first low a s = refl
 
 same_spare : (a b : ℕ) (s : List ℕ) → spare (a ∷ s) ≡ spare (b ∷ s)
-same_spare a b [] = refl
-same_spare a b (c ∷ []) = refl
 same_spare a b (c ∷ d ∷ s) = refl
+same_spare a b s = refl
 
 same_needed : (a b : ℕ) (s : List ℕ) → needed (a ∷ s) ≡ needed (b ∷ s)
-same_needed a b [] = refl
-same_needed a b (c ∷ []) = refl
 same_needed a b (c ∷ d ∷ s) = refl
+same_needed a b s = refl
 
 high_small : (low a : ℕ) (s : List ℕ) → low < spare (a ∷ s) → Every is_byte s
     → second_high low s < 16
@@ -349,41 +346,6 @@ first_none text (a ∷ s) n (low, suffix, lt, h, f, p) =
     let n' = subst NoLetter (h ∙ ap (λ z. z ++ suffix) (by_first low a s)) n in
     absurd (n' (a / 4) (first_small a (byte_small a f.0)) refl)
 
-pub next_none : (text more s : List ℕ) (x : ℕ) → text ≡ letter x ∷ more → NoLetter more
-    → Remains coding.First text s → s ≡ []
-next_none text more [] x e n h = refl
-next_none text more (a ∷ s) x e n (low, suffix, lt, h, f, p) =
-    let high = second_high low s in
-    let small = high_small low a s lt f.1 in
-    let whole : letter x ∷ more
-    ≡ letter (a / 4) ∷ letter (a % 4 * 16 + high) ∷ (behind_second low s ++ suffix) =
-    sym e ∙ h ∙ ap (λ z. z ++ suffix) (by_first low a s) in
-    let one = heads_same _ _ _ _ whole in
-    let n' = subst NoLetter one.1 n in
-    absurd (n' (a % 4 * 16 + high) (omega arith) refl)
-
-pub second_none : (text s : List ℕ) (high : ℕ) → NoLetter text
-    → Remains (coding.Second high) text s → s ≡ []
-second_none text [] high n h = refl
-second_none text (b ∷ s) high n (small, (low, suffix, lt, h, f, p)) =
-    let more = third_high low s in
-    let less = third_small low 0 b s lt f.1.1 in
-    let whole = h ∙ ap (λ t. t ++ suffix) (by_second low 0 b s) in
-    let one = heads_same _ _ _ _ whole in
-    let two = heads_same _ _ _ _ one.1 in
-    let n' = subst NoLetter two.1 n in
-    absurd (n' (b % 16 * 4 + more) (omega arith) refl)
-
-pub third_none : (text s : List ℕ) (high : ℕ) → NoLetter text
-    → Remains (coding.Third high) text s → s ≡ []
-third_none text [] high n h = refl
-third_none text (c ∷ s) high n (small, (low, suffix, lt, h, f, p)) =
-    let one = heads_same _ _ _ _ h in
-    let two = heads_same _ _ _ _ one.1 in
-    let three = heads_same _ _ _ _ two.1 in
-    let n' = subst NoLetter three.1 n in
-    absurd (n' (c % 64) (omega arith) refl)
-
 -- so many bytes were decoded, and the rest spells those after them
 pub record Decoded (code : Coding) (rest done t : List ℕ) : Type 0 where
   pub left : List ℕ
@@ -404,17 +366,3 @@ decoded_more code next rest later done done' t b takes e d =
           ∙ ap (λ y. y ++ h.left) (sym e);
       remains = h.remains;
     }
-
-pub decoded_all : (code : Coding) (rest done t : List ℕ)
-    → ((s : List ℕ) → Remains code rest s → s ≡ []) → Decoded code rest done t → done ≡ t
-decoded_all code rest done t none d =
-    sym (d.split ∙ ap (λ y. done ++ y) (none d.left d.remains) ∙ append-nil done)
-
-pub decoded_long : (code next : Coding) (rest later done t : List ℕ) (b size : ℕ)
-    → ((s : List ℕ) → Remains code rest s → TakesByte b (Remains next later) s)
-    → size ≤ length done → Decoded code rest done t → size < length t
-decoded_long code next rest later done t b size takes e d =
-    let h = takes d.left d.remains in
-    let sizes = ap length (d.split ∙ ap (λ y. done ++ y) h.split) in
-    let all = length-append done (b ∷ h.left) in
-    omega arith

@@ -226,11 +226,6 @@ follows_resumes d kind text last rest r = record {
   viable = r.viable;
 }
 
-pub tail_within : (d : Dialect) (kind : Kind) (text tail : List ℕ) → Resumes d kind text tail
-    → length tail ≤ length text
-tail_within d kind text tail r =
-    omega (arith, ap length r.split, length-append r.before tail)
-
 -- a refusal of the tail is after its first member and comma
 after_member : (d : Dialect) (kind : Kind) (member rest : List ℕ) (place : ℕ) (found : Option ℕ)
     (expected : ℕ) (may_end : Bool) → Viable d kind member
@@ -277,17 +272,3 @@ pub err_parses : (d : Dialect) (kind : Kind) (t : List ℕ) (r : Result Field Re
 err_parses d kind t (Ok v) e i h = absurd cc
 err_parses d kind t (Err other) e i h =
     subst (λ e. Parses d kind t (Err e)) (let k : other ≡ e = cc in k) h
-
-syntax_of : (d : Dialect) (kind : Kind) (t : List ℕ) (place : ℕ) (found : Option ℕ)
-    (expected : ℕ) (may_end : Bool) → Parses d kind t (Err (Syntax place found expected may_end))
-    → IsSyntax d kind t place found expected may_end
-syntax_of d kind t place None expected may_end h = h.1
-syntax_of d kind t place (Some b) expected may_end h = h
-
--- a refusal is within the text
-pub place_within : (d : Dialect) (kind : Kind) (t : List ℕ) (place : ℕ) (found : Option ℕ)
-    (expected : ℕ) (may_end : Bool) → Parses d kind t (Err (Syntax place found expected may_end))
-    → place ≤ length t
-place_within d kind t place found expected may_end h =
-    let s = syntax_of d kind t place found expected may_end h in
-    s.is_place.within

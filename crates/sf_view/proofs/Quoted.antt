@@ -1,5 +1,5 @@
 -- Display Strings are scanned.
-use Rattle.std.proofs.Common.{◌≡◌, ℕ, pos, ◌+◌, ◌-◌, ◌*◌, ◌/◌, ◌%◌, ◌≤◌, true, List, [], ◌∷◌}
+use Rattle.std.proofs.Common.{◌≡◌, ℕ, pos, ◌+◌, ◌-◌, ◌/◌, ◌%◌, ◌≤◌, true, List, [], ◌∷◌}
 use Rattle.std.proofs.Common.{◌++◌, length, Option, Some, refl, sym, ap, ◌∙◌, subst, arith}
 use Rattle.std.proofs.Common.{append_assoc, append-nil, length-append, inl, inr}
 use Rattle.std.specs.Option.{option_map}
@@ -8,10 +8,7 @@ use Rattle.sf_value.specs.declared.value.Bare.TheVariants.{Shown}
 use Rattle.sf_value.specs.Grammar.Words.{Every}
 use Rattle.sf_value.specs.Grammar.Utf8.{Utf8, Start, Within, WellFormed, utf8_step}
 use Rattle.sf_value.specs.Grammar.DisplayStrings.{hex, is_unencoded, EncodedBytes}
-use Rattle.sf_value.specs.Digits.{unhex}
 use Rattle.sf_value.proofs.Utf8Table.{in_range}
-use Rattle.sf_value.proofs.DigitValues.{read_hex}
-use Rattle.sf_parse.proofs.Quads.{small_byte}
 use Rattle.sf_view.specs.declared.bare.Part.{Part}
 use Rattle.sf_view.specs.declared.node_types.NodeType.TheVariants as type_is
 use Rattle.sf_value.specs.declared.utf8.Utf8State.{Utf8State}
@@ -19,24 +16,6 @@ use Rattle.sf_view.specs.Scans.{ScansBare}
 use Rattle.sf_value.specs.Utf8States.{utf8_of}
 use Rattle.sf_view.specs.Showns.{IsEscape, UnencodedBefore, InsideShown}
 use Rattle.sf_view.proofs.Scanned.{coded_scans}
-
-pub escape_reads : (text more low_rest rest : List ℕ) (high low a b : ℕ) → text ≡ 37 ∷ more
-    → more ≡ high ∷ low_rest → low_rest ≡ low ∷ rest → Some a ≡ unhex high → Some b ≡ unhex low
-    → IsEscape text (a * 16 + b) rest
-escape_reads text more low_rest rest high low a b e f g h k =
-    let x = read_hex high a (sym h) in
-    let y = read_hex low b (sym k) in
-    let xs = x.1 in
-    let ys = y.1 in
-    let first : (a * 16 + b) / 16 ≡ a = omega arith in
-    let second : (a * 16 + b) % 16 ≡ b = omega arith in
-    record {
-      byte = small_byte (a * 16 + b) (omega arith);
-      split =
-          e
-          ∙ ap (λ z. 37 ∷ z) (f ∙ ap (λ z. high ∷ z) g)
-          ∙ sym (rw (first, second, x.0, y.0) refl);
-    }
 
 pub inside_opens : (text more rest : List ℕ) → text ≡ 37 ∷ more → more ≡ 34 ∷ rest
     → InsideShown text rest Start

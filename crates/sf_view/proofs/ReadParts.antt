@@ -1,7 +1,7 @@
 -- Parts that are read without nodes.
-use Rattle.std.proofs.Common.{◌≡◌, ℕ, ◌+◌, ◌≤◌, true, List, [], ◌∷◌, ◌++◌, Option, Some, None}
+use Rattle.std.proofs.Common.{◌≡◌, ℕ, ◌+◌, true, List, [], ◌∷◌, ◌++◌, Option, Some, None}
 use Rattle.std.proofs.Common.{length, refl, sym, ap, ◌∙◌, arith, append_assoc}
-use Rattle.std.proofs.Common.{append-nil, length-append, inl, inr, IfSome}
+use Rattle.std.proofs.Common.{append-nil, inl, inr}
 use Rattle.sf_value.specs.declared.dialect.Dialect.{Dialect}
 use Rattle.sf_value.specs.declared.value.Bare.{Bare}
 use Rattle.sf_value.specs.declared.value.Bare.TheVariants.{Boolean}
@@ -9,7 +9,7 @@ use Rattle.sf_value.specs.declared.value.Member.TheVariants as member
 use Rattle.sf_value.specs.Grammar.Classes.{is_sp}
 use Rattle.sf_value.specs.Grammar.Pairs.{settle}
 use Rattle.sf_value.specs.Grammar.Tokens.{IsKey}
-use Rattle.sf_value.specs.Grammar.Parameters.{SpellsParam, SpellsRaw}
+use Rattle.sf_value.specs.Grammar.Parameters.{SpellsRaw}
 use Rattle.sf_value.specs.Grammar.Items.{SpellsItem, item}
 use Rattle.sf_value.specs.Grammar.InnerLists.{SpellsInner, inner}
 use Rattle.sf_value.specs.Grammar.Fields.{flag}
@@ -17,7 +17,7 @@ use Rattle.sf_view.specs.declared.bare.Part.{Part}
 use Rattle.sf_view.specs.declared.view.BareView.{BareView}
 use Rattle.sf_view.specs.declared.view.BareView.TheVariants as view_is
 use Rattle.sf_view.specs.Scans.{Behind, ScansBare, PartDescribes}
-use Rattle.sf_view.specs.Views.{IsBorrowed, ShowsBare}
+use Rattle.sf_view.specs.Views.{IsBorrowed}
 use Rattle.sf_view.specs.Reads.{Reads, ReadsBare, ReadsParam, ReadsItems, ReadsMember, ReadsEntry}
 use Rattle.sf_view.proofs.Inners.{spaces_before, item_before}
 
@@ -33,13 +33,6 @@ bare_reads d text rest p b s h = record {
   spelled = s.spelled;
   borrowed = h d s.value (s.describes text (record { before = []; whole = refl }) refl);
 }
-
--- what is shown, where anything is, is borrowed
-pub shown_borrowed : (text : List ℕ) (p : Part) (o : Option BareView)
-    → ((d : Dialect) (x : Bare) → PartDescribes d text p x → ShowsBare d o x)
-    → IfSome o (λ b. (d : Dialect) (x : Bare) → PartDescribes d text p x → IsBorrowed d b x)
-shown_borrowed text p None h = tt
-shown_borrowed text p (Some b) h = h
 
 -- a parameter
 pub flag_reads : (d : Dialect) (text named key after : List ℕ) → Behind is_sp text named
@@ -207,14 +200,3 @@ entry_flag d text key after rest e k r = record {
   spelled = (r.prefix, k, inr (settle r.value, refl, refl, (r.value, refl, r.spelled)));
   shows = refl;
 }
-
--- less is left after a parameter
-pub less_after : (d : Dialect) (text key rest : List ℕ) (b : BareView)
-    → ReadsParam d (59 ∷ text) key b rest → length rest ≤ length text
-less_after d text key rest b r =
-    by r.prefix r.spelled (ap length r.split ∙ length-append r.prefix rest)
-  where
-    by : (prefix : List ℕ) → SpellsParam d prefix key r.value
-        → length (59 ∷ text) ≡ length prefix + length rest → length rest ≤ length text
-    by prefix (gap, value, e, s, k, v) n =
-        let one = ap length e in omega arith

@@ -12,6 +12,7 @@ use Rattle.sf_value.specs.Grammar.Numbers.{sign, signed, value_from}
 use Rattle.sf_value.specs.Grammar.Strings.{escaped, is_escaped}
 use Rattle.sf_value.specs.Grammar.BareItems.{SpellsBare}
 use Rattle.sf_value.proofs.Runs.{every_append}
+use Rattle.sf_value.proofs.Words.{every_map}
 use Rattle.sf_view.specs.declared.bare.Part.{Part}
 use Rattle.sf_view.specs.declared.node_types.NodeType.TheVariants as type_is
 use Rattle.sf_view.specs.View.{slice_at, type_of, number_of, DescribesText}
@@ -179,21 +180,12 @@ unescaped_same (b ∷ s) h =
     plain : (b : ℕ) → is_unescaped b ≡ true → is_escaped b ≡ false
     plain b h = grind arith
 
-unescaped_visible : (s : List ℕ) → Every is_unescaped s → Every is_visible s
-unescaped_visible [] h = tt
-unescaped_visible (b ∷ s) h = (visible_of b h.0, unescaped_visible s h.1)
-  where
-    visible_of : (b : ℕ) → is_unescaped b ≡ true → is_visible b ≡ true
-    visible_of b h = grind arith
+visible_of : (b : ℕ) → is_unescaped b ≡ true → is_visible b ≡ true
+visible_of b h = grind arith
 
 escaped-append : (s t : List ℕ) → escaped (s ++ t) ≡ escaped s ++ escaped t
 escaped-append [] t = refl
-escaped-append (b ∷ s) t = by (is_escaped b) refl (escaped-append s t)
-  where
-    by : (x : Bool) → is_escaped b ≡ x → escaped (s ++ t) ≡ escaped s ++ escaped t
-        → escaped ((b ∷ s) ++ t) ≡ escaped (b ∷ s) ++ escaped t
-    by true e i = rw (e, i) refl
-    by false e i = rw (e, i) refl
+escaped-append (b ∷ s) t = let i = escaped-append s t in grind arith
 
 -- a string without escapes
 pub string_scans : (d : Dialect) (whole : ℕ) (text inside prefix stop rest : List ℕ) (p : Part)
@@ -209,7 +201,7 @@ string_scans d whole text inside prefix stop rest p first run plain close node_t
           (run ∙ ap (λ y. prefix ++ y) close ∙ sym (append_assoc prefix (34 ∷ []) rest));
       spelled = (
         ap (λ y. 34 ∷ (y ++ 34 ∷ [])) (sym (unescaped_same prefix plain)),
-        unescaped_visible prefix plain,
+        every_map is_unescaped is_visible visible_of prefix plain,
       );
       describes = λ source e w.
           let i = end_further source text (34 ∷ []) inside e first in
@@ -225,10 +217,6 @@ string_scans d whole text inside prefix stop rest p first run plain close node_t
           };
     }
 
--- so far read of a string
-pub inside_start : (text rest : List ℕ) → text ≡ 34 ∷ rest → InsideString text rest
-inside_start text rest e = record { bytes = []; split = e; each = tt }
-
 pub inside_run : (text rest prefix stop : List ℕ) → InsideString text rest → rest ≡ prefix ++ stop
     → Every is_unescaped prefix → InsideString text stop
 inside_run text rest prefix stop i e plain = record {
@@ -240,7 +228,9 @@ inside_run text rest prefix stop i e plain = record {
       ∙ sym (append_assoc (escaped i.bytes) prefix stop)
       ∙ ap (λ y. (escaped i.bytes ++ y) ++ stop) (sym (unescaped_same prefix plain))
       ∙ ap (λ y. y ++ stop) (sym (escaped-append i.bytes prefix)));
-  each = every_append is_visible i.bytes prefix i.each (unescaped_visible prefix plain);
+  each =
+      every_append is_visible i.bytes prefix i.each
+      (every_map is_unescaped is_visible visible_of prefix plain);
 }
 
 pub inside_escape : (text rest left more : List ℕ) (b : ℕ) → InsideString text rest

@@ -1,10 +1,9 @@
 -- The parts of a view, in order.
-use Rattle.std.proofs.Common.{◌≡◌, ◌≢◌, ℕ, List, [], ◌∷◌, ◌++◌, drop}
-use Rattle.std.proofs.Common.{refl, sym, ap, ap₂, ◌∙◌, subst, arith}
+use Rattle.std.proofs.Common.{◌≡◌, ◌≢◌, ℕ, List, [], ◌∷◌, ◌++◌}
+use Rattle.std.proofs.Common.{refl, sym, ap₂, ◌∙◌, subst, arith}
 use Rattle.sf_value.specs.declared.dialect.Dialect.{Dialect}
 use Rattle.sf_value.specs.declared.value.Bare.{Bare}
-use Rattle.sf_value.specs.declared.value.Bare.TheVariants.{Integer, Decimal, Text, Token}
-use Rattle.sf_value.specs.declared.value.Bare.TheVariants.{Blob, Boolean, Date, Shown}
+use Rattle.sf_value.specs.declared.value.Bare.TheVariants.{Integer}
 use Rattle.sf_value.specs.declared.value.Inner.{Inner}
 use Rattle.sf_value.specs.declared.value.Item.{Item}
 use Rattle.sf_value.specs.declared.value.Member.{Member}
@@ -15,10 +14,10 @@ use Rattle.sf_view.specs.declared.node_types.NodeType.TheVariants as type_is
 use Rattle.sf_view.specs.declared.node_types.Role.{Role}
 use Rattle.sf_view.specs.declared.node_types.Role.TheVariants as role_is
 use Rattle.sf_view.specs.NodeTypes.{type_number}
-use Rattle.sf_view.specs.View.{slice_at, type_of, DescribesParams, DescribesItem}
+use Rattle.sf_view.specs.View.{type_of, DescribesParams, DescribesItem}
 use Rattle.sf_view.specs.View.{DescribesItems, DescribesInner, DescribesMember, DescribesMembers}
 use Rattle.sf_view.specs.View.{DescribesEntries}
-use Rattle.sf_view.specs.Finding.{IsHop, NoHop, StartsWithKey, NoKey, IsInside, IsAtParams}
+use Rattle.sf_view.specs.Finding.{IsHop, NoHop, NoKey, IsInside, IsAtParams}
 use Rattle.sf_view.specs.Finding.{IsSplitAtParams, IsNoInner}
 use Rattle.sf_view.specs.Parts.{SplitsOff}
 use Rattle.sf_view.proofs.Hops.{Opens, opens, item_opens, param_opens, same_part, no_part, some_hop}
@@ -119,16 +118,6 @@ params_end d source role nodes (p ∷ ps) n (m, ms, e, t, r) =
     absurd (no_part source p.0 nodes (m ∷ []) ms
     (param_opens d source role p.0 (m ∷ []) p.1 (m, refl, t)) e n)
 
--- the key of a part
-pub key_of_part : (source j : List ℕ) (nodes : List Node) (k : List ℕ) → Opens source j nodes
-    → StartsWithKey source nodes k → k ≡ j
-key_of_part source j nodes k o s =
-    let one : s.first ≡ o.first = same_head s.first o.first s.more o.more (sym s.begins ∙ o.begins) in
-    s.key ∙ ap (λ y. slice_at y.key_at y.key_length source) one ∙ o.key
-  where
-    same_head : (m n : Node) (ms ns : List Node) → m ∷ ms ≡ n ∷ ns → m ≡ n
-    same_head m n ms ns e = cc
-
 pub no_key : (source j : List ℕ) (nodes : List Node) → Opens source j nodes
     → NoKey source nodes → ⊥
 no_key source j nodes o n =
@@ -204,24 +193,4 @@ no_inner d source k nodes l i (n, is, ps, e, h, r, q) =
 -- an Item is no Inner List
 pub bare_type : (x : Bare) → type_number (type_of x) ≢ type_number type_is.InnerList
 bare_type (Integer n) e = omega arith
-bare_type (Decimal m) e = omega arith
-bare_type (Text s) e = omega arith
-bare_type (Token s) e = omega arith
-bare_type (Blob s) e = omega arith
-bare_type (Boolean b) e = omega arith
-bare_type (Date n) e = omega arith
-bare_type (Shown s) e = omega arith
-
-pub item_no_inner : (d : Dialect) (source : List ℕ) (r : Role) (k : List ℕ) (nodes : List Node)
-    (i : Item) (items params : List Node) → IsSplitAtParams nodes items params
-    → DescribesItem d source r k nodes i → ⊥
-item_no_inner d source r k nodes i items params s (n, ms, e, h, more) =
-    let both : s.opening ∷ (items ++ params) ≡ n ∷ ms = sym s.split ∙ e in
-    let same : s.opening ≡ n = cc in
-    bare_type i.bare (sym h.node_type ∙ ap (λ y. y.node_type) (sym same) ∙ s.is_inner)
-
-pub item_params : (d : Dialect) (source : List ℕ) (r : Role) (k : List ℕ) (nodes : List Node)
-    (i : Item) → DescribesItem d source r k nodes i
-    → DescribesParams d source role_is.Parameter (drop 1 nodes) i.params
-item_params d source r k nodes i (n, ms, e, h, more) =
-    subst (λ y. DescribesParams d source role_is.Parameter y i.params) (sym (ap (drop 1) e)) more
+bare_type x e = omega arith

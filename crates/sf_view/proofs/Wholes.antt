@@ -1,5 +1,5 @@
 -- Nodes read one part after another, and the first that is wrong.
-use Rattle.std.proofs.Common.{◌≡◌, ℕ, zero, suc, ◌+◌, ◌-◌, ◌≤◌, List, [], ◌∷◌, ◌++◌, length, take, drop}
+use Rattle.std.proofs.Common.{◌≡◌, ℕ, suc, ◌+◌, ◌-◌, ◌≤◌, List, [], ◌∷◌, ◌++◌, length, take, drop}
 use Rattle.std.proofs.Common.{refl, sym, ap, ◌∙◌, subst, arith, append_assoc, append-nil}
 use Rattle.std.proofs.Common.{length-append, Err}
 use Rattle.std.proofs.lemmas.List.{take-take, drop-take, take-append-drop, take-append-le}
@@ -9,7 +9,6 @@ use Rattle.sf_view.specs.declared.node.Node.{Node}
 use Rattle.sf_view.specs.Finding.{IsHop, NoHop}
 use Rattle.sf_view.specs.declared.building.NoField.{NoField}
 use Rattle.sf_view.specs.declared.building.NoField.TheVariants.{OutOfMemory, Invalid}
-use Rattle.sf_view.specs.View.{slice_at}
 use Rattle.sf_view.specs.Building.{IsWrongAt, Reads, first_key, shift_fault}
 use Rattle.sf_view.proofs.Hops.{Opens, same_part}
 
@@ -63,30 +62,6 @@ pub wrong_map : {X Y : Type 0} (P : List Node → X → Type 0) (Q : List Node �
 wrong_map P Q ns i f w = record {
   within = w.within;
   stuck = λ others same agree y q. let x = f others y q in w.stuck others same agree x.0 x.1;
-}
-
--- the same where the first node is known
-pub wrong_map_first : {X Y : Type 0} (P : List Node → X → Type 0) (Q : List Node → Y → Type 0)
-    (n : Node) (ms : List Node) (i : ℕ)
-    → ((more : List Node) (y : Y) → Q (n ∷ more) y → (x : X) × P (n ∷ more) x)
-    → IsWrongAt P (n ∷ ms) i → IsWrongAt Q (n ∷ ms) i
-wrong_map_first P Q n ms i f w = record {
-  within = w.within;
-  stuck = λ others same agree y q.
-      let o = first_same others ms n i same agree in
-      let x = f o.0 y (subst (λ z. Q z y) o.1 q) in
-      w.stuck others same agree x.0 (subst (λ z. P z x.0) (sym o.1) x.1);
-}
-
--- a first node that is wrong, whatever comes after it
-pub wrong_node : {Y : Type 0} (Q : List Node → Y → Type 0) (n : Node) (ms : List Node)
-    → ((more : List Node) (y : Y) → length more ≡ length ms → Q (n ∷ more) y → ⊥)
-    → IsWrongAt Q (n ∷ ms) 0
-wrong_node Q n ms f = record {
-  within = omega arith;
-  stuck = λ others same agree y q.
-      let o = first_same others ms n 0 same agree in
-      f o.0 y o.2 (subst (λ z. Q z y) o.1 q);
 }
 
 -- a wrong node after the first
@@ -182,10 +157,6 @@ parts_snoc P done prefix (a ∷ all) x (f, b, e, q, r) p = (
   q,
   parts_snoc P b prefix all x r p,
 )
-
-pub so_begin : {X : Type 0} (P : List Node → X → Type 0) (V : X → Type 0) (nodes : List Node)
-    → SoFar P V nodes nodes []
-so_begin P V nodes = record { done = []; split = refl; parts = refl; valid = tt }
 
 pub so_more : {X : Type 0} (P : List Node → X → Type 0) (V : X → Type 0)
     (nodes rest prefix later : List Node) (all more : List X) (x : X) → SoFar P V nodes rest all

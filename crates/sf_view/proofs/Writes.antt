@@ -1,76 +1,76 @@
 -- Parts are written one after another.
-use Rattle.std.proofs.Common.{◌≡◌, ℕ, ◌+◌, ◌-◌, ◌*◌, ◌/◌, ◌%◌, ◌≤◌, Bool, true, false, List, [], ◌∷◌, ◌++◌}
-use Rattle.std.proofs.Common.{length, refl, sym, ap, ◌∙◌, subst, inl, inr, append_assoc, append-nil}
-use Rattle.std.proofs.Common.{arith, length-append, replicate, take, drop}
+use Rattle.std.proofs.Common.{◌≡◌, ℕ, ◌+◌, ◌-◌, ◌*◌, ◌/◌, ◌%◌, ◌≤◌, true, false, List, [], ◌∷◌}
+use Rattle.std.proofs.Common.{◌++◌, length, refl, sym, ap, ◌∙◌, subst, inl, inr, append_assoc}
+use Rattle.std.proofs.Common.{append-nil, arith, length-append, replicate, take, drop}
 use Rattle.std.proofs.Math.Seq.{take-append_seam, drop-append_seam, take-length}
 use Rattle.std.proofs.lemmas.List.{length-replicate}
 use Rattle.sf_value.specs.Ascii.{quote, percent}
 use Rattle.sf_value.specs.declared.dialect.Dialect.{Dialect}
 use Rattle.sf_value.specs.declared.value.Bare.{Bare}
-use Rattle.sf_value.specs.declared.value.Field.{Field}
-use Rattle.sf_value.specs.declared.value.Field.TheVariants as field
-use Rattle.sf_value.specs.declared.value.Kind.{Kind}
-use Rattle.sf_value.specs.declared.value.Kind.TheVariants as kind
 use Rattle.sf_value.specs.Grammar.Words.{Every}
 use Rattle.sf_value.specs.Grammar.Strings.{escaped}
 use Rattle.sf_value.specs.Grammar.ByteSequences.{letter, unpadded, needed, Pads, Sextets}
 use Rattle.sf_value.specs.Grammar.DisplayStrings.{hex, is_unencoded, EncodedBytes}
 use Rattle.sf_value.specs.Grammar.Canonical.{canon_base64, canon_shown, canon_value, canon_params}
-use Rattle.std.specs.Prelude.{IsTrue}
+use Rattle.std.specs.Prelude.{IsTrue, Result}
 use Rattle.sf_value.specs.declared.value.Bare.TheVariants.{Integer, Decimal, Text, Token}
 use Rattle.sf_value.specs.declared.value.Bare.TheVariants.{Blob, Boolean, Date, Shown}
-use Rattle.sf_value.specs.Grammar.Canonical.{canon, canon_bare}
+use Rattle.sf_value.specs.Grammar.Canonical.{canon_bare}
+use Rattle.sf_value.specs.Devices.{SinkState}
 use Rattle.sf_write.proofs.CanonSteps.{value_written}
-use Rattle.sf_value.specs.Grammar.Fields.{SpellsField, kind_of}
+use Rattle.sf_write.proofs.Following.{Remains, remains_less, remains_none}
+use Rattle.sf_write.specs.declared.sending.WriteFault.{WriteFault}
+use Rattle.sf_write.specs.Writing.{Follows}
 use Rattle.sf_value.specs.Grammar.Pairs.{Pairs}
 use Rattle.sf_view.specs.declared.node.Node.{Node}
 use Rattle.sf_view.specs.Decoding.{TakesByte}
 use Rattle.sf_view.specs.Parts.{SplitsOff}
 use Rattle.sf_view.specs.Scans.{is_unescaped}
 use Rattle.sf_view.proofs.Scanned.{unescaped_same}
-use Rattle.sf_view.specs.View.{DescribesField}
 use Rattle.sf_view.specs.declared.view.BareView.{BareView}
 use Rattle.sf_view.specs.declared.view.BareView.TheVariants as view_is
-use Rattle.sf_view.specs.Views.{IsBorrowed, IsViewed}
-use Rattle.sf_view.specs.CanonicalParts.{canon_param, encoding, is_flag, IsCanonicalOf, CanonicalRun, IsNeededEscape}
+use Rattle.sf_view.specs.Views.{IsBorrowed}
+use Rattle.sf_view.specs.CanonicalParts.{canon_param, encoding, is_flag, CanonicalRun}
+use Rattle.sf_view.specs.CanonicalParts.{IsNeededEscape}
 use Rattle.sf_view.specs.declared.view.View.{View}
 
--- of these parts some are written, and what f gives of the others, which the nodes describe, is
+-- of these parts some are written, and what f gives of the others, which the view describes, is
 -- still to be written
-pub record Unwritten {X : Type 0} (T : List Node → List X → Type 0) (f : List X → List ℕ)
-    (nodes : List Node) (R : List ℕ → Type 0) : Type 0 where
+pub record Unwritten {X : Type 0} (T : List ℕ → List Node → List X → Type 0)
+    (f : List X → List ℕ) (view : View) (R : List ℕ → Type 0) : Type 0 where
   pub left : List X
-  pub describes : T nodes left
+  pub describes : T view.text.now view.nodes.now left
   pub rest : R (f left)
 
-pub unwritten_all : {X : Type 0} (T : List Node → List X → Type 0) (f : List X → List ℕ)
-    (nodes : List Node) (R : List ℕ → Type 0) (xs : List X) → T nodes xs → R (f xs)
-    → Unwritten T f nodes R
-unwritten_all T f nodes R xs t r = record { left = xs; describes = t; rest = r }
+module _ {S X : Type 0} {state : S → SinkState} {gives : S → List ℕ → S → Type 0}
+    (T : List ℕ → List Node → List X → Type 0) (f : List X → List ℕ) (view : View) where
+  -- one more part is written
+  pub unwritten_less : {start now next : S} {before sent after : Result ℕ WriteFault}
+      {all : List ℕ} (P : List ℕ → List Node → X → Type 0) (g : List X → List ℕ)
+      (chunk : X → List ℕ) → ((x : X) (xs : List X) → f (x ∷ xs) ≡ chunk x ++ g xs)
+      → (part others : View) → Unwritten T f view (Remains state gives start now before sent all)
+      → (part.text.now ≡ view.text.now) × (others.text.now ≡ view.text.now)
+      → ((xs : List X) → T view.text.now view.nodes.now xs
+      → SplitsOff (P view.text.now) (T view.text.now) xs part.nodes.now others.nodes.now)
+      → ((x : X) → P part.text.now part.nodes.now x
+      → Follows state gives now next sent after (chunk x))
+      → Unwritten T g others (Remains state gives start next before after all)
+  unwritten_less P g chunk e part others w text splits write =
+      let h = splits w.left w.describes in
+      record {
+        left = h.others;
+        describes = rw text.1 h.rest;
+        rest =
+            remains_less w.rest (ap f h.parts ∙ e h.value h.others)
+            (write h.value (rw text.0 h.first));
+      }
 
--- one more part is written
-pub unwritten_less : {X : Type 0} (P : List Node → X → Type 0) (T : List Node → List X → Type 0)
-    (f g : List X → List ℕ) (chunk : X → List ℕ)
-    → ((x : X) (xs : List X) → f (x ∷ xs) ≡ chunk x ++ g xs)
-    → (nodes prefix later : List Node) (R S : List ℕ → Type 0) → Unwritten T f nodes R
-    → ((xs : List X) → T nodes xs → SplitsOff P T xs prefix later)
-    → ((x : X) → P prefix x → (u : List ℕ) → R (chunk x ++ u) → S u)
-    → Unwritten T g later S
-unwritten_less P T f g chunk e nodes prefix later R S w splits write =
-    let h = splits w.left w.describes in
-    record {
-      left = h.others;
-      describes = h.rest;
-      rest =
-          write h.value h.first (g h.others)
-          (subst R (ap f h.parts ∙ e h.value h.others) w.rest);
-    }
-
--- no part is left
-pub unwritten_none : {X : Type 0} (T : List Node → List X → Type 0) (f : List X → List ℕ)
-    (nodes : List Node) (R : List ℕ → Type 0) → Unwritten T f nodes R
-    → ((xs : List X) → T nodes xs → xs ≡ []) → f [] ≡ [] → R []
-unwritten_none T f nodes R w none e = subst R (ap f (none w.left w.describes) ∙ e) w.rest
+  -- no part is left
+  pub unwritten_none : {start now : S} {before sent : Result ℕ WriteFault} {all : List ℕ}
+      → Unwritten T f view (Remains state gives start now before sent all)
+      → ((xs : List X) → T view.text.now view.nodes.now xs → xs ≡ []) → f [] ≡ []
+      → Follows state gives start now before sent all
+  unwritten_none w none e = remains_none w.rest (ap f (none w.left w.describes) ∙ e)
 
 -- a parameter and the others
 pub params_are : (p : List ℕ × Bare) (ps : Pairs Bare)
@@ -80,15 +80,8 @@ params_are p ps = ap (λ t. 59 ∷ t) (sym (append_assoc p.0 (canon_value p.1) (
 -- after a key Boolean true is not written, and any other bare item is
 pub flag_value : (d : Dialect) (v : BareView) (x : Bare) → IsBorrowed d v x → true ≡ is_flag v
     → canon_value x ≡ []
-flag_value d (view_is.Integer n) x h e = absurd cc
-flag_value d (view_is.Decimal m) x h e = absurd cc
-flag_value d (view_is.Text s) x h e = absurd cc
-flag_value d (view_is.Token s) x h e = absurd cc
-flag_value d (view_is.Blob s) x h e = absurd cc
 flag_value d (view_is.Boolean true) x h e = ap canon_value h
-flag_value d (view_is.Boolean false) x h e = absurd cc
-flag_value d (view_is.Date n) x h e = absurd cc
-flag_value d (view_is.Shown s) x h e = absurd cc
+flag_value d v x h e = absurd cc
 
 no_flag : (x y : Bare) → x ≡ y → (y ≡ Boolean true → IsTrue false) → canon_value x ≡ 61 ∷ canon_bare x
 no_flag x y e h = value_written x (λ f. h (sym e ∙ f))
@@ -146,9 +139,8 @@ four_more a b c t = omega arith
 
 long_rest : (low x : ℕ) (s suffix : List ℕ) → 1 ≤ length suffix
     → 3 ≤ length (unpadded low (x ∷ s) ++ suffix)
-long_rest low x [] suffix h = omega arith
-long_rest low x (y ∷ []) suffix h = omega arith
 long_rest low x (y ∷ z ∷ s) suffix h = omega arith
+long_rest low x s suffix h = omega arith
 
 next_group : (a b c : ℕ) (s : List ℕ)
     → ((text : List ℕ) → Sextets text s → Groups text s)
@@ -251,44 +243,13 @@ run_of rest (b ∷ run) stop (c ∷ s) e h (suffix, inr (u, k), p) =
 
 -- a byte and those after it
 pub shown_byte : (b : ℕ) (s : List ℕ) → canon_shown (b ∷ s) ≡ encoding b ++ canon_shown s
-shown_byte b s = by (is_unencoded b) refl
-  where
-    by : (r : Bool) → is_unencoded b ≡ r → canon_shown (b ∷ s) ≡ encoding b ++ canon_shown s
-    by true e = rw e refl
-    by false e = rw e refl
+shown_byte b s = grind arith
 
 -- the rest of the text spells bytes whose canonical text is still to be written
 pub record Unencoded (rest : List ℕ) (R : List ℕ → Type 0) : Type 0 where
   pub left : List ℕ
   pub remains : EncodedBytes rest left
   pub unsent : R (canon_shown left)
-
--- a field that a text of a kind spells is of that kind
-spelled_kind : (d : Dialect) (k : Kind) (t : List ℕ) (v : Field) → SpellsField d k t v
-    → kind_of v ≡ k
-spelled_kind d kind.Item t (field.Item i) h = refl
-spelled_kind d kind.Item t (field.List l) h = absurd h
-spelled_kind d kind.Item t (field.Dict m) h = absurd h
-spelled_kind d kind.List t (field.Item i) h = absurd h
-spelled_kind d kind.List t (field.List l) h = refl
-spelled_kind d kind.List t (field.Dict m) h = absurd h
-spelled_kind d kind.Dict t (field.Item i) h = absurd h
-spelled_kind d kind.Dict t (field.List l) h = absurd h
-spelled_kind d kind.Dict t (field.Dict m) h = refl
-
--- what is the canonical text of any field that a view's nodes describe is that of its text
-pub viewed_canonical : (d : Dialect) (k : Kind) (t : List ℕ) (view : View) (c : List ℕ)
-    → IsViewed d k t view
-    → ((v : Field) → DescribesField d view.text.now view.nodes.now v → kind_of v ≡ k → c ≡ canon v)
-    → IsCanonicalOf d k t c
-viewed_canonical d k t view c w canonical = record {
-  value = w.value;
-  only = w.only;
-  canonical =
-      canonical w.value
-      (subst (λ y. DescribesField d y view.nodes.now w.value) (sym w.text) w.describes)
-      (spelled_kind d k t w.value w.only.spelled);
-}
 
 -- the bytes of a String, none of which needs a backslash
 pub unescaped_text : (bytes prefix rest t : List ℕ) → bytes ≡ prefix ++ rest
@@ -366,11 +327,6 @@ canonical_cut text rest n prefix suffix c e f b t h =
       canonical = a.canonical ∙ ap (λ y. y ++ canon_shown a.left) (sym own);
     }
 
-pub canonical_shorter : (text rest : List ℕ) → Canonical text rest → length rest ≤ length text
-canonical_shorter text rest c =
-    let sizes = ap length c.split ∙ length-append c.prefix rest in
-    omega arith
-
 -- an escape of a byte that needs one
 escape_run : (text rest t : List ℕ) (x y z b : ℕ) → text ≡ x ∷ y ∷ z ∷ rest
     → is_unencoded b ≡ false → EncodedBytes text (b ∷ t)
@@ -406,12 +362,10 @@ needed_is text rest x y z b P e n takes = record {
 pub needed_cut : (text : List ℕ) (b : ℕ) (P : List ℕ → Type 0) → 3 ≤ length text
     → is_unencoded b ≡ false → ((t : List ℕ) → EncodedBytes text t → TakesByte b P t)
     → IsNeededEscape text (take (length text - 3) (drop 3 text))
-needed_cut [] b P h n takes = absurd (omega arith)
-needed_cut (x ∷ []) b P h n takes = absurd (omega arith)
-needed_cut (x ∷ y ∷ []) b P h n takes = absurd (omega arith)
 needed_cut (x ∷ y ∷ z ∷ rest) b P h n takes =
     let size : length (x ∷ y ∷ z ∷ rest) - 3 ≡ length rest = omega arith in
     let whole : take (length (x ∷ y ∷ z ∷ rest) - 3) rest ≡ rest =
     ap (λ m. take m rest) size ∙ take-length rest in
     subst (IsNeededEscape (x ∷ y ∷ z ∷ rest)) (sym whole)
     (needed_is (x ∷ y ∷ z ∷ rest) rest x y z b P refl n takes)
+needed_cut text b P h n takes = absurd (omega arith)

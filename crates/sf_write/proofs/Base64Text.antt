@@ -22,10 +22,8 @@ symbols_are (a ∷ b ∷ []) = rw add-zero refl
 symbols_are (a ∷ b ∷ c ∷ s) = let rest = symbols_are s in rw rest refl
 
 padding_is : (s : List ℕ) → padding_len (length s) ≡ needed s
-padding_is [] = refl
-padding_is (a ∷ []) = refl
-padding_is (a ∷ b ∷ []) = refl
-padding_is (a ∷ b ∷ c ∷ s) = let rest = padding_is s in omega arith
+padding_is (a ∷ b ∷ c ∷ s) = omega (arith, padding_is s)
+padding_is s = refl
 
 -- base64 with its padding
 abbrev padded : List ℕ → List ℕ
@@ -38,9 +36,6 @@ encode_is s = rw (symbols_are s, padding_is s)
 groups : (k : ℕ) (s : List ℕ) → 3 * k ≤ length s
     → canon_base64 s ≡ padded (take (3 * k) s) ++ canon_base64 (drop (3 * k) s)
 groups zero s h = refl
-groups (suc k) [] h = absurd (omega arith)
-groups (suc k) (a ∷ []) h = absurd (omega arith)
-groups (suc k) (a ∷ b ∷ []) h = absurd (omega arith)
 groups (suc k) (a ∷ b ∷ c ∷ s) h =
     let three : 3 * suc k ≡ suc (suc (suc (3 * k))) = omega arith in
     let rest = groups k s (omega arith) in
@@ -49,6 +44,7 @@ groups (suc k) (a ∷ b ∷ c ∷ s) h =
     prefix : List ℕ
     prefix = letter (a / 4) ∷ letter (a % 4 * 16 + b / 16) ∷ letter (b % 16 * 4 + c / 64)
         ∷ letter (c % 64) ∷ []
+groups k s h = absurd (omega arith)
 
 -- all that is left is one block
 last : (s : List ℕ) → canon_base64 s ≡ padded s ++ canon_base64 []
@@ -67,10 +63,8 @@ block_prefix s n e = ⊎_elim part whole (cases_lt (length s) 192)
         rw (size, take-length s, drop-length s) (last s)
 
 length_unpadded : (s : List ℕ) → length (unpadded 0 s) ≡ (4 * length s + 2) / 3
-length_unpadded [] = refl
-length_unpadded (a ∷ []) = refl
-length_unpadded (a ∷ b ∷ []) = refl
-length_unpadded (a ∷ b ∷ c ∷ s) = let rest = length_unpadded s in omega arith
+length_unpadded (a ∷ b ∷ c ∷ s) = omega (arith, length_unpadded s)
+length_unpadded s = refl
 
 length_padded : (s : List ℕ) → length (padded s) ≡ encoded_size (length s) true
 length_padded s =

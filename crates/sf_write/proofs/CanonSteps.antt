@@ -14,26 +14,12 @@ use Rattle.sf_value.specs.Grammar.Canonical.{canon_item, canon_more, canon_comma
 pub value_written : (x : Bare) → (x ≡ Boolean true → IsTrue false)
     → canon_value x ≡ 61 ∷ canon_bare x
 value_written (Boolean true) h = let never : IsTrue false = h refl in absurd cc
-value_written (Boolean false) h = refl
-value_written (Integer n) h = refl
-value_written (Decimal n) h = refl
-value_written (Text s) h = refl
-value_written (Token s) h = refl
-value_written (Blob s) h = refl
-value_written (Date n) h = refl
-value_written (Shown s) h = refl
+value_written x h = refl
 
 -- after a key of a Dictionary an Item is as a parameter's value does, with its parameters
 pub flag_is : (x : Bare) (ps : Pairs Bare) → canon_flag x ps ≡ canon_value x ++ canon_params ps
 flag_is (Boolean true) ps = refl
-flag_is (Boolean false) ps = refl
-flag_is (Integer n) ps = refl
-flag_is (Decimal n) ps = refl
-flag_is (Text s) ps = refl
-flag_is (Token s) ps = refl
-flag_is (Blob s) ps = refl
-flag_is (Date n) ps = refl
-flag_is (Shown s) ps = refl
+flag_is x ps = refl
 
 -- the next of the Items after the first
 pub next_item : (items : List Item) (i : ℕ) (x : Item) → i < length items → x ≡ get_or items i x

@@ -1,6 +1,6 @@
 -- Bare items are read by their machine.
 use Rattle.std.specs.Option.{option_map, option_or}
-use Rattle.std.proofs.Common.{◌≡◌, ℕ, ◌≤◌, Bool, true, false, ◌==◌, List, [], ◌∷◌, ◌++◌, Some, None}
+use Rattle.std.proofs.Common.{◌≡◌, ℕ, ◌≤◌, Bool, true, ◌==◌, List, [], ◌∷◌, ◌++◌, Some, None}
 use Rattle.std.proofs.Common.{⊎_elim, refl, sym, ap, ◌∙◌, subst, ◌↔◌, inl, inr, arith, append-nil}
 use Rattle.std.proofs.Common.{if◌then◌else◌}
 use Rattle.sf_value.specs.Grammar.Words.{Every, allow}
@@ -88,42 +88,27 @@ bare_apart (InNumber (Whole neg count a)) x b t e n f = whole_apart neg count a 
     whole_apart : (neg : Bool) (count a b : ℕ) (t : BareState)
         → option_map InNumber (number_step (Whole neg count a) b) ≡ Some t → is_follow b ≡ true → ⊥
     whole_apart neg count a b t n f = grind arith
-bare_apart
-    (InNumber (Fraction neg whole count a)) x b t e n f = fraction_apart neg whole count a b t n f
+bare_apart (InNumber (Fraction neg whole count a)) x b t e n f =
+    fraction_apart neg whole count a b t n f
   where
     fraction_apart : (neg : Bool) (whole count a b : ℕ) (t : BareState)
-        → option_map InNumber (number_step (Fraction neg whole count a) b) ≡ Some t → is_follow b
-        ≡ true
-        → ⊥
+        → option_map InNumber (number_step (Fraction neg whole count a) b) ≡ Some t
+        → is_follow b ≡ true → ⊥
     fraction_apart neg whole count a b t n f = grind arith
-bare_apart (InText (Inside bytes)) x b t e n f = cc
-bare_apart (InText (Escaped bytes)) x b t e n f = cc
-bare_apart (InText (Closed bytes)) x b t e n f = cc
-bare_apart (InToken bytes) x b t e n f = not_follow is_in_token (
-  refl,
-  (
-    refl,
-    (
-      refl,
-      (
-        refl,
-        (
-          refl,
-          tt,
-        ),
-      ),
-    ),
-  ),
-) b (allow_cases (is_in_token b) (bytes
-    ++ b ∷ []) (map_cases InToken (word_step is_in_token bytes b) t n).0
-    (map_cases InToken (word_step is_in_token bytes b) t n).1).0 f
-bare_apart (InBoolean QuestionMark) x b t e n f = cc
-bare_apart (InBoolean (WithValue c)) x b t e n f = cc
+bare_apart (InToken bytes) x b t e n f =
+    let c = map_cases InToken (word_step is_in_token bytes b) t n in
+    not_follow is_in_token (refl, (refl, (refl, (refl, (refl, tt))))) b
+    (allow_cases (is_in_token b) (bytes ++ b ∷ []) c.0 c.1).0 f
 bare_apart (InDate (Digits neg count a)) x b t e n f = digits_apart neg count a b t n f
   where
     digits_apart : (neg : Bool) (count a b : ℕ) (t : BareState)
         → option_map InDate (digits_step neg count a b) ≡ Some t → is_follow b ≡ true → ⊥
     digits_apart neg count a b t n f = grind arith
+bare_apart (InText (Inside bytes)) x b t e n f = cc
+bare_apart (InText (Escaped bytes)) x b t e n f = cc
+bare_apart (InText (Closed bytes)) x b t e n f = cc
+bare_apart (InBoolean QuestionMark) x b t e n f = cc
+bare_apart (InBoolean (WithValue c)) x b t e n f = cc
 bare_apart (InDate Sign) x b t e n f = cc
 bare_apart (InBlob (Group bytes h)) x b t e n f = cc
 bare_apart (InBlob (Padded bytes m)) x b t e n f = cc
@@ -178,15 +163,13 @@ others : (c : Bool) (b : ℕ) (t : BareState) → (45 ≤ b) × (b ≤ 57)
     (only c (option_map InShown (allow (b == 37) Quote)))))))
     ≡ Some t
     → ⊥
-others true b t r n = grind arith
-others false b t r n = grind arith
+others c b t r n = grind arith
 
 -- no byte begins bare items of two types
 blob_apart : (c : Bool) (b : ℕ) (s t : BareState)
     → option_map InBlob (allow (b == 58) (Group [] H0)) ≡ Some s
     → only c (option_map InShown (allow (b == 37) Quote)) ≡ Some t → ⊥
-blob_apart true b s t e n = grind arith
-blob_apart false b s t e n = grind arith
+blob_apart c b s t e n = grind arith
 
 date_apart : (c : Bool) (b : ℕ) (s t : BareState)
     → only c (option_map InDate (allow (b == 64) Sign)) ≡ Some s
@@ -194,8 +177,7 @@ date_apart : (c : Bool) (b : ℕ) (s t : BareState)
     (only c (option_map InShown (allow (b == 37) Quote)))
     ≡ Some t
     → ⊥
-date_apart true b s t e n = grind arith
-date_apart false b s t e n = grind arith
+date_apart c b s t e n = grind arith
 
 boolean_apart : (c : Bool) (b : ℕ) (s t : BareState)
     → option_map InBoolean (allow (b == 63) QuestionMark) ≡ Some s
@@ -204,8 +186,7 @@ boolean_apart : (c : Bool) (b : ℕ) (s t : BareState)
     (only c (option_map InShown (allow (b == 37) Quote))))
     ≡ Some t
     → ⊥
-boolean_apart true b s t e n = grind arith
-boolean_apart false b s t e n = grind arith
+boolean_apart c b s t e n = grind arith
 
 token_apart : (c : Bool) (b : ℕ) (s t : BareState)
     → option_map InToken (word_start is_token_start b) ≡ Some s
@@ -215,8 +196,7 @@ token_apart : (c : Bool) (b : ℕ) (s t : BareState)
     (only c (option_map InShown (allow (b == 37) Quote)))))
     ≡ Some t
     → ⊥
-token_apart true b s t e n = grind arith
-token_apart false b s t e n = grind arith
+token_apart c b s t e n = grind arith
 
 text_apart : (c : Bool) (b : ℕ) (s t : BareState)
     → option_map InText (allow (b == 34) (Inside [])) ≡ Some s
@@ -227,8 +207,7 @@ text_apart : (c : Bool) (b : ℕ) (s t : BareState)
     (only c (option_map InShown (allow (b == 37) Quote))))))
     ≡ Some t
     → ⊥
-text_apart true b s t e n = grind arith
-text_apart false b s t e n = grind arith
+text_apart c b s t e n = grind arith
 
 number_apart : (c : Bool) (b : ℕ) (s t : BareState) → option_map InNumber (number_start b) ≡ Some s
     → option_or (option_map InText (allow (b == 34) (Inside [])))

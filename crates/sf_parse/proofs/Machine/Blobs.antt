@@ -13,6 +13,7 @@ use Rattle.sf_parse.specs.Machine.Blobs.{GoodBlob, grown, pad_step, grow_step, b
 use Rattle.sf_parse.specs.Machine.Blobs.{blob_finish}
 use Rattle.sf_value.proofs.Words.{allow_cases, option_or_cases}
 use Rattle.sf_value.proofs.DigitValues.{letter_read, read_letter, letter_same, not_letter}
+use Rattle.sf_parse.proofs.Prefixes.{every_split}
 use Rattle.sf_parse.proofs.Quads.{byte_small}
 use Rattle.sf_parse.proofs.Quads.{small_byte, pads_letter, first_small, second_small, third_small}
 use Rattle.sf_parse.proofs.Quads.{fourth_small, alone_small, last_small, one_byte, two_bytes}
@@ -126,15 +127,13 @@ group_taken bytes h b u v g (s, sx, i) = go (sextet b) refl
   where
     more : (h : Held) (w : ℕ) → GoodBlob (Group [] h) → w < 64
         → Sextets (letters h ++ letter w ∷ u) s → ResidualBlob (grown bytes h w) u v
-    more H0 w g k sx = (s, sx, i)
-    more (H1 x) w g k sx = (s, sx, i)
-    more (H2 x y) w g k sx = (s, sx, i)
     more (H3 x y z) w g k sx = let q = quad_from x y z w u s g.0 g.1 g.2 k sx in (
       q.0,
       q.1,
       i
           ∙ ap (λ y. bytes ++ y) q.2 ∙ sym (append_assoc bytes (quad x y z w) q.0),
     )
+    more h w g k sx = (s, sx, i)
 
     go : (o : Option ℕ) → sextet b ≡ o
         → (t : BlobState) × (blob_step (Group bytes h) b ≡ Some t) × ResidualBlob t u v
@@ -203,15 +202,13 @@ group_gives bytes h b u v t g n r = go (sextet b) refl
   where
     more : (h : Held) (w : ℕ) → GoodBlob (Group [] h) → w < 64 → ResidualBlob (grown bytes h w) u v
         → ResidualBlob (Group bytes h) (letter w ∷ u) v
-    more H0 w g k r = r
-    more (H1 x) w g k r = r
-    more (H2 x y) w g k r = r
     more (H3 x y z) w g k (q, sx, i) = (
       quad x y z w ++ q,
       quad_gives x y z w u q g.0 g.1 g.2 k sx,
       i
           ∙ append_assoc bytes (quad x y z w) q,
     )
+    more h w g k r = r
 
     ended : (l : Bool) → is_last h ≡ l
         → (if l then pad_step (bytes ++ last_bytes h) (lacking h) b else None) ≡ Some t
@@ -266,10 +263,6 @@ group_good bytes h b t g n = go (sextet b) refl
 is_letter : ℕ → Bool
 is_letter b = is_some (sextet b)
 
-every_suffix : (p : ℕ → Bool) (a b : List ℕ) → Every p (a ++ b) → Every p b
-every_suffix p [] b h = h
-every_suffix p (c ∷ a) b h = every_suffix p a b h.1
-
 letters_pass : (h : Held) → GoodBlob (Group [] h) → Every is_letter (letters h)
 unfolding is_letter
 letters_pass H0 g = tt
@@ -283,17 +276,14 @@ letters_pass (H3 x y z) g = (
 not_whole : (h : Held) (s : List ℕ) → GoodBlob (Group [] h) → Sextets (letters h ++ []) s → ⊥
 unfolding is_letter
 not_whole h s g (low, suffix, lt, e, f, (m, k, p)) =
-    let a = every_suffix is_letter (unpadded low s) suffix
-    (subst (Every is_letter) (sym (append-nil (letters h))
-    ∙ e) (letters_pass h g)) in
-    let b = every_suffix is_letter (replicate m 61) (58 ∷ []) (subst (Every is_letter) p a) in
-    cc (b.0)
+    let a = every_split is_letter (unpadded low s) suffix
+    (subst (Every is_letter) (sym (append-nil (letters h)) ∙ e) (letters_pass h g)) in
+    let b = every_split is_letter (replicate m 61) (58 ∷ []) (subst (Every is_letter) p a.1) in
+    cc (b.1.0)
 
 good_group : (bytes : List ℕ) (h : Held) → GoodBlob (Group bytes h) → GoodBlob (Group [] h)
 good_group bytes H0 g = g
-good_group bytes (H1 x) g = g
-good_group bytes (H2 x y) g = g
-good_group bytes (H3 x y z) g = g
+good_group bytes h g = g
 
 pub blob_reads : (s : BlobState) → GoodBlob s
     → Reads BlobState (List ℕ) GoodBlob ResidualBlob (ResidualBlob s) (blob_step s) (blob_finish s)

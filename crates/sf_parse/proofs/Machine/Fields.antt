@@ -79,8 +79,7 @@ no_ows start e32 e9 b t e n = ⊎_elim (λ x. clash (start b) t (ap start x
 
 pub begin_good : (kind : Kind) → Good (begin kind)
 begin_good kind.Item = tt
-begin_good kind.List = tt
-begin_good kind.Dict = tt
+begin_good kind = tt
 
 module _ (d : Dialect) where
   abbrev ReadsEntry : (List ℕ → List ℕ × Member → Type 0) → (ℕ → Option EntryState) → Option (List ℕ
@@ -367,8 +366,7 @@ module _ (d : Dialect) where
         f,
         (i, body, tail, refl, s, (tail, [], sym (append-nil tail), w, (refl, refl))),
       )
-      from (field.List l) h = elim h [ ]
-      from (field.Dict m) h = elim h [ ]
+      from v h = elim h [ ]
   begins kind.List t v = (to v, from v)
     where
       at : (ms more : List Member) → ms ≡ more → SpellsWhole (SpellsMember d) t more
@@ -398,7 +396,6 @@ module _ (d : Dialect) where
           ((series_texts (dict_series d) dict_laws t ps).0 h)
 
       from : (v : Field) → SpellsField d kind.Dict t v → Residual d (InDict Begin) t v
-      from (field.Item i) h = elim h [ ]
-      from (field.List l) h = elim h [ ]
       from (field.Dict m) h =
           (m.members, (series_texts (dict_series d) dict_laws t m.members).1 h, refl)
+      from v h = elim h [ ]

@@ -11,13 +11,11 @@ use Rattle.sf_view.proofs.copies.entries.Given as goal
 
 abbrev pub invariant-loop-part : goal.invariant-loop-part
 invariant-loop-part l = record {
-  text : l.rest.text.now ≡ l.view.text.now;
   settled : settle l.all ≡ l.all;
   left : (d : Dialect) (ps : Pairs Member)
       → DescribesEntries d l.view.text.now l.view.nodes.now ps
       → Each (λ p. IsKey p.0 × ValidMember d p.1) ps
-      → PairsLeft (DescribesEntries d l.rest.text.now) (λ p. IsKey p.0 × ValidMember d p.1)
-      l.rest.nodes.now l.all ps;
+      → PairsLeft (DescribesEntries d) (λ p. IsKey p.0 × ValidMember d p.1) l.rest l.all ps;
 }
 
 abbrev pub decreases-loop-part : goal.decreases-loop-part

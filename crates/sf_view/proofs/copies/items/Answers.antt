@@ -4,7 +4,7 @@ use Rattle.sf_value.specs.Grammar.Valid.{ValidItem}
 use Rattle.sf_value.specs.Grammar.Words.{Each}
 use Rattle.sf_view.specs.declared.node_types.Role.TheVariants as role_is
 use Rattle.sf_view.specs.View.{DescribesItem, DescribesItems}
-use Rattle.sf_view.proofs.Copying.{PartsLeft, parts_more, parts_stuck, copied, uncopied}
+use Rattle.sf_view.proofs.Copying.{PartsLeft, parts_more, parts_stuck}
 use Rattle.sf_view.proofs.copies.items.Goals as goal
 
 pub returns-in_default-2 : goal.returns-in_default-2
@@ -19,10 +19,9 @@ returns-in_default-2 c = λ d is t distinct all.
     c.loop-part.rest.nodes.now prefix c.in-Some.others.nodes.now c.loop-part.all is
     (c.loop-part.invariant.left d is t distinct) (λ xs u. h.items d xs u)
     (λ x u e.
-    uncopied (ValidItem d x) x c.in_ok-item.field-0
-    (c.in_ok-item.ensures.copy d role_is.InnerItem [] x
-    (subst (λ y. DescribesItem d y role_is.InnerItem [] prefix x) (sym h.text.0) u) e.0)
-    none (e.1 all))
+    let stuck = rw none at (c.in_ok-item.ensures.copy d role_is.InnerItem [] x
+    (rw h.text.0 u) e.0) in
+    stuck (e.1 all))
 
 pub loop-part-preserved : goal.loop-part-preserved
 loop-part-preserved c =
@@ -46,9 +45,6 @@ loop-part-preserved c =
           c.loop-part.rest.nodes.now prefix later c.loop-part.all more is c.in-Some-2.item
           (c.loop-part.invariant.left d is t distinct) (λ xs u. h.items d xs u)
           (λ x u e.
-          copied (ValidItem d x) x c.in-Some-2.item c.in_ok-item.field-0
-          (c.in_ok-item.ensures.copy d role_is.InnerItem [] x
-          (subst (λ y. DescribesItem d y role_is.InnerItem [] prefix x) (sym h.text.0) u) e.0)
-          some)
+          rw some at (c.in_ok-item.ensures.copy d role_is.InnerItem [] x (rw h.text.0 u) e.0))
           c.in-Ok.ensures.added);
     }

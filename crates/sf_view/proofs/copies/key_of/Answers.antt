@@ -1,5 +1,5 @@
 use Rattle.sf_value.specs.Grammar.Classes.{is_key_start, is_in_key}
-use Rattle.sf_view.proofs.Faults.{refused_word}
+use Rattle.sf_value.proofs.Faults.{refused_word}
 use Rattle.sf_view.proofs.copies.key_of.Goals as goal
 
 pub returns-in-Err-Empty : goal.returns-in-Err-Empty

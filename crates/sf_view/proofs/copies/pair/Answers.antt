@@ -1,7 +1,5 @@
 use Rattle.std.proofs.Common.{◌≡◌, ◌∙◌, sym, subst, ap₂, Some, None}
 use Rattle.sf_value.specs.Grammar.Tokens.{IsKey}
-use Rattle.sf_value.specs.Grammar.Valid.{ValidBare}
-use Rattle.sf_view.proofs.Copying.{copied, uncopied}
 use Rattle.sf_view.proofs.copies.pair.Goals as goal
 
 pub returns-in_default : goal.returns-in_default
@@ -11,16 +9,15 @@ pub returns-in_default-2 : goal.returns-in_default-2
 returns-in_default-2 c = λ d r k x t valid.
     let is = c.in_default-2.is in
     let none : c.in_ok-value.field-0 ≡ None = cc in
-    uncopied (ValidBare d x) x c.in_ok-value.field-0
-    (c.in_ok-value.ensures d x (c.in-Some.ensures.param d r k x t)) none valid.1
+    let stuck = rw none at (c.in_ok-value.ensures d x (c.in-Some.ensures.param d r k x t)) in
+    stuck valid.1
 
 pub returns-in_default-3 : goal.returns-in_default-3
 returns-in_default-3 c = λ d r k x t valid.
     let is = c.in_default-3.is in
     let none : c.in_ok-key.field-0 ≡ None = cc in
-    let same = c.key.ensures.param d r k x t in
-    uncopied (IsKey c.key.result.now) c.key.result.now c.in_ok-key.field-0 c.in_ok-key.ensures none
-    (subst IsKey (sym same) valid.0)
+    let stuck = rw none at c.in_ok-key.ensures in
+    stuck (subst IsKey (sym (c.key.ensures.param d r k x t)) valid.0)
 
 pub returns : goal.returns
 returns c = λ d r k x t.
@@ -28,8 +25,6 @@ returns c = λ d r k x t.
     let b = c.in-Some-3.is in
     let some : c.in_ok-value.field-0 ≡ Some c.in-Some-2.value = cc in
     let word : c.in_ok-key.field-0 ≡ Some c.in-Some-3.key = cc in
-    let value = copied (ValidBare d x) x c.in-Some-2.value c.in_ok-value.field-0
-    (c.in_ok-value.ensures d x (c.in-Some.ensures.param d r k x t)) some in
-    let key = copied (IsKey c.key.result.now) c.key.result.now c.in-Some-3.key c.in_ok-key.field-0
-    c.in_ok-key.ensures word in
+    let value = rw some at (c.in_ok-value.ensures d x (c.in-Some.ensures.param d r k x t)) in
+    let key = rw word at c.in_ok-key.ensures in
     ap₂ (λ y z. (y, z)) (key ∙ c.key.ensures.param d r k x t) value

@@ -12,13 +12,12 @@ use Rattle.sf_view.proofs.copies.params.Given as goal
 
 abbrev pub invariant-loop-param : goal.invariant-loop-param
 invariant-loop-param l = record {
-  text : l.rest.text.now ≡ l.view.text.now;
   settled : settle l.all ≡ l.all;
   left : (d : Dialect) (r : Role) (ps : Pairs Bare)
       → DescribesParams d l.view.text.now r l.view.nodes.now ps
-      → PairsLeft (DescribesParams d l.rest.text.now r)
-      (λ p. Each (λ q. IsKey q.0 × ValidBare d q.1) ps → IsKey p.0 × ValidBare d p.1)
-      l.rest.nodes.now l.all ps;
+      → PairsLeft (λ s. DescribesParams d s r)
+      (λ p. Each (λ q. IsKey q.0 × ValidBare d q.1) ps → IsKey p.0 × ValidBare d p.1) l.rest l.all
+      ps;
 }
 
 abbrev pub decreases-loop-param : goal.decreases-loop-param

@@ -1,7 +1,7 @@
 use Rattle.std.proofs.Common.{◌≡◌, subst}
 use Rattle.sf_value.specs.Grammar.Classes.{is_visible}
 use Rattle.sf_value.specs.Grammar.Words.{Every}
-use Rattle.sf_view.proofs.Faults.{refused_text}
+use Rattle.sf_value.proofs.Faults.{refused_text}
 use Rattle.sf_view.proofs.copies.text.Goals as goal
 
 pub returns-in-Err-Empty : goal.returns-in-Err-Empty

@@ -1,5 +1,5 @@
 use Rattle.sf_value.specs.Grammar.Classes.{is_token_start, is_in_token}
-use Rattle.sf_view.proofs.Faults.{refused_word}
+use Rattle.sf_value.proofs.Faults.{refused_word}
 use Rattle.sf_view.proofs.copies.token.Goals as goal
 
 pub returns-in-Err-Empty : goal.returns-in-Err-Empty

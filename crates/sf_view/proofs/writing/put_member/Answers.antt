@@ -1,11 +1,11 @@
-use Rattle.std.proofs.Common.{ℕ, List, sym, subst}
+use Rattle.std.proofs.Common.{ℕ, List}
 use Rattle.sf_value.specs.declared.dialect.Dialect.{Dialect}
 use Rattle.sf_value.specs.declared.value.Member.{Member}
 use Rattle.sf_value.specs.declared.value.Member.TheVariants as member
 use Rattle.sf_value.specs.Grammar.Canonical.{canon_member}
 use Rattle.sf_write.specs.Writing.{Follows}
 use Rattle.sf_view.specs.declared.node_types.Role.TheVariants as role_is
-use Rattle.sf_view.specs.View.{DescribesItems, DescribesMember, DescribesParams}
+use Rattle.sf_view.specs.View.{DescribesMember}
 use Rattle.sf_view.proofs.writing.put_member.Goals as goal
 
 pub returns-in-Some : goal.returns-in-Some
@@ -19,12 +19,8 @@ returns-in-Some g c = by
         let other = c.in-Some.ensures.item d role_is.Member k i t in
         absurd cc
     by d k (member.Inner l) t =
-        c.put_inner.ensures d l
-        (subst (λ y. DescribesItems d y c.in-Some.items.nodes.now l.items)
-        (sym c.in-Some.ensures.text) (c.in-Some.ensures.inner d k l t))
-        role_is.InnerParameter
-        (subst (λ y. DescribesParams d y role_is.InnerParameter c.params.result.nodes.now l.params)
-        (sym c.params.ensures.text) (c.params.ensures.inner d k l t))
+        c.put_inner.ensures d l (rw c.in-Some.ensures.text (c.in-Some.ensures.inner d k l t))
+        role_is.InnerParameter (rw c.params.ensures.text (c.params.ensures.inner d k l t))
 
 pub returns-in-None : goal.returns-in-None
 returns-in-None g c = by

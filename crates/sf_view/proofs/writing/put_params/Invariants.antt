@@ -1,4 +1,4 @@
-use Rattle.std.proofs.Common.{◌≡◌, length}
+use Rattle.std.proofs.Common.{length}
 use Rattle.sf_value.specs.declared.dialect.Dialect.{Dialect}
 use Rattle.sf_value.specs.declared.value.Bare.{Bare}
 use Rattle.sf_value.specs.Grammar.Pairs.{Pairs}
@@ -10,14 +10,11 @@ use Rattle.sf_view.proofs.Writes.{Unwritten}
 use Rattle.sf_view.proofs.writing.put_params.Given as goal
 
 abbrev pub invariant-loop-param : goal.invariant-loop-param
-invariant-loop-param g l = record {
-  text : l.rest.text.now ≡ l.view.text.now;
-  left : (d : Dialect) (r : Role) (ps : Pairs Bare)
-      → DescribesParams d l.view.text.now r l.view.nodes.now ps
-      → Unwritten (DescribesParams d l.rest.text.now r) canon_params l.rest.nodes.now
-      (Remains g.W.Sink.state g.W.Sink.send_gives l.fn.out l.out l.fn.before l.sent
-      (canon_params ps));
-}
+invariant-loop-param g l = (d : Dialect) (r : Role) (ps : Pairs Bare)
+    → DescribesParams d l.view.text.now r l.view.nodes.now ps
+    → Unwritten (λ s. DescribesParams d s r) canon_params l.rest
+    (Remains g.W.Sink.state g.W.Sink.send_gives l.fn.out l.out l.fn.before l.sent
+    (canon_params ps))
 
 abbrev pub decreases-loop-param : goal.decreases-loop-param
 decreases-loop-param g l = length l.rest.nodes.now

@@ -18,8 +18,7 @@ returns-in-Item g c = by
         → Follows g.W.Sink.state g.W.Sink.send_gives c.args.out.now c.put_item.new.out c.args.before
         c.put_item.result (canon v)
     by d (field.Item i) t e = c.put_item.ensures d role_is.Member [] i t
-    by d (field.List l) t e = let is = c.in-Item.is in absurd cc
-    by d (field.Dict m) t e = let is = c.in-Item.is in absurd cc
+    by d v t e = let is = c.in-Item.is in absurd cc
 
 pub returns-in-List : goal.returns-in-List
 returns-in-List g c = by
@@ -27,11 +26,10 @@ returns-in-List g c = by
     by : (d : Dialect) (v : Field)
         → DescribesField d c.args.view.now.text.now c.args.view.now.nodes.now v
         → kind_of v ≡ c.args.kind
-        → Follows g.W.Sink.state g.W.Sink.send_gives c.args.out.now c.put_members.new.out c.args.before
-        c.put_members.result (canon v)
-    by d (field.Item i) t e = let is = c.in-List.is in absurd cc
+        → Follows g.W.Sink.state g.W.Sink.send_gives c.args.out.now c.put_members.new.out
+        c.args.before c.put_members.result (canon v)
     by d (field.List l) t e = c.put_members.ensures d l.members t
-    by d (field.Dict m) t e = let is = c.in-List.is in absurd cc
+    by d v t e = let is = c.in-List.is in absurd cc
 
 pub returns-in-Dict : goal.returns-in-Dict
 returns-in-Dict g c = by
@@ -39,8 +37,7 @@ returns-in-Dict g c = by
     by : (d : Dialect) (v : Field)
         → DescribesField d c.args.view.now.text.now c.args.view.now.nodes.now v
         → kind_of v ≡ c.args.kind
-        → Follows g.W.Sink.state g.W.Sink.send_gives c.args.out.now c.put_entries.new.out c.args.before
-        c.put_entries.result (canon v)
-    by d (field.Item i) t e = let is = c.in-Dict.is in absurd cc
-    by d (field.List l) t e = let is = c.in-Dict.is in absurd cc
+        → Follows g.W.Sink.state g.W.Sink.send_gives c.args.out.now c.put_entries.new.out
+        c.args.before c.put_entries.result (canon v)
     by d (field.Dict m) t e = c.put_entries.ensures d m.members t
+    by d v t e = let is = c.in-Dict.is in absurd cc

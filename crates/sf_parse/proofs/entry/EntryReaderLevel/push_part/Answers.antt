@@ -1,18 +1,14 @@
 use Rattle.std.proofs.Common.{refl}
-use Rattle.sf_parse.specs.Machine.Members.{member_step}
-use Rattle.sf_parse.specs.Machine.Entries.{InMemberValue, entry_step}
+use Rattle.sf_parse.specs.Machine.Entries.{InMemberValue}
 use Rattle.sf_parse.proofs.Prefixes.{part_above}
 use Rattle.sf_parse.proofs.OpenParts.{member_in_entry, flag_part, flag_kept}
 use Rattle.sf_parse.proofs.entry.EntryReaderLevel.push_part.Goals as goal
 
 pub returns-in-InMemberValue-clause-goes : goal.returns-in-InMemberValue-clause-goes
 returns-in-InMemberValue-clause-goes c =
-    let d = c.args.context.now.dialect in
     let k = c.self.inside.key in
     rw (← c.self.view_is, c.in-InMemberValue.is)
-    (part_above (member_step d) (entry_step d) (InMemberValue k) (member_in_entry d k) _ _ _ _ _ _
-    refl
-    c.push.ensures.prefix)
+    (part_above _ _ (InMemberValue k) (member_in_entry _ k) _ _ _ _ _ _ refl c.push.ensures.prefix)
 
 pub invariant_of-self-in-InFlag : goal.invariant_of-self-in-InFlag
 invariant_of-self-in-InFlag c =

@@ -1,7 +1,6 @@
 use Rattle.std.proofs.Common.{refl}
 use Rattle.sf_value.specs.Grammar.Classes.{is_key_start, is_in_key}
 use Rattle.sf_parse.specs.Machine.Texts.{word_step}
-use Rattle.sf_parse.specs.Machine.Members.{member_step}
 use Rattle.sf_parse.specs.Machine.Entries.{InKey, InMemberValue, entry_step}
 use Rattle.sf_parse.proofs.Prefixes.{part_above, goes_above}
 use Rattle.sf_parse.proofs.ByteRuns.{word_goes, word_run_kept}
@@ -25,12 +24,9 @@ returns-in-InKey-clause-goes c =
 
 pub returns-in-InMemberValue-clause-goes : goal.returns-in-InMemberValue-clause-goes
 returns-in-InMemberValue-clause-goes c =
-    let d = c.args.context.now.dialect in
     let k = c.self.inside.key in
     rw (← c.self.view_is, c.in-InMemberValue.is)
-    (part_above (member_step d) (entry_step d) (InMemberValue k) (member_in_entry d k) _ _ _ _ _ _
-    refl
-    c.take.ensures.prefix)
+    (part_above _ _ (InMemberValue k) (member_in_entry _ k) _ _ _ _ _ _ refl c.take.ensures.prefix)
 
 pub invariant_of-self-in-InFlag : goal.invariant_of-self-in-InFlag
 invariant_of-self-in-InFlag c =

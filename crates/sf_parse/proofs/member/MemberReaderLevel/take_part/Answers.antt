@@ -1,6 +1,5 @@
 use Rattle.std.proofs.Common.{refl}
 use Rattle.sf_value.specs.Grammar.Classes.{is_sp}
-use Rattle.sf_parse.specs.Machine.Items.{item_step}
 use Rattle.sf_parse.specs.Machine.Inners.{BetweenItems, InItem}
 use Rattle.sf_parse.specs.Machine.Members.{InOne, InMany, member_step}
 use Rattle.sf_parse.proofs.Prefixes.{part_above}
@@ -19,18 +18,15 @@ returns-in-BetweenItems-clause-goes c =
 
 pub returns-in-One-clause-goes : goal.returns-in-One-clause-goes
 returns-in-One-clause-goes c =
-    let d = c.args.context.now.dialect in
     rw (← c.self.view_is, c.in-One.is)
-    (part_above (item_step d) (member_step d) InOne (item_in_member d) _ _ _ _ _ _ refl
-    c.take.ensures.prefix)
+    (part_above _ _ InOne (item_in_member _) _ _ _ _ _ _ refl c.take.ensures.prefix)
 
 pub returns-in-InItem-clause-goes : goal.returns-in-InItem-clause-goes
 returns-in-InItem-clause-goes c =
-    let d = c.args.context.now.dialect in
     let is = c.self.inside.items in
     rw (← c.self.view_is, c.in-InItem.is)
-    (part_above (item_step d) (member_step d) (λ s. InMany (InItem is s)) (item_in_many d is)
-    _ _ _ _ _ _ refl c.take-in-InItem.ensures.prefix)
+    (part_above _ _ (λ s. InMany (InItem is s)) (item_in_many _ is) _ _ _ _ _ _ refl
+    c.take-in-InItem.ensures.prefix)
 
 pub invariant_of-self-in-Closing : goal.invariant_of-self-in-Closing
 invariant_of-self-in-Closing c =

@@ -4,7 +4,7 @@ use Rattle.std.proofs.Common.{None, refl, length, arith}
 use Rattle.std.proofs.lemmas.Bool.Decides.{nat_tests}
 use Rattle.std.specs.List.{position_or_len}
 use Rattle.sf_value.specs.declared.fault.TextFault.{TextFault}
-use Rattle.sf_value.specs.declared.fault.TextFault.TheVariants.{Empty, BadByte, OutOfMemory}
+use Rattle.sf_value.specs.declared.fault.TextFault.TheVariants.{Empty, OutOfMemory}
 use Rattle.sf_value.specs.Grammar.Classes.{is_visible}
 use Rattle.sf_value.specs.Grammar.Words.{Every, IsWord}
 use Rattle.sf_value.specs.Faults.{bad_place, bad_word_place, IsWordFault, IsStringFault}
@@ -14,7 +14,7 @@ every_length : (p : ℕ → Bool) (bs : List ℕ) → Every p bs
 every_length p [] h = refl
 every_length p (b ∷ bs) h = rw (h.0, every_length p bs h.1) (omega arith)
 
-every_place : (p : ℕ → Bool) (bs : List ℕ) → Every p bs → bad_place p bs ≡ None
+pub every_place : (p : ℕ → Bool) (bs : List ℕ) → Every p bs → bad_place p bs ≡ None
 every_place p bs h = rw (every_length p bs h) (grind (arith, nat_tests))
 
 word_place : (p q : ℕ → Bool) (bs : List ℕ) → IsWord p q bs → bad_word_place p q bs ≡ None
@@ -23,17 +23,12 @@ word_place p q (b ∷ bs) h = rw (h.0, every_place q bs h.1)
 
 pub refused_word : (p q : ℕ → Bool) (bs : List ℕ) (fault : TextFault) → IsWord p q bs
     → IsWordFault p q bs fault → fault ≡ OutOfMemory
-refused_word p q [] Empty h e = absurd h
-refused_word p q (b ∷ bs) Empty h e = absurd cc
-refused_word p q bs (BadByte place) h e =
-    let none = word_place p q bs h in
-    absurd cc
 refused_word p q bs OutOfMemory h e = refl
+refused_word p q [] Empty h e = absurd h
+refused_word p q bs fault h e = let none = word_place p q bs h in absurd cc
 
 pub refused_text : (bs : List ℕ) (fault : TextFault) → Every is_visible bs
     → IsStringFault bs fault → fault ≡ OutOfMemory
-refused_text bs Empty h e = absurd e
-refused_text bs (BadByte place) h e =
-    let none = every_place is_visible bs h in
-    absurd cc
 refused_text bs OutOfMemory h e = refl
+refused_text bs Empty h e = absurd e
+refused_text bs fault h e = let none = every_place is_visible bs h in absurd cc
