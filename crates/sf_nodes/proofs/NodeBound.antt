@@ -1,14 +1,14 @@
 -- A valid value has at most half as many nodes as its canonical text with one byte more has bytes,
 -- and at most as many bytes as its canonical text.
-use Rattle.std.proofs.Common.{ℕ, ◌+◌, ◌*◌, ◌≤◌, true, false, List as Seq, [], ◌∷◌, ◌++◌}
-use Rattle.std.proofs.Common.{length, arith, length-append, ◌<◌, ◌^◌, ◌/◌, ◌%◌, ℤ, pos}
-use Rattle.std.proofs.Common.{negsuc, nat_abs, replicate, decimal}
+use Rattle.std.proofs.Common.{◌≡◌, ℕ, ◌+◌, ◌*◌, ◌≤◌, true, false, List as Seq, [], ◌∷◌, ◌++◌}
+use Rattle.std.proofs.Common.{length, arith, length-append, ◌<◌, ◌^◌, ℤ, pos}
+use Rattle.std.proofs.Common.{negsuc, nat_abs}
 use Rattle.std.specs.Fmt.{signed_decimal}
 use Rattle.std.proofs.lemmas.Fmt.{decimal_nonempty}
 use Rattle.sf_value.specs.declared.dialect.Dialect.{Dialect}
 use Rattle.sf_value.specs.declared.value.Bare.{Bare}
 use Rattle.sf_value.specs.declared.value.Bare.TheVariants.{Integer, Decimal, Text, Token}
-use Rattle.sf_value.specs.declared.value.Bare.TheVariants.{Blob, Boolean, Date, Shown}
+use Rattle.sf_value.specs.declared.value.Bare.TheVariants.{Blob, Boolean, Shown}
 use Rattle.sf_value.specs.declared.value.Item.{Item}
 use Rattle.sf_value.specs.declared.value.Member.{Member}
 use Rattle.sf_value.specs.declared.value.Member.TheVariants as member
@@ -17,22 +17,24 @@ use Rattle.sf_value.specs.declared.value.Field.TheVariants as field
 use Rattle.sf_value.specs.declared.value.Kind.{Kind}
 use Rattle.sf_value.specs.declared.value.Kind.TheVariants as kind
 use Rattle.sf_value.specs.Grammar.Words.{Each}
-use Rattle.sf_value.specs.Grammar.Numbers.{sign}
 use Rattle.sf_value.specs.Grammar.Pairs.{Pairs}
 use Rattle.sf_value.specs.Grammar.Tokens.{IsKey, IsToken}
 use Rattle.sf_value.specs.Grammar.Valid.{ValidBare, ValidItem, ValidMember, Valid}
 use Rattle.sf_value.specs.Grammar.Strings.{escaped}
-use Rattle.sf_value.specs.Grammar.ByteSequences.{unpadded, needed}
+use Rattle.sf_value.specs.Grammar.ByteSequences.{unpadded}
 use Rattle.sf_value.specs.Grammar.Canonical.{canon_bare, canon_value, canon_params, canon_item}
-use Rattle.sf_value.specs.Grammar.Canonical.{canon_more, canon_items, canon_inner, canon_member}
+use Rattle.sf_value.specs.Grammar.Canonical.{canon_more, canon_items, canon_member}
 use Rattle.sf_value.specs.Grammar.Canonical.{canon_flag, canon_entry, canon_commas}
-use Rattle.sf_value.specs.Grammar.Canonical.{canon_series, canon, canon_shown, fraction}
-use Rattle.sf_value.specs.Grammar.Canonical.{is_negative}
+use Rattle.sf_value.specs.Grammar.Canonical.{canon_series, canon, canon_shown}
+use Rattle.sf_value.proofs.LengthBound.{key_some}
 use Rattle.sf_view.specs.View.{text_of}
 use Rattle.sf_nodes.specs.NodeCounts.{item_nodes, items_nodes, member_nodes, members_nodes}
 use Rattle.sf_nodes.specs.NodeCounts.{entries_nodes, field_nodes, params_bytes, item_bytes}
 use Rattle.sf_nodes.specs.NodeCounts.{items_bytes, member_bytes, members_bytes, entries_bytes}
 use Rattle.sf_nodes.specs.NodeCounts.{field_bytes}
+
+lengths : (s t : Seq ℕ) → length (s ++ t) ≡ length s + length t
+lengths = length-append
 
 -- the bytes of a String are no more than those of its text
 escaped_long : (s : Seq ℕ) → length s ≤ length (escaped s)
@@ -40,68 +42,38 @@ escaped_long [] = omega arith
 escaped_long (b ∷ s) = let h = escaped_long s in grind arith
 
 blob_long : (s : Seq ℕ) → length s ≤ length (unpadded 0 s)
-blob_long [] = omega arith
-blob_long (a ∷ []) = omega arith
-blob_long (a ∷ b ∷ []) = omega arith
-blob_long (a ∷ b ∷ c ∷ s) = let h = blob_long s in omega arith
+blob_long (a ∷ b ∷ c ∷ s) = omega (arith, blob_long s)
+blob_long s = omega arith
 
 shown_long : (s : Seq ℕ) → length s ≤ length (canon_shown s)
 shown_long [] = omega arith
 shown_long (c ∷ s) = let h = shown_long s in grind arith
 
 text_long : (x : Bare) → length (text_of x) ≤ length (canon_bare x)
-text_long (Integer n) = omega arith
-text_long (Decimal n) = omega arith
-text_long (Text s) =
-    let h = escaped_long s in
-    let e = length-append (escaped s) (34 ∷ []) in
-    omega arith
-text_long (Token s) = omega arith
-text_long (Blob s) =
-    let h = blob_long s in
-    let e = length-append (unpadded 0 s) (replicate (needed s) 61 ++ 58 ∷ []) in
-    omega arith
-text_long (Boolean b) = omega arith
-text_long (Date n) = omega arith
-text_long (Shown s) = let h = shown_long s in omega arith
+text_long (Text s) = omega (arith, escaped_long s, lengths)
+text_long (Blob s) = omega (arith, blob_long s, lengths)
+text_long (Shown s) = omega (arith, shown_long s)
+text_long x = omega arith
 
 value_long : (x : Bare) → length (text_of x) ≤ length (canon_value x)
 value_long (Boolean true) = omega arith
 value_long (Boolean false) = omega arith
-value_long (Integer n) = omega arith
-value_long (Decimal n) = omega arith
-value_long (Text s) = let h = text_long (Text s) in omega arith
-value_long (Token s) = let h = text_long (Token s) in omega arith
-value_long (Blob s) = let h = text_long (Blob s) in omega arith
-value_long (Date n) = omega arith
-value_long (Shown s) = let h = text_long (Shown s) in omega arith
+value_long x = omega (arith, text_long x)
 
--- a key has a byte, and so has the text of a bare item
-key_long : (k : Seq ℕ) → IsKey k → 1 ≤ length k
-key_long [] h = absurd h
-key_long (b ∷ k) h = omega arith
-
+-- a Token has a byte, and so has the text of a bare item
 token_long : (s : Seq ℕ) → IsToken s → 1 ≤ length s
 token_long [] h = absurd h
 token_long (b ∷ s) h = omega arith
 
 integer_long : (n : ℤ) → nat_abs n < 10 ^ 15 → 1 ≤ length (signed_decimal n)
-integer_long (pos n) h = let some = decimal_nonempty n (omega arith) in omega arith
+integer_long (pos n) h = omega (arith, decimal_nonempty n (omega arith))
 integer_long (negsuc n) h = omega arith
 
 bare_long : (d : Dialect) (x : Bare) → ValidBare d x → 1 ≤ length (canon_bare x)
 bare_long d (Integer n) h = integer_long n h
-bare_long d (Decimal m) h =
-    let e = length-append (sign (is_negative m))
-    (decimal (nat_abs m / 1000) ++ 46 ∷ fraction (nat_abs m % 1000)) in
-    let f = length-append (decimal (nat_abs m / 1000)) (46 ∷ fraction (nat_abs m % 1000)) in
-    omega arith
-bare_long d (Text s) h = omega arith
+bare_long d (Decimal m) h = omega (arith, lengths)
 bare_long d (Token s) h = token_long s h
-bare_long d (Blob s) h = omega arith
-bare_long d (Boolean b) h = omega arith
-bare_long d (Date n) h = omega arith
-bare_long d (Shown s) h = omega arith
+bare_long d x h = omega arith
 
 -- valid parameters, whether or not a key is twice
 abbrev AreParams : Dialect → Pairs Bare → Type 0
@@ -118,186 +90,118 @@ record Small (count length twice bytes : ℕ) : Type 0 where
 
 params_small : (d : Dialect) (ps : Pairs Bare) → AreParams d ps
     → Small (length ps) (params_bytes ps) (length (canon_params ps)) (length (canon_params ps))
-params_small d [] valid = record { parts = omega arith; size = omega arith }
+params_small d [] valid = omega arith
 params_small d (p ∷ ps) valid =
-    let h = params_small d ps valid.1 in
-    let a = h.parts in
-    let b = h.size in
-    let key = key_long p.0 valid.0.0 in
-    let value = value_long p.1 in
-    let e = length-append p.0 (canon_value p.1 ++ canon_params ps) in
-    let f = length-append (canon_value p.1) (canon_params ps) in
-    record { parts = omega arith; size = omega arith }
+    omega (
+      arith,
+      params_small d ps valid.1,
+      key_some p.0 valid.0.0,
+      value_long p.1,
+      lengths,
+    )
 
 item_small : (d : Dialect) (i : Item) → ValidItem d i
     → Small (item_nodes i) (item_bytes i) (1 + length (canon_item i)) (length (canon_item i))
 item_small d i valid =
-    let h = params_small d i.params valid.1.0 in
-    let a = h.parts in
-    let b = h.size in
-    let bare = bare_long d i.bare valid.0 in
-    let text = text_long i.bare in
-    let e = length-append (canon_bare i.bare) (canon_params i.params) in
-    record { parts = omega arith; size = omega arith }
+    omega (
+      arith,
+      params_small d i.params valid.1.0,
+      bare_long d i.bare valid.0,
+      text_long i.bare,
+      lengths,
+    )
 
 more_small : (d : Dialect) (is : Seq Item) → Each (ValidItem d) is
     → Small (items_nodes is) (items_bytes is) (length (canon_more is)) (length (canon_more is))
-more_small d [] valid = record { parts = omega arith; size = omega arith }
+more_small d [] valid = omega arith
 more_small d (i ∷ is) valid =
-    let h = item_small d i valid.0 in
-    let k = more_small d is valid.1 in
-    let a = h.parts in
-    let b = h.size in
-    let f = k.parts in
-    let g = k.size in
-    let e = length-append (canon_item i) (canon_more is) in
-    record { parts = omega arith; size = omega arith }
+    omega (arith, item_small d i valid.0, more_small d is valid.1, lengths)
 
 items_small : (d : Dialect) (is : Seq Item) → Each (ValidItem d) is
     → Small (items_nodes is) (items_bytes is) (1 + length (canon_items is))
     (length (canon_items is))
-items_small d [] valid = record { parts = omega arith; size = omega arith }
+items_small d [] valid = omega arith
 items_small d (i ∷ is) valid =
-    let h = item_small d i valid.0 in
-    let k = more_small d is valid.1 in
-    let a = h.parts in
-    let b = h.size in
-    let f = k.parts in
-    let g = k.size in
-    let e = length-append (canon_item i) (canon_more is) in
-    record { parts = omega arith; size = omega arith }
+    omega (arith, item_small d i valid.0, more_small d is valid.1, lengths)
 
 member_small : (d : Dialect) (m : Member) → ValidMember d m
     → Small (member_nodes m) (member_bytes m) (1 + length (canon_member m))
     (length (canon_member m))
 member_small d (member.Item i) valid = item_small d i valid
 member_small d (member.Inner l) valid =
-    let h = items_small d l.items valid.0 in
-    let k = params_small d l.params valid.1.0 in
-    let a = h.parts in
-    let b = h.size in
-    let f = k.parts in
-    let g = k.size in
-    let e = length-append (canon_items l.items) (41 ∷ canon_params l.params) in
-    record { parts = omega arith; size = omega arith }
+    omega (arith, items_small d l.items valid.0, params_small d l.params valid.1.0, lengths)
 
 -- after a key of a Dictionary
 flag_long : (x : Bare) (ps : Pairs Bare)
     → length (canon_params ps) + length (text_of x) ≤ length (canon_flag x ps)
 flag_long (Boolean true) ps = omega arith
 flag_long (Boolean false) ps = omega arith
-flag_long (Integer n) ps =
-    let e = length-append (canon_bare (Integer n)) (canon_params ps) in omega arith
-flag_long (Decimal n) ps =
-    let e = length-append (canon_bare (Decimal n)) (canon_params ps) in omega arith
-flag_long (Text s) ps =
-    let e = length-append (canon_bare (Text s)) (canon_params ps) in
-    let h = text_long (Text s) in
-    omega arith
-flag_long (Token s) ps =
-    let e = length-append (canon_bare (Token s)) (canon_params ps) in omega arith
-flag_long (Blob s) ps =
-    let e = length-append (canon_bare (Blob s)) (canon_params ps) in
-    let h = text_long (Blob s) in
-    omega arith
-flag_long (Date n) ps =
-    let e = length-append (canon_bare (Date n)) (canon_params ps) in omega arith
-flag_long (Shown s) ps =
-    let e = length-append (canon_bare (Shown s)) (canon_params ps) in
-    let h = text_long (Shown s) in
-    omega arith
+flag_long x ps = omega (arith, text_long x, length-append (canon_bare x) (canon_params ps))
 
 entry_small : (d : Dialect) (key : Seq ℕ) (m : Member) → IsKey key → ValidMember d m
     → Small (member_nodes m) (length key + member_bytes m) (1 + length (canon_entry (key, m)))
     (length (canon_entry (key, m)))
 entry_small d key (member.Item i) named valid =
-    let h = params_small d i.params valid.1.0 in
-    let a = h.parts in
-    let b = h.size in
-    let long = key_long key named in
-    let flag = flag_long i.bare i.params in
-    let e = length-append key (canon_flag i.bare i.params) in
-    record { parts = omega arith; size = omega arith }
+    omega (
+      arith,
+      params_small d i.params valid.1.0,
+      key_some key named,
+      flag_long i.bare i.params,
+      lengths,
+    )
 entry_small d key (member.Inner l) named valid =
-    let h = member_small d (member.Inner l) valid in
-    let a = h.parts in
-    let b = h.size in
-    let e = length-append key (61 ∷ canon_inner l) in
-    record { parts = omega arith; size = omega arith }
+    omega (arith, member_small d (member.Inner l) valid, lengths)
 
 members_behind : (d : Dialect) (ms : Seq Member) → Each (ValidMember d) ms
     → Small (members_nodes ms) (members_bytes ms) (length (canon_commas canon_member ms))
     (length (canon_commas canon_member ms))
-members_behind d [] valid = record { parts = omega arith; size = omega arith }
+members_behind d [] valid = omega arith
 members_behind d (m ∷ ms) valid =
-    let h = member_small d m valid.0 in
-    let k = members_behind d ms valid.1 in
-    let a = h.parts in
-    let b = h.size in
-    let f = k.parts in
-    let g = k.size in
-    let e = length-append (canon_member m) (canon_commas canon_member ms) in
-    record { parts = omega arith; size = omega arith }
+    omega (arith, member_small d m valid.0, members_behind d ms valid.1, lengths)
 
 members_small : (d : Dialect) (ms : Seq Member) → Each (ValidMember d) ms
     → Small (members_nodes ms) (members_bytes ms) (1 + length (canon_series canon_member ms))
     (length (canon_series canon_member ms))
-members_small d [] valid = record { parts = omega arith; size = omega arith }
+members_small d [] valid = omega arith
 members_small d (m ∷ ms) valid =
-    let h = member_small d m valid.0 in
-    let k = members_behind d ms valid.1 in
-    let a = h.parts in
-    let b = h.size in
-    let f = k.parts in
-    let g = k.size in
-    let e = length-append (canon_member m) (canon_commas canon_member ms) in
-    record { parts = omega arith; size = omega arith }
+    omega (arith, member_small d m valid.0, members_behind d ms valid.1, lengths)
 
 entries_behind : (d : Dialect) (ps : Pairs Member) → AreEntries d ps
     → Small (entries_nodes ps) (entries_bytes ps) (length (canon_commas canon_entry ps))
     (length (canon_commas canon_entry ps))
-entries_behind d [] valid = record { parts = omega arith; size = omega arith }
+entries_behind d [] valid = omega arith
 entries_behind d (p ∷ ps) valid =
-    let h = entry_small d p.0 p.1 valid.0.0 valid.0.1 in
-    let k = entries_behind d ps valid.1 in
-    let a = h.parts in
-    let b = h.size in
-    let f = k.parts in
-    let g = k.size in
-    let e = length-append (canon_entry p) (canon_commas canon_entry ps) in
-    record { parts = omega arith; size = omega arith }
+    omega (
+      arith,
+      entry_small d p.0 p.1 valid.0.0 valid.0.1,
+      entries_behind d ps valid.1,
+      lengths,
+    )
 
 entries_small : (d : Dialect) (ps : Pairs Member) → AreEntries d ps
     → Small (entries_nodes ps) (entries_bytes ps) (1 + length (canon_series canon_entry ps))
     (length (canon_series canon_entry ps))
-entries_small d [] valid = record { parts = omega arith; size = omega arith }
+entries_small d [] valid = omega arith
 entries_small d (p ∷ ps) valid =
-    let h = entry_small d p.0 p.1 valid.0.0 valid.0.1 in
-    let k = entries_behind d ps valid.1 in
-    let a = h.parts in
-    let b = h.size in
-    let f = k.parts in
-    let g = k.size in
-    let e = length-append (canon_entry p) (canon_commas canon_entry ps) in
-    record { parts = omega arith; size = omega arith }
+    omega (
+      arith,
+      entry_small d p.0 p.1 valid.0.0 valid.0.1,
+      entries_behind d ps valid.1,
+      lengths,
+    )
 
 field_small : (d : Dialect) (k : Kind) (v : Field) → Valid d k v
     → Small (field_nodes v) (field_bytes v) (1 + length (canon v)) (length (canon v))
 field_small d kind.Item (field.Item i) valid = item_small d i valid
 field_small d kind.List (field.List l) valid = members_small d l.members valid
 field_small d kind.Dict (field.Dict m) valid = entries_small d m.members valid.0
-field_small d kind.Item (field.List l) valid = absurd valid
-field_small d kind.Item (field.Dict m) valid = absurd valid
-field_small d kind.List (field.Item i) valid = absurd valid
-field_small d kind.List (field.Dict m) valid = absurd valid
-field_small d kind.Dict (field.Item i) valid = absurd valid
-field_small d kind.Dict (field.List l) valid = absurd valid
+field_small d k v valid = absurd valid
 
 -- by the bound of the canonical text
 pub nodes_bound : (d : Dialect) (k : Kind) (v : Field) (n : ℕ) → Valid d k v
     → 5 * length (canon v) ≤ 8 * n → 10 * field_nodes v ≤ 8 * n + 5
-nodes_bound d k v n valid h = let p = (field_small d k v valid).parts in omega arith
+nodes_bound d k v n valid h = omega (arith, (field_small d k v valid).parts)
 
 pub bytes_bound : (d : Dialect) (k : Kind) (v : Field) (n : ℕ) → Valid d k v
     → 5 * length (canon v) ≤ 8 * n → 5 * field_bytes v ≤ 8 * n
-bytes_bound d k v n valid h = let s = (field_small d k v valid).size in omega arith
+bytes_bound d k v n valid h = omega (arith, (field_small d k v valid).size)

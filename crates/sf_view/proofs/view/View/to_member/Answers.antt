@@ -40,7 +40,8 @@ pub returns-in-Some : goal.returns-in-Some
 returns-in-Some c = λ d k m t v.
     let is = c.in-Some-2.is in
     let some : Some c.in-Some-2.inner ≡ c.in_ok-inner-in-Some.field-0 = cc in
-    ap (option_map member.Inner) some ∙ inner (goal.at.returns-in-Some c).In_ok-inner-in-Some d k m t v
+    ap (option_map member.Inner) some
+    ∙ inner (goal.at.returns-in-Some c).In_ok-inner-in-Some d k m t v
 
 pub returns-in_default-2 : goal.returns-in_default-2
 returns-in_default-2 c = λ d k m t v.
@@ -52,4 +53,5 @@ pub returns-in-None : goal.returns-in-None
 returns-in-None c = λ d k m t v.
     let is = c.in-Some-3.is in
     let some : Some c.in-Some-3.item ≡ c.in_ok-item-in-None.field-0 = cc in
-    ap (option_map member.Item) some ∙ item (goal.at.returns-in-None c).In_ok-item-in-None d k m t v
+    ap (option_map member.Item) some
+    ∙ item (goal.at.returns-in-None c).In_ok-item-in-None d k m t v
