@@ -65,7 +65,8 @@ HasSizes d k t sizes =
 -- or an offset would have to be 2^32 or more
 abbrev pub Flattens : NodeOutput → NodeOutput → List ℕ → Dialect → Kind → Status → Type 0
 Flattens old new t d k Answered =
-    IsHeld d k t new.nodes new.bytes new.sizes
+    (length t < 2 ^ 32)
+    × IsHeld d k t new.nodes new.bytes new.sizes
     × KeepsLengths old new
     × (new.refusal ≡ old.refusal)
 Flattens old new t d k TooMany =
@@ -85,7 +86,13 @@ Flattens old new t d k TooLong =
     × (new.sizes ≡ old.sizes)
     × (new.refusal ≡ old.refusal)
 Flattens old new t d k Refused =
-    SaysRefusal d k t new.refusal × KeepsLengths old new × (new.sizes ≡ old.sizes)
+    (length t < 2 ^ 32)
+    × SaysRefusal d k t new.refusal
+    × KeepsLengths old new
+    × (new.sizes ≡ old.sizes)
 Flattens old new t d k OutOfMemory =
-    KeepsLengths old new × (new.sizes ≡ old.sizes) × (new.refusal ≡ old.refusal)
+    (length t < 2 ^ 32)
+    × KeepsLengths old new
+    × (new.sizes ≡ old.sizes)
+    × (new.refusal ≡ old.refusal)
 Flattens old new t d k status = ⊥
