@@ -62,7 +62,7 @@ HasSizes d k t sizes =
 
 -- the starts of the buffers describe the only value that the text t spells; or it has more nodes
 -- than the first of them holds; or the second is too small for it; or the struct has the refusal;
--- or an offset would have to be 2^32 or more
+-- or an offset would have to be 2^32 or more. A text of 2^32 bytes or more is always too long
 abbrev pub Flattens : NodeOutput → NodeOutput → List ℕ → Dialect → Kind → Status → Type 0
 Flattens old new t d k Answered =
     (length t < 2 ^ 32)
