@@ -25,6 +25,9 @@
 /* Of crates/sf_bench. The kind is 'i', 'l' or 'd'. */
 size_t sf_bench_parse(uint8_t kind, const uint8_t *text, size_t len, size_t times);
 size_t sf_bench_normalise(uint8_t kind, const uint8_t *text, size_t len, size_t times);
+size_t sf_bench_view(uint8_t kind, const uint8_t *text, size_t len, size_t times);
+size_t sf_bench_check(uint8_t kind, const uint8_t *text, size_t len, size_t times);
+size_t sf_bench_priority(uint8_t kind, const uint8_t *text, size_t len, size_t times);
 
 enum { ROUNDS = 5, PROCESSES = 15, KIB = 1024, SHORT = 256, LARGEST = 512 * KIB };
 
@@ -217,6 +220,22 @@ static double ns_of(call f, uint8_t kind, const struct text *t, size_t times) {
   return (now() - start) / (double)times;
 }
 
+static void require(const char *name, size_t result, size_t expected) {
+  if (result == expected) return;
+  fprintf(stderr, "%s returned %zu, not %zu\n", name, result, expected);
+  exit(1);
+}
+
+/* Stops if a call doesn't accept a text of the kind, since no clause says that one does. */
+static void try_calls(void) {
+  const uint8_t *text = (const uint8_t *)"u=1,i";
+  require("sf_bench_parse", sf_bench_parse('d', text, 5, 2), 1);
+  require("sf_bench_normalise", sf_bench_normalise('d', text, 5, 2), 6);
+  require("sf_bench_view", sf_bench_view('d', text, 5, 2), 1);
+  require("sf_bench_check", sf_bench_check('d', text, 5, 2), 1);
+  require("sf_bench_priority", sf_bench_priority('d', text, 5, 2), 1);
+}
+
 /* ns of a call, the least of the rounds. */
 static double in_a_loop(call f, uint8_t kind, const struct text *t) {
   double best = ns_of(f, kind, t, 3);
@@ -310,6 +329,7 @@ int main(int argc, char **argv) {
                                  64 * KIB, 128 * KIB, 256 * KIB, LARGEST};
   struct largest largest = {0, 0};
 
+  try_calls();
   printf("%-18s %6s %-8s %11s %11s %5s %5s %11s %11s %5s %5s\n", "ns a text", "n KiB", "answer",
          "parse n", "2n", "loop", "fresh", "normalise n", "2n", "loop", "fresh");
   for (size_t s = 0; s < sizeof shapes / sizeof *shapes; ++s) {

@@ -2,7 +2,7 @@
 //! returns the result of the last time; see README.md in this folder.
 #![tactic(auto)]
 
-ghost use Rattle.std.specs.Prelude.{◌≡◌, ◌<◌, ◌≤◌, IfSome, IsTrue};
+ghost use Rattle.std.specs.Prelude.{◌≡◌, ◌≢◌, ◌<◌, ◌≤◌, IfSome, IfNone, IsTrue};
 ghost use Rattle.sf_value.specs.declared.value.Kind.TheVariants as kind_is;
 ghost use Rattle.sf_bench.specs.Timed.{letter, IsAccepted, HasCanonical};
 
@@ -28,7 +28,9 @@ impl RandomSource for SameSeed {
 
 /// The kind of a letter: `i`, `l` or `d`.
 fn kind_named(name: u8) -> Option<Kind>
-    ensures { IfSome result (λ kind. letter kind ≡ name) }
+    ensures some { IfSome result (λ kind. letter kind ≡ name) }
+    // None only if the byte is the letter of no kind.
+    ensures none { IfNone result ((k : Kind) → letter k ≢ name) }
 {
     match name {
         b'i' => Some(Kind::Item),
@@ -71,6 +73,7 @@ fn canonical_len(alloc: Global, seed: &RandomState, kind: Kind, text: &[u8]) -> 
 #[unsafe(no_mangle)]
 pub extern "C" fn sf_bench_parse(alloc: Global, name: u8, text: &[u8], times: usize) -> usize
     ensures bit { result ≤ 1 }
+    ensures idle { times ≡ 0 → result ≡ 0 }
     // 1 only if the text spells a value of the kind of the letter.
     ensures accepted { 0 < result → (k : Kind) × (letter k ≡ name) × IsAccepted k text.now }
 {
@@ -92,8 +95,9 @@ pub extern "C" fn sf_bench_parse(alloc: Global, name: u8, text: &[u8], times: us
 /// ```
 #[unsafe(no_mangle)]
 pub extern "C" fn sf_bench_normalise(alloc: Global, name: u8, text: &[u8], times: usize) -> usize
+    ensures idle { times ≡ 0 → result ≡ 0 }
     // A number above 0 is the length of the canonical text, by the kind of the letter.
-    ensures { 0 < result → (k : Kind) × (letter k ≡ name) × HasCanonical k text.now result }
+    ensures canonical { 0 < result → (k : Kind) × (letter k ≡ name) × HasCanonical k text.now result }
 {
     let (Some(kind), Ok(seed)) = (kind_named(name), RandomState::new(&SameSeed)) else {
         return 0;
@@ -123,6 +127,7 @@ fn has_view(kind: Kind, text: &[u8], nodes: &mut [Node]) -> bool
 #[unsafe(no_mangle)]
 pub extern "C" fn sf_bench_view(alloc: Global, name: u8, text: &[u8], times: usize) -> usize
     ensures bit { result ≤ 1 }
+    ensures idle { times ≡ 0 → result ≡ 0 }
     // 1 only if the text spells a value of the kind of the letter.
     ensures accepted { 0 < result → (k : Kind) × (letter k ≡ name) × IsAccepted k text.now }
 {
@@ -150,6 +155,7 @@ pub extern "C" fn sf_bench_view(alloc: Global, name: u8, text: &[u8], times: usi
 #[unsafe(no_mangle)]
 pub extern "C" fn sf_bench_check(name: u8, text: &[u8], times: usize) -> usize
     ensures bit { result ≤ 1 }
+    ensures idle { times ≡ 0 → result ≡ 0 }
     // 1 only if the text spells a value of the kind of the letter.
     ensures accepted { 0 < result → (k : Kind) × (letter k ≡ name) × IsAccepted k text.now }
 {
@@ -180,6 +186,7 @@ fn has_priority(text: &[u8]) -> bool
 #[unsafe(no_mangle)]
 pub extern "C" fn sf_bench_priority(name: u8, text: &[u8], times: usize) -> usize
     ensures bit { result ≤ 1 }
+    ensures idle { times ≡ 0 → result ≡ 0 }
     // 1 only if the text spells a Dictionary, and the letter is `d`.
     ensures accepted { 0 < result
         → (name ≡ letter kind_is.Dict) × IsAccepted kind_is.Dict text.now }

@@ -62,10 +62,11 @@ HasSizes d k t sizes =
 
 -- the starts of the buffers describe the only value that the text t spells; or it has more nodes
 -- than the first of them holds; or the second is too small for it; or the struct has the refusal;
--- or an offset would have to be 2^32 or more
+-- or an offset would have to be 2^32 or more. A text of 2^32 bytes or more is always too long
 abbrev pub Flattens : NodeOutput → NodeOutput → List ℕ → Dialect → Kind → Status → Type 0
 Flattens old new t d k Answered =
-    IsHeld d k t new.nodes new.bytes new.sizes
+    (length t < 2 ^ 32)
+    × IsHeld d k t new.nodes new.bytes new.sizes
     × KeepsLengths old new
     × (new.refusal ≡ old.refusal)
 Flattens old new t d k TooMany =
@@ -85,7 +86,13 @@ Flattens old new t d k TooLong =
     × (new.sizes ≡ old.sizes)
     × (new.refusal ≡ old.refusal)
 Flattens old new t d k Refused =
-    SaysRefusal d k t new.refusal × KeepsLengths old new × (new.sizes ≡ old.sizes)
+    (length t < 2 ^ 32)
+    × SaysRefusal d k t new.refusal
+    × KeepsLengths old new
+    × (new.sizes ≡ old.sizes)
 Flattens old new t d k OutOfMemory =
-    KeepsLengths old new × (new.sizes ≡ old.sizes) × (new.refusal ≡ old.refusal)
+    (length t < 2 ^ 32)
+    × KeepsLengths old new
+    × (new.sizes ≡ old.sizes)
+    × (new.refusal ≡ old.refusal)
 Flattens old new t d k status = ⊥

@@ -98,7 +98,15 @@ pub(crate) fn parse_dict(
     ensures { ParsesOrSays refusal.old refusal.new text.now Rfc9651 kind_is.Dict
         (result_map_both field_is.Dict (λ status. status) result) }
 {
-    match parse(alloc, seed, scan, Dialect::Rfc9651, Kind::Dict, text, refusal)? {
+    match parse(
+        alloc,
+        seed,
+        scan,
+        Dialect::Rfc9651,
+        Kind::Dict,
+        text,
+        refusal,
+    )? {
         Field::Dict(dict) => Ok(dict),
         _ => unreachable!(),
     }

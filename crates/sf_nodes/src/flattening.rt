@@ -1,5 +1,5 @@
 //! A value as nodes, from its tree.
-ghost use Rattle.std.specs.Prelude.{◌≡◌, ◌+◌, ◌++◌, [], ◌∷◌, pos, length, IfOk};
+ghost use Rattle.std.specs.Prelude.{◌≡◌, ◌≤◌, ◌+◌, ◌^◌, ◌++◌, [], ◌∷◌, pos, length, IfOk, MatchResult};
 ghost use Rattle.sf_nodes.specs.Nodes.{bare_content, entries_content, field_content, inner_content, inside_content};
 ghost use Rattle.sf_nodes.specs.Nodes.{item_content, items_content, member_content, members_content, params_content};
 
@@ -96,7 +96,8 @@ fn push_params(flat: &mut Flat, role: Role, params: &Entries<Bare>) -> Result<()
 
 /// The number of nodes, and one more. A text of less than 4 GiB has fewer than 2^32 nodes.
 fn one_more(count: usize) -> Result<u32, OutOfMemory>
-    ensures { IfOk result (λ n. n ≡ 1 + count) }
+    // It fails only if the number has more than 32 bits.
+    ensures { MatchResult result (λ n. n ≡ 1 + count) (λ _. 2 ^ 32 ≤ 1 + count) }
 {
     if count >= 0xffff_ffff {
         return Err(OutOfMemory);
@@ -125,7 +126,9 @@ fn push_items(flat: &mut Flat, items: &[Item]) -> Result<(), OutOfMemory>
 
 /// The number of nodes of the Items, added to this number.
 fn count_items(items: &[Item], more: usize) -> Result<usize, OutOfMemory>
-    ensures { IfOk result (λ n. n ≡ more + length (items_content items.now)) }
+    // It fails only if the number has more than 64 bits.
+    ensures { MatchResult result (λ n. n ≡ more + length (items_content items.now))
+        (λ _. 2 ^ 64 ≤ more + length (items_content items.now)) }
 {
     let mut count = more;
     for item in items {
@@ -137,7 +140,9 @@ fn count_items(items: &[Item], more: usize) -> Result<usize, OutOfMemory>
 
 /// The number of nodes inside an Inner List.
 fn count_inside(inner: &Inner) -> Result<usize, OutOfMemory>
-    ensures { IfOk result (λ n. n ≡ length (inside_content inner.now)) }
+    // It fails only if the number has more than 64 bits.
+    ensures { MatchResult result (λ n. n ≡ length (inside_content inner.now))
+        (λ _. 2 ^ 64 ≤ length (inside_content inner.now)) }
 {
     let count = count_items(inner.items.as_slice(), inner.params.len())?;
     Ok(count)

@@ -201,9 +201,10 @@ impl Flat {
     }
 }
 
-/// The sum, which does not overflow: fewer than 2^64 of these fit in memory.
+/// The sum. It does not overflow in practice: fewer than 2^64 of what is counted fit in memory.
 pub(crate) fn add(count: usize, more: usize) -> Result<usize, OutOfMemory>
-    ensures { IfOk result (λ n. n ≡ count + more) }
+    // It fails only if the sum overflows.
+    ensures { MatchResult result (λ n. n ≡ count + more) (λ _. 2 ^ 64 ≤ count + more) }
 {
     count.checked_add(more).ok_or(OutOfMemory)
 }

@@ -1,7 +1,10 @@
-use Rattle.std.proofs.Common.{IsTrue}
+use Rattle.std.proofs.Common.{◌≡◌, IsTrue, false}
 use Rattle.sf_value.specs.declared.value.Kind.TheVariants as kind
 use Rattle.sf_bench.specs.Timed.{IsAccepted}
 use Rattle.sf_bench.proofs.sf_bench_priority.Given as goal
 
 abbrev pub invariant-loop : goal.invariant-loop
-invariant-loop l = IsTrue l.accepted → IsAccepted kind.Dict l.text
+invariant-loop l = record {
+  accepted : IsTrue l.accepted → IsAccepted kind.Dict l.text;
+  idle : l.times ≡ 0 → l.accepted ≡ false;
+}

@@ -49,6 +49,7 @@ returns c =
     let bytes = written.same_bytes in
     let enough = c.if-nodes-required.false in
     let fits = c.if-bytes-required.false in (
+      c.requires.small,
       written_held c.args.dialect c.args.kind c.args.text.now c.in-Ok.field c.in-Ok-flatten.flat
           c.write.new.nodes c.write.new.bytes
           (record { nodes = c.node_count.result; bytes = c.byte_count.result })
