@@ -54,7 +54,6 @@ pub record ReadSoFar {A : Type 0} (f : A → List ℕ × Member → A) (F : Pair
       → (all : Pairs Member) × SpellsWhole (SpellsEntry Rfc9651) text all × (fold f a ps ≡ F all)
 
 module _ {A : Type 0} (f : A → List ℕ × Member → A) (F : Pairs Member → A) where
-
   pub read_all : (text : List ℕ) (c e : DictCursor) (a : A) (o : Option EntryView)
       → ReadSoFar f F text c a → ReadsNextEntry c e o → o ≡ None → (P : Field → A → Type 0)
       → ((all : Pairs Member) → a ≡ F all → P (dict_of (settle all)) a) → IsScanned P text a
