@@ -1,5 +1,4 @@
 -- Lemmas on Cache-Status.
-pub mod Faultless
 pub mod Written
 pub mod ReadBack
 pub mod LastHits

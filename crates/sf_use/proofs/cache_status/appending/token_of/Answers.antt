@@ -2,7 +2,7 @@ use Rattle.std.proofs.Common.{◌≡◌, sym, subst}
 use Rattle.sf_value.specs.declared.fault.TextFault.TheVariants.{OutOfMemory}
 use Rattle.sf_value.specs.Grammar.Classes.{is_token_start, is_in_token}
 use Rattle.sf_value.specs.Grammar.Tokens.{IsToken}
-use Rattle.sf_use.proofs.CacheStatusLemmas.Faultless.{refused_word}
+use Rattle.sf_value.proofs.Faults.{refused_word}
 use Rattle.sf_use.proofs.cache_status.appending.token_of.Goals as goal
 
 pub unreachable-requires-in-Err-BadByte : goal.unreachable-requires-in-Err-BadByte
