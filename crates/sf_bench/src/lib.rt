@@ -97,7 +97,8 @@ pub extern "C" fn sf_bench_parse(alloc: Global, name: u8, text: &[u8], times: us
 pub extern "C" fn sf_bench_normalise(alloc: Global, name: u8, text: &[u8], times: usize) -> usize
     ensures idle { times ≡ 0 → result ≡ 0 }
     // A number above 0 is the length of the canonical text, by the kind of the letter.
-    ensures canonical { 0 < result → (k : Kind) × (letter k ≡ name) × HasCanonical k text.now result }
+    ensures canonical { 0 < result
+        → (k : Kind) × (letter k ≡ name) × HasCanonical k text.now result }
 {
     let (Some(kind), Ok(seed)) = (kind_named(name), RandomState::new(&SameSeed)) else {
         return 0;

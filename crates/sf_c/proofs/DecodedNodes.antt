@@ -139,8 +139,8 @@ first_same n m ns ms e = (ap (first n) e, ap others e)
     others [] = []
     others (x ∷ xs) = xs
 
-each_push_uncoded : (size : ℕ) (ns : List Node) (n : Node) → Each (IsUncoded size) ns → IsUncoded size n
-    → Each (IsUncoded size) (ns ++ n ∷ [])
+each_push_uncoded : (size : ℕ) (ns : List Node) (n : Node) → Each (IsUncoded size) ns
+    → IsUncoded size n → Each (IsUncoded size) (ns ++ n ∷ [])
 each_push_uncoded size [] n h p = (p, tt)
 each_push_uncoded size (m ∷ ns) n h p = (h.0, each_push_uncoded size ns n h.1 p)
 

@@ -73,7 +73,8 @@ each_of_members : (d : Dialect) (t : List ℕ) (P : Node → Type 0) → OfEach 
 each_of_members d t P o ns [] e = subst (Each P) (sym e) tt
 each_of_members d t P o ns (x ∷ xs) (prefix, suffix, e, h, q) =
     subst (Each P) (sym e)
-    (each_join P prefix suffix (each_member d t P o [] prefix x h) (each_of_members d t P o suffix xs q))
+    (each_join P prefix suffix (each_member d t P o [] prefix x h)
+    (each_of_members d t P o suffix xs q))
 
 each_of_entries : (d : Dialect) (t : List ℕ) (P : Node → Type 0) → OfEach d t P → (ns : List Node)
     (ps : Pairs Member) → DescribesEntries d t ns ps → Each P ns

@@ -46,7 +46,8 @@ fn decode_node(text: &[u8], node: Node, bytes: &mut [u8], used: usize) -> Option
     requires small { length text.now < 2 ^ 32 }
     requires used { used ≤ length bytes.old }
     ensures same { length bytes.new ≡ length bytes.old }
-    ensures decoded { IfSome result (λ r. IsNodeDecoded text.now bytes.old bytes.new used node r.0 r.1) }
+    ensures decoded { IfSome result
+        (λ r. IsNodeDecoded text.now bytes.old bytes.new used node r.0 r.1) }
 {
     if !is_within(text, node.key_at, node.key_length) {
         return None;

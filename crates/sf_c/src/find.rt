@@ -20,7 +20,8 @@ pub extern "C" fn sf_find(
     index: &mut usize,
 ) -> u32
     // The index of the first such node, or Absent if there is none.
-    ensures { Finds text.now bytes.now role key.now nodes.now index.old index.new (status_at result) }
+    ensures { Finds text.now bytes.now role key.now nodes.now index.old index.new
+        (status_at result) }
 {
     match position_of(nodes, text, bytes, role, key) {
         Some(found) => {

@@ -5,8 +5,8 @@ ghost use Rattle.sf_c.specs.Hops.{bytes_of as bytes_of_name, detail_bytes as byt
 ghost use Rattle.sf_c.specs.Hops.{is_token as is_name_token, detail_is_token as is_detail_token};
 ghost use Rattle.sf_c.specs.Hops.{outcome_number as number_of_outcome};
 ghost use Rattle.sf_c.specs.Hops.{reason_number as number_of_reason, why_number as number_of_why};
-ghost use Rattle.sf_c.specs.Hops.{why_token as token_of_why, hops_size, hop_content, says_by, says_of};
-ghost use Rattle.sf_c.specs.Hops.{HopsAtStart, PutsSpan};
+ghost use Rattle.sf_c.specs.Hops.{why_token as token_of_why, hops_size, hop_content, says_by};
+ghost use Rattle.sf_c.specs.Hops.{says_of, HopsAtStart, PutsSpan};
 
 use crate::buffer::put;
 use crate::span::Span;

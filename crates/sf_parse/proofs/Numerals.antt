@@ -13,8 +13,8 @@ pub next_digit : (count value d : ℕ) → value < 10 ^ count → d < 10
     → 10 * value + d < 10 ^ (count + 1)
 next_digit count value d h k = omega (arith, pow_more 10 count)
 
-pub room : (count value : ℕ) → value < 10 ^ count → count < 15 → value < 10 ^ 14
-room count value h k = below count 14 value h (omega arith)
+pub digit_fits : (count value : ℕ) → value < 10 ^ count → count < 15 → value < 10 ^ 14
+digit_fits count value h k = below count 14 value h (omega arith)
 
 pub whole_fits : (count value : ℕ) → value < 10 ^ count → count ≤ 12 → value < 10 ^ 12
 whole_fits count value = below count 12 value

@@ -45,7 +45,7 @@ impl DateReader {
     }
 
     /// Takes one more byte, or reports that the date can't continue with it and is unchanged.
-    #[tactic(auto, using(crate::proofs::Numerals::room, crate::proofs::Numerals::next_digit))]
+    #[tactic(auto, using(crate::proofs::Numerals::digit_fits, crate::proofs::Numerals::next_digit))]
     pub fn step(&mut self, byte: u8) -> bool
         // The byte leads to the next state, or it can't and the state is unchanged.
         ensures { Steps result (date_step self.old byte) self.old self.new }

@@ -69,7 +69,7 @@ pub(crate) fn bytes_of(
 
 /// The digits, at most 15, that the text begins with: their value, their number, and the rest.
 #[inline(always)]
-#[tactic(auto, using(sf_parse::proofs::Numerals::room, sf_parse::proofs::Numerals::short, sf_parse::proofs::Numerals::next_digit))]
+#[tactic(auto, using(sf_parse::proofs::Numerals::digit_fits, sf_parse::proofs::Numerals::short, sf_parse::proofs::Numerals::next_digit))]
 fn digits(text: &[u8]) -> (u64, usize, &[u8])
     ensures digits { ScansDigits text.now result.0 result.1 result.2.now }
     ensures value { result.0 < 10 ^ result.1 }
