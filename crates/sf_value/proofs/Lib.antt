@@ -4,6 +4,7 @@ pub mod Tables
 pub mod ByteTables
 pub mod DigitValues
 pub mod Runs
+mod Vectors
 pub mod ByteLists
 mod Rows
 pub mod EntryMaps

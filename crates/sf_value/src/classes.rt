@@ -9,6 +9,9 @@ ghost use Rattle.sf_value.specs.Grammar.Strings.{is_unescaped};
 ghost use Rattle.sf_value.specs.Grammar.ByteSequences.{is_base64};
 ghost use Rattle.sf_value.specs.Grammar.DisplayStrings.{is_unencoded};
 
+use crate::lanes::{LANES, LaneClass};
+use std::simd::prelude::*;
+
 /// The flag of the bytes of a key after its first.
 const IN_KEY: u8 = 1;
 
@@ -59,14 +62,6 @@ pub trait ByteClass {
     /// Whether the byte is of the class. It does not allocate.
     fn has(byte: u8) -> bool
         ensures { result ≡ test byte };
-
-    /// The same, in a form that is computed for many bytes at a time. It does not allocate.
-    #[inline]
-    fn has_many(byte: u8) -> bool
-        ensures { result ≡ test byte }
-    {
-        Self::has(byte)
-    }
 }
 
 /// The first byte of a key (section 3.1.2).
@@ -123,16 +118,6 @@ impl ByteClass for InKey {
     fn has(byte: u8) -> bool {
         CLASSES[byte as usize] & IN_KEY != 0
     }
-
-    #[inline]
-    fn has_many(byte: u8) -> bool {
-        within(byte, b'a', b'z')
-            | within(byte, b'0', b'9')
-            | (byte == b'_')
-            | (byte == b'-')
-            | (byte == b'.')
-            | (byte == b'*')
-    }
 }
 
 impl ByteClass for TokenStart {
@@ -150,19 +135,6 @@ impl ByteClass for InToken {
     #[inline]
     fn has(byte: u8) -> bool {
         CLASSES[byte as usize] & IN_TOKEN != 0
-    }
-
-    #[inline]
-    fn has_many(byte: u8) -> bool {
-        within(byte, b'!', b'~')
-            & (byte != b'"')
-            & (byte != b'(')
-            & (byte != b')')
-            & (byte != b',')
-            & !within(byte, b';', b'@')
-            & !within(byte, b'[', b']')
-            & (byte != b'{')
-            & (byte != b'}')
     }
 }
 
@@ -182,11 +154,6 @@ impl ByteClass for Unescaped {
     fn has(byte: u8) -> bool {
         CLASSES[byte as usize] & UNESCAPED != 0
     }
-
-    #[inline]
-    fn has_many(byte: u8) -> bool {
-        within(byte, b' ', b'~') & (byte != b'"') & (byte != b'\\')
-    }
 }
 
 impl ByteClass for UnencodedByte {
@@ -196,11 +163,6 @@ impl ByteClass for UnencodedByte {
     fn has(byte: u8) -> bool {
         CLASSES[byte as usize] & UNENCODED != 0
     }
-
-    #[inline]
-    fn has_many(byte: u8) -> bool {
-        within(byte, b' ', b'~') & (byte != b'"') & (byte != b'%')
-    }
 }
 
 impl ByteClass for Base64 {
@@ -209,15 +171,6 @@ impl ByteClass for Base64 {
     #[inline]
     fn has(byte: u8) -> bool {
         CLASSES[byte as usize] & BASE64 != 0
-    }
-
-    #[inline]
-    fn has_many(byte: u8) -> bool {
-        within(byte, b'a', b'z')
-            | within(byte, b'A', b'Z')
-            | within(byte, b'0', b'9')
-            | (byte == b'+')
-            | (byte == b'/')
     }
 }
 
@@ -239,30 +192,37 @@ impl ByteClass for Ows {
     }
 }
 
-/// Whether all bytes are of the class. It tests each, without an early exit, which a processor does
-/// for many at a time.
-#[inline]
-fn all_of<C: ByteClass>(bytes: &[u8]) -> bool
-    ensures { result ≡ true → Every C.test bytes.now }
+/// The number of bytes before the first whose bit is set, of the 16 bytes that the text begins with.
+#[inline(always)]
+fn first_lanes<C: LaneClass>(text: &[u8]) -> usize
+    requires { LANES ≤ length text.now }
+    ensures within { result ≤ LANES }
+    // All of these bytes are of the class.
+    ensures every { Every C.test (take result text.now) }
 {
-    let mut all = true;
-    for byte in bytes {
-        all &= C::has_many(*byte);
+    let outside = C::outside(u8x16::from_slice(text));
+    if outside == 0 {
+        LANES
+    } else {
+        outside.trailing_zeros() as usize
     }
-    all
 }
 
-/// The number of bytes of the class that the text begins with, for runs that are mostly very long:
-/// blocks of 16 are tested. It is not inlined, so that a short run doesn't pay for its constants.
+/// The number of bytes of the class that the text begins with. It is not inlined, so that a short
+/// run doesn't pay for its constants.
 #[inline(never)]
-fn long_run<C: ByteClass>(text: &[u8]) -> usize
+fn long_run<C: LaneClass>(text: &[u8]) -> usize
     ensures within { result ≤ length text.now }
     // All of these bytes are of the class.
     ensures every { Every C.test (take result text.now) }
 {
     let mut run = 0;
-    while text.len() - run >= 16 && all_of::<C>(&text[run..run + 16]) {
-        run += 16;
+    while text.len() - run >= LANES {
+        let more = first_lanes::<C>(&text[run..]);
+        run += more;
+        if more < LANES {
+            return run;
+        }
     }
     while run < text.len() && C::has(text[run]) {
         run += 1;
@@ -270,22 +230,21 @@ fn long_run<C: ByteClass>(text: &[u8]) -> usize
     run
 }
 
-/// The bytes of the class that the text begins with, and the rest, for runs that are mostly long:
-/// after the first 16 bytes, blocks of 16 are tested. It does not allocate.
+/// The bytes of the class that the text begins with, and the rest, tested 16 at a time, unless the
+/// text is shorter. It does not allocate.
 #[inline(always)]
-pub fn long_prefix<C: ByteClass>(text: &[u8]) -> (&[u8], &[u8])
+pub fn long_prefix<C: LaneClass>(text: &[u8]) -> (&[u8], &[u8])
     // Together they are the text.
     ensures whole { text.now ≡ result.0.now ++ result.1.now }
     // All bytes of the first are of the class.
     ensures every { Every C.test result.0.now }
 {
-    let mut run = 0;
-    let start = text.len().min(16);
-    while run < start && C::has(text[run]) {
-        run += 1;
+    if text.len() < LANES {
+        return short_prefix::<C>(text);
     }
-    if run == 16 {
-        run += long_run::<C>(&text[16..]);
+    let mut run = first_lanes::<C>(text);
+    if run == LANES {
+        run += long_run::<C>(&text[LANES..]);
     }
     text.split_at(run)
 }
@@ -356,7 +315,7 @@ pub fn is_visible(byte: u8) -> bool
 pub fn stands_for_itself(byte: u8) -> bool
     ensures { result ≡ is_unencoded byte }
 {
-    UnencodedByte::has_many(byte)
+    UnencodedByte::has(byte)
 }
 
 /// Whether a byte is a space or a tab, the optional white space between the members of a List or a

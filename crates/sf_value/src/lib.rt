@@ -42,6 +42,7 @@ mod equality;
 mod fault;
 mod key;
 mod key_hash;
+mod lanes;
 pub mod laws;
 mod lookup;
 mod number;

@@ -2,19 +2,25 @@ use Rattle.std.proofs.Common.{sym, ◌∙◌, arith}
 use Rattle.sf_value.proofs.Runs.{every_more, every_block}
 use Rattle.sf_value.proofs.classes.long_run.Goals as goal
 
+pub returns-then-more-lt-LANES-clause-every : goal.returns-then-more-lt-LANES-clause-every
+returns-then-more-lt-LANES-clause-every g c =
+    every_block g.C.ByteClass.test _ _ _ c.loop-run.invariant.every c.first_lanes-more.ensures.every
+
 pub loop-run-preserved : goal.loop-run-preserved
 loop-run-preserved g c = record {
-  within = omega arith;
+  within =
+      let h = c.first_lanes-more.ensures.within in
+      let k = c.loop-run-test.true in
+      omega arith;
   every =
-      every_block g.C.ByteClass.test _ _ _ (omega arith) c.loop-run.invariant.every
-      (c.all_of.ensures c.if-all_of.true);
+      every_block g.C.ByteClass.test _ _ _ c.loop-run.invariant.every
+      c.first_lanes-more.ensures.every;
 }
 
 pub loop-run-2-preserved : goal.loop-run-2-preserved
 loop-run-2-preserved g c = record {
   within = let h = c.loop-run-2-test.true in omega arith;
   every =
-      every_more g.C.ByteClass.test _ _ c.loop-run-2.invariant.every
-      (let h = c.loop-run-2-test.true in omega arith)
+      every_more g.C.ByteClass.test _ _ c.loop-run-2.invariant.every c.loop-run-2-test.true
       (sym c.has.ensures ∙ c.if-has.true);
 }
