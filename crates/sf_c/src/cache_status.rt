@@ -107,7 +107,9 @@ fn path_of(
     path_by_tree(alloc, seed, text, hops, bytes, path, refusal)
 }
 
-/// The result of [`sf_cache_status`], by the tree of the value.
+/// The result of [`sf_cache_status`], by the tree of the value. It is not inlined, so that an
+/// accepted text doesn't pay for its stack.
+#[inline(never)]
 fn path_by_tree(
     alloc: Global,
     seed: &Seed,

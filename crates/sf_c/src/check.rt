@@ -49,6 +49,22 @@ fn check(
     if accepts(dialect, kind, text) {
         return Status::Answered;
     }
+    check_tree(alloc, seed, dialect, kind, text, refusal)
+}
+
+/// As [`sf_check`], for a text that was declined, by the tree of its value. It is not inlined, so
+/// that an accepted text doesn't pay for its stack.
+#[inline(never)]
+fn check_tree(
+    alloc: Global,
+    seed: &Seed,
+    dialect: Dialect,
+    kind: Kind,
+    text: &[u8],
+    refusal: &mut SyntaxRefusal,
+) -> Status
+    ensures { Checks refusal.old refusal.new text.now dialect kind result }
+{
     match parse(alloc, seed, Scan::Declined, dialect, kind, text, refusal) {
         Ok(_) => Status::Answered,
         Err(status) => status,

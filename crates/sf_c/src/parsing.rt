@@ -127,7 +127,9 @@ fn scan_nodes(
     })
 }
 
-/// As [`sf_parse`], from the tree of the value.
+/// As [`sf_parse`], from the tree of the value. It is not inlined, so that an accepted text doesn't
+/// pay for its stack.
+#[inline(never)]
 fn parse_tree(
     alloc: Global,
     seed: &Seed,

@@ -118,6 +118,23 @@ fn read_params(
         *priority = PriorityFlags::of(asked);
         return Status::Answered;
     }
+    params_by_tree(alloc, seed, text, priority, refusal)
+}
+
+/// Reads the parameters of a text that was declined, from the tree of its value. It is not inlined,
+/// so that an accepted text doesn't pay for its stack.
+#[inline(never)]
+fn params_by_tree(
+    alloc: Global,
+    seed: &Seed,
+    text: &[u8],
+    priority: &mut PriorityFlags,
+    refusal: &mut SyntaxRefusal,
+) -> Status
+    // The parameters of the Dictionary, or the other struct says why the text spells none.
+    ensures { AsksFor (record { priority = priority.old; refusal = refusal.old })
+        (record { priority = priority.new; refusal = refusal.new }) text.now (Some result) }
+{
     match parse_dict(alloc, seed, Scan::Declined, text, refusal) {
         Ok(dict) => {
             *priority = PriorityFlags::of(Priority::from_dict(&dict));

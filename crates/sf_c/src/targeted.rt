@@ -160,6 +160,23 @@ pub(crate) fn direct(
     if let Some(offer) = Directives::scan(text) {
         return offered(offer, policy);
     }
+    policy_by_tree(alloc, seed, text, policy, refusal)
+}
+
+/// Reads the policy of a text that was declined, from the tree of its value. It is not inlined, so
+/// that an accepted text doesn't pay for its stack.
+#[inline(never)]
+fn policy_by_tree(
+    alloc: Global,
+    seed: &Seed,
+    text: &[u8],
+    policy: &mut PolicyFlags,
+    refusal: &mut SyntaxRefusal,
+) -> Status
+    // The policy of a Dictionary; or Empty if it has no members; or why the text spells none.
+    ensures { SaysToCache (record { policy = policy.old; refusal = refusal.old })
+        (record { policy = policy.new; refusal = refusal.new }) text.now (Some result) }
+{
     match parse_dict(alloc, seed, Scan::Declined, text, refusal) {
         Ok(dict) => directed(&dict, policy),
         Err(status) => status,
