@@ -219,10 +219,11 @@ fn long_run<C: LaneClass>(text: &[u8]) -> usize
     let mut run = 0;
     while text.len() - run >= LANES {
         let more = first_lanes::<C>(&text[run..]);
-        run += more;
         if more < LANES {
-            return run;
+            return run + more;
         }
+        // Not `more`: the next load must not wait for the bits of this one.
+        run += LANES;
     }
     while run < text.len() && C::has(text[run]) {
         run += 1;

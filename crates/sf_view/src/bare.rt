@@ -210,7 +210,8 @@ fn scan_string(whole: usize, text: &[u8]) -> Option<(Part, &[u8])>
     let inside = behind(text, b'"')?;
     let (prefix, stop) = long_prefix::<Unescaped>(inside);
     let Some(rest) = behind(stop, b'"') else {
-        return scan_escaped(whole, text);
+        let (part, rest) = scan_escaped(whole, text)?;
+        return Some((part, rest));
     };
     Some((
         bytes_of(whole, NodeType::Text, false, inside, prefix.len()),
@@ -297,17 +298,31 @@ fn scan_bare(dialect: Dialect, whole: usize, text: &[u8]) -> Option<(Part, &[u8]
     ensures { IfSome result (λ r. ScansBare dialect whole text.now r.0 r.1.now) }
 {
     let (first, _) = split(text)?;
+    // Results of calls that are not inlined are returned in parts: the compiler keeps these in
+    // registers, and a result as a whole in memory.
     match first {
         b'0'..=b'9' | b'-' => return scan_number(text),
         b'"' => return scan_string(whole, text),
-        b'?' => return scan_boolean(text),
-        b':' => return scan_blob(whole, text),
+        b'?' => {
+            let (part, rest) = scan_boolean(text)?;
+            return Some((part, rest));
+        }
+        b':' => {
+            let (part, rest) = scan_blob(whole, text)?;
+            return Some((part, rest));
+        }
         b'@' => match dialect {
-            Dialect::Rfc9651 => return scan_date(text),
+            Dialect::Rfc9651 => {
+                let (part, rest) = scan_date(text)?;
+                return Some((part, rest));
+            }
             Dialect::Rfc8941 => return None,
         },
         b'%' => match dialect {
-            Dialect::Rfc9651 => return scan_shown(whole, text),
+            Dialect::Rfc9651 => {
+                let (part, rest) = scan_shown(whole, text)?;
+                return Some((part, rest));
+            }
             Dialect::Rfc8941 => return None,
         },
         _ => return scan_token(whole, text),
