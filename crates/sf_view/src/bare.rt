@@ -200,7 +200,7 @@ fn scan_escaped(whole: usize, text: &[u8]) -> Option<(Part, &[u8])>
     }
 }
 
-/// A String, and the rest.
+/// A String without escapes, and the rest.
 #[inline(always)]
 fn scan_string(whole: usize, text: &[u8]) -> Option<(Part, &[u8])>
     requires small { whole < 2 ^ 32 }
@@ -209,10 +209,7 @@ fn scan_string(whole: usize, text: &[u8]) -> Option<(Part, &[u8])>
 {
     let inside = behind(text, b'"')?;
     let (prefix, stop) = long_prefix::<Unescaped>(inside);
-    let Some(rest) = behind(stop, b'"') else {
-        let (part, rest) = scan_escaped(whole, text)?;
-        return Some((part, rest));
-    };
+    let rest = behind(stop, b'"')?;
     Some((
         bytes_of(whole, NodeType::Text, false, inside, prefix.len()),
         rest,
@@ -290,6 +287,25 @@ fn scan_token(whole: usize, text: &[u8]) -> Option<(Part, &[u8])>
     ))
 }
 
+/// A String with escapes, a Boolean, a Byte Sequence, a Date or a Display String, and the rest. It
+/// is not inlined: the compiler reserves and clears memory for the result of each call in it.
+#[inline(never)]
+fn scan_other(dialect: Dialect, whole: usize, text: &[u8]) -> Option<(Part, &[u8])>
+    requires small { whole < 2 ^ 32 }
+    requires within { length text.now ≤ whole }
+    ensures { IfSome result (λ r. ScansBare dialect whole text.now r.0 r.1.now) }
+{
+    let (first, _) = split(text)?;
+    match (first, dialect) {
+        (b'"', _) => return scan_escaped(whole, text),
+        (b'?', _) => return scan_boolean(text),
+        (b':', _) => return scan_blob(whole, text),
+        (b'@', Dialect::Rfc9651) => return scan_date(text),
+        (b'%', Dialect::Rfc9651) => return scan_shown(whole, text),
+        _ => return None,
+    }
+}
+
 /// A bare item at the start of the text, which ends a source of `whole` bytes, and the rest.
 #[inline(always)]
 fn scan_bare(dialect: Dialect, whole: usize, text: &[u8]) -> Option<(Part, &[u8])>
@@ -298,35 +314,19 @@ fn scan_bare(dialect: Dialect, whole: usize, text: &[u8]) -> Option<(Part, &[u8]
     ensures { IfSome result (λ r. ScansBare dialect whole text.now r.0 r.1.now) }
 {
     let (first, _) = split(text)?;
-    // Results of calls that are not inlined are returned in parts: the compiler keeps these in
-    // registers, and a result as a whole in memory.
     match first {
         b'0'..=b'9' | b'-' => return scan_number(text),
-        b'"' => return scan_string(whole, text),
-        b'?' => {
-            let (part, rest) = scan_boolean(text)?;
-            return Some((part, rest));
-        }
-        b':' => {
-            let (part, rest) = scan_blob(whole, text)?;
-            return Some((part, rest));
-        }
-        b'@' => match dialect {
-            Dialect::Rfc9651 => {
-                let (part, rest) = scan_date(text)?;
-                return Some((part, rest));
+        b'"' => {
+            if let Some(found) = scan_string(whole, text) {
+                return Some(found);
             }
-            Dialect::Rfc8941 => return None,
-        },
-        b'%' => match dialect {
-            Dialect::Rfc9651 => {
-                let (part, rest) = scan_shown(whole, text)?;
-                return Some((part, rest));
-            }
-            Dialect::Rfc8941 => return None,
-        },
+        }
+        b'?' | b':' | b'@' | b'%' => {}
         _ => return scan_token(whole, text),
     }
+    // In parts: the compiler keeps these in registers, and the result as a whole in memory.
+    let (part, rest) = scan_other(dialect, whole, text)?;
+    Some((part, rest))
 }
 
 /// The same as [`scan_bare`], but tests for a number first.
