@@ -89,7 +89,7 @@ impl EntryView<'_> {
         ensures { (d : Which) (m : Member) → ShowsMember d self.now.bare m
             → result ≡ integer_in m }
     {
-        match self.bare {
+        match &self.bare {
             Some(bare) => return bare.as_integer(),
             None => return None,
         }
@@ -102,7 +102,7 @@ impl EntryView<'_> {
         ensures { (d : Which) (m : Member) → ShowsMember d self.now.bare m
             → result ≡ boolean_in m }
     {
-        match self.bare {
+        match &self.bare {
             Some(bare) => return bare.as_boolean(),
             None => return None,
         }

@@ -95,8 +95,21 @@ pub(crate) fn read_param<'a>(
     Some((key, bare, rest))
 }
 
-/// The rest after parameters.
+/// The rest after parameters. Only a text that begins with one costs a call.
+#[inline(always)]
 pub(crate) fn behind_params(dialect: Dialect, text: &[u8]) -> Option<&[u8]>
+    ensures { IfSome result (λ rest. Reads (SpellsRaw dialect) text.now rest.now) }
+{
+    if behind(text, b';').is_none() {
+        return Some(text);
+    }
+    let rest = behind_each_param(dialect, text)?;
+    Some(rest)
+}
+
+/// As [`behind_params`].
+#[inline(never)]
+fn behind_each_param(dialect: Dialect, text: &[u8]) -> Option<&[u8]>
     ensures { IfSome result (λ rest. Reads (SpellsRaw dialect) text.now rest.now) }
 {
     let mut rest = text;

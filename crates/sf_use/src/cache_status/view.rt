@@ -152,7 +152,7 @@ impl<'a> HopParams<'a> {
             → IsBorrowed d param.entry.bare x
             → ShowsParts d self.new (with_param s (param.entry.key.now, x)) }
     {
-        let bare = param.bare;
+        let bare = &param.bare;
         if param.key == b"hit".as_slice() {
             self.hit = bare.as_boolean();
         } else if param.key == b"fwd".as_slice() {
@@ -168,7 +168,7 @@ impl<'a> HopParams<'a> {
         } else if param.key == b"key".as_slice() {
             self.key = bare.as_text();
         } else if param.key == b"detail".as_slice() {
-            self.detail = name_of(bare);
+            self.detail = name_of(param.bare);
         }
     }
 }

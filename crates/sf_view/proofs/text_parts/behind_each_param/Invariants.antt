@@ -1,7 +1,7 @@
 use Rattle.std.proofs.Common.{ℕ, List, length}
 use Rattle.sf_value.specs.Grammar.Parameters.{SpellsRaw}
 use Rattle.sf_view.specs.Reads.{Reads}
-use Rattle.sf_view.proofs.text_parts.behind_params.Given as goal
+use Rattle.sf_view.proofs.text_parts.behind_each_param.Given as goal
 
 -- whatever parameters the rest begins with, the text begins with some up to the same place
 abbrev pub invariant-loop-more : goal.invariant-loop-more
