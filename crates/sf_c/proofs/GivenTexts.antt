@@ -1,11 +1,9 @@
 -- Bytes of which a String or a Token is refused give none, unless an allocation failed.
-use Rattle.std.proofs.Common.{◌≡◌, ℕ, Bool, not, List, [], ◌∷◌, None}
-use Rattle.std.proofs.Common.{refl, sym, ◌∙◌, subst, length, arith}
-use Rattle.std.proofs.lemmas.Bool.Decides.{nat_tests}
-use Rattle.std.specs.List.{position_or_len}
+use Rattle.std.proofs.Common.{◌≡◌, ℕ, List}
+use Rattle.std.proofs.Common.{sym, ◌∙◌, subst}
 use Rattle.sf_value.specs.declared.fault.TextFault.{TextFault}
 use Rattle.sf_value.specs.declared.fault.TextFault.TheVariants.{Empty, BadByte, OutOfMemory}
-use Rattle.sf_value.specs.Faults.{bad_place, IsStringFault, IsTokenFault}
+use Rattle.sf_value.specs.Faults.{IsStringFault, IsTokenFault}
 use Rattle.sf_value.specs.Grammar.Classes.{is_visible, is_token_start, is_in_token}
 use Rattle.sf_value.specs.Grammar.Tokens.{IsToken}
 use Rattle.sf_value.specs.Grammar.Words.{Every}

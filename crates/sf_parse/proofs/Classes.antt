@@ -1,6 +1,6 @@
 -- Tests on bytes.
 use Rattle.std.proofs.Common.{◌≡◌, ℕ, Bool, true, false, ◌==◌, List, [], ◌∷◌, ⊎_elim}
-use Rattle.std.proofs.Common.{ap, ◌∙◌, ◌⊎◌, eqb-true}
+use Rattle.std.proofs.Common.{ap, ◌∙◌, eqb-true}
 use Rattle.std.proofs.lemmas.Bool.{or_cases}
 use Rattle.sf_value.specs.Grammar.Classes.{is_one_of}
 use Rattle.sf_parse.specs.Machine.Language.{is_follow}

@@ -1,6 +1,6 @@
 -- Sets of bytes as the bits of a number: put together, and bit by bit.
 use Rattle.std.proofs.Common.{◌≡◌, ℕ, zero, ◌+◌, ◌*◌, ◌%◌, ◌^◌, ◌<◌, ◌≤◌, Bool, true, false, ◌==◌}
-use Rattle.std.proofs.Common.{nat_lt, ◌&&◌, ◌||◌, cond, refl, sym, ap, ap₂, ◌∙◌, ⊎_elim, ◌⊎◌}
+use Rattle.std.proofs.Common.{nat_lt, ◌&&◌, ◌||◌, cond, refl, sym, ap, ap₂, ◌∙◌, ⊎_elim}
 use Rattle.std.proofs.Common.{arith, bit_or, ◌≢◌, eqb-true, max, Option, Some, None, is_some}
 use Rattle.std.specs.Option.{option_map, option_or}
 use Rattle.std.specs.Int.{bit_at, w128}

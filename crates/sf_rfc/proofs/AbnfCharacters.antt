@@ -1,7 +1,7 @@
 -- The classes of characters of the grammar keep to the rules of the ABNF.
 use Rattle.std.proofs.Common.{◌≡◌, ℕ, ◌+◌, ◌<◌, ◌≤◌, Bool, true, false, ◌==◌, ◌||◌}
 use Rattle.std.proofs.Common.{List, [], ◌∷◌, length, refl, sym, ap, inl, inr}
-use Rattle.std.proofs.Common.{◌⊎◌, ⊎_elim, true≢false, eqb-true, arith}
+use Rattle.std.proofs.Common.{⊎_elim, true≢false, eqb-true, arith}
 use Rattle.std.specs.Prelude.{if◌then◌else◌, nat_lt, codes}
 use Rattle.std.proofs.lemmas.Bool.{or_cases}
 use Rattle.std.proofs.lemmas.Bool.Decides.{nat_tests}

@@ -16,6 +16,8 @@ mod memory;
 #[cfg(test)]
 mod nodes;
 #[cfg(test)]
+mod runs;
+#[cfg(test)]
 mod trees;
 #[cfg(test)]
 mod views;

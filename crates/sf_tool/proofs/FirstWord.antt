@@ -1,5 +1,5 @@
 -- A first argument that is no option and no command: clap finds a fault in it.
-use Rattle.std.proofs.Common.{◌≡◌, ◌==◌, inl, inr, true, false, List, [], ◌∷◌, Option, Some, None}
+use Rattle.std.proofs.Common.{◌≡◌, ◌==◌, inl, inr, false, List, [], ◌∷◌, Option, Some, None}
 use Rattle.std.proofs.Common.{refl, sym, subst, ap, ◌∙◌, codes, rules, bytes_eq}
 use Rattle.std.specs.Prelude.{Bool, find, if◌then◌else◌, option_and_then, option_map}
 use Rattle.std.proofs.lemmas.Bool.{cases_Bool}

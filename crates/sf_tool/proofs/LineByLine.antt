@@ -4,7 +4,7 @@ use Rattle.std.proofs.Common.{length, take, drop, get_or, refl, ap, sym, ◌∙�
 use Rattle.std.proofs.Common.{map, arith, add-one, length-drop}
 use Rattle.std.specs.Prelude.{fold}
 use Rattle.std.specs.List.{filter, list_any}
-use Rattle.std.proofs.Math.Seq.{take-suc, take-length}
+use Rattle.std.proofs.Math.Seq.{take-suc}
 use borrow.Author.Count.{below_more}
 use Rattle.std.proofs.lemmas.Bool.{cases_Bool, false≢true}
 use Rattle.std.proofs.lemmas.List.{get_or_read_under, map-append, drop_more}

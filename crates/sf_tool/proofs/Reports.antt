@@ -23,7 +23,7 @@ use Rattle.sf_field.specs.declared.consumer.UseFault.TheVariants as use_fault
 use Rattle.std.specs.declared.vec.Vec.{Vec}
 use Rattle.std.specs.declared.alloc.Global.{Global}
 use Rattle.sf_tool.specs.declared.answering.View.{View}
-use Rattle.sf_tool.specs.declared.answering.View.TheVariants.{Tree, Verdict, Canonical}
+use Rattle.sf_tool.specs.declared.answering.View.TheVariants.{Tree}
 use Rattle.sf_tool.specs.declared.fields.InputFault.{InputFault}
 use Rattle.sf_tool.specs.declared.fields.InputFault.TheVariants as input_fault
 use Rattle.sf_tool.specs.declared.request.Request.{Request}

@@ -5,7 +5,6 @@ use Rattle.std.specs.Prelude.{unwrap_or}
 use Rattle.sf_value.specs.declared.dialect.Dialect.TheVariants.{Rfc9651}
 use Rattle.sf_value.specs.declared.value.Bare.{Bare}
 use Rattle.sf_value.specs.declared.value.Bare.TheVariants.{Integer}
-use Rattle.sf_value.specs.declared.value.Bare.TheVariants.{Boolean}
 use Rattle.sf_value.specs.declared.value.Dict.{Dict}
 use Rattle.sf_value.specs.declared.value.Field.{Field}
 use Rattle.sf_value.specs.declared.value.Field.TheVariants as field

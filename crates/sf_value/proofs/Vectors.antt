@@ -1,10 +1,13 @@
 -- Vectors of 16 bytes, each tested at once.
-use Rattle.std.proofs.Common.{◌≡◌, ℕ, zero, suc, ◌+◌, ◌-◌, ◌%◌, ◌^◌, ◌<◌, ◌≤◌, Bool, true, false, not, cond, eqb, leb, ltb, List, [], ◌∷◌}
-use Rattle.std.proofs.Common.{map, length, take, replicate, bit_and, bit_or, Fits, w8, refl, sym, ap, ap₂, ◌∙◌, subst, arith}
+use Rattle.std.proofs.Common.{◌≡◌, ℕ, zero, suc, ◌+◌, ◌-◌, ◌%◌, ◌^◌, ◌<◌, ◌≤◌, eqb, leb, ltb}
+use Rattle.std.proofs.Common.{Bool, true, false, not, cond, bit_and, bit_or, List, [], ◌∷◌}
+use Rattle.std.proofs.Common.{map, length, take, replicate, Fits, w8, refl, sym, ap, ap₂, ◌∙◌}
+use Rattle.std.proofs.Common.{subst, arith}
 use Rattle.std.proofs.lemmas.Bool.{agree_below, agree_below_at}
 use Rattle.std.proofs.lemmas.List.{length-map}
 use Rattle.std.proofs.lemmas.List.Sums.{prefix_len-le-length}
-use Rattle.std.proofs.lemmas.Simd.{zip2_splat, zip2_splat_left, zip2_of_maps, map-map, mask_l-mod, leading_from_mask_l, trailing_mask_l, length-chunk}
+use Rattle.std.proofs.lemmas.Simd.{zip2_splat, zip2_splat_left, zip2_of_maps, map-map}
+use Rattle.std.proofs.lemmas.Simd.{mask_l-mod, leading_from_mask_l, trailing_mask_l, length-chunk}
 use Rattle.std.specs.List.{prefix_len}
 use lib.Count.{count_trailing_zeros}
 use lib.Lanes.{zip2, mask_l, top, chunk, Each1}
@@ -26,7 +29,8 @@ pub masked : (f : ℕ → ℕ) (test : ℕ → Bool) (v z : List ℕ)
     → mask_l (map (top 7) z) % 2 ^ 64 ≡ mask_l (map (λ b. not (test b)) v)
 masked f test v z fits e all =
     ap (λ l. mask_l l % 2 ^ 64) (ap (map (top 7)) e ∙ each_lane f test all v fits.1)
-    ∙ mask_l-mod (map (λ b. not (test b)) v) 64 (omega (arith, length-map v (λ b. not (test b)), fits.0))
+    ∙ mask_l-mod (map (λ b. not (test b)) v) 64
+    (omega (arith, length-map v (λ b. not (test b)), fits.0))
 
 -- comparisons with a byte, and what joins them, computed of each byte alone
 abbrev equals : ℕ → ℕ → ℕ
@@ -101,7 +105,8 @@ module _ (test : ℕ → Bool) (t : List ℕ) (n mask : ℕ) (long : n ≤ lengt
 
   pub first_within : 0 < mask → count_trailing_zeros 64 mask ≤ n
   first_within h =
-      omega (arith, some h, prefix_len-le-length passes (chunk 0 n t), length-chunk 0 n t (omega arith))
+      let long = length-chunk 0 n t (omega arith) in
+      omega (arith, some h, prefix_len-le-length passes (chunk 0 n t), long)
 
   pub first_lanes : 0 < mask → Every test (take (count_trailing_zeros 64 mask) t)
   first_lanes h = subst (λ r. Every test (take r t)) (sym (some h)) (every_first test n t)

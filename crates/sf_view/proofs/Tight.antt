@@ -1,5 +1,5 @@
 -- The text of a bare item neither begins nor ends with a space.
-use Rattle.std.proofs.Common.{◌≡◌, ◌≢◌, ℕ, suc, ◌+◌, ◌-◌, Bool, true, false, List, [], ◌∷◌, ◌++◌, length}
+use Rattle.std.proofs.Common.{◌≡◌, ◌≢◌, ℕ, ◌-◌, Bool, true, false, List, [], ◌∷◌, ◌++◌, length}
 use Rattle.std.proofs.Common.{refl, sym, ap, ◌∙◌, subst, arith, append_assoc, append-nil}
 use Rattle.std.proofs.Common.{length-append, slice_index, replicate, inl, inr}
 use Rattle.sf_value.specs.declared.dialect.Dialect.{Dialect}
@@ -11,7 +11,7 @@ use Rattle.sf_value.specs.declared.value.Kind.TheVariants as kind
 use Rattle.sf_value.specs.Ascii.{quote, colon, equals, point}
 use Rattle.sf_value.specs.Grammar.Words.{Every}
 use Rattle.sf_value.specs.Grammar.Classes.{is_sp, is_digit, is_token_start, is_in_token}
-use Rattle.sf_value.specs.Grammar.Numbers.{sign, AreDigits, SpellsInteger, SpellsDecimal}
+use Rattle.sf_value.specs.Grammar.Numbers.{sign, AreDigits}
 use Rattle.sf_value.specs.Grammar.Strings.{escaped}
 use Rattle.sf_value.specs.Grammar.ByteSequences.{unpadded, Sextets}
 use Rattle.sf_value.specs.Grammar.DisplayStrings.{EncodedBytes}

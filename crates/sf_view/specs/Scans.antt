@@ -7,10 +7,10 @@ use Rattle.sf_value.specs.declared.value.Bare.{Bare}
 use Rattle.sf_value.specs.declared.value.Bare.TheVariants.{Date}
 use Rattle.sf_value.specs.declared.value.Item.{Item}
 use Rattle.sf_value.specs.Grammar.Words.{Every}
-use Rattle.std.specs.Prelude.{if◌then◌else◌, ◌==◌, ◌≢◌, replicate, ◌&&◌, ◌||◌, not, codes, ◌*◌, ◌-◌, ◌^◌, false}
-use Rattle.sf_value.specs.Grammar.Strings.{is_escaped, escaped}
+use Rattle.std.specs.Prelude.{if◌then◌else◌, ◌==◌, ◌≢◌, replicate, ◌*◌, ◌-◌, ◌^◌, false}
+use Rattle.sf_value.specs.Grammar.Strings.{escaped}
 use Rattle.sf_value.specs.Ascii.{quote, equals, colon, close_bracket}
-use Rattle.sf_value.specs.Grammar.Classes.{is_digit, is_visible, is_alpha, is_one_of}
+use Rattle.sf_value.specs.Grammar.Classes.{is_digit, is_visible}
 use Rattle.sf_value.specs.Grammar.Numbers.{value_from, SpellsDate}
 use Rattle.sf_value.specs.Grammar.Pairs.{Pairs}
 use Rattle.sf_value.specs.Grammar.Tokens.{IsKey}

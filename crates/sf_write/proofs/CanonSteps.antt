@@ -3,8 +3,7 @@ use Rattle.std.proofs.Common.{◌≡◌, ℕ, ◌+◌, ◌<◌, true, false, Lis
 use Rattle.std.proofs.Common.{get_or, refl, ap, ◌∙◌, add-one, drop-cons}
 use Rattle.std.specs.Prelude.{IsTrue}
 use Rattle.sf_value.specs.declared.value.Bare.{Bare}
-use Rattle.sf_value.specs.declared.value.Bare.TheVariants.{Integer, Decimal, Text, Token}
-use Rattle.sf_value.specs.declared.value.Bare.TheVariants.{Blob, Boolean, Date, Shown}
+use Rattle.sf_value.specs.declared.value.Bare.TheVariants.{Boolean}
 use Rattle.sf_value.specs.declared.value.Item.{Item}
 use Rattle.sf_value.specs.Grammar.Pairs.{Pairs}
 use Rattle.sf_value.specs.Grammar.Canonical.{canon_bare, canon_value, canon_params, canon_flag}

@@ -4,7 +4,6 @@ use Rattle.sf_value.specs.declared.value.Field.TheVariants as field
 use Rattle.sf_value.specs.declared.value.Kind.TheVariants as kind
 use Rattle.sf_value.specs.Grammar.Canonical.{canon}
 use Rattle.sf_value.specs.Grammar.Valid.{Valid}
-use Rattle.sf_parse.specs.Parsers.{IsOnly}
 use Rattle.sf_use.specs.PriorityUpdate.{updated}
 use Rattle.sf_c.specs.Normal.{TextOutput}
 use Rattle.sf_c.specs.Priorities.{params_of_flags}

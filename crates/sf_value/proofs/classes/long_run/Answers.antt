@@ -10,9 +10,9 @@ returns-then-more-lt-LANES-clause-every g c =
 pub loop-run-preserved : goal.loop-run-preserved
 loop-run-preserved g c =
     let block : c.first_lanes-more.result ≡ 16 =
-        let h = c.first_lanes-more.ensures.within in
-        let k = c.if-more-lt-LANES.false in
-        omega arith in record {
+    let h = c.first_lanes-more.ensures.within in
+    let k = c.if-more-lt-LANES.false in
+    omega arith in record {
       within = let h = c.loop-run-test.true in omega arith;
       every =
           subst (λ n. Every g.C.ByteClass.test (take (c.loop-run.run + n) c.args.text.now)) block

@@ -1,4 +1,4 @@
-use Rattle.std.proofs.Common.{◌≡◌, ◌≤◌, subst, sym, drop, length, Err}
+use Rattle.std.proofs.Common.{subst, sym, Err}
 use Rattle.sf_view.specs.Building.{IsInside, IsInner, Reads}
 use Rattle.sf_view.proofs.BuildingLaws.{inner_wrong}
 use Rattle.sf_view.proofs.building.inner.Goals as goal

@@ -1,4 +1,4 @@
-use Rattle.std.proofs.Common.{◌≡◌, ◌≤◌, [], sym, subst, ◌∙◌, length, Err, rules, arith}
+use Rattle.std.proofs.Common.{◌≡◌, [], sym, subst, ◌∙◌, Err, rules, arith}
 use Rattle.sf_value.specs.Grammar.Valid.{ValidItem}
 use Rattle.sf_view.specs.declared.node_types.Role.TheVariants as role_is
 use Rattle.sf_view.specs.View.{DescribesItem}

@@ -1,4 +1,4 @@
-use Rattle.std.proofs.Common.{◌≡◌, ◌≤◌, subst, sym, drop, length, Err}
+use Rattle.std.proofs.Common.{subst, sym, Err}
 use Rattle.sf_view.specs.declared.node_types.Role.TheVariants as role_is
 use Rattle.sf_view.specs.Building.{AreParams, IsItem, Reads}
 use Rattle.sf_view.proofs.BuildingLaws.{item_wrong}

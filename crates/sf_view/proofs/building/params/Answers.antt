@@ -1,4 +1,4 @@
-use Rattle.std.proofs.Common.{◌≡◌, ◌≤◌, [], ◌∷◌, sym, subst, ◌∙◌, length, Some, None, rules, arith}
+use Rattle.std.proofs.Common.{◌≡◌, ◌≤◌, sym, subst, ◌∙◌, length, Some, None, rules, arith}
 use Rattle.sf_value.specs.declared.value.Bare.{Bare}
 use Rattle.sf_value.specs.Grammar.Pairs.{HasDistinctKeys, value_at}
 use Rattle.sf_value.specs.Grammar.Tokens.{IsKey}
