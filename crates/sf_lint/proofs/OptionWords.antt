@@ -7,7 +7,6 @@ use Rattle.std.specs.Prelude.{MatchResult, IsErrAnd, codes}
 use Rattle.std.specs.declared.alloc.Global.{Global}
 use Rattle.std.specs.declared.vec.Vec.{Vec}
 use Rattle.std.specs.List.{after_first, position_or_len}
-use Rattle.std.proofs.lemmas.Bool.{cases_Bool}
 use Rattle.std.proofs.lemmas.List.{map-append, map_more, get_or-map, length-map}
 use Rattle.clap.proofs.OnLiterals.{clap_on_literals}
 use Rattle.clap.specs.Faults.{fault_of, is_simple_and_free}
@@ -24,7 +23,7 @@ use Rattle.sf_lint.specs.declared.options.OptionsFault.TheVariants.{OutOfMemory}
 use Rattle.sf_lint.specs.Options.{custom_of, field_with, kind_named, AreFields, AreGiven}
 use Rattle.sf_lint.specs.Options.{AreSettingsOf, IsFaultOf, IsGivenFault, IsFieldsFault}
 use Rattle.sf_lint.specs.Options.{command_line, field_words}
-use Rattle.sf_lint.proofs.Lines.{colon, no-colon}
+use Rattle.sf_lint.proofs.Lines.{colon}
 
 pub names : (word name : Text) (kind : Kind) → position_or_len is_colon word < length word
     → is_header_name (word_of word) ≡ true → kind_named (after_first is_colon word) ≡ Some kind
