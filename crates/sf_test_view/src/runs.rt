@@ -8,13 +8,7 @@ use std::test::Fail;
 
 /// What is before a run, the bytes of its class, what is after it, and by how much its length
 /// grows.
-type Row = (
-    Kind,
-    &'static [u8],
-    &'static [u8],
-    &'static [u8],
-    usize,
-);
+type Row = (Kind, &'static [u8], &'static [u8], &'static [u8], usize);
 
 static ROWS: [Row; 5] = [
     // The bytes of a key after its first (RFC 9651 section 3.1.2).
