@@ -192,7 +192,7 @@ impl ByteClass for Ows {
     }
 }
 
-/// The number of bytes before the first whose bit is set, of the 16 bytes that the text begins with.
+/// The number of bytes of the class that the first 16 bytes of the text begin with.
 #[inline(always)]
 fn first_lanes<C: LaneClass>(text: &[u8]) -> usize
     requires { LANES ≤ length text.now }

@@ -2,7 +2,7 @@
 ghost use Rattle.std.specs.Prelude.{◌≡◌, map, not};
 ghost use Rattle.std.specs.Simd.Lanes.{mask_l};
 
-use crate::classes::{Base64, ByteClass, InKey, InToken, UnencodedByte, Unescaped};
+use crate::classes::{Base64, ByteClass, InToken, UnencodedByte, Unescaped};
 use std::simd::prelude::*;
 
 /// The number of bytes that are tested at a time.
@@ -14,19 +14,6 @@ pub trait LaneClass: ByteClass {
     /// not allocate.
     fn outside(bytes: u8x16) -> u64
         ensures { result ≡ mask_l (map (λ b. not (Self.test b)) bytes) };
-}
-
-impl LaneClass for InKey {
-    #[inline(always)]
-    fn outside(bytes: u8x16) -> u64 {
-        let letters = bytes.simd_ge(u8x16::splat(b'a')) & bytes.simd_le(u8x16::splat(b'z'));
-        let digits = bytes.simd_ge(u8x16::splat(b'0')) & bytes.simd_le(u8x16::splat(b'9'));
-        let marks = bytes.simd_eq(u8x16::splat(b'_'))
-            | bytes.simd_eq(u8x16::splat(b'-'))
-            | bytes.simd_eq(u8x16::splat(b'.'))
-            | bytes.simd_eq(u8x16::splat(b'*'));
-        (!(letters | digits | marks)).to_bitmask()
-    }
 }
 
 impl LaneClass for InToken {
