@@ -7,7 +7,7 @@ use Rattle.std.proofs.lemmas.Bool.{agree_below, agree_below_at}
 use Rattle.std.proofs.lemmas.List.{length-map}
 use Rattle.std.proofs.lemmas.List.Sums.{prefix_len-le-length}
 use Rattle.std.proofs.lemmas.Simd.{zip2_splat, zip2_splat_left, zip2_of_maps, map-map}
-use Rattle.std.proofs.lemmas.Simd.{mask_l-mod, leading_from_mask_l, trailing_mask_l, length-chunk}
+use Rattle.std.proofs.lemmas.Simd.{mask_l-mod, trailing_mask_l, length-chunk}
 use Rattle.std.specs.List.{prefix_len}
 use lib.Count.{count_trailing_zeros}
 use lib.Lanes.{zip2, mask_l, top, chunk, Each1}
@@ -89,19 +89,11 @@ module _ (test : ℕ → Bool) (t : List ℕ) (n mask : ℕ) (long : n ≤ lengt
   abbrev passes : ℕ → Bool
   passes b = not (not (test b))
 
-  none : mask ≡ 0 → prefix_len passes (chunk 0 n t) ≡ n
-  none e =
-      leading_from_mask_l (λ b. not (test b)) (chunk 0 n t) (sym is_mask ∙ e)
-      ∙ length-chunk 0 n t (omega arith)
-
   some : 0 < mask → count_trailing_zeros 64 mask ≡ prefix_len passes (chunk 0 n t)
   some h =
       ap (count_trailing_zeros 64) is_mask
       ∙ trailing_mask_l (λ b. not (test b)) 64 (chunk 0 n t)
       (omega (arith, length-chunk 0 n t (omega arith))) (omega (arith, is_mask))
-
-  pub all_lanes : mask ≡ 0 → Every test (take n t)
-  all_lanes e = subst (λ r. Every test (take r t)) (none e) (every_first test n t)
 
   pub first_within : 0 < mask → count_trailing_zeros 64 mask ≤ n
   first_within h =

@@ -94,14 +94,6 @@ pub struct Space;
 /// Optional white space (RFC 9110 section 5.6.3).
 pub struct Ows;
 
-/// Whether the byte is from `low` to `high`.
-#[inline]
-fn within(byte: u8, low: u8, high: u8) -> bool
-    ensures { result ≡ (nat_le low byte && nat_le byte high) }
-{
-    (low <= byte) & (byte <= high)
-}
-
 impl ByteClass for KeyStart {
     ghost test = { is_key_start };
 
@@ -143,7 +135,7 @@ impl ByteClass for Visible {
 
     #[inline]
     fn has(byte: u8) -> bool {
-        within(byte, b' ', b'~')
+        (b' ' <= byte) & (byte <= b'~')
     }
 }
 
