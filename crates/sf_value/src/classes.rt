@@ -1,6 +1,6 @@
 //! Classes of bytes (RFC 9651 section 3), and the runs of them that a text begins with. A class is
 //! a type; each is tested here, once, for values, parsers and writers.
-ghost use Rattle.std.specs.Prelude.{◌≡◌, ◌≤◌, ◌++◌, ℕ, Bool, ◌&&◌, nat_le, true, length, take};
+ghost use Rattle.std.specs.Prelude.{◌≡◌, ◌≤◌, ◌++◌, ℕ, Bool, true, length, take};
 ghost use Rattle.sf_value.specs.Grammar.Words.{Every};
 ghost use Rattle.sf_value.specs.Grammar.Classes.{is_in_key, is_in_token, is_key_start, is_sp};
 ghost use Rattle.sf_value.specs.Grammar.Classes.{is_ows as is_ows_byte, is_token_start};
