@@ -1,7 +1,7 @@
 //! Values in order.
 ghost use Rattle.std.specs.Prelude.{◌≡◌, List, [], ◌∷◌, ◌++◌, ◌↔◌, IsTrue, length, slice_get};
 ghost use Rattle.std.specs.Prelude.{◌+◌, ◌<◌, ◌≤◌, take, drop, Some};
-ghost use Rattle.std.specs.Prelude.{IfOk, IfErr, OnErr, MatchOption};
+ghost use Rattle.std.specs.Prelude.{IfOk, IfErr, OnOk, OnErr, MatchOption};
 ghost use Rattle.std.specs.Slice.Iter.{iter_rest};
 ghost use Rattle.std.specs.Vec.Iter.{into_iter_items, into_iter_steps};
 ghost use Rattle.std.specs.Iterator.Runs.{EveryRun, ItemsAre};
@@ -166,6 +166,24 @@ impl<T> Sequence<T> {
         ensures value { result.now ≡ self.old }
     {
         self.items.as_mut_slice()
+    }
+}
+
+impl<T: Drop> Sequence<T> {
+    /// Adds a value at the end, as [`Sequence::push`] does, but drops it if an allocation fails. It
+    /// takes less time, since no result has the value.
+    ///
+    /// ```
+    /// items.push_or_drop(item)?;
+    /// ```
+    #[inline(always)]
+    pub fn push_or_drop(&mut self, item: T) -> Result<(), OutOfMemory>
+        ensures added { OnOk result (self.new ≡ self.old ++ item ∷ []) }
+        ensures same { OnErr result (self.new ≡ self.old) }
+    {
+        self.items.reserve(1)?;
+        self.items.push_reserved(item);
+        Ok(())
     }
 }
 

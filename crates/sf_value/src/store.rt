@@ -205,7 +205,8 @@ impl<V: Drop> Store<V> {
         }
     }
 
-    /// Puts a value at a key, as `Entries::set` does. Only a new key allocates.
+    /// Puts a value at a key, as `Entries::set` does. Only a new key allocates. What it calls is not
+    /// inlined: a function clears all its stack at its entry, so each way has its own.
     #[inline(never)]
     pub(crate) fn set(&mut self, key: Key, value: V) -> Result<(), OutOfMemory>
         // Each key is one, and none occurs twice.
@@ -222,9 +223,45 @@ impl<V: Drop> Store<V> {
         // It fails only if the key is new.
         ensures absent { OnErr result (value_at key (stored self.old) ≡ None) }
     {
-        if let Store::Many(map) = self {
-            return table::set(map, key, value);
+        match self {
+            Store::Fresh(alloc, seed) => {
+                // The proof has to know that these are the bytes of a key.
+                let _ = key.as_bytes();
+                let seed = *seed;
+                let mut slots = Vec::new(*alloc);
+                add(&mut slots, Slot { key, value, seed })?;
+                *self = Store::Few(slots);
+                return Ok(());
+            }
+            Store::Few(slots) => {
+                if let Some(place) = place_of(slots, key.as_bytes()) {
+                    overwrite(&mut slots[place], value);
+                    return Ok(());
+                }
+                if slots.len() < FEW {
+                    let seed = slots[0].seed;
+                    add(slots, Slot { key, value, seed })?;
+                    return Ok(());
+                }
+                return self.set_in_map(key, value);
+            }
+            Store::Many(map) => return table::set(map, key, value),
         }
+    }
+
+    /// The same, for entries that are replaced by a map. It is not inlined, nor is `table::set`: a
+    /// call for a few entries would pay for their registers and their stack.
+    #[inline(never)]
+    fn set_in_map(&mut self, key: Key, value: V) -> Result<(), OutOfMemory>
+        requires entries { AreEntries (stored self.old) }
+        requires seed { HasSeed self.old }
+        ensures entries { AreEntries (stored self.new) }
+        ensures seed { HasSeed self.new }
+        ensures new { OnOk result (stored self.new
+            ≡ settle (stored self.old ++ (key, value) ∷ [])) }
+        ensures same { OnErr result (stored self.new ≡ stored self.old) }
+        ensures absent { OnErr result (value_at key (stored self.old) ≡ None) }
+    {
         match self.put(key, value) {
             Ok(_) => return Ok(()),
             Err(_) => return Err(OutOfMemory),
@@ -321,4 +358,24 @@ fn push<V>(slots: &mut Vec<Slot<V>>, slot: Slot<V>) -> Result<(), (Key, V)>
             return Err((key, value));
         }
     }
+}
+
+/// Overwrites the value of an entry, and drops the old one.
+#[inline(never)]
+fn overwrite<V: Drop>(slot: &mut Slot<V>, value: V)
+    ensures key { slot.new.key ≡ slot.old.key }
+    ensures value { slot.new.value ≡ value }
+{
+    slot.value = value;
+}
+
+/// Adds a new entry to a few, or drops it if an allocation fails.
+#[inline(always)]
+fn add<V: Drop>(slots: &mut Vec<Slot<V>>, slot: Slot<V>) -> Result<(), OutOfMemory>
+    ensures added { OnOk result (slots.new.items ≡ slots.old.items ++ slot ∷ []) }
+    ensures same { OnErr result (slots.new.items ≡ slots.old.items) }
+{
+    slots.reserve(1)?;
+    slots.push_reserved(slot);
+    Ok(())
 }

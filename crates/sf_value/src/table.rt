@@ -35,6 +35,7 @@ pub(crate) fn put<V>(map: &mut Many<V>, key: Key, value: V) -> Result<Option<V>,
 }
 
 /// Puts a value at a key, as `Entries::set` does, without the result of `put`.
+#[inline(never)]
 pub(crate) fn set<V: Drop>(map: &mut Many<V>, key: Key, value: V) -> Result<(), OutOfMemory>
     // Each key is one, and none occurs twice.
     requires { AreEntries map.old.entries }
