@@ -20,6 +20,9 @@ pub mod Refusals
 -- The levels of the code: how each goes on where its open part does, and many bytes at a time.
 pub mod OpenParts
 pub mod SeriesSteps
+pub mod WholeParts
+pub mod WholeSteps
+pub mod WholeMembers
 pub mod Leading
 pub mod ByteRuns
 pub mod RunSteps
@@ -33,7 +36,10 @@ pub mod Marks
 pub mod LevelMarks
 pub mod Classes
 pub mod Numerals
+pub mod FirstBytes
 pub mod SetRuns
 pub mod Fitting
+pub mod HeldTexts
+pub mod Listing
 pub mod NamedSets
 pub mod LineSpots

@@ -2,7 +2,7 @@
 use Rattle.std.specs.Option.{option_map}
 use Rattle.std.proofs.Common.{◌≡◌, ℕ, Bool, true, false, List, [], ◌∷◌, ◌++◌, length}
 use Rattle.std.proofs.Common.{Option, Some, Result, Ok, Err, IfOk, refl, sym, ap, ◌∙◌, subst}
-use Rattle.std.proofs.Common.{arith, append_assoc}
+use Rattle.std.proofs.Common.{arith, append_assoc, length-append, ◌≤◌}
 use Rattle.std.specs.Borrow.{Bor}
 use Rattle.sf_value.specs.Grammar.Words.{Every}
 use Rattle.sf_parse.specs.Machine.Language.{run, Steps}
@@ -24,6 +24,18 @@ goes_more next s t u chunk rest more a b = record {
   split = a.split ∙ ap (λ r. a.taken ++ r) b.split ∙ sym (append_assoc a.taken b.taken more);
   leads = run_append next s t a.taken b.taken a.leads ∙ b.leads;
 }
+
+pub prefix_more : {S : Type 0} (next : S → ℕ → Option S) (s t u : S) (chunk rest more : List ℕ)
+    → Goes next s chunk rest t → LongestPrefix next t rest more u → LongestPrefix next s chunk more u
+prefix_more next s t u chunk rest more a b =
+    record { goes = goes_more next s t u chunk rest more a b.goes; stops = b.stops }
+
+-- no more is left than there was
+pub left_within : {S : Type 0} (next : S → ℕ → Option S) (s t : S) (chunk rest : List ℕ)
+    → Goes next s chunk rest t → length rest ≤ length chunk
+left_within next s t chunk rest a =
+    let k : length chunk ≡ length (a.taken ++ rest) = ap length a.split in
+    omega (arith, length-append a.taken rest)
 
 pub goes_one : {S : Type 0} (next : S → ℕ → Option S) (s t : S) (b : ℕ) (more : List ℕ)
     → next s b ≡ Some t → Goes next s (b ∷ more) more t
@@ -110,6 +122,12 @@ part_above next above into h s t x chunk rest (Err k) e a = a
 pub every_split : (q : ℕ → Bool) (a b : List ℕ) → Every q (a ++ b) → Every q a × Every q b
 every_split q [] b h = (tt, h)
 every_split q (x ∷ a) b h = let k = every_split q a b h.1 in ((h.0, k.0), k.1)
+
+-- what follows from each value of a call follows from the call
+pub each_ok : {A E : Type 0} {P Q : A → Type 0} → ((a : A) → P a → Q a) → (r : Result A E)
+    → IfOk r P → IfOk r Q
+each_ok f (Ok a) h = f a h
+each_ok f (Err e) h = h
 
 -- an Err is not Ok
 pub never : {P : Type 0} → false ≡ true → P

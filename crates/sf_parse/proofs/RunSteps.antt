@@ -1,9 +1,9 @@
 -- The runs of a set, one after another.
 use Rattle.std.proofs.Common.{◌≡◌, ℕ, zero, suc, ◌+◌, ◌-◌, ◌<◌, ◌≤◌, ◌⊎◌, inl, inr, true, false}
-use Rattle.std.proofs.Common.{List, [], ◌∷◌, refl, arith, rules}
+use Rattle.std.proofs.Common.{List, [], ◌∷◌, refl, ap, ◌∙◌, arith, rules}
 use Rattle.std.specs.Prelude.{◌==◌, ⊤}
 use Rattle.std.proofs.lemmas.Bool.{cases_Bool}
-use Rattle.sf_parse.specs.ByteSets.{is_in, runs_with, runs_from}
+use Rattle.sf_parse.specs.ByteSets.{is_in, HasNone, runs_with, runs_from}
 
 -- the first of the runs does not begin below b
 abbrev pub BeginsFrom : ℕ → List (ℕ × ℕ) → Type 0
@@ -108,3 +108,15 @@ runs-skip set b h f =
     let size : 128 - b ≡ suc (128 - (b + 1)) = omega arith in
     let next : b + 1 ≡ suc b = omega arith in
     rw (size, next) (runs-out set b _ f)
+
+-- bytes that are not in the set, of several
+pub runs-over : (set b c : ℕ) → b ≤ c → c ≤ 128 → HasNone set b c
+    → runs_from set b (128 - b) ≡ runs_from set c (128 - c)
+runs-over set b c up within none = by (c - b) b (omega arith) none
+  where
+    by : (d b : ℕ) → b + d ≡ c → HasNone set b c
+        → runs_from set b (128 - b) ≡ runs_from set c (128 - c)
+    by zero b e none = let same : b ≡ c = omega arith in ap (λ k. runs_from set k (128 - k)) same
+    by (suc d) b e none =
+        runs-skip set b (omega arith) (none b (omega arith) (omega arith))
+        ∙ by d (b + 1) (omega arith) (λ k l u. none k (omega arith) u)

@@ -10,11 +10,28 @@ use Rattle.sf_value.specs.declared.value.Kind.{Kind}
 use Rattle.sf_value.specs.declared.value.Kind.TheVariants as kind_is
 use Rattle.sf_parse.specs.declared.refusal.Refusal.{Refusal}
 use Rattle.sf_parse.specs.declared.refusal.Refusal.TheVariants.{Syntax}
-use Rattle.sf_parse.specs.Machine.States.{State}
+use Rattle.std.specs.Option.{option_map}
+use Rattle.sf_value.specs.declared.value.Item.{Item}
+use Rattle.sf_value.specs.declared.value.Field.TheVariants as field_is
+use Rattle.sf_value.specs.Grammar.Classes.{is_sp}
+use Rattle.sf_value.specs.Grammar.Items.{SpellsItem}
+use Rattle.sf_value.specs.Grammar.Fields.{SpellsField}
+use Rattle.sf_parse.specs.Machine.Series.{SeriesState, Begin}
+use Rattle.sf_parse.specs.SeriesView.{series_next, series_end, series_of}
+use Rattle.sf_parse.specs.declared.series.SeriesPhase.{SeriesPhase}
+use Rattle.sf_parse.specs.WholeParts.{ReadsAs, Behind}
+use Rattle.sf_parse.specs.WholeMembers.{TakesMembers, NoneOpen, MayEnd}
+use Rattle.sf_parse.proofs.GrammarLaws.{one_value}
+use Rattle.sf_parse.proofs.OpenParts.{space_before}
+use Rattle.sf_parse.proofs.ByteRuns.{stay_goes}
+use Rattle.sf_parse.proofs.SeriesSteps.{space_stays}
+use Rattle.sf_parse.proofs.Prefixes.{prefix_all, goes_above}
+use Rattle.sf_parse.proofs.WholeMembers.{taken_more, taken_value, taken_left}
+use Rattle.sf_parse.specs.Machine.States.{State, BeforeItem}
 use Rattle.sf_parse.specs.Machine.Fields.{step, finish, begin}
 use Rattle.sf_parse.specs.Machine.Tests.{takes, may_end}
 use Rattle.sf_parse.specs.Expected.{Marks}
-use Rattle.sf_parse.specs.Prefixes.{LongestPrefix}
+use Rattle.sf_parse.specs.Prefixes.{Goes, LongestPrefix}
 use Rattle.sf_parse.specs.Reaching.{IsReachedBy}
 use Rattle.sf_parse.specs.Parsers.{IsSyntax, IsOnly, Parses, Refuses}
 use Rattle.sf_parse.specs.AllocationFree.{TakesNoMemory, FieldFree}
@@ -101,3 +118,88 @@ whole_free d kind s t text [] found e h a f n =
     a.goes
 whole_free d kind s t text (b ∷ rest) found e h a f n =
     absurd (let k : true ≡ false = sym (ap is_some f) ∙ n in cc)
+
+-- an Item between spaces that are all of the text
+pub item_parsed : (d : Dialect) (text inside after end : List ℕ) (i : Item) → Behind is_sp text inside
+    → ReadsAs (SpellsItem d) inside i after → Behind is_sp after end → end ≡ []
+    → IsOnly d kind_is.Item text (field_is.Item i)
+item_parsed d text inside after end i a r b e =
+    let spelled : SpellsField d kind_is.Item text (field_is.Item i) = (
+      a.prefix,
+      r.prefix,
+      b.prefix,
+      a.split
+          ∙ ap (λ y. a.prefix ++ y)
+          (r.split ∙ ap (λ y. r.prefix ++ y) (b.split ∙ ap (λ y. b.prefix ++ y) e
+          ∙ append-nil b.prefix)),
+      a.each,
+      r.spelled,
+      b.each,
+    ) in
+    record {
+      spelled = spelled;
+      only = λ w h. one_value d kind_is.Item text w (field_is.Item i) h spelled;
+    }
+
+-- the spaces before an Item
+pub item_begins : (d : Dialect) (text inside : List ℕ) → Behind is_sp text inside
+    → Goes (step d) BeforeItem text inside BeforeItem
+item_begins d text inside b =
+    stay_goes (step d) is_sp BeforeItem b.prefix inside text (space_before d) b.split b.each
+
+-- no byte is left, and the state has a value
+pub all_parsed : (d : Dialect) (kind : Kind) (t : State) (text rest : List ℕ) (v : Field)
+    → Goes (step d) (begin kind) text rest t → rest ≡ [] → finish t ≡ Some v
+    → IsOnly d kind text v
+all_parsed d kind t text rest v a e f =
+    whole_value d kind (begin kind) t text [] None v refl
+    (prefix_all (step d) (begin kind) t text (subst (λ y. Goes (step d) (begin kind) text y t) e a))
+    refl refl f
+
+module _ {S X V : Type 0} (first : ℕ → Option S) (next : S → ℕ → Option S)
+    (added : S → V → Option V) (none : V) (with : V → X → V)
+    (d : Dialect) (kind : Kind) (into : SeriesState S V → State)
+    (begins : begin kind ≡ into Begin)
+    (steps : (s : SeriesState S V) (b : ℕ)
+    → step d (into s) b ≡ option_map into (series_next first next added none s b)) where
+  above : (s t : SeriesState S V) (chunk rest : List ℕ)
+      → Goes (series_next first next added none) s chunk rest t
+      → Goes (step d) (into s) chunk rest (into t)
+  above = goes_above (series_next first next added none) (step d) into
+      (λ s t b e. steps s b ∙ ap (option_map into) e)
+
+  spaces_go : (text inside : List ℕ) → Behind is_sp text inside
+      → Goes (series_next first next added none) Begin text inside Begin
+  spaces_go text inside b =
+      stay_goes (series_next first next added none) is_sp Begin b.prefix inside text
+      (space_stays first next added none) b.split b.each
+
+  -- whole members, and nothing else
+  pub members_parsed : (text inside rest : List ℕ) (p : SeriesPhase) (given : V) (s : S)
+      (v : Field) → Behind is_sp text inside
+      → TakesMembers (series_next first next added none) (series_end added none) true Begin inside
+      rest p given s
+      → NoneOpen none p given → MayEnd p → rest ≡ []
+      → ((t : SeriesState S V) → series_end added none t ≡ Some given → finish (into t) ≡ Some v)
+      → IsOnly d kind text v
+  members_parsed text inside rest p given s v b t n m e f =
+      let k = taken_more first next added none with Begin Begin text inside rest true p given s
+      (spaces_go text inside b) t in
+      all_parsed d kind (into k.state) text rest v
+      (subst (λ y. Goes (step d) y text rest (into k.state)) (sym begins)
+      (above Begin k.state text rest k.goes)) e
+      (f k.state (taken_value first next added none with true Begin text rest p given s k n m))
+
+  -- the state after whole members
+  pub members_before : (text inside rest : List ℕ) (p : SeriesPhase) (given : V) (s : S)
+      (new : SeriesState S V) → Behind is_sp text inside
+      → TakesMembers (series_next first next added none) (series_end added none) true Begin inside
+      rest p given s
+      → new ≡ series_of p given s → (rest ≡ [] → MayEnd p → ⊥)
+      → Goes (step d) (begin kind) text rest (into new)
+  members_before text inside rest p given s new b t e n =
+      let k = taken_more first next added none with Begin Begin text inside rest true p given s
+      (spaces_go text inside b) t in
+      subst (λ y. Goes (step d) y text rest (into new)) (sym begins)
+      (above Begin new text rest
+      (taken_left first next added none with true Begin new text rest p given s k e n))

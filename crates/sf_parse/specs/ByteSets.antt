@@ -1,7 +1,7 @@
 -- Sets of bytes below 128. A set is a number: byte b is in it if bit b is set. It is listed by its
 -- runs.
 use Rattle.std.specs.Prelude.{◌≡◌, ℕ, zero, suc, ◌+◌, ◌/◌, ◌%◌, ◌<◌, ◌≤◌, ◌⊎◌, ◌↔◌, Bool, true}
-use Rattle.std.specs.Prelude.{◌==◌, if◌then◌else◌, List, [], ◌∷◌, ⊤}
+use Rattle.std.specs.Prelude.{◌==◌, if◌then◌else◌, List, [], ◌∷◌, ⊤, false}
 use Rattle.std.specs.Int.{bit_at}
 use Rattle.sf_value.specs.Grammar.DisplayStrings.{hex}
 
@@ -12,6 +12,10 @@ hex_byte b = hex (b / 16) ∷ hex (b % 16) ∷ []
 -- the byte is in the set
 abbrev pub is_in : ℕ → ℕ → Bool
 is_in set b = bit_at set b == 1
+
+-- no byte from b on and below c is in the set
+abbrev pub HasNone : ℕ → ℕ → ℕ → Type 0
+HasNone set b c = (k : ℕ) → b ≤ k → k < c → is_in set k ≡ false
 
 -- a byte before runs of higher bytes: it joins the first run if that begins one above
 abbrev pub runs_with : ℕ → List (ℕ × ℕ) → List (ℕ × ℕ)

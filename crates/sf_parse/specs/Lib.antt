@@ -14,6 +14,7 @@ pub mod Expected
 pub mod Reaching
 pub mod StateTests
 pub mod Names
+pub mod HeldTexts
 pub mod RefusalTexts
 pub mod Spots
 pub mod ByteSets
@@ -26,3 +27,5 @@ pub mod ItemView
 pub mod ParamsView
 pub mod StaysFree
 pub mod BareView
+pub mod WholeParts
+pub mod WholeMembers

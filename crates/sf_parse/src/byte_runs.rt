@@ -1,12 +1,10 @@
 //! Sets of bytes below 128, such as those that a refusal expects, and their runs.
-ghost use Rattle.std.specs.Prelude.{◌≡◌, ◌+◌, ◌-◌, ◌<◌, ◌≤◌, [], ◌∷◌, true, Some, length};
+ghost use Rattle.std.specs.Prelude.{◌≡◌, ◌+◌, ◌-◌, ◌<◌, ◌≤◌, [], ◌∷◌, true, length};
 ghost use Rattle.std.specs.Prelude.{MatchOption, IfSome};
 ghost use Rattle.std.specs.Iterator.{at_most};
 ghost use Rattle.std.specs.Map.Iter.{TakesFirst};
-ghost use Rattle.sf_parse.specs.ByteSets.{is_in, hex_byte, runs_from, runs_of as runs_in};
+ghost use Rattle.sf_parse.specs.ByteSets.{is_in, HasNone, runs_from, runs_of as runs_in};
 
-use sf_value::hex_digits;
-use std::fmt;
 use std::marker::Model;
 
 /// The runs that remain of an iteration over a set of bytes: see [`runs_of`].
@@ -52,29 +50,19 @@ impl Iterator for Runs {
     }
 }
 
-/// A byte, shown as its two lower-case hexadecimal digits.
-#[derive(Clone, Copy, Drop)]
-pub(crate) struct Hex {
-    pub byte: u8,
-}
-
-impl fmt::Display for Hex {
-    ghost output = { λ hex. Some (hex_byte hex.byte) };
-
-    fn fmt<W: fmt::Write>(&self, f: &mut fmt::Formatter<W>) -> fmt::Result {
-        let [high, low] = hex_digits(self.byte);
-        let high = char::from(high);
-        let low = char::from(low);
-        write!(f, "{high}{low}")
-    }
-}
-
-/// Whether the byte is in the set.
-fn is_in(set: u128, byte: u8) -> bool
-    requires { byte < 128 }
-    ensures { result ≡ is_in set byte }
+/// The first byte of the set from this byte on.
+#[inline]
+pub(crate) fn first_from(set: u128, from: u8) -> Option<u8>
+    requires { from < 128 }
+    // The bytes before it are not in the set, or none is.
+    ensures { MatchOption result (HasNone set from 128)
+        (λ b. (from ≤ b) × (b < 128) × (is_in set b ≡ true) × HasNone set from b) }
 {
-    (set >> byte) & 1 == 1
+    let left = set >> from;
+    if left == 0 {
+        return None;
+    }
+    Some(from + left.trailing_zeros() as u8)
 }
 
 /// The last byte of the run that begins at this byte of the set.
@@ -88,11 +76,10 @@ fn run_end(set: u128, first: u8) -> u8
     ensures forward { first ≤ result }
     ensures within { result < 128 }
 {
-    let mut last = first;
-    while last < 127 && is_in(set, last + 1) {
-        last += 1;
+    match first_from(!set, first) {
+        Some(next) => next - 1,
+        None => 127,
     }
-    last
 }
 
 /// The first run of the set from this byte on.
@@ -102,10 +89,11 @@ fn next_run(set: u128, from: u8) -> Option<(u8, u8)>
         (λ r. runs_from set from (128 - from) ≡ r ∷ runs_from set (r.1 + 1) (128 - (r.1 + 1))) }
     ensures within { IfSome result (λ r. r.1 < 128) }
 {
-    for byte in from..128 {
-        if is_in(set, byte) {
-            return Some((byte, run_end(set, byte)));
-        }
+    if from >= 128 {
+        return None;
     }
-    None
+    match first_from(set, from) {
+        Some(first) => Some((first, run_end(set, first))),
+        None => None,
+    }
 }

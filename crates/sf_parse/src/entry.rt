@@ -219,7 +219,7 @@ fn no_key(context: &Context) -> ShortBytes
 }
 
 /// Boolean true with parameters.
-fn flag(params: Entries<Bare>) -> Member
+pub fn flag(params: Entries<Bare>) -> Member
     ensures { result ≡ flag_member params }
 {
     Member::Item(Item {

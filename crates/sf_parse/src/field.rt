@@ -11,10 +11,17 @@ ghost use Rattle.sf_parse.specs.AllocationFree.{TakesNoMemory, FieldFree};
 ghost use Rattle.sf_parse.specs.AllocationFreeParsers.{IsOther};
 ghost use Rattle.sf_parse.specs.FieldSteps.{item_field_steps, list_steps, dict_steps};
 ghost use Rattle.sf_parse.specs.FieldSteps.{list_ends, dict_ends};
+ghost use Rattle.sf_parse.specs.Prefixes.{Goes};
 ghost use Rattle.sf_parse.specs.Machine.States.{State, InList, InDict};
 ghost use Rattle.sf_parse.specs.Machine.Fields.{begin as begin_at, step as step_of};
 ghost use Rattle.sf_parse.specs.Machine.Fields.{finish as finish_of};
 ghost use Rattle.sf_parse.specs.Machine.Tests.{may_end as may_end_at};
+ghost use Rattle.sf_parse.specs.Machine.Members.{MemberState};
+ghost use Rattle.sf_parse.specs.Machine.Entries.{EntryState};
+ghost use Rattle.sf_parse.specs.SeriesView.{series_of};
+ghost use Rattle.sf_parse.specs.WholeMembers.{NoneOpen};
+ghost use Rattle.sf_parse.specs.WholeParts.{Behind};
+ghost use Rattle.sf_value.specs.Grammar.Classes.{is_sp};
 
 use crate::context::Context;
 use crate::entry::EntryReader;
@@ -22,7 +29,9 @@ use crate::item_field::ItemFieldReader;
 use crate::level::Level;
 use crate::member::MemberReader;
 use crate::refusal::Refusal;
-use crate::series::SeriesReader;
+use crate::series::{SeriesPhase, SeriesReader, add_members, are_all};
+use crate::whole_bare::{ends, may_begin_bare};
+use crate::whole_parts::{behind_spaces, read_item};
 use sf_value::{Dict, Entries, Item, List, Member, OutOfMemory, Sequence};
 
 /// The members of a List that are being read.
@@ -146,33 +155,150 @@ impl WholeField for DictReader {
     }
 }
 
+/// A field of one kind that is parsed from a whole text.
+pub trait WholeText: WholeField {
+    /// The field of this kind that the text spells, or the exact refusal of the text. What is whole
+    /// in the text is read without a reader.
+    fn parse(context: &Context, text: &[u8]) -> Result<Self::Whole, Refusal>
+        // The text spells only this value, or this is its exact refusal; otherwise an allocation
+        // failed.
+        ensures parses { Makes Self.WholeField.field
+            (Parses context.now.dialect Self.WholeField.kind text.now) result }
+        // An allocation-free text is not refused as out of memory.
+        ensures allocation_free { TakesNoMemory Self.WholeField.kind text.now
+            → IfErr result IsOther };
+}
+
+impl WholeText for ItemFieldReader {
+    fn parse(context: &Context, text: &[u8]) -> Result<Item, Refusal> {
+        let inside = behind_spaces(text);
+        if may_begin_bare(inside) {
+            if let Some((item, after)) = read_item(context, inside) {
+                if ends(behind_spaces(after)) {
+                    return Ok(item);
+                }
+            }
+        }
+        read_item_field(context, text, inside)
+    }
+}
+
+impl WholeText for ListReader {
+    fn parse(context: &Context, text: &[u8]) -> Result<List, Refusal> {
+        let mut phase = SeriesPhase::Begin;
+        let mut members = Sequence::new(context.alloc);
+        let rest = add_members::<MemberReader, Sequence<Member>>(
+            context,
+            behind_spaces(text),
+            true,
+            &mut phase,
+            &mut members,
+        )?;
+        if are_all(phase, rest) {
+            return Ok(List { members });
+        }
+        read_list(context, text, rest, phase, members)
+    }
+}
+
+impl WholeText for DictReader {
+    fn parse(context: &Context, text: &[u8]) -> Result<Dict, Refusal> {
+        let mut phase = SeriesPhase::Begin;
+        let mut members = Entries::new(context.alloc, &context.seed);
+        let rest = add_members::<EntryReader, Entries<Member>>(
+            context,
+            behind_spaces(text),
+            true,
+            &mut phase,
+            &mut members,
+        )?;
+        if are_all(phase, rest) {
+            return Ok(Dict { members });
+        }
+        read_dict(context, text, rest, phase, members)
+    }
+}
+
+/// Reads the text of an Item, after spaces, by its reader. It is not inlined, nor are the next two:
+/// a text that needs no reader would pay for clearing it.
+#[inline(never)]
+fn read_item_field(context: &Context, text: &[u8], inside: &[u8]) -> Result<Item, Refusal>
+    requires { Behind is_sp text.now inside.now }
+    ensures parses { Makes field_is.Item (Parses context.now.dialect kind_is.Item text.now) result }
+    ensures allocation_free { TakesNoMemory kind_is.Item text.now → IfErr result IsOther }
+{
+    let mut field = ItemFieldReader::new(context);
+    read_rest(&mut field, context, text, inside)
+}
+
+/// Reads what is left of the text of a List after whole members.
+#[inline(never)]
+fn read_list(
+    context: &Context,
+    text: &[u8],
+    left: &[u8],
+    phase: SeriesPhase,
+    members: Sequence<Member>,
+) -> Result<List, Refusal>
+    requires none_open { NoneOpen [] phase members }
+    // The bytes before what is left lead to the members, whatever member was read last.
+    requires goes { (s : MemberState) → Goes (step_of context.now.dialect) (begin_at kind_is.List)
+        text.now left.now (InList (series_of phase members s)) }
+    ensures parses { Makes field_is.List (Parses context.now.dialect kind_is.List text.now) result }
+    ensures allocation_free { TakesNoMemory kind_is.List text.now → IfErr result IsOther }
+{
+    let mut reader: ListReader = SeriesReader::after(context, phase, members);
+    read_rest(&mut reader, context, text, left)
+}
+
+/// Reads what is left of the text of a Dictionary after whole members.
+#[inline(never)]
+fn read_dict(
+    context: &Context,
+    text: &[u8],
+    left: &[u8],
+    phase: SeriesPhase,
+    members: Entries<Member>,
+) -> Result<Dict, Refusal>
+    requires none_open { NoneOpen [] phase members }
+    // The bytes before what is left lead to the members, whatever member was read last.
+    requires goes { (s : EntryState) → Goes (step_of context.now.dialect) (begin_at kind_is.Dict)
+        text.now left.now (InDict (series_of phase members s)) }
+    ensures parses { Makes field_is.Dict (Parses context.now.dialect kind_is.Dict text.now) result }
+    ensures allocation_free { TakesNoMemory kind_is.Dict text.now → IfErr result IsOther }
+{
+    let mut reader: DictReader = SeriesReader::after(context, phase, members);
+    read_rest(&mut reader, context, text, left)
+}
+
 /// The field of this kind that the text spells, or the exact refusal of the text.
-pub fn parse_whole<W: WholeField>(context: &Context, text: &[u8]) -> Result<W::Whole, Refusal>
+pub fn parse_whole<W: WholeText>(context: &Context, text: &[u8]) -> Result<W::Whole, Refusal>
     // The text spells only this value, or this is its exact refusal; otherwise an allocation
     // failed.
     ensures parses { Makes W.field (Parses context.now.dialect W.kind text.now) result }
     // An allocation-free text is not refused as out of memory.
     ensures allocation_free { TakesNoMemory W.kind text.now → IfErr result IsOther }
 {
-    let mut field = W::begin(context);
-    read_whole(&mut field, context, text)
+    W::parse(context, text)
 }
 
-/// Reads the text into a reader that has read nothing. Its value is taken out of the reader.
-fn read_whole<W: WholeField>(
+/// Reads what is left of a text. The value of the reader is taken out of it.
+fn read_rest<W: WholeField>(
     field: &mut W,
     context: &Context,
     text: &[u8],
+    left: &[u8],
 ) -> Result<W::Whole, Refusal>
-    // Nothing was read.
-    requires { W.state field.old ≡ begin_at W.kind }
+    // The bytes before what is left lead to the state of the reader.
+    requires { Goes (step_of context.now.dialect) (begin_at W.kind) text.now left.now
+        (W.state field.old) }
     // The text spells only this value, or this is its exact refusal; otherwise an allocation
     // failed.
     ensures parses { Makes W.field (Parses context.now.dialect W.kind text.now) result }
     // An allocation-free text is not refused as out of memory.
     ensures allocation_free { TakesNoMemory W.kind text.now → IfErr result IsOther }
 {
-    let rest = field.take(context, text)?;
+    let rest = field.take(context, left)?;
     let found = rest.first().copied();
     let may_end = field.may_end();
     if found.is_some() || !may_end {

@@ -29,10 +29,7 @@ impl Gather<Item> for Sequence<Item> {
 
     #[inline(always)]
     fn add(&mut self, part: Item) -> Result<(), OutOfMemory> {
-        match self.push(part) {
-            Ok(()) => Ok(()),
-            Err(_) => Err(OutOfMemory),
-        }
+        self.push_or_drop(part)
     }
 }
 
@@ -44,10 +41,7 @@ impl Gather<Item> for Sequence<Member> {
 
     #[inline(always)]
     fn add(&mut self, part: Item) -> Result<(), OutOfMemory> {
-        match self.push(Member::Item(part)) {
-            Ok(()) => Ok(()),
-            Err(_) => Err(OutOfMemory),
-        }
+        self.push_or_drop(Member::Item(part))
     }
 }
 

@@ -46,6 +46,9 @@ mod sets;
 mod spots;
 mod state;
 mod text;
+mod text_buffer;
+mod whole_bare;
+mod whole_parts;
 
 pub use byte_runs::{Runs, runs_of};
 pub use parser::Parser;

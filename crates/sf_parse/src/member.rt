@@ -18,6 +18,7 @@ use crate::context::Context;
 use crate::item::ItemReader;
 use crate::level::Level;
 use crate::sets::{CLOSE, OPEN, SPACE, set_if};
+use crate::whole_parts::add_items;
 use sf_value::classes::{Space, short_prefix};
 use sf_value::{Dialect, Inner, Item, Member, OutOfMemory, Sequence};
 use std::marker::Model;
@@ -218,7 +219,7 @@ impl Level for MemberReader {
         match self.phase {
             MemberPhase::BetweenItems => {
                 let (_, rest) = short_prefix::<Space>(chunk);
-                return Ok(rest);
+                return add_items(context, rest, &mut self.items);
             }
             MemberPhase::One => return self.item.take(context, chunk),
             MemberPhase::InItem => return self.item.take(context, chunk),

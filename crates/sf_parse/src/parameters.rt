@@ -9,6 +9,7 @@ use crate::bare::BareReader;
 use crate::context::Context;
 use crate::level::Level;
 use crate::sets::{EQUALS, KEY, KEY_START, SEMICOLON, SPACE, set_if};
+use crate::whole_parts::add_params;
 use sf_value::classes::{ByteClass, InKey, Space, short_prefix};
 use sf_value::{Bare, Dialect, Entries, Key, OutOfMemory, ShortBytes, can_start_key};
 use std::marker::Model;
@@ -130,7 +131,7 @@ impl Level for ParamsReader {
         match self.phase {
             ParamsPhase::Opened => {
                 let (_, rest) = short_prefix::<Space>(chunk);
-                return Ok(rest);
+                return add_params(context, rest, &mut self.params);
             }
             ParamsPhase::InKey => {
                 let (run, rest) = short_prefix::<InKey>(chunk);

@@ -1,6 +1,7 @@
 //! Members with commas between them that are being read: the members of a List or a Dictionary (RFC
 //! 9651 sections 4.2.1 and 4.2.2).
-ghost use Rattle.std.specs.Prelude.{◌≡◌, is_some, ℕ, [], false, Option, IfOk, IsOk};
+ghost use Rattle.std.specs.Prelude.{◌≡◌, is_some, ℕ, [], false, true, Option, IfOk, OnOk, IsOk};
+ghost use Rattle.std.specs.Prelude.{IfSome};
 ghost use Rattle.sf_value.specs.declared.dialect.Dialect.{Dialect};
 ghost use Rattle.sf_parse.specs.Expected.{MarksStep};
 ghost use Rattle.sf_parse.specs.Prefixes.{Starts};
@@ -8,10 +9,15 @@ ghost use Rattle.sf_parse.specs.SeriesView.{series_next, series_end, series_stuc
 ghost use Rattle.sf_parse.specs.Machine.Series.{Begin};
 ghost use Rattle.sf_parse.specs.AllocationFree.{SeriesFree};
 ghost use Rattle.sf_parse.specs.StaysFree.{series_keeps};
+ghost use Rattle.sf_parse.specs.SeriesView.{series_of};
+ghost use Rattle.sf_parse.specs.WholeMembers.{IsWholeMember, MayBegin, MayEnd, NoneOpen};
+ghost use Rattle.sf_parse.specs.WholeMembers.{TakesMembers};
 
 use crate::context::Context;
 use crate::level::Level;
 use crate::sets::{COMMA, OWS, SPACE, set_if};
+use crate::whole_bare::{behind, ends};
+use crate::whole_parts::WHOLE_PARTS;
 use sf_value::classes::{Ows, Space, short_prefix};
 use sf_value::{Dialect, OutOfMemory, is_ows};
 use std::marker::Model;
@@ -19,6 +25,9 @@ use std::mem;
 
 /// A member between commas; complete ones are added to a `G`.
 pub trait SeriesMember<G>: Level {
+    /// A whole member.
+    type Whole: Drop;
+
     // The state after the first byte of a member.
     ghost first: { Dialect → ℕ → Option Self };
 
@@ -27,6 +36,12 @@ pub trait SeriesMember<G>: Level {
 
     // The value with this member, if it may end.
     ghost added: { Self → G → Option G };
+
+    // The value with this whole member.
+    ghost with: { G → Self.Whole → G };
+
+    /// A reader in which no member was begun. It does not allocate.
+    fn new(context: &Context) -> Self;
 
     /// The value before any member is complete. It does not allocate.
     fn none(context: &Context) -> G
@@ -48,6 +63,19 @@ pub trait SeriesMember<G>: Level {
             given.new) }
         // If nothing was added, the reader is unchanged.
         ensures kept { IfOk result (λ ended. ended ≡ false → self.new ≡ self.old) };
+
+    /// Whether the text may begin with a whole member. It only saves time: nothing is claimed of it.
+    fn may_begin(text: &[u8]) -> bool;
+
+    /// A whole member that the text begins with, and the rest. None claims nothing.
+    fn read<'a>(context: &Context, text: &'a [u8]) -> Option<(Self::Whole, &'a [u8])>
+        // The bytes before the rest are those of the member.
+        ensures { IfSome result (λ r. IsWholeMember (first context.now.dialect)
+            (Self.Level.next context.now.dialect) added with text.now r.0 r.1.now) };
+
+    /// Adds a whole member.
+    fn add(given: &mut G, member: Self::Whole) -> Result<(), OutOfMemory>
+        ensures { OnOk result (given.new ≡ with given.old member) };
 
     // A member is added exactly if it may end.
     ghost adds: { (s : Self) (given : G) → is_some (added s given) ≡ Self.Level.ends s };
@@ -97,6 +125,18 @@ impl<P: SeriesMember<G>, G: Drop> SeriesReader<P, G> {
         }
     }
 
+    /// After whole members.
+    pub fn after(context: &Context, phase: SeriesPhase, given: G) -> SeriesReader<P, G>
+        requires { NoneOpen P.none phase given }
+        ensures { (s : P) → result ≡ series_of phase given s }
+    {
+        SeriesReader {
+            phase,
+            given,
+            member: P::new(context),
+        }
+    }
+
     /// The value of the members, if the last one is complete. It is taken out of the reader.
     pub fn finish(&mut self, context: &Context) -> Result<Option<G>, OutOfMemory>
         // It is the value of the members, if they may end.
@@ -140,7 +180,8 @@ impl<P: SeriesMember<G>, G: Drop> Level for SeriesReader<P, G> {
         match self.phase {
             SeriesPhase::Begin => {
                 let (_, rest) = short_prefix::<Space>(chunk);
-                return Ok(rest);
+                self.given = P::none(context);
+                return add_members::<P, G>(context, rest, false, &mut self.phase, &mut self.given);
             }
             SeriesPhase::Gap => {
                 let (_, rest) = short_prefix::<Ows>(chunk);
@@ -148,7 +189,7 @@ impl<P: SeriesMember<G>, G: Drop> Level for SeriesReader<P, G> {
             }
             SeriesPhase::Comma => {
                 let (_, rest) = short_prefix::<Ows>(chunk);
-                return Ok(rest);
+                return add_members::<P, G>(context, rest, false, &mut self.phase, &mut self.given);
             }
             SeriesPhase::InMember => return self.member.take(context, chunk),
         }
@@ -233,4 +274,96 @@ impl<P: SeriesMember<G>, G: Drop> Level for SeriesReader<P, G> {
             SeriesPhase::Comma => false,
         }
     }
+}
+
+/// Whether whole members are all of a text, of which this rest is left after them.
+pub fn are_all(phase: SeriesPhase, rest: &[u8]) -> bool
+    ensures all { result ≡ true → (rest.now ≡ []) × MayEnd phase }
+    ensures some { result ≡ false → rest.now ≡ [] → MayEnd phase → ⊥ }
+{
+    if !ends(rest) {
+        return false;
+    }
+    match phase {
+        SeriesPhase::Begin | SeriesPhase::Gap => return true,
+        SeriesPhase::InMember | SeriesPhase::Comma => return false,
+    }
+}
+
+/// Adds whole members that a text begins with, each with the comma after it, and returns the rest.
+/// At the end of a whole text the last one, too.
+#[inline(always)]
+pub fn add_members<'a, P: SeriesMember<G>, G>(
+    context: &Context,
+    text: &'a [u8],
+    is_whole: bool,
+    phase: &mut SeriesPhase,
+    given: &mut G,
+) -> Result<&'a [u8], OutOfMemory>
+    // A member may begin.
+    requires { MayBegin P.none phase.old given.old }
+    // The bytes before the rest lead to the new phase and value, whatever member was read last; or
+    // no byte is left of a whole text, and the value is that of the members.
+    ensures goes { IfOk result (λ rest. (s : P) → TakesMembers
+        (series_next (P.first context.now.dialect) (P.next context.now.dialect) P.added P.none)
+        (series_end P.added P.none) is_whole (series_of phase.old given.old s) text.now rest.now
+        phase.new given.new s) }
+    // No member is open.
+    ensures none_open { IfOk result (λ _. NoneOpen P.none phase.new given.new) }
+    // Before the first member spaces do not allocate.
+    ensures allocation_free { (s : P) → SeriesFree (series_of phase.old given.old s) text.now
+        → IsOk result }
+{
+    if !P::may_begin(text) {
+        return Ok(text);
+    }
+    if !is_whole && text.len() < WHOLE_PARTS {
+        return Ok(text);
+    }
+    add_each_member::<P, G>(context, text, is_whole, phase, given)
+}
+
+/// As [`add_members`], which only tests whether there may be one: a call clears its stack.
+#[inline(never)]
+fn add_each_member<'a, P: SeriesMember<G>, G>(
+    context: &Context,
+    text: &'a [u8],
+    is_whole: bool,
+    phase: &mut SeriesPhase,
+    given: &mut G,
+) -> Result<&'a [u8], OutOfMemory>
+    // A member may begin.
+    requires { MayBegin P.none phase.old given.old }
+    // The bytes before the rest lead to the new phase and value, whatever member was read last; or
+    // no byte is left of a whole text, and the value is that of the members.
+    ensures goes { IfOk result (λ rest. (s : P) → TakesMembers
+        (series_next (P.first context.now.dialect) (P.next context.now.dialect) P.added P.none)
+        (series_end P.added P.none) is_whole (series_of phase.old given.old s) text.now rest.now
+        phase.new given.new s) }
+    // No member is open.
+    ensures none_open { IfOk result (λ _. NoneOpen P.none phase.new given.new) }
+    // Before the first member spaces do not allocate.
+    ensures allocation_free { (s : P) → SeriesFree (series_of phase.old given.old s) text.now
+        → IsOk result }
+{
+    let mut rest = text;
+    while is_whole || rest.len() >= WHOLE_PARTS {
+        let Some((member, after)) = P::read(context, rest) else {
+            return Ok(rest);
+        };
+        let (_, end) = short_prefix::<Ows>(after);
+        let Some(more) = behind(end, b',') else {
+            if !is_whole || !ends(end) {
+                return Ok(rest);
+            }
+            P::add(given, member)?;
+            *phase = SeriesPhase::Gap;
+            return Ok(end);
+        };
+        P::add(given, member)?;
+        *phase = SeriesPhase::Comma;
+        let (_, next) = short_prefix::<Ows>(more);
+        rest = next;
+    }
+    Ok(rest)
 }

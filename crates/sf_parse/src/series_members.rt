@@ -1,5 +1,6 @@
 //! The members of a List and of a Dictionary (RFC 9651 sections 4.2.1 and 4.2.2).
-ghost use Rattle.std.specs.Prelude.{[]};
+ghost use Rattle.std.specs.Prelude.{[], ◌∷◌, ◌++◌};
+ghost use Rattle.sf_value.specs.Grammar.Pairs.{put};
 ghost use Rattle.sf_parse.specs.Machine.Members.{member_start, member_finish};
 ghost use Rattle.sf_parse.specs.Machine.Entries.{entry_start, entry_finish};
 ghost use Rattle.sf_parse.specs.MemberEnds.{with_member, with_entry, some_map};
@@ -10,16 +11,33 @@ use crate::level::Level;
 use crate::member::MemberReader;
 use crate::series::SeriesMember;
 use crate::sets::KEY_START;
-use sf_value::{Dialect, Entries, Member, OutOfMemory, Sequence};
+use crate::whole_bare::{may_begin_bare, split};
+use crate::whole_parts::{read_entry, read_member};
+use sf_value::{Dialect, Entries, Key, Member, OutOfMemory, Sequence, can_start_key};
+
+/// A whole member of a Dictionary.
+#[derive(Drop)]
+pub struct Entry {
+    key: Key,
+    member: Member,
+}
 
 impl SeriesMember<Sequence<Member>> for MemberReader {
+    type Whole = Member;
+
     ghost first = { member_start };
 
     ghost none = { [] };
 
     ghost added = { with_member };
 
+    ghost with = { λ given member. given ++ member ∷ [] };
+
     ghost adds = { λ s given. some_map _ (member_finish s) };
+
+    fn new(context: &Context) -> MemberReader {
+        MemberReader::new(context)
+    }
 
     fn none(context: &Context) -> Sequence<Member> {
         Sequence::new(context.alloc)
@@ -40,16 +58,42 @@ impl SeriesMember<Sequence<Member>> for MemberReader {
     ) -> Result<bool, OutOfMemory> {
         MemberReader::end(self, context, given)
     }
+
+    #[inline(always)]
+    fn may_begin(text: &[u8]) -> bool {
+        match split(text) {
+            Some((b'(' | b':' | b'@' | b'%', _)) => true,
+            _ => may_begin_bare(text),
+        }
+    }
+
+    #[inline(always)]
+    fn read<'a>(context: &Context, text: &'a [u8]) -> Option<(Member, &'a [u8])> {
+        read_member(context, text)
+    }
+
+    #[inline(always)]
+    fn add(given: &mut Sequence<Member>, member: Member) -> Result<(), OutOfMemory> {
+        given.push_or_drop(member)
+    }
 }
 
 impl SeriesMember<Entries<Member>> for EntryReader {
+    type Whole = Entry;
+
     ghost first = { λ d. entry_start };
 
     ghost none = { [] };
 
     ghost added = { with_entry };
 
+    ghost with = { λ given entry. put given entry.key entry.member };
+
     ghost adds = { λ s given. some_map _ (entry_finish s) };
+
+    fn new(context: &Context) -> EntryReader {
+        EntryReader::new(context)
+    }
 
     fn none(context: &Context) -> Entries<Member> {
         Entries::new(context.alloc, &context.seed)
@@ -65,5 +109,25 @@ impl SeriesMember<Entries<Member>> for EntryReader {
 
     fn end(&mut self, context: &Context, given: &mut Entries<Member>) -> Result<bool, OutOfMemory> {
         EntryReader::end(self, context, given)
+    }
+
+    #[inline(always)]
+    fn may_begin(text: &[u8]) -> bool {
+        match split(text) {
+            Some((first, _)) => can_start_key(first),
+            None => false,
+        }
+    }
+
+    #[inline(always)]
+    fn read<'a>(context: &Context, text: &'a [u8]) -> Option<(Entry, &'a [u8])> {
+        let (key, member, rest) = read_entry(context, text)?;
+        Some((Entry { key, member }, rest))
+    }
+
+    #[inline(always)]
+    fn add(given: &mut Entries<Member>, entry: Entry) -> Result<(), OutOfMemory> {
+        let Entry { key, member } = entry;
+        given.set(key, member)
     }
 }

@@ -1,12 +1,19 @@
-use Rattle.std.proofs.Common.{◌≡◌, ◌-◌, ◌∙◌, arith, rules}
-use Rattle.sf_parse.proofs.RunSteps.{runs-skip, runs-none}
+use Rattle.std.proofs.Common.{◌≡◌, ◌-◌, ◌∙◌, arith}
+use Rattle.sf_parse.proofs.RunSteps.{runs-over, runs-none}
 use Rattle.sf_parse.proofs.byte_runs.next_run.Goals as goal
 
-pub loop-byte-preserved : goal.loop-byte-preserved
-loop-byte-preserved c =
-    c.loop-byte.invariant ∙ runs-skip c.args.set c.loop-byte.byte (omega arith) (search rules)
+pub returns-then-from-ge128-clause-run : goal.returns-then-from-ge128-clause-run
+returns-then-from-ge128-clause-run c =
+    let over : 128 - c.args.from ≡ 0 = omega arith in
+    rw over (runs-none c.args.set c.args.from)
 
-pub returns-clause-run : goal.returns-clause-run
-returns-clause-run c =
-    let last : 128 - c.loop-byte.byte ≡ 0 = omega arith in
-    c.loop-byte.invariant ∙ rw last (runs-none c.args.set c.loop-byte.byte)
+pub returns-in-Some-clause-run : goal.returns-in-Some-clause-run
+returns-in-Some-clause-run c =
+    let found = c.in-Some.ensures in
+    runs-over c.args.set c.args.from c.in-Some.first found.0 (omega arith) found.3
+    ∙ c.run_end.ensures.run
+
+pub returns-in-None-clause-run : goal.returns-in-None-clause-run
+returns-in-None-clause-run c =
+    runs-over c.args.set c.args.from 128 (omega arith) (omega arith) c.in-None.ensures
+    ∙ runs-none c.args.set 128

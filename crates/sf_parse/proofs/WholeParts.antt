@@ -1,0 +1,377 @@
+-- Parts that are read whole: their texts by those of their parts.
+use Rattle.std.specs.Option.{option_map}
+use Rattle.std.proofs.Common.{◌≡◌, ℕ, Bool, true, false, List, [], ◌∷◌, ◌++◌, Option, Some, None}
+use Rattle.std.proofs.Common.{refl, sym, ap, ◌∙◌, subst, append_assoc, append-nil, inl, inr, arith}
+use Rattle.std.proofs.Common.{◌≤◌, ◌<◌, ◌+◌, length, length-append, IfSome, if◌then◌else◌}
+use Rattle.sf_value.specs.declared.dialect.Dialect.{Dialect}
+use Rattle.sf_value.specs.declared.value.Bare.{Bare}
+use Rattle.sf_value.specs.declared.value.Bare.TheVariants.{Boolean, Token, Text}
+use Rattle.sf_value.specs.declared.value.Item.{Item}
+use Rattle.sf_value.specs.declared.value.Inner.{Inner}
+use Rattle.sf_value.specs.declared.value.Member.{Member}
+use Rattle.sf_value.specs.declared.value.Member.TheVariants as member
+use Rattle.sf_value.specs.Grammar.Words.{Every}
+use Rattle.sf_value.specs.Grammar.Classes.{is_sp}
+use Rattle.sf_value.specs.Grammar.Strings.{is_unescaped}
+use Rattle.sf_value.specs.Grammar.Pairs.{Pairs, settle}
+use Rattle.sf_value.specs.Grammar.Tokens.{IsKey, IsToken}
+use Rattle.sf_value.specs.Grammar.BareItems.{SpellsBare}
+use Rattle.sf_value.specs.Grammar.Parameters.{SpellsParams}
+use Rattle.sf_value.specs.Grammar.Items.{SpellsItem, item}
+use Rattle.sf_value.specs.Grammar.InnerLists.{SpellsInner, SpellsMember, SpellsItems, inner}
+use Rattle.sf_value.specs.Grammar.Fields.{SpellsEntry, flag}
+use Rattle.sf_value.proofs.Settling.{put_more}
+use Rattle.sf_value.proofs.Runs.{every_append}
+use Rattle.sf_parse.specs.Machine.Language.{Reads, Machine, run}
+use Rattle.sf_parse.specs.Machine.Numbers.{NumberState, number_start, number_step, number_finish}
+use Rattle.sf_parse.specs.Machine.Texts.{Inside, Closed, text_step}
+use Rattle.sf_parse.specs.Machine.Bares.{BareState, InNumber, InText, GoodBare, ResidualBare}
+use Rattle.sf_parse.specs.Machine.Bares.{bare_start, bare_step, bare_finish}
+use Rattle.sf_parse.specs.Machine.Params.{MoreParams}
+use Rattle.sf_parse.specs.Prefixes.{Goes, LongestPrefix, Starts}
+use Rattle.sf_parse.specs.WholeParts.{ReadsAs, ReadsParam, ReadsItems, Behind}
+use Rattle.sf_parse.proofs.Machine.Language.{and_then_cases}
+use Rattle.sf_parse.proofs.Machine.Bares.{bare_reads, bare_starts, bare_lives}
+use Rattle.sf_parse.proofs.Machines.{may_end, accepted}
+use Rattle.sf_parse.proofs.Prefixes.{goes_above, goes_byte}
+use Rattle.sf_parse.proofs.ByteRuns.{text_goes}
+
+-- A text of L is what a machine takes from the start to an end.
+pub record IsRun {S V : Type 0} (start : ℕ → Option S) (step : S → ℕ → Option S)
+    (finish : S → Option V) (text : List ℕ) (v : V) : Type 0 where
+  pub byte : ℕ
+  pub more : List ℕ
+  pub first : S
+  pub last : S
+  pub split : text ≡ byte ∷ more
+  pub starts : start byte ≡ Some first
+  pub leads : run step first more ≡ Some last
+  pub ends : finish last ≡ Some v
+
+module _ {S V : Type 0} {Good : S → Type 0} {Residual : S → List ℕ → V → Type 0} {step : S → ℕ
+    → Option S} {finish : S → Option V} (m : Machine S V Good Residual step finish)
+    (L : List ℕ → V → Type 0) (start : ℕ → Option S)
+    (begins : Reads S V Good Residual L start None) where
+  pub run_spells : (b : ℕ) (s t : S) (p : List ℕ) (v : V) → start b ≡ Some s
+      → run step s p ≡ Some t → finish t ≡ Some v → L (b ∷ p) v
+  run_spells b s t p v e r f =
+      begins.gives b p v s e ((may_end m s t p v (begins.good b s e) r).1 f)
+
+  pub spells_run : (u : List ℕ) (v : V) → L u v → IsRun start step finish u v
+  spells_run [] v h = absurd (let k : None ≡ Some v = begins.ends v h in cc)
+  spells_run (b ∷ p) v h =
+      let k = begins.taken b p v h in
+      let a = (accepted m k.0 p v (begins.good b k.0 k.1)).0 k.2 in
+      let c = and_then_cases (run step k.0 p) finish v a in
+      record {
+        byte = b;
+        more = p;
+        first = k.0;
+        last = c.0;
+        split = refl;
+        starts = k.1;
+        leads = c.1;
+        ends = c.2;
+      }
+
+-- a bare item
+pub bare_machine : Machine BareState Bare GoodBare ResidualBare bare_step bare_finish
+bare_machine = record { reads = bare_reads; lives = bare_lives }
+
+pub bare_whole : (d : Dialect) (b : ℕ) (more rest : List ℕ) (s t : BareState) (x : Bare)
+    → bare_start d b ≡ Some s → Goes bare_step s more rest t → bare_finish t ≡ Some x
+    → ReadsAs (SpellsBare d) (b ∷ more) x rest
+bare_whole d b more rest s t x e a f = record {
+  prefix = b ∷ a.taken;
+  split = ap (λ y. b ∷ y) a.split;
+  spelled = run_spells bare_machine (SpellsBare d) (bare_start d) (bare_starts d) b s t a.taken x
+      e a.leads f;
+}
+
+pub other_whole : (d : Dialect) (b : ℕ) (more rest : List ℕ) (took : Bool) (s t : BareState)
+    (o : Option Bare) (x : Bare) → took ≡ true → Starts took (bare_start d b) s
+    → LongestPrefix bare_step s more rest t → o ≡ bare_finish t → o ≡ Some x
+    → ReadsAs (SpellsBare d) (b ∷ more) x rest
+other_whole d b more rest true s t o x k e a f g =
+    bare_whole d b more rest s t x e a.goes (sym f ∙ g)
+other_whole d b more rest false s t o x k e a f g = absurd cc
+
+pub number_whole : (d : Dialect) (text : List ℕ) (b : ℕ) (more rest : List ℕ) (took : Bool)
+    (s t : NumberState) (o : Option Bare) (x : Bare) → text ≡ b ∷ more → took ≡ true
+    → Starts took (number_start b) s → Goes number_step s more rest t → o ≡ number_finish t
+    → o ≡ Some x → ReadsAs (SpellsBare d) text x rest
+number_whole d text b more rest true s t o x w k e a f g =
+    subst (λ y. ReadsAs (SpellsBare d) y x rest) (sym w)
+    (bare_whole d b more rest (InNumber s) (InNumber t) x (rw e refl)
+    (goes_above number_step bare_step InNumber (λ s t b e. ap (option_map InNumber) e) s t more
+    rest a)
+    (sym f ∙ g))
+number_whole d text b more rest false s t o x w k e a f g = absurd cc
+
+pub token_whole : (d : Dialect) (text token rest bytes : List ℕ) → text ≡ token ++ rest
+    → IsToken token → bytes ≡ token → ReadsAs (SpellsBare d) text (Token bytes) rest
+token_whole d text token rest bytes e k f =
+    subst (λ y. ReadsAs (SpellsBare d) text (Token y) rest) (sym f)
+    (record { prefix = token; split = e; spelled = (refl, k) })
+
+pub text_whole : (d : Dialect) (text : List ℕ) (b : ℕ) (more run stop rest bytes : List ℕ)
+    → text ≡ b ∷ more → b ≡ 34 → more ≡ run ++ stop → Every is_unescaped run
+    → stop ≡ 34 ∷ rest → bytes ≡ run → ReadsAs (SpellsBare d) text (Text bytes) rest
+text_whole d text b more run stop rest bytes w q e k f g =
+    subst (λ y. ReadsAs (SpellsBare d) y (Text bytes) rest) (sym (w ∙ ap (λ y. y ∷ more) q))
+    (bare_whole d 34 more rest (InText (Inside [])) (InText (Closed bytes)) (Text bytes) refl
+    (goes_above text_step bare_step InText (λ s t b e. ap (option_map InText) e) (Inside [])
+    (Closed bytes) more rest
+    (goes_byte text_step (Inside []) (Inside bytes) (Closed bytes) more 34 rest
+    (text_goes [] run (34 ∷ rest) more bytes (e ∙ ap (λ y. run ++ y) f) k g) refl)) refl)
+
+pub boolean_whole : (d : Dialect) (text : List ℕ) (b : ℕ) (more rest : List ℕ) (x : Bool)
+    → text ≡ b ∷ more → b ≡ 63 → more ≡ (if x then 49 else 48) ∷ rest
+    → ReadsAs (SpellsBare d) text (Boolean x) rest
+boolean_whole d text b more rest x e f g = record {
+  prefix = 63 ∷ (if x then 49 else 48) ∷ [];
+  split = e ∙ ap (λ y. y ∷ more) f ∙ ap (λ y. 63 ∷ y) g;
+  spelled = refl;
+}
+
+-- a parameter
+pub flag_param : (d : Dialect) (text named key after : List ℕ) → Behind is_sp text named
+    → named ≡ key ++ after → IsKey key → ReadsParam d text key (Boolean true) after
+flag_param d text named key after b e k = record {
+  prefix = b.prefix ++ (key ++ []);
+  split =
+      b.split
+      ∙ ap (λ y. b.prefix ++ y) (e ∙ ap (λ y. y ++ after) (sym (append-nil key)))
+      ∙ sym (append_assoc b.prefix (key ++ []) after);
+  spelled = (b.prefix, [], refl, b.each, k, inl (refl, refl));
+}
+
+pub value_param : (d : Dialect) (text named key after inside rest : List ℕ) (x : Bare)
+    → Behind is_sp text named → named ≡ key ++ after → IsKey key → after ≡ 61 ∷ inside
+    → ReadsAs (SpellsBare d) inside x rest → ReadsParam d text key x rest
+value_param d text named key after inside rest x b e k f r = record {
+  prefix = b.prefix ++ (key ++ 61 ∷ r.prefix);
+  split =
+      b.split
+      ∙ ap (λ y. b.prefix ++ y)
+      (e
+      ∙ ap (λ y. key ++ y) (f ∙ ap (λ y. 61 ∷ y) r.split)
+      ∙ sym (append_assoc key (61 ∷ r.prefix) rest))
+      ∙ sym (append_assoc b.prefix (key ++ 61 ∷ r.prefix) rest);
+  spelled = (b.prefix, 61 ∷ r.prefix, refl, b.each, k, inr (r.prefix, refl, r.spelled));
+}
+
+-- parameters: none, or one before others
+pub params_end : (d : Dialect) (ps : Pairs Bare) (rest : List ℕ) → settle ps ≡ ps
+    → ReadsAs (MoreParams d ps) rest ps rest
+params_end d ps rest h = record {
+  prefix = [];
+  split = refl;
+  spelled = ([], sym (ap settle (append-nil ps) ∙ h), refl);
+}
+
+pub params_then : (d : Dialect) (ps qs all : Pairs Bare) (text key more left rest : List ℕ)
+    (x : Bare) → text ≡ 59 ∷ more → ReadsParam d more key x left → qs ≡ settle (ps ++ (key, x) ∷ [])
+    → ReadsAs (MoreParams d qs) left all rest → ReadsAs (MoreParams d ps) text all rest
+params_then d ps qs all text key more left rest x e p q r =
+    let s = r.spelled in record {
+      prefix = (59 ∷ p.prefix) ++ r.prefix;
+      split =
+          e ∙ ap (λ y. 59 ∷ y)
+          (p.split ∙ ap (λ y. p.prefix ++ y) r.split ∙ sym (append_assoc p.prefix r.prefix rest));
+      spelled = (
+        (key, x) ∷ s.0,
+        s.1 ∙ ap (λ y. settle (y ++ s.0)) q ∙ put_more ps key x s.0,
+        (59 ∷ p.prefix, r.prefix, refl, p.spelled, s.2),
+      );
+    }
+
+pub params_whole : (d : Dialect) (old ps : Pairs Bare) (text rest : List ℕ) → old ≡ []
+    → ReadsAs (MoreParams d old) text ps rest → ReadsAs (SpellsParams d) text ps rest
+params_whole d old ps text rest e r =
+    let s = r.spelled in record {
+      prefix = r.prefix;
+      split = r.split;
+      spelled = (s.0, s.1 ∙ ap (λ y. settle (y ++ s.0)) e, s.2);
+    }
+
+pub params_none : (d : Dialect) (ps : Pairs Bare) (text : List ℕ) → ps ≡ []
+    → ReadsAs (SpellsParams d) text ps text
+params_none d ps text e = record { prefix = []; split = refl; spelled = ([], e, refl) }
+
+-- an Item
+pub item_whole : (d : Dialect) (text after rest : List ℕ) (x : Bare) (ps : Pairs Bare)
+    → ReadsAs (SpellsBare d) text x after → ReadsAs (SpellsParams d) after ps rest
+    → ReadsAs (SpellsItem d) text (item x ps) rest
+item_whole d text after rest x ps b r = record {
+  prefix = b.prefix ++ r.prefix;
+  split =
+      b.split ∙ ap (λ y. b.prefix ++ y) r.split ∙ sym (append_assoc b.prefix r.prefix rest);
+  spelled = (b.prefix, r.prefix, refl, b.spelled, r.spelled);
+}
+
+-- Items of an Inner List: those after spaces, none, or one before others
+spaces_before : (d : Dialect) (least low : ℕ) (gap suffix : List ℕ) (is : List Item)
+    → Every is_sp gap → low ≤ least + length gap → SpellsItems d least suffix is
+    → SpellsItems d low (gap ++ suffix) is
+spaces_before d least low gap suffix [] h k s = every_append is_sp gap suffix h s
+spaces_before d least low gap suffix (i ∷ is) h k (g, f, b, e, sp, l, x, r) = (
+  gap ++ g,
+  f,
+  b,
+  ap (λ y. gap ++ y) e ∙ sym (append_assoc gap g (f ++ b)),
+  every_append is_sp gap g h sp,
+  (let n = length-append gap g in omega arith),
+  x,
+  r,
+)
+
+pub items_after : (d : Dialect) (text inside rest : List ℕ) (old new : List Item)
+    → Behind is_sp text inside → ReadsItems d 0 inside old new rest
+    → ReadsItems d 0 text old new rest
+items_after d text inside rest old new b i = record {
+  prefix = b.prefix ++ i.prefix;
+  items = i.items;
+  split =
+      b.split
+      ∙ ap (λ y. b.prefix ++ y) i.split
+      ∙ sym (append_assoc b.prefix i.prefix (41 ∷ rest));
+  spelled = spaces_before d 0 0 b.prefix i.prefix i.items b.each (omega arith) i.spelled;
+  added = i.added;
+}
+
+pub items_apart : (d : Dialect) (text more inside rest : List ℕ) (old new : List Item)
+    → text ≡ 32 ∷ more → Behind is_sp more inside → ReadsItems d 0 inside old new rest
+    → ReadsItems d 1 text old new rest
+items_apart d text more inside rest old new e b i = record {
+  prefix = (32 ∷ b.prefix) ++ i.prefix;
+  items = i.items;
+  split =
+      e
+      ∙ ap (λ y. 32 ∷ y)
+      (b.split
+      ∙ ap (λ y. b.prefix ++ y) i.split
+      ∙ sym (append_assoc b.prefix i.prefix (41 ∷ rest)));
+  spelled =
+      spaces_before d 0 1 (32 ∷ b.prefix) i.prefix i.items (refl, b.each) (omega arith) i.spelled;
+  added = i.added;
+}
+
+pub items_end : (d : Dialect) (least : ℕ) (text rest : List ℕ) (is : List Item)
+    → text ≡ 41 ∷ rest → ReadsItems d least text is is rest
+items_end d least text rest is e = record {
+  prefix = [];
+  items = [];
+  split = e;
+  spelled = tt;
+  added = sym (append-nil is);
+}
+
+pub items_then : (d : Dialect) (text after rest : List ℕ) (old mid new : List Item) (i : Item)
+    → ReadsAs (SpellsItem d) text i after → mid ≡ old ++ i ∷ []
+    → ReadsItems d 1 after mid new rest → ReadsItems d 0 text old new rest
+items_then d text after rest old mid new i r e is = record {
+  prefix = r.prefix ++ is.prefix;
+  items = i ∷ is.items;
+  split =
+      r.split
+      ∙ ap (λ y. r.prefix ++ y) is.split
+      ∙ sym (append_assoc r.prefix is.prefix (41 ∷ rest));
+  spelled = ([], r.prefix, is.prefix, refl, tt, omega arith, r.spelled, is.spelled);
+  added =
+      is.added ∙ ap (λ y. y ++ is.items) e ∙ append_assoc old (i ∷ []) is.items;
+}
+
+-- an Inner List
+pub inner_whole : (d : Dialect) (inside after rest : List ℕ) (old items : List Item)
+    (ps : Pairs Bare) → old ≡ [] → ReadsItems d 0 inside old items after
+    → ReadsAs (SpellsParams d) after ps rest
+    → ReadsAs (SpellsInner d) (40 ∷ inside) (inner items ps) rest
+inner_whole d inside after rest old items ps e i r = record {
+  prefix = 40 ∷ (i.prefix ++ 41 ∷ r.prefix);
+  split =
+      ap (λ y. 40 ∷ y)
+      (i.split
+      ∙ ap (λ y. i.prefix ++ 41 ∷ y) r.split
+      ∙ sym (append_assoc i.prefix (41 ∷ r.prefix) rest));
+  spelled = (
+    i.prefix,
+    r.prefix,
+    refl,
+    subst (λ y. SpellsItems d 0 i.prefix y) (sym (i.added ∙ ap (λ y. y ++ i.items) e)) i.spelled,
+    r.spelled,
+  );
+}
+
+-- a member
+pub inner_member : (d : Dialect) (text inside rest : List ℕ) (x : Inner) → text ≡ 40 ∷ inside
+    → ReadsAs (SpellsInner d) (40 ∷ inside) x rest
+    → ReadsAs (SpellsMember d) text (member.Inner x) rest
+inner_member d text inside rest x e r = record {
+  prefix = r.prefix;
+  split = e ∙ r.split;
+  spelled = r.spelled;
+}
+
+pub item_member : (d : Dialect) (text rest : List ℕ) (x : Item)
+    → ReadsAs (SpellsItem d) text x rest → ReadsAs (SpellsMember d) text (member.Item x) rest
+item_member d text rest x r = record {
+  prefix = r.prefix;
+  split = r.split;
+  spelled = r.spelled;
+}
+
+-- a member of a Dictionary
+pub entry_value : (d : Dialect) (text key after inside rest : List ℕ) (m : Member)
+    → text ≡ key ++ after → IsKey key → after ≡ 61 ∷ inside
+    → ReadsAs (SpellsMember d) inside m rest → ReadsAs (SpellsEntry d) text (key, m) rest
+entry_value d text key after inside rest m e k f r = record {
+  prefix = key ++ 61 ∷ r.prefix;
+  split =
+      e
+      ∙ ap (λ y. key ++ y) (f ∙ ap (λ y. 61 ∷ y) r.split)
+      ∙ sym (append_assoc key (61 ∷ r.prefix) rest);
+  spelled = (r.prefix, k, inl (refl, r.spelled));
+}
+
+entry_flag : (d : Dialect) (text key after rest : List ℕ) (ps : Pairs Bare)
+    → text ≡ key ++ after → IsKey key → ReadsAs (SpellsParams d) after ps rest
+    → ReadsAs (SpellsEntry d) text (key, flag ps) rest
+entry_flag d text key after rest ps e k r = record {
+  prefix = key ++ r.prefix;
+  split = e ∙ ap (λ y. key ++ y) r.split ∙ sym (append_assoc key r.prefix rest);
+  spelled = (r.prefix, k, inr (ps, refl, refl, r.spelled));
+}
+
+pub flagged : (d : Dialect) (text key after rest : List ℕ) (ps : Pairs Bare) (m : Member)
+    → text ≡ key ++ after → IsKey key → ReadsAs (SpellsParams d) after ps rest → m ≡ flag ps
+    → ReadsAs (SpellsEntry d) text (key, m) rest
+flagged d text key after rest ps m e k r f =
+    subst (λ y. ReadsAs (SpellsEntry d) text (key, y) rest) (sym f)
+    (entry_flag d text key after rest ps e k r)
+
+-- what follows from an answer follows from each
+pub each_some : {A : Type 0} {P Q : A → Type 0} → ((a : A) → P a → Q a) → (o : Option A)
+    → IfSome o P → IfSome o Q
+each_some f None h = h
+each_some f (Some a) h = f a h
+
+-- less is left
+pub param_shorter : (d : Dialect) (text key rest more : List ℕ) (x : Bare)
+    → ReadsParam d text key x rest → rest ≡ 59 ∷ more → length more < length text
+param_shorter d text key rest more x p e =
+    let a : length text ≡ length (p.prefix ++ rest) = ap length p.split in
+    let b = length-append p.prefix rest in
+    let c : length rest ≡ length (59 ∷ more) = ap length e in
+    omega arith
+
+pub item_shorter : (d : Dialect) (text rest more inside : List ℕ) (i : Item)
+    → ReadsAs (SpellsItem d) text i rest → rest ≡ 32 ∷ more → Behind is_sp more inside
+    → length inside < length text
+item_shorter d text rest more inside i r e s =
+    let a : length text ≡ length (r.prefix ++ rest) = ap length r.split in
+    let b = length-append r.prefix rest in
+    let c : length rest ≡ length (32 ∷ more) = ap length e in
+    let f : length more ≡ length (s.prefix ++ inside) = ap length s.split in
+    let g = length-append s.prefix inside in
+    omega arith

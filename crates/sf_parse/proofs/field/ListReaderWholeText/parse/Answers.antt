@@ -1,0 +1,41 @@
+use Rattle.std.specs.Option.{option_map}
+use Rattle.std.proofs.Common.{refl, sym, ap, ◌∙◌, [], ◌∷◌, ◌++◌, subst}
+use Rattle.sf_value.specs.declared.value.Kind.TheVariants as kind_is
+use Rattle.sf_value.specs.Grammar.Classes.{is_sp}
+use Rattle.sf_value.specs.Grammar.Fields.{list_of}
+use Rattle.sf_value.specs.Grammar.Words.{Every}
+use Rattle.sf_parse.specs.Machine.Bares.{InBoolean}
+use Rattle.sf_parse.specs.Machine.Items.{InBare}
+use Rattle.sf_parse.specs.Machine.Members.{InOne, member_start, member_step, member_finish}
+use Rattle.sf_parse.specs.MemberEnds.{with_member}
+use Rattle.sf_parse.specs.declared.boolean.BooleanState.TheVariants.{QuestionMark}
+use Rattle.sf_parse.specs.Machine.States.{InList}
+use Rattle.sf_parse.specs.FieldSteps.{list_steps}
+use Rattle.sf_parse.proofs.Prefixes.{never, every_split}
+use Rattle.sf_parse.proofs.SeriesSteps.{end_is}
+use Rattle.sf_parse.proofs.WholeTexts.{members_parsed, members_before}
+use Rattle.sf_parse.proofs.field.ListReaderWholeText.parse.Goals as goal
+
+pub returns-then-are_all-clause-parses : goal.returns-then-are_all-clause-parses
+returns-then-are_all-clause-parses c =
+    let d = c.args.context.now.dialect in
+    let all = c.are_all.ensures.all c.if-are_all.true in
+    members_parsed (member_start d) (member_step d) with_member [] (λ ms m. ms ++ m ∷ []) d kind_is.List InList refl
+    (list_steps d) _ _ _ _ _ (InOne (InBare (InBoolean QuestionMark))) _ c.behind_spaces.ensures
+    (c.in_ok-rest.ensures.goes _) c.in_ok-rest.ensures.none_open all.1 all.0
+    (λ t e. ap (option_map list_of)
+    (sym (end_is member_finish [] (λ ms m. ms ++ m ∷ []) with_member (λ s given. refl) t) ∙ e))
+
+pub read_list-requires-clause-goes : goal.read_list-requires-clause-goes
+read_list-requires-clause-goes c =
+    let d = c.args.context.now.dialect in
+    λ s. members_before (member_start d) (member_step d) with_member [] (λ ms m. ms ++ m ∷ []) d kind_is.List InList refl
+    (list_steps d) _ _ _ _ _ s _ c.behind_spaces.ensures
+    (c.in_ok-rest.ensures.goes s) refl
+    (c.are_all.ensures.some c.if-are_all.false)
+
+pub returns-in_err-rest-clause-allocation_free : goal.returns-in_err-rest-clause-allocation_free
+returns-in_err-rest-clause-allocation_free c =
+    λ w. never (c.in_err-rest.ensures.allocation_free (InOne (InBare (InBoolean QuestionMark)))
+    (every_split is_sp c.behind_spaces.ensures.prefix _
+    (subst (Every is_sp) c.behind_spaces.ensures.split w)).1)
