@@ -39,9 +39,33 @@ pub record FedSoFar (o p : Progress) (all left : List ℕ) : Type 0 where
   pub split : all ≡ prefix ++ left
   pub fed : Feeds o p (Ok tt) prefix
 
--- nothing was fed yet
-pub fed_nothing : (o p : Progress) (all : List ℕ) → Feeds o p (Ok tt) [] → FedSoFar o p all all
-fed_nothing o p all f = record { prefix = []; split = refl; fed = f }
+-- the first line was fed
+pub fed_first : (o p : Progress) (line : List ℕ) (ls : List (List ℕ)) → o.after_line ≡ false
+    → p.after_line ≡ true → Feeds o p (Ok tt) (in_line o.after_line line)
+    → FedSoFar o p (join (line ∷ ls)) (behind p.after_line ls)
+fed_first o p line ls n t f =
+    subst (λ b. FedSoFar o p (join (line ∷ ls)) (behind b ls)) (sym t)
+    (record {
+      prefix = line;
+      split = join_behind line ls;
+      fed = subst (λ b. Feeds o p (Ok tt) (in_line b line)) n f;
+    })
+
+-- the first line was refused
+pub first_refused : (o q : Progress) (e : Refusal) (line : List ℕ) (ls : List (List ℕ))
+    → o.after_line ≡ false → Feeds o q (Err e) (in_line o.after_line line)
+    → Feeds o q (Err e) (join (line ∷ ls))
+first_refused o q e line ls n f =
+    subst (Feeds o q (Err e)) (sym (join_behind line ls))
+    (fed_before o q e line (behind true ls) (subst (λ b. Feeds o q (Err e) (in_line b line)) n f))
+
+-- the lines do not allocate: the first one, and what is left
+pub free_first : (o : Progress) (line : List ℕ) (ls : List (List ℕ)) → o.after_line ≡ false
+    → IsAllocationFree o (join (line ∷ ls))
+    → IsAllocationFree o (in_line o.after_line line ++ behind true ls)
+free_first o line ls n h =
+    subst (λ b. IsAllocationFree o (in_line b line ++ behind true ls)) (sym n)
+    (subst (IsAllocationFree o) (join_behind line ls) h)
 
 -- a further piece was fed
 pub fed_piece : (o p q : Progress) (all left chunk more : List ℕ) → FedSoFar o p all left

@@ -2,3 +2,4 @@ pub mod Feeding
 pub mod Answered
 pub mod Normals
 pub mod HeaderTexts
+pub mod OneText

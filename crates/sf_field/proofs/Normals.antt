@@ -1,6 +1,6 @@
 -- Canonical texts as lines.
 use Rattle.std.proofs.Common.{◌≡◌, ℕ, ◌-◌, ◌*◌, ◌^◌, ◌<◌, ◌≤◌, List, ◌∷◌, [], length, sym, ap, ◌∙◌}
-use Rattle.std.proofs.Common.{subst, Result, Ok, Err, Option, Some, None, IfOk, IfSome, arith}
+use Rattle.std.proofs.Common.{subst, Result, Ok, Err, Some, None, MatchResult, arith}
 use Rattle.std.proofs.Common.{Vec, Global, get_or}
 use Rattle.sf_value.specs.declared.dialect.Dialect.{Dialect}
 use Rattle.sf_value.specs.declared.dialect.Dialect.TheVariants.{Rfc9651}
@@ -16,9 +16,9 @@ use Rattle.sf_parse.specs.declared.refusal.Refusal.{Refusal}
 use Rattle.sf_parse.specs.declared.refusal.Refusal.TheVariants.{OutOfMemory, Syntax, TooLong}
 use Rattle.sf_parse.specs.declared.refusal.Refusal.TheVariants.{ReadFault}
 use Rattle.sf_parse.specs.Parsers.{IsOnly, Parses}
-use Rattle.sf_value.specs.declared.fault.OutOfMemory.{OutOfMemory as NoMemory}
 use Rattle.sf_view.specs.CanonicalParts.{IsCanonicalOf}
 use Rattle.sf_parse.proofs.GrammarLaws.{one_value, canon_one}
+use Rattle.sf_field.proofs.OneText.{parsed_alike, parsed_line}
 use Rattle.sf_field.specs.Asking.{MeansAsCanonical}
 use Rattle.sf_field.specs.Normal.{NormalisesTo}
 use Rattle.sf_field.specs.Lines.{ParsesLines}
@@ -86,16 +86,19 @@ normal kind lines v c h e = record {
       (canon_bound Rfc9651 kind v (join lines) h.spelled);
 }
 
--- so is the canonical text of the text of the lines, if there is one
-pub normal_found : (kind : Kind) (lines : List (List ℕ)) (t : List ℕ)
-    (r : Result (Option (Vec ℕ Global)) NoMemory) → t ≡ join lines
-    → IfOk r (λ found. IfSome found (λ c. IsCanonicalOf Rfc9651 kind t c.items))
-    → IfOk r (λ found. IfSome found (λ c. NormalisesTo kind lines c.items))
-normal_found kind lines t (Err e) same h = tt
-normal_found kind lines t (Ok None) same h = tt
-normal_found kind lines t (Ok (Some c)) same h =
+-- what normalising the joined text of lines returns
+pub normalised : (kind : Kind) (lines : List (List ℕ)) (t : List ℕ)
+    (r : Result (Vec ℕ Global) Refusal) → t ≡ join lines → length t < 2 ^ 63
+    → MatchResult r (λ c. IsCanonicalOf Rfc9651 kind t c.items)
+    (λ e. Parses Rfc9651 kind t (Err e))
+    → MatchResult r (λ c. NormalisesTo kind lines c.items)
+    (λ e. ParsesLines Rfc9651 kind lines (Err e))
+normalised kind lines t (Ok c) same small h =
     normal kind lines h.value c.items (subst (λ y. IsOnly Rfc9651 kind y h.value) same h.only)
     h.canonical
+normalised kind lines t (Err e) same small h =
+    parsed_alike Rfc9651 kind (t ∷ []) lines (Err e) same
+    (parsed_line Rfc9651 kind t (Err e) small h)
 
 -- one line is its own joined text
 pub join_one : (lines : List (List ℕ)) (line : List ℕ) → length lines ≡ 1

@@ -1,5 +1,5 @@
 -- What parsing field lines returns.
-use Rattle.std.specs.Prelude.{◌≡◌, ℕ, ◌-◌, ◌^◌, ◌<◌, List, length, take, Some, None}
+use Rattle.std.specs.Prelude.{◌≡◌, ℕ, ◌-◌, ◌^◌, ◌<◌, List, [], ◌∷◌, length, take, Option, Some, None}
 use Rattle.std.specs.Prelude.{Result, Ok, Err, ⊤}
 use Rattle.sf_value.specs.declared.dialect.Dialect.{Dialect}
 use Rattle.sf_value.specs.declared.value.Field.{Field}
@@ -26,3 +26,8 @@ abbrev pub ParsesLines : Dialect → Kind → List (List ℕ) → Result Field R
 ParsesLines d kind lines (Err (TooLong limit)) =
     (limit ≡ 2 ^ 64 - 1) × (limit < length (join lines)) × Viable d kind (take limit (join lines))
 ParsesLines d kind lines r = Parses d kind (join lines) r × IsCounted (length (join lines)) r
+
+-- the lines that remain after others: the next one, if there is one, and those after it
+abbrev pub remaining : Option (List ℕ) → List (List ℕ) → List (List ℕ)
+remaining None lines = []
+remaining (Some line) lines = line ∷ lines

@@ -1,19 +1,27 @@
 //! The meaning of field lines to a consumer.
-ghost use Rattle.std.specs.Prelude.{◌≡◌, Some};
+ghost use Rattle.std.specs.Prelude.{◌≡◌, ℕ, List, [], ◌∷◌, Some, IfOk};
+ghost use Rattle.sf_value.specs.declared.dialect.Dialect.TheVariants.{Rfc9651 as rfc9651};
+ghost use Rattle.sf_value.specs.Grammar.Fields.{kind_of};
 ghost use Rattle.sf_value.specs.Grammar.Lines.{join};
 ghost use Rattle.sf_parse.specs.AllocationFree.{TakesNoMemory};
+ghost use Rattle.sf_parse.specs.AllocationFreeParsers.{NotForMemory};
 ghost use Rattle.sf_field.specs.Faults.{ask_fault_text};
 ghost use Rattle.sf_field.specs.declared.asking.AskFault.TheVariants as fault_is;
 ghost use Rattle.sf_field.specs.Asking.{Asks, MeansAsCanonical, ParsedOrRefused};
+ghost use Rattle.sf_field.specs.Lines.{ParsesLines};
 
 use crate::consumer::{Consumer, UseFault};
-use crate::lines::{FieldLines, parse_from};
+use crate::joining::join_prefix;
+use crate::lines::{FieldLines, parse_line, parse_several};
 use sf_parse::Refusal;
-use sf_value::{Blob, Dialect};
+use sf_value::{Blob, Dialect, Field};
 use std::alloc::Global;
 use std::error::Error;
 use std::fmt;
 use std::hash::RandomState;
+
+/// Lines whose joined text is at most this long are joined on the stack.
+const SHORT: usize = 1024;
 
 /// Why a consumer has no answer for field lines.
 ///
@@ -63,9 +71,10 @@ impl From<UseFault> for AskFault {
 }
 
 /// Returns what the lines mean to a consumer: parses them as its kind, as [`crate::parse_from`]
-/// does, and passes the value to [`Consumer::answer`]. Accepted lines have the meaning of their
-/// canonical text as one line. Out of memory for the answer is returned only if the value has an
-/// answer.
+/// does, and passes the value to [`Consumer::answer`]. One line, or lines whose joined text has at
+/// most 1 KiB, are passed to [`Consumer::answer_text`] before. Accepted lines have the meaning of
+/// their canonical text as one line. Out of memory for the answer is returned only if the value has
+/// an answer.
 ///
 /// ```
 /// let values = headers.get_all(&name).iter();
@@ -84,10 +93,14 @@ pub fn ask_from<'a, C: Consumer, L: FieldLines<'a>>(
     // Lines whose joined text is allocation-free are not refused as out of memory.
     ensures allocation_free { TakesNoMemory C.KIND (join (L.lines lines)) → ParsedOrRefused result }
 {
-    let field = parse_from(alloc, seed, Dialect::Rfc9651, C::KIND, lines)?;
-    let answer = consumer.answer(alloc, &field);
-    drop(field);
-    Ok(answer?)
+    let mut lines = lines;
+    let Some(first) = lines.next_line() else {
+        return ask_text(alloc, seed, consumer, b"");
+    };
+    let Some(second) = lines.next_line() else {
+        return ask_text(alloc, seed, consumer, first);
+    };
+    ask_several(alloc, seed, consumer, first, second, lines)
 }
 
 /// Returns what the lines mean to a consumer, as [`ask_from`] does.
@@ -109,4 +122,98 @@ pub fn ask<C: Consumer>(
     ensures allocation_free { TakesNoMemory C.KIND (join lines.now) → ParsedOrRefused result }
 {
     ask_from(alloc, seed, consumer, lines.iter())
+}
+
+/// Returns what a text means as the only line.
+fn ask_text<C: Consumer>(
+    alloc: Global,
+    seed: &RandomState,
+    consumer: &C,
+    text: &[u8],
+) -> Result<C::Answer, AskFault>
+    // The result is what the line means, or its refusal, or out of memory.
+    ensures answers { Asks C.KIND (C.meaning consumer.now) (text.now ∷ []) result }
+    // A text that is allocation-free is not refused as out of memory.
+    ensures allocation_free { TakesNoMemory C.KIND text.now → ParsedOrRefused result }
+{
+    if let Some(answer) = consumer.answer_text(alloc, text) {
+        return Ok(answer);
+    }
+    ask_parsed(alloc, seed, consumer, text)
+}
+
+/// The same by the value that the text spells. It is not inlined, so that a text that is read
+/// without it doesn't pay for its stack.
+#[inline(never)]
+fn ask_parsed<C: Consumer>(
+    alloc: Global,
+    seed: &RandomState,
+    consumer: &C,
+    text: &[u8],
+) -> Result<C::Answer, AskFault>
+    ensures answers { Asks C.KIND (C.meaning consumer.now) (text.now ∷ []) result }
+    ensures allocation_free { TakesNoMemory C.KIND text.now → ParsedOrRefused result }
+{
+    let read = parse_line(alloc, seed, Dialect::Rfc9651, C::KIND, text);
+    answer_read(alloc, consumer, read)
+}
+
+/// Returns what two lines and those that remain mean. They are joined on the stack if they are
+/// short; otherwise they are parsed one by one, so that those after a refusal are not read.
+#[inline(never)]
+fn ask_several<'a, C: Consumer, L: FieldLines<'a>>(
+    alloc: Global,
+    seed: &RandomState,
+    consumer: &C,
+    first: &'a [u8],
+    second: &'a [u8],
+    mut others: L,
+) -> Result<C::Answer, AskFault>
+    // The result is what the lines mean, or their refusal, or out of memory.
+    ensures answers { Asks C.KIND (C.meaning consumer.now)
+        (first.now ∷ second.now ∷ L.lines others) result }
+    // Lines whose joined text is allocation-free are not refused as out of memory.
+    ensures allocation_free { TakesNoMemory C.KIND (join (first.now ∷ second.now ∷ L.lines others))
+        → ParsedOrRefused result }
+{
+    let mut buffer = [0; SHORT];
+    if first.len() > buffer.len() {
+        let read = parse_several(
+            alloc,
+            seed,
+            Dialect::Rfc9651,
+            C::KIND,
+            first,
+            second,
+            others,
+        );
+        return answer_read(alloc, consumer, read);
+    }
+    let joined = join_prefix(&mut buffer, first, second, &mut others);
+    let text = &buffer[..joined.length];
+    match joined.next {
+        Some(next) => {
+            let read = parse_several(alloc, seed, Dialect::Rfc9651, C::KIND, text, next, others);
+            return answer_read(alloc, consumer, read);
+        }
+        None => return ask_text(alloc, seed, consumer, text),
+    }
+}
+
+/// Returns the answer for a field that was parsed with this result.
+fn answer_read<C: Consumer>(
+    alloc: Global,
+    consumer: &C,
+    read: Result<Field, Refusal>,
+) -> Result<C::Answer, AskFault>
+    requires { IfOk read (λ field. kind_of field ≡ C.KIND) }
+    // Whatever lines were parsed, the result is what they mean, or their refusal, or out of memory.
+    ensures answers { (lines : List (List ℕ)) → ParsesLines rfc9651 C.KIND lines read
+        → Asks C.KIND (C.meaning consumer.now) lines result }
+    ensures allocation_free { NotForMemory read → ParsedOrRefused result }
+{
+    let field = read?;
+    let answer = consumer.answer(alloc, &field);
+    drop(field);
+    Ok(answer?)
 }

@@ -1,10 +1,11 @@
 //! Consumers of fields, each with its meaning.
-ghost use Rattle.std.specs.Prelude.{◌≡◌, ℕ, Result, Some};
+ghost use Rattle.std.specs.Prelude.{◌≡◌, ℕ, [], ◌∷◌, Result, Ok, Some, IfSome};
 ghost use Rattle.sf_value.specs.declared.value.Field.{Field};
 ghost use Rattle.sf_value.specs.declared.value.Kind.{Kind};
 ghost use Rattle.sf_value.specs.Grammar.Fields.{kind_of};
 ghost use Rattle.sf_field.specs.Faults.{use_fault_text};
 ghost use Rattle.sf_field.specs.declared.consumer.UseFault.TheVariants as fault_is;
+ghost use Rattle.sf_field.specs.Asking.{Means};
 ghost use Rattle.sf_field.specs.Meaning.{Gives};
 
 use sf_value::{Field, Kind, OutOfMemory};
@@ -48,6 +49,16 @@ pub trait Consumer {
         requires { kind_of field.now ≡ KIND }
         // The meaning of the field; out of memory only if the meaning is an answer.
         ensures { Gives (meaning self.now field.now) result };
+
+    /// Returns what a text of the kind [`Consumer::KIND`] means as the only line, if that can be
+    /// read without the field; `None` claims nothing, and [`crate::ask`] then parses the text.
+    fn answer_text(&self, _alloc: Global, _text: &[u8]) -> Option<Self::Answer>
+        // The text spells a value of the kind, and no other, and this is what it means.
+        ensures { IfSome result
+            (λ answer. Means KIND (meaning self.now) (_text.now ∷ []) (Ok answer)) }
+    {
+        None
+    }
 }
 
 impl fmt::Display for UseFault {

@@ -1,6 +1,6 @@
 //! Structured fields as a message has them (RFC 9651 section 4.2): several field lines, or the
 //! values of one name in a header map, are parsed as one text, joined by a comma and a space. That
-//! text is built only by [`normalise_lines`], for several lines.
+//! text is built only for several lines: by [`normalise_lines`], and by [`ask`] if it is short.
 //!
 //! A line can have any bytes, and can come from any type that implements [`FieldLines`]. Places in
 //! a refusal are offsets in the joined text.
@@ -10,6 +10,7 @@ mod asking;
 mod consumer;
 mod header_update;
 mod headers;
+mod joining;
 mod kinds;
 pub mod laws;
 mod lines;

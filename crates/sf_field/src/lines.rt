@@ -1,6 +1,6 @@
 //! Field lines.
 ghost use Rattle.std.specs.Prelude.{◌≡◌, ℕ, List, [], ◌∷◌, false, map, MatchOption, MatchResult};
-ghost use Rattle.std.specs.Prelude.{Err, IfOk, IfSome, ◌++◌};
+ghost use Rattle.std.specs.Prelude.{Err, IfOk, ◌++◌};
 ghost use Rattle.std.specs.Slice.Iter.{iter_rest};
 ghost use Rattle.sf_value.specs.Grammar.Lines.{join};
 ghost use Rattle.sf_value.specs.declared.dialect.Dialect.TheVariants.{Rfc9651};
@@ -11,10 +11,9 @@ ghost use Rattle.sf_parse.specs.AllocationFreeParsers.{NotForMemory};
 ghost use Rattle.sf_field.specs.Lines.{ParsesLines};
 ghost use Rattle.sf_field.specs.Normal.{NormalisesTo};
 
-use sf_parse::{Parser, Refusal};
+use sf_parse::{Parser, Refusal, parse_text_in};
 use sf_value::{Blob, Dialect, Field, Kind, OutOfMemory};
-use sf_view::canonical_text;
-use sf_write::to_text;
+use sf_view::normalise;
 use std::alloc::Global;
 use std::hash::RandomState;
 use std::slice;
@@ -82,8 +81,53 @@ pub fn parse_from<'a, L: FieldLines<'a>>(
     // Lines whose joined text is allocation-free are not refused as out of memory.
     ensures allocation_free { TakesNoMemory kind (join (L.lines lines)) → NotForMemory result }
 {
+    let mut lines = lines;
+    let Some(first) = lines.next_line() else {
+        return parse_line(alloc, seed, dialect, kind, b"");
+    };
+    let Some(second) = lines.next_line() else {
+        return parse_line(alloc, seed, dialect, kind, first);
+    };
+    parse_several(alloc, seed, dialect, kind, first, second, lines)
+}
+
+/// Parses a text as the only line.
+pub(crate) fn parse_line(
+    alloc: Global,
+    seed: &RandomState,
+    dialect: Dialect,
+    kind: Kind,
+    text: &[u8],
+) -> Result<Field, Refusal>
+    // The line spells this value and no other, or this is its exact refusal, or an allocation
+    // failed.
+    ensures parses { ParsesLines dialect kind (text.now ∷ []) result }
+    // A text that is allocation-free is not refused as out of memory.
+    ensures allocation_free { TakesNoMemory kind text.now → NotForMemory result }
+{
+    parse_text_in(alloc, seed, dialect, kind, text)
+}
+
+/// Parses two lines and those that remain, as [`parse_from`] does: one by one, so that those after
+/// a refusal are not read.
+pub(crate) fn parse_several<'a, L: FieldLines<'a>>(
+    alloc: Global,
+    seed: &RandomState,
+    dialect: Dialect,
+    kind: Kind,
+    first: &[u8],
+    second: &[u8],
+    others: L,
+) -> Result<Field, Refusal>
+    // The joined lines spell this value and no other, or this is their exact refusal, or an
+    // allocation failed.
+    ensures parses { ParsesLines dialect kind (first.now ∷ second.now ∷ L.lines others) result }
+    // Lines whose joined text is allocation-free are not refused as out of memory.
+    ensures allocation_free { TakesNoMemory kind (join (first.now ∷ second.now ∷ L.lines others))
+        → NotForMemory result }
+{
     let mut parser = Parser::new_in(alloc, seed, dialect, kind, u64::MAX);
-    feed_lines(&mut parser, lines)?;
+    feed_lines(&mut parser, first, second, others)?;
     parser.finish()
 }
 
@@ -130,9 +174,9 @@ pub fn parse_lines(
 
 /// Returns the canonical text (RFC 9651 section 4.1) of the value that the lines spell. Lines of a
 /// kind have equal canonical texts if and only if they spell equal values. Refuses what
-/// [`parse_lines`] refuses. The canonical text is written from nodes that point into the lines, or
-/// into their joined text if there are several; only if they have no view (see [`sf_view::View`]),
-/// the field is built.
+/// [`parse_lines`] refuses. It is [`sf_view::normalise`] of the line, or of the joined text of the
+/// lines if there are several: only if that has no view (see [`sf_view::View`]), the field is
+/// built.
 ///
 /// ```
 /// let text = normalise_lines(alloc, &seed, Kind::List, lines.as_slice())?;
@@ -147,26 +191,11 @@ pub fn normalise_lines(
     ensures { MatchResult result (λ text. NormalisesTo kind lines.now text.items)
         (λ e. ParsesLines Rfc9651 kind lines.now (Err e)) }
 {
-    if let Some(text) = text_of_nodes(alloc, kind, lines)? {
-        return Ok(text);
-    }
-    let field = parse_lines(alloc, seed, kind, lines)?;
-    let text = to_text(alloc, &field);
-    drop(field);
-    Ok(text?)
-}
-
-/// Returns the canonical text of the value that the lines spell, written from nodes; `None` claims
-/// nothing.
-fn text_of_nodes(alloc: Global, kind: Kind, lines: &[Blob]) -> Result<Option<Vec<u8>>, OutOfMemory>
-    ensures { IfOk result
-        (λ found. IfSome found (λ text. NormalisesTo kind lines.now text.items)) }
-{
     if lines.len() == 1 {
-        return canonical_text(alloc, Dialect::Rfc9651, kind, lines[0].as_bytes());
+        return normalise(alloc, seed, Dialect::Rfc9651, kind, lines[0].as_bytes());
     }
     let text = joined(alloc, lines)?;
-    canonical_text(alloc, Dialect::Rfc9651, kind, text.as_slice())
+    normalise(alloc, seed, Dialect::Rfc9651, kind, text.as_slice())
 }
 
 /// Returns the text of the lines, joined by a comma and a space.
@@ -193,18 +222,25 @@ fn append_line(text: &mut Vec<u8>, after_line: bool, line: &[u8]) -> Result<(), 
     Ok(())
 }
 
-/// Feeds the joined text of the lines; without lines it is empty.
-fn feed_lines<'a, L: FieldLines<'a>>(parser: &mut Parser, mut lines: L) -> Result<(), Refusal>
+/// Feeds the joined text of two lines and those that remain.
+fn feed_lines<'a, L: FieldLines<'a>>(
+    parser: &mut Parser,
+    first: &[u8],
+    second: &[u8],
+    mut others: L,
+) -> Result<(), Refusal>
     requires { parser.old.after_line ≡ false }
     // The joined text is fed; a refusal remains, whatever comes after it.
-    ensures fed { Feeds parser.old parser.new result (join (L.lines lines)) }
+    ensures fed { Feeds parser.old parser.new result
+        (join (first.now ∷ second.now ∷ L.lines others)) }
     // Lines whose joined text is allocation-free are not refused as out of memory, nor is the end.
-    ensures allocation_free { IsAllocationFree parser.old (join (L.lines lines))
+    ensures allocation_free { IsAllocationFree parser.old
+        (join (first.now ∷ second.now ∷ L.lines others))
         → KeepsAllocationFree parser.new [] result }
 {
-    // A parser that refused before refuses again, also if there are no lines.
-    parser.feed(b"")?;
-    while let Some(line) = lines.next_line() {
+    parser.feed_line(first)?;
+    parser.feed_line(second)?;
+    while let Some(line) = others.next_line() {
         parser.feed_line(line)?;
     }
     Ok(())

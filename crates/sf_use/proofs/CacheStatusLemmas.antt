@@ -4,3 +4,4 @@ pub mod ReadBack
 pub mod LastHits
 pub mod Gathered
 pub mod Views
+pub mod Scanned

@@ -3,7 +3,7 @@ use Rattle.std.proofs.Common.{◌≡◌, ◌⊎◌, ◌↔◌, Bool, ℕ, suc, �
 use Rattle.std.proofs.Common.{get_or, Option, Some, None, Ok, Err, inl, inr, sym, ap, ◌∙◌}
 use Rattle.std.proofs.Common.{refl, subst, take}
 use Rattle.std.proofs.Common.{drop-cons, add-one, arith}
-use Rattle.std.specs.Prelude.{All, IfErr, IfOk, Result}
+use Rattle.std.specs.Prelude.{◌≢◌, All, IfErr, IfOk, Result}
 use Rattle.std.specs.List.{AllByRecursion}
 use Rattle.std.proofs.lemmas.List.{get_or_read_under, take_more}
 use Rattle.std.proofs.lemmas.List.Elements.{All-push}
@@ -14,19 +14,27 @@ use Rattle.sf_value.specs.declared.value.Dict.{Dict}
 use Rattle.sf_value.specs.declared.value.Field.{Field}
 use Rattle.sf_value.specs.declared.value.Field.TheVariants as field
 use Rattle.sf_value.specs.declared.value.Kind.TheVariants as kind
+use Rattle.sf_value.specs.declared.value.Member.{Member}
 use Rattle.sf_value.specs.Grammar.Canonical.{canon}
 use Rattle.sf_value.specs.Grammar.Fields.{SpellsField}
 use Rattle.sf_value.specs.Grammar.Lines.{join}
+use Rattle.sf_value.specs.Grammar.Pairs.{Pairs}
 use Rattle.sf_value.proofs.CanonicalTexts.{canon_spells}
 use Rattle.sf_value.proofs.Validity.{spelled_valid}
-use Rattle.sf_parse.specs.declared.refusal.Refusal.{Refusal}
 use Rattle.sf_parse.specs.declared.refusal.Refusal.TheVariants.{OutOfMemory, Syntax, TooLong}
 use Rattle.sf_parse.specs.declared.refusal.Refusal.TheVariants.{ReadFault}
+use Rattle.sf_parse.specs.Parsers.{IsOnly}
 use Rattle.sf_parse.proofs.GrammarLaws.{one_value}
-use Rattle.sf_field.specs.Headers.{Headers, lines_under, ParsesHeaders}
+use Rattle.sf_field.specs.Asking.{Asks}
+use Rattle.sf_field.specs.Headers.{Headers, lines_under}
+use Rattle.sf_field.specs.Lines.{ParsesLines}
+use Rattle.sf_field.specs.declared.asking.AskFault.{AskFault}
+use Rattle.sf_field.specs.declared.asking.AskFault.TheVariants as fault
+use Rattle.sf_field.specs.declared.consumer.UseFault.TheVariants.{NotACache}
+use Rattle.sf_field.specs.declared.consumer.UseFault.TheVariants as use_fault
 use Rattle.sf_use.specs.Targeted.{policy}
-use Rattle.sf_use.specs.TargetedChoice.{Usable, IsOffer, IsChosenFrom, IsOfHeaders, MayOffer}
-use Rattle.sf_use.specs.TargetedChoice.{IsReached, OffersAsRead}
+use Rattle.sf_use.specs.TargetedChoice.{Usable, IsOffer, IsChosenFrom, IsOfTarget}
+use Rattle.sf_use.specs.TargetedChoice.{IsReached, OffersAsAsked, offer, unless_empty}
 use Rattle.sf_use.specs.TargetedLaws.{SameText, Normalised, OneChoice, ChosenAsCanonical}
 use Rattle.sf_use.specs.declared.targeted.Choice.{Choice}
 use Rattle.sf_use.specs.declared.targeted.Choice.TheVariants as choice
@@ -36,58 +44,68 @@ use Rattle.sf_use.specs.declared.targeted.Policy.{Policy}
 pub same_dict : (d e : Dict) → field.Dict d ≡ field.Dict e → d ≡ e
 same_dict d e h = cc
 
--- the field that was read is what the name offers
-read_offer : (h : Headers) (n : List ℕ) (f : Field) (o : Option Policy)
-    → ParsesHeaders kind.Dict h n (Ok (Some f)) → MayOffer f o → IsOffer h n o
-read_offer h n f (Some p) r m = (
-  m.0,
-  record {
-    present = r.0;
-    spelled = subst (SpellsField Rfc9651 kind.Dict (join (lines_under h n))) m.1 r.1.0.spelled;
-    filled = m.2;
-  },
-  m.3,
-)
-read_offer h n f None r m =
-    λ d u. u.filled (m d (sym (r.1.0.only (field.Dict d) u.spelled)))
+-- the field that the values spell is what the name offers
+read_offer : (h : Headers) (n : List ℕ) (f : Field) (o : Option Policy) → ContainsKey h n
+    → IsOnly Rfc9651 kind.Dict (join (lines_under h n)) f → offer f ≡ o → IsOffer h n o
+read_offer h n (field.Item i) o there only e = absurd only.spelled
+read_offer h n (field.List l) o there only e = absurd only.spelled
+read_offer h n (field.Dict d) o there only e = by d.members refl
+  where
+    by : (ms : Pairs Member) → d.members ≡ ms → IsOffer h n o
+    by [] is =
+        let none : o ≡ None = sym e ∙ ap (λ x. unless_empty x (policy d)) is in
+        let empty : IsOffer h n None =
+        λ c u. u.filled
+        (ap (λ x. x.members) (same_dict c d (only.only (field.Dict c) u.spelled)) ∙ is) in
+        subst (IsOffer h n) (sym none) empty
+    by (m ∷ ms) is =
+        let some : o ≡ Some (policy d) = sym e ∙ ap (λ x. unless_empty x (policy d)) is in
+        let filled : d.members ≢ [] = λ none. (let z : [] ≡ m ∷ ms = sym none ∙ is in cc) in
+        subst (IsOffer h n) (sym some)
+        (d, record { present = there; spelled = only.spelled; filled = filled }, refl)
 
 -- a field that is refused offers nothing
 refused_offer : (h : Headers) (n : List ℕ) (place : ℕ) (found : Option ℕ) (expected : ℕ)
-    (may_end : Bool) → ParsesHeaders kind.Dict h n (Err (Syntax place found expected may_end))
+    (may_end : Bool)
+    → ParsesLines Rfc9651 kind.Dict (lines_under h n) (Err (Syntax place found expected may_end))
     → IsOffer h n None
-refused_offer h n place None expected may_end r = λ d u. r.1.0.1.unspelled (field.Dict d) u.spelled
+refused_offer h n place None expected may_end r = λ d u. r.0.1.unspelled (field.Dict d) u.spelled
 refused_offer h n place (Some b) expected may_end r =
-    λ d u. r.1.0.unspelled (field.Dict d) u.spelled
+    λ d u. r.0.unspelled (field.Dict d) u.spelled
 
--- what is read of headers fails for no source
-pub of_headers : (h : Headers) (n : List ℕ) (read : Result (Option Field) Refusal)
-    → ParsesHeaders kind.Dict h n read → IfErr read IsOfHeaders
-of_headers h n (Err (ReadFault place)) r = absurd r.1.1
-of_headers h n read r = tt
+-- the offer of the values under the name was asked for with this result
+abbrev pub AsksOffer : Headers → List ℕ → Result (Option Policy) AskFault → Type 0
+AsksOffer h n asked = Asks kind.Dict (λ f. Ok (offer f)) (lines_under h n) asked
 
--- what the name offers is what its field offers as it was read
-pub offers : (h : Headers) (n : List ℕ) (read : Result (Option Field) Refusal)
-    (o : Result (Option Policy) NoMemory) → ParsesHeaders kind.Dict h n read
-    → OffersAsRead read o → IfOk o (IsOffer h n)
-offers h n (Ok (Some f)) (Ok offer) r m = read_offer h n f offer r m
-offers h n (Ok (Some f)) (Err e) r m = tt
-offers h n (Ok None) o r m = rw m (λ d u. r u.present)
-offers h n (Err (Syntax place found expected may_end)) o r m =
-    rw m (refused_offer h n place found expected may_end r)
-offers h n (Err OutOfMemory) (Ok offer) r m = absurd cc
-offers h n (Err OutOfMemory) (Err e) r m = tt
-offers h n (Err (TooLong limit)) (Ok offer) r m = absurd cc
-offers h n (Err (TooLong limit)) (Err e) r m = tt
-offers h n (Err (ReadFault place)) o r m = absurd m
+-- no source of headers fails, and each Dictionary has an answer
+pub of_target : (h : Headers) (n : List ℕ) (asked : Result (Option Policy) AskFault)
+    → AsksOffer h n asked → IfErr asked IsOfTarget
+of_target h n (Ok o) a = tt
+of_target h n (Err (fault.Field (ReadFault place))) a = absurd a.0
+of_target h n (Err (fault.Field OutOfMemory)) a = tt
+of_target h n (Err (fault.Field (Syntax place found expected may_end))) a = tt
+of_target h n (Err (fault.Field (TooLong limit))) a = tt
+of_target h n (Err (fault.Answer (NotACache index))) a =
+    let e : Ok (offer a.0) ≡ Err index = a.2 in absurd cc
+of_target h n (Err (fault.Answer use_fault.OutOfMemory)) a = tt
 
--- an allocation fails only for a field that is present
-pub present : (h : Headers) (n : List ℕ) (read : Result (Option Field) Refusal)
-    (o : Result (Option Policy) NoMemory) → ParsesHeaders kind.Dict h n read
-    → OffersAsRead read o → IfErr o (λ e. ContainsKey h n)
-present h n read (Ok offer) r m = tt
-present h n (Ok (Some f)) (Err e) r m = r.0
-present h n (Ok None) (Err e) r m = absurd cc
-present h n (Err f) (Err e) r m = r.0
+-- what the name offers is what was answered for its values
+pub offers : (h : Headers) (n : List ℕ) (asked : Result (Option Policy) AskFault)
+    (o : Result (Option Policy) NoMemory) → ContainsKey h n → AsksOffer h n asked
+    → OffersAsAsked asked o → IfOk o (IsOffer h n)
+offers h n (Ok given) o there a m =
+    let e : Ok (offer a.0) ≡ Ok given = a.2 in
+    let is : offer a.0 ≡ given = cc in
+    rw m (read_offer h n a.0 given there a.1 is)
+offers h n (Err (fault.Field (Syntax place found expected may_end))) o there a m =
+    rw m (refused_offer h n place found expected may_end a)
+offers h n (Err (fault.Field OutOfMemory)) (Ok given) there a m = absurd cc
+offers h n (Err (fault.Field OutOfMemory)) (Err e) there a m = tt
+offers h n (Err (fault.Field (TooLong limit))) (Ok given) there a m = absurd cc
+offers h n (Err (fault.Field (TooLong limit))) (Err e) there a m = tt
+offers h n (Err (fault.Field (ReadFault place))) o there a m = absurd m
+offers h n (Err (fault.Answer f)) (Ok given) there a m = absurd cc
+offers h n (Err (fault.Answer f)) (Err e) there a m = tt
 
 -- a target that offers nothing is passed over
 pub pass_over : (index : ℕ) (names : List (List ℕ)) (name : List ℕ) (h : Headers) (c : Choice)

@@ -1,6 +1,6 @@
 -- Which field of a target list a cache obeys (RFC 9213 section 2.2).
 use Rattle.std.specs.Prelude.{◌≡◌, ◌≢◌, ◌⊎◌, ℕ, ◌+◌, ◌<◌, List as Seq, [], ◌∷◌, All, length, take}
-use Rattle.std.specs.Prelude.{get_or, Option, Some, None, Result, Ok, Err, IsErr, IsOkAnd, ⊤}
+use Rattle.std.specs.Prelude.{get_or, Option, Some, None, Result, Ok, Err, IsErr, ⊤}
 use Rattle.http_header.specs.HeaderMap.{ContainsKey}
 use Rattle.sf_value.specs.declared.dialect.Dialect.TheVariants.{Rfc9651}
 use Rattle.sf_value.specs.declared.fault.OutOfMemory.{OutOfMemory as NoMemory}
@@ -8,12 +8,17 @@ use Rattle.sf_value.specs.declared.value.Dict.{Dict}
 use Rattle.sf_value.specs.declared.value.Field.{Field}
 use Rattle.sf_value.specs.declared.value.Field.TheVariants as field
 use Rattle.sf_value.specs.declared.value.Kind.TheVariants as kind
+use Rattle.sf_value.specs.declared.value.Member.{Member}
 use Rattle.sf_value.specs.Grammar.Fields.{SpellsField}
 use Rattle.sf_value.specs.Grammar.Lines.{join}
-use Rattle.sf_parse.specs.declared.refusal.Refusal.{Refusal}
+use Rattle.sf_value.specs.Grammar.Pairs.{Pairs}
 use Rattle.sf_parse.specs.declared.refusal.Refusal.TheVariants.{OutOfMemory, Syntax, TooLong}
 use Rattle.sf_parse.specs.declared.refusal.Refusal.TheVariants.{ReadFault}
 use Rattle.sf_field.specs.Headers.{Headers, lines_under}
+use Rattle.sf_field.specs.declared.asking.AskFault.{AskFault}
+use Rattle.sf_field.specs.declared.asking.AskFault.TheVariants as fault
+use Rattle.sf_field.specs.declared.consumer.UseFault.TheVariants.{NotACache}
+use Rattle.sf_field.specs.declared.consumer.UseFault.TheVariants as use_fault
 use Rattle.sf_use.specs.Targeted.{policy}
 use Rattle.sf_use.specs.declared.targeted.Policy.{Policy}
 use Rattle.sf_use.specs.declared.targeted.Choice.{Choice}
@@ -55,19 +60,30 @@ IsReached targets headers =
     × ContainsKey headers (get_or targets index [])
     × All (λ n. IsOffer headers n None) (take index targets)
 
--- a refusal of what is in memory: no source was read
-abbrev pub IsOfHeaders : Refusal → Type 0
-IsOfHeaders OutOfMemory = ⊤
-IsOfHeaders (Syntax place found expected may_end) = ⊤
-IsOfHeaders (TooLong limit) = ⊤
-IsOfHeaders (ReadFault place) = ⊥
+-- the policy, if there is a member
+abbrev pub unless_empty : Pairs Member → Policy → Option Policy
+unless_empty [] p = None
+unless_empty (m ∷ ms) p = Some p
 
--- what the field of a name that was read with this result offers: nothing if the field is absent or
--- refused (section 2.1), whatever memory is left
-abbrev pub OffersAsRead : Result (Option Field) Refusal → Result (Option Policy) NoMemory → Type 0
-OffersAsRead (Ok (Some f)) r = IsOkAnd r (MayOffer f)
-OffersAsRead (Ok None) r = r ≡ Ok None
-OffersAsRead (Err (Syntax place found expected may_end)) r = r ≡ Ok None
-OffersAsRead (Err OutOfMemory) r = IsErr r
-OffersAsRead (Err (TooLong limit)) r = IsErr r
-OffersAsRead (Err (ReadFault place)) r = ⊥
+-- the policy of a Dictionary with a member, otherwise none
+abbrev pub offer : Field → Option Policy
+offer (field.Dict d) = unless_empty d.members (policy d)
+offer f = None
+
+-- a fault of the offer of what is in memory: no source was read, and each Dictionary has an answer
+abbrev pub IsOfTarget : AskFault → Type 0
+IsOfTarget (fault.Field (ReadFault place)) = ⊥
+IsOfTarget (fault.Field refusal) = ⊤
+IsOfTarget (fault.Answer (NotACache index)) = ⊥
+IsOfTarget (fault.Answer use_fault.OutOfMemory) = ⊤
+
+-- what the field of a name offers if its offer was asked for with this result: nothing if the field
+-- is refused (section 2.1), whatever memory is left
+abbrev pub OffersAsAsked : Result (Option Policy) AskFault → Result (Option Policy) NoMemory
+    → Type 0
+OffersAsAsked (Ok o) r = r ≡ Ok o
+OffersAsAsked (Err (fault.Field (Syntax place found expected may_end))) r = r ≡ Ok None
+OffersAsAsked (Err (fault.Field OutOfMemory)) r = IsErr r
+OffersAsAsked (Err (fault.Field (TooLong limit))) r = IsErr r
+OffersAsAsked (Err (fault.Field (ReadFault place))) r = ⊥
+OffersAsAsked (Err (fault.Answer f)) r = IsErr r

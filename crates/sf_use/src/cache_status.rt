@@ -17,6 +17,7 @@ mod hop;
 mod params;
 mod path;
 mod reading;
+mod scanning;
 mod status;
 mod view;
 

@@ -69,7 +69,8 @@ pub struct Priority {
     pub incremental: bool,
 }
 
-/// Reads the Priority field (RFC 9218 section 5), a Dictionary. `answer` does not allocate.
+/// Reads the Priority field (RFC 9218 section 5), a Dictionary. `answer` and `answer_text` do not
+/// allocate.
 ///
 /// ```
 /// let asked = ask(alloc, &seed, &PriorityField, lines.as_slice())?;
@@ -219,6 +220,11 @@ impl Consumer for PriorityField {
             Field::Dict(dict) => Ok(Priority::from_dict(dict)),
             _ => unreachable!(),
         }
+    }
+
+    /// Returns what [`PriorityField::scan`] does.
+    fn answer_text(&self, _alloc: Global, text: &[u8]) -> Option<Asked> {
+        PriorityField::scan(text)
     }
 }
 

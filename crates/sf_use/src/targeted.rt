@@ -5,8 +5,8 @@ ghost use Rattle.http_header.specs.HeaderMap.{ContainsKey};
 ghost use Rattle.sf_field.specs.Meaning.{Gives};
 ghost use Rattle.sf_use.specs.Scanning.{IsScanned, seconds_by, sets_by, with_directive};
 ghost use Rattle.sf_use.specs.Targeted.{delta_seconds, directives, is_set as member_sets, life, policy};
-ghost use Rattle.sf_use.specs.TargetedChoice.{IsChosen, IsReached, MayOffer, IsOffer, IsOfHeaders};
-ghost use Rattle.sf_use.specs.TargetedChoice.{OffersAsRead};
+ghost use Rattle.sf_use.specs.TargetedChoice.{IsChosen, IsReached, MayOffer, IsOffer};
+ghost use Rattle.sf_use.specs.TargetedChoice.{IsOfTarget, OffersAsAsked};
 ghost use Rattle.sf_use.specs.declared.targeted.Choice.TheVariants.{Fallback};
 ghost use Rattle.sf_value.specs.declared.dialect.Dialect.TheVariants.{Rfc9651 as rfc9651};
 ghost use Rattle.sf_value.specs.declared.value.Member.{Member as MemberValue};
@@ -14,7 +14,7 @@ ghost use Rattle.sf_view.specs.Cursors.{boolean_in};
 ghost use Rattle.sf_view.specs.Reads.{ShowsMember};
 
 use http_header::{HeaderMap, HeaderName};
-use sf_field::{Consumer, UseFault, from_headers};
+use sf_field::{AskFault, Consumer, UseFault, ask_from};
 use sf_parse::Refusal;
 use sf_value::{Bare, Dialect, Dict, Field, Kind, Member, OutOfMemory};
 use sf_view::{DictCursor, EntryView};
@@ -41,7 +41,8 @@ pub struct Policy {
     pub is_private: bool,
 }
 
-/// Reads a targeted field (RFC 9213 section 2.1), a Dictionary. `answer` does not allocate.
+/// Reads a targeted field (RFC 9213 section 2.1), a Dictionary. `answer` and `answer_text` do
+/// not allocate.
 ///
 /// ```
 /// let policy = ask(alloc, &seed, &Directives, lines.as_slice())?;
@@ -166,6 +167,39 @@ impl Consumer for Directives {
             Field::Dict(dict) => Ok(Policy::from_dict(dict)),
             _ => unreachable!(),
         }
+    }
+
+    /// Returns the directives that [`Directives::scan`] reads; an empty Dictionary has none.
+    fn answer_text(&self, _alloc: Global, text: &[u8]) -> Option<Policy> {
+        let policy = Directives::scan(text)?;
+        Some(policy.unwrap_or(NO_DIRECTIVE))
+    }
+}
+
+/// Reads a targeted field as an offer: its policy, or `None` if it is empty, so that the field is
+/// ignored (RFC 9213 section 2.1).
+struct Offer;
+
+impl Consumer for Offer {
+    ghost use Rattle.std.specs.Prelude.{◌≡◌, Ok, IsOk};
+    ghost use Rattle.sf_value.specs.declared.value.Kind.TheVariants as kind_is;
+    ghost use Rattle.sf_value.specs.Grammar.Fields.{kind_of};
+    ghost use Rattle.sf_use.specs.TargetedChoice.{offer};
+
+    type Answer = Option<Policy>;
+
+    const KIND: Kind = Kind::Dict;
+
+    ghost KIND = { kind_is.Dict };
+
+    ghost meaning = { λ _ field. Ok (offer field) };
+
+    fn answer(&self, _alloc: Global, field: &Field) -> Result<Option<Policy>, UseFault> {
+        Ok(policy_in(field))
+    }
+
+    fn answer_text(&self, _alloc: Global, text: &[u8]) -> Option<Option<Policy>> {
+        Directives::scan(text)
     }
 }
 
@@ -302,21 +336,22 @@ fn policy_in(field: &Field) -> Option<Policy>
     Some(Policy::from_dict(dict))
 }
 
-/// Returns the policy of a field that was read with this result; None if the field is absent,
+/// Returns the policy of a field whose offer was asked for with this result; None if the field is
 /// refused or empty.
-fn offer_in(read: Result<Option<Field>, Refusal>) -> Result<Option<Policy>, OutOfMemory>
-    // A header map is in memory: no read of a source failed.
-    requires { IfErr read IsOfHeaders }
-    // An absent, refused or empty field is passed over; only an allocation that failed, and a field
-    // that no memory can hold, are OutOfMemory.
-    ensures { OffersAsRead read result }
+fn offer_in(asked: Result<Option<Policy>, AskFault>) -> Result<Option<Policy>, OutOfMemory>
+    // A header map is in memory, so no read of a source failed; and each Dictionary has an answer.
+    requires { IfErr asked IsOfTarget }
+    // A refused or empty field is passed over; only an allocation that failed, and a field that no
+    // memory can hold, are OutOfMemory.
+    ensures { OffersAsAsked asked result }
 {
-    match read {
-        Ok(Some(field)) => Ok(policy_in(&field)),
-        Ok(None) => Ok(None),
-        Err(Refusal::Syntax { .. }) => Ok(None),
-        Err(Refusal::OutOfMemory | Refusal::TooLong { .. }) => Err(OutOfMemory),
-        Err(Refusal::ReadFault { .. }) => unreachable!(),
+    match asked {
+        Ok(offer) => Ok(offer),
+        Err(AskFault::Field(Refusal::Syntax { .. })) => Ok(None),
+        Err(AskFault::Field(Refusal::OutOfMemory | Refusal::TooLong { .. })) => Err(OutOfMemory),
+        Err(AskFault::Field(Refusal::ReadFault { .. })) => unreachable!(),
+        Err(AskFault::Answer(UseFault::OutOfMemory)) => Err(OutOfMemory),
+        Err(AskFault::Answer(UseFault::NotACache { .. })) => unreachable!(),
     }
 }
 
@@ -332,5 +367,8 @@ fn offered(
     // OutOfMemory only if the name is present.
     ensures present { IfErr result (λ _. ContainsKey headers.now name.now) }
 {
-    offer_in(from_headers(alloc, seed, Kind::Dict, headers, name))
+    if !headers.contains_key(name) {
+        return Ok(None);
+    }
+    offer_in(ask_from(alloc, seed, &Offer, headers.get_all(name).iter()))
 }

@@ -16,6 +16,7 @@ use Rattle.sf_view.specs.declared.item_cursor.ItemCursor.{ItemCursor}
 use Rattle.sf_view.specs.declared.item_cursor.ParamCursor.{ParamCursor}
 use Rattle.sf_use.specs.declared.cache_status.hop.Name.{Name}
 use Rattle.sf_use.specs.declared.cache_status.hop.Name.TheVariants as name
+use Rattle.sf_use.specs.declared.cache_status.hop.Outcome.{Outcome}
 use Rattle.sf_use.specs.declared.cache_status.hop.Passed.{Passed}
 use Rattle.sf_use.specs.declared.cache_status.hop.Hop.{Hop}
 use Rattle.sf_use.specs.declared.cache_status.view.NameView.{NameView}
@@ -63,6 +64,10 @@ passed_in s =
       collapsed = s.collapsed;
     })
     s.fwd
+
+-- what these parameters say that the cache did
+abbrev pub outcome_in : HopParts → Outcome
+outcome_in s = outcome_by (unwrap_or s.hit false) (passed_in s)
 
 -- the hop of a name and these parameters
 abbrev pub hop_by : HopParts → Name → Hop

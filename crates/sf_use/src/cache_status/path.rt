@@ -5,6 +5,7 @@ ghost use Rattle.sf_use.specs.CacheStatus.Hops.{hops_of};
 
 use crate::cache_status::hop::Hop;
 use crate::cache_status::reading::{first_nameless, read_hops};
+use crate::cache_status::scanning::scan_hops;
 use sf_field::{Consumer, UseFault};
 use sf_value::{Field, Kind, Member};
 use std::alloc::Global;
@@ -99,6 +100,13 @@ impl Consumer for CacheStatus {
             Field::List(list) => read_path(alloc, list.members.as_slice()),
             Field::Item(_) | Field::Dict(_) => unreachable!(),
         }
+    }
+
+    /// Reads the hops in one pass over the text. `None` claims nothing: the text may spell no List,
+    /// or one with a member that names no cache, or an allocation failed.
+    fn answer_text(&self, alloc: Global, text: &[u8]) -> Option<CachePath> {
+        let hops = scan_hops(alloc, text)?;
+        Some(CachePath { hops })
     }
 }
 

@@ -115,7 +115,7 @@ fn read_forward(alloc: Global, token: &Token) -> Result<Forward, OutOfMemory>
 }
 
 /// Returns the reason of a token, if it is one of the defined ones.
-fn named_forward(token: &[u8]) -> Option<Forward>
+pub(crate) fn named_forward(token: &[u8]) -> Option<Forward>
     ensures { result ≡ value_at token.now reasons }
 {
     if token == b"bypass".as_slice() {
@@ -143,6 +143,13 @@ fn named_forward(token: &[u8]) -> Option<Forward>
 fn status_of(integer: Option<Int>) -> Option<HopStatus>
     ensures { result ≡ status_in integer }
 {
-    let code = u16::try_from(integer?.get()).ok()?;
+    status_by(Some(integer?.get()))
+}
+
+/// Returns a number as a status code, if it has three digits.
+pub(crate) fn status_by(number: Option<i64>) -> Option<HopStatus>
+    ensures { result ≡ status_in number }
+{
+    let code = u16::try_from(number?).ok()?;
     HopStatus::new(code).ok()
 }

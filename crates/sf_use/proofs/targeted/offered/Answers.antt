@@ -1,17 +1,20 @@
-use Rattle.sf_use.proofs.Choosing.{of_headers, offers, present}
+use Rattle.std.proofs.Common.{Ok, rules, ◌∙◌, subst}
+use Rattle.sf_value.specs.declared.value.Kind.TheVariants.{Dict}
+use Rattle.sf_field.specs.Asking.{Asks}
+use Rattle.sf_field.specs.Headers.{value_lines}
+use Rattle.sf_use.specs.TargetedChoice.{offer}
+use Rattle.sf_use.proofs.Choosing.{of_target, offers}
 use Rattle.sf_use.proofs.targeted.offered.Goals as goal
 
 pub offer_in-requires : goal.offer_in-requires
 offer_in-requires c =
-    of_headers c.args.headers.now c.args.name.now c.from_headers.result
-    c.from_headers.ensures.parses
+    of_target c.args.headers.now c.args.name.now c.ask_from.result
+    (subst (λ vs. Asks Dict (λ f. Ok (offer f)) (value_lines vs) c.ask_from.result)
+    (c.iter.ensures ∙ c.get_all.ensures.value) c.ask_from.ensures.answers)
 
 pub returns-clause-offer : goal.returns-clause-offer
 returns-clause-offer c =
-    offers c.args.headers.now c.args.name.now c.from_headers.result c.offer_in.result
-    c.from_headers.ensures.parses c.offer_in.ensures
-
-pub returns-clause-present : goal.returns-clause-present
-returns-clause-present c =
-    present c.args.headers.now c.args.name.now c.from_headers.result c.offer_in.result
-    c.from_headers.ensures.parses c.offer_in.ensures
+    offers c.args.headers.now c.args.name.now c.ask_from.result c.offer_in.result (search rules)
+    (subst (λ vs. Asks Dict (λ f. Ok (offer f)) (value_lines vs) c.ask_from.result)
+    (c.iter.ensures ∙ c.get_all.ensures.value) c.ask_from.ensures.answers)
+    c.offer_in.ensures

@@ -1,0 +1,75 @@
+//! Lines that are joined in a buffer of the caller, as far as they fit.
+ghost use Rattle.std.specs.Prelude.{◌≡◌, ◌+◌, ◌≤◌, ◌++◌, ◌∷◌, length, take, true, IfSome, IfNone};
+ghost use Rattle.std.specs.Option.{option_copied};
+ghost use Rattle.sf_value.specs.Grammar.Lines.{join};
+ghost use Rattle.sf_parse.specs.Parsers.{in_line};
+ghost use Rattle.sf_field.specs.Lines.{remaining};
+
+use crate::lines::FieldLines;
+
+/// How far lines were joined in a buffer.
+#[derive(Clone, Copy, Debug, Drop)]
+pub(crate) struct Joined<'a> {
+    /// The number of bytes of joined text at the start of the buffer.
+    pub(crate) length: usize,
+    /// The line after the joined ones, for which the buffer is too small; `None` if none is left.
+    pub(crate) next: Option<&'a [u8]>,
+}
+
+/// Joins two lines and those that remain in the buffer, as far as they fit.
+pub(crate) fn join_prefix<'a, L: FieldLines<'a>>(
+    buffer: &mut [u8],
+    first: &[u8],
+    second: &'a [u8],
+    others: &mut L,
+) -> Joined<'a>
+    requires { length first.now ≤ length buffer.old }
+    ensures within { result.length ≤ length buffer.new }
+    // The text in the buffer and the lines after it have the joined text of all lines.
+    ensures joins { join (take result.length buffer.new
+        ∷ remaining (option_copied result.next) (L.lines others.new))
+        ≡ join (first.now ∷ second.now ∷ L.lines others.old) }
+{
+    let mut length = put(buffer, 0, first);
+    let mut next = second;
+    loop {
+        let Some(longer) = put_line(buffer, length, next) else {
+            return Joined {
+                length,
+                next: Some(next),
+            };
+        };
+        length = longer;
+        let Some(line) = others.next_line() else {
+            return Joined { length, next: None };
+        };
+        next = line;
+    }
+}
+
+/// Puts a comma, a space and the line after so many bytes of the buffer, and returns the number of
+/// bytes with them; `None` if the buffer is too small.
+fn put_line(buffer: &mut [u8], used: usize, line: &[u8]) -> Option<usize>
+    requires { used ≤ length buffer.old }
+    ensures within { IfSome result (λ n. n ≤ length buffer.new) }
+    ensures put { IfSome result
+        (λ n. take n buffer.new ≡ take used buffer.old ++ in_line true line.now) }
+    ensures unchanged { IfNone result (buffer.new ≡ buffer.old) }
+{
+    if buffer.len() - used < line.len() + 2 {
+        return None;
+    }
+    let behind_comma = put(buffer, used, b", ");
+    Some(put(buffer, behind_comma, line))
+}
+
+/// Puts bytes after so many of the buffer, and returns the number of bytes with them.
+fn put(buffer: &mut [u8], used: usize, bytes: &[u8]) -> usize
+    requires { used + length bytes.now ≤ length buffer.old }
+    ensures end { result ≡ used + length bytes.now }
+    ensures put { take result buffer.new ≡ take used buffer.old ++ bytes.now }
+{
+    let end = used + bytes.len();
+    buffer[used..end].copy_from_slice(bytes);
+    end
+}
