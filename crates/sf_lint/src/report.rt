@@ -25,8 +25,8 @@ use http_header::HeaderName;
 use sf_field::{UseFault, parse_from};
 use sf_parse::{InLine, Refusal, Spot};
 use sf_tool::{caret_text, line_text, name_end};
-use sf_value::{Field, OutOfMemory};
-use sf_write::display;
+use sf_value::{Field, OutOfMemory, Writing};
+use sf_write::{put, put_field};
 use std::alloc::Global;
 use std::hash::RandomState;
 
@@ -117,9 +117,16 @@ fn accepted(
 ) -> Result<Vec<u8>, OutOfMemory>
     ensures { IfOk result (λ text. text.items ≡ accepted_text settings.now name.now field.now) }
 {
-    let ok = Verdict::Ok.text(settings);
-    let text = format!(in alloc; "{ok} {name}: {}\n", display(field))?;
-    Ok(text.into_bytes())
+    let mut out = Writing::new(Vec::new(alloc));
+    let sent = put(Verdict::Ok.text(settings).as_bytes(), Ok(0), &mut out);
+    let sent = put(b" ", sent, &mut out);
+    let sent = put(name.as_bytes(), sent, &mut out);
+    let sent = put(b": ", sent, &mut out);
+    let sent = put_field(field, sent, &mut out);
+    match put(b"\n", sent, &mut out) {
+        Ok(_) => Ok(out.into_inner()),
+        Err(_) => Err(OutOfMemory),
+    }
 }
 
 /// Returns the text for a field with a member that names no cache.

@@ -10,3 +10,4 @@ pub mod SomeWords
 pub mod Reports
 pub mod Places
 pub mod Spots
+pub mod AcceptedLines

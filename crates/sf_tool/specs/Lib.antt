@@ -16,3 +16,4 @@ pub mod ChoiceLines
 pub mod PriorityLine
 pub mod Explaining
 pub mod Run
+pub mod Scanning

@@ -1,14 +1,17 @@
 //! Answers: each writes a whole text and returns the status. The answer is computed before its
 //! first byte is written.
-ghost use Rattle.std.specs.Prelude.{◌≡◌, ◌⊎◌, ℕ, List, codes};
+ghost use Rattle.std.specs.Prelude.{◌≡◌, ◌⊎◌, ℕ, List, codes, MatchOption};
+ghost use Rattle.sf_value.specs.declared.dialect.Dialect.{Dialect as Which};
 ghost use Rattle.sf_value.specs.Devices.{SinkState};
 ghost use Rattle.sf_write.specs.Writing.{Follows, Writes};
+ghost use Rattle.sf_view.specs.Views.{IsViewed};
 ghost use Rattle.sf_tool.specs.declared.status.Status.TheVariants as status_is;
 ghost use Rattle.sf_tool.specs.ChoiceLines.{field_lines, refused_line};
 ghost use Rattle.sf_tool.specs.PathLines.{not_a_cache_line, path_lines};
 ghost use Rattle.sf_tool.specs.PriorityLine.{priority_line};
 ghost use Rattle.sf_tool.specs.Run.{ReportsText, ReportsRefusal, ReportsAskFault, IsOfText, IsAskOfText};
 ghost use Rattle.sf_tool.specs.Run.{view_text};
+ghost use Rattle.sf_tool.specs.Scanning.{ReportsCanonical};
 ghost use Rattle.sf_tool.specs.Texts.{too_long_line};
 
 use crate::choice::put_chosen;
@@ -20,8 +23,10 @@ use crate::tree::put_tree;
 use sf_field::{AskFault, UseFault};
 use sf_parse::Refusal;
 use sf_use::{CachePath, Policy, Priority};
-use sf_value::{Field, Sink};
+use sf_value::{Dialect, Field, Kind, Sink};
+use sf_view::node_buffer;
 use sf_write::{Sent, put, put_field};
+use std::alloc::Global;
 
 /// Returns how an answer ends: with its status, if the whole text was written.
 fn ended(sent: Sent, status: Status) -> Status
@@ -78,6 +83,38 @@ pub(crate) fn answer_view<W: Sink>(view: View, field: Field, sink: &mut W) -> St
         (W.state sink.old) (W.state sink.new) result }
 {
     ended(put_view(view, &field, Ok(0), sink), Status::Accepted)
+}
+
+/// Writes the canonical text of the field that nodes describe, and a line feed.
+fn answer_viewed<W: Sink>(nodes: &sf_view::View, kind: Kind, sink: &mut W) -> Status
+    // Accepted if the whole text was written; Stopped if a write failed after a prefix of it.
+    ensures { (d : Which) (t : List ℕ) → IsViewed d kind t nodes.now
+        → ReportsCanonical d kind t (W.state sink.old) (W.state sink.new) result }
+{
+    let sent = sf_view::put_view(nodes, kind, Ok(0), sink);
+    ended(put(b"\n", sent, sink), Status::Accepted)
+}
+
+/// Writes the canonical text of the field that a text spells, and a line feed, from nodes that
+/// point into the text. `None` if there are no nodes, because a key is repeated, there are many, or
+/// an allocation failed; then nothing was written.
+pub(crate) fn answer_nodes<W: Sink>(
+    alloc: Global,
+    dialect: Dialect,
+    kind: Kind,
+    text: &[u8],
+    sink: &mut W,
+) -> Option<Status>
+    // Accepted if the whole text was written; Stopped if a write failed after a prefix of it.
+    ensures { MatchOption result (W.state sink.new ≡ W.state sink.old)
+        (λ status. ReportsCanonical dialect kind text.now
+        (W.state sink.old) (W.state sink.new) status) }
+{
+    let mut nodes = node_buffer(alloc, text).ok()?;
+    match sf_view::View::scan(dialect, kind, text, nodes.as_mut_slice()) {
+        Ok(view) => return Some(answer_viewed(&view, kind, sink)),
+        Err(_) => return None,
+    }
 }
 
 /// Writes the line of a refusal; nothing if an allocation failed.

@@ -6,6 +6,7 @@ ghost use Rattle.std.specs.Str.Lines.{lines, strip_carriage_return};
 ghost use Rattle.sf_tool.specs.Lines.{without_lead as all_but_lead, trim};
 ghost use Rattle.sf_tool.specs.Lines.{without_trail as all_but_trail, lines_of as lines_in};
 
+use memchr::memchr;
 use sf_field::FieldLines;
 use sf_value::is_ows;
 use std::marker::Model;
@@ -60,12 +61,10 @@ pub fn split_at_first(bytes: &[u8], separator: u8) -> Option<(&[u8], &[u8])>
         × (p.0.now ≡ before_first (λ b. b == separator) bytes.now)
         × (p.1.now ≡ after_first (λ b. b == separator) bytes.now)) }
 {
-    for (i, byte) in bytes.iter().enumerate() {
-        if *byte == separator {
-            return Some((&bytes[..i], &bytes[i + 1..]));
-        }
+    match memchr(separator, bytes) {
+        Some(at) => Some((&bytes[..at], &bytes[at + 1..])),
+        None => None,
     }
-    None
 }
 
 /// Returns the first line and what follows it, or None if the input is empty.

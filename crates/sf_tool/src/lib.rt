@@ -18,6 +18,7 @@ mod reading;
 mod refusing;
 mod request;
 mod running;
+mod scanning;
 mod sets;
 mod status;
 mod tree;

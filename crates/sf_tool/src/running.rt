@@ -1,7 +1,9 @@
 //! Running a request.
-ghost use Rattle.std.specs.Prelude.{◌≡◌, ◌≤◌, [], length, IfErr, IfSome};
+ghost use Rattle.std.specs.Prelude.{◌≡◌, ◌≤◌, [], length, IfErr, IfSome, MatchOption};
+ghost use Rattle.sf_value.specs.declared.value.Field.{Field as FieldValue};
 ghost use Rattle.sf_field.specs.Asking.{Asks};
 ghost use Rattle.sf_field.specs.Lines.{ParsesLines};
+ghost use Rattle.sf_parse.specs.Parsers.{IsOnly, Parses};
 ghost use Rattle.sf_parse.specs.AllocationFree.{TakesNoMemory};
 ghost use Rattle.sf_parse.specs.AllocationFreeParsers.{NotForMemory};
 ghost use Rattle.sf_tool.specs.declared.request.Request.TheVariants as request_is;
@@ -10,11 +12,12 @@ ghost use Rattle.sf_tool.specs.Lines.{lines_of as lines_in};
 ghost use Rattle.sf_tool.specs.ChoiceLines.{choice_lines, IsPlaceOf};
 ghost use Rattle.sf_tool.specs.Explaining.{ExplainsWith, Explains, ExplainsField, ExplainsLine};
 ghost use Rattle.sf_tool.specs.Explaining.{ExplainsPath};
+ghost use Rattle.sf_tool.specs.Scanning.{ReportsCanonical};
 ghost use Rattle.sf_tool.specs.Run.{Runs, Reports, ReportsInputFault, ReportsText};
 ghost use Rattle.sf_tool.specs.Run.{input_limit, joined, view_request, IsOfText, IsAskOfText};
 
 use crate::answering::{
-    View, answer_ask_fault, answer_chosen, answer_fallback, answer_made, answer_path,
+    View, answer_ask_fault, answer_chosen, answer_fallback, answer_made, answer_nodes, answer_path,
     answer_priority, answer_refusal, answer_refused_line, answer_too_long, answer_view,
 };
 use crate::cutting::InputLines;
@@ -24,12 +27,14 @@ use crate::explaining::{
 use crate::fields::{InputFault, read_fields};
 use crate::reading::{ReadAllFault, read_all};
 use crate::request::Request;
+use crate::scanning::{first_unaccepted, has_many_members, join_lines, only_line, pays_to_join};
 use crate::status::Status;
 use http_header::HeaderName;
 use sf_field::{AskFault, Consumer, UseFault, ask_from, parse_from};
-use sf_parse::Refusal;
+use sf_parse::{Refusal, parse_text_in};
 use sf_use::{CacheStatus, Choice, PriorityField, select};
 use sf_value::{Dialect, Field, Kind, Sink, Source, Writing};
+use sf_view::parse_declined;
 use std::alloc::Global;
 use std::hash::RandomState;
 
@@ -91,13 +96,15 @@ pub fn run<R: Source, W: Sink, E: Sink>(
     }
 }
 
-/// Parses the input's lines as one field.
+/// Parses the input's lines as one field. A line that is not accepted is known if the lines were
+/// scanned before.
 fn parse_input(
     alloc: Global,
     seed: &RandomState,
     dialect: Dialect,
     kind: Kind,
     input: &[u8],
+    unaccepted: Option<&[u8]>,
 ) -> Result<Field, Refusal>
     requires { length input.now ≤ input_limit }
     // The input's lines spell this value and no other, or this is their exact refusal, or an
@@ -108,7 +115,56 @@ fn parse_input(
     // Lines whose joined text is allocation-free are not refused as out of memory.
     ensures allocation_free { TakesNoMemory kind (joined input.now) → NotForMemory result }
 {
-    parse_from(alloc, seed, dialect, kind, InputLines::new(input))
+    if let Some(from) = unaccepted {
+        if let Some(parsed) = parse_unaccepted(alloc, seed, dialect, kind, input, from) {
+            return parsed;
+        }
+    }
+    match only_line(input) {
+        Some(line) => return parse_text_in(alloc, seed, dialect, kind, line),
+        None => return parse_from(alloc, seed, dialect, kind, InputLines::new(input)),
+    }
+}
+
+/// Parses an input whose lines are not accepted from one on, from its last member before that;
+/// `None` claims nothing.
+fn parse_unaccepted(
+    alloc: Global,
+    seed: &RandomState,
+    dialect: Dialect,
+    kind: Kind,
+    input: &[u8],
+    from: &[u8],
+) -> Option<Result<Field, Refusal>>
+    requires { length input.now ≤ input_limit }
+    ensures parses { IfSome result (λ r. ParsesLines dialect kind (lines_in input.now) r) }
+    ensures for_text { IfSome result NotForMemory }
+{
+    if let Some(line) = only_line(input) {
+        return parse_scanned(alloc, seed, dialect, kind, line);
+    }
+    if !pays_to_join(input, from) {
+        return None;
+    }
+    let text = join_lines(alloc, input).ok()?;
+    parse_scanned(alloc, seed, dialect, kind, text.as_slice())
+}
+
+/// Parses a text that a scan declined; `None` if an allocation failed.
+fn parse_scanned(
+    alloc: Global,
+    seed: &RandomState,
+    dialect: Dialect,
+    kind: Kind,
+    text: &[u8],
+) -> Option<Result<Field, Refusal>>
+    ensures parses { IfSome result (λ r. Parses dialect kind text.now r) }
+    ensures for_text { IfSome result NotForMemory }
+{
+    match parse_declined(alloc, seed, dialect, kind, text) {
+        Err(Refusal::OutOfMemory) => None,
+        parsed => Some(parsed),
+    }
 }
 
 /// Writes a view of the input's field, or why it is refused.
@@ -126,7 +182,89 @@ fn answer_field<W: Sink>(
     ensures { Reports (view_request view dialect kind) input.now
         (W.state sink.old) (W.state sink.new) result }
 {
-    match parse_input(alloc, seed, dialect, kind, input) {
+    if is_built(view, kind, input) {
+        return answer_parsed(alloc, seed, view, dialect, kind, input, None, sink);
+    }
+    let from = first_unaccepted(alloc, dialect, kind, input);
+    if from.is_none() {
+        return answer_accepted(alloc, seed, view, dialect, kind, input, sink);
+    }
+    answer_parsed(alloc, seed, view, dialect, kind, input, from, sink)
+}
+
+/// Whether the field is built at once for this view of it.
+fn is_built(view: View, kind: Kind, input: &[u8]) -> bool {
+    match view {
+        View::Tree => true,
+        View::Verdict => false,
+        View::Canonical => has_many_members(kind, input),
+    }
+}
+
+/// Writes a view of the field of an input that is accepted.
+fn answer_accepted<W: Sink>(
+    alloc: Global,
+    seed: &RandomState,
+    view: View,
+    dialect: Dialect,
+    kind: Kind,
+    input: &[u8],
+    sink: &mut W,
+) -> Status
+    requires short { length input.now ≤ input_limit }
+    requires accepted { (v : FieldValue) × IsOnly dialect kind (joined input.now) v }
+    // The whole answer was written; or a prefix of it, and a write failed; or nothing.
+    ensures { Reports (view_request view dialect kind) input.now
+        (W.state sink.old) (W.state sink.new) result }
+{
+    if matches!(view, View::Verdict) {
+        return answer_made(b"accepted\n", Status::Accepted, sink);
+    }
+    if matches!(view, View::Canonical) {
+        if let Some(status) = answer_canonical(alloc, dialect, kind, input, sink) {
+            return status;
+        }
+    }
+    answer_parsed(alloc, seed, view, dialect, kind, input, None, sink)
+}
+
+/// Writes the canonical text of the input's field, and a line feed, without building the field;
+/// `None` if nothing was written.
+fn answer_canonical<W: Sink>(
+    alloc: Global,
+    dialect: Dialect,
+    kind: Kind,
+    input: &[u8],
+    sink: &mut W,
+) -> Option<Status>
+    ensures { MatchOption result (W.state sink.new ≡ W.state sink.old)
+        (λ status. ReportsCanonical dialect kind (joined input.now)
+        (W.state sink.old) (W.state sink.new) status) }
+{
+    if let Some(line) = only_line(input) {
+        return answer_nodes(alloc, dialect, kind, line, sink);
+    }
+    let text = join_lines(alloc, input).ok()?;
+    answer_nodes(alloc, dialect, kind, text.as_slice(), sink)
+}
+
+/// Writes a view of the input's field, which is built, or why it is refused.
+fn answer_parsed<W: Sink>(
+    alloc: Global,
+    seed: &RandomState,
+    view: View,
+    dialect: Dialect,
+    kind: Kind,
+    input: &[u8],
+    unaccepted: Option<&[u8]>,
+    sink: &mut W,
+) -> Status
+    requires { length input.now ≤ input_limit }
+    // The whole answer was written; or a prefix of it, and a write failed; or nothing.
+    ensures { Reports (view_request view dialect kind) input.now
+        (W.state sink.old) (W.state sink.new) result }
+{
+    match parse_input(alloc, seed, dialect, kind, input, unaccepted) {
         Ok(field) => answer_view(view, field, sink),
         Err(refusal) => answer_refusal(refusal, sink),
     }
@@ -321,7 +459,7 @@ fn explain_field(
     requires { length input.now ≤ input_limit }
     ensures { IfSome result (λ text. ExplainsField dialect kind input.now text.items) }
 {
-    match parse_input(alloc, seed, dialect, kind, input) {
+    match parse_input(alloc, seed, dialect, kind, input, None) {
         Ok(_) => return None,
         Err(refusal) => return refusal_in_words(alloc, refusal, input),
     }
