@@ -17,8 +17,20 @@ fn read(
     seed: &RandomState,
     text: &str,
 ) -> Result<CachePath, AskFault> {
-    let line = Blob::new(rt.alloc(), text.as_bytes()).expect(rt, "room");
-    ask(rt.alloc(), seed, &CacheStatus, &[line])
+    read_lines(rt, seed, &[text])
+}
+
+fn read_lines(
+    rt: &(impl Abort + AllocGlobal),
+    seed: &RandomState,
+    lines: &[&str],
+) -> Result<CachePath, AskFault> {
+    let mut blobs = Vec::new(rt.alloc());
+    for line in lines {
+        let line = Blob::new(rt.alloc(), line.as_bytes()).expect(rt, "room");
+        blobs.push(line).expect(rt, "room");
+    }
+    ask(rt.alloc(), seed, &CacheStatus, blobs.as_slice())
 }
 
 /// The text of the members that are appended for the hops.
@@ -99,8 +111,187 @@ fn reads_and_writes(rt: HostRuntime) {
             "c;fwd=a;fwd-status=100, c;fwd=b;stored=?0",
             None,
         ),
+        (
+            "\"a \\\"b\\\\\";key=\"\\\"k\";detail=\"d\\\\\"",
+            "\"a \\\"b\\\\\";key=\"\\\"k\";detail=\"d\\\\\"",
+            None,
+        ),
+        (
+            "c;hit=?0;ttl=1;hit;detail=a;detail=\"\";ttl=-999999999999999",
+            "c;hit;ttl=-999999999999999;detail=\"\"",
+            Some(0),
+        ),
+        (
+            "c;a=%\"f%c3%bc\";hit;b=:YQ==:;c=@1;hits;keys=\"k\", d;hit;fwd=miss;fwd=1",
+            "c;hit, d;hit",
+            Some(1),
+        ),
+        (
+            "\"a name of more than sixteen bytes\";fwd=a-token-of-more-than-sixteen;\
+             key=\"https://example.com/a/path?with=a&query\"",
+            "\"a name of more than sixteen bytes\";fwd=a-token-of-more-than-sixteen;\
+             key=\"https://example.com/a/path?with=a&query\"",
+            None,
+        ),
     ] {
         check_path(&rt, &seed, text, want, served);
+    }
+}
+
+/// Expects the hops of lines written again, as one text.
+fn check_lines(
+    rt: &(impl Abort + AllocGlobal),
+    seed: &RandomState,
+    lines: &[&str],
+    want: &str,
+    served: Option<usize>,
+) {
+    let path = read_lines(rt, seed, lines).expect(rt, "a List of caches");
+    assert!(rt; path.served_by() == served, "served by, of {want}");
+    let again = written(rt, seed, path.hops());
+    assert!(rt; again.as_slice() == want.as_bytes(), "written, of {want}");
+}
+
+#[test]
+fn reads_lines(rt: HostRuntime) {
+    let seed = seed(&rt);
+    check_lines(&rt, &seed, &[], "", None);
+    check_lines(&rt, &seed, &[""], "", None);
+    check_lines(&rt, &seed, &["a; hit"], "a;hit", Some(0));
+    check_lines(
+        &rt,
+        &seed,
+        &["a; hit", "b; fwd=miss"],
+        "a;hit, b;fwd=miss",
+        Some(0),
+    );
+    check_lines(
+        &rt,
+        &seed,
+        &["a", "b;hit,c", "d"],
+        "a, b;hit, c, d",
+        Some(1),
+    );
+    check_lines(
+        &rt,
+        &seed,
+        &["a;key=\"k", "l\";hit", "b"],
+        "a;hit;key=\"k, l\", b",
+        Some(0),
+    );
+}
+
+/// A Token of so many bytes.
+fn long_token(rt: &(impl Abort + AllocGlobal), length: usize) -> Vec<u8> {
+    let mut text = Vec::new(rt.alloc());
+    for _ in 0..length {
+        text.push(b'a').expect(rt, "room");
+    }
+    text
+}
+
+/// Lines of these texts.
+fn blobs_of(rt: &(impl Abort + AllocGlobal), lines: &[&[u8]]) -> Vec<Blob> {
+    let mut blobs = Vec::new(rt.alloc());
+    for line in lines {
+        let line = Blob::new(rt.alloc(), line).expect(rt, "room");
+        blobs.push(line).expect(rt, "room");
+    }
+    blobs
+}
+
+/// The lengths of the names of the hops that these lines have, or the fault.
+fn name_lengths(
+    rt: &(impl Abort + AllocGlobal),
+    seed: &RandomState,
+    lines: &[&[u8]],
+) -> Result<Vec<usize>, AskFault> {
+    let path = ask(
+        rt.alloc(),
+        seed,
+        &CacheStatus,
+        blobs_of(rt, lines).as_slice(),
+    )?;
+    let mut lengths = Vec::new(rt.alloc());
+    for hop in path.hops() {
+        let length = match &hop.name {
+            Name::Text(text) => text.as_bytes().len(),
+            Name::Token(token) => token.as_bytes().len(),
+        };
+        lengths.push(length).expect(rt, "room");
+    }
+    Ok(lengths)
+}
+
+/// Lines whose joined text is about as long as the buffer that `ask` has for them, or longer.
+#[test]
+fn reads_long_lines(rt: HostRuntime) {
+    let seed = seed(&rt);
+    for length in [
+        1000, 1017, 1018, 1019, 1020, 1021, 1022, 1023, 1024, 1025, 5000,
+    ] {
+        let long = long_token(&rt, length);
+        let long = long.as_slice();
+        let first = name_lengths(&rt, &seed, &[long, b"b;hit"]).expect(&rt, "a List of caches");
+        assert!(&rt; first.as_slice() == [length, 1].as_slice(), "{length}");
+        let last = name_lengths(&rt, &seed, &[b"b;hit", long]).expect(&rt, "a List of caches");
+        assert!(&rt; last.as_slice() == [1, length].as_slice(), "{length}");
+        let amid = name_lengths(&rt, &seed, &[b"bc", long, b"def"]);
+        assert!(&rt;
+            amid.expect(&rt, "a List of caches").as_slice() == [2, length, 3].as_slice(),
+            "{length}"
+        );
+        let twice = name_lengths(&rt, &seed, &[long, long, b"7"]);
+        let no_cache = AskFault::Answer(UseFault::NotACache { index: 2 });
+        assert!(&rt;
+            matches!(twice, Err(fault) if fault == no_cache),
+            "{length}"
+        );
+        let refused = name_lengths(&rt, &seed, &[b"7", long, b"!"]);
+        let place = 1 + 2 + length as u64 + 2;
+        assert!(&rt;
+            matches!(refused, Err(fault) if is_refused_at(fault, place)),
+            "{length}"
+        );
+    }
+}
+
+/// Whether the fault is a byte that is not allowed at this place, or the end there.
+fn is_refused_at(fault: AskFault, at: u64) -> bool {
+    match fault {
+        AskFault::Field(Refusal::Syntax { place, .. }) => place == at,
+        _ => false,
+    }
+}
+
+/// A refusal comes before a member that names no cache, wherever that is.
+#[test]
+fn refuses_lines(rt: HostRuntime) {
+    let seed = seed(&rt);
+    for &(lines, place) in &[
+        ([")", "a", "b"].as_slice(), 0),
+        (["a", "", "b"].as_slice(), 3),
+        (["7", "(b)", "c;"].as_slice(), 10),
+        (["7;hit, c;"].as_slice(), 9),
+        (["a;key=\"k", "b"].as_slice(), 11),
+        (["a,", "b"].as_slice(), 2),
+        (["", "a"].as_slice(), 0),
+        (["a", ""].as_slice(), 3),
+    ] {
+        let fault = read_lines(&rt, &seed, lines);
+        assert!(&rt;
+            matches!(fault, Err(fault) if is_refused_at(fault, place)),
+            "{place}"
+        );
+    }
+    for &(lines, index) in &[
+        (["a", "7"].as_slice(), 1),
+        (["a, (b)", "7"].as_slice(), 1),
+        (["a;hit", "b", "()"].as_slice(), 2),
+    ] {
+        let want = AskFault::Answer(UseFault::NotACache { index });
+        let fault = read_lines(&rt, &seed, lines);
+        assert!(&rt; matches!(fault, Err(fault) if fault == want), "{index}");
     }
 }
 

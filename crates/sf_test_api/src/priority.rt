@@ -71,6 +71,45 @@ fn priorities(rt: HostRuntime) {
     }
 }
 
+/// What two lines come to.
+fn both(
+    rt: &(impl Abort + AllocGlobal),
+    seed: &RandomState,
+    first: &[u8],
+    second: &[u8],
+) -> Option<(u8, bool)> {
+    let first = Blob::new(rt.alloc(), first).expect(rt, "room");
+    let second = Blob::new(rt.alloc(), second).expect(rt, "room");
+    match ask(rt.alloc(), seed, &PriorityField, &[first, second]) {
+        Ok(asked) => Some(parts(asked)),
+        Err(_) => None,
+    }
+}
+
+/// What no line comes to.
+fn unasked(rt: &(impl Abort + AllocGlobal), seed: &RandomState) -> Option<(u8, bool)> {
+    match ask(rt.alloc(), seed, &PriorityField, &[]) {
+        Ok(asked) => Some(parts(asked)),
+        Err(_) => None,
+    }
+}
+
+#[test]
+fn lines_of_priorities(rt: HostRuntime) {
+    let seed = seed(&rt);
+    for &(first, second, want) in &[
+        (b"u=1".as_slice(), b"i".as_slice(), Some((1, true))),
+        (b"u=1, i", b"u=2, i=?0", Some((2, false))),
+        (b"a=\"b", b"\", u=5", Some((5, false))),
+        (b"u=1", b"", None),
+        (b"u=1,", b"i", None),
+        (b"u=1", b"i=", None),
+    ] {
+        assert_eq!(rt; both(&rt, &seed, first, second), want);
+    }
+    assert_eq!(rt; unasked(&rt, &seed), Some((3, false)));
+}
+
 /// What a request and a response ask for, and what both come to.
 #[test]
 fn merging(rt: HostRuntime) {

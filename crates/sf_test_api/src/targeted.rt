@@ -135,6 +135,11 @@ const CDN: (&[u8], &[u8]) = (b"cdn-cache-control", b"max-age=600");
 
 const CDN_NONE: (&[u8], &[u8]) = (b"cdn-cache-control", b"none");
 
+const OLDER: (&[u8], &[u8]) = (b"cdn-cache-control", b"max-age=900;x, other=(1 2)");
+
+/// A field that is longer than the buffer for lines that are joined.
+const LONG: (&[u8], &[u8]) = (b"cdn-cache-control", &[b'a'; 1500]);
+
 const SECOND: (&[u8], &[u8]) = (b"x-cache-control", b"max-age=30, s-maxage=90, no-store=?0");
 
 const EMPTY: (&[u8], &[u8]) = (b"x-cache-control", b"");
@@ -148,6 +153,11 @@ const FRESH: Policy = Policy {
     ..NONE
 };
 
+const OLD: Policy = Policy {
+    max_age: Some(900),
+    ..NONE
+};
+
 const CHOICES: &[(&[(&[u8], &[u8])], Option<(usize, Policy)>)] = &[
     (&[REFUSED, SECOND], Some((1, BOTH))),
     (&[REFUSED, SECOND, NO_STORE], Some((1, STORED))),
@@ -155,6 +165,12 @@ const CHOICES: &[(&[(&[u8], &[u8])], Option<(usize, Policy)>)] = &[
     (&[SECOND, CDN], Some((0, FRESH))),
     (&[GENERAL, CDN], Some((0, FRESH))),
     (&[GENERAL, CDN_NONE], Some((0, NONE))),
+    (&[CDN, OLDER, SECOND], Some((0, OLD))),
+    (&[OLDER, CDN_NONE, CDN], Some((0, FRESH))),
+    (&[CDN, REFUSED, SECOND], Some((1, BOTH))),
+    (&[LONG, OLDER, SECOND], Some((0, OLD))),
+    (&[OLDER, LONG, SECOND], Some((0, OLD))),
+    (&[LONG, REFUSED, SECOND], Some((1, BOTH))),
     (&[GENERAL], None),
     (&[], None),
 ];

@@ -91,7 +91,7 @@ fn expect_rows(
 #[test]
 fn items(rt: HostRuntime) -> Result<(), Fail> {
     let seed = RandomState::new(&rt)?;
-    let rows: [Row; 8] = [
+    let rows: [Row; 9] = [
         (b"1\n", b"accepted\n", ACCEPTED, b""),
         (
             b"1 2\n",
@@ -138,6 +138,21 @@ fn items(rt: HostRuntime) -> Result<(), Fail> {
             REFUSED,
             b"byte 0x09 at place 1, expected a printable character\n\
               line 1, place 1:\n\"?b\"\n ^\n",
+        ),
+        (
+            b"\"aaaaaaaaaaaaaaaaaaaaaaaaaaaaaaaaaaaaaaaaaaaaaaaaaaaaaaaaaaa\
+            aaaaaaaaaaaaaaaaaaaaaaaaaaaaaaaaaaaaaaaaaaaaaaaaaaaaaaaaaaaaaaaaaaaaaa\
+            aaaaaaaaaaaaaaaaaaaaaaaaaaaaaaaaaaaaaaaaaaaaaaaaaaaaaaaaaaaaaaaaaaaaaa",
+            b"refused at 200 ended expected 20-7e\n",
+            REFUSED,
+            b"the text ended at place 200, expected a printable character\n\
+              line 1, place 200:\n\"aaaaaaaaaaaaaaaaaaaaaaaaaaaaaaaaaaaaaaaa\
+              aaaaaaaaaaaaaaaaaaaaaaaaaaaaaaaaaaaaaaaaaaaaaaaaaaaaaaaaaaaaaaaaaaaaaa\
+              aaaaaaaaaaaaaaaaaaaaaaaaaaaaaaaaaaaaaaaaaaaaaaaaaaaaaaaaaaaaaaaaaaaaaa\
+              aaaaaaaaaaaaaaaaaaa\n\x20                                       \
+              \x20                                                           \
+              \x20                                                           \
+              \x20                                       ^\n",
         ),
     ];
     expect_rows(&rt, &seed, &ITEM, &rows);

@@ -136,6 +136,105 @@ fn checks(rt: HostRuntime) -> Result<(), Fail> {
 }
 
 #[test]
+fn checks_lines(rt: HostRuntime) -> Result<(), Fail> {
+    let seed = RandomState::new(&rt)?;
+    let lists: [Row; 14] = [
+        (b"a;q=1 , (b c)\n", b"accepted\n", ACCEPTED),
+        (b"a\r\n\tb;x \r\n(c d)", b"accepted\n", ACCEPTED),
+        (b"", b"accepted\n", ACCEPTED),
+        (b" \t\r\n", b"accepted\n", ACCEPTED),
+        // A String that spans two lines.
+        (b"\"a\nb\"", b"accepted\n", ACCEPTED),
+        (b"x\n\"a\nb\"\ny", b"accepted\n", ACCEPTED),
+        (
+            b"(1\n2)",
+            b"refused at 2 found 0x2c expected 20 29 2e 30-39 3b\n",
+            REFUSED,
+        ),
+        (
+            b"\n\n",
+            b"refused at 0 found 0x2c expected 20 22 25 28 2a 2d 30-3a 3f-5a 61-7a end\n",
+            REFUSED,
+        ),
+        (
+            b"a\n\nb\n",
+            b"refused at 3 found 0x2c expected 09 20 22 25 28 2a 2d 30-3a 3f-5a 61-7a\n",
+            REFUSED,
+        ),
+        (
+            b"a\nb,\n",
+            b"refused at 5 ended expected 09 20 22 25 28 2a 2d 30-3a 3f-5a 61-7a\n",
+            REFUSED,
+        ),
+        (
+            b")\na\nb\n",
+            b"refused at 0 found 0x29 expected 20 22 25 28 2a 2d 30-3a 3f-5a 61-7a end\n",
+            REFUSED,
+        ),
+        (
+            b"a\nb\nc\nd\n1x",
+            b"refused at 13 found 0x78 expected 09 20 2c 2e 30-39 3b end\n",
+            REFUSED,
+        ),
+        // More than 128 bytes, in lines and in one.
+        (
+            b"\"aaaaaaaaaaaaaaaaaaaaaaaaaaaaaaaaaaaaaa\"\n\"bbbbbbbbbbbbbbbbbbbbbbbbbbbbbbbbbbbbbb\"\n\
+              \"cccccccccccccccccccccccccccccccccccccc\"\nd\n1x",
+            b"refused at 130 found 0x78 expected 09 20 2c 2e 30-39 3b end\n",
+            REFUSED,
+        ),
+        (
+            b"\"aaaaaaaaaaaaaaaaaaaaaaaaaaaaaaaaaaaaaa\", \"bbbbbbbbbbbbbbbbbbbbbbbbbbbbbbbbbbbbbb\", \
+              \"cccccccccccccccccccccccccccccccccccccc\", d, 1x",
+            b"refused at 130 found 0x78 expected 09 20 2c 2e 30-39 3b end\n",
+            REFUSED,
+        ),
+    ];
+    let request = Request::Check(Dialect::Rfc9651, Kind::List);
+    expect_rows(&rt, &seed, &request, &lists);
+    let items: [Row; 2] = [
+        (b"1;a\r\n", b"accepted\n", ACCEPTED),
+        (
+            b"1\n\n",
+            b"refused at 1 found 0x2c expected 20 2e 30-39 3b end\n",
+            REFUSED,
+        ),
+    ];
+    let request = Request::Check(Dialect::Rfc9651, Kind::Item);
+    expect_rows(&rt, &seed, &request, &items);
+    Ok(())
+}
+
+#[test]
+fn repeated_keys(rt: HostRuntime) -> Result<(), Fail> {
+    let seed = RandomState::new(&rt)?;
+    let checked: [Row; 2] = [
+        (b"a=1, b;x, a=2\n", b"accepted\n", ACCEPTED),
+        (b"a=1\nb;x\na=2\n", b"accepted\n", ACCEPTED),
+    ];
+    let request = Request::Check(Dialect::Rfc9651, Kind::Dict);
+    expect_rows(&rt, &seed, &request, &checked);
+    let normalised: [Row; 5] = [
+        (b"a=1,b;x,a=2\n", b"a=2, b;x\n", ACCEPTED),
+        (b"a=1\nb;x\na=2\n", b"a=2, b;x\n", ACCEPTED),
+        (b"a=1\nb;x;y=?0;x=2\n", b"a=1, b;x=2;y=?0\n", ACCEPTED),
+        (
+            b"a=1\na=",
+            b"refused at 7 ended expected 22 25 28 2a 2d 30-3a 3f-5a 61-7a\n",
+            REFUSED,
+        ),
+        (
+            b"A=1\na=1",
+            b"refused at 0 found 0x41 expected 20 2a 61-7a end\n",
+            REFUSED,
+        ),
+    ];
+    let request = Request::Normalise(Dialect::Rfc9651, Kind::Dict);
+    expect_rows(&rt, &seed, &request, &normalised);
+    Ok(())
+}
+
+#[test]
 fn shows(rt: HostRuntime) -> Result<(), Fail> {
     let seed = RandomState::new(&rt)?;
     let dicts: [Row; 2] = [
@@ -228,5 +327,64 @@ fn few_calls(rt: HostRuntime) -> Result<(), Fail> {
         assert_eq!(&rt; sink.calls, 1);
         assert_eq!(&rt; source.calls, 5);
     }
+    Ok(())
+}
+
+/// 13,000 members of a Dictionary: `aaaa`, `aaab` and so on, each after this text.
+fn entries(alloc: Global, between: &[u8]) -> Result<Vec<u8>, AllocError> {
+    let mut bytes = Vec::new(alloc);
+    for n in 0..13_000u32 {
+        if n > 0 {
+            bytes.extend_from_slice(between)?;
+        }
+        for place in [17_576, 676, 26, 1] {
+            bytes.push(b'a' + (n / place % 26) as u8)?;
+        }
+    }
+    Ok(bytes)
+}
+
+/// More keys than a scan compares, and more lines than are on any stack.
+#[test]
+fn many_keys(rt: HostRuntime) -> Result<(), Fail> {
+    let alloc = rt.alloc();
+    let seed = RandomState::new(&rt)?;
+    let check = Request::Check(Dialect::Rfc9651, Kind::Dict);
+    let dict = Request::Normalise(Dialect::Rfc9651, Kind::Dict);
+    let list = Request::Normalise(Dialect::Rfc9651, Kind::List);
+    let mut normal = entries(alloc, b", ")?;
+    normal.push(b'\n')?;
+    for between in [b",".as_slice(), b"\n", b"\t,  ", b" \r\n\t"] {
+        let input = entries(alloc, between)?;
+        expect_long(
+            &rt,
+            &seed,
+            &check,
+            input.as_slice(),
+            b"accepted\n",
+            ACCEPTED,
+        );
+        expect_long(
+            &rt,
+            &seed,
+            &dict,
+            input.as_slice(),
+            normal.as_slice(),
+            ACCEPTED,
+        );
+        expect_long(
+            &rt,
+            &seed,
+            &list,
+            input.as_slice(),
+            normal.as_slice(),
+            ACCEPTED,
+        );
+    }
+    let mut refused = entries(alloc, b"\n")?;
+    refused.extend_from_slice(b"\n1")?;
+    let text = b"refused at 78000 found 0x31 expected 09 20 2a 61-7a\n";
+    expect_long(&rt, &seed, &check, refused.as_slice(), text, REFUSED);
+    expect_long(&rt, &seed, &dict, refused.as_slice(), text, REFUSED);
     Ok(())
 }

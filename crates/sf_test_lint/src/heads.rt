@@ -89,6 +89,45 @@ fn heads(rt: HostRuntime) -> Result<(), Fail> {
     Ok(())
 }
 
+/// Fields without a meaning, of one line and of two, with a repeated key, and without a member.
+#[test]
+fn fields_without_a_meaning(rt: HostRuntime) -> Result<(), Fail> {
+    let seed = RandomState::new(&rt)?;
+    let rows: [Row; 5] = [
+        (
+            b"Accept-CH: a ,\tb;x=1.50\r\n",
+            b"ok accept-ch: a, b;x=1.5\nother fields: 0\n",
+            Status::Accepted,
+        ),
+        (
+            b"accept-ch: a ,  b\r\naccept-ch:c\r\n",
+            b"ok accept-ch: a, b, c\nother fields: 0\n",
+            Status::Accepted,
+        ),
+        (
+            b"no-vary-search: params, x, params=(\"a\"  \"b\")\r\n",
+            b"ok no-vary-search: params=(\"a\" \"b\"), x\nother fields: 0\n",
+            Status::Accepted,
+        ),
+        (
+            b"accept-ch:\r\nsec-gpc:  ?1 \r\n",
+            b"ok accept-ch: \nok sec-gpc: ?1\nother fields: 0\n",
+            Status::Accepted,
+        ),
+        (
+            b"accept-ch: a\naccept-ch: ,\n",
+            b"refused accept-ch: byte 0x2c ',' at place 3, expected \
+              a letter, a digit, a quote, `(`, `*`, `-`, `:`, `?`, a tab or a space\n\
+              line 2, place 11:\naccept-ch: ,\n           ^\nother fields: 0\n",
+            Status::Refused,
+        ),
+    ];
+    for row in rows {
+        expect_row(&rt, &seed, row);
+    }
+    Ok(())
+}
+
 /// A head with twelve structured fields, of which three are wrong.
 #[test]
 fn twelve_fields(rt: HostRuntime) -> Result<(), Fail> {

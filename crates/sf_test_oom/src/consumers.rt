@@ -23,15 +23,29 @@ const URGENT: &[u8] = b"u=1, i";
 /// The second member and the last name no cache.
 const NAMELESS: &[u8] = b"a;key=\"k\", (b), 7";
 
+/// A key, and so a member that sets nothing. Lines with it are too long to be read as one text
+/// without allocating.
+const LONG: &[u8] = &[b'a'; 1100];
+
 fn line(alloc: Global, text: &[u8]) -> Result<Vec<Blob>, Fail> {
     let mut lines = Vec::new(alloc);
     lines.push(Blob::new(alloc, text)?)?;
     Ok(lines)
 }
 
+fn long_lines(alloc: Global, text: &[u8]) -> Result<Vec<Blob>, Fail> {
+    let mut lines = line(alloc, text)?;
+    lines.push(Blob::new(alloc, LONG)?)?;
+    Ok(lines)
+}
+
 fn headers(alloc: Global) -> Result<HeaderMap, Fail> {
     let mut headers = HeaderMap::new(alloc);
-    for (name, value) in [("a", b"max-age=60"), ("b", b"max-age=30")] {
+    for (name, value) in [
+        ("a", b"max-age=60".as_slice()),
+        ("a", LONG),
+        ("b", b"max-age=30"),
+    ] {
         headers.append(
             HeaderName::from_bytes(alloc, name.as_bytes())?,
             HeaderValue::from_bytes(alloc, value)?,
@@ -179,7 +193,10 @@ fn call_refusals(
     kind: Kind,
     text: &[u8],
 ) -> Result<Option<usize>, Fail> {
-    let lines = line(alloc, text)?;
+    let lines = match call {
+        Call::AskDirectives | Call::AskPriority => long_lines(alloc, text)?,
+        Call::AskHops | Call::AnswerHops | Call::WritePriority => line(alloc, text)?,
+    };
     let field = parse_text(alloc, seed, kind, text)?;
     Ok(refusals(alloc, || made(alloc, seed, call, lines.as_slice(), &field)))
 }
@@ -197,6 +214,18 @@ fn answers(rt: HostRuntime) -> Result<(), Fail> {
         let found = call_refusals(rt.alloc(), &seed, call, kind, text)?;
         assert!(rt; found > Some(0), "{found:?}");
     }
+    Ok(())
+}
+
+/// One line is read without a Dictionary.
+#[test]
+fn lines_that_take_none(rt: HostRuntime) -> Result<(), Fail> {
+    let alloc = rt.alloc();
+    let seed = RandomState::new(&rt)?;
+    let directives = line(alloc, DIRECTIVES)?;
+    expect_no_need(&rt, || ask_directives(alloc, &seed, directives.as_slice()));
+    let urgent = line(alloc, URGENT)?;
+    expect_no_need(&rt, || ask_priority(alloc, &seed, urgent.as_slice()));
     Ok(())
 }
 

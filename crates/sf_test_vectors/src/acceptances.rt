@@ -118,7 +118,7 @@ fn check_row(rt: &impl Abort, alloc: Global, seed: &RandomState, row: Row) -> Re
     check_chunks(rt, alloc, seed, Dialect::Rfc8941, row)
 }
 
-fn check_rows(
+pub(crate) fn check_rows(
     rt: &impl Abort,
     alloc: Global,
     seed: &RandomState,

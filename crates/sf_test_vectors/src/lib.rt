@@ -10,3 +10,5 @@ mod followers;
 mod readers;
 #[cfg(test)]
 mod refusals;
+#[cfg(test)]
+mod whole_members;

@@ -167,7 +167,7 @@ fn check_row(
 }
 
 /// The rows; in the dialect of RFC 8941 those without a byte that only the new types begin with.
-fn check_rows(
+pub(crate) fn check_rows(
     rt: &impl Abort,
     alloc: Global,
     seed: &RandomState,
