@@ -27,7 +27,9 @@ use crate::explaining::{
 use crate::fields::{InputFault, read_fields};
 use crate::reading::{ReadAllFault, read_all};
 use crate::request::Request;
-use crate::scanning::{first_unaccepted, has_many_members, join_lines, only_line, pays_to_join};
+use crate::scanning::{
+    begins_accepted, first_unaccepted, has_many_members, join_lines, only_line, pays_to_join,
+};
 use crate::status::Status;
 use http_header::HeaderName;
 use sf_field::{AskFault, Consumer, UseFault, ask_from, parse_from};
@@ -182,50 +184,67 @@ fn answer_field<W: Sink>(
     ensures { Reports (view_request view dialect kind) input.now
         (W.state sink.old) (W.state sink.new) result }
 {
-    if is_built(view, kind, input) {
-        return answer_parsed(alloc, seed, view, dialect, kind, input, None, sink);
-    }
-    let from = first_unaccepted(alloc, dialect, kind, input);
-    if from.is_none() {
-        return answer_accepted(alloc, seed, view, dialect, kind, input, sink);
-    }
-    answer_parsed(alloc, seed, view, dialect, kind, input, from, sink)
-}
-
-/// Whether the field is built at once for this view of it.
-fn is_built(view: View, kind: Kind, input: &[u8]) -> bool {
     match view {
-        View::Tree => true,
-        View::Verdict => false,
-        View::Canonical => has_many_members(kind, input),
+        View::Tree => answer_parsed(alloc, seed, view, dialect, kind, input, None, sink),
+        View::Verdict => answer_verdict(alloc, seed, dialect, kind, input, sink),
+        View::Canonical => answer_normalised(alloc, seed, dialect, kind, input, sink),
     }
 }
 
-/// Writes a view of the field of an input that is accepted.
-fn answer_accepted<W: Sink>(
+/// Writes whether the input's lines are accepted as one field, or why not.
+fn answer_verdict<W: Sink>(
     alloc: Global,
     seed: &RandomState,
-    view: View,
     dialect: Dialect,
     kind: Kind,
     input: &[u8],
     sink: &mut W,
 ) -> Status
-    requires short { length input.now ≤ input_limit }
-    requires accepted { (v : FieldValue) × IsOnly dialect kind (joined input.now) v }
+    requires { length input.now ≤ input_limit }
     // The whole answer was written; or a prefix of it, and a write failed; or nothing.
-    ensures { Reports (view_request view dialect kind) input.now
+    ensures { Reports (request_is.Check dialect kind) input.now
         (W.state sink.old) (W.state sink.new) result }
 {
-    if matches!(view, View::Verdict) {
+    let from = first_unaccepted(alloc, dialect, kind, input);
+    if from.is_none() {
         return answer_made(b"accepted\n", Status::Accepted, sink);
     }
-    if matches!(view, View::Canonical) {
+    answer_parsed(alloc, seed, View::Verdict, dialect, kind, input, from, sink)
+}
+
+/// Writes the canonical text of the input's field, and a line feed, or why the input is refused.
+/// Nodes are made only after a part of the input was accepted, so that work does not grow with an
+/// input that is refused early.
+fn answer_normalised<W: Sink>(
+    alloc: Global,
+    seed: &RandomState,
+    dialect: Dialect,
+    kind: Kind,
+    input: &[u8],
+    sink: &mut W,
+) -> Status
+    requires { length input.now ≤ input_limit }
+    // The whole answer was written; or a prefix of it, and a write failed; or nothing.
+    ensures { Reports (request_is.Normalise dialect kind) input.now
+        (W.state sink.old) (W.state sink.new) result }
+{
+    let view = View::Canonical;
+    if has_many_members(kind, input) {
+        return answer_parsed(alloc, seed, view, dialect, kind, input, None, sink);
+    }
+    if begins_accepted(dialect, kind, input) {
+        if let Some(status) = answer_canonical(alloc, dialect, kind, input, sink) {
+            return status;
+        }
+        return answer_parsed(alloc, seed, view, dialect, kind, input, Some(input), sink);
+    }
+    let from = first_unaccepted(alloc, dialect, kind, input);
+    if from.is_none() {
         if let Some(status) = answer_canonical(alloc, dialect, kind, input, sink) {
             return status;
         }
     }
-    answer_parsed(alloc, seed, view, dialect, kind, input, None, sink)
+    answer_parsed(alloc, seed, view, dialect, kind, input, from, sink)
 }
 
 /// Writes the canonical text of the input's field, and a line feed, without building the field;

@@ -7,6 +7,7 @@ ghost use Rattle.sf_tool.specs.Run.{joined};
 ghost use Rattle.sf_tool.specs.Scanning.{SpellsMembers};
 
 use crate::cutting::{split_line, trimmed};
+use memchr::memrchr;
 use sf_value::{Dialect, Kind, OutOfMemory, is_ows};
 use sf_view::accepts;
 use std::alloc::Global;
@@ -90,6 +91,25 @@ fn accepts_joined(alloc: Global, dialect: Dialect, kind: Kind, input: &[u8]) -> 
     match join_lines(alloc, input) {
         Ok(text) => accepts(dialect, kind, text.as_slice()),
         Err(_) => false,
+    }
+}
+
+/// The length of a line of which nodes are made at once: they take no more time than to read it.
+const SHORT: usize = 1024;
+
+/// Whether an input of one line is short, or its first eighth is accepted, up to a comma. It only
+/// saves time: nothing is claimed of it.
+pub(crate) fn begins_accepted(dialect: Dialect, kind: Kind, input: &[u8]) -> bool {
+    let Some(line) = only_line(input) else {
+        return false;
+    };
+    if line.len() <= SHORT {
+        return true;
+    }
+    let (front, _) = line.split_at(line.len() / 8);
+    match memrchr(b',', front) {
+        Some(comma) => accepts(dialect, kind, &front[..comma]),
+        None => false,
     }
 }
 
