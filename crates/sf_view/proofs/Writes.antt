@@ -18,11 +18,13 @@ use Rattle.sf_value.specs.declared.value.Bare.TheVariants.{Blob, Boolean, Date, 
 use Rattle.sf_value.specs.Grammar.Canonical.{canon_bare}
 use Rattle.sf_value.specs.Devices.{SinkState}
 use Rattle.sf_write.proofs.CanonSteps.{value_written}
-use Rattle.sf_write.proofs.Following.{Remains, remains_less, remains_none}
+use Rattle.sf_write.proofs.Following.{Remains, remains_less, remains_none, nothing}
 use Rattle.sf_write.specs.declared.sending.WriteFault.{WriteFault}
 use Rattle.sf_write.specs.Writing.{Follows}
 use Rattle.sf_value.specs.Grammar.Pairs.{Pairs}
 use Rattle.sf_view.specs.declared.node.Node.{Node}
+use Rattle.sf_view.specs.declared.node_types.Role.{Role}
+use Rattle.sf_view.specs.View.{DescribesParams}
 use Rattle.sf_view.specs.Decoding.{TakesByte}
 use Rattle.sf_view.specs.Parts.{SplitsOff}
 use Rattle.sf_view.specs.Scans.{is_unescaped}
@@ -76,6 +78,15 @@ module _ {S X : Type 0} {state : S → SinkState} {gives : S → List ℕ → S 
 pub params_are : (p : List ℕ × Bare) (ps : Pairs Bare)
     → canon_params (p ∷ ps) ≡ canon_param p ++ canon_params ps
 params_are p ps = ap (λ t. 59 ∷ t) (sym (append_assoc p.0 (canon_value p.1) (canon_params ps)))
+
+-- without nodes there are no parameters, and nothing is written
+pub no_params : {S : Type 0} {state : S → SinkState} {gives : S → List ℕ → S → Type 0} {s : S}
+    {x : Result ℕ WriteFault} (d : Dialect) (source : List ℕ) (r : Role) (ns : List Node)
+    (ps : Pairs Bare) → DescribesParams d source r ns ps → length ns ≡ 0
+    → Follows state gives s s x x (canon_params ps)
+no_params d source r ns [] h e = nothing
+no_params d source r [] (p ∷ ps) (n, ms, f, b, h) e = absurd cc
+no_params d source r (m ∷ ns) (p ∷ ps) h e = absurd cc
 
 -- after a key Boolean true is not written, and any other bare item is
 pub flag_value : (d : Dialect) (v : BareView) (x : Bare) → IsBorrowed d v x → true ≡ is_flag v

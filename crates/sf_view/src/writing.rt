@@ -290,8 +290,22 @@ fn put_param<W: Sink>(param: View, before: Sent, out: &mut W) -> Sent
     put_value(&value, sent, out)
 }
 
-/// Writes parameters.
+/// Writes parameters. Only if there are some it costs a call.
+#[inline(always)]
 fn put_params<W: Sink>(view: View, before: Sent, out: &mut W) -> Sent
+    ensures { (d : Which) (r : Place) (ps : Pairs Value)
+        → DescribesParams d view.entry.text.now r view.entry.nodes.now ps
+        → Follows W.state W.send_gives out.old out.new before result (canon_params ps) }
+{
+    if view.nodes.is_empty() {
+        return before;
+    }
+    put_each_param(view, before, out)
+}
+
+/// As [`put_params`].
+#[inline(never)]
+fn put_each_param<W: Sink>(view: View, before: Sent, out: &mut W) -> Sent
     ensures { (d : Which) (r : Place) (ps : Pairs Value)
         → DescribesParams d view.entry.text.now r view.entry.nodes.now ps
         → Follows W.state W.send_gives out.old out.new before result (canon_params ps) }

@@ -30,8 +30,23 @@ pub(crate) fn put_value<W: Sink>(value: &Bare, before: Sent, out: &mut W) -> Sen
     put_bare(value, sent, out)
 }
 
-/// Writes parameters: for each a `;`, its key and its value.
+/// Writes parameters: for each a `;`, its key and its value. Only if there are some it costs a call.
+#[inline(always)]
 pub(crate) fn put_params<W: Sink>(params: &Entries<Bare>, before: Sent, out: &mut W) -> Sent
+    ensures text { Follows W.state W.send_gives out.old out.new before result
+        (canon_params params.now) }
+    ensures valid { ValidParams Rfc9651 params.now }
+{
+    // The clauses of `len` state that each key is valid and that none occurs twice.
+    if params.len() == 0 {
+        return before;
+    }
+    put_each_param(params, before, out)
+}
+
+/// As [`put_params`].
+#[inline(never)]
+fn put_each_param<W: Sink>(params: &Entries<Bare>, before: Sent, out: &mut W) -> Sent
     ensures text { Follows W.state W.send_gives out.old out.new before result
         (canon_params params.now) }
     ensures valid { ValidParams Rfc9651 params.now }

@@ -7,7 +7,7 @@ use Rattle.sf_write.proofs.Following.{Remains}
 use Rattle.sf_view.specs.declared.node_types.Role.{Role}
 use Rattle.sf_view.specs.View.{DescribesParams}
 use Rattle.sf_view.proofs.Writes.{Unwritten}
-use Rattle.sf_view.proofs.writing.put_params.Given as goal
+use Rattle.sf_view.proofs.writing.put_each_param.Given as goal
 
 abbrev pub invariant-loop-param : goal.invariant-loop-param
 invariant-loop-param g l = (d : Dialect) (r : Role) (ps : Pairs Bare)

@@ -3,7 +3,7 @@ use Rattle.sf_value.specs.Grammar.Canonical.{canon_params}
 use Rattle.sf_value.specs.Grammar.Valid.{ValidBare}
 use Rattle.sf_write.proofs.Following.{Remains}
 use Rattle.sf_write.proofs.ValidParts.{Awaits}
-use Rattle.sf_write.proofs.params.put_params.Given as goal
+use Rattle.sf_write.proofs.params.put_each_param.Given as goal
 
 abbrev pub invariant-loop-key : goal.invariant-loop-key
 invariant-loop-key g l = record {

@@ -4,7 +4,7 @@ use Rattle.sf_value.specs.Grammar.Canonical.{canon_params}
 use Rattle.sf_value.specs.Grammar.Valid.{ValidBare}
 use Rattle.sf_write.proofs.Following.{then, remains_less, remains_none}
 use Rattle.sf_write.proofs.ValidParts.{awaits_less, awaits_none, entries_valid}
-use Rattle.sf_write.proofs.params.put_params.Goals as goal
+use Rattle.sf_write.proofs.params.put_each_param.Goals as goal
 
 pub loop-key-preserved : goal.loop-key-preserved
 loop-key-preserved g c =
