@@ -18,6 +18,8 @@ mod nodes;
 #[cfg(test)]
 mod runs;
 #[cfg(test)]
+mod settled;
+#[cfg(test)]
 mod trees;
 #[cfg(test)]
 mod views;

@@ -1,11 +1,12 @@
-//! Copies of whole fields, nodes read as fields, and texts read as nodes, with little memory: each
-//! allocation fails in turn.
+//! Copies of whole fields, nodes read as fields, texts read as nodes, and canonical texts, with
+//! little memory: each allocation fails in turn.
+use crate::settled;
 use crate::trees::same_field;
 use sf_nodes::FieldNodes;
 use sf_parse::{Refusal, parse_text};
 use sf_test_alloc::{Seen, refusals};
 use sf_value::{Dialect, Field, Kind, OutOfMemory, same};
-use sf_view::{NoField, Node, View, field_of};
+use sf_view::{NoField, Node, View, field_of, normalise};
 use std::alloc::Global;
 use std::hash::RandomState;
 use std::test::Fail;
@@ -84,6 +85,28 @@ fn node_refusals(
     }))
 }
 
+/// How many budgets of memory were too small for the canonical text of a Dictionary.
+fn normal_refusals(
+    alloc: Global,
+    seed: &RandomState,
+    text: &[u8],
+    canonical: &[u8],
+) -> Option<usize> {
+    refusals(alloc, || {
+        match normalise(alloc, seed, Dialect::Rfc9651, Kind::Dict, text) {
+            Ok(written) => {
+                if written.as_slice() == canonical {
+                    Seen::Right
+                } else {
+                    Seen::Wrong
+                }
+            }
+            Err(Refusal::OutOfMemory) => Seen::Refused,
+            Err(_) => Seen::Wrong,
+        }
+    })
+}
+
 // Keys and bytes that fit where they are, longer ones, and more entries than fit in place.
 static TEXTS: [(Kind, &[u8]); 5] = [
     (Kind::Item, b"\"x y\";p=tok;q=:YQ==:"),
@@ -147,6 +170,16 @@ fn nodes_of_texts(rt: HostRuntime) -> Result<(), Fail> {
     }
     for (kind, text) in &REPEATED {
         let found = node_refusals(rt.alloc(), &seed, *kind, text)?;
+        assert!(rt; found > Some(0), "{found:?}");
+    }
+    Ok(())
+}
+
+#[test]
+fn canonical_texts(rt: HostRuntime) -> Result<(), Fail> {
+    let seed = RandomState::new(&rt)?;
+    for (text, canonical) in &settled::REPEATED {
+        let found = normal_refusals(rt.alloc(), &seed, text, canonical);
         assert!(rt; found > Some(0), "{found:?}");
     }
     Ok(())

@@ -119,13 +119,13 @@ no_part source j nodes own suffix o e n =
     n' o.within (omega arith) (omega arith)
 
 -- the same nodes and the same rest
-record Hopped {X : Type 0} (P : List ℕ → List Node → X → Type 0) (k : List ℕ)
+pub record Hopped {X : Type 0} (P : List ℕ → List Node → X → Type 0) (k : List ℕ)
     (prefix later : List Node) (p : List ℕ × X) (ps : Pairs X) : Type 0 where
-  key : k ≡ p.0
-  describes : P p.0 prefix p.1
-  rest : DescribesPairs P later ps
+  pub key : k ≡ p.0
+  pub describes : P p.0 prefix p.1
+  pub rest : DescribesPairs P later ps
 
-hopped : {X : Type 0} (P : List ℕ → List Node → X → Type 0) (source : List ℕ)
+pub hopped : {X : Type 0} (P : List ℕ → List Node → X → Type 0) (source : List ℕ)
     → AllOpen source P → (nodes : List Node) (k : List ℕ) (prefix later : List Node)
     (p : List ℕ × X) (ps : Pairs X)
     → IsHop source nodes k prefix later → DescribesPairs P nodes (p ∷ ps)
@@ -139,7 +139,7 @@ hopped P source opened nodes k prefix later p ps h (own, suffix, e, t, r) =
     }
 
 -- where no part begins there is none
-none_left : {X : Type 0} (P : List ℕ → List Node → X → Type 0) (source : List ℕ)
+pub none_left : {X : Type 0} (P : List ℕ → List Node → X → Type 0) (source : List ℕ)
     → AllOpen source P → (nodes : List Node) (ps : Pairs X)
     → NoHop source nodes → DescribesPairs P nodes ps → ps ≡ []
 none_left P source opened nodes [] n t = refl

@@ -44,7 +44,7 @@ apart_by_mark bits (q ∷ ks) k d h n = (snoc ks d.0, apart_by_mark bits ks k d.
     snoc [] a = (apart (bytes_eq q k) refl, tt)
     snoc (p ∷ ps) a = (a.0, snoc ps a.1)
 
-same_or_other : (b k : ℕ) → (b ≡ k) ⊎ (b ≢ k)
+pub same_or_other : (b k : ℕ) → (b ≡ k) ⊎ (b ≢ k)
 same_or_other b k =
     ⊎_elim (λ h. inr (λ e. omega arith))
     (λ h. ⊎_elim (λ i. inr (λ e. omega arith)) (λ i. inl (omega arith)) (cases_lt k b))

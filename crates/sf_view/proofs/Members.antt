@@ -1,7 +1,7 @@
 -- Members with commas between them that are scanned.
 use Rattle.std.proofs.Common.{◌≡◌, ℕ, ◌+◌, ◌-◌, ◌≤◌, List, [], ◌∷◌, ◌++◌, length, take}
 use Rattle.std.proofs.Common.{refl, sym, ap, ◌∙◌, subst, arith, append_assoc, append-nil}
-use Rattle.std.proofs.Common.{length-append, ⊎_elim}
+use Rattle.std.proofs.Common.{length-append, ⊎_elim, Bool, true, false}
 use Rattle.std.specs.List.{IsDistinct}
 use Rattle.std.specs.Map.{keys_of}
 use Rattle.std.specs.Str.{bytes_eq}
@@ -20,6 +20,7 @@ use Rattle.sf_value.specs.declared.value.Kind.{Kind}
 use Rattle.sf_value.specs.Grammar.Fields.{SpellsEntry, SpellsField, list_of, dict_of}
 use Rattle.sf_parse.specs.Parsers.{IsOnly}
 use Rattle.sf_parse.proofs.GrammarLaws.{one_value}
+use Rattle.sf_value.specs.Grammar.Pairs.{settle}
 use Rattle.sf_value.proofs.Settling.{settle-distinct}
 use Rattle.sf_view.specs.declared.item.KeyPlace.{KeyPlace}
 use Rattle.sf_view.specs.declared.node.Node.{Node}
@@ -30,6 +31,7 @@ use Rattle.sf_view.specs.Scans.{keys_from, DistinguishKeys}
 use Rattle.sf_view.specs.declared.keys.Marks.{Marks}
 use Rattle.sf_view.specs.Marks.{mark_of, HaveMarks}
 use Rattle.sf_view.specs.Accepts.{Accepts, SoFar, DescribesMarked}
+use Rattle.sf_view.specs.Settling.{IsRaw, HasParts}
 use Rattle.sf_view.proofs.KeyMarks.{keys_push}
 use Rattle.sf_view.proofs.Putting.{puts_none, puts_then}
 
@@ -382,3 +384,48 @@ dict_last d text rest after white old mid new between count mark marks marks_2 s
       );
       describes = described;
     }
+
+-- all members, one by one
+pub dict_raw : (d : Dialect) (text rest after white : List ℕ)
+    (old mid new : List Node) (between count mark : ℕ) (marks : Marks)
+    → SoFar (List ℕ × Member) (SpellsEntry d) (DescribesMarked d text marks) text rest old mid between
+    → ScansEntry d text rest after mark mid new between count → Behind is_ows after white
+    → white ≡ [] → IsRaw d kind.Dict text (take count new)
+dict_raw d text rest after white old mid new between count mark marks s m a n =
+    let i = rest_ends text rest old mid between s in
+    let p = puts_then old mid new 0 between count s.nodes m.nodes s.puts m.puts in
+    let raw = s.values ++ (m.key, m.value) ∷ [] in record {
+      is_dict = refl;
+      raw = raw;
+      only = only_of d kind.Dict text (dict_of (settle raw)) (
+        raw,
+        refl,
+        so_far_last (SpellsEntry d) (DescribesMarked d text marks) text rest m.prefix after white
+            (m.key, m.value) old mid between s m.split (m.spelled i) a n,
+      );
+      describes =
+          subst (λ y. DescribesEntries d text y raw)
+          (sym (prefix_there old new count (s.nodes ++ m.nodes) p))
+          (entries_more d text s.nodes m.nodes s.values (m.key, m.value) s.describes.0
+          (m.describes i));
+    }
+
+-- nodes that describe the field
+pub parts_whole : (d : Dialect) (k : Kind) (text : List ℕ) (new : List Node) (count : ℕ)
+    (repeated : Bool) → repeated ≡ false → Accepts d k text new count
+    → HasParts d k text new count repeated
+parts_whole d k text new count repeated r a = record {
+  within = a.within;
+  described = λ e. a;
+  raw = λ e. absurd (let z : true ≡ false = sym e ∙ r in cc);
+}
+
+-- nodes that describe the members one by one
+pub parts_raw : (d : Dialect) (k : Kind) (text : List ℕ) (new : List Node) (count : ℕ)
+    {repeated : Bool} → repeated ≡ true → count ≤ length new → IsRaw d k text (take count new)
+    → HasParts d k text new count repeated
+parts_raw d k text new count r w raw = record {
+  within = w;
+  described = λ e. absurd (let z : true ≡ false = sym r ∙ e in cc);
+  raw = λ e. raw;
+}

@@ -148,7 +148,7 @@ fn hash(key: &[u8]) -> u64
 
 /// The tag of a key, which a table holds instead of the key.
 #[inline]
-fn tag(key: &[u8]) -> u32
+pub(crate) fn tag(key: &[u8]) -> u32
     ensures { result ≡ tag_of key.now }
 {
     (hash(key).wrapping_mul(0x9e37_79b9_7f4a_7c15) >> 32) as u32

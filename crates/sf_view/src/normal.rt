@@ -8,20 +8,20 @@ ghost use Rattle.sf_parse.specs.Parsers.{Parses};
 ghost use Rattle.sf_view.specs.View.{DescribesField};
 ghost use Rattle.sf_view.specs.Views.{IsViewed};
 ghost use Rattle.sf_view.specs.CanonicalParts.{IsCanonicalOf};
+ghost use Rattle.sf_view.specs.Settling.{IsRaw};
 
 use crate::buffer::node_buffer;
 use crate::declined::parse_declined;
 use crate::node::Node;
-use crate::view::{Unviewed, View};
+use crate::series::scan_parts;
+use crate::settling::{FEW, scan_settled, settle_few};
+use crate::view::View;
 use crate::writing::write_view;
 use sf_parse::Refusal;
 use sf_value::{Dialect, Kind, OutOfMemory, Writing};
 use sf_write::to_text;
 use std::alloc::Global;
 use std::hash::RandomState;
-
-/// The number of nodes on the stack.
-const FEW: usize = 32;
 
 /// Returns the canonical text (RFC 9651 section 4.1) of the field of this kind that a view shows:
 /// the text that [`sf_write::to_text`] returns of that field. It fails only if an allocation fails.
@@ -49,8 +49,10 @@ pub fn view_text(alloc: Global, view: &View, kind: Kind) -> Result<Vec<u8>, OutO
 
 /// Returns the canonical text (RFC 9651 section 4.1) of the field that a text spells in a dialect,
 /// or the refusal that [`sf_parse::parse_text_in`] returns. The canonical text is written from
-/// nodes that point into the text; only if it has no view, for example because a key is repeated,
-/// the field is built. It allocates the canonical text, and nodes if there are more than 32.
+/// nodes that point into the text; only if it has none, for example because a key of parameters is
+/// repeated, the field is built. It allocates the canonical text, nodes if there are more than 32,
+/// and then nodes and an index of the members once more if a key of the Dictionary is repeated or
+/// there are many keys.
 ///
 /// ```
 /// normalise(alloc, &seed, Dialect::Rfc9651, Kind::Dict, b"u=1,  i=?1") // Ok: u=1, i
@@ -73,9 +75,11 @@ pub fn normalise(
 }
 
 /// Returns the canonical text (RFC 9651 section 4.1) of the field that a text spells in a dialect,
-/// written from nodes; `None` if the text has no view: call [`crate::parse_declined`] then. It
-/// fails only if an allocation fails. It allocates the canonical text, and nodes if there are more
-/// than 32.
+/// written from nodes; `None` if the text has none, as for [`scan_settled`]: call
+/// [`crate::parse_declined`] then. It fails only if an allocation fails. It allocates the canonical
+/// text, nodes if there are more than 32, and then nodes and an index of the members once more if a
+/// key of the Dictionary is repeated or there are many keys; if this last allocation fails, it
+/// returns `None`.
 ///
 /// ```
 /// canonical_text(alloc, Dialect::Rfc9651, Kind::Dict, b"u=1,  i=?1") // Ok(Some(..)): u=1, i
@@ -91,11 +95,45 @@ pub fn canonical_text(
         (λ found. IfSome found (λ c. IsCanonicalOf dialect kind text.now c.items)) }
 {
     let mut few = [Node::NONE; FEW];
-    match View::scan(dialect, kind, text, &mut few) {
-        Ok(view) => return Ok(Some(view_text(alloc, &view, kind)?)),
-        Err(Unviewed::ShortBuffer) => return by_many_nodes(alloc, dialect, kind, text),
-        Err(_) => return Ok(None),
+    let mut repeated = false;
+    let Some(count) = scan_parts(dialect, kind, text, &mut few, &mut repeated) else {
+        if text.len() <= FEW || text.len() > 0xffff_ffff {
+            return Ok(None);
+        }
+        return by_many_nodes(alloc, dialect, kind, text);
+    };
+    if repeated {
+        return by_settled_nodes(alloc, dialect, kind, text, &few[..count]);
     }
+    let view = View {
+        text,
+        nodes: &few[..count],
+    };
+    Ok(Some(view_text(alloc, &view, kind)?))
+}
+
+/// The same of a Dictionary whose members these nodes describe one by one.
+#[inline(never)]
+fn by_settled_nodes(
+    alloc: Global,
+    dialect: Dialect,
+    kind: Kind,
+    text: &[u8],
+    raw: &[Node],
+) -> Result<Option<Vec<u8>>, OutOfMemory>
+    requires { IsRaw dialect kind text.now raw.now }
+    ensures { IfOk result
+        (λ found. IfSome found (λ c. IsCanonicalOf dialect kind text.now c.items)) }
+{
+    let mut few = [Node::NONE; FEW];
+    let Some(count) = settle_few(text, raw, &mut few) else {
+        return Ok(None);
+    };
+    let view = View {
+        text,
+        nodes: &few[..count],
+    };
+    Ok(Some(view_text(alloc, &view, kind)?))
 }
 
 /// The same for a text with more nodes than are on the stack.
@@ -109,10 +147,10 @@ fn by_many_nodes(
         (λ found. IfSome found (λ c. IsCanonicalOf dialect kind text.now c.items)) }
 {
     let mut nodes = node_buffer(alloc, text)?;
-    match View::scan(dialect, kind, text, nodes.as_mut_slice()) {
-        Ok(view) => return Ok(Some(view_text(alloc, &view, kind)?)),
-        Err(_) => return Ok(None),
-    }
+    let Some(view) = scan_settled(alloc, dialect, kind, text, &mut nodes) else {
+        return Ok(None);
+    };
+    Ok(Some(view_text(alloc, &view, kind)?))
 }
 
 /// The canonical text, written from the field.

@@ -1,7 +1,8 @@
 //! Whole texts.
-ghost use Rattle.std.specs.Prelude.{◌≡◌, ◌≤◌, ◌<◌, ◌+◌, ◌*◌, ◌^◌, length, take, IfSome};
+ghost use Rattle.std.specs.Prelude.{◌≡◌, ◌≤◌, ◌<◌, ◌+◌, ◌*◌, ◌^◌, length, take, IfSome, false};
 ghost use Rattle.sf_value.specs.declared.value.Kind.TheVariants as kind_is;
 ghost use Rattle.sf_view.specs.Accepts.{Accepts};
+ghost use Rattle.sf_view.specs.Settling.{HasParts};
 
 use crate::classes::{behind, behind_spaces, behind_white, ends};
 use crate::item::{NO_KEY, scan_entry, scan_item, scan_member};
@@ -48,12 +49,20 @@ fn whole_list(dialect: Dialect, text: &[u8], nodes: &mut [Node]) -> Option<usize
     }
 }
 
-/// A Dictionary.
+/// A Dictionary. If a key is repeated or, rarely, there are too many keys to find out, the flag is
+/// set, and the nodes describe the members one by one.
 #[inline]
-fn whole_dict(dialect: Dialect, text: &[u8], nodes: &mut [Node]) -> Option<usize>
+fn whole_dict(
+    dialect: Dialect,
+    text: &[u8],
+    nodes: &mut [Node],
+    repeated: &mut bool,
+) -> Option<usize>
     requires small { length text.now < 2 ^ 32 }
+    requires unset { repeated.old ≡ false }
     ensures same { length nodes.new ≡ length nodes.old }
-    ensures accepts { IfSome result (λ n. Accepts dialect kind_is.Dict text.now nodes.new n) }
+    ensures parts { IfSome result
+        (λ n. HasParts dialect kind_is.Dict text.now nodes.new n repeated.new) }
 {
     let mut rest = behind_spaces(text);
     let mut count = 0;
@@ -66,9 +75,10 @@ fn whole_dict(dialect: Dialect, text: &[u8], nodes: &mut [Node]) -> Option<usize
         marks = marks.with(mark);
         let white = behind_white(scan.rest);
         if ends(white) {
-            if !marks.differ(text, &nodes[..scan.count]) {
-                return None;
+            if marks.differ(text, &nodes[..scan.count]) {
+                return Some(scan.count);
             }
+            *repeated = true;
             return Some(scan.count);
         }
         rest = behind_white(behind(white, b',')?);
@@ -76,11 +86,20 @@ fn whole_dict(dialect: Dialect, text: &[u8], nodes: &mut [Node]) -> Option<usize
     }
 }
 
-/// Writes the nodes of the text to the buffer, and returns their number; `None` claims nothing.
-pub fn scan_text(dialect: Dialect, kind: Kind, text: &[u8], nodes: &mut [Node]) -> Option<usize>
+/// Writes a node for each part of the text to the buffer, and returns their number; `None` claims
+/// nothing. If a key of a Dictionary is repeated, or there are too many keys to find out, the flag
+/// is set, and the nodes describe the members one by one.
+pub(crate) fn scan_parts(
+    dialect: Dialect,
+    kind: Kind,
+    text: &[u8],
+    nodes: &mut [Node],
+    repeated: &mut bool,
+) -> Option<usize>
+    requires unset { repeated.old ≡ false }
     ensures same { length nodes.new ≡ length nodes.old }
-    // The text spells a field, and no other, and the first nodes, as many as returned, describe it.
-    ensures accepts { IfSome result (λ n. Accepts dialect kind text.now nodes.new n) }
+    ensures parts { IfSome result
+        (λ n. HasParts dialect kind text.now nodes.new n repeated.new) }
 {
     if text.len() > 0xffff_ffff {
         return None;
@@ -88,6 +107,21 @@ pub fn scan_text(dialect: Dialect, kind: Kind, text: &[u8], nodes: &mut [Node]) 
     match kind {
         Kind::Item => return whole_item(dialect, text, nodes),
         Kind::List => return whole_list(dialect, text, nodes),
-        Kind::Dict => return whole_dict(dialect, text, nodes),
+        Kind::Dict => return whole_dict(dialect, text, nodes, repeated),
     }
+}
+
+/// Writes the nodes of the text to the buffer, and returns their number; `None` claims nothing.
+#[inline]
+pub fn scan_text(dialect: Dialect, kind: Kind, text: &[u8], nodes: &mut [Node]) -> Option<usize>
+    ensures same { length nodes.new ≡ length nodes.old }
+    // The text spells a field, and no other, and the first nodes, as many as returned, describe it.
+    ensures accepts { IfSome result (λ n. Accepts dialect kind text.now nodes.new n) }
+{
+    let mut repeated = false;
+    let count = scan_parts(dialect, kind, text, nodes, &mut repeated)?;
+    if repeated {
+        return None;
+    }
+    Some(count)
 }

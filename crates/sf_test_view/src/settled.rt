@@ -1,0 +1,225 @@
+//! Dictionaries in which keys are repeated, and those of many keys: their canonical texts, written
+//! from nodes and from trees.
+use sf_parse::{Refusal, parse_text};
+use sf_value::{Dialect, Kind, OutOfMemory};
+use sf_view::{Node, View, canonical_text, node_buffer, normalise, scan_settled, view_text};
+use sf_write::to_text;
+use std::alloc::Global;
+use std::hash::RandomState;
+use std::process::Abort;
+use std::test::Fail;
+
+// Texts with repeated keys, and what they spell: the last value of a key, at the place of its
+// first.
+pub(crate) static REPEATED: [(&[u8], &[u8]); 16] = [
+    (b"a=1,b,a=2", b"a=2, b"),
+    (b"a,a", b"a"),
+    (b"a=1,a=2,a=3", b"a=3"),
+    (b"u=1, i, u=2", b"u=2, i"),
+    (b"a=1, b=2, b=3, a=4", b"a=4, b=3"),
+    (b"b=1, a=2, c=3, a=4", b"b=1, a=4, c=3"),
+    (
+        b"a=1;x;y=2, b=(1 2);z, a=(3;q 4);w",
+        b"a=(3;q 4);w, b=(1 2);z",
+    ),
+    (b"a=(1 2 3), b, a", b"a, b"),
+    (b"a, b=(1 2 3), a=(4 5);p, b=?0;q", b"a=(4 5);p, b=?0;q"),
+    (b"aa=1, ab=2, a=3, aa=4, a=5", b"aa=4, ab=2, a=5"),
+    (b"a=\"x\", b=:YQ:, a=\"\\\"\"", b"a=\"\\\"\", b=:YQ==:"),
+    // Eight members, and nine.
+    (b"a,b,c,d,e,f,g,a=1", b"a=1, b, c, d, e, f, g"),
+    (b"a,b,c,d,e,f,g,h,h=1", b"a, b, c, d, e, f, g, h=1"),
+    (b"a,b,c,d,e,f,g,h,a=1", b"a=1, b, c, d, e, f, g, h"),
+    (
+        b"a=1,b=2,c=3,d=4,e=5,f=6,g=7,h=8,i=9,a=10,c=(1 2),i=11;x,j,a=12",
+        b"a=12, b=2, c=(1 2), d=4, e=5, f=6, g=7, h=8, i=11;x, j",
+    ),
+    // More than 32 nodes.
+    (
+        b"a=(1 2 3 4 5 6 7 8 9 10 11 12 13 14 15 16 17 18),b=(1 2 3 4 5 6 7 8 9 10 11 12),c,a=1",
+        b"a=1, b=(1 2 3 4 5 6 7 8 9 10 11 12), c",
+    ),
+];
+
+/// Whether the canonical text is written from nodes, and is this one.
+fn is_from_nodes(alloc: Global, text: &[u8], canonical: &[u8]) -> bool {
+    match canonical_text(alloc, Dialect::Rfc9651, Kind::Dict, text) {
+        Ok(Some(written)) => return written.as_slice() == canonical,
+        _ => return false,
+    }
+}
+
+/// Whether a scan that settles has nodes of this canonical text, at most as many as it was given.
+fn is_scanned(
+    alloc: Global,
+    kind: Kind,
+    text: &[u8],
+    canonical: &[u8],
+) -> Result<bool, OutOfMemory> {
+    let mut nodes = node_buffer(alloc, text)?;
+    let most = nodes.len();
+    let Some(view) = scan_settled(alloc, Dialect::Rfc9651, kind, text, &mut nodes) else {
+        return Ok(false);
+    };
+    Ok(view.nodes.len() <= most && view_text(alloc, &view, kind)?.as_slice() == canonical)
+}
+
+#[test]
+fn repeated_keys_are_settled(rt: HostRuntime) -> Result<(), Fail> {
+    let seed = RandomState::new(&rt)?;
+    let alloc = rt.alloc();
+    for (text, canonical) in &REPEATED {
+        assert!(&rt; is_from_nodes(alloc, text, canonical));
+        assert!(&rt; is_scanned(alloc, Kind::Dict, text, canonical)?);
+        let written = normalise(alloc, &seed, Dialect::Rfc9651, Kind::Dict, text)?;
+        assert!(&rt; written.as_slice() == *canonical);
+        let field = parse_text(alloc, &seed, Kind::Dict, text)?;
+        assert!(&rt; to_text(alloc, &field)?.as_slice() == *canonical);
+    }
+    Ok(())
+}
+
+/// How the members of a Dictionary are made: their number, and which of them repeat the key of an
+/// earlier one, if any do.
+#[derive(Clone, Copy, Drop)]
+struct Shape {
+    members: usize,
+    every: usize,
+    /// How far back the key is that is repeated.
+    back: usize,
+    /// Whether each member is one node.
+    bare: bool,
+}
+
+/// A Dictionary of this shape.
+fn made(alloc: Global, shape: Shape) -> Result<Vec<u8>, OutOfMemory> {
+    let mut text = Vec::new(alloc);
+    for i in 0..shape.members {
+        let repeats = shape.every > 0 && i % shape.every.max(1) == shape.every.saturating_sub(1);
+        let key = if repeats {
+            i.saturating_sub(shape.back)
+        } else {
+            i
+        };
+        let member = match (shape.bare, i % 3) {
+            (true, _) => format!(in alloc; "k{key}={i},")?,
+            (_, 0) => format!(in alloc; "key-{key};q={i} , ")?,
+            (_, 1) => format!(in alloc; "key-{key}=(a;x={i} \"b\");p=1.50, ")?,
+            _ => format!(in alloc; "key-{key}={i},\t")?,
+        };
+        text.extend_from_slice(member.as_bytes())?;
+    }
+    text.extend_from_slice(b"z;last")?;
+    Ok(text)
+}
+
+/// Whether nodes and the tree of a Dictionary of this shape have the same canonical text.
+fn agree(alloc: Global, seed: &RandomState, shape: Shape) -> Result<bool, Refusal> {
+    let text = made(alloc, shape)?;
+    let field = parse_text(alloc, seed, Kind::Dict, text.as_slice())?;
+    let canonical = to_text(alloc, &field)?;
+    drop(field);
+    let dialect = Dialect::Rfc9651;
+    let normal = normalise(alloc, seed, dialect, Kind::Dict, text.as_slice())?;
+    Ok(
+        normal.as_slice() == canonical.as_slice()
+            && is_from_nodes(alloc, text.as_slice(), canonical.as_slice())
+            && is_scanned(alloc, Kind::Dict, text.as_slice(), canonical.as_slice())?,
+    )
+}
+
+// On both sides of each number at which another way is taken, counted with the last member, and for
+// the nodes of members of several.
+static MEMBERS: [usize; 34] = [
+    0, 1, 2, 3, 4, 5, 6, 7, 8, 9, 10, 11, 12, 15, 16, 17, 30, 31, 32, 33, 34, 95, 96, 97, 128, 129,
+    383, 384, 385, 1024, 1025, 3070, 3071, 3072,
+];
+
+// How often a key is repeated, and how far back.
+static REPEATS: [(usize, usize); 6] = [(0, 0), (2, 1), (8, 5), (7, 1000), (3, 2), (1, 4)];
+
+#[test]
+fn nodes_and_trees_agree(rt: HostRuntime) -> Result<(), Fail> {
+    let seed = RandomState::new(&rt)?;
+    for members in &MEMBERS {
+        for (every, back) in &REPEATS {
+            for bare in [true, false] {
+                let shape = Shape {
+                    members: *members,
+                    every: *every,
+                    back: *back,
+                    bare,
+                };
+                assert!(&rt;
+                    agree(rt.alloc(), &seed, shape)?,
+                    "{members} {every} {back} {bare}"
+                );
+            }
+        }
+    }
+    Ok(())
+}
+
+// More keys than a scan without memory compares, repeated and not.
+static LARGE: [Shape; 5] = [
+    Shape {
+        members: 12_287,
+        every: 8,
+        back: 3,
+        bare: true,
+    },
+    Shape {
+        members: 12_288,
+        every: 0,
+        back: 0,
+        bare: true,
+    },
+    Shape {
+        members: 12_289,
+        every: 12_289,
+        back: 12_288,
+        bare: true,
+    },
+    Shape {
+        members: 30_000,
+        every: 0,
+        back: 0,
+        bare: true,
+    },
+    Shape {
+        members: 30_000,
+        every: 8,
+        back: 7_777,
+        bare: false,
+    },
+];
+
+#[test]
+fn many_keys_are_settled(rt: HostRuntime) -> Result<(), Fail> {
+    let seed = RandomState::new(&rt)?;
+    for shape in &LARGE {
+        assert!(&rt; agree(rt.alloc(), &seed, *shape)?);
+    }
+    Ok(())
+}
+
+#[test]
+fn other_texts_are_scanned(rt: HostRuntime) -> Result<(), Fail> {
+    let alloc = rt.alloc();
+    assert!(&rt; is_scanned(alloc, Kind::Item, b"1;a=1.50", b"1;a=1.5")?);
+    assert!(&rt; is_scanned(alloc, Kind::List, b"(1 2),b", b"(1 2), b")?);
+    assert!(&rt; is_scanned(alloc, Kind::Dict, b"", b"")?);
+    // A key of parameters that is repeated is declined.
+    assert!(&rt; !is_scanned(alloc, Kind::Item, b"1;a;b;a=2", b"1;a=2;b")?);
+    assert!(&rt; !is_scanned(alloc, Kind::Dict, b"a;x;x, a", b"a")?);
+    // So is what is malformed, and a buffer with too few nodes.
+    assert!(&rt; !is_scanned(alloc, Kind::Dict, b"a=1, b, a=", b"")?);
+    let mut nodes = Vec::from_slice(alloc, &[Node::NONE; 2])?;
+    let short = scan_settled(alloc, Dialect::Rfc9651, Kind::Dict, b"a,b,a", &mut nodes);
+    assert!(&rt; short.is_none());
+    // A scan that does not allocate declines a repeated key.
+    let mut nodes = Vec::from_slice(alloc, &[Node::NONE; 8])?;
+    let scan = View::scan(Dialect::Rfc9651, Kind::Dict, b"a,b,a", nodes.as_mut_slice());
+    assert!(&rt; scan.is_err());
+    Ok(())
+}

@@ -1,0 +1,335 @@
+//! Nodes of a Dictionary in which a key is repeated: the last value is at the place of the first
+//! one (RFC 9651 section 4.2.2).
+ghost use Rattle.std.specs.Prelude.{◌≡◌, ◌≤◌, ◌<◌, ℕ, IfOk, IfSome, length, take};
+ghost use Rattle.sf_value.specs.declared.dialect.Dialect.{Dialect as Which};
+ghost use Rattle.sf_value.specs.declared.value.Kind.TheVariants as kind_is;
+ghost use Rattle.sf_value.specs.declared.value.Member.{Member};
+ghost use Rattle.sf_value.specs.Grammar.Pairs.{Pairs, settle as settled_pairs};
+ghost use Rattle.sf_view.specs.Scans.{Puts};
+ghost use Rattle.sf_view.specs.View.{DescribesEntries};
+ghost use Rattle.sf_view.specs.Views.{IsViewed};
+ghost use Rattle.sf_view.specs.Keys.{tag_of};
+ghost use Rattle.sf_view.specs.Settling.{key_from, run_from, runs_of, RunsDescribe};
+ghost use Rattle.sf_view.specs.Settling.{IsPlace, HoldsPlace, HoldsPlaces, IsIndex};
+
+use crate::item::put;
+use crate::keys::{bytes_at, tag};
+use crate::lookup::hop;
+use crate::node::Node;
+use crate::series::scan_parts;
+use crate::view::View;
+use sf_value::{Dialect, Kind};
+use std::alloc::Global;
+
+/// The number of members up to which each two keys are compared.
+const PAIRWISE: usize = 8;
+
+/// The number of slots that are searched for a key.
+const PROBES: usize = 64;
+
+/// The number of nodes that are settled on the stack.
+pub(crate) const FEW: usize = 32;
+
+/// The number of slots for them.
+const FEW_SLOTS: usize = 64;
+
+/// The key of the part that starts at this node; `None` if it isn't in the source.
+#[inline]
+fn key_of_part<'a>(source: &'a [u8], nodes: &[Node], start: u32) -> Option<&'a [u8]>
+    ensures { IfSome result (λ k. k.now ≡ key_from source.now nodes.now start) }
+{
+    let start = start as usize;
+    if start >= nodes.len() {
+        return None;
+    }
+    let node = nodes[start];
+    bytes_at(source, node.key_at as usize, node.key_length as usize)
+}
+
+/// The nodes of the part that starts at this node; `None` if there are fewer.
+#[inline]
+fn part_from(nodes: &[Node], start: u32) -> Option<&[Node]>
+    ensures { IfSome result (λ run. run.now ≡ run_from nodes.now start) }
+{
+    let start = start as usize;
+    if start >= nodes.len() {
+        return None;
+    }
+    let size = nodes[start].size as usize;
+    let (_, from) = nodes.split_at(start);
+    if size > from.len() {
+        return None;
+    }
+    let (run, _) = from.split_at(size);
+    Some(run)
+}
+
+/// The place of the key among those of these parts, by comparing it with each.
+#[inline]
+fn place_among(source: &[u8], nodes: &[Node], order: &[u32], key: &[u8]) -> Option<usize>
+    ensures { IfSome result (λ p. IsPlace source.now nodes.now order.now key.now p) }
+{
+    let mut place = 0;
+    while place < order.len() {
+        let other = key_of_part(source, nodes, order[place])?;
+        if key == other {
+            return Some(place);
+        }
+        place += 1;
+    }
+    Some(place)
+}
+
+/// The same by a table of places, in which the place of a new key is put; `None` also if none of
+/// the key's slots has it or is empty.
+#[inline]
+fn place_by_table(
+    source: &[u8],
+    nodes: &[Node],
+    order: &[u32],
+    table: &mut [u32],
+    key: &[u8],
+) -> Option<usize>
+    ensures same { length table.new ≡ length table.old }
+    ensures kept { (t p : ℕ) → HoldsPlace table.old t p → HoldsPlace table.new t p }
+    ensures entered { IfSome result (λ p. p ≡ length order.now → 1 ≤ length table.old
+        → HoldsPlace table.new (tag_of key.now) p) }
+    ensures place { HoldsPlaces source.now nodes.now table.old order.now
+        → IfSome result (λ p. IsPlace source.now nodes.now order.now key.now p) }
+{
+    if table.is_empty() || order.len() >= 0xffff_ffff {
+        return None;
+    }
+    let own = tag(key);
+    let mask = table.len() - 1;
+    for step in 0..PROBES {
+        let slot = ((own >> 4) as usize + step) & mask;
+        if slot >= table.len() {
+            return None;
+        }
+        let there = table[slot];
+        if there == 0 {
+            table[slot] = (order.len() + 1) as u32;
+            return Some(order.len());
+        }
+        let place = (there - 1) as usize;
+        if place >= order.len() {
+            return None;
+        }
+        if key == key_of_part(source, nodes, order[place])? {
+            return Some(place);
+        }
+    }
+    None
+}
+
+/// The place of the key among those of these parts, by the table if it has slots.
+#[inline]
+fn place_of(
+    source: &[u8],
+    nodes: &[Node],
+    order: &[u32],
+    table: &mut [u32],
+    key: &[u8],
+) -> Option<usize>
+    ensures same { length table.new ≡ length table.old }
+    ensures kept { (t p : ℕ) → HoldsPlace table.old t p → HoldsPlace table.new t p }
+    ensures entered { IfSome result (λ p. p ≡ length order.now → 1 ≤ length table.old
+        → HoldsPlace table.new (tag_of key.now) p) }
+    ensures place { IsIndex source.now nodes.now table.old order.now
+        → IfSome result (λ p. IsPlace source.now nodes.now order.now key.now p) }
+{
+    if table.is_empty() {
+        return place_among(source, nodes, order, key);
+    }
+    place_by_table(source, nodes, order, table, key)
+}
+
+/// Puts the first node of each member that stays in the order of the first places of their keys,
+/// and returns the number of these members.
+fn put_order(source: &[u8], nodes: &[Node], order: &mut [u32], table: &mut [u32]) -> Option<usize>
+    ensures same { length order.new ≡ length order.old }
+    ensures within { IfSome result (λ n. n ≤ length order.new) }
+    ensures settled { (d : Which) (ps : Pairs Member)
+        → DescribesEntries d source.now nodes.now ps
+        → IfSome result (λ n. RunsDescribe d source.now nodes.now (take n order.new)
+        (settled_pairs ps)) }
+{
+    let mut rest = nodes;
+    let mut count = 0;
+    loop {
+        let Some((key, _, later)) = hop(source, rest) else {
+            return Some(count);
+        };
+        let start = nodes.len() - rest.len();
+        let place = place_of(source, nodes, &order[..count], table, key)?;
+        if start > 0xffff_ffff || place >= order.len() {
+            return None;
+        }
+        order[place] = start as u32;
+        count = count.max(place + 1);
+        rest = later;
+    }
+}
+
+/// Puts the nodes of a part after those that are there.
+#[inline]
+fn put_run(run: &[Node], nodes: &mut [Node], at: usize) -> Option<usize>
+    requires there { at ≤ length nodes.old }
+    ensures same { length nodes.new ≡ length nodes.old }
+    ensures puts { IfSome result (λ n. Puts nodes.old nodes.new at n run.now) }
+{
+    let mut count = at;
+    for node in run {
+        count = put(nodes, count, *node)?;
+    }
+    Some(count)
+}
+
+/// Puts the nodes of the parts that start at these nodes, in this order.
+fn put_runs(raw: &[Node], order: &[u32], nodes: &mut [Node]) -> Option<usize>
+    ensures same { length nodes.new ≡ length nodes.old }
+    ensures puts { IfSome result (λ n. Puts nodes.old nodes.new 0 n (runs_of raw.now order.now)) }
+{
+    let mut count = 0;
+    for start in order {
+        let run = part_from(raw, *start)?;
+        count = put_run(run, nodes, count)?;
+    }
+    Some(count)
+}
+
+/// Puts the nodes of the members that stay if a later value of a key overwrites an earlier one, and
+/// takes its place; `None` also if there are too many, or the table has too few slots.
+fn settle(
+    source: &[u8],
+    raw: &[Node],
+    order: &mut [u32],
+    table: &mut [u32],
+    nodes: &mut [Node],
+) -> Option<usize>
+    ensures same { length nodes.new ≡ length nodes.old }
+    ensures within { IfSome result (λ n. n ≤ length nodes.new) }
+    ensures settled { (d : Which) (ps : Pairs Member)
+        → DescribesEntries d source.now raw.now ps
+        → IfSome result (λ n. DescribesEntries d source.now (take n nodes.new)
+        (settled_pairs ps)) }
+{
+    let members = put_order(source, raw, order, table)?;
+    let count = put_runs(raw, &order[..members], nodes)?;
+    Some(count)
+}
+
+/// Settles up to 32 nodes on the stack.
+#[inline(never)]
+pub(crate) fn settle_few(source: &[u8], raw: &[Node], nodes: &mut [Node]) -> Option<usize>
+    ensures same { length nodes.new ≡ length nodes.old }
+    ensures within { IfSome result (λ n. n ≤ length nodes.new) }
+    ensures settled { (d : Which) (ps : Pairs Member)
+        → DescribesEntries d source.now raw.now ps
+        → IfSome result (λ n. DescribesEntries d source.now (take n nodes.new)
+        (settled_pairs ps)) }
+{
+    if raw.len() <= PAIRWISE {
+        let mut order = [0u32; PAIRWISE];
+        return settle(source, raw, &mut order, &mut [], nodes);
+    }
+    settle_more(source, raw, nodes)
+}
+
+/// The same of more nodes than are compared each with each. It is not inlined: a function reserves
+/// stack for all its tables on entry.
+#[inline(never)]
+fn settle_more(source: &[u8], raw: &[Node], nodes: &mut [Node]) -> Option<usize>
+    ensures same { length nodes.new ≡ length nodes.old }
+    ensures within { IfSome result (λ n. n ≤ length nodes.new) }
+    ensures settled { (d : Which) (ps : Pairs Member)
+        → DescribesEntries d source.now raw.now ps
+        → IfSome result (λ n. DescribesEntries d source.now (take n nodes.new)
+        (settled_pairs ps)) }
+{
+    let mut order = [0u32; FEW];
+    let mut table = [0u32; FEW_SLOTS];
+    settle(source, raw, &mut order, &mut table, nodes)
+}
+
+/// The number of parts.
+fn parts(nodes: &[Node]) -> usize {
+    let mut count = 0usize;
+    let mut at = 0;
+    while at < nodes.len() {
+        let size = nodes[at].size as usize;
+        if size == 0 || size > nodes.len() - at {
+            return nodes.len();
+        }
+        at += size;
+        count = count.wrapping_add(1);
+    }
+    count
+}
+
+/// The number of slots for so many keys: none if each two are compared.
+fn slots(members: usize) -> usize {
+    if members <= PAIRWISE {
+        return 0;
+    }
+    members.saturating_mul(2).min(1 << 62).next_power_of_two()
+}
+
+/// Settled nodes, in memory of their own; `None` also if an allocation fails.
+#[inline(never)]
+fn settled_nodes(alloc: Global, source: &[u8], raw: &[Node]) -> Option<Vec<Node>>
+    ensures { (d : Which) (ps : Pairs Member)
+        → DescribesEntries d source.now raw.now ps
+        → IfSome result (λ nodes. DescribesEntries d source.now nodes.items (settled_pairs ps)) }
+{
+    let members = parts(raw);
+    let mut index = vec![in alloc; 0u32; members.saturating_add(slots(members))].ok()?;
+    if members > index.len() {
+        return None;
+    }
+    let mut nodes = Vec::from_slice(alloc, raw).ok()?;
+    let (order, table) = index.as_mut_slice().split_at_mut(members);
+    let count = settle(source, raw, order, table, nodes.as_mut_slice())?;
+    nodes.truncate(count);
+    Some(nodes)
+}
+
+/// Scans a whole text as a field of this kind, as [`View::scan`] does, but also if a key is
+/// repeated in a Dictionary, or there are many keys: then the nodes are those of the members that
+/// stay if a later value of a key overwrites an earlier one and takes its place (RFC 9651 section
+/// 4.2.2). The buffer has to have enough nodes for the text, as [`crate::node_buffer`] returns it;
+/// if a key is repeated, it is replaced by one of its own length at most. `None` if the text is
+/// malformed, a key of parameters is repeated, an allocation failed or, rarely, there are many keys
+/// with one hash; nothing is claimed then. It allocates only if a key is repeated or there are many
+/// keys, in proportion to the number of nodes.
+///
+/// ```
+/// let mut nodes = node_buffer(alloc, b"u=1, i, u=2")?;
+/// let view = scan_settled(alloc, Dialect::Rfc9651, Kind::Dict, b"u=1, i, u=2", &mut nodes)?;
+/// view_text(alloc, &view, Kind::Dict)? // u=2, i
+/// ```
+pub fn scan_settled<'a>(
+    alloc: Global,
+    dialect: Dialect,
+    kind: Kind,
+    text: &'a [u8],
+    nodes: &'a mut Vec<Node>,
+) -> Option<View<'a>>
+    // The text spells a field, and no other, and the nodes of the view describe it.
+    ensures { IfSome result (λ v. IsViewed dialect kind text.now v) }
+{
+    let mut repeated = false;
+    let count = scan_parts(dialect, kind, text, nodes.as_mut_slice(), &mut repeated)?;
+    if repeated {
+        *nodes = settled_nodes(alloc, text, &nodes.as_slice()[..count])?;
+        return Some(View {
+            text,
+            nodes: nodes.as_slice(),
+        });
+    }
+    Some(View {
+        text,
+        nodes: &nodes.as_slice()[..count],
+    })
+}
