@@ -90,12 +90,6 @@ module _ {X : Type 0} (P : List ℕ → X → Type 0) where
       → SpellsSome P (t ++ 44 ∷ 32 ∷ u)
   some_join t u (x, xs, h) (y, ys, k) = (x, xs ++ y ∷ ys, whole_join t u x y xs ys h k)
 
-  -- a text that does not begin with a blank has a member
-  whole_some : (b : ℕ) (t : List ℕ) (xs : List X) → is_ows b ≡ false → SpellsWhole P (b ∷ t) xs
-      → SpellsSome P (b ∷ t)
-  whole_some b t [] n h = let sp = h.0 in absurd cc
-  whole_some b t (x ∷ xs) n h = (x, xs, h)
-
 members_join : (d : Dialect) (k : Kind) (t u : List ℕ) → SpellsMembers d k t → SpellsMembers d k u
     → SpellsMembers d k (t ++ 44 ∷ 32 ∷ u)
 members_join d kind.Item t u h g = absurd h
@@ -117,17 +111,6 @@ empty_only : (d : Dialect) (k : Kind) → k ≢ kind.Item → (v : Field) × IsO
 empty_only d kind.Item n = absurd (n refl)
 empty_only d kind.List n = (list_of [], only_of d kind.List [] (list_of []) tt)
 empty_only d kind.Dict n = (dict_of [], only_of d kind.Dict [] (dict_of []) ([], refl, tt))
-
--- a text that is accepted and does not begin with a blank
-pub members_begin : (d : Dialect) (k : Kind) (b : ℕ) (t : List ℕ) (v : Field) → k ≢ kind.Item
-    → is_ows b ≡ false → SpellsField d k (b ∷ t) v → SpellsMembers d k (b ∷ t)
-members_begin d kind.Item b t v n w h = absurd (n refl)
-members_begin d kind.List b t (field.List l) n w h =
-    whole_some (SpellsMember d) b t l.members w h
-members_begin d kind.List b t v n w h = absurd h
-members_begin d kind.Dict b t (field.Dict m) n w (raw, e, h) =
-    whole_some (SpellsEntry d) b t raw w h
-members_begin d kind.Dict b t v n w h = absurd h
 
 -- no line was read, or what was read has members, and the lines of the rest come after it
 abbrev pub HasRead : Dialect → Kind → List ℕ → List ℕ → Type 0

@@ -78,16 +78,6 @@ RespondsTo request d kind print input =
     (text : List ℕ) (status : Status) → Responds d kind print (joined input) text status
     → Answers request input text status
 
--- the lines spell a value
-pub reports_field : (request : Request) (d : Dialect) (kind : Kind) (print : Field → List ℕ)
-    (input : List ℕ) (v : Field) (old new : SinkState) (result : Status)
-    → RespondsTo request d kind print input
-    → ParsesLines d kind (lines_of input) (Ok v) → ReportsText (print v) Accepted old new result
-    → Reports request input old new result
-reports_field request d kind print input v old new result given parses t =
-    reports_text request input (print v) Accepted old new result
-    (given (print v) Accepted (v, parses.0, refl)) t
-
 -- what the line of a refusal tells
 refuses : (d : Dialect) (kind : Kind) (lines : List (List ℕ)) (place : ℕ) (found : Option ℕ)
     (expected : ℕ) (may_end : Bool)
@@ -140,14 +130,6 @@ for-memory : (view : View) (d : Dialect) (kind : Kind) (input : List ℕ) (e : R
 for-memory Tree d kind input OutOfMemory free is = free
 for-memory view d kind input OutOfMemory free is = free
 for-memory view d kind input e free is = absurd cc
-
-pub reports_view : (view : View) (d : Dialect) (kind : Kind) (input : List ℕ) (v : Field)
-    (old new : SinkState) (result : Status) → ParsesLines d kind (lines_of input) (Ok v)
-    → ReportsText (view_text view v) Accepted old new result
-    → Reports (view_request view d kind) input old new result
-reports_view view d kind input v old new result =
-    reports_field (view_request view d kind) d kind (view_text view) input v old new result
-    (responds view d kind input)
 
 pub reports_refusal : (view : View) (d : Dialect) (kind : Kind) (input : List ℕ) (e : Refusal)
     (old new : SinkState) (result : Status) → ParsesLines d kind (lines_of input) (Err e)

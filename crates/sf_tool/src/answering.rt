@@ -24,7 +24,7 @@ use sf_field::{AskFault, UseFault};
 use sf_parse::Refusal;
 use sf_use::{CachePath, Policy, Priority};
 use sf_value::{Dialect, Field, Kind, Sink};
-use sf_view::node_buffer;
+use sf_view::{Node, node_buffer, scan_settled};
 use sf_write::{Sent, put, put_field};
 use std::alloc::Global;
 
@@ -85,6 +85,9 @@ pub(crate) fn answer_view<W: Sink>(view: View, field: Field, sink: &mut W) -> St
     ended(put_view(view, &field, Ok(0), sink), Status::Accepted)
 }
 
+/// The number of nodes on the stack.
+const FEW: usize = 32;
+
 /// Writes the canonical text of the field that nodes describe, and a line feed.
 fn answer_viewed<W: Sink>(nodes: &sf_view::View, kind: Kind, sink: &mut W) -> Status
     // Accepted if the whole text was written; Stopped if a write failed after a prefix of it.
@@ -96,8 +99,8 @@ fn answer_viewed<W: Sink>(nodes: &sf_view::View, kind: Kind, sink: &mut W) -> St
 }
 
 /// Writes the canonical text of the field that a text spells, and a line feed, from nodes that
-/// point into the text. `None` if there are no nodes, because a key is repeated, there are many, or
-/// an allocation failed; then nothing was written.
+/// point into the text. `None` if there are no nodes, because the text is refused, a key of
+/// parameters is repeated, or an allocation failed; then nothing was written.
 pub(crate) fn answer_nodes<W: Sink>(
     alloc: Global,
     dialect: Dialect,
@@ -110,11 +113,28 @@ pub(crate) fn answer_nodes<W: Sink>(
         (λ status. ReportsCanonical dialect kind text.now
         (W.state sink.old) (W.state sink.new) status) }
 {
-    let mut nodes = node_buffer(alloc, text).ok()?;
-    match sf_view::View::scan(dialect, kind, text, nodes.as_mut_slice()) {
+    let mut few = [Node::NONE; FEW];
+    match sf_view::View::scan(dialect, kind, text, &mut few) {
         Ok(view) => return Some(answer_viewed(&view, kind, sink)),
-        Err(_) => return None,
+        Err(_) => return answer_many_nodes(alloc, dialect, kind, text, sink),
     }
+}
+
+/// The same with more nodes than are on the stack, and for a Dictionary in which a key is repeated.
+fn answer_many_nodes<W: Sink>(
+    alloc: Global,
+    dialect: Dialect,
+    kind: Kind,
+    text: &[u8],
+    sink: &mut W,
+) -> Option<Status>
+    ensures { MatchOption result (W.state sink.new ≡ W.state sink.old)
+        (λ status. ReportsCanonical dialect kind text.now
+        (W.state sink.old) (W.state sink.new) status) }
+{
+    let mut nodes = node_buffer(alloc, text).ok()?;
+    let view = scan_settled(alloc, dialect, kind, text, &mut nodes)?;
+    Some(answer_viewed(&view, kind, sink))
 }
 
 /// Writes the line of a refusal; nothing if an allocation failed.

@@ -1,9 +1,8 @@
 //! Running a request.
 ghost use Rattle.std.specs.Prelude.{◌≡◌, ◌≤◌, [], length, IfErr, IfSome, MatchOption};
-ghost use Rattle.sf_value.specs.declared.value.Field.{Field as FieldValue};
 ghost use Rattle.sf_field.specs.Asking.{Asks};
 ghost use Rattle.sf_field.specs.Lines.{ParsesLines};
-ghost use Rattle.sf_parse.specs.Parsers.{IsOnly, Parses};
+ghost use Rattle.sf_parse.specs.Parsers.{Parses};
 ghost use Rattle.sf_parse.specs.AllocationFree.{TakesNoMemory};
 ghost use Rattle.sf_parse.specs.AllocationFreeParsers.{NotForMemory};
 ghost use Rattle.sf_tool.specs.declared.request.Request.TheVariants as request_is;
@@ -28,7 +27,7 @@ use crate::fields::{InputFault, read_fields};
 use crate::reading::{ReadAllFault, read_all};
 use crate::request::Request;
 use crate::scanning::{
-    begins_accepted, first_unaccepted, has_many_members, join_lines, only_line, pays_to_join,
+    begins_accepted, first_unaccepted, join_lines, only_line, pays_to_join,
 };
 use crate::status::Status;
 use http_header::HeaderName;
@@ -98,15 +97,15 @@ pub fn run<R: Source, W: Sink, E: Sink>(
     }
 }
 
-/// Parses the input's lines as one field. A line that is not accepted is known if the lines were
-/// scanned before.
+/// Parses the input's lines as one field. If they were scanned before, `doubtful` is the input from
+/// the first line on that was not found to be accepted.
 fn parse_input(
     alloc: Global,
     seed: &RandomState,
     dialect: Dialect,
     kind: Kind,
     input: &[u8],
-    unaccepted: Option<&[u8]>,
+    doubtful: Option<&[u8]>,
 ) -> Result<Field, Refusal>
     requires { length input.now ≤ input_limit }
     // The input's lines spell this value and no other, or this is their exact refusal, or an
@@ -117,8 +116,8 @@ fn parse_input(
     // Lines whose joined text is allocation-free are not refused as out of memory.
     ensures allocation_free { TakesNoMemory kind (joined input.now) → NotForMemory result }
 {
-    if let Some(from) = unaccepted {
-        if let Some(parsed) = parse_unaccepted(alloc, seed, dialect, kind, input, from) {
+    if let Some(from) = doubtful {
+        if let Some(parsed) = parse_doubtful(alloc, seed, dialect, kind, input, from) {
             return parsed;
         }
     }
@@ -128,9 +127,9 @@ fn parse_input(
     }
 }
 
-/// Parses an input whose lines are not accepted from one on, from its last member before that;
-/// `None` claims nothing.
-fn parse_unaccepted(
+/// Parses an input whose lines may be refused from one on: if they are, from the last whole member
+/// before that. `None` claims nothing.
+fn parse_doubtful(
     alloc: Global,
     seed: &RandomState,
     dialect: Dialect,
@@ -229,9 +228,6 @@ fn answer_normalised<W: Sink>(
         (W.state sink.old) (W.state sink.new) result }
 {
     let view = View::Canonical;
-    if has_many_members(kind, input) {
-        return answer_parsed(alloc, seed, view, dialect, kind, input, None, sink);
-    }
     if begins_accepted(dialect, kind, input) {
         if let Some(status) = answer_canonical(alloc, dialect, kind, input, sink) {
             return status;
@@ -275,7 +271,7 @@ fn answer_parsed<W: Sink>(
     dialect: Dialect,
     kind: Kind,
     input: &[u8],
-    unaccepted: Option<&[u8]>,
+    doubtful: Option<&[u8]>,
     sink: &mut W,
 ) -> Status
     requires { length input.now ≤ input_limit }
@@ -283,7 +279,7 @@ fn answer_parsed<W: Sink>(
     ensures { Reports (view_request view dialect kind) input.now
         (W.state sink.old) (W.state sink.new) result }
 {
-    match parse_input(alloc, seed, dialect, kind, input, unaccepted) {
+    match parse_input(alloc, seed, dialect, kind, input, doubtful) {
         Ok(field) => answer_view(view, field, sink),
         Err(refusal) => answer_refusal(refusal, sink),
     }

@@ -94,7 +94,7 @@ fn accepts_joined(alloc: Global, dialect: Dialect, kind: Kind, input: &[u8]) -> 
     }
 }
 
-/// The length of a line of which nodes are made at once: they take no more time than to read it.
+/// The length up to which a line goes to the nodes at once: its nodes take little memory.
 const SHORT: usize = 1024;
 
 /// Whether an input of one line is short, or its first eighth is accepted, up to a comma. It only
@@ -113,25 +113,7 @@ pub(crate) fn begins_accepted(dialect: Dialect, kind: Kind, input: &[u8]) -> boo
     }
 }
 
-/// The most members of a Dictionary for which nodes are tried: of more, a scan declines.
-const MOST_MEMBERS: usize = 12_288;
-
-/// Whether an input may have more members than a scan of its kind takes: before each but the first
-/// is a comma, or the end of a line.
-pub(crate) fn has_many_members(kind: Kind, input: &[u8]) -> bool {
-    matches!(kind, Kind::Dict) && ends_of_members(input) >= MOST_MEMBERS
-}
-
-/// The number of commas and line feeds.
-fn ends_of_members(input: &[u8]) -> usize {
-    let mut count = 0usize;
-    for byte in input {
-        count = count.wrapping_add((*byte == b',' || *byte == b'\n') as usize);
-    }
-    count
-}
-
-/// The same for an input of several lines, which are accepted one by one.
+/// As [`first_unaccepted`], for an input of several lines, which are accepted one by one.
 fn unaccepted_line(dialect: Dialect, kind: Kind, input: &[u8]) -> Option<&[u8]>
     ensures { IfNone result ((v : Field) × IsOnly dialect kind (joined input.now) v) }
 {
