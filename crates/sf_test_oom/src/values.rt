@@ -246,6 +246,61 @@ fn keys_that_are_set(rt: HostRuntime) -> Result<(), Fail> {
     Ok(())
 }
 
+/// Sets the key of [`LONG`] by its bytes, after so many entries; a refusal leaves them unchanged.
+fn set_long(alloc: Global, filled: &mut Vec<Entries<Bare>>, key: &Key, count: usize) -> Seen {
+    let Some(mut entries) = filled.pop() else {
+        return Seen::Wrong;
+    };
+    match entries.set_named(alloc, key.as_bytes(), Bare::Boolean(true)) {
+        Ok(()) => seen_if(entries.len() > count && entries.contains_key(LONG)),
+        Err(OutOfMemory) => {
+            if are_first(&entries, count) && filled.push(entries).is_ok() {
+                Seen::Refused
+            } else {
+                Seen::Wrong
+            }
+        }
+    }
+}
+
+#[test]
+fn long_keys_that_are_set(rt: HostRuntime) -> Result<(), Fail> {
+    let alloc = rt.alloc();
+    let seed = RandomState::new(&rt)?;
+    let key = Key::new(alloc, LONG)?;
+    for count in [0, 1, 8, 9usize] {
+        let mut filled = Vec::with_capacity(alloc, 2)?;
+        for _ in 0..2 {
+            filled.push(entries_of(alloc, &seed, count)?)?;
+        }
+        expect_refusals(&rt, || set_long(alloc, &mut filled, &key, count));
+    }
+    Ok(())
+}
+
+/// Sets the key of [`LONG`] once more, which needs no memory.
+fn set_again(alloc: Global, entries: &mut Entries<Bare>, key: &Key) -> Seen {
+    let count = entries.len();
+    match entries.set_named(alloc, key.as_bytes(), Bare::Boolean(false)) {
+        Ok(()) => seen_if(entries.len() == count),
+        Err(OutOfMemory) => Seen::Wrong,
+    }
+}
+
+#[test]
+fn long_keys_that_are_present(rt: HostRuntime) -> Result<(), Fail> {
+    let alloc = rt.alloc();
+    let seed = RandomState::new(&rt)?;
+    let key = Key::new(alloc, LONG)?;
+    for count in [0, 1, 7, 8, 15usize] {
+        let mut entries = entries_of(alloc, &seed, count)?;
+        entries.set_named(alloc, key.as_bytes(), Bare::Boolean(true))?;
+        expect_no_need(&rt, || set_again(alloc, &mut entries, &key));
+        assert!(rt; entries.get(LONG) == Some(&Bare::Boolean(false)));
+    }
+    Ok(())
+}
+
 /// Puts the key that is first.
 fn put_first(puts: &mut Vec<Put>, count: usize) -> Seen {
     let Some(put) = puts.pop() else {

@@ -6,13 +6,13 @@ use Rattle.std.proofs.lemmas.List.{take_more_same}
 use Rattle.std.proofs.lemmas.Option.{slice_get_within, get_or_from_slice_get}
 use Rattle.std.proofs.lemmas.List.Elements.{filter-append}
 use Rattle.std.specs.List.{IsDistinct, AllByRecursion}
-use Rattle.std.specs.Map.{keys_of}
+use Rattle.std.specs.Map.{keys_of, set_value}
 use Rattle.std.specs.Cmp.Lexicographic.{nat_list_eq_equiv, same_text}
 use Rattle.std.specs.Str.{bytes_eq}
 use Rattle.indexmap.specs.IndexMap.{insert_entry}
 use Rattle.sf_value.specs.Grammar.Words.{Each}
 use Rattle.sf_value.specs.Grammar.Tokens.{IsKey}
-use Rattle.sf_value.specs.Grammar.Pairs.{Pairs, latest, without, settle, HasDistinctKeys}
+use Rattle.sf_value.specs.Grammar.Pairs.{Pairs, latest, without, settle, value_at, HasDistinctKeys}
 use Rattle.sf_value.specs.Entries.{AreEntries}
 
 module _ {V : Type 0} where
@@ -80,6 +80,18 @@ module _ {V : Type 0} where
           let there : bytes_eq p.0 k ≡ false = flip ∙ t in
           let apart = IsAbsent-insert p.0 k v ps d.0 there in
           rw (head, tail, without-absent p.0 (insert_entry bytes_eq ps k v) apart, there, t)
+
+  -- a key that has a value is overwritten
+  pub insert_entry-present : (k : List ℕ) (v w : V) (ps : Pairs V) → value_at k ps ≡ Some v
+      → set_value (bytes_eq k) ps w ≡ insert_entry bytes_eq ps k w
+  insert_entry-present k v w [] h = absurd cc
+  insert_entry-present k v w (p ∷ ps) h = by (bytes_eq k p.0) refl (insert_entry-present k v w ps)
+    where
+      by : (b : Bool) → bytes_eq k p.0 ≡ b
+          → (value_at k ps ≡ Some v → set_value (bytes_eq k) ps w ≡ insert_entry bytes_eq ps k w)
+          → set_value (bytes_eq k) (p ∷ ps) w ≡ insert_entry bytes_eq (p ∷ ps) k w
+      by true t rest = rw t
+      by false t rest = let there : value_at k ps ≡ Some v = rw t at h in rw (t, rest there)
 
   pub keys-insert_entry : (ps : Pairs V) (k : List ℕ) (v : V) → Each IsKey (keys_of ps) → IsKey k
       → Each IsKey (keys_of (insert_entry bytes_eq ps k v))

@@ -3,13 +3,11 @@ use Rattle.std.proofs.Common.{◌≡◌, ℕ, suc, ◌+◌, Bool, true, false, c
 use Rattle.std.proofs.Common.{Option, Some, None, refl, sym, ap, ◌∙◌, subst, get_or}
 use Rattle.std.proofs.Common.{arith}
 use Rattle.std.proofs.lemmas.Iterator.Adapters.{position_from-zero}
-use Rattle.std.specs.List.{IsDistinct, position, position_from, slice_set}
-use Rattle.std.specs.Map.{keys_of}
+use Rattle.std.specs.List.{position, position_from, slice_set}
 use Rattle.std.specs.Option.{option_map}
 use Rattle.std.specs.Str.{bytes_eq}
 use Rattle.indexmap.specs.IndexMap.{insert_entry}
 use Rattle.sf_value.specs.declared.store.Slot.{Slot}
-use Rattle.sf_value.specs.Grammar.Words.{Each}
 use Rattle.sf_value.specs.Grammar.Tokens.{IsKey}
 use Rattle.sf_value.specs.Grammar.Pairs.{Pairs, settle, value_at, HasDistinctKeys}
 use Rattle.sf_value.specs.Entries.{AreEntries}
@@ -137,6 +135,24 @@ module _ {V : Type 0} where
         ∙ ap (λ q. slot_pairs ss ++ (q, s.value) ∷ []) key
         ∙ sym (insert_entry-absent k s.value (slot_pairs ss) (place_missing k ss h.was))
 
+  absent-value : (k : List ℕ) (ps : Pairs V) → value_at k ps ≡ None → IsAbsent k ps
+  absent-value k [] h = tt
+  absent-value k (p ∷ ps) h = by (bytes_eq k p.0) refl (absent-value k ps)
+    where
+      by : (b : Bool) → bytes_eq k p.0 ≡ b → (value_at k ps ≡ None → IsAbsent k ps)
+          → IsAbsent k (p ∷ ps)
+      by true t rest = absurd (let e : Some p.1 ≡ None = rw t at h in cc)
+      by false t rest = (t, rest (rw t at h))
+
+  -- a new slot that goes last after slots with these pairs
+  pub added_last : (k : List ℕ) (ps : Pairs V) (ss ss' : List (Slot V)) (s : Slot V)
+      → slot_pairs ss ≡ ps → value_at k ps ≡ None → s.key ≡ k → ss' ≡ ss ++ s ∷ []
+      → slot_pairs ss' ≡ insert_entry bytes_eq ps k s.value
+  added_last k ps ss ss' s before new key is =
+      ap slot_pairs is ∙ slot_pairs-append ss s
+      ∙ (λ i. before i ++ (key i, s.value) ∷ [])
+      ∙ sym (insert_entry-absent k s.value ps (absent-value k ps new))
+
   -- the first slot of all
   pub added_first : (k : List ℕ) (none ss : List (Slot V)) (s : Slot V) → none ≡ [] → s.key ≡ k
       → ss ≡ none ++ s ∷ [] → slot_pairs ss ≡ insert_entry bytes_eq [] k s.value
@@ -164,37 +180,13 @@ module _ {V : Type 0} where
       (subst (λ ps. HasDistinctKeys ps) (sym next) d)
       ∙ next
 
-  HasDistinctKeys-prefix : (ps qs : Pairs V) → HasDistinctKeys (ps ++ qs) → HasDistinctKeys ps
-  unfolding IsDistinct
-  HasDistinctKeys-prefix [] qs d = tt
-  HasDistinctKeys-prefix (p ∷ ps) qs d = (apart ps d.0, HasDistinctKeys-prefix ps qs d.1)
-    where
-      apart : (rs : Pairs V) → IsAbsent p.0 (rs ++ qs) → IsAbsent p.0 rs
-      apart [] h = tt
-      apart (r ∷ rs) h = (h.0, apart rs h.1)
-
   -- one more pair is copied: the pairs copied so far, before those that are left, are still all
   pub copied : (done done' left left' all : Pairs V) (k key : List ℕ) (v value : V)
-      → AreEntries all → done ++ left ≡ all → left ≡ (k, v) ∷ left'
-      → done' ≡ settle (done ++ (key, value) ∷ []) → key ≡ k → value ≡ v → done' ++ left' ≡ all
-  copied done done' left left' all k key v value h all-is left-is done-is key-is value-is =
+      → HasDistinctKeys all → done ++ left ≡ all → left ≡ (k, v) ∷ left'
+      → done' ≡ insert_entry bytes_eq done key value → key ≡ k → value ≡ v → done' ++ left' ≡ all
+  copied done done' left left' all k key v value d all-is left-is done-is key-is value-is =
       let next : done ++ (k, v) ∷ left' ≡ all = ap (λ ps. done ++ ps) (sym left-is) ∙ all-is in
-      let d : HasDistinctKeys (done ++ (k, v) ∷ left') =
-      subst (λ ps. HasDistinctKeys ps) (sym next) h.distinct in
-      ap (λ ps. ps ++ left')
-      (done-is ∙ settle-push done key value (HasDistinctKeys-prefix done ((k, v) ∷ left') d))
+      ap (λ ps. ps ++ left') done-is
       ∙ (λ i. insert_entry bytes_eq done (key-is i) (value-is i) ++ left')
-      ∙ insert_entry-next done left' (k, v) d
+      ∙ insert_entry-next done left' (k, v) (subst (λ ps. HasDistinctKeys ps) (sym next) d)
       ∙ next
-
-  -- the next pair's key is one
-  pub next_key : (done left left' all : Pairs V) (q : List ℕ × V) → AreEntries all
-      → done ++ left ≡ all → left ≡ q ∷ left' → IsKey q.0
-  next_key done left left' all q h all-is left-is =
-      among done
-      (subst (λ ps. Each IsKey (keys_of ps)) (sym (ap (λ ps. done ++ ps) (sym left-is) ∙ all-is))
-      h.keys)
-    where
-      among : (ps : Pairs V) → Each IsKey (keys_of (ps ++ q ∷ left')) → IsKey q.0
-      among [] e = e.0
-      among (p ∷ ps) e = among ps e.1

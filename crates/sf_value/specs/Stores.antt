@@ -1,5 +1,5 @@
 -- How contracts see stored entries as pairs.
-use Rattle.std.specs.Prelude.{ℕ, ◌<◌, List, [], length, map}
+use Rattle.std.specs.Prelude.{ℕ, ◌<◌, List, [], length, map, vec_len, vec_capacity}
 use Rattle.std.specs.Slice.Iter.{iter_rest}
 use Rattle.std.specs.Vec.Iter.{into_iter_items}
 use Rattle.sf_value.specs.declared.store.Slot.{Slot}
@@ -28,6 +28,18 @@ module _ {V : Type 0} where
   HasSeed (store.Fresh _ _) = Unit {0}
   HasSeed (store.Few slots) = 0 < length slots.items
   HasSeed (store.Many _) = Unit {0}
+
+  -- whether there is one for a map that there is not yet
+  abbrev pub HasSlotSeed : Store V → Type 0
+  HasSlotSeed (store.Fresh _ _) = Unit {0}
+  HasSlotSeed (store.Few slots) = 0 < length slots.items
+  HasSlotSeed (store.Many _) = ⊥
+
+  -- whether it is a vector with room for one more slot
+  abbrev pub HasRoom : Store V → Type 0
+  HasRoom (store.Fresh _ _) = ⊥
+  HasRoom (store.Few slots) = vec_len slots < vec_capacity slots
+  HasRoom (store.Many _) = ⊥
 
   -- what remains of an iteration by reference
   abbrev pub lent_pairs : Lent V → Pairs V

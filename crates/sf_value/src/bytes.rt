@@ -11,7 +11,7 @@ use std::alloc::Global;
 use std::marker::Model;
 
 /// The number of bytes that are stored in place.
-const IN_PLACE: usize = 16;
+pub(crate) const IN_PLACE: usize = 16;
 
 /// Bytes that are collected: up to 16 are in the value itself and do not allocate; more are on the
 /// heap. Keys, strings, tokens, byte sequences and display strings are stored as these. Contracts

@@ -102,6 +102,8 @@ impl Part for Item {
         self.bare.same(&other.bare) && self.params.same(&other.params)
     }
 
+    // Inlined, since a copy that is returned is moved once more.
+    #[inline(always)]
     fn copy(&self, alloc: Global, seed: &RandomState) -> Result<Item, OutOfMemory> {
         Ok(Item {
             bare: self.bare.copy(alloc, seed)?,

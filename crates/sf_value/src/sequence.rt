@@ -262,11 +262,10 @@ impl<T: Part> Part for Sequence<T> {
     }
 
     fn copy(&self, alloc: Global, seed: &RandomState) -> Result<Sequence<T>, OutOfMemory> {
-        let mut items = Vec::new(alloc);
         let sources = self.as_slice();
+        let mut items = Vec::with_capacity(alloc, sources.len())?;
         for item in sources {
-            let copy = item.copy(alloc, seed)?;
-            items.push(copy)?;
+            items.push_reserved(item.copy(alloc, seed)?);
         }
         Ok(Sequence { items })
     }

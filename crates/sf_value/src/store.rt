@@ -1,21 +1,25 @@
 //! How entries are stored: a few in a vector, in which they are found by their bytes, more in a
 //! map, in which they are found by hashes.
 ghost use Rattle.std.specs.Prelude.{◌≡◌, ◌<◌, ◌≤◌, ◌+◌, [], ◌∷◌, ◌++◌, None, length, slice_get};
-ghost use Rattle.std.specs.Prelude.{IfOk, IfErr, OnOk, OnErr, vec_len};
+ghost use Rattle.std.specs.Prelude.{IfOk, IfErr, OnOk, OnErr, IsOk, IsTrue, false, vec_len};
 ghost use Rattle.std.specs.Option.{option_map, option_copied, option_copied_mut};
 ghost use Rattle.std.specs.List.{position};
 ghost use Rattle.std.specs.Map.{keys_of};
 ghost use Rattle.std.specs.Str.{bytes_eq};
 ghost use Rattle.std.specs.Borrow.{sem};
 ghost use Rattle.sf_value.specs.Lending.{LendsStored};
-ghost use Rattle.indexmap.specs.IndexMap.{spare};
+ghost use Rattle.indexmap.specs.IndexMap.{insert_entry, spare};
 ghost use Rattle.sf_value.specs.Grammar.Pairs.{settle, without, value_at, HasDistinctKeys};
+ghost use Rattle.sf_value.specs.Grammar.Tokens.{IsKey};
 ghost use Rattle.sf_value.specs.Entries.{deref_entry, AreEntries};
-ghost use Rattle.sf_value.specs.Stores.{slot_pairs, stored, HasSeed, lent_pairs, left_pairs};
+ghost use Rattle.sf_value.specs.Stores.{slot_pairs, stored, HasSeed, HasSlotSeed, HasRoom};
+ghost use Rattle.sf_value.specs.Stores.{lent_pairs, left_pairs};
 
+use crate::bytes::{IN_PLACE, ShortBytes};
 use crate::fault::OutOfMemory;
 use crate::key::Key;
 use crate::key_hash::Name;
+use crate::part::Part;
 use crate::table;
 use crate::table::Many;
 use indexmap::{IndexMap, map};
@@ -268,6 +272,127 @@ impl<V: Drop> Store<V> {
         }
     }
 
+    /// Puts a value at the key with these bytes, as `Entries::set_named` does. It is inlined for the
+    /// common way, in which neither the key nor the slot is moved: a short key that is new, and
+    /// first or among a few.
+    #[inline(always)]
+    pub(crate) fn set_named(
+        &mut self,
+        alloc: Global,
+        key: &[u8],
+        value: V,
+    ) -> Result<(), OutOfMemory>
+        requires key { IsKey key.now }
+        // Each key is one, and none occurs twice.
+        requires entries { AreEntries (stored self.old) }
+        // There is a seed: a vector has a slot, which has it.
+        requires seed { HasSeed self.old }
+        // Both still hold.
+        ensures entries { AreEntries (stored self.new) }
+        ensures seed { HasSeed self.new }
+        // A key that is present keeps its place and is overwritten; a new one goes last.
+        ensures new { OnOk result (stored self.new
+            ≡ settle (stored self.old ++ (key.now, value) ∷ [])) }
+        ensures same { OnErr result (stored self.new ≡ stored self.old) }
+        // It fails only if the key is new.
+        ensures absent { OnErr result (value_at key.now (stored self.old) ≡ None) }
+    {
+        if let Store::Many(map) = self {
+            return table::set_named(map, alloc, key, value);
+        }
+        if key.len() > IN_PLACE {
+            return self.set_made(alloc, key, value);
+        }
+        let seed = self.seed();
+        if !self.reserve_last(key)? {
+            return self.set_made(alloc, key, value);
+        }
+        // There is no other outcome: it is a vector, and a short key does not allocate.
+        let Store::Few(slots) = self else {
+            unreachable!()
+        };
+        let Ok(bytes) = ShortBytes::from_slice(alloc, key) else {
+            unreachable!()
+        };
+        slots.push_reserved(Slot {
+            key: Key::from_bytes(bytes),
+            value,
+            seed,
+        });
+        Ok(())
+    }
+
+    /// The seed of the map that there is not yet.
+    #[inline(always)]
+    fn seed(&self) -> RandomState
+        requires { HasSlotSeed self.now }
+    {
+        match self {
+            Store::Fresh(_, seed) => *seed,
+            Store::Few(slots) => slots[0].seed,
+            Store::Many(_) => unreachable!(),
+        }
+    }
+
+    /// Whether a key is new and goes last among a few, for which there is then room.
+    #[inline(never)]
+    fn reserve_last(&mut self, key: &[u8]) -> Result<bool, OutOfMemory>
+        requires { HasSeed self.old }
+        ensures same { stored self.new ≡ stored self.old }
+        ensures last { IfOk result (λ last. IsTrue last → HasRoom self.new) }
+        ensures new { IfOk result (λ last. IsTrue last
+            → value_at key.now (stored self.old) ≡ None) }
+        // Without room for a slot there is a seed as before.
+        ensures other { IfOk result (λ last. last ≡ false → HasSeed self.new) }
+        ensures seed { OnErr result (HasSeed self.new) }
+        // It fails only if the key is new.
+        ensures absent { OnErr result (value_at key.now (stored self.old) ≡ None) }
+    {
+        match self {
+            Store::Fresh(alloc, _) => {
+                let mut slots = Vec::new(*alloc);
+                slots.reserve(1)?;
+                *self = Store::Few(slots);
+                return Ok(true);
+            }
+            Store::Few(slots) => {
+                if slots.len() >= FEW || place_of(slots, key).is_some() {
+                    return Ok(false);
+                }
+                slots.reserve(1)?;
+                return Ok(true);
+            }
+            Store::Many(_) => return Ok(false),
+        }
+    }
+
+    /// The same as `set_named`, for a key that is present, or is made before its place is known.
+    #[inline(never)]
+    fn set_made(&mut self, alloc: Global, key: &[u8], value: V) -> Result<(), OutOfMemory>
+        requires key { IsKey key.now }
+        requires entries { AreEntries (stored self.old) }
+        requires seed { HasSeed self.old }
+        ensures entries { AreEntries (stored self.new) }
+        ensures seed { HasSeed self.new }
+        ensures new { OnOk result (stored self.new
+            ≡ settle (stored self.old ++ (key.now, value) ∷ [])) }
+        ensures same { OnErr result (stored self.new ≡ stored self.old) }
+        ensures absent { OnErr result (value_at key.now (stored self.old) ≡ None) }
+    {
+        match self {
+            Store::Fresh(_, _) => {}
+            Store::Few(slots) => {
+                if let Some(present) = place_of(slots, key) {
+                    overwrite(&mut slots[present], value);
+                    return Ok(());
+                }
+            }
+            Store::Many(map) => return table::set_named(map, alloc, key, value),
+        }
+        let bytes = ShortBytes::from_slice(alloc, key)?;
+        self.set(Key::from_bytes(bytes), value)
+    }
+
     /// Removes the key with these bytes, and returns its value. The others keep their order.
     pub(crate) fn remove(&mut self, key: &[u8]) -> Option<V>
         // Each key is one, and none occurs twice.
@@ -301,6 +426,74 @@ impl<V: Drop> Store<V> {
     }
 }
 
+impl<V: Part> Store<V> {
+    /// Other entries, equal to these, with another seed, in a vector or a map that is allocated at
+    /// its full size.
+    pub(crate) fn copy(&self, alloc: Global, seed: &RandomState) -> Result<Store<V>, OutOfMemory>
+        // Each key is one, and none occurs twice.
+        requires entries { AreEntries (stored self.now) }
+        requires seed { HasSeed self.now }
+        ensures seed { IfOk result HasSeed }
+        ensures copied { IfOk result (λ copy. stored copy ≡ stored self.now) }
+        // No entries are not refused as out of memory.
+        ensures none { stored self.now ≡ [] → IsOk result }
+    {
+        match self {
+            Store::Fresh(_, _) => return Ok(Store::Fresh(alloc, *seed)),
+            Store::Few(slots) => return Ok(Store::Few(copy_few(slots, alloc, seed)?)),
+            Store::Many(map) => {
+                if map.is_empty() {
+                    return Ok(Store::Fresh(alloc, *seed));
+                }
+                return Ok(Store::Many(copy_many(map, alloc, seed)?));
+            }
+        }
+    }
+}
+
+/// Copies of a few entries, in a vector that has capacity for no more.
+#[inline(never)]
+fn copy_few<V: Part>(
+    sources: &[Slot<V>],
+    alloc: Global,
+    seed: &RandomState,
+) -> Result<Vec<Slot<V>>, OutOfMemory>
+    ensures { IfOk result (λ copies. slot_pairs copies.items ≡ slot_pairs sources.now) }
+{
+    let mut copies = Vec::with_capacity(alloc, sources.len())?;
+    for source in sources {
+        let value = source.value.copy(alloc, seed)?;
+        copies.push_reserved(Slot {
+            key: source.key.copy(alloc)?,
+            value,
+            seed: *seed,
+        });
+    }
+    Ok(copies)
+}
+
+/// Copies of the entries of a map, in one that has capacity for them.
+#[inline(never)]
+fn copy_many<V: Part>(
+    map: &Many<V>,
+    alloc: Global,
+    seed: &RandomState,
+) -> Result<Box<Many<V>>, OutOfMemory>
+    // No key occurs twice.
+    requires distinct { HasDistinctKeys map.now.entries }
+    ensures { IfOk result (λ copies. copies.value.entries ≡ map.now.entries) }
+{
+    let empty = IndexMap::with_capacity_and_hasher(alloc, map.len(), *seed)?;
+    let Ok(mut copies) = Box::new(alloc, empty) else {
+        return Err(OutOfMemory);
+    };
+    for (key, value) in map.iter() {
+        let value = value.copy(alloc, seed)?;
+        insert(&mut copies, key.copy(alloc)?, value);
+    }
+    Ok(copies)
+}
+
 /// The index of the key with these bytes among a few.
 fn place_of<V>(slots: &[Slot<V>], key: &[u8]) -> Option<usize>
     // It is the first index whose key has these bytes.
@@ -320,10 +513,20 @@ fn fill<V: Drop>(map: &mut Many<V>, slots: Vec<Slot<V>>)
 {
     for slot in slots {
         let Slot { key, value, .. } = slot;
-        let Ok(_) = map.insert(key, value) else {
-            unreachable!()
-        };
+        insert(map, key, value);
     }
+}
+
+/// Puts an entry into a map that has capacity for it.
+#[inline(always)]
+fn insert<V: Drop>(map: &mut Many<V>, key: Key, value: V)
+    requires room { 0 < spare map.old }
+    ensures entries { map.new.entries ≡ insert_entry bytes_eq map.old.entries key value }
+    ensures room { spare map.old ≤ spare map.new + 1 }
+{
+    let Ok(_) = map.insert(key, value) else {
+        unreachable!()
+    };
 }
 
 /// A map of these entries, which leave the vector. If an allocation fails, they stay in it.

@@ -1,11 +1,15 @@
 //! Entries in a table by hashes, if they are more than a few.
 ghost use Rattle.std.specs.Prelude.{◌≡◌, [], ◌∷◌, ◌++◌, None, IfOk, IfErr, OnOk, OnErr};
 ghost use Rattle.sf_value.specs.Grammar.Pairs.{settle, value_at};
+ghost use Rattle.sf_value.specs.Grammar.Tokens.{IsKey};
 ghost use Rattle.sf_value.specs.Entries.{AreEntries};
 
+use crate::bytes::{IN_PLACE, ShortBytes};
 use crate::fault::OutOfMemory;
 use crate::key::Key;
+use crate::key_hash::Name;
 use indexmap::IndexMap;
+use std::alloc::Global;
 use std::hash::RandomState;
 
 /// Values by key in the order of their insertion, found by hashes.
@@ -53,4 +57,59 @@ pub(crate) fn set<V: Drop>(map: &mut Many<V>, key: Key, value: V) -> Result<(), 
         Ok(_) => Ok(()),
         Err(_) => Err(OutOfMemory),
     }
+}
+
+/// Puts a value at the key with these bytes, as `Entries::set_named` does.
+#[inline(never)]
+pub(crate) fn set_named<V: Drop>(
+    map: &mut Many<V>,
+    alloc: Global,
+    key: &[u8],
+    value: V,
+) -> Result<(), OutOfMemory>
+    requires key { IsKey key.now }
+    // Each key is one, and none occurs twice.
+    requires entries { AreEntries map.old.entries }
+    // This still holds.
+    ensures entries { AreEntries map.new.entries }
+    // A key that is present keeps its place and is overwritten; a new one goes last.
+    ensures new { OnOk result (map.new.entries
+        ≡ settle (map.old.entries ++ (key.now, value) ∷ [])) }
+    ensures same { OnErr result (map.new.entries ≡ map.old.entries) }
+    // It fails only if the key is new.
+    ensures absent { OnErr result (value_at key.now map.old.entries ≡ None) }
+{
+    if key.len() > IN_PLACE {
+        return set_long(map, alloc, key, value);
+    }
+    // It does not allocate.
+    let bytes = ShortBytes::from_slice(alloc, key)?;
+    match map.insert(Key::from_bytes(bytes), value) {
+        Ok(_) => Ok(()),
+        Err(_) => Err(OutOfMemory),
+    }
+}
+
+/// The same for a key that is not stored in place: it is made only if it is new.
+#[inline(never)]
+fn set_long<V: Drop>(
+    map: &mut Many<V>,
+    alloc: Global,
+    key: &[u8],
+    value: V,
+) -> Result<(), OutOfMemory>
+    requires key { IsKey key.now }
+    requires entries { AreEntries map.old.entries }
+    ensures entries { AreEntries map.new.entries }
+    ensures new { OnOk result (map.new.entries
+        ≡ settle (map.old.entries ++ (key.now, value) ∷ [])) }
+    ensures same { OnErr result (map.new.entries ≡ map.old.entries) }
+    ensures absent { OnErr result (value_at key.now map.old.entries ≡ None) }
+{
+    if let Some(old) = map.get_mut(Name { bytes: key }) {
+        *old = value;
+        return Ok(());
+    }
+    let bytes = ShortBytes::from_slice(alloc, key)?;
+    set(map, Key::from_bytes(bytes), value)
 }

@@ -55,6 +55,29 @@ fn filled(rt: &(impl Abort + AllocGlobal), seed: &RandomState, count: u8) -> Ent
     entries
 }
 
+fn set_at(rt: &(impl Abort + AllocGlobal), entries: &mut Entries<Bare>, place: u8, value: i64) {
+    let key = key(rt, &key_at(rt, place));
+    assert!(rt;
+        entries
+            .set_named(rt.alloc(), key.as_bytes(), integer(rt, value))
+            .is_ok()
+    );
+}
+
+/// The same as [`filled`], each set by the bytes of its key.
+fn set_by_bytes(rt: &(impl Abort + AllocGlobal), seed: &RandomState, count: u8) -> Entries<Bare> {
+    let mut entries = Entries::new(rt.alloc(), seed);
+    for place in 0..count {
+        set_at(rt, &mut entries, place, i64::from(place));
+    }
+    for place in 0..count {
+        if place % 2 == 0 {
+            set_at(rt, &mut entries, place, 100 + i64::from(place));
+        }
+    }
+    entries
+}
+
 /// Whether a key and its value are at a place.
 fn stands_at(entries: &Entries<Bare>, place: u8, key: &[u8], value: i64) -> bool {
     match entries.at(usize::from(place)) {
@@ -121,6 +144,16 @@ fn entries_of_each_count_are_the_same_pairs(rt: HostRuntime) {
 }
 
 #[test]
+fn entries_are_set_by_the_bytes_of_keys(rt: HostRuntime) {
+    let seed = seed(&rt);
+    for count in 0..21u8 {
+        let entries = set_by_bytes(&rt, &seed, count);
+        assert!(rt; entries.same(&filled(&rt, &seed, count)));
+        check_pairs(&rt, entries, count);
+    }
+}
+
+#[test]
 fn entries_of_two_counts_differ(rt: HostRuntime) {
     let seed = seed(&rt);
     for count in 0..21u8 {
@@ -168,6 +201,8 @@ fn each_key_is_taken_out(rt: HostRuntime) {
             };
             assert!(rt; remove(&rt, &mut entries, place) == there);
             assert!(rt; entries.same(&all_but(&rt, &seed, count, Some(place))));
+            let copy = entries.copy(rt.alloc(), &seed).expect(&rt, "room");
+            assert!(rt; copy.same(&entries));
             assert!(rt; remove(&rt, &mut entries, place).is_none());
         }
     }
@@ -182,6 +217,8 @@ fn all_keys_are_taken_out_and_one_is_set(rt: HostRuntime) {
             assert!(rt; remove(&rt, &mut entries, place) == Some(value_of(place)));
         }
         assert!(rt; entries.is_empty());
+        let copy = entries.copy(rt.alloc(), &seed).expect(&rt, "room");
+        assert!(rt; copy.is_empty());
         assert!(rt; entries.set(key(&rt, b"k"), integer(&rt, 7)).is_ok());
         assert!(rt; number_under(&entries, b"k") == Some(7));
     }

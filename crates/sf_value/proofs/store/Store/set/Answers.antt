@@ -1,4 +1,4 @@
-use Rattle.std.proofs.Common.{[], refl, sym, OnErr, Result, Ok, Err}
+use Rattle.std.proofs.Common.{[], refl, OnErr, Result, Ok, Err}
 use Rattle.sf_value.specs.declared.store.Slot.{Slot}
 use Rattle.sf_value.specs.Entries.{AreEntries}
 use Rattle.sf_value.specs.Stores.{slot_pairs}
