@@ -1,10 +1,29 @@
 -- Texts in which some bytes stand for themselves: a run of these goes out at once.
 use Rattle.std.proofs.Common.{◌≡◌, ℕ, suc, ◌+◌, Bool, true, false, not, List, [], ◌∷◌, ◌++◌}
-use Rattle.std.proofs.Common.{◌/◌, ◌%◌, length, take, drop, refl, ap, ◌∙◌, subst, arith}
+use Rattle.std.proofs.Common.{◌/◌, ◌%◌, length, take, drop, refl, sym, ap, ◌∙◌, subst, arith}
+use Rattle.std.proofs.lemmas.Bool.{and_parts}
 use Rattle.std.specs.List.{prefix_len}
-use Rattle.sf_value.specs.Grammar.Strings.{escaped, is_escaped}
+use Rattle.sf_value.specs.Grammar.Words.{Every}
+use Rattle.sf_value.specs.Grammar.Classes.{is_visible}
+use Rattle.sf_value.specs.Grammar.Strings.{escaped, is_escaped, is_unescaped}
 use Rattle.sf_value.specs.Grammar.DisplayStrings.{hex, is_unencoded}
 use Rattle.sf_value.specs.Grammar.Canonical.{canon_shown}
+
+-- a run that is known, and what is found behind it
+pub prefix_behind : (p : ℕ → Bool) (s prefix behind : List ℕ) → s ≡ prefix ++ behind
+    → Every p prefix → length prefix + prefix_len p behind ≡ prefix_len p s
+prefix_behind p s prefix behind e h = known prefix h ∙ sym (ap (prefix_len p) e)
+  where
+    known : (t : List ℕ) → Every p t
+        → length t + prefix_len p behind ≡ prefix_len p (t ++ behind)
+    known [] k = omega arith
+    known (b ∷ t) k = rw k.0 (omega (arith, known t k.1))
+
+-- what is unescaped and visible is unescaped
+pub unescaped_prefix : (s : List ℕ) → Every is_unescaped s → Every (λ b. not (is_escaped b)) s
+unescaped_prefix [] h = tt
+unescaped_prefix (b ∷ s) h =
+    ((and_parts (is_visible b) (not (is_escaped b)) h.0).1, unescaped_prefix s h.1)
 
 module _ (as_is : ℕ → Bool) where
   -- after a run is a byte that doesn't belong to it

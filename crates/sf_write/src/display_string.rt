@@ -8,6 +8,7 @@ ghost use Rattle.sf_write.specs.Writing.{Follows};
 
 use crate::sending::{Sent, put};
 use crate::strings::CHUNK;
+use sf_value::classes::{UnencodedByte, long_prefix};
 use sf_value::{Sink, hex_digits, stands_for_itself};
 
 /// The number of bytes that have to be escaped. The compiler adds up a chunk in vectors of bytes.
@@ -26,6 +27,15 @@ pub(crate) fn escaped_count(bytes: &[u8]) -> usize {
 /// The length of the longest prefix without a byte that has to be escaped.
 fn unencoded_len(bytes: &[u8]) -> usize
     // The bytes before the first one that has to be escaped.
+    ensures len { result ≡ prefix_len is_unencoded bytes.now }
+    ensures within { result ≤ length bytes.now }
+{
+    let (unencoded, rest) = long_prefix::<UnencodedByte>(bytes);
+    unencoded.len() + unencoded_len_by_byte(rest)
+}
+
+/// The same, byte by byte.
+fn unencoded_len_by_byte(bytes: &[u8]) -> usize
     ensures len { result ≡ prefix_len is_unencoded bytes.now }
     ensures within { result ≤ length bytes.now }
 {

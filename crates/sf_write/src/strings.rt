@@ -7,6 +7,7 @@ ghost use Rattle.sf_write.specs.Writing.{Follows};
 
 use crate::sending::{Sent, put};
 use sf_value::Sink;
+use sf_value::classes::{Unescaped, long_prefix};
 
 /// The number of bytes that are counted together: small enough that the count fits in a byte.
 pub(crate) const CHUNK: usize = 128;
@@ -34,6 +35,16 @@ pub(crate) fn escaped_count(bytes: &[u8]) -> usize {
 /// The length of the longest prefix without a byte that needs a backslash.
 fn unescaped_len(bytes: &[u8]) -> usize
     // The bytes before the first one that needs a backslash.
+    ensures len { result ≡ prefix_len (λ b. not (is_escaped b)) bytes.now }
+    ensures within { result ≤ length bytes.now }
+{
+    // The bytes of a valid String are tested 16 at a time.
+    let (visible, rest) = long_prefix::<Unescaped>(bytes);
+    visible.len() + unescaped_len_by_byte(rest)
+}
+
+/// The same, byte by byte, and for bytes that no String has.
+fn unescaped_len_by_byte(bytes: &[u8]) -> usize
     ensures len { result ≡ prefix_len (λ b. not (is_escaped b)) bytes.now }
     ensures within { result ≤ length bytes.now }
 {
