@@ -11,13 +11,19 @@ use Rattle.sf_parse.specs.Machine.Language.{Machine}
 use Rattle.sf_parse.specs.Machine.Series.{Series, SeriesState, InMember, Gap, Comma}
 use Rattle.std.specs.Borrow.{Bor}
 use Rattle.std.proofs.Common.{Result, Ok, Err, IfOk}
-use Rattle.sf_parse.specs.Prefixes.{Goes, FirstIs}
+use Rattle.sf_parse.specs.Expected.{MarksStep}
+use Rattle.sf_parse.specs.Prefixes.{Goes, FirstIs, Halts}
+use Rattle.sf_parse.specs.declared.refusal.Refusal.TheVariants.{Syntax}
+use Rattle.std.specs.Int.{bit_at}
+use Rattle.std.specs.List.{slice_get}
+use Rattle.std.proofs.Common.{◌^◌, ◌/◌, ◌≢◌, bit_and, None, is_some, nat_lt, ◌&&◌, if◌then◌else◌}
+use Rattle.std.proofs.lemmas.Nat.Bits.{shr_and_one}
 use Rattle.sf_parse.specs.SeriesView.{series_next, series_end, series_of, series_stuck}
 use Rattle.sf_parse.specs.declared.series.SeriesPhase.{SeriesPhase}
 use Rattle.sf_parse.specs.declared.series.SeriesPhase.TheVariants as phase
 use Rattle.sf_parse.specs.WholeParts.{ReadsAs}
 use Rattle.sf_parse.specs.WholeMembers.{IsWholeMember, MayBegin, MayEnd, NoneOpen}
-use Rattle.sf_parse.specs.WholeMembers.{TakesMembers}
+use Rattle.sf_parse.specs.WholeMembers.{TakesMembers, IsBetween, IsBehindMember, RefusesAt}
 use Rattle.sf_parse.proofs.Machine.Language.{is_none}
 use Rattle.sf_parse.proofs.Machine.Series.{SeriesLaws, ows_after, sp_ows}
 use Rattle.sf_parse.proofs.Prefixes.{goes_one, goes_more, goes_above, free_goes}
@@ -54,6 +60,34 @@ module _ {S X V Y : Type 0} (k : Series S X V) (law : SeriesLaws S X V k)
           → (d ≡ true → o ≡ Some s → ⊥) → o ≡ Some s → d ≡ false
       apart true e h n = absurd (h e n)
       apart false e h n = e
+
+-- a byte that is not expected
+unexpected : (bits b : ℕ) (c : Bool) → b < 128
+    → bit_at bits b ≡ (if nat_lt b 128 && c then 1 else 0) → bit_at bits b ≢ 1 → c ≡ false
+unexpected bits b true h m n = absurd (n (m ∙ grind arith))
+unexpected bits b false h m n = refl
+
+not_some : {X : Type 0} (o : Option X) → is_some o ≡ false → o ≡ None
+not_some (Some x) e = absurd cc
+not_some None e = refl
+
+pub byte_refused : {S : Type 0} (next : S → ℕ → Option S) (ends : S → Bool) (s : S)
+    (bits b place : ℕ) (left more : List ℕ) (may : Bool) → left ≡ b ∷ more → b < 128
+    → bit_and (bits / 2 ^ b) 1 ≢ 1 → MarksStep bits (next s) → ends s ≡ may
+    → RefusesAt next ends s left place (Syntax place (Some b) bits may)
+byte_refused next ends s bits b place left more may e h n m k =
+    let stop = not_some (next s b) (unexpected bits b (is_some (next s b)) h (m b)
+    (λ j. n (shr_and_one bits b ∙ j))) in
+    record {
+      stops = subst (FirstIs (Halts next s)) (sym e) stop;
+      unended = λ z. absurd (let j : b ∷ more ≡ [] = sym e ∙ z in cc);
+      refuses = record {
+        expected = bits;
+        marks = m;
+        syntax = sym (ap (λ y. Syntax place (slice_get y 0) bits (ends s)) e
+            ∙ ap (Syntax place (Some b) bits) k);
+      };
+    }
 
 not_sp : (b : ℕ) → is_ows b ≡ false → is_sp b ≡ false
 not_sp b e = grind arith
@@ -125,7 +159,7 @@ module _ {S X V : Type 0} (first : ℕ → Option S) (next : S → ℕ → Optio
   end_value given new text after x t w e (inr h) = ap End h
 
   -- a member, a comma, and the white space around it
-  pub comma_taken : (p : SeriesPhase) (given new : V) (s : S)
+  comma_taken : (p : SeriesPhase) (given new : V) (s : S)
       (text after end more rest white space : List ℕ) (x : X) → MayBegin none p given
       → IsWhole text x after → new ≡ with given x → after ≡ white ++ end → Every is_ows white
       → end ≡ 44 ∷ more → more ≡ space ++ rest → Every is_ows space
@@ -145,7 +179,7 @@ module _ {S X V : Type 0} (first : ℕ → Option S) (next : S → ℕ → Optio
       k)
 
   -- the last member of a whole text
-  pub end_taken : (p : SeriesPhase) (given new : V) (s : S) (is_whole : Bool)
+  end_taken : (p : SeriesPhase) (given new : V) (s : S) (is_whole : Bool)
       (text after end white : List ℕ) (x : X) → MayBegin none p given → IsWhole text x after
       → new ≡ with given x → after ≡ white ++ end → Every is_ows white → end ≡ []
       → is_whole ≡ true
@@ -161,6 +195,34 @@ module _ {S X V : Type 0} (first : ℕ → Option S) (next : S → ℕ → Optio
         reached = inr (j, i, refl, end_value given new text after x t.0 w e t.2);
       }
 
+  pub taken_so_far : (old : SeriesState S V) (chunk rest : List ℕ) (is_whole : Bool)
+      (p : SeriesPhase) (given : V) (s : S) → Goes Next old chunk rest (series_of p given s)
+      → TakesMembers Next End is_whole old chunk rest p given s
+  taken_so_far old chunk rest is_whole p given s a =
+      record { state = series_of p given s; goes = a; reached = inl refl }
+
+  pub kept_so_far : (old : SeriesState S V) (chunk rest : List ℕ) (is_whole : Bool)
+      (p : SeriesPhase) (given new : V) (s : S) → new ≡ given
+      → Goes Next old chunk rest (series_of p given s)
+      → TakesMembers Next End is_whole old chunk rest p new s
+  kept_so_far old chunk rest is_whole p given new s e a =
+      taken_so_far old chunk rest is_whole p new s
+      (subst (λ y. Goes Next old chunk rest (series_of p y s)) (sym e) a)
+
+  -- a member and what is behind it
+  pub member_taken : (p q : SeriesPhase) (given new : V) (s : S) (is_whole : Bool)
+      (text after rest : List ℕ) (x : X) → MayBegin none p given → IsWhole text x after
+      → new ≡ with given x → IsBehindMember is_whole after q rest
+      → TakesMembers Next End is_whole (series_of p given s) text rest q new s
+  member_taken p phase.Begin given new s is_whole text after rest x m w e b = absurd b
+  member_taken p phase.InMember given new s is_whole text after rest x m w e b = absurd b
+  member_taken p phase.Gap given new s is_whole text after rest x m w e (white, f, h, i, j) =
+      end_taken p given new s is_whole text after rest white x m w e f h i j
+  member_taken p phase.Comma given new s is_whole text after rest x m w e (white, space, f, h, k) =
+      taken_so_far (series_of p given s) text rest is_whole phase.Comma new s
+      (comma_taken p given new s text after (44 ∷ (space ++ rest)) (space ++ rest) rest white space x
+      m w e f h refl refl k)
+
   pub taken_more : (old mid : SeriesState S V) (chunk rest left : List ℕ) (is_whole : Bool)
       (p : SeriesPhase) (given : V) (s : S) → Goes Next old chunk rest mid
       → TakesMembers Next End is_whole mid rest left p given s
@@ -171,11 +233,23 @@ module _ {S X V : Type 0} (first : ℕ → Option S) (next : S → ℕ → Optio
     reached = t.reached;
   }
 
-  pub taken_so_far : (old : SeriesState S V) (chunk rest : List ℕ) (is_whole : Bool)
-      (p : SeriesPhase) (given : V) (s : S) → Goes Next old chunk rest (series_of p given s)
-      → TakesMembers Next End is_whole old chunk rest p given s
-  taken_so_far old chunk rest is_whole p given s a =
-      record { state = series_of p given s; goes = a; reached = inl refl }
+  -- after a comma another member may begin
+  pub comma_goes : (is_whole : Bool) (q : SeriesPhase) (given : V) (s : S) (old : SeriesState S V)
+      (text rest : List ℕ) → q ≡ phase.Comma → TakesMembers Next End is_whole old text rest q given s
+      → Goes Next old text rest (series_of q given s)
+  comma_goes is_whole q given s old text rest e t = ⊎_elim
+      (λ h. subst (Goes Next old text rest) h t.goes)
+      (λ h. absurd (let k : phase.Comma ≡ phase.Gap = sym e ∙ h.2 in cc)) t.reached
+
+  pub comma_may_begin : (q : SeriesPhase) (given : V) → q ≡ phase.Comma → MayBegin none q given
+  comma_may_begin q given e = subst (λ y. MayBegin none y given) (sym e) tt
+
+  pub behind_open : (q : SeriesPhase) (is_whole : Bool) (given : V) (text rest : List ℕ)
+      → IsBehindMember is_whole text q rest → NoneOpen none q given
+  behind_open phase.Begin is_whole given text rest b = absurd b
+  behind_open phase.InMember is_whole given text rest b = absurd b
+  behind_open phase.Gap is_whole given text rest b = tt
+  behind_open phase.Comma is_whole given text rest b = tt
 
   pub none_taken : (is_whole : Bool) (p : SeriesPhase) (given : V) (s : S) (text rest : List ℕ)
       → is_whole ≡ false
@@ -207,6 +281,12 @@ module _ {S X V : Type 0} (first : ℕ → Option S) (next : S → ℕ → Optio
   may_begin_open phase.InMember given m = m
   may_begin_open phase.Gap given m = tt
   may_begin_open phase.Comma given m = tt
+
+  pub none_between : (p : SeriesPhase) (given : V) → NoneOpen none p given → IsBetween p
+  none_between phase.Begin given m = tt
+  none_between phase.InMember given m = m
+  none_between phase.Gap given m = tt
+  none_between phase.Comma given m = tt
 
   pub none_stuck : (p : SeriesPhase) (given : V) (s : S) (xs : List ℕ) → NoneOpen none p given
       → FirstIs (series_stuck next (series_of p given s)) xs
@@ -258,16 +338,3 @@ module _ {S X V : Type 0} (first : ℕ → Option S) (next : S → ℕ → Optio
   taken_left is_whole old new chunk rest p given s t e n = ⊎_elim
       (λ h. subst (Goes Next old chunk rest) (h ∙ sym e) t.goes)
       (λ h. absurd (n h.1 (subst MayEnd (sym h.2) tt))) t.reached
-
-  -- less is left
-  pub less_left : (text after end more rest white space : List ℕ) (x : X) → IsWhole text x after
-      → after ≡ white ++ end → end ≡ 44 ∷ more → more ≡ space ++ rest → length rest < length text
-  less_left text after end more rest white space x w f i j =
-      let a : length text ≡ length (w.byte ∷ (w.more ++ after)) = ap length w.split in
-      let b = length-append w.more after in
-      let c : length after ≡ length (white ++ end) = ap length f in
-      let d = length-append white end in
-      let g : length end ≡ length (44 ∷ more) = ap length i in
-      let h : length more ≡ length (space ++ rest) = ap length j in
-      let k = length-append space rest in
-      omega arith

@@ -16,7 +16,7 @@ use Rattle.sf_value.specs.Grammar.Strings.{is_unescaped}
 use Rattle.sf_value.specs.Grammar.Pairs.{Pairs, settle}
 use Rattle.sf_value.specs.Grammar.Tokens.{IsKey, IsToken}
 use Rattle.sf_value.specs.Grammar.BareItems.{SpellsBare}
-use Rattle.sf_value.specs.Grammar.Parameters.{SpellsParams}
+use Rattle.sf_value.specs.Grammar.Parameters.{SpellsParam, SpellsParams}
 use Rattle.sf_value.specs.Grammar.Items.{SpellsItem, item}
 use Rattle.sf_value.specs.Grammar.InnerLists.{SpellsInner, SpellsMember, SpellsItems, inner}
 use Rattle.sf_value.specs.Grammar.Fields.{SpellsEntry, flag}
@@ -28,8 +28,12 @@ use Rattle.sf_parse.specs.Machine.Texts.{Inside, Closed, text_step}
 use Rattle.sf_parse.specs.Machine.Bares.{BareState, InNumber, InText, GoodBare, ResidualBare}
 use Rattle.sf_parse.specs.Machine.Bares.{bare_start, bare_step, bare_finish}
 use Rattle.sf_parse.specs.Machine.Params.{MoreParams}
+use Rattle.std.specs.Borrow.{Bor}
+use Rattle.sf_parse.specs.Leaves.{number_bare, leaf_bare}
+use Rattle.sf_parse.specs.declared.leaf.Leaf.{Leaf}
 use Rattle.sf_parse.specs.Prefixes.{Goes, LongestPrefix, Starts}
-use Rattle.sf_parse.specs.WholeParts.{ReadsAs, ReadsParam, ReadsItems, Behind}
+use Rattle.sf_parse.specs.declared.number.Number.{Number}
+use Rattle.sf_parse.specs.WholeParts.{ReadsAs, ReadsParam, ReadsItems, AddsItem, AddsFound, Behind}
 use Rattle.sf_parse.proofs.Machine.Language.{and_then_cases}
 use Rattle.sf_parse.proofs.Machine.Bares.{bare_reads, bare_starts, bare_lives}
 use Rattle.sf_parse.proofs.Machines.{may_end, accepted}
@@ -97,16 +101,17 @@ other_whole d b more rest true s t o x k e a f g =
 other_whole d b more rest false s t o x k e a f g = absurd cc
 
 pub number_whole : (d : Dialect) (text : List ℕ) (b : ℕ) (more rest : List ℕ) (took : Bool)
-    (s t : NumberState) (o : Option Bare) (x : Bare) → text ≡ b ∷ more → took ≡ true
-    → Starts took (number_start b) s → Goes number_step s more rest t → o ≡ number_finish t
-    → o ≡ Some x → ReadsAs (SpellsBare d) text x rest
-number_whole d text b more rest true s t o x w k e a f g =
-    subst (λ y. ReadsAs (SpellsBare d) y x rest) (sym w)
-    (bare_whole d b more rest (InNumber s) (InNumber t) x (rw e refl)
+    (s t : NumberState) (o : Option Number) (n : Number) → text ≡ b ∷ more → took ≡ true
+    → Starts took (number_start b) s → Goes number_step s more rest t
+    → option_map number_bare o ≡ number_finish t → o ≡ Some n
+    → ReadsAs (SpellsBare d) text (number_bare n) rest
+number_whole d text b more rest true s t o n w k e a f g =
+    subst (λ y. ReadsAs (SpellsBare d) y (number_bare n) rest) (sym w)
+    (bare_whole d b more rest (InNumber s) (InNumber t) (number_bare n) (rw e refl)
     (goes_above number_step bare_step InNumber (λ s t b e. ap (option_map InNumber) e) s t more
     rest a)
-    (sym f ∙ g))
-number_whole d text b more rest false s t o x w k e a f g = absurd cc
+    (sym f ∙ ap (option_map number_bare) g))
+number_whole d text b more rest false s t o n w k e a f g = absurd cc
 
 pub token_whole : (d : Dialect) (text token rest bytes : List ℕ) → text ≡ token ++ rest
     → IsToken token → bytes ≡ token → ReadsAs (SpellsBare d) text (Token bytes) rest
@@ -161,6 +166,42 @@ value_param d text named key after inside rest x b e k f r = record {
   spelled = (b.prefix, 61 ∷ r.prefix, refl, b.each, k, inr (r.prefix, refl, r.spelled));
 }
 
+pub param_after : (d : Dialect) (text inside key rest : List ℕ) (x : Bare) → Behind is_sp text inside
+    → ReadsParam d inside key x rest → ReadsParam d text key x rest
+param_after d text inside key rest x b p = by p.spelled
+  where
+    by : SpellsParam d (59 ∷ p.prefix) key x → ReadsParam d text key x rest
+    by (gap, value, e, g, k, v) =
+        let front : p.prefix ≡ gap ++ (key ++ value) = cc in record {
+          prefix = b.prefix ++ p.prefix;
+          split =
+              b.split ∙ ap (λ y. b.prefix ++ y) p.split
+              ∙ sym (append_assoc b.prefix p.prefix rest);
+          spelled = (
+            b.prefix ++ gap,
+            value,
+            ap (λ y. 59 ∷ (b.prefix ++ y)) front
+                ∙ ap (λ y. 59 ∷ y) (sym (append_assoc b.prefix gap (key ++ value))),
+            every_append is_sp b.prefix gap b.each g,
+            k,
+            v,
+          );
+        }
+
+none_before : (text : List ℕ) → Behind is_sp text text
+none_before text = record { prefix = []; split = refl; each = tt }
+
+-- a key alone, or with a bare item
+pub key_param : (d : Dialect) (text key after : List ℕ) → text ≡ key ++ after → IsKey key
+    → ReadsParam d text key (Boolean true) after
+key_param d text key after = flag_param d text text key after (none_before text)
+
+pub named_param : (d : Dialect) (text key after inside rest : List ℕ) (x : Bare)
+    → text ≡ key ++ after → IsKey key → after ≡ 61 ∷ inside
+    → ReadsAs (SpellsBare d) inside x rest → ReadsParam d text key x rest
+named_param d text key after inside rest x =
+    value_param d text text key after inside rest x (none_before text)
+
 -- parameters: none, or one before others
 pub params_end : (d : Dialect) (ps : Pairs Bare) (rest : List ℕ) → settle ps ≡ ps
     → ReadsAs (MoreParams d ps) rest ps rest
@@ -208,6 +249,26 @@ item_whole d text after rest x ps b r = record {
   split =
       b.split ∙ ap (λ y. b.prefix ++ y) r.split ∙ sym (append_assoc b.prefix r.prefix rest);
   spelled = (b.prefix, r.prefix, refl, b.spelled, r.spelled);
+}
+
+pub built_item : (d : Dialect) (text after rest : List ℕ) (x y : Bare) (ps : Pairs Bare)
+    → ReadsAs (SpellsBare d) text x after → y ≡ x → ReadsAs (SpellsParams d) after ps rest
+    → ReadsAs (SpellsItem d) text (item y ps) rest
+built_item d text after rest x y ps b e r =
+    item_whole d text after rest y ps
+    (subst (λ z. ReadsAs (SpellsBare d) text z after) (sym e) b) r
+
+-- with the parameters after it
+pub with_params : (d : Dialect) (l : Leaf) (text after : List ℕ) (old new : List Item)
+    → ((e : Dialect) → ReadsAs (SpellsBare e) text (leaf_bare l) after)
+    → (o : Option (Bor (List ℕ)))
+    → IfSome o (λ rest. AddsFound d l after old new rest.now)
+    → IfSome o (λ rest. AddsItem d text old new rest.now)
+with_params d l text after old new b None h = h
+with_params d l text after old new b (Some rest) h = record {
+  item = item (leaf_bare l) h.params;
+  reads = item_whole d text after rest.now (leaf_bare l) h.params (b d) h.reads;
+  added = h.added;
 }
 
 -- Items of an Inner List: those after spaces, none, or one before others
@@ -334,7 +395,7 @@ entry_value d text key after inside rest m e k f r = record {
   spelled = (r.prefix, k, inl (refl, r.spelled));
 }
 
-entry_flag : (d : Dialect) (text key after rest : List ℕ) (ps : Pairs Bare)
+pub entry_flag : (d : Dialect) (text key after rest : List ℕ) (ps : Pairs Bare)
     → text ≡ key ++ after → IsKey key → ReadsAs (SpellsParams d) after ps rest
     → ReadsAs (SpellsEntry d) text (key, flag ps) rest
 entry_flag d text key after rest ps e k r = record {
@@ -342,6 +403,14 @@ entry_flag d text key after rest ps e k r = record {
   split = e ∙ ap (λ y. key ++ y) r.split ∙ sym (append_assoc key r.prefix rest);
   spelled = (r.prefix, k, inr (ps, refl, refl, r.spelled));
 }
+
+pub named_entry : (d : Dialect) (text key after inside more rest : List ℕ) (x : Bare)
+    (ps : Pairs Bare) → text ≡ key ++ after → IsKey key → after ≡ 61 ∷ inside
+    → ReadsAs (SpellsBare d) inside x more → ReadsAs (SpellsParams d) more ps rest
+    → ReadsAs (SpellsEntry d) text (key, member.Item (item x ps)) rest
+named_entry d text key after inside more rest x ps e k f b r =
+    entry_value d text key after inside rest (member.Item (item x ps)) e k f
+    (item_member d inside rest (item x ps) (item_whole d inside more rest x ps b r))
 
 pub flagged : (d : Dialect) (text key after rest : List ℕ) (ps : Pairs Bare) (m : Member)
     → text ≡ key ++ after → IsKey key → ReadsAs (SpellsParams d) after ps rest → m ≡ flag ps

@@ -20,12 +20,13 @@ use Rattle.sf_parse.specs.Machine.Series.{SeriesState, Begin}
 use Rattle.sf_parse.specs.SeriesView.{series_next, series_end, series_of}
 use Rattle.sf_parse.specs.declared.series.SeriesPhase.{SeriesPhase}
 use Rattle.sf_parse.specs.WholeParts.{ReadsAs, Behind}
-use Rattle.sf_parse.specs.WholeMembers.{TakesMembers, NoneOpen, MayEnd}
+use Rattle.sf_parse.specs.WholeMembers.{TakesMembers, NoneOpen, MayEnd, RefusesAt, RefusesAfter}
 use Rattle.sf_parse.proofs.GrammarLaws.{one_value}
 use Rattle.sf_parse.proofs.OpenParts.{space_before}
 use Rattle.sf_parse.proofs.ByteRuns.{stay_goes}
 use Rattle.sf_parse.proofs.SeriesSteps.{space_stays}
-use Rattle.sf_parse.proofs.Prefixes.{prefix_all, goes_above}
+use Rattle.sf_parse.proofs.FedChunks.{refuses_above}
+use Rattle.sf_parse.proofs.Prefixes.{prefix_all, prefix_above, goes_above, goes_more}
 use Rattle.sf_parse.proofs.WholeMembers.{taken_more, taken_value, taken_left}
 use Rattle.sf_parse.specs.Machine.States.{State, BeforeItem}
 use Rattle.sf_parse.specs.Machine.Fields.{step, finish, begin}
@@ -203,3 +204,41 @@ module _ {S X V : Type 0} (first : ℕ → Option S) (next : S → ℕ → Optio
       subst (λ y. Goes (step d) y text rest (into new)) (sym begins)
       (above Begin new text rest
       (taken_left first next added none with true Begin new text rest p given s k e n))
+
+  -- what is left is refused where no member is open
+  pub refused_at : (text rest : List ℕ) (t : SeriesState S V) (e : Refusal)
+      → ((s : SeriesState S V) → is_some (series_end added none s) ≡ may_end (into s))
+      → Goes (step d) (begin kind) text rest (into t)
+      → RefusesAt (series_next first next added none) (λ s. is_some (series_end added none s)) t
+      rest (length text - length rest) e
+      → Parses d kind text (Err e)
+  refused_at text rest t e ends a r =
+      let stopped : LongestPrefix (series_next first next added none) t rest rest t =
+      record { goes = record { taken = []; split = refl; leads = refl }; stops = r.stops } in
+      let stops =
+      prefix_above (series_next first next added none) (step d) into steps t t rest rest stopped in
+      whole_refused d kind (begin kind) (into t) text rest (slice_get rest 0) (may_end (into t)) e
+      refl (record { goes = a; stops = stops.stops }) refl refl
+      (refuses_above (series_next first next added none) (step d) into steps t
+      (is_some (series_end added none t)) (may_end (into t)) (length text - length rest)
+      (slice_get rest 0) e (ends t) r.refuses)
+      (by rest (λ z. sym (ends t) ∙ r.unended z))
+    where
+      by : (xs : List ℕ) → (xs ≡ [] → may_end (into t) ≡ false)
+          → (is_some (slice_get xs 0) ≡ true)
+          ⊎ ((is_some (slice_get xs 0) ≡ false) × (may_end (into t) ≡ false))
+      by [] h = inr (refl, h refl)
+      by (b ∷ xs) h = inl refl
+
+  -- the same after some more bytes
+  pub refused_after : (text rest : List ℕ) (t : SeriesState S V) (e : Refusal)
+      → ((s : SeriesState S V) → is_some (series_end added none s) ≡ may_end (into s))
+      → Goes (step d) (begin kind) text rest (into t)
+      → RefusesAfter (series_next first next added none) (λ s. is_some (series_end added none s)) t
+      rest (length text) e
+      → Parses d kind text (Err e)
+  refused_after text rest t e ends a r =
+      refused_at text r.left r.state e ends
+      (goes_more (step d) (begin kind) (into t) (into r.state) text rest r.left a
+      (above t r.state rest r.left r.goes))
+      r.refuses

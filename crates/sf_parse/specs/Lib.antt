@@ -27,5 +27,6 @@ pub mod ItemView
 pub mod ParamsView
 pub mod StaysFree
 pub mod BareView
+pub mod Leaves
 pub mod WholeParts
 pub mod WholeMembers

@@ -1,12 +1,19 @@
 -- What reading a whole part at the start of a text returns.
-use Rattle.std.specs.Prelude.{◌≡◌, ℕ, Bool, List, ◌∷◌, ◌++◌}
+use Rattle.std.specs.Prelude.{◌≡◌, ℕ, Bool, List, [], ◌∷◌, ◌++◌}
 use Rattle.sf_value.specs.Ascii.{semicolon, close_bracket}
 use Rattle.sf_value.specs.declared.dialect.Dialect.{Dialect}
 use Rattle.sf_value.specs.declared.value.Bare.{Bare}
 use Rattle.sf_value.specs.declared.value.Item.{Item}
+use Rattle.sf_value.specs.declared.value.Member.{Member}
+use Rattle.sf_value.specs.declared.value.Member.TheVariants as member
 use Rattle.sf_value.specs.Grammar.Words.{Every}
-use Rattle.sf_value.specs.Grammar.Parameters.{SpellsParam}
+use Rattle.sf_value.specs.Grammar.Items.{SpellsItem, item}
+use Rattle.sf_value.specs.Grammar.Pairs.{Pairs, put}
+use Rattle.sf_value.specs.Grammar.Parameters.{SpellsParam, SpellsParams}
 use Rattle.sf_value.specs.Grammar.InnerLists.{SpellsItems}
+use Rattle.sf_parse.specs.Leaves.{leaf_bare}
+use Rattle.sf_parse.specs.declared.leaf.Leaf.{Leaf}
+use Rattle.sf_parse.specs.declared.whole_parts.Found.{Found}
 
 -- the start of the text, up to the rest, spells the value as P says
 pub record ReadsAs {X : Type 0} (P : List ℕ → X → Type 0) (text : List ℕ) (x : X)
@@ -27,6 +34,33 @@ pub record ReadsParam (d : Dialect) (text key : List ℕ) (x : Bare) (rest : Lis
   pub prefix : List ℕ
   pub split : text ≡ prefix ++ rest
   pub spelled : SpellsParam d (semicolon ∷ prefix) key x
+
+-- it is put among the old ones
+pub record PutsParam (d : Dialect) (text : List ℕ) (old new : Pairs Bare) (rest : List ℕ)
+    : Type 0 where
+  pub key : List ℕ
+  pub value : Bare
+  pub reads : ReadsParam d text key value rest
+  pub added : new ≡ put old key value
+
+-- the start of the text spells an Item, which is added to the old ones
+pub record AddsItem (d : Dialect) (text : List ℕ) (old new : List Item) (rest : List ℕ)
+    : Type 0 where
+  pub item : Item
+  pub reads : ReadsAs (SpellsItem d) text item rest
+  pub added : new ≡ old ++ item ∷ []
+
+-- the start of the text spells parameters, which are added with the bare item that was found
+-- before it
+pub record AddsFound (d : Dialect) (l : Leaf) (text : List ℕ) (old new : List Item)
+    (rest : List ℕ) : Type 0 where
+  pub params : Pairs Bare
+  pub reads : ReadsAs (SpellsParams d) text params rest
+  pub added : new ≡ old ++ item (leaf_bare l) params ∷ []
+
+-- what was found, with these parameters, as a member
+abbrev pub found_member : Found × Pairs Bare → Member
+found_member f = member.Item (item (leaf_bare f.0.leaf) f.1)
 
 -- the start of the text spells Items of an Inner List, after at least this many spaces, and a
 -- closing bracket follows; they are added to the old ones

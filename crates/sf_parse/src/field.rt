@@ -26,12 +26,14 @@ ghost use Rattle.sf_value.specs.Grammar.Classes.{is_sp};
 use crate::context::Context;
 use crate::entry::EntryReader;
 use crate::item_field::ItemFieldReader;
+use crate::leaf::{find_leaf, make};
 use crate::level::Level;
 use crate::member::MemberReader;
 use crate::refusal::Refusal;
-use crate::series::{SeriesPhase, SeriesReader, add_members, are_all};
-use crate::whole_bare::{ends, may_begin_bare};
-use crate::whole_parts::{behind_spaces, read_item};
+use crate::series::{SeriesPhase, SeriesReader, add_members, are_all, refuse_between};
+use crate::series_members::refuse_after_key;
+use crate::whole_bare::ends;
+use crate::whole_parts::{behind_spaces, read_params};
 use sf_value::{Dict, Entries, Item, List, Member, OutOfMemory, Sequence};
 
 /// The members of a List that are being read.
@@ -172,10 +174,13 @@ pub trait WholeText: WholeField {
 impl WholeText for ItemFieldReader {
     fn parse(context: &Context, text: &[u8]) -> Result<Item, Refusal> {
         let inside = behind_spaces(text);
-        if may_begin_bare(inside) {
-            if let Some((item, after)) = read_item(context, inside) {
-                if ends(behind_spaces(after)) {
-                    return Ok(item);
+        if let Some((leaf, after)) = find_leaf(inside) {
+            let mut params = Entries::new(context.alloc, &context.seed);
+            if let Some(rest) = read_params(context, after, &mut params) {
+                if ends(behind_spaces(rest)) {
+                    if let Some(bare) = make(context, leaf) {
+                        return Ok(Item { bare, params });
+                    }
                 }
             }
         }
@@ -197,7 +202,16 @@ impl WholeText for ListReader {
         if are_all(phase, rest) {
             return Ok(List { members });
         }
-        read_list(context, text, rest, phase, members)
+        let place = text.len() - rest.len();
+        match refuse_between::<MemberReader, Sequence<Member>>(
+            context.dialect,
+            phase,
+            place,
+            rest,
+        ) {
+            Some(refusal) => Err(refusal),
+            None => read_list(context, text, rest, phase, members),
+        }
     }
 }
 
@@ -215,7 +229,19 @@ impl WholeText for DictReader {
         if are_all(phase, rest) {
             return Ok(Dict { members });
         }
-        read_dict(context, text, rest, phase, members)
+        let place = text.len() - rest.len();
+        if let Some(refusal) = refuse_between::<EntryReader, Entries<Member>>(
+            context.dialect,
+            phase,
+            place,
+            rest,
+        ) {
+            return Err(refusal);
+        }
+        match refuse_after_key(phase, text.len(), rest) {
+            Some(refusal) => Err(refusal),
+            None => read_dict(context, text, rest, phase, members),
+        }
     }
 }
 

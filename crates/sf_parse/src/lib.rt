@@ -31,6 +31,7 @@ mod gathering;
 mod item;
 mod item_field;
 pub mod laws;
+mod leaf;
 mod level;
 mod member;
 mod names;

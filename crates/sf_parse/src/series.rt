@@ -1,9 +1,14 @@
 //! Members with commas between them that are being read: the members of a List or a Dictionary (RFC
 //! 9651 sections 4.2.1 and 4.2.2).
-ghost use Rattle.std.specs.Prelude.{◌≡◌, is_some, ℕ, [], false, true, Option, IfOk, OnOk, IsOk};
+ghost use Rattle.std.specs.Prelude.{◌≡◌, ◌<◌, ℕ, List, [], false, true, length};
+ghost use Rattle.std.specs.Prelude.{is_some, Option, IfOk, OnOk, IsOk};
 ghost use Rattle.std.specs.Prelude.{IfSome};
 ghost use Rattle.sf_value.specs.declared.dialect.Dialect.{Dialect};
+ghost use Rattle.sf_value.specs.declared.value.Bare.{Bare};
+ghost use Rattle.sf_value.specs.Grammar.Pairs.{Pairs};
+ghost use Rattle.sf_value.specs.Grammar.Parameters.{SpellsParams};
 ghost use Rattle.sf_parse.specs.Expected.{MarksStep};
+ghost use Rattle.sf_parse.specs.WholeParts.{ReadsAs};
 ghost use Rattle.sf_parse.specs.Prefixes.{Starts};
 ghost use Rattle.sf_parse.specs.SeriesView.{series_next, series_end, series_stuck, Ends};
 ghost use Rattle.sf_parse.specs.Machine.Series.{Begin};
@@ -11,15 +16,19 @@ ghost use Rattle.sf_parse.specs.AllocationFree.{SeriesFree};
 ghost use Rattle.sf_parse.specs.StaysFree.{series_keeps};
 ghost use Rattle.sf_parse.specs.SeriesView.{series_of};
 ghost use Rattle.sf_parse.specs.WholeMembers.{IsWholeMember, MayBegin, MayEnd, NoneOpen};
-ghost use Rattle.sf_parse.specs.WholeMembers.{TakesMembers};
+ghost use Rattle.sf_parse.specs.WholeMembers.{TakesMembers, IsBetween, RefusesAt, ends_between};
+ghost use Rattle.sf_parse.specs.WholeMembers.{IsBehindMember, begins_between};
+ghost use Rattle.sf_parse.specs.declared.whole_parts.Found.{Found};
+ghost use Rattle.sf_parse.specs.declared.series.SeriesPhase.TheVariants as phase_is;
 
 use crate::context::Context;
 use crate::level::Level;
+use crate::refusal::Refusal;
 use crate::sets::{COMMA, OWS, SPACE, set_if};
 use crate::whole_bare::{behind, ends};
-use crate::whole_parts::WHOLE_PARTS;
+use crate::whole_parts::{Found, WHOLE_PARTS, may_begin_params, read_params};
 use sf_value::classes::{Ows, Space, short_prefix};
-use sf_value::{Dialect, OutOfMemory, is_ows};
+use sf_value::{Bare, Dialect, Entries, OutOfMemory, is_ows};
 use std::marker::Model;
 use std::mem;
 
@@ -39,6 +48,11 @@ pub trait SeriesMember<G>: Level {
 
     // The value with this whole member.
     ghost with: { G → Self.Whole → G };
+
+    // What was found is a member, and the value with it and its parameters.
+    ghost is_found: { Found → Type 0 };
+
+    ghost with_found: { G → Found × Pairs Bare → G };
 
     /// A reader in which no member was begun. It does not allocate.
     fn new(context: &Context) -> Self;
@@ -66,6 +80,31 @@ pub trait SeriesMember<G>: Level {
 
     /// Whether the text may begin with a whole member. It only saves time: nothing is claimed of it.
     fn may_begin(text: &[u8]) -> bool;
+
+    /// A member that the text begins with, up to its parameters, and the rest. None claims nothing.
+    fn find(text: &[u8]) -> Option<(Found<'_>, &[u8])>
+        ensures found { IfSome result (λ r. is_found r.0) }
+        // With the parameters that the rest begins with it is a whole member, in both dialects.
+        ensures whole { IfSome result (λ r. (d : Dialect) (params : Pairs Bare) (rest : List ℕ)
+            → ReadsAs (SpellsParams d) r.1.now params rest → IsWholeMember (first d)
+            (Self.Level.next d) added with_found text.now (r.0, params) rest) };
+
+    /// Adds a member that was found. If the bytes of its value can't be allocated, it returns false
+    /// and changes nothing.
+    fn add_found(
+        context: &Context,
+        given: &mut G,
+        found: Found<'_>,
+        params: Entries<Bare>,
+    ) -> Result<bool, OutOfMemory>
+        requires { is_found found }
+        ensures added { IfOk result (λ took. took ≡ true
+            → given.new ≡ with_found given.old (found.entry, params)) }
+        ensures same { IfOk result (λ took. took ≡ false → given.new ≡ given.old) };
+
+    /// Whether a text in which none was found may begin with a whole member. It only saves time:
+    /// nothing is claimed of it.
+    fn may_read(text: &[u8]) -> bool;
 
     /// A whole member that the text begins with, and the rest. None claims nothing.
     fn read<'a>(context: &Context, text: &'a [u8]) -> Option<(Self::Whole, &'a [u8])>
@@ -180,8 +219,17 @@ impl<P: SeriesMember<G>, G: Drop> Level for SeriesReader<P, G> {
         match self.phase {
             SeriesPhase::Begin => {
                 let (_, rest) = short_prefix::<Space>(chunk);
+                if !may_add::<P, G>(rest, false) {
+                    return Ok(rest);
+                }
                 self.given = P::none(context);
-                return add_members::<P, G>(context, rest, false, &mut self.phase, &mut self.given);
+                return add_each_member::<P, G>(
+                    context,
+                    rest,
+                    false,
+                    &mut self.phase,
+                    &mut self.given,
+                );
             }
             SeriesPhase::Gap => {
                 let (_, rest) = short_prefix::<Ows>(chunk);
@@ -258,12 +306,12 @@ impl<P: SeriesMember<G>, G: Drop> Level for SeriesReader<P, G> {
 
     fn expected(&self, dialect: Dialect) -> u128 {
         match self.phase {
-            SeriesPhase::Begin => return SPACE | P::first_bytes(dialect),
             SeriesPhase::InMember => {
                 return self.member.expected(dialect) | set_if(self.member.may_end(), OWS | COMMA);
             }
-            SeriesPhase::Gap => return OWS | COMMA,
-            SeriesPhase::Comma => return OWS | P::first_bytes(dialect),
+            SeriesPhase::Begin => return expected_between::<P, G>(dialect, SeriesPhase::Begin),
+            SeriesPhase::Gap => return expected_between::<P, G>(dialect, SeriesPhase::Gap),
+            SeriesPhase::Comma => return expected_between::<P, G>(dialect, SeriesPhase::Comma),
         }
     }
 
@@ -276,18 +324,88 @@ impl<P: SeriesMember<G>, G: Drop> Level for SeriesReader<P, G> {
     }
 }
 
+/// The bytes below 128 that may come where no member is open, a bit for each.
+#[inline(always)]
+fn expected_between<P: SeriesMember<G>, G>(dialect: Dialect, phase: SeriesPhase) -> u128
+    // If no member is open, bit b is set exactly if byte b may come.
+    ensures { (given : G) (s : P) → IsBetween phase → MarksStep result
+        (series_next (P.first dialect) (P.next dialect) P.added P.none (series_of phase given s)) }
+{
+    match phase {
+        SeriesPhase::Begin => return SPACE | P::first_bytes(dialect),
+        SeriesPhase::InMember => return 0,
+        SeriesPhase::Gap => return OWS | COMMA,
+        SeriesPhase::Comma => return OWS | P::first_bytes(dialect),
+    }
+}
+
+/// The refusal of what is left of a text where no member is open: of a byte below 128 that may not
+/// come, or of the end after a comma. None claims nothing: it is then read by a reader.
+#[inline(always)]
+pub fn refuse_between<P: SeriesMember<G>, G>(
+    dialect: Dialect,
+    phase: SeriesPhase,
+    place: usize,
+    left: &[u8],
+) -> Option<Refusal>
+    ensures { IfSome result (λ e. (given : G) (s : P) → IsBetween phase → RefusesAt
+        (series_next (P.first dialect) (P.next dialect) P.added P.none)
+        (λ t. is_some (series_end P.added P.none t)) (series_of phase given s) left.now place e) }
+{
+    let expected = expected_between::<P, G>(dialect, phase);
+    let may_end = may_end_between(phase);
+    let found = left.first().copied();
+    match found {
+        Some(byte) => {
+            if byte >= 128 {
+                return None;
+            }
+            if expected >> byte & 1 == 1 {
+                return None;
+            }
+        }
+        None => {
+            if may_end {
+                return None;
+            }
+        }
+    }
+    Some(Refusal::Syntax {
+        place: place as u64,
+        found,
+        expected,
+        may_end,
+    })
+}
+
+/// Whether a member may begin where none is open.
+#[inline(always)]
+pub fn may_begin_between(phase: SeriesPhase) -> bool
+    ensures { result ≡ begins_between phase }
+{
+    match phase {
+        SeriesPhase::Begin | SeriesPhase::Comma => true,
+        SeriesPhase::InMember | SeriesPhase::Gap => false,
+    }
+}
+
+/// Whether members may end where none is open.
+#[inline(always)]
+fn may_end_between(phase: SeriesPhase) -> bool
+    ensures { result ≡ ends_between phase }
+{
+    match phase {
+        SeriesPhase::Begin | SeriesPhase::Gap => true,
+        SeriesPhase::InMember | SeriesPhase::Comma => false,
+    }
+}
+
 /// Whether whole members are all of a text, of which this rest is left after them.
 pub fn are_all(phase: SeriesPhase, rest: &[u8]) -> bool
     ensures all { result ≡ true → (rest.now ≡ []) × MayEnd phase }
     ensures some { result ≡ false → rest.now ≡ [] → MayEnd phase → ⊥ }
 {
-    if !ends(rest) {
-        return false;
-    }
-    match phase {
-        SeriesPhase::Begin | SeriesPhase::Gap => return true,
-        SeriesPhase::InMember | SeriesPhase::Comma => return false,
-    }
+    ends(rest) && may_end_between(phase)
 }
 
 /// Adds whole members that a text begins with, each with the comma after it, and returns the rest.
@@ -314,13 +432,16 @@ pub fn add_members<'a, P: SeriesMember<G>, G>(
     ensures allocation_free { (s : P) → SeriesFree (series_of phase.old given.old s) text.now
         → IsOk result }
 {
-    if !P::may_begin(text) {
-        return Ok(text);
-    }
-    if !is_whole && text.len() < WHOLE_PARTS {
+    if !may_add::<P, G>(text, is_whole) {
         return Ok(text);
     }
     add_each_member::<P, G>(context, text, is_whole, phase, given)
+}
+
+/// Whether whole members are looked for. It only saves time: nothing is claimed of it.
+#[inline(always)]
+fn may_add<P: SeriesMember<G>, G>(text: &[u8], is_whole: bool) -> bool {
+    P::may_begin(text) && (is_whole || text.len() >= WHOLE_PARTS)
 }
 
 /// As [`add_members`], which only tests whether there may be one: a call clears its stack.
@@ -348,22 +469,147 @@ fn add_each_member<'a, P: SeriesMember<G>, G>(
 {
     let mut rest = text;
     while is_whole || rest.len() >= WHOLE_PARTS {
-        let Some((member, after)) = P::read(context, rest) else {
-            return Ok(rest);
-        };
-        let (_, end) = short_prefix::<Ows>(after);
-        let Some(more) = behind(end, b',') else {
-            if !is_whole || !ends(end) {
+        let Some((found, after)) = P::find(rest) else {
+            if !P::may_read(rest) {
                 return Ok(rest);
             }
-            P::add(given, member)?;
-            *phase = SeriesPhase::Gap;
-            return Ok(end);
+            let left = add_read_member::<P, G>(context, rest, is_whole, phase, given)?;
+            if !goes_on(*phase, rest, left) {
+                return Ok(left);
+            }
+            rest = left;
+            continue;
         };
-        P::add(given, member)?;
-        *phase = SeriesPhase::Comma;
-        let (_, next) = short_prefix::<Ows>(more);
-        rest = next;
+        let Some((next, more)) = behind_member(after, is_whole) else {
+            if !may_begin_params(after) {
+                return Ok(rest);
+            }
+            let left = add_with_params::<P, G>(
+                context, rest, found, after, is_whole, phase, given,
+            )?;
+            if !goes_on(*phase, rest, left) {
+                return Ok(left);
+            }
+            rest = left;
+            continue;
+        };
+        let params = Entries::new(context.alloc, &context.seed);
+        if !P::add_found(context, given, found, params)? {
+            return Ok(rest);
+        }
+        *phase = next;
+        if !goes_on(next, rest, more) {
+            return Ok(more);
+        }
+        rest = more;
     }
     Ok(rest)
+}
+
+/// Whether a comma was read in a text, of which this is left.
+#[inline(always)]
+fn goes_on(phase: SeriesPhase, text: &[u8], left: &[u8]) -> bool
+    ensures comma { result ≡ true → phase ≡ phase_is.Comma }
+    ensures less { result ≡ true → length left.now < length text.now }
+{
+    matches!(phase, SeriesPhase::Comma) && left.len() < text.len()
+}
+
+/// Adds a member that a text begins with and that was found, with the parameters after it and the
+/// comma after these, and returns the rest; all of the text if they are not whole. At the end of a
+/// whole text it needs no comma. It is not inlined: a call clears its stack.
+#[inline(never)]
+fn add_with_params<'a, P: SeriesMember<G>, G>(
+    context: &Context,
+    text: &'a [u8],
+    found: Found<'_>,
+    after: &'a [u8],
+    is_whole: bool,
+    phase: &mut SeriesPhase,
+    given: &mut G,
+) -> Result<&'a [u8], OutOfMemory>
+    // A member may begin.
+    requires may_begin { MayBegin P.none phase.old given.old }
+    requires found { P.is_found found }
+    requires whole { (params : Pairs Bare) (rest : List ℕ)
+        → ReadsAs (SpellsParams context.now.dialect) after.now params rest
+        → IsWholeMember (P.first context.now.dialect) (P.next context.now.dialect) P.added
+        P.with_found text.now (found, params) rest }
+    // The bytes before the rest lead to the new phase and value, whatever member was read last; or
+    // no byte is left of a whole text, and the value is that of the members.
+    ensures goes { IfOk result (λ rest. (s : P) → TakesMembers
+        (series_next (P.first context.now.dialect) (P.next context.now.dialect) P.added P.none)
+        (series_end P.added P.none) is_whole (series_of phase.old given.old s) text.now rest.now
+        phase.new given.new s) }
+    // No member is open.
+    ensures none_open { IfOk result (λ _. NoneOpen P.none phase.new given.new) }
+    // Before the first member spaces do not allocate.
+    ensures allocation_free { (s : P) → SeriesFree (series_of phase.old given.old s) text.now
+        → IsOk result }
+{
+    let mut params = Entries::new(context.alloc, &context.seed);
+    let Some(rest) = read_params(context, after, &mut params) else {
+        return Ok(text);
+    };
+    let Some((next, more)) = behind_member(rest, is_whole) else {
+        return Ok(text);
+    };
+    if !P::add_found(context, given, found, params)? {
+        return Ok(text);
+    }
+    *phase = next;
+    Ok(more)
+}
+
+/// Adds a whole member of any type that a text begins with, with the comma after it, and returns the
+/// rest; all of the text if there is none. At the end of a whole text it needs no comma. It is not
+/// inlined: a call clears its stack.
+#[inline(never)]
+fn add_read_member<'a, P: SeriesMember<G>, G>(
+    context: &Context,
+    text: &'a [u8],
+    is_whole: bool,
+    phase: &mut SeriesPhase,
+    given: &mut G,
+) -> Result<&'a [u8], OutOfMemory>
+    // A member may begin.
+    requires { MayBegin P.none phase.old given.old }
+    // The bytes before the rest lead to the new phase and value, whatever member was read last; or
+    // no byte is left of a whole text, and the value is that of the members.
+    ensures goes { IfOk result (λ rest. (s : P) → TakesMembers
+        (series_next (P.first context.now.dialect) (P.next context.now.dialect) P.added P.none)
+        (series_end P.added P.none) is_whole (series_of phase.old given.old s) text.now rest.now
+        phase.new given.new s) }
+    // No member is open.
+    ensures none_open { IfOk result (λ _. NoneOpen P.none phase.new given.new) }
+    // Before the first member spaces do not allocate.
+    ensures allocation_free { (s : P) → SeriesFree (series_of phase.old given.old s) text.now
+        → IsOk result }
+{
+    let Some((member, after)) = P::read(context, text) else {
+        return Ok(text);
+    };
+    let Some((next, more)) = behind_member(after, is_whole) else {
+        return Ok(text);
+    };
+    P::add(given, member)?;
+    *phase = next;
+    Ok(more)
+}
+
+/// The phase after a member and the rest: after white space and a comma, with the white space after
+/// it, or at the end of a whole text, after white space.
+#[inline(always)]
+fn behind_member(text: &[u8], is_whole: bool) -> Option<(SeriesPhase, &[u8])>
+    ensures { IfSome result (λ r. IsBehindMember is_whole text.now r.0 r.1.now) }
+{
+    let (_, end) = short_prefix::<Ows>(text);
+    let Some(more) = behind(end, b',') else {
+        if !is_whole || !ends(end) {
+            return None;
+        }
+        return Some((SeriesPhase::Gap, end));
+    };
+    let (_, rest) = short_prefix::<Ows>(more);
+    Some((SeriesPhase::Comma, rest))
 }

@@ -1,19 +1,30 @@
 //! The members of a List and of a Dictionary (RFC 9651 sections 4.2.1 and 4.2.2).
-ghost use Rattle.std.specs.Prelude.{[], ◌∷◌, ◌++◌};
-ghost use Rattle.sf_value.specs.Grammar.Pairs.{put};
+ghost use Rattle.std.specs.Prelude.{◌≤◌, [], ◌∷◌, ◌++◌, IfSome, is_some, length as length_of};
+ghost use Rattle.sf_value.specs.declared.dialect.Dialect.{Dialect};
+ghost use Rattle.sf_value.specs.declared.value.Member.{Member};
+ghost use Rattle.sf_value.specs.Grammar.Pairs.{Pairs, put};
+ghost use Rattle.sf_value.specs.Grammar.Tokens.{IsKey};
+ghost use Rattle.sf_parse.specs.Leaves.{IsLeaf};
+ghost use Rattle.sf_parse.specs.WholeParts.{found_member};
 ghost use Rattle.sf_parse.specs.Machine.Members.{member_start, member_finish};
-ghost use Rattle.sf_parse.specs.Machine.Entries.{entry_start, entry_finish};
+ghost use Rattle.sf_parse.specs.Machine.Entries.{EntryState, entry_start, entry_step, entry_finish};
+ghost use Rattle.sf_parse.specs.SeriesView.{series_next, series_end, series_of};
+ghost use Rattle.sf_parse.specs.WholeMembers.{NoneOpen, RefusesAfter};
 ghost use Rattle.sf_parse.specs.MemberEnds.{with_member, with_entry, some_map};
 
 use crate::context::Context;
 use crate::entry::EntryReader;
+use crate::leaf::{find_leaf, make};
 use crate::level::Level;
 use crate::member::MemberReader;
-use crate::series::SeriesMember;
-use crate::sets::KEY_START;
+use crate::refusal::Refusal;
+use crate::series::{SeriesMember, SeriesPhase, may_begin_between};
+use crate::sets::{COMMA, EQUALS, KEY, KEY_START, OWS, SEMICOLON};
 use crate::whole_bare::{may_begin_bare, split};
-use crate::whole_parts::{read_entry, read_member};
-use sf_value::{Dialect, Entries, Key, Member, OutOfMemory, Sequence, can_start_key};
+use crate::whole_parts::{
+    Found, find_key, find_named, may_begin_part, may_begin_value, read_entry, read_member,
+};
+use sf_value::{Bare, Dialect, Entries, Item, Key, Member, OutOfMemory, Sequence, can_start_key};
 
 /// A whole member of a Dictionary.
 #[derive(Drop)]
@@ -32,6 +43,10 @@ impl SeriesMember<Sequence<Member>> for MemberReader {
     ghost added = { with_member };
 
     ghost with = { λ given member. given ++ member ∷ [] };
+
+    ghost is_found = { λ found. IsLeaf found.leaf };
+
+    ghost with_found = { λ given found. given ++ found_member found ∷ [] };
 
     ghost adds = { λ s given. some_map _ (member_finish s) };
 
@@ -61,10 +76,32 @@ impl SeriesMember<Sequence<Member>> for MemberReader {
 
     #[inline(always)]
     fn may_begin(text: &[u8]) -> bool {
-        match split(text) {
-            Some((b'(' | b':' | b'@' | b'%', _)) => true,
-            _ => may_begin_bare(text),
-        }
+        may_begin_part(text) || may_begin_bare(text)
+    }
+
+    #[inline(always)]
+    fn find(text: &[u8]) -> Option<(Found<'_>, &[u8])> {
+        let (leaf, rest) = find_leaf(text)?;
+        Some((Found { key: &[], leaf }, rest))
+    }
+
+    #[inline(always)]
+    fn add_found(
+        context: &Context,
+        given: &mut Sequence<Member>,
+        found: Found<'_>,
+        params: Entries<Bare>,
+    ) -> Result<bool, OutOfMemory> {
+        let Some(bare) = make(context, found.leaf) else {
+            return Ok(false);
+        };
+        given.push_or_drop(Member::Item(Item { bare, params }))?;
+        Ok(true)
+    }
+
+    #[inline(always)]
+    fn may_read(text: &[u8]) -> bool {
+        may_begin_part(text)
     }
 
     #[inline(always)]
@@ -88,6 +125,10 @@ impl SeriesMember<Entries<Member>> for EntryReader {
     ghost added = { with_entry };
 
     ghost with = { λ given entry. put given entry.key entry.member };
+
+    ghost is_found = { λ found. IsKey found.key.now × IsLeaf found.leaf };
+
+    ghost with_found = { λ given found. put given found.0.key.now (found_member found) };
 
     ghost adds = { λ s given. some_map _ (entry_finish s) };
 
@@ -120,6 +161,34 @@ impl SeriesMember<Entries<Member>> for EntryReader {
     }
 
     #[inline(always)]
+    fn find(text: &[u8]) -> Option<(Found<'_>, &[u8])> {
+        find_named(text)
+    }
+
+    #[inline(always)]
+    fn add_found(
+        context: &Context,
+        given: &mut Entries<Member>,
+        found: Found<'_>,
+        params: Entries<Bare>,
+    ) -> Result<bool, OutOfMemory> {
+        let Some(bare) = make(context, found.leaf) else {
+            return Ok(false);
+        };
+        given.set_named(
+            context.alloc,
+            found.key,
+            Member::Item(Item { bare, params }),
+        )?;
+        Ok(true)
+    }
+
+    #[inline(always)]
+    fn may_read(text: &[u8]) -> bool {
+        may_begin_value(text)
+    }
+
+    #[inline(always)]
     fn read<'a>(context: &Context, text: &'a [u8]) -> Option<(Entry, &'a [u8])> {
         let (key, member, rest) = read_entry(context, text)?;
         Some((Entry { key, member }, rest))
@@ -130,4 +199,33 @@ impl SeriesMember<Entries<Member>> for EntryReader {
         let Entry { key, member } = entry;
         given.set(key, member)
     }
+}
+
+/// The refusal of a byte below 128 after the key that a member of a Dictionary begins with, in a
+/// text of this length. None claims nothing: what is left is then read by a reader.
+#[inline(always)]
+pub fn refuse_after_key(phase: SeriesPhase, length: usize, left: &[u8]) -> Option<Refusal>
+    requires { length_of left.now ≤ length }
+    ensures { IfSome result (λ e. (d : Dialect) (given : Pairs Member) (s : EntryState)
+        → NoneOpen [] phase given → RefusesAfter (series_next entry_start (entry_step d) with_entry [])
+        (λ t. is_some (series_end with_entry [] t)) (series_of phase given s) left.now length e) }
+{
+    if !may_begin_between(phase) {
+        return None;
+    }
+    let (_, rest) = find_key(left)?;
+    let (byte, _) = split(rest)?;
+    if byte >= 128 {
+        return None;
+    }
+    let expected = KEY | EQUALS | SEMICOLON | OWS | COMMA;
+    if expected >> byte & 1 == 1 {
+        return None;
+    }
+    Some(Refusal::Syntax {
+        place: (length - rest.len()) as u64,
+        found: Some(byte),
+        expected,
+        may_end: true,
+    })
 }

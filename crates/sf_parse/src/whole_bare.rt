@@ -1,17 +1,14 @@
 //! Bare items that are whole in a text, read without a state between two calls (RFC 9651 section
 //! 4.2.3.1). None claims nothing: the text is then read by [`crate::bare`].
-ghost use Rattle.std.specs.Prelude.{◌≡◌, ◌≢◌, [], ◌∷◌, ◌++◌, IfSome, true, false, if◌then◌else◌};
-ghost use Rattle.sf_value.specs.Ascii.{digit_zero, digit_one};
+ghost use Rattle.std.specs.Prelude.{◌≡◌, ◌≢◌, [], ◌∷◌, IfSome, true, false};
 ghost use Rattle.sf_value.specs.Grammar.BareItems.{SpellsBare};
-ghost use Rattle.sf_value.specs.Grammar.Tokens.{IsToken};
 ghost use Rattle.sf_parse.specs.WholeParts.{ReadsAs};
 
 use crate::bare::BareReader;
 use crate::context::Context;
+use crate::leaf::{find_leaf, make};
 use crate::level::Level;
-use crate::number::NumberReader;
-use sf_value::classes::{InToken, Unescaped, long_prefix};
-use sf_value::{Bare, ShortBytes, Text, Token, can_start_token};
+use sf_value::{Bare, can_start_token};
 
 /// The first byte, and the rest.
 #[inline(always)]
@@ -49,30 +46,11 @@ pub fn ends(text: &[u8]) -> bool
 pub fn read_bare<'a>(context: &Context, text: &'a [u8]) -> Option<(Bare, &'a [u8])>
     ensures { IfSome result (λ r. ReadsAs (SpellsBare context.now.dialect) text.now r.0 r.1.now) }
 {
+    if let Some((leaf, rest)) = find_leaf(text) {
+        let bare = make(context, leaf)?;
+        return Some((bare, rest));
+    }
     let (first, more) = split(text)?;
-    let mut number = NumberReader::none();
-    if number.start(first) {
-        let rest = number.take_run(more);
-        return Some((number.finish()?, rest));
-    }
-    if let Some((token, rest)) = find_token(text) {
-        let Ok(bytes) = ShortBytes::from_slice(context.alloc, token) else {
-            return None;
-        };
-        return Some((Bare::Token(Token::from_bytes(bytes)), rest));
-    }
-    if first == b'"' {
-        let (run, stop) = long_prefix::<Unescaped>(more);
-        let rest = behind(stop, b'"')?;
-        let Ok(bytes) = ShortBytes::from_slice(context.alloc, run) else {
-            return None;
-        };
-        return Some((Bare::Text(Text::from_bytes(bytes)), rest));
-    }
-    if first == b'?' {
-        let (holds, rest) = read_boolean(more)?;
-        return Some((Bare::Boolean(holds), rest));
-    }
     // In parts: the compiler keeps these in registers, and the result as a whole in memory.
     let (bare, rest) = read_other(context, first, more)?;
     Some((bare, rest))
@@ -87,32 +65,6 @@ pub fn may_begin_bare(text: &[u8]) -> bool {
         Some((first, _)) => can_start_token(first),
         None => false,
     }
-}
-
-/// A Boolean after its question mark, and the rest.
-#[inline(always)]
-fn read_boolean(text: &[u8]) -> Option<(bool, &[u8])>
-    ensures { IfSome result (λ r. text.now ≡ (if r.0 then digit_one else digit_zero) ∷ r.1.now) }
-{
-    let (digit, rest) = split(text)?;
-    match digit {
-        b'0' => return Some((false, rest)),
-        b'1' => return Some((true, rest)),
-        _ => return None,
-    }
-}
-
-/// The bytes of a Token, and the rest.
-#[inline(always)]
-fn find_token(text: &[u8]) -> Option<(&[u8], &[u8])>
-    ensures { IfSome result (λ r. (text.now ≡ r.0.now ++ r.1.now) × IsToken r.0.now) }
-{
-    let (first, more) = split(text)?;
-    if !can_start_token(first) {
-        return None;
-    }
-    let (run, _) = long_prefix::<InToken>(more);
-    Some(text.split_at(run.len() + 1))
 }
 
 /// A Byte Sequence, a Date or a Display String, and the rest.

@@ -1,6 +1,6 @@
 //! Parts of a field that are whole in a text, read without a state between two calls, and built
 //! where they belong. None claims nothing: the text is then read by the levels.
-ghost use Rattle.std.specs.Prelude.{◌≡◌, ◌++◌, ◌∷◌, [], IfSome, IfOk};
+ghost use Rattle.std.specs.Prelude.{◌≡◌, ◌++◌, ◌∷◌, ℕ, List, [], true, false, IfSome, IfOk};
 ghost use Rattle.sf_value.specs.Grammar.Classes.{is_sp};
 ghost use Rattle.sf_value.specs.Grammar.Fields.{SpellsEntry};
 ghost use Rattle.sf_value.specs.Grammar.InnerLists.{SpellsInner, SpellsMember};
@@ -12,10 +12,15 @@ ghost use Rattle.sf_parse.specs.Machine.Inners.{BetweenItems};
 ghost use Rattle.sf_parse.specs.Machine.Members.{InMany, member_step};
 ghost use Rattle.sf_parse.specs.Machine.Params.{Opened, params_step};
 ghost use Rattle.sf_parse.specs.Prefixes.{Goes};
-ghost use Rattle.sf_parse.specs.WholeParts.{ReadsAs, ReadsParam, ReadsItems, Behind};
+ghost use Rattle.sf_value.specs.declared.dialect.Dialect.{Dialect};
+ghost use Rattle.sf_value.specs.Grammar.Items.{item as item_of};
+ghost use Rattle.sf_value.specs.Grammar.Pairs.{Pairs, put};
+ghost use Rattle.sf_parse.specs.Leaves.{IsLeaf, leaf_bare};
+ghost use Rattle.sf_parse.specs.WholeParts.{ReadsAs, ReadsParam, PutsParam, ReadsItems, AddsItem, AddsFound, Behind, found_member};
 
 use crate::context::Context;
 use crate::entry::flag;
+use crate::leaf::{Leaf, find_leaf, make};
 use crate::whole_bare::{behind, read_bare, split};
 use sf_value::classes::{InKey, Space, short_prefix};
 use sf_value::{
@@ -37,7 +42,7 @@ pub fn behind_spaces(text: &[u8]) -> &[u8]
 
 /// The bytes of a key, and the rest.
 #[inline(always)]
-fn find_key(text: &[u8]) -> Option<(&[u8], &[u8])>
+pub fn find_key(text: &[u8]) -> Option<(&[u8], &[u8])>
     ensures { IfSome result (λ r. (text.now ≡ r.0.now ++ r.1.now) × IsKey r.0.now) }
 {
     let (first, more) = split(text)?;
@@ -46,6 +51,79 @@ fn find_key(text: &[u8]) -> Option<(&[u8], &[u8])>
     }
     let (run, _) = short_prefix::<InKey>(more);
     Some(text.split_at(run.len() + 1))
+}
+
+/// A bare item with a key: a parameter, or a member of a Dictionary that is an Item without
+/// parameters. A member of a List has no key.
+#[derive(Clone, Copy)]
+pub struct Found<'a> {
+    /// The bytes of the key.
+    pub key: &'a [u8],
+    /// The bare item.
+    pub leaf: Leaf<'a>,
+}
+
+/// A key and its value, a bare item, and the rest. None claims nothing.
+#[inline(always)]
+pub fn find_named(text: &[u8]) -> Option<(Found<'_>, &[u8])>
+    ensures key { IfSome result (λ r. IsKey r.0.key.now) }
+    ensures leaf { IfSome result (λ r. IsLeaf r.0.leaf) }
+    // They are a parameter and, with the parameters that the rest begins with, a member of a
+    // Dictionary.
+    ensures param { IfSome result (λ r. (d : Dialect)
+        → ReadsParam d text.now r.0.key.now (leaf_bare r.0.leaf) r.1.now) }
+    ensures entry { IfSome result (λ r. (d : Dialect) (params : Pairs Bare) (rest : List ℕ)
+        → ReadsAs (SpellsParams d) r.1.now params rest
+        → ReadsAs (SpellsEntry d) text.now (r.0.key.now, found_member (r.0, params)) rest) }
+{
+    let (key, after) = find_key(text)?;
+    let Some(value) = behind(after, b'=') else {
+        let leaf = Leaf::Boolean(true);
+        return Some((Found { key, leaf }, after));
+    };
+    let (leaf, rest) = find_leaf(value)?;
+    Some((Found { key, leaf }, rest))
+}
+
+/// Whether the text may begin with an Inner List or a bare item that only its reader reads. It only
+/// saves time: nothing is claimed of it.
+#[inline(always)]
+pub fn may_begin_part(text: &[u8]) -> bool {
+    matches!(split(text), Some((b'(' | b':' | b'@' | b'%', _)))
+}
+
+/// The same of the value of a key. It only saves time: nothing is claimed of it.
+#[inline(always)]
+pub fn may_begin_value(text: &[u8]) -> bool {
+    let Some((_, after)) = find_key(text) else {
+        return false;
+    };
+    match behind(after, b'=') {
+        Some(value) => may_begin_part(value),
+        None => false,
+    }
+}
+
+/// Whether the text may begin with parameters. It only saves time: nothing is claimed of it.
+#[inline(always)]
+pub fn may_begin_params(text: &[u8]) -> bool {
+    let Some(more) = behind(text, b';') else {
+        return false;
+    };
+    match split(behind_spaces(more)) {
+        Some((first, _)) => can_start_key(first),
+        None => false,
+    }
+}
+
+/// Whether an accepted text may go on like this after a parameter. It only saves time: nothing is
+/// claimed of it.
+#[inline(always)]
+fn may_follow_param(text: &[u8]) -> bool {
+    match split(text) {
+        Some((b' ' | b'\t' | b')' | b',' | b';', _)) | None => true,
+        Some(_) => false,
+    }
 }
 
 /// A key, and the rest.
@@ -63,10 +141,12 @@ fn read_key<'a>(context: &Context, text: &'a [u8]) -> Option<(Key, &'a [u8])>
 
 /// A parameter after its semicolon: its key, its value, and the rest.
 #[inline(always)]
-fn read_param<'a>(context: &Context, text: &'a [u8]) -> Option<(Key, Bare, &'a [u8])>
-    ensures { IfSome result (λ r. ReadsParam context.now.dialect text.now r.0 r.1 r.2.now) }
+fn read_param<'a>(context: &Context, text: &'a [u8]) -> Option<(&'a [u8], Bare, &'a [u8])>
+    ensures key { IfSome result (λ r. IsKey r.0.now) }
+    ensures reads { IfSome result (λ r. ReadsParam context.now.dialect text.now r.0.now r.1
+        r.2.now) }
 {
-    let (key, after) = read_key(context, behind_spaces(text))?;
+    let (key, after) = find_key(behind_spaces(text))?;
     let Some(inside) = behind(after, b'=') else {
         return Some((key, Bare::Boolean(true), after));
     };
@@ -105,22 +185,73 @@ fn put_each_param<'a>(
 {
     let mut rest = text;
     while rest.len() >= WHOLE_PARTS {
-        let Some((key, value, after)) = read_param(context, rest) else {
-            return Ok(rest);
+        let Some((found, after)) = find_named(behind_spaces(rest)) else {
+            let left = put_any_param(context, rest, params)?;
+            if left.len() >= rest.len() {
+                return Ok(left);
+            }
+            rest = left;
+            continue;
         };
         let Some(more) = behind(after, b';') else {
             return Ok(rest);
         };
-        params.set(key, value)?;
+        if !put_leaf(context, found, params)? {
+            return Ok(rest);
+        }
         rest = more;
     }
     Ok(rest)
 }
 
+/// Puts a parameter of any type, with the semicolon after it, and returns the rest; all of the text
+/// if it is not whole. It is not inlined: a call clears its stack.
+#[inline(never)]
+fn put_any_param<'a>(
+    context: &Context,
+    text: &'a [u8],
+    params: &mut Entries<Bare>,
+) -> Result<&'a [u8], OutOfMemory>
+    // The bytes before the rest lead to the new parameters, after a semicolon.
+    ensures { IfOk result (λ rest. Goes (params_step context.now.dialect) (Opened params.old)
+        text.now rest.now (Opened params.new)) }
+{
+    let Some((key, value, after)) = read_param(context, text) else {
+        return Ok(text);
+    };
+    let Some(more) = behind(after, b';') else {
+        return Ok(text);
+    };
+    params.set_named(context.alloc, key, value)?;
+    Ok(more)
+}
+
+/// Puts a parameter that was found. If the bytes of its value can't be allocated, it returns false
+/// and changes nothing.
+#[inline(always)]
+fn put_leaf(
+    context: &Context,
+    found: Found<'_>,
+    params: &mut Entries<Bare>,
+) -> Result<bool, OutOfMemory>
+    requires key { IsKey found.key.now }
+    requires leaf { IsLeaf found.leaf }
+    // It is put at its key.
+    ensures put { IfOk result (λ took. took ≡ true
+        → params.new ≡ put params.old found.entry.key.now (leaf_bare found.entry.leaf)) }
+    ensures same { IfOk result (λ took. took ≡ false → params.new ≡ params.old) }
+{
+    let Some(value) = make(context, found.leaf) else {
+        return Ok(false);
+    };
+    params.set_named(context.alloc, found.key, value)?;
+    Ok(true)
+}
+
 /// Puts the parameters that a text begins with, and returns the rest. Only a text that begins with
 /// one costs a call.
 #[inline(always)]
-fn read_params<'a>(
+pub fn read_params<'a>(
     context: &Context,
     text: &'a [u8],
     params: &mut Entries<Bare>,
@@ -149,12 +280,43 @@ fn read_each_param<'a>(
 {
     let mut rest = text;
     while let Some(more) = behind(rest, b';') {
-        let (key, value, left) = read_param(context, more)?;
-        let Ok(()) = params.set(key, value) else {
-            return None;
-        };
-        rest = left;
+        rest = put_param(context, more, params)?;
     }
+    Some(rest)
+}
+
+/// Puts the parameter that a text begins with, after its semicolon, and returns the rest.
+#[inline(always)]
+fn put_param<'a>(context: &Context, text: &'a [u8], params: &mut Entries<Bare>) -> Option<&'a [u8]>
+    ensures { IfSome result (λ rest. PutsParam context.now.dialect text.now params.old params.new
+        rest.now) }
+{
+    let Some((found, rest)) = find_named(behind_spaces(text)) else {
+        return put_read_param(context, text, params);
+    };
+    if !may_follow_param(rest) {
+        return None;
+    }
+    let Ok(true) = put_leaf(context, found, params) else {
+        return None;
+    };
+    Some(rest)
+}
+
+/// As [`put_param`], for a value of any type.
+#[inline(never)]
+fn put_read_param<'a>(
+    context: &Context,
+    text: &'a [u8],
+    params: &mut Entries<Bare>,
+) -> Option<&'a [u8]>
+    ensures { IfSome result (λ rest. PutsParam context.now.dialect text.now params.old params.new
+        rest.now) }
+{
+    let (key, value, rest) = read_param(context, text)?;
+    let Ok(()) = params.set_named(context.alloc, key, value) else {
+        return None;
+    };
     Some(rest)
 }
 
@@ -199,16 +361,69 @@ fn push_each_item<'a>(
 {
     let mut rest = text;
     while rest.len() >= WHOLE_PARTS {
-        let Some((item, after)) = read_item(context, rest) else {
-            return Ok(rest);
-        };
-        let Some(more) = behind(after, b' ') else {
-            return Ok(rest);
-        };
-        items.push_or_drop(item)?;
-        rest = behind_spaces(more);
+        if let Some((leaf, after)) = find_leaf(rest) {
+            if let Some(more) = behind(after, b' ') {
+                let params = Entries::new(context.alloc, &context.seed);
+                if !push_leaf(context, leaf, params, items)? {
+                    return Ok(rest);
+                }
+                rest = behind_spaces(more);
+                continue;
+            }
+            if !may_begin_params(after) {
+                return Ok(rest);
+            }
+        }
+        let left = push_any_item(context, rest, items)?;
+        if left.len() >= rest.len() {
+            return Ok(left);
+        }
+        rest = left;
     }
     Ok(rest)
+}
+
+/// Adds an Item of any type, with the space after it, and returns the rest; all of the text if it is
+/// not whole. It is not inlined: a call clears its stack.
+#[inline(never)]
+fn push_any_item<'a>(
+    context: &Context,
+    text: &'a [u8],
+    items: &mut Sequence<Item>,
+) -> Result<&'a [u8], OutOfMemory>
+    // The bytes before the rest lead to the new Items.
+    ensures { IfOk result (λ rest. Goes (member_step context.now.dialect)
+        (InMany (BetweenItems items.old)) text.now rest.now (InMany (BetweenItems items.new))) }
+{
+    let Some((item, after)) = read_item(context, text) else {
+        return Ok(text);
+    };
+    let Some(more) = behind(after, b' ') else {
+        return Ok(text);
+    };
+    items.push_or_drop(item)?;
+    Ok(behind_spaces(more))
+}
+
+/// Adds an Item that was found. If its bytes can't be allocated, it returns false and changes
+/// nothing.
+#[inline(always)]
+fn push_leaf(
+    context: &Context,
+    leaf: Leaf<'_>,
+    params: Entries<Bare>,
+    items: &mut Sequence<Item>,
+) -> Result<bool, OutOfMemory>
+    requires { IsLeaf leaf }
+    ensures added { IfOk result (λ took. took ≡ true
+        → items.new ≡ items.old ++ item_of (leaf_bare leaf.entry) params ∷ []) }
+    ensures same { IfOk result (λ took. took ≡ false → items.new ≡ items.old) }
+{
+    let Some(bare) = make(context, leaf) else {
+        return Ok(false);
+    };
+    items.push_or_drop(Item { bare, params })?;
+    Ok(true)
 }
 
 /// Adds the Items of an Inner List, up to its closing bracket, and returns the rest after that.
@@ -221,15 +436,69 @@ fn read_items<'a>(context: &Context, text: &'a [u8], items: &mut Sequence<Item>)
         if let Some(left) = behind(rest, b')') {
             return Some(left);
         }
-        let (item, after) = read_item(context, rest)?;
-        let Ok(()) = items.push_or_drop(item) else {
-            return None;
-        };
+        let after = push_item(context, rest, items)?;
         let Some(spaced) = behind(after, b' ') else {
             return behind(after, b')');
         };
         rest = behind_spaces(spaced);
     }
+}
+
+/// Adds the Item that a text begins with, and returns the rest.
+#[inline(always)]
+fn push_item<'a>(context: &Context, text: &'a [u8], items: &mut Sequence<Item>) -> Option<&'a [u8]>
+    ensures { IfSome result (λ rest. AddsItem context.now.dialect text.now items.old items.new
+        rest.now) }
+{
+    let Some((leaf, after)) = find_leaf(text) else {
+        return push_read_item(context, text, items);
+    };
+    if behind(after, b';').is_some() {
+        return push_with_params(context, leaf, after, items);
+    }
+    let params = Entries::new(context.alloc, &context.seed);
+    let Ok(true) = push_leaf(context, leaf, params, items) else {
+        return None;
+    };
+    Some(after)
+}
+
+/// Adds an Item that was found, with the parameters after it, and returns the rest. It is not
+/// inlined: a call clears its stack.
+#[inline(never)]
+fn push_with_params<'a>(
+    context: &Context,
+    leaf: Leaf<'_>,
+    after: &'a [u8],
+    items: &mut Sequence<Item>,
+) -> Option<&'a [u8]>
+    requires { IsLeaf leaf }
+    ensures { IfSome result (λ rest. AddsFound context.now.dialect leaf.entry after.now items.old
+        items.new rest.now) }
+{
+    let mut params = Entries::new(context.alloc, &context.seed);
+    let rest = read_params(context, after, &mut params)?;
+    let Ok(true) = push_leaf(context, leaf, params, items) else {
+        return None;
+    };
+    Some(rest)
+}
+
+/// As [`push_item`], for an Item of any type.
+#[inline(never)]
+fn push_read_item<'a>(
+    context: &Context,
+    text: &'a [u8],
+    items: &mut Sequence<Item>,
+) -> Option<&'a [u8]>
+    ensures { IfSome result (λ rest. AddsItem context.now.dialect text.now items.old items.new
+        rest.now) }
+{
+    let (item, rest) = read_item(context, text)?;
+    let Ok(()) = items.push_or_drop(item) else {
+        return None;
+    };
+    Some(rest)
 }
 
 /// An Inner List after its opening bracket, and the rest.

@@ -96,7 +96,7 @@ pub fn canonical_text(
 {
     let mut few = [Node::NONE; FEW];
     let mut repeated = false;
-    let Some(count) = scan_parts(dialect, kind, text, &mut few, &mut repeated) else {
+    let Some(count) = scan_parts(dialect, kind, &mut repeated, text, &mut few) else {
         if text.len() <= FEW || text.len() > 0xffff_ffff {
             return Ok(None);
         }

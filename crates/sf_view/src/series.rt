@@ -92,9 +92,9 @@ fn whole_dict(
 pub(crate) fn scan_parts(
     dialect: Dialect,
     kind: Kind,
+    repeated: &mut bool,
     text: &[u8],
     nodes: &mut [Node],
-    repeated: &mut bool,
 ) -> Option<usize>
     requires unset { repeated.old ≡ false }
     ensures same { length nodes.new ≡ length nodes.old }
@@ -119,7 +119,7 @@ pub fn scan_text(dialect: Dialect, kind: Kind, text: &[u8], nodes: &mut [Node]) 
     ensures accepts { IfSome result (λ n. Accepts dialect kind text.now nodes.new n) }
 {
     let mut repeated = false;
-    let count = scan_parts(dialect, kind, text, nodes, &mut repeated)?;
+    let count = scan_parts(dialect, kind, &mut repeated, text, nodes)?;
     if repeated {
         return None;
     }

@@ -320,7 +320,7 @@ pub fn scan_settled<'a>(
     ensures { IfSome result (λ v. IsViewed dialect kind text.now v) }
 {
     let mut repeated = false;
-    let count = scan_parts(dialect, kind, text, nodes.as_mut_slice(), &mut repeated)?;
+    let count = scan_parts(dialect, kind, &mut repeated, text, nodes.as_mut_slice())?;
     if repeated {
         *nodes = settled_nodes(alloc, text, &nodes.as_slice()[..count])?;
         return Some(View {

@@ -1,7 +1,7 @@
 use Rattle.std.proofs.Common.{refl, []}
 use Rattle.sf_parse.specs.Machine.Params.{params_step}
 use Rattle.sf_parse.proofs.Prefixes.{goes_more}
-use Rattle.sf_parse.proofs.WholeParts.{param_shorter}
+use Rattle.sf_parse.proofs.WholeParts.{param_after, param_shorter}
 use Rattle.sf_parse.proofs.WholeSteps.{param_goes}
 use Rattle.sf_parse.proofs.whole_parts.put_each_param.Goals as goal
 
@@ -10,8 +10,20 @@ loop-rest-init c = record { taken = []; split = refl; leads = refl }
 
 pub loop-rest-preserved : goal.loop-rest-preserved
 loop-rest-preserved c =
+    let d = c.args.context.now.dialect in
+    goes_more (params_step d) _ _ _ _ _ _ c.loop-rest.invariant
+    (param_goes d _ _ _ _ _ _ _
+    (param_after d _ _ _ _ _ c.behind_spaces.ensures (c.in-Some.ensures.param d))
+    c.in-Some-behind.ensures (c.in_ok-put_leaf.ensures.put c.if-not-branch.false))
+
+pub loop-rest-preserved-in_default : goal.loop-rest-preserved-in_default
+loop-rest-preserved-in_default c =
     goes_more (params_step c.args.context.now.dialect) _ _ _ _ _ _ c.loop-rest.invariant
-    (param_goes _ _ _ _ _ _ _ _ c.in-Some.ensures c.in-Some-behind.ensures c.in_ok-set.ensures.new)
+    c.in_ok-left.ensures
 
 pub loop-rest-smaller : goal.loop-rest-smaller
-loop-rest-smaller c = param_shorter _ _ _ _ _ _ c.in-Some.ensures c.in-Some-behind.ensures
+loop-rest-smaller c =
+    let d = c.args.context.now.dialect in
+    param_shorter d _ _ _ _ _
+    (param_after d _ _ _ _ _ c.behind_spaces.ensures (c.in-Some.ensures.param d))
+    c.in-Some-behind.ensures

@@ -11,14 +11,15 @@ loop-more-init c = record {
 }
 
 pub loop-more-preserved : goal.loop-more-preserved
-loop-more-preserved c = record {
-  settled =
-      subst (λ y. settle y ≡ y) (sym c.in-Ok.ensures.new)
-      (put_settled c.loop-more.params c.in_ok-key.key c.in_ok-key.value);
-  reads = λ all s r.
-      c.loop-more.invariant.reads all s
-      (params_then _ _ _ _ _ _ _ _ _ _ c.in-Some.ensures c.in_ok-key.ensures c.in-Ok.ensures.new r);
-}
+loop-more-preserved c =
+    let one = c.in_ok-rest.ensures in record {
+      settled =
+          subst (λ y. settle y ≡ y) (sym one.added)
+          (put_settled c.loop-more.params one.key one.value);
+      reads = λ all s r.
+          c.loop-more.invariant.reads all s
+          (params_then _ _ _ _ _ _ _ _ _ _ c.in-Some.ensures one.reads one.added r);
+    }
 
 pub returns : goal.returns
 returns c =

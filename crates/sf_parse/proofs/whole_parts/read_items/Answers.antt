@@ -12,13 +12,13 @@ returns-in_default-behind c =
     each_some
     (λ rest e.
     c.loop-left.invariant _ _
-    (items_then _ _ _ _ _ _ _ _ c.in_ok-item.ensures c.in-Ok.ensures.added
+    (items_then _ _ _ _ _ _ _ _ c.in_ok-after.ensures.reads c.in_ok-after.ensures.added
     (items_end _ 1 _ _ _ e)))
     c.behind-in_default-behind.result c.behind-in_default-behind.ensures
 
 pub loop-left-preserved : goal.loop-left-preserved
 loop-left-preserved c = λ all s r.
     c.loop-left.invariant _ _
-    (items_then _ _ _ _ _ _ _ _ c.in_ok-item.ensures c.in-Ok.ensures.added
+    (items_then _ _ _ _ _ _ _ _ c.in_ok-after.ensures.reads c.in_ok-after.ensures.added
     (items_apart _ _ _ _ _ _ _ c.in-Some-behind.ensures
     c.behind_spaces-rest-in-loop-left.ensures r))

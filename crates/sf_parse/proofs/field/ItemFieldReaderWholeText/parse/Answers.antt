@@ -1,7 +1,11 @@
+use Rattle.sf_parse.proofs.WholeParts.{built_item}
 use Rattle.sf_parse.proofs.WholeTexts.{item_parsed}
 use Rattle.sf_parse.proofs.field.ItemFieldReaderWholeText.parse.Goals as goal
 
-pub returns-then-ends-clause-parses : goal.returns-then-ends-clause-parses
-returns-then-ends-clause-parses c =
-    item_parsed _ _ _ _ _ _ c.behind_spaces-inside.ensures c.in-Some.ensures
+pub returns-in-Some-make-clause-parses : goal.returns-in-Some-make-clause-parses
+returns-in-Some-make-clause-parses c =
+    let d = c.args.context.now.dialect in
+    item_parsed d _ _ _ _ _ c.behind_spaces-inside.ensures
+    (built_item d _ _ _ _ _ _ (c.in-Some.ensures.reads d) c.in-Some-make.ensures
+    c.in-Some-read_params.ensures)
     c.behind_spaces.ensures (c.ends.ensures.all c.if-ends.true)

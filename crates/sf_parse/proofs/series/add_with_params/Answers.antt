@@ -1,0 +1,50 @@
+use Rattle.std.proofs.Common.{refl, []}
+use Rattle.sf_parse.proofs.WholeMembers.{member_taken, taken_so_far, kept_so_far}
+use Rattle.sf_parse.proofs.series.add_with_params.Goals as goal
+
+pub returns-in_default-clause-goes : goal.returns-in_default-clause-goes
+returns-in_default-clause-goes g c =
+    let d = c.args.context.now.dialect in
+    let first = g.P.SeriesMember.first d in
+    let next = g.P.Level.next d in
+    let added = g.P.SeriesMember.added in
+    let none = g.P.SeriesMember.none in
+    let with = g.P.SeriesMember.with_found in
+    λ s. taken_so_far first next added none with _ _ _ _ _ _ s
+    (record { taken = []; split = refl; leads = refl })
+
+pub returns-in_default-behind_member-clause-goes :
+    goal.returns-in_default-behind_member-clause-goes
+returns-in_default-behind_member-clause-goes g c =
+    let d = c.args.context.now.dialect in
+    let first = g.P.SeriesMember.first d in
+    let next = g.P.Level.next d in
+    let added = g.P.SeriesMember.added in
+    let none = g.P.SeriesMember.none in
+    let with = g.P.SeriesMember.with_found in
+    λ s. taken_so_far first next added none with _ _ _ _ _ _ s
+    (record { taken = []; split = refl; leads = refl })
+
+pub returns-then-not-branch-clause-goes : goal.returns-then-not-branch-clause-goes
+returns-then-not-branch-clause-goes g c =
+    let d = c.args.context.now.dialect in
+    let first = g.P.SeriesMember.first d in
+    let next = g.P.Level.next d in
+    let added = g.P.SeriesMember.added in
+    let none = g.P.SeriesMember.none in
+    let with = g.P.SeriesMember.with_found in
+    λ s. kept_so_far first next added none with _ _ _ _ _ _ _ s
+    (c.in_ok-add_found.ensures.same c.if-not-branch.true)
+    (record { taken = []; split = refl; leads = refl })
+
+pub returns-clause-goes : goal.returns-clause-goes
+returns-clause-goes g c =
+    let d = c.args.context.now.dialect in
+    let first = g.P.SeriesMember.first d in
+    let next = g.P.Level.next d in
+    let added = g.P.SeriesMember.added in
+    let none = g.P.SeriesMember.none in
+    let with = g.P.SeriesMember.with_found in
+    λ s. member_taken first next added none with _ _ _ _ s _ _ _ _ _ c.requires.may_begin
+    (c.requires.whole _ _ c.in-Some.ensures) (c.in_ok-add_found.ensures.added c.if-not-branch.false)
+    c.in-Some-behind_member.ensures

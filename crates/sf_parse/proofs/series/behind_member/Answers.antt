@@ -1,0 +1,22 @@
+use Rattle.std.proofs.Common.{ap, ◌∙◌, ◌∷◌, ◌++◌}
+use Rattle.sf_parse.proofs.series.behind_member.Goals as goal
+
+pub returns-in_default : goal.returns-in_default
+returns-in_default c = (
+  c.short_prefix.result.0.now,
+  c.short_prefix.ensures.whole,
+  c.short_prefix.ensures.every,
+  c.ends.ensures.all c.if-not-ends.false,
+  c.if-not-is_whole.false,
+)
+
+pub returns : goal.returns
+returns c = (
+  c.short_prefix.result.0.now,
+  c.short_prefix-2.result.0.now,
+  c.short_prefix.ensures.whole
+      ∙ ap (λ y. c.short_prefix.result.0.now ++ y)
+      (c.in-Some.ensures ∙ ap (λ y. 44 ∷ y) c.short_prefix-2.ensures.whole),
+  c.short_prefix.ensures.every,
+  c.short_prefix-2.ensures.every,
+)

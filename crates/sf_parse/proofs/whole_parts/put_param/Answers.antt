@@ -1,0 +1,12 @@
+use Rattle.sf_parse.specs.Leaves.{leaf_bare}
+use Rattle.sf_parse.proofs.WholeParts.{param_after}
+use Rattle.sf_parse.proofs.whole_parts.put_param.Goals as goal
+
+pub returns : goal.returns
+returns c =
+    let d = c.args.context.now.dialect in record {
+      key = c.in-Some.found.key.now;
+      value = leaf_bare c.in-Some.found.leaf;
+      reads = param_after d _ _ _ _ _ c.behind_spaces.ensures (c.in-Some.ensures.param d);
+      added = c.in-Ok-true.ensures.put c.in-Ok-true.field-0-test;
+    }

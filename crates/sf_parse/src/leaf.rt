@@ -1,0 +1,109 @@
+//! Bare items that are found in a text and built only where they are stored (RFC 9651 section
+//! 4.2.3.1). What was found is `Copy`: what follows it is tested before anything is allocated.
+ghost use Rattle.std.specs.Prelude.{◌≡◌, ◌++◌, ◌∷◌, IfSome, if◌then◌else◌};
+ghost use Rattle.sf_value.specs.Ascii.{digit_zero, digit_one};
+ghost use Rattle.sf_value.specs.declared.dialect.Dialect.{Dialect};
+ghost use Rattle.sf_value.specs.Grammar.BareItems.{SpellsBare};
+ghost use Rattle.sf_value.specs.Grammar.Tokens.{IsToken};
+ghost use Rattle.sf_parse.specs.Leaves.{IsLeaf, leaf_bare};
+ghost use Rattle.sf_parse.specs.WholeParts.{ReadsAs};
+
+use crate::context::Context;
+use crate::number::{Number, NumberReader};
+use crate::whole_bare::{behind, split};
+use sf_value::classes::{InToken, Unescaped, long_prefix};
+use sf_value::{Bare, ShortBytes, Text, Token, can_start_token};
+
+/// A bare item of a text. Byte Sequences, Dates, Display Strings and Strings with an escape are
+/// none of these: they are not read from the text in one step.
+#[derive(Clone, Copy)]
+pub enum Leaf<'a> {
+    /// An Integer or a Decimal.
+    Number(Number),
+    /// The bytes of a Token.
+    Token(&'a [u8]),
+    /// The bytes of a String, between its quotes.
+    Text(&'a [u8]),
+    /// A Boolean.
+    Boolean(bool),
+}
+
+/// The bare item that a text begins with, and the rest. None claims nothing.
+#[inline(always)]
+pub fn find_leaf(text: &[u8]) -> Option<(Leaf<'_>, &[u8])>
+    ensures leaf { IfSome result (λ r. IsLeaf r.0) }
+    // It is the same in both dialects.
+    ensures reads { IfSome result (λ r. (d : Dialect)
+        → ReadsAs (SpellsBare d) text.now (leaf_bare r.0) r.1.now) }
+{
+    let (first, more) = split(text)?;
+    let mut number = NumberReader::none();
+    if number.start(first) {
+        let rest = number.take_run(more);
+        let number = number.number()?;
+        return Some((Leaf::Number(number), rest));
+    }
+    if let Some((token, rest)) = find_token(text) {
+        return Some((Leaf::Token(token), rest));
+    }
+    if first == b'"' {
+        let (run, stop) = long_prefix::<Unescaped>(more);
+        let rest = behind(stop, b'"')?;
+        return Some((Leaf::Text(run), rest));
+    }
+    if first == b'?' {
+        let (holds, rest) = read_boolean(more)?;
+        return Some((Leaf::Boolean(holds), rest));
+    }
+    None
+}
+
+/// The bare item that was found, or None if an allocation fails.
+#[inline(always)]
+pub fn make(context: &Context, leaf: Leaf<'_>) -> Option<Bare>
+    requires { IsLeaf leaf }
+    ensures { IfSome result (λ bare. bare ≡ leaf_bare leaf.entry) }
+{
+    match leaf {
+        Leaf::Number(number) => return number.bare(),
+        Leaf::Token(token) => {
+            let Ok(bytes) = ShortBytes::from_slice(context.alloc, token) else {
+                return None;
+            };
+            return Some(Bare::Token(Token::from_bytes(bytes)));
+        }
+        Leaf::Text(text) => {
+            let Ok(bytes) = ShortBytes::from_slice(context.alloc, text) else {
+                return None;
+            };
+            return Some(Bare::Text(Text::from_bytes(bytes)));
+        }
+        Leaf::Boolean(holds) => return Some(Bare::Boolean(holds)),
+    }
+}
+
+/// A Boolean after its question mark, and the rest.
+#[inline(always)]
+fn read_boolean(text: &[u8]) -> Option<(bool, &[u8])>
+    ensures { IfSome result (λ r. text.now ≡ (if r.0 then digit_one else digit_zero) ∷ r.1.now) }
+{
+    let (digit, rest) = split(text)?;
+    match digit {
+        b'0' => return Some((false, rest)),
+        b'1' => return Some((true, rest)),
+        _ => return None,
+    }
+}
+
+/// The bytes of a Token, and the rest.
+#[inline(always)]
+fn find_token(text: &[u8]) -> Option<(&[u8], &[u8])>
+    ensures { IfSome result (λ r. (text.now ≡ r.0.now ++ r.1.now) × IsToken r.0.now) }
+{
+    let (first, more) = split(text)?;
+    if !can_start_token(first) {
+        return None;
+    }
+    let (run, _) = long_prefix::<InToken>(more);
+    Some(text.split_at(run.len() + 1))
+}
