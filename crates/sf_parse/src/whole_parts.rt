@@ -1,22 +1,22 @@
 //! Parts of a field that are whole in a text, read without a state between two calls, and built
 //! where they belong. None claims nothing: the text is then read by the levels.
 ghost use Rattle.std.specs.Prelude.{◌≡◌, ◌++◌, ◌∷◌, ℕ, List, [], true, false, IfSome, IfOk};
+ghost use Rattle.sf_value.specs.Ascii.{open_bracket};
+ghost use Rattle.sf_value.specs.declared.dialect.Dialect.{Dialect};
 ghost use Rattle.sf_value.specs.Grammar.Classes.{is_sp};
 ghost use Rattle.sf_value.specs.Grammar.Fields.{SpellsEntry};
 ghost use Rattle.sf_value.specs.Grammar.InnerLists.{SpellsInner, SpellsMember};
-ghost use Rattle.sf_value.specs.Grammar.Items.{SpellsItem};
+ghost use Rattle.sf_value.specs.Grammar.Items.{SpellsItem, item as item_of};
+ghost use Rattle.sf_value.specs.Grammar.Pairs.{Pairs, put};
 ghost use Rattle.sf_value.specs.Grammar.Parameters.{SpellsParams};
 ghost use Rattle.sf_value.specs.Grammar.Tokens.{IsKey};
-ghost use Rattle.sf_value.specs.Ascii.{open_bracket};
+ghost use Rattle.sf_parse.specs.Leaves.{IsLeaf, leaf_bare};
 ghost use Rattle.sf_parse.specs.Machine.Inners.{BetweenItems};
 ghost use Rattle.sf_parse.specs.Machine.Members.{InMany, member_step};
 ghost use Rattle.sf_parse.specs.Machine.Params.{Opened, params_step};
 ghost use Rattle.sf_parse.specs.Prefixes.{Goes};
-ghost use Rattle.sf_value.specs.declared.dialect.Dialect.{Dialect};
-ghost use Rattle.sf_value.specs.Grammar.Items.{item as item_of};
-ghost use Rattle.sf_value.specs.Grammar.Pairs.{Pairs, put};
-ghost use Rattle.sf_parse.specs.Leaves.{IsLeaf, leaf_bare};
-ghost use Rattle.sf_parse.specs.WholeParts.{ReadsAs, ReadsParam, PutsParam, ReadsItems, AddsItem, AddsFound, Behind, found_member};
+ghost use Rattle.sf_parse.specs.WholeParts.{ReadsAs, ReadsParam, PutsParam, Behind};
+ghost use Rattle.sf_parse.specs.WholeParts.{ReadsItems, AddsItem, AddsFound, found_member};
 
 use crate::context::Context;
 use crate::entry::flag;
@@ -53,8 +53,8 @@ pub fn find_key(text: &[u8]) -> Option<(&[u8], &[u8])>
     Some(text.split_at(run.len() + 1))
 }
 
-/// A bare item with a key: a parameter, or a member of a Dictionary that is an Item without
-/// parameters. A member of a List has no key.
+/// What was found of a parameter or of a member that is an Item: its key and its bare item. A member
+/// of a List has no key.
 #[derive(Clone, Copy)]
 pub struct Found<'a> {
     /// The bytes of the key.
@@ -139,7 +139,7 @@ fn read_key<'a>(context: &Context, text: &'a [u8]) -> Option<(Key, &'a [u8])>
     Some((Key::from_bytes(bytes), rest))
 }
 
-/// A parameter after its semicolon: its key, its value, and the rest.
+/// A parameter after its semicolon, of any type: the bytes of its key, its value, and the rest.
 #[inline(always)]
 fn read_param<'a>(context: &Context, text: &'a [u8]) -> Option<(&'a [u8], Bare, &'a [u8])>
     ensures key { IfSome result (λ r. IsKey r.0.now) }
@@ -205,7 +205,7 @@ fn put_each_param<'a>(
 }
 
 /// Puts a parameter of any type, with the semicolon after it, and returns the rest; all of the text
-/// if it is not whole. It is not inlined: a call clears its stack.
+/// if it is not whole. It is not inlined, so that a loop of found ones clears less of its stack.
 #[inline(never)]
 fn put_any_param<'a>(
     context: &Context,
@@ -219,11 +219,11 @@ fn put_any_param<'a>(
     let Some((key, value, after)) = read_param(context, text) else {
         return Ok(text);
     };
-    let Some(more) = behind(after, b';') else {
+    let Some(left) = behind(after, b';') else {
         return Ok(text);
     };
     params.set_named(context.alloc, key, value)?;
-    Ok(more)
+    Ok(left)
 }
 
 /// Puts a parameter that was found. If the bytes of its value can't be allocated, it returns false
@@ -384,7 +384,7 @@ fn push_each_item<'a>(
 }
 
 /// Adds an Item of any type, with the space after it, and returns the rest; all of the text if it is
-/// not whole. It is not inlined: a call clears its stack.
+/// not whole. It is not inlined, so that a loop of found ones clears less of its stack.
 #[inline(never)]
 fn push_any_item<'a>(
     context: &Context,
@@ -398,11 +398,11 @@ fn push_any_item<'a>(
     let Some((item, after)) = read_item(context, text) else {
         return Ok(text);
     };
-    let Some(more) = behind(after, b' ') else {
+    let Some(left) = behind(after, b' ') else {
         return Ok(text);
     };
     items.push_or_drop(item)?;
-    Ok(behind_spaces(more))
+    Ok(behind_spaces(left))
 }
 
 /// Adds an Item that was found. If its bytes can't be allocated, it returns false and changes
@@ -463,8 +463,7 @@ fn push_item<'a>(context: &Context, text: &'a [u8], items: &mut Sequence<Item>) 
     Some(after)
 }
 
-/// Adds an Item that was found, with the parameters after it, and returns the rest. It is not
-/// inlined: a call clears its stack.
+/// Adds an Item that was found, with the parameters after it, and returns the rest.
 #[inline(never)]
 fn push_with_params<'a>(
     context: &Context,

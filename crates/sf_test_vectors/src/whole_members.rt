@@ -1,12 +1,20 @@
 //! Lists and Dictionaries with whole members, in texts on both sides of the number of bytes from
 //! which the parser looks for these: each bare item, before a comma, a space, a tab, the end and a
-//! byte that is refused.
+//! byte that is refused. What is read directly out of a text is compared with what a parser makes
+//! of its bytes one by one.
 use crate::{acceptances, refusals};
-use sf_value::Kind;
+use sf_parse::{Parser, Refusal, parse_text_in};
+use sf_value::{Dialect, Field, Kind, same};
+use std::alloc::Global;
 use std::hash::RandomState;
+use std::process::Abort;
 use std::test::Fail;
 
 const MEMBER: &str = "09 20 22 25 28 2a 2d 30-3a 3f-5a 61-7a";
+
+const FIRST_MEMBER: &str = "20 22 25 28 2a 2d 30-3a 3f-5a 61-7a end";
+
+const AFTER_KEY: &str = "09 20 2a 2c-2e 30-39 3b 3d 5f 61-7a end";
 
 static ACCEPTED: [acceptances::Row; 18] = [
     (
@@ -113,7 +121,20 @@ static ACCEPTED: [acceptances::Row; 18] = [
     ),
 ];
 
-static REFUSED: [refusals::Row; 19] = [
+static REFUSED: [refusals::Row; 32] = [
+    (Kind::List, b"]", 0, Some(0x5d), FIRST_MEMBER),
+    (Kind::List, b" \t", 1, Some(0x09), FIRST_MEMBER),
+    (Kind::List, b"\xc3\xbc", 0, Some(0xc3), FIRST_MEMBER),
+    (Kind::List, b"a, ]", 3, Some(0x5d), MEMBER),
+    (Kind::List, b"a,\t", 3, None, MEMBER),
+    (Kind::Dict, b"=1", 0, Some(0x3d), "20 2a 61-7a end"),
+    (Kind::Dict, b" A=1", 1, Some(0x41), "20 2a 61-7a end"),
+    (Kind::Dict, b"a=1,\t=1", 5, Some(0x3d), "09 20 2a 61-7a"),
+    (Kind::Dict, b"a=1, ", 5, None, "09 20 2a 61-7a"),
+    (Kind::Dict, b"a$=1", 1, Some(0x24), AFTER_KEY),
+    (Kind::Dict, b" a, b_.*-9C", 10, Some(0x43), AFTER_KEY),
+    (Kind::Dict, b"a=1, b\x80", 6, Some(0x80), AFTER_KEY),
+    (Kind::Dict, b"a b", 2, Some(0x62), "09 20 2c end"),
     (
         Kind::List,
         b"\"a\\\"b\"$,xxxxxxxxxxxxxxxxxxxxxxxxxxxxxxxxxxxxxxxxxxxxxxxxxxxxxxxxxxxxxxxx",
@@ -259,4 +280,164 @@ fn accepted(rt: HostRuntime) -> Result<(), Fail> {
 fn refused(rt: HostRuntime) -> Result<(), Fail> {
     let seed = RandomState::new(&rt)?;
     refusals::check_rows(&rt, rt.alloc(), &seed, &REFUSED)
+}
+
+static FRONTS: [&[u8]; 4] = [b"", b"  ", b"a=1, ", b"\"x\"\t,"];
+
+static PARTS: [&[u8]; 28] = [
+    b"",
+    b"17",
+    b"-0.50",
+    b"tok/a",
+    b"*",
+    b"\"s t\"",
+    b"\"\"",
+    b"?0",
+    b"?1",
+    b"\"a\\\"b\"",
+    b":YQ:",
+    b"@1",
+    b"%\"f%c3%bc\"",
+    b"(1 tok \"s\" ?0 1.5;p  )",
+    b"(a;p=?0 (",
+    b"k",
+    b"k=-3",
+    b"k=tok",
+    b"k=\"s\"",
+    b"k=?1",
+    b"k=(1 a);p",
+    b"k=:YQ:",
+    b"k=",
+    b"a=?0;p=1;q=\"s\";p=tok",
+    b"a;p=@1;q;p=?0",
+    b"-",
+    b"?2",
+    b"\"s",
+];
+
+static FOLLOWERS: [&[u8]; 17] = [
+    b"",
+    b",",
+    b", b",
+    b",a=2,",
+    b" ",
+    b"\t",
+    b" ,\tb=2 ",
+    b";",
+    b";p",
+    b"; p=1,c",
+    b";\tp",
+    b";p=,",
+    b"=",
+    b"$",
+    b"\x80",
+    b" x",
+    b")",
+];
+
+/// Members that make a text so long that whole ones are looked for in a chunk.
+const MORE: &[u8] =
+    b", xxxxxxxxxxxxxxxxxxxxxxxxxxxxxxxxxxxxxxxxxxxxxxxxxxxxxxxxxxxxxxxxxxxxxx, y=z";
+
+/// What a parser makes of the text, fed this many bytes at a time.
+fn fed(
+    alloc: Global,
+    seed: &RandomState,
+    dialect: Dialect,
+    kind: Kind,
+    text: &[u8],
+    size: usize,
+) -> Result<Field, Refusal> {
+    let mut parser = Parser::new_in(alloc, seed, dialect, kind, u64::MAX);
+    for chunk in text.chunks(size.max(1)) {
+        parser.feed(chunk)?;
+    }
+    parser.finish()
+}
+
+fn are_same(one: &Result<Field, Refusal>, other: &Result<Field, Refusal>) -> bool {
+    match one {
+        Ok(field) => match other {
+            Ok(again) => same(field, again),
+            Err(_) => false,
+        },
+        Err(refusal) => match other {
+            Ok(_) => false,
+            Err(again) => *refusal == *again,
+        },
+    }
+}
+
+/// Whether the text is read directly as it is byte by byte, and as in chunks.
+fn is_read_the_same(
+    alloc: Global,
+    seed: &RandomState,
+    dialect: Dialect,
+    kind: Kind,
+    text: &[u8],
+) -> bool {
+    let bytewise = fed(alloc, seed, dialect, kind, text, 1);
+    let whole = parse_text_in(alloc, seed, dialect, kind, text);
+    let chunk = fed(alloc, seed, dialect, kind, text, usize::MAX);
+    are_same(&whole, &bytewise) && are_same(&chunk, &bytewise)
+}
+
+fn check_part(
+    rt: &(impl Abort + AllocGlobal),
+    seed: &RandomState,
+    kind: Kind,
+    front: &[u8],
+    part: &[u8],
+) -> Result<(), Fail> {
+    for follower in &FOLLOWERS {
+        let mut text = Vec::new(rt.alloc());
+        text.extend_from_slice(front)?;
+        text.extend_from_slice(part)?;
+        text.extend_from_slice(follower)?;
+        for dialect in [Dialect::Rfc9651, Dialect::Rfc8941] {
+            assert!(rt;
+                is_read_the_same(rt.alloc(), seed, dialect, kind, text.as_slice()),
+                "{text:?}"
+            );
+        }
+        text.extend_from_slice(MORE)?;
+        for dialect in [Dialect::Rfc9651, Dialect::Rfc8941] {
+            assert!(rt;
+                is_read_the_same(rt.alloc(), seed, dialect, kind, text.as_slice()),
+                "{text:?}"
+            );
+        }
+    }
+    Ok(())
+}
+
+fn check_parts(
+    rt: &(impl Abort + AllocGlobal),
+    seed: &RandomState,
+    kind: Kind,
+) -> Result<(), Fail> {
+    for front in &FRONTS {
+        for part in &PARTS {
+            check_part(rt, seed, kind, front, part)?;
+        }
+    }
+    Ok(())
+}
+
+#[test]
+fn items_as_by_levels(rt: HostRuntime) -> Result<(), Fail> {
+    let seed = RandomState::new(&rt)?;
+    check_parts(&rt, &seed, Kind::Item)
+}
+
+#[test]
+fn lists_as_by_levels(rt: HostRuntime) -> Result<(), Fail> {
+    let seed = RandomState::new(&rt)?;
+    check_parts(&rt, &seed, Kind::List)
+}
+
+#[test]
+fn dictionaries_as_by_levels(rt: HostRuntime) -> Result<(), Fail> {
+    let seed = RandomState::new(&rt)?;
+    check_parts(&rt, &seed, Kind::Dict)
 }

@@ -223,3 +223,46 @@ fn other_texts_are_scanned(rt: HostRuntime) -> Result<(), Fail> {
     assert!(&rt; scan.is_err());
     Ok(())
 }
+
+/// A Dictionary of so many keys, which all have the same hash, and the first key once more.
+fn colliding(alloc: Global, members: u32) -> Result<Vec<u8>, OutOfMemory> {
+    let mut text = Vec::new(alloc);
+    for i in 0..members {
+        for bit in 0..7 {
+            // Each pair adds as much to the hash as the other.
+            let pair = if i >> bit & 1 == 1 { b"d*" } else { b"bh" };
+            text.extend_from_slice(pair)?;
+        }
+        text.extend_from_slice(format!(in alloc; "={i},")?.as_bytes())?;
+    }
+    text.extend_from_slice(b"bhbhbhbhbhbhbh=last")?;
+    Ok(text)
+}
+
+// How many keys have one hash, and whether there are nodes: 64 slots are searched for a key.
+static COLLIDING: [(u32, bool); 7] = [
+    (2, true),
+    (8, true),
+    (9, true),
+    (63, true),
+    (64, true),
+    (65, false),
+    (128, false),
+];
+
+#[test]
+fn keys_of_one_hash_are_settled(rt: HostRuntime) -> Result<(), Fail> {
+    let seed = RandomState::new(&rt)?;
+    let alloc = rt.alloc();
+    for (members, has_nodes) in &COLLIDING {
+        let text = colliding(alloc, *members)?;
+        let field = parse_text(alloc, &seed, Kind::Dict, text.as_slice())?;
+        let canonical = to_text(alloc, &field)?;
+        let dialect = Dialect::Rfc9651;
+        let normal = normalise(alloc, &seed, dialect, Kind::Dict, text.as_slice())?;
+        assert!(&rt; normal.as_slice() == canonical.as_slice());
+        let from_nodes = is_from_nodes(alloc, text.as_slice(), canonical.as_slice());
+        assert!(rt; from_nodes == *has_nodes, "{members}");
+    }
+    Ok(())
+}
