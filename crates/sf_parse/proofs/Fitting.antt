@@ -57,10 +57,6 @@ and_pow-out set b f same =
     clear (suc zero) u m e = u refl
     clear (suc (suc n)) u m e = let never : ⊥ = omega arith in never
 
--- a byte of the set can be taken out
-pub byte_le : (set b : ℕ) → is_in set b ≡ true → 2 ^ b ≤ set
-byte_le set b t = let e = and_pow-in set b t in let le = and_le_l set (2 ^ b) in omega arith
-
 -- the names after the classes are those of bytes
 pub name_of_byte : (n b : ℕ) → 9 ≤ n → (n - 9 + 33) % 128 ≡ b → name_at n ≡ Byte b
 name_of_byte n b h e =

@@ -113,12 +113,6 @@ number_whole d text b more rest true s t o n w k e a f g =
     (sym f ∙ ap (option_map number_bare) g))
 number_whole d text b more rest false s t o n w k e a f g = absurd cc
 
-pub token_whole : (d : Dialect) (text token rest bytes : List ℕ) → text ≡ token ++ rest
-    → IsToken token → bytes ≡ token → ReadsAs (SpellsBare d) text (Token bytes) rest
-token_whole d text token rest bytes e k f =
-    subst (λ y. ReadsAs (SpellsBare d) text (Token y) rest) (sym f)
-    (record { prefix = token; split = e; spelled = (refl, k) })
-
 pub text_whole : (d : Dialect) (text : List ℕ) (b : ℕ) (more run stop rest bytes : List ℕ)
     → text ≡ b ∷ more → b ≡ 34 → more ≡ run ++ stop → Every is_unescaped run
     → stop ≡ 34 ∷ rest → bytes ≡ run → ReadsAs (SpellsBare d) text (Text bytes) rest
