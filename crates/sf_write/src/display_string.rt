@@ -7,7 +7,7 @@ ghost use Rattle.sf_value.specs.Grammar.Canonical.{canon_shown};
 ghost use Rattle.sf_write.specs.Writing.{Follows};
 
 use crate::sending::{Sent, put};
-use crate::strings::CHUNK;
+use crate::strings::{CHUNK, LONG};
 use sf_value::classes::{UnencodedByte, long_prefix};
 use sf_value::{Sink, hex_digits, stands_for_itself};
 
@@ -30,8 +30,15 @@ fn unencoded_len(bytes: &[u8]) -> usize
     ensures len { result ≡ prefix_len is_unencoded bytes.now }
     ensures within { result ≤ length bytes.now }
 {
+    if bytes.len() < LONG {
+        return unencoded_len_by_byte(bytes);
+    }
+    if !stands_for_itself(bytes[0]) {
+        return 0;
+    }
     let (unencoded, rest) = long_prefix::<UnencodedByte>(bytes);
-    unencoded.len() + unencoded_len_by_byte(rest)
+    let more = unencoded_len_by_byte(rest);
+    unencoded.len() + more
 }
 
 /// The same, byte by byte.

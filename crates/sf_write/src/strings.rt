@@ -12,6 +12,9 @@ use sf_value::classes::{Unescaped, long_prefix};
 /// The number of bytes that are counted together: small enough that the count fits in a byte.
 pub(crate) const CHUNK: usize = 128;
 
+/// The number of bytes from which on they are tested many at a time.
+pub(crate) const LONG: usize = 16;
+
 /// Returns whether a backslash is written before this byte: `"` and `\`.
 fn needs_backslash(byte: u8) -> bool
     ensures { result ≡ is_escaped byte }
@@ -38,9 +41,16 @@ fn unescaped_len(bytes: &[u8]) -> usize
     ensures len { result ≡ prefix_len (λ b. not (is_escaped b)) bytes.now }
     ensures within { result ≤ length bytes.now }
 {
+    if bytes.len() < LONG {
+        return unescaped_len_by_byte(bytes);
+    }
+    if needs_backslash(bytes[0]) {
+        return 0;
+    }
     // The bytes of a valid String are tested 16 at a time.
     let (visible, rest) = long_prefix::<Unescaped>(bytes);
-    visible.len() + unescaped_len_by_byte(rest)
+    let more = unescaped_len_by_byte(rest);
+    visible.len() + more
 }
 
 /// The same, byte by byte, and for bytes that no String has.
