@@ -228,7 +228,7 @@ fn other_texts_are_scanned(rt: HostRuntime) -> Result<(), Fail> {
 fn colliding(alloc: Global, members: u32) -> Result<Vec<u8>, OutOfMemory> {
     let mut text = Vec::new(alloc);
     for i in 0..members {
-        for bit in 0..7 {
+        for bit in 0..7u32 {
             // Each pair adds as much to the hash as the other.
             let pair = if i >> bit & 1 == 1 { b"d*" } else { b"bh" };
             text.extend_from_slice(pair)?;
