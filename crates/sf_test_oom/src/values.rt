@@ -3,7 +3,7 @@ use crate::expecting::{LISTED, MEMBERS, SINGLE, expect_no_need, expect_refusals,
 use sf_parse::{Refusal, parse_text};
 use sf_test_alloc::{Seen, refusals};
 use sf_value::{
-    Bare, Blob, Entries, Field, Int, Key, Kind, OutOfMemory, Reading, Shown, Text, TextFault,
+    Bare, Blob, Entries, Field, Int, Key, Kind, OutOfMemory, Part, Reading, Shown, Text, TextFault,
     Token, Writing, copy, same,
 };
 use std::alloc::Global;
@@ -323,6 +323,29 @@ fn present_keys(rt: HostRuntime) -> Result<(), Fail> {
     for count in [1, 3, 4, 7, 8usize] {
         let mut puts = puts_of(rt.alloc(), &seed, count, b'a')?;
         expect_no_need(&rt, || put_first(&mut puts, count));
+    }
+    Ok(())
+}
+
+fn copied_entries(
+    alloc: Global,
+    seed: &RandomState,
+    entries: &Entries<Bare>,
+    count: usize,
+) -> Seen {
+    match entries.copy(alloc, seed) {
+        Ok(copy) => seen_if(are_first(&copy, count)),
+        Err(OutOfMemory) => Seen::Refused,
+    }
+}
+
+#[test]
+fn copies_of_entries(rt: HostRuntime) -> Result<(), Fail> {
+    let alloc = rt.alloc();
+    let seed = RandomState::new(&rt)?;
+    for count in [1, 8, 9, 16usize] {
+        let entries = entries_of(alloc, &seed, count)?;
+        expect_refusals(&rt, || copied_entries(alloc, &seed, &entries, count));
     }
     Ok(())
 }
