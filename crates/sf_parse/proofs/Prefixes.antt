@@ -2,7 +2,7 @@
 use Rattle.std.specs.Option.{option_map}
 use Rattle.std.proofs.Common.{◌≡◌, ℕ, Bool, true, false, List, [], ◌∷◌, ◌++◌, length}
 use Rattle.std.proofs.Common.{Option, Some, Result, Ok, Err, IfOk, refl, sym, ap, ◌∙◌, subst}
-use Rattle.std.proofs.Common.{arith, append_assoc, length-append, ◌≤◌}
+use Rattle.std.proofs.Common.{arith, append_assoc, append-nil, length-append, ◌≤◌}
 use Rattle.std.specs.Borrow.{Bor}
 use Rattle.sf_value.specs.Grammar.Words.{Every}
 use Rattle.sf_parse.specs.Machine.Language.{run, Steps}
@@ -246,3 +246,14 @@ pub free_goes : {S : Type 0} (next : S → ℕ → Option S) (free : S → List 
     → (s t : S) (chunk rest : List ℕ) → free s chunk → Goes next s chunk rest t → free t rest
 free_goes next free keeps s t chunk rest h a =
     free_run next free keeps s t a.taken rest (subst (free s) a.split h) a.leads
+
+-- a byte that was taken by itself, before more
+pub taken_alone : {S : Type 0} (next : S → ℕ → Option S) (s t : S) (chunk more : List ℕ) (b : ℕ)
+    (took : Bool) → chunk ≡ b ∷ more → LongestPrefix next s (b ∷ []) (unless took b) t
+    → took ≡ true → Goes next s chunk more t
+taken_alone next s t chunk more b true e a f = record {
+  taken = a.goes.taken;
+  split = e ∙ ap (λ p. p ++ more) (a.goes.split ∙ append-nil a.goes.taken);
+  leads = a.goes.leads;
+}
+taken_alone next s t chunk more b false e a f = absurd cc

@@ -324,7 +324,7 @@ fn read_rest<W: WholeField>(
     // An allocation-free text is not refused as out of memory.
     ensures allocation_free { TakesNoMemory W.kind text.now → IfErr result IsOther }
 {
-    let rest = field.take(context, left)?;
+    let rest = field.take_by_bytes(context, left)?;
     let found = rest.first().copied();
     let may_end = field.may_end();
     if found.is_some() || !may_end {

@@ -133,4 +133,28 @@ pub trait Level {
         }
         Ok(rest)
     }
+
+    /// Takes the longest prefix of the chunk, as `take` does, but its first byte by itself: so no
+    /// whole part is looked for at its beginning, where one was looked for before.
+    final fn take_by_bytes<'a>(
+        &mut self,
+        context: &Context,
+        chunk: &'a [u8],
+    ) -> Result<&'a [u8], OutOfMemory>
+        // The bytes before the rest lead to the new state, which can't take the first of the rest.
+        ensures prefix { IfOk result
+            (λ rest. LongestPrefix (next context.now.dialect) self.old chunk.now
+            rest.now self.new) }
+        // If the chunk is allocation-free, no allocation fails.
+        ensures allocation_free { allocation_free context.now.dialect self.old chunk.now
+            → IsOk result }
+    {
+        let Some((byte, more)) = chunk.split_first() else {
+            return Ok(chunk);
+        };
+        if !self.push(context, *byte)? {
+            return Ok(chunk);
+        }
+        self.take(context, more)
+    }
 }
