@@ -26,9 +26,7 @@ use crate::explaining::{
 use crate::fields::{InputFault, read_fields};
 use crate::reading::{ReadAllFault, read_all};
 use crate::request::Request;
-use crate::scanning::{
-    begins_accepted, first_unaccepted, join_lines, only_line, pays_to_join,
-};
+use crate::scanning::{begins_accepted, first_unaccepted, join_lines, only_line, pays_to_join};
 use crate::status::Status;
 use http_header::HeaderName;
 use sf_field::{AskFault, Consumer, UseFault, ask_from, parse_from};
