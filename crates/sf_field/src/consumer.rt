@@ -52,6 +52,10 @@ pub trait Consumer {
 
     /// Returns what a text of the kind [`Consumer::KIND`] means as the only line, if that can be
     /// read without the field; `None` claims nothing, and [`crate::ask`] then parses the text.
+    ///
+    /// ```
+    /// PriorityField.answer_text(alloc, b"u=1") // Some(answer), as `answer` gives it of the field
+    /// ```
     fn answer_text(&self, _alloc: Global, _text: &[u8]) -> Option<Self::Answer>
         // The text spells a value of the kind, and no other, and this is what it means.
         ensures { IfSome result

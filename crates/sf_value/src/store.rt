@@ -209,8 +209,8 @@ impl<V: Drop> Store<V> {
         }
     }
 
-    /// Puts a value at a key, as `Entries::set` does. Only a new key allocates. What it calls is not
-    /// inlined: a function clears all its stack at its entry, so each way has its own.
+    /// Puts a value at a key, as `Entries::set` does. Only a new key allocates. The rarer ways are
+    /// not inlined: a function clears all its stack at its entry, so each way has its own.
     #[inline(never)]
     pub(crate) fn set(&mut self, key: Key, value: V) -> Result<(), OutOfMemory>
         // Each key is one, and none occurs twice.
