@@ -46,13 +46,14 @@ pub fn ends(text: &[u8]) -> bool
 pub fn read_bare<'a>(context: &Context, text: &'a [u8]) -> Option<(Bare, &'a [u8])>
     ensures { IfSome result (λ r. ReadsAs (SpellsBare context.now.dialect) text.now r.0 r.1.now) }
 {
-    if let Some((leaf, rest)) = find_leaf(text) {
-        let bare = make(context, leaf)?;
+    let (first, more) = split(text)?;
+    if let b':' | b'@' | b'%' = first {
+        // In parts: the compiler keeps these in registers, and the result as a whole in memory.
+        let (bare, rest) = read_other(context, first, more)?;
         return Some((bare, rest));
     }
-    let (first, more) = split(text)?;
-    // In parts: the compiler keeps these in registers, and the result as a whole in memory.
-    let (bare, rest) = read_other(context, first, more)?;
+    let (leaf, rest) = find_leaf(text)?;
+    let bare = make(context, leaf)?;
     Some((bare, rest))
 }
 
@@ -73,10 +74,6 @@ fn read_other<'a>(context: &Context, first: u8, more: &'a [u8]) -> Option<(Bare,
     ensures { IfSome result (λ r. ReadsAs (SpellsBare context.now.dialect) (first ∷ more.now) r.0
         r.1.now) }
 {
-    match first {
-        b':' | b'@' | b'%' => {}
-        _ => return None,
-    }
     let mut reader = BareReader::new(context);
     let Ok(true) = reader.start(context, first) else {
         return None;
