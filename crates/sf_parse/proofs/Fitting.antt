@@ -7,7 +7,6 @@ use Rattle.std.proofs.Math.Pow.{pow-lt}
 use Rattle.std.proofs.Math.Nat.{mod-eq_of_lt}
 use Rattle.std.proofs.lemmas.Nat.{pow_pos}
 use Rattle.std.proofs.lemmas.Nat.Bits.{and_pow, bit_at-lt}
-use lib.Bits.{and_le_l}
 use Rattle.sf_parse.specs.ByteSets.{is_in, HasNone}
 use Rattle.sf_parse.specs.declared.names.Name.TheVariants.{Byte}
 use Rattle.sf_parse.specs.declared.names.Name.{Name}

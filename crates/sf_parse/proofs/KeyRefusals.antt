@@ -17,7 +17,7 @@ use Rattle.sf_parse.specs.WholeMembers.{NoneOpen, begins_between}
 use Rattle.sf_parse.specs.declared.series.SeriesPhase.{SeriesPhase}
 use Rattle.sf_parse.specs.declared.series.SeriesPhase.TheVariants as phase
 use Rattle.sf_parse.proofs.ByteRuns.{word_goes}
-use Rattle.sf_parse.proofs.Marks.{marks_onward, marks_steps}
+use Rattle.sf_parse.proofs.Marks.{marks_onward}
 use Rattle.sf_parse.proofs.OpenParts.{key_in_entry}
 use Rattle.sf_parse.proofs.Prefixes.{goes_one, goes_more, goes_above}
 use Rattle.sf_parse.proofs.SeriesSteps.{member_goes_on}

@@ -23,6 +23,7 @@ pub mod SeriesSteps
 pub mod WholeParts
 pub mod WholeSteps
 pub mod WholeMembers
+pub mod BegunParts
 pub mod KeyRefusals
 pub mod Leading
 pub mod ByteRuns

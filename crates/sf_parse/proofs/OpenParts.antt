@@ -1,6 +1,6 @@
 -- How each level goes on where its open part does.
 use Rattle.std.specs.Option.{option_and_then, option_map}
-use Rattle.std.proofs.Common.{◌≡◌, ℕ, true, List, [], ◌∷◌, ◌++◌, Option, Some, None, Result}
+use Rattle.std.proofs.Common.{◌≡◌, ℕ, Bool, true, false, List, [], ◌∷◌, ◌++◌, Option, Some, None, Result}
 use Rattle.std.proofs.Common.{IfOk}
 use Rattle.std.proofs.Common.{IsSome, refl, sym, ap, subst, ◌∙◌}
 use Rattle.sf_value.specs.declared.dialect.Dialect.{Dialect}
@@ -133,17 +133,17 @@ member_in_entry d k s t b e = ap (option_map (InMemberValue k)) e
 
 -- the parameters of a flag, which are read as those of an item of Boolean true
 flag_goes : (d : Dialect) (k : List ℕ) (x : Bare) (p : ParamsState) (t : MemberState)
-    (chunk rest : List ℕ) → LongestPrefix (member_step d) (InOne (InParams x p)) chunk rest t
+    (chunk rest : List ℕ) → Goes (member_step d) (InOne (InParams x p)) chunk rest t
     → (q : ParamsState) × (t ≡ InOne (InParams x q))
     × Goes (entry_step d) (InFlag k p) chunk rest (InFlag k q)
 flag_goes d k x p t chunk rest a =
-    let one = one_of_member d (InParams x p) t a.goes.taken a.goes.leads in
-    let item = params_of_item d x p one.0 a.goes.taken one.2 in (
+    let one = one_of_member d (InParams x p) t a.taken a.leads in
+    let item = params_of_item d x p one.0 a.taken one.2 in (
       item.0,
       one.1 ∙ ap InOne item.1,
       goes_above (params_step d) (entry_step d) (InFlag k) (λ s t b e. ap (option_map (InFlag k)) e)
           p item.0
-          chunk rest (record { taken = a.goes.taken; split = a.goes.split; leads = item.2 }),
+          chunk rest (record { taken = a.taken; split = a.split; leads = item.2 }),
     )
   where
     one_of_member : (d : Dialect) (s : ItemState) (t : MemberState) (xs : List ℕ)
@@ -158,7 +158,7 @@ flag_goes d k x p t chunk rest a =
         (more.0, more.1, ap (λ o. option_and_then (λ s. run (item_step d) s xs) o) k.1 ∙ more.2)
 
 pub flag_part : (d : Dialect) (k : List ℕ) (s t : MemberState) (chunk rest : List ℕ) → IsFlag s
-    → LongestPrefix (member_step d) s chunk rest t
+    → Goes (member_step d) s chunk rest t
     → Goes (entry_step d) (flag_at k s) chunk rest (flag_at k t)
 flag_part d k (InOne (InBare s)) t chunk rest h a = absurd h
 flag_part d k (InOne (InParams x p)) t chunk rest h a =
@@ -167,11 +167,18 @@ flag_part d k (InOne (InParams x p)) t chunk rest h a =
 flag_part d k (InMany s) t chunk rest h a = absurd h
 
 pub flag_kept : (d : Dialect) (k : List ℕ) (s t : MemberState) (chunk rest : List ℕ) → IsFlag s
-    → LongestPrefix (member_step d) s chunk rest t → IsFlag t
+    → Goes (member_step d) s chunk rest t → IsFlag t
 flag_kept d k (InOne (InBare s)) t chunk rest h a = absurd h
 flag_kept d k (InOne (InParams x p)) t chunk rest h a =
     subst IsFlag (sym (flag_goes d k x p t chunk rest a).1) h
 flag_kept d k (InMany s) t chunk rest h a = absurd h
+
+-- parts that were put, or not
+pub flag_resumed : (d : Dialect) (k : List ℕ) (s t : MemberState) (from left : List ℕ) (put : Bool)
+    → IsFlag s → (put ≡ true → Goes (member_step d) s from left t) → (put ≡ false → t ≡ s)
+    → IsFlag t
+flag_resumed d k s t from left true h a b = flag_kept d k s t from left h (a refl)
+flag_resumed d k s t from left false h a b = subst IsFlag (sym (b refl)) h
 
 pub space_before : (d : Dialect) (b : ℕ) → is_sp b ≡ true → step d BeforeItem b ≡ Some BeforeItem
 space_before d b h = rw h refl

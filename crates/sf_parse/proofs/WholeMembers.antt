@@ -1,16 +1,14 @@
 -- Whole members, and where the machine of a series goes by them.
 use Rattle.std.specs.Option.{option_map}
 use Rattle.std.proofs.Common.{◌≡◌, ℕ, Bool, true, false, List, [], ◌∷◌, ◌++◌, Option, Some}
-use Rattle.std.proofs.Common.{refl, sym, ap, ◌∙◌, subst, inl, inr, ⊎_elim, length, ◌<◌, arith}
-use Rattle.std.proofs.Common.{length-append, ◌⊎◌}
+use Rattle.std.proofs.Common.{refl, sym, ap, ◌∙◌, subst, inl, inr, ⊎_elim, ◌<◌, arith}
+use Rattle.std.proofs.Common.{◌⊎◌}
 use Rattle.sf_value.specs.Grammar.Words.{Every}
 use Rattle.sf_value.specs.Grammar.Classes.{is_sp, is_ows}
 use Rattle.sf_parse.specs.AllocationFree.{SeriesFree}
 use Rattle.sf_parse.specs.StaysFree.{series_keeps}
 use Rattle.sf_parse.specs.Machine.Language.{Machine}
 use Rattle.sf_parse.specs.Machine.Series.{Series, SeriesState, InMember, Gap, Comma}
-use Rattle.std.specs.Borrow.{Bor}
-use Rattle.std.proofs.Common.{Result, Ok, Err, IfOk}
 use Rattle.sf_parse.specs.Expected.{MarksStep}
 use Rattle.sf_parse.specs.Prefixes.{Goes, FirstIs, Halts}
 use Rattle.sf_parse.specs.declared.refusal.Refusal.TheVariants.{Syntax}
@@ -18,7 +16,7 @@ use Rattle.std.specs.Int.{bit_at}
 use Rattle.std.specs.List.{slice_get}
 use Rattle.std.proofs.Common.{◌^◌, ◌/◌, ◌≢◌, bit_and, None, is_some, nat_lt, ◌&&◌, if◌then◌else◌}
 use Rattle.std.proofs.lemmas.Nat.Bits.{shr_and_one}
-use Rattle.sf_parse.specs.SeriesView.{series_next, series_end, series_of, series_stuck}
+use Rattle.sf_parse.specs.SeriesView.{series_next, series_end, series_of}
 use Rattle.sf_parse.specs.declared.series.SeriesPhase.{SeriesPhase}
 use Rattle.sf_parse.specs.declared.series.SeriesPhase.TheVariants as phase
 use Rattle.sf_parse.specs.WholeParts.{ReadsAs}
@@ -178,6 +176,23 @@ module _ {S X V : Type 0} (first : ℕ → Option S) (next : S → ℕ → Optio
       (stay_goes Next is_ows (Comma new) space rest more (comma_stays first next added none new) j
       k)
 
+  -- a member, and white space after it
+  gap_taken : (p : SeriesPhase) (given new : V) (s : S) (text after rest white : List ℕ) (x : X)
+      → MayBegin none p given → IsWhole text x after → new ≡ with given x → after ≡ white ++ rest
+      → Every is_ows white → white ≢ [] → Goes Next (series_of p given s) text rest (Gap new)
+  gap_taken p given new s text after rest [] x m w e f h n = absurd (n refl)
+  gap_taken p given new s text after rest (b ∷ white) x m w e f h n =
+      let old = series_of p given s in
+      goes_more Next old (InMember given w.whole) (Gap new) text after rest
+      (member_goes old given text after x w (begins p given s text after x m w))
+      (subst (λ y. Goes Next (InMember given w.whole) y rest (Gap new)) (sym f)
+      (goes_more Next (InMember given w.whole) (Gap new) (Gap new) (b ∷ (white ++ rest))
+      (white ++ rest) rest
+      (goes_one Next (InMember given w.whole) (Gap new) b (white ++ rest)
+      (rw (w.apart b (ows_after b h.0), w.adds given, h.0) (ap (λ g. Some (Gap g)) (sym e))))
+      (stay_goes Next is_ows (Gap new) white rest (white ++ rest)
+      (gap_stays first next added none new) refl h.1)))
+
   -- the last member of a whole text
   end_taken : (p : SeriesPhase) (given new : V) (s : S) (is_whole : Bool)
       (text after end white : List ℕ) (x : X) → MayBegin none p given → IsWhole text x after
@@ -216,7 +231,10 @@ module _ {S X V : Type 0} (first : ℕ → Option S) (next : S → ℕ → Optio
       → TakesMembers Next End is_whole (series_of p given s) text rest q new s
   member_taken p phase.Begin given new s is_whole text after rest x m w e b = absurd b
   member_taken p phase.InMember given new s is_whole text after rest x m w e b = absurd b
-  member_taken p phase.Gap given new s is_whole text after rest x m w e (white, f, h, i, j) =
+  member_taken p phase.Gap given new s is_whole text after rest x m w e (white, f, h, inl n) =
+      taken_so_far (series_of p given s) text rest is_whole phase.Gap new s
+      (gap_taken p given new s text after rest white x m w e f h n)
+  member_taken p phase.Gap given new s is_whole text after rest x m w e (white, f, h, inr (i, j)) =
       end_taken p given new s is_whole text after rest white x m w e f h i j
   member_taken p phase.Comma given new s is_whole text after rest x m w e (white, space, f, h, k) =
       taken_so_far (series_of p given s) text rest is_whole phase.Comma new s
@@ -287,33 +305,6 @@ module _ {S X V : Type 0} (first : ℕ → Option S) (next : S → ℕ → Optio
   none_between phase.InMember given m = m
   none_between phase.Gap given m = tt
   none_between phase.Comma given m = tt
-
-  pub none_stuck : (p : SeriesPhase) (given : V) (s : S) (xs : List ℕ) → NoneOpen none p given
-      → FirstIs (series_stuck next (series_of p given s)) xs
-  none_stuck phase.Begin given s [] m = tt
-  none_stuck phase.Begin given s (b ∷ xs) m = tt
-  none_stuck phase.InMember given s xs m = absurd m
-  none_stuck phase.Gap given s [] m = tt
-  none_stuck phase.Gap given s (b ∷ xs) m = tt
-  none_stuck phase.Comma given s [] m = tt
-  none_stuck phase.Comma given s (b ∷ xs) m = tt
-
-  -- the call of the reader of members
-  pub part_stuck : {E : Type 0} (p : SeriesPhase) (given : V) (s : S)
-      (r : Result (Bor (List ℕ)) E) → IfOk r (λ rest. NoneOpen none p given)
-      → IfOk r (λ rest. FirstIs (series_stuck next (series_of p given s)) rest.now)
-  part_stuck p given s (Ok rest) m = none_stuck p given s rest.now m
-  part_stuck p given s (Err e) m = m
-
-  pub part_taken : {E : Type 0} (old mid : SeriesState S V) (chunk after : List ℕ)
-      (p : SeriesPhase) (given : V) (s : S) (r : Result (Bor (List ℕ)) E)
-      → Goes Next old chunk after mid
-      → IfOk r (λ rest. (s : S) → TakesMembers Next End false mid after rest.now p given s)
-      → IfOk r (λ rest. Goes Next old chunk rest.now (series_of p given s))
-  part_taken old mid chunk after p given s (Ok rest) a t =
-      none_taken false p given s chunk rest.now refl old
-      (taken_more old mid chunk after rest.now false p given s a (t s))
-  part_taken old mid chunk after p given s (Err e) a t = t
 
   -- members that are all of a text
   pub taken_value : (is_whole : Bool) (old : SeriesState S V) (chunk rest : List ℕ)

@@ -5,7 +5,7 @@ use Rattle.std.proofs.Common.{refl, sym, ap, ◌∙◌, subst, append_assoc, app
 use Rattle.std.proofs.Common.{◌≤◌, ◌<◌, ◌+◌, length, length-append, IfSome, if◌then◌else◌}
 use Rattle.sf_value.specs.declared.dialect.Dialect.{Dialect}
 use Rattle.sf_value.specs.declared.value.Bare.{Bare}
-use Rattle.sf_value.specs.declared.value.Bare.TheVariants.{Boolean, Token, Text}
+use Rattle.sf_value.specs.declared.value.Bare.TheVariants.{Boolean, Text}
 use Rattle.sf_value.specs.declared.value.Item.{Item}
 use Rattle.sf_value.specs.declared.value.Inner.{Inner}
 use Rattle.sf_value.specs.declared.value.Member.{Member}
@@ -14,7 +14,7 @@ use Rattle.sf_value.specs.Grammar.Words.{Every}
 use Rattle.sf_value.specs.Grammar.Classes.{is_sp}
 use Rattle.sf_value.specs.Grammar.Strings.{is_unescaped}
 use Rattle.sf_value.specs.Grammar.Pairs.{Pairs, settle}
-use Rattle.sf_value.specs.Grammar.Tokens.{IsKey, IsToken}
+use Rattle.sf_value.specs.Grammar.Tokens.{IsKey}
 use Rattle.sf_value.specs.Grammar.BareItems.{SpellsBare}
 use Rattle.sf_value.specs.Grammar.Parameters.{SpellsParam, SpellsParams}
 use Rattle.sf_value.specs.Grammar.Items.{SpellsItem, item}
@@ -28,9 +28,9 @@ use Rattle.sf_parse.specs.Machine.Texts.{Inside, Closed, text_step}
 use Rattle.sf_parse.specs.Machine.Bares.{BareState, InNumber, InText, GoodBare, ResidualBare}
 use Rattle.sf_parse.specs.Machine.Bares.{bare_start, bare_step, bare_finish}
 use Rattle.sf_parse.specs.Machine.Params.{MoreParams}
-use Rattle.std.specs.Borrow.{Bor}
 use Rattle.sf_parse.specs.Leaves.{number_bare, leaf_bare}
 use Rattle.sf_parse.specs.declared.leaf.Leaf.{Leaf}
+use Rattle.sf_parse.specs.declared.whole_parts.BehindItems.{BehindItems}
 use Rattle.sf_parse.specs.Prefixes.{Goes, LongestPrefix, Starts}
 use Rattle.sf_parse.specs.declared.number.Number.{Number}
 use Rattle.sf_parse.specs.WholeParts.{ReadsAs, ReadsParam, ReadsItems, AddsItem, AddsFound, Behind}
@@ -255,14 +255,15 @@ built_item d text after rest x y ps b e r =
 -- with the parameters after it
 pub with_params : (d : Dialect) (l : Leaf) (text after : List ℕ) (old new : List Item)
     → ((e : Dialect) → ReadsAs (SpellsBare e) text (leaf_bare l) after)
-    → (o : Option (Bor (List ℕ)))
-    → IfSome o (λ rest. AddsFound d l after old new rest.now)
-    → IfSome o (λ rest. AddsItem d text old new rest.now)
+    → (o : Option BehindItems)
+    → IfSome o (AddsFound d l after old new) → IfSome o (AddsItem d text old new)
 with_params d l text after old new b None h = h
-with_params d l text after old new b (Some rest) h = record {
+with_params d l text after old new b (Some end) h = record {
   item = item (leaf_bare l) h.params;
-  reads = item_whole d text after rest.now (leaf_bare l) h.params (b d) h.reads;
+  rest = h.rest;
+  reads = item_whole d text after h.rest (leaf_bare l) h.params (b d) h.reads;
   added = h.added;
+  behind = h.behind;
 }
 
 -- Items of an Inner List: those after spaces, none, or one before others
@@ -405,13 +406,6 @@ pub named_entry : (d : Dialect) (text key after inside more rest : List ℕ) (x 
 named_entry d text key after inside more rest x ps e k f b r =
     entry_value d text key after inside rest (member.Item (item x ps)) e k f
     (item_member d inside rest (item x ps) (item_whole d inside more rest x ps b r))
-
-pub flagged : (d : Dialect) (text key after rest : List ℕ) (ps : Pairs Bare) (m : Member)
-    → text ≡ key ++ after → IsKey key → ReadsAs (SpellsParams d) after ps rest → m ≡ flag ps
-    → ReadsAs (SpellsEntry d) text (key, m) rest
-flagged d text key after rest ps m e k r f =
-    subst (λ y. ReadsAs (SpellsEntry d) text (key, y) rest) (sym f)
-    (entry_flag d text key after rest ps e k r)
 
 -- what follows from an answer follows from each
 pub each_some : {A : Type 0} {P Q : A → Type 0} → ((a : A) → P a → Q a) → (o : Option A)

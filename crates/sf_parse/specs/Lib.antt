@@ -30,3 +30,4 @@ pub mod BareView
 pub mod Leaves
 pub mod WholeParts
 pub mod WholeMembers
+pub mod BegunParts

@@ -1,6 +1,6 @@
 -- Whole members that are added to a value: their machine, and what taking them returns.
 use Rattle.std.specs.Prelude.{◌≡◌, ℕ, Bool, true, false, List, [], ◌∷◌, ◌++◌, Option, Some, None}
-use Rattle.std.specs.Prelude.{◌⊎◌, ⊤, ◌-◌, is_some, length, slice_get}
+use Rattle.std.specs.Prelude.{◌⊎◌, ◌≢◌, ⊤, ◌-◌, is_some, length, slice_get}
 use Rattle.sf_value.specs.Ascii.{comma}
 use Rattle.sf_value.specs.Grammar.Classes.{is_ows}
 use Rattle.sf_value.specs.Grammar.Words.{Every}
@@ -30,12 +30,13 @@ pub record IsWholeMember {S X V : Type 0} (first : ℕ → Option S) (next : S �
   pub apart : (b : ℕ) → is_after b ≡ true → next whole b ≡ None
 
 -- between a member and the rest are white space and a comma, with white space after it; or white
--- space alone, if nothing is left of a whole text
+-- space alone, of which there may be none if nothing is left of a whole text
 abbrev pub IsBehindMember : Bool → List ℕ → SeriesPhase → List ℕ → Type 0
 IsBehindMember is_whole text phase.Begin rest = ⊥
 IsBehindMember is_whole text phase.InMember rest = ⊥
 IsBehindMember is_whole text phase.Gap rest =
-    (white : List ℕ) × (text ≡ white ++ rest) × Every is_ows white × (rest ≡ []) × (is_whole ≡ true)
+    (white : List ℕ) × (text ≡ white ++ rest) × Every is_ows white
+    × ((white ≢ []) ⊎ ((rest ≡ []) × (is_whole ≡ true)))
 IsBehindMember is_whole text phase.Comma rest =
     (white space : List ℕ) × (text ≡ white ++ comma ∷ (space ++ rest)) × Every is_ows white
     × Every is_ows space

@@ -1,11 +1,12 @@
 -- What reading a whole part at the start of a text returns.
 use Rattle.std.specs.Prelude.{◌≡◌, ℕ, Bool, List, [], ◌∷◌, ◌++◌}
-use Rattle.sf_value.specs.Ascii.{semicolon, close_bracket}
+use Rattle.sf_value.specs.Ascii.{space, semicolon, close_bracket}
 use Rattle.sf_value.specs.declared.dialect.Dialect.{Dialect}
 use Rattle.sf_value.specs.declared.value.Bare.{Bare}
 use Rattle.sf_value.specs.declared.value.Item.{Item}
 use Rattle.sf_value.specs.declared.value.Member.{Member}
 use Rattle.sf_value.specs.declared.value.Member.TheVariants as member
+use Rattle.sf_value.specs.Grammar.Classes.{is_sp}
 use Rattle.sf_value.specs.Grammar.Words.{Every}
 use Rattle.sf_value.specs.Grammar.Items.{SpellsItem, item}
 use Rattle.sf_value.specs.Grammar.Pairs.{Pairs, put}
@@ -13,6 +14,11 @@ use Rattle.sf_value.specs.Grammar.Parameters.{SpellsParam, SpellsParams}
 use Rattle.sf_value.specs.Grammar.InnerLists.{SpellsItems}
 use Rattle.sf_parse.specs.Leaves.{leaf_bare}
 use Rattle.sf_parse.specs.declared.leaf.Leaf.{Leaf}
+use Rattle.sf_parse.specs.Machine.Inners.{BetweenItems}
+use Rattle.sf_parse.specs.Machine.Members.{InMany, member_step}
+use Rattle.sf_parse.specs.Prefixes.{Goes}
+use Rattle.sf_parse.specs.declared.whole_parts.BehindItems.{BehindItems}
+use Rattle.sf_parse.specs.declared.whole_parts.BehindItems.TheVariants as behind
 use Rattle.sf_parse.specs.declared.whole_parts.Found.{Found}
 
 -- the start of the text, up to the rest, spells the value as P says
@@ -43,20 +49,30 @@ pub record PutsParam (d : Dialect) (text : List ℕ) (old new : Pairs Bare) (res
   pub reads : ReadsParam d text key value rest
   pub added : new ≡ put old key value
 
+-- behind an Item of an Inner List are a space and those after it, or the closing bracket
+abbrev pub IsBehindItem : List ℕ → BehindItems → Type 0
+IsBehindItem text (behind.Open rest) =
+    (more : List ℕ) × (text ≡ space ∷ more) × Behind is_sp more rest.now
+IsBehindItem text (behind.Closed rest) = text ≡ close_bracket ∷ rest.now
+
 -- the start of the text spells an Item, which is added to the old ones
-pub record AddsItem (d : Dialect) (text : List ℕ) (old new : List Item) (rest : List ℕ)
+pub record AddsItem (d : Dialect) (text : List ℕ) (old new : List Item) (end : BehindItems)
     : Type 0 where
   pub item : Item
+  pub rest : List ℕ
   pub reads : ReadsAs (SpellsItem d) text item rest
   pub added : new ≡ old ++ item ∷ []
+  pub behind : IsBehindItem rest end
 
 -- the start of the text spells parameters, which are added with the bare item that was found
 -- before it
 pub record AddsFound (d : Dialect) (l : Leaf) (text : List ℕ) (old new : List Item)
-    (rest : List ℕ) : Type 0 where
+    (end : BehindItems) : Type 0 where
   pub params : Pairs Bare
+  pub rest : List ℕ
   pub reads : ReadsAs (SpellsParams d) text params rest
   pub added : new ≡ old ++ item (leaf_bare l) params ∷ []
+  pub behind : IsBehindItem rest end
 
 -- what was found, with these parameters, as a member
 abbrev pub found_member : Found × Pairs Bare → Member
@@ -71,3 +87,10 @@ pub record ReadsItems (d : Dialect) (least : ℕ) (text : List ℕ) (old new : L
   pub split : text ≡ prefix ++ close_bracket ∷ rest
   pub spelled : SpellsItems d least prefix items
   pub added : new ≡ old ++ items
+
+-- the start of the text spells Items of an Inner List, which are added to the old ones: up to the
+-- closing bracket, or to where another one may begin
+abbrev pub ReachesItems : Dialect → List ℕ → List Item → List Item → BehindItems → Type 0
+ReachesItems d text old new (behind.Closed rest) = ReadsItems d 0 text old new rest.now
+ReachesItems d text old new (behind.Open rest) =
+    Goes (member_step d) (InMany (BetweenItems old)) text rest.now (InMany (BetweenItems new))

@@ -8,6 +8,7 @@ ghost use Rattle.sf_parse.specs.MemberEnds.{with_entry};
 ghost use Rattle.sf_parse.specs.SeriesView.{Ends};
 ghost use Rattle.sf_parse.specs.Machine.Entries.{entry_start, entry_step, entry_finish};
 
+use crate::begun::Begun;
 use crate::context::Context;
 use crate::level::Level;
 use crate::member::MemberReader;
@@ -145,6 +146,20 @@ impl Level for EntryReader {
                 let rest = self.member.take(context, chunk)?;
                 self.phase = EntryPhase::InFlag;
                 return Ok(rest);
+            }
+        }
+    }
+
+    fn resume(&mut self, context: &Context, begun: Begun<'_>) -> bool {
+        match self.phase {
+            EntryPhase::InKey | EntryPhase::Equals => return false,
+            EntryPhase::InMemberValue => return self.member.resume(context, begun),
+            EntryPhase::InFlag => {
+                // While parts are put, the member need not be a flag, as this phase requires.
+                self.phase = EntryPhase::InMemberValue;
+                let resumed = self.member.resume(context, begun);
+                self.phase = EntryPhase::InFlag;
+                return resumed;
             }
         }
     }

@@ -19,6 +19,7 @@
 #![tactic(auto)]
 
 mod bare;
+mod begun;
 mod blob;
 mod boolean;
 mod byte_runs;

@@ -1,15 +1,15 @@
 //! Members with commas between them that are being read: the members of a List or a Dictionary (RFC
 //! 9651 sections 4.2.1 and 4.2.2).
 ghost use Rattle.std.specs.Prelude.{◌≡◌, ◌<◌, ℕ, List, [], false, true, length};
-ghost use Rattle.std.specs.Prelude.{is_some, Option, IfOk, OnOk, IsOk};
-ghost use Rattle.std.specs.Prelude.{IfSome};
+ghost use Rattle.std.specs.Prelude.{is_some, Option, None, IfOk, OnOk, IsOk, IfSome, IfNone};
 ghost use Rattle.sf_value.specs.declared.dialect.Dialect.{Dialect};
 ghost use Rattle.sf_value.specs.declared.value.Bare.{Bare};
 ghost use Rattle.sf_value.specs.Grammar.Pairs.{Pairs};
 ghost use Rattle.sf_value.specs.Grammar.Parameters.{SpellsParams};
+ghost use Rattle.sf_parse.specs.BegunParts.{IsBegunIn};
 ghost use Rattle.sf_parse.specs.Expected.{MarksStep};
 ghost use Rattle.sf_parse.specs.WholeParts.{ReadsAs};
-ghost use Rattle.sf_parse.specs.Prefixes.{Starts};
+ghost use Rattle.sf_parse.specs.Prefixes.{Goes, FirstIs, Starts};
 ghost use Rattle.sf_parse.specs.SeriesView.{series_next, series_end, series_stuck, Ends};
 ghost use Rattle.sf_parse.specs.Machine.Series.{Begin};
 ghost use Rattle.sf_parse.specs.AllocationFree.{SeriesFree};
@@ -21,12 +21,13 @@ ghost use Rattle.sf_parse.specs.WholeMembers.{IsBehindMember, begins_between};
 ghost use Rattle.sf_parse.specs.declared.whole_parts.Found.{Found};
 ghost use Rattle.sf_parse.specs.declared.series.SeriesPhase.TheVariants as phase_is;
 
+use crate::begun::{Begun, keep_params};
 use crate::context::Context;
 use crate::level::Level;
 use crate::refusal::Refusal;
 use crate::sets::{COMMA, OWS, SPACE, set_if};
 use crate::whole_bare::{behind, ends};
-use crate::whole_parts::{Found, WHOLE_PARTS, may_begin_params, read_params};
+use crate::whole_parts::{Found, Owner, WHOLE_PARTS, may_begin_params, read_params};
 use sf_value::classes::{Ows, Space, short_prefix};
 use sf_value::{Bare, Dialect, Entries, OutOfMemory, is_ows};
 use std::marker::Model;
@@ -106,11 +107,21 @@ pub trait SeriesMember<G>: Level {
     /// nothing is claimed of it.
     fn may_read(text: &[u8]) -> bool;
 
-    /// A whole member that the text begins with, and the rest. None claims nothing.
-    fn read<'a>(context: &Context, text: &'a [u8]) -> Option<(Self::Whole, &'a [u8])>
+    /// A whole member that the text begins with, and the rest. None claims nothing; the whole parts of
+    /// the member may be kept.
+    fn read<'a>(
+        context: &Context,
+        text: &'a [u8],
+        owner: Owner,
+        begun: &mut Option<Begun<'a>>,
+    ) -> Option<(Self::Whole, &'a [u8])>
+        requires { begun.old ≡ None }
         // The bytes before the rest are those of the member.
-        ensures { IfSome result (λ r. IsWholeMember (first context.now.dialect)
-            (Self.Level.next context.now.dialect) added with text.now r.0 r.1.now) };
+        ensures whole { IfSome result (λ r. IsWholeMember (first context.now.dialect)
+            (Self.Level.next context.now.dialect) added with text.now r.0 r.1.now) }
+        ensures none { IfSome result (λ _. begun.new ≡ None) }
+        // The parts are those of a member that the text begins with.
+        ensures begun { IfNone result (IfSome begun.new (IsBegunIn context.now.dialect text.now)) };
 
     /// Adds a whole member.
     fn add(given: &mut G, member: Self::Whole) -> Result<(), OutOfMemory>
@@ -176,6 +187,136 @@ impl<P: SeriesMember<G>, G: Drop> SeriesReader<P, G> {
         }
     }
 
+    /// Takes whole members where one may begin, and the parts of the next one that are whole, and
+    /// returns the rest. It is not inlined: a chunk without whole members would pay for clearing it.
+    #[inline(never)]
+    fn take_members<'a>(
+        &mut self,
+        context: &Context,
+        chunk: &'a [u8],
+    ) -> Result<&'a [u8], OutOfMemory>
+        // The bytes before the rest lead to the new state.
+        ensures goes { IfOk result (λ rest. Goes (series_next (P.first context.now.dialect)
+            (P.next context.now.dialect) P.added P.none) self.old chunk.now rest.now self.new) }
+        // A member that is open can't continue with the first byte of the rest.
+        ensures stuck { IfOk result (λ rest. FirstIs (series_stuck (P.next context.now.dialect)
+            self.new) rest.now) }
+        ensures allocation_free { SeriesFree self.old chunk.now → IsOk result }
+    {
+        let mut begun = None;
+        match self.phase {
+            SeriesPhase::InMember => return self.member.take_by_bytes(context, chunk),
+            SeriesPhase::Gap => return Ok(chunk),
+            SeriesPhase::Begin => {
+                // Whatever the reader holds, nothing was given before the first member.
+                self.given = P::none(context);
+                let left = add_each_member::<P, G>(
+                    context,
+                    chunk,
+                    false,
+                    &mut self.phase,
+                    &mut self.given,
+                    &mut begun,
+                )?;
+                match begun {
+                    Some(begun) => return self.take_begun_member(context, left, begun),
+                    None => return Ok(left),
+                }
+            }
+            SeriesPhase::Comma => {
+                let left = add_each_member::<P, G>(
+                    context,
+                    chunk,
+                    false,
+                    &mut self.phase,
+                    &mut self.given,
+                    &mut begun,
+                )?;
+                match begun {
+                    Some(begun) => return self.take_begun_member(context, left, begun),
+                    None => return Ok(left),
+                }
+            }
+        }
+    }
+
+    /// Begins the member that a text begins with, goes on with the parts of it that were read, and
+    /// returns the rest.
+    #[inline(never)]
+    pub fn take_begun_member<'a>(
+        &mut self,
+        context: &Context,
+        text: &'a [u8],
+        begun: Begun<'a>,
+    ) -> Result<&'a [u8], OutOfMemory>
+        requires { IsBegunIn context.now.dialect text.now begun }
+        // The bytes before the rest lead to the new state.
+        ensures goes { IfOk result (λ rest. Goes (series_next (P.first context.now.dialect)
+            (P.next context.now.dialect) P.added P.none) self.old text.now rest.now self.new) }
+        // A member that is open can't continue with the first byte of the rest.
+        ensures stuck { IfOk result (λ rest. FirstIs (series_stuck (P.next context.now.dialect)
+            self.new) rest.now) }
+        ensures allocation_free { SeriesFree self.old text.now → IsOk result }
+    {
+        if let SeriesPhase::InMember = self.phase {
+            return self.member.take_by_bytes(context, text);
+        }
+        let Some((byte, more)) = text.split_first() else {
+            return Ok(text);
+        };
+        if !self.turn(context, *byte)? {
+            return Ok(text);
+        }
+        let SeriesPhase::InMember = self.phase else {
+            return Ok(more);
+        };
+        if more.len() < begun.from.len() {
+            return self.member.take_by_bytes(context, more);
+        }
+        let rest = self.member.take_begun(context, more, begun)?;
+        self.member.take_by_bytes(context, rest)
+    }
+
+    /// Goes on with the parts that are kept of the member that a text begins with, if there are some,
+    /// and returns the rest.
+    #[inline(always)]
+    pub fn take_kept_parts<'a>(
+        &mut self,
+        context: &Context,
+        text: &'a [u8],
+        begun: &mut Option<Begun<'a>>,
+    ) -> Result<&'a [u8], OutOfMemory>
+        requires { IfSome begun.old (IsBegunIn context.now.dialect text.now) }
+        // The bytes before the rest lead to the new state.
+        ensures goes { IfOk result (λ rest. Goes (series_next (P.first context.now.dialect)
+            (P.next context.now.dialect) P.added P.none) self.old text.now rest.now self.new) }
+        ensures allocation_free { SeriesFree self.old text.now → IsOk result }
+    {
+        if begun.is_none() {
+            return Ok(text);
+        }
+        self.take_parts(context, text, begun)
+    }
+
+    /// As [`SeriesReader::take_kept_parts`], which only tests whether there are some.
+    #[inline(never)]
+    fn take_parts<'a>(
+        &mut self,
+        context: &Context,
+        text: &'a [u8],
+        begun: &mut Option<Begun<'a>>,
+    ) -> Result<&'a [u8], OutOfMemory>
+        requires { IfSome begun.old (IsBegunIn context.now.dialect text.now) }
+        ensures goes { IfOk result (λ rest. Goes (series_next (P.first context.now.dialect)
+            (P.next context.now.dialect) P.added P.none) self.old text.now rest.now self.new) }
+        ensures allocation_free { SeriesFree self.old text.now → IsOk result }
+    {
+        match mem::replace(begun, None) {
+            Some(begun) => self.take_begun_member(context, text, begun),
+            None => Ok(text),
+        }
+    }
+
     /// The value of the members, if the last one is complete. It is taken out of the reader.
     pub fn finish(&mut self, context: &Context) -> Result<Option<G>, OutOfMemory>
         // It is the value of the members, if they may end.
@@ -219,17 +360,10 @@ impl<P: SeriesMember<G>, G: Drop> Level for SeriesReader<P, G> {
         match self.phase {
             SeriesPhase::Begin => {
                 let (_, rest) = short_prefix::<Space>(chunk);
-                if !may_add::<P, G>(rest, false) {
+                if !may_add::<P, G>(rest) {
                     return Ok(rest);
                 }
-                self.given = P::none(context);
-                return add_each_member::<P, G>(
-                    context,
-                    rest,
-                    false,
-                    &mut self.phase,
-                    &mut self.given,
-                );
+                return self.take_members(context, rest);
             }
             SeriesPhase::Gap => {
                 let (_, rest) = short_prefix::<Ows>(chunk);
@@ -237,7 +371,10 @@ impl<P: SeriesMember<G>, G: Drop> Level for SeriesReader<P, G> {
             }
             SeriesPhase::Comma => {
                 let (_, rest) = short_prefix::<Ows>(chunk);
-                return add_members::<P, G>(context, rest, false, &mut self.phase, &mut self.given);
+                if !may_add::<P, G>(rest) {
+                    return Ok(rest);
+                }
+                return self.take_members(context, rest);
             }
             SeriesPhase::InMember => return self.member.take(context, chunk),
         }
@@ -408,43 +545,48 @@ pub fn are_all(phase: SeriesPhase, rest: &[u8]) -> bool
     ends(rest) && may_end_between(phase)
 }
 
-/// Adds whole members that a text begins with, each with the comma after it, and returns the rest.
-/// At the end of a whole text the last one, too.
+/// Adds whole members that what is left of a whole text begins with, each with the comma or the white
+/// space behind it, and the last one; and returns the rest.
 #[inline(always)]
 pub fn add_members<'a, P: SeriesMember<G>, G>(
     context: &Context,
     text: &'a [u8],
-    is_whole: bool,
     phase: &mut SeriesPhase,
     given: &mut G,
+    begun: &mut Option<Begun<'a>>,
 ) -> Result<&'a [u8], OutOfMemory>
     // A member may begin.
-    requires { MayBegin P.none phase.old given.old }
+    requires may_begin { MayBegin P.none phase.old given.old }
+    requires none_begun { begun.old ≡ None }
     // The bytes before the rest lead to the new phase and value, whatever member was read last; or
-    // no byte is left of a whole text, and the value is that of the members.
+    // no byte is left, and the value is that of the members.
     ensures goes { IfOk result (λ rest. (s : P) → TakesMembers
         (series_next (P.first context.now.dialect) (P.next context.now.dialect) P.added P.none)
-        (series_end P.added P.none) is_whole (series_of phase.old given.old s) text.now rest.now
+        (series_end P.added P.none) true (series_of phase.old given.old s) text.now rest.now
         phase.new given.new s) }
     // No member is open.
     ensures none_open { IfOk result (λ _. NoneOpen P.none phase.new given.new) }
+    // Parts that are begun are those of the member that the rest begins with.
+    ensures begun { IfOk result (λ rest. IfSome begun.new (IsBegunIn context.now.dialect
+        rest.now)) }
     // Before the first member spaces do not allocate.
     ensures allocation_free { (s : P) → SeriesFree (series_of phase.old given.old s) text.now
         → IsOk result }
 {
-    if !may_add::<P, G>(text, is_whole) {
+    if !P::may_begin(text) {
         return Ok(text);
     }
-    add_each_member::<P, G>(context, text, is_whole, phase, given)
+    add_each_member::<P, G>(context, text, true, phase, given, begun)
 }
 
-/// Whether whole members are looked for. It only saves time: nothing is claimed of it.
+/// Whether whole members are looked for in a chunk. It only saves time: nothing is claimed of it.
 #[inline(always)]
-fn may_add<P: SeriesMember<G>, G>(text: &[u8], is_whole: bool) -> bool {
-    P::may_begin(text) && (is_whole || text.len() >= WHOLE_PARTS)
+fn may_add<P: SeriesMember<G>, G>(chunk: &[u8]) -> bool {
+    P::may_begin(chunk) && chunk.len() >= WHOLE_PARTS
 }
 
-/// As [`add_members`], which only tests whether there may be one: a call clears its stack.
+/// As [`add_members`], also in a chunk: [`add_members`] only tests whether there may be a member, since
+/// a call clears its stack.
 #[inline(never)]
 fn add_each_member<'a, P: SeriesMember<G>, G>(
     context: &Context,
@@ -452,9 +594,11 @@ fn add_each_member<'a, P: SeriesMember<G>, G>(
     is_whole: bool,
     phase: &mut SeriesPhase,
     given: &mut G,
+    begun: &mut Option<Begun<'a>>,
 ) -> Result<&'a [u8], OutOfMemory>
     // A member may begin.
-    requires { MayBegin P.none phase.old given.old }
+    requires may_begin { MayBegin P.none phase.old given.old }
+    requires none_begun { begun.old ≡ None }
     // The bytes before the rest lead to the new phase and value, whatever member was read last; or
     // no byte is left of a whole text, and the value is that of the members.
     ensures goes { IfOk result (λ rest. (s : P) → TakesMembers
@@ -463,6 +607,9 @@ fn add_each_member<'a, P: SeriesMember<G>, G>(
         phase.new given.new s) }
     // No member is open.
     ensures none_open { IfOk result (λ _. NoneOpen P.none phase.new given.new) }
+    // Parts that are begun are those of the member that the rest begins with.
+    ensures begun { IfOk result (λ rest. IfSome begun.new (IsBegunIn context.now.dialect
+        rest.now)) }
     // Before the first member spaces do not allocate.
     ensures allocation_free { (s : P) → SeriesFree (series_of phase.old given.old s) text.now
         → IsOk result }
@@ -473,7 +620,7 @@ fn add_each_member<'a, P: SeriesMember<G>, G>(
             if !P::may_read(rest) {
                 return Ok(rest);
             }
-            let left = add_read_member::<P, G>(context, rest, is_whole, phase, given)?;
+            let left = add_read_member::<P, G>(context, rest, is_whole, phase, given, begun)?;
             if !goes_on(*phase, rest, left) {
                 return Ok(left);
             }
@@ -485,7 +632,7 @@ fn add_each_member<'a, P: SeriesMember<G>, G>(
                 return Ok(rest);
             }
             let left = add_with_params::<P, G>(
-                context, rest, found, after, is_whole, phase, given,
+                context, rest, found, after, is_whole, phase, given, begun,
             )?;
             if !goes_on(*phase, rest, left) {
                 return Ok(left);
@@ -515,9 +662,9 @@ fn goes_on(phase: SeriesPhase, text: &[u8], left: &[u8]) -> bool
     matches!(phase, SeriesPhase::Comma) && left.len() < text.len()
 }
 
-/// Adds a member that a text begins with and that was found, with the parameters after it and the
-/// comma after these, and returns the rest; all of the text if they are not whole. At the end of a
-/// whole text it needs no comma. It is not inlined: a call clears its stack.
+/// Adds a member that a text begins with and that was found, with the parameters after it and what is
+/// behind a member, and returns the rest; all of the text if they are not whole: then the parameters
+/// that are may be kept. It is not inlined: a call clears its stack.
 #[inline(never)]
 fn add_with_params<'a, P: SeriesMember<G>, G>(
     context: &Context,
@@ -527,9 +674,11 @@ fn add_with_params<'a, P: SeriesMember<G>, G>(
     is_whole: bool,
     phase: &mut SeriesPhase,
     given: &mut G,
+    begun: &mut Option<Begun<'a>>,
 ) -> Result<&'a [u8], OutOfMemory>
     // A member may begin.
     requires may_begin { MayBegin P.none phase.old given.old }
+    requires none_begun { begun.old ≡ None }
     requires found { P.is_found found }
     requires whole { (params : Pairs Bare) (rest : List ℕ)
         → ReadsAs (SpellsParams context.now.dialect) after.now params rest
@@ -543,15 +692,17 @@ fn add_with_params<'a, P: SeriesMember<G>, G>(
         phase.new given.new s) }
     // No member is open.
     ensures none_open { IfOk result (λ _. NoneOpen P.none phase.new given.new) }
+    // Parts that are begun are those of the member, of which nothing was taken.
+    ensures begun { IfOk result (λ rest. IfSome begun.new (λ b. (rest.now ≡ text.now)
+        × IsBegunIn context.now.dialect text.now b)) }
     // Before the first member spaces do not allocate.
     ensures allocation_free { (s : P) → SeriesFree (series_of phase.old given.old s) text.now
         → IsOk result }
 {
     let mut params = Entries::new(context.alloc, &context.seed);
-    let Some(rest) = read_params(context, after, &mut params) else {
-        return Ok(text);
-    };
+    let rest = read_params(context, after, Owner::member(is_whole), &mut params);
     let Some((next, more)) = behind_member(rest, is_whole) else {
+        keep_params(begun, after, params, rest);
         return Ok(text);
     };
     if !P::add_found(context, given, found, params)? {
@@ -561,9 +712,9 @@ fn add_with_params<'a, P: SeriesMember<G>, G>(
     Ok(more)
 }
 
-/// Adds a whole member of any type that a text begins with, with the comma after it, and returns the
-/// rest; all of the text if there is none. At the end of a whole text it needs no comma. It is not
-/// inlined: a call clears its stack.
+/// Adds a whole member of any type that a text begins with, with what is behind a member, and returns
+/// the rest; all of the text if there is none: then the whole parts of the member may be kept. It is
+/// not inlined: a call clears its stack.
 #[inline(never)]
 fn add_read_member<'a, P: SeriesMember<G>, G>(
     context: &Context,
@@ -571,9 +722,11 @@ fn add_read_member<'a, P: SeriesMember<G>, G>(
     is_whole: bool,
     phase: &mut SeriesPhase,
     given: &mut G,
+    begun: &mut Option<Begun<'a>>,
 ) -> Result<&'a [u8], OutOfMemory>
     // A member may begin.
-    requires { MayBegin P.none phase.old given.old }
+    requires may_begin { MayBegin P.none phase.old given.old }
+    requires none_begun { begun.old ≡ None }
     // The bytes before the rest lead to the new phase and value, whatever member was read last; or
     // no byte is left of a whole text, and the value is that of the members.
     ensures goes { IfOk result (λ rest. (s : P) → TakesMembers
@@ -582,11 +735,14 @@ fn add_read_member<'a, P: SeriesMember<G>, G>(
         phase.new given.new s) }
     // No member is open.
     ensures none_open { IfOk result (λ _. NoneOpen P.none phase.new given.new) }
+    // Parts that are begun are those of the member, of which nothing was taken.
+    ensures begun { IfOk result (λ rest. IfSome begun.new (λ b. (rest.now ≡ text.now)
+        × IsBegunIn context.now.dialect text.now b)) }
     // Before the first member spaces do not allocate.
     ensures allocation_free { (s : P) → SeriesFree (series_of phase.old given.old s) text.now
         → IsOk result }
 {
-    let Some((member, after)) = P::read(context, text) else {
+    let Some((member, after)) = P::read(context, text, Owner::member(is_whole), begun) else {
         return Ok(text);
     };
     let Some((next, more)) = behind_member(after, is_whole) else {
@@ -598,13 +754,16 @@ fn add_read_member<'a, P: SeriesMember<G>, G>(
 }
 
 /// The phase after a member and the rest: after white space and a comma, with the white space after
-/// it, or at the end of a whole text, after white space.
+/// it; or after white space alone, of which there may be none at the end of a whole text.
 #[inline(always)]
 fn behind_member(text: &[u8], is_whole: bool) -> Option<(SeriesPhase, &[u8])>
     ensures { IfSome result (λ r. IsBehindMember is_whole text.now r.0 r.1.now) }
 {
-    let (_, end) = short_prefix::<Ows>(text);
+    let (white, end) = short_prefix::<Ows>(text);
     let Some(more) = behind(end, b',') else {
+        if !ends(white) {
+            return Some((SeriesPhase::Gap, end));
+        }
         if !is_whole || !ends(end) {
             return None;
         }

@@ -12,6 +12,7 @@ ghost use Rattle.sf_parse.specs.SeriesView.{series_next, series_end, series_of};
 ghost use Rattle.sf_parse.specs.WholeMembers.{NoneOpen, RefusesAfter};
 ghost use Rattle.sf_parse.specs.MemberEnds.{with_member, with_entry, some_map};
 
+use crate::begun::Begun;
 use crate::context::Context;
 use crate::entry::EntryReader;
 use crate::leaf::{find_leaf, make};
@@ -22,7 +23,7 @@ use crate::series::{SeriesMember, SeriesPhase, may_begin_between};
 use crate::sets::{COMMA, EQUALS, KEY, KEY_START, OWS, SEMICOLON};
 use crate::whole_bare::{may_begin_bare, split};
 use crate::whole_parts::{
-    Found, find_key, find_named, may_begin_part, may_begin_value, read_entry, read_member,
+    Found, Owner, find_key, find_named, may_begin_part, may_begin_value, read_entry, read_member,
 };
 use sf_value::{Bare, Dialect, Entries, Item, Key, Member, OutOfMemory, Sequence, can_start_key};
 
@@ -105,8 +106,13 @@ impl SeriesMember<Sequence<Member>> for MemberReader {
     }
 
     #[inline(always)]
-    fn read<'a>(context: &Context, text: &'a [u8]) -> Option<(Member, &'a [u8])> {
-        read_member(context, text)
+    fn read<'a>(
+        context: &Context,
+        text: &'a [u8],
+        owner: Owner,
+        begun: &mut Option<Begun<'a>>,
+    ) -> Option<(Member, &'a [u8])> {
+        read_member(context, text, owner, begun)
     }
 
     #[inline(always)]
@@ -189,8 +195,13 @@ impl SeriesMember<Entries<Member>> for EntryReader {
     }
 
     #[inline(always)]
-    fn read<'a>(context: &Context, text: &'a [u8]) -> Option<(Entry, &'a [u8])> {
-        let (key, member, rest) = read_entry(context, text)?;
+    fn read<'a>(
+        context: &Context,
+        text: &'a [u8],
+        owner: Owner,
+        begun: &mut Option<Begun<'a>>,
+    ) -> Option<(Entry, &'a [u8])> {
+        let (key, member, rest) = read_entry(context, text, owner, begun)?;
         Some((Entry { key, member }, rest))
     }
 

@@ -1,6 +1,7 @@
 //! Parts of a field that are whole in a text, read without a state between two calls, and built
 //! where they belong. None claims nothing: the text is then read by the levels.
-ghost use Rattle.std.specs.Prelude.{◌≡◌, ◌++◌, ◌∷◌, ℕ, List, [], true, false, IfSome, IfOk};
+ghost use Rattle.std.specs.Prelude.{◌≡◌, ◌++◌, ◌∷◌, ℕ, List, [], true, false, None};
+ghost use Rattle.std.specs.Prelude.{IfSome, IfNone, IfOk, OnErr};
 ghost use Rattle.sf_value.specs.Ascii.{open_bracket};
 ghost use Rattle.sf_value.specs.declared.dialect.Dialect.{Dialect};
 ghost use Rattle.sf_value.specs.Grammar.Classes.{is_sp};
@@ -16,10 +17,12 @@ ghost use Rattle.sf_parse.specs.Machine.Members.{InMany, member_step};
 ghost use Rattle.sf_parse.specs.Machine.Params.{Opened, params_step};
 ghost use Rattle.sf_parse.specs.Prefixes.{Goes};
 ghost use Rattle.sf_parse.specs.WholeParts.{ReadsAs, ReadsParam, PutsParam, Behind};
-ghost use Rattle.sf_parse.specs.WholeParts.{ReadsItems, AddsItem, AddsFound, found_member};
+ghost use Rattle.sf_parse.specs.WholeParts.{ReachesItems, IsBehindItem, AddsItem, AddsFound};
+ghost use Rattle.sf_parse.specs.WholeParts.{found_member};
+ghost use Rattle.sf_parse.specs.BegunParts.{IsBegunAt, IsBegunIn};
 
+use crate::begun::{Begun, keep_closed, keep_inner, keep_items, keep_params};
 use crate::context::Context;
-use crate::entry::flag;
 use crate::leaf::{Leaf, find_leaf, make};
 use crate::whole_bare::{behind, read_bare, split};
 use sf_value::classes::{InKey, Space, short_prefix};
@@ -116,13 +119,40 @@ pub fn may_begin_params(text: &[u8]) -> bool {
     }
 }
 
-/// Whether an accepted text may go on like this after a parameter. It only saves time: nothing is
-/// claimed of it.
+/// What parameters belong to, which decides what may follow them.
+#[derive(Clone, Copy)]
+pub enum Owner {
+    /// The Item that is a whole text.
+    Text,
+    /// A member of a whole text.
+    Member,
+    /// A member in a chunk, which may end within a parameter.
+    ChunkMember,
+    /// An Item of an Inner List.
+    InnerItem,
+}
+
+impl Owner {
+    /// A member of a whole text, or of a chunk.
+    #[inline(always)]
+    pub fn member(is_whole: bool) -> Owner {
+        if is_whole {
+            return Owner::Member;
+        }
+        Owner::ChunkMember
+    }
+}
+
+/// Whether an accepted text may go on like this after what may have parameters, or after one of
+/// these. It only saves time: nothing is claimed of it.
 #[inline(always)]
-fn may_follow_param(text: &[u8]) -> bool {
+fn may_follow(owner: Owner, text: &[u8]) -> bool {
     match split(text) {
-        Some((b' ' | b'\t' | b')' | b',' | b';', _)) | None => true,
+        Some((b';' | b' ', _)) => true,
+        Some((b')', _)) => matches!(owner, Owner::InnerItem),
+        Some((b',' | b'\t', _)) => matches!(owner, Owner::Member | Owner::ChunkMember),
         Some(_) => false,
+        None => matches!(owner, Owner::Text | Owner::Member),
     }
 }
 
@@ -240,6 +270,7 @@ fn put_leaf(
     ensures put { IfOk result (λ took. took ≡ true
         → params.new ≡ put params.old found.entry.key.now (leaf_bare found.entry.leaf)) }
     ensures same { IfOk result (λ took. took ≡ false → params.new ≡ params.old) }
+    ensures failed { OnErr result (params.new ≡ params.old) }
 {
     let Some(value) = make(context, found.leaf) else {
         return Ok(false);
@@ -248,23 +279,22 @@ fn put_leaf(
     Ok(true)
 }
 
-/// Puts the parameters that a text begins with, and returns the rest. Only a text that begins with
-/// one costs a call.
+/// Puts the whole parameters that a text begins with, and returns the rest, which begins with a
+/// semicolon if another one is not whole. Only a text that begins with one costs a call.
 #[inline(always)]
 pub fn read_params<'a>(
     context: &Context,
     text: &'a [u8],
+    owner: Owner,
     params: &mut Entries<Bare>,
-) -> Option<&'a [u8]>
+) -> &'a [u8]
     requires { params.old ≡ [] }
-    ensures { IfSome result (λ rest. ReadsAs (SpellsParams context.now.dialect) text.now params.new
-        rest.now) }
+    ensures { ReadsAs (SpellsParams context.now.dialect) text.now params.new result.now }
 {
     if behind(text, b';').is_none() {
-        return Some(text);
+        return text;
     }
-    let rest = read_each_param(context, text, params)?;
-    Some(rest)
+    read_each_param(context, text, owner, params)
 }
 
 /// As [`read_params`].
@@ -272,29 +302,39 @@ pub fn read_params<'a>(
 fn read_each_param<'a>(
     context: &Context,
     text: &'a [u8],
+    owner: Owner,
     params: &mut Entries<Bare>,
-) -> Option<&'a [u8]>
+) -> &'a [u8]
     requires { params.old ≡ [] }
-    ensures { IfSome result (λ rest. ReadsAs (SpellsParams context.now.dialect) text.now params.new
-        rest.now) }
+    ensures { ReadsAs (SpellsParams context.now.dialect) text.now params.new result.now }
 {
     let mut rest = text;
     while let Some(more) = behind(rest, b';') {
-        rest = put_param(context, more, params)?;
+        let Some(left) = put_param(context, more, owner, params) else {
+            return rest;
+        };
+        rest = left;
     }
-    Some(rest)
+    rest
 }
 
-/// Puts the parameter that a text begins with, after its semicolon, and returns the rest.
+/// Puts the parameter that a text begins with, after its semicolon, and returns the rest. If it is
+/// not whole, or an allocation fails, it changes nothing.
 #[inline(always)]
-fn put_param<'a>(context: &Context, text: &'a [u8], params: &mut Entries<Bare>) -> Option<&'a [u8]>
-    ensures { IfSome result (λ rest. PutsParam context.now.dialect text.now params.old params.new
-        rest.now) }
+fn put_param<'a>(
+    context: &Context,
+    text: &'a [u8],
+    owner: Owner,
+    params: &mut Entries<Bare>,
+) -> Option<&'a [u8]>
+    ensures puts { IfSome result (λ rest. PutsParam context.now.dialect text.now params.old
+        params.new rest.now) }
+    ensures same { IfNone result (params.new ≡ params.old) }
 {
     let Some((found, rest)) = find_named(behind_spaces(text)) else {
-        return put_read_param(context, text, params);
+        return put_read_param(context, text, owner, params);
     };
-    if !may_follow_param(rest) {
+    if !may_follow(owner, rest) {
         return None;
     }
     let Ok(true) = put_leaf(context, found, params) else {
@@ -308,26 +348,31 @@ fn put_param<'a>(context: &Context, text: &'a [u8], params: &mut Entries<Bare>) 
 fn put_read_param<'a>(
     context: &Context,
     text: &'a [u8],
+    owner: Owner,
     params: &mut Entries<Bare>,
 ) -> Option<&'a [u8]>
-    ensures { IfSome result (λ rest. PutsParam context.now.dialect text.now params.old params.new
-        rest.now) }
+    ensures puts { IfSome result (λ rest. PutsParam context.now.dialect text.now params.old
+        params.new rest.now) }
+    ensures same { IfNone result (params.new ≡ params.old) }
 {
     let (key, value, rest) = read_param(context, text)?;
+    if !may_follow(owner, rest) {
+        return None;
+    }
     let Ok(()) = params.set_named(context.alloc, key, value) else {
         return None;
     };
     Some(rest)
 }
 
-/// An Item, and the rest.
+/// An Item of an Inner List with its whole parameters, and the rest.
 #[inline(always)]
-pub fn read_item<'a>(context: &Context, text: &'a [u8]) -> Option<(Item, &'a [u8])>
+fn read_item<'a>(context: &Context, text: &'a [u8]) -> Option<(Item, &'a [u8])>
     ensures { IfSome result (λ r. ReadsAs (SpellsItem context.now.dialect) text.now r.0 r.1.now) }
 {
     let (bare, after) = read_bare(context, text)?;
     let mut params = Entries::new(context.alloc, &context.seed);
-    let rest = read_params(context, after, &mut params)?;
+    let rest = read_params(context, after, Owner::InnerItem, &mut params);
     Some((Item { bare, params }, rest))
 }
 
@@ -418,6 +463,7 @@ fn push_leaf(
     ensures added { IfOk result (λ took. took ≡ true
         → items.new ≡ items.old ++ item_of (leaf_bare leaf.entry) params ∷ []) }
     ensures same { IfOk result (λ took. took ≡ false → items.new ≡ items.old) }
+    ensures failed { OnErr result (items.new ≡ items.old) }
 {
     let Some(bare) = make(context, leaf) else {
         return Ok(false);
@@ -426,29 +472,56 @@ fn push_leaf(
     Ok(true)
 }
 
-/// Adds the Items of an Inner List, up to its closing bracket, and returns the rest after that.
-fn read_items<'a>(context: &Context, text: &'a [u8], items: &mut Sequence<Item>) -> Option<&'a [u8]>
-    ensures { IfSome result (λ rest. ReadsItems context.now.dialect 0 text.now items.old items.new
-        rest.now) }
+/// What is behind Items of an Inner List.
+#[derive(Clone, Copy)]
+pub enum BehindItems<'a> {
+    /// The rest, where another Item may begin: after the opening bracket or a space.
+    Open(&'a [u8]),
+    /// The rest after the closing bracket.
+    Closed(&'a [u8]),
+}
+
+/// Adds the whole Items of an Inner List, up to its closing bracket or one that is not whole.
+fn read_items<'a>(context: &Context, text: &'a [u8], items: &mut Sequence<Item>) -> BehindItems<'a>
+    ensures { ReachesItems context.now.dialect text.now items.old items.new result }
 {
     let mut rest = behind_spaces(text);
     loop {
         if let Some(left) = behind(rest, b')') {
-            return Some(left);
+            return BehindItems::Closed(left);
         }
-        let after = push_item(context, rest, items)?;
-        let Some(spaced) = behind(after, b' ') else {
-            return behind(after, b')');
+        let Some(end) = push_item(context, rest, items) else {
+            return BehindItems::Open(rest);
         };
-        rest = behind_spaces(spaced);
+        match end {
+            BehindItems::Open(left) => rest = left,
+            BehindItems::Closed(left) => return BehindItems::Closed(left),
+        }
     }
 }
 
-/// Adds the Item that a text begins with, and returns the rest.
+/// What is behind an Item of an Inner List: a space and the spaces after it, or the bracket.
 #[inline(always)]
-fn push_item<'a>(context: &Context, text: &'a [u8], items: &mut Sequence<Item>) -> Option<&'a [u8]>
-    ensures { IfSome result (λ rest. AddsItem context.now.dialect text.now items.old items.new
-        rest.now) }
+fn behind_item(text: &[u8]) -> Option<BehindItems<'_>>
+    ensures { IfSome result (IsBehindItem text.now) }
+{
+    match split(text) {
+        Some((b' ', more)) => Some(BehindItems::Open(behind_spaces(more))),
+        Some((b')', rest)) => Some(BehindItems::Closed(rest)),
+        _ => None,
+    }
+}
+
+/// Adds the Item that a text begins with, and returns what is behind it. If it is not whole, or an
+/// allocation fails, it changes nothing.
+#[inline(always)]
+fn push_item<'a>(
+    context: &Context,
+    text: &'a [u8],
+    items: &mut Sequence<Item>,
+) -> Option<BehindItems<'a>>
+    ensures adds { IfSome result (AddsItem context.now.dialect text.now items.old items.new) }
+    ensures same { IfNone result (items.new ≡ items.old) }
 {
     let Some((leaf, after)) = find_leaf(text) else {
         return push_read_item(context, text, items);
@@ -456,31 +529,34 @@ fn push_item<'a>(context: &Context, text: &'a [u8], items: &mut Sequence<Item>) 
     if behind(after, b';').is_some() {
         return push_with_params(context, leaf, after, items);
     }
+    let end = behind_item(after)?;
     let params = Entries::new(context.alloc, &context.seed);
     let Ok(true) = push_leaf(context, leaf, params, items) else {
         return None;
     };
-    Some(after)
+    Some(end)
 }
 
-/// Adds an Item that was found, with the parameters after it, and returns the rest.
+/// Adds an Item that was found, with the parameters after it, and returns what is behind them.
 #[inline(never)]
 fn push_with_params<'a>(
     context: &Context,
     leaf: Leaf<'_>,
     after: &'a [u8],
     items: &mut Sequence<Item>,
-) -> Option<&'a [u8]>
+) -> Option<BehindItems<'a>>
     requires { IsLeaf leaf }
-    ensures { IfSome result (λ rest. AddsFound context.now.dialect leaf.entry after.now items.old
-        items.new rest.now) }
+    ensures adds { IfSome result (AddsFound context.now.dialect leaf.entry after.now items.old
+        items.new) }
+    ensures same { IfNone result (items.new ≡ items.old) }
 {
     let mut params = Entries::new(context.alloc, &context.seed);
-    let rest = read_params(context, after, &mut params)?;
+    let rest = read_params(context, after, Owner::InnerItem, &mut params);
+    let end = behind_item(rest)?;
     let Ok(true) = push_leaf(context, leaf, params, items) else {
         return None;
     };
-    Some(rest)
+    Some(end)
 }
 
 /// As [`push_item`], for an Item of any type.
@@ -489,55 +565,99 @@ fn push_read_item<'a>(
     context: &Context,
     text: &'a [u8],
     items: &mut Sequence<Item>,
-) -> Option<&'a [u8]>
-    ensures { IfSome result (λ rest. AddsItem context.now.dialect text.now items.old items.new
-        rest.now) }
+) -> Option<BehindItems<'a>>
+    ensures adds { IfSome result (AddsItem context.now.dialect text.now items.old items.new) }
+    ensures same { IfNone result (items.new ≡ items.old) }
 {
     let (item, rest) = read_item(context, text)?;
+    let end = behind_item(rest)?;
     let Ok(()) = items.push_or_drop(item) else {
         return None;
     };
-    Some(rest)
+    Some(end)
 }
 
-/// An Inner List after its opening bracket, and the rest.
+/// An Inner List after its opening bracket, and the rest. If it is not whole, its whole Items and
+/// parameters are kept.
 #[inline(never)]
-fn read_inner<'a>(context: &Context, inside: &'a [u8]) -> Option<(Inner, &'a [u8])>
-    ensures { IfSome result (λ r. ReadsAs (SpellsInner context.now.dialect)
+fn read_inner<'a>(
+    context: &Context,
+    inside: &'a [u8],
+    owner: Owner,
+    begun: &mut Option<Begun<'a>>,
+) -> Option<(Inner, &'a [u8])>
+    requires { begun.old ≡ None }
+    ensures reads { IfSome result (λ r. ReadsAs (SpellsInner context.now.dialect)
         (open_bracket ∷ inside.now) r.0 r.1.now) }
+    ensures none { IfSome result (λ _. begun.new ≡ None) }
+    ensures begun { IfNone result (IfSome begun.new (IsBegunAt context.now.dialect inside.now)) }
 {
     let mut items = Sequence::new(context.alloc);
-    let after = read_items(context, inside, &mut items)?;
+    let after = match read_items(context, inside, &mut items) {
+        BehindItems::Closed(after) => after,
+        BehindItems::Open(left) => {
+            keep_items(begun, inside, items, left);
+            return None;
+        }
+    };
+    if !may_follow(owner, after) {
+        keep_closed(begun, inside, items, after);
+        return None;
+    }
     let mut params = Entries::new(context.alloc, &context.seed);
-    let rest = read_params(context, after, &mut params)?;
-    Some((Inner { items, params }, rest))
+    let rest = read_params(context, after, owner, &mut params);
+    let Some(left) = behind(rest, b';') else {
+        return Some((Inner { items, params }, rest));
+    };
+    keep_inner(begun, inside, items, params, left);
+    None
 }
 
-/// A member of a List, and the rest.
+/// A member of a List, and the rest. If it is not whole, its whole parts are kept.
 #[inline(always)]
-pub fn read_member<'a>(context: &Context, text: &'a [u8]) -> Option<(Member, &'a [u8])>
-    ensures { IfSome result (λ r. ReadsAs (SpellsMember context.now.dialect) text.now r.0 r.1.now) }
+pub fn read_member<'a>(
+    context: &Context,
+    text: &'a [u8],
+    owner: Owner,
+    begun: &mut Option<Begun<'a>>,
+) -> Option<(Member, &'a [u8])>
+    requires { begun.old ≡ None }
+    ensures reads { IfSome result (λ r. ReadsAs (SpellsMember context.now.dialect) text.now r.0
+        r.1.now) }
+    ensures none { IfSome result (λ _. begun.new ≡ None) }
+    ensures begun { IfNone result (IfSome begun.new (IsBegunIn context.now.dialect text.now)) }
 {
     if let Some(inside) = behind(text, b'(') {
-        let (inner, rest) = read_inner(context, inside)?;
+        let (inner, rest) = read_inner(context, inside, owner, begun)?;
         return Some((Member::Inner(inner), rest));
     }
-    let (item, rest) = read_item(context, text)?;
-    Some((Member::Item(item), rest))
+    let (bare, after) = read_bare(context, text)?;
+    let mut params = Entries::new(context.alloc, &context.seed);
+    let rest = read_params(context, after, owner, &mut params);
+    if behind(rest, b';').is_some() {
+        keep_params(begun, after, params, rest);
+        return None;
+    }
+    Some((Member::Item(Item { bare, params }), rest))
 }
 
-/// A member of a Dictionary: its key, its value, and the rest.
+/// A member of a Dictionary with a value: its key, the value, and the rest. If it is not whole, its
+/// whole parts are kept.
 #[inline(always)]
-pub fn read_entry<'a>(context: &Context, text: &'a [u8]) -> Option<(Key, Member, &'a [u8])>
-    ensures { IfSome result (λ r. ReadsAs (SpellsEntry context.now.dialect) text.now (r.0, r.1)
+pub fn read_entry<'a>(
+    context: &Context,
+    text: &'a [u8],
+    owner: Owner,
+    begun: &mut Option<Begun<'a>>,
+) -> Option<(Key, Member, &'a [u8])>
+    requires { begun.old ≡ None }
+    ensures reads { IfSome result (λ r. ReadsAs (SpellsEntry context.now.dialect) text.now (r.0, r.1)
         r.2.now) }
+    ensures none { IfSome result (λ _. begun.new ≡ None) }
+    ensures begun { IfNone result (IfSome begun.new (IsBegunIn context.now.dialect text.now)) }
 {
     let (key, after) = read_key(context, text)?;
-    if let Some(value) = behind(after, b'=') {
-        let (member, rest) = read_member(context, value)?;
-        return Some((key, member, rest));
-    }
-    let mut params = Entries::new(context.alloc, &context.seed);
-    let rest = read_params(context, after, &mut params)?;
-    Some((key, flag(params), rest))
+    let value = behind(after, b'=')?;
+    let (member, rest) = read_member(context, value, owner, begun)?;
+    Some((key, member, rest))
 }

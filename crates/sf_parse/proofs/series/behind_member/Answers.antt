@@ -1,13 +1,20 @@
-use Rattle.std.proofs.Common.{ap, ◌∙◌, ◌∷◌, ◌++◌}
+use Rattle.std.proofs.Common.{ap, ◌∙◌, ◌∷◌, ◌++◌, inl, inr}
 use Rattle.sf_parse.proofs.series.behind_member.Goals as goal
+
+pub returns-then-not-ends : goal.returns-then-not-ends
+returns-then-not-ends c = (
+  c.short_prefix.result.0.now,
+  c.short_prefix.ensures.whole,
+  c.short_prefix.ensures.every,
+  inl (c.ends.ensures.some c.if-not-ends.true),
+)
 
 pub returns-in_default : goal.returns-in_default
 returns-in_default c = (
   c.short_prefix.result.0.now,
   c.short_prefix.ensures.whole,
   c.short_prefix.ensures.every,
-  c.ends.ensures.all c.if-not-ends.false,
-  c.if-not-is_whole.false,
+  inr (c.ends-else-not-is_whole.ensures.all c.if-not-ends-2.false, c.if-not-is_whole.false),
 )
 
 pub returns : goal.returns

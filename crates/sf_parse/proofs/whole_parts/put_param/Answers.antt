@@ -2,8 +2,8 @@ use Rattle.sf_parse.specs.Leaves.{leaf_bare}
 use Rattle.sf_parse.proofs.WholeParts.{param_after}
 use Rattle.sf_parse.proofs.whole_parts.put_param.Goals as goal
 
-pub returns : goal.returns
-returns c =
+pub returns-clause-puts : goal.returns-clause-puts
+returns-clause-puts c =
     let d = c.args.context.now.dialect in record {
       key = c.in-Some.found.key.now;
       value = leaf_bare c.in-Some.found.leaf;

@@ -12,7 +12,7 @@ loop-more-init c = record {
 
 pub loop-more-preserved : goal.loop-more-preserved
 loop-more-preserved c =
-    let one = c.in_ok-rest.ensures in record {
+    let one = c.in-Some-put_param.ensures.puts in record {
       settled =
           subst (λ y. settle y ≡ y) (sym one.added)
           (put_settled c.loop-more.params one.key one.value);
@@ -20,6 +20,12 @@ loop-more-preserved c =
           c.loop-more.invariant.reads all s
           (params_then _ _ _ _ _ _ _ _ _ _ c.in-Some.ensures one.reads one.added r);
     }
+
+pub returns-in_default-put_param : goal.returns-in_default-put_param
+returns-in_default-put_param c =
+    rw c.in_default-put_param.ensures.same
+    (params_whole _ _ _ _ _ c.requires
+    (c.loop-more.invariant.reads _ _ (params_end _ _ _ c.loop-more.invariant.settled)))
 
 pub returns : goal.returns
 returns c =

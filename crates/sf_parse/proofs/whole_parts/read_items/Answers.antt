@@ -1,24 +1,53 @@
-use Rattle.sf_parse.proofs.WholeParts.{items_after, items_apart, items_end, items_then, each_some}
+use Rattle.sf_value.specs.Grammar.Classes.{is_sp}
+use Rattle.sf_parse.specs.Machine.Inners.{BetweenItems}
+use Rattle.sf_parse.specs.Machine.Members.{InMany, member_step}
+use Rattle.sf_parse.proofs.ByteRuns.{stay_goes}
+use Rattle.sf_parse.proofs.OpenParts.{space_in_member}
+use Rattle.sf_parse.proofs.Prefixes.{goes_more}
+use Rattle.sf_parse.proofs.WholeParts.{items_after, items_apart, items_end, items_then}
+use Rattle.sf_parse.proofs.WholeParts.{item_shorter}
+use Rattle.sf_parse.proofs.WholeSteps.{item_goes}
 use Rattle.sf_parse.proofs.whole_parts.read_items.Goals as goal
 
 pub loop-left-init : goal.loop-left-init
-loop-left-init c = λ all s r. items_after _ _ _ _ _ _ c.behind_spaces-rest.ensures r
+loop-left-init c =
+    let d = c.args.context.now.dialect in
+    let is = c.args.items.now in
+    let behind = c.behind_spaces-rest.ensures in record {
+      reads = λ all s r. items_after _ _ _ _ _ _ behind r;
+      goes = stay_goes (member_step d) is_sp (InMany (BetweenItems is)) behind.prefix _ _
+          (space_in_member d is) behind.split behind.each;
+    }
 
 pub returns-in-Some : goal.returns-in-Some
-returns-in-Some c = c.loop-left.invariant _ _ (items_end _ 0 _ _ _ c.in-Some.ensures)
+returns-in-Some c = c.loop-left.invariant.reads _ _ (items_end _ 0 _ _ _ c.in-Some.ensures)
 
-pub returns-in_default-behind : goal.returns-in_default-behind
-returns-in_default-behind c =
-    each_some
-    (λ rest e.
-    c.loop-left.invariant _ _
-    (items_then _ _ _ _ _ _ _ _ c.in_ok-after.ensures.reads c.in_ok-after.ensures.added
-    (items_end _ 1 _ _ _ e)))
-    c.behind-in_default-behind.result c.behind-in_default-behind.ensures
+pub returns-in-Closed : goal.returns-in-Closed
+returns-in-Closed c =
+    let one = c.in-Some-push_item.ensures.adds in
+    c.loop-left.invariant.reads _ _
+    (items_then _ _ _ _ _ _ _ _ one.reads one.added
+    (items_end _ 1 _ _ _ (rw c.in-Closed.is at one.behind)))
+
+pub returns-in_default-push_item : goal.returns-in_default-push_item
+returns-in_default-push_item c = rw c.in_default-push_item.ensures.same c.loop-left.invariant.goes
 
 pub loop-left-preserved : goal.loop-left-preserved
-loop-left-preserved c = λ all s r.
-    c.loop-left.invariant _ _
-    (items_then _ _ _ _ _ _ _ _ c.in_ok-after.ensures.reads c.in_ok-after.ensures.added
-    (items_apart _ _ _ _ _ _ _ c.in-Some-behind.ensures
-    c.behind_spaces-rest-in-loop-left.ensures r))
+loop-left-preserved c =
+    let d = c.args.context.now.dialect in
+    let one = c.in-Some-push_item.ensures.adds in
+    let behind = rw c.in-Open.is at one.behind in record {
+      reads = λ all s r.
+          c.loop-left.invariant.reads _ _
+          (items_then _ _ _ _ _ _ _ _ one.reads one.added
+          (items_apart _ _ _ _ _ _ _ behind.1 behind.2 r));
+      goes = goes_more (member_step d) _ _ _ _ _ _ c.loop-left.invariant.goes
+          (item_goes d _ _ _ _ _ _ _ one.reads behind.1 behind.2 one.added);
+    }
+
+pub loop-left-smaller : goal.loop-left-smaller
+loop-left-smaller c =
+    let d = c.args.context.now.dialect in
+    let one = c.in-Some-push_item.ensures.adds in
+    let behind = rw c.in-Open.is at one.behind in
+    item_shorter d _ _ _ _ _ one.reads behind.1 behind.2

@@ -33,11 +33,11 @@ invariant_of-self-in-InFlag c =
     let fits = rw c.in-InFlag.is at c.self.invariant in (
       fits.0,
       flag_kept c.args.context.now.dialect c.self.inside.key _ _ _ _ fits.1
-          c.in_ok-rest-in-InFlag.ensures.prefix,
+          c.in_ok-rest-in-InFlag.ensures.prefix.goes,
     )
 
 pub returns-in-InFlag-clause-goes : goal.returns-in-InFlag-clause-goes
 returns-in-InFlag-clause-goes c =
     let fits = rw c.in-InFlag.is at c.self.invariant in
     rw (← c.self.view_is, c.in-InFlag.is)
-    (flag_part c.args.context.now.dialect _ _ _ _ _ fits.1 c.in_ok-rest-in-InFlag.ensures.prefix)
+    (flag_part c.args.context.now.dialect _ _ _ _ _ fits.1 c.in_ok-rest-in-InFlag.ensures.prefix.goes)
