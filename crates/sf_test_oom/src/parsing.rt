@@ -79,6 +79,24 @@ fn refused_texts(rt: HostRuntime) -> Result<(), Fail> {
     Ok(())
 }
 
+/// Refused for its last byte, at 60, behind parts of the same member, two of which allocate.
+const REFUSED_BEHIND_PARTS: &[u8] =
+    b"a=(1 \"longer than 16 bytes\" tok);p=\"longer than 16 bytes\";q=#";
+
+#[test]
+fn refused_behind_parts(rt: HostRuntime) -> Result<(), Fail> {
+    let alloc = rt.alloc();
+    let seed = RandomState::new(&rt)?;
+    expect_refusals(&rt, || {
+        seen_syntax(
+            parse_text(alloc, &seed, Kind::Dict, REFUSED_BEHIND_PARTS),
+            60,
+            b'#',
+        )
+    });
+    Ok(())
+}
+
 /// The Dictionary of a text that a reader gives a byte a call.
 fn read(alloc: Global, seed: &RandomState, text: &[u8]) -> Result<Field, Refusal> {
     let mut source = Paced::new(text, 1, 0, 0);
@@ -144,7 +162,7 @@ fn pieces(rt: HostRuntime) -> Result<(), Fail> {
     let alloc = rt.alloc();
     let seed = RandomState::new(&rt)?;
     let want = parse_text(alloc, &seed, Kind::Dict, MEMBERS)?;
-    for size in [1, 7, 1000usize] {
+    for size in [1, 7, 64, 70, 1000usize] {
         expect_refusals(&rt, || fed(alloc, &seed, size, &want));
     }
     Ok(())

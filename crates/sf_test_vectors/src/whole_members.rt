@@ -441,3 +441,92 @@ fn dictionaries_as_by_levels(rt: HostRuntime) -> Result<(), Fail> {
     let seed = RandomState::new(&rt)?;
     check_parts(&rt, &seed, Kind::Dict)
 }
+
+/// Texts whose first member has many parts, each text longer than the least chunk in which whole ones
+/// are looked for.
+static LONG: [(Kind, &[u8]); 6] = [
+    (
+        Kind::Dict,
+        b"sig1=(\"@method\" \"@path\";req tok/a -1.5;p=?0;q  :YQ:);created=1618884473;keyid=\"k\";\
+          alg=tok, b;x=1;y=\"z\";w",
+    ),
+    (
+        Kind::Dict,
+        b"flag;a=1;b=tok;c=\"s\";d;e=?0;f=1.5;a=2;g=\"t\\\\u\";h=:YQ:, other=?1;p;q=1",
+    ),
+    (
+        Kind::List,
+        b"proxy.example.com;fwd=miss;fwd-status=200;stored;detail=\"a b\";x=:YQ:;y=@1;z=%\"f\", b;c",
+    ),
+    (
+        Kind::List,
+        b"(a b c;p=1;q=tok  \"s\" 1 2 3 4 5 6 7 8 9 10 11 12 13 14 15 16 17);x=1;y ,( ),(z);p",
+    ),
+    (
+        Kind::List,
+        b"(a;p=\"x\\\"y\";q=1;r=tok;s=\"t u\" b;p=1;q=2;r=3;s=4;t=5;u=6;v=7;w=8;x=9;y=10);z=\"\\\\\", c",
+    ),
+    (
+        Kind::Item,
+        b"  \"s\";a=1;b=tok;c=\"s\";d;e=?0;f=1.5;a=2;g=:YQ:;h=@1;i=%\"f\";k=\"a\\\"b\";l=2 ",
+    ),
+];
+
+/// Bytes that are mistakes in most places.
+const MISTAKES: [u8; 10] = *b"$\x80=;) \t,x\"";
+
+#[test]
+fn a_mistake_at_each_place(rt: HostRuntime) -> Result<(), Fail> {
+    let seed = RandomState::new(&rt)?;
+    for (kind, text) in &LONG {
+        for place in 0..text.len() {
+            for mistake in MISTAKES {
+                let mut wrong = Vec::new(rt.alloc());
+                wrong.extend_from_slice(&text[..place])?;
+                wrong.push(mistake)?;
+                wrong.extend_from_slice(&text[place..])?;
+                for dialect in [Dialect::Rfc9651, Dialect::Rfc8941] {
+                    assert!(rt;
+                        is_read_the_same(rt.alloc(), &seed, dialect, *kind, wrong.as_slice()),
+                        "{wrong:?}"
+                    );
+                }
+            }
+        }
+    }
+    Ok(())
+}
+
+#[test]
+fn an_end_at_each_place(rt: HostRuntime) -> Result<(), Fail> {
+    let seed = RandomState::new(&rt)?;
+    for (kind, text) in &LONG {
+        for end in 0..=text.len() {
+            let short = &text[..end];
+            assert!(rt;
+                is_read_the_same(rt.alloc(), &seed, Dialect::Rfc9651, *kind, short),
+                "{short:?}"
+            );
+        }
+    }
+    Ok(())
+}
+
+#[test]
+fn chunks_of_each_size(rt: HostRuntime) -> Result<(), Fail> {
+    let seed = RandomState::new(&rt)?;
+    for (kind, text) in &LONG {
+        let mut twice = Vec::new(rt.alloc());
+        twice.extend_from_slice(text)?;
+        twice.extend_from_slice(b",")?;
+        twice.extend_from_slice(text)?;
+        for dialect in [Dialect::Rfc9651, Dialect::Rfc8941] {
+            let bytewise = fed(rt.alloc(), &seed, dialect, *kind, twice.as_slice(), 1);
+            for size in 2..twice.len() {
+                let chunks = fed(rt.alloc(), &seed, dialect, *kind, twice.as_slice(), size);
+                assert!(rt; are_same(&chunks, &bytewise), "{twice:?} by {size}");
+            }
+        }
+    }
+    Ok(())
+}
