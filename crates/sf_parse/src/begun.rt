@@ -48,8 +48,14 @@ pub fn begun_params<'a>(text: &'a [u8], params: Entries<Bare>, rest: &'a [u8]) -
     })
 }
 
-/// Keeps these parameters. Only if there are some, or more is read directly after them, this costs a
-/// call.
+/// Whether a reader saves by these parameters what it costs to keep them: not if there are none, and so
+/// little is left that nothing more is read directly. Nothing is claimed of it.
+#[inline(always)]
+pub fn are_worth_keeping(params: &Entries<Bare>, rest: &[u8]) -> bool {
+    !params.is_empty() || rest.len() >= WHOLE_PARTS
+}
+
+/// Keeps these parameters, if they are worth it. Only then this costs a call.
 #[inline(always)]
 pub fn keep_params<'a>(
     begun: &mut Option<Begun<'a>>,
@@ -61,7 +67,7 @@ pub fn keep_params<'a>(
     ensures { IfSome begun.new (λ b. (d : Dialect)
         → ReadsAs (SpellsParams d) text.now params rest.now → IsBegunParams d text.now b) }
 {
-    if params.is_empty() && rest.len() < WHOLE_PARTS {
+    if !are_worth_keeping(&params, rest) {
         return;
     }
     keep_some_params(begun, text, params, rest);

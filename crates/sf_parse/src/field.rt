@@ -25,7 +25,7 @@ ghost use Rattle.sf_parse.specs.WholeParts.{Behind, ReadsAs};
 ghost use Rattle.sf_value.specs.Grammar.Parameters.{SpellsParams};
 ghost use Rattle.sf_value.specs.Grammar.Classes.{is_sp};
 
-use crate::begun::{Begun, begun_params};
+use crate::begun::{Begun, are_worth_keeping, begun_params};
 use crate::context::Context;
 use crate::entry::EntryReader;
 use crate::item_field::ItemFieldReader;
@@ -187,7 +187,7 @@ impl WholeText for ItemFieldReader {
                 return Ok(Item { bare, params });
             }
         }
-        if params.is_empty() {
+        if !are_worth_keeping(&params, rest) {
             return read_item_field(context, text, inside);
         }
         read_begun_item(context, text, inside, after, params, rest)

@@ -203,40 +203,25 @@ impl<P: SeriesMember<G>, G: Drop> SeriesReader<P, G> {
             self.new) rest.now) }
         ensures allocation_free { SeriesFree self.old chunk.now → IsOk result }
     {
-        let mut begun = None;
         match self.phase {
             SeriesPhase::InMember => return self.member.take_by_bytes(context, chunk),
             SeriesPhase::Gap => return Ok(chunk),
-            SeriesPhase::Begin => {
-                // Whatever the reader holds, nothing was given before the first member.
-                self.given = P::none(context);
-                let left = add_each_member::<P, G>(
-                    context,
-                    chunk,
-                    false,
-                    &mut self.phase,
-                    &mut self.given,
-                    &mut begun,
-                )?;
-                match begun {
-                    Some(begun) => return self.take_begun_member(context, left, begun),
-                    None => return Ok(left),
-                }
-            }
-            SeriesPhase::Comma => {
-                let left = add_each_member::<P, G>(
-                    context,
-                    chunk,
-                    false,
-                    &mut self.phase,
-                    &mut self.given,
-                    &mut begun,
-                )?;
-                match begun {
-                    Some(begun) => return self.take_begun_member(context, left, begun),
-                    None => return Ok(left),
-                }
-            }
+            // Whatever the reader holds, nothing was given before the first member.
+            SeriesPhase::Begin => self.given = P::none(context),
+            SeriesPhase::Comma => {}
+        }
+        let mut begun = None;
+        let left = add_each_member::<P, G>(
+            context,
+            chunk,
+            false,
+            &mut self.phase,
+            &mut self.given,
+            &mut begun,
+        )?;
+        match begun {
+            Some(begun) => self.take_begun_member(context, left, begun),
+            None => Ok(left),
         }
     }
 
