@@ -1,22 +1,23 @@
 -- The sets of bytes of levels, seen from the level above, and those of a display string.
 use Rattle.std.proofs.Common.{◌≡◌, ℕ, ◌≤◌, Bool, true, false, ◌==◌, ◌||◌, if◌then◌else◌, List}
 use Rattle.std.proofs.Common.{[], ◌∷◌, ◌++◌, Option, Some, None, is_some, IsSome, refl, sym, subst}
-use Rattle.std.proofs.Common.{arith}
+use Rattle.std.proofs.Common.{arith, ◌^◌, bit_or}
 use Rattle.std.specs.Option.{option_map}
 use Rattle.sf_value.specs.declared.dialect.Dialect.{Dialect}
 use Rattle.sf_value.specs.declared.value.Bare.{Bare}
 use Rattle.sf_value.specs.declared.value.Item.{Item}
-use Rattle.sf_value.specs.Grammar.Classes.{is_visible}
+use Rattle.sf_value.specs.Grammar.Classes.{is_sp, is_visible}
+use Rattle.sf_value.specs.Grammar.Words.{allow}
 use Rattle.sf_value.specs.Grammar.Utf8.{Utf8, Within, within, utf8_step}
 use Rattle.sf_parse.specs.Expected.{MarksStep}
 use Rattle.sf_parse.specs.Machine.Language.{run}
 use Rattle.sf_parse.specs.Machine.Showns.{Unencoded, Percent, GoodUtf8, quote_step, shown_step}
-use Rattle.sf_parse.specs.Machine.Bares.{BareState}
+use Rattle.sf_parse.specs.Machine.Bares.{BareState, bare_start}
 use Rattle.sf_parse.specs.Machine.Blobs.{Held, grow_step, end_step}
-use Rattle.sf_parse.specs.Machine.Params.{ParamsState, params_step}
+use Rattle.sf_parse.specs.Machine.Params.{ParamsState, Between, params_step}
 use Rattle.sf_parse.specs.Machine.Items.{ItemState, InBare, InParams, item_step}
 use Rattle.sf_parse.specs.Machine.Members.{MemberState, InOne, InMany, member_step}
-use Rattle.sf_parse.specs.Machine.Inners.{Closing}
+use Rattle.sf_parse.specs.Machine.Inners.{BetweenItems, InItem, Closing}
 use Rattle.sf_parse.specs.Machine.Entries.{InFlag, entry_step}
 use Rattle.sf_parse.specs.Machine.States.{AfterItem}
 use Rattle.sf_parse.specs.Machine.Fields.{step}
@@ -26,7 +27,7 @@ use Rattle.sf_parse.specs.EntryView.{flag_at, IsFlag}
 use Rattle.sf_parse.specs.ItemFieldView.{after_of}
 use Rattle.sf_parse.proofs.Machine.Language.{and_then_cases}
 use Rattle.sf_parse.proofs.HighDigits.{utf8_good}
-use Rattle.sf_parse.proofs.Marks.{marks_table, marks_steps, marks_same, marks_map}
+use Rattle.sf_parse.proofs.Marks.{marks_table, marks_steps, marks_same, marks_map, marks_either}
 
 pub marks_params : (d : Dialect) (o : Option Bare) (s : BareState) (ps : ParamsState) (x : ℕ)
     → IsSome o → MarksStep x (params_step d ps) → MarksStep x (item_step d (with_params o s ps))
@@ -43,6 +44,15 @@ pub marks_closing : (d : Dialect) (is : List Item) (s : ItemState) (x : ℕ) →
 marks_closing d is (InBare s) x k h = absurd k
 marks_closing d is (InParams v s) x k h =
     marks_same x _ _ (λ b. twice (Closing is) InMany (InParams v) (params_step d s b)) h
+
+pub marks_items : (d : Dialect) (is : List Item) (x : ℕ) → MarksStep x (bare_start d)
+    → MarksStep (bit_or (2 ^ 32) (bit_or (2 ^ 41) x)) (member_step d (InMany (BetweenItems is)))
+marks_items d is x h =
+    marks_map InMany _ _ (marks_either (2 ^ 32) _ (λ b. allow (is_sp b) (BetweenItems is)) _
+    (marks_steps (2 ^ 32) (λ b. allow (is_sp b) (BetweenItems is)) refl)
+    (marks_either (2 ^ 41) x (λ b. allow (b == 41) (Closing is (Between []))) _
+    (marks_steps (2 ^ 41) (λ b. allow (b == 41) (Closing is (Between []))) refl)
+    (marks_map (InItem is) x _ (marks_map InBare x (bare_start d) h))))
 
 pub marks_flag : (d : Dialect) (key : List ℕ) (s : MemberState) (x : ℕ) → IsFlag s
     → MarksStep x (member_step d s) → MarksStep x (entry_step d (flag_at key s))

@@ -24,7 +24,7 @@ pub mod WholeParts
 pub mod WholeSteps
 pub mod WholeMembers
 pub mod BegunParts
-pub mod KeyRefusals
+pub mod Stops
 pub mod Leading
 pub mod ByteRuns
 pub mod RunSteps

@@ -1,7 +1,7 @@
 -- Whole members, and where the machine of a series goes by them.
 use Rattle.std.specs.Option.{option_map}
 use Rattle.std.proofs.Common.{◌≡◌, ℕ, Bool, true, false, List, [], ◌∷◌, ◌++◌, Option, Some}
-use Rattle.std.proofs.Common.{refl, sym, ap, ◌∙◌, subst, inl, inr, ⊎_elim, ◌<◌, arith}
+use Rattle.std.proofs.Common.{refl, sym, ap, ◌∙◌, subst, inl, inr, ⊎_elim, arith}
 use Rattle.std.proofs.Common.{◌⊎◌}
 use Rattle.sf_value.specs.Grammar.Words.{Every}
 use Rattle.sf_value.specs.Grammar.Classes.{is_sp, is_ows}
@@ -9,19 +9,14 @@ use Rattle.sf_parse.specs.AllocationFree.{SeriesFree}
 use Rattle.sf_parse.specs.StaysFree.{series_keeps}
 use Rattle.sf_parse.specs.Machine.Language.{Machine}
 use Rattle.sf_parse.specs.Machine.Series.{Series, SeriesState, InMember, Gap, Comma}
-use Rattle.sf_parse.specs.Expected.{MarksStep}
-use Rattle.sf_parse.specs.Prefixes.{Goes, FirstIs, Halts}
-use Rattle.sf_parse.specs.declared.refusal.Refusal.TheVariants.{Syntax}
-use Rattle.std.specs.Int.{bit_at}
-use Rattle.std.specs.List.{slice_get}
-use Rattle.std.proofs.Common.{◌^◌, ◌/◌, ◌≢◌, bit_and, None, is_some, nat_lt, ◌&&◌, if◌then◌else◌}
-use Rattle.std.proofs.lemmas.Nat.Bits.{shr_and_one}
+use Rattle.sf_parse.specs.Prefixes.{Goes}
+use Rattle.std.proofs.Common.{◌≢◌}
 use Rattle.sf_parse.specs.SeriesView.{series_next, series_end, series_of}
 use Rattle.sf_parse.specs.declared.series.SeriesPhase.{SeriesPhase}
 use Rattle.sf_parse.specs.declared.series.SeriesPhase.TheVariants as phase
 use Rattle.sf_parse.specs.WholeParts.{ReadsAs}
 use Rattle.sf_parse.specs.WholeMembers.{IsWholeMember, MayBegin, MayEnd, NoneOpen}
-use Rattle.sf_parse.specs.WholeMembers.{TakesMembers, IsBetween, IsBehindMember, RefusesAt}
+use Rattle.sf_parse.specs.WholeMembers.{TakesMembers, IsBetween, IsBehindMember}
 use Rattle.sf_parse.proofs.Machine.Language.{is_none}
 use Rattle.sf_parse.proofs.Machine.Series.{SeriesLaws, ows_after, sp_ows}
 use Rattle.sf_parse.proofs.Prefixes.{goes_one, goes_more, goes_above, free_goes}
@@ -58,34 +53,6 @@ module _ {S X V Y : Type 0} (k : Series S X V) (law : SeriesLaws S X V k)
           → (d ≡ true → o ≡ Some s → ⊥) → o ≡ Some s → d ≡ false
       apart true e h n = absurd (h e n)
       apart false e h n = e
-
--- a byte that is not expected
-unexpected : (bits b : ℕ) (c : Bool) → b < 128
-    → bit_at bits b ≡ (if nat_lt b 128 && c then 1 else 0) → bit_at bits b ≢ 1 → c ≡ false
-unexpected bits b true h m n = absurd (n (m ∙ grind arith))
-unexpected bits b false h m n = refl
-
-not_some : {X : Type 0} (o : Option X) → is_some o ≡ false → o ≡ None
-not_some (Some x) e = absurd cc
-not_some None e = refl
-
-pub byte_refused : {S : Type 0} (next : S → ℕ → Option S) (ends : S → Bool) (s : S)
-    (bits b place : ℕ) (left more : List ℕ) (may : Bool) → left ≡ b ∷ more → b < 128
-    → bit_and (bits / 2 ^ b) 1 ≢ 1 → MarksStep bits (next s) → ends s ≡ may
-    → RefusesAt next ends s left place (Syntax place (Some b) bits may)
-byte_refused next ends s bits b place left more may e h n m k =
-    let stop = not_some (next s b) (unexpected bits b (is_some (next s b)) h (m b)
-    (λ j. n (shr_and_one bits b ∙ j))) in
-    record {
-      stops = subst (FirstIs (Halts next s)) (sym e) stop;
-      unended = λ z. absurd (let j : b ∷ more ≡ [] = sym e ∙ z in cc);
-      refuses = record {
-        expected = bits;
-        marks = m;
-        syntax = sym (ap (λ y. Syntax place (slice_get y 0) bits (ends s)) e
-            ∙ ap (Syntax place (Some b) bits) k);
-      };
-    }
 
 not_sp : (b : ℕ) → is_ows b ≡ false → is_sp b ≡ false
 not_sp b e = grind arith

@@ -37,7 +37,7 @@ key_no_space : (b : ℕ) → is_key_start b ≡ true → is_sp b ≡ false
 key_no_space b e = grind arith
 
 module _ (d : Dialect) where
-  key_goes : (ps : Pairs Bare) (key rest : List ℕ) → IsKey key
+  pub key_goes : (ps : Pairs Bare) (key rest : List ℕ) → IsKey key
       → Goes (params_step d) (Opened ps) (key ++ rest) rest (InParamKey ps key)
   key_goes ps [] rest h = absurd h
   key_goes ps (b ∷ key) rest h =
@@ -117,7 +117,7 @@ module _ (d : Dialect) where
   item_machine : Machine ItemState Item GoodItem (ResidualItem d) (item_step d) item_finish
   item_machine = record { reads = item_reads d; lives = item_lives d }
 
-  begins_item : (is : List Item) (b : ℕ) (s : ItemState) → item_start d b ≡ Some s
+  pub begins_item : (is : List Item) (b : ℕ) (s : ItemState) → item_start d b ≡ Some s
       → member_step d (InMany (BetweenItems is)) b ≡ Some (InMany (InItem is s))
   begins_item is b s e = by (is_sp b) refl (b == 41) refl
     where

@@ -1,8 +1,9 @@
 -- A whole text of which the reader of its kind took a prefix: its exact refusal, or its only value.
 use Rattle.std.proofs.Common.{◌≡◌, ℕ, ◌-◌, Bool, true, false, List, [], ◌∷◌, ◌++◌, length}
 use Rattle.std.proofs.Common.{◌⊎◌, inl, inr, Option, Some, None, is_some, Err, refl, sym, ap, ◌∙◌}
-use Rattle.std.proofs.Common.{subst, append-nil}
+use Rattle.std.proofs.Common.{subst, append-nil, ◌<◌, ◌≤◌, ⊎_elim}
 use Rattle.std.proofs.Common.{length-append, arith}
+use Rattle.std.proofs.lemmas.Bool.{cases_lt}
 use Rattle.std.specs.List.{slice_get}
 use Rattle.sf_value.specs.declared.dialect.Dialect.{Dialect}
 use Rattle.sf_value.specs.declared.value.Field.{Field}
@@ -26,13 +27,15 @@ use Rattle.sf_parse.proofs.OpenParts.{space_before}
 use Rattle.sf_parse.proofs.ByteRuns.{stay_goes}
 use Rattle.sf_parse.proofs.SeriesSteps.{space_stays}
 use Rattle.sf_parse.proofs.FedChunks.{refuses_above}
-use Rattle.sf_parse.proofs.Prefixes.{prefix_all, prefix_above, goes_above, goes_more}
+use Rattle.sf_parse.proofs.Below.{next_below}
+use Rattle.sf_parse.proofs.StateTests.{takes_next}
+use Rattle.sf_parse.proofs.Prefixes.{prefix_all, goes_above, goes_more}
 use Rattle.sf_parse.proofs.WholeMembers.{taken_more, taken_value, taken_left}
 use Rattle.sf_parse.specs.Machine.States.{State, BeforeItem}
 use Rattle.sf_parse.specs.Machine.Fields.{step, finish, begin}
 use Rattle.sf_parse.specs.Machine.Tests.{takes, may_end}
 use Rattle.sf_parse.specs.Expected.{Marks}
-use Rattle.sf_parse.specs.Prefixes.{Goes, LongestPrefix}
+use Rattle.sf_parse.specs.Prefixes.{Goes, FirstIs, Halts, LongestPrefix}
 use Rattle.sf_parse.specs.Reaching.{IsReachedBy}
 use Rattle.sf_parse.specs.Parsers.{IsSyntax, IsOnly, Parses, Refuses}
 use Rattle.sf_parse.specs.AllocationFree.{TakesNoMemory, FieldFree}
@@ -40,11 +43,26 @@ use Rattle.sf_parse.proofs.AllocationFreeSteps.{field_free_goes}
 use Rattle.sf_parse.proofs.Reaching.{reached_nothing, reaches_more}
 use Rattle.sf_parse.proofs.Refusals.{stops_exact, ends_exact, ends_only}
 
+goes_took : (d : Dialect) (kind : Kind) (s t : State) (text rest : List ℕ) → s ≡ begin kind
+    → (a : Goes (step d) s text rest t) → IsReachedBy d kind t a.taken
+goes_took d kind s t text rest e a =
+    reaches_more d kind s t [] a.taken
+    (subst (λ y. IsReachedBy d kind y []) (sym e) (reached_nothing d kind)) a.leads
+
 prefix_took : (d : Dialect) (kind : Kind) (s t : State) (text rest : List ℕ) → s ≡ begin kind
     → (a : LongestPrefix (step d) s text rest t) → IsReachedBy d kind t a.goes.taken
-prefix_took d kind s t text rest e a =
-    reaches_more d kind s t [] a.goes.taken
-    (subst (λ y. IsReachedBy d kind y []) (sym e) (reached_nothing d kind)) a.goes.leads
+prefix_took d kind s t text rest e a = goes_took d kind s t text rest e a.goes
+
+-- no byte above 127 is taken
+high_halts : (d : Dialect) (kind : Kind) (t : State) (p : List ℕ) (b : ℕ) → IsReachedBy d kind t p
+    → 128 ≤ b → step d t b ≡ None
+high_halts d kind t p b k g = by (step d t b) refl
+  where
+    by : (o : Option State) → step d t b ≡ o → step d t b ≡ None
+    by None e = e
+    by (Some u) e =
+        let l = next_below d kind p b ((takes_next d kind t p b k).1 (ap is_some e)) in
+        absurd (let n : ⊥ = omega arith in n)
 
 -- the place is what was taken
 place_is : (taken rest text : List ℕ) → text ≡ taken ++ rest → length text - length rest
@@ -157,6 +175,37 @@ all_parsed d kind t text rest v a e f =
     (prefix_all (step d) (begin kind) t text (subst (λ y. Goes (step d) (begin kind) text y t) e a))
     refl refl f
 
+-- what is left is refused
+pub text_refused : (d : Dialect) (kind : Kind) (text rest : List ℕ) (t : State) (e : Refusal)
+    → Goes (step d) (begin kind) text rest t
+    → RefusesAt (step d) may_end t rest (length text - length rest) e → Parses d kind text (Err e)
+text_refused d kind text rest t e a r =
+    whole_refused d kind (begin kind) t text rest (slice_get rest 0) (may_end t) e refl
+    (record { goes = a; stops = stops rest a r.stops }) refl refl r.refuses (by rest r.unended)
+  where
+    stops : (xs : List ℕ) → Goes (step d) (begin kind) text xs t
+        → FirstIs (λ b. b < 128 → Halts (step d) t b) xs → FirstIs (Halts (step d) t) xs
+    stops [] a h = tt
+    stops (b ∷ xs) a h = ⊎_elim h
+        (λ g. high_halts d kind t a.taken b
+        (goes_took d kind (begin kind) t text (b ∷ xs) refl a) g)
+        (cases_lt b 128)
+
+    by : (xs : List ℕ) → (xs ≡ [] → may_end t ≡ false)
+        → (is_some (slice_get xs 0) ≡ true)
+        ⊎ ((is_some (slice_get xs 0) ≡ false) × (may_end t ≡ false))
+    by [] h = inr (refl, h refl)
+    by (b ∷ xs) h = inl refl
+
+-- an Item is refused, after the spaces before it
+pub item_refused : (d : Dialect) (text inside : List ℕ) (e : Refusal) → Behind is_sp text inside
+    → RefusesAfter (step d) may_end BeforeItem inside (length text) e
+    → Parses d kind_is.Item text (Err e)
+item_refused d text inside e b r =
+    text_refused d kind_is.Item text r.left r.state e
+    (goes_more (step d) BeforeItem BeforeItem r.state text inside r.left
+    (item_begins d text inside b) r.goes) r.refuses
+
 module _ {S X V : Type 0} (first : ℕ → Option S) (next : S → ℕ → Option S)
     (added : S → V → Option V) (none : V) (with : V → X → V)
     (d : Dialect) (kind : Kind) (into : SeriesState S V → State)
@@ -212,23 +261,19 @@ module _ {S X V : Type 0} (first : ℕ → Option S) (next : S → ℕ → Optio
       → RefusesAt (series_next first next added none) (λ s. is_some (series_end added none s)) t
       rest (length text - length rest) e
       → Parses d kind text (Err e)
-  refused_at text rest t e ends a r =
-      let stopped : LongestPrefix (series_next first next added none) t rest rest t =
-      record { goes = record { taken = []; split = refl; leads = refl }; stops = r.stops } in
-      let stops =
-      prefix_above (series_next first next added none) (step d) into steps t t rest rest stopped in
-      whole_refused d kind (begin kind) (into t) text rest (slice_get rest 0) (may_end (into t)) e
-      refl (record { goes = a; stops = stops.stops }) refl refl
-      (refuses_above (series_next first next added none) (step d) into steps t
-      (is_some (series_end added none t)) (may_end (into t)) (length text - length rest)
-      (slice_get rest 0) e (ends t) r.refuses)
-      (by rest (λ z. sym (ends t) ∙ r.unended z))
+  refused_at text rest t e ends a r = text_refused d kind text rest (into t) e a (record {
+    stops = by rest r.stops;
+    unended = λ z. sym (ends t) ∙ r.unended z;
+    refuses = refuses_above (series_next first next added none) (step d) into steps t
+        (is_some (series_end added none t)) (may_end (into t)) (length text - length rest)
+        (slice_get rest 0) e (ends t) r.refuses;
+  })
     where
-      by : (xs : List ℕ) → (xs ≡ [] → may_end (into t) ≡ false)
-          → (is_some (slice_get xs 0) ≡ true)
-          ⊎ ((is_some (slice_get xs 0) ≡ false) × (may_end (into t) ≡ false))
-      by [] h = inr (refl, h refl)
-      by (b ∷ xs) h = inl refl
+      by : (xs : List ℕ)
+          → FirstIs (λ b. b < 128 → Halts (series_next first next added none) t b) xs
+          → FirstIs (λ b. b < 128 → Halts (step d) (into t) b) xs
+      by [] h = tt
+      by (b ∷ xs) h = λ l. steps t b ∙ ap (option_map into) (h l)
 
   -- the same after some more bytes
   pub refused_after : (text rest : List ℕ) (t : SeriesState S V) (e : Refusal)

@@ -31,3 +31,4 @@ pub mod Leaves
 pub mod WholeParts
 pub mod WholeMembers
 pub mod BegunParts
+pub mod Stops

@@ -1,6 +1,6 @@
 -- Whole members that are added to a value: their machine, and what taking them returns.
 use Rattle.std.specs.Prelude.{◌≡◌, ℕ, Bool, true, false, List, [], ◌∷◌, ◌++◌, Option, Some, None}
-use Rattle.std.specs.Prelude.{◌⊎◌, ◌≢◌, ⊤, ◌-◌, is_some, length, slice_get}
+use Rattle.std.specs.Prelude.{◌⊎◌, ◌≢◌, ⊤, ◌-◌, ◌<◌, is_some, length, slice_get}
 use Rattle.sf_value.specs.Ascii.{comma}
 use Rattle.sf_value.specs.Grammar.Classes.{is_ows}
 use Rattle.sf_value.specs.Grammar.Words.{Every}
@@ -94,10 +94,11 @@ pub record TakesMembers {S V : Type 0} (next : SeriesState S V → ℕ → Optio
   pub reached : (state ≡ series_of p given s)
       ⊎ ((is_whole ≡ true) × (rest ≡ []) × (p ≡ phase.Gap) × (end state ≡ Some given))
 
--- the exact refusal, at this place, of what is left of a text where the machine is in this state
+-- the exact refusal, at this place, of what is left of a text where the machine is in this state; no
+-- byte above 127 is in any text
 pub record RefusesAt {S : Type 0} (next : S → ℕ → Option S) (ends : S → Bool) (s : S)
     (left : List ℕ) (place : ℕ) (e : Refusal) : Type 0 where
-  pub stops : FirstIs (Halts next s) left
+  pub stops : FirstIs (λ b. b < 128 → Halts next s b) left
   pub unended : left ≡ [] → ends s ≡ false
   pub refuses : Refuses (λ b. is_some (next s b)) (ends s) place (slice_get left 0) e
 

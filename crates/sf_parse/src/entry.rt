@@ -12,7 +12,7 @@ use crate::begun::Begun;
 use crate::context::Context;
 use crate::level::Level;
 use crate::member::MemberReader;
-use crate::sets::{EQUALS, KEY, SEMICOLON};
+use crate::sets::BEHIND_KEY;
 use sf_value::classes::{ByteClass, InKey, short_prefix};
 use sf_value::{Bare, Dialect, Entries, Item, Key, Member, OutOfMemory, ShortBytes, can_start_key};
 use std::marker::Model;
@@ -210,7 +210,7 @@ impl Level for EntryReader {
 
     fn expected(&self, dialect: Dialect) -> u128 {
         match self.phase {
-            EntryPhase::InKey => return KEY | EQUALS | SEMICOLON,
+            EntryPhase::InKey => return BEHIND_KEY,
             EntryPhase::Equals => return MemberReader::first_bytes(dialect),
             EntryPhase::InMemberValue => return self.member.expected(dialect),
             EntryPhase::InFlag => return self.member.expected(dialect),

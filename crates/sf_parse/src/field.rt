@@ -1,12 +1,11 @@
 //! Whole texts, each parsed by the reader of its kind (RFC 9651 section 4.2).
 ghost use Rattle.std.specs.Option.{option_map};
-ghost use Rattle.std.specs.Prelude.{◌≡◌, ℕ, List as Seq, [], IfOk, IsOk, IfErr, IfSome, refl};
+ghost use Rattle.std.specs.Prelude.{◌≡◌, ◌≤◌, ℕ, List as Seq, [], IfOk, IsOk, IfErr, IfSome, refl, length};
 ghost use Rattle.sf_value.specs.declared.dialect.Dialect.{Dialect};
 ghost use Rattle.sf_value.specs.declared.value.Field.{Field};
 ghost use Rattle.sf_value.specs.declared.value.Field.TheVariants as field_is;
 ghost use Rattle.sf_value.specs.declared.value.Kind.{Kind};
 ghost use Rattle.sf_value.specs.declared.value.Kind.TheVariants as kind_is;
-ghost use Rattle.sf_parse.specs.BegunParts.{IsBegunIn, Within};
 ghost use Rattle.sf_parse.specs.Parsers.{Parses, Makes};
 ghost use Rattle.sf_parse.specs.AllocationFree.{TakesNoMemory, FieldFree};
 ghost use Rattle.sf_parse.specs.AllocationFreeParsers.{IsOther};
@@ -20,12 +19,10 @@ ghost use Rattle.sf_parse.specs.Machine.Tests.{may_end as may_end_at};
 ghost use Rattle.sf_parse.specs.Machine.Members.{MemberState};
 ghost use Rattle.sf_parse.specs.Machine.Entries.{EntryState};
 ghost use Rattle.sf_parse.specs.SeriesView.{series_of};
-ghost use Rattle.sf_parse.specs.WholeMembers.{NoneOpen};
-ghost use Rattle.sf_parse.specs.WholeParts.{Behind, ReadsAs};
-ghost use Rattle.sf_value.specs.Grammar.Parameters.{SpellsParams};
+ghost use Rattle.sf_parse.specs.WholeMembers.{NoneOpen, RefusesAfter};
+ghost use Rattle.sf_parse.specs.WholeParts.{Behind};
 ghost use Rattle.sf_value.specs.Grammar.Classes.{is_sp};
 
-use crate::begun::{Begun, are_worth_keeping, begun_params};
 use crate::context::Context;
 use crate::entry::EntryReader;
 use crate::item_field::ItemFieldReader;
@@ -33,11 +30,14 @@ use crate::leaf::{find_leaf, make};
 use crate::level::Level;
 use crate::member::MemberReader;
 use crate::refusal::Refusal;
-use crate::series::{SeriesPhase, SeriesReader, add_members, are_all, refuse_between};
-use crate::series_members::refuse_after_key;
+use crate::series::{
+    SeriesPhase, SeriesReader, add_members, are_all, refuse_between, refuse_member,
+};
+use crate::sets::{SPACE, set_if};
+use crate::stop::{refuse_left, stop_in_item};
 use crate::whole_bare::ends;
 use crate::whole_parts::{Owner, behind_spaces, read_params};
-use sf_value::{Bare, Dict, Entries, Item, List, Member, OutOfMemory, Sequence};
+use sf_value::{Dict, Entries, Item, List, Member, OutOfMemory, Sequence};
 
 /// The members of a List that are being read.
 pub type ListReader = SeriesReader<MemberReader, Sequence<Member>>;
@@ -187,10 +187,10 @@ impl WholeText for ItemFieldReader {
                 return Ok(Item { bare, params });
             }
         }
-        if !are_worth_keeping(&params, rest) {
-            return read_item_field(context, text, inside);
+        match refuse_item(context, text.len(), inside) {
+            Some(refusal) => Err(refusal),
+            None => read_item_field(context, text, inside),
         }
-        read_begun_item(context, text, inside, after, params, rest)
     }
 }
 
@@ -198,26 +198,27 @@ impl WholeText for ListReader {
     fn parse(context: &Context, text: &[u8]) -> Result<List, Refusal> {
         let mut phase = SeriesPhase::Begin;
         let mut members = Sequence::new(context.alloc);
-        let mut begun = None;
         let rest = add_members::<MemberReader, Sequence<Member>>(
             context,
             behind_spaces(text),
             &mut phase,
             &mut members,
-            &mut begun,
         )?;
         if are_all(phase, rest) {
             return Ok(List { members });
         }
         let place = text.len() - rest.len();
-        match refuse_between::<MemberReader, Sequence<Member>>(
+        if let Some(refusal) = refuse_between::<MemberReader, Sequence<Member>>(
             context.dialect,
             phase,
             place,
             rest,
         ) {
+            return Err(refusal);
+        }
+        match refuse_member::<MemberReader, Sequence<Member>>(context, phase, text.len(), rest) {
             Some(refusal) => Err(refusal),
-            None => read_list(context, text, rest, phase, members, &mut begun),
+            None => read_list(context, text, rest, phase, members),
         }
     }
 }
@@ -226,13 +227,11 @@ impl WholeText for DictReader {
     fn parse(context: &Context, text: &[u8]) -> Result<Dict, Refusal> {
         let mut phase = SeriesPhase::Begin;
         let mut members = Entries::new(context.alloc, &context.seed);
-        let mut begun = None;
         let rest = add_members::<EntryReader, Entries<Member>>(
             context,
             behind_spaces(text),
             &mut phase,
             &mut members,
-            &mut begun,
         )?;
         if are_all(phase, rest) {
             return Ok(Dict { members });
@@ -246,9 +245,9 @@ impl WholeText for DictReader {
         ) {
             return Err(refusal);
         }
-        match refuse_after_key(phase, text.len(), rest) {
+        match refuse_member::<EntryReader, Entries<Member>>(context, phase, text.len(), rest) {
             Some(refusal) => Err(refusal),
-            None => read_dict(context, text, rest, phase, members, &mut begun),
+            None => read_dict(context, text, rest, phase, members),
         }
     }
 }
@@ -262,98 +261,60 @@ fn read_item_field(context: &Context, text: &[u8], inside: &[u8]) -> Result<Item
     ensures allocation_free { TakesNoMemory kind_is.Item text.now → IfErr result IsOther }
 {
     let mut field = ItemFieldReader::new(context);
-    read_rest_of_item(&mut field, context, text, inside)
+    read_rest(&mut field, context, text, inside)
 }
 
-/// Reads what is left of the text of an Item. It is not inlined: all that it calls is, and two
-/// functions call it.
+/// The refusal of the text of an Item, after spaces, in a text of this length: of a byte of the Item
+/// or behind it, or of the end. None claims nothing: the text is then read by a reader.
 #[inline(never)]
-fn read_rest_of_item(
-    field: &mut ItemFieldReader,
+fn refuse_item(context: &Context, whole: usize, inside: &[u8]) -> Option<Refusal>
+    requires { length inside.now ≤ whole }
+    ensures { IfSome result (RefusesAfter (step_of context.now.dialect) may_end_at
+        (begin_at kind_is.Item) inside.now whole) }
+{
+    let stop = stop_in_item(context, inside)?;
+    let expected = stop.expected | set_if(stop.may_end, SPACE);
+    refuse_left(stop.left, expected, stop.may_end, whole - stop.left.len())
+}
+
+/// Reads what is left of the text of a List after whole members.
+#[inline(never)]
+fn read_list(
     context: &Context,
     text: &[u8],
     left: &[u8],
-) -> Result<Item, Refusal>
-    // The bytes before what is left lead to the state of the reader.
-    requires { Goes (step_of context.now.dialect) (begin_at kind_is.Item) text.now left.now
-        field.old }
-    ensures parses { Makes field_is.Item (Parses context.now.dialect kind_is.Item text.now) result }
-    ensures allocation_free { TakesNoMemory kind_is.Item text.now → IfErr result IsOther }
-{
-    read_rest(field, context, text, left)
-}
-
-/// As [`read_item_field`], where parameters of the Item were read.
-#[inline(never)]
-fn read_begun_item<'a>(
-    context: &Context,
-    text: &'a [u8],
-    inside: &'a [u8],
-    after: &'a [u8],
-    params: Entries<Bare>,
-    rest: &'a [u8],
-) -> Result<Item, Refusal>
-    requires inside { Behind is_sp text.now inside.now }
-    requires after { Within inside.now after.now }
-    // The parameters are those up to the rest.
-    requires params { ReadsAs (SpellsParams context.now.dialect) after.now params rest.now }
-    ensures parses { Makes field_is.Item (Parses context.now.dialect kind_is.Item text.now) result }
-    ensures allocation_free { TakesNoMemory kind_is.Item text.now → IfErr result IsOther }
-{
-    let Some(begun) = begun_params(after, params, rest) else {
-        return read_item_field(context, text, inside);
-    };
-    let mut field = ItemFieldReader::new(context);
-    let left = field.take_begun_item(context, inside, begun)?;
-    read_rest_of_item(&mut field, context, text, left)
-}
-
-/// Reads what is left of the text of a List after whole members, with the parts that are kept.
-#[inline(never)]
-fn read_list<'a>(
-    context: &Context,
-    text: &'a [u8],
-    left: &'a [u8],
     phase: SeriesPhase,
     members: Sequence<Member>,
-    begun: &mut Option<Begun<'a>>,
 ) -> Result<List, Refusal>
     requires none_open { NoneOpen [] phase members }
     // The bytes before what is left lead to the members, whatever member was read last.
     requires goes { (s : MemberState) → Goes (step_of context.now.dialect) (begin_at kind_is.List)
         text.now left.now (InList (series_of phase members s)) }
-    // Parts that are kept are those of the member that is left first. They are taken.
-    requires begun { IfSome begun.old (IsBegunIn context.now.dialect left.now) }
     ensures parses { Makes field_is.List (Parses context.now.dialect kind_is.List text.now) result }
     ensures allocation_free { TakesNoMemory kind_is.List text.now → IfErr result IsOther }
 {
     let mut reader: ListReader = SeriesReader::after(context, phase, members);
-    let rest = reader.take_kept_parts(context, left, begun)?;
-    read_rest(&mut reader, context, text, rest)
+    read_rest(&mut reader, context, text, left)
 }
 
-/// Reads what is left of the text of a Dictionary after whole members, with the parts that are kept.
+/// Reads what is left of the text of a Dictionary after whole members.
 #[inline(never)]
-fn read_dict<'a>(
+fn read_dict(
     context: &Context,
-    text: &'a [u8],
-    left: &'a [u8],
+    text: &[u8],
+    left: &[u8],
     phase: SeriesPhase,
     members: Entries<Member>,
-    begun: &mut Option<Begun<'a>>,
 ) -> Result<Dict, Refusal>
     requires none_open { NoneOpen [] phase members }
     // The bytes before what is left lead to the members, whatever member was read last.
     requires goes { (s : EntryState) → Goes (step_of context.now.dialect) (begin_at kind_is.Dict)
         text.now left.now (InDict (series_of phase members s)) }
-    // Parts that are kept are those of the member that is left first. They are taken.
-    requires begun { IfSome begun.old (IsBegunIn context.now.dialect left.now) }
     ensures parses { Makes field_is.Dict (Parses context.now.dialect kind_is.Dict text.now) result }
     ensures allocation_free { TakesNoMemory kind_is.Dict text.now → IfErr result IsOther }
 {
     let mut reader: DictReader = SeriesReader::after(context, phase, members);
-    let rest = reader.take_kept_parts(context, left, begun)?;
-    read_rest(&mut reader, context, text, rest)
+    read_rest(&mut reader, context, text, left)
 }
 
 /// The field of this kind that the text spells, or the exact refusal of the text.

@@ -47,6 +47,7 @@ mod series_members;
 mod sets;
 mod spots;
 mod state;
+mod stop;
 mod text;
 mod text_buffer;
 mod whole_bare;

@@ -1,6 +1,6 @@
 //! Members with commas between them that are being read: the members of a List or a Dictionary (RFC
 //! 9651 sections 4.2.1 and 4.2.2).
-ghost use Rattle.std.specs.Prelude.{◌≡◌, ◌<◌, ℕ, List, [], false, true, length};
+ghost use Rattle.std.specs.Prelude.{◌≡◌, ◌<◌, ◌≤◌, ℕ, List, [], false, true, length};
 ghost use Rattle.std.specs.Prelude.{is_some, Option, None, IfOk, OnOk, IsOk, IfSome, IfNone};
 ghost use Rattle.sf_value.specs.declared.dialect.Dialect.{Dialect};
 ghost use Rattle.sf_value.specs.declared.value.Bare.{Bare};
@@ -14,10 +14,11 @@ ghost use Rattle.sf_parse.specs.SeriesView.{series_next, series_end, series_stuc
 ghost use Rattle.sf_parse.specs.Machine.Series.{Begin};
 ghost use Rattle.sf_parse.specs.AllocationFree.{SeriesFree};
 ghost use Rattle.sf_parse.specs.StaysFree.{series_keeps};
+ghost use Rattle.sf_parse.specs.Stops.{StopsIn};
 ghost use Rattle.sf_parse.specs.SeriesView.{series_of};
 ghost use Rattle.sf_parse.specs.WholeMembers.{IsWholeMember, MayBegin, MayEnd, NoneOpen};
-ghost use Rattle.sf_parse.specs.WholeMembers.{TakesMembers, IsBetween, RefusesAt, ends_between};
-ghost use Rattle.sf_parse.specs.WholeMembers.{IsBehindMember, begins_between};
+ghost use Rattle.sf_parse.specs.WholeMembers.{TakesMembers, IsBetween, RefusesAt, RefusesAfter};
+ghost use Rattle.sf_parse.specs.WholeMembers.{IsBehindMember, begins_between, ends_between};
 ghost use Rattle.sf_parse.specs.declared.whole_parts.Found.{Found};
 ghost use Rattle.sf_parse.specs.declared.series.SeriesPhase.TheVariants as phase_is;
 
@@ -26,6 +27,7 @@ use crate::context::Context;
 use crate::level::Level;
 use crate::refusal::Refusal;
 use crate::sets::{COMMA, OWS, SPACE, set_if};
+use crate::stop::{Stop, refuse_left};
 use crate::whole_bare::{behind, ends};
 use crate::whole_parts::{Found, Owner, WHOLE_PARTS, may_begin_params, read_params};
 use sf_value::classes::{Ows, Space, short_prefix};
@@ -126,6 +128,11 @@ pub trait SeriesMember<G>: Level {
     /// Adds a whole member.
     fn add(given: &mut G, member: Self::Whole) -> Result<(), OutOfMemory>
         ensures { OnOk result (given.new ≡ with given.old member) };
+
+    /// Where a text that a member begins stops. None claims nothing.
+    fn stop<'a>(context: &Context, text: &'a [u8]) -> Option<Stop<'a>>
+        ensures { IfSome result (StopsIn (first context.now.dialect)
+            (Self.Level.next context.now.dialect) Self.Level.ends text.now) };
 
     // A member is added exactly if it may end.
     ghost adds: { (s : Self) (given : G) → is_some (added s given) ≡ Self.Level.ends s };
@@ -228,7 +235,7 @@ impl<P: SeriesMember<G>, G: Drop> SeriesReader<P, G> {
     /// Begins the member that a text begins with, goes on with the parts of it that were read, and
     /// returns the rest.
     #[inline(never)]
-    pub fn take_begun_member<'a>(
+    fn take_begun_member<'a>(
         &mut self,
         context: &Context,
         text: &'a [u8],
@@ -260,46 +267,6 @@ impl<P: SeriesMember<G>, G: Drop> SeriesReader<P, G> {
         }
         let rest = self.member.take_begun(context, more, begun)?;
         self.member.take_by_bytes(context, rest)
-    }
-
-    /// Goes on with the parts that are kept of the member that a text begins with, if there are some,
-    /// and returns the rest.
-    #[inline(always)]
-    pub fn take_kept_parts<'a>(
-        &mut self,
-        context: &Context,
-        text: &'a [u8],
-        begun: &mut Option<Begun<'a>>,
-    ) -> Result<&'a [u8], OutOfMemory>
-        requires { IfSome begun.old (IsBegunIn context.now.dialect text.now) }
-        // The bytes before the rest lead to the new state.
-        ensures goes { IfOk result (λ rest. Goes (series_next (P.first context.now.dialect)
-            (P.next context.now.dialect) P.added P.none) self.old text.now rest.now self.new) }
-        ensures allocation_free { SeriesFree self.old text.now → IsOk result }
-    {
-        if begun.is_none() {
-            return Ok(text);
-        }
-        self.take_parts(context, text, begun)
-    }
-
-    /// As [`SeriesReader::take_kept_parts`], which only tests whether there are some.
-    #[inline(never)]
-    fn take_parts<'a>(
-        &mut self,
-        context: &Context,
-        text: &'a [u8],
-        begun: &mut Option<Begun<'a>>,
-    ) -> Result<&'a [u8], OutOfMemory>
-        requires { IfSome begun.old (IsBegunIn context.now.dialect text.now) }
-        ensures goes { IfOk result (λ rest. Goes (series_next (P.first context.now.dialect)
-            (P.next context.now.dialect) P.added P.none) self.old text.now rest.now self.new) }
-        ensures allocation_free { SeriesFree self.old text.now → IsOk result }
-    {
-        match mem::replace(begun, None) {
-            Some(begun) => self.take_begun_member(context, text, begun),
-            None => Ok(text),
-        }
     }
 
     /// The value of the members, if the last one is complete. It is taken out of the reader.
@@ -461,8 +428,8 @@ fn expected_between<P: SeriesMember<G>, G>(dialect: Dialect, phase: SeriesPhase)
     }
 }
 
-/// The refusal of what is left of a text where no member is open: of a byte below 128 that may not
-/// come, or of the end after a comma. None claims nothing: it is then read by a reader.
+/// The refusal of what is left of a text where no member is open: of a byte that may not come, or of
+/// the end after a comma. None claims nothing: it is then read by a reader.
 #[inline(always)]
 pub fn refuse_between<P: SeriesMember<G>, G>(
     dialect: Dialect,
@@ -475,34 +442,34 @@ pub fn refuse_between<P: SeriesMember<G>, G>(
         (λ t. is_some (series_end P.added P.none t)) (series_of phase given s) left.now place e) }
 {
     let expected = expected_between::<P, G>(dialect, phase);
-    let may_end = may_end_between(phase);
-    let found = left.first().copied();
-    match found {
-        Some(byte) => {
-            if byte >= 128 {
-                return None;
-            }
-            if expected >> byte & 1 == 1 {
-                return None;
-            }
-        }
-        None => {
-            if may_end {
-                return None;
-            }
-        }
+    refuse_left(left, expected, may_end_between(phase), place)
+}
+
+/// The refusal of what is left of a text of this length where a member may begin: of a byte of the
+/// member or behind it, or of the end. None claims nothing: it is then read by a reader.
+#[inline(never)]
+pub fn refuse_member<P: SeriesMember<G>, G>(
+    context: &Context,
+    phase: SeriesPhase,
+    whole: usize,
+    left: &[u8],
+) -> Option<Refusal>
+    requires { length left.now ≤ whole }
+    ensures { IfSome result (λ e. (given : G) (s : P) → NoneOpen P.none phase given → RefusesAfter
+        (series_next (P.first context.now.dialect) (P.next context.now.dialect) P.added P.none)
+        (λ t. is_some (series_end P.added P.none t)) (series_of phase given s) left.now whole e) }
+{
+    if !may_begin_between(phase) {
+        return None;
     }
-    Some(Refusal::Syntax {
-        place: place as u64,
-        found,
-        expected,
-        may_end,
-    })
+    let stop = P::stop(context, left)?;
+    let expected = stop.expected | set_if(stop.may_end, OWS | COMMA);
+    refuse_left(stop.left, expected, stop.may_end, whole - stop.left.len())
 }
 
 /// Whether a member may begin where none is open.
 #[inline(always)]
-pub fn may_begin_between(phase: SeriesPhase) -> bool
+fn may_begin_between(phase: SeriesPhase) -> bool
     ensures { result ≡ begins_between phase }
 {
     match phase {
@@ -538,11 +505,9 @@ pub fn add_members<'a, P: SeriesMember<G>, G>(
     text: &'a [u8],
     phase: &mut SeriesPhase,
     given: &mut G,
-    begun: &mut Option<Begun<'a>>,
 ) -> Result<&'a [u8], OutOfMemory>
     // A member may begin.
-    requires may_begin { MayBegin P.none phase.old given.old }
-    requires none_begun { begun.old ≡ None }
+    requires { MayBegin P.none phase.old given.old }
     // The bytes before the rest lead to the new phase and value, whatever member was read last; or
     // no byte is left, and the value is that of the members.
     ensures goes { IfOk result (λ rest. (s : P) → TakesMembers
@@ -551,9 +516,6 @@ pub fn add_members<'a, P: SeriesMember<G>, G>(
         phase.new given.new s) }
     // No member is open.
     ensures none_open { IfOk result (λ _. NoneOpen P.none phase.new given.new) }
-    // Parts that are begun are those of the member that the rest begins with.
-    ensures begun { IfOk result (λ rest. IfSome begun.new (IsBegunIn context.now.dialect
-        rest.now)) }
     // Before the first member spaces do not allocate.
     ensures allocation_free { (s : P) → SeriesFree (series_of phase.old given.old s) text.now
         → IsOk result }
@@ -561,7 +523,9 @@ pub fn add_members<'a, P: SeriesMember<G>, G>(
     if !P::may_begin(text) {
         return Ok(text);
     }
-    add_each_member::<P, G>(context, text, true, phase, given, begun)
+    // The parts of a member that is not whole are dropped: its refusal needs none.
+    let mut begun = None;
+    add_each_member::<P, G>(context, text, true, phase, given, &mut begun)
 }
 
 /// Whether whole members are looked for in a chunk. It only saves time: nothing is claimed of it.

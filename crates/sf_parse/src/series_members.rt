@@ -1,15 +1,11 @@
 //! The members of a List and of a Dictionary (RFC 9651 sections 4.2.1 and 4.2.2).
-ghost use Rattle.std.specs.Prelude.{◌≤◌, [], ◌∷◌, ◌++◌, IfSome, is_some, length as length_of};
-ghost use Rattle.sf_value.specs.declared.dialect.Dialect.{Dialect};
-ghost use Rattle.sf_value.specs.declared.value.Member.{Member};
-ghost use Rattle.sf_value.specs.Grammar.Pairs.{Pairs, put};
+ghost use Rattle.std.specs.Prelude.{[], ◌∷◌, ◌++◌};
+ghost use Rattle.sf_value.specs.Grammar.Pairs.{put};
 ghost use Rattle.sf_value.specs.Grammar.Tokens.{IsKey};
 ghost use Rattle.sf_parse.specs.Leaves.{IsLeaf};
 ghost use Rattle.sf_parse.specs.WholeParts.{found_member};
 ghost use Rattle.sf_parse.specs.Machine.Members.{member_start, member_finish};
-ghost use Rattle.sf_parse.specs.Machine.Entries.{EntryState, entry_start, entry_step, entry_finish};
-ghost use Rattle.sf_parse.specs.SeriesView.{series_next, series_end, series_of};
-ghost use Rattle.sf_parse.specs.WholeMembers.{NoneOpen, RefusesAfter};
+ghost use Rattle.sf_parse.specs.Machine.Entries.{entry_start, entry_finish};
 ghost use Rattle.sf_parse.specs.MemberEnds.{with_member, with_entry, some_map};
 
 use crate::begun::Begun;
@@ -18,12 +14,12 @@ use crate::entry::EntryReader;
 use crate::leaf::{find_leaf, make};
 use crate::level::Level;
 use crate::member::MemberReader;
-use crate::refusal::Refusal;
-use crate::series::{SeriesMember, SeriesPhase, may_begin_between};
-use crate::sets::{COMMA, EQUALS, KEY, KEY_START, OWS, SEMICOLON};
+use crate::series::SeriesMember;
+use crate::sets::KEY_START;
+use crate::stop::{Stop, stop_in_entry, stop_in_member};
 use crate::whole_bare::{may_begin_bare, split};
 use crate::whole_parts::{
-    Found, Owner, find_key, find_named, may_begin_part, may_begin_value, read_entry, read_member,
+    Found, Owner, find_named, may_begin_part, may_begin_value, read_entry, read_member,
 };
 use sf_value::{Bare, Dialect, Entries, Item, Key, Member, OutOfMemory, Sequence, can_start_key};
 
@@ -119,6 +115,11 @@ impl SeriesMember<Sequence<Member>> for MemberReader {
     fn add(given: &mut Sequence<Member>, member: Member) -> Result<(), OutOfMemory> {
         given.push_or_drop(member)
     }
+
+    #[inline(always)]
+    fn stop<'a>(context: &Context, text: &'a [u8]) -> Option<Stop<'a>> {
+        stop_in_member(context, text)
+    }
 }
 
 impl SeriesMember<Entries<Member>> for EntryReader {
@@ -210,33 +211,9 @@ impl SeriesMember<Entries<Member>> for EntryReader {
         let Entry { key, member } = entry;
         given.set(key, member)
     }
-}
 
-/// The refusal of a byte below 128 after the key that a member of a Dictionary begins with, in a
-/// text of this length. None claims nothing: what is left is then read by a reader.
-#[inline(always)]
-pub fn refuse_after_key(phase: SeriesPhase, length: usize, left: &[u8]) -> Option<Refusal>
-    requires { length_of left.now ≤ length }
-    ensures { IfSome result (λ e. (d : Dialect) (given : Pairs Member) (s : EntryState)
-        → NoneOpen [] phase given → RefusesAfter (series_next entry_start (entry_step d) with_entry [])
-        (λ t. is_some (series_end with_entry [] t)) (series_of phase given s) left.now length e) }
-{
-    if !may_begin_between(phase) {
-        return None;
+    #[inline(always)]
+    fn stop<'a>(context: &Context, text: &'a [u8]) -> Option<Stop<'a>> {
+        stop_in_entry(context, text)
     }
-    let (_, rest) = find_key(left)?;
-    let (byte, _) = split(rest)?;
-    if byte >= 128 {
-        return None;
-    }
-    let expected = KEY | EQUALS | SEMICOLON | OWS | COMMA;
-    if expected >> byte & 1 == 1 {
-        return None;
-    }
-    Some(Refusal::Syntax {
-        place: (length - rest.len()) as u64,
-        found: Some(byte),
-        expected,
-        may_end: true,
-    })
 }

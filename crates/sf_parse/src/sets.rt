@@ -56,6 +56,9 @@ pub const KEY_START: u128 = LOWER | 1 << b'*';
 
 pub const KEY: u128 = KEY_START | DIGITS | 1 << b'_' | MINUS | POINT;
 
+/// What may come behind a key, of which it may be a part.
+pub const BEHIND_KEY: u128 = KEY | EQUALS | SEMICOLON;
+
 /// The first byte of a token (section 3.3.4).
 const TOKEN_START: u128 = LETTERS | 1 << b'*';
 

@@ -8,6 +8,7 @@ use crate::bare::BareReader;
 use crate::context::Context;
 use crate::leaf::{find_leaf, make};
 use crate::level::Level;
+use sf_value::classes::{Unescaped, long_prefix};
 use sf_value::{Bare, can_start_token};
 
 /// The first byte, and the rest.
@@ -52,9 +53,23 @@ pub fn read_bare<'a>(context: &Context, text: &'a [u8]) -> Option<(Bare, &'a [u8
         let (bare, rest) = read_other(context, first, more)?;
         return Some((bare, rest));
     }
-    let (leaf, rest) = find_leaf(text)?;
+    let Some((leaf, rest)) = find_leaf(text) else {
+        if first != b'"' || !may_have_escape(more) {
+            return None;
+        }
+        let (bare, rest) = read_other(context, first, more)?;
+        return Some((bare, rest));
+    };
     let bare = make(context, leaf)?;
     Some((bare, rest))
+}
+
+/// Whether a String, of which this is left after its quote, may have an escape. It only saves time:
+/// nothing is claimed of it.
+#[inline(always)]
+pub fn may_have_escape(text: &[u8]) -> bool {
+    let (_, stop) = long_prefix::<Unescaped>(text);
+    behind(stop, b'\\').is_some()
 }
 
 /// Whether the text may begin with a bare item that needs no reader. It only saves time: nothing is
@@ -68,7 +83,7 @@ pub fn may_begin_bare(text: &[u8]) -> bool {
     }
 }
 
-/// A Byte Sequence, a Date or a Display String, and the rest.
+/// A Byte Sequence, a Date, a Display String or a String with an escape, and the rest.
 #[inline(never)]
 fn read_other<'a>(context: &Context, first: u8, more: &'a [u8]) -> Option<(Bare, &'a [u8])>
     ensures { IfSome result (λ r. ReadsAs (SpellsBare context.now.dialect) (first ∷ more.now) r.0

@@ -24,7 +24,7 @@ ghost use Rattle.sf_parse.specs.BegunParts.{IsBegunAt, IsBegunIn};
 use crate::begun::{Begun, keep_closed, keep_inner, keep_items, keep_params};
 use crate::context::Context;
 use crate::leaf::{Leaf, find_leaf, make};
-use crate::whole_bare::{behind, read_bare, split};
+use crate::whole_bare::{behind, may_have_escape, read_bare, split};
 use sf_value::classes::{InKey, Space, short_prefix};
 use sf_value::{
     Bare, Entries, Inner, Item, Key, Member, OutOfMemory, Sequence, ShortBytes, can_start_key,
@@ -92,7 +92,11 @@ pub fn find_named(text: &[u8]) -> Option<(Found<'_>, &[u8])>
 /// saves time: nothing is claimed of it.
 #[inline(always)]
 pub fn may_begin_part(text: &[u8]) -> bool {
-    matches!(split(text), Some((b'(' | b':' | b'@' | b'%', _)))
+    match split(text) {
+        Some((b'(' | b':' | b'@' | b'%', _)) => true,
+        Some((b'"', more)) => may_have_escape(more),
+        _ => false,
+    }
 }
 
 /// The same of the value of a key. It only saves time: nothing is claimed of it.
@@ -502,7 +506,7 @@ fn read_items<'a>(context: &Context, text: &'a [u8], items: &mut Sequence<Item>)
 
 /// What is behind an Item of an Inner List: a space and the spaces after it, or the bracket.
 #[inline(always)]
-fn behind_item(text: &[u8]) -> Option<BehindItems<'_>>
+pub fn behind_item(text: &[u8]) -> Option<BehindItems<'_>>
     ensures { IfSome result (IsBehindItem text.now) }
 {
     match split(text) {

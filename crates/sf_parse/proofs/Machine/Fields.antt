@@ -69,7 +69,7 @@ ows_cases : (b : ℕ) → is_ows b ≡ true → (b ≡ 32) ⊎ (b ≡ 9)
 ows_cases b e = grind arith
 
 -- what begins no text at a space or a tab
-no_ows : {S : Type 0} (start : ℕ → Option S) → start 32 ≡ None → start 9 ≡ None → (b : ℕ) (t : S)
+pub no_ows : {S : Type 0} (start : ℕ → Option S) → start 32 ≡ None → start 9 ≡ None → (b : ℕ) (t : S)
     → is_ows b ≡ true → start b ≡ Some t → ⊥
 no_ows start e32 e9 b t e n = ⊎_elim (λ x. clash (start b) t (ap start x
     ∙ e32) n) (λ x. clash (start b) t (ap start x ∙ e9) n) (ows_cases b e)

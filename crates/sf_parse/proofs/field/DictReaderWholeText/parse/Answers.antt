@@ -61,8 +61,8 @@ returns-in-Some-clause-allocation_free c =
     (c.in-Some.ensures [] (InKey [])
     (none_between entry_start (entry_step d) with_entry [] with _ _ c.in_ok-rest.ensures.none_open)).refuses
 
-pub refuse_after_key-requires : goal.refuse_after_key-requires
-refuse_after_key-requires c =
+pub refuse_member-requires : goal.refuse_member-requires
+refuse_member-requires c =
     let d = c.args.context.now.dialect in
     let with : Pairs Member → Entry → Pairs Member = λ ps e. put ps e.key e.member in
     left_within _ _ _ _ _
@@ -70,9 +70,9 @@ refuse_after_key-requires c =
     (dict_steps d) _ _ _ _ _ (InKey []) _ c.behind_spaces.ensures
     (c.in_ok-rest.ensures.goes (InKey [])) refl (c.are_all.ensures.some c.if-are_all.false))
 
-pub returns-in-Some-refuse_after_key-clause-parses :
-    goal.returns-in-Some-refuse_after_key-clause-parses
-returns-in-Some-refuse_after_key-clause-parses c =
+pub returns-in-Some-refuse_member-clause-parses :
+    goal.returns-in-Some-refuse_member-clause-parses
+returns-in-Some-refuse_member-clause-parses c =
     let d = c.args.context.now.dialect in
     let with : Pairs Member → Entry → Pairs Member = λ ps e. put ps e.key e.member in
     refused_after entry_start (entry_step d) with_entry [] with d kind_is.Dict InDict refl
@@ -80,14 +80,14 @@ returns-in-Some-refuse_after_key-clause-parses c =
     (members_before entry_start (entry_step d) with_entry [] with d kind_is.Dict InDict refl
     (dict_steps d) _ _ _ _ _ (InKey []) _ c.behind_spaces.ensures
     (c.in_ok-rest.ensures.goes (InKey [])) refl (c.are_all.ensures.some c.if-are_all.false))
-    (c.in-Some-refuse_after_key.ensures d _ (InKey []) c.in_ok-rest.ensures.none_open)
+    (c.in-Some-refuse_member.ensures _ (InKey []) c.in_ok-rest.ensures.none_open)
 
-pub returns-in-Some-refuse_after_key-clause-allocation_free :
-    goal.returns-in-Some-refuse_after_key-clause-allocation_free
-returns-in-Some-refuse_after_key-clause-allocation_free c =
+pub returns-in-Some-refuse_member-clause-allocation_free :
+    goal.returns-in-Some-refuse_member-clause-allocation_free
+returns-in-Some-refuse_member-clause-allocation_free c =
     let d = c.args.context.now.dialect in
     λ w. refuses_other _ _ _ _ _
-    (c.in-Some-refuse_after_key.ensures d _ (InKey []) c.in_ok-rest.ensures.none_open).refuses.refuses
+    (c.in-Some-refuse_member.ensures _ (InKey []) c.in_ok-rest.ensures.none_open).refuses.refuses
 
 pub read_dict-requires-clause-goes : goal.read_dict-requires-clause-goes
 read_dict-requires-clause-goes c =

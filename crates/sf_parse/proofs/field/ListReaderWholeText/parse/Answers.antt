@@ -15,7 +15,7 @@ use Rattle.sf_parse.proofs.FedChunks.{refuses_other}
 use Rattle.sf_parse.proofs.Prefixes.{never, every_split, left_within}
 use Rattle.sf_parse.proofs.SeriesSteps.{end_is}
 use Rattle.sf_parse.proofs.WholeMembers.{none_between}
-use Rattle.sf_parse.proofs.WholeTexts.{members_parsed, members_before, refused_at}
+use Rattle.sf_parse.proofs.WholeTexts.{members_parsed, members_before, refused_at, refused_after}
 use Rattle.sf_parse.proofs.field.ListReaderWholeText.parse.Goals as goal
 
 pub returns-then-are_all-clause-parses : goal.returns-then-are_all-clause-parses
@@ -55,6 +55,35 @@ returns-in-Some-clause-allocation_free c =
     λ w. refuses_other _ _ _ _ _
     (c.in-Some.ensures [] (InOne (InBare (InBoolean QuestionMark)))
     (none_between (member_start d) (member_step d) with_member [] (λ ms m. ms ++ m ∷ []) _ _ c.in_ok-rest.ensures.none_open)).refuses
+
+pub refuse_member-requires : goal.refuse_member-requires
+refuse_member-requires c =
+    let d = c.args.context.now.dialect in
+    left_within _ _ _ _ _
+    (members_before (member_start d) (member_step d) with_member [] (λ ms m. ms ++ m ∷ []) d kind_is.List InList refl
+    (list_steps d) _ _ _ _ _ (InOne (InBare (InBoolean QuestionMark))) _ c.behind_spaces.ensures
+    (c.in_ok-rest.ensures.goes (InOne (InBare (InBoolean QuestionMark)))) refl
+    (c.are_all.ensures.some c.if-are_all.false))
+
+pub returns-in-Some-refuse_member-clause-parses :
+    goal.returns-in-Some-refuse_member-clause-parses
+returns-in-Some-refuse_member-clause-parses c =
+    let d = c.args.context.now.dialect in
+    refused_after (member_start d) (member_step d) with_member [] (λ ms m. ms ++ m ∷ []) d kind_is.List InList refl
+    (list_steps d) _ _ _ _ list_ends
+    (members_before (member_start d) (member_step d) with_member [] (λ ms m. ms ++ m ∷ []) d kind_is.List InList refl
+    (list_steps d) _ _ _ _ _ (InOne (InBare (InBoolean QuestionMark))) _ c.behind_spaces.ensures
+    (c.in_ok-rest.ensures.goes (InOne (InBare (InBoolean QuestionMark)))) refl
+    (c.are_all.ensures.some c.if-are_all.false))
+    (c.in-Some-refuse_member.ensures _ (InOne (InBare (InBoolean QuestionMark)))
+    c.in_ok-rest.ensures.none_open)
+
+pub returns-in-Some-refuse_member-clause-allocation_free :
+    goal.returns-in-Some-refuse_member-clause-allocation_free
+returns-in-Some-refuse_member-clause-allocation_free c =
+    λ w. refuses_other _ _ _ _ _
+    (c.in-Some-refuse_member.ensures _ (InOne (InBare (InBoolean QuestionMark)))
+    c.in_ok-rest.ensures.none_open).refuses.refuses
 
 pub read_list-requires-clause-goes : goal.read_list-requires-clause-goes
 read_list-requires-clause-goes c =

@@ -1,13 +1,9 @@
-use Rattle.std.proofs.Common.{refl, ◌==◌, ◌∷◌, [], ◌++◌, ◌^◌}
-use Rattle.sf_value.specs.Grammar.Words.{allow}
-use Rattle.sf_value.specs.Grammar.Classes.{is_sp}
-use Rattle.sf_parse.specs.Machine.Bares.{bare_start}
-use Rattle.sf_parse.specs.Machine.Params.{Between}
-use Rattle.sf_parse.specs.Machine.Items.{InBare, item_step, item_finish}
-use Rattle.sf_parse.specs.Machine.Inners.{BetweenItems, InItem, Closing, behind_step}
+use Rattle.std.proofs.Common.{refl, ◌∷◌, [], ◌++◌}
+use Rattle.sf_parse.specs.Machine.Items.{item_step, item_finish}
+use Rattle.sf_parse.specs.Machine.Inners.{InItem, behind_step}
 use Rattle.sf_parse.specs.Machine.Members.{InOne, InMany}
-use Rattle.sf_parse.proofs.Marks.{marks_either, marks_map, marks_onward, marks_steps}
-use Rattle.sf_parse.proofs.LevelMarks.{marks_closing}
+use Rattle.sf_parse.proofs.Marks.{marks_map, marks_onward, marks_steps}
+use Rattle.sf_parse.proofs.LevelMarks.{marks_closing, marks_items}
 use Rattle.sf_parse.proofs.member.MemberReaderLevel.expected.Goals as goal
 
 pub returns-in-One : goal.returns-in-One
@@ -25,12 +21,7 @@ pub returns-in-BetweenItems : goal.returns-in-BetweenItems
 returns-in-BetweenItems c =
     let is = c.self.inside.items in
     rw (← c.self.view_is, c.in-BetweenItems.is)
-    (marks_map InMany _ _ (marks_either (2 ^ 32) _ (λ b. allow (is_sp b) (BetweenItems is)) _
-    (marks_steps (2 ^ 32) (λ b. allow (is_sp b) (BetweenItems is)) refl)
-    (marks_either (2 ^ 41) _ (λ b. allow (b == 41) (Closing is (Between []))) _
-    (marks_steps (2 ^ 41) (λ b. allow (b == 41) (Closing is (Between []))) refl)
-    (marks_map (InItem is) _ _ (marks_map InBare _ (bare_start c.args.dialect)
-    c.first_bytes.ensures)))))
+    (marks_items c.args.dialect is _ c.first_bytes.ensures)
 
 pub returns-in-InItem : goal.returns-in-InItem
 returns-in-InItem c =

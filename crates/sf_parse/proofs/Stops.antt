@@ -1,0 +1,623 @@
+-- Where a text stops, seen from each level above, and its refusal.
+use Rattle.std.specs.Option.{option_and_then, option_map}
+use Rattle.std.proofs.Common.{◌≡◌, ◌≢◌, ℕ, ◌-◌, ◌<◌, ◌≤◌, ◌^◌, Bool, true, false, cond, List, [], ◌∷◌}
+use Rattle.std.proofs.Common.{◌++◌, Option, Some, None, is_some, refl, sym, ap, ◌∙◌, subst, bit_or}
+use Rattle.std.proofs.Common.{length, length-append, arith, nat_lt, ◌&&◌, if◌then◌else◌, IfSome}
+use Rattle.std.specs.Int.{bit_at}
+use Rattle.std.specs.List.{slice_get}
+use Rattle.sf_value.specs.declared.dialect.Dialect.{Dialect}
+use Rattle.sf_value.specs.declared.dialect.Dialect.TheVariants.{Rfc8941, Rfc9651}
+use Rattle.sf_value.specs.declared.value.Bare.{Bare}
+use Rattle.sf_value.specs.declared.value.Field.TheVariants as field
+use Rattle.sf_value.specs.declared.value.Item.{Item}
+use Rattle.sf_value.specs.declared.value.Member.TheVariants as member
+use Rattle.sf_value.specs.Grammar.BareItems.{SpellsBare}
+use Rattle.sf_value.specs.Grammar.Classes.{is_ows, is_sp, is_in_key}
+use Rattle.sf_value.specs.Grammar.InnerLists.{inner}
+use Rattle.sf_value.specs.Grammar.Items.{SpellsItem, item}
+use Rattle.sf_value.specs.Grammar.Pairs.{Pairs, put}
+use Rattle.sf_value.specs.Grammar.Parameters.{SpellsParams}
+use Rattle.sf_value.specs.Grammar.Tokens.{IsKey}
+use Rattle.sf_value.specs.Grammar.Words.{allow}
+use Rattle.sf_parse.specs.Expected.{MarksStep}
+use Rattle.sf_parse.specs.Leaves.{leaf_bare}
+use Rattle.sf_parse.specs.Machine.Bares.{BareState, bare_start, bare_step, bare_finish}
+use Rattle.sf_parse.specs.Machine.Params.{ParamsState, Between, Opened, InParamKey, EqualsParam}
+use Rattle.sf_parse.specs.Machine.Params.{InValue, between_step, params_step, params_finish}
+use Rattle.sf_parse.specs.Machine.Items.{ItemState, InBare, InParams, item_start, item_step}
+use Rattle.sf_parse.specs.Machine.Items.{item_finish}
+use Rattle.sf_parse.specs.Machine.Members.{MemberState, InOne, InMany, member_start}
+use Rattle.sf_parse.specs.Machine.Members.{member_step, member_finish}
+use Rattle.sf_parse.specs.Machine.Inners.{BetweenItems, InItem, Closing, behind_step, inner_finish}
+use Rattle.sf_parse.specs.Machine.Entries.{EntryState, InKey, Equals, InMemberValue, InFlag}
+use Rattle.sf_parse.specs.Machine.Entries.{with_key, flag_of, entry_start, entry_step, entry_finish}
+use Rattle.sf_parse.specs.Machine.Fields.{step}
+use Rattle.sf_parse.specs.Machine.Series.{SeriesState, InMember, gap_step}
+use Rattle.sf_parse.specs.Machine.States.{BeforeItem, InsideItem, AfterItem}
+use Rattle.sf_parse.specs.Machine.Tests.{may_end}
+use Rattle.sf_parse.specs.Machine.Texts.{word_step}
+use Rattle.sf_parse.specs.MemberEnds.{some_map}
+use Rattle.sf_parse.specs.Prefixes.{Goes, FirstIs, Halts, LongestPrefix, Starts}
+use Rattle.sf_parse.specs.SeriesView.{series_next, series_end, series_of}
+use Rattle.sf_parse.specs.Stops.{StopsAt, StopsIn, RefusesLeft}
+use Rattle.sf_parse.specs.WholeMembers.{NoneOpen, IsBetween, RefusesAt, RefusesAfter}
+use Rattle.sf_parse.specs.WholeMembers.{begins_between, ends_between}
+use Rattle.sf_parse.specs.WholeParts.{ReadsAs, ReadsParam, ReadsItems, Behind, IsBehindItem}
+use Rattle.sf_parse.specs.declared.leaf.Leaf.{Leaf}
+use Rattle.sf_parse.specs.declared.refusal.Refusal.{Refusal}
+use Rattle.sf_parse.specs.declared.refusal.Refusal.TheVariants.{Syntax}
+use Rattle.sf_parse.specs.declared.series.SeriesPhase.{SeriesPhase}
+use Rattle.sf_parse.specs.declared.series.SeriesPhase.TheVariants as phase
+use Rattle.sf_parse.specs.declared.stop.Stop.{Stop}
+use Rattle.sf_parse.specs.declared.whole_parts.BehindItems.{BehindItems}
+use Rattle.sf_parse.proofs.BegunParts.{items_closed}
+use Rattle.sf_parse.proofs.ByteRuns.{stay_goes, word_goes}
+use Rattle.sf_parse.proofs.LevelMarks.{marks_items}
+use Rattle.sf_parse.proofs.Machine.Bares.{bare_apart, bare_starts}
+use Rattle.sf_parse.proofs.Machine.Fields.{no_ows}
+use Rattle.sf_parse.proofs.Machine.Language.{is_none}
+use Rattle.sf_parse.proofs.Marks.{marks_map, marks_onward, marks_steps}
+use Rattle.sf_parse.proofs.OpenParts.{space_in_params, value_in_params, bare_in_item, item_in_member}
+use Rattle.sf_parse.proofs.OpenParts.{key_in_entry, member_in_entry, item_in_many, item_in_field}
+use Rattle.sf_parse.proofs.Prefixes.{goes_one, goes_more, goes_above, goes_byte, left_within}
+use Rattle.sf_parse.proofs.SeriesSteps.{member_goes_on}
+use Rattle.sf_parse.proofs.WholeParts.{bare_machine, spells_run, item_whole}
+use Rattle.sf_parse.proofs.WholeSteps.{key_goes, begins_item}
+
+-- a byte that is not expected
+unexpected : (bits b : ℕ) (c : Bool) → b < 128
+    → bit_at bits b ≡ (if nat_lt b 128 && c then 1 else 0) → bit_at bits b ≢ 1 → c ≡ false
+unexpected bits b true h m n = absurd (n (m ∙ grind arith))
+unexpected bits b false h m n = refl
+
+not_some : {X : Type 0} (o : Option X) → is_some o ≡ false → o ≡ None
+not_some (Some x) e = absurd cc
+not_some None e = refl
+
+pub left_refused : {S : Type 0} (next : S → ℕ → Option S) (ends : S → Bool) (s : S)
+    (bits place : ℕ) (left : List ℕ) (may : Bool) (e : Refusal)
+    → RefusesLeft bits may left place e → MarksStep bits (next s) → may ≡ ends s
+    → RefusesAt next ends s left place e
+left_refused next ends s bits place left may e r m k = record {
+  stops = by left r.blocked;
+  unended = λ z. sym k ∙ r.unended z;
+  refuses = record {
+    expected = bits;
+    marks = m;
+    syntax = r.syntax ∙ ap (Syntax place (slice_get left 0) bits) k;
+  };
+}
+  where
+    by : (xs : List ℕ) → FirstIs (λ b. b < 128 → bit_at bits b ≢ 1) xs
+        → FirstIs (λ b. b < 128 → Halts next s b) xs
+    by [] h = tt
+    by (b ∷ xs) h = λ l.
+        not_some (next s b) (unexpected bits b (is_some (next s b)) l (m b) (h l))
+
+pub stop_more : {S : Type 0} (next : S → ℕ → Option S) (ends : S → Bool) (s t : S)
+    (text rest : List ℕ) (x : Stop) → Goes next s text rest t → StopsAt next ends t rest x
+    → StopsAt next ends s text x
+stop_more next ends s t text rest x a h = record {
+  state = h.state;
+  goes = goes_more next s t h.state text rest x.left.now a h.goes;
+  marks = h.marks;
+  ending = h.ending;
+}
+
+-- here
+pub stop_here : {S : Type 0} (next : S → ℕ → Option S) (ends : S → Bool) (s t : S)
+    (text : List ℕ) (x : Stop) → Goes next s text x.left.now t → MarksStep x.expected (next t)
+    → x.may_end ≡ ends t → StopsAt next ends s text x
+stop_here next ends s t text x a m e = record { state = t; goes = a; marks = m; ending = e }
+
+-- a level above goes on where the part does, and perhaps where the part may end
+module _ {S T : Type 0} (next : S → ℕ → Option S) (above : T → ℕ → Option T) (into : S → T)
+    (ends : S → Bool) (over : T → Bool)
+    (goes_on : (s t : S) (b : ℕ) → next s b ≡ Some t → above (into s) b ≡ Some (into t)) where
+  pub stop_above : (s : S) (text : List ℕ) (x y : Stop) → y.left.now ≡ x.left.now
+      → ((t : S) → MarksStep x.expected (next t) → x.may_end ≡ ends t
+      → MarksStep y.expected (above (into t)))
+      → ((t : S) → x.may_end ≡ ends t → y.may_end ≡ over (into t))
+      → StopsAt next ends s text x → StopsAt above over (into s) text y
+  stop_above s text x y e m k a = record {
+    state = into a.state;
+    goes = subst (λ z. Goes above (into s) text z (into a.state)) (sym e)
+        (goes_above next above into goes_on s a.state text x.left.now a.goes);
+    marks = m a.state a.marks a.ending;
+    ending = k a.state a.ending;
+  }
+
+  -- the part begins where the level above is in this state
+  pub stop_begins : (first : ℕ → Option S) (u : T) (text : List ℕ) (x y : Stop)
+      → ((b : ℕ) (s : S) → first b ≡ Some s → above u b ≡ Some (into s))
+      → y.left.now ≡ x.left.now
+      → ((t : S) → MarksStep x.expected (next t) → x.may_end ≡ ends t
+      → MarksStep y.expected (above (into t)))
+      → ((t : S) → x.may_end ≡ ends t → y.may_end ≡ over (into t))
+      → StopsIn first next ends text x → StopsAt above over u text y
+  stop_begins first u text x y f e m k a =
+      subst (λ z. StopsAt above over u z y) (sym a.split)
+      (stop_more above over u (into a.begun) (a.byte ∷ a.more) a.more y
+      (goes_one above u (into a.begun) a.byte a.more (f a.byte a.begun a.starts))
+      (stop_above a.begun a.more x y e m k a.stops))
+
+  -- the part begins the level above
+  pub stop_in_above : (first : ℕ → Option S) (start : ℕ → Option T) (text : List ℕ) (x y : Stop)
+      → ((b : ℕ) (s : S) → first b ≡ Some s → start b ≡ Some (into s))
+      → y.left.now ≡ x.left.now
+      → ((t : S) → MarksStep x.expected (next t) → x.may_end ≡ ends t
+      → MarksStep y.expected (above (into t)))
+      → ((t : S) → x.may_end ≡ ends t → y.may_end ≡ over (into t))
+      → StopsIn first next ends text x → StopsIn start above over text y
+  stop_in_above first start text x y f e m k a = record {
+    byte = a.byte;
+    more = a.more;
+    begun = into a.begun;
+    split = a.split;
+    no_space = a.no_space;
+    starts = f a.byte a.begun a.starts;
+    stops = stop_above a.begun a.more x y e m k a.stops;
+  }
+
+-- no bare item begins with white space
+bare_none : (d : Dialect) → (bare_start d 32 ≡ None) × (bare_start d 9 ≡ None)
+bare_none Rfc8941 = (refl, refl)
+bare_none Rfc9651 = (refl, refl)
+
+no_white : {S : Type 0} (start : ℕ → Option S) → start 32 ≡ None → start 9 ≡ None → (b : ℕ)
+    (s : S) → start b ≡ Some s → is_ows b ≡ false
+no_white start e f b s h = by (is_ows b) refl
+  where
+    by : (c : Bool) → is_ows b ≡ c → is_ows b ≡ false
+    by true k = absurd (no_ows start e f b s k h)
+    by false k = k
+
+-- a value made of another
+some_then : {X V : Type 0} (f : X → V) (o : Option X)
+    → is_some (option_and_then (λ x. Some (f x)) o) ≡ is_some o
+some_then f (Some x) = refl
+some_then f None = refl
+
+no_sp : (b : ℕ) → is_ows b ≡ false → is_sp b ≡ false
+no_sp b e = grind arith
+
+starts_inner : (d : Dialect) → member_start d 40 ≡ Some (InMany (BetweenItems []))
+starts_inner Rfc8941 = refl
+starts_inner Rfc9651 = refl
+
+module _ (d : Dialect) where
+  abbrev BareEnds : BareState → Bool
+  BareEnds s = is_some (bare_finish s)
+
+  abbrev ParamsEnd : ParamsState → Bool
+  ParamsEnd s = is_some (params_finish s)
+
+  abbrev ItemEnds : ItemState → Bool
+  ItemEnds s = is_some (item_finish s)
+
+  abbrev MemberEnds : MemberState → Bool
+  MemberEnds s = is_some (member_finish s)
+
+  abbrev EntryEnds : EntryState → Bool
+  EntryEnds s = is_some (entry_finish s)
+
+  pub bare_stops : (text : List ℕ) (b : ℕ) (more : List ℕ) (took : Bool) (s t : BareState)
+      (x : Stop) → text ≡ b ∷ more → took ≡ true → Starts took (bare_start d b) s
+      → LongestPrefix bare_step s more x.left.now t → MarksStep x.expected (bare_step t)
+      → x.may_end ≡ BareEnds t → StopsIn (bare_start d) bare_step BareEnds text x
+  bare_stops text b more true s t x e f h a m k = record {
+    byte = b;
+    more = more;
+    begun = s;
+    split = e;
+    no_space = no_white (bare_start d) (bare_none d).0 (bare_none d).1 b s h;
+    starts = h;
+    stops = record { state = t; goes = a.goes; marks = m; ending = k };
+  }
+  bare_stops text b more false s t x e f h a m k = absurd cc
+
+  -- parameters, and spaces after a semicolon
+  pub opened_goes : (ps qs : Pairs Bare) (text rest named : List ℕ)
+      → Goes (params_step d) (Opened ps) text rest (Opened qs) → Behind is_sp rest named
+      → Goes (params_step d) (Opened ps) text named (Opened qs)
+  opened_goes ps qs text rest named a b =
+      goes_more (params_step d) (Opened ps) (Opened qs) (Opened qs) text rest named a
+      (stay_goes (params_step d) is_sp (Opened qs) b.prefix named rest (space_in_params d qs)
+      b.split b.each)
+
+  -- the value of a parameter
+  value_marks : (ps : Pairs Bare) (k : List ℕ) (t : BareState) (x : ℕ) (may : Bool)
+      → MarksStep x (bare_step t) → may ≡ BareEnds t
+      → MarksStep (bit_or x (cond may (2 ^ 59) 0)) (params_step d (InValue ps k t))
+  value_marks ps k t x may h e =
+      subst (λ m. MarksStep (bit_or x (cond m (2 ^ 59) 0)) (params_step d (InValue ps k t))) (sym e)
+      (marks_onward (InValue ps k) x (2 ^ 59) (bare_step t) (bare_finish t)
+      (λ v. between_step (put ps k v)) h
+      (λ v. marks_steps (2 ^ 59) (between_step (put ps k v)) refl))
+
+  -- a bare item in an Item
+  item_marks : (t : BareState) (x : ℕ) (may : Bool) → MarksStep x (bare_step t)
+      → may ≡ BareEnds t
+      → MarksStep (bit_or x (cond may (2 ^ 59) 0)) (item_step d (InBare t))
+  item_marks t x may h e =
+      subst (λ m. MarksStep (bit_or x (cond m (2 ^ 59) 0)) (item_step d (InBare t))) (sym e)
+      (marks_onward InBare x (2 ^ 59) (bare_step t) (bare_finish t)
+      (λ v b. option_map (InParams v) (between_step [] b)) h
+      (λ v. marks_steps (2 ^ 59) (λ b. option_map (InParams v) (between_step [] b)) refl))
+
+  pub value_stop : (ps qs : Pairs Bare) (text value key : List ℕ) (x y : Stop)
+      → Goes (params_step d) (Opened ps) text value (EqualsParam qs key)
+      → y.left.now ≡ x.left.now → y.expected ≡ bit_or x.expected (cond x.may_end (2 ^ 59) 0)
+      → y.may_end ≡ x.may_end → StopsIn (bare_start d) bare_step BareEnds value x
+      → StopsAt (params_step d) ParamsEnd (Opened ps) text y
+  value_stop ps qs text value key x y a e f g h =
+      stop_more (params_step d) ParamsEnd (Opened ps) (EqualsParam qs key) text value y a
+      (stop_begins bare_step (params_step d) (InValue qs key) BareEnds ParamsEnd
+      (value_in_params d qs key) (bare_start d) (EqualsParam qs key) value x y
+      (λ b s n. ap (option_map (InValue qs key)) n) e
+      (λ t m k. subst (λ z. MarksStep z (params_step d (InValue qs key t))) (sym f)
+      (value_marks qs key t x.expected x.may_end m k))
+      (λ t k. g ∙ k ∙ sym (some_then (put qs key) (bare_finish t))) h)
+
+  -- a key after a semicolon, and what may be behind it
+  pub keyed_goes : (ps qs : Pairs Bare) (text rest named key after : List ℕ)
+      → Goes (params_step d) (Opened ps) text rest (Opened qs) → Behind is_sp rest named
+      → named ≡ key ++ after → IsKey key
+      → Goes (params_step d) (Opened ps) text after (InParamKey qs key)
+  keyed_goes ps qs text rest named key after a b e k =
+      goes_more (params_step d) (Opened ps) (Opened qs) (InParamKey qs key) text named after
+      (opened_goes ps qs text rest named a b)
+      (subst (λ y. Goes (params_step d) (Opened qs) y after (InParamKey qs key)) (sym e)
+      (key_goes d qs key after k))
+
+  pub equals_goes : (ps qs : Pairs Bare) (text key after value : List ℕ)
+      → Goes (params_step d) (Opened ps) text after (InParamKey qs key) → after ≡ 61 ∷ value
+      → Goes (params_step d) (Opened ps) text value (EqualsParam qs key)
+  equals_goes ps qs text key after value a e =
+      goes_byte (params_step d) (Opened ps) (InParamKey qs key) (EqualsParam qs key) text 61 value
+      (subst (λ y. Goes (params_step d) (Opened ps) text y (InParamKey qs key)) e a) refl
+
+  pub item_stop : (text : List ℕ) (x y : Stop) → y.left.now ≡ x.left.now
+      → y.expected ≡ bit_or x.expected (cond x.may_end (2 ^ 59) 0) → y.may_end ≡ x.may_end
+      → StopsIn (bare_start d) bare_step BareEnds text x
+      → StopsIn (item_start d) (item_step d) ItemEnds text y
+  item_stop text x y e f g h =
+      stop_in_above bare_step (item_step d) InBare BareEnds ItemEnds (bare_in_item d)
+      (bare_start d) (item_start d) text x y (λ b s n. ap (option_map InBare) n) e
+      (λ t m k. subst (λ z. MarksStep z (item_step d (InBare t))) (sym f)
+      (item_marks t x.expected x.may_end m k))
+      (λ t k. g ∙ k ∙ sym (some_then (λ v. item v []) (bare_finish t))) h
+
+  -- the parameters of an Item
+  pub params_stop : (text after more : List ℕ) (v : Bare) (x : Stop)
+      → ReadsAs (SpellsBare d) text v after → after ≡ 59 ∷ more
+      → ((ps : Pairs Bare) → StopsAt (params_step d) ParamsEnd (Opened ps) more x)
+      → StopsIn (item_start d) (item_step d) ItemEnds text x
+  params_stop text after more v x r e h =
+      let w = spells_run bare_machine (SpellsBare d) (bare_start d) (bare_starts d) r.prefix v
+      r.spelled in
+      let all = w.more ++ 59 ∷ more in
+      let opened = InParams v (Opened []) in
+      let end = is_none (bare_step w.last 59) (λ t n. bare_apart w.last v 59 t w.ends n refl) in
+      record {
+        byte = w.byte;
+        more = all;
+        begun = InBare w.first;
+        split = r.split ∙ ap (λ y. r.prefix ++ y) e ∙ ap (λ y. y ++ 59 ∷ more) w.split;
+        no_space = no_white (bare_start d) (bare_none d).0 (bare_none d).1 w.byte w.first w.starts;
+        starts = ap (option_map InBare) w.starts;
+        stops = stop_more (item_step d) ItemEnds (InBare w.first) opened all more x
+            (goes_more (item_step d) (InBare w.first) (InBare w.last) opened all (59 ∷ more) more
+            (goes_above bare_step (item_step d) InBare (bare_in_item d) w.first w.last all
+            (59 ∷ more) (record { taken = w.more; split = refl; leads = w.leads }))
+            (goes_one (item_step d) (InBare w.last) opened 59 more (rw (end, w.ends) refl)))
+            (stop_above (params_step d) (item_step d) (InParams v) ParamsEnd ItemEnds
+            (λ s t b n. ap (option_map (InParams v)) n) (Opened []) more x x refl
+            (λ t m k. marks_map (InParams v) x.expected (params_step d t) m)
+            (λ t k. k ∙ sym (some_map (item v) (params_finish t))) (h []));
+      }
+
+  pub member_stop : (text : List ℕ) (x : Stop)
+      → StopsIn (item_start d) (item_step d) ItemEnds text x
+      → StopsIn (member_start d) (member_step d) MemberEnds text x
+  member_stop text x h =
+      stop_in_above (item_step d) (member_step d) InOne ItemEnds MemberEnds (item_in_member d)
+      (item_start d) (member_start d) text x x (λ b s n. rw n refl) refl
+      (λ t m k. marks_map InOne x.expected (item_step d t) m)
+      (λ t k. k ∙ sym (some_map member.Item (item_finish t))) h
+
+  -- an Inner List
+  pub inner_stop : (text inside : List ℕ) (x : Stop) → text ≡ 40 ∷ inside
+      → StopsAt (member_step d) MemberEnds (InMany (BetweenItems [])) inside x
+      → StopsIn (member_start d) (member_step d) MemberEnds text x
+  inner_stop text inside x e h = record {
+    byte = 40;
+    more = inside;
+    begun = InMany (BetweenItems []);
+    split = e;
+    no_space = refl;
+    starts = starts_inner d;
+    stops = h;
+  }
+
+  pub closed_stop : (inside after : List ℕ) (is : List Item) (x : Stop)
+      → ReadsItems d 0 inside [] is after → x.left.now ≡ after → x.expected ≡ 2 ^ 59
+      → x.may_end ≡ true
+      → StopsAt (member_step d) MemberEnds (InMany (BetweenItems [])) inside x
+  closed_stop inside after is x r e f k =
+      stop_here (member_step d) MemberEnds (InMany (BetweenItems []))
+      (InMany (Closing is (Between []))) inside x
+      (subst (λ y. Goes (member_step d) (InMany (BetweenItems [])) inside y
+      (InMany (Closing is (Between [])))) (sym e)
+      (items_closed d inside after [] is refl r))
+      (subst (λ y. MarksStep y (member_step d (InMany (Closing is (Between []))))) (sym f)
+      (marks_steps (2 ^ 59) (member_step d (InMany (Closing is (Between [])))) refl)) k
+
+  pub closing_stop : (inside after more : List ℕ) (is : List Item) (x : Stop)
+      → ReadsItems d 0 inside [] is after → after ≡ 59 ∷ more
+      → ((ps : Pairs Bare) → StopsAt (params_step d) ParamsEnd (Opened ps) more x)
+      → StopsAt (member_step d) MemberEnds (InMany (BetweenItems [])) inside x
+  closing_stop inside after more is x r e h =
+      let closed = InMany (Closing is (Between [])) in
+      let opened = InMany (Closing is (Opened [])) in
+      stop_more (member_step d) MemberEnds (InMany (BetweenItems [])) opened inside more x
+      (goes_byte (member_step d) (InMany (BetweenItems [])) closed opened inside 59 more
+      (subst (λ y. Goes (member_step d) (InMany (BetweenItems [])) inside y closed) e
+      (items_closed d inside after [] is refl r)) refl)
+      (stop_above (params_step d) (member_step d) (λ s. InMany (Closing is s)) ParamsEnd MemberEnds
+      (λ s t b n. ap (λ o. option_map InMany (option_map (Closing is) o)) n) (Opened []) more x x
+      refl
+      (λ t m k. marks_map InMany x.expected _ (marks_map (Closing is) x.expected (params_step d t) m))
+      (λ t k. k ∙ sym (some_map member.Inner (inner_finish (Closing is t))
+      ∙ some_map (inner is) (params_finish t))) (h []))
+
+  -- where an Item of it may begin, and within one
+  pub between_stop : (inside : List ℕ) (is : List Item) (x : Stop) (bits : ℕ)
+      → Goes (member_step d) (InMany (BetweenItems [])) inside x.left.now (InMany (BetweenItems is))
+      → x.expected ≡ bit_or (2 ^ 32) (bit_or (2 ^ 41) bits) → x.may_end ≡ false
+      → MarksStep bits (bare_start d)
+      → StopsAt (member_step d) MemberEnds (InMany (BetweenItems [])) inside x
+  between_stop inside is x bits a e k m =
+      stop_here (member_step d) MemberEnds (InMany (BetweenItems [])) (InMany (BetweenItems is))
+      inside x a
+      (subst (λ y. MarksStep y (member_step d (InMany (BetweenItems is)))) (sym e)
+      (marks_items d is bits m)) k
+
+  within_marks : (is : List Item) (t : ItemState) (x : ℕ) (may : Bool) → MarksStep x (item_step d t)
+      → may ≡ ItemEnds t
+      → MarksStep (bit_or x (cond may 2203318222848 0)) (member_step d (InMany (InItem is t)))
+  within_marks is t x may h e =
+      subst (λ m. MarksStep (bit_or x (cond m 2203318222848 0))
+      (member_step d (InMany (InItem is t)))) (sym e)
+      (marks_map InMany _ _ (marks_onward (InItem is) x 2203318222848 (item_step d t)
+      (item_finish t) (λ i. behind_step (is ++ i ∷ [])) h
+      (λ i. marks_steps 2203318222848 (behind_step (is ++ i ∷ [])) refl)))
+
+  pub within_stop : (inside rest : List ℕ) (is : List Item) (x y : Stop)
+      → Goes (member_step d) (InMany (BetweenItems [])) inside rest (InMany (BetweenItems is))
+      → y.left.now ≡ x.left.now → y.expected ≡ bit_or x.expected (cond x.may_end 2203318222848 0)
+      → y.may_end ≡ false → StopsIn (item_start d) (item_step d) ItemEnds rest x
+      → StopsAt (member_step d) MemberEnds (InMany (BetweenItems [])) inside y
+  within_stop inside rest is x y a e f g h =
+      stop_more (member_step d) MemberEnds (InMany (BetweenItems [])) (InMany (BetweenItems is))
+      inside rest y a
+      (stop_begins (item_step d) (member_step d) (λ s. InMany (InItem is s)) ItemEnds MemberEnds
+      (item_in_many d is) (item_start d) (InMany (BetweenItems is)) rest x y (begins_item d is) e
+      (λ t m k. subst (λ z. MarksStep z (member_step d (InMany (InItem is t)))) (sym f)
+      (within_marks is t x.expected x.may_end m k)) (λ t k. g) h)
+
+  -- what is behind the key of a Dictionary's member
+  pub key_stop : (text key after : List ℕ) (x : Stop) → text ≡ key ++ after → IsKey key
+      → StopsAt (entry_step d) EntryEnds (InKey key) after x
+      → StopsIn entry_start (entry_step d) EntryEnds text x
+  key_stop text [] after x e k h = absurd k
+  key_stop text (b ∷ key) after x e k h = record {
+    byte = b;
+    more = key ++ after;
+    begun = InKey (b ∷ []);
+    split = e;
+    no_space = no_white entry_start refl refl b (InKey (b ∷ [])) (rw k.0 refl);
+    starts = rw k.0 refl;
+    stops = stop_more (entry_step d) EntryEnds (InKey (b ∷ [])) (InKey (b ∷ key)) (key ++ after)
+        after x
+        (goes_above (word_step is_in_key) (entry_step d) InKey (key_in_entry d) (b ∷ [])
+        (b ∷ key) (key ++ after) after
+        (word_goes is_in_key (b ∷ []) key after (key ++ after) (b ∷ key) refl k.1 refl))
+        h;
+  }
+
+  pub flag_stop : (key after more : List ℕ) (x : Stop) → after ≡ 59 ∷ more
+      → ((ps : Pairs Bare) → StopsAt (params_step d) ParamsEnd (Opened ps) more x)
+      → StopsAt (entry_step d) EntryEnds (InKey key) after x
+  flag_stop key after more x e h =
+      subst (λ y. StopsAt (entry_step d) EntryEnds (InKey key) y x) (sym e)
+      (stop_more (entry_step d) EntryEnds (InKey key) (InFlag key (Opened [])) (59 ∷ more) more x
+      (goes_one (entry_step d) (InKey key) (InFlag key (Opened [])) 59 more refl)
+      (stop_above (params_step d) (entry_step d) (InFlag key) ParamsEnd EntryEnds
+      (λ s t b n. ap (option_map (InFlag key)) n) (Opened []) more x x refl
+      (λ t m k. marks_map (InFlag key) x.expected (params_step d t) m)
+      (λ t k. k ∙ sym (some_map (flag_of key) (params_finish t))) (h [])))
+
+  pub equals_stop : (key after value : List ℕ) (x : Stop) → after ≡ 61 ∷ value
+      → x.left.now ≡ value → MarksStep x.expected (member_start d) → x.may_end ≡ false
+      → StopsAt (entry_step d) EntryEnds (InKey key) after x
+  equals_stop key after value x e f m k =
+      stop_here (entry_step d) EntryEnds (InKey key) (Equals key) after x
+      (subst (λ y. Goes (entry_step d) (InKey key) y x.left.now (Equals key))
+      (ap (λ y. 61 ∷ y) f ∙ sym e)
+      (goes_one (entry_step d) (InKey key) (Equals key) 61 x.left.now refl))
+      (marks_map (InMemberValue key) x.expected (member_start d) m) k
+
+  pub member_value_stop : (key after value : List ℕ) (x : Stop) → after ≡ 61 ∷ value
+      → StopsIn (member_start d) (member_step d) MemberEnds value x
+      → StopsAt (entry_step d) EntryEnds (InKey key) after x
+  member_value_stop key after value x e h =
+      subst (λ y. StopsAt (entry_step d) EntryEnds (InKey key) y x) (sym e)
+      (stop_more (entry_step d) EntryEnds (InKey key) (Equals key) (61 ∷ value) value x
+      (goes_one (entry_step d) (InKey key) (Equals key) 61 value refl)
+      (stop_begins (member_step d) (entry_step d) (InMemberValue key) MemberEnds EntryEnds
+      (member_in_entry d key) (member_start d) (Equals key) value x x
+      (λ b s n. ap (option_map (InMemberValue key)) n) refl
+      (λ t m k. marks_map (InMemberValue key) x.expected (member_step d t) m)
+      (λ t k. k ∙ sym (some_map (with_key key) (member_finish t))) h))
+
+-- in a series, where a member may begin
+module _ {S V : Type 0} (first : ℕ → Option S) (next : S → ℕ → Option S)
+    (added : S → V → Option V) (none : V) where
+  abbrev Next : SeriesState S V → ℕ → Option (SeriesState S V)
+  Next = series_next first next added none
+
+  abbrev EndsSeries : SeriesState S V → Bool
+  EndsSeries t = is_some (series_end added none t)
+
+  -- whether members may end where none is open
+  pub between_ends : (p : SeriesPhase) (given : V) (s : S) → IsBetween p
+      → ends_between p ≡ EndsSeries (series_of p given s)
+  between_ends phase.Begin given s b = refl
+  between_ends phase.InMember given s b = absurd b
+  between_ends phase.Gap given s b = refl
+  between_ends phase.Comma given s b = refl
+
+  pub left_between : (p : SeriesPhase) (bits place : ℕ) (left : List ℕ) (may : Bool)
+      (o : Option Refusal)
+      → ((given : V) (s : S) → IsBetween p → MarksStep bits (Next (series_of p given s)))
+      → may ≡ ends_between p → IfSome o (RefusesLeft bits may left place)
+      → IfSome o (λ e. (given : V) (s : S) → IsBetween p
+      → RefusesAt Next EndsSeries (series_of p given s) left place e)
+  left_between p bits place left may None m k r = r
+  left_between p bits place left may (Some e) m k r = λ given s b.
+      left_refused Next EndsSeries (series_of p given s) bits place left may e r (m given s b)
+      (k ∙ between_ends p given s b)
+
+  begins_member : (p : SeriesPhase) (given : V) (s t : S) (b : ℕ) → begins_between p ≡ true
+      → NoneOpen none p given → is_ows b ≡ false → first b ≡ Some t
+      → Next (series_of p given s) b ≡ Some (InMember given t)
+  begins_member phase.Begin given s t b e n w f =
+      rw (no_sp b w, f) (ap (λ g. Some (InMember g t)) (sym n))
+  begins_member phase.InMember given s t b e n w f = absurd n
+  begins_member phase.Gap given s t b e n w f = absurd cc
+  begins_member phase.Comma given s t b e n w f = rw (w, f) refl
+
+  member_marks : (given : V) (t : S) (x : ℕ) (may : Bool) → MarksStep x (next t)
+      → may ≡ is_some (added t given)
+      → MarksStep (bit_or x (cond may 17596481012224 0)) (Next (InMember given t))
+  member_marks given t x may h e =
+      subst (λ m. MarksStep (bit_or x (cond m 17596481012224 0)) (Next (InMember given t))) (sym e)
+      (marks_onward (InMember given) x 17596481012224 (next t) (added t given) gap_step h
+      (λ v. marks_steps 17596481012224 (gap_step {S = S} v) refl))
+
+  member_refused : (ends : S → Bool) (p : SeriesPhase) (given : V) (s : S) (text : List ℕ)
+      (x : Stop) (bits whole : ℕ) (e : Refusal)
+      → ((t : S) (v : V) → is_some (added t v) ≡ ends t) → begins_between p ≡ true
+      → NoneOpen none p given → StopsIn first next ends text x
+      → bits ≡ bit_or x.expected (cond x.may_end 17596481012224 0)
+      → RefusesLeft bits x.may_end x.left.now (whole - length x.left.now) e
+      → RefusesAfter Next EndsSeries (series_of p given s) text whole e
+  member_refused ends p given s text x bits whole e adds b n h f r =
+      let t = h.stops.state in
+      let may = h.stops.ending ∙ sym (adds t given) in
+      record {
+        state = InMember given t;
+        left = x.left.now;
+        goes = subst (λ y. Goes Next (series_of p given s) y x.left.now (InMember given t))
+            (sym h.split)
+            (goes_more Next (series_of p given s) (InMember given h.begun) (InMember given t)
+            (h.byte ∷ h.more) h.more x.left.now
+            (goes_one Next (series_of p given s) (InMember given h.begun) h.byte h.more
+            (begins_member p given s h.begun h.byte b n h.no_space h.starts))
+            (goes_above next Next (InMember given) (member_goes_on first next added none given)
+            h.begun t h.more x.left.now h.stops.goes));
+        refuses = left_refused Next EndsSeries (InMember given t) bits
+            (whole - length x.left.now) x.left.now x.may_end e r
+            (subst (λ y. MarksStep y (Next (InMember given t))) (sym f)
+            (member_marks given t x.expected x.may_end h.stops.marks may))
+            may;
+      }
+
+  pub left_in_member : (ends : S → Bool) (p : SeriesPhase) (text : List ℕ) (x : Stop)
+      (bits whole : ℕ) (o : Option Refusal) → ((t : S) (v : V) → is_some (added t v) ≡ ends t)
+      → begins_between p ≡ true → StopsIn first next ends text x
+      → bits ≡ bit_or x.expected (cond x.may_end 17596481012224 0)
+      → IfSome o (RefusesLeft bits x.may_end x.left.now (whole - length x.left.now))
+      → IfSome o (λ e. (given : V) (s : S) → NoneOpen none p given
+      → RefusesAfter Next EndsSeries (series_of p given s) text whole e)
+  left_in_member ends p text x bits whole None adds b h f r = r
+  left_in_member ends p text x bits whole (Some e) adds b h f r = λ given s n.
+      member_refused ends p given s text x bits whole e adds b n h f r
+
+-- a stop is in its text
+pub stop_within : {S : Type 0} (first : ℕ → Option S) (next : S → ℕ → Option S)
+    (ends : S → Bool) (text : List ℕ) (x : Stop) → StopsIn first next ends text x
+    → length x.left.now ≤ length text
+stop_within first next ends text x h =
+    let k = left_within next h.begun h.stops.state h.more x.left.now h.stops.goes in
+    let l : length text ≡ length (h.byte ∷ h.more) = ap length h.split in
+    omega arith
+
+-- an Item that is a whole text, after the spaces before it
+module _ (d : Dialect) where
+  field_marks : (t : ItemState) (x : ℕ) (may : Bool) → MarksStep x (item_step d t)
+      → may ≡ ItemEnds d t
+      → MarksStep (bit_or x (cond may (2 ^ 32) 0)) (step d (InsideItem t))
+  field_marks t x may h e =
+      subst (λ m. MarksStep (bit_or x (cond m (2 ^ 32) 0)) (step d (InsideItem t))) (sym e)
+      (marks_onward InsideItem x (2 ^ 32) (item_step d t) (item_finish t)
+      (λ i b. allow (is_sp b) (AfterItem i)) h
+      (λ i. marks_steps (2 ^ 32) (λ b. allow (is_sp b) (AfterItem i)) refl))
+
+  field_refused : (text : List ℕ) (x : Stop) (bits whole : ℕ) (e : Refusal)
+      → StopsIn (item_start d) (item_step d) (ItemEnds d) text x
+      → bits ≡ bit_or x.expected (cond x.may_end (2 ^ 32) 0)
+      → RefusesLeft bits x.may_end x.left.now (whole - length x.left.now) e
+      → RefusesAfter (step d) may_end BeforeItem text whole e
+  field_refused text x bits whole e h f r =
+      let t = h.stops.state in
+      let may = h.stops.ending ∙ sym (some_then field.Item (item_finish t)) in
+      record {
+        state = InsideItem t;
+        left = x.left.now;
+        goes = subst (λ y. Goes (step d) BeforeItem y x.left.now (InsideItem t)) (sym h.split)
+            (goes_more (step d) BeforeItem (InsideItem h.begun) (InsideItem t) (h.byte ∷ h.more)
+            h.more x.left.now
+            (goes_one (step d) BeforeItem (InsideItem h.begun) h.byte h.more
+            (rw (no_sp h.byte h.no_space, h.starts) refl))
+            (goes_above (item_step d) (step d) InsideItem (item_in_field d) h.begun t h.more
+            x.left.now h.stops.goes));
+        refuses = left_refused (step d) may_end (InsideItem t) bits (whole - length x.left.now)
+            x.left.now x.may_end e r
+            (subst (λ y. MarksStep y (step d (InsideItem t))) (sym f)
+            (field_marks t x.expected x.may_end h.stops.marks h.stops.ending))
+            may;
+      }
+
+  pub left_in_item : (text : List ℕ) (x : Stop) (bits whole : ℕ) (o : Option Refusal)
+      → StopsIn (item_start d) (item_step d) (ItemEnds d) text x
+      → bits ≡ bit_or x.expected (cond x.may_end (2 ^ 32) 0)
+      → IfSome o (RefusesLeft bits x.may_end x.left.now (whole - length x.left.now))
+      → IfSome o (RefusesAfter (step d) may_end BeforeItem text whole)
+  left_in_item text x bits whole None h f r = r
+  left_in_item text x bits whole (Some e) h f r = field_refused text x bits whole e h f r
+
+-- what is behind an Item of an Inner List that is passed over
+pub item_skipped : (text after rest : List ℕ) (l : Leaf) (o : Option BehindItems)
+    → ((d : Dialect) → ReadsAs (SpellsBare d) text (leaf_bare l) after)
+    → ((d : Dialect) → (ps : Pairs Bare) × ReadsAs (SpellsParams d) after ps rest)
+    → IfSome o (IsBehindItem rest)
+    → IfSome o (λ end. (d : Dialect) → (i : Item) × (rest : List ℕ)
+    × ReadsAs (SpellsItem d) text i rest × IsBehindItem rest end)
+item_skipped text after rest l None b p h = h
+item_skipped text after rest l (Some end) b p h = λ d.
+    let q = p d in (
+      item (leaf_bare l) q.0,
+      rest,
+      item_whole d text after rest (leaf_bare l) q.0 (b d) q.1,
+      h,
+    )
+
+pub param_behind : (d : Dialect) (text more left key : List ℕ) (x : Bare) → text ≡ 59 ∷ more
+    → ReadsParam d more key x left → length left < length text
+param_behind d text more left key x e p =
+    let a : length more ≡ length (p.prefix ++ left) = ap length p.split in
+    let b = length-append p.prefix left in
+    let c : length text ≡ length (59 ∷ more) = ap length e in
+    omega arith
