@@ -20,7 +20,6 @@ use Rattle.sf_value.specs.Grammar.Parameters.{SpellsParams}
 use Rattle.sf_value.specs.Grammar.Tokens.{IsKey}
 use Rattle.sf_value.specs.Grammar.Words.{allow}
 use Rattle.sf_parse.specs.Expected.{MarksStep}
-use Rattle.sf_parse.specs.Leaves.{leaf_bare}
 use Rattle.sf_parse.specs.Machine.Bares.{BareState, bare_start, bare_step, bare_finish}
 use Rattle.sf_parse.specs.Machine.Params.{ParamsState, Between, Opened, InParamKey, EqualsParam}
 use Rattle.sf_parse.specs.Machine.Params.{InValue, between_step, params_step, params_finish}
@@ -43,7 +42,6 @@ use Rattle.sf_parse.specs.Stops.{StopsAt, StopsIn, RefusesLeft}
 use Rattle.sf_parse.specs.WholeMembers.{NoneOpen, IsBetween, RefusesAt, RefusesAfter}
 use Rattle.sf_parse.specs.WholeMembers.{begins_between, ends_between}
 use Rattle.sf_parse.specs.WholeParts.{ReadsAs, ReadsParam, ReadsItems, Behind, IsBehindItem}
-use Rattle.sf_parse.specs.declared.leaf.Leaf.{Leaf}
 use Rattle.sf_parse.specs.declared.refusal.Refusal.{Refusal}
 use Rattle.sf_parse.specs.declared.refusal.Refusal.TheVariants.{Syntax}
 use Rattle.sf_parse.specs.declared.series.SeriesPhase.{SeriesPhase}
@@ -53,7 +51,8 @@ use Rattle.sf_parse.specs.declared.whole_parts.BehindItems.{BehindItems}
 use Rattle.sf_parse.proofs.BegunParts.{items_closed}
 use Rattle.sf_parse.proofs.ByteRuns.{stay_goes, word_goes}
 use Rattle.sf_parse.proofs.LevelMarks.{marks_items}
-use Rattle.sf_parse.proofs.Machine.Bares.{bare_apart, bare_starts}
+use Rattle.sf_parse.proofs.Machine.Bares.{bare_apart}
+use Rattle.sf_parse.proofs.Machine.Items.{item_apart}
 use Rattle.sf_parse.proofs.Machine.Fields.{no_ows}
 use Rattle.sf_parse.proofs.Machine.Language.{is_none}
 use Rattle.sf_parse.proofs.Marks.{marks_map, marks_onward, marks_steps}
@@ -61,7 +60,7 @@ use Rattle.sf_parse.proofs.OpenParts.{space_in_params, value_in_params, bare_in_
 use Rattle.sf_parse.proofs.OpenParts.{key_in_entry, member_in_entry, item_in_many, item_in_field}
 use Rattle.sf_parse.proofs.Prefixes.{goes_one, goes_more, goes_above, goes_byte, left_within}
 use Rattle.sf_parse.proofs.SeriesSteps.{member_goes_on}
-use Rattle.sf_parse.proofs.WholeParts.{bare_machine, spells_run, item_whole}
+use Rattle.sf_parse.proofs.WholeParts.{item_whole}
 use Rattle.sf_parse.proofs.WholeSteps.{key_goes, begins_item}
 
 -- a byte that is not expected
@@ -178,6 +177,10 @@ some_then : {X V : Type 0} (f : X → V) (o : Option X)
 some_then f (Some x) = refl
 some_then f None = refl
 
+whole_value : {X : Type 0} (o : Option X) → is_some o ≡ true → (x : X) × (o ≡ Some x)
+whole_value (Some x) e = (x, refl)
+whole_value None e = absurd cc
+
 no_sp : (b : ℕ) → is_ows b ≡ false → is_sp b ≡ false
 no_sp b e = grind arith
 
@@ -288,33 +291,38 @@ module _ (d : Dialect) where
       (item_marks t x.expected x.may_end m k))
       (λ t k. g ∙ k ∙ sym (some_then (λ v. item v []) (bare_finish t))) h
 
+  opens_params : (t : BareState) (v : Bare) → bare_finish t ≡ Some v
+      → item_step d (InBare t) 59 ≡ Some (InParams v (Opened []))
+  opens_params t v e =
+      rw (is_none (bare_step t 59) (λ u n. bare_apart t v 59 u e n refl), e) refl
+
   -- the parameters of an Item
-  pub params_stop : (text after more : List ℕ) (v : Bare) (x : Stop)
-      → ReadsAs (SpellsBare d) text v after → after ≡ 59 ∷ more
+  pub params_stop : (text more : List ℕ) (w x : Stop)
+      → StopsIn (bare_start d) bare_step BareEnds text w → w.may_end ≡ true
+      → w.left.now ≡ 59 ∷ more
       → ((ps : Pairs Bare) → StopsAt (params_step d) ParamsEnd (Opened ps) more x)
       → StopsIn (item_start d) (item_step d) ItemEnds text x
-  params_stop text after more v x r e h =
-      let w = spells_run bare_machine (SpellsBare d) (bare_start d) (bare_starts d) r.prefix v
-      r.spelled in
-      let all = w.more ++ 59 ∷ more in
-      let opened = InParams v (Opened []) in
-      let end = is_none (bare_step w.last 59) (λ t n. bare_apart w.last v 59 t w.ends n refl) in
+  params_stop text more w x a m e h =
+      let t = a.stops.state in
+      let v = whole_value (bare_finish t) (sym a.stops.ending ∙ m) in
+      let opened = InParams v.0 (Opened []) in
       record {
-        byte = w.byte;
-        more = all;
-        begun = InBare w.first;
-        split = r.split ∙ ap (λ y. r.prefix ++ y) e ∙ ap (λ y. y ++ 59 ∷ more) w.split;
-        no_space = no_white (bare_start d) (bare_none d).0 (bare_none d).1 w.byte w.first w.starts;
-        starts = ap (option_map InBare) w.starts;
-        stops = stop_more (item_step d) ItemEnds (InBare w.first) opened all more x
-            (goes_more (item_step d) (InBare w.first) (InBare w.last) opened all (59 ∷ more) more
-            (goes_above bare_step (item_step d) InBare (bare_in_item d) w.first w.last all
-            (59 ∷ more) (record { taken = w.more; split = refl; leads = w.leads }))
-            (goes_one (item_step d) (InBare w.last) opened 59 more (rw (end, w.ends) refl)))
-            (stop_above (params_step d) (item_step d) (InParams v) ParamsEnd ItemEnds
-            (λ s t b n. ap (option_map (InParams v)) n) (Opened []) more x x refl
-            (λ t m k. marks_map (InParams v) x.expected (params_step d t) m)
-            (λ t k. k ∙ sym (some_map (item v) (params_finish t))) (h []));
+        byte = a.byte;
+        more = a.more;
+        begun = InBare a.begun;
+        split = a.split;
+        no_space = a.no_space;
+        starts = ap (option_map InBare) a.starts;
+        stops = stop_more (item_step d) ItemEnds (InBare a.begun) opened a.more more x
+            (goes_byte (item_step d) (InBare a.begun) (InBare t) opened a.more 59 more
+            (goes_above bare_step (item_step d) InBare (bare_in_item d) a.begun t a.more
+            (59 ∷ more)
+            (subst (λ y. Goes bare_step a.begun a.more y t) e a.stops.goes))
+            (opens_params t v.0 v.1))
+            (stop_above (params_step d) (item_step d) (InParams v.0) ParamsEnd ItemEnds
+            (λ s t b n. ap (option_map (InParams v.0)) n) (Opened []) more x x refl
+            (λ t m k. marks_map (InParams v.0) x.expected (params_step d t) m)
+            (λ t k. k ∙ sym (some_map (item v.0) (params_finish t))) (h []));
       }
 
   pub member_stop : (text : List ℕ) (x : Stop)
@@ -598,21 +606,48 @@ module _ (d : Dialect) where
   left_in_item text x bits whole None h f r = r
   left_in_item text x bits whole (Some e) h f r = field_refused text x bits whole e h f r
 
+  ends_item : (t : ItemState) (i : Item) → item_finish t ≡ Some i
+      → step d (InsideItem t) 32 ≡ Some (AfterItem i)
+  ends_item t i e =
+      rw (is_none (item_step d t 32) (λ u n. item_apart d t i 32 u e n refl), e) refl
+
+  -- behind an Item, after a space and those after it
+  pub left_behind_item : (text more end : List ℕ) (x : Stop) (whole : ℕ) (o : Option Refusal)
+      → StopsIn (item_start d) (item_step d) (ItemEnds d) text x → x.may_end ≡ true
+      → x.left.now ≡ 32 ∷ more → Behind is_sp more end
+      → IfSome o (RefusesLeft (2 ^ 32) true end (whole - length end))
+      → IfSome o (RefusesAfter (step d) may_end BeforeItem text whole)
+  left_behind_item text more end x whole None h m e b r = r
+  left_behind_item text more end x whole (Some f) h m e b r =
+      let t = h.stops.state in
+      let i = whole_value (item_finish t) (sym h.stops.ending ∙ m) in
+      let after = AfterItem i.0 in
+      record {
+        state = after;
+        left = end;
+        goes = subst (λ y. Goes (step d) BeforeItem y end after) (sym h.split)
+            (goes_more (step d) BeforeItem (InsideItem h.begun) after (h.byte ∷ h.more) h.more end
+            (goes_one (step d) BeforeItem (InsideItem h.begun) h.byte h.more
+            (rw (no_sp h.byte h.no_space, h.starts) refl))
+            (goes_more (step d) (InsideItem h.begun) after after h.more more end
+            (goes_byte (step d) (InsideItem h.begun) (InsideItem t) after h.more 32 more
+            (goes_above (item_step d) (step d) InsideItem (item_in_field d) h.begun t h.more
+            (32 ∷ more) (subst (λ y. Goes (item_step d) h.begun h.more y t) e h.stops.goes))
+            (ends_item t i.0 i.1))
+            (stay_goes (step d) is_sp after b.prefix end more (λ c k. rw k refl) b.split b.each)));
+        refuses = left_refused (step d) may_end after (2 ^ 32) (whole - length end) end true f r
+            (marks_steps (2 ^ 32) (step d after) refl) refl;
+      }
+
 -- what is behind an Item of an Inner List that is passed over
-pub item_skipped : (text after rest : List ℕ) (l : Leaf) (o : Option BehindItems)
-    → ((d : Dialect) → ReadsAs (SpellsBare d) text (leaf_bare l) after)
-    → ((d : Dialect) → (ps : Pairs Bare) × ReadsAs (SpellsParams d) after ps rest)
-    → IfSome o (IsBehindItem rest)
-    → IfSome o (λ end. (d : Dialect) → (i : Item) × (rest : List ℕ)
-    × ReadsAs (SpellsItem d) text i rest × IsBehindItem rest end)
-item_skipped text after rest l None b p h = h
-item_skipped text after rest l (Some end) b p h = λ d.
-    let q = p d in (
-      item (leaf_bare l) q.0,
-      rest,
-      item_whole d text after rest (leaf_bare l) q.0 (b d) q.1,
-      h,
-    )
+pub item_skipped : (d : Dialect) (text after rest : List ℕ) (x : Bare) (o : Option BehindItems)
+    → ReadsAs (SpellsBare d) text x after
+    → (ps : Pairs Bare) × ReadsAs (SpellsParams d) after ps rest → IfSome o (IsBehindItem rest)
+    → IfSome o (λ end. (i : Item) × (rest : List ℕ) × ReadsAs (SpellsItem d) text i rest
+    × IsBehindItem rest end)
+item_skipped d text after rest x None b p h = h
+item_skipped d text after rest x (Some end) b p h =
+    (item x p.0, rest, item_whole d text after rest x p.0 b p.1, h)
 
 pub param_behind : (d : Dialect) (text more left key : List ℕ) (x : Bare) → text ≡ 59 ∷ more
     → ReadsParam d more key x left → length left < length text

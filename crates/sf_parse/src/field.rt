@@ -35,8 +35,8 @@ use crate::series::{
 };
 use crate::sets::{SPACE, set_if};
 use crate::stop::{refuse_left, stop_in_item};
-use crate::whole_bare::ends;
-use crate::whole_parts::{Owner, behind_spaces, read_params};
+use crate::whole_bare::{behind, ends};
+use crate::whole_parts::{Owner, behind_spaces, may_begin_part, read_params};
 use sf_value::{Dict, Entries, Item, List, Member, OutOfMemory, Sequence};
 
 /// The members of a List that are being read.
@@ -178,7 +178,7 @@ impl WholeText for ItemFieldReader {
     fn parse(context: &Context, text: &[u8]) -> Result<Item, Refusal> {
         let inside = behind_spaces(text);
         let Some((leaf, after)) = find_leaf(inside) else {
-            return read_item_field(context, text, inside);
+            return read_other_item(context, text, inside);
         };
         let mut params = Entries::new(context.alloc, &context.seed);
         let rest = read_params(context, after, Owner::Text, &mut params);
@@ -187,10 +187,7 @@ impl WholeText for ItemFieldReader {
                 return Ok(Item { bare, params });
             }
         }
-        match refuse_item(context, text.len(), inside) {
-            Some(refusal) => Err(refusal),
-            None => read_item_field(context, text, inside),
-        }
+        refuse_or_read_item(context, text, inside)
     }
 }
 
@@ -252,6 +249,33 @@ impl WholeText for DictReader {
     }
 }
 
+/// Reads the text of an Item, after spaces, which begins with no leaf: a bare item that only its
+/// reader reads, or a mistake.
+#[inline(never)]
+fn read_other_item(context: &Context, text: &[u8], inside: &[u8]) -> Result<Item, Refusal>
+    requires { Behind is_sp text.now inside.now }
+    ensures parses { Makes field_is.Item (Parses context.now.dialect kind_is.Item text.now) result }
+    ensures allocation_free { TakesNoMemory kind_is.Item text.now → IfErr result IsOther }
+{
+    if may_begin_part(inside) {
+        return read_item_field(context, text, inside);
+    }
+    refuse_or_read_item(context, text, inside)
+}
+
+/// Refuses the text of an Item, after spaces, or reads it by its reader.
+#[inline(never)]
+fn refuse_or_read_item(context: &Context, text: &[u8], inside: &[u8]) -> Result<Item, Refusal>
+    requires { Behind is_sp text.now inside.now }
+    ensures parses { Makes field_is.Item (Parses context.now.dialect kind_is.Item text.now) result }
+    ensures allocation_free { TakesNoMemory kind_is.Item text.now → IfErr result IsOther }
+{
+    match refuse_item(context, text.len(), inside) {
+        Some(refusal) => Err(refusal),
+        None => read_item_field(context, text, inside),
+    }
+}
+
 /// Reads the text of an Item, after spaces, by its reader. It is not inlined, nor are the others with
 /// a reader: a text that needs none would pay for clearing it.
 #[inline(never)]
@@ -266,13 +290,19 @@ fn read_item_field(context: &Context, text: &[u8], inside: &[u8]) -> Result<Item
 
 /// The refusal of the text of an Item, after spaces, in a text of this length: of a byte of the Item
 /// or behind it, or of the end. None claims nothing: the text is then read by a reader.
-#[inline(never)]
+#[inline(always)]
 fn refuse_item(context: &Context, whole: usize, inside: &[u8]) -> Option<Refusal>
     requires { length inside.now ≤ whole }
     ensures { IfSome result (RefusesAfter (step_of context.now.dialect) may_end_at
         (begin_at kind_is.Item) inside.now whole) }
 {
     let stop = stop_in_item(context, inside)?;
+    if stop.may_end {
+        if let Some(more) = behind(stop.left, b' ') {
+            let end = behind_spaces(more);
+            return refuse_left(end, SPACE, true, whole - end.len());
+        }
+    }
     let expected = stop.expected | set_if(stop.may_end, SPACE);
     refuse_left(stop.left, expected, stop.may_end, whole - stop.left.len())
 }

@@ -1,9 +1,9 @@
 //! Where a text stops that spells no field. It is found without a value and without a reader of
 //! more than a bare item, for the refusal of a text of which direct reading did not take all.
 ghost use Rattle.std.specs.Prelude.{ℕ, List, [], is_some, IfSome};
-ghost use Rattle.sf_value.specs.declared.dialect.Dialect.{Dialect};
 ghost use Rattle.sf_value.specs.declared.value.Bare.{Bare};
 ghost use Rattle.sf_value.specs.declared.value.Item.{Item};
+ghost use Rattle.sf_value.specs.Grammar.BareItems.{SpellsBare};
 ghost use Rattle.sf_value.specs.Grammar.Items.{SpellsItem};
 ghost use Rattle.sf_value.specs.Grammar.Pairs.{Pairs};
 ghost use Rattle.sf_value.specs.Grammar.Parameters.{SpellsParams};
@@ -15,7 +15,7 @@ ghost use Rattle.sf_parse.specs.Machine.Members.{InMany, member_start, member_st
 ghost use Rattle.sf_parse.specs.Machine.Entries.{entry_start, entry_step, entry_finish};
 ghost use Rattle.sf_parse.specs.Prefixes.{Goes};
 ghost use Rattle.sf_parse.specs.Stops.{StopsAt, StopsIn, RefusesLeft};
-ghost use Rattle.sf_parse.specs.WholeParts.{ReadsAs, ReachesItems, IsBehindItem};
+ghost use Rattle.sf_parse.specs.WholeParts.{ReadsAs, ReadsParam, ReachesItems, IsBehindItem};
 
 use crate::bare::BareReader;
 use crate::context::Context;
@@ -24,8 +24,10 @@ use crate::level::Level;
 use crate::member::MemberReader;
 use crate::refusal::Refusal;
 use crate::sets::{BEHIND_KEY, CLOSE, KEY_START, SEMICOLON, SPACE, set_if};
-use crate::whole_bare::{behind, split};
-use crate::whole_parts::{BehindItems, behind_item, behind_spaces, find_key, find_named};
+use crate::whole_bare::{behind, read_bare, split};
+use crate::whole_parts::{
+    BehindItems, behind_item, behind_spaces, find_key, find_named, read_param,
+};
 
 /// A place in a text, and what may come there.
 #[derive(Clone, Copy)]
@@ -85,14 +87,27 @@ fn stop_in_bare<'a>(context: &Context, text: &'a [u8]) -> Option<Stop<'a>>
     })
 }
 
+/// The rest after a whole parameter, after its semicolon. None claims nothing.
+#[inline(always)]
+fn skip_param<'a>(context: &Context, text: &'a [u8]) -> Option<&'a [u8]>
+    ensures { IfSome result (λ rest. (key : List ℕ) × (value : Bare)
+        × ReadsParam context.now.dialect text.now key value rest.now) }
+{
+    if let Some((_, rest)) = find_named(behind_spaces(text)) {
+        return Some(rest);
+    }
+    let (_, _, rest) = read_param(context, text)?;
+    Some(rest)
+}
+
 /// The rest after whole parameters, each with the semicolon after it.
 #[inline(always)]
-fn behind_opened(text: &[u8]) -> &[u8]
-    ensures { (d : Dialect) (ps : Pairs Bare) → (qs : Pairs Bare)
-        × Goes (params_step d) (Opened ps) text.now result.now (Opened qs) }
+fn skip_opened<'a>(context: &Context, text: &'a [u8]) -> &'a [u8]
+    ensures { (ps : Pairs Bare) → (qs : Pairs Bare)
+        × Goes (params_step context.now.dialect) (Opened ps) text.now result.now (Opened qs) }
 {
     let mut rest = text;
-    while let Some((_, after)) = find_named(behind_spaces(rest)) {
+    while let Some(after) = skip_param(context, rest) {
         let Some(more) = behind(after, b';') else {
             return rest;
         };
@@ -107,7 +122,7 @@ fn stop_in_params<'a>(context: &Context, text: &'a [u8]) -> Stop<'a>
     ensures { (ps : Pairs Bare) → StopsAt (params_step context.now.dialect)
         (λ s. is_some (params_finish s)) (Opened ps) text.now result }
 {
-    let named = behind_spaces(behind_opened(text));
+    let named = behind_spaces(skip_opened(context, text));
     let Some((_, after)) = find_key(named) else {
         return Stop {
             left: named,
@@ -142,12 +157,12 @@ pub fn stop_in_item<'a>(context: &Context, text: &'a [u8]) -> Option<Stop<'a>>
     ensures { IfSome result (StopsIn (item_start context.now.dialect)
         (item_step context.now.dialect) (λ s. is_some (item_finish s)) text.now) }
 {
-    if let Some((_, after)) = find_leaf(text) {
-        if let Some(more) = behind(after, b';') {
+    let stop = stop_in_bare(context, text)?;
+    if stop.may_end {
+        if let Some(more) = behind(stop.left, b';') {
             return Some(stop_in_params(context, more));
         }
     }
-    let stop = stop_in_bare(context, text)?;
     Some(Stop {
         left: stop.left,
         expected: stop.expected | set_if(stop.may_end, SEMICOLON),
@@ -157,12 +172,13 @@ pub fn stop_in_item<'a>(context: &Context, text: &'a [u8]) -> Option<Stop<'a>>
 
 /// The rest after whole parameters.
 #[inline(always)]
-fn skip_params(text: &[u8]) -> &[u8]
-    ensures { (d : Dialect) → (ps : Pairs Bare) × ReadsAs (SpellsParams d) text.now ps result.now }
+fn skip_params<'a>(context: &Context, text: &'a [u8]) -> &'a [u8]
+    ensures { (ps : Pairs Bare)
+        × ReadsAs (SpellsParams context.now.dialect) text.now ps result.now }
 {
     let mut rest = text;
     while let Some(more) = behind(rest, b';') {
-        let Some((_, after)) = find_named(behind_spaces(more)) else {
+        let Some(after) = skip_param(context, more) else {
             return rest;
         };
         rest = after;
@@ -172,25 +188,38 @@ fn skip_params(text: &[u8]) -> &[u8]
 
 /// What is behind the Item of an Inner List that a text begins with. None claims nothing.
 #[inline(always)]
-fn skip_item(text: &[u8]) -> Option<BehindItems<'_>>
-    ensures { IfSome result (λ end. (d : Dialect) → (i : Item) × (rest : List ℕ)
-        × ReadsAs (SpellsItem d) text.now i rest × IsBehindItem rest end) }
+fn skip_item<'a>(context: &Context, text: &'a [u8]) -> Option<BehindItems<'a>>
+    ensures { IfSome result (λ end. (i : Item) × (rest : List ℕ)
+        × ReadsAs (SpellsItem context.now.dialect) text.now i rest × IsBehindItem rest end) }
 {
-    let (_, after) = find_leaf(text)?;
-    behind_item(skip_params(after))
+    let after = skip_bare(context, text)?;
+    behind_item(skip_params(context, after))
+}
+
+/// The rest after a bare item. None claims nothing.
+#[inline(always)]
+fn skip_bare<'a>(context: &Context, text: &'a [u8]) -> Option<&'a [u8]>
+    ensures { IfSome result (λ rest. (bare : Bare)
+        × ReadsAs (SpellsBare context.now.dialect) text.now bare rest.now) }
+{
+    if let Some((_, rest)) = find_leaf(text) {
+        return Some(rest);
+    }
+    let (_, rest) = read_bare(context, text)?;
+    Some(rest)
 }
 
 /// What is behind the whole Items of an Inner List, after its opening bracket.
 #[inline(always)]
-fn skip_items(inside: &[u8]) -> BehindItems<'_>
-    ensures { (d : Dialect) → (is : List Item) × ReachesItems d inside.now [] is result }
+fn skip_items<'a>(context: &Context, inside: &'a [u8]) -> BehindItems<'a>
+    ensures { (is : List Item) × ReachesItems context.now.dialect inside.now [] is result }
 {
     let mut rest = behind_spaces(inside);
     loop {
         if let Some(left) = behind(rest, b')') {
             return BehindItems::Closed(left);
         }
-        let Some(end) = skip_item(rest) else {
+        let Some(end) = skip_item(context, rest) else {
             return BehindItems::Open(rest);
         };
         match end {
@@ -206,7 +235,7 @@ fn stop_in_inner<'a>(context: &Context, inside: &'a [u8]) -> Stop<'a>
     ensures { StopsAt (member_step context.now.dialect) (λ s. is_some (member_finish s))
         (InMany (BetweenItems [])) inside.now result }
 {
-    match skip_items(inside) {
+    match skip_items(context, inside) {
         BehindItems::Closed(after) => {
             let Some(more) = behind(after, b';') else {
                 return Stop {

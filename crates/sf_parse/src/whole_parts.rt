@@ -175,7 +175,7 @@ fn read_key<'a>(context: &Context, text: &'a [u8]) -> Option<(Key, &'a [u8])>
 
 /// A parameter after its semicolon, of any type: the bytes of its key, its value, and the rest.
 #[inline(always)]
-fn read_param<'a>(context: &Context, text: &'a [u8]) -> Option<(&'a [u8], Bare, &'a [u8])>
+pub fn read_param<'a>(context: &Context, text: &'a [u8]) -> Option<(&'a [u8], Bare, &'a [u8])>
     ensures key { IfSome result (λ r. IsKey r.0.now) }
     ensures reads { IfSome result (λ r. ReadsParam context.now.dialect text.now r.0.now r.1
         r.2.now) }

@@ -442,9 +442,9 @@ fn dictionaries_as_by_levels(rt: HostRuntime) -> Result<(), Fail> {
     check_parts(&rt, &seed, Kind::Dict)
 }
 
-/// Texts whose first member has many parts, each text longer than the least chunk in which whole ones
-/// are looked for.
-static LONG: [(Kind, &[u8]); 6] = [
+/// Texts of many parts, of each type. Most are longer than the least chunk in which whole parts are
+/// looked for.
+static LONG: [(Kind, &[u8]); 10] = [
     (
         Kind::Dict,
         b"sig1=(\"@method\" \"@path\";req tok/a -1.5;p=?0;q  :YQ:);created=1618884473;keyid=\"k\";\
@@ -470,6 +470,16 @@ static LONG: [(Kind, &[u8]); 6] = [
         Kind::Item,
         b"  \"s\";a=1;b=tok;c=\"s\";d;e=?0;f=1.5;a=2;g=:YQ:;h=@1;i=%\"f\";k=\"a\\\"b\";l=2 ",
     ),
+    (
+        Kind::Dict,
+        b"a=:YQ:;p=1;q=\"x\\\"y\", b=\"e\\\\s\";v=1;w, c=@1;d,e=%\"f\";g=?1, h;i=:YQ:;j",
+    ),
+    (
+        Kind::List,
+        b"(\"a\\\"b\" :YQ:;p=:Yg==: @1 %\"c\";t=@-2 -1.5;q tok);r=\"s\\\\t\";u, \"v\\\"\";w",
+    ),
+    (Kind::Item, b" -1.5   "),
+    (Kind::Item, b"\"a\\\"b\";c=\"d\\\\\"  "),
 ];
 
 /// Bytes that are mistakes in most places.

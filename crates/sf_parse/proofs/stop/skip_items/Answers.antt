@@ -1,5 +1,4 @@
 use Rattle.std.proofs.Common.{[], ◌∷◌, ◌++◌, refl}
-use Rattle.sf_value.specs.declared.dialect.Dialect.TheVariants.{Rfc9651}
 use Rattle.sf_value.specs.Grammar.Classes.{is_sp}
 use Rattle.sf_parse.specs.Machine.Inners.{BetweenItems}
 use Rattle.sf_parse.specs.Machine.Members.{InMany, member_step}
@@ -12,7 +11,8 @@ use Rattle.sf_parse.proofs.WholeSteps.{item_goes}
 use Rattle.sf_parse.proofs.stop.skip_items.Goals as goal
 
 pub loop-left-init : goal.loop-left-init
-loop-left-init c = λ d.
+loop-left-init c =
+    let d = c.args.context.now.dialect in
     let behind = c.behind_spaces-rest.ensures in (
       [],
       λ all s r. items_after d _ _ _ _ _ behind r,
@@ -21,14 +21,16 @@ loop-left-init c = λ d.
     )
 
 pub returns-in-Some : goal.returns-in-Some
-returns-in-Some c = λ d.
-    let before = c.loop-left.invariant d in
+returns-in-Some c =
+    let d = c.args.context.now.dialect in
+    let before = c.loop-left.invariant in
     (before.0, before.1 _ _ (items_end d 0 _ _ before.0 c.in-Some.ensures))
 
 pub returns-in-Closed : goal.returns-in-Closed
-returns-in-Closed c = λ d.
-    let before = c.loop-left.invariant d in
-    let one = c.in-Some-skip_item.ensures d in
+returns-in-Closed c =
+    let d = c.args.context.now.dialect in
+    let before = c.loop-left.invariant in
+    let one = c.in-Some-skip_item.ensures in
     let all = before.0 ++ one.0 ∷ [] in (
       all,
       before.1 _ _ (items_then d _ _ _ before.0 all _ one.0 one.2 refl
@@ -36,13 +38,15 @@ returns-in-Closed c = λ d.
     )
 
 pub returns-in_default-skip_item : goal.returns-in_default-skip_item
-returns-in_default-skip_item c = λ d.
-    let before = c.loop-left.invariant d in (before.0, before.2)
+returns-in_default-skip_item c =
+    let d = c.args.context.now.dialect in
+    let before = c.loop-left.invariant in (before.0, before.2)
 
 pub loop-left-preserved : goal.loop-left-preserved
-loop-left-preserved c = λ d.
-    let before = c.loop-left.invariant d in
-    let one = c.in-Some-skip_item.ensures d in
+loop-left-preserved c =
+    let d = c.args.context.now.dialect in
+    let before = c.loop-left.invariant in
+    let one = c.in-Some-skip_item.ensures in
     let all = before.0 ++ one.0 ∷ [] in
     let behind = rw c.in-Open.is at one.3 in (
       all,
@@ -56,6 +60,7 @@ loop-left-preserved c = λ d.
 
 pub loop-left-smaller : goal.loop-left-smaller
 loop-left-smaller c =
-    let one = c.in-Some-skip_item.ensures Rfc9651 in
+    let d = c.args.context.now.dialect in
+    let one = c.in-Some-skip_item.ensures in
     let behind = rw c.in-Open.is at one.3 in
-    item_shorter Rfc9651 _ _ _ _ one.0 one.2 behind.1 behind.2
+    item_shorter d _ _ _ _ one.0 one.2 behind.1 behind.2

@@ -8,7 +8,7 @@ use Rattle.sf_parse.proofs.stop.stop_in_params.Goals as goal
 pub returns-in_default : goal.returns-in_default
 returns-in_default c = λ ps.
     let d = c.args.context.now.dialect in
-    let before = c.behind_opened.ensures d ps in
+    let before = c.skip_opened.ensures ps in
     stop_here (params_step d) _ (Opened ps) (Opened before.0) _ _
     (opened_goes d ps before.0 _ _ _ before.1 c.behind_spaces-named.ensures)
     (marks_steps _ (params_step d (Opened before.0)) refl) refl
@@ -16,7 +16,7 @@ returns-in_default c = λ ps.
 pub returns-in_default-behind : goal.returns-in_default-behind
 returns-in_default-behind c = λ ps.
     let d = c.args.context.now.dialect in
-    let before = c.behind_opened.ensures d ps in
+    let before = c.skip_opened.ensures ps in
     let key = c.in-Some.field-0-0.now in
     stop_here (params_step d) _ (Opened ps) (InParamKey before.0 key) _ _
     (keyed_goes d ps before.0 _ _ _ key _ before.1 c.behind_spaces-named.ensures
@@ -26,7 +26,7 @@ returns-in_default-behind c = λ ps.
 pub returns-in_default-stop_in_bare : goal.returns-in_default-stop_in_bare
 returns-in_default-stop_in_bare c = λ ps.
     let d = c.args.context.now.dialect in
-    let before = c.behind_opened.ensures d ps in
+    let before = c.skip_opened.ensures ps in
     let key = c.in-Some.field-0-0.now in
     stop_here (params_step d) _ (Opened ps) (EqualsParam before.0 key) _ _
     (equals_goes d ps before.0 _ key _ _
@@ -37,7 +37,7 @@ returns-in_default-stop_in_bare c = λ ps.
 pub returns : goal.returns
 returns c = λ ps.
     let d = c.args.context.now.dialect in
-    let before = c.behind_opened.ensures d ps in
+    let before = c.skip_opened.ensures ps in
     let key = c.in-Some.field-0-0.now in
     let stop = c.in-Some-stop_in_bare.stop in
     value_stop d ps before.0 _ _ key stop _
