@@ -19,7 +19,7 @@ use Rattle.sf_parse.specs.Machine.Items.{ItemState, InBare, InParams, item_step}
 use Rattle.sf_parse.specs.Machine.Members.{MemberState, InOne, InMany, member_step}
 use Rattle.sf_parse.specs.Machine.Inners.{BetweenItems, InItem, Closing}
 use Rattle.sf_parse.specs.Machine.Entries.{InFlag, entry_step}
-use Rattle.sf_parse.specs.Machine.States.{AfterItem}
+use Rattle.sf_parse.specs.Machine.States.{BeforeItem, InsideItem, AfterItem}
 use Rattle.sf_parse.specs.Machine.Fields.{step}
 use Rattle.sf_parse.specs.ItemView.{with_params}
 use Rattle.sf_parse.specs.MemberView.{closing_of, IsInParams}
@@ -60,6 +60,13 @@ marks_flag d key (InOne (InBare s)) x k h = absurd k
 marks_flag d key (InOne (InParams v s)) x k h =
     marks_same x _ _ (λ b. sym (twice (InParams v) InOne (InFlag key) (params_step d s b))) h
 marks_flag d key (InMany s) x k h = absurd k
+
+pub marks_before : (d : Dialect) (x : ℕ) → MarksStep x (bare_start d)
+    → MarksStep (bit_or (2 ^ 32) x) (step d BeforeItem)
+marks_before d x h =
+    marks_either (2 ^ 32) x (λ b. allow (is_sp b) BeforeItem) _
+    (marks_steps (2 ^ 32) (λ b. allow (is_sp b) BeforeItem) refl)
+    (marks_map InsideItem x _ (marks_map InBare x (bare_start d) h))
 
 pub marks_after : (d : Dialect) (o : Option Item) → IsSome o
     → MarksStep 4294967296 (step d (after_of o))

@@ -50,7 +50,7 @@ use Rattle.sf_parse.specs.declared.stop.Stop.{Stop}
 use Rattle.sf_parse.specs.declared.whole_parts.BehindItems.{BehindItems}
 use Rattle.sf_parse.proofs.BegunParts.{items_closed}
 use Rattle.sf_parse.proofs.ByteRuns.{stay_goes, word_goes}
-use Rattle.sf_parse.proofs.LevelMarks.{marks_items}
+use Rattle.sf_parse.proofs.LevelMarks.{marks_before, marks_items}
 use Rattle.sf_parse.proofs.Machine.Bares.{bare_apart}
 use Rattle.sf_parse.proofs.Machine.Items.{item_apart}
 use Rattle.sf_parse.proofs.Machine.Fields.{no_ows}
@@ -605,6 +605,21 @@ module _ (d : Dialect) where
       → IfSome o (RefusesAfter (step d) may_end BeforeItem text whole)
   left_in_item text x bits whole None h f r = r
   left_in_item text x bits whole (Some e) h f r = field_refused text x bits whole e h f r
+
+  -- no Item begins
+  pub left_before_item : (text : List ℕ) (bits whole : ℕ) (o : Option Refusal)
+      → MarksStep bits (bare_start d)
+      → IfSome o (RefusesLeft (bit_or (2 ^ 32) bits) false text (whole - length text))
+      → IfSome o (RefusesAfter (step d) may_end BeforeItem text whole)
+  left_before_item text bits whole None m r = r
+  left_before_item text bits whole (Some e) m r = record {
+    state = BeforeItem;
+    left = text;
+    goes = record { taken = []; split = refl; leads = refl };
+    refuses = left_refused (step d) may_end BeforeItem (bit_or (2 ^ 32) bits)
+        (whole - length text) text false e r
+        (marks_before d bits m) refl;
+  }
 
   ends_item : (t : ItemState) (i : Item) → item_finish t ≡ Some i
       → step d (InsideItem t) 32 ≡ Some (AfterItem i)

@@ -23,6 +23,7 @@ ghost use Rattle.sf_parse.specs.WholeMembers.{NoneOpen, RefusesAfter};
 ghost use Rattle.sf_parse.specs.WholeParts.{Behind};
 ghost use Rattle.sf_value.specs.Grammar.Classes.{is_sp};
 
+use crate::bare::BareReader;
 use crate::context::Context;
 use crate::entry::EntryReader;
 use crate::item_field::ItemFieldReader;
@@ -296,7 +297,10 @@ fn refuse_item(context: &Context, whole: usize, inside: &[u8]) -> Option<Refusal
     ensures { IfSome result (RefusesAfter (step_of context.now.dialect) may_end_at
         (begin_at kind_is.Item) inside.now whole) }
 {
-    let stop = stop_in_item(context, inside)?;
+    let Some(stop) = stop_in_item(context, inside) else {
+        let expected = SPACE | BareReader::first_bytes(context.dialect);
+        return refuse_left(inside, expected, false, whole - inside.len());
+    };
     if stop.may_end {
         if let Some(more) = behind(stop.left, b' ') {
             let end = behind_spaces(more);

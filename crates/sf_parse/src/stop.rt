@@ -26,7 +26,8 @@ use crate::refusal::Refusal;
 use crate::sets::{BEHIND_KEY, CLOSE, KEY_START, SEMICOLON, SPACE, set_if};
 use crate::whole_bare::{behind, read_bare, split};
 use crate::whole_parts::{
-    BehindItems, behind_item, behind_spaces, find_key, find_named, read_param,
+    BehindItems, behind_item, behind_spaces, find_key, find_named, may_begin_part, may_begin_value,
+    read_param,
 };
 
 /// A place in a text, and what may come there.
@@ -93,9 +94,22 @@ fn skip_param<'a>(context: &Context, text: &'a [u8]) -> Option<&'a [u8]>
     ensures { IfSome result (λ rest. (key : List ℕ) × (value : Bare)
         × ReadsParam context.now.dialect text.now key value rest.now) }
 {
-    if let Some((_, rest)) = find_named(behind_spaces(text)) {
+    let named = behind_spaces(text);
+    if let Some((_, rest)) = find_named(named) {
         return Some(rest);
     }
+    if !may_begin_value(named) {
+        return None;
+    }
+    skip_any_param(context, text)
+}
+
+/// The same of a value of any type.
+#[inline(never)]
+fn skip_any_param<'a>(context: &Context, text: &'a [u8]) -> Option<&'a [u8]>
+    ensures { IfSome result (λ rest. (key : List ℕ) × (value : Bare)
+        × ReadsParam context.now.dialect text.now key value rest.now) }
+{
     let (_, _, rest) = read_param(context, text)?;
     Some(rest)
 }
@@ -205,6 +219,18 @@ fn skip_bare<'a>(context: &Context, text: &'a [u8]) -> Option<&'a [u8]>
     if let Some((_, rest)) = find_leaf(text) {
         return Some(rest);
     }
+    if !may_begin_part(text) {
+        return None;
+    }
+    skip_any_bare(context, text)
+}
+
+/// The same of any type.
+#[inline(never)]
+fn skip_any_bare<'a>(context: &Context, text: &'a [u8]) -> Option<&'a [u8]>
+    ensures { IfSome result (λ rest. (bare : Bare)
+        × ReadsAs (SpellsBare context.now.dialect) text.now bare rest.now) }
+{
     let (_, rest) = read_bare(context, text)?;
     Some(rest)
 }

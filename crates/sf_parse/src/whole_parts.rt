@@ -335,7 +335,11 @@ fn put_param<'a>(
         params.new rest.now) }
     ensures same { IfNone result (params.new ≡ params.old) }
 {
-    let Some((found, rest)) = find_named(behind_spaces(text)) else {
+    let named = behind_spaces(text);
+    let Some((found, rest)) = find_named(named) else {
+        if !may_begin_value(named) {
+            return None;
+        }
         return put_read_param(context, text, owner, params);
     };
     if !may_follow(owner, rest) {

@@ -8,8 +8,5 @@ returns-in-Some c =
     let found = c.in-Some.field-0-0 in (
       found.key.now,
       leaf_bare found.leaf,
-      param_after d _ _ _ _ _ c.behind_spaces.ensures (c.in-Some.ensures.param d),
+      param_after d _ _ _ _ _ c.behind_spaces-named.ensures (c.in-Some.ensures.param d),
     )
-
-pub returns : goal.returns
-returns c = (c.in_ok-rest.field-0-0.now, c.in_ok-rest.field-0-1, c.in_ok-rest.ensures.reads)

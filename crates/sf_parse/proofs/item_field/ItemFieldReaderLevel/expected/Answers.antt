@@ -1,19 +1,16 @@
-use Rattle.std.proofs.Common.{refl, ◌^◌}
+use Rattle.std.proofs.Common.{refl}
 use Rattle.sf_value.specs.Grammar.Words.{allow}
 use Rattle.sf_value.specs.Grammar.Classes.{is_sp}
-use Rattle.sf_parse.specs.Machine.Bares.{bare_start}
-use Rattle.sf_parse.specs.Machine.Items.{InBare, item_step, item_finish}
-use Rattle.sf_parse.specs.Machine.States.{BeforeItem, InsideItem, AfterItem}
-use Rattle.sf_parse.proofs.Marks.{marks_either, marks_map, marks_onward, marks_steps}
-use Rattle.sf_parse.proofs.LevelMarks.{marks_after}
+use Rattle.sf_parse.specs.Machine.Items.{item_step, item_finish}
+use Rattle.sf_parse.specs.Machine.States.{InsideItem, AfterItem}
+use Rattle.sf_parse.proofs.Marks.{marks_onward, marks_steps}
+use Rattle.sf_parse.proofs.LevelMarks.{marks_before, marks_after}
 use Rattle.sf_parse.proofs.item_field.ItemFieldReaderLevel.expected.Goals as goal
 
 pub returns-in-Before : goal.returns-in-Before
 returns-in-Before c =
     rw (← c.self.view_is, c.in-Before.is)
-    (marks_either (2 ^ 32) _ (λ b. allow (is_sp b) BeforeItem) _
-    (marks_steps (2 ^ 32) (λ b. allow (is_sp b) BeforeItem) refl)
-    (marks_map InsideItem _ _ (marks_map InBare _ (bare_start c.args.dialect) c.first_bytes.ensures)))
+    (marks_before c.args.dialect _ c.first_bytes.ensures)
 
 pub returns-in-Inside : goal.returns-in-Inside
 returns-in-Inside c =
