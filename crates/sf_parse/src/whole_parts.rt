@@ -335,11 +335,7 @@ fn put_param<'a>(
         params.new rest.now) }
     ensures same { IfNone result (params.new ≡ params.old) }
 {
-    let named = behind_spaces(text);
-    let Some((found, rest)) = find_named(named) else {
-        if !may_begin_value(named) {
-            return None;
-        }
+    let Some((found, rest)) = find_named(behind_spaces(text)) else {
         return put_read_param(context, text, owner, params);
     };
     if !may_follow(owner, rest) {
