@@ -2,7 +2,7 @@
 use Rattle.std.specs.Option.{option_map}
 use Rattle.std.proofs.Common.{◌≡◌, ℕ, ◌-◌, ◌<◌, ◌≤◌, true, false, List, [], ◌∷◌, ◌++◌, Some, None}
 use Rattle.std.proofs.Common.{refl, sym, ap, ◌∙◌, subst, append_assoc, append-nil, length, drop}
-use Rattle.std.proofs.Common.{arith, length-append, Option, IsSome, IfSome}
+use Rattle.std.proofs.Common.{arith, length-append, Option, IsSome, IfSome, inl, inr}
 use Rattle.std.proofs.Common.{Bool, Result, Ok, Err, IfOk}
 use Rattle.std.specs.Borrow.{Bor}
 use Rattle.std.proofs.Math.Seq.{drop-append_seam}
@@ -13,9 +13,13 @@ use Rattle.sf_value.specs.declared.value.Bare.TheVariants.{Boolean}
 use Rattle.sf_value.specs.declared.value.Item.{Item}
 use Rattle.sf_value.specs.declared.value.Member.{Member}
 use Rattle.sf_value.specs.declared.value.Member.TheVariants as member
+use Rattle.sf_value.specs.Grammar.Words.{Every}
 use Rattle.sf_value.specs.Grammar.InnerLists.{SpellsItems, SpellsMember, inner}
 use Rattle.sf_value.specs.Grammar.Pairs.{Pairs, put}
 use Rattle.sf_value.specs.Grammar.Parameters.{SpellsParams}
+use Rattle.sf_parse.specs.AllocationFree.{TakesNoMemory, scalar_byte, short_byte}
+use Rattle.sf_value.specs.declared.value.Kind.TheVariants as kind_is
+use Rattle.sf_value.specs.Grammar.Classes.{is_sp}
 use Rattle.sf_parse.specs.BegunParts.{Within, IsBegunAt, IsBegunIn, IsBegunParams}
 use Rattle.sf_parse.specs.declared.begun.Begun.{Begun}
 use Rattle.sf_parse.specs.Machine.Language.{Machine, run}
@@ -36,13 +40,13 @@ use Rattle.sf_parse.specs.Machine.Series.{SeriesState, InMember}
 use Rattle.sf_parse.specs.SeriesView.{series_next, series_of, series_stuck}
 use Rattle.sf_parse.specs.declared.series.SeriesPhase.{SeriesPhase}
 use Rattle.sf_parse.specs.declared.series.SeriesPhase.TheVariants as phase
-use Rattle.sf_parse.specs.WholeParts.{ReadsAs, ReadsItems}
+use Rattle.sf_parse.specs.WholeParts.{ReadsAs, ReadsItems, Behind}
 use Rattle.sf_parse.proofs.Machine.Language.{and_then_cases, map_cases, is_none}
 use Rattle.sf_parse.proofs.Machine.Bares.{bare_apart}
 use Rattle.sf_parse.proofs.Machine.Params.{params_reads, params_lives}
 use Rattle.sf_parse.proofs.Machine.Inners.{member_reads, member_starts, member_lives}
 use Rattle.sf_parse.proofs.Machines.{accepted}
-use Rattle.sf_parse.proofs.Prefixes.{goes_one, goes_more, goes_above, byte_on}
+use Rattle.sf_parse.proofs.Prefixes.{goes_one, goes_more, goes_above, every_split, byte_on}
 use Rattle.sf_parse.proofs.Prefixes.{byte_stop, free_goes}
 use Rattle.sf_parse.proofs.SeriesSteps.{member_goes_on}
 use Rattle.sf_parse.proofs.WholeParts.{IsRun, spells_run}
@@ -256,6 +260,16 @@ goes_to_parts next s t text front [] from back w e f h a = record {
 goes_to_parts next s t text front (b ∷ rest) from back w e f h a =
     absurd (let n : ⊥ = omega arith in n)
 
+-- a text with a parameter is not free of allocations
+semicolon_allocates : (text front rest : List ℕ) → text ≡ front ++ 59 ∷ rest
+    → TakesNoMemory kind_is.Item text → ⊥
+semicolon_allocates text front rest e (inl h) =
+    let k = (every_split scalar_byte front (59 ∷ rest) (subst (Every scalar_byte) e h)).1 in
+    let n : false ≡ true = k.0 in cc
+semicolon_allocates text front rest e (inr h) =
+    let k = (every_split short_byte front (59 ∷ rest) (subst (Every short_byte) e h.1)).1 in
+    let n : false ≡ true = k.0 in cc
+
 -- the parts of a member, in the text that the member begins
 pub begun_inner : (d : Dialect) (text inside : List ℕ) → text ≡ 40 ∷ inside → (o : Option Begun)
     → IfSome o (IsBegunAt d inside) → IfSome o (IsBegunIn d text)
@@ -271,6 +285,16 @@ begun_after d text front after rest ps e None h p = h
 begun_after d text front after rest ps e (Some b) h p =
     let k = h d p in
     (within_more text front after b.from.now e (within_byte after 59 b.from.now k.0), k.1)
+
+-- a text with parameters is not free of allocations
+pub params_allocate : (d : Dialect) (text inside after rest : List ℕ) (ps : Pairs Bare)
+    → Behind is_sp text inside → Within inside after → (b : Begun)
+    → ((e : Dialect) → ReadsAs (SpellsParams e) after ps rest → IsBegunParams e after b)
+    → ReadsAs (SpellsParams d) after ps rest → TakesNoMemory kind_is.Item text → ⊥
+params_allocate d text inside after rest ps w r b h p =
+    semicolon_allocates text (w.prefix ++ r.front) b.from.now
+    (w.split ∙ ap (λ y. w.prefix ++ y) (r.split ∙ ap (λ y. r.front ++ y) (h d p).0)
+    ∙ sym (append_assoc w.prefix r.front (59 ∷ b.from.now)))
 
 -- of a text of which nothing was taken
 pub begun_here : (d : Dialect) (text : List ℕ) (o : Option Begun) → IfSome o (IsBegunIn d text)

@@ -1,8 +1,8 @@
 -- Where a text stops, seen from each level above, and its refusal.
 use Rattle.std.specs.Option.{option_and_then, option_map}
-use Rattle.std.proofs.Common.{◌≡◌, ◌≢◌, ℕ, ◌-◌, ◌<◌, ◌≤◌, ◌^◌, Bool, true, false, cond, List, [], ◌∷◌}
+use Rattle.std.proofs.Common.{◌≡◌, ◌≢◌, ℕ, ◌-◌, ◌<◌, ◌^◌, Bool, true, false, cond, List, [], ◌∷◌}
 use Rattle.std.proofs.Common.{◌++◌, Option, Some, None, is_some, refl, sym, ap, ◌∙◌, subst, bit_or}
-use Rattle.std.proofs.Common.{length, length-append, arith, nat_lt, ◌&&◌, if◌then◌else◌, IfSome}
+use Rattle.std.proofs.Common.{length, arith, nat_lt, ◌&&◌, if◌then◌else◌, IfSome}
 use Rattle.std.specs.Int.{bit_at}
 use Rattle.std.specs.List.{slice_get}
 use Rattle.sf_value.specs.declared.dialect.Dialect.{Dialect}
@@ -11,12 +11,10 @@ use Rattle.sf_value.specs.declared.value.Bare.{Bare}
 use Rattle.sf_value.specs.declared.value.Field.TheVariants as field
 use Rattle.sf_value.specs.declared.value.Item.{Item}
 use Rattle.sf_value.specs.declared.value.Member.TheVariants as member
-use Rattle.sf_value.specs.Grammar.BareItems.{SpellsBare}
 use Rattle.sf_value.specs.Grammar.Classes.{is_ows, is_sp, is_in_key}
 use Rattle.sf_value.specs.Grammar.InnerLists.{inner}
-use Rattle.sf_value.specs.Grammar.Items.{SpellsItem, item}
+use Rattle.sf_value.specs.Grammar.Items.{item}
 use Rattle.sf_value.specs.Grammar.Pairs.{Pairs, put}
-use Rattle.sf_value.specs.Grammar.Parameters.{SpellsParams}
 use Rattle.sf_value.specs.Grammar.Tokens.{IsKey}
 use Rattle.sf_value.specs.Grammar.Words.{allow}
 use Rattle.sf_parse.specs.Expected.{MarksStep}
@@ -41,13 +39,12 @@ use Rattle.sf_parse.specs.SeriesView.{series_next, series_end, series_of}
 use Rattle.sf_parse.specs.Stops.{StopsAt, StopsIn, RefusesLeft}
 use Rattle.sf_parse.specs.WholeMembers.{NoneOpen, IsBetween, RefusesAt, RefusesAfter}
 use Rattle.sf_parse.specs.WholeMembers.{begins_between, ends_between}
-use Rattle.sf_parse.specs.WholeParts.{ReadsAs, ReadsParam, ReadsItems, Behind, IsBehindItem}
+use Rattle.sf_parse.specs.WholeParts.{ReadsItems, Behind}
 use Rattle.sf_parse.specs.declared.refusal.Refusal.{Refusal}
 use Rattle.sf_parse.specs.declared.refusal.Refusal.TheVariants.{Syntax}
 use Rattle.sf_parse.specs.declared.series.SeriesPhase.{SeriesPhase}
 use Rattle.sf_parse.specs.declared.series.SeriesPhase.TheVariants as phase
 use Rattle.sf_parse.specs.declared.stop.Stop.{Stop}
-use Rattle.sf_parse.specs.declared.whole_parts.BehindItems.{BehindItems}
 use Rattle.sf_parse.proofs.BegunParts.{items_closed}
 use Rattle.sf_parse.proofs.ByteRuns.{stay_goes, word_goes}
 use Rattle.sf_parse.proofs.LevelMarks.{marks_before, marks_items}
@@ -57,10 +54,10 @@ use Rattle.sf_parse.proofs.Machine.Fields.{no_ows}
 use Rattle.sf_parse.proofs.Machine.Language.{is_none}
 use Rattle.sf_parse.proofs.Marks.{marks_map, marks_onward, marks_steps}
 use Rattle.sf_parse.proofs.OpenParts.{space_in_params, value_in_params, bare_in_item, item_in_member}
-use Rattle.sf_parse.proofs.OpenParts.{key_in_entry, member_in_entry, item_in_many, item_in_field}
-use Rattle.sf_parse.proofs.Prefixes.{goes_one, goes_more, goes_above, goes_byte, left_within}
+use Rattle.sf_parse.proofs.OpenParts.{space_in_member, key_in_entry, member_in_entry, item_in_many, item_in_field}
+use Rattle.sf_parse.proofs.Prefixes.{goes_one, goes_more, goes_above, goes_byte}
 use Rattle.sf_parse.proofs.SeriesSteps.{member_goes_on}
-use Rattle.sf_parse.proofs.WholeParts.{item_whole}
+use Rattle.sf_parse.proofs.WholeParts.{items_after, items_end}
 use Rattle.sf_parse.proofs.WholeSteps.{key_goes, begins_item}
 
 -- a byte that is not expected
@@ -73,7 +70,7 @@ not_some : {X : Type 0} (o : Option X) → is_some o ≡ false → o ≡ None
 not_some (Some x) e = absurd cc
 not_some None e = refl
 
-pub left_refused : {S : Type 0} (next : S → ℕ → Option S) (ends : S → Bool) (s : S)
+left_refused : {S : Type 0} (next : S → ℕ → Option S) (ends : S → Bool) (s : S)
     (bits place : ℕ) (left : List ℕ) (may : Bool) (e : Refusal)
     → RefusesLeft bits may left place e → MarksStep bits (next s) → may ≡ ends s
     → RefusesAt next ends s left place e
@@ -93,7 +90,7 @@ left_refused next ends s bits place left may e r m k = record {
     by (b ∷ xs) h = λ l.
         not_some (next s b) (unexpected bits b (is_some (next s b)) l (m b) (h l))
 
-pub stop_more : {S : Type 0} (next : S → ℕ → Option S) (ends : S → Bool) (s t : S)
+stop_more : {S : Type 0} (next : S → ℕ → Option S) (ends : S → Bool) (s t : S)
     (text rest : List ℕ) (x : Stop) → Goes next s text rest t → StopsAt next ends t rest x
     → StopsAt next ends s text x
 stop_more next ends s t text rest x a h = record {
@@ -113,7 +110,7 @@ stop_here next ends s t text x a m e = record { state = t; goes = a; marks = m; 
 module _ {S T : Type 0} (next : S → ℕ → Option S) (above : T → ℕ → Option T) (into : S → T)
     (ends : S → Bool) (over : T → Bool)
     (goes_on : (s t : S) (b : ℕ) → next s b ≡ Some t → above (into s) b ≡ Some (into t)) where
-  pub stop_above : (s : S) (text : List ℕ) (x y : Stop) → y.left.now ≡ x.left.now
+  stop_above : (s : S) (text : List ℕ) (x y : Stop) → y.left.now ≡ x.left.now
       → ((t : S) → MarksStep x.expected (next t) → x.may_end ≡ ends t
       → MarksStep y.expected (above (into t)))
       → ((t : S) → x.may_end ≡ ends t → y.may_end ≡ over (into t))
@@ -127,7 +124,7 @@ module _ {S T : Type 0} (next : S → ℕ → Option S) (above : T → ℕ → O
   }
 
   -- the part begins where the level above is in this state
-  pub stop_begins : (first : ℕ → Option S) (u : T) (text : List ℕ) (x y : Stop)
+  stop_begins : (first : ℕ → Option S) (u : T) (text : List ℕ) (x y : Stop)
       → ((b : ℕ) (s : S) → first b ≡ Some s → above u b ≡ Some (into s))
       → y.left.now ≡ x.left.now
       → ((t : S) → MarksStep x.expected (next t) → x.may_end ≡ ends t
@@ -141,7 +138,7 @@ module _ {S T : Type 0} (next : S → ℕ → Option S) (above : T → ℕ → O
       (stop_above a.begun a.more x y e m k a.stops))
 
   -- the part begins the level above
-  pub stop_in_above : (first : ℕ → Option S) (start : ℕ → Option T) (text : List ℕ) (x y : Stop)
+  stop_in_above : (first : ℕ → Option S) (start : ℕ → Option T) (text : List ℕ) (x y : Stop)
       → ((b : ℕ) (s : S) → first b ≡ Some s → start b ≡ Some (into s))
       → y.left.now ≡ x.left.now
       → ((t : S) → MarksStep x.expected (next t) → x.may_end ≡ ends t
@@ -219,14 +216,12 @@ module _ (d : Dialect) where
   }
   bare_stops text b more false s t x e f h a m k = absurd cc
 
-  -- parameters, and spaces after a semicolon
-  pub opened_goes : (ps qs : Pairs Bare) (text rest named : List ℕ)
-      → Goes (params_step d) (Opened ps) text rest (Opened qs) → Behind is_sp rest named
-      → Goes (params_step d) (Opened ps) text named (Opened qs)
-  opened_goes ps qs text rest named a b =
-      goes_more (params_step d) (Opened ps) (Opened qs) (Opened qs) text rest named a
-      (stay_goes (params_step d) is_sp (Opened qs) b.prefix named rest (space_in_params d qs)
-      b.split b.each)
+  -- spaces after a semicolon
+  pub opened_goes : (ps : Pairs Bare) (text named : List ℕ) → Behind is_sp text named
+      → Goes (params_step d) (Opened ps) text named (Opened ps)
+  opened_goes ps text named b =
+      stay_goes (params_step d) is_sp (Opened ps) b.prefix named text (space_in_params d ps)
+      b.split b.each
 
   -- the value of a parameter
   value_marks : (ps : Pairs Bare) (k : List ℕ) (t : BareState) (x : ℕ) (may : Bool)
@@ -248,37 +243,36 @@ module _ (d : Dialect) where
       (λ v b. option_map (InParams v) (between_step [] b)) h
       (λ v. marks_steps (2 ^ 59) (λ b. option_map (InParams v) (between_step [] b)) refl))
 
-  pub value_stop : (ps qs : Pairs Bare) (text value key : List ℕ) (x y : Stop)
-      → Goes (params_step d) (Opened ps) text value (EqualsParam qs key)
+  pub value_stop : (ps : Pairs Bare) (text value key : List ℕ) (x y : Stop)
+      → Goes (params_step d) (Opened ps) text value (EqualsParam ps key)
       → y.left.now ≡ x.left.now → y.expected ≡ bit_or x.expected (cond x.may_end (2 ^ 59) 0)
       → y.may_end ≡ x.may_end → StopsIn (bare_start d) bare_step BareEnds value x
       → StopsAt (params_step d) ParamsEnd (Opened ps) text y
-  value_stop ps qs text value key x y a e f g h =
-      stop_more (params_step d) ParamsEnd (Opened ps) (EqualsParam qs key) text value y a
-      (stop_begins bare_step (params_step d) (InValue qs key) BareEnds ParamsEnd
-      (value_in_params d qs key) (bare_start d) (EqualsParam qs key) value x y
-      (λ b s n. ap (option_map (InValue qs key)) n) e
-      (λ t m k. subst (λ z. MarksStep z (params_step d (InValue qs key t))) (sym f)
-      (value_marks qs key t x.expected x.may_end m k))
-      (λ t k. g ∙ k ∙ sym (some_then (put qs key) (bare_finish t))) h)
+  value_stop ps text value key x y a e f g h =
+      stop_more (params_step d) ParamsEnd (Opened ps) (EqualsParam ps key) text value y a
+      (stop_begins bare_step (params_step d) (InValue ps key) BareEnds ParamsEnd
+      (value_in_params d ps key) (bare_start d) (EqualsParam ps key) value x y
+      (λ b s n. ap (option_map (InValue ps key)) n) e
+      (λ t m k. subst (λ z. MarksStep z (params_step d (InValue ps key t))) (sym f)
+      (value_marks ps key t x.expected x.may_end m k))
+      (λ t k. g ∙ k ∙ sym (some_then (put ps key) (bare_finish t))) h)
 
   -- a key after a semicolon, and what may be behind it
-  pub keyed_goes : (ps qs : Pairs Bare) (text rest named key after : List ℕ)
-      → Goes (params_step d) (Opened ps) text rest (Opened qs) → Behind is_sp rest named
+  pub keyed_goes : (ps : Pairs Bare) (text named key after : List ℕ) → Behind is_sp text named
       → named ≡ key ++ after → IsKey key
-      → Goes (params_step d) (Opened ps) text after (InParamKey qs key)
-  keyed_goes ps qs text rest named key after a b e k =
-      goes_more (params_step d) (Opened ps) (Opened qs) (InParamKey qs key) text named after
-      (opened_goes ps qs text rest named a b)
-      (subst (λ y. Goes (params_step d) (Opened qs) y after (InParamKey qs key)) (sym e)
-      (key_goes d qs key after k))
+      → Goes (params_step d) (Opened ps) text after (InParamKey ps key)
+  keyed_goes ps text named key after b e k =
+      goes_more (params_step d) (Opened ps) (Opened ps) (InParamKey ps key) text named after
+      (opened_goes ps text named b)
+      (subst (λ y. Goes (params_step d) (Opened ps) y after (InParamKey ps key)) (sym e)
+      (key_goes d ps key after k))
 
-  pub equals_goes : (ps qs : Pairs Bare) (text key after value : List ℕ)
-      → Goes (params_step d) (Opened ps) text after (InParamKey qs key) → after ≡ 61 ∷ value
-      → Goes (params_step d) (Opened ps) text value (EqualsParam qs key)
-  equals_goes ps qs text key after value a e =
-      goes_byte (params_step d) (Opened ps) (InParamKey qs key) (EqualsParam qs key) text 61 value
-      (subst (λ y. Goes (params_step d) (Opened ps) text y (InParamKey qs key)) e a) refl
+  pub equals_goes : (ps : Pairs Bare) (text key after value : List ℕ)
+      → Goes (params_step d) (Opened ps) text after (InParamKey ps key) → after ≡ 61 ∷ value
+      → Goes (params_step d) (Opened ps) text value (EqualsParam ps key)
+  equals_goes ps text key after value a e =
+      goes_byte (params_step d) (Opened ps) (InParamKey ps key) (EqualsParam ps key) text 61 value
+      (subst (λ y. Goes (params_step d) (Opened ps) text y (InParamKey ps key)) e a) refl
 
   pub item_stop : (text : List ℕ) (x y : Stop) → y.left.now ≡ x.left.now
       → y.expected ≡ bit_or x.expected (cond x.may_end (2 ^ 59) 0) → y.may_end ≡ x.may_end
@@ -300,7 +294,7 @@ module _ (d : Dialect) where
   pub params_stop : (text more : List ℕ) (w x : Stop)
       → StopsIn (bare_start d) bare_step BareEnds text w → w.may_end ≡ true
       → w.left.now ≡ 59 ∷ more
-      → ((ps : Pairs Bare) → StopsAt (params_step d) ParamsEnd (Opened ps) more x)
+      → StopsAt (params_step d) ParamsEnd (Opened []) more x
       → StopsIn (item_start d) (item_step d) ItemEnds text x
   params_stop text more w x a m e h =
       let t = a.stops.state in
@@ -322,7 +316,7 @@ module _ (d : Dialect) where
             (stop_above (params_step d) (item_step d) (InParams v.0) ParamsEnd ItemEnds
             (λ s t b n. ap (option_map (InParams v.0)) n) (Opened []) more x x refl
             (λ t m k. marks_map (InParams v.0) x.expected (params_step d t) m)
-            (λ t k. k ∙ sym (some_map (item v.0) (params_finish t))) (h []));
+            (λ t k. k ∙ sym (some_map (item v.0) (params_finish t))) h);
       }
 
   pub member_stop : (text : List ℕ) (x : Stop)
@@ -348,6 +342,17 @@ module _ (d : Dialect) where
     stops = h;
   }
 
+  pub none_goes : (inside rest : List ℕ) → Behind is_sp inside rest
+      → Goes (member_step d) (InMany (BetweenItems [])) inside rest (InMany (BetweenItems []))
+  none_goes inside rest b =
+      stay_goes (member_step d) is_sp (InMany (BetweenItems [])) b.prefix rest inside
+      (space_in_member d []) b.split b.each
+
+  pub none_read : (inside rest after : List ℕ) → Behind is_sp inside rest → rest ≡ 41 ∷ after
+      → ReadsItems d 0 inside [] [] after
+  none_read inside rest after b e =
+      items_after d inside rest after [] [] b (items_end d 0 rest after [] e)
+
   pub closed_stop : (inside after : List ℕ) (is : List Item) (x : Stop)
       → ReadsItems d 0 inside [] is after → x.left.now ≡ after → x.expected ≡ 2 ^ 59
       → x.may_end ≡ true
@@ -363,7 +368,7 @@ module _ (d : Dialect) where
 
   pub closing_stop : (inside after more : List ℕ) (is : List Item) (x : Stop)
       → ReadsItems d 0 inside [] is after → after ≡ 59 ∷ more
-      → ((ps : Pairs Bare) → StopsAt (params_step d) ParamsEnd (Opened ps) more x)
+      → StopsAt (params_step d) ParamsEnd (Opened []) more x
       → StopsAt (member_step d) MemberEnds (InMany (BetweenItems [])) inside x
   closing_stop inside after more is x r e h =
       let closed = InMany (Closing is (Between [])) in
@@ -377,7 +382,7 @@ module _ (d : Dialect) where
       refl
       (λ t m k. marks_map InMany x.expected _ (marks_map (Closing is) x.expected (params_step d t) m))
       (λ t k. k ∙ sym (some_map member.Inner (inner_finish (Closing is t))
-      ∙ some_map (inner is) (params_finish t))) (h []))
+      ∙ some_map (inner is) (params_finish t))) h)
 
   -- where an Item of it may begin, and within one
   pub between_stop : (inside : List ℕ) (is : List Item) (x : Stop) (bits : ℕ)
@@ -435,7 +440,7 @@ module _ (d : Dialect) where
   }
 
   pub flag_stop : (key after more : List ℕ) (x : Stop) → after ≡ 59 ∷ more
-      → ((ps : Pairs Bare) → StopsAt (params_step d) ParamsEnd (Opened ps) more x)
+      → StopsAt (params_step d) ParamsEnd (Opened []) more x
       → StopsAt (entry_step d) EntryEnds (InKey key) after x
   flag_stop key after more x e h =
       subst (λ y. StopsAt (entry_step d) EntryEnds (InKey key) y x) (sym e)
@@ -444,7 +449,7 @@ module _ (d : Dialect) where
       (stop_above (params_step d) (entry_step d) (InFlag key) ParamsEnd EntryEnds
       (λ s t b n. ap (option_map (InFlag key)) n) (Opened []) more x x refl
       (λ t m k. marks_map (InFlag key) x.expected (params_step d t) m)
-      (λ t k. k ∙ sym (some_map (flag_of key) (params_finish t))) (h [])))
+      (λ t k. k ∙ sym (some_map (flag_of key) (params_finish t))) h))
 
   pub equals_stop : (key after value : List ℕ) (x : Stop) → after ≡ 61 ∷ value
       → x.left.now ≡ value → MarksStep x.expected (member_start d) → x.may_end ≡ false
@@ -479,7 +484,7 @@ module _ {S V : Type 0} (first : ℕ → Option S) (next : S → ℕ → Option 
   EndsSeries t = is_some (series_end added none t)
 
   -- whether members may end where none is open
-  pub between_ends : (p : SeriesPhase) (given : V) (s : S) → IsBetween p
+  between_ends : (p : SeriesPhase) (given : V) (s : S) → IsBetween p
       → ends_between p ≡ EndsSeries (series_of p given s)
   between_ends phase.Begin given s b = refl
   between_ends phase.InMember given s b = absurd b
@@ -552,15 +557,6 @@ module _ {S V : Type 0} (first : ℕ → Option S) (next : S → ℕ → Option 
   left_in_member ends p text x bits whole None adds b h f r = r
   left_in_member ends p text x bits whole (Some e) adds b h f r = λ given s n.
       member_refused ends p given s text x bits whole e adds b n h f r
-
--- a stop is in its text
-pub stop_within : {S : Type 0} (first : ℕ → Option S) (next : S → ℕ → Option S)
-    (ends : S → Bool) (text : List ℕ) (x : Stop) → StopsIn first next ends text x
-    → length x.left.now ≤ length text
-stop_within first next ends text x h =
-    let k = left_within next h.begun h.stops.state h.more x.left.now h.stops.goes in
-    let l : length text ≡ length (h.byte ∷ h.more) = ap length h.split in
-    omega arith
 
 -- an Item that is a whole text, after the spaces before it
 module _ (d : Dialect) where
@@ -653,21 +649,3 @@ module _ (d : Dialect) where
         refuses = left_refused (step d) may_end after (2 ^ 32) (whole - length end) end true f r
             (marks_steps (2 ^ 32) (step d after) refl) refl;
       }
-
--- what is behind an Item of an Inner List that is passed over
-pub item_skipped : (d : Dialect) (text after rest : List ℕ) (x : Bare) (o : Option BehindItems)
-    → ReadsAs (SpellsBare d) text x after
-    → (ps : Pairs Bare) × ReadsAs (SpellsParams d) after ps rest → IfSome o (IsBehindItem rest)
-    → IfSome o (λ end. (i : Item) × (rest : List ℕ) × ReadsAs (SpellsItem d) text i rest
-    × IsBehindItem rest end)
-item_skipped d text after rest x None b p h = h
-item_skipped d text after rest x (Some end) b p h =
-    (item x p.0, rest, item_whole d text after rest x p.0 b p.1, h)
-
-pub param_behind : (d : Dialect) (text more left key : List ℕ) (x : Bare) → text ≡ 59 ∷ more
-    → ReadsParam d more key x left → length left < length text
-param_behind d text more left key x e p =
-    let a : length more ≡ length (p.prefix ++ left) = ap length p.split in
-    let b = length-append p.prefix left in
-    let c : length text ≡ length (59 ∷ more) = ap length e in
-    omega arith

@@ -176,7 +176,7 @@ all_parsed d kind t text rest v a e f =
     refl refl f
 
 -- what is left is refused
-pub text_refused : (d : Dialect) (kind : Kind) (text rest : List ℕ) (t : State) (e : Refusal)
+text_refused : (d : Dialect) (kind : Kind) (text rest : List ℕ) (t : State) (e : Refusal)
     → Goes (step d) (begin kind) text rest t
     → RefusesAt (step d) may_end t rest (length text - length rest) e → Parses d kind text (Err e)
 text_refused d kind text rest t e a r =

@@ -1,5 +1,5 @@
-//! Parts of a member that were read directly before a part that is not whole in a chunk. They are
-//! kept, and the reader of the member goes on with them.
+//! Parts of a member, or of the Item of a text, that were read directly before a part that is not
+//! whole. They are kept, and its reader goes on with them.
 ghost use Rattle.std.specs.Prelude.{◌≡◌, Some, None, IfSome};
 ghost use Rattle.sf_value.specs.declared.dialect.Dialect.{Dialect};
 ghost use Rattle.sf_value.specs.Grammar.Parameters.{SpellsParams};
@@ -35,7 +35,7 @@ pub struct Begun<'a> {
 }
 
 /// The parameters that a text begins with, up to the rest, if another one is begun after them.
-fn begun_params<'a>(text: &'a [u8], params: Entries<Bare>, rest: &'a [u8]) -> Option<Begun<'a>>
+pub fn begun_params<'a>(text: &'a [u8], params: Entries<Bare>, rest: &'a [u8]) -> Option<Begun<'a>>
     ensures { IfSome result (λ b. (d : Dialect)
         → ReadsAs (SpellsParams d) text.now params rest.now → IsBegunParams d text.now b) }
 {
@@ -51,7 +51,7 @@ fn begun_params<'a>(text: &'a [u8], params: Entries<Bare>, rest: &'a [u8]) -> Op
 /// Whether a reader saves by these parameters what it costs to keep them: not if there are none, and so
 /// little is left that nothing more is read directly. Nothing is claimed of it.
 #[inline(always)]
-fn are_worth_keeping(params: &Entries<Bare>, rest: &[u8]) -> bool {
+pub fn are_worth_keeping(params: &Entries<Bare>, rest: &[u8]) -> bool {
     !params.is_empty() || rest.len() >= WHOLE_PARTS
 }
 

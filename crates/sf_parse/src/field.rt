@@ -6,6 +6,7 @@ ghost use Rattle.sf_value.specs.declared.value.Field.{Field};
 ghost use Rattle.sf_value.specs.declared.value.Field.TheVariants as field_is;
 ghost use Rattle.sf_value.specs.declared.value.Kind.{Kind};
 ghost use Rattle.sf_value.specs.declared.value.Kind.TheVariants as kind_is;
+ghost use Rattle.sf_parse.specs.BegunParts.{IsBegunIn, Within};
 ghost use Rattle.sf_parse.specs.Parsers.{Parses, Makes};
 ghost use Rattle.sf_parse.specs.AllocationFree.{TakesNoMemory, FieldFree};
 ghost use Rattle.sf_parse.specs.AllocationFreeParsers.{IsOther};
@@ -20,10 +21,12 @@ ghost use Rattle.sf_parse.specs.Machine.Members.{MemberState};
 ghost use Rattle.sf_parse.specs.Machine.Entries.{EntryState};
 ghost use Rattle.sf_parse.specs.SeriesView.{series_of};
 ghost use Rattle.sf_parse.specs.WholeMembers.{NoneOpen, RefusesAfter};
-ghost use Rattle.sf_parse.specs.WholeParts.{Behind};
+ghost use Rattle.sf_parse.specs.WholeParts.{Behind, ReadsAs};
+ghost use Rattle.sf_value.specs.Grammar.Parameters.{SpellsParams};
 ghost use Rattle.sf_value.specs.Grammar.Classes.{is_sp};
 
 use crate::bare::BareReader;
+use crate::begun::{Begun, are_worth_keeping, begun_params};
 use crate::context::Context;
 use crate::entry::EntryReader;
 use crate::item_field::ItemFieldReader;
@@ -38,7 +41,7 @@ use crate::sets::{SPACE, set_if};
 use crate::stop::{refuse_left, stop_in_item};
 use crate::whole_bare::{behind, ends};
 use crate::whole_parts::{Owner, behind_spaces, may_begin_part, read_params};
-use sf_value::{Dict, Entries, Item, List, Member, OutOfMemory, Sequence};
+use sf_value::{Bare, Dict, Entries, Item, List, Member, OutOfMemory, Sequence};
 
 /// The members of a List that are being read.
 pub type ListReader = SeriesReader<MemberReader, Sequence<Member>>;
@@ -188,7 +191,10 @@ impl WholeText for ItemFieldReader {
                 return Ok(Item { bare, params });
             }
         }
-        refuse_or_read_item(context, text, inside)
+        if !are_worth_keeping(&params, rest) {
+            return refuse_or_read_item(context, text, inside);
+        }
+        read_begun_item(context, text, inside, after, params, rest)
     }
 }
 
@@ -196,11 +202,13 @@ impl WholeText for ListReader {
     fn parse(context: &Context, text: &[u8]) -> Result<List, Refusal> {
         let mut phase = SeriesPhase::Begin;
         let mut members = Sequence::new(context.alloc);
+        let mut begun = None;
         let rest = add_members::<MemberReader, Sequence<Member>>(
             context,
             behind_spaces(text),
             &mut phase,
             &mut members,
+            &mut begun,
         )?;
         if are_all(phase, rest) {
             return Ok(List { members });
@@ -214,10 +222,17 @@ impl WholeText for ListReader {
         ) {
             return Err(refusal);
         }
-        match refuse_member::<MemberReader, Sequence<Member>>(context, phase, text.len(), rest) {
-            Some(refusal) => Err(refusal),
-            None => read_list(context, text, rest, phase, members),
+        if begun.is_none() {
+            if let Some(refusal) = refuse_member::<MemberReader, Sequence<Member>>(
+                context,
+                phase,
+                text.len(),
+                rest,
+            ) {
+                return Err(refusal);
+            }
         }
+        read_list(context, text, rest, phase, members, &mut begun)
     }
 }
 
@@ -225,11 +240,13 @@ impl WholeText for DictReader {
     fn parse(context: &Context, text: &[u8]) -> Result<Dict, Refusal> {
         let mut phase = SeriesPhase::Begin;
         let mut members = Entries::new(context.alloc, &context.seed);
+        let mut begun = None;
         let rest = add_members::<EntryReader, Entries<Member>>(
             context,
             behind_spaces(text),
             &mut phase,
             &mut members,
+            &mut begun,
         )?;
         if are_all(phase, rest) {
             return Ok(Dict { members });
@@ -243,10 +260,17 @@ impl WholeText for DictReader {
         ) {
             return Err(refusal);
         }
-        match refuse_member::<EntryReader, Entries<Member>>(context, phase, text.len(), rest) {
-            Some(refusal) => Err(refusal),
-            None => read_dict(context, text, rest, phase, members),
+        if begun.is_none() {
+            if let Some(refusal) = refuse_member::<EntryReader, Entries<Member>>(
+                context,
+                phase,
+                text.len(),
+                rest,
+            ) {
+                return Err(refusal);
+            }
         }
+        read_dict(context, text, rest, phase, members, &mut begun)
     }
 }
 
@@ -286,7 +310,50 @@ fn read_item_field(context: &Context, text: &[u8], inside: &[u8]) -> Result<Item
     ensures allocation_free { TakesNoMemory kind_is.Item text.now → IfErr result IsOther }
 {
     let mut field = ItemFieldReader::new(context);
-    read_rest(&mut field, context, text, inside)
+    read_rest_of_item(&mut field, context, text, inside)
+}
+
+/// Reads what is left of the text of an Item. It is not inlined: all that it calls is, and two
+/// functions call it.
+#[inline(never)]
+fn read_rest_of_item(
+    field: &mut ItemFieldReader,
+    context: &Context,
+    text: &[u8],
+    left: &[u8],
+) -> Result<Item, Refusal>
+    // The bytes before what is left lead to the state of the reader.
+    requires { Goes (step_of context.now.dialect) (begin_at kind_is.Item) text.now left.now
+        field.old }
+    ensures parses { Makes field_is.Item (Parses context.now.dialect kind_is.Item text.now) result }
+    ensures allocation_free { TakesNoMemory kind_is.Item text.now → IfErr result IsOther }
+{
+    read_rest(field, context, text, left)
+}
+
+/// As [`read_item_field`], where parameters of the Item were read.
+#[inline(never)]
+fn read_begun_item<'a>(
+    context: &Context,
+    text: &'a [u8],
+    inside: &'a [u8],
+    after: &'a [u8],
+    params: Entries<Bare>,
+    rest: &'a [u8],
+) -> Result<Item, Refusal>
+    requires inside { Behind is_sp text.now inside.now }
+    requires after { Within inside.now after.now }
+    // The parameters are those up to the rest.
+    requires params { ReadsAs (SpellsParams context.now.dialect) after.now params rest.now }
+    ensures parses { Makes field_is.Item (Parses context.now.dialect kind_is.Item text.now) result }
+    ensures allocation_free { TakesNoMemory kind_is.Item text.now → IfErr result IsOther }
+{
+    let Some(begun) = begun_params(after, params, rest) else {
+        return read_item_field(context, text, inside);
+    };
+    let mut field = ItemFieldReader::new(context);
+    let left = field.take_begun_item(context, inside, begun)?;
+    read_rest_of_item(&mut field, context, text, left)
 }
 
 /// The refusal of the text of an Item, after spaces, in a text of this length: of a byte of the Item
@@ -311,44 +378,52 @@ fn refuse_item(context: &Context, whole: usize, inside: &[u8]) -> Option<Refusal
     refuse_left(stop.left, expected, stop.may_end, whole - stop.left.len())
 }
 
-/// Reads what is left of the text of a List after whole members.
+/// Reads what is left of the text of a List after whole members, with the parts that are kept.
 #[inline(never)]
-fn read_list(
+fn read_list<'a>(
     context: &Context,
-    text: &[u8],
-    left: &[u8],
+    text: &'a [u8],
+    left: &'a [u8],
     phase: SeriesPhase,
     members: Sequence<Member>,
+    begun: &mut Option<Begun<'a>>,
 ) -> Result<List, Refusal>
     requires none_open { NoneOpen [] phase members }
     // The bytes before what is left lead to the members, whatever member was read last.
     requires goes { (s : MemberState) → Goes (step_of context.now.dialect) (begin_at kind_is.List)
         text.now left.now (InList (series_of phase members s)) }
+    // Parts that are kept are those of the member that is left first. They are taken.
+    requires begun { IfSome begun.old (IsBegunIn context.now.dialect left.now) }
     ensures parses { Makes field_is.List (Parses context.now.dialect kind_is.List text.now) result }
     ensures allocation_free { TakesNoMemory kind_is.List text.now → IfErr result IsOther }
 {
     let mut reader: ListReader = SeriesReader::after(context, phase, members);
-    read_rest(&mut reader, context, text, left)
+    let rest = reader.take_kept_parts(context, left, begun)?;
+    read_rest(&mut reader, context, text, rest)
 }
 
-/// Reads what is left of the text of a Dictionary after whole members.
+/// Reads what is left of the text of a Dictionary after whole members, with the parts that are kept.
 #[inline(never)]
-fn read_dict(
+fn read_dict<'a>(
     context: &Context,
-    text: &[u8],
-    left: &[u8],
+    text: &'a [u8],
+    left: &'a [u8],
     phase: SeriesPhase,
     members: Entries<Member>,
+    begun: &mut Option<Begun<'a>>,
 ) -> Result<Dict, Refusal>
     requires none_open { NoneOpen [] phase members }
     // The bytes before what is left lead to the members, whatever member was read last.
     requires goes { (s : EntryState) → Goes (step_of context.now.dialect) (begin_at kind_is.Dict)
         text.now left.now (InDict (series_of phase members s)) }
+    // Parts that are kept are those of the member that is left first. They are taken.
+    requires begun { IfSome begun.old (IsBegunIn context.now.dialect left.now) }
     ensures parses { Makes field_is.Dict (Parses context.now.dialect kind_is.Dict text.now) result }
     ensures allocation_free { TakesNoMemory kind_is.Dict text.now → IfErr result IsOther }
 {
     let mut reader: DictReader = SeriesReader::after(context, phase, members);
-    read_rest(&mut reader, context, text, left)
+    let rest = reader.take_kept_parts(context, left, begun)?;
+    read_rest(&mut reader, context, text, rest)
 }
 
 /// The field of this kind that the text spells, or the exact refusal of the text.

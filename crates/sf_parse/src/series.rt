@@ -269,6 +269,46 @@ impl<P: SeriesMember<G>, G: Drop> SeriesReader<P, G> {
         self.member.take_by_bytes(context, rest)
     }
 
+    /// Goes on with the parts that are kept of the member that a text begins with, if there are some,
+    /// and returns the rest.
+    #[inline(always)]
+    pub fn take_kept_parts<'a>(
+        &mut self,
+        context: &Context,
+        text: &'a [u8],
+        begun: &mut Option<Begun<'a>>,
+    ) -> Result<&'a [u8], OutOfMemory>
+        requires { IfSome begun.old (IsBegunIn context.now.dialect text.now) }
+        // The bytes before the rest lead to the new state.
+        ensures goes { IfOk result (λ rest. Goes (series_next (P.first context.now.dialect)
+            (P.next context.now.dialect) P.added P.none) self.old text.now rest.now self.new) }
+        ensures allocation_free { SeriesFree self.old text.now → IsOk result }
+    {
+        if begun.is_none() {
+            return Ok(text);
+        }
+        self.take_parts(context, text, begun)
+    }
+
+    /// As [`SeriesReader::take_kept_parts`], which only tests whether there are some.
+    #[inline(never)]
+    fn take_parts<'a>(
+        &mut self,
+        context: &Context,
+        text: &'a [u8],
+        begun: &mut Option<Begun<'a>>,
+    ) -> Result<&'a [u8], OutOfMemory>
+        requires { IfSome begun.old (IsBegunIn context.now.dialect text.now) }
+        ensures goes { IfOk result (λ rest. Goes (series_next (P.first context.now.dialect)
+            (P.next context.now.dialect) P.added P.none) self.old text.now rest.now self.new) }
+        ensures allocation_free { SeriesFree self.old text.now → IsOk result }
+    {
+        match mem::replace(begun, None) {
+            Some(begun) => self.take_begun_member(context, text, begun),
+            None => Ok(text),
+        }
+    }
+
     /// The value of the members, if the last one is complete. It is taken out of the reader.
     pub fn finish(&mut self, context: &Context) -> Result<Option<G>, OutOfMemory>
         // It is the value of the members, if they may end.
@@ -429,7 +469,7 @@ fn expected_between<P: SeriesMember<G>, G>(dialect: Dialect, phase: SeriesPhase)
 }
 
 /// The refusal of what is left of a text where no member is open: of a byte that may not come, or of
-/// the end after a comma. None claims nothing: it is then read by a reader.
+/// the end after a comma. None claims nothing.
 #[inline(always)]
 pub fn refuse_between<P: SeriesMember<G>, G>(
     dialect: Dialect,
@@ -505,9 +545,11 @@ pub fn add_members<'a, P: SeriesMember<G>, G>(
     text: &'a [u8],
     phase: &mut SeriesPhase,
     given: &mut G,
+    begun: &mut Option<Begun<'a>>,
 ) -> Result<&'a [u8], OutOfMemory>
     // A member may begin.
-    requires { MayBegin P.none phase.old given.old }
+    requires may_begin { MayBegin P.none phase.old given.old }
+    requires none_begun { begun.old ≡ None }
     // The bytes before the rest lead to the new phase and value, whatever member was read last; or
     // no byte is left, and the value is that of the members.
     ensures goes { IfOk result (λ rest. (s : P) → TakesMembers
@@ -516,6 +558,9 @@ pub fn add_members<'a, P: SeriesMember<G>, G>(
         phase.new given.new s) }
     // No member is open.
     ensures none_open { IfOk result (λ _. NoneOpen P.none phase.new given.new) }
+    // Parts that are begun are those of the member that the rest begins with.
+    ensures begun { IfOk result (λ rest. IfSome begun.new (IsBegunIn context.now.dialect
+        rest.now)) }
     // Before the first member spaces do not allocate.
     ensures allocation_free { (s : P) → SeriesFree (series_of phase.old given.old s) text.now
         → IsOk result }
@@ -523,9 +568,7 @@ pub fn add_members<'a, P: SeriesMember<G>, G>(
     if !P::may_begin(text) {
         return Ok(text);
     }
-    // The parts of a member that is not whole are dropped: its refusal needs none.
-    let mut begun = None;
-    add_each_member::<P, G>(context, text, true, phase, given, &mut begun)
+    add_each_member::<P, G>(context, text, true, phase, given, begun)
 }
 
 /// Whether whole members are looked for in a chunk. It only saves time: nothing is claimed of it.

@@ -73,7 +73,7 @@ impl SeriesMember<Sequence<Member>> for MemberReader {
 
     #[inline(always)]
     fn may_begin(text: &[u8]) -> bool {
-        may_begin_part(text) || may_begin_bare(text)
+        may_begin_bare(text) || may_begin_part(text)
     }
 
     #[inline(always)]

@@ -1,34 +1,25 @@
-//! Where a text stops that spells no field. It is found without a value and without a reader of
-//! more than a bare item, for the refusal of a text of which direct reading did not take all.
-ghost use Rattle.std.specs.Prelude.{ℕ, List, [], is_some, IfSome};
-ghost use Rattle.sf_value.specs.declared.value.Bare.{Bare};
-ghost use Rattle.sf_value.specs.declared.value.Item.{Item};
-ghost use Rattle.sf_value.specs.Grammar.BareItems.{SpellsBare};
-ghost use Rattle.sf_value.specs.Grammar.Items.{SpellsItem};
-ghost use Rattle.sf_value.specs.Grammar.Pairs.{Pairs};
-ghost use Rattle.sf_value.specs.Grammar.Parameters.{SpellsParams};
+//! Where a text stops that spells no field, for the refusal of a text of which direct reading did
+//! not take all. It is found by a reader of one bare item, from the beginning of a member or an
+//! Item: what is behind a whole part of it, as a second parameter, is left to the levels. What they
+//! would allocate up to there is allocated here, too, so that a text is refused as out of memory
+//! where they refuse it so.
+ghost use Rattle.std.specs.Prelude.{[], is_some, IfSome};
 ghost use Rattle.sf_parse.specs.Machine.Bares.{bare_start, bare_step, bare_finish};
 ghost use Rattle.sf_parse.specs.Machine.Params.{Opened, params_step, params_finish};
 ghost use Rattle.sf_parse.specs.Machine.Items.{item_start, item_step, item_finish};
 ghost use Rattle.sf_parse.specs.Machine.Inners.{BetweenItems};
 ghost use Rattle.sf_parse.specs.Machine.Members.{InMany, member_start, member_step, member_finish};
 ghost use Rattle.sf_parse.specs.Machine.Entries.{entry_start, entry_step, entry_finish};
-ghost use Rattle.sf_parse.specs.Prefixes.{Goes};
 ghost use Rattle.sf_parse.specs.Stops.{StopsAt, StopsIn, RefusesLeft};
-ghost use Rattle.sf_parse.specs.WholeParts.{ReadsAs, ReadsParam, ReachesItems, IsBehindItem};
 
 use crate::bare::BareReader;
 use crate::context::Context;
-use crate::leaf::find_leaf;
 use crate::level::Level;
 use crate::member::MemberReader;
 use crate::refusal::Refusal;
 use crate::sets::{BEHIND_KEY, CLOSE, KEY_START, SEMICOLON, SPACE, set_if};
-use crate::whole_bare::{behind, read_bare, split};
-use crate::whole_parts::{
-    BehindItems, behind_item, behind_spaces, find_key, find_named, may_begin_part, may_begin_value,
-    read_param,
-};
+use crate::whole_bare::{behind, split};
+use crate::whole_parts::{behind_spaces, read_key};
 
 /// A place in a text, and what may come there.
 #[derive(Clone, Copy)]
@@ -88,56 +79,14 @@ fn stop_in_bare<'a>(context: &Context, text: &'a [u8]) -> Option<Stop<'a>>
     })
 }
 
-/// The rest after a whole parameter, after its semicolon. None claims nothing.
-#[inline(always)]
-fn skip_param<'a>(context: &Context, text: &'a [u8]) -> Option<&'a [u8]>
-    ensures { IfSome result (λ rest. (key : List ℕ) × (value : Bare)
-        × ReadsParam context.now.dialect text.now key value rest.now) }
-{
-    let named = behind_spaces(text);
-    if let Some((_, rest)) = find_named(named) {
-        return Some(rest);
-    }
-    if !may_begin_value(named) {
-        return None;
-    }
-    skip_any_param(context, text)
-}
-
-/// The same of a value of any type.
-#[inline(never)]
-fn skip_any_param<'a>(context: &Context, text: &'a [u8]) -> Option<&'a [u8]>
-    ensures { IfSome result (λ rest. (key : List ℕ) × (value : Bare)
-        × ReadsParam context.now.dialect text.now key value rest.now) }
-{
-    let (_, _, rest) = read_param(context, text)?;
-    Some(rest)
-}
-
-/// The rest after whole parameters, each with the semicolon after it.
-#[inline(always)]
-fn skip_opened<'a>(context: &Context, text: &'a [u8]) -> &'a [u8]
-    ensures { (ps : Pairs Bare) → (qs : Pairs Bare)
-        × Goes (params_step context.now.dialect) (Opened ps) text.now result.now (Opened qs) }
-{
-    let mut rest = text;
-    while let Some(after) = skip_param(context, rest) {
-        let Some(more) = behind(after, b';') else {
-            return rest;
-        };
-        rest = more;
-    }
-    rest
-}
-
-/// Where parameters stop, after a semicolon.
+/// Where parameters stop, after the first semicolon.
 #[inline(never)]
 fn stop_in_params<'a>(context: &Context, text: &'a [u8]) -> Stop<'a>
-    ensures { (ps : Pairs Bare) → StopsAt (params_step context.now.dialect)
-        (λ s. is_some (params_finish s)) (Opened ps) text.now result }
+    ensures { StopsAt (params_step context.now.dialect) (λ s. is_some (params_finish s)) (Opened [])
+        text.now result }
 {
-    let named = behind_spaces(skip_opened(context, text));
-    let Some((_, after)) = find_key(named) else {
+    let named = behind_spaces(text);
+    let Some((_, after)) = read_key(context, named) else {
         return Stop {
             left: named,
             expected: SPACE | KEY_START,
@@ -184,108 +133,34 @@ pub fn stop_in_item<'a>(context: &Context, text: &'a [u8]) -> Option<Stop<'a>>
     })
 }
 
-/// The rest after whole parameters.
-#[inline(always)]
-fn skip_params<'a>(context: &Context, text: &'a [u8]) -> &'a [u8]
-    ensures { (ps : Pairs Bare)
-        × ReadsAs (SpellsParams context.now.dialect) text.now ps result.now }
-{
-    let mut rest = text;
-    while let Some(more) = behind(rest, b';') {
-        let Some(after) = skip_param(context, more) else {
-            return rest;
-        };
-        rest = after;
-    }
-    rest
-}
-
-/// What is behind the Item of an Inner List that a text begins with. None claims nothing.
-#[inline(always)]
-fn skip_item<'a>(context: &Context, text: &'a [u8]) -> Option<BehindItems<'a>>
-    ensures { IfSome result (λ end. (i : Item) × (rest : List ℕ)
-        × ReadsAs (SpellsItem context.now.dialect) text.now i rest × IsBehindItem rest end) }
-{
-    let after = skip_bare(context, text)?;
-    behind_item(skip_params(context, after))
-}
-
-/// The rest after a bare item. None claims nothing.
-#[inline(always)]
-fn skip_bare<'a>(context: &Context, text: &'a [u8]) -> Option<&'a [u8]>
-    ensures { IfSome result (λ rest. (bare : Bare)
-        × ReadsAs (SpellsBare context.now.dialect) text.now bare rest.now) }
-{
-    if let Some((_, rest)) = find_leaf(text) {
-        return Some(rest);
-    }
-    if !may_begin_part(text) {
-        return None;
-    }
-    skip_any_bare(context, text)
-}
-
-/// The same of any type.
-#[inline(never)]
-fn skip_any_bare<'a>(context: &Context, text: &'a [u8]) -> Option<&'a [u8]>
-    ensures { IfSome result (λ rest. (bare : Bare)
-        × ReadsAs (SpellsBare context.now.dialect) text.now bare rest.now) }
-{
-    let (_, rest) = read_bare(context, text)?;
-    Some(rest)
-}
-
-/// What is behind the whole Items of an Inner List, after its opening bracket.
-#[inline(always)]
-fn skip_items<'a>(context: &Context, inside: &'a [u8]) -> BehindItems<'a>
-    ensures { (is : List Item) × ReachesItems context.now.dialect inside.now [] is result }
-{
-    let mut rest = behind_spaces(inside);
-    loop {
-        if let Some(left) = behind(rest, b')') {
-            return BehindItems::Closed(left);
-        }
-        let Some(end) = skip_item(context, rest) else {
-            return BehindItems::Open(rest);
-        };
-        match end {
-            BehindItems::Open(left) => rest = left,
-            BehindItems::Closed(left) => return BehindItems::Closed(left),
-        }
-    }
-}
-
 /// Where an Inner List stops, after its opening bracket.
 #[inline(never)]
 fn stop_in_inner<'a>(context: &Context, inside: &'a [u8]) -> Stop<'a>
     ensures { StopsAt (member_step context.now.dialect) (λ s. is_some (member_finish s))
         (InMany (BetweenItems [])) inside.now result }
 {
-    match skip_items(context, inside) {
-        BehindItems::Closed(after) => {
-            let Some(more) = behind(after, b';') else {
-                return Stop {
-                    left: after,
-                    expected: SEMICOLON,
-                    may_end: true,
-                };
+    let rest = behind_spaces(inside);
+    if let Some(after) = behind(rest, b')') {
+        let Some(more) = behind(after, b';') else {
+            return Stop {
+                left: after,
+                expected: SEMICOLON,
+                may_end: true,
             };
-            stop_in_params(context, more)
-        }
-        BehindItems::Open(rest) => {
-            let Some(stop) = stop_in_item(context, rest) else {
-                return Stop {
-                    left: rest,
-                    expected: SPACE | (CLOSE | BareReader::first_bytes(context.dialect)),
-                    may_end: false,
-                };
-            };
-            Stop {
-                left: stop.left,
-                expected: stop.expected | set_if(stop.may_end, SPACE | CLOSE),
-                may_end: false,
-            }
-        }
+        };
+        return stop_in_params(context, more);
+    }
+    let Some(stop) = stop_in_item(context, rest) else {
+        return Stop {
+            left: rest,
+            expected: SPACE | (CLOSE | BareReader::first_bytes(context.dialect)),
+            may_end: false,
+        };
+    };
+    Stop {
+        left: stop.left,
+        expected: stop.expected | set_if(stop.may_end, SPACE | CLOSE),
+        may_end: false,
     }
 }
 
@@ -307,7 +182,7 @@ pub fn stop_in_entry<'a>(context: &Context, text: &'a [u8]) -> Option<Stop<'a>>
     ensures { IfSome result (StopsIn entry_start (entry_step context.now.dialect)
         (λ s. is_some (entry_finish s)) text.now) }
 {
-    let (_, after) = find_key(text)?;
+    let (_, after) = read_key(context, text)?;
     if let Some(more) = behind(after, b';') {
         return Some(stop_in_params(context, more));
     }

@@ -1,5 +1,5 @@
 //! Parts of a field that are whole in a text, read without a state between two calls, and built
-//! where they belong. None claims nothing: the text is then read by the levels.
+//! where they belong. None claims nothing: the text is then refused, or read by the levels.
 ghost use Rattle.std.specs.Prelude.{◌≡◌, ◌++◌, ◌∷◌, ℕ, List, [], true, false, None};
 ghost use Rattle.std.specs.Prelude.{IfSome, IfNone, IfOk, OnErr};
 ghost use Rattle.sf_value.specs.Ascii.{open_bracket};
@@ -162,7 +162,7 @@ fn may_follow(owner: Owner, text: &[u8]) -> bool {
 
 /// A key, and the rest.
 #[inline(always)]
-fn read_key<'a>(context: &Context, text: &'a [u8]) -> Option<(Key, &'a [u8])>
+pub fn read_key<'a>(context: &Context, text: &'a [u8]) -> Option<(Key, &'a [u8])>
     ensures split { IfSome result (λ r. text.now ≡ r.0 ++ r.1.now) }
     ensures key { IfSome result (λ r. IsKey r.0) }
 {
@@ -175,7 +175,7 @@ fn read_key<'a>(context: &Context, text: &'a [u8]) -> Option<(Key, &'a [u8])>
 
 /// A parameter after its semicolon, of any type: the bytes of its key, its value, and the rest.
 #[inline(always)]
-pub fn read_param<'a>(context: &Context, text: &'a [u8]) -> Option<(&'a [u8], Bare, &'a [u8])>
+fn read_param<'a>(context: &Context, text: &'a [u8]) -> Option<(&'a [u8], Bare, &'a [u8])>
     ensures key { IfSome result (λ r. IsKey r.0.now) }
     ensures reads { IfSome result (λ r. ReadsParam context.now.dialect text.now r.0.now r.1
         r.2.now) }
@@ -506,7 +506,7 @@ fn read_items<'a>(context: &Context, text: &'a [u8], items: &mut Sequence<Item>)
 
 /// What is behind an Item of an Inner List: a space and the spaces after it, or the bracket.
 #[inline(always)]
-pub fn behind_item(text: &[u8]) -> Option<BehindItems<'_>>
+fn behind_item(text: &[u8]) -> Option<BehindItems<'_>>
     ensures { IfSome result (IsBehindItem text.now) }
 {
     match split(text) {

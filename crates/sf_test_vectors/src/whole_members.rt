@@ -513,10 +513,12 @@ fn an_end_at_each_place(rt: HostRuntime) -> Result<(), Fail> {
     for (kind, text) in &LONG {
         for end in 0..=text.len() {
             let short = &text[..end];
-            assert!(rt;
-                is_read_the_same(rt.alloc(), &seed, Dialect::Rfc9651, *kind, short),
-                "{short:?}"
-            );
+            for dialect in [Dialect::Rfc9651, Dialect::Rfc8941] {
+                assert!(rt;
+                    is_read_the_same(rt.alloc(), &seed, dialect, *kind, short),
+                    "{short:?}"
+                );
+            }
         }
     }
     Ok(())

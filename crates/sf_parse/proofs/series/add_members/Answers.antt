@@ -21,4 +21,4 @@ returns-then-not-may_begin-clause-none_open g c =
     let added = g.P.SeriesMember.added in
     let none = g.P.SeriesMember.none in
     let with = g.P.SeriesMember.with in
-    may_begin_open first next added none with _ _ c.requires
+    may_begin_open first next added none with _ _ c.requires.may_begin

@@ -7,14 +7,14 @@ use Rattle.sf_parse.proofs.stop.stop_in_entry.Goals as goal
 pub returns-in-Some : goal.returns-in-Some
 returns-in-Some c =
     let d = c.args.context.now.dialect in
-    key_stop d _ _ _ _ c.in_ok-after.ensures.0 c.in_ok-after.ensures.1
+    key_stop d _ _ _ _ c.in_ok-after.ensures.split c.in_ok-after.ensures.key
     (flag_stop d _ _ _ _ c.in-Some.ensures c.stop_in_params.ensures)
 
 pub returns-in_default-behind : goal.returns-in_default-behind
 returns-in_default-behind c =
     let d = c.args.context.now.dialect in
-    let key = c.in_ok-after.field-0-0.now in
-    key_stop d _ key _ _ c.in_ok-after.ensures.0 c.in_ok-after.ensures.1
+    let key = c.in_ok-after.field-0-0 in
+    key_stop d _ key _ _ c.in_ok-after.ensures.split c.in_ok-after.ensures.key
     (stop_here (entry_step d) _ (InKey key) (InKey key) _ _
     (record { taken = []; split = refl; leads = refl })
     (marks_steps _ (entry_step d (InKey key)) refl) refl)
@@ -22,11 +22,11 @@ returns-in_default-behind c =
 pub returns-in_default-stop_in_member : goal.returns-in_default-stop_in_member
 returns-in_default-stop_in_member c =
     let d = c.args.context.now.dialect in
-    key_stop d _ _ _ _ c.in_ok-after.ensures.0 c.in_ok-after.ensures.1
+    key_stop d _ _ _ _ c.in_ok-after.ensures.split c.in_ok-after.ensures.key
     (equals_stop d _ _ _ _ c.in-Some-behind.ensures refl c.first_bytes.ensures refl)
 
 pub returns : goal.returns
 returns c =
     let d = c.args.context.now.dialect in
-    key_stop d _ _ _ _ c.in_ok-after.ensures.0 c.in_ok-after.ensures.1
+    key_stop d _ _ _ _ c.in_ok-after.ensures.split c.in_ok-after.ensures.key
     (member_value_stop d _ _ _ _ c.in-Some-behind.ensures c.in-Some-stop_in_member.ensures)

@@ -1,4 +1,4 @@
-use Rattle.std.proofs.Common.{refl, ap, bit_or}
+use Rattle.std.proofs.Common.{refl, ap, bit_or, []}
 use Rattle.sf_parse.specs.Machine.Bares.{bare_start}
 use Rattle.sf_parse.specs.Machine.Params.{Opened, InParamKey, EqualsParam, InValue, params_step}
 use Rattle.sf_parse.proofs.Marks.{marks_map, marks_steps}
@@ -6,42 +6,38 @@ use Rattle.sf_parse.proofs.Stops.{stop_here, opened_goes, keyed_goes, equals_goe
 use Rattle.sf_parse.proofs.stop.stop_in_params.Goals as goal
 
 pub returns-in_default : goal.returns-in_default
-returns-in_default c = λ ps.
+returns-in_default c =
     let d = c.args.context.now.dialect in
-    let before = c.skip_opened.ensures ps in
-    stop_here (params_step d) _ (Opened ps) (Opened before.0) _ _
-    (opened_goes d ps before.0 _ _ _ before.1 c.behind_spaces-named.ensures)
-    (marks_steps _ (params_step d (Opened before.0)) refl) refl
+    stop_here (params_step d) _ (Opened []) (Opened []) _ _
+    (opened_goes d [] _ _ c.behind_spaces-named.ensures)
+    (marks_steps _ (params_step d (Opened [])) refl) refl
 
 pub returns-in_default-behind : goal.returns-in_default-behind
-returns-in_default-behind c = λ ps.
+returns-in_default-behind c =
     let d = c.args.context.now.dialect in
-    let before = c.skip_opened.ensures ps in
-    let key = c.in-Some.field-0-0.now in
-    stop_here (params_step d) _ (Opened ps) (InParamKey before.0 key) _ _
-    (keyed_goes d ps before.0 _ _ _ key _ before.1 c.behind_spaces-named.ensures
-    c.in-Some.ensures.0 c.in-Some.ensures.1)
-    (marks_steps _ (params_step d (InParamKey before.0 key)) refl) refl
+    let key = c.in-Some.field-0-0 in
+    stop_here (params_step d) _ (Opened []) (InParamKey [] key) _ _
+    (keyed_goes d [] _ _ key _ c.behind_spaces-named.ensures c.in-Some.ensures.split
+    c.in-Some.ensures.key)
+    (marks_steps _ (params_step d (InParamKey [] key)) refl) refl
 
 pub returns-in_default-stop_in_bare : goal.returns-in_default-stop_in_bare
-returns-in_default-stop_in_bare c = λ ps.
+returns-in_default-stop_in_bare c =
     let d = c.args.context.now.dialect in
-    let before = c.skip_opened.ensures ps in
-    let key = c.in-Some.field-0-0.now in
-    stop_here (params_step d) _ (Opened ps) (EqualsParam before.0 key) _ _
-    (equals_goes d ps before.0 _ key _ _
-    (keyed_goes d ps before.0 _ _ _ key _ before.1 c.behind_spaces-named.ensures
-    c.in-Some.ensures.0 c.in-Some.ensures.1) c.in-Some-behind.ensures)
-    (marks_map (InValue before.0 key) _ (bare_start d) c.first_bytes.ensures) refl
+    let key = c.in-Some.field-0-0 in
+    stop_here (params_step d) _ (Opened []) (EqualsParam [] key) _ _
+    (equals_goes d [] _ key _ _
+    (keyed_goes d [] _ _ key _ c.behind_spaces-named.ensures c.in-Some.ensures.split
+    c.in-Some.ensures.key) c.in-Some-behind.ensures)
+    (marks_map (InValue [] key) _ (bare_start d) c.first_bytes.ensures) refl
 
 pub returns : goal.returns
-returns c = λ ps.
+returns c =
     let d = c.args.context.now.dialect in
-    let before = c.skip_opened.ensures ps in
-    let key = c.in-Some.field-0-0.now in
+    let key = c.in-Some.field-0-0 in
     let stop = c.in-Some-stop_in_bare.stop in
-    value_stop d ps before.0 _ _ key stop _
-    (equals_goes d ps before.0 _ key _ _
-    (keyed_goes d ps before.0 _ _ _ key _ before.1 c.behind_spaces-named.ensures
-    c.in-Some.ensures.0 c.in-Some.ensures.1) c.in-Some-behind.ensures)
+    value_stop d [] _ _ key stop _
+    (equals_goes d [] _ key _ _
+    (keyed_goes d [] _ _ key _ c.behind_spaces-named.ensures c.in-Some.ensures.split
+    c.in-Some.ensures.key) c.in-Some-behind.ensures)
     refl (ap (bit_or stop.expected) c.set_if.ensures) refl c.in-Some-stop_in_bare.ensures

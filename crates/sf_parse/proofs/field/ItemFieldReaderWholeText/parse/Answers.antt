@@ -9,3 +9,8 @@ returns-in-Some-make-clause-parses c =
     (built_item d _ _ _ _ _ _ (c.in-Some.ensures.reads d) c.in-Some-make.ensures
     c.read_params-rest.ensures)
     c.behind_spaces.ensures (c.ends.ensures.all c.if-ends.true)
+
+pub read_begun_item-requires-clause-after : goal.read_begun_item-requires-clause-after
+read_begun_item-requires-clause-after c =
+    let reads = c.in-Some.ensures.reads c.args.context.now.dialect in
+    record { front = reads.prefix; split = reads.split }
