@@ -2,7 +2,7 @@
 use Rattle.std.specs.Option.{option_and_then, option_map}
 use Rattle.std.proofs.Common.{◌≡◌, ◌≢◌, ℕ, ◌-◌, ◌<◌, ◌^◌, Bool, true, false, cond, List, [], ◌∷◌}
 use Rattle.std.proofs.Common.{◌++◌, Option, Some, None, is_some, refl, sym, ap, ◌∙◌, subst, bit_or}
-use Rattle.std.proofs.Common.{length, arith, nat_lt, ◌&&◌, if◌then◌else◌, IfSome}
+use Rattle.std.proofs.Common.{append_assoc, length, length-append, arith, nat_lt, ◌&&◌, if◌then◌else◌, IfSome}
 use Rattle.std.specs.Int.{bit_at}
 use Rattle.std.specs.List.{slice_get}
 use Rattle.sf_value.specs.declared.dialect.Dialect.{Dialect}
@@ -17,6 +17,9 @@ use Rattle.sf_value.specs.Grammar.Items.{item}
 use Rattle.sf_value.specs.Grammar.Pairs.{Pairs, put}
 use Rattle.sf_value.specs.Grammar.Tokens.{IsKey}
 use Rattle.sf_value.specs.Grammar.Words.{allow}
+use Rattle.sf_parse.specs.BegunParts.{IsBegunBeside, IsBegunIn, LeadsBy, Within}
+use Rattle.sf_parse.specs.declared.begun.Begun.{Begun}
+use Rattle.sf_parse.specs.declared.begun.Parts.{Parts}
 use Rattle.sf_parse.specs.Expected.{MarksStep}
 use Rattle.sf_parse.specs.Machine.Bares.{BareState, bare_start, bare_step, bare_finish}
 use Rattle.sf_parse.specs.Machine.Params.{ParamsState, Between, Opened, InParamKey, EqualsParam}
@@ -39,13 +42,13 @@ use Rattle.sf_parse.specs.SeriesView.{series_next, series_end, series_of}
 use Rattle.sf_parse.specs.Stops.{StopsAt, StopsIn, RefusesLeft}
 use Rattle.sf_parse.specs.WholeMembers.{NoneOpen, IsBetween, RefusesAt, RefusesAfter}
 use Rattle.sf_parse.specs.WholeMembers.{begins_between, ends_between}
-use Rattle.sf_parse.specs.WholeParts.{ReadsItems, Behind}
+use Rattle.sf_parse.specs.WholeParts.{Behind}
 use Rattle.sf_parse.specs.declared.refusal.Refusal.{Refusal}
 use Rattle.sf_parse.specs.declared.refusal.Refusal.TheVariants.{Syntax}
 use Rattle.sf_parse.specs.declared.series.SeriesPhase.{SeriesPhase}
 use Rattle.sf_parse.specs.declared.series.SeriesPhase.TheVariants as phase
 use Rattle.sf_parse.specs.declared.stop.Stop.{Stop}
-use Rattle.sf_parse.proofs.BegunParts.{items_closed}
+use Rattle.sf_parse.proofs.BegunParts.{within_more}
 use Rattle.sf_parse.proofs.ByteRuns.{stay_goes, word_goes}
 use Rattle.sf_parse.proofs.LevelMarks.{marks_before, marks_items}
 use Rattle.sf_parse.proofs.Machine.Bares.{bare_apart}
@@ -57,7 +60,6 @@ use Rattle.sf_parse.proofs.OpenParts.{space_in_params, value_in_params, bare_in_
 use Rattle.sf_parse.proofs.OpenParts.{space_in_member, key_in_entry, member_in_entry, item_in_many, item_in_field}
 use Rattle.sf_parse.proofs.Prefixes.{goes_one, goes_more, goes_above, goes_byte}
 use Rattle.sf_parse.proofs.SeriesSteps.{member_goes_on}
-use Rattle.sf_parse.proofs.WholeParts.{items_after, items_end}
 use Rattle.sf_parse.proofs.WholeSteps.{key_goes, begins_item}
 
 -- a byte that is not expected
@@ -90,7 +92,7 @@ left_refused next ends s bits place left may e r m k = record {
     by (b ∷ xs) h = λ l.
         not_some (next s b) (unexpected bits b (is_some (next s b)) l (m b) (h l))
 
-stop_more : {S : Type 0} (next : S → ℕ → Option S) (ends : S → Bool) (s t : S)
+pub stop_more : {S : Type 0} (next : S → ℕ → Option S) (ends : S → Bool) (s t : S)
     (text rest : List ℕ) (x : Stop) → Goes next s text rest t → StopsAt next ends t rest x
     → StopsAt next ends s text x
 stop_more next ends s t text rest x a h = record {
@@ -348,53 +350,58 @@ module _ (d : Dialect) where
       stay_goes (member_step d) is_sp (InMany (BetweenItems [])) b.prefix rest inside
       (space_in_member d []) b.split b.each
 
-  pub none_read : (inside rest after : List ℕ) → Behind is_sp inside rest → rest ≡ 41 ∷ after
-      → ReadsItems d 0 inside [] [] after
-  none_read inside rest after b e =
-      items_after d inside rest after [] [] b (items_end d 0 rest after [] e)
-
-  pub closed_stop : (inside after : List ℕ) (is : List Item) (x : Stop)
-      → ReadsItems d 0 inside [] is after → x.left.now ≡ after → x.expected ≡ 2 ^ 59
-      → x.may_end ≡ true
-      → StopsAt (member_step d) MemberEnds (InMany (BetweenItems [])) inside x
-  closed_stop inside after is x r e f k =
-      stop_here (member_step d) MemberEnds (InMany (BetweenItems []))
-      (InMany (Closing is (Between []))) inside x
-      (subst (λ y. Goes (member_step d) (InMany (BetweenItems [])) inside y
-      (InMany (Closing is (Between [])))) (sym e)
-      (items_closed d inside after [] is refl r))
-      (subst (λ y. MarksStep y (member_step d (InMany (Closing is (Between []))))) (sym f)
-      (marks_steps (2 ^ 59) (member_step d (InMany (Closing is (Between [])))) refl)) k
-
-  pub closing_stop : (inside after more : List ℕ) (is : List Item) (x : Stop)
-      → ReadsItems d 0 inside [] is after → after ≡ 59 ∷ more
-      → StopsAt (params_step d) ParamsEnd (Opened []) more x
-      → StopsAt (member_step d) MemberEnds (InMany (BetweenItems [])) inside x
-  closing_stop inside after more is x r e h =
+  pub closed_stop : (rest after : List ℕ) (is : List Item) (x : Stop) → rest ≡ 41 ∷ after
+      → StopsAt (member_step d) MemberEnds (InMany (Closing is (Between []))) after x
+      → StopsAt (member_step d) MemberEnds (InMany (BetweenItems is)) rest x
+  closed_stop rest after is x e h =
+      let between = InMany (BetweenItems is) in
       let closed = InMany (Closing is (Between [])) in
-      let opened = InMany (Closing is (Opened [])) in
-      stop_more (member_step d) MemberEnds (InMany (BetweenItems [])) opened inside more x
-      (goes_byte (member_step d) (InMany (BetweenItems [])) closed opened inside 59 more
-      (subst (λ y. Goes (member_step d) (InMany (BetweenItems [])) inside y closed) e
-      (items_closed d inside after [] is refl r)) refl)
-      (stop_above (params_step d) (member_step d) (λ s. InMany (Closing is s)) ParamsEnd MemberEnds
-      (λ s t b n. ap (λ o. option_map InMany (option_map (Closing is) o)) n) (Opened []) more x x
+      subst (λ y. StopsAt (member_step d) MemberEnds between y x) (sym e)
+      (stop_more (member_step d) MemberEnds between closed (41 ∷ after) after x
+      (goes_one (member_step d) between closed 41 after refl) h)
+
+  -- behind the closing bracket
+  pub behind_stop : (after : List ℕ) (is : List Item) (x : Stop) → x.left.now ≡ after
+      → x.expected ≡ 2 ^ 59 → x.may_end ≡ true
+      → StopsAt (member_step d) MemberEnds (InMany (Closing is (Between []))) after x
+  behind_stop after is x e f k =
+      let closed = InMany (Closing is (Between [])) in
+      stop_here (member_step d) MemberEnds closed closed after x
+      (record { taken = []; split = sym e; leads = refl })
+      (subst (λ y. MarksStep y (member_step d closed)) (sym f)
+      (marks_steps (2 ^ 59) (member_step d closed) refl)) k
+
+  pub opened_stop : (text : List ℕ) (is : List Item) (ps : Pairs Bare) (x : Stop)
+      → StopsAt (params_step d) ParamsEnd (Opened ps) text x
+      → StopsAt (member_step d) MemberEnds (InMany (Closing is (Opened ps))) text x
+  opened_stop text is ps x h =
+      stop_above (params_step d) (member_step d) (λ s. InMany (Closing is s)) ParamsEnd MemberEnds
+      (λ s t b n. ap (λ o. option_map InMany (option_map (Closing is) o)) n) (Opened ps) text x x
       refl
       (λ t m k. marks_map InMany x.expected _ (marks_map (Closing is) x.expected (params_step d t) m))
       (λ t k. k ∙ sym (some_map member.Inner (inner_finish (Closing is t))
-      ∙ some_map (inner is) (params_finish t))) h)
+      ∙ some_map (inner is) (params_finish t))) h
+
+  pub closing_stop : (after more : List ℕ) (is : List Item) (x : Stop) → after ≡ 59 ∷ more
+      → ((ps : Pairs Bare) → StopsAt (params_step d) ParamsEnd (Opened ps) more x)
+      → StopsAt (member_step d) MemberEnds (InMany (Closing is (Between []))) after x
+  closing_stop after more is x e h =
+      let closed = InMany (Closing is (Between [])) in
+      let opened = InMany (Closing is (Opened [])) in
+      subst (λ y. StopsAt (member_step d) MemberEnds closed y x) (sym e)
+      (stop_more (member_step d) MemberEnds closed opened (59 ∷ more) more x
+      (goes_one (member_step d) closed opened 59 more refl) (opened_stop more is [] x (h [])))
 
   -- where an Item of it may begin, and within one
-  pub between_stop : (inside : List ℕ) (is : List Item) (x : Stop) (bits : ℕ)
-      → Goes (member_step d) (InMany (BetweenItems [])) inside x.left.now (InMany (BetweenItems is))
+  pub between_stop : (rest : List ℕ) (is : List Item) (x : Stop) (bits : ℕ) → x.left.now ≡ rest
       → x.expected ≡ bit_or (2 ^ 32) (bit_or (2 ^ 41) bits) → x.may_end ≡ false
       → MarksStep bits (bare_start d)
-      → StopsAt (member_step d) MemberEnds (InMany (BetweenItems [])) inside x
-  between_stop inside is x bits a e k m =
-      stop_here (member_step d) MemberEnds (InMany (BetweenItems [])) (InMany (BetweenItems is))
-      inside x a
-      (subst (λ y. MarksStep y (member_step d (InMany (BetweenItems is)))) (sym e)
-      (marks_items d is bits m)) k
+      → StopsAt (member_step d) MemberEnds (InMany (BetweenItems is)) rest x
+  between_stop rest is x bits e f k m =
+      let between = InMany (BetweenItems is) in
+      stop_here (member_step d) MemberEnds between between rest x
+      (record { taken = []; split = sym e; leads = refl })
+      (subst (λ y. MarksStep y (member_step d between)) (sym f) (marks_items d is bits m)) k
 
   within_marks : (is : List Item) (t : ItemState) (x : ℕ) (may : Bool) → MarksStep x (item_step d t)
       → may ≡ ItemEnds t
@@ -406,18 +413,15 @@ module _ (d : Dialect) where
       (item_finish t) (λ i. behind_step (is ++ i ∷ [])) h
       (λ i. marks_steps 2203318222848 (behind_step (is ++ i ∷ [])) refl)))
 
-  pub within_stop : (inside rest : List ℕ) (is : List Item) (x y : Stop)
-      → Goes (member_step d) (InMany (BetweenItems [])) inside rest (InMany (BetweenItems is))
-      → y.left.now ≡ x.left.now → y.expected ≡ bit_or x.expected (cond x.may_end 2203318222848 0)
-      → y.may_end ≡ false → StopsIn (item_start d) (item_step d) ItemEnds rest x
-      → StopsAt (member_step d) MemberEnds (InMany (BetweenItems [])) inside y
-  within_stop inside rest is x y a e f g h =
-      stop_more (member_step d) MemberEnds (InMany (BetweenItems [])) (InMany (BetweenItems is))
-      inside rest y a
-      (stop_begins (item_step d) (member_step d) (λ s. InMany (InItem is s)) ItemEnds MemberEnds
+  pub within_stop : (rest : List ℕ) (is : List Item) (x y : Stop) → y.left.now ≡ x.left.now
+      → y.expected ≡ bit_or x.expected (cond x.may_end 2203318222848 0) → y.may_end ≡ false
+      → StopsIn (item_start d) (item_step d) ItemEnds rest x
+      → StopsAt (member_step d) MemberEnds (InMany (BetweenItems is)) rest y
+  within_stop rest is x y e f g h =
+      stop_begins (item_step d) (member_step d) (λ s. InMany (InItem is s)) ItemEnds MemberEnds
       (item_in_many d is) (item_start d) (InMany (BetweenItems is)) rest x y (begins_item d is) e
       (λ t m k. subst (λ z. MarksStep z (member_step d (InMany (InItem is t)))) (sym f)
-      (within_marks is t x.expected x.may_end m k)) (λ t k. g) h)
+      (within_marks is t x.expected x.may_end m k)) (λ t k. g) h
 
   -- what is behind the key of a Dictionary's member
   pub key_stop : (text key after : List ℕ) (x : Stop) → text ≡ key ++ after → IsKey key
@@ -649,3 +653,60 @@ module _ (d : Dialect) where
         refuses = left_refused (step d) may_end after (2 ^ 32) (whole - length end) end true f r
             (marks_steps (2 ^ 32) (step d after) refl) refl;
       }
+
+-- two rests of a text that are as long are the same
+ends_alike : (front back text from : List ℕ) → front ++ text ≡ back ++ from
+    → length from ≡ length text → from ≡ text
+ends_alike [] [] text from e l = sym e
+ends_alike [] (b ∷ back) text from e l =
+    let k : length text ≡ length (b ∷ (back ++ from)) = ap length e in
+    let m = length-append back from in absurd (let n : ⊥ = omega arith in n)
+ends_alike (a ∷ front) [] text from e l =
+    let k : length (a ∷ (front ++ text)) ≡ length from = ap length e in
+    let m = length-append front text in absurd (let n : ⊥ = omega arith in n)
+ends_alike (a ∷ front) (b ∷ back) text from e l =
+    let k : front ++ text ≡ back ++ from = cc in ends_alike front back text from k l
+
+-- parts that begin where a text does
+same_text : (d : Dialect) (text : List ℕ) (b : Begun) → (w : IsBegunBeside d text b)
+    → length b.from.now ≡ length text → b.from.now ≡ text
+same_text d text b w l =
+    ends_alike w.within.front w.begun.0.front text b.from.now
+    (sym w.within.split ∙ w.begun.0.split) l
+
+pub parts_lead : (d : Dialect) (text : List ℕ) (o : Option Begun) (b : Begun) (p : Parts)
+    → IfSome o (IsBegunBeside d text) → o ≡ Some b → length b.from.now ≡ length text
+    → b.parts ≡ p → LeadsBy d p text b.left.now
+parts_lead d text o b p h e l f =
+    let w = subst (λ y. IfSome y (IsBegunBeside d text)) e h in
+    subst (λ y. LeadsBy d p y b.left.now) (same_text d text b w l)
+    (subst (λ y. LeadsBy d y b.from.now b.left.now) f w.begun.1)
+
+within_all : (text : List ℕ) → Within text text
+within_all text = record { front = []; split = refl }
+
+pub begun_beside : (d : Dialect) (text : List ℕ) (o : Option Begun) → IfSome o (IsBegunIn d text)
+    → IfSome o (IsBegunBeside d text)
+begun_beside d text None h = h
+begun_beside d text (Some b) h = record { whole = text; within = within_all text; begun = h }
+
+-- of a rest of the text
+pub beside_rest : (d : Dialect) (text front rest : List ℕ) (o : Option Begun) → text ≡ front ++ rest
+    → IfSome o (IsBegunBeside d text) → IfSome o (IsBegunBeside d rest)
+beside_rest d text front rest None e h = h
+beside_rest d text front rest (Some b) e h = record {
+  whole = h.whole;
+  within = within_more h.whole h.within.front text rest h.within.split
+      (record { front = front; split = e });
+  begun = h.begun;
+}
+
+pub beside_left : {S : Type 0} (d : Dialect) (first : ℕ → Option S) (next : S → ℕ → Option S)
+    (ends : S → Bool) (text more : List ℕ) (c : ℕ) (x : Stop) (o : Option Begun)
+    → StopsIn first next ends text x → x.left.now ≡ c ∷ more → IfSome o (IsBegunBeside d text)
+    → IfSome o (IsBegunBeside d more)
+beside_left d first next ends text more c x o h e b =
+    let a = h.stops.goes in
+    beside_rest d text ((h.byte ∷ a.taken) ++ c ∷ []) more o
+    (h.split ∙ ap (λ y. h.byte ∷ y) (a.split ∙ ap (λ y. a.taken ++ y) e)
+    ∙ sym (append_assoc (h.byte ∷ a.taken) (c ∷ []) more)) b

@@ -36,6 +36,12 @@ pub record Within (text from : List ℕ) : Type 0 where
 abbrev pub IsBegunIn : Dialect → List ℕ → Begun → Type 0
 IsBegunIn d text b = Within text b.from.now × IsBegun d b
 
+-- this text and the parts are in one text
+pub record IsBegunBeside (d : Dialect) (text : List ℕ) (b : Begun) : Type 0 where
+  pub whole : List ℕ
+  pub within : Within whole text
+  pub begun : IsBegunIn d whole b
+
 -- the parts are parameters, the first of which comes after the semicolon that this text begins with
 abbrev pub IsBegunParams : Dialect → List ℕ → Begun → Type 0
 IsBegunParams d text b = (text ≡ semicolon ∷ b.from.now) × IsBegun d b

@@ -6,7 +6,7 @@ ghost use Rattle.sf_value.specs.declared.value.Field.{Field};
 ghost use Rattle.sf_value.specs.declared.value.Field.TheVariants as field_is;
 ghost use Rattle.sf_value.specs.declared.value.Kind.{Kind};
 ghost use Rattle.sf_value.specs.declared.value.Kind.TheVariants as kind_is;
-ghost use Rattle.sf_parse.specs.BegunParts.{IsBegunIn, Within};
+ghost use Rattle.sf_parse.specs.BegunParts.{IsBegunBeside, IsBegunIn, Within};
 ghost use Rattle.sf_parse.specs.Parsers.{Parses, Makes};
 ghost use Rattle.sf_parse.specs.AllocationFree.{TakesNoMemory, FieldFree};
 ghost use Rattle.sf_parse.specs.AllocationFreeParsers.{IsOther};
@@ -222,17 +222,16 @@ impl WholeText for ListReader {
         ) {
             return Err(refusal);
         }
-        if begun.is_none() {
-            if let Some(refusal) = refuse_member::<MemberReader, Sequence<Member>>(
-                context,
-                phase,
-                text.len(),
-                rest,
-            ) {
-                return Err(refusal);
-            }
+        match refuse_member::<MemberReader, Sequence<Member>>(
+            context,
+            phase,
+            text.len(),
+            rest,
+            &begun,
+        ) {
+            Some(refusal) => Err(refusal),
+            None => read_list(context, text, rest, phase, members, &mut begun),
         }
-        read_list(context, text, rest, phase, members, &mut begun)
     }
 }
 
@@ -260,17 +259,16 @@ impl WholeText for DictReader {
         ) {
             return Err(refusal);
         }
-        if begun.is_none() {
-            if let Some(refusal) = refuse_member::<EntryReader, Entries<Member>>(
-                context,
-                phase,
-                text.len(),
-                rest,
-            ) {
-                return Err(refusal);
-            }
+        match refuse_member::<EntryReader, Entries<Member>>(
+            context,
+            phase,
+            text.len(),
+            rest,
+            &begun,
+        ) {
+            Some(refusal) => Err(refusal),
+            None => read_dict(context, text, rest, phase, members, &mut begun),
         }
-        read_dict(context, text, rest, phase, members, &mut begun)
     }
 }
 
@@ -295,7 +293,7 @@ fn refuse_or_read_item(context: &Context, text: &[u8], inside: &[u8]) -> Result<
     ensures parses { Makes field_is.Item (Parses context.now.dialect kind_is.Item text.now) result }
     ensures allocation_free { TakesNoMemory kind_is.Item text.now → IfErr result IsOther }
 {
-    match refuse_item(context, text.len(), inside) {
+    match refuse_item(context, text.len(), inside, &None) {
         Some(refusal) => Err(refusal),
         None => read_item_field(context, text, inside),
     }
@@ -348,7 +346,11 @@ fn read_begun_item<'a>(
     ensures parses { Makes field_is.Item (Parses context.now.dialect kind_is.Item text.now) result }
     ensures allocation_free { TakesNoMemory kind_is.Item text.now → IfErr result IsOther }
 {
-    let Some(begun) = begun_params(after, params, rest) else {
+    let begun = begun_params(after, params, rest);
+    if let Some(refusal) = refuse_item(context, text.len(), inside, &begun) {
+        return Err(refusal);
+    }
+    let Some(begun) = begun else {
         return read_item_field(context, text, inside);
     };
     let mut field = ItemFieldReader::new(context);
@@ -359,12 +361,18 @@ fn read_begun_item<'a>(
 /// The refusal of the text of an Item, after spaces, in a text of this length: of a byte of the Item
 /// or behind it, or of the end. None claims nothing: the text is then read by a reader.
 #[inline(always)]
-fn refuse_item(context: &Context, whole: usize, inside: &[u8]) -> Option<Refusal>
-    requires { length inside.now ≤ whole }
+fn refuse_item<'a>(
+    context: &Context,
+    whole: usize,
+    inside: &'a [u8],
+    begun: &Option<Begun<'a>>,
+) -> Option<Refusal>
+    requires whole { length inside.now ≤ whole }
+    requires begun { IfSome begun.now (IsBegunBeside context.now.dialect inside.now) }
     ensures { IfSome result (RefusesAfter (step_of context.now.dialect) may_end_at
         (begin_at kind_is.Item) inside.now whole) }
 {
-    let Some(stop) = stop_in_item(context, inside) else {
+    let Some(stop) = stop_in_item(context, inside, begun) else {
         let expected = SPACE | BareReader::first_bytes(context.dialect);
         return refuse_left(inside, expected, false, whole - inside.len());
     };

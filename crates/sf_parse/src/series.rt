@@ -6,7 +6,7 @@ ghost use Rattle.sf_value.specs.declared.dialect.Dialect.{Dialect};
 ghost use Rattle.sf_value.specs.declared.value.Bare.{Bare};
 ghost use Rattle.sf_value.specs.Grammar.Pairs.{Pairs};
 ghost use Rattle.sf_value.specs.Grammar.Parameters.{SpellsParams};
-ghost use Rattle.sf_parse.specs.BegunParts.{IsBegunIn};
+ghost use Rattle.sf_parse.specs.BegunParts.{IsBegunBeside, IsBegunIn};
 ghost use Rattle.sf_parse.specs.Expected.{MarksStep};
 ghost use Rattle.sf_parse.specs.WholeParts.{ReadsAs};
 ghost use Rattle.sf_parse.specs.Prefixes.{Goes, FirstIs, Starts};
@@ -129,8 +129,10 @@ pub trait SeriesMember<G>: Level {
     fn add(given: &mut G, member: Self::Whole) -> Result<(), OutOfMemory>
         ensures { OnOk result (given.new ≡ with given.old member) };
 
-    /// Where a text that a member begins stops. None claims nothing.
-    fn stop<'a>(context: &Context, text: &'a [u8]) -> Option<Stop<'a>>
+    /// Where a text that a member begins stops, behind the parts that were kept of it. None claims
+    /// nothing.
+    fn stop<'a>(context: &Context, text: &'a [u8], begun: &Option<Begun<'a>>) -> Option<Stop<'a>>
+        requires { IfSome begun.now (IsBegunBeside context.now.dialect text.now) }
         ensures { IfSome result (StopsIn (first context.now.dialect)
             (Self.Level.next context.now.dialect) Self.Level.ends text.now) };
 
@@ -486,15 +488,17 @@ pub fn refuse_between<P: SeriesMember<G>, G>(
 }
 
 /// The refusal of what is left of a text of this length where a member may begin: of a byte of the
-/// member or behind it, or of the end. None claims nothing: it is then read by a reader.
+/// member or behind it, or of the end. None claims nothing.
 #[inline(never)]
-pub fn refuse_member<P: SeriesMember<G>, G>(
+pub fn refuse_member<'a, P: SeriesMember<G>, G>(
     context: &Context,
     phase: SeriesPhase,
     whole: usize,
-    left: &[u8],
+    left: &'a [u8],
+    begun: &Option<Begun<'a>>,
 ) -> Option<Refusal>
-    requires { length left.now ≤ whole }
+    requires whole { length left.now ≤ whole }
+    requires begun { IfSome begun.now (IsBegunIn context.now.dialect left.now) }
     ensures { IfSome result (λ e. (given : G) (s : P) → NoneOpen P.none phase given → RefusesAfter
         (series_next (P.first context.now.dialect) (P.next context.now.dialect) P.added P.none)
         (λ t. is_some (series_end P.added P.none t)) (series_of phase given s) left.now whole e) }
@@ -502,7 +506,7 @@ pub fn refuse_member<P: SeriesMember<G>, G>(
     if !may_begin_between(phase) {
         return None;
     }
-    let stop = P::stop(context, left)?;
+    let stop = P::stop(context, left, begun)?;
     let expected = stop.expected | set_if(stop.may_end, OWS | COMMA);
     refuse_left(stop.left, expected, stop.may_end, whole - stop.left.len())
 }

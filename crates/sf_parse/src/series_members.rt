@@ -117,8 +117,8 @@ impl SeriesMember<Sequence<Member>> for MemberReader {
     }
 
     #[inline(always)]
-    fn stop<'a>(context: &Context, text: &'a [u8]) -> Option<Stop<'a>> {
-        stop_in_member(context, text)
+    fn stop<'a>(context: &Context, text: &'a [u8], begun: &Option<Begun<'a>>) -> Option<Stop<'a>> {
+        stop_in_member(context, text, begun)
     }
 }
 
@@ -213,7 +213,7 @@ impl SeriesMember<Entries<Member>> for EntryReader {
     }
 
     #[inline(always)]
-    fn stop<'a>(context: &Context, text: &'a [u8]) -> Option<Stop<'a>> {
-        stop_in_entry(context, text)
+    fn stop<'a>(context: &Context, text: &'a [u8], begun: &Option<Begun<'a>>) -> Option<Stop<'a>> {
+        stop_in_entry(context, text, begun)
     }
 }

@@ -1,18 +1,23 @@
 //! Where a text stops that spells no field, for the refusal of a text of which direct reading did
-//! not take all. It is found by a reader of one bare item, from the beginning of a member or an
-//! Item: what is behind a whole part of it, as a second parameter, is left to the levels. What they
-//! would allocate up to there is allocated here, too, so that a text is refused as out of memory
-//! where they refuse it so.
-ghost use Rattle.std.specs.Prelude.{[], is_some, IfSome};
+//! not take all. It is found by a reader of one bare item, behind the whole parts that were kept of
+//! a member or an Item; what is behind another whole part is left to the levels. What they would
+//! allocate up to there was allocated, or is here, so that a text is refused as out of memory where
+//! they refuse it so.
+ghost use Rattle.std.specs.Prelude.{List, [], is_some, IfSome};
+ghost use Rattle.sf_value.specs.declared.value.Bare.{Bare};
+ghost use Rattle.sf_value.specs.declared.value.Item.{Item};
+ghost use Rattle.sf_value.specs.Grammar.Pairs.{Pairs};
+ghost use Rattle.sf_parse.specs.BegunParts.{IsBegunBeside};
 ghost use Rattle.sf_parse.specs.Machine.Bares.{bare_start, bare_step, bare_finish};
-ghost use Rattle.sf_parse.specs.Machine.Params.{Opened, params_step, params_finish};
+ghost use Rattle.sf_parse.specs.Machine.Params.{Between, Opened, params_step, params_finish};
 ghost use Rattle.sf_parse.specs.Machine.Items.{item_start, item_step, item_finish};
-ghost use Rattle.sf_parse.specs.Machine.Inners.{BetweenItems};
+ghost use Rattle.sf_parse.specs.Machine.Inners.{BetweenItems, Closing};
 ghost use Rattle.sf_parse.specs.Machine.Members.{InMany, member_start, member_step, member_finish};
 ghost use Rattle.sf_parse.specs.Machine.Entries.{entry_start, entry_step, entry_finish};
 ghost use Rattle.sf_parse.specs.Stops.{StopsAt, StopsIn, RefusesLeft};
 
 use crate::bare::BareReader;
+use crate::begun::{Begun, Parts};
 use crate::context::Context;
 use crate::level::Level;
 use crate::member::MemberReader;
@@ -79,11 +84,28 @@ fn stop_in_bare<'a>(context: &Context, text: &'a [u8]) -> Option<Stop<'a>>
     })
 }
 
-/// Where parameters stop, after the first semicolon.
-#[inline(never)]
-fn stop_in_params<'a>(context: &Context, text: &'a [u8]) -> Stop<'a>
+/// Where parameters stop, after their first semicolon.
+#[inline(always)]
+fn stop_in_params<'a>(context: &Context, text: &'a [u8], begun: &Option<Begun<'a>>) -> Stop<'a>
+    requires { IfSome begun.now (IsBegunBeside context.now.dialect text.now) }
     ensures { StopsAt (params_step context.now.dialect) (λ s. is_some (params_finish s)) (Opened [])
         text.now result }
+{
+    if let Some(begun) = begun {
+        if begun.from.len() == text.len() {
+            if let Parts::Params(_) = &begun.parts {
+                return stop_in_param(context, begun.left);
+            }
+        }
+    }
+    stop_in_param(context, text)
+}
+
+/// Where the next parameter stops, after its semicolon.
+#[inline(never)]
+fn stop_in_param<'a>(context: &Context, text: &'a [u8]) -> Stop<'a>
+    ensures { (ps : Pairs Bare) → StopsAt (params_step context.now.dialect)
+        (λ s. is_some (params_finish s)) (Opened ps) text.now result }
 {
     let named = behind_spaces(text);
     let Some((_, after)) = read_key(context, named) else {
@@ -116,14 +138,19 @@ fn stop_in_params<'a>(context: &Context, text: &'a [u8]) -> Stop<'a>
 
 /// Where an Item stops. None claims nothing.
 #[inline(always)]
-pub fn stop_in_item<'a>(context: &Context, text: &'a [u8]) -> Option<Stop<'a>>
+pub fn stop_in_item<'a>(
+    context: &Context,
+    text: &'a [u8],
+    begun: &Option<Begun<'a>>,
+) -> Option<Stop<'a>>
+    requires { IfSome begun.now (IsBegunBeside context.now.dialect text.now) }
     ensures { IfSome result (StopsIn (item_start context.now.dialect)
         (item_step context.now.dialect) (λ s. is_some (item_finish s)) text.now) }
 {
     let stop = stop_in_bare(context, text)?;
     if stop.may_end {
         if let Some(more) = behind(stop.left, b';') {
-            return Some(stop_in_params(context, more));
+            return Some(stop_in_params(context, more, begun));
         }
     }
     Some(Stop {
@@ -135,22 +162,36 @@ pub fn stop_in_item<'a>(context: &Context, text: &'a [u8]) -> Option<Stop<'a>>
 
 /// Where an Inner List stops, after its opening bracket.
 #[inline(never)]
-fn stop_in_inner<'a>(context: &Context, inside: &'a [u8]) -> Stop<'a>
+fn stop_in_inner<'a>(context: &Context, inside: &'a [u8], begun: &Option<Begun<'a>>) -> Stop<'a>
+    requires { IfSome begun.now (IsBegunBeside context.now.dialect inside.now) }
     ensures { StopsAt (member_step context.now.dialect) (λ s. is_some (member_finish s))
         (InMany (BetweenItems [])) inside.now result }
 {
-    let rest = behind_spaces(inside);
-    if let Some(after) = behind(rest, b')') {
-        let Some(more) = behind(after, b';') else {
-            return Stop {
-                left: after,
-                expected: SEMICOLON,
-                may_end: true,
-            };
-        };
-        return stop_in_params(context, more);
+    if let Some(begun) = begun {
+        if begun.from.len() == inside.len() {
+            match &begun.parts {
+                Parts::Params(_) => {}
+                Parts::Items(_) => return stop_between_items(context, begun.left),
+                Parts::Inner(_, params) => match params {
+                    Some(_) => return stop_in_param(context, begun.left),
+                    None => return stop_behind_items(context, begun.left),
+                },
+            }
+        }
     }
-    let Some(stop) = stop_in_item(context, rest) else {
+    stop_between_items(context, behind_spaces(inside))
+}
+
+/// Where an Inner List stops, where an Item of it may begin.
+#[inline(always)]
+fn stop_between_items<'a>(context: &Context, rest: &'a [u8]) -> Stop<'a>
+    ensures { (is : List Item) → StopsAt (member_step context.now.dialect)
+        (λ s. is_some (member_finish s)) (InMany (BetweenItems is)) rest.now result }
+{
+    if let Some(after) = behind(rest, b')') {
+        return stop_behind_items(context, after);
+    }
+    let Some(stop) = stop_in_item(context, rest, &None) else {
         return Stop {
             left: rest,
             expected: SPACE | (CLOSE | BareReader::first_bytes(context.dialect)),
@@ -164,27 +205,53 @@ fn stop_in_inner<'a>(context: &Context, inside: &'a [u8]) -> Stop<'a>
     }
 }
 
+/// Where an Inner List stops, after its closing bracket.
+#[inline(always)]
+fn stop_behind_items<'a>(context: &Context, after: &'a [u8]) -> Stop<'a>
+    ensures { (is : List Item) → StopsAt (member_step context.now.dialect)
+        (λ s. is_some (member_finish s)) (InMany (Closing is (Between []))) after.now result }
+{
+    let Some(more) = behind(after, b';') else {
+        return Stop {
+            left: after,
+            expected: SEMICOLON,
+            may_end: true,
+        };
+    };
+    stop_in_param(context, more)
+}
+
 /// Where a member of a List stops. None claims nothing.
 #[inline(always)]
-pub fn stop_in_member<'a>(context: &Context, text: &'a [u8]) -> Option<Stop<'a>>
+pub fn stop_in_member<'a>(
+    context: &Context,
+    text: &'a [u8],
+    begun: &Option<Begun<'a>>,
+) -> Option<Stop<'a>>
+    requires { IfSome begun.now (IsBegunBeside context.now.dialect text.now) }
     ensures { IfSome result (StopsIn (member_start context.now.dialect)
         (member_step context.now.dialect) (λ s. is_some (member_finish s)) text.now) }
 {
     if let Some(inside) = behind(text, b'(') {
-        return Some(stop_in_inner(context, inside));
+        return Some(stop_in_inner(context, inside, begun));
     }
-    stop_in_item(context, text)
+    stop_in_item(context, text, begun)
 }
 
 /// Where a member of a Dictionary stops. None claims nothing.
 #[inline(always)]
-pub fn stop_in_entry<'a>(context: &Context, text: &'a [u8]) -> Option<Stop<'a>>
+pub fn stop_in_entry<'a>(
+    context: &Context,
+    text: &'a [u8],
+    begun: &Option<Begun<'a>>,
+) -> Option<Stop<'a>>
+    requires { IfSome begun.now (IsBegunBeside context.now.dialect text.now) }
     ensures { IfSome result (StopsIn entry_start (entry_step context.now.dialect)
         (λ s. is_some (entry_finish s)) text.now) }
 {
     let (_, after) = read_key(context, text)?;
     if let Some(more) = behind(after, b';') {
-        return Some(stop_in_params(context, more));
+        return Some(stop_in_params(context, more, begun));
     }
     let Some(value) = behind(after, b'=') else {
         return Some(Stop {
@@ -193,7 +260,7 @@ pub fn stop_in_entry<'a>(context: &Context, text: &'a [u8]) -> Option<Stop<'a>>
             may_end: true,
         });
     };
-    let Some(stop) = stop_in_member(context, value) else {
+    let Some(stop) = stop_in_member(context, value, begun) else {
         return Some(Stop {
             left: value,
             expected: MemberReader::first_bytes(context.dialect),

@@ -3,8 +3,8 @@ use Rattle.sf_parse.proofs.FedChunks.{refuses_other}
 use Rattle.sf_parse.proofs.WholeTexts.{item_refused}
 use Rattle.sf_parse.proofs.field.refuse_or_read_item.Goals as goal
 
-pub refuse_item-requires : goal.refuse_item-requires
-refuse_item-requires c =
+pub refuse_item-requires-clause-whole : goal.refuse_item-requires-clause-whole
+refuse_item-requires-clause-whole c =
     let behind = c.requires in
     let all : length c.args.text.now ≡ length (behind.prefix ++ c.args.inside.now) =
     ap length behind.split in

@@ -1,5 +1,5 @@
 use Rattle.std.proofs.Common.{sym, ap, bit_or, ◌∙◌}
-use Rattle.sf_parse.proofs.Stops.{left_in_member}
+use Rattle.sf_parse.proofs.Stops.{begun_beside, left_in_member}
 use Rattle.sf_parse.proofs.series.refuse_member.Goals as goal
 
 pub returns : goal.returns
@@ -10,3 +10,6 @@ returns g c =
     g.P.SeriesMember.none g.P.Level.ends c.args.phase _ stop _ _ _ g.met.P.SeriesMember.adds
     (sym c.may_begin_between.ensures ∙ c.if-not-may_begin_between.false) c.in_ok-stop.ensures
     (ap (bit_or stop.expected) c.set_if.ensures) c.refuse_left.ensures
+
+pub stop-requires : goal.stop-requires
+stop-requires g c = begun_beside c.args.context.now.dialect _ _ c.requires.begun

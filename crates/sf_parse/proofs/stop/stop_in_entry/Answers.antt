@@ -1,7 +1,7 @@
-use Rattle.std.proofs.Common.{refl, []}
+use Rattle.std.proofs.Common.{refl, [], ◌∷◌}
 use Rattle.sf_parse.specs.Machine.Entries.{InKey, entry_step}
 use Rattle.sf_parse.proofs.Marks.{marks_steps}
-use Rattle.sf_parse.proofs.Stops.{stop_here, key_stop, flag_stop, equals_stop, member_value_stop}
+use Rattle.sf_parse.proofs.Stops.{beside_rest, stop_here, key_stop, flag_stop, equals_stop, member_value_stop}
 use Rattle.sf_parse.proofs.stop.stop_in_entry.Goals as goal
 
 pub returns-in-Some : goal.returns-in-Some
@@ -30,3 +30,15 @@ returns c =
     let d = c.args.context.now.dialect in
     key_stop d _ _ _ _ c.in_ok-after.ensures.split c.in_ok-after.ensures.key
     (member_value_stop d _ _ _ _ c.in-Some-behind.ensures c.in-Some-stop_in_member.ensures)
+
+pub stop_in_params-requires : goal.stop_in_params-requires
+stop_in_params-requires c =
+    let d = c.args.context.now.dialect in
+    beside_rest d _ (59 ∷ []) _ _ c.in-Some.ensures
+    (beside_rest d _ _ _ _ c.in_ok-after.ensures.split c.requires)
+
+pub stop_in_member-requires : goal.stop_in_member-requires
+stop_in_member-requires c =
+    let d = c.args.context.now.dialect in
+    beside_rest d _ (61 ∷ []) _ _ c.in-Some-behind.ensures
+    (beside_rest d _ _ _ _ c.in_ok-after.ensures.split c.requires)

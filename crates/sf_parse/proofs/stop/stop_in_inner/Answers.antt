@@ -1,29 +1,42 @@
-use Rattle.std.proofs.Common.{refl, ap, bit_or, []}
-use Rattle.sf_parse.proofs.Stops.{closed_stop, closing_stop, between_stop, within_stop}
-use Rattle.sf_parse.proofs.Stops.{none_goes, none_read}
+use Rattle.std.proofs.Common.{[], ap, ◌∙◌}
+use Rattle.sf_parse.specs.declared.begun.Parts.TheVariants as parts_are
+use Rattle.sf_parse.specs.Machine.Inners.{BetweenItems, Closing}
+use Rattle.sf_parse.specs.Machine.Members.{InMany, member_step}
+use Rattle.sf_parse.specs.Machine.Params.{Between, Opened}
+use Rattle.sf_parse.proofs.Stops.{stop_more, parts_lead, none_goes, opened_stop}
 use Rattle.sf_parse.proofs.stop.stop_in_inner.Goals as goal
 
-pub returns-in_default-behind : goal.returns-in_default-behind
-returns-in_default-behind c =
+pub returns-in-Items : goal.returns-in-Items
+returns-in-Items c =
     let d = c.args.context.now.dialect in
-    closed_stop d _ _ [] _ (none_read d _ _ _ c.behind_spaces-rest.ensures c.in-Some.ensures) refl
-    refl refl
+    let items = c.in-Items.field-0 in
+    stop_more (member_step d) _ (InMany (BetweenItems [])) (InMany (BetweenItems items)) _ _ _
+    (parts_lead d _ _ _ _ c.requires c.in-Some.is c.if-begun-inside.true c.in-Items.is)
+    (c.stop_between_items.ensures items)
 
-pub returns-in-Some : goal.returns-in-Some
-returns-in-Some c =
+pub returns-in-None : goal.returns-in-None
+returns-in-None c =
     let d = c.args.context.now.dialect in
-    closing_stop d _ _ _ [] _ (none_read d _ _ _ c.behind_spaces-rest.ensures c.in-Some.ensures)
-    c.in-Some-behind.ensures c.stop_in_params.ensures
+    let items = c.in-Inner.field-0 in
+    stop_more (member_step d) _ (InMany (BetweenItems [])) (InMany (Closing items (Between [])))
+    _ _ _
+    (parts_lead d _ _ _ _ c.requires c.in-Some.is c.if-begun-inside.true
+    (c.in-Inner.is ∙ ap (parts_are.Inner items) c.in-None.is))
+    (c.stop_behind_items.ensures items)
 
-pub returns-in_default-stop_in_item : goal.returns-in_default-stop_in_item
-returns-in_default-stop_in_item c =
+pub returns-in-Some-params : goal.returns-in-Some-params
+returns-in-Some-params c =
     let d = c.args.context.now.dialect in
-    between_stop d _ [] _ _ (none_goes d _ _ c.behind_spaces-rest.ensures) refl refl
-    c.first_bytes.ensures
+    let items = c.in-Inner.field-0 in
+    let params = c.in-Some-params.field-0 in
+    stop_more (member_step d) _ (InMany (BetweenItems []))
+    (InMany (Closing items (Opened params))) _ _ _
+    (parts_lead d _ _ _ _ c.requires c.in-Some.is c.if-begun-inside.true
+    (c.in-Inner.is ∙ ap (parts_are.Inner items) c.in-Some-params.is))
+    (opened_stop d _ items params _ (c.stop_in_param.ensures params))
 
 pub returns : goal.returns
 returns c =
     let d = c.args.context.now.dialect in
-    let stop = c.in-Some-stop_in_item.stop in
-    within_stop d _ _ [] stop _ (none_goes d _ _ c.behind_spaces-rest.ensures) refl
-    (ap (bit_or stop.expected) c.set_if.ensures) refl c.in-Some-stop_in_item.ensures
+    stop_more (member_step d) _ (InMany (BetweenItems [])) (InMany (BetweenItems [])) _ _ _
+    (none_goes d _ _ c.behind_spaces.ensures) (c.stop_between_items-2.ensures [])

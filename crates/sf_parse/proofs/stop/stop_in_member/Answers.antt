@@ -1,4 +1,5 @@
-use Rattle.sf_parse.proofs.Stops.{inner_stop, member_stop}
+use Rattle.std.proofs.Common.{[], ◌∷◌}
+use Rattle.sf_parse.proofs.Stops.{beside_rest, inner_stop, member_stop}
 use Rattle.sf_parse.proofs.WholeParts.{each_some}
 use Rattle.sf_parse.proofs.stop.stop_in_member.Goals as goal
 
@@ -9,3 +10,7 @@ returns-in-Some c =
 pub returns : goal.returns
 returns c =
     each_some (member_stop c.args.context.now.dialect c.args.text.now) _ c.stop_in_item.ensures
+
+pub stop_in_inner-requires : goal.stop_in_inner-requires
+stop_in_inner-requires c =
+    beside_rest c.args.context.now.dialect _ (40 ∷ []) _ _ c.in-Some.ensures c.requires

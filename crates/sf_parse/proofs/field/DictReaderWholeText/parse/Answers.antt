@@ -61,8 +61,8 @@ returns-in-Some-clause-allocation_free c =
     (c.in-Some.ensures [] (InKey [])
     (none_between entry_start (entry_step d) with_entry [] with _ _ c.in_ok-rest.ensures.none_open)).refuses
 
-pub refuse_member-requires : goal.refuse_member-requires
-refuse_member-requires c =
+pub refuse_member-requires-clause-whole : goal.refuse_member-requires-clause-whole
+refuse_member-requires-clause-whole c =
     let d = c.args.context.now.dialect in
     let with : Pairs Member → Entry → Pairs Member = λ ps e. put ps e.key e.member in
     left_within _ _ _ _ _

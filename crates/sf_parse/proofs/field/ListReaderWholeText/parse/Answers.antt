@@ -56,8 +56,8 @@ returns-in-Some-clause-allocation_free c =
     (c.in-Some.ensures [] (InOne (InBare (InBoolean QuestionMark)))
     (none_between (member_start d) (member_step d) with_member [] (λ ms m. ms ++ m ∷ []) _ _ c.in_ok-rest.ensures.none_open)).refuses
 
-pub refuse_member-requires : goal.refuse_member-requires
-refuse_member-requires c =
+pub refuse_member-requires-clause-whole : goal.refuse_member-requires-clause-whole
+refuse_member-requires-clause-whole c =
     let d = c.args.context.now.dialect in
     left_within _ _ _ _ _
     (members_before (member_start d) (member_step d) with_member [] (λ ms m. ms ++ m ∷ []) d kind_is.List InList refl
