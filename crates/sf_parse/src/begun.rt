@@ -1,5 +1,5 @@
 //! Parts of a member, or of the Item of a text, that were read directly before a part that is not
-//! whole. They are kept, and its reader goes on with them.
+//! whole. They are kept, and its reader, or its refusal, goes on behind them.
 ghost use Rattle.std.specs.Prelude.{◌≡◌, Some, None, IfSome};
 ghost use Rattle.sf_value.specs.declared.dialect.Dialect.{Dialect};
 ghost use Rattle.sf_value.specs.Grammar.Parameters.{SpellsParams};

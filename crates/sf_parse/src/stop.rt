@@ -2,7 +2,7 @@
 //! not take all. It is found by a reader of one bare item, behind the whole parts that were kept of
 //! a member or an Item; what is behind another whole part is left to the levels. What they would
 //! allocate up to there was allocated, or is here, so that a text is refused as out of memory where
-//! they refuse it so.
+//! they refuse it so; this order is tested, not proved.
 ghost use Rattle.std.specs.Prelude.{List, [], is_some, IfSome};
 ghost use Rattle.sf_value.specs.declared.value.Bare.{Bare};
 ghost use Rattle.sf_value.specs.declared.value.Item.{Item};
