@@ -444,7 +444,7 @@ fn dictionaries_as_by_levels(rt: HostRuntime) -> Result<(), Fail> {
 
 /// Texts of many parts, of each type. Most are longer than the least chunk in which whole parts are
 /// looked for.
-static LONG: [(Kind, &[u8]); 10] = [
+static LONG: [(Kind, &[u8]); 11] = [
     (
         Kind::Dict,
         b"sig1=(\"@method\" \"@path\";req tok/a -1.5;p=?0;q  :YQ:);created=1618884473;keyid=\"k\";\
@@ -477,6 +477,10 @@ static LONG: [(Kind, &[u8]); 10] = [
     (
         Kind::List,
         b"(\"a\\\"b\" :YQ:;p=:Yg==: @1 %\"c\";t=@-2 -1.5;q tok);r=\"s\\\\t\";u, \"v\\\"\";w",
+    ),
+    (
+        Kind::Dict,
+        b"a_key_of_more_than_16_bytes=(1 tok);another_key_of_more_bytes=1;c, yet_another_long_key;d=2",
     ),
     (Kind::Item, b" -1.5   "),
     (Kind::Item, b"\"a\\\"b\";c=\"d\\\\\"  "),
