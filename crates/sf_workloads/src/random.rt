@@ -8,10 +8,12 @@ pub(crate) struct Random {
 }
 
 impl Random {
-    /// The source of a seed.
+    /// The source of a seed. The seed is mixed, so that the numbers of two seeds are not the same but
+    /// for some at the beginning.
     pub(crate) fn new(seed: u64) -> Random {
+        let mut source = Random { state: seed };
         Random {
-            state: seed.wrapping_mul(0x9e37_79b9_7f4a_7c15),
+            state: source.next(),
         }
     }
 
