@@ -274,8 +274,8 @@ impl<V: Drop> Entries<V> {
     }
 
     /// Puts a value at the key with these bytes, which are known to be one, as [`Entries::set`]
-    /// does. It takes less time, since a new key is made in its place, and none for a key that is
-    /// present; this does not allocate. It is for parsers, which test each byte as they read it.
+    /// does. It takes less time, since most new keys are made in their place. For a key that is
+    /// present it does not allocate. It is for parsers, which test each byte as they read it.
     ///
     /// ```
     /// entries.set_named(alloc, b"q", Bare::Integer(Int::new(1)?))?;

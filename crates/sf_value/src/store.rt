@@ -445,6 +445,9 @@ impl<V: Part> Store<V> {
                 if map.is_empty() {
                     return Ok(Store::Fresh(alloc, *seed));
                 }
+                if map.len() <= FEW {
+                    return Ok(Store::Few(copy_left(map, alloc, seed)?));
+                }
                 return Ok(Store::Many(copy_many(map, alloc, seed)?));
             }
         }
@@ -465,6 +468,27 @@ fn copy_few<V: Part>(
         let value = source.value.copy(alloc, seed)?;
         copies.push_reserved(Slot {
             key: source.key.copy(alloc)?,
+            value,
+            seed: *seed,
+        });
+    }
+    Ok(copies)
+}
+
+/// Copies of the few entries that were left in a map, in a vector that has capacity for no more.
+#[inline(never)]
+fn copy_left<V: Part>(
+    map: &Many<V>,
+    alloc: Global,
+    seed: &RandomState,
+) -> Result<Vec<Slot<V>>, OutOfMemory>
+    ensures { IfOk result (λ copies. slot_pairs copies.items ≡ map.now.entries) }
+{
+    let mut copies = Vec::with_capacity(alloc, map.len())?;
+    for (key, value) in map.iter() {
+        let value = value.copy(alloc, seed)?;
+        copies.push_reserved(Slot {
+            key: key.copy(alloc)?,
             value,
             seed: *seed,
         });
