@@ -39,8 +39,9 @@ regroup shown text name rest whole h =
 
 -- the message of a refusal by the grammar, by its start
 pub syntax_text : (place : ℕ) (found : Option ℕ) (expected : ℕ) (may_end : Bool) (start : List ℕ)
-    → MatchOption found (start ≡ codes "the text ended") (λ b. start ≡ codes "byte " ++ found_text b)
-    → (((start ++ codes " at place ") ++ decimal place) ++ codes ", expected ")
+    → MatchOption found (start ≡ codes "the text ended at place ")
+    (λ b. start ≡ codes "byte " ++ (found_text b ++ codes " at place "))
+    → ((start ++ decimal place) ++ codes ", expected ")
     ++ listed (names_of expected may_end) ≡ refusal_text (Syntax place found expected may_end)
 syntax_text place None expected may_end start e =
     rw e (simp append_assoc)

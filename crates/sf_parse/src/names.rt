@@ -219,10 +219,14 @@ fn put_byte(byte: u8, text: &mut TextBuffer)
         return text.push(b"a backquote");
     }
     if byte > b' ' && byte <= b'~' {
-        return text.push(&[b'`', byte, b'`']);
+        text.push(b"`");
+        text.push_byte(byte);
+        return text.push(b"`");
     }
     let [high, low] = hex_digits(byte);
-    text.push(&[b'0', b'x', high, low]);
+    text.push(b"0x");
+    text.push_byte(high);
+    text.push_byte(low);
 }
 
 /// The name at this index: the classes, the bytes from `!` on, and those below it.

@@ -92,7 +92,6 @@ pub(crate) fn put_refusal<W: fmt::Write>(
             may_end,
         } => {
             put_found(found, text);
-            text.push(b" at place ");
             text.push_number(place);
             text.push(b", expected ");
             return put_expected(expected, may_end, text, f);
@@ -112,19 +111,25 @@ pub(crate) fn put_refusal<W: fmt::Write>(
 }
 
 /// Adds the byte that was found, as `byte 0x32 '2'`, or without the character if it is not
-/// printable; or that the text ended.
+/// printable, or that the text ended; and the words before its place.
 fn put_found(found: Option<u8>, text: &mut TextBuffer)
     requires { text.old ≡ [] }
-    ensures text { MatchOption found (text.new ≡ codes "the text ended")
-        (λ byte. text.new ≡ codes "byte " ++ found_text byte) }
-    ensures short { length text.new ≤ 14 }
+    ensures text { MatchOption found (text.new ≡ codes "the text ended at place ")
+        (λ byte. text.new ≡ codes "byte " ++ (found_text byte ++ codes " at place ")) }
+    ensures short { length text.new ≤ 24 }
 {
     let Some(byte) = found else {
-        return text.push(b"the text ended");
+        return text.push(b"the text ended at place ");
     };
     let [high, low] = hex_digits(byte);
-    text.push(&[b'b', b'y', b't', b'e', b' ', b'0', b'x', high, low]);
+    text.push(b"byte ");
+    text.push(b"0x");
+    text.push_byte(high);
+    text.push_byte(low);
     if is_visible(byte) {
-        text.push(&[b' ', b'\'', byte, b'\'']);
+        text.push(b" '");
+        text.push_byte(byte);
+        text.push(b"'");
     }
+    text.push(b" at place ");
 }

@@ -14,12 +14,15 @@ const CAPACITY: usize = 256;
 /// The number of bytes for which [`TextBuffer::make_room`] makes room.
 const ROOM: usize = 64;
 
-/// Text that a formatter has not got yet. It is held on the stack, so that a formatter gets a whole
-/// message at once, or a long one in few parts.
+/// Text that a formatter has not got yet, held on the stack. The formatter gets it in the parts in
+/// which it was added, so that of a message that a writer has no room for it has got the first ones.
 #[derive(Drop)]
 pub(crate) struct TextBuffer {
     bytes: [u8; CAPACITY],
     length: usize,
+    /// The lengths of the parts. It only says where they end: nothing is claimed of it.
+    sizes: [u8; CAPACITY],
+    parts: usize,
 }
 
 impl Model for TextBuffer {
@@ -29,7 +32,7 @@ impl Model for TextBuffer {
 
     ghost view = { λ t. take t.length t.bytes };
 
-    ghost invariant = { λ t. t.length ≤ 256 };
+    ghost invariant = { λ t. (t.length ≤ 256) × (t.parts ≤ t.length) };
 }
 
 impl TextBuffer {
@@ -41,6 +44,8 @@ impl TextBuffer {
         TextBuffer {
             bytes: [0; CAPACITY],
             length: 0,
+            sizes: [0; CAPACITY],
+            parts: 0,
         }
     }
 
@@ -50,17 +55,24 @@ impl TextBuffer {
         requires { length self.old + length part.now ≤ 256 }
         ensures { self.new ≡ self.old ++ part.now }
     {
+        if part.is_empty() {
+            return;
+        }
+        self.sizes[self.parts] = part.len().min(255) as u8;
+        self.parts += 1;
         let end = self.length + part.len();
         self.bytes[self.length..end].copy_from_slice(part);
         self.length = end;
     }
 
-    /// Adds a byte, for which there is room.
+    /// Adds a byte as a part, for which there is room.
     #[inline]
     pub fn push_byte(&mut self, byte: u8)
         requires { length self.old < 256 }
         ensures { self.new ≡ self.old ++ byte ∷ [] }
     {
+        self.sizes[self.parts] = 1;
+        self.parts += 1;
         self.bytes[self.length] = byte;
         self.length += 1;
     }
@@ -74,17 +86,23 @@ impl TextBuffer {
         self.push(Buffer::new().format(number).as_bytes());
     }
 
-    /// Gives all of it to the formatter.
+    /// Gives all of it to the formatter, part by part.
     pub fn send<W: fmt::Write>(&mut self, f: &mut fmt::Formatter<W>) -> fmt::Result
         ensures writes { WritesOnOk W.write_str_gives f.old result self.old f.new }
         ensures empty { OnOk result (self.new ≡ []) }
     {
         let length = self.length;
+        let parts = self.parts;
         self.length = 0;
-        match from_utf8(&self.bytes[..length]) {
-            Ok(text) => f.write_str(text),
-            Err(_) => Err(fmt::Error),
+        self.parts = 0;
+        let mut rest = &self.bytes[..length];
+        for size in &self.sizes[..parts] {
+            let (part, more) = rest.split_at(rest.len().min(*size as usize));
+            write_part(part, f)?;
+            rest = more;
         }
+        // The parts are all of the text, which is not proved.
+        write_part(rest, f)
     }
 
     /// Makes room for one more part of a message, of at most 64 bytes.
@@ -97,5 +115,19 @@ impl TextBuffer {
             return self.send(f);
         }
         Ok(())
+    }
+}
+
+/// Writes a part, unless it is empty.
+#[inline]
+fn write_part<W: fmt::Write>(part: &[u8], f: &mut fmt::Formatter<W>) -> fmt::Result
+    ensures { WritesOnOk W.write_str_gives f.old result part.now f.new }
+{
+    if part.is_empty() {
+        return Ok(());
+    }
+    match from_utf8(part) {
+        Ok(text) => f.write_str(text),
+        Err(_) => Err(fmt::Error),
     }
 }

@@ -19,11 +19,10 @@ returns-in-Syntax g c =
     let found = c.in-Syntax.found in
     let expected = c.in-Syntax.expected in
     let may_end = c.in-Syntax.may_end in
-    let head = ((start ++ codes " at place ") ++ decimal place) ++ codes ", expected " in
+    let head = (start ++ decimal place) ++ codes ", expected " in
     let names = listed (names_of expected may_end) in
-    let held : c.push-in-Syntax-2.new.self ≡ head =
-    c.push-in-Syntax-2.ensures ∙ ap (λ t. t ++ codes ", expected ")
-    (c.push_number.ensures.text ∙ ap (λ t. t ++ decimal place) c.push-in-Syntax.ensures) in
+    let held : c.push-in-Syntax.new.self ≡ head =
+    c.push-in-Syntax.ensures ∙ ap (λ t. t ++ codes ", expected ") c.push_number.ensures.text in
     let listing : Passes took head f names kept after =
     subst (λ t. Passes took t f names kept after) held (c.put_expected.ensures plain ok) in
     let same = syntax_text place found expected may_end start c.put_found.ensures.text in
