@@ -192,7 +192,7 @@ impl WholeText for ItemFieldReader {
             }
         }
         if !are_worth_keeping(&params, rest) {
-            return refuse_or_read_item(context, text, inside);
+            return refuse_or_read_item(context, text, inside, are_put(rest));
         }
         read_begun_item(context, text, inside, after, params, rest)
     }
@@ -283,17 +283,29 @@ fn read_other_item(context: &Context, text: &[u8], inside: &[u8]) -> Result<Item
     if may_begin_part(inside) {
         return read_item_field(context, text, inside);
     }
-    refuse_or_read_item(context, text, inside)
+    refuse_or_read_item(context, text, inside, false)
+}
+
+/// Whether the parameters before the rest of an Item are all of them. Otherwise the next one is not
+/// whole, or was not put for want of memory. Nothing is claimed of it.
+#[inline(always)]
+fn are_put(rest: &[u8]) -> bool {
+    behind(rest, b';').is_none()
 }
 
 /// Refuses the text of an Item, after spaces, or reads it by its reader.
 #[inline(never)]
-fn refuse_or_read_item(context: &Context, text: &[u8], inside: &[u8]) -> Result<Item, Refusal>
+fn refuse_or_read_item(
+    context: &Context,
+    text: &[u8],
+    inside: &[u8],
+    are_put: bool,
+) -> Result<Item, Refusal>
     requires { Behind is_sp text.now inside.now }
     ensures parses { Makes field_is.Item (Parses context.now.dialect kind_is.Item text.now) result }
     ensures allocation_free { TakesNoMemory kind_is.Item text.now → IfErr result IsOther }
 {
-    match refuse_item(context, text.len(), inside, &None) {
+    match refuse_item(context, text.len(), inside, &None, are_put) {
         Some(refusal) => Err(refusal),
         None => read_item_field(context, text, inside),
     }
@@ -347,7 +359,7 @@ fn read_begun_item<'a>(
     ensures allocation_free { TakesNoMemory kind_is.Item text.now → IfErr result IsOther }
 {
     let begun = begun_params(after, params, rest);
-    if let Some(refusal) = refuse_item(context, text.len(), inside, &begun) {
+    if let Some(refusal) = refuse_item(context, text.len(), inside, &begun, are_put(rest)) {
         return Err(refusal);
     }
     let Some(begun) = begun else {
@@ -359,13 +371,15 @@ fn read_begun_item<'a>(
 }
 
 /// The refusal of the text of an Item, after spaces, in a text of this length: of a byte of the Item
-/// or behind it, or of the end. None claims nothing: the text is then read by a reader.
+/// or behind it, or of the end. None claims nothing: the text is then read by a reader, as where a
+/// space is behind a parameter that was not put, which may be for want of memory.
 #[inline(always)]
 fn refuse_item<'a>(
     context: &Context,
     whole: usize,
     inside: &'a [u8],
     begun: &Option<Begun<'a>>,
+    are_put: bool,
 ) -> Option<Refusal>
     requires whole { length inside.now ≤ whole }
     requires begun { IfSome begun.now (IsBegunBeside context.now.dialect inside.now) }
@@ -378,6 +392,9 @@ fn refuse_item<'a>(
     };
     if stop.may_end {
         if let Some(more) = behind(stop.left, b' ') {
+            if !are_put {
+                return None;
+            }
             let end = behind_spaces(more);
             return refuse_left(end, SPACE, true, whole - end.len());
         }
