@@ -29,7 +29,7 @@ use crate::refusal::Refusal;
 use crate::sets::{COMMA, OWS, SPACE, set_if};
 use crate::stop::{Stop, refuse_left};
 use crate::whole_bare::{behind, ends};
-use crate::whole_parts::{Found, Owner, WHOLE_PARTS, may_begin_params, read_params};
+use crate::whole_parts::{Found, Owner, WHOLE_PARTS, has, may_begin_params, read_params};
 use sf_value::classes::{Ows, Space, short_prefix};
 use sf_value::{Bare, Dialect, Entries, OutOfMemory, is_ows};
 use std::marker::Model;
@@ -575,10 +575,18 @@ pub fn add_members<'a, P: SeriesMember<G>, G>(
     add_each_member::<P, G>(context, text, true, phase, given, begun)
 }
 
-/// Whether whole members are looked for in a chunk. It only saves time: nothing is claimed of it.
+/// Whether whole members are looked for in a chunk: only if there is a comma in it. It only saves
+/// time: nothing is claimed of it.
 #[inline(always)]
 fn may_add<P: SeriesMember<G>, G>(chunk: &[u8]) -> bool {
-    P::may_begin(chunk) && chunk.len() >= WHOLE_PARTS
+    P::may_begin(chunk) && chunk.len() >= WHOLE_PARTS && has(chunk, b',')
+}
+
+/// Whether a member may be whole in this text: in a chunk only if a comma is behind it. Otherwise its
+/// reader reads it, so that none is read twice. It only saves time: nothing is claimed of it.
+#[inline(always)]
+fn may_be_whole(is_whole: bool, text: &[u8]) -> bool {
+    is_whole || has(text, b',')
 }
 
 /// As [`add_members`], also in a chunk: [`add_members`] only tests whether there may be a member, since
@@ -613,7 +621,7 @@ fn add_each_member<'a, P: SeriesMember<G>, G>(
     let mut rest = text;
     while is_whole || rest.len() >= WHOLE_PARTS {
         let Some((found, after)) = P::find(rest) else {
-            if !P::may_read(rest) {
+            if !P::may_read(rest) || !may_be_whole(is_whole, rest) {
                 return Ok(rest);
             }
             let left = add_read_member::<P, G>(context, rest, is_whole, phase, given, begun)?;
@@ -624,7 +632,7 @@ fn add_each_member<'a, P: SeriesMember<G>, G>(
             continue;
         };
         let Some((next, more)) = behind_member(after, is_whole) else {
-            if !may_begin_params(after) {
+            if !may_begin_params(after) || !may_be_whole(is_whole, after) {
                 return Ok(rest);
             }
             let left = add_with_params::<P, G>(

@@ -25,6 +25,7 @@ use crate::begun::{Begun, keep_closed, keep_inner, keep_items, keep_params};
 use crate::context::Context;
 use crate::leaf::{Leaf, find_leaf, make};
 use crate::whole_bare::{behind, may_have_escape, read_bare, split};
+use memchr::{memchr, memchr3};
 use sf_value::classes::{InKey, Space, short_prefix};
 use sf_value::{
     Bare, Entries, Inner, Item, Key, Member, OutOfMemory, Sequence, ShortBytes, can_start_key,
@@ -33,6 +34,23 @@ use sf_value::{
 /// The fewest bytes of a chunk in which whole parts are looked for. In fewer there is seldom one with
 /// what follows it, and looking for it would cost small chunks.
 pub const WHOLE_PARTS: usize = 64;
+
+/// Whether a text has this byte. It only saves time: nothing is claimed of it.
+#[inline]
+pub fn has(text: &[u8], byte: u8) -> bool {
+    memchr(byte, text).is_some()
+}
+
+/// Whether a text has this byte before a comma and a closing bracket: a part of a chunk that is not
+/// followed by it is left to the levels, since it would be read again. It only saves time: nothing is
+/// claimed of it.
+#[inline]
+fn has_first(text: &[u8], byte: u8) -> bool {
+    match memchr3(byte, b',', b')', text) {
+        Some(place) => text.get(place).copied() == Some(byte),
+        None => false,
+    }
+}
 
 /// The rest after spaces.
 #[inline(always)]
@@ -250,6 +268,9 @@ fn put_any_param<'a>(
     ensures { IfOk result (λ rest. Goes (params_step context.now.dialect) (Opened params.old)
         text.now rest.now (Opened params.new)) }
 {
+    if !has_first(text, b';') {
+        return Ok(text);
+    }
     let Some((key, value, after)) = read_param(context, text) else {
         return Ok(text);
     };
@@ -444,6 +465,9 @@ fn push_any_item<'a>(
     ensures { IfOk result (λ rest. Goes (member_step context.now.dialect)
         (InMany (BetweenItems items.old)) text.now rest.now (InMany (BetweenItems items.new))) }
 {
+    if !has_first(text, b' ') {
+        return Ok(text);
+    }
     let Some((item, after)) = read_item(context, text) else {
         return Ok(text);
     };
