@@ -14,7 +14,7 @@ use crate::buffer::node_buffer;
 use crate::declined::parse_declined;
 use crate::node::Node;
 use crate::series::scan_parts;
-use crate::settling::{FEW, scan_settled, settle_few};
+use crate::settling::{FEW, scan_or_settle, settle_few};
 use crate::view::View;
 use crate::writing::write_view;
 use sf_parse::Refusal;
@@ -133,7 +133,7 @@ fn by_settled_nodes(
         text,
         nodes: &few[..count],
     };
-    Ok(Some(view_text(alloc, &view, kind)?))
+    Ok(settled_text(alloc, &view, kind))
 }
 
 /// The same for a text with more nodes than are on the stack.
@@ -147,10 +147,24 @@ fn by_many_nodes(
         (λ found. IfSome found (λ c. IsCanonicalOf dialect kind text.now c.items)) }
 {
     let mut nodes = node_buffer(alloc, text)?;
-    let Some(view) = scan_settled(alloc, dialect, kind, text, &mut nodes) else {
+    let mut repeated = false;
+    let Some(view) = scan_or_settle(alloc, dialect, kind, &mut repeated, text, &mut nodes) else {
         return Ok(None);
     };
+    if repeated {
+        return Ok(settled_text(alloc, &view, kind));
+    }
     Ok(Some(view_text(alloc, &view, kind)?))
+}
+
+/// The text that [`view_text`] returns, in memory of its own length, since it may be much shorter
+/// than the source; `None` if an allocation fails.
+fn settled_text(alloc: Global, view: &View, kind: Kind) -> Option<Vec<u8>>
+    ensures { (d : Which) (t : Seq ℕ) → IsViewed d kind t view.now
+        → IfSome result (λ text. IsCanonicalOf d kind t text.items) }
+{
+    let text = view_text(alloc, view, kind).ok()?;
+    Vec::from_slice(alloc, text.as_slice()).ok()
 }
 
 /// The canonical text, written from the field.

@@ -1,6 +1,6 @@
 //! Nodes of a Dictionary in which a key is repeated: the last value is at the place of the first
 //! one (RFC 9651 section 4.2.2).
-ghost use Rattle.std.specs.Prelude.{◌≡◌, ◌≤◌, ◌<◌, ℕ, IfOk, IfSome, length, take};
+ghost use Rattle.std.specs.Prelude.{◌≡◌, ◌≤◌, ◌<◌, ℕ, IfOk, IfSome, length, take, false};
 ghost use Rattle.sf_value.specs.declared.dialect.Dialect.{Dialect as Which};
 ghost use Rattle.sf_value.specs.declared.value.Kind.TheVariants as kind_is;
 ghost use Rattle.sf_value.specs.declared.value.Member.{Member};
@@ -320,8 +320,23 @@ pub fn scan_settled<'a>(
     ensures { IfSome result (λ v. IsViewed dialect kind text.now v) }
 {
     let mut repeated = false;
-    let count = scan_parts(dialect, kind, &mut repeated, text, nodes.as_mut_slice())?;
-    if repeated {
+    scan_or_settle(alloc, dialect, kind, &mut repeated, text, nodes)
+}
+
+/// As [`scan_settled`]; the flag is set if the nodes had to be settled.
+pub(crate) fn scan_or_settle<'a>(
+    alloc: Global,
+    dialect: Dialect,
+    kind: Kind,
+    repeated: &mut bool,
+    text: &'a [u8],
+    nodes: &'a mut Vec<Node>,
+) -> Option<View<'a>>
+    requires unset { repeated.old ≡ false }
+    ensures { IfSome result (λ v. IsViewed dialect kind text.now v) }
+{
+    let count = scan_parts(dialect, kind, repeated, text, nodes.as_mut_slice())?;
+    if *repeated {
         *nodes = settled_nodes(alloc, text, &nodes.as_slice()[..count])?;
         return Some(View {
             text,
