@@ -159,7 +159,7 @@ fn ask_parsed<C: Consumer>(
 }
 
 /// Returns what two lines and those that remain mean. They are joined on the stack if they are
-/// short; otherwise they are parsed one by one, so that those after a refusal are not read.
+/// short; otherwise what was joined and those behind it are parsed one by one.
 #[inline(never)]
 fn ask_several<'a, C: Consumer, L: FieldLines<'a>>(
     alloc: Global,

@@ -108,8 +108,8 @@ pub(crate) fn parse_line(
     parse_text_in(alloc, seed, dialect, kind, text)
 }
 
-/// Parses two lines and those that remain, as [`parse_from`] does: one by one, so that those after
-/// a refusal are not read.
+/// Parses two lines and those that remain, as [`parse_from`] does: one by one, so that no more are
+/// taken after a refusal.
 pub(crate) fn parse_several<'a, L: FieldLines<'a>>(
     alloc: Global,
     seed: &RandomState,
@@ -175,8 +175,8 @@ pub fn parse_lines(
 /// Returns the canonical text (RFC 9651 section 4.1) of the value that the lines spell. Lines of a
 /// kind have equal canonical texts if and only if they spell equal values. Refuses what
 /// [`parse_lines`] refuses. It is [`sf_view::normalise`] of the line, or of the joined text of the
-/// lines if there are several: only if that has no view (see [`sf_view::View`]), the field is
-/// built.
+/// lines if there are several: only if it writes no text from nodes (see
+/// [`sf_view::canonical_text`]), the field is built.
 ///
 /// ```
 /// let text = normalise_lines(alloc, &seed, Kind::List, lines.as_slice())?;
