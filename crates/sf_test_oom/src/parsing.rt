@@ -97,6 +97,28 @@ fn refused_behind_parts(rt: HostRuntime) -> Result<(), Fail> {
     Ok(())
 }
 
+/// Items that are refused for their last byte, which is at this place, behind a parameter and a
+/// space: at the space the parameter is put, which allocates.
+const REFUSED_ITEMS: [(&[u8], u64, u8); 5] = [
+    (b"a;x=1 b", 6, b'b'),
+    (b"-7; x=12 %", 9, b'%'),
+    (b"?1;c; x *", 8, b'*'),
+    (b"\"x\";x=:YQ==:  \t", 14, b'\t'),
+    (b"a;b;c;d;e;f;g;h;i=2.5 (", 22, b'('),
+];
+
+#[test]
+fn refused_items(rt: HostRuntime) -> Result<(), Fail> {
+    let alloc = rt.alloc();
+    let seed = RandomState::new(&rt)?;
+    for (text, place, byte) in REFUSED_ITEMS {
+        expect_refusals(&rt, || {
+            seen_syntax(parse_text(alloc, &seed, Kind::Item, text), place, byte)
+        });
+    }
+    Ok(())
+}
+
 /// The Dictionary of a text that a reader gives a byte a call.
 fn read(alloc: Global, seed: &RandomState, text: &[u8]) -> Result<Field, Refusal> {
     let mut source = Paced::new(text, 1, 0, 0);

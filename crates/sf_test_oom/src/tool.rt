@@ -182,8 +182,32 @@ fn runs_of_a_kind(rt: HostRuntime) -> Result<(), Fail> {
     let list = Request::Normalise(Dialect::Rfc9651, Kind::List);
     let dict = Request::Show(Dialect::Rfc9651, Kind::Dict);
     let item = Request::Check(Dialect::Rfc9651, Kind::Item);
-    let rows: [(&Request, Row); 5] = [
+    let settled = Request::Normalise(Dialect::Rfc9651, Kind::Dict);
+    let checked = Request::Check(Dialect::Rfc9651, Kind::List);
+    let rows: [(&Request, Row); 9] = [
         (&list, (b"a\r\n\tb \r\n", b"a, b\n", Status::Accepted)),
+        // More than 32 nodes, and then with a repeated key; few nodes with one; a String over lines.
+        (
+            &list,
+            (
+                b"1,2,3,4,5,6,7,8,9,10,11,12,13,14,15,16,17,18,19,20,21,22,23,24,25,26,27,28,29,30,\
+                  31,32,33,34",
+                b"1, 2, 3, 4, 5, 6, 7, 8, 9, 10, 11, 12, 13, 14, 15, 16, 17, 18, 19, 20, 21, 22, 23, \
+                  24, 25, 26, 27, 28, 29, 30, 31, 32, 33, 34\n",
+                Status::Accepted,
+            ),
+        ),
+        (
+            &settled,
+            (
+                b"a=(1 2 3 4 5 6 7 8 9 10 11 12 13 14 15 16 17 18),b=(1 2 3 4 5 6 7 8 9 10 11 12),\
+                  c,a=1",
+                b"a=1, b=(1 2 3 4 5 6 7 8 9 10 11 12), c\n",
+                Status::Accepted,
+            ),
+        ),
+        (&settled, (b"u=1, i, u=2", b"u=2, i\n", Status::Accepted)),
+        (&checked, (b"1, \"a\nb\"", b"accepted\n", Status::Accepted)),
         (
             &list,
             (

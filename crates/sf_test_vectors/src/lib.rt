@@ -7,6 +7,8 @@ mod acceptances;
 #[cfg(test)]
 mod followers;
 #[cfg(test)]
+mod messages;
+#[cfg(test)]
 mod readers;
 #[cfg(test)]
 mod refusals;

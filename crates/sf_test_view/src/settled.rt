@@ -73,6 +73,8 @@ fn repeated_keys_are_settled(rt: HostRuntime) -> Result<(), Fail> {
         assert!(&rt; is_scanned(alloc, Kind::Dict, text, canonical)?);
         let written = normalise(alloc, &seed, Dialect::Rfc9651, Kind::Dict, text)?;
         assert!(&rt; written.as_slice() == *canonical);
+        // No more memory is kept than the text needs, however long the source is.
+        assert!(&rt; written.capacity() == canonical.len());
         let field = parse_text(alloc, &seed, Kind::Dict, text)?;
         assert!(&rt; to_text(alloc, &field)?.as_slice() == *canonical);
     }

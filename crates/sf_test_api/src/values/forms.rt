@@ -163,6 +163,27 @@ fn entries_of_two_counts_differ(rt: HostRuntime) {
     }
 }
 
+/// What `{:?}` prints of entries.
+fn printed(rt: &(impl Abort + AllocGlobal), entries: &Entries<Bare>) -> String {
+    format!(in rt.alloc(); "{entries:?}").expect(rt, "room")
+}
+
+/// A copy of entries from which all but a few were removed is as if only these had been put.
+#[test]
+fn copies_of_what_is_left_are_those_of_few(rt: HostRuntime) {
+    let seed = seed(&rt);
+    for left in 1..9u8 {
+        let mut entries = all_but(&rt, &seed, 20, None);
+        for place in left..20 {
+            assert!(rt; remove(&rt, &mut entries, place).is_some());
+        }
+        let few = all_but(&rt, &seed, left, None);
+        let copy = entries.copy(rt.alloc(), &seed).expect(&rt, "room");
+        assert!(rt; copy.same(&few));
+        assert!(rt; printed(&rt, &copy) == printed(&rt, &few));
+    }
+}
+
 /// The keys in order with what each has at last, but for the one at a place.
 fn all_but(
     rt: &(impl Abort + AllocGlobal),

@@ -1,0 +1,128 @@
+//! Messages that a writer has no room for: it holds the first parts of each.
+use sf_parse::{Refusal, parse_text};
+use sf_value::{Kind, OutOfMemory};
+use std::alloc::Global;
+use std::fmt;
+use std::fmt::Write;
+use std::hash::RandomState;
+use std::process::Abort;
+use std::test::Fail;
+
+/// A writer with room for so many bytes. It takes what fits whole, and nothing else.
+#[derive(Drop)]
+struct Board {
+    held: Vec<u8>,
+    room: usize,
+}
+
+impl fmt::Write for Board {
+    fn write_str(&mut self, text: &str) -> fmt::Result {
+        if text.len() > self.room.saturating_sub(self.held.len()) {
+            return Err(fmt::Error);
+        }
+        match self.held.extend_from_slice(text.as_bytes()) {
+            Ok(()) => Ok(()),
+            Err(_) => Err(fmt::Error),
+        }
+    }
+}
+
+// The kind, a text that is refused, and the parts of its message with the text.
+type Row = (Kind, &'static [u8], &'static [&'static str]);
+
+static ROWS: [Row; 5] = [
+    (
+        Kind::Item,
+        b"1 2",
+        &[
+            "byte ", "0x", "3", "2", " '", "2", "'", " at place ", "2", ", expected ", "a space",
+            " or ", "the end", "\nline ", "1", ", place ", "2", ":\n", "1", " ", "2", "\n", " ",
+            " ", "^",
+        ],
+    ),
+    (
+        Kind::Item,
+        b"\x80\x01",
+        &[
+            "byte ", "0x", "8", "0", " at place ", "0", ", expected ", "a letter", ", ", "a digit",
+            ", ", "a quote", ", ", "`", "%", "`", ", ", "`", "*", "`", ", ", "`", "-", "`", ", ",
+            "`", ":", "`", ", ", "`", "?", "`", ", ", "`", "@", "`", " or ", "a space", "\nline ",
+            "1", ", place ", "0", ":\n", "?", "?", "\n", "^",
+        ],
+    ),
+    (
+        Kind::List,
+        b"(a b",
+        &[
+            "the text ended at place ", "4", ", expected ", "a token character", ", ", "`", ")",
+            "`", ", ", "`", ";", "`", " or ", "a space", "\nline ", "1", ", place ", "4", ":\n",
+            "(", "a", " ", "b", "\n", " ", " ", " ", " ", "^",
+        ],
+    ),
+    (
+        Kind::Dict,
+        b"a=b, c=*=\xff",
+        &[
+            "byte ", "0x", "3", "d", " '", "=", "'", " at place ", "8", ", expected ",
+            "a token character", ", ", "`", ",", "`", ", ", "`", ";", "`", ", ", "a tab", ", ",
+            "a space", " or ", "the end", "\nline ", "1", ", place ", "8", ":\n", "a", "=", "b",
+            ",", " ", "c", "=", "*", "=", "?", "\n", " ", " ", " ", " ", " ", " ", " ", " ", "^",
+        ],
+    ),
+    (
+        Kind::Item,
+        b"%\"%a",
+        &[
+            "byte ", "0x", "6", "1", " '", "a", "'", " at place ", "3", ", expected ", "`", "0",
+            "`", ", ", "`", "1", "`", ", ", "`", "2", "`", ", ", "`", "3", "`", ", ", "`", "4",
+            "`", ", ", "`", "5", "`", ", ", "`", "6", "`", ", ", "`", "7", "`", ", ", "`", "c",
+            "`", ", ", "`", "d", "`", ", ", "`", "e", "`", " or ", "`", "f", "`", "\nline ", "1",
+            ", place ", "3", ":\n", "%", "\"", "%", "a", "\n", " ", " ", " ", "^",
+        ],
+    ),
+];
+
+/// What a writer with this room holds of the parts, and whether it holds all.
+fn held(alloc: Global, parts: &[&str], room: usize) -> Result<(Vec<u8>, bool), OutOfMemory> {
+    let mut held = Vec::new(alloc);
+    for part in parts {
+        if part.len() > room.saturating_sub(held.len()) {
+            return Ok((held, false));
+        }
+        held.extend_from_slice(part.as_bytes())?;
+    }
+    Ok((held, true))
+}
+
+/// Whether a writer with this room holds just these parts of the message with the text.
+fn holds_parts(
+    alloc: Global,
+    refusal: Refusal,
+    text: &[u8],
+    parts: &[&str],
+    room: usize,
+) -> Result<bool, OutOfMemory> {
+    let (want, whole) = held(alloc, parts, room)?;
+    let mut board = Board {
+        held: Vec::new(alloc),
+        room,
+    };
+    let shown = refusal.in_text(text);
+    let written = write!(board, "{shown}");
+    Ok(written.is_ok() == whole && board.held.as_slice() == want.as_slice())
+}
+
+#[test]
+fn messages_without_room(rt: HostRuntime) -> Result<(), Fail> {
+    let alloc = rt.alloc();
+    let seed = RandomState::new(&rt)?;
+    for (kind, text, parts) in ROWS {
+        let Err(refusal) = parse_text(alloc, &seed, kind, text) else {
+            return Err(Fail::new("a text was accepted"));
+        };
+        for room in 0..400usize {
+            assert!(&rt; holds_parts(alloc, refusal, text, parts, room)?, "{room}");
+        }
+    }
+    Ok(())
+}
