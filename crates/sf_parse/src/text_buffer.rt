@@ -123,8 +123,14 @@ impl TextBuffer {
 fn write_part<W: fmt::Write>(part: &[u8], f: &mut fmt::Formatter<W>) -> fmt::Result
     ensures { WritesOnOk W.write_str_gives f.old result part.now f.new }
 {
-    if part.is_empty() {
-        return Ok(());
+    match part {
+        [] => return Ok(()),
+        // Most parts are one character, for which the test of a text would cost more.
+        [byte] if byte.is_ascii() => {
+            let mut utf8 = [0; 4];
+            return f.write_str(char::from(*byte).encode_utf8(&mut utf8));
+        }
+        _ => {}
     }
     match from_utf8(part) {
         Ok(text) => f.write_str(text),

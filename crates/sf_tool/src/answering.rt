@@ -24,7 +24,7 @@ use sf_field::{AskFault, UseFault};
 use sf_parse::Refusal;
 use sf_use::{CachePath, Policy, Priority};
 use sf_value::{Dialect, Field, Kind, Sink};
-use sf_view::{Node, node_buffer, scan_settled};
+use sf_view::{Node, Unviewed, node_buffer, scan_settled};
 use sf_write::{Sent, put, put_field};
 use std::alloc::Global;
 
@@ -116,6 +116,8 @@ pub(crate) fn answer_nodes<W: Sink>(
     let mut few = [Node::NONE; FEW];
     match sf_view::View::scan(dialect, kind, text, &mut few) {
         Ok(view) => return Some(answer_viewed(&view, kind, sink)),
+        // More nodes don't help: the text is refused, or a key of parameters is repeated.
+        Err(Unviewed::Declined) if kind != Kind::Dict => return None,
         Err(_) => return answer_many_nodes(alloc, dialect, kind, text, sink),
     }
 }

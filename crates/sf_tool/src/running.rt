@@ -232,13 +232,18 @@ fn answer_normalised<W: Sink>(
         }
         return answer_parsed(alloc, seed, view, dialect, kind, input, Some(input), sink);
     }
-    let from = first_unaccepted(alloc, dialect, kind, input);
-    if from.is_none() {
+    let Some(from) = first_unaccepted(alloc, dialect, kind, input) else {
         if let Some(status) = answer_canonical(alloc, dialect, kind, input, sink) {
             return status;
         }
-    }
-    answer_parsed(alloc, seed, view, dialect, kind, input, from, sink)
+        // Several lines are joined again, since one text is parsed in less time; none is doubtful.
+        let doubtful: Option<&[u8]> = match only_line(input) {
+            Some(_) => None,
+            None => Some(&[]),
+        };
+        return answer_parsed(alloc, seed, view, dialect, kind, input, doubtful, sink);
+    };
+    answer_parsed(alloc, seed, view, dialect, kind, input, Some(from), sink)
 }
 
 /// Writes the canonical text of the input's field, and a line feed, without building the field;

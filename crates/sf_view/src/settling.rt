@@ -27,6 +27,10 @@ const PAIRWISE: usize = 8;
 /// The number of slots that are searched for a key.
 const PROBES: usize = 64;
 
+/// The number of slots that are searched for each node, on average: twice what keys of different
+/// hashes need, so that keys which someone chose for their hash cost little before the field is built.
+const SEARCHES: usize = 4;
+
 /// The number of nodes that are settled on the stack.
 pub(crate) const FEW: usize = 32;
 
@@ -81,13 +85,14 @@ fn place_among(source: &[u8], nodes: &[Node], order: &[u32], key: &[u8]) -> Opti
 }
 
 /// The same by a table of places, in which the place of a new key is put; `None` also if none of
-/// the key's slots has it or is empty.
+/// the key's slots has it or is empty, or if no more slots may be searched.
 #[inline]
 fn place_by_table(
     source: &[u8],
     nodes: &[Node],
     order: &[u32],
     table: &mut [u32],
+    searches: &mut usize,
     key: &[u8],
 ) -> Option<usize>
     ensures same { length table.new ≡ length table.old }
@@ -104,9 +109,10 @@ fn place_by_table(
     let mask = table.len() - 1;
     for step in 0..PROBES {
         let slot = ((own >> 4) as usize + step) & mask;
-        if slot >= table.len() {
+        if slot >= table.len() || *searches == 0 {
             return None;
         }
+        *searches -= 1;
         let there = table[slot];
         if there == 0 {
             table[slot] = (order.len() + 1) as u32;
@@ -130,6 +136,7 @@ fn place_of(
     nodes: &[Node],
     order: &[u32],
     table: &mut [u32],
+    searches: &mut usize,
     key: &[u8],
 ) -> Option<usize>
     ensures same { length table.new ≡ length table.old }
@@ -142,7 +149,7 @@ fn place_of(
     if table.is_empty() {
         return place_among(source, nodes, order, key);
     }
-    place_by_table(source, nodes, order, table, key)
+    place_by_table(source, nodes, order, table, searches, key)
 }
 
 /// Puts the first node of each member that stays in the order of the first places of their keys,
@@ -157,12 +164,13 @@ fn put_order(source: &[u8], nodes: &[Node], order: &mut [u32], table: &mut [u32]
 {
     let mut rest = nodes;
     let mut count = 0;
+    let mut searches = nodes.len().saturating_mul(SEARCHES).saturating_add(PROBES);
     loop {
         let Some((key, _, later)) = hop(source, rest) else {
             return Some(count);
         };
         let start = nodes.len() - rest.len();
-        let place = place_of(source, nodes, &order[..count], table, key)?;
+        let place = place_of(source, nodes, &order[..count], table, &mut searches, key)?;
         if start > 0xffff_ffff || place >= order.len() {
             return None;
         }
