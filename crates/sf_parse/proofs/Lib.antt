@@ -41,7 +41,6 @@ pub mod Numerals
 pub mod FirstBytes
 pub mod SetRuns
 pub mod Fitting
-pub mod HeldTexts
 pub mod Listing
 pub mod NamedSets
 pub mod LineSpots

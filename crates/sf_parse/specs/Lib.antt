@@ -14,7 +14,6 @@ pub mod Expected
 pub mod Reaching
 pub mod StateTests
 pub mod Names
-pub mod HeldTexts
 pub mod RefusalTexts
 pub mod Spots
 pub mod ByteSets

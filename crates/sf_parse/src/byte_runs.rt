@@ -1,10 +1,13 @@
 //! Sets of bytes below 128, such as those that a refusal expects, and their runs.
-ghost use Rattle.std.specs.Prelude.{◌≡◌, ◌+◌, ◌-◌, ◌<◌, ◌≤◌, [], ◌∷◌, true, length};
+ghost use Rattle.std.specs.Prelude.{◌≡◌, ◌+◌, ◌-◌, ◌<◌, ◌≤◌, [], ◌∷◌, true, Some, length};
 ghost use Rattle.std.specs.Prelude.{MatchOption, IfSome};
 ghost use Rattle.std.specs.Iterator.{at_most};
 ghost use Rattle.std.specs.Map.Iter.{TakesFirst};
-ghost use Rattle.sf_parse.specs.ByteSets.{is_in, HasNone, runs_from, runs_of as runs_in};
+ghost use Rattle.sf_parse.specs.ByteSets.{is_in, HasNone, hex_byte, runs_from};
+ghost use Rattle.sf_parse.specs.ByteSets.{runs_of as runs_in};
 
+use sf_value::hex_digits;
+use std::fmt;
 use std::marker::Model;
 
 /// The runs that remain of an iteration over a set of bytes: see [`runs_of`].
@@ -47,6 +50,23 @@ impl Iterator for Runs {
         let (first, last) = next_run(self.set, self.from)?;
         self.from = last + 1;
         Some((first, last))
+    }
+}
+
+/// A byte, shown as its two lower-case hexadecimal digits.
+#[derive(Clone, Copy, Drop)]
+pub(crate) struct Hex {
+    pub byte: u8,
+}
+
+impl fmt::Display for Hex {
+    ghost output = { λ hex. Some (hex_byte hex.byte) };
+
+    fn fmt<W: fmt::Write>(&self, f: &mut fmt::Formatter<W>) -> fmt::Result {
+        let [high, low] = hex_digits(self.byte);
+        let high = char::from(high);
+        let low = char::from(low);
+        write!(f, "{high}{low}")
     }
 }
 

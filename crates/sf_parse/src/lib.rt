@@ -49,7 +49,6 @@ mod spots;
 mod state;
 mod stop;
 mod text;
-mod text_buffer;
 mod whole_bare;
 mod whole_parts;
 

@@ -1,14 +1,12 @@
 //! The names of the bytes that a refusal expects.
-ghost use Rattle.std.specs.Prelude.{◌≡◌, ◌+◌, ◌≤◌, [], ◌∷◌, ◌++◌, ◌<◌, ⊤, MatchOption, length};
+ghost use Rattle.std.specs.Prelude.{◌≡◌, ◌≤◌, ◌<◌, [], ◌∷◌, ⊤, Some, MatchOption};
+ghost use Rattle.std.specs.Fmt.{WritesOnOk};
 ghost use Rattle.sf_parse.specs.declared.names.Name.TheVariants as name_is;
-ghost use Rattle.sf_parse.specs.HeldTexts.{PassesOnOk};
 ghost use Rattle.sf_parse.specs.Names.{name_at as nth_name, set_of, names_left, names_of};
 ghost use Rattle.sf_parse.specs.Names.{byte_text, name_text, joint, listed};
 
-use crate::byte_runs::first_from;
+use crate::byte_runs::{Hex, first_from};
 use crate::sets::{BASE64, DIGITS, KEY, LETTERS, LOWER, LOWER_HEX, TOKEN, UPPER, VISIBLE};
-use crate::text_buffer::TextBuffer;
-use sf_value::hex_digits;
 use std::fmt;
 
 /// What a refusal expects: a byte of one of these classes, one byte, or the end.
@@ -138,95 +136,98 @@ impl Names {
     }
 }
 
-/// Adds the names of a set of bytes below 128, and of the end if the text may end, with commas
-/// between them and "or" before the last.
-pub(crate) fn put_expected<W: fmt::Write>(
-    set: u128,
-    may_end: bool,
-    text: &mut TextBuffer,
-    f: &mut fmt::Formatter<W>,
-) -> fmt::Result
-    requires { length text.old + 64 ≤ 256 }
-    ensures { PassesOnOk W.write_str_gives text.old f.old result
-        (listed (names_of set may_end)) text.new f.new }
-{
-    let mut names = Names {
-        set,
-        place: 0,
-        may_end,
-    };
-    let Some(first) = names.next() else {
-        text.push(b"nothing");
-        return Ok(());
-    };
-    put_name(first, text);
-    let mut next = names.next();
-    while let Some(name) = next {
-        text.make_room(f)?;
-        next = names.next();
-        text.push(joint_before(next));
-        put_name(name, text);
+/// What a refusal expects, printed by names, with commas between them and "or" before the last.
+#[derive(Clone, Copy, Drop)]
+pub(crate) struct Expected {
+    pub set: u128,
+    pub may_end: bool,
+}
+
+impl fmt::Display for Expected {
+    ghost output = { λ expected. Some (listed (names_of expected.set expected.may_end)) };
+
+    fn fmt<W: fmt::Write>(&self, f: &mut fmt::Formatter<W>) -> fmt::Result {
+        let mut names = Names {
+            set: self.set,
+            place: 0,
+            may_end: self.may_end,
+        };
+        let Some(first) = names.next() else {
+            return f.write_str("nothing");
+        };
+        put_name(first, f)?;
+        let mut next = names.next();
+        while let Some(name) = next {
+            next = names.next();
+            f.write_str(joint_before(next))?;
+            put_name(name, f)?;
+        }
+        Ok(())
     }
-    Ok(())
 }
 
 /// The text between two names, by the name after them.
-fn joint_before(next: Option<Name>) -> &'static [u8]
-    ensures text { MatchOption next (result.now ≡ joint []) (λ name. result.now ≡ joint (name ∷ [])) }
-    ensures short { length result.now ≤ 4 }
+fn joint_before(next: Option<Name>) -> &'static str
+    ensures { MatchOption next (result.now ≡ joint []) (λ name. result.now ≡ joint (name ∷ [])) }
 {
     match next {
-        None => b" or ",
-        Some(_) => b", ",
+        None => " or ",
+        Some(_) => ", ",
     }
 }
 
-/// Adds the text of a name.
-fn put_name(name: Name, text: &mut TextBuffer)
-    requires { length text.old + 32 ≤ 256 }
-    ensures { text.new ≡ text.old ++ name_text name }
+/// Writes the text of a name. Names and their characters are written without the formatting of
+/// values, which would take most of the time of a message.
+fn put_name<W: fmt::Write>(name: Name, f: &mut fmt::Formatter<W>) -> fmt::Result
+    ensures { WritesOnOk W.write_str_gives f.old result (name_text name) f.new }
 {
     match name {
-        Name::Printable => text.push(b"a printable character"),
-        Name::Token => text.push(b"a token character"),
-        Name::Base64 => text.push(b"a base64 character"),
-        Name::Key => text.push(b"a key character"),
-        Name::Letter => text.push(b"a letter"),
-        Name::Lower => text.push(b"a lower-case letter"),
-        Name::Upper => text.push(b"an upper-case letter"),
-        Name::LowerHex => text.push(b"a lower-case hexadecimal digit"),
-        Name::Digit => text.push(b"a digit"),
-        Name::Byte(byte) => put_byte(byte, text),
-        Name::End => text.push(b"the end"),
+        Name::Printable => f.write_str("a printable character"),
+        Name::Token => f.write_str("a token character"),
+        Name::Base64 => f.write_str("a base64 character"),
+        Name::Key => f.write_str("a key character"),
+        Name::Letter => f.write_str("a letter"),
+        Name::Lower => f.write_str("a lower-case letter"),
+        Name::Upper => f.write_str("an upper-case letter"),
+        Name::LowerHex => f.write_str("a lower-case hexadecimal digit"),
+        Name::Digit => f.write_str("a digit"),
+        Name::Byte(byte) => put_byte(byte, f),
+        Name::End => f.write_str("the end"),
     }
 }
 
-/// Adds a byte as a word, between backquotes, or as its two hexadecimal digits.
-fn put_byte(byte: u8, text: &mut TextBuffer)
-    requires { length text.old + 32 ≤ 256 }
-    ensures { text.new ≡ text.old ++ byte_text byte }
+/// Writes a byte as a word, between backquotes, or as its two hexadecimal digits.
+fn put_byte<W: fmt::Write>(byte: u8, f: &mut fmt::Formatter<W>) -> fmt::Result
+    ensures { WritesOnOk W.write_str_gives f.old result (byte_text byte) f.new }
 {
     if byte == b' ' {
-        return text.push(b"a space");
+        return f.write_str("a space");
     }
     if byte == b'\t' {
-        return text.push(b"a tab");
+        return f.write_str("a tab");
     }
     if byte == b'"' {
-        return text.push(b"a quote");
+        return f.write_str("a quote");
     }
     if byte == b'`' {
-        return text.push(b"a backquote");
+        return f.write_str("a backquote");
     }
     if byte > b' ' && byte <= b'~' {
-        text.push(b"`");
-        text.push_byte(byte);
-        return text.push(b"`");
+        f.write_str("`")?;
+        put_char(byte, f)?;
+        return f.write_str("`");
     }
-    let [high, low] = hex_digits(byte);
-    text.push(b"0x");
-    text.push_byte(high);
-    text.push_byte(low);
+    let hex = Hex { byte };
+    write!(f, "0x{hex}")
+}
+
+/// Writes an ASCII character.
+fn put_char<W: fmt::Write>(byte: u8, f: &mut fmt::Formatter<W>) -> fmt::Result
+    requires { byte < 128 }
+    ensures { WritesOnOk W.write_str_gives f.old result (byte ∷ []) f.new }
+{
+    let mut utf8 = [0; 4];
+    f.write_str(char::from(byte).encode_utf8(&mut utf8))
 }
 
 /// The name at this index: the classes, the bytes from `!` on, and those below it.

@@ -1,12 +1,11 @@
 //! Why a text is refused.
-ghost use Rattle.std.specs.Prelude.{◌≡◌, ◌≤◌, [], ◌++◌, Some, MatchOption, length, codes};
-ghost use Rattle.sf_parse.specs.HeldTexts.{PassesOnOk};
+ghost use Rattle.std.specs.Prelude.{◌≡◌, Some};
 ghost use Rattle.sf_parse.specs.RefusalTexts.{found_text, refusal_text};
 ghost use Rattle.sf_parse.specs.declared.refusal.Refusal.TheVariants as refusal_is;
 
-use crate::names::put_expected;
-use crate::text_buffer::TextBuffer;
-use sf_value::{OutOfMemory, hex_digits, is_visible};
+use crate::byte_runs::Hex;
+use crate::names::Expected;
+use sf_value::{OutOfMemory, is_visible};
 use std::error::Error;
 use std::fmt;
 
@@ -48,6 +47,25 @@ pub enum Refusal {
     },
 }
 
+/// The byte that was found, printed as `0x32 '2'`, or without the character if it is not printable.
+#[derive(Clone, Copy, Drop)]
+struct Found {
+    byte: u8,
+}
+
+impl fmt::Display for Found {
+    ghost output = { λ found. Some (found_text found.byte) };
+
+    fn fmt<W: fmt::Write>(&self, f: &mut fmt::Formatter<W>) -> fmt::Result {
+        let hex = Hex { byte: self.byte };
+        if is_visible(self.byte) {
+            let character = char::from(self.byte);
+            return write!(f, "0x{hex} '{character}'");
+        }
+        write!(f, "0x{hex}")
+    }
+}
+
 /// The error message, such as ``byte 0x32 '2' at place 2, expected a space or the end``. It names
 /// each class of bytes that is expected as a whole, larger ones first (RFC 9651 sections 3.1.2,
 /// 3.3.3 and 3.3.4, RFC 4648 section 4, letters and digits), and then each byte that remains: `-`
@@ -57,9 +75,29 @@ impl fmt::Display for Refusal {
     ghost output = { λ refusal. Some (refusal_text refusal) };
 
     fn fmt<W: fmt::Write>(&self, f: &mut fmt::Formatter<W>) -> fmt::Result {
-        let mut text = TextBuffer::new();
-        put_refusal(*self, &mut text, f)?;
-        text.send(f)
+        match *self {
+            Refusal::OutOfMemory => write!(f, "out of memory"),
+            Refusal::Syntax {
+                place,
+                found,
+                expected,
+                may_end,
+            } => {
+                let expected = Expected {
+                    set: expected,
+                    may_end,
+                };
+                match found {
+                    Some(byte) => {
+                        let byte = Found { byte };
+                        write!(f, "byte {byte} at place {place}, expected {expected}")
+                    }
+                    None => write!(f, "the text ended at place {place}, expected {expected}"),
+                }
+            }
+            Refusal::TooLong { max } => write!(f, "more than {max} bytes"),
+            Refusal::ReadFault { place } => write!(f, "a read failed after {place} bytes"),
+        }
     }
 }
 
@@ -71,65 +109,4 @@ impl From<OutOfMemory> for Refusal {
     fn from(_fault: OutOfMemory) -> Refusal {
         Refusal::OutOfMemory
     }
-}
-
-/// Adds the error message to a text that is empty.
-pub(crate) fn put_refusal<W: fmt::Write>(
-    refusal: Refusal,
-    text: &mut TextBuffer,
-    f: &mut fmt::Formatter<W>,
-) -> fmt::Result
-    requires { text.old ≡ [] }
-    ensures { PassesOnOk W.write_str_gives [] f.old result
-        (refusal_text refusal) text.new f.new }
-{
-    match refusal {
-        Refusal::OutOfMemory => text.push(b"out of memory"),
-        Refusal::Syntax {
-            place,
-            found,
-            expected,
-            may_end,
-        } => {
-            put_found(found, text);
-            text.push_number(place);
-            text.push(b", expected ");
-            return put_expected(expected, may_end, text, f);
-        }
-        Refusal::TooLong { max } => {
-            text.push(b"more than ");
-            text.push_number(max);
-            text.push(b" bytes");
-        }
-        Refusal::ReadFault { place } => {
-            text.push(b"a read failed after ");
-            text.push_number(place);
-            text.push(b" bytes");
-        }
-    }
-    Ok(())
-}
-
-/// Adds the byte that was found, as `byte 0x32 '2'`, or without the character if it is not
-/// printable, or that the text ended; and the words before its place.
-fn put_found(found: Option<u8>, text: &mut TextBuffer)
-    requires { text.old ≡ [] }
-    ensures text { MatchOption found (text.new ≡ codes "the text ended at place ")
-        (λ byte. text.new ≡ codes "byte " ++ (found_text byte ++ codes " at place ")) }
-    ensures short { length text.new ≤ 24 }
-{
-    let Some(byte) = found else {
-        return text.push(b"the text ended at place ");
-    };
-    let [high, low] = hex_digits(byte);
-    text.push(b"byte ");
-    text.push(b"0x");
-    text.push_byte(high);
-    text.push_byte(low);
-    if is_visible(byte) {
-        text.push(b" '");
-        text.push_byte(byte);
-        text.push(b"'");
-    }
-    text.push(b" at place ");
 }

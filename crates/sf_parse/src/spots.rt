@@ -1,14 +1,11 @@
 //! The place of a refusal in the lines of a field.
-ghost use Rattle.std.specs.Prelude.{◌≡◌, ◌+◌, ◌≤◌, [], ◌∷◌, ◌++◌, Some, length, replicate, codes};
-ghost use Rattle.std.specs.Prelude.{decimal};
+ghost use Rattle.std.specs.Prelude.{◌≡◌, [], ◌∷◌, Some, replicate};
+ghost use Rattle.std.specs.Char.{encode_utf8};
 ghost use Rattle.sf_value.specs.Ascii.{space};
-ghost use Rattle.sf_parse.specs.HeldTexts.{PassesOnOk};
 ghost use Rattle.sf_parse.specs.Spots.{stands_at, place_in, line_place};
-ghost use Rattle.sf_parse.specs.Spots.{printed_byte as printed_as, printed, marked_text};
-ghost use Rattle.sf_parse.specs.Spots.{in_line_text};
+ghost use Rattle.sf_parse.specs.Spots.{printed_byte, printed, in_line_text};
 
-use crate::refusal::{Refusal, put_refusal};
-use crate::text_buffer::TextBuffer;
+use crate::refusal::Refusal;
 use sf_value::{Blob, is_visible};
 use std::fmt;
 
@@ -95,95 +92,54 @@ impl Refusal {
     }
 }
 
+/// A line, printed as one character for each of its bytes.
+#[derive(Clone, Copy, Drop)]
+struct Printed<'a> {
+    text: &'a [u8],
+}
+
+impl fmt::Display for Printed<'_> {
+    ghost output = { λ line. Some (printed line.text.now) };
+
+    fn fmt<W: fmt::Write>(&self, f: &mut fmt::Formatter<W>) -> fmt::Result {
+        for byte in self.text {
+            let character = printed_char(*byte);
+            write!(f, "{character}")?;
+        }
+        Ok(())
+    }
+}
+
+/// Printed as this many spaces.
+#[derive(Clone, Copy, Drop)]
+struct Spaces {
+    count: usize,
+}
+
+impl fmt::Display for Spaces {
+    ghost output = { λ spaces. Some (replicate spaces.count space) };
+
+    fn fmt<W: fmt::Write>(&self, f: &mut fmt::Formatter<W>) -> fmt::Result {
+        for _i in 0..self.count {
+            write!(f, " ")?;
+        }
+        Ok(())
+    }
+}
+
 impl fmt::Display for InLine<'_> {
     ghost output = { λ shown. Some (in_line_text shown) };
 
     fn fmt<W: fmt::Write>(&self, f: &mut fmt::Formatter<W>) -> fmt::Result {
-        let mut text = TextBuffer::new();
-        put_refusal(self.refusal, &mut text, f)?;
-        put_mark(self.spot, &mut text, f)?;
-        text.send(f)
+        let refusal = self.refusal;
+        write!(f, "{refusal}")?;
+        if let Some(Spot { line, place, text }) = self.spot {
+            let text = Printed { text };
+            let spaces = Spaces { count: place };
+            write!(f, "\nline {line}, place {place}:\n{text}\n{spaces}^")?;
+        }
+        Ok(())
     }
-}
-
-/// Adds the line of a spot with a caret, if there is one.
-fn put_mark<W: fmt::Write>(
-    spot: Option<Spot<'_>>,
-    text: &mut TextBuffer,
-    f: &mut fmt::Formatter<W>,
-) -> fmt::Result
-    ensures { PassesOnOk W.write_str_gives text.old f.old result
-        (marked_text (line_place spot.entry)) text.new f.new }
-{
-    match spot {
-        None => Ok(()),
-        Some(spot) => put_spot(spot, text, f),
-    }
-}
-
-/// Adds the number of a line and a place in it, the line, and a caret under that place.
-fn put_spot<W: fmt::Write>(
-    spot: Spot<'_>,
-    text: &mut TextBuffer,
-    f: &mut fmt::Formatter<W>,
-) -> fmt::Result
-    ensures { PassesOnOk W.write_str_gives text.old f.old result
-        (marked_text (line_place (Some spot.entry))) text.new f.new }
-{
-    text.make_room(f)?;
-    put_place(spot.line, spot.place, text);
-    put_printed(spot.text, text, f)?;
-    text.make_room(f)?;
-    text.push(b"\n");
-    put_spaces(spot.place, text, f)?;
-    text.make_room(f)?;
-    text.push(b"^");
-    Ok(())
-}
-
-/// Adds the number of a line and a place in it.
-fn put_place(line: usize, place: usize, text: &mut TextBuffer)
-    requires { length text.old + 64 ≤ 256 }
-    ensures { text.new ≡ text.old ++ (codes "\nline " ++ (decimal line ++ (codes ", place "
-        ++ (decimal place ++ codes ":\n")))) }
-{
-    text.push(b"\nline ");
-    text.push_number(line as u64);
-    text.push(b", place ");
-    text.push_number(place as u64);
-    text.push(b":\n");
-}
-
-/// Adds a line as one character for each of its bytes.
-fn put_printed<W: fmt::Write>(
-    line: &[u8],
-    text: &mut TextBuffer,
-    f: &mut fmt::Formatter<W>,
-) -> fmt::Result
-    ensures { PassesOnOk W.write_str_gives text.old f.old result
-        (printed line.now) text.new f.new }
-{
-    for byte in line {
-        text.make_room(f)?;
-        text.push_byte(printed_byte(*byte));
-    }
-    Ok(())
-}
-
-/// Adds this many spaces.
-fn put_spaces<W: fmt::Write>(
-    count: usize,
-    text: &mut TextBuffer,
-    f: &mut fmt::Formatter<W>,
-) -> fmt::Result
-    ensures { PassesOnOk W.write_str_gives text.old f.old result
-        (replicate count space) text.new f.new }
-{
-    for _i in 0..count {
-        text.make_room(f)?;
-        text.push_byte(b' ');
-    }
-    Ok(())
 }
 
 /// The spot of a place of the joined text, from 0; None if there is no line.
@@ -208,9 +164,13 @@ fn find_spot<'a>(lines: &'a [Blob], place: u64) -> Option<Spot<'a>>
     None
 }
 
-/// The byte that is printed for a byte of a line.
-fn printed_byte(byte: u8) -> u8
-    ensures { result ≡ printed_as byte }
+/// The character that is printed for a byte of a line.
+fn printed_char(byte: u8) -> char
+    ensures { encode_utf8 result ≡ printed_byte byte ∷ [] }
 {
-    if is_visible(byte) { byte } else { b'?' }
+    if is_visible(byte) {
+        char::from(byte)
+    } else {
+        '?'
+    }
 }
