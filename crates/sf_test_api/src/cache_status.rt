@@ -325,7 +325,9 @@ fn refuses(rt: HostRuntime) {
 #[test]
 fn reads_texts(rt: HostRuntime) {
     let text = b"a;hit, \"b\\\"\";fwd=stale;fwd-status=304;stored;ttl=-3, c;key=\"k\"";
-    let path = CacheStatus.answer_text(rt.alloc(), text).expect(&rt, "caches");
+    let path = CacheStatus
+        .answer_text(rt.alloc(), text)
+        .expect(&rt, "caches");
     assert!(rt; path.hops().len() == 3 && path.served_by() == Some(0));
     assert!(rt; CacheStatus.answer_text(rt.alloc(), b"a, 7").is_none());
 }

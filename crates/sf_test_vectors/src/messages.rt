@@ -27,65 +27,47 @@ impl fmt::Write for Board {
     }
 }
 
-// The kind, a text that is refused, and the parts of its message with the text.
-type Row = (Kind, &'static [u8], &'static [&'static str]);
+// The kind, a text that is refused, and the parts of its message with the text, between bars.
+type Row = (Kind, &'static [u8], &'static str);
 
 static ROWS: [Row; 5] = [
     (
         Kind::Item,
         b"1 2",
-        &[
-            "byte ", "0x", "3", "2", " '", "2", "'", " at place ", "2", ", expected ", "a space",
-            " or ", "the end", "\nline ", "1", ", place ", "2", ":\n", "1", " ", "2", "\n", " ",
-            " ", "^",
-        ],
+        "byte |0x|3|2| '|2|'| at place |2|, expected |a space| or |the end|\nline |1|, place |2|:\n|\
+         1| |2|\n| | |^",
     ),
     (
         Kind::Item,
         b"\x80\x01",
-        &[
-            "byte ", "0x", "8", "0", " at place ", "0", ", expected ", "a letter", ", ", "a digit",
-            ", ", "a quote", ", ", "`", "%", "`", ", ", "`", "*", "`", ", ", "`", "-", "`", ", ",
-            "`", ":", "`", ", ", "`", "?", "`", ", ", "`", "@", "`", " or ", "a space", "\nline ",
-            "1", ", place ", "0", ":\n", "?", "?", "\n", "^",
-        ],
+        "byte |0x|8|0| at place |0|, expected |a letter|, |a digit|, |a quote|, |`|%|`|, |`|*|`|, |`|-|\
+         `|, |`|:|`|, |`|?|`|, |`|@|`| or |a space|\nline |1|, place |0|:\n|?|?|\n|^",
     ),
     (
         Kind::List,
         b"(a b",
-        &[
-            "the text ended at place ", "4", ", expected ", "a token character", ", ", "`", ")",
-            "`", ", ", "`", ";", "`", " or ", "a space", "\nline ", "1", ", place ", "4", ":\n",
-            "(", "a", " ", "b", "\n", " ", " ", " ", " ", "^",
-        ],
+        "the text ended at place |4|, expected |a token character|, |`|)|`|, |`|;|`| or |a space|\nline |\
+         1|, place |4|:\n|(|a| |b|\n| | | | |^",
     ),
     (
         Kind::Dict,
         b"a=b, c=*=\xff",
-        &[
-            "byte ", "0x", "3", "d", " '", "=", "'", " at place ", "8", ", expected ",
-            "a token character", ", ", "`", ",", "`", ", ", "`", ";", "`", ", ", "a tab", ", ",
-            "a space", " or ", "the end", "\nline ", "1", ", place ", "8", ":\n", "a", "=", "b",
-            ",", " ", "c", "=", "*", "=", "?", "\n", " ", " ", " ", " ", " ", " ", " ", " ", "^",
-        ],
+        "byte |0x|3|d| '|=|'| at place |8|, expected |a token character|, |`|,|`|, |`|;|`|, |a tab|, |\
+         a space| or |the end|\nline |1|, place |8|:\n|a|=|b|,| |c|=|*|=|?|\n| | | | | | | | |^",
     ),
     (
         Kind::Item,
         b"%\"%a",
-        &[
-            "byte ", "0x", "6", "1", " '", "a", "'", " at place ", "3", ", expected ", "`", "0",
-            "`", ", ", "`", "1", "`", ", ", "`", "2", "`", ", ", "`", "3", "`", ", ", "`", "4",
-            "`", ", ", "`", "5", "`", ", ", "`", "6", "`", ", ", "`", "7", "`", ", ", "`", "c",
-            "`", ", ", "`", "d", "`", ", ", "`", "e", "`", " or ", "`", "f", "`", "\nline ", "1",
-            ", place ", "3", ":\n", "%", "\"", "%", "a", "\n", " ", " ", " ", "^",
-        ],
+        "byte |0x|6|1| '|a|'| at place |3|, expected |`|0|`|, |`|1|`|, |`|2|`|, |`|3|`|, |`|4|`|, |`|5|\
+         `|, |`|6|`|, |`|7|`|, |`|c|`|, |`|d|`|, |`|e|`| or |`|f|`|\nline |1|, place |3|:\n|%|\"|%|a|\
+         \n| | | |^",
     ),
 ];
 
 /// What a writer with this room holds of the parts, and whether it holds all.
-fn held(alloc: Global, parts: &[&str], room: usize) -> Result<(Vec<u8>, bool), OutOfMemory> {
+fn held(alloc: Global, parts: &str, room: usize) -> Result<(Vec<u8>, bool), OutOfMemory> {
     let mut held = Vec::new(alloc);
-    for part in parts {
+    for part in parts.split('|') {
         if part.len() > room.saturating_sub(held.len()) {
             return Ok((held, false));
         }
@@ -99,7 +81,7 @@ fn holds_parts(
     alloc: Global,
     refusal: Refusal,
     text: &[u8],
-    parts: &[&str],
+    parts: &str,
     room: usize,
 ) -> Result<bool, OutOfMemory> {
     let (want, whole) = held(alloc, parts, room)?;
