@@ -51,8 +51,8 @@ pub fn view_text(alloc: Global, view: &View, kind: Kind) -> Result<Vec<u8>, OutO
 /// or the refusal that [`sf_parse::parse_text_in`] returns. The canonical text is written from
 /// nodes that point into the text; only if it has none, for example because a key of parameters is
 /// repeated, the field is built. It allocates the canonical text, nodes if there are more than 32,
-/// and then nodes and an index of the members once more if a key of the Dictionary is repeated or
-/// there are many keys.
+/// and then nodes, an index of the members and the text once more if a key of the Dictionary is
+/// repeated or there are many keys.
 ///
 /// ```
 /// normalise(alloc, &seed, Dialect::Rfc9651, Kind::Dict, b"u=1,  i=?1") // Ok: u=1, i
@@ -77,9 +77,9 @@ pub fn normalise(
 /// Returns the canonical text (RFC 9651 section 4.1) of the field that a text spells in a dialect,
 /// written from nodes; `None` if the text has none, as for [`scan_settled`]: call
 /// [`crate::parse_declined`] then. It fails only if an allocation fails. It allocates the canonical
-/// text, nodes if there are more than 32, and then nodes and an index of the members once more if a
-/// key of the Dictionary is repeated or there are many keys; if this last allocation fails, it
-/// returns `None`.
+/// text, nodes if there are more than 32, and then nodes, an index of the members and the text once
+/// more if a key of the Dictionary is repeated or there are many keys; if one of these last
+/// allocations fails, it returns `None`.
 ///
 /// ```
 /// canonical_text(alloc, Dialect::Rfc9651, Kind::Dict, b"u=1,  i=?1") // Ok(Some(..)): u=1, i
