@@ -27,8 +27,9 @@ const PAIRWISE: usize = 8;
 /// The number of slots that are searched for a key.
 const PROBES: usize = 64;
 
-/// The number of slots that are searched for each node, on average: twice what keys of different
-/// hashes need, so that keys which someone chose for their hash cost little before the field is built.
+/// The number of slots that are searched for each node, on average, beside those of as many keys of
+/// one hash as a table takes: twice what keys of different hashes need. So keys which someone chose
+/// for their hash cost little before the field is built.
 const SEARCHES: usize = 4;
 
 /// The number of nodes that are settled on the stack.
@@ -164,7 +165,10 @@ fn put_order(source: &[u8], nodes: &[Node], order: &mut [u32], table: &mut [u32]
 {
     let mut rest = nodes;
     let mut count = 0;
-    let mut searches = nodes.len().saturating_mul(SEARCHES).saturating_add(PROBES);
+    let mut searches = nodes
+        .len()
+        .saturating_mul(SEARCHES)
+        .saturating_add(PROBES * PROBES);
     loop {
         let Some((key, _, later)) = hop(source, rest) else {
             return Some(count);
