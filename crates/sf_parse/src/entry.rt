@@ -234,7 +234,7 @@ fn no_key(context: &Context) -> ShortBytes
 }
 
 /// Boolean true with parameters.
-pub fn flag(params: Entries<Bare>) -> Member
+fn flag(params: Entries<Bare>) -> Member
     ensures { result ≡ flag_member params }
 {
     Member::Item(Item {

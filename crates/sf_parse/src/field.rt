@@ -287,7 +287,7 @@ fn read_other_item(context: &Context, text: &[u8], inside: &[u8]) -> Result<Item
 }
 
 /// Whether the parameters before the rest of an Item are all of them. Otherwise the next one is not
-/// whole, or was not put for want of memory. Nothing is claimed of it.
+/// whole, or was not put because an allocation failed. Nothing is claimed of it.
 #[inline(always)]
 fn are_put(rest: &[u8]) -> bool {
     behind(rest, b';').is_none()
@@ -372,7 +372,7 @@ fn read_begun_item<'a>(
 
 /// The refusal of the text of an Item, after spaces, in a text of this length: of a byte of the Item
 /// or behind it, or of the end. None claims nothing: the text is then read by a reader, as where a
-/// space is behind a parameter that was not put, which may be for want of memory.
+/// space is behind a parameter that was not put: an allocation may have failed.
 #[inline(always)]
 fn refuse_item<'a>(
     context: &Context,

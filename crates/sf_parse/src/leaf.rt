@@ -1,7 +1,7 @@
 //! Bare items that are found in a text and built only where they are stored (RFC 9651 section
 //! 4.2.3.1). What was found is `Copy`: what follows it is tested before anything is allocated.
-ghost use Rattle.std.specs.Prelude.{◌≡◌, ◌++◌, ◌∷◌, IfSome, if◌then◌else◌};
-ghost use Rattle.sf_value.specs.Ascii.{digit_zero, digit_one};
+ghost use Rattle.std.specs.Prelude.{◌≡◌, ◌++◌, ◌∷◌, IfOk, IfSome, if◌then◌else◌};
+ghost use Rattle.sf_value.specs.Ascii.{digit_zero, digit_one, quote};
 ghost use Rattle.sf_value.specs.declared.dialect.Dialect.{Dialect};
 ghost use Rattle.sf_value.specs.Grammar.BareItems.{SpellsBare};
 ghost use Rattle.sf_value.specs.Grammar.Tokens.{IsToken};
@@ -10,7 +10,7 @@ ghost use Rattle.sf_parse.specs.WholeParts.{ReadsAs};
 
 use crate::context::Context;
 use crate::number::{Number, NumberReader};
-use crate::whole_bare::{behind, split};
+use crate::whole_bare::split;
 use sf_value::classes::{InToken, Unescaped, long_prefix};
 use sf_value::{Bare, ShortBytes, Text, Token, can_start_token};
 
@@ -47,15 +47,37 @@ pub fn find_leaf(text: &[u8]) -> Option<(Leaf<'_>, &[u8])>
         return Some((Leaf::Token(token), rest));
     }
     if first == b'"' {
-        let (run, stop) = long_prefix::<Unescaped>(more);
-        let rest = behind(stop, b'"')?;
-        return Some((Leaf::Text(run), rest));
+        return find_string(more).ok();
     }
     if first == b'?' {
         let (holds, rest) = read_boolean(more)?;
         return Some((Leaf::Boolean(holds), rest));
     }
     None
+}
+
+/// Why no String was found.
+#[derive(Clone, Copy)]
+pub enum NoString {
+    /// It has an escape.
+    Escaped,
+    /// It is malformed, or not whole.
+    Broken,
+}
+
+/// The String that a text begins with after its quote, and the rest. An error claims nothing.
+#[inline(always)]
+pub fn find_string(text: &[u8]) -> Result<(Leaf<'_>, &[u8]), NoString>
+    ensures leaf { IfOk result (λ r. IsLeaf r.0) }
+    ensures reads { IfOk result (λ r. (d : Dialect)
+        → ReadsAs (SpellsBare d) (quote ∷ text.now) (leaf_bare r.0) r.1.now) }
+{
+    let (run, stop) = long_prefix::<Unescaped>(text);
+    match split(stop) {
+        Some((b'"', rest)) => Ok((Leaf::Text(run), rest)),
+        Some((b'\\', _)) => Err(NoString::Escaped),
+        _ => Err(NoString::Broken),
+    }
 }
 
 /// The bare item that was found, or None if an allocation fails.

@@ -1,12 +1,13 @@
 //! Bare items that are whole in a text, read without a state between two calls (RFC 9651 section
 //! 4.2.3.1). None claims nothing: the text is then refused, or read by [`crate::bare`].
 ghost use Rattle.std.specs.Prelude.{◌≡◌, ◌≢◌, [], ◌∷◌, IfSome, true, false};
+ghost use Rattle.sf_value.specs.Ascii.{quote};
 ghost use Rattle.sf_value.specs.Grammar.BareItems.{SpellsBare};
 ghost use Rattle.sf_parse.specs.WholeParts.{ReadsAs};
 
 use crate::bare::BareReader;
 use crate::context::Context;
-use crate::leaf::{find_leaf, make};
+use crate::leaf::{NoString, find_leaf, find_string, make};
 use crate::level::Level;
 use sf_value::classes::{Unescaped, long_prefix};
 use sf_value::{Bare, can_start_token};
@@ -53,23 +54,51 @@ pub fn read_bare<'a>(context: &Context, text: &'a [u8]) -> Option<(Bare, &'a [u8
         let (bare, rest) = read_other(context, first, more)?;
         return Some((bare, rest));
     }
-    let Some((leaf, rest)) = find_leaf(text) else {
-        if first != b'"' || !may_have_escape(more) {
-            return None;
-        }
-        let (bare, rest) = read_other(context, first, more)?;
+    if first == b'"' {
+        let (bare, rest) = read_string(context, more)?;
         return Some((bare, rest));
-    };
+    }
+    let (leaf, rest) = find_leaf(text)?;
     let bare = make(context, leaf)?;
     Some((bare, rest))
 }
 
-/// Whether a String, of which this is left after its quote, may have an escape. It only saves time:
-/// nothing is claimed of it.
+/// A String after its quote, and the rest.
+#[inline(always)]
+fn read_string<'a>(context: &Context, text: &'a [u8]) -> Option<(Bare, &'a [u8])>
+    ensures { IfSome result (λ r. ReadsAs (SpellsBare context.now.dialect) (quote ∷ text.now) r.0
+        r.1.now) }
+{
+    match find_string(text) {
+        Ok((leaf, rest)) => {
+            let bare = make(context, leaf)?;
+            Some((bare, rest))
+        }
+        Err(NoString::Escaped) => read_other(context, b'"', text),
+        Err(NoString::Broken) => None,
+    }
+}
+
+/// How many bytes of a String are searched for its first escape, before its reader is made.
+const NEAR: usize = 128;
+
+/// The first bytes of a text: so many, or all if there are fewer.
+#[inline(always)]
+pub fn head(text: &[u8], most: usize) -> &[u8] {
+    let (first, _) = text.split_at(text.len().min(most));
+    first
+}
+
+/// Whether a String, of which this is left after its quote, may have an escape: unless it is seen
+/// near its beginning that it has none. It only saves time: nothing is claimed of it.
 #[inline(always)]
 pub fn may_have_escape(text: &[u8]) -> bool {
-    let (_, stop) = long_prefix::<Unescaped>(text);
-    behind(stop, b'\\').is_some()
+    let near = head(text, NEAR);
+    let (_, stop) = long_prefix::<Unescaped>(near);
+    match split(stop) {
+        Some((byte, _)) => byte == b'\\',
+        None => near.len() < text.len(),
+    }
 }
 
 /// Whether the text may begin with a bare item that needs no reader. It only saves time: nothing is

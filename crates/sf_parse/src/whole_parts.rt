@@ -24,7 +24,7 @@ ghost use Rattle.sf_parse.specs.BegunParts.{IsBegunAt, IsBegunIn};
 use crate::begun::{Begun, keep_closed, keep_inner, keep_items, keep_params};
 use crate::context::Context;
 use crate::leaf::{Leaf, find_leaf, make};
-use crate::whole_bare::{behind, may_have_escape, read_bare, split};
+use crate::whole_bare::{behind, head, may_have_escape, read_bare, split};
 use memchr::{memchr, memchr3};
 use sf_value::classes::{InKey, Space, short_prefix};
 use sf_value::{
@@ -35,18 +35,22 @@ use sf_value::{
 /// what follows it, and looking for it would cost small chunks.
 pub const WHOLE_PARTS: usize = 64;
 
-/// Whether a text has this byte. It only saves time: nothing is claimed of it.
+/// How many bytes of a chunk are searched for what is behind a part. A longer part is left to the
+/// levels, so that a chunk which is refused early is not searched to its end.
+const NEAR: usize = 1024;
+
+/// Whether this byte is near the beginning of a text. It only saves time: nothing is claimed of it.
 #[inline]
 pub fn has(text: &[u8], byte: u8) -> bool {
-    memchr(byte, text).is_some()
+    memchr(byte, head(text, NEAR)).is_some()
 }
 
-/// Whether a text has this byte before a comma and a closing bracket: a part of a chunk that is not
-/// followed by it is left to the levels, since it would be read again. It only saves time: nothing is
-/// claimed of it.
+/// Whether this byte is near the beginning of a text, before a comma and a closing bracket: a part of
+/// a chunk that is not followed by it is left to the levels, since it would be read again. It only
+/// saves time: nothing is claimed of it.
 #[inline]
 fn has_first(text: &[u8], byte: u8) -> bool {
-    match memchr3(byte, b',', b')', text) {
+    match memchr3(byte, b',', b')', head(text, NEAR)) {
         Some(place) => text.get(place).copied() == Some(byte),
         None => false,
     }
@@ -63,7 +67,7 @@ pub fn behind_spaces(text: &[u8]) -> &[u8]
 
 /// The bytes of a key, and the rest.
 #[inline(always)]
-pub fn find_key(text: &[u8]) -> Option<(&[u8], &[u8])>
+fn find_key(text: &[u8]) -> Option<(&[u8], &[u8])>
     ensures { IfSome result (λ r. (text.now ≡ r.0.now ++ r.1.now) × IsKey r.0.now) }
 {
     let (first, more) = split(text)?;
