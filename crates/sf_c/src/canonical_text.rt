@@ -13,7 +13,7 @@ use crate::seed::Seed;
 use crate::status::Status;
 use sf_value::laws::canon_is_short;
 use sf_value::{Dialect, Kind, same};
-use sf_view::canonical_text;
+use sf_view::settled_text;
 use sf_write::to_text;
 use std::alloc::Global;
 
@@ -122,7 +122,7 @@ fn canonical(
         (λ c. IsCanonicalOf dialect kind text.now c.items × (refusal.new ≡ refusal.old))
         (λ status. ParsesOrSays refusal.old refusal.new text.now dialect kind (Err status)) }
 {
-    match canonical_text(alloc, dialect, kind, text) {
+    match settled_text(alloc, dialect, kind, text) {
         Ok(Some(canonical)) => return Ok(canonical),
         Ok(None) => {}
         Err(_) => return Err(Status::OutOfMemory),

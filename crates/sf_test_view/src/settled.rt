@@ -2,7 +2,9 @@
 //! from nodes and from trees.
 use sf_parse::{Refusal, parse_text};
 use sf_value::{Dialect, Kind, OutOfMemory};
-use sf_view::{Node, View, canonical_text, node_buffer, normalise, scan_settled, view_text};
+use sf_view::{
+    Node, View, canonical_text, node_buffer, normalise, scan_settled, settled_text, view_text,
+};
 use sf_write::to_text;
 use std::alloc::Global;
 use std::hash::RandomState;
@@ -43,7 +45,7 @@ pub(crate) static REPEATED: [(&[u8], &[u8]); 16] = [
 
 /// Whether the canonical text is written from nodes, and is this one.
 fn is_from_nodes(alloc: Global, text: &[u8], canonical: &[u8]) -> bool {
-    match canonical_text(alloc, Dialect::Rfc9651, Kind::Dict, text) {
+    match settled_text(alloc, Dialect::Rfc9651, Kind::Dict, text) {
         Ok(Some(written)) => return written.as_slice() == canonical,
         _ => return false,
     }
@@ -71,6 +73,8 @@ fn repeated_keys_are_settled(rt: HostRuntime) -> Result<(), Fail> {
     for (text, canonical) in &REPEATED {
         assert!(&rt; is_from_nodes(alloc, text, canonical));
         assert!(&rt; is_scanned(alloc, Kind::Dict, text, canonical)?);
+        // A text without a view is declined.
+        assert!(&rt; canonical_text(alloc, Dialect::Rfc9651, Kind::Dict, text)?.is_none());
         let written = normalise(alloc, &seed, Dialect::Rfc9651, Kind::Dict, text)?;
         assert!(&rt; written.as_slice() == *canonical);
         // No more memory is kept than the text needs, however long the source is.
@@ -226,10 +230,66 @@ fn other_texts_are_scanned(rt: HostRuntime) -> Result<(), Fail> {
     Ok(())
 }
 
-/// A Dictionary of so many keys, which all have the same hash, and the first key once more.
-fn colliding(alloc: Global, members: u32) -> Result<Vec<u8>, OutOfMemory> {
+// Texts with a view, of few nodes and of many, and those without: their canonical texts.
+static VIEWED: [(Kind, &[u8], Option<&[u8]>); 6] = [
+    (Kind::Item, b"1.50;a=?1", Some(b"1.5;a")),
+    (Kind::List, b"(1  2 ),b", Some(b"(1 2), b")),
+    (Kind::Dict, b"a=1,b", Some(b"a=1, b")),
+    (
+        Kind::List,
+        b"(1 2 3 4 5 6 7 8 9 10 11 12 13 14 15 16 17 18 19 20 21 22 23 24 25 26 27 28 29 30 31 32)",
+        Some(
+            b"(1 2 3 4 5 6 7 8 9 10 11 12 13 14 15 16 17 18 19 20 21 22 23 24 25 26 27 28 29 30 31 32)",
+        ),
+    ),
+    (Kind::Item, b"1;a;b;a", None),
+    (Kind::List, b"a,b,", None),
+];
+
+#[test]
+fn views_have_canonical_texts(rt: HostRuntime) -> Result<(), Fail> {
+    let alloc = rt.alloc();
+    for (kind, text, canonical) in &VIEWED {
+        let written = canonical_text(alloc, Dialect::Rfc9651, *kind, text)?;
+        let settled = settled_text(alloc, Dialect::Rfc9651, *kind, text)?;
+        for found in [written, settled] {
+            let is_right = match (found, canonical) {
+                (Some(found), Some(canonical)) => found.as_slice() == *canonical,
+                (None, None) => true,
+                _ => false,
+            };
+            assert!(&rt; is_right);
+        }
+    }
+    Ok(())
+}
+
+/// A beginning of keys that are long.
+const LONG: &[u8] = &[b'k'; 100];
+
+#[test]
+fn long_keys_are_settled(rt: HostRuntime) -> Result<(), Fail> {
+    let seed = RandomState::new(&rt)?;
+    let alloc = rt.alloc();
+    let mut text = Vec::new(alloc);
+    for i in 0..1000u32 {
+        let key = if i % 8 == 7 { i.saturating_sub(5) } else { i };
+        text.extend_from_slice(LONG)?;
+        text.extend_from_slice(format!(in alloc; "{key}={i},")?.as_bytes())?;
+    }
+    text.extend_from_slice(b"z")?;
+    let field = parse_text(alloc, &seed, Kind::Dict, text.as_slice())?;
+    let canonical = to_text(alloc, &field)?;
+    assert!(&rt; is_from_nodes(alloc, text.as_slice(), canonical.as_slice()));
+    Ok(())
+}
+
+/// A Dictionary of so many keys, which begin like this and all have the same hash, and the first key
+/// once more.
+fn colliding(alloc: Global, beginning: &[u8], members: u32) -> Result<Vec<u8>, OutOfMemory> {
     let mut text = Vec::new(alloc);
     for i in 0..members {
+        text.extend_from_slice(beginning)?;
         for bit in 0..7u32 {
             // Each pair adds as much to the hash as the other.
             let pair = if i >> bit & 1 == 1 { b"d*" } else { b"bh" };
@@ -237,27 +297,31 @@ fn colliding(alloc: Global, members: u32) -> Result<Vec<u8>, OutOfMemory> {
         }
         text.extend_from_slice(format!(in alloc; "={i},")?.as_bytes())?;
     }
+    text.extend_from_slice(beginning)?;
     text.extend_from_slice(b"bhbhbhbhbhbhbh=last")?;
     Ok(text)
 }
 
-// How many keys have one hash, and whether there are nodes: 64 slots are searched for a key.
-static COLLIDING: [(u32, bool); 7] = [
-    (2, true),
-    (8, true),
-    (9, true),
-    (63, true),
-    (64, true),
-    (65, false),
-    (128, false),
+// How the keys of one hash begin, how many they are, and whether there are nodes: 64 slots are
+// searched for a key, and fewer in all if the keys are long.
+static COLLIDING: [(&[u8], u32, bool); 9] = [
+    (b"", 2, true),
+    (b"", 8, true),
+    (b"", 9, true),
+    (b"", 63, true),
+    (b"", 64, true),
+    (b"", 65, false),
+    (b"", 128, false),
+    (LONG, 9, true),
+    (LONG, 64, false),
 ];
 
 #[test]
 fn keys_of_one_hash_are_settled(rt: HostRuntime) -> Result<(), Fail> {
     let seed = RandomState::new(&rt)?;
     let alloc = rt.alloc();
-    for (members, has_nodes) in &COLLIDING {
-        let text = colliding(alloc, *members)?;
+    for (beginning, members, has_nodes) in &COLLIDING {
+        let text = colliding(alloc, beginning, *members)?;
         let field = parse_text(alloc, &seed, Kind::Dict, text.as_slice())?;
         let canonical = to_text(alloc, &field)?;
         let dialect = Dialect::Rfc9651;

@@ -232,9 +232,6 @@ pub record IsLater (nodes rest : List Node) : Type 0 where
   pub before : List Node
   pub whole : nodes ≡ before ++ rest
 
-pub later_all : (nodes : List Node) → IsLater nodes nodes
-later_all nodes = record { before = []; whole = refl }
-
 pub later_more : (source : List ℕ) (nodes rest : List Node) (k : List ℕ) (prefix later : List Node)
     → IsLater nodes rest → IsHop source rest k prefix later → IsLater nodes later
 later_more source nodes rest k prefix later l h = record {
@@ -252,10 +249,6 @@ later_is nodes rest l =
     ∙ drop-append_seam l.before rest
 
 -- a table after one more part is placed
-pub index_none : (source : List ℕ) (nodes : List Node) (table order : List ℕ)
-    → IsIndex source nodes table (take 0 order)
-index_none source nodes table order h p w = absurd (let z : ⊥ = omega arith in z)
-
 pub index_more : (source : List ℕ) (nodes : List Node) (old new order next : List ℕ) (k : List ℕ)
     (p s : ℕ) → IsIndex source nodes old order → length new ≡ length old
     → ((t q : ℕ) → HoldsPlace old t q → HoldsPlace new t q)
@@ -310,26 +303,6 @@ index_more source nodes old new order next k p s index same kept entered is own 
         subst (λ y. HoldsPlace new (tag_of y) i) (sym (ap (key_from source nodes) e ∙ own))
         (subst (HoldsPlace new (tag_of k)) (z ∙ sym j) (entered z used)))
         (cases_lt i (length order)))
-
--- a key of which no slot before an empty one has the place is none of the earlier ones
-pub absent_by_slot : (source : List ℕ) (nodes : List Node) (table order k : List ℕ) (step : ℕ)
-    → HoldsPlaces source nodes table order
-    → ((i p : ℕ) → i < step → get_or table (slot_in table (tag_of k) i) 0 ≡ p + 1
-    → key_from source nodes (get_or order p 0) ≢ k)
-    → get_or table (slot_in table (tag_of k) step) 0 ≡ 0
-    → (i : ℕ) → i < length order → key_from source nodes (get_or order i 0) ≢ k
-absent_by_slot source nodes table order k step holds other empty i w e =
-    let h = subst (λ y. HoldsPlace table (tag_of y) i) e (holds i w) in
-    ⊎_elim (λ l. other h.step i l h.there e)
-    (λ l.
-    ⊎_elim (λ m. h.before step m empty)
-    (λ m.
-    let j : h.step ≡ step = omega arith in
-    let z : i + 1 ≡ 0
-    = sym h.there ∙ ap (λ y. get_or table (slot_in table (tag_of k) y) 0) j ∙ empty in
-    omega arith)
-    (cases_lt step h.step))
-    (cases_lt h.step step)
 
 -- the nodes of one more part
 runs_append : (nodes : List Node) (xs ys : List ℕ)

@@ -36,7 +36,7 @@ pub use item_cursor::{ItemCursor, ItemView, ParamCursor, ParamView};
 pub use lookup::entry;
 pub use node::Node;
 pub use node_types::{NodeType, Role};
-pub use normal::{canonical_text, normalise, view_text};
+pub use normal::{canonical_text, normalise, settled_text, view_text};
 pub use series::scan_text;
 pub use settling::scan_settled;
 pub use view::{BareView, Slice, Unviewed, View};

@@ -15,7 +15,7 @@ use crate::declined::parse_declined;
 use crate::node::Node;
 use crate::series::scan_parts;
 use crate::settling::{FEW, scan_or_settle, settle_few};
-use crate::view::View;
+use crate::view::{Unviewed, View};
 use crate::writing::write_view;
 use sf_parse::Refusal;
 use sf_value::{Dialect, Kind, OutOfMemory, Writing};
@@ -68,18 +68,16 @@ pub fn normalise(
     ensures { MatchResult result (λ c. IsCanonicalOf dialect kind text.now c.items)
         (λ e. Parses dialect kind text.now (Err e)) }
 {
-    if let Some(canonical) = canonical_text(alloc, dialect, kind, text)? {
+    if let Some(canonical) = settled_text(alloc, dialect, kind, text)? {
         return Ok(canonical);
     }
     by_field(alloc, seed, dialect, kind, text)
 }
 
 /// Returns the canonical text (RFC 9651 section 4.1) of the field that a text spells in a dialect,
-/// written from nodes; `None` if the text has none, as for [`scan_settled`]: call
-/// [`crate::parse_declined`] then. It fails only if an allocation fails. It allocates the canonical
-/// text, nodes if there are more than 32, and then nodes, an index of the members and the text once
-/// more if a key of the Dictionary is repeated or there are many keys; if one of these last
-/// allocations fails, it returns `None`.
+/// written from nodes; `None` if the text has no view: call [`crate::parse_declined`] then, or
+/// [`settled_text`] in place of this. It fails only if an allocation fails. It allocates the
+/// canonical text, and nodes if there are more than 32.
 ///
 /// ```
 /// canonical_text(alloc, Dialect::Rfc9651, Kind::Dict, b"u=1,  i=?1") // Ok(Some(..)): u=1, i
@@ -95,12 +93,55 @@ pub fn canonical_text(
         (λ found. IfSome found (λ c. IsCanonicalOf dialect kind text.now c.items)) }
 {
     let mut few = [Node::NONE; FEW];
+    match View::scan(dialect, kind, text, &mut few) {
+        Ok(view) => return Ok(Some(view_text(alloc, &view, kind)?)),
+        Err(Unviewed::ShortBuffer) => return by_many_nodes(alloc, dialect, kind, text),
+        Err(_) => return Ok(None),
+    }
+}
+
+/// The same for a text with more nodes than are on the stack.
+fn by_many_nodes(
+    alloc: Global,
+    dialect: Dialect,
+    kind: Kind,
+    text: &[u8],
+) -> Result<Option<Vec<u8>>, OutOfMemory>
+    ensures { IfOk result
+        (λ found. IfSome found (λ c. IsCanonicalOf dialect kind text.now c.items)) }
+{
+    let mut nodes = node_buffer(alloc, text)?;
+    match View::scan(dialect, kind, text, nodes.as_mut_slice()) {
+        Ok(view) => return Ok(Some(view_text(alloc, &view, kind)?)),
+        Err(_) => return Ok(None),
+    }
+}
+
+/// Returns the canonical text as [`canonical_text`] does, also if a key of the Dictionary is
+/// repeated, or there are many keys: `None` if the text has no nodes, as for [`scan_settled`]. Then
+/// it allocates nodes, an index of the members and the text once more; if one of these allocations
+/// fails, it returns `None`.
+///
+/// ```
+/// settled_text(alloc, Dialect::Rfc9651, Kind::Dict, b"u=1, i, u=2") // Ok(Some(..)): u=2, i
+/// ```
+pub fn settled_text(
+    alloc: Global,
+    dialect: Dialect,
+    kind: Kind,
+    text: &[u8],
+) -> Result<Option<Vec<u8>>, OutOfMemory>
+    // The canonical text of the only value that the text spells.
+    ensures { IfOk result
+        (λ found. IfSome found (λ c. IsCanonicalOf dialect kind text.now c.items)) }
+{
+    let mut few = [Node::NONE; FEW];
     let mut repeated = false;
     let Some(count) = scan_parts(dialect, kind, &mut repeated, text, &mut few) else {
         if text.len() <= FEW || text.len() > 0xffff_ffff {
             return Ok(None);
         }
-        return by_many_nodes(alloc, dialect, kind, text);
+        return by_settled_buffer(alloc, dialect, kind, text);
     };
     if repeated {
         return by_settled_nodes(alloc, dialect, kind, text, &few[..count]);
@@ -133,11 +174,11 @@ fn by_settled_nodes(
         text,
         nodes: &few[..count],
     };
-    Ok(settled_text(alloc, &view, kind))
+    Ok(fitted_text(alloc, &view, kind))
 }
 
 /// The same for a text with more nodes than are on the stack.
-fn by_many_nodes(
+fn by_settled_buffer(
     alloc: Global,
     dialect: Dialect,
     kind: Kind,
@@ -152,14 +193,14 @@ fn by_many_nodes(
         return Ok(None);
     };
     if repeated {
-        return Ok(settled_text(alloc, &view, kind));
+        return Ok(fitted_text(alloc, &view, kind));
     }
     Ok(Some(view_text(alloc, &view, kind)?))
 }
 
 /// The text that [`view_text`] returns, in memory of its own length, since it may be much shorter
 /// than the source; `None` if an allocation fails.
-fn settled_text(alloc: Global, view: &View, kind: Kind) -> Option<Vec<u8>>
+fn fitted_text(alloc: Global, view: &View, kind: Kind) -> Option<Vec<u8>>
     ensures { (d : Which) (t : Seq ℕ) → IsViewed d kind t view.now
         → IfSome result (λ text. IsCanonicalOf d kind t text.items) }
 {

@@ -1,8 +1,7 @@
 //! Nodes of a Dictionary in which a key is repeated: the last value is at the place of the first
 //! one (RFC 9651 section 4.2.2).
-ghost use Rattle.std.specs.Prelude.{◌≡◌, ◌≤◌, ◌<◌, ℕ, IfOk, IfSome, length, take, false};
+ghost use Rattle.std.specs.Prelude.{◌≡◌, ◌≤◌, ◌<◌, ℕ, IfSome, length, take, false};
 ghost use Rattle.sf_value.specs.declared.dialect.Dialect.{Dialect as Which};
-ghost use Rattle.sf_value.specs.declared.value.Kind.TheVariants as kind_is;
 ghost use Rattle.sf_value.specs.declared.value.Member.{Member};
 ghost use Rattle.sf_value.specs.Grammar.Pairs.{Pairs, settle as settled_pairs};
 ghost use Rattle.sf_view.specs.Scans.{Puts};
@@ -27,9 +26,9 @@ const PAIRWISE: usize = 8;
 /// The number of slots that are searched for a key.
 const PROBES: usize = 64;
 
-/// The number of slots that are searched for each node, on average, beside those of as many keys of
-/// one hash as a table takes: twice what keys of different hashes need. So keys which someone chose
-/// for their hash cost little before the field is built.
+/// What may be searched for each node and for each 16 bytes of the text, on average, beside as many
+/// short keys of one hash as a table takes: twice what keys of different hashes need. So keys which
+/// someone chose for their hash cost little before the field is built.
 const SEARCHES: usize = 4;
 
 /// The number of nodes that are settled on the stack.
@@ -85,8 +84,14 @@ fn place_among(source: &[u8], nodes: &[Node], order: &[u32], key: &[u8]) -> Opti
     Some(place)
 }
 
+/// What a search of one slot costs: one, and one for each 16 bytes of the key, which may have to be
+/// compared.
+fn search_cost(key: &[u8]) -> usize {
+    (key.len() / 16).saturating_add(1)
+}
+
 /// The same by a table of places, in which the place of a new key is put; `None` also if none of
-/// the key's slots has it or is empty, or if no more slots may be searched.
+/// the key's slots has it or is empty, or if no more may be searched.
 #[inline]
 fn place_by_table(
     source: &[u8],
@@ -108,12 +113,13 @@ fn place_by_table(
     }
     let own = tag(key);
     let mask = table.len() - 1;
+    let cost = search_cost(key);
     for step in 0..PROBES {
         let slot = ((own >> 4) as usize + step) & mask;
-        if slot >= table.len() || *searches == 0 {
+        if slot >= table.len() || *searches < cost {
             return None;
         }
-        *searches -= 1;
+        *searches -= cost;
         let there = table[slot];
         if there == 0 {
             table[slot] = (order.len() + 1) as u32;
@@ -167,6 +173,7 @@ fn put_order(source: &[u8], nodes: &[Node], order: &mut [u32], table: &mut [u32]
     let mut count = 0;
     let mut searches = nodes
         .len()
+        .saturating_add(source.len() / 16)
         .saturating_mul(SEARCHES)
         .saturating_add(PROBES * PROBES);
     loop {
