@@ -71,8 +71,8 @@ impl From<UseFault> for AskFault {
 }
 
 /// Returns what the lines mean to a consumer: parses them as its kind, as [`crate::parse_from`]
-/// does, and passes the value to [`Consumer::answer`]. One line, or lines whose joined text has at
-/// most 1 KiB, are passed to [`Consumer::answer_text`] before. Accepted lines have the meaning of
+/// does, and passes the value to [`Consumer::answer`]. One line, or at most 16 whose joined text has
+/// at most 1 KiB, are passed to [`Consumer::answer_text`] before. Accepted lines have the meaning of
 /// their canonical text as one line. Out of memory for the answer is returned only if the value has
 /// an answer.
 ///
@@ -158,8 +158,8 @@ fn ask_parsed<C: Consumer>(
     answer_read(alloc, consumer, read)
 }
 
-/// Returns what two lines and those that remain mean. They are joined on the stack if they are
-/// short; otherwise what was joined and those behind it are parsed one by one.
+/// Returns what two lines and those that remain mean. They are joined on the stack if they are few
+/// and short; otherwise what was joined and those behind it are parsed one by one.
 #[inline(never)]
 fn ask_several<'a, C: Consumer, L: FieldLines<'a>>(
     alloc: Global,

@@ -12,11 +12,16 @@ use crate::lines::FieldLines;
 pub(crate) struct Joined<'a> {
     /// The number of bytes of joined text at the start of the buffer.
     pub(crate) length: usize,
-    /// The line after the joined ones, for which the buffer is too small; `None` if none is left.
+    /// The line after the joined ones; `None` if none is left.
     pub(crate) next: Option<&'a [u8]>,
 }
 
-/// Joins two lines and those that remain in the buffer, as far as they fit.
+/// How many lines are joined behind the first: a field that is refused early is not joined to its end
+/// before. Few fields have more lines.
+const LINES: usize = 15;
+
+/// Joins two lines and those that remain in the buffer, as far as they fit, but at most 16, and only
+/// up to an empty one: with this the field is refused.
 pub(crate) fn join_prefix<'a, L: FieldLines<'a>>(
     buffer: &mut [u8],
     first: &[u8],
@@ -32,18 +37,22 @@ pub(crate) fn join_prefix<'a, L: FieldLines<'a>>(
 {
     let mut length = put(buffer, 0, first);
     let mut next = second;
-    loop {
+    for _ in 0..LINES {
+        if next.is_empty() {
+            break;
+        }
         let Some(longer) = put_line(buffer, length, next) else {
-            return Joined {
-                length,
-                next: Some(next),
-            };
+            break;
         };
         length = longer;
         let Some(line) = others.next_line() else {
             return Joined { length, next: None };
         };
         next = line;
+    }
+    Joined {
+        length,
+        next: Some(next),
     }
 }
 
