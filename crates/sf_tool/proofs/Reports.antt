@@ -1,6 +1,6 @@
 -- What an input was answered (`Reports`), from the text that was to be written.
 use Rattle.std.proofs.Common.{◌≡◌, ℕ, ◌*◌, ◌≤◌, ◌⊎◌, inl, inr, Bool, false, List}
-use Rattle.std.proofs.Common.{length, Option, Some, None, Result, Ok, Err}
+use Rattle.std.proofs.Common.{length, Option, Some, None, Result, Err}
 use Rattle.std.proofs.Common.{refl, sym, subst, arith}
 use Rattle.sf_value.specs.declared.dialect.Dialect.{Dialect}
 use Rattle.sf_value.specs.declared.dialect.Dialect.TheVariants.{Rfc9651}

@@ -96,7 +96,7 @@ pub fn run<R: Source, W: Sink, E: Sink>(
 }
 
 /// Parses the input's lines as one field. If they were scanned before, `doubtful` is the input from
-/// the first line on that was not found to be accepted.
+/// the first line on that was not found to be accepted, and empty if all were.
 fn parse_input(
     alloc: Global,
     seed: &RandomState,
@@ -126,7 +126,8 @@ fn parse_input(
 }
 
 /// Parses an input whose lines may be refused from one on: if they are, from the last whole member
-/// before that. `None` claims nothing.
+/// before that. Several lines are joined before, if that pays, as it does if none is doubtful. `None`
+/// claims nothing.
 fn parse_doubtful(
     alloc: Global,
     seed: &RandomState,
@@ -443,9 +444,29 @@ fn answer_at_once<W: Sink>(
         }
         _ => {
             drop(made);
-            answer(alloc, seed, request, input, sink)
+            answer_in_parts(alloc, seed, request, input, sink)
         }
     }
+}
+
+/// Answers a request for the input, and sends a canonical text in the parts of the field: a sink that
+/// takes a part or fails has all parts before that.
+fn answer_in_parts<W: Sink>(
+    alloc: Global,
+    seed: &RandomState,
+    request: &Request,
+    input: &[u8],
+    sink: &mut W,
+) -> Status
+    requires { length input.now ≤ input_limit }
+    // The whole answer was written; or a prefix of it, and a write failed; or nothing.
+    ensures { Reports request.now input.now (W.state sink.old) (W.state sink.new) result }
+{
+    if let Request::Normalise(dialect, kind) = request {
+        let view = View::Canonical;
+        return answer_parsed(alloc, seed, view, *dialect, *kind, input, None, sink);
+    }
+    answer(alloc, seed, request, input, sink)
 }
 
 /// Returns the message that explains the first refused line of the input; None if no line is
