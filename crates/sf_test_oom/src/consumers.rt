@@ -39,18 +39,19 @@ fn long_lines(alloc: Global, text: &[u8]) -> Result<Vec<Blob>, Fail> {
     Ok(lines)
 }
 
-fn headers(alloc: Global) -> Result<HeaderMap, Fail> {
+/// Headers with these values of a targeted field, and with one of a later target.
+fn headers(alloc: Global, values: &[&[u8]]) -> Result<HeaderMap, Fail> {
     let mut headers = HeaderMap::new(alloc);
-    for (name, value) in [
-        ("a", b"max-age=60".as_slice()),
-        ("a", LONG),
-        ("b", b"max-age=30"),
-    ] {
+    for value in values {
         headers.append(
-            HeaderName::from_bytes(alloc, name.as_bytes())?,
+            HeaderName::from_bytes(alloc, b"a")?,
             HeaderValue::from_bytes(alloc, value)?,
         )?;
     }
+    headers.append(
+        HeaderName::from_bytes(alloc, b"b")?,
+        HeaderValue::from_bytes(alloc, b"max-age=30")?,
+    )?;
     Ok(headers)
 }
 
@@ -242,9 +243,11 @@ fn choose(alloc: Global, seed: &RandomState, targets: &[HeaderName], headers: &H
 fn chooses(rt: HostRuntime) -> Result<(), Fail> {
     let alloc = rt.alloc();
     let seed = RandomState::new(&rt)?;
-    let headers = headers(alloc)?;
     let targets = [HeaderName::from_static("a"), HeaderName::from_static("b")];
-    expect_refusals(&rt, || choose(alloc, &seed, &targets, &headers));
+    let long = headers(alloc, &[b"max-age=60", LONG])?;
+    expect_refusals(&rt, || choose(alloc, &seed, &targets, &long));
+    let short = headers(alloc, &[b"max-age=60"])?;
+    expect_no_need(&rt, || choose(alloc, &seed, &targets, &short));
     Ok(())
 }
 

@@ -119,6 +119,34 @@ fn refused_items(rt: HostRuntime) -> Result<(), Fail> {
     Ok(())
 }
 
+/// Texts that are refused for this byte at this place, behind a key or a bare item of more than 16
+/// bytes, for which alone memory is asked.
+const REFUSED_BEHIND_LONG: [(Kind, &[u8], u64, u8); 6] = [
+    (Kind::Dict, b"a_key_of_more_than_16_bytes=#", 28, b'#'),
+    (Kind::Item, b"1;a_key_of_more_than_16_bytes=#", 30, b'#'),
+    (Kind::List, b"1;a_key_of_more_than_16_bytes=#", 30, b'#'),
+    (Kind::List, b"a_token_of_more_than_16_bytes\"", 29, b'"'),
+    (Kind::Item, b"a_token_of_more_than_16_bytes x", 30, b'x'),
+    (
+        Kind::List,
+        b"(\"a string of more than 16 bytes\"#",
+        33,
+        b'#',
+    ),
+];
+
+#[test]
+fn refused_behind_long(rt: HostRuntime) -> Result<(), Fail> {
+    let alloc = rt.alloc();
+    let seed = RandomState::new(&rt)?;
+    for (kind, text, place, byte) in REFUSED_BEHIND_LONG {
+        expect_refusals(&rt, || {
+            seen_syntax(parse_text(alloc, &seed, kind, text), place, byte)
+        });
+    }
+    Ok(())
+}
+
 /// The Dictionary of a text that a reader gives a byte a call.
 fn read(alloc: Global, seed: &RandomState, text: &[u8]) -> Result<Field, Refusal> {
     let mut source = Paced::new(text, 1, 0, 0);

@@ -30,7 +30,7 @@ impl fmt::Write for Board {
 // The kind, a text that is refused, and the parts of its message with the text, between bars.
 type Row = (Kind, &'static [u8], &'static str);
 
-static ROWS: [Row; 5] = [
+static ROWS: [Row; 10] = [
     (
         Kind::Item,
         b"1 2",
@@ -62,6 +62,84 @@ static ROWS: [Row; 5] = [
          `|, |`|6|`|, |`|7|`|, |`|c|`|, |`|d|`|, |`|e|`| or |`|f|`|\nline |1|, place |3|:\n|%|\"|%|a|\
          \n| | | |^",
     ),
+    (
+        Kind::Item,
+        b"\"a\x01",
+        "byte |0x|0|1| at place |2|, expected |a printable character|\nline |1|, place |2|:\n|\"|a|?|\n\
+         | | |^",
+    ),
+    (
+        Kind::Item,
+        b":YQ!",
+        "byte |0x|2|1| '|!|'| at place |3|, expected |a base64 character|, |`|:|`| or |`|=|`|\nline |1|\
+         , place |3|:\n|:|Y|Q|!|\n| | | |^",
+    ),
+    (
+        Kind::Dict,
+        b"aB",
+        "byte |0x|4|2| '|B|'| at place |1|, expected |a key character|, |`|,|`|, |`|;|`|, |`|=|`|, |a \
+         tab|, |a space| or |the end|\nline |1|, place |1|:\n|a|B|\n| |^",
+    ),
+    (
+        Kind::Dict,
+        b"A",
+        "byte |0x|4|1| '|A|'| at place |0|, expected |a lower-case letter|, |`|*|`|, |a space| or |the \
+         end|\nline |1|, place |0|:\n|A|\n|^",
+    ),
+    (
+        Kind::Item,
+        b"1.5.5",
+        "byte |0x|2|e| '|.|'| at place |3|, expected |a digit|, |`|;|`|, |a space| or |the end|\nline |\
+         1|, place |3|:\n|1|.|5|.|5|\n| | | |^",
+    ),
+];
+
+// What came at place 0, the bytes that may come, a bit for each, whether the text may end, and the
+// parts of the message.
+type MadeRow = (Option<u8>, u128, bool, &'static str);
+
+// Refusals of which no text has some.
+static MADE: [MadeRow; 5] = [
+    (
+        Some(7),
+        0x07ff_fffe_0000_0000_0000_0000,
+        false,
+        "byte |0x|0|7| at place |0|, expected |an upper-case letter|",
+    ),
+    (
+        Some(b'`'),
+        1 << 96,
+        true,
+        "byte |0x|6|0| '|`|'| at place |0|, expected |a backquote| or |the end|",
+    ),
+    (
+        None,
+        0x8000_0000_0000_0000_0000_0000_8000_0202,
+        false,
+        "the text ended at place |0|, expected |0x|7|f|, |0x|0|1|, |a tab| or |0x|1|f|",
+    ),
+    (
+        Some(255),
+        0,
+        false,
+        "byte |0x|f|f| at place |0|, expected |nothing|",
+    ),
+    (
+        None,
+        0,
+        true,
+        "the text ended at place |0|, expected |the end|",
+    ),
+];
+
+// Those that are not of a byte.
+static OTHERS: [(Refusal, &str); 3] = [
+    (Refusal::TooLong { max: 70 }, "more than |70| bytes"),
+    (
+        Refusal::ReadFault { place: 12 },
+        "a read failed after |12| bytes",
+    ),
+    (Refusal::OutOfMemory, "out of memory"),
 ];
 
 /// What a writer with this room holds of the parts, and whether it holds all.
@@ -76,11 +154,10 @@ fn held(alloc: Global, parts: &str, room: usize) -> Result<(Vec<u8>, bool), OutO
     Ok((held, true))
 }
 
-/// Whether a writer with this room holds just these parts of the message with the text.
-fn holds_parts(
+/// Whether a writer with this room holds just these parts of a message.
+fn holds_parts<D: fmt::Display>(
     alloc: Global,
-    refusal: Refusal,
-    text: &[u8],
+    message: &D,
     parts: &str,
     room: usize,
 ) -> Result<bool, OutOfMemory> {
@@ -89,8 +166,7 @@ fn holds_parts(
         held: Vec::new(alloc),
         room,
     };
-    let shown = refusal.in_text(text);
-    let written = write!(board, "{shown}");
+    let written = write!(board, "{message}");
     Ok(written.is_ok() == whole && board.held.as_slice() == want.as_slice())
 }
 
@@ -102,8 +178,26 @@ fn messages_without_room(rt: HostRuntime) -> Result<(), Fail> {
         let Err(refusal) = parse_text(alloc, &seed, kind, text) else {
             return Err(Fail::new("a text was accepted"));
         };
+        let message = refusal.in_text(text);
         for room in 0..400usize {
-            assert!(&rt; holds_parts(alloc, refusal, text, parts, room)?, "{room}");
+            assert!(&rt; holds_parts(alloc, &message, parts, room)?, "{room}");
+        }
+    }
+    for (found, expected, may_end, parts) in MADE {
+        let place = 0;
+        let refusal = Refusal::Syntax {
+            place,
+            found,
+            expected,
+            may_end,
+        };
+        for room in 0..100usize {
+            assert!(&rt; holds_parts(alloc, &refusal, parts, room)?, "{room}");
+        }
+    }
+    for (refusal, parts) in OTHERS {
+        for room in 0..100usize {
+            assert!(&rt; holds_parts(alloc, &refusal, parts, room)?, "{room}");
         }
     }
     Ok(())
