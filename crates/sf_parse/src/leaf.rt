@@ -1,6 +1,6 @@
 //! Bare items that are found in a text and built only where they are stored (RFC 9651 section
 //! 4.2.3.1). What was found is `Copy`: what follows it is tested before anything is allocated.
-ghost use Rattle.std.specs.Prelude.{◌≡◌, ◌++◌, ◌∷◌, IfOk, IfSome, if◌then◌else◌};
+ghost use Rattle.std.specs.Prelude.{◌≡◌, ◌++◌, ◌∷◌, IfSome, if◌then◌else◌};
 ghost use Rattle.sf_value.specs.Ascii.{digit_zero, digit_one, quote};
 ghost use Rattle.sf_value.specs.declared.dialect.Dialect.{Dialect};
 ghost use Rattle.sf_value.specs.Grammar.BareItems.{SpellsBare};
@@ -10,12 +10,12 @@ ghost use Rattle.sf_parse.specs.WholeParts.{ReadsAs};
 
 use crate::context::Context;
 use crate::number::{Number, NumberReader};
-use crate::whole_bare::split;
+use crate::whole_bare::{behind, head, split};
 use sf_value::classes::{InToken, Unescaped, long_prefix};
 use sf_value::{Bare, ShortBytes, Text, Token, can_start_token};
 
-/// A bare item of a text. Byte Sequences, Dates, Display Strings and Strings with an escape are
-/// none of these: they are not read from the text in one step.
+/// A bare item of a text. Byte Sequences, Dates, Display Strings, and Strings with an escape or of
+/// more than 512 bytes are none of these: they are not read from the text in one step.
 #[derive(Clone, Copy)]
 pub enum Leaf<'a> {
     /// An Integer or a Decimal.
@@ -47,7 +47,7 @@ pub fn find_leaf(text: &[u8]) -> Option<(Leaf<'_>, &[u8])>
         return Some((Leaf::Token(token), rest));
     }
     if first == b'"' {
-        return find_string(more).ok();
+        return find_string(more);
     }
     if first == b'?' {
         let (holds, rest) = read_boolean(more)?;
@@ -56,28 +56,21 @@ pub fn find_leaf(text: &[u8]) -> Option<(Leaf<'_>, &[u8])>
     None
 }
 
-/// Why no String was found.
-#[derive(Clone, Copy)]
-pub enum NoString {
-    /// It has an escape.
-    Escaped,
-    /// It is malformed, or not whole.
-    Broken,
-}
+/// The most bytes of a String that is found. A longer one is left to its reader, which searches it
+/// only once.
+pub const LONGEST: usize = 512;
 
-/// The String that a text begins with after its quote, and the rest. An error claims nothing.
+/// The String that a text begins with after its quote, and the rest. None claims nothing.
 #[inline(always)]
-pub fn find_string(text: &[u8]) -> Result<(Leaf<'_>, &[u8]), NoString>
-    ensures leaf { IfOk result (λ r. IsLeaf r.0) }
-    ensures reads { IfOk result (λ r. (d : Dialect)
+fn find_string(text: &[u8]) -> Option<(Leaf<'_>, &[u8])>
+    ensures leaf { IfSome result (λ r. IsLeaf r.0) }
+    ensures reads { IfSome result (λ r. (d : Dialect)
         → ReadsAs (SpellsBare d) (quote ∷ text.now) (leaf_bare r.0) r.1.now) }
 {
-    let (run, stop) = long_prefix::<Unescaped>(text);
-    match split(stop) {
-        Some((b'"', rest)) => Ok((Leaf::Text(run), rest)),
-        Some((b'\\', _)) => Err(NoString::Escaped),
-        _ => Err(NoString::Broken),
-    }
+    let (run, _) = long_prefix::<Unescaped>(head(text, LONGEST));
+    let (found, stop) = text.split_at(run.len());
+    let rest = behind(stop, b'"')?;
+    Some((Leaf::Text(found), rest))
 }
 
 /// The bare item that was found, or None if an allocation fails.

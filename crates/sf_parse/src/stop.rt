@@ -1,8 +1,9 @@
 //! Where a text stops that spells no field, for the refusal of a text of which direct reading did
 //! not take all. It is found by a reader of one bare item, behind the whole parts that were kept of
-//! a member or an Item; what is behind another whole part is left to the levels. What they would
-//! allocate up to there was allocated, or is here, so that a text is refused as out of memory where
-//! they refuse it so; this order is tested, not proved.
+//! a member or an Item, or behind whole parameters that are put once more; what is behind another
+//! whole part is left to the levels. What they would allocate up to there was allocated, or is here,
+//! so that a text is refused as out of memory where they refuse it so; this order is tested, not
+//! proved.
 ghost use Rattle.std.specs.Prelude.{List, [], is_some, IfSome};
 ghost use Rattle.sf_value.specs.declared.value.Bare.{Bare};
 ghost use Rattle.sf_value.specs.declared.value.Item.{Item};
@@ -24,7 +25,8 @@ use crate::member::MemberReader;
 use crate::refusal::Refusal;
 use crate::sets::{BEHIND_KEY, CLOSE, KEY_START, SEMICOLON, SPACE, set_if};
 use crate::whole_bare::{behind, split};
-use crate::whole_parts::{behind_spaces, read_key};
+use crate::whole_parts::{behind_spaces, put_each_param, read_key};
+use sf_value::Entries;
 
 /// A place in a text, and what may come there.
 #[derive(Clone, Copy)]
@@ -84,21 +86,39 @@ fn stop_in_bare<'a>(context: &Context, text: &'a [u8]) -> Option<Stop<'a>>
     })
 }
 
-/// Where parameters stop, after their first semicolon.
+/// Where parameters stop, after their first semicolon. None claims nothing.
 #[inline(always)]
-fn stop_in_params<'a>(context: &Context, text: &'a [u8], begun: &Option<Begun<'a>>) -> Stop<'a>
+fn stop_in_params<'a>(
+    context: &Context,
+    text: &'a [u8],
+    begun: &Option<Begun<'a>>,
+) -> Option<Stop<'a>>
     requires { IfSome begun.now (IsBegunBeside context.now.dialect text.now) }
-    ensures { StopsAt (params_step context.now.dialect) (λ s. is_some (params_finish s)) (Opened [])
-        text.now result }
+    ensures { IfSome result (StopsAt (params_step context.now.dialect)
+        (λ s. is_some (params_finish s)) (Opened []) text.now) }
 {
     if let Some(begun) = begun {
         if begun.from.len() == text.len() {
             if let Parts::Params(_) = &begun.parts {
-                return stop_in_param(context, begun.left);
+                return Some(stop_in_param(context, begun.left));
             }
         }
     }
-    stop_in_param(context, text)
+    stop_in_new_params(context, text)
+}
+
+/// The same where none are kept: the whole ones are put once more, as the levels do, which ask for
+/// the same memory.
+#[inline(never)]
+fn stop_in_new_params<'a>(context: &Context, text: &'a [u8]) -> Option<Stop<'a>>
+    ensures { IfSome result (StopsAt (params_step context.now.dialect)
+        (λ s. is_some (params_finish s)) (Opened []) text.now) }
+{
+    let mut params = Entries::new(context.alloc, &context.seed);
+    let Ok(left) = put_each_param(context, text, 0, &mut params) else {
+        return None;
+    };
+    Some(stop_in_param(context, left))
 }
 
 /// Where the next parameter stops, after its semicolon.
@@ -150,7 +170,8 @@ pub fn stop_in_item<'a>(
     let stop = stop_in_bare(context, text)?;
     if stop.may_end {
         if let Some(more) = behind(stop.left, b';') {
-            return Some(stop_in_params(context, more, begun));
+            let behind_bare = stop_in_params(context, more, begun)?;
+            return Some(behind_bare);
         }
     }
     Some(Stop {
@@ -251,7 +272,8 @@ pub fn stop_in_entry<'a>(
 {
     let (_, after) = read_key(context, text)?;
     if let Some(more) = behind(after, b';') {
-        return Some(stop_in_params(context, more, begun));
+        let behind_key = stop_in_params(context, more, begun)?;
+        return Some(behind_key);
     }
     let Some(value) = behind(after, b'=') else {
         return Some(Stop {

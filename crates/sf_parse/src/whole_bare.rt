@@ -1,15 +1,14 @@
 //! Bare items that are whole in a text, read without a state between two calls (RFC 9651 section
 //! 4.2.3.1). None claims nothing: the text is then refused, or read by [`crate::bare`].
-ghost use Rattle.std.specs.Prelude.{◌≡◌, ◌≢◌, [], ◌∷◌, IfSome, true, false};
-ghost use Rattle.sf_value.specs.Ascii.{quote};
+ghost use Rattle.std.specs.Prelude.{◌≡◌, ◌≢◌, ℕ, List, [], ◌∷◌, ◌++◌, IfSome, true, false};
 ghost use Rattle.sf_value.specs.Grammar.BareItems.{SpellsBare};
 ghost use Rattle.sf_parse.specs.WholeParts.{ReadsAs};
 
 use crate::bare::BareReader;
 use crate::context::Context;
-use crate::leaf::{NoString, find_leaf, find_string, make};
+use crate::leaf::LONGEST;
 use crate::level::Level;
-use sf_value::classes::{Unescaped, long_prefix};
+use memchr::memchr2;
 use sf_value::{Bare, can_start_token};
 
 /// The first byte, and the rest.
@@ -43,60 +42,41 @@ pub fn ends(text: &[u8]) -> bool
     text.is_empty()
 }
 
-/// A bare item, and the rest.
+/// A bare item that only its reader reads, where no leaf is found, and the rest: a Byte Sequence, a
+/// Date, a Display String, or a String that has an escape or is long.
 #[inline(always)]
 pub fn read_bare<'a>(context: &Context, text: &'a [u8]) -> Option<(Bare, &'a [u8])>
     ensures { IfSome result (λ r. ReadsAs (SpellsBare context.now.dialect) text.now r.0 r.1.now) }
 {
     let (first, more) = split(text)?;
-    if let b':' | b'@' | b'%' = first {
+    if let b':' | b'@' | b'%' | b'"' = first {
         // In parts: the compiler keeps these in registers, and the result as a whole in memory.
         let (bare, rest) = read_other(context, first, more)?;
         return Some((bare, rest));
     }
-    if first == b'"' {
-        let (bare, rest) = read_string(context, more)?;
-        return Some((bare, rest));
-    }
-    let (leaf, rest) = find_leaf(text)?;
-    let bare = make(context, leaf)?;
-    Some((bare, rest))
+    None
 }
 
-/// A String after its quote, and the rest.
-#[inline(always)]
-fn read_string<'a>(context: &Context, text: &'a [u8]) -> Option<(Bare, &'a [u8])>
-    ensures { IfSome result (λ r. ReadsAs (SpellsBare context.now.dialect) (quote ∷ text.now) r.0
-        r.1.now) }
-{
-    match find_string(text) {
-        Ok((leaf, rest)) => {
-            let bare = make(context, leaf)?;
-            Some((bare, rest))
-        }
-        Err(NoString::Escaped) => read_other(context, b'"', text),
-        Err(NoString::Broken) => None,
-    }
-}
-
-/// How many bytes of a String are searched for its first escape, before its reader is made.
-const NEAR: usize = 128;
+/// How many bytes of a text are searched for what is behind a part. A text that is refused early is
+/// so not searched to its end before.
+pub const NEAR: usize = 1024;
 
 /// The first bytes of a text: so many, or all if there are fewer.
 #[inline(always)]
-pub fn head(text: &[u8], most: usize) -> &[u8] {
+pub fn head(text: &[u8], most: usize) -> &[u8]
+    ensures { (rest : List ℕ) × (text.now ≡ result.now ++ rest) }
+{
     let (first, _) = text.split_at(text.len().min(most));
     first
 }
 
-/// Whether a String, of which this is left after its quote, may have an escape: unless it is seen
-/// near its beginning that it has none. It only saves time: nothing is claimed of it.
+/// Whether a String, of which this is left after its quote and which was not found, may be one that
+/// its reader reads: it has an escape, or is long. It only saves time: nothing is claimed of it.
 #[inline(always)]
-pub fn may_have_escape(text: &[u8]) -> bool {
+pub fn may_need_reader(text: &[u8]) -> bool {
     let near = head(text, NEAR);
-    let (_, stop) = long_prefix::<Unescaped>(near);
-    match split(stop) {
-        Some((byte, _)) => byte == b'\\',
+    match memchr2(b'"', b'\\', near) {
+        Some(place) => place > LONGEST || near.get(place).copied() == Some(b'\\'),
         None => near.len() < text.len(),
     }
 }
@@ -112,7 +92,7 @@ pub fn may_begin_bare(text: &[u8]) -> bool {
     }
 }
 
-/// A Byte Sequence, a Date, a Display String or a String with an escape, and the rest.
+/// The bare item that begins with this byte, by its reader, and the rest.
 #[inline(never)]
 fn read_other<'a>(context: &Context, first: u8, more: &'a [u8]) -> Option<(Bare, &'a [u8])>
     ensures { IfSome result (λ r. ReadsAs (SpellsBare context.now.dialect) (first ∷ more.now) r.0

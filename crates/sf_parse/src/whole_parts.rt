@@ -4,6 +4,7 @@ ghost use Rattle.std.specs.Prelude.{◌≡◌, ◌++◌, ◌∷◌, ℕ, List, [
 ghost use Rattle.std.specs.Prelude.{IfSome, IfNone, IfOk, OnErr};
 ghost use Rattle.sf_value.specs.Ascii.{open_bracket};
 ghost use Rattle.sf_value.specs.declared.dialect.Dialect.{Dialect};
+ghost use Rattle.sf_value.specs.Grammar.BareItems.{SpellsBare};
 ghost use Rattle.sf_value.specs.Grammar.Classes.{is_sp};
 ghost use Rattle.sf_value.specs.Grammar.Fields.{SpellsEntry};
 ghost use Rattle.sf_value.specs.Grammar.InnerLists.{SpellsInner, SpellsMember};
@@ -24,7 +25,7 @@ ghost use Rattle.sf_parse.specs.BegunParts.{IsBegunAt, IsBegunIn};
 use crate::begun::{Begun, keep_closed, keep_inner, keep_items, keep_params};
 use crate::context::Context;
 use crate::leaf::{Leaf, find_leaf, make};
-use crate::whole_bare::{behind, head, may_have_escape, read_bare, split};
+use crate::whole_bare::{NEAR, behind, head, may_need_reader, read_bare, split};
 use memchr::{memchr, memchr3};
 use sf_value::classes::{InKey, Space, short_prefix};
 use sf_value::{
@@ -34,10 +35,6 @@ use sf_value::{
 /// The fewest bytes of a chunk in which whole parts are looked for. In fewer there is seldom one with
 /// what follows it, and looking for it would cost small chunks.
 pub const WHOLE_PARTS: usize = 64;
-
-/// How many bytes of a chunk are searched for what is behind a part. A longer part is left to the
-/// levels, so that a chunk which is refused early is not searched to its end.
-const NEAR: usize = 1024;
 
 /// Whether this byte is near the beginning of a text. It only saves time: nothing is claimed of it.
 #[inline]
@@ -116,7 +113,7 @@ pub fn find_named(text: &[u8]) -> Option<(Found<'_>, &[u8])>
 pub fn may_begin_part(text: &[u8]) -> bool {
     match split(text) {
         Some((b'(' | b':' | b'@' | b'%', _)) => true,
-        Some((b'"', more)) => may_have_escape(more),
+        Some((b'"', more)) => may_need_reader(more),
         _ => false,
     }
 }
@@ -225,14 +222,16 @@ pub fn add_params<'a>(
     if text.len() < WHOLE_PARTS {
         return Ok(text);
     }
-    put_each_param(context, text, params)
+    put_each_param(context, text, WHOLE_PARTS, params)
 }
 
-/// As [`add_params`], which only tests the length: a call clears its stack.
+/// As [`add_params`], where at least so many bytes are left: [`add_params`] only tests the length,
+/// since a call clears its stack.
 #[inline(never)]
-fn put_each_param<'a>(
+pub fn put_each_param<'a>(
     context: &Context,
     text: &'a [u8],
+    fewest: usize,
     params: &mut Entries<Bare>,
 ) -> Result<&'a [u8], OutOfMemory>
     // The bytes before the rest lead to the new parameters, after a semicolon.
@@ -240,7 +239,7 @@ fn put_each_param<'a>(
         text.now rest.now (Opened params.new)) }
 {
     let mut rest = text;
-    while rest.len() >= WHOLE_PARTS {
+    while rest.len() >= fewest {
         let Some((found, after)) = find_named(behind_spaces(rest)) else {
             let left = put_any_param(context, rest, params)?;
             if left.len() >= rest.len() {
@@ -394,12 +393,24 @@ fn put_read_param<'a>(
     Some(rest)
 }
 
+/// A bare item of any type, and the rest.
+#[inline(always)]
+fn read_any_bare<'a>(context: &Context, text: &'a [u8]) -> Option<(Bare, &'a [u8])>
+    ensures { IfSome result (λ r. ReadsAs (SpellsBare context.now.dialect) text.now r.0 r.1.now) }
+{
+    let Some((leaf, rest)) = find_leaf(text) else {
+        return read_bare(context, text);
+    };
+    let bare = make(context, leaf)?;
+    Some((bare, rest))
+}
+
 /// An Item of an Inner List with its whole parameters, and the rest.
 #[inline(always)]
 fn read_item<'a>(context: &Context, text: &'a [u8]) -> Option<(Item, &'a [u8])>
     ensures { IfSome result (λ r. ReadsAs (SpellsItem context.now.dialect) text.now r.0 r.1.now) }
 {
-    let (bare, after) = read_bare(context, text)?;
+    let (bare, after) = read_any_bare(context, text)?;
     let mut params = Entries::new(context.alloc, &context.seed);
     let rest = read_params(context, after, Owner::InnerItem, &mut params);
     Some((Item { bare, params }, rest))

@@ -79,21 +79,26 @@ fn refused_texts(rt: HostRuntime) -> Result<(), Fail> {
     Ok(())
 }
 
-/// Refused for its last byte, at 60, behind parts of the same member, two of which allocate.
-const REFUSED_BEHIND_PARTS: &[u8] =
-    b"a=(1 \"longer than 16 bytes\" tok);p=\"longer than 16 bytes\";q=#";
+/// Dictionaries that are refused for their last byte, which is at this place, behind parts of the
+/// same member, some of which allocate.
+const REFUSED_BEHIND_PARTS: [(&[u8], u64); 3] = [
+    (
+        b"a=(1 \"longer than 16 bytes\" tok);p=\"longer than 16 bytes\";q=#",
+        60,
+    ),
+    (b"a=(1;p;q=#", 9),
+    (b"a=(1 2;p=\"longer than 16 bytes\";q;r=#", 36),
+];
 
 #[test]
 fn refused_behind_parts(rt: HostRuntime) -> Result<(), Fail> {
     let alloc = rt.alloc();
     let seed = RandomState::new(&rt)?;
-    expect_refusals(&rt, || {
-        seen_syntax(
-            parse_text(alloc, &seed, Kind::Dict, REFUSED_BEHIND_PARTS),
-            60,
-            b'#',
-        )
-    });
+    for (text, place) in REFUSED_BEHIND_PARTS {
+        expect_refusals(&rt, || {
+            seen_syntax(parse_text(alloc, &seed, Kind::Dict, text), place, b'#')
+        });
+    }
     Ok(())
 }
 

@@ -121,7 +121,16 @@ static ACCEPTED: [acceptances::Row; 18] = [
     ),
 ];
 
-static REFUSED: [refusals::Row; 32] = [
+static REFUSED: [refusals::Row; 35] = [
+    (Kind::List, b"(a;p;\"", 5, Some(0x22), "20 2a 61-7a"),
+    (
+        Kind::List,
+        b"(a b;p=\"s\";q=$",
+        13,
+        Some(0x24),
+        "22 25 2a 2d 30-3a 3f-5a 61-7a",
+    ),
+    (Kind::Dict, b"a=(b;p;q=?", 10, None, "30-31"),
     (Kind::List, b"]", 0, Some(0x5d), FIRST_MEMBER),
     (Kind::List, b" \t", 1, Some(0x09), FIRST_MEMBER),
     (Kind::List, b"\xc3\xbc", 0, Some(0xc3), FIRST_MEMBER),
@@ -284,7 +293,7 @@ fn refused(rt: HostRuntime) -> Result<(), Fail> {
 
 static FRONTS: [&[u8]; 4] = [b"", b"  ", b"a=1, ", b"\"x\"\t,"];
 
-static PARTS: [&[u8]; 28] = [
+static PARTS: [&[u8]; 33] = [
     b"",
     b"17",
     b"-0.50",
@@ -300,6 +309,11 @@ static PARTS: [&[u8]; 28] = [
     b"%\"f%c3%bc\"",
     b"(1 tok \"s\" ?0 1.5;p  )",
     b"(a;p=?0 (",
+    b"(a;p;\"",
+    b"(a b;p=\"s\";q=%",
+    b"(a;p;q=:!",
+    b"(a;p;q",
+    b"a;p;q=?1;\"",
     b"k",
     b"k=-3",
     b"k=tok",
@@ -440,6 +454,56 @@ fn lists_as_by_levels(rt: HostRuntime) -> Result<(), Fail> {
 fn dictionaries_as_by_levels(rt: HostRuntime) -> Result<(), Fail> {
     let seed = RandomState::new(&rt)?;
     check_parts(&rt, &seed, Kind::Dict)
+}
+
+// What is before a String, and what is behind it.
+static FRAMES: [(Kind, &[u8], &[u8]); 8] = [
+    (Kind::Item, b"", b""),
+    (Kind::Item, b"a;p=", b";q"),
+    (Kind::List, b"", b", b"),
+    (Kind::List, b"a, (", b" b)"),
+    (Kind::List, b"(a;p=", b";q=1 b)"),
+    (Kind::List, b"(a;p;q=", b";% b)"),
+    (Kind::Dict, b"k=", b", z"),
+    (Kind::Dict, b"k;p=", b";q, z"),
+];
+
+// On both sides of the number of bytes up to which a String is found, and of that up to which a text
+// is searched for what is behind a part.
+static LENGTHS: [usize; 12] = [
+    509, 510, 511, 512, 513, 514, 1021, 1022, 1023, 1024, 1025, 1026,
+];
+
+// How a String ends: whole, with an escape, broken off, and with a mistake.
+static ENDS: [&[u8]; 5] = [b"\"", b"\\\"\"", b"", b"\x01\"", b"\\x\""];
+
+#[test]
+fn long_strings_as_by_levels(rt: HostRuntime) -> Result<(), Fail> {
+    let alloc = rt.alloc();
+    let seed = RandomState::new(&rt)?;
+    for (kind, front, back) in &FRAMES {
+        for length in &LENGTHS {
+            for end in &ENDS {
+                let mut text = Vec::new(alloc);
+                text.extend_from_slice(front)?;
+                text.push(b'"')?;
+                for _ in 0..*length {
+                    text.push(b'x')?;
+                }
+                text.extend_from_slice(end)?;
+                text.extend_from_slice(back)?;
+                let is_same = is_read_the_same(
+                    alloc,
+                    &seed,
+                    Dialect::Rfc9651,
+                    *kind,
+                    text.as_slice(),
+                );
+                assert!(&rt; is_same, "{length} {end:?}");
+            }
+        }
+    }
+    Ok(())
 }
 
 /// Texts of many parts, of each type. Most are longer than the least chunk in which whole parts are

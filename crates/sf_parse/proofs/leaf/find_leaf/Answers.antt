@@ -1,4 +1,3 @@
-use Rattle.std.proofs.Common.{refl}
 use Rattle.sf_parse.proofs.WholeParts.{number_whole}
 use Rattle.sf_parse.proofs.leaf.find_leaf.Goals as goal
 

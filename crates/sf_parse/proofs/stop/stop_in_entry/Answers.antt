@@ -8,7 +8,7 @@ pub returns-in-Some : goal.returns-in-Some
 returns-in-Some c =
     let d = c.args.context.now.dialect in
     key_stop d _ _ _ _ c.in_ok-after.ensures.split c.in_ok-after.ensures.key
-    (flag_stop d _ _ _ _ c.in-Some.ensures c.stop_in_params.ensures)
+    (flag_stop d _ _ _ _ c.in-Some.ensures c.in_ok-behind_key.ensures)
 
 pub returns-in_default-behind : goal.returns-in_default-behind
 returns-in_default-behind c =
