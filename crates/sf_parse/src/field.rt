@@ -386,7 +386,7 @@ fn refuse_item<'a>(
     ensures { IfSome result (RefusesAfter (step_of context.now.dialect) may_end_at
         (begin_at kind_is.Item) inside.now whole) }
 {
-    let Some(stop) = stop_in_item(context, inside, begun) else {
+    let Some(stop) = stop_in_item(context, inside, Owner::Text, begun) else {
         let expected = SPACE | BareReader::first_bytes(context.dialect);
         return refuse_left(inside, expected, false, whole - inside.len());
     };

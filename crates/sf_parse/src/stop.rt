@@ -25,7 +25,7 @@ use crate::member::MemberReader;
 use crate::refusal::Refusal;
 use crate::sets::{BEHIND_KEY, CLOSE, KEY_START, SEMICOLON, SPACE, set_if};
 use crate::whole_bare::{behind, split};
-use crate::whole_parts::{behind_spaces, put_each_param, read_key};
+use crate::whole_parts::{Owner, behind_spaces, has, put_each_param, read_key};
 use sf_value::Entries;
 
 /// A place in a text, and what may come there.
@@ -91,6 +91,7 @@ fn stop_in_bare<'a>(context: &Context, text: &'a [u8]) -> Option<Stop<'a>>
 fn stop_in_params<'a>(
     context: &Context,
     text: &'a [u8],
+    owner: Owner,
     begun: &Option<Begun<'a>>,
 ) -> Option<Stop<'a>>
     requires { IfSome begun.now (IsBegunBeside context.now.dialect text.now) }
@@ -104,11 +105,14 @@ fn stop_in_params<'a>(
             }
         }
     }
-    stop_in_new_params(context, text)
+    if matches!(owner, Owner::InnerItem) && has(text, b';') {
+        return stop_in_new_params(context, text);
+    }
+    Some(stop_in_param(context, text))
 }
 
-/// The same where none are kept: the whole ones are put once more, as the levels do, which ask for
-/// the same memory.
+/// The same of an Item in an Inner List, of which none are kept: the whole ones are put once more, as
+/// the levels do, which ask for the same memory.
 #[inline(never)]
 fn stop_in_new_params<'a>(context: &Context, text: &'a [u8]) -> Option<Stop<'a>>
     ensures { IfSome result (StopsAt (params_step context.now.dialect)
@@ -161,6 +165,7 @@ fn stop_in_param<'a>(context: &Context, text: &'a [u8]) -> Stop<'a>
 pub fn stop_in_item<'a>(
     context: &Context,
     text: &'a [u8],
+    owner: Owner,
     begun: &Option<Begun<'a>>,
 ) -> Option<Stop<'a>>
     requires { IfSome begun.now (IsBegunBeside context.now.dialect text.now) }
@@ -170,7 +175,7 @@ pub fn stop_in_item<'a>(
     let stop = stop_in_bare(context, text)?;
     if stop.may_end {
         if let Some(more) = behind(stop.left, b';') {
-            let behind_bare = stop_in_params(context, more, begun)?;
+            let behind_bare = stop_in_params(context, more, owner, begun)?;
             return Some(behind_bare);
         }
     }
@@ -212,7 +217,7 @@ fn stop_between_items<'a>(context: &Context, rest: &'a [u8]) -> Stop<'a>
     if let Some(after) = behind(rest, b')') {
         return stop_behind_items(context, after);
     }
-    let Some(stop) = stop_in_item(context, rest, &None) else {
+    let Some(stop) = stop_in_item(context, rest, Owner::InnerItem, &None) else {
         return Stop {
             left: rest,
             expected: SPACE | (CLOSE | BareReader::first_bytes(context.dialect)),
@@ -256,7 +261,7 @@ pub fn stop_in_member<'a>(
     if let Some(inside) = behind(text, b'(') {
         return Some(stop_in_inner(context, inside, begun));
     }
-    stop_in_item(context, text, begun)
+    stop_in_item(context, text, Owner::Member, begun)
 }
 
 /// Where a member of a Dictionary stops. None claims nothing.
@@ -272,7 +277,7 @@ pub fn stop_in_entry<'a>(
 {
     let (_, after) = read_key(context, text)?;
     if let Some(more) = behind(after, b';') {
-        let behind_key = stop_in_params(context, more, begun)?;
+        let behind_key = stop_in_params(context, more, Owner::Member, begun)?;
         return Some(behind_key);
     }
     let Some(value) = behind(after, b'=') else {

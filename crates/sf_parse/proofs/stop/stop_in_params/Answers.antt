@@ -10,3 +10,6 @@ returns-in-Params c =
     stop_more (params_step d) _ (Opened []) (Opened params) _ _ _
     (parts_lead d _ _ _ _ c.requires c.in-Some.is c.if-begun-text.true c.in-Params.is)
     (c.stop_in_param.ensures params)
+
+pub returns : goal.returns
+returns c = c.stop_in_param-2.ensures []
