@@ -274,8 +274,9 @@ impl<V: Drop> Entries<V> {
     }
 
     /// Puts a value at the key with these bytes, which are known to be one, as [`Entries::set`]
-    /// does. It takes less time, since most new keys are made in their place. For a key that is
-    /// present it does not allocate. It is for parsers, which test each byte as they read it.
+    /// does. It takes less time, since most new keys are made in their place. A key of more than 16
+    /// bytes is allocated, also if it is present, but is then not missed if that fails. It is for
+    /// parsers, which test each byte as they read it.
     ///
     /// ```
     /// entries.set_named(alloc, b"q", Bare::Integer(Int::new(1)?))?;

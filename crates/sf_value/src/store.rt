@@ -366,7 +366,8 @@ impl<V: Drop> Store<V> {
         }
     }
 
-    /// The same as `set_named`, for a key that is present, or is made before its place is known.
+    /// The same as `set_named`, for a key that is long or present, or for which a map is made: it is
+    /// made before its place is known.
     #[inline(never)]
     fn set_made(&mut self, alloc: Global, key: &[u8], value: V) -> Result<(), OutOfMemory>
         requires key { IsKey key.now }
@@ -379,18 +380,36 @@ impl<V: Drop> Store<V> {
         ensures same { OnErr result (stored self.new ≡ stored self.old) }
         ensures absent { OnErr result (value_at key.now (stored self.old) ≡ None) }
     {
-        match self {
-            Store::Fresh(_, _) => {}
-            Store::Few(slots) => {
-                if let Some(present) = place_of(slots, key) {
-                    overwrite(&mut slots[present], value);
-                    return Ok(());
-                }
-            }
-            Store::Many(map) => return table::set_named(map, alloc, key, value),
-        }
-        let bytes = ShortBytes::from_slice(alloc, key)?;
+        let Ok(bytes) = ShortBytes::from_slice(alloc, key) else {
+            return self.overwrite(key, value);
+        };
         self.set(Key::from_bytes(bytes), value)
+    }
+
+    /// The same where there is no memory for the key: it fails if the key is new.
+    #[inline(never)]
+    fn overwrite(&mut self, key: &[u8], value: V) -> Result<(), OutOfMemory>
+        requires key { IsKey key.now }
+        requires entries { AreEntries (stored self.old) }
+        requires seed { HasSeed self.old }
+        ensures entries { AreEntries (stored self.new) }
+        ensures seed { HasSeed self.new }
+        ensures new { OnOk result (stored self.new
+            ≡ settle (stored self.old ++ (key.now, value) ∷ [])) }
+        ensures same { OnErr result (stored self.new ≡ stored self.old) }
+        ensures absent { OnErr result (value_at key.now (stored self.old) ≡ None) }
+    {
+        match self {
+            Store::Fresh(_, _) => return Err(OutOfMemory),
+            Store::Few(slots) => {
+                let Some(present) = place_of(slots, key) else {
+                    return Err(OutOfMemory);
+                };
+                overwrite(&mut slots[present], value);
+                return Ok(());
+            }
+            Store::Many(map) => return table::overwrite(map, key, value),
+        }
     }
 
     /// Removes the key with these bytes, and returns its value. The others keep their order.

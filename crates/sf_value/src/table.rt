@@ -4,7 +4,7 @@ ghost use Rattle.sf_value.specs.Grammar.Pairs.{settle, value_at};
 ghost use Rattle.sf_value.specs.Grammar.Tokens.{IsKey};
 ghost use Rattle.sf_value.specs.Entries.{AreEntries};
 
-use crate::bytes::{IN_PLACE, ShortBytes};
+use crate::bytes::ShortBytes;
 use crate::fault::OutOfMemory;
 use crate::key::Key;
 use crate::key_hash::Name;
@@ -59,7 +59,8 @@ pub(crate) fn set<V: Drop>(map: &mut Many<V>, key: Key, value: V) -> Result<(), 
     }
 }
 
-/// Puts a value at the key with these bytes, as `Entries::set_named` does.
+/// Puts a value at the key with these bytes, as `Entries::set_named` does. The key is made before
+/// it is looked for, since a look-up of its own would hash it once more.
 #[inline(never)]
 pub(crate) fn set_named<V: Drop>(
     map: &mut Many<V>,
@@ -79,22 +80,19 @@ pub(crate) fn set_named<V: Drop>(
     // It fails only if the key is new.
     ensures absent { OnErr result (value_at key.now map.old.entries ≡ None) }
 {
-    if key.len() > IN_PLACE {
-        return set_long(map, alloc, key, value);
-    }
-    // It does not allocate.
-    let bytes = ShortBytes::from_slice(alloc, key)?;
+    let Ok(bytes) = ShortBytes::from_slice(alloc, key) else {
+        return overwrite(map, key, value);
+    };
     match map.insert(Key::from_bytes(bytes), value) {
         Ok(_) => Ok(()),
         Err(_) => Err(OutOfMemory),
     }
 }
 
-/// The same for a key that is not stored in place: it is made only if it is new.
+/// The same where there is no memory for the key: it fails if the key is new.
 #[inline(never)]
-fn set_long<V: Drop>(
+pub(crate) fn overwrite<V: Drop>(
     map: &mut Many<V>,
-    alloc: Global,
     key: &[u8],
     value: V,
 ) -> Result<(), OutOfMemory>
@@ -106,10 +104,9 @@ fn set_long<V: Drop>(
     ensures same { OnErr result (map.new.entries ≡ map.old.entries) }
     ensures absent { OnErr result (value_at key.now map.old.entries ≡ None) }
 {
-    if let Some(old) = map.get_mut(Name { bytes: key }) {
-        *old = value;
-        return Ok(());
-    }
-    let bytes = ShortBytes::from_slice(alloc, key)?;
-    set(map, Key::from_bytes(bytes), value)
+    let Some(old) = map.get_mut(Name { bytes: key }) else {
+        return Err(OutOfMemory);
+    };
+    *old = value;
+    Ok(())
 }

@@ -5,19 +5,19 @@ use Rattle.sf_value.specs.Entries.{AreEntries}
 use Rattle.sf_value.proofs.EntryMaps.{settle-push, AreEntries-insert}
 use Rattle.sf_value.proofs.table.set_named.Goals as goal
 
-pub returns-in-Ok-clause-new : goal.returns-in-Ok-clause-new
-returns-in-Ok-clause-new g c =
+pub returns-in-Ok-insert-clause-new : goal.returns-in-Ok-insert-clause-new
+returns-in-Ok-insert-clause-new g c =
     let ps = c.args.map.now.entries in
     let v = c.args.value in
-    c.in-Ok.ensures.entries
-    ∙ ap (λ k. insert_entry bytes_eq ps k v) (c.from_bytes.ensures ∙ c.in_ok-bytes.ensures.bytes)
+    c.in-Ok-insert.ensures.entries
+    ∙ ap (λ k. insert_entry bytes_eq ps k v) (c.from_bytes.ensures ∙ c.in-Ok.ensures.bytes)
     ∙ sym (settle-push ps c.args.key.now v c.requires.entries.distinct)
 
-pub returns-in-Ok-clause-entries : goal.returns-in-Ok-clause-entries
-returns-in-Ok-clause-entries g c =
+pub returns-in-Ok-insert-clause-entries : goal.returns-in-Ok-insert-clause-entries
+returns-in-Ok-insert-clause-entries g c =
     let ps = c.args.map.now.entries in
     let v = c.args.value in
     subst AreEntries
-    (sym (c.in-Ok.ensures.entries
-    ∙ ap (λ k. insert_entry bytes_eq ps k v) (c.from_bytes.ensures ∙ c.in_ok-bytes.ensures.bytes)))
+    (sym (c.in-Ok-insert.ensures.entries
+    ∙ ap (λ k. insert_entry bytes_eq ps k v) (c.from_bytes.ensures ∙ c.in-Ok.ensures.bytes)))
     (AreEntries-insert ps c.args.key.now v c.requires.entries c.requires.key)

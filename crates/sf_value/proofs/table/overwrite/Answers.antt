@@ -1,9 +1,9 @@
 use Rattle.std.proofs.Common.{sym, ◌∙◌}
 use Rattle.sf_value.proofs.EntryMaps.{insert_entry-present, settle-push}
-use Rattle.sf_value.proofs.table.set_long.Goals as goal
+use Rattle.sf_value.proofs.table.overwrite.Goals as goal
 
-pub returns-in-Some-clause-new : goal.returns-in-Some-clause-new
-returns-in-Some-clause-new g c =
+pub returns-clause-new : goal.returns-clause-new
+returns-clause-new g c =
     let k = c.args.key.now in
     let v = c.args.value in
     let ps = c.args.map.now.entries in
