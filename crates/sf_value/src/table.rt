@@ -91,11 +91,7 @@ pub(crate) fn set_named<V: Drop>(
 
 /// The same where there is no memory for the key: it fails if the key is new.
 #[inline(never)]
-pub(crate) fn overwrite<V: Drop>(
-    map: &mut Many<V>,
-    key: &[u8],
-    value: V,
-) -> Result<(), OutOfMemory>
+pub(crate) fn overwrite<V: Drop>(map: &mut Many<V>, key: &[u8], value: V) -> Result<(), OutOfMemory>
     requires key { IsKey key.now }
     requires entries { AreEntries map.old.entries }
     ensures entries { AreEntries map.new.entries }
