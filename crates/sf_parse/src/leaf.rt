@@ -8,9 +8,10 @@ ghost use Rattle.sf_value.specs.Grammar.Tokens.{IsToken};
 ghost use Rattle.sf_parse.specs.Leaves.{IsLeaf, leaf_bare};
 ghost use Rattle.sf_parse.specs.WholeParts.{ReadsAs};
 
+use crate::ahead::{LONGEST, head};
 use crate::context::Context;
 use crate::number::{Number, NumberReader};
-use crate::whole_bare::{behind, head, split};
+use crate::whole_bare::{behind, split};
 use sf_value::classes::{InToken, Unescaped, long_prefix};
 use sf_value::{Bare, ShortBytes, Text, Token, can_start_token};
 
@@ -55,10 +56,6 @@ pub fn find_leaf(text: &[u8]) -> Option<(Leaf<'_>, &[u8])>
     }
     None
 }
-
-/// The most bytes of a String that is found. A longer one is left to its reader, which searches it
-/// only once.
-pub const LONGEST: usize = 512;
 
 /// The String that a text begins with after its quote, and the rest. None claims nothing.
 #[inline(always)]

@@ -18,6 +18,7 @@
 //! is proved, and what the runs of a set are.
 #![tactic(auto)]
 
+mod ahead;
 mod bare;
 mod begun;
 mod blob;

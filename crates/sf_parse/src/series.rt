@@ -22,6 +22,7 @@ ghost use Rattle.sf_parse.specs.WholeMembers.{IsBehindMember, begins_between, en
 ghost use Rattle.sf_parse.specs.declared.whole_parts.Found.{Found};
 ghost use Rattle.sf_parse.specs.declared.series.SeriesPhase.TheVariants as phase_is;
 
+use crate::ahead::has_comma;
 use crate::begun::{Begun, keep_params};
 use crate::context::Context;
 use crate::level::Level;
@@ -29,7 +30,7 @@ use crate::refusal::Refusal;
 use crate::sets::{COMMA, OWS, SPACE, set_if};
 use crate::stop::{Stop, refuse_left};
 use crate::whole_bare::{behind, ends};
-use crate::whole_parts::{Found, Owner, WHOLE_PARTS, has, may_begin_params, read_params};
+use crate::whole_parts::{Found, Owner, WHOLE_PARTS, may_begin_params, read_params};
 use sf_value::classes::{Ows, Space, short_prefix};
 use sf_value::{Bare, Dialect, Entries, OutOfMemory, is_ows};
 use std::marker::Model;
@@ -575,18 +576,18 @@ pub fn add_members<'a, P: SeriesMember<G>, G>(
     add_each_member::<P, G>(context, text, true, phase, given, begun)
 }
 
-/// Whether whole members are looked for in a chunk: only if there is a comma in it. It only saves
-/// time: nothing is claimed of it.
+/// Whether whole members are looked for in a chunk: only if a comma is near. It only saves time:
+/// nothing is claimed of it.
 #[inline(always)]
 fn may_add<P: SeriesMember<G>, G>(chunk: &[u8]) -> bool {
-    P::may_begin(chunk) && chunk.len() >= WHOLE_PARTS && has(chunk, b',')
+    P::may_begin(chunk) && chunk.len() >= WHOLE_PARTS && has_comma(chunk)
 }
 
-/// Whether a member may be whole in this text: in a chunk only if a comma is behind it. Otherwise its
-/// reader reads it, so that none is read twice. It only saves time: nothing is claimed of it.
+/// Whether a member may be whole in this text: in a chunk only if a comma is near. Otherwise its reader
+/// reads it, since it would be read again. It only saves time: nothing is claimed of it.
 #[inline(always)]
 fn may_be_whole(is_whole: bool, text: &[u8]) -> bool {
-    is_whole || has(text, b',')
+    is_whole || has_comma(text)
 }
 
 /// As [`add_members`], also in a chunk: [`add_members`] only tests whether there may be a member, since

@@ -17,6 +17,7 @@ ghost use Rattle.sf_parse.specs.Machine.Members.{InMany, member_start, member_st
 ghost use Rattle.sf_parse.specs.Machine.Entries.{entry_start, entry_step, entry_finish};
 ghost use Rattle.sf_parse.specs.Stops.{StopsAt, StopsIn, RefusesLeft};
 
+use crate::ahead::has;
 use crate::bare::BareReader;
 use crate::begun::{Begun, Parts};
 use crate::context::Context;
@@ -25,7 +26,7 @@ use crate::member::MemberReader;
 use crate::refusal::Refusal;
 use crate::sets::{BEHIND_KEY, CLOSE, KEY_START, SEMICOLON, SPACE, set_if};
 use crate::whole_bare::{behind, split};
-use crate::whole_parts::{Owner, behind_spaces, has, put_each_param, read_key};
+use crate::whole_parts::{Owner, behind_spaces, put_each_param, read_key};
 use sf_value::Entries;
 
 /// A place in a text, and what may come there.

@@ -6,9 +6,7 @@ ghost use Rattle.sf_parse.specs.WholeParts.{ReadsAs};
 
 use crate::bare::BareReader;
 use crate::context::Context;
-use crate::leaf::LONGEST;
 use crate::level::Level;
-use memchr::memchr2;
 use sf_value::{Bare, can_start_token};
 
 /// The first byte, and the rest.
@@ -55,30 +53,6 @@ pub fn read_bare<'a>(context: &Context, text: &'a [u8]) -> Option<(Bare, &'a [u8
         return Some((bare, rest));
     }
     None
-}
-
-/// How many bytes of a text are searched for what is behind a part. A text that is refused early is
-/// so not searched to its end before.
-pub const NEAR: usize = 1024;
-
-/// The first bytes of a text: so many, or all if there are fewer.
-#[inline(always)]
-pub fn head(text: &[u8], most: usize) -> &[u8]
-    ensures { (rest : List ℕ) × (text.now ≡ result.now ++ rest) }
-{
-    let (first, _) = text.split_at(text.len().min(most));
-    first
-}
-
-/// Whether a String, of which this is left after its quote and which was not found, may be one that
-/// its reader reads: it has an escape, or is long. It only saves time: nothing is claimed of it.
-#[inline(always)]
-pub fn may_need_reader(text: &[u8]) -> bool {
-    let near = head(text, NEAR);
-    match memchr2(b'"', b'\\', near) {
-        Some(place) => place > LONGEST || near.get(place).copied() == Some(b'\\'),
-        None => near.len() < text.len(),
-    }
 }
 
 /// Whether the text may begin with a bare item that needs no reader. It only saves time: nothing is

@@ -22,11 +22,11 @@ ghost use Rattle.sf_parse.specs.WholeParts.{ReachesItems, IsBehindItem, AddsItem
 ghost use Rattle.sf_parse.specs.WholeParts.{found_member};
 ghost use Rattle.sf_parse.specs.BegunParts.{IsBegunAt, IsBegunIn};
 
+use crate::ahead::{has_first, may_need_reader};
 use crate::begun::{Begun, keep_closed, keep_inner, keep_items, keep_params};
 use crate::context::Context;
 use crate::leaf::{Leaf, find_leaf, make};
-use crate::whole_bare::{NEAR, behind, head, may_need_reader, read_bare, split};
-use memchr::{memchr, memchr3};
+use crate::whole_bare::{behind, read_bare, split};
 use sf_value::classes::{InKey, Space, short_prefix};
 use sf_value::{
     Bare, Entries, Inner, Item, Key, Member, OutOfMemory, Sequence, ShortBytes, can_start_key,
@@ -35,23 +35,6 @@ use sf_value::{
 /// The fewest bytes of a chunk in which whole parts are looked for. In fewer there is seldom one with
 /// what follows it, and looking for it would cost small chunks.
 pub const WHOLE_PARTS: usize = 64;
-
-/// Whether this byte is near the beginning of a text. It only saves time: nothing is claimed of it.
-#[inline]
-pub fn has(text: &[u8], byte: u8) -> bool {
-    memchr(byte, head(text, NEAR)).is_some()
-}
-
-/// Whether this byte is near the beginning of a text, before a comma and a closing bracket: a part of
-/// a chunk that is not followed by it is left to the levels, since it would be read again. It only
-/// saves time: nothing is claimed of it.
-#[inline]
-fn has_first(text: &[u8], byte: u8) -> bool {
-    match memchr3(byte, b',', b')', head(text, NEAR)) {
-        Some(place) => text.get(place).copied() == Some(byte),
-        None => false,
-    }
-}
 
 /// The rest after spaces.
 #[inline(always)]
@@ -192,7 +175,8 @@ pub fn read_key<'a>(context: &Context, text: &'a [u8]) -> Option<(Key, &'a [u8])
     Some((Key::from_bytes(bytes), rest))
 }
 
-/// A parameter after its semicolon, of any type: the bytes of its key, its value, and the rest.
+/// A parameter after its semicolon, where none was found: the bytes of its key, its value, which only
+/// its reader reads, and the rest.
 #[inline(always)]
 fn read_param<'a>(context: &Context, text: &'a [u8]) -> Option<(&'a [u8], Bare, &'a [u8])>
     ensures key { IfSome result (λ r. IsKey r.0.now) }
@@ -203,7 +187,7 @@ fn read_param<'a>(context: &Context, text: &'a [u8]) -> Option<(&'a [u8], Bare, 
     let Some(inside) = behind(after, b'=') else {
         return Some((key, Bare::Boolean(true), after));
     };
-    let (value, rest) = read_bare(context, inside)?;
+    let (value, rest) = read_other_bare(context, inside)?;
     Some((key, value, rest))
 }
 
@@ -259,8 +243,8 @@ pub fn put_each_param<'a>(
     Ok(rest)
 }
 
-/// Puts a parameter of any type, with the semicolon after it, and returns the rest; all of the text
-/// if it is not whole. It is not inlined, so that a loop of found ones clears less of its stack.
+/// Puts a parameter that was not found, with the semicolon after it, and returns the rest; all of the
+/// text if it is not whole. It is not inlined, so that a loop of found ones clears less of its stack.
 #[inline(never)]
 fn put_any_param<'a>(
     context: &Context,
@@ -371,7 +355,7 @@ fn put_param<'a>(
     Some(rest)
 }
 
-/// As [`put_param`], for a value of any type.
+/// As [`put_param`], where none was found.
 #[inline(never)]
 fn put_read_param<'a>(
     context: &Context,
@@ -393,13 +377,25 @@ fn put_read_param<'a>(
     Some(rest)
 }
 
+/// A bare item that only its reader reads, where no leaf was found, and the rest. A String is looked
+/// at before: one that is broken off would be read in vain.
+#[inline(always)]
+fn read_other_bare<'a>(context: &Context, text: &'a [u8]) -> Option<(Bare, &'a [u8])>
+    ensures { IfSome result (λ r. ReadsAs (SpellsBare context.now.dialect) text.now r.0 r.1.now) }
+{
+    if !may_begin_part(text) {
+        return None;
+    }
+    read_bare(context, text)
+}
+
 /// A bare item of any type, and the rest.
 #[inline(always)]
 fn read_any_bare<'a>(context: &Context, text: &'a [u8]) -> Option<(Bare, &'a [u8])>
     ensures { IfSome result (λ r. ReadsAs (SpellsBare context.now.dialect) text.now r.0 r.1.now) }
 {
     let Some((leaf, rest)) = find_leaf(text) else {
-        return read_bare(context, text);
+        return read_other_bare(context, text);
     };
     let bare = make(context, leaf)?;
     Some((bare, rest))
