@@ -176,7 +176,7 @@ pub fn parse_lines(
 /// kind have equal canonical texts if and only if they spell equal values. Refuses what
 /// [`parse_lines`] refuses. It is [`sf_view::normalise`] of the line, or of the joined text of the
 /// lines if there are several: only if it writes no text from nodes (see
-/// [`sf_view::canonical_text`]), the field is built.
+/// [`sf_view::settled_text`]), the field is built.
 ///
 /// ```
 /// let text = normalise_lines(alloc, &seed, Kind::List, lines.as_slice())?;

@@ -2,7 +2,7 @@
 use crate::expecting::seen_if;
 use http_header::HeaderName;
 use sf_test_alloc::{Seen, refusals, seen_without_memory};
-use sf_test_io::Paced;
+use sf_test_io::{Paced, Tally};
 use sf_tool::{ErrorStream, Request, RequestFault, Status, read_request, run};
 use sf_value::{Dialect, Kind, Reading, Writing};
 use std::alloc::Global;
@@ -174,6 +174,54 @@ fn run_refusals(
 ) -> Result<Option<usize>, Fail> {
     let mut room = Vec::with_capacity(alloc, 1000)?;
     Ok(refusals(alloc, || ran(alloc, seed, request, row, &mut room)))
+}
+
+/// Runs into a sink that has room, where the text is expected in so many calls.
+fn ran_in_parts(
+    alloc: Global,
+    seed: &RandomState,
+    request: &Request,
+    row: Row,
+    calls: u64,
+    sink: &mut Tally,
+) -> Seen {
+    let (input, text, status) = row;
+    sink.taken.clear();
+    sink.calls = 0;
+    let mut source = Paced::new(input, 1, 0, 0);
+    let mut errors = ErrorStream {
+        device: Writing::new(Vec::new(alloc)),
+        is_terminal: false,
+    };
+    let answer = run(alloc, seed, request, &mut source, sink, &mut errors);
+    if answer == Status::Stopped && sink.calls == 0 {
+        Seen::Refused
+    } else {
+        seen_if(answer == status && sink.taken.as_slice() == text && sink.calls == calls)
+    }
+}
+
+/// Where there is memory for the input, but not for the answer, the text goes out in the parts of the
+/// field: a String in its quotes, its runs and its escapes, and then the line feed.
+#[test]
+fn parts_without_memory(rt: HostRuntime) -> Result<(), Fail> {
+    let alloc = rt.alloc();
+    let seed = RandomState::new(&rt)?;
+    let item = Request::Normalise(Dialect::Rfc9651, Kind::Item);
+    let rows: [(Row, u64); 3] = [
+        ((b" a", b"a\n", Status::Accepted), 2),
+        ((b"\"a b\"", b"\"a b\"\n", Status::Accepted), 4),
+        ((b"\"a\\\\b\"", b"\"a\\\\b\"\n", Status::Accepted), 6),
+    ];
+    for (row, calls) in rows {
+        let mut sink = Tally::new(alloc);
+        sink.taken.reserve(100)?;
+        let found = refusals(alloc, || {
+            ran_in_parts(alloc, &seed, &item, row, calls, &mut sink)
+        });
+        assert!(rt; found > Some(0), "{calls}: {found:?}");
+    }
+    Ok(())
 }
 
 #[test]

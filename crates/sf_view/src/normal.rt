@@ -118,9 +118,9 @@ fn by_many_nodes(
 }
 
 /// Returns the canonical text as [`canonical_text`] does, also if a key of the Dictionary is
-/// repeated, or there are many keys: `None` if the text has no nodes, as for [`scan_settled`]. Then
-/// it allocates nodes, an index of the members and the text once more; if one of these allocations
-/// fails, it returns `None`.
+/// repeated, or there are many keys: `None` if the text has no nodes, as for [`scan_settled`]. For a
+/// repeated key it also allocates settled nodes, an index of the members and the text once more; if
+/// one of these allocations fails, it returns `None`.
 ///
 /// ```
 /// settled_text(alloc, Dialect::Rfc9651, Kind::Dict, b"u=1, i, u=2") // Ok(Some(..)): u=2, i
