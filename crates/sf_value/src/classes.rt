@@ -1,6 +1,6 @@
 //! Classes of bytes (RFC 9651 section 3), and the runs of them that a text begins with. A class is
 //! a type; each is tested here, once, for values, parsers and writers.
-ghost use Rattle.std.specs.Prelude.{◌≡◌, ◌≤◌, ◌++◌, ℕ, Bool, true, length, take};
+ghost use Rattle.std.specs.Prelude.{◌≡◌, ◌≤◌, ◌*◌, ◌++◌, ℕ, Bool, true, length, take};
 ghost use Rattle.sf_value.specs.Grammar.Words.{Every};
 ghost use Rattle.sf_value.specs.Grammar.Classes.{is_in_key, is_in_token, is_key_start, is_sp};
 ghost use Rattle.sf_value.specs.Grammar.Classes.{is_ows as is_ows_byte, is_token_start};
@@ -32,6 +32,9 @@ const BASE64: u8 = 32;
 
 /// The flag of the bytes of a display string that are written without an escape.
 const UNENCODED: u8 = 64;
+
+/// The number of bytes behind the first 16 from which on more are tested at a time.
+const NEAR: usize = 48;
 
 /// The flags of each byte.
 #[rattlefmt::skip]
@@ -200,10 +203,30 @@ fn first_lanes<C: LaneClass>(text: &[u8]) -> usize
     }
 }
 
-/// The number of bytes of the class that the text begins with. It is not inlined, so that a short
-/// run doesn't pay for its constants.
-#[inline(never)]
-fn long_run<C: LaneClass>(text: &[u8]) -> usize
+/// Whether the first 16 bytes of the text are all of the class.
+#[inline(always)]
+fn are_lanes<C: LaneClass>(text: &[u8]) -> bool
+    requires { LANES ≤ length text.now }
+    // Then all of these bytes are of the class.
+    ensures { result ≡ true → Every C.test (take LANES text.now) }
+{
+    C::outside(u8x16::from_slice(text)) == 0
+}
+
+/// Whether the first 32 bytes of the text are all of the class.
+#[inline(always)]
+fn are_pair<C: LaneClass>(text: &[u8]) -> bool
+    requires { 2 * LANES ≤ length text.now }
+    // Then all of these bytes are of the class.
+    ensures { result ≡ true → Every C.test (take (2 * LANES) text.now) }
+{
+    // Not `&&`: the compiler makes one test of both.
+    are_lanes::<C>(text) & are_lanes::<C>(&text[LANES..])
+}
+
+/// The number of bytes of the class that the text begins with, 16 at a time.
+#[inline(always)]
+fn lanes_run<C: LaneClass>(text: &[u8]) -> usize
     ensures within { result ≤ length text.now }
     // All of these bytes are of the class.
     ensures every { Every C.test (take result text.now) }
@@ -221,6 +244,38 @@ fn long_run<C: LaneClass>(text: &[u8]) -> usize
         run += 1;
     }
     run
+}
+
+/// The same, 32 at a time.
+#[inline(never)]
+fn far_run<C: LaneClass>(text: &[u8]) -> usize
+    ensures within { result ≤ length text.now }
+    // All of these bytes are of the class.
+    ensures every { Every C.test (take result text.now) }
+{
+    let mut run = 0;
+    while text.len() - run >= 2 * LANES && are_pair::<C>(&text[run..]) {
+        run += 2 * LANES;
+    }
+    run + lanes_run::<C>(&text[run..])
+}
+
+/// The number of bytes of the class that the text begins with. One that is long already is likely to
+/// go on. It is not inlined, so that a short run doesn't pay for its constants.
+#[inline(never)]
+fn long_run<C: LaneClass>(text: &[u8]) -> usize
+    ensures within { result ≤ length text.now }
+    // All of these bytes are of the class.
+    ensures every { Every C.test (take result text.now) }
+{
+    if text.len() <= NEAR {
+        return lanes_run::<C>(text);
+    }
+    let run = lanes_run::<C>(&text[..NEAR]);
+    if run < NEAR {
+        return run;
+    }
+    NEAR + far_run::<C>(&text[NEAR..])
 }
 
 /// The bytes of the class that the text begins with, and the rest, tested 16 at a time, unless the

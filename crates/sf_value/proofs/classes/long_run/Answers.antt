@@ -1,29 +1,32 @@
-use Rattle.std.proofs.Common.{◌≡◌, ◌+◌, take, sym, ◌∙◌, subst, arith}
+use Rattle.std.proofs.Common.{◌≡◌, take, length, sym, subst, arith}
+use Rattle.std.proofs.lemmas.List.{length-take-le, take-take}
 use Rattle.sf_value.specs.Grammar.Words.{Every}
-use Rattle.sf_value.proofs.Runs.{every_more, every_block}
+use Rattle.sf_value.proofs.Runs.{every_block}
 use Rattle.sf_value.proofs.classes.long_run.Goals as goal
 
-pub returns-then-more-lt-LANES-clause-every : goal.returns-then-more-lt-LANES-clause-every
-returns-then-more-lt-LANES-clause-every g c =
-    every_block g.C.ByteClass.test _ _ _ c.loop-run.invariant.every c.first_lanes-more.ensures.every
+pub slice_bounds-lanes_run-end : goal.slice_bounds-lanes_run-end
+slice_bounds-lanes_run-end g c =
+    sym (length-take-le 48 c.args.text.now (let h = c.if-text-le-NEAR.false in omega arith))
 
-pub loop-run-preserved : goal.loop-run-preserved
-loop-run-preserved g c =
-    let block : c.first_lanes-more.result ≡ 16 =
-    let h = c.first_lanes-more.ensures.within in
-    let k = c.if-more-lt-LANES.false in
-    omega arith in record {
-      within = let h = c.loop-run-test.true in omega arith;
-      every =
-          subst (λ n. Every g.C.ByteClass.test (take (c.loop-run.run + n) c.args.text.now)) block
-          (every_block g.C.ByteClass.test _ _ _ c.loop-run.invariant.every
-          c.first_lanes-more.ensures.every);
-    }
+pub returns-then-run-lt-NEAR-clause-every : goal.returns-then-run-lt-NEAR-clause-every
+returns-then-run-lt-NEAR-clause-every g c =
+    let run = c.lanes_run-run.result in
+    subst (Every g.C.ByteClass.test)
+    (take-take run 48 c.args.text.now (let h = c.if-run-lt-NEAR.true in omega arith))
+    c.lanes_run-run.ensures.every
 
-pub loop-run-2-preserved : goal.loop-run-2-preserved
-loop-run-2-preserved g c = record {
-  within = let h = c.loop-run-2-test.true in omega arith;
-  every =
-      every_more g.C.ByteClass.test _ _ c.loop-run-2.invariant.every c.loop-run-2-test.true
-      (sym c.has.ensures ∙ c.if-has.true);
-}
+pub returns-clause-every : goal.returns-clause-every
+returns-clause-every g c =
+    let run = c.lanes_run-run.result in
+    let whole : length (take 48 c.args.text.now) ≡ 48 =
+    length-take-le 48 c.args.text.now (let h = c.if-text-le-NEAR.false in omega arith) in
+    let all : run ≡ 48 =
+    let h = c.lanes_run-run.ensures.within in
+    let k = c.if-run-lt-NEAR.false in
+    omega (arith, whole) in
+    let near : Every g.C.ByteClass.test (take run c.args.text.now) =
+    subst (Every g.C.ByteClass.test) (take-take run 48 c.args.text.now (omega (arith, all)))
+    c.lanes_run-run.ensures.every in
+    every_block g.C.ByteClass.test c.args.text.now 48 _
+    (subst (λ n. Every g.C.ByteClass.test (take n c.args.text.now)) all near)
+    c.far_run.ensures.every

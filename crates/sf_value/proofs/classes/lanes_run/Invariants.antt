@@ -1,6 +1,6 @@
 use Rattle.std.proofs.Common.{length, take, ◌-◌, ◌≤◌}
 use Rattle.sf_value.specs.Grammar.Words.{Every}
-use Rattle.sf_value.proofs.classes.long_run.Given as goal
+use Rattle.sf_value.proofs.classes.lanes_run.Given as goal
 
 abbrev pub invariant-loop-run : goal.invariant-loop-run
 invariant-loop-run g l = record {
