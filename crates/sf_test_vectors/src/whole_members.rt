@@ -468,10 +468,11 @@ static FRAMES: [(Kind, &[u8], &[u8]); 8] = [
     (Kind::Dict, b"k;p=", b";q, z"),
 ];
 
-// On both sides of the number of bytes up to which a String is found, and of that up to which a text
-// is searched for what is behind a part.
-static LENGTHS: [usize; 12] = [
-    509, 510, 511, 512, 513, 514, 1021, 1022, 1023, 1024, 1025, 1026,
+// On both sides of the numbers of bytes that are tested at a time, of those up to which a String is
+// found, and of those up to which a text is searched for what is behind a part.
+static LENGTHS: [usize; 30] = [
+    15, 16, 17, 31, 32, 33, 63, 64, 65, 79, 80, 81, 95, 96, 97, 111, 112, 113, 509, 510, 511, 512,
+    513, 514, 1021, 1022, 1023, 1024, 1025, 1026,
 ];
 
 // How a String ends: whole, with an escape, broken off, and with a mistake.
@@ -508,7 +509,16 @@ fn long_strings_as_by_levels(rt: HostRuntime) -> Result<(), Fail> {
 
 /// Texts of many parts, of each type. Most are longer than the least chunk in which whole parts are
 /// looked for.
-static LONG: [(Kind, &[u8]); 11] = [
+static LONG: [(Kind, &[u8]); 13] = [
+    (
+        Kind::List,
+        b"%\"a, b %c3%bc, c\";p=\"x, y\\\\, z\", \"d, \\\"e, f\", (\"g, h\" \"i; j\\\\\";q=%\"k; l\" m);\
+          r=\"n, o\"",
+    ),
+    (
+        Kind::Dict,
+        b"a=\"b, \\\\c, d\";e=\"f, g;\\\\ h\";i, j=(%\"k l\" \"m) n\\\\\" o);p=%\"q; r\", s=\"t, u\", v",
+    ),
     (
         Kind::Dict,
         b"sig1=(\"@method\" \"@path\";req tok/a -1.5;p=?0;q  :YQ:);created=1618884473;keyid=\"k\";\
