@@ -31,7 +31,8 @@ pub fn has(text: &[u8], byte: u8) -> bool {
 /// not followed by one is left to the levels, since it would be read again.
 #[inline]
 pub fn has_comma(text: &[u8]) -> bool {
-    first_outside(text, [b','; 3]).is_some()
+    // Mostly there is none, or it is not within quotes: a search for one byte is the faster one.
+    has(text, b',') && first_outside(text, [b','; 3]).is_some()
 }
 
 /// Whether this byte comes near the beginning of a text, before a comma and a closing bracket, outside

@@ -83,7 +83,7 @@ pub trait SeriesMember<G>: Level {
         ensures kept { IfOk result (λ ended. ended ≡ false → self.new ≡ self.old) };
 
     /// Whether the text may begin with a whole member. It only saves time: nothing is claimed of it.
-    fn may_begin(text: &[u8]) -> bool;
+    fn may_begin(text: &[u8], is_whole: bool) -> bool;
 
     /// A member that the text begins with, up to its parameters, and the rest. None claims nothing.
     fn find(text: &[u8]) -> Option<(Found<'_>, &[u8])>
@@ -106,9 +106,9 @@ pub trait SeriesMember<G>: Level {
             → given.new ≡ with_found given.old (found.entry, params)) }
         ensures same { IfOk result (λ took. took ≡ false → given.new ≡ given.old) };
 
-    /// Whether a text in which none was found may begin with a whole member. It only saves time:
-    /// nothing is claimed of it.
-    fn may_read(text: &[u8]) -> bool;
+    /// Whether a whole text, or a chunk, in which none was found may begin with a whole member. It only
+    /// saves time: nothing is claimed of it.
+    fn may_read(text: &[u8], is_whole: bool) -> bool;
 
     /// A whole member that the text begins with, and the rest. None claims nothing; the whole parts of
     /// the member may be kept.
@@ -570,7 +570,7 @@ pub fn add_members<'a, P: SeriesMember<G>, G>(
     ensures allocation_free { (s : P) → SeriesFree (series_of phase.old given.old s) text.now
         → IsOk result }
 {
-    if !P::may_begin(text) {
+    if !P::may_begin(text, true) {
         return Ok(text);
     }
     add_each_member::<P, G>(context, text, true, phase, given, begun)
@@ -580,7 +580,7 @@ pub fn add_members<'a, P: SeriesMember<G>, G>(
 /// nothing is claimed of it.
 #[inline(always)]
 fn may_add<P: SeriesMember<G>, G>(chunk: &[u8]) -> bool {
-    P::may_begin(chunk) && chunk.len() >= WHOLE_PARTS && has_comma(chunk)
+    P::may_begin(chunk, false) && chunk.len() >= WHOLE_PARTS && has_comma(chunk)
 }
 
 /// Whether a member may be whole in this text: in a chunk only if a comma is near. Otherwise its reader
@@ -622,7 +622,7 @@ fn add_each_member<'a, P: SeriesMember<G>, G>(
     let mut rest = text;
     while is_whole || rest.len() >= WHOLE_PARTS {
         let Some((found, after)) = P::find(rest) else {
-            if !P::may_read(rest) || !may_be_whole(is_whole, rest) {
+            if !P::may_read(rest, is_whole) || !may_be_whole(is_whole, rest) {
                 return Ok(rest);
             }
             let left = add_read_member::<P, G>(context, rest, is_whole, phase, given, begun)?;

@@ -19,7 +19,7 @@ use crate::sets::KEY_START;
 use crate::stop::{Stop, stop_in_entry, stop_in_member};
 use crate::whole_bare::{may_begin_bare, split};
 use crate::whole_parts::{
-    Found, Owner, find_named, may_begin_part, may_begin_value, read_entry, read_member,
+    Found, Owner, find_named, may_read_member, may_read_value, read_entry, read_member,
 };
 use sf_value::{Bare, Dialect, Entries, Item, Key, Member, OutOfMemory, Sequence, can_start_key};
 
@@ -72,8 +72,8 @@ impl SeriesMember<Sequence<Member>> for MemberReader {
     }
 
     #[inline(always)]
-    fn may_begin(text: &[u8]) -> bool {
-        may_begin_bare(text) || may_begin_part(text)
+    fn may_begin(text: &[u8], is_whole: bool) -> bool {
+        may_begin_bare(text) || may_read_member(text, is_whole)
     }
 
     #[inline(always)]
@@ -97,8 +97,8 @@ impl SeriesMember<Sequence<Member>> for MemberReader {
     }
 
     #[inline(always)]
-    fn may_read(text: &[u8]) -> bool {
-        may_begin_part(text)
+    fn may_read(text: &[u8], is_whole: bool) -> bool {
+        may_read_member(text, is_whole)
     }
 
     #[inline(always)]
@@ -160,7 +160,7 @@ impl SeriesMember<Entries<Member>> for EntryReader {
     }
 
     #[inline(always)]
-    fn may_begin(text: &[u8]) -> bool {
+    fn may_begin(text: &[u8], _is_whole: bool) -> bool {
         match split(text) {
             Some((first, _)) => can_start_key(first),
             None => false,
@@ -191,8 +191,8 @@ impl SeriesMember<Entries<Member>> for EntryReader {
     }
 
     #[inline(always)]
-    fn may_read(text: &[u8]) -> bool {
-        may_begin_value(text)
+    fn may_read(text: &[u8], is_whole: bool) -> bool {
+        may_read_value(text, is_whole)
     }
 
     #[inline(always)]

@@ -101,14 +101,25 @@ pub fn may_begin_part(text: &[u8]) -> bool {
     }
 }
 
+/// Whether a member that is not found may be read directly: in a chunk only an Inner List. A bare item
+/// that only its reader reads costs less there by the levels, which have that reader at hand. It only
+/// saves time: nothing is claimed of it.
+#[inline(always)]
+pub fn may_read_member(text: &[u8], is_whole: bool) -> bool {
+    if is_whole {
+        return may_begin_part(text);
+    }
+    behind(text, b'(').is_some()
+}
+
 /// The same of the value of a key. It only saves time: nothing is claimed of it.
 #[inline(always)]
-pub fn may_begin_value(text: &[u8]) -> bool {
+pub fn may_read_value(text: &[u8], is_whole: bool) -> bool {
     let Some((_, after)) = find_key(text) else {
         return false;
     };
     match behind(after, b'=') {
-        Some(value) => may_begin_part(value),
+        Some(value) => may_read_member(value, is_whole),
         None => false,
     }
 }
@@ -407,9 +418,28 @@ fn read_item<'a>(context: &Context, text: &'a [u8]) -> Option<(Item, &'a [u8])>
     ensures { IfSome result (λ r. ReadsAs (SpellsItem context.now.dialect) text.now r.0 r.1.now) }
 {
     let (bare, after) = read_any_bare(context, text)?;
+    Some(item_before(context, bare, after))
+}
+
+/// The same, where no leaf was found.
+#[inline(always)]
+fn read_other_item<'a>(context: &Context, text: &'a [u8]) -> Option<(Item, &'a [u8])>
+    ensures { IfSome result (λ r. ReadsAs (SpellsItem context.now.dialect) text.now r.0 r.1.now) }
+{
+    let (bare, after) = read_other_bare(context, text)?;
+    Some(item_before(context, bare, after))
+}
+
+/// The Item of an Inner List with this bare item and the whole parameters that the text begins with,
+/// and the rest.
+#[inline(always)]
+fn item_before<'a>(context: &Context, bare: Bare, text: &'a [u8]) -> (Item, &'a [u8])
+    ensures { (bare_text : List ℕ) → ReadsAs (SpellsBare context.now.dialect) bare_text bare text.now
+        → ReadsAs (SpellsItem context.now.dialect) bare_text result.0 result.1.now }
+{
     let mut params = Entries::new(context.alloc, &context.seed);
-    let rest = read_params(context, after, Owner::InnerItem, &mut params);
-    Some((Item { bare, params }, rest))
+    let rest = read_params(context, text, Owner::InnerItem, &mut params);
+    (Item { bare, params }, rest)
 }
 
 /// Adds whole Items of an Inner List, each with the space after it, and returns the rest.
@@ -608,7 +638,7 @@ fn push_read_item<'a>(
     ensures adds { IfSome result (AddsItem context.now.dialect text.now items.old items.new) }
     ensures same { IfNone result (items.new ≡ items.old) }
 {
-    let (item, rest) = read_item(context, text)?;
+    let (item, rest) = read_other_item(context, text)?;
     let end = behind_item(rest)?;
     let Ok(()) = items.push_or_drop(item) else {
         return None;
