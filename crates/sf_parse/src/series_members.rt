@@ -17,11 +17,12 @@ use crate::member::MemberReader;
 use crate::series::SeriesMember;
 use crate::sets::KEY_START;
 use crate::stop::{Stop, stop_in_entry, stop_in_member};
-use crate::whole_bare::{may_begin_bare, split};
+use crate::whole_bare::may_begin_bare;
 use crate::whole_parts::{
-    Found, Owner, find_named, may_read_member, may_read_value, read_entry, read_member,
+    Found, Owner, find_named, may_begin_entry, may_read_member, may_read_value, read_entry,
+    read_member,
 };
-use sf_value::{Bare, Dialect, Entries, Item, Key, Member, OutOfMemory, Sequence, can_start_key};
+use sf_value::{Bare, Dialect, Entries, Item, Key, Member, OutOfMemory, Sequence};
 
 /// A whole member of a Dictionary.
 #[derive(Drop)]
@@ -160,11 +161,8 @@ impl SeriesMember<Entries<Member>> for EntryReader {
     }
 
     #[inline(always)]
-    fn may_begin(text: &[u8], _is_whole: bool) -> bool {
-        match split(text) {
-            Some((first, _)) => can_start_key(first),
-            None => false,
-        }
+    fn may_begin(text: &[u8], is_whole: bool) -> bool {
+        may_begin_entry(text, is_whole)
     }
 
     #[inline(always)]
