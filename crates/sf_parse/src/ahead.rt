@@ -1,8 +1,7 @@
 //! What comes near the beginning of a text: it decides whether a part is read directly, or left to
 //! the levels. That only saves time, so nothing is claimed of it.
-ghost use Rattle.std.specs.Prelude.{◌≡◌, ◌++◌, ℕ, List};
+ghost use Rattle.std.specs.Prelude.{◌≡◌, ◌++◌, ◌≤◌, ℕ, List, length};
 
-use crate::whole_bare::split;
 use memchr::{memchr, memchr2, memchr3};
 
 /// How many bytes of a text are searched. A text that is refused early is so not searched to its end
@@ -29,34 +28,45 @@ pub fn has(text: &[u8], byte: u8) -> bool {
 
 /// Whether a comma comes near the beginning of a text, outside of quotes. A member of a chunk that is
 /// not followed by one is left to the levels, since it would be read again.
-#[inline]
 pub fn has_comma(text: &[u8]) -> bool {
-    // Mostly there is none, or it is not within quotes: a search for one byte is the faster one.
-    has(text, b',') && first_outside(text, [b','; 3]).is_some()
+    let mut rest = head(text, NEAR);
+    while let Some(place) = memchr(b',', rest) {
+        let outside = outside_of_quotes(rest, place);
+        if outside.len() >= rest.len() - place {
+            return true;
+        }
+        rest = outside;
+    }
+    false
 }
 
 /// Whether this byte comes near the beginning of a text, before a comma and a closing bracket, outside
 /// of quotes. A parameter or an Item of a chunk that is not followed by it is left to the levels.
-#[inline]
 pub fn has_first(text: &[u8], byte: u8) -> bool {
-    first_outside(text, [byte, b',', b')']) == Some(byte)
-}
-
-/// The first of these bytes that is near the beginning of a text, outside of quotes.
-fn first_outside(text: &[u8], bytes: [u8; 3]) -> Option<u8> {
-    let [one, another, third] = bytes;
     let mut rest = head(text, NEAR);
-    while let Some(place) = memchr3(one, another, third, rest) {
-        let (before, stop) = rest.split_at(place);
-        let (found, more) = split(stop)?;
-        if !end_within_quotes(before) {
-            return Some(found);
+    while let Some(place) = memchr3(byte, b',', b')', rest) {
+        let outside = outside_of_quotes(rest, place);
+        if outside.len() >= rest.len() - place {
+            return outside.first().copied() == Some(byte);
         }
-        let quote = memchr(b'"', more)?;
-        let (_, outside) = more.split_at(quote + 1);
         rest = outside;
     }
-    None
+    false
+}
+
+/// What is left of a text from this place on, or after the quote that closes the String that the
+/// place is in; nothing if there is no such quote.
+fn outside_of_quotes(text: &[u8], place: usize) -> &[u8]
+    requires { place ≤ length text.now }
+{
+    let (before, from) = text.split_at(place);
+    if !end_within_quotes(before) {
+        return from;
+    }
+    match memchr(b'"', from) {
+        Some(quote) => &from[quote + 1..],
+        None => &[],
+    }
 }
 
 /// Whether bytes that begin outside of quotes end within them. The compiler tests them in vectors. A

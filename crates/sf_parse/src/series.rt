@@ -580,7 +580,7 @@ pub fn add_members<'a, P: SeriesMember<G>, G>(
 /// nothing is claimed of it.
 #[inline(always)]
 fn may_add<P: SeriesMember<G>, G>(chunk: &[u8]) -> bool {
-    P::may_begin(chunk, false) && chunk.len() >= WHOLE_PARTS && has_comma(chunk)
+    chunk.len() >= WHOLE_PARTS && P::may_begin(chunk, false) && has_comma(chunk)
 }
 
 /// Whether a member may be whole in this text: in a chunk only if a comma is near. Otherwise its reader

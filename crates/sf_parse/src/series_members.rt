@@ -17,18 +17,27 @@ use crate::member::MemberReader;
 use crate::series::SeriesMember;
 use crate::sets::KEY_START;
 use crate::stop::{Stop, stop_in_entry, stop_in_member};
-use crate::whole_bare::may_begin_bare;
+use crate::whole_bare::{may_begin_bare, split};
 use crate::whole_parts::{
-    Found, Owner, find_named, may_begin_entry, may_read_member, may_read_value, read_entry,
-    read_member,
+    Found, Owner, find_named, may_begin_part, may_begin_value, read_entry, read_member,
 };
-use sf_value::{Bare, Dialect, Entries, Item, Key, Member, OutOfMemory, Sequence};
+use sf_value::{Bare, Dialect, Entries, Item, Key, Member, OutOfMemory, Sequence, can_start_key};
 
 /// A whole member of a Dictionary.
 #[derive(Drop)]
 pub struct Entry {
     key: Key,
     member: Member,
+}
+
+/// Whether a member of a List that begins with no leaf may be read directly. In a chunk a Byte
+/// Sequence, a Date or a Display String costs less by the levels, which have its reader at hand.
+#[inline(always)]
+fn may_read_member(text: &[u8], is_whole: bool) -> bool {
+    match split(text) {
+        Some((b':' | b'@' | b'%', _)) if !is_whole => false,
+        _ => may_begin_part(text),
+    }
 }
 
 impl SeriesMember<Sequence<Member>> for MemberReader {
@@ -161,8 +170,11 @@ impl SeriesMember<Entries<Member>> for EntryReader {
     }
 
     #[inline(always)]
-    fn may_begin(text: &[u8], is_whole: bool) -> bool {
-        may_begin_entry(text, is_whole)
+    fn may_begin(text: &[u8], _is_whole: bool) -> bool {
+        match split(text) {
+            Some((first, _)) => can_start_key(first),
+            None => false,
+        }
     }
 
     #[inline(always)]
@@ -189,8 +201,8 @@ impl SeriesMember<Entries<Member>> for EntryReader {
     }
 
     #[inline(always)]
-    fn may_read(text: &[u8], is_whole: bool) -> bool {
-        may_read_value(text, is_whole)
+    fn may_read(text: &[u8], _is_whole: bool) -> bool {
+        may_begin_value(text)
     }
 
     #[inline(always)]

@@ -26,7 +26,7 @@ use crate::ahead::{has_first, may_need_reader};
 use crate::begun::{Begun, keep_closed, keep_inner, keep_items, keep_params};
 use crate::context::Context;
 use crate::leaf::{Leaf, find_leaf, make};
-use crate::whole_bare::{behind, may_begin_bare, read_bare, split};
+use crate::whole_bare::{behind, read_bare, split};
 use sf_value::classes::{InKey, Space, short_prefix};
 use sf_value::{
     Bare, Entries, Inner, Item, Key, Member, OutOfMemory, Sequence, ShortBytes, can_start_key,
@@ -101,47 +101,15 @@ pub fn may_begin_part(text: &[u8]) -> bool {
     }
 }
 
-/// Whether a member that is not found may be read directly. In a chunk a Byte Sequence, a Date or a
-/// Display String costs less by the levels, which have its reader at hand. It only saves time: nothing
-/// is claimed of it.
-#[inline(always)]
-pub fn may_read_member(text: &[u8], is_whole: bool) -> bool {
-    if !is_whole {
-        if let Some((b':' | b'@' | b'%', _)) = split(text) {
-            return false;
-        }
-    }
-    may_begin_part(text)
-}
-
 /// The same of the value of a key. It only saves time: nothing is claimed of it.
 #[inline(always)]
-pub fn may_read_value(text: &[u8], is_whole: bool) -> bool {
+pub fn may_begin_value(text: &[u8]) -> bool {
     let Some((_, after)) = find_key(text) else {
         return false;
     };
     match behind(after, b'=') {
-        Some(value) => may_read_member(value, is_whole),
+        Some(value) => may_begin_part(value),
         None => false,
-    }
-}
-
-/// Whether a text may begin with a member of a Dictionary that is found or read directly. It only
-/// saves time: nothing is claimed of it.
-#[inline(always)]
-pub fn may_begin_entry(text: &[u8], is_whole: bool) -> bool {
-    if is_whole {
-        return match split(text) {
-            Some((first, _)) => can_start_key(first),
-            None => false,
-        };
-    }
-    let Some((_, after)) = find_key(text) else {
-        return false;
-    };
-    match behind(after, b'=') {
-        Some(value) => may_begin_bare(value) || may_read_member(value, false),
-        None => true,
     }
 }
 
@@ -235,14 +203,14 @@ pub fn add_params<'a>(
     ensures { IfOk result (λ rest. Goes (params_step context.now.dialect) (Opened params.old)
         text.now rest.now (Opened params.new)) }
 {
-    if text.len() < WHOLE_PARTS || !has_first(text, b';') {
+    if text.len() < WHOLE_PARTS {
         return Ok(text);
     }
     put_each_param(context, text, WHOLE_PARTS, params)
 }
 
-/// As [`add_params`], where at least so many bytes are left: [`add_params`] only tests whether one may
-/// be whole, since a call clears its stack.
+/// As [`add_params`], where at least so many bytes are left: [`add_params`] only tests the length,
+/// since a call clears its stack.
 #[inline(never)]
 pub fn put_each_param<'a>(
     context: &Context,

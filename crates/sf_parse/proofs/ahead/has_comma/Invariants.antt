@@ -1,5 +1,5 @@
 use Rattle.std.proofs.Common.{length}
-use Rattle.sf_parse.proofs.ahead.first_outside.Given as goal
+use Rattle.sf_parse.proofs.ahead.has_comma.Given as goal
 
 abbrev pub decreases-loop-place : goal.decreases-loop-place
 decreases-loop-place l = length l.rest
