@@ -56,7 +56,7 @@ abcdefghijklmnopqrstuvwxyz{|}~",
 ];
 
 /// What follows: nothing, and more bytes than are tested at a time.
-static TAILS: [&[u8]; 2] = [b"", b";param=1234567890123"];
+static TAILS: [&[u8]; 2] = [b"", b";param=1234567890123;other=1234567890123"];
 
 /// The text with a run of so many bytes of the class, from this byte of the class on.
 fn text_of(
@@ -91,7 +91,7 @@ fn is_taken(alloc: Global, seed: &RandomState, kind: Kind, text: &[u8]) -> bool 
 fn runs_of_each_length_are_taken(rt: HostRuntime) -> Result<(), Fail> {
     let seed = RandomState::new(&rt)?;
     for row in &ROWS {
-        for groups in 0..50usize {
+        for groups in 0..200usize {
             let count = groups.wrapping_mul(row.4);
             for tail in &TAILS {
                 let text = text_of(rt.alloc(), *row, count, count, tail)?;
@@ -108,7 +108,7 @@ fn each_byte_is_taken_at_each_place(rt: HostRuntime) -> Result<(), Fail> {
     for row in &ROWS {
         for first in 0..row.2.len() {
             for tail in &TAILS {
-                let text = text_of(rt.alloc(), *row, first, 36, tail)?;
+                let text = text_of(rt.alloc(), *row, first, 160, tail)?;
                 assert!(&rt; is_taken(rt.alloc(), &seed, row.0, text.as_slice()));
             }
         }
