@@ -2,6 +2,7 @@
 //! the levels. That only saves time, so nothing is claimed of it.
 ghost use Rattle.std.specs.Prelude.{◌≡◌, ◌++◌, ◌≤◌, ℕ, List, length};
 
+use crate::whole_bare::behind;
 use memchr::{memchr, memchr2, memchr3};
 
 /// How many bytes of a text are searched. A text that is refused early is so not searched to its end
@@ -26,12 +27,21 @@ pub fn has(text: &[u8], byte: u8) -> bool {
     memchr(byte, head(text, NEAR)).is_some()
 }
 
+/// How many Strings with a comma are passed over. Behind more, what is looked for is not found: a
+/// text that is refused early may have many.
+const STRINGS: usize = 4;
+
 /// Whether a comma comes near the beginning of a text, outside of quotes. A member of a chunk that is
 /// not followed by one is left to the levels, since it would be read again.
 pub fn has_comma(text: &[u8]) -> bool {
     let mut rest = head(text, NEAR);
-    while let Some(place) = memchr(b',', rest) {
-        let outside = outside_of_quotes(rest, place);
+    for _ in 0..STRINGS {
+        let Some(place) = memchr(b',', rest) else {
+            return false;
+        };
+        let Some(outside) = outside_of_quotes(rest, place) else {
+            return false;
+        };
         if outside.len() >= rest.len() - place {
             return true;
         }
@@ -40,43 +50,53 @@ pub fn has_comma(text: &[u8]) -> bool {
     false
 }
 
-/// Whether this byte comes near the beginning of a text, before a comma and a closing bracket, outside
-/// of quotes. A parameter or an Item of a chunk that is not followed by it is left to the levels.
-pub fn has_first(text: &[u8], byte: u8) -> bool {
+/// Whether a space comes near the beginning of a text, before a comma and a closing bracket, outside
+/// of quotes. An Item of a chunk that is not followed by it is left to the levels.
+pub fn has_space(text: &[u8]) -> bool {
     let mut rest = head(text, NEAR);
-    while let Some(place) = memchr3(byte, b',', b')', rest) {
-        let outside = outside_of_quotes(rest, place);
+    for _ in 0..STRINGS {
+        let Some(place) = memchr3(b' ', b',', b')', rest) else {
+            return false;
+        };
+        let Some(outside) = outside_of_quotes(rest, place) else {
+            return false;
+        };
         if outside.len() >= rest.len() - place {
-            return outside.first().copied() == Some(byte);
+            return outside.first().copied() == Some(b' ');
         }
         rest = outside;
     }
     false
 }
 
-/// What is left of a text from this place on, or after the quote that closes the String that the
-/// place is in; nothing if there is no such quote.
-fn outside_of_quotes(text: &[u8], place: usize) -> &[u8]
+/// What is left of a text from this place on, or behind the String that the place is in. None if that
+/// is not known: the String does not end, or there is a backslash, which may be before a quote.
+fn outside_of_quotes(text: &[u8], place: usize) -> Option<&[u8]>
     requires { place ≤ length text.now }
 {
     let (before, from) = text.split_at(place);
-    if !end_within_quotes(before) {
-        return from;
+    let (is_odd, is_escaped) = quotes(before);
+    if is_escaped {
+        return None;
     }
-    match memchr(b'"', from) {
-        Some(quote) => &from[quote + 1..],
-        None => &[],
+    if !is_odd {
+        return Some(from);
     }
+    let end = memchr2(b'"', b'\\', from)?;
+    let (_, quote) = from.split_at(end);
+    behind(quote, b'"')
 }
 
-/// Whether bytes that begin outside of quotes end within them. The compiler tests them in vectors. A
-/// quote with a backslash before it is taken for the end of a String.
-fn end_within_quotes(bytes: &[u8]) -> bool {
+/// Whether there is an odd number of quotes in these bytes, and whether there is a backslash. The
+/// compiler tests them in vectors.
+fn quotes(bytes: &[u8]) -> (bool, bool) {
     let mut odd = 0u8;
+    let mut escapes = 0u8;
     for byte in bytes {
         odd ^= (*byte == b'"') as u8;
+        escapes |= (*byte == b'\\') as u8;
     }
-    odd == 1
+    (odd == 1, escapes == 1)
 }
 
 /// Whether a String, of which this is left after its quote and which was not found, may be one that

@@ -17,7 +17,7 @@ use crate::member::MemberReader;
 use crate::series::SeriesMember;
 use crate::sets::KEY_START;
 use crate::stop::{Stop, stop_in_entry, stop_in_member};
-use crate::whole_bare::{may_begin_bare, split};
+use crate::whole_bare::{behind, may_begin_bare, split};
 use crate::whole_parts::{
     Found, Owner, find_named, may_begin_part, may_begin_value, read_entry, read_member,
 };
@@ -30,14 +30,14 @@ pub struct Entry {
     member: Member,
 }
 
-/// Whether a member of a List that begins with no leaf may be read directly. In a chunk a Byte
-/// Sequence, a Date or a Display String costs less by the levels, which have its reader at hand.
+/// Whether a member of a List that begins with no leaf may be read directly. In a chunk a bare item
+/// costs less by the levels, which have its reader at hand.
 #[inline(always)]
 fn may_read_member(text: &[u8], is_whole: bool) -> bool {
-    match split(text) {
-        Some((b':' | b'@' | b'%', _)) if !is_whole => false,
-        _ => may_begin_part(text),
+    if is_whole {
+        return may_begin_part(text);
     }
+    behind(text, b'(').is_some()
 }
 
 impl SeriesMember<Sequence<Member>> for MemberReader {

@@ -120,7 +120,7 @@ fn stop_in_new_params<'a>(context: &Context, text: &'a [u8]) -> Option<Stop<'a>>
         (λ s. is_some (params_finish s)) (Opened []) text.now) }
 {
     let mut params = Entries::new(context.alloc, &context.seed);
-    let Ok(left) = put_each_param(context, text, 0, &mut params) else {
+    let Ok(left) = put_each_param(context, text, true, &mut params) else {
         return None;
     };
     Some(stop_in_param(context, left))

@@ -1,6 +1,6 @@
 //! Bare items that are whole in a text, read without a state between two calls (RFC 9651 section
 //! 4.2.3.1). None claims nothing: the text is then refused, or read by [`crate::bare`].
-ghost use Rattle.std.specs.Prelude.{◌≡◌, ◌≢◌, ℕ, List, [], ◌∷◌, ◌++◌, IfSome, true, false};
+ghost use Rattle.std.specs.Prelude.{◌≡◌, ◌≢◌, [], ◌∷◌, IfSome, true, false};
 ghost use Rattle.sf_value.specs.Grammar.BareItems.{SpellsBare};
 ghost use Rattle.sf_parse.specs.WholeParts.{ReadsAs};
 

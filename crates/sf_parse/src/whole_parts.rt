@@ -22,7 +22,7 @@ ghost use Rattle.sf_parse.specs.WholeParts.{ReachesItems, IsBehindItem, AddsItem
 ghost use Rattle.sf_parse.specs.WholeParts.{found_member};
 ghost use Rattle.sf_parse.specs.BegunParts.{IsBegunAt, IsBegunIn};
 
-use crate::ahead::{has_first, may_need_reader};
+use crate::ahead::{has_space, may_need_reader};
 use crate::begun::{Begun, keep_closed, keep_inner, keep_items, keep_params};
 use crate::context::Context;
 use crate::leaf::{Leaf, find_leaf, make};
@@ -184,9 +184,7 @@ fn read_param<'a>(context: &Context, text: &'a [u8]) -> Option<(&'a [u8], Bare, 
         r.2.now) }
 {
     let (key, after) = find_key(behind_spaces(text))?;
-    let Some(inside) = behind(after, b'=') else {
-        return Some((key, Bare::Boolean(true), after));
-    };
+    let inside = behind(after, b'=')?;
     let (value, rest) = read_other_bare(context, inside)?;
     Some((key, value, rest))
 }
@@ -206,16 +204,17 @@ pub fn add_params<'a>(
     if text.len() < WHOLE_PARTS {
         return Ok(text);
     }
-    put_each_param(context, text, WHOLE_PARTS, params)
+    put_each_param(context, text, false, params)
 }
 
-/// As [`add_params`], where at least so many bytes are left: [`add_params`] only tests the length,
-/// since a call clears its stack.
+/// As [`add_params`], of a chunk or of a whole text: [`add_params`] only tests the length, since a
+/// call clears its stack. In a chunk a parameter that was not found is left to the levels, which have
+/// the reader of its value at hand.
 #[inline(never)]
 pub fn put_each_param<'a>(
     context: &Context,
     text: &'a [u8],
-    fewest: usize,
+    is_whole: bool,
     params: &mut Entries<Bare>,
 ) -> Result<&'a [u8], OutOfMemory>
     // The bytes before the rest lead to the new parameters, after a semicolon.
@@ -223,8 +222,11 @@ pub fn put_each_param<'a>(
         text.now rest.now (Opened params.new)) }
 {
     let mut rest = text;
-    while rest.len() >= fewest {
+    while is_whole || rest.len() >= WHOLE_PARTS {
         let Some((found, after)) = find_named(behind_spaces(rest)) else {
+            if !is_whole {
+                return Ok(rest);
+            }
             let left = put_any_param(context, rest, params)?;
             if left.len() >= rest.len() {
                 return Ok(left);
@@ -255,9 +257,6 @@ fn put_any_param<'a>(
     ensures { IfOk result (λ rest. Goes (params_step context.now.dialect) (Opened params.old)
         text.now rest.now (Opened params.new)) }
 {
-    if !has_first(text, b';') {
-        return Ok(text);
-    }
     let Some((key, value, after)) = read_param(context, text) else {
         return Ok(text);
     };
@@ -448,7 +447,8 @@ pub fn add_items<'a>(
     push_each_item(context, text, items)
 }
 
-/// As [`add_items`], which only tests the length: a call clears its stack.
+/// As [`add_items`], which only tests the length: a call clears its stack. An Item that begins with no
+/// leaf is left to the levels, which have the reader of its bare item at hand.
 #[inline(never)]
 fn push_each_item<'a>(
     context: &Context,
@@ -461,18 +461,19 @@ fn push_each_item<'a>(
 {
     let mut rest = text;
     while rest.len() >= WHOLE_PARTS {
-        if let Some((leaf, after)) = find_leaf(rest) {
-            if let Some(more) = behind(after, b' ') {
-                let params = Entries::new(context.alloc, &context.seed);
-                if !push_leaf(context, leaf, params, items)? {
-                    return Ok(rest);
-                }
-                rest = behind_spaces(more);
-                continue;
-            }
-            if !may_begin_params(after) {
+        let Some((leaf, after)) = find_leaf(rest) else {
+            return Ok(rest);
+        };
+        if let Some(more) = behind(after, b' ') {
+            let params = Entries::new(context.alloc, &context.seed);
+            if !push_leaf(context, leaf, params, items)? {
                 return Ok(rest);
             }
+            rest = behind_spaces(more);
+            continue;
+        }
+        if !may_begin_params(after) {
+            return Ok(rest);
         }
         let left = push_any_item(context, rest, items)?;
         if left.len() >= rest.len() {
@@ -495,7 +496,7 @@ fn push_any_item<'a>(
     ensures { IfOk result (λ rest. Goes (member_step context.now.dialect)
         (InMany (BetweenItems items.old)) text.now rest.now (InMany (BetweenItems items.new))) }
 {
-    if !has_first(text, b' ') {
+    if !has_space(text) {
         return Ok(text);
     }
     let Some((item, after)) = read_item(context, text) else {
@@ -617,7 +618,7 @@ fn push_with_params<'a>(
     Some(end)
 }
 
-/// As [`push_item`], for an Item of any type.
+/// As [`push_item`], where no leaf was found.
 #[inline(never)]
 fn push_read_item<'a>(
     context: &Context,
