@@ -484,8 +484,8 @@ fn push_each_item<'a>(
     Ok(rest)
 }
 
-/// Adds an Item of any type, with the space after it, and returns the rest; all of the text if it is
-/// not whole. It is not inlined, so that a loop of found ones clears less of its stack.
+/// Adds an Item with parameters, with the space after it, and returns the rest; all of the text if it
+/// is not whole. It is not inlined, so that a loop of those without clears less of its stack.
 #[inline(never)]
 fn push_any_item<'a>(
     context: &Context,

@@ -278,8 +278,8 @@ fn long_run<C: LaneClass>(text: &[u8]) -> usize
     NEAR + far_run::<C>(&text[NEAR..])
 }
 
-/// The bytes of the class that the text begins with, and the rest, tested 16 at a time, unless the
-/// text is shorter. It does not allocate.
+/// The bytes of the class that the text begins with, and the rest, tested 16 and more at a time,
+/// unless the text is shorter. It does not allocate.
 #[inline(always)]
 pub fn long_prefix<C: LaneClass>(text: &[u8]) -> (&[u8], &[u8])
     // Together they are the text.

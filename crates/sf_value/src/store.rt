@@ -366,8 +366,8 @@ impl<V: Drop> Store<V> {
         }
     }
 
-    /// The same as `set_named`, for a key that is long or present, or for which a map is made: it is
-    /// made before its place is known.
+    /// The same as `set_named`, for a long key, a key that is present, or one more than a few: the key
+    /// is made before its place is known.
     #[inline(never)]
     fn set_made(&mut self, alloc: Global, key: &[u8], value: V) -> Result<(), OutOfMemory>
         requires key { IsKey key.now }

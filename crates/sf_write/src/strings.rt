@@ -47,7 +47,7 @@ fn unescaped_len(bytes: &[u8]) -> usize
     if needs_backslash(bytes[0]) {
         return 0;
     }
-    // The bytes of a valid String are tested 16 at a time.
+    // The bytes of a valid String are tested many at a time.
     let (visible, rest) = long_prefix::<Unescaped>(bytes);
     let more = unescaped_len_by_byte(rest);
     visible.len() + more
