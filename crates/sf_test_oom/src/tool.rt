@@ -176,7 +176,7 @@ fn run_refusals(
     Ok(refusals(alloc, || ran(alloc, seed, request, row, &mut room)))
 }
 
-/// Runs into a sink that has room, where the text is expected in so many calls.
+/// Runs into a sink that has room, where the text is expected at once, or in so many calls.
 fn ran_in_parts(
     alloc: Global,
     seed: &RandomState,
@@ -197,7 +197,8 @@ fn ran_in_parts(
     if answer == Status::Stopped && sink.calls == 0 {
         Seen::Refused
     } else {
-        seen_if(answer == status && sink.taken.as_slice() == text && sink.calls == calls)
+        let is_sent = sink.calls == 1 || sink.calls == calls;
+        seen_if(answer == status && sink.taken.as_slice() == text && is_sent)
     }
 }
 
@@ -220,6 +221,8 @@ fn parts_without_memory(rt: HostRuntime) -> Result<(), Fail> {
             ran_in_parts(alloc, &seed, &item, row, calls, &mut sink)
         });
         assert!(rt; found > Some(0), "{calls}: {found:?}");
+        // The last call is the first that had enough memory.
+        assert_eq!(rt; sink.calls, calls);
     }
     Ok(())
 }
