@@ -225,6 +225,61 @@ fn dictionaries(rt: HostRuntime) {
     check(&rt, Dict::new(rt.alloc(), &seed).into(), "");
 }
 
+/// So many of a byte, with these bytes before and behind them.
+fn run_between(
+    alloc: Global,
+    before: &[u8],
+    byte: u8,
+    count: usize,
+    behind: &[u8],
+) -> Result<Vec<u8>, AllocError> {
+    let mut bytes = Vec::new(alloc);
+    bytes.extend_from_slice(before)?;
+    bytes.resize(count.wrapping_add(before.len()), byte)?;
+    bytes.extend_from_slice(behind)?;
+    Ok(bytes)
+}
+
+/// The text has memory of its own length.
+fn check_fitted(rt: &(impl Abort + AllocGlobal), field: &Field, want: &[u8]) {
+    let text = to_text(rt.alloc(), field).expect(rt, "room");
+    assert!(rt; text.as_slice() == want, "{}", want.len());
+    assert!(rt; text.capacity() == want.len(), "{}", want.len());
+}
+
+/// A text of up to 512 bytes is gathered on the stack, and a longer one in memory. Each piece of a
+/// text ends on both sides of that length, and some are longer.
+#[test]
+fn texts_of_each_length(rt: HostRuntime) {
+    let alloc = rt.alloc();
+    let seed = seed(&rt);
+    for count in (490..530usize).chain(1010..1030) {
+        let name = run_between(alloc, b"", b't', count, b"").expect(&rt, "room");
+        let last = item(&rt, &seed, date(&rt, -3), b"key", text(&rt, b"a\\b"));
+        let first = plain(&rt, &seed, token(&rt, name.as_slice()));
+        let list = two(&rt, first.into(), last.into());
+        let want = run_between(alloc, b"", b't', count, b", @-3;key=\"a\\\\b\"");
+        check_fitted(&rt, &list.into(), want.expect(&rt, "room").as_slice());
+    }
+}
+
+/// The same of a String whose pieces are short.
+#[test]
+fn texts_of_many_pieces(rt: HostRuntime) {
+    let alloc = rt.alloc();
+    let seed = seed(&rt);
+    for count in 245..265usize {
+        let quotes = run_between(alloc, b"a", b'"', count, b"").expect(&rt, "room");
+        let field = plain(&rt, &seed, text(&rt, quotes.as_slice())).into();
+        let mut want = run_between(alloc, b"\"a", b'"', 0, b"").expect(&rt, "room");
+        for _ in 0..count {
+            want.extend_from_slice(b"\\\"").expect(&rt, "room");
+        }
+        want.extend_from_slice(b"\"").expect(&rt, "room");
+        check_fitted(&rt, &field, want.as_slice());
+    }
+}
+
 // What a sink took that takes one byte a call and fails at call `fails_at`, and the answer to it.
 #[derive(Drop)]
 struct Sent {

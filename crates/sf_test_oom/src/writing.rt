@@ -4,7 +4,7 @@ use sf_parse::{Refusal, parse_text};
 use sf_test_alloc::{Seen, refusals, seen_without_memory};
 use sf_value::{Field, Kind, OutOfMemory, Writing};
 use sf_write::{display, to_text, write_field};
-use std::alloc::Global;
+use std::alloc::{AllocError, Global};
 use std::hash::RandomState;
 use std::io::Write;
 use std::test::Fail;
@@ -37,6 +37,26 @@ fn texts(rt: HostRuntime) -> Result<(), Fail> {
         let found = text_refusals(rt.alloc(), &seed, kind, text)?;
         assert!(rt; found > Some(0), "{found:?}");
     }
+    Ok(())
+}
+
+/// A List of Integers of about 900 bytes, which is its own canonical text.
+fn long_text(alloc: Global) -> Result<Vec<u8>, AllocError> {
+    let mut text = Vec::new(alloc);
+    for _ in 0..300u32 {
+        text.extend_from_slice(b"7, ")?;
+    }
+    text.push(b'8')?;
+    Ok(text)
+}
+
+/// A text for which memory can't be had is refused, whatever its length.
+#[test]
+fn long_texts(rt: HostRuntime) -> Result<(), Fail> {
+    let seed = RandomState::new(&rt)?;
+    let text = long_text(rt.alloc())?;
+    let found = text_refusals(rt.alloc(), &seed, Kind::List, text.as_slice())?;
+    assert!(rt; found > Some(0), "{found:?}");
     Ok(())
 }
 

@@ -7,11 +7,11 @@ ghost use Rattle.sf_value.specs.Grammar.Canonical.{canon};
 ghost use Rattle.sf_write.specs.Writing.{Follows, WritesText};
 
 use crate::dicts::put_entries;
+use crate::gathered::Gathered;
 use crate::items::put_item;
-use crate::length::field_len;
 use crate::lists::put_members;
 use crate::sending::{Sent, WriteFault};
-use sf_value::{Field, OutOfMemory, Sink, Writing};
+use sf_value::{Field, OutOfMemory, Sink};
 use std::alloc::Global;
 
 /// Writes the canonical text of a field, as [`write_field`] does, after what was sent before, as
@@ -67,9 +67,9 @@ pub fn to_text(alloc: Global, field: &Field) -> Result<Vec<u8>, OutOfMemory>
         (λ text. SpellsField Rfc9651 (kind_of field.now) text.items field.now) }
     ensures valid { IfOk result (λ _. Valid Rfc9651 (kind_of field.now) field.now) }
 {
-    let mut out = Writing::new(Vec::with_capacity(alloc, field_len(field))?);
+    let mut out = Gathered::new(alloc, field);
     match write_field(field, &mut out) {
-        Ok(_) => Ok(out.into_inner()),
+        Ok(_) => out.into_text(),
         Err(_) => Err(OutOfMemory),
     }
 }

@@ -13,6 +13,7 @@ mod dicts;
 mod display_string;
 mod field;
 mod formats;
+mod gathered;
 mod items;
 mod length;
 mod lists;
