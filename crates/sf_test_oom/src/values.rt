@@ -3,8 +3,8 @@ use crate::expecting::{LISTED, MEMBERS, SINGLE, expect_no_need, expect_refusals,
 use sf_parse::{Refusal, parse_text};
 use sf_test_alloc::{Seen, refusals};
 use sf_value::{
-    Bare, Blob, Entries, Field, Int, Key, Kind, OutOfMemory, Part, Reading, Shown, Text, TextFault,
-    Token, Writing, copy, same,
+    Bare, Blob, Entries, Field, Int, Item, Key, Kind, Member, OutOfMemory, Part, Reading, Sequence,
+    Shown, Text, TextFault, Token, Writing, copy, same,
 };
 use std::alloc::Global;
 use std::hash::RandomState;
@@ -377,6 +377,63 @@ fn copies(rt: HostRuntime) -> Result<(), Fail> {
     ] {
         let found = copy_refusals(rt.alloc(), &seed, kind, text)?;
         assert!(rt; found > Some(0), "{found:?}");
+    }
+    Ok(())
+}
+
+/// Copies of parameters, of the members of a List and of the Items of an Inner List.
+#[derive(Drop)]
+struct Copies {
+    params: Entries<Bare>,
+    members: Sequence<Member>,
+    items: Sequence<Item>,
+}
+
+/// Two times copies of so many of each.
+fn copies_of(alloc: Global, seed: &RandomState, count: usize) -> Result<Vec<Copies>, Fail> {
+    let params = entries_of(alloc, seed, count)?;
+    let mut members = Sequence::new(alloc);
+    let mut items = Sequence::new(alloc);
+    for _ in 0..count {
+        members.push(Member::Item(plain(alloc, seed)))?;
+        items.push(plain(alloc, seed))?;
+    }
+    let mut copies = Vec::new(alloc);
+    for _ in 0..2u32 {
+        copies.push(Copies {
+            params: params.copy(alloc, seed)?,
+            members: members.copy(alloc, seed)?,
+            items: items.copy(alloc, seed)?,
+        })?;
+    }
+    Ok(copies)
+}
+
+/// An Item in place.
+fn plain(alloc: Global, seed: &RandomState) -> Item {
+    Item::new(alloc, seed, Bare::Boolean(false))
+}
+
+/// Adds one more to each of the next copies.
+fn grow_next(alloc: Global, seed: &RandomState, copies: &mut Vec<Copies>) -> bool {
+    let Some(mut next) = copies.pop() else {
+        return false;
+    };
+    let Ok(key) = Key::new(alloc, b"more") else {
+        return false;
+    };
+    next.params.set(key, Bare::Boolean(true)).is_ok()
+        && next.members.push(Member::Item(plain(alloc, seed))).is_ok()
+        && next.items.push(plain(alloc, seed)).is_ok()
+}
+
+#[test]
+fn copies_have_room_for_one_more(rt: HostRuntime) -> Result<(), Fail> {
+    let alloc = rt.alloc();
+    let seed = RandomState::new(&rt)?;
+    for count in [1, 3, 4, 7usize] {
+        let mut copies = copies_of(alloc, &seed, count)?;
+        expect_no_need(&rt, || seen_if(grow_next(alloc, &seed, &mut copies)));
     }
     Ok(())
 }

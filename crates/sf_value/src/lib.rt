@@ -31,6 +31,7 @@
 mod blob;
 mod building;
 mod bytes;
+mod capacity;
 pub mod classes;
 mod conversion;
 mod device;

@@ -11,6 +11,7 @@ ghost use Rattle.std.specs.Borrow.{sem};
 ghost use Rattle.sf_value.specs.Lending.{LendsItems};
 ghost use Rattle.std.specs.Cmp.Lexicographic.{pointwise_decides};
 
+use crate::capacity::capacity_for;
 use crate::fault::OutOfMemory;
 use crate::part::Part;
 use std::alloc::{AllocFailed, Global};
@@ -263,7 +264,7 @@ impl<T: Part> Part for Sequence<T> {
 
     fn copy(&self, alloc: Global, seed: &RandomState) -> Result<Sequence<T>, OutOfMemory> {
         let sources = self.as_slice();
-        let mut items = Vec::with_capacity(alloc, sources.len())?;
+        let mut items = Vec::with_capacity(alloc, capacity_for(sources.len()))?;
         for item in sources {
             items.push_reserved(item.copy(alloc, seed)?);
         }

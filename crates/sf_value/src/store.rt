@@ -16,6 +16,7 @@ ghost use Rattle.sf_value.specs.Stores.{slot_pairs, stored, HasSeed, HasSlotSeed
 ghost use Rattle.sf_value.specs.Stores.{lent_pairs, left_pairs};
 
 use crate::bytes::{IN_PLACE, ShortBytes};
+use crate::capacity::capacity_for;
 use crate::fault::OutOfMemory;
 use crate::key::Key;
 use crate::key_hash::Name;
@@ -446,8 +447,7 @@ impl<V: Drop> Store<V> {
 }
 
 impl<V: Part> Store<V> {
-    /// Other entries, equal to these, with another seed, in a vector or a map that is allocated at
-    /// its full size.
+    /// Other entries, equal to these, with another seed, in a vector or a map that is allocated once.
     pub(crate) fn copy(&self, alloc: Global, seed: &RandomState) -> Result<Store<V>, OutOfMemory>
         // Each key is one, and none occurs twice.
         requires entries { AreEntries (stored self.now) }
@@ -473,7 +473,7 @@ impl<V: Part> Store<V> {
     }
 }
 
-/// Copies of a few entries, in a vector that has capacity for no more.
+/// Copies of a few entries, in a vector.
 #[inline(never)]
 fn copy_few<V: Part>(
     sources: &[Slot<V>],
@@ -482,7 +482,7 @@ fn copy_few<V: Part>(
 ) -> Result<Vec<Slot<V>>, OutOfMemory>
     ensures { IfOk result (λ copies. slot_pairs copies.items ≡ slot_pairs sources.now) }
 {
-    let mut copies = Vec::with_capacity(alloc, sources.len())?;
+    let mut copies = Vec::with_capacity(alloc, capacity_for(sources.len()))?;
     for source in sources {
         let value = source.value.copy(alloc, seed)?;
         copies.push_reserved(Slot {
@@ -494,7 +494,7 @@ fn copy_few<V: Part>(
     Ok(copies)
 }
 
-/// Copies of the few entries that were left in a map, in a vector that has capacity for no more.
+/// Copies of the few entries that were left in a map, in a vector.
 #[inline(never)]
 fn copy_left<V: Part>(
     map: &Many<V>,
@@ -503,7 +503,7 @@ fn copy_left<V: Part>(
 ) -> Result<Vec<Slot<V>>, OutOfMemory>
     ensures { IfOk result (λ copies. slot_pairs copies.items ≡ map.now.entries) }
 {
-    let mut copies = Vec::with_capacity(alloc, map.len())?;
+    let mut copies = Vec::with_capacity(alloc, capacity_for(map.len()))?;
     for (key, value) in map.iter() {
         let value = value.copy(alloc, seed)?;
         copies.push_reserved(Slot {
