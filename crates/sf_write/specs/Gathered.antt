@@ -1,9 +1,7 @@
 -- What was gathered of a text.
-use Rattle.std.specs.Prelude.{ℕ, List}
-use Rattle.sf_write.specs.declared.gathered.Place.{Place}
-use Rattle.sf_write.specs.declared.gathered.Place.TheVariants as place_is
+use Rattle.std.specs.Prelude.{ℕ, List, ◌++◌}
+use Rattle.sf_write.specs.declared.gathered.Gathered.{Gathered}
 
--- the bytes, wherever they are
-abbrev pub bytes_of : Place → List ℕ
-bytes_of (place_is.Front front) = front
-bytes_of (place_is.Memory text) = text.items
+-- the bytes in memory, and then those of the block
+abbrev pub bytes_of : Gathered → List ℕ
+bytes_of g = g.text.items ++ g.block

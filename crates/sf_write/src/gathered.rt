@@ -7,34 +7,33 @@ use sf_value::{Failed, Field, OutOfMemory, Sink};
 use std::alloc::Global;
 use std::marker::Model;
 
-/// The number of bytes that are gathered before the length of the text is computed: most fields are
-/// shorter.
-const FRONT: usize = 512;
+/// The number of bytes that are gathered at a time: the texts of most fields are shorter.
+const BLOCK: usize = 512;
 
-/// The first bytes of a text, on the stack.
+/// The last bytes of a text, on the stack.
 #[derive(Drop)]
-pub(crate) struct Front {
-    bytes: [u8; FRONT],
+pub(crate) struct Block {
+    bytes: [u8; BLOCK],
     len: usize,
 }
 
-impl Model for Front {
+impl Model for Block {
     ghost use Rattle.std.specs.Prelude.{ℕ, List, ◌≤◌, take};
 
     ghost Value = { List ℕ };
 
-    ghost view = { λ f. take f.len f.bytes };
+    ghost view = { λ b. take b.len b.bytes };
 
-    ghost invariant = { λ f. f.len ≤ 512 };
+    ghost invariant = { λ b. b.len ≤ 512 };
 }
 
-impl Front {
+impl Block {
     /// No bytes.
-    fn new() -> Front
+    fn new() -> Block
         ensures { result ≡ [] }
     {
-        Front {
-            bytes: [0; FRONT],
+        Block {
+            bytes: [0; BLOCK],
             len: 0,
         }
     }
@@ -45,7 +44,7 @@ impl Front {
         ensures added { result ≡ true → self.new ≡ self.old ++ bytes.now }
         ensures same { result ≡ false → self.new ≡ self.old }
     {
-        if bytes.len() > FRONT - self.len {
+        if bytes.len() > BLOCK - self.len {
             return false;
         }
         let end = self.len + bytes.len();
@@ -60,95 +59,95 @@ impl Front {
     {
         &self.bytes[..self.len]
     }
+
+    /// Removes all bytes.
+    fn clear(&mut self)
+        ensures { self.new ≡ [] }
+    {
+        self.len = 0;
+    }
 }
 
-/// Where the bytes are.
-#[derive(Drop)]
-pub(crate) enum Place {
-    /// On the stack.
-    Front(Front),
-    /// In memory of the length of the text.
-    Memory(Vec<u8>),
-}
-
-/// The canonical text of a field, as far as it was written. Its first bytes are on the stack, so that
-/// the text of most fields is not measured before it is written; a longer one goes on in memory of its
-/// length.
+/// The canonical text of a field, as far as it was written. Its last bytes are in a block on the
+/// stack, and those before in memory of the length of the text. So a text that has no more than a
+/// block need not be measured before it is written.
 #[derive(Drop)]
 pub(crate) struct Gathered<'a> {
     alloc: Global,
     field: &'a Field,
-    place: Place,
+    text: Vec<u8>,
+    block: Block,
     failures: u64,
 }
 
 impl<'a> Gathered<'a> {
     /// Nothing of the text of this field. It does not allocate.
     pub(crate) fn new(alloc: Global, field: &'a Field) -> Gathered<'a>
-        ensures empty { bytes_of result.place ≡ [] }
+        ensures empty { bytes_of result ≡ [] }
         ensures failures { result.failures ≡ 0 }
     {
         Gathered {
             alloc,
             field,
-            place: Place::Front(Front::new()),
+            text: Vec::new(alloc),
+            block: Block::new(),
             failures: 0,
         }
     }
 
-    /// The bytes, in memory of their length, if the length of the text was computed right.
+    /// The bytes, in memory of their length, if all of the text was written and its length was
+    /// computed right.
     #[inline(always)]
     pub(crate) fn into_text(self) -> Result<Vec<u8>, OutOfMemory>
-        ensures { IfOk result (λ text. text.items ≡ bytes_of self.entry.place) }
+        ensures { IfOk result (λ text. text.items ≡ bytes_of self.entry) }
     {
         let Gathered {
             alloc,
             field: _,
-            place,
+            mut text,
+            block,
             failures: _,
         } = self;
-        match place {
-            Place::Front(front) => Ok(Vec::from_slice(alloc, front.as_slice())?),
-            Place::Memory(text) => Ok(text),
+        if text.is_empty() {
+            return Ok(Vec::from_slice(alloc, block.as_slice())?);
         }
+        text.extend_from_slice(block.as_slice())?;
+        Ok(text)
     }
 
-    /// Adds bytes at the end of those in memory, or moves all there. If an allocation fails, nothing
-    /// changes.
+    /// Moves the block to memory, and adds these bytes. If an allocation fails, no byte is added. It
+    /// is not inlined, since a block takes many parts of a text.
     #[inline(never)]
-    fn add_in_memory(&mut self, bytes: &[u8]) -> Result<(), OutOfMemory>
+    fn add_behind_block(&mut self, bytes: &[u8]) -> Result<(), OutOfMemory>
         ensures added { MatchResult result
-            (λ _. bytes_of self.new.place ≡ bytes_of self.old.place ++ bytes.now)
-            (λ _. bytes_of self.new.place ≡ bytes_of self.old.place) }
+            (λ _. bytes_of self.new ≡ bytes_of self.old ++ bytes.now)
+            (λ _. bytes_of self.new ≡ bytes_of self.old) }
         ensures failures { self.new.failures ≡ self.old.failures }
     {
-        match &mut self.place {
-            Place::Memory(text) => text.extend_from_slice(bytes)?,
-            Place::Front(front) => {
-                let mut text = Vec::with_capacity(self.alloc, field_len(self.field))?;
-                text.extend_from_slice(front.as_slice())?;
-                text.extend_from_slice(bytes)?;
-                self.place = Place::Memory(text);
-            }
+        if self.text.is_empty() {
+            self.text = Vec::with_capacity(self.alloc, field_len(self.field))?;
+        }
+        self.text.extend_from_slice(self.block.as_slice())?;
+        self.block.clear();
+        if !self.block.add(bytes) {
+            self.text.extend_from_slice(bytes)?;
         }
         Ok(())
     }
 }
 
 impl Sink for Gathered<'_> {
-    ghost state = { λ g. record { taken = Some (bytes_of g.place); failures = g.failures } };
+    ghost state = { λ g. record { taken = Some (bytes_of g); failures = g.failures } };
 
     #[inline]
     fn send(&mut self, bytes: &[u8]) -> Result<usize, Failed> {
-        if let Place::Front(front) = &mut self.place {
-            if front.add(bytes) {
-                return Ok(bytes.len());
-            }
+        if self.block.add(bytes) {
+            return Ok(bytes.len());
         }
         if bytes.is_empty() {
             return Ok(0);
         }
-        if self.add_in_memory(bytes).is_err() {
+        if self.add_behind_block(bytes).is_err() {
             self.failures = self.failures.saturating_add(1);
             return Err(Failed);
         }
