@@ -447,7 +447,7 @@ impl<V: Drop> Store<V> {
 }
 
 impl<V: Part> Store<V> {
-    /// Other entries, equal to these, with another seed, in a vector or a map that is allocated once.
+    /// Other entries, equal to these, with another seed, in a vector or a map that does not grow.
     pub(crate) fn copy(&self, alloc: Global, seed: &RandomState) -> Result<Store<V>, OutOfMemory>
         // Each key is one, and none occurs twice.
         requires entries { AreEntries (stored self.now) }
@@ -473,6 +473,13 @@ impl<V: Part> Store<V> {
     }
 }
 
+/// The capacity for a copy of a few entries: no more than a few are ever in a vector.
+fn few_capacity(len: usize) -> usize
+    ensures { len ≤ result }
+{
+    capacity_for(len).min(FEW).max(len)
+}
+
 /// Copies of a few entries, in a vector.
 #[inline(never)]
 fn copy_few<V: Part>(
@@ -482,7 +489,7 @@ fn copy_few<V: Part>(
 ) -> Result<Vec<Slot<V>>, OutOfMemory>
     ensures { IfOk result (λ copies. slot_pairs copies.items ≡ slot_pairs sources.now) }
 {
-    let mut copies = Vec::with_capacity(alloc, capacity_for(sources.len()))?;
+    let mut copies = Vec::with_capacity(alloc, few_capacity(sources.len()))?;
     for source in sources {
         let value = source.value.copy(alloc, seed)?;
         copies.push_reserved(Slot {
@@ -503,7 +510,7 @@ fn copy_left<V: Part>(
 ) -> Result<Vec<Slot<V>>, OutOfMemory>
     ensures { IfOk result (λ copies. slot_pairs copies.items ≡ map.now.entries) }
 {
-    let mut copies = Vec::with_capacity(alloc, capacity_for(map.len()))?;
+    let mut copies = Vec::with_capacity(alloc, few_capacity(map.len()))?;
     for (key, value) in map.iter() {
         let value = value.copy(alloc, seed)?;
         copies.push_reserved(Slot {
