@@ -52,6 +52,39 @@ fn copied_fields_are_trees(rt: HostRuntime) -> Result<(), Fail> {
     Ok(())
 }
 
+/// The bytes before an escape, so many of them, the escape, as many again, and what ends the text.
+fn text_around(alloc: Global, before: &[u8], count: usize, escape: &[u8]) -> Result<Vec<u8>, Fail> {
+    let mut text = Vec::new(alloc);
+    text.extend_from_slice(before)?;
+    for _ in 0..2u32 {
+        for _ in 0..count {
+            text.push(b'x')?;
+        }
+        text.extend_from_slice(escape)?;
+    }
+    text.extend_from_slice(b"\"")?;
+    Ok(text)
+}
+
+/// Runs of each length before, between and behind escapes.
+#[test]
+fn runs_around_escapes_are_copied(rt: HostRuntime) -> Result<(), Fail> {
+    let alloc = rt.alloc();
+    let seed = RandomState::new(&rt)?;
+    for (before, escape) in [
+        (b"\"".as_slice(), b"\\\"".as_slice()),
+        (b"\"", b"\\\\\\\""),
+        (b"%\"", b"%c3%bc"),
+        (b"%\"\\", b"%25%22"),
+    ] {
+        for count in 0..100usize {
+            let text = text_around(alloc, before, count, escape)?;
+            assert!(&rt; is_by_both(alloc, &seed, Dialect::Rfc9651, Kind::Item, text.as_slice()));
+        }
+    }
+    Ok(())
+}
+
 #[test]
 fn accepted_texts_are_copied_in_both_dialects(rt: HostRuntime) -> Result<(), Fail> {
     let alloc = rt.alloc();

@@ -1,7 +1,7 @@
 -- What the search for a bad byte tells of the whole text, and texts one byte longer.
-use Rattle.std.specs.Option.{option_or}
+use Rattle.std.specs.Option.{option_map, option_or}
 use Rattle.std.proofs.Common.{◌≡◌, ℕ, suc, ◌+◌, ◌≤◌, Bool, true, false, not, List, [], ◌∷◌}
-use Rattle.std.proofs.Common.{◌++◌}
+use Rattle.std.proofs.Common.{◌++◌, length-append}
 use Rattle.std.proofs.Common.{Option, None, Some, refl, ◌≢◌, length, arith, ◌⊎◌, inl, inr}
 use Rattle.std.proofs.lemmas.Bool.Decides.{nat_tests}
 use Rattle.std.specs.List.{position_or_len}
@@ -26,6 +26,22 @@ every_from_length p (b ∷ bs) h = by (p b) refl (every_from_length p bs)
 
 pub every_from_place : (p : ℕ → Bool) (bs : List ℕ) → bad_place p bs ≡ None → Every p bs
 every_from_place p bs h = every_from_length p bs (grind (arith, nat_tests))
+
+-- the search goes on behind bytes that pass
+position_behind : (p : ℕ → Bool) (run rest : List ℕ) → Every p run
+    → position_or_len (λ b. not (p b)) (run ++ rest)
+    ≡ length run + position_or_len (λ b. not (p b)) rest
+position_behind p [] rest h = omega arith
+position_behind p (b ∷ run) rest h =
+    let more = position_behind p run rest h.1 in
+    rw h.0 (omega (arith, more))
+
+pub bad_behind : (p : ℕ → Bool) (run rest : List ℕ) → Every p run
+    → bad_place p (run ++ rest) ≡ option_map (λ i. length run + i) (bad_place p rest)
+bad_behind p run rest h =
+    let place = position_behind p run rest h in
+    let long = length-append run rest in
+    grind (arith, nat_tests)
 
 pub word_from_place : (p q : ℕ → Bool) (bs : List ℕ) → bad_word_place p q bs ≡ None
     → length bs ≢ 0 → IsWord p q bs

@@ -2,7 +2,7 @@
 ghost use Rattle.std.specs.Prelude.{◌≡◌, map, not};
 ghost use Rattle.std.specs.Simd.Lanes.{mask_l};
 
-use crate::classes::{Base64, ByteClass, InToken, UnencodedByte, Unescaped};
+use crate::classes::{Base64, ByteClass, InToken, UnencodedByte, Unescaped, Visible};
 use std::simd::prelude::*;
 
 /// The number of bytes that are tested at a time.
@@ -26,6 +26,13 @@ impl LaneClass for InToken {
         let from_bracket = bytes.simd_ge(u8x16::splat(b'[')) & bytes.simd_le(u8x16::splat(b']'));
         let others = bytes.simd_eq(u8x16::splat(b'"')) | bytes.simd_eq(u8x16::splat(b','));
         (invisible | brackets | braces | from_semicolon | from_bracket | others).to_bitmask()
+    }
+}
+
+impl LaneClass for Visible {
+    #[inline(always)]
+    fn outside(bytes: u8x16) -> u64 {
+        (bytes.simd_lt(u8x16::splat(b' ')) | bytes.simd_gt(u8x16::splat(b'~'))).to_bitmask()
     }
 }
 

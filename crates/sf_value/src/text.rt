@@ -9,7 +9,7 @@ ghost use Rattle.sf_value.specs.InPlace.{FitsInPlace};
 use crate::bytes::ShortBytes;
 use crate::classes::Visible;
 use crate::fault::{OutOfMemory, TextFault};
-use crate::word::bad_byte;
+use crate::word::bad_byte_behind;
 use std::alloc::Global;
 use std::marker::Model;
 
@@ -45,7 +45,7 @@ impl Text {
         // At most 16 bytes are not refused as out of memory.
         ensures in_place { FitsInPlace bytes.now → IfErr result IsOfBytes }
     {
-        if let Some(place) = bad_byte::<Visible>(bytes) {
+        if let Some(place) = bad_byte_behind::<Visible>(bytes) {
             return Err(TextFault::BadByte { place });
         }
         Ok(Text {

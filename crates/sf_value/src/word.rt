@@ -5,8 +5,9 @@ ghost use Rattle.sf_value.specs.Faults.{bad_place, bad_word_place, IsWordFault, 
 ghost use Rattle.sf_value.specs.InPlace.{FitsInPlace};
 
 use crate::bytes::ShortBytes;
-use crate::classes::ByteClass;
+use crate::classes::{ByteClass, long_prefix};
 use crate::fault::TextFault;
+use crate::lanes::LaneClass;
 use std::alloc::Global;
 
 /// The bytes of a word, which has a first byte of the class `S` and then bytes of `C`. Fails with
@@ -38,6 +39,16 @@ pub(crate) fn bad_byte<C: ByteClass>(bytes: &[u8]) -> Option<usize>
     ensures { result ≡ bad_place C.test bytes.now }
 {
     bytes.iter().position(|b| !C::has(*b))
+}
+
+/// The same, of bytes that are mostly of the class: they are tested many at a time.
+#[tactic(auto, using(crate::proofs::Words::bad_behind))]
+pub(crate) fn bad_byte_behind<C: LaneClass>(bytes: &[u8]) -> Option<usize>
+    ensures { result ≡ bad_place C.test bytes.now }
+{
+    let (run, rest) = long_prefix::<C>(bytes);
+    let place = bad_byte::<C>(rest)?;
+    Some(run.len() + place)
 }
 
 /// The place of the first byte that is not allowed in a word there; `None` also if there are no

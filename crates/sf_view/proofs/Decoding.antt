@@ -5,14 +5,14 @@ use Rattle.std.proofs.Common.{◌∷◌, ◌++◌, refl, sym, ap, ◌∙◌, sub
 use Rattle.sf_value.specs.Ascii.{quote, backslash, percent}
 use Rattle.sf_value.specs.Grammar.Words.{Every}
 use Rattle.sf_value.specs.Grammar.Classes.{is_byte}
-use Rattle.sf_value.specs.Grammar.Strings.{is_escaped, escaped}
+use Rattle.sf_value.specs.Grammar.Strings.{is_escaped, is_unescaped, escaped}
 use Rattle.sf_value.specs.Grammar.DisplayStrings.{hex, is_unencoded, EncodedBytes}
 use Rattle.sf_value.specs.Grammar.ByteSequences.{letter, unpadded, spare, needed, Pads}
 use Rattle.sf_value.proofs.DigitValues.{letter_same}
 use Rattle.sf_parse.proofs.Quads.{byte_small, pads_letter, first_small}
 use Rattle.sf_view.specs.declared.bytes.Coding.{Coding}
 use Rattle.sf_view.specs.declared.bytes.Coding.TheVariants as coding
-use Rattle.sf_view.specs.Decoding.{Remains, TakesByte, NoLetter}
+use Rattle.sf_view.specs.Decoding.{Remains, TakesByte, TakesRun, NoLetter}
 
 heads_same : (x : ℕ) (t : List ℕ) (y : ℕ) (u : List ℕ) → x ∷ t ≡ y ∷ u → (x ≡ y) × (t ≡ u)
 heads_same x t y u e = (cc, cc)
@@ -109,6 +109,22 @@ plain_takes text rest (b ∷ s) c e n m h = by (escaped_as b s)
         let one = heads_same _ _ _ _ w in
         record { left = s; split = ap (λ y. y ∷ s) (sym one.0); remains = one.1 }
 
+-- bytes of a String without an escape
+pub plain_run : (text run rest s : List ℕ) → text ≡ run ++ rest → Every is_unescaped run
+    → Remains coding.Escaped text s → TakesRun run (Remains coding.Escaped rest) s
+plain_run text [] rest s e u h =
+    record { left = s; split = refl; remains = subst (λ y. Remains coding.Escaped y s) e h }
+plain_run text (b ∷ run) rest s e u h =
+    let one = plain_takes text (run ++ rest) s b e
+        (λ is. true_false (sym u.0 ∙ ap is_unescaped is))
+        (λ is. true_false (sym u.0 ∙ ap is_unescaped is)) h in
+    let more = plain_run (run ++ rest) run rest one.left refl u.1 one.remains in
+    record {
+      left = more.left;
+      split = one.split ∙ ap (λ y. b ∷ y) more.split;
+      remains = more.remains;
+    }
+
 -- Display Strings
 pub shown_none : (text s : List ℕ) → text ≡ [] → Remains coding.Percent text s → s ≡ []
 shown_none text [] e h = refl
@@ -169,6 +185,22 @@ unencoded_takes text rest (b ∷ s) c e n m (suffix, inl (u, k), p) =
     }
 unencoded_takes text rest (b ∷ s) c e n m (suffix, inr (u, k), p) =
     absurd (m (heads_same _ _ _ _ (sym e ∙ k)).0)
+
+-- bytes of a Display String without an escape
+pub unencoded_run : (text run rest s : List ℕ) → text ≡ run ++ rest → Every is_unencoded run
+    → Remains coding.Percent text s → TakesRun run (Remains coding.Percent rest) s
+unencoded_run text [] rest s e u h =
+    record { left = s; split = refl; remains = subst (λ y. Remains coding.Percent y s) e h }
+unencoded_run text (b ∷ run) rest s e u h =
+    let one = unencoded_takes text (run ++ rest) s b e
+        (λ is. true_false (sym u.0 ∙ ap is_unencoded is))
+        (λ is. true_false (sym u.0 ∙ ap is_unencoded is)) h in
+    let more = unencoded_run (run ++ rest) run rest one.left refl u.1 one.remains in
+    record {
+      left = more.left;
+      split = one.split ∙ ap (λ y. b ∷ y) more.split;
+      remains = more.remains;
+    }
 
 -- base64: what the second character of a group holds of the second byte, and what follows it
 second_high : ℕ → List ℕ → ℕ
@@ -363,6 +395,21 @@ decoded_more code next rest later done done' t b takes e d =
           d.split
           ∙ ap (λ y. done ++ y) h.split
           ∙ sym (append_assoc done (b ∷ []) h.left)
+          ∙ ap (λ y. y ++ h.left) (sym e);
+      remains = h.remains;
+    }
+
+pub decoded_run : (code : Coding) (rest later done done' run t : List ℕ)
+    → ((s : List ℕ) → Remains code rest s → TakesRun run (Remains code later) s)
+    → done' ≡ done ++ run → Decoded code rest done t → Decoded code later done' t
+decoded_run code rest later done done' run t takes e d =
+    let h = takes d.left d.remains in
+    record {
+      left = h.left;
+      split =
+          d.split
+          ∙ ap (λ y. done ++ y) h.split
+          ∙ sym (append_assoc done run h.left)
           ∙ ap (λ y. y ++ h.left) (sym e);
       remains = h.remains;
     }

@@ -37,6 +37,12 @@ pub record TakesByte (b : ℕ) (P : List ℕ → Type 0) (s : List ℕ) : Type 0
   pub split : s ≡ b ∷ left
   pub remains : P left
 
+-- these bytes begin with the run, and those after it are as P says
+pub record TakesRun (run : List ℕ) (P : List ℕ → Type 0) (s : List ℕ) : Type 0 where
+  pub left : List ℕ
+  pub split : s ≡ run ++ left
+  pub remains : P left
+
 -- the first of the bytes that the text spells, if there is one, and how the rest spells those after
 -- it
 abbrev pub GivesByte : Coding → List ℕ → Option ℕ → Coding → List ℕ → Type 0

@@ -5,8 +5,9 @@ ghost use Rattle.sf_value.specs.declared.dialect.Dialect.{Dialect as Which};
 ghost use Rattle.sf_view.specs.declared.bytes.Coding.TheVariants as coding_is;
 ghost use Rattle.sf_value.specs.Grammar.ByteSequences.{letter};
 ghost use Rattle.sf_value.specs.Grammar.DisplayStrings.{hex};
-ghost use Rattle.sf_view.specs.Decoding.{HasBytes, Remains, TakesByte, GivesByte, NoLetter};
+ghost use Rattle.sf_view.specs.Decoding.{HasBytes, Remains, TakesByte, TakesRun, GivesByte, NoLetter};
 
+use crate::classes::{UnencodedByte, Unescaped, long_prefix};
 use crate::view::Slice;
 use sf_value::{sextet, unhex};
 
@@ -166,6 +167,23 @@ pub(crate) fn fill(start: Coding, text: &[u8], buffer: &mut [u8]) -> Option<usiz
         count += 1;
         coding = next;
         rest = later;
+    }
+}
+
+/// The bytes that the text begins with and spells as themselves, and the rest: none in base64, and as
+/// they are, where each byte is taken by itself.
+#[inline]
+#[tactic(auto, using(crate::proofs::Decoding::plain_run, crate::proofs::Decoding::unencoded_run))]
+pub(crate) fn take_run(coding: Coding, rest: &[u8]) -> (&[u8], &[u8])
+    ensures takes { (s : List ℕ) → Remains coding rest.now s
+        → TakesRun result.0.now (Remains coding result.1.now) s }
+    ensures within { length result.1.now ≤ length rest.now }
+{
+    match coding {
+        Coding::Escaped => return long_prefix::<Unescaped>(rest),
+        Coding::Percent => return long_prefix::<UnencodedByte>(rest),
+        Coding::Verbatim => return rest.split_at(0),
+        Coding::First | Coding::Second(_) | Coding::Third(_) => return rest.split_at(0),
     }
 }
 

@@ -20,7 +20,7 @@ ghost use Rattle.sf_view.specs.Decoding.{HasBytes, Remains};
 ghost use Rattle.sf_view.specs.Views.{IsBorrowed, IsViewed};
 ghost use Rattle.sf_view.specs.Copies.{IsCopy, IsFieldOf, list_of, dict_of};
 
-use crate::bytes::{Coding, take_byte};
+use crate::bytes::{Coding, take_byte, take_run};
 use crate::view::{BareView, Slice, View};
 use sf_value::{
     Bare, Blob, Dict, Entries, Field, Inner, Int, Item, Key, Kind, List, Member, OutOfMemory,
@@ -468,7 +468,9 @@ fn collect(alloc: Global, start: Coding, text: &[u8]) -> Result<ShortBytes, OutO
     let mut coding = start;
     let mut rest = text;
     loop {
-        let Some((byte, next, later)) = take_byte(coding, rest) else {
+        let (run, behind) = take_run(coding, rest);
+        all.extend(run)?;
+        let Some((byte, next, later)) = take_byte(coding, behind) else {
             return Ok(all);
         };
         all.push(byte)?;

@@ -3,10 +3,10 @@ use Rattle.sf_view.specs.Decoding.{Remains}
 use Rattle.sf_view.proofs.Decoding.{Decoded}
 use Rattle.sf_view.proofs.copies.collect.Given as goal
 
-abbrev pub invariant-loop-byte : goal.invariant-loop-byte
-invariant-loop-byte l = record {
+abbrev pub invariant-loop-all : goal.invariant-loop-all
+invariant-loop-all l = record {
   decoded : (t : List ℕ) → Remains l.fn.start l.text t → Decoded l.coding l.rest l.all t;
 }
 
-abbrev pub decreases-loop-byte : goal.decreases-loop-byte
-decreases-loop-byte l = length l.rest
+abbrev pub decreases-loop-all : goal.decreases-loop-all
+decreases-loop-all l = length l.rest
