@@ -55,8 +55,12 @@ abcdefghijklmnopqrstuvwxyz{|}~",
     ),
 ];
 
-/// What follows: nothing, and more bytes than are tested at a time.
-static TAILS: [&[u8]; 2] = [b"", b";param=1234567890123;other=1234567890123"];
+/// What follows: nothing, and more bytes than are tested at a time, which are 16 or 32.
+static TAILS: [&[u8]; 3] = [
+    b"",
+    b";param=1234567890123",
+    b";param=1234567890123;other=1234567890123",
+];
 
 /// The text with a run of so many bytes of the class, from this byte of the class on.
 fn text_of(
@@ -108,8 +112,10 @@ fn each_byte_is_taken_at_each_place(rt: HostRuntime) -> Result<(), Fail> {
     for row in &ROWS {
         for first in 0..row.2.len() {
             for tail in &TAILS {
-                let text = text_of(rt.alloc(), *row, first, 160, tail)?;
-                assert!(&rt; is_taken(rt.alloc(), &seed, row.0, text.as_slice()));
+                for count in [36, 160usize] {
+                    let text = text_of(rt.alloc(), *row, first, count, tail)?;
+                    assert!(&rt; is_taken(rt.alloc(), &seed, row.0, text.as_slice()));
+                }
             }
         }
     }
