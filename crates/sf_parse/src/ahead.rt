@@ -27,7 +27,7 @@ pub fn has(text: &[u8], byte: u8) -> bool {
     memchr(byte, head(text, NEAR)).is_some()
 }
 
-/// How many Strings with a comma are passed over. Behind more, what is looked for is not found: a
+/// How many commas are looked at. Behind as many Strings with one, what is looked for is not found: a
 /// text that is refused early may have many.
 const STRINGS: usize = 4;
 
