@@ -106,7 +106,7 @@ fn normalise(
     Status::Answered
 }
 
-/// The canonical text of the value that the text spells, written from nodes if the text has a view,
+/// The canonical text of the value that the text spells, written from nodes if the text has some,
 /// or the status that says why there is none. A refusal is put into its struct, which is otherwise
 /// unchanged.
 fn canonical(
