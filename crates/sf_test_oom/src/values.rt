@@ -383,14 +383,14 @@ fn copies(rt: HostRuntime) -> Result<(), Fail> {
 
 /// Copies of parameters, of the members of a List and of the Items of an Inner List.
 #[derive(Drop)]
-struct Copies {
+struct CopiedParts {
     params: Entries<Bare>,
     members: Sequence<Member>,
     items: Sequence<Item>,
 }
 
 /// Two times copies of so many of each.
-fn copies_of(alloc: Global, seed: &RandomState, count: usize) -> Result<Vec<Copies>, Fail> {
+fn copies_of(alloc: Global, seed: &RandomState, count: usize) -> Result<Vec<CopiedParts>, Fail> {
     let params = entries_of(alloc, seed, count)?;
     let mut members = Sequence::new(alloc);
     let mut items = Sequence::new(alloc);
@@ -400,7 +400,7 @@ fn copies_of(alloc: Global, seed: &RandomState, count: usize) -> Result<Vec<Copi
     }
     let mut copies = Vec::new(alloc);
     for _ in 0..2u32 {
-        copies.push(Copies {
+        copies.push(CopiedParts {
             params: params.copy(alloc, seed)?,
             members: members.copy(alloc, seed)?,
             items: items.copy(alloc, seed)?,
@@ -415,7 +415,7 @@ fn plain(alloc: Global, seed: &RandomState) -> Item {
 }
 
 /// Adds one more to each of the next copies.
-fn grow_next(alloc: Global, seed: &RandomState, copies: &mut Vec<Copies>) -> bool {
+fn grow_next(alloc: Global, seed: &RandomState, copies: &mut Vec<CopiedParts>) -> bool {
     let Some(mut next) = copies.pop() else {
         return false;
     };
