@@ -27,8 +27,8 @@ pub fn has(text: &[u8], byte: u8) -> bool {
     memchr(byte, head(text, NEAR)).is_some()
 }
 
-/// How many commas are looked at. Behind as many Strings with one, what is looked for is not found: a
-/// text that is refused early may have many.
+/// How many commas, or spaces and brackets, are looked at. Behind as many Strings with one, what is
+/// looked for is not found: a text that is refused early may have many.
 const STRINGS: usize = 4;
 
 /// Whether a comma comes near the beginning of a text, outside of quotes. A member of a chunk that is

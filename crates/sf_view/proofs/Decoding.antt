@@ -116,8 +116,8 @@ plain_run text [] rest s e u h =
     record { left = s; split = refl; remains = subst (λ y. Remains coding.Escaped y s) e h }
 plain_run text (b ∷ run) rest s e u h =
     let one = plain_takes text (run ++ rest) s b e
-        (λ is. true_false (sym u.0 ∙ ap is_unescaped is))
-        (λ is. true_false (sym u.0 ∙ ap is_unescaped is)) h in
+    (λ is. true_false (sym u.0 ∙ ap is_unescaped is))
+    (λ is. true_false (sym u.0 ∙ ap is_unescaped is)) h in
     let more = plain_run (run ++ rest) run rest one.left refl u.1 one.remains in
     record {
       left = more.left;
@@ -193,8 +193,8 @@ unencoded_run text [] rest s e u h =
     record { left = s; split = refl; remains = subst (λ y. Remains coding.Percent y s) e h }
 unencoded_run text (b ∷ run) rest s e u h =
     let one = unencoded_takes text (run ++ rest) s b e
-        (λ is. true_false (sym u.0 ∙ ap is_unencoded is))
-        (λ is. true_false (sym u.0 ∙ ap is_unencoded is)) h in
+    (λ is. true_false (sym u.0 ∙ ap is_unencoded is))
+    (λ is. true_false (sym u.0 ∙ ap is_unencoded is)) h in
     let more = unencoded_run (run ++ rest) run rest one.left refl u.1 one.remains in
     record {
       left = more.left;

@@ -5,7 +5,8 @@ ghost use Rattle.sf_value.specs.declared.dialect.Dialect.{Dialect as Which};
 ghost use Rattle.sf_view.specs.declared.bytes.Coding.TheVariants as coding_is;
 ghost use Rattle.sf_value.specs.Grammar.ByteSequences.{letter};
 ghost use Rattle.sf_value.specs.Grammar.DisplayStrings.{hex};
-ghost use Rattle.sf_view.specs.Decoding.{HasBytes, Remains, TakesByte, TakesRun, GivesByte, NoLetter};
+ghost use Rattle.sf_view.specs.Decoding.{HasBytes, Remains, TakesByte, TakesRun, GivesByte};
+ghost use Rattle.sf_view.specs.Decoding.{NoLetter};
 
 use crate::classes::{UnencodedByte, Unescaped, long_prefix};
 use crate::view::Slice;
@@ -170,8 +171,8 @@ pub(crate) fn fill(start: Coding, text: &[u8], buffer: &mut [u8]) -> Option<usiz
     }
 }
 
-/// The bytes that the text begins with and spells as themselves, and the rest: none in base64, and as
-/// they are, where each byte is taken by itself.
+/// The bytes that the text begins with and spells as themselves, and the rest: none in base64 and of
+/// bytes as they are, where each byte is taken by itself.
 #[inline]
 #[tactic(auto, using(crate::proofs::Decoding::plain_run, crate::proofs::Decoding::unencoded_run))]
 pub(crate) fn take_run(coding: Coding, rest: &[u8]) -> (&[u8], &[u8])

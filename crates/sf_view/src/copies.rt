@@ -469,7 +469,9 @@ fn collect(alloc: Global, start: Coding, text: &[u8]) -> Result<ShortBytes, OutO
     let mut rest = text;
     loop {
         let (run, behind) = take_run(coding, rest);
-        all.extend(run)?;
+        if !run.is_empty() {
+            all.extend(run)?;
+        }
         let Some((byte, next, later)) = take_byte(coding, behind) else {
             return Ok(all);
         };

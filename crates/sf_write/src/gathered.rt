@@ -115,8 +115,8 @@ impl<'a> Gathered<'a> {
         Ok(text)
     }
 
-    /// Moves the block to memory, and adds these bytes. If an allocation fails, no byte is added. It
-    /// is not inlined, since a block takes many parts of a text.
+    /// Moves the block to memory, and adds these bytes. If an allocation fails, no byte is added.
+    /// It is not inlined, since a block takes many parts of a text.
     #[inline(never)]
     fn add_behind_block(&mut self, bytes: &[u8]) -> Result<(), OutOfMemory>
         ensures added { MatchResult result
@@ -144,6 +144,7 @@ impl Sink for Gathered<'_> {
         if self.block.add(bytes) {
             return Ok(bytes.len());
         }
+        // A block takes no bytes at any time, which the proof does not know.
         if bytes.is_empty() {
             return Ok(0);
         }
