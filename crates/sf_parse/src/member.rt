@@ -249,8 +249,9 @@ impl Level for MemberReader {
     ) -> Result<&'a [u8], OutOfMemory> {
         match self.phase {
             MemberPhase::BetweenItems => {
-                let (_, rest) = short_prefix::<Space>(chunk);
-                return add_items(context, rest, &mut self.items);
+                let (_, items) = short_prefix::<Space>(chunk);
+                let rest = add_items(context, items, &mut self.items)?;
+                return Ok(rest);
             }
             MemberPhase::One => return self.item.take(context, chunk),
             MemberPhase::InItem => return self.item.take(context, chunk),

@@ -139,8 +139,9 @@ impl Level for ParamsReader {
     ) -> Result<&'a [u8], OutOfMemory> {
         match self.phase {
             ParamsPhase::Opened => {
-                let (_, rest) = short_prefix::<Space>(chunk);
-                return add_params(context, rest, &mut self.params);
+                let (_, params) = short_prefix::<Space>(chunk);
+                let rest = add_params(context, params, &mut self.params)?;
+                return Ok(rest);
             }
             ParamsPhase::InKey => {
                 let (run, rest) = short_prefix::<InKey>(chunk);

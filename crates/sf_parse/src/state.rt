@@ -68,10 +68,21 @@ impl FieldState {
         // With an allocation-free chunk the call does not fail.
         ensures allocation_free { FieldFree (state_of self.old) chunk.now → IsOk result }
     {
+        // In parts, here and in `take_part` of the levels: a result that is passed on as a whole is
+        // read from memory at once after its parts were written there one by one, and waits for them.
         match self {
-            FieldState::Item(item) => item.take(context, chunk),
-            FieldState::List(list) => list.take(context, chunk),
-            FieldState::Dict(dict) => dict.take(context, chunk),
+            FieldState::Item(item) => {
+                let rest = item.take(context, chunk)?;
+                return Ok(rest);
+            }
+            FieldState::List(list) => {
+                let rest = list.take(context, chunk)?;
+                return Ok(rest);
+            }
+            FieldState::Dict(dict) => {
+                let rest = dict.take(context, chunk)?;
+                return Ok(rest);
+            }
         }
     }
 

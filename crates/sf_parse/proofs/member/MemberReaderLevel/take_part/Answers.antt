@@ -2,7 +2,7 @@ use Rattle.std.proofs.Common.{refl}
 use Rattle.sf_value.specs.Grammar.Classes.{is_sp}
 use Rattle.sf_parse.specs.Machine.Inners.{BetweenItems, InItem}
 use Rattle.sf_parse.specs.Machine.Members.{InOne, InMany, member_step}
-use Rattle.sf_parse.proofs.Prefixes.{part_above, goes_more, each_ok}
+use Rattle.sf_parse.proofs.Prefixes.{part_above, goes_more}
 use Rattle.sf_parse.proofs.ByteRuns.{stay_goes}
 use Rattle.sf_parse.proofs.OpenParts.{space_in_member, item_in_member, item_in_many, closing_part}
 use Rattle.sf_parse.proofs.OpenParts.{closing_kept}
@@ -14,10 +14,9 @@ returns-in-BetweenItems-clause-goes c =
     let is = c.self.inside.items in
     let old = InMany (BetweenItems is) in
     rw (← c.self.view_is, c.in-BetweenItems.is)
-    (each_ok (λ rest a. goes_more (member_step d) old old _ _ _ _
+    (goes_more (member_step d) old old _ _ _ _
     (stay_goes (member_step d) is_sp old _ _ _ (space_in_member d is)
-    c.short_prefix.ensures.whole c.short_prefix.ensures.every) a)
-    c.add_items.result c.add_items.ensures)
+    c.short_prefix.ensures.whole c.short_prefix.ensures.every) c.in_ok-rest-in-BetweenItems.ensures)
 
 pub returns-in-One-clause-goes : goal.returns-in-One-clause-goes
 returns-in-One-clause-goes c =

@@ -3,7 +3,7 @@ use Rattle.sf_value.specs.Grammar.Classes.{is_key_start, is_in_key, is_sp}
 use Rattle.sf_parse.specs.Machine.Texts.{word_step}
 use Rattle.sf_parse.specs.Machine.Bares.{bare_step}
 use Rattle.sf_parse.specs.Machine.Params.{Opened, InParamKey, InValue, params_step}
-use Rattle.sf_parse.proofs.Prefixes.{part_above, goes_above, goes_more, each_ok}
+use Rattle.sf_parse.proofs.Prefixes.{part_above, goes_above, goes_more}
 use Rattle.sf_parse.proofs.ByteRuns.{stay_goes, word_goes, word_run_kept}
 use Rattle.sf_parse.proofs.OpenParts.{space_in_params, key_in_params, value_in_params}
 use Rattle.sf_parse.proofs.parameters.ParamsReaderLevel.take_part.Goals as goal
@@ -13,10 +13,9 @@ returns-in-Opened-clause-goes c =
     let d = c.args.context.now.dialect in
     let ps = c.self.inside.params in
     rw (← c.self.view_is, c.in-Opened.is)
-    (each_ok (λ rest a. goes_more (params_step d) (Opened ps) (Opened ps) _ _ _ _
+    (goes_more (params_step d) (Opened ps) (Opened ps) _ _ _ _
     (stay_goes (params_step d) is_sp (Opened ps) _ _ _ (space_in_params d ps)
-    c.short_prefix.ensures.whole c.short_prefix.ensures.every) a)
-    c.add_params.result c.add_params.ensures)
+    c.short_prefix.ensures.whole c.short_prefix.ensures.every) c.in_ok-rest-in-Opened.ensures)
 
 pub invariant_of-self-in-InKey : goal.invariant_of-self-in-InKey
 invariant_of-self-in-InKey c =
