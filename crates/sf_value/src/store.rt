@@ -350,10 +350,9 @@ impl<V: Drop> Store<V> {
         ensures absent { OnErr result (value_at key.now (stored self.old) ≡ None) }
     {
         match self {
-            Store::Fresh(alloc, _) => {
-                let mut slots = Vec::new(*alloc);
-                slots.reserve(1)?;
-                *self = Store::Few(slots);
+            Store::Fresh(alloc, seed) => {
+                let (alloc, seed) = (*alloc, *seed);
+                self.reserve_first(alloc, seed)?;
                 return Ok(true);
             }
             Store::Few(slots) => {
@@ -365,6 +364,26 @@ impl<V: Drop> Store<V> {
             }
             Store::Many(_) => return Ok(false),
         }
+    }
+
+    /// Makes room for the first entry, in the vector that replaces no entries. The vector grows where
+    /// it stays: moved at once after that, it would be loaded while it is still being stored.
+    #[inline(always)]
+    fn reserve_first(&mut self, alloc: Global, seed: RandomState) -> Result<(), OutOfMemory>
+        requires { stored self.old ≡ [] }
+        ensures none { stored self.new ≡ [] }
+        ensures room { OnOk result (HasRoom self.new) }
+        ensures seed { OnErr result (HasSeed self.new) }
+    {
+        *self = Store::Few(Vec::new(alloc));
+        let Store::Few(slots) = self else {
+            unreachable!()
+        };
+        if slots.reserve(1).is_err() {
+            *self = Store::Fresh(alloc, seed);
+            return Err(OutOfMemory);
+        }
+        Ok(())
     }
 
     /// The same as `set_named`, for a long key, a key that is present, or one more than a few: the key
