@@ -250,6 +250,7 @@ impl Level for MemberReader {
         match self.phase {
             MemberPhase::BetweenItems => {
                 let (_, items) = short_prefix::<Space>(chunk);
+                // In parts: see `FieldState::take_run`.
                 let rest = add_items(context, items, &mut self.items)?;
                 return Ok(rest);
             }

@@ -59,8 +59,10 @@ impl FieldState {
         self.take_run(context, chunk)
     }
 
-    /// The same, by the levels that take runs.
-    #[inline(never)]
+    /// The same, by the levels that take runs. It is inlined, and the rest taken out of each result, as
+    /// in `take_part` of the levels: a result that is passed on as a whole is loaded from memory while
+    /// its parts are still being stored there one by one, and waits for them.
+    #[inline(always)]
     fn take_run<'a>(&mut self, context: &Context, chunk: &'a [u8]) -> Result<&'a [u8], OutOfMemory>
         // The bytes before the rest lead to the new state, which can't take the first of the rest.
         ensures prefix { IfOk result (λ rest. LongestPrefix (step_of context.now.dialect)
@@ -68,8 +70,6 @@ impl FieldState {
         // With an allocation-free chunk the call does not fail.
         ensures allocation_free { FieldFree (state_of self.old) chunk.now → IsOk result }
     {
-        // In parts, here and in `take_part` of the levels: a result that is passed on as a whole is
-        // read from memory at once after its parts were written there one by one, and waits for them.
         match self {
             FieldState::Item(item) => {
                 let rest = item.take(context, chunk)?;
