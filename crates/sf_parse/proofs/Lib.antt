@@ -31,6 +31,7 @@ pub mod RunSteps
 pub mod AllocationFreeSteps
 pub mod BlobGroups
 pub mod Blocks
+pub mod FoundBlobs
 pub mod Quads
 pub mod HighDigits
 -- Bytes that may follow: masks, tables, runs and their names.

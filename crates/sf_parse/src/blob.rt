@@ -2,12 +2,14 @@
 ghost use Rattle.std.specs.Prelude.{◌≡◌, is_some, ℕ, ◌<◌, ◌≤◌, List, [], ◌∷◌, ◌++◌, Some, IfOk};
 ghost use Rattle.std.specs.Prelude.{IfSome, take};
 ghost use Rattle.sf_parse.specs.Expected.{MarksStep};
+ghost use Rattle.sf_parse.specs.Leaves.{EndsBlob, blob_bytes};
 ghost use Rattle.sf_parse.specs.Prefixes.{Goes};
 ghost use Rattle.sf_parse.specs.Views.{held_of, blob_of, FitsHeld, FitsBlob};
 ghost use Rattle.sf_parse.specs.Machine.Language.{Steps, run};
 ghost use Rattle.sf_parse.specs.Machine.Blobs.{H0, Group, Padded, grown};
 ghost use Rattle.sf_parse.specs.Machine.Blobs.{pad_step, end_step, blob_step, blob_finish};
 
+use crate::context::Context;
 use crate::sets::{BASE64, COLON, EQUALS, set_if};
 use sf_value::{OutOfMemory, ShortBytes, sextet};
 
@@ -175,6 +177,27 @@ impl BlobPhase {
     }
 }
 
+/// The bytes of a whole Byte Sequence, of which this is the text after its opening colon, with its
+/// closing one; None if an allocation fails. It is not inlined: each caller would clear what it needs.
+#[inline(never)]
+pub fn decode(context: &Context, text: &[u8]) -> Option<ShortBytes>
+    requires { EndsBlob text.now }
+    ensures { IfSome result (λ bytes. bytes ≡ blob_bytes text.now) }
+{
+    let mut bytes = ShortBytes::new(context.alloc);
+    let mut phase = BlobPhase::Group(Held::H0);
+    let Ok(mut rest) = phase.take_run(&mut bytes, text) else {
+        return None;
+    };
+    while let Some((byte, more)) = rest.split_first() {
+        let Ok(true) = phase.step(&mut bytes, *byte) else {
+            return None;
+        };
+        rest = more;
+    }
+    Some(bytes)
+}
+
 /// The number of bytes that are decoded at a time: those of 32 groups.
 const BLOCK: usize = 96;
 
@@ -229,7 +252,8 @@ fn take_groups<'a>(bytes: &mut ShortBytes, chunk: &'a [u8]) -> Result<&'a [u8], 
         let mut block = [0; BLOCK];
         let (count, more) = decode_groups(rest, &mut block);
         bytes.extend(&block[..count])?;
-        if more.len() >= rest.len() {
+        // A block that has room for another group is the last one.
+        if count + 3 <= BLOCK || more.len() >= rest.len() {
             return Ok(more);
         }
         rest = more;

@@ -1,22 +1,23 @@
 //! Bare items that are found in a text and built only where they are stored (RFC 9651 section
 //! 4.2.3.1). What was found is `Copy`: what follows it is tested before anything is allocated.
-ghost use Rattle.std.specs.Prelude.{◌≡◌, ◌++◌, ◌∷◌, IfSome, if◌then◌else◌};
+ghost use Rattle.std.specs.Prelude.{◌≡◌, ◌<◌, ◌++◌, ◌∷◌, IfSome, if◌then◌else◌};
 ghost use Rattle.sf_value.specs.Ascii.{digit_zero, digit_one, quote};
 ghost use Rattle.sf_value.specs.declared.dialect.Dialect.{Dialect};
 ghost use Rattle.sf_value.specs.Grammar.BareItems.{SpellsBare};
 ghost use Rattle.sf_value.specs.Grammar.Tokens.{IsToken};
-ghost use Rattle.sf_parse.specs.Leaves.{IsLeaf, leaf_bare};
+ghost use Rattle.sf_parse.specs.Leaves.{IsLeaf, leaf_bare, EndsBlob, ClosesBlob};
 ghost use Rattle.sf_parse.specs.WholeParts.{ReadsAs};
 
 use crate::ahead::{LONGEST, head};
+use crate::blob::decode;
 use crate::context::Context;
 use crate::number::{Number, NumberReader};
 use crate::whole_bare::{behind, split};
-use sf_value::classes::{InToken, Unescaped, long_prefix};
-use sf_value::{Bare, ShortBytes, Text, Token, can_start_token};
+use sf_value::classes::{Base64, InToken, Unescaped, long_prefix};
+use sf_value::{Bare, Blob, ShortBytes, Text, Token, can_start_token};
 
-/// A bare item of a text. Byte Sequences, Dates, Display Strings, and Strings with an escape or of
-/// more than 512 bytes are none of these: they are not read from the text in one step.
+/// A bare item of a text. Dates, Display Strings, and Strings with an escape or of more than 512 bytes
+/// are none of these: they are not read from the text in one step.
 #[derive(Clone, Copy)]
 pub enum Leaf<'a> {
     /// An Integer or a Decimal.
@@ -27,6 +28,9 @@ pub enum Leaf<'a> {
     Text(&'a [u8]),
     /// A Boolean.
     Boolean(bool),
+    /// The text of a Byte Sequence, after its opening colon and with its closing one. It is decoded
+    /// only when it is built.
+    Blob(&'a [u8]),
 }
 
 /// The bare item that a text begins with, and the rest. None claims nothing.
@@ -54,6 +58,11 @@ pub fn find_leaf(text: &[u8]) -> Option<(Leaf<'_>, &[u8])>
         let (holds, rest) = read_boolean(more)?;
         return Some((Leaf::Boolean(holds), rest));
     }
+    if first == b':' {
+        // In parts, as in `read_bare`.
+        let (found, rest) = find_blob(more)?;
+        return Some((Leaf::Blob(found), rest));
+    }
     None
 }
 
@@ -68,6 +77,47 @@ fn find_string(text: &[u8]) -> Option<(Leaf<'_>, &[u8])>
     let (found, stop) = text.split_at(run.len());
     let rest = behind(stop, b'"')?;
     Some((Leaf::Text(found), rest))
+}
+
+/// The Byte Sequence that a text begins with after its opening colon, with its closing one, and the
+/// rest. None claims nothing. Of one that is broken off or bad, no byte is looked at behind the place
+/// where it is refused, so however long it is, finding it is little beside reading it. It is not
+/// inlined, so that what is no Byte Sequence doesn't pay for its constants.
+#[inline(never)]
+fn find_blob(text: &[u8]) -> Option<(&[u8], &[u8])>
+    ensures split { IfSome result (λ r. text.now ≡ r.0.now ++ r.1.now) }
+    ensures ended { IfSome result (λ r. EndsBlob r.0.now) }
+{
+    let (run, stop) = long_prefix::<Base64>(text);
+    let rest = behind_pads(run.len() % 4, stop)?;
+    Some(text.split_at(text.len() - rest.len()))
+}
+
+/// The rest after the padding and the colon of a Byte Sequence whose last group has `over`
+/// characters. None claims nothing.
+#[inline(always)]
+fn behind_pads(over: usize, text: &[u8]) -> Option<&[u8]>
+    requires { over < 4 }
+    ensures { IfSome result (λ rest. ClosesBlob over text.now rest.now) }
+{
+    let (first, more) = split(text)?;
+    if first == b':' {
+        if over == 1 {
+            return None;
+        }
+        return Some(more);
+    }
+    if first != b'=' || over < 2 {
+        return None;
+    }
+    let (second, last) = split(more)?;
+    if second == b':' {
+        return Some(last);
+    }
+    if second != b'=' || over != 2 {
+        return None;
+    }
+    behind(last, b':')
 }
 
 /// The bare item that was found, or None if an allocation fails.
@@ -91,6 +141,10 @@ pub fn make(context: &Context, leaf: Leaf<'_>) -> Option<Bare>
             return Some(Bare::Text(Text::from_bytes(bytes)));
         }
         Leaf::Boolean(holds) => return Some(Bare::Boolean(holds)),
+        Leaf::Blob(text) => {
+            let bytes = decode(context, text)?;
+            return Some(Bare::Blob(Blob::from_bytes(bytes)));
+        }
     }
 }
 

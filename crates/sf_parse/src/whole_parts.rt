@@ -95,7 +95,7 @@ pub fn find_named(text: &[u8]) -> Option<(Found<'_>, &[u8])>
 #[inline(always)]
 pub fn may_begin_part(text: &[u8]) -> bool {
     match split(text) {
-        Some((b'(' | b':' | b'@' | b'%', _)) => true,
+        Some((b'(' | b'@' | b'%', _)) => true,
         Some((b'"', more)) => may_need_reader(more),
         _ => false,
     }
