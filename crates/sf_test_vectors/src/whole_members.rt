@@ -16,7 +16,14 @@ const FIRST_MEMBER: &str = "20 22 25 28 2a 2d 30-3a 3f-5a 61-7a end";
 
 const AFTER_KEY: &str = "09 20 2a 2c-2e 30-39 3b 3d 5f 61-7a end";
 
-static ACCEPTED: [acceptances::Row; 18] = [
+// What may follow whole groups of a Byte Sequence, one character more, and two or three.
+const IN_GROUP: &str = "2b 2f-3a 41-5a 61-7a";
+
+const AFTER_ONE: &str = "2b 2f-39 41-5a 61-7a";
+
+const AFTER_TWO: &str = "2b 2f-3a 3d 41-5a 61-7a";
+
+static ACCEPTED: [acceptances::Row; 23] = [
     (
         Kind::List,
         b"\"a\\\"b\",\"c\\\\\" ,\"d\\\"\"\t,\
@@ -119,9 +126,37 @@ static ACCEPTED: [acceptances::Row; 18] = [
         b"a=1, xxxxxxxxxxxxxxxxxxxxxxxxxxxxxxxxxxxxxxxxxxxxxxxxxxxxxxxxxxxx",
         b"a=1, xxxxxxxxxxxxxxxxxxxxxxxxxxxxxxxxxxxxxxxxxxxxxxxxxxxxxxxxxxxx",
     ),
+    // The vectors of RFC 4648 section 10, and the example of RFC 9651 section 3.3.5, in each place.
+    (
+        Kind::List,
+        b"::,:Zg:,:Zg=: ,:Zg==:\t,:Zm8:,:Zm8=:,:Zm9v:;a,:Zm9vYg:,:Zm9vYg=: , :Zm9vYg==:,\
+          :Zm9vYmE:,:Zm9vYmE=:,:Zm9vYmFy:",
+        b"::, :Zg==:, :Zg==:, :Zg==:, :Zm8=:, :Zm8=:, :Zm9v:;a, :Zm9vYg==:, :Zm9vYg==:, :Zm9vYg==:, \
+          :Zm9vYmE=:, :Zm9vYmE=:, :Zm9vYmFy:",
+    ),
+    (
+        Kind::Dict,
+        b"a=::,b=:Zg: ,c=:Zm8=:\t,d=:Zm9v:,e=:Zm9vYg=:;f,a=:Zm9vYmE:;g=:Zg=:,h;i=:Zm9vYmFy:,j=\
+          :cHJldGVuZCB0aGlzIGlzIGJpbmFyeSBjb250ZW50Lg:",
+        b"a=:Zm9vYmE=:;g=:Zg==:, b=:Zg==:, c=:Zm8=:, d=:Zm9v:, e=:Zm9vYg==:;f, h;i=:Zm9vYmFy:, j=\
+          :cHJldGVuZCB0aGlzIGlzIGJpbmFyeSBjb250ZW50Lg==:",
+    ),
+    (
+        Kind::List,
+        b"( :: :Zg:  :Zm8:;p=:Zm9v: a :Zm9vYg==:),(:Zm9vYmFy:),(:Zg=:;q),\
+          (:cHJldGVuZCB0aGlzIGlzIGJpbmFyeSBjb250ZW50Lg=: b);r=:Zm9vYmE:;s",
+        b"(:: :Zg==: :Zm8=:;p=:Zm9v: a :Zm9vYg==:), (:Zm9vYmFy:), (:Zg==:;q), \
+          (:cHJldGVuZCB0aGlzIGlzIGJpbmFyeSBjb250ZW50Lg==: b);r=:Zm9vYmE=:;s",
+    ),
+    (Kind::Item, b"  :Zm9vYmE:  ", b":Zm9vYmE=:"),
+    (
+        Kind::Item,
+        b":cHJldGVuZCB0aGlzIGlzIGJpbmFyeSBjb250ZW50Lg:;a=::;b=:Zg=:;a=:Zm8: ",
+        b":cHJldGVuZCB0aGlzIGlzIGJpbmFyeSBjb250ZW50Lg==:;a=:Zm8=:;b=:Zg==:",
+    ),
 ];
 
-static REFUSED: [refusals::Row; 35] = [
+static REFUSED: [refusals::Row; 53] = [
     (Kind::List, b"(a;p;\"", 5, Some(0x22), "20 2a 61-7a"),
     (
         Kind::List,
@@ -277,6 +312,40 @@ static REFUSED: [refusals::Row; 35] = [
         Some(0x2c),
         "22 25 28 2a 2d 30-3a 3f-5a 61-7a",
     ),
+    // Byte Sequences that are broken off.
+    (Kind::Item, b":", 1, None, IN_GROUP),
+    (Kind::List, b":Z", 2, None, AFTER_ONE),
+    (Kind::Dict, b"k=:Zg", 5, None, AFTER_TWO),
+    (Kind::Item, b"a;p=:Zg=", 8, None, "3a 3d"),
+    (Kind::List, b"(:Zg==", 6, None, "3a"),
+    (Kind::List, b"(a;p=:Zm8", 9, None, AFTER_TWO),
+    (Kind::List, b"a, :Zm9v", 8, None, IN_GROUP),
+    // Bytes that are no characters.
+    (Kind::Item, b":Zm9v Zm9v:", 5, Some(0x20), IN_GROUP),
+    (Kind::List, b":Zm9vY-:", 6, Some(0x2d), AFTER_ONE),
+    (
+        Kind::Dict,
+        b"k=:Zm9vYmFyZm9vYmFyZm_:",
+        21,
+        Some(0x5f),
+        AFTER_TWO,
+    ),
+    (Kind::List, b"(b :Zg=x:)", 7, Some(0x78), "3a 3d"),
+    (Kind::Dict, b"k;p=:Zg==\x80", 9, Some(0x80), "3a"),
+    // Too many `=`.
+    (Kind::Item, b":Zm9v=:", 5, Some(0x3d), IN_GROUP),
+    (Kind::List, b"a;p=:Zm8==:, b", 9, Some(0x3d), "3a"),
+    (Kind::Dict, b"k=:Zg===:, z", 7, Some(0x3d), "3a"),
+    // Last groups of one character.
+    (Kind::Item, b":Z:", 2, Some(0x3a), AFTER_ONE),
+    (
+        Kind::List,
+        b"(a :Zm9vYmFyZm9vYmFyZ:)",
+        21,
+        Some(0x3a),
+        AFTER_ONE,
+    ),
+    (Kind::Dict, b"k=:Zm9vY=:, z", 8, Some(0x3d), AFTER_ONE),
 ];
 
 #[test]
@@ -456,7 +525,7 @@ fn dictionaries_as_by_levels(rt: HostRuntime) -> Result<(), Fail> {
     check_parts(&rt, &seed, Kind::Dict)
 }
 
-// What is before a String, and what is behind it.
+// What is before a String or a Byte Sequence, and what is behind it.
 static FRAMES: [(Kind, &[u8], &[u8]); 8] = [
     (Kind::Item, b"", b""),
     (Kind::Item, b"a;p=", b";q"),
@@ -507,9 +576,48 @@ fn long_strings_as_by_levels(rt: HostRuntime) -> Result<(), Fail> {
     Ok(())
 }
 
+// On both sides of the numbers of characters that are tested at a time, of groups, and of the groups
+// that are decoded at a time.
+static CHARACTERS: [usize; 27] = [
+    0, 1, 2, 3, 4, 5, 14, 15, 16, 17, 18, 31, 32, 33, 34, 63, 64, 65, 66, 79, 80, 81, 127, 128,
+    129, 130, 1030,
+];
+
+// How a Byte Sequence ends: whole if its last group needs so many `=`, broken off, and with a mistake.
+static CLOSINGS: [&[u8]; 8] = [b":", b"=:", b"==:", b"===:", b"", b"=", b"\"", b"=a:"];
+
+#[test]
+fn long_byte_sequences_as_by_levels(rt: HostRuntime) -> Result<(), Fail> {
+    let alloc = rt.alloc();
+    let seed = RandomState::new(&rt)?;
+    for (kind, front, back) in &FRAMES {
+        for length in &CHARACTERS {
+            for closing in &CLOSINGS {
+                let mut text = Vec::new(alloc);
+                text.extend_from_slice(front)?;
+                text.push(b':')?;
+                for index in 0..*length {
+                    text.push(b"Zm9vYmFy+/09azAZ"[index % 16])?;
+                }
+                text.extend_from_slice(closing)?;
+                text.extend_from_slice(back)?;
+                let is_same = is_read_the_same(
+                    alloc,
+                    &seed,
+                    Dialect::Rfc9651,
+                    *kind,
+                    text.as_slice(),
+                );
+                assert!(&rt; is_same, "{length} {closing:?}");
+            }
+        }
+    }
+    Ok(())
+}
+
 /// Texts of many parts, of each type. Most are longer than the least chunk in which whole parts are
 /// looked for.
-static LONG: [(Kind, &[u8]); 13] = [
+static LONG: [(Kind, &[u8]); 15] = [
     (
         Kind::List,
         b"%\"a, b %c3%bc, c\";p=\"x, y\\\\, z\", \"d, \\\"e, f\", (\"g, h\" \"i; j\\\\\";q=%\"k; l\" m);\
@@ -555,6 +663,14 @@ static LONG: [(Kind, &[u8]); 13] = [
     (
         Kind::Dict,
         b"a_key_of_more_than_16_bytes=(1 tok);another_key_of_more_bytes=1;c, yet_another_long_key;d=2",
+    ),
+    (
+        Kind::Dict,
+        b"a=:cHJldGVuZCB0aGlzIGlzIGJpbmFyeQ:;b=:Zm9vYg=:;c, d=(:Zm9v: :Zg==:;e=:Zm8: f);g=:Zg:, h=::",
+    ),
+    (
+        Kind::List,
+        b":Zm9v:,:Zm9vYmE=:;a=:Zg=: , (:Zm9vYmFy:;b :: :Zm8:  c :Zm9vYmFyZm9vYmFy:);d=:Zg==:;e, :Zm8:",
     ),
     (Kind::Item, b" -1.5   "),
     (Kind::Item, b"\"a\\\"b\";c=\"d\\\\\"  "),
