@@ -2,6 +2,7 @@
 //! map, in which they are found by hashes.
 ghost use Rattle.std.specs.Prelude.{◌≡◌, ◌<◌, ◌≤◌, ◌+◌, [], ◌∷◌, ◌++◌, None, length, slice_get};
 ghost use Rattle.std.specs.Prelude.{IfOk, IfErr, OnOk, OnErr, IsOk, IsTrue, false, vec_len};
+ghost use Rattle.std.specs.Prelude.{vec_capacity};
 ghost use Rattle.std.specs.Option.{option_map, option_copied, option_copied_mut};
 ghost use Rattle.std.specs.List.{position};
 ghost use Rattle.std.specs.Map.{keys_of};
@@ -510,12 +511,7 @@ fn copy_few<V: Part>(
 {
     let mut copies = Vec::with_capacity(alloc, few_capacity(sources.len()))?;
     for source in sources {
-        let value = source.value.copy(alloc, seed)?;
-        copies.push_reserved(Slot {
-            key: source.key.copy(alloc)?,
-            value,
-            seed: *seed,
-        });
+        push_copy(&mut copies, &source.key, &source.value, alloc, seed)?;
     }
     Ok(copies)
 }
@@ -531,14 +527,64 @@ fn copy_left<V: Part>(
 {
     let mut copies = Vec::with_capacity(alloc, few_capacity(map.len()))?;
     for (key, value) in map.iter() {
-        let value = value.copy(alloc, seed)?;
-        copies.push_reserved(Slot {
-            key: key.copy(alloc)?,
-            value,
-            seed: *seed,
-        });
+        push_copy(&mut copies, key, value, alloc, seed)?;
     }
     Ok(copies)
+}
+
+/// Adds a copy of an entry to a few, which have room for it. A short key is not moved as a result,
+/// and is made before the value, since its bytes, just written, could not be read without a wait.
+#[inline(always)]
+fn push_copy<V: Part>(
+    copies: &mut Vec<Slot<V>>,
+    key: &Key,
+    value: &V,
+    alloc: Global,
+    seed: &RandomState,
+) -> Result<(), OutOfMemory>
+    requires { vec_len copies.old < vec_capacity copies.old }
+    ensures added { OnOk result (slot_pairs copies.new.items
+        ≡ slot_pairs copies.old.items ++ (key.now, value.now) ∷ []) }
+    ensures room { vec_capacity copies.new ≡ vec_capacity copies.old }
+{
+    let bytes = key.as_bytes();
+    if bytes.len() > IN_PLACE {
+        return push_long_copy(copies, key, value, alloc, seed);
+    }
+    let Ok(bytes) = ShortBytes::from_slice(alloc, bytes) else {
+        unreachable!()
+    };
+    let value = value.copy(alloc, seed)?;
+    copies.push_reserved(Slot {
+        key: Key::from_bytes(bytes),
+        value,
+        seed: *seed,
+    });
+    Ok(())
+}
+
+/// The same for a long key, which is allocated.
+#[inline(never)]
+fn push_long_copy<V: Part>(
+    copies: &mut Vec<Slot<V>>,
+    key: &Key,
+    value: &V,
+    alloc: Global,
+    seed: &RandomState,
+) -> Result<(), OutOfMemory>
+    requires { vec_len copies.old < vec_capacity copies.old }
+    ensures added { OnOk result (slot_pairs copies.new.items
+        ≡ slot_pairs copies.old.items ++ (key.now, value.now) ∷ []) }
+    ensures room { vec_capacity copies.new ≡ vec_capacity copies.old }
+{
+    let key = key.copy(alloc)?;
+    let value = value.copy(alloc, seed)?;
+    copies.push_reserved(Slot {
+        key,
+        value,
+        seed: *seed,
+    });
+    Ok(())
 }
 
 /// Copies of the entries of a map, in one that has capacity for them.
