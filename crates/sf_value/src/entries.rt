@@ -412,7 +412,12 @@ impl<V: Part> Part for Entries<V> {
         true
     }
 
+    // Inlined for no entries, which most Items have: they need no call.
+    #[inline(always)]
     fn copy(&self, alloc: Global, seed: &RandomState) -> Result<Entries<V>, OutOfMemory> {
+        if let Store::Fresh(_, _) = &self.store {
+            return Ok(Entries::new(alloc, seed));
+        }
         Ok(Entries {
             store: self.store.copy(alloc, seed)?,
         })

@@ -102,13 +102,13 @@ impl Part for Item {
         self.bare.same(&other.bare) && self.params.same(&other.params)
     }
 
-    // Inlined, since a copy that is returned is moved once more.
+    // Inlined, since a copy that is returned is moved once more. The parameters are copied first:
+    // there are mostly none, and no bare item is then kept across a call.
     #[inline(always)]
     fn copy(&self, alloc: Global, seed: &RandomState) -> Result<Item, OutOfMemory> {
-        Ok(Item {
-            bare: self.bare.copy(alloc, seed)?,
-            params: self.params.copy(alloc, seed)?,
-        })
+        let params = self.params.copy(alloc, seed)?;
+        let bare = self.bare.copy(alloc, seed)?;
+        Ok(Item { bare, params })
     }
 }
 

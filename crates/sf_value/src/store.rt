@@ -467,7 +467,9 @@ impl<V: Drop> Store<V> {
 }
 
 impl<V: Part> Store<V> {
-    /// Other entries, equal to these, with another seed, in a vector or a map that does not grow.
+    /// Other entries, equal to these, with another seed, in a vector or a map that does not grow. It
+    /// is not inlined: a copy of no entries would pay for its stack.
+    #[inline(never)]
     pub(crate) fn copy(&self, alloc: Global, seed: &RandomState) -> Result<Store<V>, OutOfMemory>
         // Each key is one, and none occurs twice.
         requires entries { AreEntries (stored self.now) }
