@@ -1,3 +1,4 @@
+pub mod BareInPlaces
 pub mod Words
 pub mod Faults
 pub mod Tables

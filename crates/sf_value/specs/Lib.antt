@@ -10,6 +10,7 @@ pub mod Lending
 pub mod Faults
 pub mod InPlace
 pub mod InPlaceValues
+pub mod BareBytes
 pub mod Devices
 pub mod Laws
 pub mod Lookups

@@ -4,12 +4,18 @@ ghost use Rattle.std.specs.Prelude.{◌≡◌, ◌↔◌, IsTrue, IsOk, IfOk};
 ghost use Rattle.std.specs.Bool.{Decides};
 ghost use Rattle.sf_value.specs.Deciding.{bare_decides, inner_decides, item_decides};
 ghost use Rattle.sf_value.specs.Deciding.{member_decides};
+ghost use Rattle.sf_value.specs.BareBytes.{bytes_in};
 ghost use Rattle.sf_value.specs.InPlaceValues.{BareInPlace, ItemInPlace, InnerInPlace};
 ghost use Rattle.sf_value.specs.InPlaceValues.{MemberInPlace, FieldInPlace};
 
+use crate::blob::Blob;
+use crate::bytes::ShortBytes;
+use crate::display_string::Shown;
 use crate::entries::Entries;
 use crate::fault::OutOfMemory;
 use crate::sequence::Sequence;
+use crate::text::Text;
+use crate::token::Token;
 use crate::value::{Bare, Dict, Field, Inner, Item, List, Member};
 use std::alloc::Global;
 use std::hash::RandomState;
@@ -79,16 +85,19 @@ impl Part for Bare {
         }
     }
 
+    // The bytes are copied at one place for all types that have some, since a function clears all its
+    // stack at its entry: four results would be there, each to be moved.
+    #[tactic(auto, using(crate::proofs::BareInPlaces::few_bytes))]
     fn copy(&self, alloc: Global, _seed: &RandomState) -> Result<Bare, OutOfMemory> {
         match self {
-            Bare::Integer(n) => Ok(Bare::Integer(*n)),
-            Bare::Decimal(n) => Ok(Bare::Decimal(*n)),
-            Bare::Text(text) => Ok(Bare::Text(text.copy(alloc)?)),
-            Bare::Token(token) => Ok(Bare::Token(token.copy(alloc)?)),
-            Bare::Blob(blob) => Ok(Bare::Blob(blob.copy(alloc)?)),
-            Bare::Boolean(b) => Ok(Bare::Boolean(*b)),
-            Bare::Date(n) => Ok(Bare::Date(*n)),
-            Bare::Shown(shown) => Ok(Bare::Shown(shown.copy(alloc)?)),
+            Bare::Integer(n) => return Ok(Bare::Integer(*n)),
+            Bare::Decimal(n) => return Ok(Bare::Decimal(*n)),
+            Bare::Boolean(b) => return Ok(Bare::Boolean(*b)),
+            Bare::Date(n) => return Ok(Bare::Date(*n)),
+            _ => {
+                let bytes = ShortBytes::from_slice(alloc, bytes_of(self))?;
+                return Ok(with_bytes(self, bytes));
+            }
         }
     }
 }
@@ -200,5 +209,47 @@ pub fn copy(alloc: Global, seed: &RandomState, field: &Field) -> Result<Field, O
         Field::Dict(dict) => Ok(Field::Dict(Dict {
             members: dict.members.copy(alloc, seed)?,
         })),
+    }
+}
+
+/// The bytes of a bare item; none of a number, a Boolean or a Date.
+#[inline(always)]
+fn bytes_of(bare: &Bare) -> &[u8]
+    ensures { result.now ≡ bytes_in bare.now }
+{
+    match bare {
+        Bare::Text(text) => return text.as_bytes(),
+        Bare::Token(token) => return token.as_bytes(),
+        Bare::Blob(blob) => return blob.as_bytes(),
+        Bare::Shown(shown) => return shown.as_bytes(),
+        _ => return b"",
+    }
+}
+
+/// The same bare item again, with its bytes.
+#[inline(always)]
+fn with_bytes(bare: &Bare, bytes: ShortBytes) -> Bare
+    requires { bytes ≡ bytes_in bare.now }
+    ensures { result ≡ bare.now }
+{
+    match bare {
+        Bare::Integer(n) => return Bare::Integer(*n),
+        Bare::Decimal(n) => return Bare::Decimal(*n),
+        Bare::Text(text) => {
+            // The proof has to know that these are the bytes of a string; so below.
+            let _ = text.as_bytes();
+            return Bare::Text(Text::from_bytes(bytes));
+        }
+        Bare::Token(token) => {
+            let _ = token.as_bytes();
+            return Bare::Token(Token::from_bytes(bytes));
+        }
+        Bare::Blob(_) => return Bare::Blob(Blob::from_bytes(bytes)),
+        Bare::Boolean(b) => return Bare::Boolean(*b),
+        Bare::Date(n) => return Bare::Date(*n),
+        Bare::Shown(shown) => {
+            let _ = shown.as_bytes();
+            return Bare::Shown(Shown::from_bytes(bytes));
+        }
     }
 }
