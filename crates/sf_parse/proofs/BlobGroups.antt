@@ -1,24 +1,11 @@
 -- Whole groups of base64, which are taken at once.
 use Rattle.std.proofs.Common.{◌≡◌, ℕ, ◌-◌, ◌≤◌, List, [], ◌∷◌, ◌++◌, length, take, drop}
-use Rattle.std.proofs.Common.{get_or, Some, refl, sym, ap, ◌∙◌, subst, arith, ◌<◌, bit_or}
+use Rattle.std.proofs.Common.{get_or, Some, refl, sym, ap, ◌∙◌, subst, arith}
 use Rattle.std.proofs.lemmas.List.{take_rest}
-use Rattle.std.proofs.lemmas.Nat.{le_or_l, le_or_r}
 use Rattle.sf_parse.specs.Prefixes.{Goes}
 use Rattle.sf_parse.specs.Machine.Language.{run}
 use Rattle.sf_parse.specs.Machine.Blobs.{H0, Group, blob_step}
 use Rattle.sf_parse.proofs.Prefixes.{goes_more}
-
--- four numbers are below a bound if their bits together are
-pub all_small : (x y z w : ℕ) → bit_or (bit_or (bit_or x y) z) w < 64
-    → (x < 64) × (y < 64) × (z < 64) × (w < 64)
-all_small x y z w h =
-    let a = le_or_l x y in
-    let b = le_or_r x y in
-    let c = le_or_l (bit_or x y) z in
-    let d = le_or_r (bit_or x y) z in
-    let e = le_or_l (bit_or (bit_or x y) z) w in
-    let f = le_or_r (bit_or (bit_or x y) z) w in
-    (omega arith, omega arith, omega arith, omega arith)
 
 -- the first four bytes, and the rest as a slice is seen
 four : (xs : List ℕ) → 4 ≤ length xs

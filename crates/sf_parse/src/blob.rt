@@ -1,7 +1,6 @@
 //! A Byte Sequence that is being read (RFC 9651 section 4.2.7).
 ghost use Rattle.std.specs.Prelude.{◌≡◌, is_some, ℕ, ◌<◌, ◌≤◌, List, [], ◌∷◌, ◌++◌, Some, IfOk};
 ghost use Rattle.std.specs.Prelude.{IfSome, take};
-ghost use Rattle.sf_value.specs.Digits.{sextet as sextet_of};
 ghost use Rattle.sf_parse.specs.Expected.{MarksStep};
 ghost use Rattle.sf_parse.specs.Leaves.{EndsBlob, blob_bytes};
 ghost use Rattle.sf_parse.specs.Prefixes.{Goes};
@@ -12,7 +11,7 @@ ghost use Rattle.sf_parse.specs.Machine.Blobs.{pad_step, end_step, blob_step, bl
 
 use crate::context::Context;
 use crate::sets::{BASE64, COLON, EQUALS, set_if};
-use sf_value::{OutOfMemory, ShortBytes, sextet};
+use sf_value::{OutOfMemory, ShortBytes, sextet, sextets};
 
 /// The values of the characters of an open group of base64.
 #[derive(Clone, Copy)]
@@ -201,47 +200,6 @@ pub fn decode(context: &Context, text: &[u8]) -> Option<ShortBytes>
 
 /// The number of bytes that are decoded at a time: those of 32 groups.
 const BLOCK: usize = 96;
-
-/// The value of each byte as a character of base64; 64 if it is not one. `sextet` has the same, but
-/// here four are tested at once.
-#[rattlefmt::skip]
-static VALUES: [u8; 256] = [
-    64, 64, 64, 64, 64, 64, 64, 64, 64, 64, 64, 64, 64, 64, 64, 64,
-    64, 64, 64, 64, 64, 64, 64, 64, 64, 64, 64, 64, 64, 64, 64, 64,
-    64, 64, 64, 64, 64, 64, 64, 64, 64, 64, 64, 62, 64, 64, 64, 63,
-    52, 53, 54, 55, 56, 57, 58, 59, 60, 61, 64, 64, 64, 64, 64, 64,
-    64, 0, 1, 2, 3, 4, 5, 6, 7, 8, 9, 10, 11, 12, 13, 14,
-    15, 16, 17, 18, 19, 20, 21, 22, 23, 24, 25, 64, 64, 64, 64, 64,
-    64, 26, 27, 28, 29, 30, 31, 32, 33, 34, 35, 36, 37, 38, 39, 40,
-    41, 42, 43, 44, 45, 46, 47, 48, 49, 50, 51, 64, 64, 64, 64, 64,
-    64, 64, 64, 64, 64, 64, 64, 64, 64, 64, 64, 64, 64, 64, 64, 64,
-    64, 64, 64, 64, 64, 64, 64, 64, 64, 64, 64, 64, 64, 64, 64, 64,
-    64, 64, 64, 64, 64, 64, 64, 64, 64, 64, 64, 64, 64, 64, 64, 64,
-    64, 64, 64, 64, 64, 64, 64, 64, 64, 64, 64, 64, 64, 64, 64, 64,
-    64, 64, 64, 64, 64, 64, 64, 64, 64, 64, 64, 64, 64, 64, 64, 64,
-    64, 64, 64, 64, 64, 64, 64, 64, 64, 64, 64, 64, 64, 64, 64, 64,
-    64, 64, 64, 64, 64, 64, 64, 64, 64, 64, 64, 64, 64, 64, 64, 64,
-    64, 64, 64, 64, 64, 64, 64, 64, 64, 64, 64, 64, 64, 64, 64, 64,
-];
-
-/// The values of four characters of base64. The bits of all are tested at once: a value is below 64,
-/// unless it stands for none.
-#[inline(always)]
-fn sextets(a: u8, b: u8, c: u8, d: u8) -> Option<(u8, u8, u8, u8)>
-    ensures values { IfSome result (λ v. (sextet_of a ≡ Some v.0) × (sextet_of b ≡ Some v.1)
-        × (sextet_of c ≡ Some v.2) × (sextet_of d ≡ Some v.3)) }
-    // They are below 64.
-    ensures small { IfSome result (λ v. (v.0 < 64) × (v.1 < 64) × (v.2 < 64) × (v.3 < 64)) }
-{
-    let x = VALUES[a as usize];
-    let y = VALUES[b as usize];
-    let z = VALUES[c as usize];
-    let w = VALUES[d as usize];
-    if x | y | z | w < 64 {
-        return Some((x, y, z, w));
-    }
-    None
-}
 
 /// The bytes of a whole group of four characters.
 #[inline]
