@@ -13,7 +13,7 @@ use Rattle.sf_value.specs.declared.value.Item.{Item}
 use Rattle.sf_value.specs.declared.value.Member.TheVariants as member
 use Rattle.sf_value.specs.Grammar.Classes.{is_ows, is_sp, is_in_key}
 use Rattle.sf_value.specs.Grammar.InnerLists.{inner}
-use Rattle.sf_value.specs.Grammar.Items.{item}
+use Rattle.sf_value.specs.Grammar.Items.{SpellsItem, item}
 use Rattle.sf_value.specs.Grammar.Pairs.{Pairs, put}
 use Rattle.sf_value.specs.Grammar.Tokens.{IsKey}
 use Rattle.sf_value.specs.Grammar.Words.{allow}
@@ -42,7 +42,7 @@ use Rattle.sf_parse.specs.SeriesView.{series_next, series_end, series_of}
 use Rattle.sf_parse.specs.Stops.{StopsAt, StopsIn, RefusesLeft}
 use Rattle.sf_parse.specs.WholeMembers.{NoneOpen, IsBetween, RefusesAt, RefusesAfter}
 use Rattle.sf_parse.specs.WholeMembers.{begins_between, ends_between}
-use Rattle.sf_parse.specs.WholeParts.{Behind}
+use Rattle.sf_parse.specs.WholeParts.{Behind, ReadsAs}
 use Rattle.sf_parse.specs.declared.refusal.Refusal.{Refusal}
 use Rattle.sf_parse.specs.declared.refusal.Refusal.TheVariants.{Syntax}
 use Rattle.sf_parse.specs.declared.series.SeriesPhase.{SeriesPhase}
@@ -52,7 +52,7 @@ use Rattle.sf_parse.proofs.BegunParts.{within_more}
 use Rattle.sf_parse.proofs.ByteRuns.{stay_goes, word_goes}
 use Rattle.sf_parse.proofs.LevelMarks.{marks_before, marks_items}
 use Rattle.sf_parse.proofs.Machine.Bares.{bare_apart}
-use Rattle.sf_parse.proofs.Machine.Items.{item_apart}
+use Rattle.sf_parse.proofs.Machine.Items.{item_apart, item_starts}
 use Rattle.sf_parse.proofs.Machine.Fields.{no_ows}
 use Rattle.sf_parse.proofs.Machine.Language.{is_none}
 use Rattle.sf_parse.proofs.Marks.{marks_map, marks_onward, marks_steps}
@@ -60,7 +60,8 @@ use Rattle.sf_parse.proofs.OpenParts.{space_in_params, value_in_params, bare_in_
 use Rattle.sf_parse.proofs.OpenParts.{space_in_member, key_in_entry, member_in_entry, item_in_many, item_in_field}
 use Rattle.sf_parse.proofs.Prefixes.{goes_one, goes_more, goes_above, goes_byte}
 use Rattle.sf_parse.proofs.SeriesSteps.{member_goes_on}
-use Rattle.sf_parse.proofs.WholeSteps.{key_goes, begins_item}
+use Rattle.sf_parse.proofs.WholeParts.{spells_run}
+use Rattle.sf_parse.proofs.WholeSteps.{key_goes, begins_item, item_machine}
 
 -- a byte that is not expected
 unexpected : (bits b : ℕ) (c : Bool) → b < 128
@@ -626,31 +627,33 @@ module _ (d : Dialect) where
   ends_item t i e =
       rw (is_none (item_step d t 32) (λ u n. item_apart d t i 32 u e n refl), e) refl
 
-  -- behind an Item, after a space and those after it
-  pub left_behind_item : (text more end : List ℕ) (x : Stop) (whole : ℕ) (o : Option Refusal)
-      → StopsIn (item_start d) (item_step d) (ItemEnds d) text x → x.may_end ≡ true
-      → x.left.now ≡ 32 ∷ more → Behind is_sp more end
-      → IfSome o (RefusesLeft (2 ^ 32) true end (whole - length end))
-      → IfSome o (RefusesAfter (step d) may_end BeforeItem text whole)
-  left_behind_item text more end x whole None h m e b r = r
-  left_behind_item text more end x whole (Some f) h m e b r =
-      let t = h.stops.state in
-      let i = whole_value (item_finish t) (sym h.stops.ending ∙ m) in
-      let after = AfterItem i.0 in
+  -- behind a whole Item, after a space and those after it
+  pub left_behind_item : (text more end : List ℕ) (i : Item) (whole : ℕ) (e : Refusal)
+      → ReadsAs (SpellsItem d) text i (32 ∷ more) → Behind is_sp more end
+      → RefusesLeft (2 ^ 32) true end (whole - length end) e
+      → RefusesAfter (step d) may_end BeforeItem text whole e
+  left_behind_item text more end i whole e r b h =
+      let w = spells_run (item_machine d) (SpellsItem d) (item_start d) (item_starts d) r.prefix i
+      r.spelled in
+      let all = w.more ++ 32 ∷ more in
+      let split : text ≡ w.byte ∷ all = r.split ∙ ap (λ y. y ++ 32 ∷ more) w.split in
+      let no_space = no_white (item_start d) (ap (option_map InBare) (bare_none d).0)
+      (ap (option_map InBare) (bare_none d).1) w.byte w.first w.starts in
+      let after = AfterItem i in
       record {
         state = after;
         left = end;
-        goes = subst (λ y. Goes (step d) BeforeItem y end after) (sym h.split)
-            (goes_more (step d) BeforeItem (InsideItem h.begun) after (h.byte ∷ h.more) h.more end
-            (goes_one (step d) BeforeItem (InsideItem h.begun) h.byte h.more
-            (rw (no_sp h.byte h.no_space, h.starts) refl))
-            (goes_more (step d) (InsideItem h.begun) after after h.more more end
-            (goes_byte (step d) (InsideItem h.begun) (InsideItem t) after h.more 32 more
-            (goes_above (item_step d) (step d) InsideItem (item_in_field d) h.begun t h.more
-            (32 ∷ more) (subst (λ y. Goes (item_step d) h.begun h.more y t) e h.stops.goes))
-            (ends_item t i.0 i.1))
+        goes = subst (λ y. Goes (step d) BeforeItem y end after) (sym split)
+            (goes_more (step d) BeforeItem (InsideItem w.first) after (w.byte ∷ all) all end
+            (goes_one (step d) BeforeItem (InsideItem w.first) w.byte all
+            (rw (no_sp w.byte no_space, w.starts) refl))
+            (goes_more (step d) (InsideItem w.first) after after all more end
+            (goes_byte (step d) (InsideItem w.first) (InsideItem w.last) after all 32 more
+            (goes_above (item_step d) (step d) InsideItem (item_in_field d) w.first w.last all
+            (32 ∷ more) (record { taken = w.more; split = refl; leads = w.leads }))
+            (ends_item w.last i w.ends))
             (stay_goes (step d) is_sp after b.prefix end more (λ c k. rw k refl) b.split b.each)));
-        refuses = left_refused (step d) may_end after (2 ^ 32) (whole - length end) end true f r
+        refuses = left_refused (step d) may_end after (2 ^ 32) (whole - length end) end true e h
             (marks_steps (2 ^ 32) (step d after) refl) refl;
       }
 

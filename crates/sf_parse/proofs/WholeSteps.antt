@@ -114,7 +114,7 @@ module _ (d : Dialect) where
           (after_key ps key value more x v)))
 
   -- an Item of an Inner List, and the space after it
-  item_machine : Machine ItemState Item GoodItem (ResidualItem d) (item_step d) item_finish
+  pub item_machine : Machine ItemState Item GoodItem (ResidualItem d) (item_step d) item_finish
   item_machine = record { reads = item_reads d; lives = item_lives d }
 
   pub begins_item : (is : List Item) (b : ℕ) (s : ItemState) → item_start d b ≡ Some s

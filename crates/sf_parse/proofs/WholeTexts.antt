@@ -166,6 +166,21 @@ pub item_begins : (d : Dialect) (text inside : List ℕ) → Behind is_sp text i
 item_begins d text inside b =
     stay_goes (step d) is_sp BeforeItem b.prefix inside text (space_before d) b.split b.each
 
+-- no more is left behind an Item and spaces than there was
+pub item_left : (d : Dialect) (text inside more end : List ℕ) (i : Item) → Behind is_sp text inside
+    → ReadsAs (SpellsItem d) inside i (32 ∷ more) → Behind is_sp more end
+    → length end ≤ length text
+item_left d text inside more end i a r b =
+    let k : length text ≡ length (a.prefix ++ inside) = ap length a.split in
+    let m : length inside ≡ length (r.prefix ++ 32 ∷ more) = ap length r.split in
+    let n : length more ≡ length (b.prefix ++ end) = ap length b.split in
+    omega (
+      arith,
+      length-append a.prefix inside,
+      length-append r.prefix (32 ∷ more),
+      length-append b.prefix end,
+    )
+
 -- no byte is left, and the state has a value
 pub all_parsed : (d : Dialect) (kind : Kind) (t : State) (text rest : List ℕ) (v : Field)
     → Goes (step d) (begin kind) text rest t → rest ≡ [] → finish t ≡ Some v

@@ -1,6 +1,8 @@
 //! Whole texts, each parsed by the reader of its kind (RFC 9651 section 4.2).
 ghost use Rattle.std.specs.Option.{option_map};
-ghost use Rattle.std.specs.Prelude.{◌≡◌, ◌≤◌, ℕ, List as Seq, [], IfOk, IsOk, IfErr, IfSome, refl, length};
+ghost use Rattle.std.specs.Prelude.{◌≡◌, ◌≤◌, ◌∷◌, ℕ, List as Seq, [], IfOk, IsOk, IfErr, IfSome};
+ghost use Rattle.std.specs.Prelude.{refl, length};
+ghost use Rattle.sf_value.specs.Ascii.{space};
 ghost use Rattle.sf_value.specs.declared.dialect.Dialect.{Dialect};
 ghost use Rattle.sf_value.specs.declared.value.Field.{Field};
 ghost use Rattle.sf_value.specs.declared.value.Field.TheVariants as field_is;
@@ -12,6 +14,7 @@ ghost use Rattle.sf_parse.specs.AllocationFree.{TakesNoMemory, FieldFree};
 ghost use Rattle.sf_parse.specs.AllocationFreeParsers.{IsOther};
 ghost use Rattle.sf_parse.specs.FieldSteps.{item_field_steps, list_steps, dict_steps};
 ghost use Rattle.sf_parse.specs.FieldSteps.{list_ends, dict_ends};
+ghost use Rattle.sf_parse.specs.Leaves.{IsLeaf};
 ghost use Rattle.sf_parse.specs.Prefixes.{Goes};
 ghost use Rattle.sf_parse.specs.Machine.States.{State, InList, InDict};
 ghost use Rattle.sf_parse.specs.Machine.Fields.{begin as begin_at, step as step_of};
@@ -22,6 +25,7 @@ ghost use Rattle.sf_parse.specs.Machine.Entries.{EntryState};
 ghost use Rattle.sf_parse.specs.SeriesView.{series_of};
 ghost use Rattle.sf_parse.specs.WholeMembers.{NoneOpen, RefusesAfter};
 ghost use Rattle.sf_parse.specs.WholeParts.{Behind, ReadsAs};
+ghost use Rattle.sf_value.specs.Grammar.Items.{SpellsItem};
 ghost use Rattle.sf_value.specs.Grammar.Parameters.{SpellsParams};
 ghost use Rattle.sf_value.specs.Grammar.Classes.{is_sp};
 
@@ -30,7 +34,7 @@ use crate::begun::{Begun, are_worth_keeping, begun_params};
 use crate::context::Context;
 use crate::entry::EntryReader;
 use crate::item_field::ItemFieldReader;
-use crate::leaf::{find_leaf, make};
+use crate::leaf::{Leaf, find_leaf, make};
 use crate::level::Level;
 use crate::member::MemberReader;
 use crate::refusal::Refusal;
@@ -190,9 +194,11 @@ impl WholeText for ItemFieldReader {
             if let Some(bare) = make(context, leaf) {
                 return Ok(Item { bare, params });
             }
+        } else if let Some(more) = behind(rest, b' ') {
+            return refuse_behind_item(context, text, inside, leaf, more);
         }
         if !are_worth_keeping(&params, rest) {
-            return refuse_or_read_item(context, text, inside, are_put(rest));
+            return refuse_or_read_item(context, text, inside);
         }
         read_begun_item(context, text, inside, after, params, rest)
     }
@@ -283,29 +289,45 @@ fn read_other_item(context: &Context, text: &[u8], inside: &[u8]) -> Result<Item
     if may_begin_part(inside) {
         return read_item_field(context, text, inside);
     }
-    refuse_or_read_item(context, text, inside, false)
+    refuse_or_read_item(context, text, inside)
 }
 
-/// Whether the parameters before the rest of an Item are all of them. Otherwise the next one is not
-/// whole, or was not put because an allocation failed. Nothing is claimed of it.
-#[inline(always)]
-fn are_put(rest: &[u8]) -> bool {
-    behind(rest, b';').is_none()
+/// Refuses the text of an Item, after spaces, at what is left behind the bare item that was found, its
+/// parameters and a space: only spaces may come there. The bare item is built before, as the levels do
+/// at the space: if there is no memory for it, the text is read by its reader.
+#[inline(never)]
+fn refuse_behind_item(
+    context: &Context,
+    text: &[u8],
+    inside: &[u8],
+    leaf: Leaf<'_>,
+    more: &[u8],
+) -> Result<Item, Refusal>
+    requires inside { Behind is_sp text.now inside.now }
+    requires leaf { IsLeaf leaf }
+    // The text begins with an Item, and behind it are a space and what is left.
+    requires item { (item : Item) × ReadsAs (SpellsItem context.now.dialect) inside.now item
+        (space ∷ more.now) }
+    ensures parses { Makes field_is.Item (Parses context.now.dialect kind_is.Item text.now) result }
+    ensures allocation_free { TakesNoMemory kind_is.Item text.now → IfErr result IsOther }
+{
+    if make(context, leaf).is_some() {
+        let end = behind_spaces(more);
+        if let Some(refusal) = refuse_left(end, SPACE, true, text.len() - end.len()) {
+            return Err(refusal);
+        }
+    }
+    read_item_field(context, text, inside)
 }
 
 /// Refuses the text of an Item, after spaces, or reads it by its reader.
 #[inline(never)]
-fn refuse_or_read_item(
-    context: &Context,
-    text: &[u8],
-    inside: &[u8],
-    are_put: bool,
-) -> Result<Item, Refusal>
+fn refuse_or_read_item(context: &Context, text: &[u8], inside: &[u8]) -> Result<Item, Refusal>
     requires { Behind is_sp text.now inside.now }
     ensures parses { Makes field_is.Item (Parses context.now.dialect kind_is.Item text.now) result }
     ensures allocation_free { TakesNoMemory kind_is.Item text.now → IfErr result IsOther }
 {
-    match refuse_item(context, text.len(), inside, &None, are_put) {
+    match refuse_item(context, text.len(), inside, &None) {
         Some(refusal) => Err(refusal),
         None => read_item_field(context, text, inside),
     }
@@ -359,7 +381,7 @@ fn read_begun_item<'a>(
     ensures allocation_free { TakesNoMemory kind_is.Item text.now → IfErr result IsOther }
 {
     let begun = begun_params(after, params, rest);
-    if let Some(refusal) = refuse_item(context, text.len(), inside, &begun, are_put(rest)) {
+    if let Some(refusal) = refuse_item(context, text.len(), inside, &begun) {
         return Err(refusal);
     }
     let Some(begun) = begun else {
@@ -372,14 +394,13 @@ fn read_begun_item<'a>(
 
 /// The refusal of the text of an Item, after spaces, in a text of this length: of a byte of the Item
 /// or behind it, or of the end. None claims nothing: the text is then read by a reader, as where a
-/// space is behind a parameter that was not put: an allocation may have failed.
+/// semicolon or a space is behind what was not put or built, since an allocation failed.
 #[inline(always)]
 fn refuse_item<'a>(
     context: &Context,
     whole: usize,
     inside: &'a [u8],
     begun: &Option<Begun<'a>>,
-    are_put: bool,
 ) -> Option<Refusal>
     requires whole { length inside.now ≤ whole }
     requires begun { IfSome begun.now (IsBegunBeside context.now.dialect inside.now) }
@@ -390,15 +411,6 @@ fn refuse_item<'a>(
         let expected = SPACE | BareReader::first_bytes(context.dialect);
         return refuse_left(inside, expected, false, whole - inside.len());
     };
-    if stop.may_end {
-        if let Some(more) = behind(stop.left, b' ') {
-            if !are_put {
-                return None;
-            }
-            let end = behind_spaces(more);
-            return refuse_left(end, SPACE, true, whole - end.len());
-        }
-    }
     let expected = stop.expected | set_if(stop.may_end, SPACE);
     refuse_left(stop.left, expected, stop.may_end, whole - stop.left.len())
 }

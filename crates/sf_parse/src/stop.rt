@@ -106,14 +106,14 @@ fn stop_in_params<'a>(
             }
         }
     }
-    if matches!(owner, Owner::InnerItem | Owner::Text) && has(text, b';') {
+    if matches!(owner, Owner::InnerItem) && has(text, b';') {
         return stop_in_new_params(context, text);
     }
     Some(stop_in_param(context, text))
 }
 
-/// The same of an Item in an Inner List, or of a text, of which none are kept: the whole ones are
-/// put once more, as the levels do, which ask for the same memory.
+/// The same of an Item in an Inner List, of which none are kept: the whole ones are put once more, as
+/// the levels do, which ask for the same memory.
 #[inline(never)]
 fn stop_in_new_params<'a>(context: &Context, text: &'a [u8]) -> Option<Stop<'a>>
     ensures { IfSome result (StopsAt (params_step context.now.dialect)

@@ -1,4 +1,7 @@
-use Rattle.sf_parse.proofs.WholeParts.{built_item}
+use Rattle.std.proofs.Common.{subst}
+use Rattle.sf_value.specs.Grammar.Items.{SpellsItem}
+use Rattle.sf_parse.specs.WholeParts.{ReadsAs}
+use Rattle.sf_parse.proofs.WholeParts.{built_item, item_whole}
 use Rattle.sf_parse.proofs.WholeTexts.{item_parsed}
 use Rattle.sf_parse.proofs.field.ItemFieldReaderWholeText.parse.Goals as goal
 
@@ -14,3 +17,9 @@ pub read_begun_item-requires-clause-after : goal.read_begun_item-requires-clause
 read_begun_item-requires-clause-after c =
     let reads = c.in-Some.ensures.reads c.args.context.now.dialect in
     record { front = reads.prefix; split = reads.split }
+
+pub refuse_behind_item-requires-clause-item : goal.refuse_behind_item-requires-clause-item
+refuse_behind_item-requires-clause-item c =
+    let d = c.args.context.now.dialect in
+    let reads = item_whole d _ _ _ _ _ (c.in-Some.ensures.reads d) c.read_params-rest.ensures in
+    (_, subst (ReadsAs (SpellsItem d) _ _) c.in-Some-behind.ensures reads)
