@@ -179,6 +179,28 @@ pub(crate) static ITEMS: [Row; 42] = [
     (Kind::Item, b"abc", b"abc"),
 ];
 
+/// Items, with or without parameters, behind which spaces and the end come.
+static BEFORE_SPACES: [Row; 6] = [
+    (Kind::Item, b"a ", b"a"),
+    (Kind::Item, b"-7;b=\"s\"   ", b"-7;b=\"s\""),
+    (Kind::Item, b"a; b=1; c=?1 ", b"a;b=1;c"),
+    (
+        Kind::Item,
+        b"a;b;c;d;e;f;g;h;i;j=2  ",
+        b"a;b;c;d;e;f;g;h;i;j=2",
+    ),
+    (
+        Kind::Item,
+        b"a;a_key_of_more_than_16_bytes=1;another_key_of_more_than_16_bytes ",
+        b"a;a_key_of_more_than_16_bytes=1;another_key_of_more_than_16_bytes",
+    ),
+    (
+        Kind::Item,
+        b"a;b;c;d;e;f;g;h;i;j;b=1 ",
+        b"a;b=1;c;d;e;f;g;h;i;j",
+    ),
+];
+
 pub(crate) static LISTS: [Row; 23] = [
     (Kind::List, b"a \t", b"a"),
     (Kind::List, b"", b""),
@@ -284,6 +306,12 @@ pub(crate) static DICTIONARIES: [Row; 24] = [
 fn items(rt: HostRuntime) -> Result<(), Fail> {
     let seed = RandomState::new(&rt)?;
     check_rows(&rt, rt.alloc(), &seed, &ITEMS)
+}
+
+#[test]
+fn items_before_spaces(rt: HostRuntime) -> Result<(), Fail> {
+    let seed = RandomState::new(&rt)?;
+    check_rows(&rt, rt.alloc(), &seed, &BEFORE_SPACES)
 }
 
 #[test]

@@ -237,6 +237,59 @@ pub(crate) static ITEMS: [Row; 34] = [
     (Kind::Item, b"a;b=$;b=1", 4, Some(0x24), BARE),
 ];
 
+/// Items, with or without parameters, behind which a space and a mistake come.
+static BEHIND_ITEMS: [Row; 19] = [
+    (Kind::Item, b"a b", 2, Some(0x62), "20 end"),
+    (Kind::Item, b"\"x\"  ;a", 5, Some(0x3b), "20 end"),
+    (Kind::Item, b"?1 ,", 3, Some(0x2c), "20 end"),
+    (Kind::Item, b"1.5   (", 6, Some(0x28), "20 end"),
+    (
+        Kind::Item,
+        b"a_token_of_more_than_16_bytes x",
+        30,
+        Some(0x78),
+        "20 end",
+    ),
+    (Kind::Item, b"a;b c", 4, Some(0x63), "20 end"),
+    (Kind::Item, b"-7;b=\"s\" \"", 9, Some(0x22), "20 end"),
+    (Kind::Item, b"1.5;b=?0   x", 11, Some(0x78), "20 end"),
+    (Kind::Item, b"a;b=1;c=2 x", 10, Some(0x78), "20 end"),
+    (Kind::Item, b"a;b=1;c=2  \t", 11, Some(0x09), "20 end"),
+    (Kind::Item, b"a; b; c ;d", 8, Some(0x3b), "20 end"),
+    (Kind::Item, b"a;b=:YQ==:;c=@1 ,", 16, Some(0x2c), "20 end"),
+    (Kind::Item, b"a;b=1;c= x", 8, Some(0x20), BARE),
+    (
+        Kind::Item,
+        b"a;b;c;d;e;f;g;h;i;j x",
+        20,
+        Some(0x78),
+        "20 end",
+    ),
+    (
+        Kind::Item,
+        b"a;b=1;c=2;d=3;e=4;f=5;g=6;h=7;i=8;j=9   ;k",
+        40,
+        Some(0x3b),
+        "20 end",
+    ),
+    (Kind::Item, b"a;b;c;d;e;f;g;h;i;j= x", 20, Some(0x20), BARE),
+    (
+        Kind::Item,
+        b"a;a_key_of_more_than_16_bytes=1;another_key_of_more_than_16_bytes x",
+        66,
+        Some(0x78),
+        "20 end",
+    ),
+    (Kind::Item, b"a;b=1;b=2 b", 10, Some(0x62), "20 end"),
+    (
+        Kind::Item,
+        b"a;b;c;d;e;f;g;h;i;j;b=1 \x80",
+        24,
+        Some(0x80),
+        "20 end",
+    ),
+];
+
 pub(crate) static LISTS_AND_DICTIONARIES: [Row; 19] = [
     (Kind::Item, b"a;b=", 4, None, BARE),
     (
@@ -311,6 +364,12 @@ pub(crate) static OLD_DIALECT: [Row; 3] = [
 fn items(rt: HostRuntime) -> Result<(), Fail> {
     let seed = RandomState::new(&rt)?;
     check_rows(&rt, rt.alloc(), &seed, &ITEMS)
+}
+
+#[test]
+fn behind_items(rt: HostRuntime) -> Result<(), Fail> {
+    let seed = RandomState::new(&rt)?;
+    check_rows(&rt, rt.alloc(), &seed, &BEHIND_ITEMS)
 }
 
 #[test]
