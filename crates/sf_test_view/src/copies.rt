@@ -52,16 +52,23 @@ fn copied_fields_are_trees(rt: HostRuntime) -> Result<(), Fail> {
     Ok(())
 }
 
-/// The bytes before an escape, so many of them, the escape, as many again, and what ends the text.
+fn push_run(text: &mut Vec<u8>, count: usize) -> Result<(), Fail> {
+    for _ in 0..count {
+        text.push(b'x')?;
+    }
+    Ok(())
+}
+
+/// The bytes that a text begins with, three runs of this length with the escape between each two, and
+/// a quote.
 fn text_around(alloc: Global, before: &[u8], count: usize, escape: &[u8]) -> Result<Vec<u8>, Fail> {
     let mut text = Vec::new(alloc);
     text.extend_from_slice(before)?;
     for _ in 0..2u32 {
-        for _ in 0..count {
-            text.push(b'x')?;
-        }
+        push_run(&mut text, count)?;
         text.extend_from_slice(escape)?;
     }
+    push_run(&mut text, count)?;
     text.extend_from_slice(b"\"")?;
     Ok(text)
 }
