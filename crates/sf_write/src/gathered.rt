@@ -144,7 +144,7 @@ impl Sink for Gathered<'_> {
         if self.block.add(bytes) {
             return Ok(bytes.len());
         }
-        // A block takes no bytes at any time, which the proof does not know.
+        // An empty slice fits in any block, which the proof does not know.
         if bytes.is_empty() {
             return Ok(0);
         }
